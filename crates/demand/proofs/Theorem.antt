@@ -1,0 +1,99 @@
+-- Demand 3, proved.
+use Prim.Native.Nat.{ℕ, _≤_}
+use native.Mathlib.Nat.{zero-add, le-refl}
+use native.Mathlib.Omega.{arith}
+use mathlib.Core.Path.{_≡_, refl, sym, ap, _∙_}
+use mathlib.Core.Bool.{Bool, true, false, cond}
+use mathlib.Core.List.{List, [], _∷_, _++_, map}
+use lib.ListN.{length, getD, replicate, length-replicate}
+use lib.Dec.{ltb}
+use Rattle.semantics.specs.Text.{Bytes}
+use Rattle.semantics.specs.Tree.{VarDecl}
+use Rattle.semantics.specs.Sheet.{Located, sheetSource, each}
+use Rattle.semantics.specs.Fold.{Const}
+use Rattle.semantics.specs.Const.{constants}
+use Rattle.semantics.specs.Global.{Item, Globals, Declared, declaredBy, laidVars, laidNames}
+use Rattle.semantics.specs.Image.{Memory, memoryOf, areaAfter}
+use Rattle.semantics.specs.Refusal.{Buffers, Outcome, Imaged, sourceGlobals, laidIn, replayed, afterListing, compiled, imageBytes, areaBytes}
+use Rattle.semantics.specs.Refusal.Outcome.{listed, refused}
+use Rattle.semantics.specs.Refusal.Imaged.{laid, notLaid}
+use Rattle.semantics.specs.Demand.{sourceDeclared, laidFrom, imageEnd, areaEnd, Demand}
+use Rattle.demand.proofs.Bytes.{getD-zeros}
+use Rattle.demand.proofs.Records.{records-apart}
+use Rattle.demand.proofs.Elements.{Sized, array-given, init-sized}
+use Rattle.demand.proofs.Places.{endFrom, itemsFrom, made}
+use Rattle.demand.proofs.Replay.{AllSized, partsFrom, items-end, replayed as replay-adds}
+use Rattle.demand.proofs.Items.{all-items}
+
+-- ---- no array of a sheet has more values than its length
+
+names-sized : (d : Bytes → Declared) → ((n : Bytes) → Sized (d n .first)) → (ns : List Bytes) (ys : List Declared) → AllSized ys → AllSized (map d ns ++ ys)
+names-sized d h [] ys s = s
+names-sized d h (n ∷ ns) ys s = (h n, names-sized d h ns ys s)
+
+vars-sized : (cs : List Const) (vs : List (Located VarDecl)) → AllSized (each (declaredBy cs) vs)
+vars-sized cs [] = tt
+vars-sized cs (v ∷ vs) = names-sized _ (λ n. init-sized cs (v .it .ty) (v .it .init)) (laidNames (v .it .names)) _ (vars-sized cs vs)
+
+-- ---- the ends by the places
+
+end-laid : (ds : List Declared) (e k a : ℕ) → endFrom e ds ≡ imageEnd e (laidFrom e k a ds)
+end-laid [] e k a = refl
+end-laid (d ∷ ds) e k a = end-laid ds _ _ _
+
+parts-laid : (ds : List Declared) (e k a : ℕ) → partsFrom a ds ≡ areaEnd a (laidFrom e k a ds)
+parts-laid [] e k a = refl
+parts-laid (d ∷ ds) e k a = parts-laid ds _ _ _
+
+-- ---- an accepted sheet's image and area are those of its globals
+
+never-laid : {A : Type 0} (n k : ℕ) (image area : Bytes) → notLaid n k ≡ laid image area → A
+never-laid n k image area h = let z : _≡_ {A = ℕ} 0 1 = cc in absurd (omega arith)
+
+module _ (image area : Bytes) where
+  if-laid : (t : Bool) (x : Imaged) → cond t (notLaid 13 0) x ≡ laid image area → x ≡ laid image area
+  if-laid true x h = never-laid 13 0 image area h
+  if-laid false x h = h
+
+  listing-laid : (b : Buffers) (g : Globals) (o : Outcome) → afterListing b g o ≡ laid image area → replayed b g ≡ laid image area
+  listing-laid b g (listed out) h = h
+  listing-laid b g (refused n k) h = never-laid n k image area h
+
+  memory-laid : (b : Buffers) (g : Globals) (o : Outcome) → afterListing b g o ≡ laid image area → laid (memoryOf g .image) (memoryOf g .area) ≡ laid image area
+  memory-laid b g o h =
+      let m = memoryOf g in
+      if-laid (ltb (b .image) (length (m .image))) (laid (m .image) (m .area)) (if-laid (ltb (b .area) (areaAfter 0 (g .items))) (laidIn b m) (listing-laid b g o h))
+
+zeros : (n p : ℕ) → getD {A = ℕ} (replicate n 0) p 0 ≡ 0
+zeros n p = getD-zeros [] n p
+
+-- ---- the claim
+
+abbrev ofItems : ℕ → List Item → Memory
+ofItems end is = memoryOf (record { places = []; end = end; pends = []; items = is })
+
+pub demand : Demand
+demand b s image area accepted apart kinds =
+    let src = sheetSource s in
+    let ds = sourceDeclared src in
+    let g = sourceGlobals src in
+    let l = memory-laid image area b g (compiled b s) accepted in
+    let m = made src apart in
+    let end = endFrom 0 ds in
+    let parts = areaAfter 0 (itemsFrom 0 ds) in
+    let is : memoryOf g ≡ ofItems end (itemsFrom 0 ds) = λ i. ofItems (m .end i) (m .items i) in
+    let theImage : image ≡ ofItems end (itemsFrom 0 ds) .image = sym (ap imageBytes l) ∙ ap (λ (x : Memory). x .image) is in
+    let theArea : area ≡ ofItems end (itemsFrom 0 ds) .area = sym (ap areaBytes l) ∙ ap (λ (x : Memory). x .area) is in
+    let room : partsFrom 0 ds ≤ length (replicate {A = ℕ} parts 0) = rw (length-replicate {A = ℕ} parts 0, items-end ds 0 0) (le-refl (partsFrom 0 ds)) in
+    let r = replay-adds ds 0 0 (replicate end 0) (replicate parts 0) 0 [] kinds (vars-sized (constants src .log) (laidVars src))
+    (rw (length-replicate {A = ℕ} end 0) (le-refl end)) (λ p q. zeros end p) room (λ p q. zeros parts p) in
+    record {
+      imageLong = ap length theImage ∙ r .imageLong ∙ length-replicate {A = ℕ} end 0 ∙ end-laid ds 0 0 0;
+      areaLong = ap length theArea ∙ r .areaLong ∙ length-replicate {A = ℕ} parts 0 ∙ items-end ds 0 0 ∙ parts-laid ds 0 0 0;
+      imageBytes = λ p. ap (λ (xs : Bytes). getD xs p 0) theImage ∙ r .image p ∙ rw (zeros end p, zero-add);
+      areaBytes = λ p. ap (λ (xs : Bytes). getD xs p 0) theArea ∙ r .area p ∙ rw (zeros parts p, zero-add);
+      elements = array-given (constants src .log);
+      places = m .places;
+      items = all-items ds (g .items) (m .items);
+      records = records-apart (src .adts);
+    }

@@ -1,0 +1,258 @@
+-- Global and data lines, first half: conversions of elements, and constant arrays.
+use Prim.Native.Nat.{ℕ, zero, suc, _-_, _%_, _^_, max}
+use mathlib.Core.Bool.{Bool, true, false, _&&_, cond}
+use mathlib.Core.List.{List, [], _∷_, _++_}
+use mathlib.Core.Option.{Option, none, some}
+use lib.IntN.{ℤ, pos, negsuc}
+use lib.Dec.{leb, ltb, eqb}
+use lib.Ieee.{Float, fin}
+use Rattle.semantics.specs.Text.{Bytes, any, orElse}
+use Rattle.semantics.specs.Tree.{Basic, Ty, Ex, ArrayEx, MaybeEx, El, Els, Ses, ConstVal, ElemKind, byForm}
+use Rattle.semantics.specs.Tree.Basic.{int, byte, big, real, string}
+use Rattle.semantics.specs.Tree.Ty.{basic, ptr, array, tuple}
+use Rattle.semantics.specs.Tree.ConstVal.{vInt, vReal, vStr}
+use Rattle.semantics.specs.Tree.ArrayEx.{alloc, lit}
+use Rattle.semantics.specs.Tree.MaybeEx.{absent, given}
+use Rattle.semantics.specs.Tree.El.{next, star, at}
+use Rattle.semantics.specs.Tree.Els.{noEls, andEl}
+use Rattle.semantics.specs.Tree.Ses.{noSes, andSe}
+use Rattle.semantics.specs.Tree.ElemKind.{kByte, kWord, kBig, kReal, kPtr}
+use Rattle.semantics.specs.Fold.{Result, bind, Const, foldAt0, toReal, toWhole}
+use Rattle.semantics.specs.Fold.Result.{ok, failed, refuse}
+
+-- ---- kinds of elements
+
+abbrev pub basicKind : Basic → ElemKind
+basicKind int = kWord
+basicKind byte = kByte
+basicKind big = kBig
+basicKind real = kReal
+basicKind string = kPtr
+
+abbrev pub elemKind : Ty → ElemKind
+elemKind (basic b) = basicKind b
+elemKind ptr = kPtr
+elemKind (array t) = kPtr
+elemKind (tuple ts) = kPtr
+
+-- a number for each kind, by which kinds are compared
+abbrev pub kindNumber : ElemKind → ℕ
+kindNumber kByte = 0
+kindNumber kWord = 1
+kindNumber kBig = 2
+kindNumber kReal = 3
+kindNumber kPtr = 4
+
+abbrev pub isOfKind : ElemKind → Ty → Bool
+isOfKind k t = eqb (kindNumber (elemKind t)) (kindNumber k)
+
+-- ---- conversions
+
+-- the low h + 1 bits of an integer, as signed
+abbrev pub lowest : ℕ → ℤ → ℤ
+lowest h (pos n) = let m = n % 2 ^ suc h in cond (ltb m (2 ^ h)) (pos m) (negsuc (2 ^ suc h - 1 - m))
+lowest h (negsuc n) = let m = n % 2 ^ suc h in cond (ltb m (2 ^ h)) (negsuc m) (pos (2 ^ suc h - 1 - m))
+
+abbrev pub lowByte : ℤ → ℕ
+lowByte (pos n) = n % 256
+lowByte (negsuc n) = 255 - n % 256
+
+-- a real saturates at 32 bits, and a string among numbers is 0
+abbrev pub constWord : ConstVal → ℤ
+constWord (vInt x) = lowest 31 x
+constWord (vReal x) = toWhole 31 x
+constWord (vStr s) = pos 0
+
+abbrev pub constByte : ConstVal → ℕ
+constByte v = lowByte (constWord v)
+
+abbrev pub constBig : ConstVal → ℤ
+constBig (vInt x) = x
+constBig (vReal x) = toWhole 63 x
+constBig (vStr s) = pos 0
+
+abbrev pub constReal : ConstVal → Float
+constReal (vInt x) = toReal x
+constReal (vReal x) = x
+constReal (vStr s) = fin false 0 (pos 0)
+
+-- ---- constant arrays: a failure leaves the literal or `alloc` pending
+
+pub record ConstArray : Type 0 where
+  pub kind : ElemKind
+  pub length' : ℕ
+  pub values : List ConstVal
+
+abbrev pub longestAlloc : ℕ
+longestAlloc = 2 ^ 31 - 1
+
+-- an `alloc` of a length: no values are given
+abbrev pub allocated : ElemKind → ConstVal → Result ConstArray
+allocated k (vInt (pos n)) = cond (leb n longestAlloc) (ok (record { kind = k; length' = n; values = [] })) (refuse 9)
+allocated k (vInt (negsuc n)) = cond (leb n longestAlloc) (refuse 10) (refuse 9)
+allocated k (vReal x) = failed
+allocated k (vStr s) = failed
+
+-- ---- where the elements of a literal fall
+
+-- indices from low to high that take a value
+pub record Placement : Type 0 where
+  pub low : ℕ
+  pub high : ℕ
+  pub value : ConstVal
+
+-- a literal so far: where the next plain element falls, the end of its indices, the placements in order, and the last wildcard
+pub record Filled : Type 0 where
+  pub next' : ℕ
+  pub reach : ℕ
+  pub placements : List Placement
+  pub wildcard : Option ConstVal
+
+abbrev pub noneFilled : Filled
+noneFilled = record { next' = 0; reach = 0; placements = []; wildcard = none }
+
+abbrev pub placeSpan : ConstVal → ℕ → ℕ → Filled → Filled
+placeSpan v l h f = record { next' = suc h; reach = max (f .reach) (suc h); placements = f .placements ++ (record { low = l; high = h; value = v } ∷ []); wildcard = f .wildcard }
+
+-- indices low to high, none where high is below low; a negative index fails
+abbrev pub placed : ConstVal → ℤ → ℤ → Filled → Result Filled
+placed v (pos l) (pos h) f = cond (leb l h) (ok (placeSpan v l h f)) (ok f)
+placed v (pos l) (negsuc h) f = ok f
+placed v (negsuc l) (pos h) f = failed
+placed v (negsuc l) (negsuc h) f = cond (leb h l) failed (ok f)
+
+-- a plain element: the index 2^63 counts as negative
+abbrev pub placeNext : ConstVal → Filled → Result Filled
+placeNext v f = cond (ltb (f .next') (2 ^ 63)) (placed v (pos (f .next')) (pos (f .next')) f) failed
+
+abbrev pub placeSpans : ConstVal → List (ℤ × ℤ) → Filled → Result Filled
+placeSpans v [] f = ok f
+placeSpans v (s ∷ ss) f = bind (placed v (s .0) (s .1) f) (placeSpans v ss)
+
+abbrev pub setWildcard : ConstVal → Filled → Filled
+setWildcard v f = record { next' = f .next'; reach = f .reach; placements = f .placements; wildcard = some v }
+
+-- ---- selectors
+
+abbrev pub asInt : ConstVal → Result ℤ
+asInt (vInt x) = ok x
+asInt (vReal x) = failed
+asInt (vStr s) = failed
+
+abbrev pub indexOf : List Const → Ex → Result ℤ
+indexOf cs e = bind (foldAt0 cs e) asInt
+
+abbrev pub highOf : List Const → ℤ → MaybeEx → Result ℤ
+highOf cs l absent = ok l
+highOf cs l (given e) = indexOf cs e
+
+abbrev pub spanOf : List Const → Ex → MaybeEx → Result (ℤ × ℤ)
+spanOf cs l h = bind (indexOf cs l) (λ (x : ℤ). bind (highOf cs x h) (λ (y : ℤ). ok (x, y)))
+
+-- low and high of each in turn
+abbrev pub spansOf : List Const → Ses → Result (List (ℤ × ℤ))
+spansOf cs noSes = ok []
+spansOf cs (andSe l h ss) = bind (spanOf cs l h) (λ (s : ℤ × ℤ). bind (spansOf cs ss) (λ (r : List (ℤ × ℤ)). ok (s ∷ r)))
+
+-- ---- elements: the value first, then its selectors
+
+abbrev pub fillElement : List Const → El → Filled → Result Filled
+fillElement cs (next e) f = bind (foldAt0 cs e) (λ (v : ConstVal). placeNext v f)
+fillElement cs (star e) f = bind (foldAt0 cs e) (λ (v : ConstVal). ok (setWildcard v f))
+fillElement cs (at e ss) f = bind (foldAt0 cs e) (λ (v : ConstVal). bind (spansOf cs ss) (λ (l : List (ℤ × ℤ)). placeSpans v l f))
+
+abbrev pub fill : List Const → Els → Filled → Result Filled
+fill cs noEls f = ok f
+fill cs (andEl e es) f = bind (fillElement cs e f) (fill cs es)
+
+-- ---- the values of a literal
+
+-- a repeated index takes the last value, and an index that none names the filler v
+abbrev pub valueAt : List Placement → ConstVal → ℕ → ConstVal
+valueAt [] v i = v
+valueAt (p ∷ ps) v i = valueAt ps (cond (leb (p .low) i && leb i (p .high)) (p .value) v) i
+
+-- n values from index i on
+abbrev pub valuesFrom : List Placement → ConstVal → ℕ → ℕ → List ConstVal
+valuesFrom ps v i zero = []
+valuesFrom ps v i (suc n) = valueAt ps v i ∷ valuesFrom ps v (suc i) n
+
+-- the filler: the last wildcard, else integer 0
+abbrev pub filler : Option ConstVal → ConstVal
+filler o = orElse (vInt (pos 0)) o
+
+-- ---- the kind of a literal's elements
+
+abbrev pub isByteCast : Ex → Bool
+isByteCast e = byForm (λ (n : Bytes). false) (isOfKind kByte) (λ (a : ArrayEx). false) false e
+
+abbrev pub elValue : El → Ex
+elValue (next e) = e
+elValue (star e) = e
+elValue (at e ss) = e
+
+abbrev pub allByteCasts : Els → Bool
+allByteCasts noEls = true
+allByteCasts (andEl e es) = isByteCast (elValue e) && allByteCasts es
+
+-- whether there is an element, and every value is a cast to byte
+abbrev pub isByteLiteral : Els → Bool
+isByteLiteral noEls = false
+isByteLiteral (andEl e es) = isByteCast (elValue e) && allByteCasts es
+
+abbrev pub isStr : ConstVal → Bool
+isStr (vInt x) = false
+isStr (vReal x) = false
+isStr (vStr x) = true
+
+abbrev pub isReal : ConstVal → Bool
+isReal (vInt x) = false
+isReal (vReal x) = true
+isReal (vStr x) = false
+
+abbrev pub kindOfValues : List ConstVal → ElemKind
+kindOfValues vs = cond (any isStr vs) kPtr (cond (any isReal vs) kReal kWord)
+
+-- by the element type of the global's type, or else the literal's own, or else by the values
+abbrev pub literalKind : Option Ty → Option Ty → Els → List ConstVal → ElemKind
+literalKind (some t) u es vs = elemKind t
+literalKind none (some u) es vs = elemKind u
+literalKind none none es vs = cond (isByteLiteral es) kByte (kindOfValues vs)
+
+-- ---- a literal
+
+abbrev pub longestLiteral : ℕ
+longestLiteral = 1024
+
+abbrev pub outside : ℕ → Placement → Bool
+outside n p = leb n (p .high)
+
+abbrev pub asSize : ConstVal → Result ℕ
+asSize (vInt (pos n)) = ok n
+asSize (vInt (negsuc n)) = failed
+asSize (vReal x) = failed
+asSize (vStr s) = failed
+
+-- its size, or else as many as its indices reach
+abbrev pub literalSize : List Const → MaybeEx → Filled → Result ℕ
+literalSize cs absent f = ok (f .reach)
+literalSize cs (given e) f = bind (foldAt0 cs e) asSize
+
+abbrev pub built : Option Ty → Option Ty → Els → Filled → ℕ → Result ConstArray
+built declared ty es f n =
+    let vs = valuesFrom (f .placements) (filler (f .wildcard)) 0 n in
+    ok (record { kind = literalKind declared ty es vs; length' = n; values = vs })
+
+abbrev pub measured : Option Ty → Option Ty → Els → Filled → ℕ → Result ConstArray
+measured declared ty es f n = cond (any (outside n) (f .placements)) (refuse 11) (cond (leb n longestLiteral) (built declared ty es f n) (refuse 12))
+
+abbrev pub literal : List Const → Option Ty → MaybeEx → Option Ty → Els → Result ConstArray
+literal cs declared s ty es = bind (fill cs es noneFilled) (λ (f : Filled). bind (literalSize cs s f) (measured declared ty es f))
+
+-- the constant array that an `alloc` or a literal is, where the global's type declares an element type or none
+abbrev pub arrayOf : List Const → Option Ty → ArrayEx → Result ConstArray
+arrayOf cs declared (alloc e t) = bind (foldAt0 cs e) (allocated (elemKind (orElse t declared)))
+arrayOf cs declared (lit s t es) = literal cs declared s t es
+
+abbrev pub constArray : List Const → Option Ty → Ex → Result ConstArray
+constArray cs declared e = byForm (λ (n : Bytes). failed) (λ (t : Ty). failed) (arrayOf cs declared) failed e

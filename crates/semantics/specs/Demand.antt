@@ -1,0 +1,379 @@
+-- Demand 3: what stands in each byte of the image and of the area, by place. Nothing here speaks of a replay:
+-- a byte is found by the global, or by the array, in whose place it lies.
+use Prim.Native.Nat.{ℕ, zero, suc, _+_, _-_, _*_, _/_, _%_, _^_, _≤_, _<_}
+use mathlib.Core.Path.{_≡_}
+use mathlib.Core.Bool.{Bool, true, false, not, _&&_, cond}
+use mathlib.Core.List.{List, [], _∷_, _++_, map}
+use mathlib.Core.Option.{Option, none, some}
+use lib.ListN.{length, take, getD, getElem?}
+use lib.IntN.{ℤ, pos, negsuc}
+use lib.Signed.{leZ}
+use lib.Dec.{leb, ltb, eqb}
+use Rattle.semantics.specs.Text.{Bytes, same, any, all, bigEndian}
+use Rattle.semantics.specs.Tree.{Basic, Ty, Ex, ArrayEx, Els, Fd, Case, AdtDecl, ConstVal, ElemKind, byForm}
+use Rattle.semantics.specs.Tree.Basic.{int, byte, big, real, string}
+use Rattle.semantics.specs.Tree.Ty.{basic, ptr, array, tuple}
+use Rattle.semantics.specs.Tree.ConstVal.{vInt, vReal, vStr}
+use Rattle.semantics.specs.Tree.ArrayEx.{alloc, lit}
+use Rattle.semantics.specs.Tree.El.{next, star, at}
+use Rattle.semantics.specs.Tree.Els.{noEls, andEl}
+use Rattle.semantics.specs.Tree.ElemKind.{kByte, kWord, kBig, kReal, kPtr}
+use Rattle.semantics.specs.Sheet.{Source, sheetSource, each}
+use Rattle.semantics.specs.Layout.{sizeOf, isPtr, mapOf, Placed, Recorded, records, recordsOf, seen}
+use Rattle.semantics.specs.Fold.{Result, Const, foldAt0, bits64}
+use Rattle.semantics.specs.Fold.Result.{ok, failed, refuse}
+use Rattle.semantics.specs.Const.{constants}
+use Rattle.semantics.specs.Array.{ConstArray, spansOf, isReal, isStr, constByte, constWord, constBig, constReal}
+use Rattle.semantics.specs.Global.{Item, Init, Declared, declaredIn, initOf, initItems, globalSize, newOffset, Global}
+use Rattle.semantics.specs.Global.Item.{valuesItem, strItem, arrayItem, setItem, backItem}
+use Rattle.semantics.specs.Global.Init.{noInit, constInit, arrayInit, pendingInit}
+use Rattle.semantics.specs.Image.{wordBytes, bigBytes, realBytes, handle, elemSize, partAt, areaAfter}
+use Rattle.semantics.specs.Refusal.{Buffers, imaged, sourceGlobals}
+use Rattle.semantics.specs.Refusal.Imaged.{laid}
+
+-- ---- the premises
+
+-- no name stands twice
+abbrev pub namesApart : List Declared → Bool
+namesApart [] = true
+namesApart (d ∷ ds) = not (any (λ (e : Declared). same (e .name) (d .name)) ds) && namesApart ds
+
+abbrev pub isInt : ConstVal → Bool
+isInt (vInt x) = true
+isInt (vReal x) = false
+isInt (vStr s) = false
+
+-- a value is of its type's kind: an integer for int, byte or big, a real for real, a string for string
+abbrev pub isOfBasic : Basic → ConstVal → Bool
+isOfBasic int v = isInt v
+isOfBasic byte v = isInt v
+isOfBasic big v = isInt v
+isOfBasic real v = isReal v
+isOfBasic string v = isStr v
+
+-- and for ptr
+abbrev pub isOf : Ty → ConstVal → Bool
+isOf (basic b) v = isOfBasic b v
+isOf ptr v = isStr v
+isOf (array t) v = false
+isOf (tuple ts) v = false
+
+abbrev pub isArrayTy : Ty → Bool
+isArrayTy (basic b) = false
+isArrayTy ptr = false
+isArrayTy (array t) = true
+isArrayTy (tuple ts) = false
+
+-- a literal or `alloc` for an array; a pending value fits any type
+abbrev pub ofKind : Ty → Init → Bool
+ofKind t noInit = true
+ofKind t (constInit v) = isOf t v
+ofKind t (arrayInit a) = isArrayTy t
+ofKind t pendingInit = true
+
+abbrev pub kindsFit : List Declared → Bool
+kindsFit ds = all (λ (d : Declared). ofKind (d .ty) (d .first)) ds
+
+-- ---- where the globals lie
+
+-- a global's place, the number of its first item, and the start of its part of the area
+pub record Laid : Type 0 where
+  pub global : Declared
+  pub offset : ℕ
+  pub item : ℕ
+  pub start : ℕ
+
+-- an array takes its elements' size times its length, from the next multiple of 8
+abbrev pub afterPart : ℕ → Init → ℕ
+afterPart end noInit = end
+afterPart end (constInit v) = end
+afterPart end (arrayInit a) = partAt end + elemSize (a .kind) * a .length'
+afterPart end pendingInit = end
+
+abbrev pub laidFrom : ℕ → ℕ → ℕ → List Declared → List Laid
+laidFrom end k area [] = []
+laidFrom end k area (d ∷ ds) =
+    let off = newOffset (d .ty) end in
+    record { global = d; offset = off; item = k; start = partAt area }
+    ∷ laidFrom (off + globalSize (d .ty)) (k + length (initItems off (d .ty) (d .first))) (afterPart area (d .first)) ds
+
+-- a sheet's globals, behind its constants
+abbrev pub sourceDeclared : Source → List Declared
+sourceDeclared s = declaredIn (constants s .log) s
+
+abbrev pub laidOf : Source → List Laid
+laidOf s = laidFrom 0 0 0 (sourceDeclared s)
+
+-- ---- what a global's place holds
+
+-- int and byte as the value's low 32 bits, big as 64, real as its bits, strings as handles, k being the number of the item
+abbrev pub valueBytes : Ty → ℕ → ConstVal → Bytes
+valueBytes t k (vInt x) = bigEndian (globalSize t) (bits64 x)
+valueBytes t k (vReal x) = realBytes x
+valueBytes t k (vStr s) = handle k
+
+-- arrays as handles; a pending global or one without value stays zero, as does every byte behind these
+abbrev pub firstBytes : Ty → ℕ → Init → Bytes
+firstBytes t k noInit = []
+firstBytes t k (constInit v) = valueBytes t k v
+firstBytes t k (arrayInit a) = handle k
+firstBytes t k pendingInit = []
+
+-- whether byte p is one of n bytes from off on
+abbrev pub lies : ℕ → ℕ → ℕ → Bool
+lies p off n = leb off p && ltb p (off + n)
+
+-- byte p of the image: of the value of the global that has it in its place, else 0
+abbrev pub imageByte : List Laid → ℕ → ℕ
+imageByte [] p = 0
+imageByte (l ∷ ls) p =
+    cond (lies p (l .offset) (globalSize (l .global .ty)))
+    (getD (firstBytes (l .global .ty) (l .item) (l .global .first)) (p - l .offset) 0)
+    (imageByte ls p)
+
+-- ---- what an array's part of the area holds
+
+-- a string as its handle, k being the number of its item; a value that leaves no item leaves zeros
+abbrev pub stringBytes : ℕ → ConstVal → Bytes
+stringBytes k (vInt x) = 0 ∷ 0 ∷ 0 ∷ 0 ∷ []
+stringBytes k (vReal x) = 0 ∷ 0 ∷ 0 ∷ 0 ∷ []
+stringBytes k (vStr s) = handle k
+
+-- an element after conversion, a byte in one byte
+abbrev pub elementBytes : ElemKind → ℕ → ConstVal → Bytes
+elementBytes kByte k v = constByte v ∷ []
+elementBytes kWord k v = wordBytes (constWord v)
+elementBytes kBig k v = bigBytes (constBig v)
+elementBytes kReal k v = realBytes (constReal v)
+elementBytes kPtr k v = stringBytes k v
+
+-- the number behind the item that a value leaves among strings
+abbrev pub afterString : ℕ → ConstVal → ℕ
+afterString k (vInt x) = k
+afterString k (vReal x) = k
+afterString k (vStr s) = suc k
+
+-- the elements in index order, k being the number of the first string's item
+abbrev pub elementsBytes : ElemKind → ℕ → List ConstVal → Bytes
+elementsBytes e k [] = []
+elementsBytes e k (v ∷ vs) = elementBytes e k v ++ elementsBytes e (afterString k v) vs
+
+-- byte p of the area, where an array's part has it, or else rest: the first string's item comes behind the array's own and `set`
+abbrev pub partByte : ℕ → ℕ → ℕ → Init → ℕ → ℕ
+partByte p k start noInit rest = rest
+partByte p k start (constInit v) rest = rest
+partByte p k start (arrayInit a) rest =
+    cond (lies p start (elemSize (a .kind) * a .length')) (getD (elementsBytes (a .kind) (suc (suc k)) (a .values)) (p - start) 0) rest
+partByte p k start pendingInit rest = rest
+
+abbrev pub areaByte : List Laid → ℕ → ℕ
+areaByte [] p = 0
+areaByte (l ∷ ls) p = partByte p (l .item) (l .start) (l .global .first) (areaByte ls p)
+
+-- the ends of the last place and of the last part
+
+abbrev pub imageEnd : ℕ → List Laid → ℕ
+imageEnd end [] = end
+imageEnd end (l ∷ ls) = imageEnd (l .offset + globalSize (l .global .ty)) ls
+
+abbrev pub areaEnd : ℕ → List Laid → ℕ
+areaEnd end [] = end
+areaEnd end (l ∷ ls) = areaEnd (afterPart end (l .global .first)) ls
+
+-- ---- the values of an array's elements
+
+abbrev pub spanList : Result (List (ℤ × ℤ)) → List (ℤ × ℤ)
+spanList (ok ss) = ss
+spanList failed = []
+spanList (refuse r) = []
+
+-- whether selectors low to high name an index
+abbrev pub names : ℕ → ℤ × ℤ → Bool
+names i s = leZ (s .0) (pos i) && leZ (pos i) (s .1)
+
+abbrev pub afterHigh : ℤ → ℕ
+afterHigh (pos h) = suc h
+afterHigh (negsuc h) = 0
+
+-- the index of a plain element: behind the last span that is not empty
+abbrev pub behind : ℕ → List (ℤ × ℤ) → ℕ
+behind n [] = n
+behind n (s ∷ ss) = behind (cond (leZ (s .0) (s .1)) (afterHigh (s .1)) n) ss
+
+-- the value last given to index i, or else v; n is the index that the next plain element has
+abbrev pub lastGiven : List Const → ℕ → ℕ → Result ConstVal → Els → Result ConstVal
+lastGiven cs i n v noEls = v
+lastGiven cs i n v (andEl (next e) es) = lastGiven cs i (suc n) (cond (eqb i n) (foldAt0 cs e) v) es
+lastGiven cs i n v (andEl (star e) es) = lastGiven cs i n v es
+lastGiven cs i n v (andEl (at e ss) es) =
+    let list = spanList (spansOf cs ss) in
+    lastGiven cs i (behind n list) (cond (any (names i) list) (foldAt0 cs e) v) es
+
+-- the filler: the last wildcard, else v
+abbrev pub lastStar : List Const → Result ConstVal → Els → Result ConstVal
+lastStar cs v noEls = v
+lastStar cs v (andEl (next e) es) = lastStar cs v es
+lastStar cs v (andEl (star e) es) = lastStar cs (foldAt0 cs e) es
+lastStar cs v (andEl (at e ss) es) = lastStar cs v es
+
+abbrev pub elementAt : List Const → Els → ℕ → Result ConstVal
+elementAt cs es i = lastGiven cs i 0 (lastStar cs (ok (vInt (pos 0))) es) es
+
+-- a literal's array has one value for each index, the one last given to it or else the filler; an `alloc` array has none
+abbrev pub Given : List Const → ConstArray → ArrayEx → Type 0
+Given cs a (alloc e t) = a .values ≡ []
+Given cs a (lit s t es) = (length (a .values) ≡ a .length') × ((i : ℕ) → i < a .length' → ok (getD (a .values) i (vInt (pos 0))) ≡ elementAt cs es i)
+
+-- and no other expression is an array
+abbrev pub GivenBy : List Const → ConstArray → Ex → Type 0
+GivenBy cs a e = byForm (λ (n : Bytes). ⊥) (λ (t : Ty). ⊥) (Given cs a) ⊥ e
+
+-- ---- handles and the items of the sheet
+
+-- where the part of the array item numbered k starts, by the items before it
+abbrev pub partOf : List Item → ℕ → ℕ
+partOf is k = partAt (areaAfter 0 (take k is))
+
+-- where items are put behind an item: in the part of the array at a place, or, where there is none, in the image
+abbrev pub putAfter : Item → Option ℕ → Option ℕ
+putAfter (valuesItem o vs) w = w
+putAfter (strItem o s) w = w
+putAfter (arrayItem o k n) w = w
+putAfter (setItem o) w = some o
+putAfter backItem w = none
+
+-- where item k is put, when the first is put at w
+abbrev pub putIn : Option ℕ → List Item → ℕ → Option ℕ
+putIn w [] k = w
+putIn w (i ∷ is) zero = w
+putIn w (i ∷ is) (suc k) = putIn (putAfter i w) is k
+
+-- item k is x, and is put into the image, or into the array at a place of the image
+pub record Put (is : List Item) (k : ℕ) (w : Option ℕ) (x : Item) : Type 0 where
+  pub item : getElem? is k ≡ some x
+  pub place : putIn none is k ≡ w
+
+-- item k is that of a string element at o of the part of the array at off
+abbrev pub StringAt : List Item → ℕ → ℕ → ℕ → ConstVal → Type 0
+StringAt is off k o (vInt x) = Unit {0}
+StringAt is off k o (vReal x) = Unit {0}
+StringAt is off k o (vStr s) = Put is k (some off) (strItem o s)
+
+-- the items from k on are those of the strings among the elements of the array at off, the first of which lies at o of its part
+abbrev pub StringsAt : List Item → ℕ → ℕ → ℕ → List ConstVal → Type 0
+StringsAt is off k o [] = Unit {0}
+StringsAt is off k o (v ∷ vs) = StringAt is off k o v × StringsAt is off (afterString k v) (o + 4) vs
+
+abbrev pub ElementsAt : List Item → ℕ → ℕ → ElemKind → List ConstVal → Type 0
+ElementsAt is off k kByte vs = Unit {0}
+ElementsAt is off k kWord vs = Unit {0}
+ElementsAt is off k kBig vs = Unit {0}
+ElementsAt is off k kReal vs = Unit {0}
+ElementsAt is off k kPtr vs = StringsAt is off k 0 vs
+
+-- a global's string: item k is the one put at off of the image, and carries the folded string
+abbrev pub ValueAt : List Item → ℕ → ℕ → ConstVal → Type 0
+ValueAt is off k (vInt x) = Unit {0}
+ValueAt is off k (vReal x) = Unit {0}
+ValueAt is off k (vStr s) = Put is k none (strItem off s)
+
+-- a global's array: item k carries the array's length, and start is where its part starts
+abbrev pub ItemAt : List Item → ℕ → ℕ → ℕ → Init → Type 0
+ItemAt is off k start noInit = Unit {0}
+ItemAt is off k start (constInit v) = ValueAt is off k v
+ItemAt is off k start (arrayInit a) =
+    Put is k none (arrayItem off (a .kind) (a .length')) × (partOf is k ≡ start) × ElementsAt is off (suc (suc k)) (a .kind) (a .values)
+ItemAt is off k start pendingInit = Unit {0}
+
+abbrev pub ItemsAt : List Item → List Laid → Type 0
+ItemsAt is [] = Unit {0}
+ItemsAt is (l ∷ ls) = ItemAt is (l .offset) (l .item) (l .start) (l .global .first) × ItemsAt is ls
+
+abbrev pub placed : Laid → Global
+placed l = record { name = l .global .name; offset = l .offset; ty = l .global .ty }
+
+-- ---- records
+
+-- the fields of the `adt` line that fills a key, none where a `pick` line does, or o where this line does not
+abbrev pub filledBy : Bytes → Option (List Fd) → AdtDecl → Option (List Fd)
+filledBy k o d = cond (seen k (recordsOf d)) (fieldsOf (d .pick)) o
+  where
+    fieldsOf : Option (List Case) → Option (List Fd)
+    fieldsOf none = some (d .fields)
+    fieldsOf (some ks) = none
+
+abbrev pub filling : Bytes → Option (List Fd) → List AdtDecl → Option (List Fd)
+filling k o [] = o
+filling k o (d ∷ ds) = filling k (filledBy k o d) ds
+
+abbrev pub plainTy : Option Ty → Bool
+plainTy none = true
+plainTy (some (basic b)) = true
+plainTy (some ptr) = true
+plainTy (some (array t)) = true
+plainTy (some (tuple ts)) = false
+
+abbrev pub noTuple : List Fd → Bool
+noTuple fs = all (λ (f : Fd). plainTy (f .ty)) fs
+
+-- a name with its type
+pub record Typed : Type 0 where
+  pub name : Bytes
+  pub ty : Ty
+
+abbrev pub typedNames : Option Ty → List Bytes → List Typed
+typedNames none ns = []
+typedNames (some t) ns = map (λ (n : Bytes). record { name = n; ty = t }) ns
+
+-- the typed fields of an `adt` line, in order
+abbrev pub typedFields : List Fd → List Typed
+typedFields fs = each (λ (f : Fd). typedNames (f .ty) (f .names)) fs
+
+abbrev pub typedOf : Placed → Typed
+typedOf p = record { name = p .name; ty = p .ty }
+
+-- each field begins where the one before it has ended, or later, and ends inside size
+abbrev pub InOrder : ℕ → ℕ → List Placed → Type 0
+InOrder end size [] = Unit {0}
+InOrder end size (p ∷ ps) = (end ≤ p .offset) × (p .offset + sizeOf (p .ty) ≤ size) × InOrder (p .offset + sizeOf (p .ty)) size ps
+
+-- whether a pointer starts at an offset
+abbrev pub pointerAt : ℕ → Placed → Bool
+pointerAt off p = isPtr (p .ty) && eqb (p .offset) off
+
+-- bit w of a map, bit 7 first
+abbrev pub bitAt : Bytes → ℕ → ℕ
+bitAt m w = getD m (w / 8) 0 / 2 ^ (7 - w % 8) % 2
+
+-- fields lie apart, in order, inside the size, and a word is marked exactly where a pointer starts
+pub record Apart (fs : List Fd) (r : Recorded) : Type 0 where
+  pub theirs : map typedOf (r .fields) ≡ typedFields fs
+  pub inOrder : InOrder 0 (r .shape .size) (r .fields)
+  pub marks : (w : ℕ) → bitAt (mapOf (r .shape)) w ≡ cond (any (pointerAt (w * 4)) (r .fields)) 1 0
+
+abbrev pub AllApart : List AdtDecl → List Recorded → Type 0
+AllApart ds [] = Unit {0}
+AllApart ds (r ∷ rs) = ((fs : List Fd) → filling (r .key) none ds ≡ some fs → noTuple fs ≡ true → Apart fs r) × AllApart ds rs
+
+-- ---- demand 3
+
+pub record Found (s : Source) (image area : Bytes) : Type 0 where
+  -- every byte of the image and of the area, and how many there are
+  pub imageLong : length image ≡ imageEnd 0 (laidOf s)
+  pub areaLong : length area ≡ areaEnd 0 (laidOf s)
+  pub imageBytes : (p : ℕ) → getD image p 0 ≡ imageByte (laidOf s) p
+  pub areaBytes : (p : ℕ) → getD area p 0 ≡ areaByte (laidOf s) p
+  -- of any first value that is an array: its values are, index by index, those last given, or else the filler
+  pub elements : (t : Ty) (e : Ex) (a : ConstArray) → initOf (constants s .log) t (some e) ≡ ok (arrayInit a) → GivenBy (constants s .log) a e
+  -- these are the sheet's places, and each handle's item is the sheet's item put at the handle's own place
+  pub places : sourceGlobals s .places ≡ map placed (laidOf s)
+  pub items : ItemsAt (sourceGlobals s .items) (laidOf s)
+  -- each record that an `adt` line without tuple field fills
+  pub records : AllApart (s .adts) (records (s .adts))
+
+-- of a sheet that neither compiling nor replay refuses, whose names are apart and whose values are of their types' kinds
+abbrev pub Demand : Type 0
+Demand =
+    (b : Buffers) (s image area : Bytes) → imaged b s ≡ laid image area
+    → namesApart (sourceDeclared (sheetSource s)) ≡ true → kindsFit (sourceDeclared (sheetSource s)) ≡ true
+    → Found (sheetSource s) image area

@@ -1,0 +1,231 @@
+-- Record lines: where fields lie, a record's size and its pointer map, and the records of a sheet.
+use Prim.Native.Nat.{ℕ, zero, suc, _+_, _-_, _*_, _/_, _^_, max}
+use mathlib.Core.Bool.{Bool, true, false, _&&_, cond}
+use mathlib.Core.List.{List, [], _∷_, _++_, map}
+use mathlib.Core.Option.{Option, none, some}
+use lib.ListN.{length}
+use lib.IntN.{ℤ, pos, negsuc}
+use lib.Dec.{leb, eqb}
+use lib.Count.{onesIn}
+use Rattle.semantics.specs.Text.{Bytes, same, any}
+use Rattle.semantics.specs.Tree.{Basic, Ty, Tys, Fd, Case, AdtDecl, Shape}
+use Rattle.semantics.specs.Tree.Basic.{int, byte, big, real, string}
+use Rattle.semantics.specs.Tree.Ty.{basic, ptr, array, tuple}
+use Rattle.semantics.specs.Tree.Tys.{noTys, andTy}
+use Rattle.semantics.specs.Sheet.{each}
+
+-- ---- sizes and alignments
+
+-- the least multiple of a that is not below n
+abbrev pub alignUp : ℕ → ℕ → ℕ
+alignUp a n = (n + (a - 1)) / a * a
+
+-- a size: at least 4, rounded up to 4
+abbrev pub closed : ℕ → ℕ
+closed end = alignUp 4 (max end 4)
+
+abbrev pub basicSize : Basic → ℕ
+basicSize int = 4
+basicSize byte = 4
+basicSize big = 8
+basicSize real = 8
+basicSize string = 4
+
+abbrev mutual
+  pub alignOf : Ty → ℕ
+  alignOf (basic b) = basicSize b
+  alignOf ptr = 4
+  alignOf (array t) = 4
+  alignOf (tuple ts) = alignOfAll ts
+
+  pub alignOfAll : Tys → ℕ
+  alignOfAll noTys = 4
+  alignOfAll (andTy t ts) = max (alignOf t) (alignOfAll ts)
+
+abbrev mutual
+  pub sizeOf : Ty → ℕ
+  sizeOf (basic b) = basicSize b
+  sizeOf ptr = 4
+  sizeOf (array t) = 4
+  sizeOf (tuple ts) = closed (endOfAll ts 0)
+
+  -- where fields of these types end that begin at off, each aligned
+  pub endOfAll : Tys → ℕ → ℕ
+  endOfAll noTys off = off
+  endOfAll (andTy t ts) off = endOfAll ts (alignUp (alignOf t) off + sizeOf t)
+
+-- ---- pointers
+
+abbrev pub basicIsPtr : Basic → Bool
+basicIsPtr int = false
+basicIsPtr byte = false
+basicIsPtr big = false
+basicIsPtr real = false
+basicIsPtr string = true
+
+-- pointers are all types but int, byte, big, real
+abbrev pub isPtr : Ty → Bool
+isPtr (basic b) = basicIsPtr b
+isPtr ptr = true
+isPtr (array t) = true
+isPtr (tuple ts) = true
+
+-- the offsets that a type marks when it lies at off: its first word, a tuple's too
+abbrev pub marksOf : Ty → ℕ → List ℤ
+marksOf t off = cond (isPtr t) (pos off ∷ []) []
+
+-- ---- pointer maps (dis(6))
+
+-- whether an offset marks word w: not where it is below 0 or its word passes the size
+abbrev pub marks : ℕ → ℕ → ℤ → Bool
+marks size w (pos off) = leb (off + 4) size && eqb (off / 4) w
+marks size w (negsuc n) = false
+
+-- whether word w of a block of this size holds one of these offsets
+abbrev pub marked : ℕ → List ℤ → ℕ → Bool
+marked size offs w = any (marks size w) offs
+
+-- the d words from w on, bit d - 1 first
+abbrev pub mapBits : ℕ → List ℤ → ℕ → ℕ → ℕ
+mapBits size offs zero w = 0
+mapBits size offs (suc d) w = cond (marked size offs w) (2 ^ d) 0 + mapBits size offs d (suc w)
+
+-- a byte per 8 words, n bytes from word w on
+abbrev pub mapBytes : ℕ → List ℤ → ℕ → ℕ → Bytes
+mapBytes size offs zero w = []
+mapBytes size offs (suc n) w = mapBits size offs 8 w ∷ mapBytes size offs n (w + 8)
+
+-- a word per 4 bytes of size, rounded up
+abbrev pub wordsOf : ℕ → ℕ
+wordsOf size = (size + 3) / 4
+
+abbrev pub pointerMap : ℕ → List ℤ → Bytes
+pointerMap size offs = mapBytes size offs ((wordsOf size + 7) / 8) 0
+
+abbrev pub mapOf : Shape → Bytes
+mapOf s = pointerMap (s .size) (s .pointers)
+
+-- the ones of a map
+abbrev pub pointerCount : Bytes → ℕ
+pointerCount [] = 0
+pointerCount (b ∷ bs) = onesIn 8 b + pointerCount bs
+
+-- ---- the fields of a record
+
+pub record Placed : Type 0 where
+  pub name : Bytes
+  pub ty : Ty
+  pub offset : ℕ
+
+-- fields, and where they end
+pub record Run : Type 0 where
+  pub placed : List Placed
+  pub end : ℕ
+
+abbrev pub after : Placed → Run → Run
+after p r = record { placed = p ∷ r .placed; end = r .end }
+
+-- the names of an `fd` line, one behind the other
+abbrev pub placeNames : Ty → ℕ → List Bytes → Run
+placeNames t off [] = record { placed = []; end = off }
+placeNames t off (n ∷ ns) = after (record { name = n; ty = t; offset = off }) (placeNames t (off + sizeOf t) ns)
+
+-- alignment is done once, before the first name, also where there is none; an untyped line is skipped
+abbrev pub placeLine : Option Ty → List Bytes → ℕ → Run
+placeLine none ns off = record { placed = []; end = off }
+placeLine (some t) ns off = placeNames t (alignUp (alignOf t) off) ns
+
+abbrev pub joined : Run → Run → Run
+joined r s = record { placed = r .placed ++ s .placed; end = s .end }
+
+abbrev pub place : ℕ → List Fd → Run
+place off [] = record { placed = []; end = off }
+place off (f ∷ fs) = let r = placeLine (f .ty) (f .names) off in joined r (place (r .end) fs)
+
+-- ---- size and pointers
+
+abbrev pub furthest : ℕ → List Placed → ℕ
+furthest end [] = end
+furthest end (p ∷ ps) = furthest (max end (p .offset + sizeOf (p .ty))) ps
+
+abbrev pub pointersOf : List Placed → List ℤ
+pointersOf ps = each (λ (p : Placed). marksOf (p .ty) (p .offset)) ps
+
+abbrev pub shapeOf : ℕ → List Placed → Shape
+shapeOf base ps = record { size = closed (furthest base ps); pointers = pointersOf ps }
+
+-- a record with pick takes the largest size and all variants' pointers
+abbrev pub pickShape : Shape → List Shape → Shape
+pickShape s [] = s
+pickShape s (v ∷ vs) = pickShape (record { size = max (s .size) (v .size); pointers = s .pointers ++ v .pointers }) vs
+
+-- ---- the records that a declaration makes
+
+-- the record of a key; tag and group are −1 for T itself
+pub record Recorded : Type 0 where
+  pub key : Bytes
+  pub tag : ℤ
+  pub group : ℤ
+  pub shape : Shape
+  pub fields : List Placed
+
+abbrev pub plainRecord : Bytes → Shape → List Placed → Recorded
+plainRecord t s ps = record { key = t; tag = negsuc 0; group = negsuc 0; shape = s; fields = ps }
+
+-- where fields begin that stand behind the tag word of a record with pick
+abbrev pub tagged : ℕ
+tagged = 4
+
+-- a variant's fields: the common ones, then its own
+abbrev pub variantFields : List Fd → Case → List Placed
+variantFields common k = let r = place tagged common in r .placed ++ place (r .end) (k .fields) .placed
+
+abbrev pub variantShape : List Fd → Case → Shape
+variantShape common k = shapeOf tagged (variantFields common k)
+
+abbrev pub variantsOf : Bytes → Shape → List Placed → ℕ → ℕ → List Bytes → List Recorded
+variantsOf t s ps g n [] = []
+variantsOf t s ps g n (x ∷ xs) = record { key = t ++ (46 ∷ x); tag = pos n; group = pos g; shape = s; fields = ps } ∷ variantsOf t s ps g (suc n) xs
+
+-- tags count over all cases, groups over cases
+abbrev pub casesFrom : Bytes → List Fd → ℕ → ℕ → List Case → List Recorded
+casesFrom t common g n [] = []
+casesFrom t common g n (k ∷ ks) =
+    variantsOf t (variantShape common k) (variantFields common k) g n (k .tags) ++ casesFrom t common (suc g) (n + length (k .tags)) ks
+
+abbrev pub withPick : Bytes → List Fd → List Case → List Recorded
+withPick t fs ks =
+    let ps = place tagged fs .placed in
+    plainRecord t (pickShape (shapeOf tagged ps) (map (variantShape fs) ks)) ps ∷ casesFrom t fs 0 0 ks
+
+abbrev pub withoutPick : Bytes → List Fd → Recorded
+withoutPick t fs = let ps = place 0 fs .placed in plainRecord t (shapeOf 0 ps) ps
+
+abbrev pub recordsFor : Bytes → List Fd → Option (List Case) → List Recorded
+recordsFor t fs none = withoutPick t fs ∷ []
+recordsFor t fs (some ks) = withPick t fs ks
+
+abbrev pub recordsOf : AdtDecl → List Recorded
+recordsOf d = recordsFor (d .name) (d .fields) (d .pick)
+
+-- ---- the records of a sheet
+
+-- in order of recording
+abbrev pub recordLog : List AdtDecl → List Recorded
+recordLog ds = each recordsOf ds
+
+-- the last record of a key, or else r
+abbrev pub lastOf : Bytes → Recorded → List Recorded → Recorded
+lastOf k r [] = r
+lastOf k r (x ∷ xs) = lastOf k (cond (same k (x .key)) x r) xs
+
+abbrev pub seen : Bytes → List Recorded → Bool
+seen k rs = any (λ (r : Recorded). same k (r .key)) rs
+
+-- each key once, where it was first recorded, with its last record
+abbrev pub settled : List Recorded → List Recorded → List Recorded
+settled before [] = []
+settled before (r ∷ rs) = cond (seen (r .key) before) (settled (r ∷ before) rs) (lastOf (r .key) r rs ∷ settled (r ∷ before) rs)
+
+abbrev pub records : List AdtDecl → List Recorded
+records ds = settled [] (recordLog ds)

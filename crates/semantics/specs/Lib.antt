@@ -1,0 +1,14 @@
+pub mod Text
+pub mod Tree
+pub mod Form
+pub mod Sheet
+pub mod Layout
+pub mod Fold
+pub mod Const
+pub mod Array
+pub mod Global
+pub mod Types
+pub mod Listing
+pub mod Image
+pub mod Refusal
+pub mod Demand
