@@ -4,8 +4,7 @@ use mathlib.Core.Path.{_≡_, refl}
 use mathlib.Core.Bool.{Bool, true, false, _&&_}
 use mathlib.Core.List.{List, [], _∷_, _++_, map}
 use lib.ListN.{length, take, drop, replicate}
-use lib.Count.{onesIn}
-use lib.Ieee as F
+use Rattle.semantics.specs.Open.{computed}
 use Rattle.semantics.specs.Text.{Bytes, bytes, same}
 use Rattle.semantics.specs.Sheet.{Source, sheetSource}
 use Rattle.semantics.specs.Image.{memoryOf}
@@ -30,7 +29,7 @@ abbrev round : Bytes
 round = bytes "impl,Round\nty,string\nty,big\nfd,2,1,tag\nfd,3,1,at\nadt,Scan,2,4,5\nex,int,3\ncon,KEEP,1,1,7\nex,id,KEEP\nex,int,7\nel,next,10\nty,int\nex,lit,9,12,1,11\nty,int\nty,array,14\nvar,15,13,1,a\nneed,adt,Scan\n"
 
 round-found : Found (sheetSource round) (0 ∷ 0 ∷ 0 ∷ 1 ∷ []) (0 ∷ 0 ∷ 0 ∷ 7 ∷ replicate 8 0)
-unfolding onesIn F.add F.sub F.mul F.div F.neg F.ofInt F.toSigned F.toBits F.ofBits
+unfolding computed
 round-found = demand program round (0 ∷ 0 ∷ 0 ∷ 1 ∷ []) (0 ∷ 0 ∷ 0 ∷ 7 ∷ replicate 8 0) refl refl refl
 
 -- a byte array of 3, an int, a string for two names, an array of 3 strings the second of which is a number, a big, an `alloc`,
@@ -72,5 +71,5 @@ trials =
     ∷ []
 
 trials-tell : map (λ (t : Trial). premises many && agree many (t .image) (t .area)) trials ≡ map (λ (t : Trial). t .right) trials
-unfolding onesIn F.add F.sub F.mul F.div F.neg F.ofInt F.toSigned F.toBits F.ofBits
+unfolding computed
 trials-tell = refl

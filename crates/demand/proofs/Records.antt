@@ -156,6 +156,7 @@ module _ (size : ℕ) (zs : List ℤ) where
       rw (pow-succ' 2 k, ← div-div-eq-div-mul (bits (suc (suc n)) w) 2 (2 ^ k), half (suc n) w) (nth-bit n k w v (omega arith) (omega arith))
 
   map-bits : (w : ℕ) → bitAt (pointerMap size zs) w ≡ bit w
+  unfolding pointerMap
   map-bits w = rw (bytes-at ((wordsOf size + 7) / 8) 0 (w / 8) (omega arith)) (nth-bit 7 (7 - w % 8) (0 + 8 * (w / 8)) w (omega arith) (omega arith))
 
 -- ---- the words marked are those at which pointers start
@@ -249,4 +250,5 @@ settled-apart ds before (x ∷ xs) r a =
     go false ys s = (λ fs q n. rw q at apart, s)
 
 pub records-apart : (ds : List AdtDecl) → AllApart ds (records ds)
+unfolding records
 records-apart ds = settled-apart ds [] (recordLog ds) (λ k. withoutPick k []) (λ k. last-apart k ds none (withoutPick k []) tt)

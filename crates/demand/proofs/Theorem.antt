@@ -14,7 +14,7 @@ use Rattle.semantics.specs.Fold.{Const}
 use Rattle.semantics.specs.Const.{constants}
 use Rattle.semantics.specs.Global.{Item, Globals, Declared, declaredBy, laidVars, laidNames}
 use Rattle.semantics.specs.Image.{Memory, memoryOf, areaAfter}
-use Rattle.semantics.specs.Refusal.{Buffers, Outcome, Imaged, sourceGlobals, laidIn, replayed, afterListing, compiled, imageBytes, areaBytes}
+use Rattle.semantics.specs.Refusal.{Buffers, Outcome, Imaged, sourceGlobals, laidIn, replayed, afterListing, compiled, imaged, imageBytes, areaBytes}
 use Rattle.semantics.specs.Refusal.Outcome.{listed, refused}
 use Rattle.semantics.specs.Refusal.Imaged.{laid, notLaid}
 use Rattle.semantics.specs.Demand.{sourceDeclared, laidFrom, imageEnd, areaEnd, Demand}
@@ -73,6 +73,7 @@ abbrev ofItems : ℕ → List Item → Memory
 ofItems end is = memoryOf (record { places = []; end = end; pends = []; items = is })
 
 pub demand : Demand
+unfolding imaged
 demand b s image area accepted apart kinds =
     let src = sheetSource s in
     let ds = sourceDeclared src in

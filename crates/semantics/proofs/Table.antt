@@ -4,8 +4,7 @@ use Prim.Native.String.{String}
 use mathlib.Core.Path.{_≡_, refl}
 use mathlib.Core.List.{List, [], _∷_, _++_, map}
 use lib.ListN.{replicate}
-use lib.Count.{onesIn}
-use lib.Ieee as F
+use Rattle.semantics.specs.Open.{computed}
 use Rattle.semantics.specs.Text.{Bytes, bytes}
 use Rattle.semantics.specs.Sheet.{each}
 use Rattle.semantics.specs.Refusal.{Outcome, program, compiled}
@@ -93,5 +92,5 @@ rows =
 
 -- every row's sheet has its outcome
 pub rows-hold : map (λ (r : Row). compiled program (r .sheet)) rows ≡ map (λ (r : Row). r .outcome) rows
-unfolding onesIn F.add F.sub F.mul F.div F.neg F.ofInt F.toSigned F.toBits F.ofBits
+unfolding computed
 rows-hold = refl

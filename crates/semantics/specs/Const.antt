@@ -87,5 +87,5 @@ abbrev pub passesFrom : Option Bytes → List (List (Located ConstDecl)) → Lis
 passesFrom impl [] log = record { log = log; refused = none }
 passesFrom impl (p ∷ ps) log = andThen (pass impl p newCounter log) (passesFrom impl ps)
 
-abbrev pub constants : Source → Folding
+unfoldable pub constants : Source → Folding
 constants s = passesFrom (s .implement) (passesOf s) []

@@ -47,7 +47,7 @@ abbrev pub signed64 : ℕ → ℤ
 signed64 n = cond (ltb n (2 ^ 63)) (pos n) (negsuc (2 ^ 64 - 1 - n))
 
 -- modulo 2^64
-abbrev pub wrap : ℤ → ℤ
+unfoldable pub wrap : ℤ → ℤ
 wrap z = signed64 (bits64 z)
 
 abbrev pub isZero : ℤ → Bool
@@ -118,12 +118,12 @@ realBinary logAnd x y = failed
 realBinary logOr x y = failed
 
 -- an integer to a real: nearest, ties to even
-abbrev pub toReal : ℤ → Float
+unfoldable pub toReal : ℤ → Float
 unfolding F.ofInt
 toReal z = F.ofInt binary64 z
 
 -- a real to a whole number: toward zero, saturating at h bits and a sign, NaN gives 0
-abbrev pub toWhole : ℕ → Float → ℤ
+unfoldable pub toWhole : ℕ → Float → ℤ
 unfolding F.toSigned
 toWhole h x = F.toSigned h x
 
@@ -248,7 +248,7 @@ qualifiedValue cs e n = byForm (λ (m : Bytes). fromOption (valueOf (qualified m
 
 -- ---- folding: left first, and a failure or refusal ends it
 
-abbrev pub fold : List Const → ℤ → Ex → Result ConstVal
+unfoldable pub fold : List Const → ℤ → Ex → Result ConstVal
 fold cs iota (constant v) = ok v
 fold cs iota (ident n) = cond (same n (bytes "iota")) (ok (vInt iota)) (constValue cs n)
 fold cs iota (modQual e n) = qualifiedValue cs e n

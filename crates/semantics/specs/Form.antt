@@ -204,7 +204,7 @@ abbrev pub perhapsEx : Part
 perhapsEx = one (maybe kEx)
 
 -- keywords, the fields behind them, and what the line makes
-abbrev pub forms : List Row
+unfoldable pub forms : List Row
 forms =
     row kTy "ty,int" [] (aTy (basic int))
     ∷ row kTy "ty,byte" [] (aTy (basic byte))
@@ -293,7 +293,7 @@ readOf l =
     record { row = r; fields = fieldsFrom (length (r .words) + 1) l }
 
 -- whether line k has a form: at most 255 bytes, the fields of its row, and `impl` on line 1 only
-abbrev pub formed : ℕ → Bytes → Bool
+unfoldable pub formed : ℕ → Bytes → Bool
 formed k l =
     let r = readOf l in
     leb (length l) 255 && ltb (rowOf forms l) (length forms) && fits (r .row .parts) (r .fields) && (eqb k 1 || not (sameKind (r .row .kind) kImpl))
@@ -312,5 +312,5 @@ make (many a ∷ ps) m ns fs =
     make ps (m (values a ns n (tailParts fs))) ns (drop (suc n) fs)
 
 -- what a line makes, where ns are the nodes of the lines before it
-abbrev pub nodeOf : List Node → Read → Node
+unfoldable pub nodeOf : List Node → Read → Node
 nodeOf ns r = make (r .row .parts) (r .row .make) ns (r .fields)

@@ -99,14 +99,14 @@ mapBytes size offs (suc n) w = mapBits size offs 8 w ∷ mapBytes size offs n (w
 abbrev pub wordsOf : ℕ → ℕ
 wordsOf size = (size + 3) / 4
 
-abbrev pub pointerMap : ℕ → List ℤ → Bytes
+unfoldable pub pointerMap : ℕ → List ℤ → Bytes
 pointerMap size offs = mapBytes size offs ((wordsOf size + 7) / 8) 0
 
 abbrev pub mapOf : Shape → Bytes
 mapOf s = pointerMap (s .size) (s .pointers)
 
 -- the ones of a map
-abbrev pub pointerCount : Bytes → ℕ
+unfoldable pub pointerCount : Bytes → ℕ
 pointerCount [] = 0
 pointerCount (b ∷ bs) = onesIn 8 b + pointerCount bs
 
@@ -227,5 +227,5 @@ abbrev pub settled : List Recorded → List Recorded → List Recorded
 settled before [] = []
 settled before (r ∷ rs) = cond (seen (r .key) before) (settled (r ∷ before) rs) (lastOf (r .key) r rs ∷ settled (r ∷ before) rs)
 
-abbrev pub records : List AdtDecl → List Recorded
+unfoldable pub records : List AdtDecl → List Recorded
 records ds = settled [] (recordLog ds)

@@ -12,3 +12,4 @@ pub mod Listing
 pub mod Image
 pub mod Refusal
 pub mod Demand
+pub mod Open

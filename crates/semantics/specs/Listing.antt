@@ -36,7 +36,7 @@ mapText s = hexOf (mapOf s)
 abbrev pub fieldRow : Placed → Bytes
 fieldRow p = row (bytes "fld" ∷ p .name ∷ decimal (p .offset) ∷ decimal (sizeOf (p .ty)) ∷ [])
 
-abbrev pub recordRows : Recorded → Bytes
+unfoldable pub recordRows : Recorded → Bytes
 recordRows r =
     row (bytes "rec" ∷ r .key ∷ decimalℤ (r .tag) ∷ decimalℤ (r .group) ∷ decimal (r .shape .size) ∷ mapText (r .shape) ∷ [])
     ++ each fieldRow (r .fields)
@@ -68,7 +68,7 @@ abbrev pub constRow : List Const → Key → Bytes
 constRow cs k = row (bytes "con" ∷ keyText k ∷ valueFields (valueOf k cs))
 
 -- all M->NAME first, then plain
-abbrev pub constRows : List Const → Bytes
+unfoldable pub constRows : List Const → Bytes
 constRows cs =
     each (constRow cs) (filter (λ (k : Key). not (isPlain k)) (keysIn cs))
     ++ each (constRow cs) (filter isPlain (keysIn cs))
@@ -79,7 +79,7 @@ abbrev pub flag : Bool → Bytes
 flag true = bytes "1"
 flag false = bytes "0"
 
-abbrev pub globalRow : Global → Bytes
+unfoldable pub globalRow : Global → Bytes
 globalRow g = row (bytes "glo" ∷ g .name ∷ decimal (g .offset) ∷ decimal (globalSize (g .ty)) ∷ flag (isPtr (g .ty)) ∷ [])
 
 abbrev pub pendRow : Bytes → Bytes
@@ -102,23 +102,23 @@ itemFields id (arrayItem o k n) = bytes "array" ∷ decimal o ∷ decimal (id (e
 itemFields id (setItem o) = bytes "set" ∷ decimal o ∷ bytes "0" ∷ []
 itemFields id backItem = bytes "back" ∷ []
 
-abbrev pub itemRow : (TypeKey → ℕ) → Item → Bytes
+unfoldable pub itemRow : (TypeKey → ℕ) → Item → Bytes
 itemRow id i = row (bytes "dat" ∷ itemFields id i)
 
 -- ---- types: typ,ID,SIZE,COUNT,MAP, then use,ID
 
-abbrev pub typeRows : ℕ → List Shape → Bytes
+unfoldable pub typeRows : ℕ → List Shape → Bytes
 typeRows id [] = []
 typeRows id (s ∷ ss) =
     row (bytes "typ" ∷ decimal id ∷ decimal (s .size) ∷ decimal (pointerCount (mapOf s)) ∷ mapText s ∷ [])
     ++ typeRows (suc id) ss
 
-abbrev pub useRow : (TypeKey → ℕ) → TypeKey → Bytes
+unfoldable pub useRow : (TypeKey → ℕ) → TypeKey → Bytes
 useRow id k = row (bytes "use" ∷ decimal (id k) ∷ [])
 
 -- ---- the whole
 
-abbrev pub listing : Source → List Const → Globals → Bytes
+unfoldable pub listing : Source → List Const → Globals → Bytes
 listing s cs g =
     each recordRows (records (s .adts))
     ++ constRows cs

@@ -24,7 +24,7 @@ use Rattle.semantics.specs.Image.{Memory, memoryOf, areaAfter}
 abbrev pub mostLines : ℕ
 mostLines = 1024
 
-abbrev pub badForm : ℕ → List Bytes → ℕ
+unfoldable pub badForm : ℕ → List Bytes → ℕ
 badForm k [] = 0
 badForm k (l ∷ []) = cond (eqb (length l) 0) 0 k
 badForm k (l ∷ (m ∷ ls)) = cond (leb k mostLines && formed k l) (badForm (suc k) (m ∷ ls)) k
@@ -85,7 +85,7 @@ abbrev pub orBad : ℕ → (List ℕ → ℕ) → Option (List ℕ) → ℕ
 orBad k go none = k
 orBad k go (some used) = go used
 
-abbrev pub badRefFrom : List Read → ℕ → List ℕ → List Read → ℕ
+unfoldable pub badRefFrom : List Read → ℕ → List ℕ → List Read → ℕ
 badRefFrom ls k used [] = 0
 badRefFrom ls k used (m ∷ ms) = orBad k (λ (u : List ℕ). badRefFrom ls (suc k) u ms) (useAll ls k (refsOf m) used)
 
@@ -98,7 +98,7 @@ abbrev pub deepest : List ℕ → List Ref → ℕ
 deepest depths [] = 0
 deepest depths (r ∷ rs) = max (cond (eqb (r .line) 0) 0 (getD depths (r .line - 1) 0)) (deepest depths rs)
 
-abbrev pub tooDeepFrom : ℕ → List ℕ → List Read → ℕ
+unfoldable pub tooDeepFrom : ℕ → List ℕ → List Read → ℕ
 tooDeepFrom k depths [] = 0
 tooDeepFrom k depths (l ∷ ls) =
     let d = suc (deepest depths (refsOf l)) in
@@ -109,7 +109,7 @@ tooDeepFrom k depths (l ∷ ls) =
 abbrev pub isA : Kind → Read → Bool
 isA k l = sameKind (l .row .kind) k
 
-abbrev pub badModuleFrom : ℕ → Bool → List Read → ℕ
+unfoldable pub badModuleFrom : ℕ → Bool → List Read → ℕ
 badModuleFrom k open' [] = cond open' (k - 1) 0
 badModuleFrom k open' (l ∷ ls) =
     cond (isA kMod l && open' || isA kEnd l && not open') k
@@ -148,7 +148,7 @@ counted d c = record {
 abbrev pub over : Counts → Bool
 over c = ltb 128 (c .consts) || ltb 128 (c .needs) || ltb 128 (c .frames) || ltb 128 (c .records) || ltb 256 (c .names)
 
-abbrev pub tooManyFrom : ℕ → Counts → List Node → ℕ
+unfoldable pub tooManyFrom : ℕ → Counts → List Node → ℕ
 tooManyFrom k c [] = 0
 tooManyFrom k c (n ∷ ns) =
     let d = counted (n .declares) c in
@@ -218,7 +218,7 @@ worked n s =
     (refuseWork (varsRefused (constants s .log) (laidVars s)) (listedIn n (sourceListing s)))
 
 -- what compiling a sheet gives
-abbrev pub compiled : Buffers → Bytes → Outcome
+unfoldable pub compiled : Buffers → Bytes → Outcome
 compiled b s =
     refuseIf 1 (ltb longestSheet (length s))
     (refuseIf 2 (ltb (b .work) leastWork) (checked (lineParts s) (worked (b .listing) (sheetSource s))))
@@ -241,7 +241,7 @@ afterListing b g (listed out) = replayed b g
 afterListing b g (refused n k) = notLaid n k
 
 -- what compiling a sheet and replaying its items gives
-abbrev pub imaged : Buffers → Bytes → Imaged
+unfoldable pub imaged : Buffers → Bytes → Imaged
 imaged b s = afterListing b (sourceGlobals (sheetSource s)) (compiled b s)
 
 -- ---- what the lent buffers hold afterwards: zeros behind what was written, and zeros alone after a refusal

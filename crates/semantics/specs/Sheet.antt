@@ -14,7 +14,7 @@ readsOf (l ∷ []) = []
 readsOf (l ∷ (m ∷ ls)) = readOf l ∷ readsOf (m ∷ ls)
 
 -- the nodes of lines, behind the nodes ns of the lines before them
-abbrev pub nodesFrom : List Node → List Read → List Node
+unfoldable pub nodesFrom : List Node → List Read → List Node
 nodesFrom ns [] = ns
 nodesFrom ns (r ∷ rs) = nodesFrom (ns ++ (nodeOf ns r ∷ [])) rs
 
@@ -82,5 +82,5 @@ sourceOf ns = record {
 }
 
 -- the declarations of the lines of a sheet
-abbrev pub sheetSource : Bytes → Source
+unfoldable pub sheetSource : Bytes → Source
 sheetSource s = sourceOf (nodesFrom [] (readsOf (lineParts s)))

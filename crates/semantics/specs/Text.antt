@@ -122,7 +122,7 @@ digitsValue n [] = some n
 digitsValue n (b ∷ bs) = cond (isDigit b) (digitsValue (n * 10 + (b - 48)) bs) none
 
 -- a decimal number without leading zeros
-abbrev pub natOf : Bytes → Option ℕ
+unfoldable pub natOf : Bytes → Option ℕ
 natOf [] = none
 natOf (b ∷ []) = digitsValue 0 (b ∷ [])
 natOf (b ∷ (c ∷ bs)) = cond (eqb b 48) none (digitsValue 0 (b ∷ (c ∷ bs)))
@@ -133,7 +133,7 @@ negative (some zero) = none
 negative (some (suc n)) = some (negsuc n)
 
 -- an integer: `-` stands only before a nonzero number
-abbrev pub intOf : Bytes → Option ℤ
+unfoldable pub intOf : Bytes → Option ℤ
 intOf [] = none
 intOf (b ∷ bs) = cond (eqb b 45) (negative (natOf bs)) (mapOption pos (natOf (b ∷ bs)))
 
@@ -144,10 +144,10 @@ digitsFrom zero b n acc = acc
 digitsFrom (suc k) true n acc = (48 + n) ∷ acc
 digitsFrom (suc k) false n acc = digitsFrom k (ltb (n / 10) 10) (n / 10) ((48 + n % 10) ∷ acc)
 
-abbrev pub decimal : ℕ → Bytes
+unfoldable pub decimal : ℕ → Bytes
 decimal n = digitsFrom (suc n) (ltb n 10) n []
 
-abbrev pub decimalℤ : ℤ → Bytes
+unfoldable pub decimalℤ : ℤ → Bytes
 decimalℤ (pos n) = decimal n
 decimalℤ (negsuc n) = 45 ∷ decimal (suc n)
 
@@ -159,7 +159,7 @@ hexDigit d = cond (ltb d 10) (48 + d) (55 + d)
 abbrev pub hexValue : ℕ → Option ℕ
 hexValue b = cond (isDigit b) (some (b - 48)) (cond (within 65 70 b) (some (b - 55)) none)
 
-abbrev pub hexOf : Bytes → Bytes
+unfoldable pub hexOf : Bytes → Bytes
 hexOf [] = []
 hexOf (b ∷ bs) = hexDigit (b / 16) ∷ (hexDigit (b % 16) ∷ hexOf bs)
 
@@ -170,7 +170,7 @@ hexPair (some h) (some l) none = none
 hexPair (some h) (some l) (some bs) = some ((h * 16 + l) ∷ bs)
 
 -- the bytes that pairs of digits write
-abbrev pub unhex : Bytes → Option Bytes
+unfoldable pub unhex : Bytes → Option Bytes
 unhex [] = some []
 unhex (h ∷ []) = none
 unhex (h ∷ (l ∷ ds)) = hexPair (hexValue h) (hexValue l) (unhex ds)
@@ -191,7 +191,7 @@ abbrev pub isLetter : ℕ → Bool
 isLetter b = within 65 90 b || within 97 122 b || eqb b 95
 
 -- NAME: 1 to 32 letters, digits and `_`, with no leading digit
-abbrev pub isName : Bytes → Bool
+unfoldable pub isName : Bytes → Bool
 isName [] = false
 isName (b ∷ bs) = isLetter b && all (λ (x : ℕ). isLetter x || isDigit x) bs && leb (length (b ∷ bs)) 32
 
@@ -224,10 +224,10 @@ abbrev pub goesOn : Option Lead → Bytes → Bool
 goesOn s [] = holdsOf (λ (l : Lead). eqb (l .0) 0) s
 goesOn s (b ∷ bs) = goesOn (follows b s) bs
 
-abbrev pub isUtf8 : Bytes → Bool
+unfoldable pub isUtf8 : Bytes → Bool
 isUtf8 bs = goesOn (some (0, 0, 0)) bs
 
 -- how many characters UTF-8 text has: its bytes other than 80 to BF
-abbrev pub characters : Bytes → ℕ
+unfoldable pub characters : Bytes → ℕ
 characters [] = 0
 characters (b ∷ bs) = cond (within 0x80 0xBF b) 0 1 + characters bs

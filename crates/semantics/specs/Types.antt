@@ -47,7 +47,7 @@ distinct before [] = []
 distinct before (k ∷ ks) = cond (any (sameTypeKey k) before) (distinct before ks) (k ∷ distinct (k ∷ before) ks)
 
 -- the keys that get descriptors behind the frames: needs, then array elements
-abbrev pub keys : Source → List Item → List TypeKey
+unfoldable pub keys : Source → List Item → List TypeKey
 keys s is = distinct [] (s .needs ++ each arrayKey is)
 
 abbrev pub position : TypeKey → List TypeKey → ℕ
@@ -81,5 +81,5 @@ keyShape rs (elemKey k) = elemShape k
 keyShape rs (blockKey s) = s
 keyShape rs opaqueKey = opaqueShape
 
-abbrev pub descriptors : Source → List Item → List Shape
+unfoldable pub descriptors : Source → List Item → List Shape
 descriptors s is = opaqueShape ∷ (opaqueShape ∷ (s .frames ++ map (keyShape (recordLog (s .adts))) (keys s is)))
