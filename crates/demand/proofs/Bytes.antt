@@ -14,7 +14,7 @@ use Rattle.semantics.specs.Text.{Bytes, bigEndian}
 use Rattle.semantics.specs.Fold.{bits64}
 use Rattle.semantics.specs.Array.{lowest}
 use Rattle.semantics.specs.Image.{written}
-use Rattle.semantics.specs.Demand.{lies}
+use Rattle.semantics.specs.Demand.{liesIn}
 
 -- byte p where the bytes ys stand from o on, among zeros
 unfoldable pub shifted : ℕ → Bytes → ℕ → ℕ
@@ -111,7 +111,7 @@ module _ (xs : Bytes) (o : ℕ) (ys : Bytes) (fits : o + length ys ≤ length xs
           ∙ rw (shifted-past o ys p m, add-zero)
 
 -- one layer over the rest
-pub layer : (p o n : ℕ) (ys : Bytes) (rest : ℕ) → length ys ≤ n → (p < o + n → rest ≡ 0) → shifted o ys p + rest ≡ cond (lies p o n) (getD ys (p - o) 0) rest
+pub layer : (p o n : ℕ) (ys : Bytes) (rest : ℕ) → length ys ≤ n → (p < o + n → rest ≡ 0) → shifted o ys p + rest ≡ cond (liesIn p o n) (getD ys (p - o) 0) rest
 layer p o n ys rest h z = go (leb o p) refl (ltb p (o + n)) refl
   where
     go : (a : Bool) → leb o p ≡ a → (b : Bool) → ltb p (o + n) ≡ b → shifted o ys p + rest ≡ cond (a && b) (getD ys (p - o) 0) rest
@@ -119,7 +119,7 @@ layer p o n ys rest h z = go (leb o p) refl (ltb p (o + n)) refl
     go true e true f = rw (shifted-at o ys p (leb-true o p e), z (ltb-true p (o + n) f), add-zero)
     go true e false f = let m = ltb-false p (o + n) f in rw (shifted-past o ys p (omega arith), zero-add)
 
-pub lies-below : (p o n : ℕ) → p < o → lies p o n ≡ false
+pub lies-below : (p o n : ℕ) → p < o → liesIn p o n ≡ false
 lies-below p o n h = rw (lt-leb o p h)
 
 -- zeros added behind
@@ -138,6 +138,7 @@ getD-zeros xs n p = go (ltb p (length xs)) refl (ltb (p - length xs) n) refl
 
 -- the low 32 bits
 pub low-bytes : (a b : ℕ) → a % 4294967296 ≡ b % 4294967296 → bigEndian 4 a ≡ bigEndian 4 b
+unfolding bigEndian
 low-bytes a b h =
     let p : a / 16777216 % 256 ≡ b / 16777216 % 256 = omega arith in
     let q : a / 65536 % 256 ≡ b / 65536 % 256 = omega arith in

@@ -1,5 +1,5 @@
 -- The values of a constant array's elements: the one last given to an index, or else the filler.
-use Prim.Native.Nat.{ℕ, zero, suc, _+_, _^_, _≤_, _<_, zero-le}
+use Prim.Native.Nat.{ℕ, zero, suc, _+_, _^_, _≤_, _<_, max, zero-le}
 use native.Mathlib.Nat.{add-zero, zero-add, add-suc, suc-add, le-refl, le-of-eq}
 use native.Mathlib.Omega.{arith}
 use mathlib.Core.Path.{_≡_, refl, sym, ap}
@@ -11,19 +11,20 @@ use lib.IntN.{ℤ, pos, negsuc}
 use lib.Signed.{leZ}
 use lib.Dec.{leb, ltb, eqb}
 use borrow.Author.Tests.{leb-true, leb-false, le-leb, lt-leb, eq-eqb, ne-eqb}
-use Rattle.semantics.specs.Text.{any}
-use Rattle.semantics.specs.Tree.{Ty, Ex, MaybeEx, Els, ConstVal, ElemKind, elemOf}
+use Rattle.semantics.specs.Text.{any, orElse}
+use Rattle.semantics.specs.Tree.{Ty, Ex, MaybeEx, Els, ConstVal, elemOf}
 use Rattle.semantics.specs.Tree.Ex.{constant, ident, modQual, unary, binary, cast, len, arrayEx, otherEx}
 use Rattle.semantics.specs.Tree.ArrayEx.{alloc, lit}
+use Rattle.semantics.specs.Tree.MaybeEx.{absent, given}
 use Rattle.semantics.specs.Tree.El.{next, star, at}
 use Rattle.semantics.specs.Tree.Els.{noEls, andEl}
 use Rattle.semantics.specs.Tree.ConstVal.{vInt, vReal, vStr}
-use Rattle.semantics.specs.Fold.{Result, bind, Const, foldAt0}
+use Rattle.semantics.specs.Fold.{Result, bind, Names, foldAt0}
 use Rattle.semantics.specs.Fold.Result.{ok, failed, refuse}
-use Rattle.semantics.specs.Array.{ConstArray, longestAlloc, allocated, Placement, Filled, noneFilled, placeSpan, placed, placeNext, placeSpans, setWildcard, spansOf, fill, valueAt, valuesFrom, filler, longestLiteral, outside, literalSize, built, literal, constArray}
+use Rattle.semantics.specs.Array.{ConstArray, elemKind, longestAlloc, allocated, Placement, Filled, noneFilled, placeSpan, placeIndices, placeNext, placeSpans, setWildcard, spansOf, fill, valueAt, valuesFrom, filler, longestLiteral, outside, literalKind, asSize, literalSize, built, literal, constArray}
 use Rattle.semantics.specs.Global.{Init, firstValue, initOf, orNoInit}
 use Rattle.semantics.specs.Global.Init.{noInit, constInit, arrayInit, pendingInit}
-use Rattle.semantics.specs.Demand.{names, afterHigh, behind, lastGiven, lastStar, elementAt, GivenBy}
+use Rattle.semantics.specs.Demand.{covers, afterHigh, nextIndexAfter, spansReach, reachOf, lastGiven, lastStar, elementAt, LengthOf, GivenBy}
 
 -- ---- what holds of a result, where there is one
 
@@ -94,41 +95,48 @@ value-last [] p w i = refl
 value-last (q ∷ ps) p w i = value-last ps p _ i
 
 module _ (i : ℕ) (w : ConstVal) where
-  -- the index of the next plain element, the value at i, and the last wildcard or else 0
-  record Seen (n : ℕ) (u s : Result ConstVal) (f : Filled) : Type 0 where
-    index : f .next' ≡ n
+  -- the index of the next plain element, the end of the indices, the value at i, and the last wildcard or else 0
+  record Seen (n m : ℕ) (u s : Result ConstVal) (f : Filled) : Type 0 where
+    index : f .nextIndex ≡ n
+    reach : f .reach ≡ m
     value : ok (valueAt (f .placements) w i) ≡ u
     otherwise : ok (filler (f .wildcard)) ≡ s
 
-  -- each step goes as `lastGiven` and `lastStar` do
-  module _ {n : ℕ} {u s : Result ConstVal} {f : Filled} (q : Seen n u s f) where
-    span-seen : (v : ConstVal) (l h : ℕ) → Seen (suc h) (cond (leb l i && leb i h) (ok v) u) s (placeSpan v l h f)
-    span-seen v l h = record { index = refl; value = rw (value-last, ok-cond, q .value); otherwise = q .otherwise }
+  -- each step goes as `reachOf`, `lastGiven` and `lastStar` do
+  module _ {n m : ℕ} {u s : Result ConstVal} {f : Filled} (q : Seen n m u s f) where
+    span-seen : (v : ConstVal) (l h : ℕ) → Seen (suc h) (max m (suc h)) (cond (leb l i && leb i h) (ok v) u) s (placeSpan v l h f)
+    span-seen v l h = record { index = refl; reach = rw (q .reach); value = rw (value-last, ok-cond, q .value); otherwise = q .otherwise }
 
-    placed-seen : (v : ConstVal) (l h : ℤ) → Holds (Seen (cond (leZ l h) (afterHigh h) n) (cond (names i (l, h)) (ok v) u) s) (placed v l h f)
+    placed-seen : (v : ConstVal) (l h : ℤ)
+        → Holds (Seen (cond (leZ l h) (afterHigh h) n) (cond (leZ l h) (max m (afterHigh h)) m) (cond (covers i (l, h)) (ok v) u) s) (placeIndices v l h f)
     placed-seen v (pos l) (pos h) = test (leb l h) (λ p. rw p (holds (span-seen v l h))) λ p. rw (p, none-between i l h p) (holds q)
     placed-seen v (pos l) (negsuc h) = rw (and-false (leb l i)) (holds q)
     placed-seen v (negsuc l) (pos h) = fails
     placed-seen v (negsuc l) (negsuc h) = test (leb h l) (λ _. fails) λ p. rw p (holds q)
 
-    next-seen : (v : ConstVal) → Holds (Seen (suc n) (cond (eqb i n) (ok v) u) s) (placeNext v f)
-    next-seen v = test (ltb (f .next') (2 ^ 63)) (λ _. rw (q .index, le-leb n n (le-refl n), ← one-between i n) (holds (span-seen v n n))) λ _. fails
+    next-seen : (v : ConstVal) → Holds (Seen (suc n) (max m (suc n)) (cond (eqb i n) (ok v) u) s) (placeNext v f)
+    next-seen v = test (ltb (f .nextIndex) (2 ^ 63)) (λ _. rw (q .index, le-leb n n (le-refl n), ← one-between i n) (holds (span-seen v n n))) λ _. fails
 
-    star-seen : (v : ConstVal) → Seen n u (ok v) (setWildcard v f)
-    star-seen v = record { index = q .index; value = q .value; otherwise = refl }
+    star-seen : (v : ConstVal) → Seen n m u (ok v) (setWildcard v f)
+    star-seen v = record { index = q .index; reach = q .reach; value = q .value; otherwise = refl }
 
-  spans-seen : (v : ConstVal) (ss : List (ℤ × ℤ)) {n : ℕ} {u s : Result ConstVal} {f : Filled} → Seen n u s f
-      → Holds (Seen (behind n ss) (cond (any (names i) ss) (ok v) u) s) (placeSpans v ss f)
+  spans-seen : (v : ConstVal) (ss : List (ℤ × ℤ)) {n m : ℕ} {u s : Result ConstVal} {f : Filled} → Seen n m u s f
+      → Holds (Seen (nextIndexAfter n ss) (spansReach m ss) (cond (any (covers i) ss) (ok v) u) s) (placeSpans v ss f)
   spans-seen v [] q = holds q
   spans-seen v (s ∷ ss) q = then (placed-seen q v (s .0) (s .1)) λ g r. rw cond-or (spans-seen v ss r)
 
-  fill-seen : (cs : List Const) (es : Els) {n : ℕ} {u s : Result ConstVal} {f : Filled} → Seen n u s f
-      → Holds (λ (g : Filled). (m : ℕ) × Seen m (lastGiven cs i n u es) (lastStar cs s es) g) (fill cs es f)
-  fill-seen cs noEls q = holds (_, q)
-  fill-seen cs (andEl (next e) es) q = then (then (result (foldAt0 cs e)) λ v p. rw p (next-seen q v)) λ g. fill-seen cs es
-  fill-seen cs (andEl (star e) es) q = then (then (result (foldAt0 cs e)) λ v p. rw p (holds (star-seen q v))) λ g. fill-seen cs es
-  fill-seen cs (andEl (at e ss) es) q =
-      then (then (result (foldAt0 cs e)) λ v p. then (result (spansOf cs ss)) λ l o. rw (p, o) (spans-seen v l q)) λ g. fill-seen cs es
+  fill-seen : (ns : Names) (es : Els) {n m : ℕ} {u s : Result ConstVal} {f : Filled} → Seen n m u s f
+      → Holds (λ (g : Filled). (k : ℕ) × Seen k (reachOf ns n m es) (lastGiven ns i n u es) (lastStar ns s es) g) (fill ns es f)
+  fill-seen ns noEls q = holds (_, q)
+  fill-seen ns (andEl (next e) es) q = then (then (result (foldAt0 ns e)) λ v p. rw p (next-seen q v)) λ g. fill-seen ns es
+  fill-seen ns (andEl (star e) es) q = then (then (result (foldAt0 ns e)) λ v p. rw p (holds (star-seen q v))) λ g. fill-seen ns es
+  fill-seen ns (andEl (at e ss) es) q =
+      then (then (result (foldAt0 ns e)) λ v p. then (result (spansOf ns ss)) λ l o. rw (p, o) (spans-seen v l q)) λ g. fill-seen ns es
+
+  -- a whole literal
+  literal-seen : (ns : Names) (es : Els) (f : Filled) → fill ns es noneFilled ≡ ok f
+      → (k : ℕ) × Seen k (reachOf ns 0 0 es) (lastGiven ns i 0 (ok w) es) (lastStar ns (ok (vInt (pos 0))) es) f
+  literal-seen ns es f p = of p (fill-seen ns es (record { index = refl; reach = refl; value = refl; otherwise = refl }))
 
 -- ---- arrays
 
@@ -143,38 +151,50 @@ module _ (ps : List Placement) (v : ConstVal) where
   values-at j (suc n) zero h = rw add-zero
   values-at j (suc n) (suc i) h = rw (add-suc, ← suc-add) (values-at (suc j) n i (omega arith))
 
--- a whole literal: w is its own filler
-literal-at : (cs : List Const) (es : Els) (f : Filled) → fill cs es noneFilled ≡ ok f
-    → (n i : ℕ) → i < n → ok (getD (valuesFrom (f .placements) (filler (f .wildcard)) 0 n) i (vInt (pos 0))) ≡ elementAt cs es i
-literal-at cs es f p n i h =
-    let q = of p (fill-seen i (filler (f .wildcard)) cs es (record { index = refl; value = refl; otherwise = refl })) .1 in
+-- w is the literal's own filler
+literal-at : (ns : Names) (es : Els) (f : Filled) → fill ns es noneFilled ≡ ok f
+    → (n i : ℕ) → i < n → ok (getD (valuesFrom (f .placements) (filler (f .wildcard)) 0 n) i (vInt (pos 0))) ≡ elementAt ns es i
+literal-at ns es f p n i h =
+    let q = literal-seen i (filler (f .wildcard)) ns es f p .1 in
     rw (values-at, zero-add, ← q .otherwise) (q .value)
 
+size-known : (ns : Names) (e : Ex) (v : ConstVal) → foldAt0 ns e ≡ ok v → Holds (λ (n : ℕ). foldAt0 ns e ≡ ok (vInt (pos n))) (asSize v)
+size-known ns e (vInt (pos n)) p = holds p
+size-known ns e (vInt (negsuc n)) p = fails
+size-known ns e (vReal x) p = fails
+size-known ns e (vStr s) p = fails
+
+length-known : (ns : Names) (es : Els) (s : MaybeEx) (f : Filled) → fill ns es noneFilled ≡ ok f → Holds (LengthOf ns es s) (literalSize ns s f)
+length-known ns es absent f p = holds (literal-seen 0 (vInt (pos 0)) ns es f p .1 .reach)
+length-known ns es (given e) f p = then (result (foldAt0 ns e)) λ v q. size-known ns e v q
+
 -- what holds of the array that an expression is
-abbrev Known : List Const → Ex → ConstArray → Type 0
-Known cs e a = GivenBy cs a e × (length (a .values) ≤ a .length')
+abbrev Known : Names → Option Ty → Ex → ConstArray → Type 0
+Known ns declared e a = GivenBy ns declared e a × (length (a .values) ≤ a .count)
 
-module _ (cs : List Const) (declared : Option Ty) where
+module _ (ns : Names) (declared : Option Ty) where
   module _ (s : MaybeEx) (t : Option Ty) (es : Els) where
-    built-known : (f : Filled) → fill cs es noneFilled ≡ ok f → (n : ℕ) → Holds (Known cs (arrayEx (lit s t es))) (built declared t es f n)
-    built-known f p n =
-        let e = values-long (f .placements) (filler (f .wildcard)) 0 n in
-        holds ((e, literal-at cs es f p n), le-of-eq e)
+    built-known : (f : Filled) → fill ns es noneFilled ≡ ok f → (n : ℕ) → LengthOf ns es s n → Holds (Known ns declared (arrayEx (lit s t es))) (built declared t es f n)
+    built-known f p n l =
+        let v = filler (f .wildcard) in
+        let e = values-long (f .placements) v 0 n in
+        holds (record { values = (l, e, literal-at ns es f p n); kind = λ u h. ap (λ (d : Option Ty). literalKind d t es (valuesFrom (f .placements) v 0 n)) h }, le-of-eq e)
 
-    literal-known : Holds (Known cs (arrayEx (lit s t es))) (literal cs declared s t es)
+    literal-known : Holds (Known ns declared (arrayEx (lit s t es))) (literal ns declared s t es)
     literal-known =
-        then (result (fill cs es noneFilled)) λ f p.
-        then (result (literalSize cs s f)) λ n _.
+        then (result (fill ns es noneFilled)) λ f p.
+        then (length-known ns es s f p) λ n l.
         test (any (outside n) (f .placements)) (λ _. refuses) λ _.
-        test (leb n longestLiteral) (λ _. built-known f p n) λ _. refuses
+        test (leb n longestLiteral) (λ _. built-known f p n l) λ _. refuses
 
-  allocated-known : (k : ElemKind) (e : Ex) (t : Ty) (v : ConstVal) → Holds (Known cs (arrayEx (alloc e t))) (allocated k v)
-  allocated-known k e t (vInt (pos n)) = test (leb n longestAlloc) (λ _. holds (refl, zero-le)) λ _. refuses
-  allocated-known k e t (vInt (negsuc n)) = test (leb n longestAlloc) (λ _. refuses) λ _. refuses
-  allocated-known k e t (vReal x) = fails
-  allocated-known k e t (vStr s) = fails
+  allocated-known : (e : Ex) (t : Ty) (v : ConstVal) → foldAt0 ns e ≡ ok v → Holds (Known ns declared (arrayEx (alloc e t))) (allocated (elemKind (orElse t declared)) v)
+  allocated-known e t (vInt (pos n)) p =
+      test (leb n longestAlloc) (λ _. holds (record { values = (p, refl); kind = λ u h. ap (λ (d : Option Ty). elemKind (orElse t d)) h }, zero-le)) λ _. refuses
+  allocated-known e t (vInt (negsuc n)) p = test (leb n longestAlloc) (λ _. refuses) λ _. refuses
+  allocated-known e t (vReal x) p = fails
+  allocated-known e t (vStr s) p = fails
 
-  array-known : (e : Ex) → Holds (Known cs e) (constArray cs declared e)
+  array-known : (e : Ex) → Holds (Known ns declared e) (constArray ns declared e)
   array-known (constant v) = fails
   array-known (ident n) = fails
   array-known (modQual e n) = fails
@@ -182,7 +202,7 @@ module _ (cs : List Const) (declared : Option Ty) where
   array-known (binary l o r) = fails
   array-known (cast t e) = fails
   array-known (len e) = fails
-  array-known (arrayEx (alloc e t)) = then (result (foldAt0 cs e)) λ v _. allocated-known _ e t v
+  array-known (arrayEx (alloc e t)) = then (result (foldAt0 ns e)) (allocated-known e t)
   array-known (arrayEx (lit s t es)) = literal-known s t es
   array-known otherEx = fails
 
@@ -196,31 +216,31 @@ from-array failed failed a p = cc
 from-array failed (refuse r) a p = cc
 from-array (refuse r) x a p = cc
 
-init-known : (cs : List Const) (t : Ty) (e : Ex) (a : ConstArray) → initOf cs t (some e) ≡ ok (arrayInit a) → Known cs e a
-init-known cs t e a p = of (from-array (foldAt0 cs e) _ a p) (array-known cs (elemOf t) e)
+init-known : (ns : Names) (t : Ty) (e : Ex) (a : ConstArray) → initOf ns t (some e) ≡ ok (arrayInit a) → Known ns (elemOf t) e a
+init-known ns t e a p = of (from-array (foldAt0 ns e) _ a p) (array-known ns (elemOf t) e)
 
 -- of any first value that is an array: its values are, index by index, those last given, or else the filler
-pub array-given : (cs : List Const) (t : Ty) (e : Ex) (a : ConstArray) → initOf cs t (some e) ≡ ok (arrayInit a) → GivenBy cs a e
-array-given cs t e a p = init-known cs t e a p .0
+pub array-given : (ns : Names) (t : Ty) (e : Ex) (a : ConstArray) → initOf ns t (some e) ≡ ok (arrayInit a) → GivenBy ns (elemOf t) e a
+array-given ns t e a p = init-known ns t e a p .0
 
 -- and an array has no more values than its length
-pub array-fits : (cs : List Const) (t : Ty) (e : Ex) (a : ConstArray) → initOf cs t (some e) ≡ ok (arrayInit a) → length (a .values) ≤ a .length'
-array-fits cs t e a p = init-known cs t e a p .1
+pub array-fits : (ns : Names) (t : Ty) (e : Ex) (a : ConstArray) → initOf ns t (some e) ≡ ok (arrayInit a) → length (a .values) ≤ a .count
+array-fits ns t e a p = init-known ns t e a p .1
 
 abbrev pub Sized : Init → Type 0
 Sized noInit = Unit {0}
 Sized (constInit v) = Unit {0}
-Sized (arrayInit a) = length (a .values) ≤ a .length'
+Sized (arrayInit a) = length (a .values) ≤ a .count
 Sized pendingInit = Unit {0}
 
-pub init-sized : (cs : List Const) (t : Ty) (o : Option Ex) → Sized (orNoInit (initOf cs t o))
-init-sized cs t none = tt
-init-sized cs t (some e) = go (initOf cs t (some e)) refl
+pub init-sized : (ns : Names) (t : Ty) (o : Option Ex) → Sized (orNoInit (initOf ns t o))
+init-sized ns t none = tt
+init-sized ns t (some e) = go (initOf ns t (some e)) refl
   where
-    go : (x : Result Init) → initOf cs t (some e) ≡ x → Sized (orNoInit x)
+    go : (x : Result Init) → initOf ns t (some e) ≡ x → Sized (orNoInit x)
     go (ok noInit) p = tt
     go (ok (constInit v)) p = tt
-    go (ok (arrayInit a)) p = array-fits cs t e a p
+    go (ok (arrayInit a)) p = array-fits ns t e a p
     go (ok pendingInit) p = tt
     go failed p = tt
     go (refuse r) p = tt

@@ -8,8 +8,8 @@ use Rattle.semantics.specs.Open.{computed}
 use Rattle.semantics.specs.Text.{Bytes, bytes, same}
 use Rattle.semantics.specs.Sheet.{Source, sheetSource}
 use Rattle.semantics.specs.Image.{memoryOf}
-use Rattle.semantics.specs.Refusal.{program, sourceGlobals}
-use Rattle.semantics.specs.Demand.{sourceDeclared, namesApart, kindsFit, laidOf, imageEnd, areaEnd, imageByte, areaByte, Found}
+use Rattle.semantics.specs.Refusal.{programBuffers, sourceGlobals}
+use Rattle.semantics.specs.Demand.{sourceDeclared, namesDistinct, kindsFit, laidOf, imageEnd, areaEnd, imageByte, areaByte, EveryByte}
 use Rattle.demand.proofs.Theorem.{demand}
 
 -- f from 0 to n − 1
@@ -22,15 +22,15 @@ abbrev agree : Source → Bytes → Bytes → Bool
 agree s image area = let l = laidOf s in same image (upTo (imageEnd 0 l) 0 (imageByte l)) && same area (upTo (areaEnd 0 l) 0 (areaByte l))
 
 abbrev premises : Source → Bool
-premises s = namesApart (sourceDeclared s) && kindsFit (sourceDeclared s)
+premises s = namesDistinct (sourceDeclared s) && kindsFit (sourceDeclared s)
 
 -- 01's round sheet: the array's handle, and its elements 7, 0, 0
 abbrev round : Bytes
 round = bytes "impl,Round\nty,string\nty,big\nfd,2,1,tag\nfd,3,1,at\nadt,Scan,2,4,5\nex,int,3\ncon,KEEP,1,1,7\nex,id,KEEP\nex,int,7\nel,next,10\nty,int\nex,lit,9,12,1,11\nty,int\nty,array,14\nvar,15,13,1,a\nneed,adt,Scan\n"
 
-round-found : Found (sheetSource round) (0 ∷ 0 ∷ 0 ∷ 1 ∷ []) (0 ∷ 0 ∷ 0 ∷ 7 ∷ replicate 8 0)
+round-found : EveryByte (sheetSource round) (0 ∷ 0 ∷ 0 ∷ 1 ∷ []) (0 ∷ 0 ∷ 0 ∷ 7 ∷ replicate 8 0)
 unfolding computed
-round-found = demand program round (0 ∷ 0 ∷ 0 ∷ 1 ∷ []) (0 ∷ 0 ∷ 0 ∷ 7 ∷ replicate 8 0) refl refl refl
+round-found = demand programBuffers round (0 ∷ 0 ∷ 0 ∷ 1 ∷ []) (0 ∷ 0 ∷ 0 ∷ 7 ∷ replicate 8 0) refl .bytes refl refl
 
 -- a byte array of 3, an int, a string for two names, an array of 3 strings the second of which is a number, a big, an `alloc`,
 -- an array of bigs with a wildcard, a real

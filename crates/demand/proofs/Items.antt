@@ -92,7 +92,7 @@ item-at t (constInit (vInt x)) is pre post k a off s h = tt
 item-at t (constInit (vReal x)) is pre post k a off s h = tt
 item-at t (constInit (vStr x)) is pre post k a off s h = here is pre (strItem off x) post k none s
 item-at t (arrayInit b) is pre post k a off s h =
-    let y = arrayItem off (b .kind) (b .length') in
+    let y = arrayItem off (b .kind) (b .count) in
     let rest = contents off (b .kind) (b .values) ++ post in (
       here is pre y rest k none s,
       part-of is pre (y ∷ rest) k a none s h,

@@ -8,7 +8,7 @@ use Rattle.semantics.specs.Text.{Bytes, same, any}
 use Rattle.semantics.specs.Sheet.{Source}
 use Rattle.semantics.specs.Global.{Item, Declared, Global, Globals, placeOf, declareAt, globalsFrom, noGlobals, globalSize, newOffset, initItems}
 use Rattle.semantics.specs.Refusal.{sourceGlobals}
-use Rattle.semantics.specs.Demand.{namesApart, sourceDeclared, laidFrom, laidOf, placed}
+use Rattle.semantics.specs.Demand.{namesDistinct, sourceDeclared, laidFrom, laidOf, globalOf}
 use borrow.Author.Tests.{not-true}
 use Rattle.demand.proofs.Laws.{and-left, and-right, or-left, or-right}
 
@@ -35,7 +35,7 @@ abbrev pub endFrom : ℕ → List Declared → ℕ
 endFrom e [] = e
 endFrom e (d ∷ ds) = endFrom (endAt d e) ds
 
-placed-laid : (ds : List Declared) (e k a : ℕ) → map placed (laidFrom e k a ds) ≡ placesFrom e ds
+placed-laid : (ds : List Declared) (e k a : ℕ) → map globalOf (laidFrom e k a ds) ≡ placesFrom e ds
 placed-laid [] e k a = refl
 placed-laid (d ∷ ds) e k a = ap (λ (r : List Global). placeAt d e ∷ r) (placed-laid ds (endAt d e) _ _)
 
@@ -75,13 +75,13 @@ record Grown (g : Globals) (ds : List Declared) (h : Globals) : Type 0 where
   items : h .items ≡ g .items ++ itemsFrom (g .end) ds
   end : h .end ≡ endFrom (g .end) ds
 
-grown : (ds : List Declared) (g : Globals) → Free (g .places) ds → namesApart ds ≡ true → Grown g ds (globalsFrom g ds)
+grown : (ds : List Declared) (g : Globals) → Free (g .places) ds → namesDistinct ds ≡ true → Grown g ds (globalsFrom g ds)
 grown [] g f h = record { places = sym (append-nil (g .places)); items = sym (append-nil (g .items)); end = refl }
 grown (d ∷ ds) g f h =
     let e = g .end in
     let again = stands (d .name) ds in
-    let apart = not-true again (and-left (not again) (namesApart ds) h) in
-    let i = grown ds (declareAt d none g) (free-more (g .places) (placeAt d e) ds apart (f .1)) (and-right (not again) (namesApart ds) h) in
+    let apart = not-true again (and-left (not again) (namesDistinct ds) h) in
+    let i = grown ds (declareAt d none g) (free-more (g .places) (placeAt d e) ds apart (f .1)) (and-right (not again) (namesDistinct ds) h) in
     subst (Grown g (d ∷ ds)) (ap (λ (o : Option ℕ). globalsFrom (declareAt d o g) ds) (sym (f .0)))
     (record {
       places = i .places ∙ append-assoc (g .places) (placeAt d e ∷ []) (placesFrom (endAt d e) ds);
@@ -92,11 +92,11 @@ grown (d ∷ ds) g f h =
 -- ---- of a sheet
 
 pub record Made (s : Source) : Type 0 where
-  pub places : sourceGlobals s .places ≡ map placed (laidOf s)
+  pub places : sourceGlobals s .places ≡ map globalOf (laidOf s)
   pub items : sourceGlobals s .items ≡ itemsFrom 0 (sourceDeclared s)
   pub end : sourceGlobals s .end ≡ endFrom 0 (sourceDeclared s)
 
-pub made : (s : Source) → namesApart (sourceDeclared s) ≡ true → Made s
+pub made : (s : Source) → namesDistinct (sourceDeclared s) ≡ true → Made s
 made s h =
     let ds = sourceDeclared s in
     let g = grown ds noGlobals (none-placed ds) h in

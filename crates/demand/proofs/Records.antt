@@ -1,5 +1,4 @@
 -- The records' part of demand 3: fields lie apart, in order, inside the record, and its map marks exactly the words at which pointers start.
--- It holds of every record that an `adt` line fills; the demand asks for it only where no field is a tuple.
 use Prim.Native.Nat.{ℕ, zero, suc, _+_, _-_, _*_, _/_, _%_, _^_, _≤_, _<_, max}
 use native.Mathlib.Nat.{le-refl, le-trans, pow-succ', div-div-eq-div-mul}
 use native.Mathlib.Omega.{arith}
@@ -16,7 +15,7 @@ use Rattle.semantics.specs.Tree.{Ty, Tys, Fd, Case, AdtDecl}
 use Rattle.semantics.specs.Tree.Basic.{int, byte, big, real, string}
 use Rattle.semantics.specs.Tree.Ty.{basic, ptr, array, tuple}
 use Rattle.semantics.specs.Tree.Tys.{noTys, andTy}
-use Rattle.semantics.specs.Layout.{alignUp, closed, alignOf, alignOfAll, sizeOf, isPtr, marks, marked, mapBits, mapBytes, wordsOf, pointerMap, Placed, placeNames, placeLine, place, furthest, pointersOf, Recorded, withoutPick, withPick, recordsFor, recordsOf, recordLog, lastOf, seen, settled, records}
+use Rattle.semantics.specs.Layout.{alignUp, roundedSize, alignOf, alignOfAll, sizeOf, isPtr, marks, marked, mapBits, mapBytes, wordsOf, pointerMap, Placed, placeNames, placeLine, place, furthest, pointersOf, shapeOf, Recorded, withoutPick, withPick, recordsFor, recordsOf, recordLog, lastOf, seen, recordsByKey, records}
 use Rattle.semantics.specs.Demand.{filledBy, filling, typedNames, typedFields, typedOf, InOrder, pointerAt, bitAt, Apart, AllApart}
 use Rattle.demand.proofs.Laws.{and-unless, or-left, or-right, tests-agree, same-refl, same-eq}
 
@@ -178,15 +177,16 @@ pointers-marked e size w (p ∷ ps) l o = go (isPtr (p .ty)) (pointers-marked (p
 -- ---- the record of an `adt` line
 
 adt-apart : (t : Bytes) (fs : List Fd) → Apart fs (withoutPick t fs)
+unfolding shapeOf
 adt-apart t fs =
     let ps = place 0 fs .placed in
-    let size = closed (furthest 0 ps) in
+    let size = roundedSize (furthest 0 ps) in
     let l = fields-laid fs 0 in
     let o = in-order 0 0 size ps l (omega arith) in
     record {
-      theirs = fields-theirs fs 0;
+      sameFields = fields-theirs fs 0;
       inOrder = o;
-      marks = λ w. rw (map-bits size (pointersOf ps) w, pointers-marked 0 size w ps l o);
+      marks = λ _ w. rw (map-bits size (pointersOf ps) w, pointers-marked 0 size w ps l o);
     }
 
 -- ---- the last record of a key is that of the line that fills it
@@ -234,10 +234,10 @@ last-key k r (x ∷ xs) h = last-key k (cond (same k (x .key)) x r) xs (go (same
 
 -- xs are the records still to come, and r k is the last record of key k before them
 settled-apart : (ds : List AdtDecl) (before xs : List Recorded) (r : Bytes → Recorded)
-    → ((k : Bytes) → ApartBy (filling k none ds) (lastOf k (r k) xs)) → AllApart ds (settled before xs)
+    → ((k : Bytes) → ApartBy (filling k none ds) (lastOf k (r k) xs)) → AllApart ds (recordsByKey before xs)
 settled-apart ds before [] r a = tt
 settled-apart ds before (x ∷ xs) r a =
-    go (seen (x .key) before) (settled (x ∷ before) xs) (settled-apart ds (x ∷ before) xs (λ k. cond (same k (x .key)) x (r k)) a)
+    go (seen (x .key) before) (recordsByKey (x ∷ before) xs) (settled-apart ds (x ∷ before) xs (λ k. cond (same k (x .key)) x (r k)) a)
   where
     last : Recorded
     last = lastOf (x .key) x xs
@@ -247,7 +247,7 @@ settled-apart ds before (x ∷ xs) r a =
 
     go : (b : Bool) (ys : List Recorded) → AllApart ds ys → AllApart ds (cond b ys (last ∷ ys))
     go true ys s = s
-    go false ys s = (λ fs q n. rw q at apart, s)
+    go false ys s = (λ fs q. rw q at apart, s)
 
 pub records-apart : (ds : List AdtDecl) → AllApart ds (records ds)
 unfolding records

@@ -16,14 +16,14 @@ use Rattle.semantics.specs.Tree.Basic.{int, byte, big, real, string}
 use Rattle.semantics.specs.Tree.Ty.{basic, ptr, array, tuple}
 use Rattle.semantics.specs.Tree.ConstVal.{vInt, vReal, vStr}
 use Rattle.semantics.specs.Tree.ElemKind.{kByte, kWord, kBig, kReal, kPtr}
-use Rattle.semantics.specs.Sheet.{each}
+use Rattle.semantics.specs.Sheet.{concatMap}
 use Rattle.semantics.specs.Layout.{alignUp}
 use Rattle.semantics.specs.Fold.{bits64}
 use Rattle.semantics.specs.Array.{constByte, constWord, constBig, constReal, lowest}
 use Rattle.semantics.specs.Global.{Item, Init, Declared, globalSize, newOffset, elementItems, strItems, contents, initItems}
 use Rattle.semantics.specs.Global.Item.{valuesItem, strItem, arrayItem, setItem, backItem}
 use Rattle.semantics.specs.Global.Init.{noInit, constInit, arrayInit, pendingInit}
-use Rattle.semantics.specs.Image.{written, wordBytes, bigBytes, realBytes, handle, elemSize, partAt, endAfter, areaAfter, Part, Replay, startOf, lay, replayItem, replayAll}
+use Rattle.semantics.specs.Image.{written, wordBytes, bigBytes, realBytes, handle, elemSize, partAt, endAfter, areaAfter, ArrayPart, Replay, startOf, lay, replayItem, replayAll}
 use Rattle.semantics.specs.Demand.{isOf, ofKind, kindsFit, Laid, afterPart, laidFrom, valueBytes, firstBytes, imageByte, stringBytes, elementBytes, afterString, elementsBytes, partByte, areaByte}
 use Rattle.demand.proofs.Laws.{never, and-left, and-right}
 use Rattle.demand.proofs.Bytes.{shifted, shifted-below, shifted-at, shifted-past, shifted-nil, shifted-append, length-written, written-adds, layer, lies-below, getD-zeros, word-bytes}
@@ -56,7 +56,7 @@ pub replay-end : (is : List Item) (r : Replay) → replayAll is r .end ≡ areaA
 replay-end [] r = refl
 replay-end (i ∷ is) r = replay-end is (replayItem i r) ∙ ap (λ (e : ℕ). areaAfter e is) (item-next i r .1)
 
-abbrev st : ℕ → Bytes → Bytes → ℕ → List Part → Option ℕ → Replay
+abbrev st : ℕ → Bytes → Bytes → ℕ → List ArrayPart → Option ℕ → Replay
 st k im ar a ps i = record { item = k; image = im; area = ar; end = a; parts = ps; inside = i }
 
 -- the bytes from a place on are zero
@@ -92,8 +92,9 @@ skipped r im ar start o bs h = record {
       (ap (λ (n : ℕ). shifted n bs p) e ∙ sym (shifted-append (start + o) zeros4 bs p ∙ ap (λ (n : ℕ). n + shifted (start + o + 4) bs p) (shifted-zeros (start + o) p) ∙ zero-add (shifted (start + o + 4) bs p)));
 }
 
-strings : (vs : List ConstVal) (k : ℕ) (im ar : Bytes) (a : ℕ) (ps : List Part) (start o : ℕ) → start + o + 4 * length vs ≤ length ar → ZeroFrom (start + o) ar
+strings : (vs : List ConstVal) (k : ℕ) (im ar : Bytes) (a : ℕ) (ps : List ArrayPart) (start o : ℕ) → start + o + 4 * length vs ≤ length ar → ZeroFrom (start + o) ar
     → Inside (replayAll (strItems o vs) (st k im ar a ps (some start))) im ar (start + o) (elementsBytes kPtr k vs)
+unfolding bigEndian
 strings [] k im ar a ps start o h z = record { image = refl; long = refl; adds = λ p. rw (shifted-nil (start + o) p, add-zero) }
 strings (vInt x ∷ vs) k im ar a ps start o h z = skipped _ im ar start o (elementsBytes kPtr k vs) (strings vs k im ar a ps start (o + 4) (omega arith) (λ p l. z p (omega arith)))
 strings (vReal x ∷ vs) k im ar a ps start o h z = skipped _ im ar start o (elementsBytes kPtr k vs) (strings vs k im ar a ps start (o + 4) (omega arith) (λ p l. z p (omega arith)))
@@ -117,7 +118,7 @@ strings (vStr s ∷ vs) k im ar a ps start o h z =
 
 -- elements of one size, laid by one item
 each-element : {A : Type 0} (e : ElemKind) (f : ConstVal → A) (g : A → Bytes) → ((k : ℕ) (v : ConstVal) → g (f v) ≡ elementBytes e k v)
-    → (vs : List ConstVal) (k : ℕ) → each g (map f vs) ≡ elementsBytes e k vs
+    → (vs : List ConstVal) (k : ℕ) → concatMap g (map f vs) ≡ elementsBytes e k vs
 each-element e f g h [] k = refl
 each-element e f g h (v ∷ vs) k = λ i. h k v i ++ each-element e f g h vs (afterString k v) i
 
@@ -126,15 +127,17 @@ byte-elements [] k = refl
 byte-elements (v ∷ vs) k = ap (λ (r : Bytes). constByte v ∷ r) (byte-elements vs (afterString k v))
 
 real-long : (x : Float) → length (realBytes x) ≡ 8
-unfolding toBits
+unfolding toBits bigEndian
 real-long x = refl
 
 string-long : (k : ℕ) (v : ConstVal) → length (stringBytes k v) ≡ 4
+unfolding bigEndian
 string-long k (vInt x) = refl
 string-long k (vReal x) = refl
 string-long k (vStr s) = refl
 
 element-long : (e : ElemKind) (k : ℕ) (v : ConstVal) → length (elementBytes e k v) ≡ elemSize e
+unfolding bigEndian
 element-long kByte k v = refl
 element-long kWord k v = refl
 element-long kBig k v = refl
@@ -148,7 +151,7 @@ elements-long e k (v ∷ vs) =
     let b = elements-long e (afterString k v) vs in
     length-append (elementBytes e k v) (elementsBytes e (afterString k v) vs) ∙ omega arith
 
-one-item : (k : ℕ) (im ar : Bytes) (a : ℕ) (ps : List Part) (start : ℕ) (ys bs : Bytes) → ys ≡ bs → start + length bs ≤ length ar → ZeroFrom start ar
+one-item : (k : ℕ) (im ar : Bytes) (a : ℕ) (ps : List ArrayPart) (start : ℕ) (ys bs : Bytes) → ys ≡ bs → start + length bs ≤ length ar → ZeroFrom start ar
     → Inside (st (suc k) im (written ar (start + 0) ys) a ps (some start)) im ar start bs
 one-item k im ar a ps start ys bs e h z =
     let w : written ar (start + 0) ys ≡ written ar start bs = ap (λ (n : ℕ). written ar n ys) (add-zero start) ∙ ap (written ar start) e in
@@ -158,7 +161,7 @@ one-item k im ar a ps start ys bs e h z =
       adds = λ p. ap (λ (xs : Bytes). getD xs p 0) w ∙ written-adds ar start bs h z p;
     }
 
-elements : (e : ElemKind) (vs : List ConstVal) (k : ℕ) (im ar : Bytes) (a : ℕ) (ps : List Part) (start : ℕ) → start + elemSize e * length vs ≤ length ar → ZeroFrom start ar
+elements : (e : ElemKind) (vs : List ConstVal) (k : ℕ) (im ar : Bytes) (a : ℕ) (ps : List ArrayPart) (start : ℕ) → start + elemSize e * length vs ≤ length ar → ZeroFrom start ar
     → Inside (replayAll (elementItems e vs) (st k im ar a ps (some start))) im ar start (elementsBytes e k vs)
 elements kByte vs k im ar a ps start h z = one-item k im ar a ps start _ _ (byte-elements vs k) (rw (elements-long kByte k vs) h) z
 elements kWord vs k im ar a ps start h z = one-item k im ar a ps start _ _ (each-element kWord constWord wordBytes (λ j v. refl) vs k) (rw (elements-long kWord k vs) h) z
@@ -180,7 +183,7 @@ record Outside (r : Replay) (im ar : Bytes) (off : ℕ) (bs : Bytes) (part : ℕ
   areaAdds : (p : ℕ) → getD (r .area) p 0 ≡ getD ar p 0 + part p
 
 -- no item
-nothing : (k : ℕ) (im ar : Bytes) (a : ℕ) (ps : List Part) (off : ℕ) → Outside (st k im ar a ps none) im ar off [] (λ p. 0)
+nothing : (k : ℕ) (im ar : Bytes) (a : ℕ) (ps : List ArrayPart) (off : ℕ) → Outside (st k im ar a ps none) im ar off [] (λ p. 0)
 nothing k im ar a ps off = record {
   inside = refl;
   imageLong = refl;
@@ -190,7 +193,7 @@ nothing k im ar a ps off = record {
 }
 
 -- an item of the image
-value : (k : ℕ) (im ar : Bytes) (a : ℕ) (ps : List Part) (off : ℕ) (ys bs : Bytes) → ys ≡ bs → off + length bs ≤ length im → ZeroFrom off im
+value : (k : ℕ) (im ar : Bytes) (a : ℕ) (ps : List ArrayPart) (off : ℕ) (ys bs : Bytes) → ys ≡ bs → off + length bs ≤ length im → ZeroFrom off im
     → Outside (st (suc k) (written im off ys) ar a ps none) im ar off bs (λ p. 0)
 value k im ar a ps off ys bs e h z = record {
   inside = refl;
@@ -207,9 +210,10 @@ size-le kBig m n h = omega arith
 size-le kReal m n h = omega arith
 size-le kPtr m n h = omega arith
 
-array-items : (k : ℕ) (im ar : Bytes) (a : ℕ) (ps : List Part) (off : ℕ) (e : ElemKind) (n : ℕ) (vs : List ConstVal)
+array-items : (k : ℕ) (im ar : Bytes) (a : ℕ) (ps : List ArrayPart) (off : ℕ) (e : ElemKind) (n : ℕ) (vs : List ConstVal)
     → off + 4 ≤ length im → ZeroFrom off im → partAt a + elemSize e * n ≤ length ar → ZeroFrom a ar → length vs ≤ n
     → Outside (replayAll (arrayItem off e n ∷ contents off e vs) (st k im ar a ps none)) im ar off (handle k) (λ p. shifted (partAt a) (elementsBytes e (suc (suc k)) vs) p)
+unfolding bigEndian
 array-items k im ar a ps off e n [] fits z room zr l = record {
   inside = refl;
   imageLong = length-written im off (handle k) fits;
@@ -221,7 +225,7 @@ array-items k im ar a ps off e n (v ∷ vs) fits z room zr l =
     let start = partAt a in
     let im₁ = written im off (handle k) in
     let a₁ = endAfter a (arrayItem off e n) in
-    let ps₁ : List Part = record { place = off; start = start } ∷ ps in
+    let ps₁ : List ArrayPart = record { place = off; start = start } ∷ ps in
     let s = size-le e (length (v ∷ vs)) n l in
     let i = elements e (v ∷ vs) (suc (suc k)) im₁ ar a₁ ps₁ start (omega arith) (λ p h. zr p (omega arith)) in
     let is =
@@ -284,6 +288,7 @@ value-of (tuple ts) v h = never h
 
 -- it takes the global's size
 value-long : (t : Ty) (v : ConstVal) (k : ℕ) → Value t v → length (valueBytes t k v) ≡ globalSize t
+unfolding bigEndian
 value-long t v k (anInt x) = refl
 value-long t v k (aByte x) = refl
 value-long t v k (aBig x) = refl
@@ -292,13 +297,15 @@ value-long t v k (aString s) = refl
 value-long t v k (aPtr s) = refl
 
 first-long : (t : Ty) (k : ℕ) (i : Init) → ofKind t i ≡ true → length (firstBytes t k i) ≤ globalSize t
+unfolding bigEndian
 first-long t k noInit h = omega arith
 first-long t k (constInit v) h = let l = value-long t v k (value-of t v h) in omega arith
 first-long t k (arrayInit a) h = size-4 t
 first-long t k pendingInit h = omega arith
 
-value-item : (t : Ty) (v : ConstVal) (k : ℕ) (im ar : Bytes) (a : ℕ) (ps : List Part) (off : ℕ) → Value t v → off + length (valueBytes t k v) ≤ length im → ZeroFrom off im
+value-item : (t : Ty) (v : ConstVal) (k : ℕ) (im ar : Bytes) (a : ℕ) (ps : List ArrayPart) (off : ℕ) → Value t v → off + length (valueBytes t k v) ≤ length im → ZeroFrom off im
     → Outside (replayAll (initItems off t (constInit v)) (st k im ar a ps none)) im ar off (valueBytes t k v) (λ p. 0)
+unfolding bigEndian
 value-item t v k im ar a ps off (anInt x) h z = value k im ar a ps off (wordBytes (lowest 31 x)) (bigEndian 4 (bits64 x)) (word-bytes x) h z
 value-item t v k im ar a ps off (aByte x) h z = value k im ar a ps off (wordBytes (lowest 31 x)) (bigEndian 4 (bits64 x)) (word-bytes x) h z
 value-item t v k im ar a ps off (aBig x) h z = value k im ar a ps off (bigBytes x) (bigEndian 8 (bits64 x)) refl h z
@@ -313,7 +320,7 @@ added k a (constInit v) p = 0
 added k a (arrayInit b) p = shifted (partAt a) (elementsBytes (b .kind) (suc (suc k)) (b .values)) p
 added k a pendingInit p = 0
 
-init-items : (t : Ty) (i : Init) (k : ℕ) (im ar : Bytes) (a : ℕ) (ps : List Part) (off : ℕ) → ofKind t i ≡ true → Sized i
+init-items : (t : Ty) (i : Init) (k : ℕ) (im ar : Bytes) (a : ℕ) (ps : List ArrayPart) (off : ℕ) → ofKind t i ≡ true → Sized i
     → off + globalSize t ≤ length im → ZeroFrom off im → afterPart a i ≤ length ar → ZeroFrom a ar
     → Outside (replayAll (initItems off t i) (st k im ar a ps none)) im ar off (firstBytes t k i) (added k a i)
 init-items t noInit k im ar a ps off h s fits z room zr = nothing k im ar a ps off
@@ -323,7 +330,7 @@ init-items t (constInit v) k im ar a ps off h s fits z room zr =
     value-item t v k im ar a ps off w (omega arith) z
 init-items t (arrayInit b) k im ar a ps off h s fits z room zr =
     let l = size-4 t in
-    array-items k im ar a ps off (b .kind) (b .length') (b .values) (omega arith) z room zr s
+    array-items k im ar a ps off (b .kind) (b .count) (b .values) (omega arith) z room zr s
 init-items t pendingInit k im ar a ps off h s fits z room zr = nothing k im ar a ps off
 
 -- ---- all globals
@@ -360,7 +367,7 @@ image-below (d ∷ ds) e k a p h =
 part-below : (p k a : ℕ) (i : Init) (rest : ℕ) → p < a → rest ≡ 0 → partByte p k (partAt a) i rest ≡ 0
 part-below p k a noInit rest h z = z
 part-below p k a (constInit v) rest h z = z
-part-below p k a (arrayInit b) rest h z = rw (lies-below p (partAt a) (elemSize (b .kind) * b .length') (omega arith)) z
+part-below p k a (arrayInit b) rest h z = rw (lies-below p (partAt a) (elemSize (b .kind) * b .count) (omega arith)) z
 part-below p k a pendingInit rest h z = z
 
 area-below : (ds : List Declared) (e k a p : ℕ) → p < a → areaByte (laidFrom e k a ds) p ≡ 0
@@ -372,8 +379,8 @@ part-layer p k a noInit rest s z = zero-add rest
 part-layer p k a (constInit v) rest s z = zero-add rest
 part-layer p k a (arrayInit b) rest s z =
     let l = elements-long (b .kind) (suc (suc k)) (b .values) in
-    let m = size-le (b .kind) (length (b .values)) (b .length') s in
-    layer p (partAt a) (elemSize (b .kind) * b .length') (elementsBytes (b .kind) (suc (suc k)) (b .values)) rest (omega arith) z
+    let m = size-le (b .kind) (length (b .values)) (b .count) s in
+    layer p (partAt a) (elemSize (b .kind) * b .count) (elementsBytes (b .kind) (suc (suc k)) (b .values)) rest (omega arith) z
 part-layer p k a pendingInit rest s z = zero-add rest
 
 -- no bytes behind the part's end
@@ -382,7 +389,7 @@ added-past k a noInit p s h = refl
 added-past k a (constInit v) p s h = refl
 added-past k a (arrayInit b) p s h =
     let l = elements-long (b .kind) (suc (suc k)) (b .values) in
-    let m = size-le (b .kind) (length (b .values)) (b .length') s in
+    let m = size-le (b .kind) (length (b .values)) (b .count) s in
     shifted-past (partAt a) (elementsBytes (b .kind) (suc (suc k)) (b .values)) p (omega arith)
 added-past k a pendingInit p s h = refl
 
@@ -392,7 +399,7 @@ init-end t noInit off a = refl
 init-end t (constInit (vInt x)) off a = refl
 init-end t (constInit (vReal x)) off a = refl
 init-end t (constInit (vStr s)) off a = refl
-init-end t (arrayInit b) off a = contents-end (b .kind) (b .values) (partAt a + elemSize (b .kind) * b .length')
+init-end t (arrayInit b) off a = contents-end (b .kind) (b .values) (partAt a + elemSize (b .kind) * b .count)
   where
     strings-end : (vs : List ConstVal) (o e : ℕ) (is : List Item) → areaAfter e (strItems o vs ++ is) ≡ areaAfter e is
     strings-end [] o e is = refl
@@ -434,7 +441,7 @@ pub record Replayed (r : Replay) (im ar : Bytes) (ls : List Laid) : Type 0 where
 joined : (b l r : ℕ) {f m w : ℕ} → f ≡ m + r → m ≡ b + l → l + r ≡ w → f ≡ b + w
 joined b l r p q h = omega arith
 
-pub replayed : (ds : List Declared) (e k : ℕ) (im ar : Bytes) (a : ℕ) (ps : List Part) → kindsFit ds ≡ true → AllSized ds
+pub replayed : (ds : List Declared) (e k : ℕ) (im ar : Bytes) (a : ℕ) (ps : List ArrayPart) → kindsFit ds ≡ true → AllSized ds
     → endFrom e ds ≤ length im → ZeroFrom e im → partsFrom a ds ≤ length ar → ZeroFrom a ar
     → Replayed (replayAll (itemsFrom e ds) (st k im ar a ps none)) im ar (laidFrom e k a ds)
 replayed [] e k im ar a ps h s fits z room zr =

@@ -2,22 +2,23 @@
 use Prim.Native.Nat.{ℕ, _≤_}
 use native.Mathlib.Nat.{zero-add, le-refl}
 use native.Mathlib.Omega.{arith}
-use mathlib.Core.Path.{_≡_, refl, sym, ap, _∙_}
+use mathlib.Core.Path.{_≡_, refl, ap, _∙_, subst}
 use mathlib.Core.Bool.{Bool, true, false, cond}
 use mathlib.Core.List.{List, [], _∷_, _++_, map}
 use lib.ListN.{length, getD, replicate, length-replicate}
 use lib.Dec.{ltb}
 use Rattle.semantics.specs.Text.{Bytes}
 use Rattle.semantics.specs.Tree.{VarDecl}
-use Rattle.semantics.specs.Sheet.{Located, sheetSource, each}
-use Rattle.semantics.specs.Fold.{Const}
-use Rattle.semantics.specs.Const.{constants}
+use Rattle.semantics.specs.Sheet.{Source, Located, sheetSource, concatMap}
+use Rattle.semantics.specs.Layout.{recordedAdts}
+use Rattle.semantics.specs.Fold.{Names}
+use Rattle.semantics.specs.Const.{namesOf}
 use Rattle.semantics.specs.Global.{Item, Globals, Declared, declaredBy, laidVars, laidNames}
 use Rattle.semantics.specs.Image.{Memory, memoryOf, areaAfter}
 use Rattle.semantics.specs.Refusal.{Buffers, Outcome, Imaged, sourceGlobals, laidIn, replayed, afterListing, compiled, imaged, imageBytes, areaBytes}
 use Rattle.semantics.specs.Refusal.Outcome.{listed, refused}
 use Rattle.semantics.specs.Refusal.Imaged.{laid, notLaid}
-use Rattle.semantics.specs.Demand.{sourceDeclared, laidFrom, imageEnd, areaEnd, Demand}
+use Rattle.semantics.specs.Demand.{namesDistinct, kindsFit, sourceDeclared, laidFrom, imageEnd, areaEnd, EveryByte, Demand}
 use Rattle.demand.proofs.Bytes.{getD-zeros}
 use Rattle.demand.proofs.Records.{records-apart}
 use Rattle.demand.proofs.Elements.{Sized, array-given, init-sized}
@@ -31,9 +32,9 @@ names-sized : (d : Bytes → Declared) → ((n : Bytes) → Sized (d n .first)) 
 names-sized d h [] ys s = s
 names-sized d h (n ∷ ns) ys s = (h n, names-sized d h ns ys s)
 
-vars-sized : (cs : List Const) (vs : List (Located VarDecl)) → AllSized (each (declaredBy cs) vs)
-vars-sized cs [] = tt
-vars-sized cs (v ∷ vs) = names-sized _ (λ n. init-sized cs (v .it .ty) (v .it .init)) (laidNames (v .it .names)) _ (vars-sized cs vs)
+vars-sized : (ns : Names) (vs : List (Located VarDecl)) → AllSized (concatMap (declaredBy ns) vs)
+vars-sized ns [] = tt
+vars-sized ns (v ∷ vs) = names-sized _ (λ n. init-sized ns (v .it .ty) (v .it .init)) (laidNames (v .it .names)) _ (vars-sized ns vs)
 
 -- ---- the ends by the places
 
@@ -72,29 +73,36 @@ zeros n p = getD-zeros [] n p
 abbrev ofItems : ℕ → List Item → Memory
 ofItems end is = memoryOf (record { places = []; end = end; pends = []; items = is })
 
-pub demand : Demand
-unfolding imaged
-demand b s image area accepted apart kinds =
-    let src = sheetSource s in
-    let ds = sourceDeclared src in
-    let g = sourceGlobals src in
-    let l = memory-laid image area b g (compiled b s) accepted in
-    let m = made src apart in
+-- of image and area as replay leaves them
+every-byte : (s : Source) → namesDistinct (sourceDeclared s) ≡ true → kindsFit (sourceDeclared s) ≡ true
+    → EveryByte s (memoryOf (sourceGlobals s) .image) (memoryOf (sourceGlobals s) .area)
+unfolding memoryOf
+every-byte s distinct kinds =
+    let ds = sourceDeclared s in
+    let m = made s distinct in
     let end = endFrom 0 ds in
     let parts = areaAfter 0 (itemsFrom 0 ds) in
-    let is : memoryOf g ≡ ofItems end (itemsFrom 0 ds) = λ i. ofItems (m .end i) (m .items i) in
-    let theImage : image ≡ ofItems end (itemsFrom 0 ds) .image = sym (ap imageBytes l) ∙ ap (λ (x : Memory). x .image) is in
-    let theArea : area ≡ ofItems end (itemsFrom 0 ds) .area = sym (ap areaBytes l) ∙ ap (λ (x : Memory). x .area) is in
+    let is : memoryOf (sourceGlobals s) ≡ ofItems end (itemsFrom 0 ds) = λ i. ofItems (m .end i) (m .items i) in
     let room : partsFrom 0 ds ≤ length (replicate {A = ℕ} parts 0) = rw (length-replicate {A = ℕ} parts 0, items-end ds 0 0) (le-refl (partsFrom 0 ds)) in
-    let r = replay-adds ds 0 0 (replicate end 0) (replicate parts 0) 0 [] kinds (vars-sized (constants src .log) (laidVars src))
+    let r = replay-adds ds 0 0 (replicate end 0) (replicate parts 0) 0 [] kinds (vars-sized (namesOf s) (laidVars s))
     (rw (length-replicate {A = ℕ} end 0) (le-refl end)) (λ p q. zeros end p) room (λ p q. zeros parts p) in
     record {
-      imageLong = ap length theImage ∙ r .imageLong ∙ length-replicate {A = ℕ} end 0 ∙ end-laid ds 0 0 0;
-      areaLong = ap length theArea ∙ r .areaLong ∙ length-replicate {A = ℕ} parts 0 ∙ items-end ds 0 0 ∙ parts-laid ds 0 0 0;
-      imageBytes = λ p. ap (λ (xs : Bytes). getD xs p 0) theImage ∙ r .image p ∙ rw (zeros end p, zero-add);
-      areaBytes = λ p. ap (λ (xs : Bytes). getD xs p 0) theArea ∙ r .area p ∙ rw (zeros parts p, zero-add);
-      elements = array-given (constants src .log);
+      imageLong = ap (λ (x : Memory). length (x .image)) is ∙ r .imageLong ∙ length-replicate {A = ℕ} end 0 ∙ end-laid ds 0 0 0;
+      areaLong = ap (λ (x : Memory). length (x .area)) is ∙ r .areaLong ∙ length-replicate {A = ℕ} parts 0 ∙ items-end ds 0 0 ∙ parts-laid ds 0 0 0;
+      imageBytes = λ p. ap (λ (x : Memory). getD (x .image) p 0) is ∙ r .image p ∙ rw (zeros end p, zero-add);
+      areaBytes = λ p. ap (λ (x : Memory). getD (x .area) p 0) is ∙ r .area p ∙ rw (zeros parts p, zero-add);
       places = m .places;
-      items = all-items ds (g .items) (m .items);
-      records = records-apart (src .adts);
+      items = all-items ds (sourceGlobals s .items) (m .items);
+    }
+
+pub demand : Demand
+unfolding imaged
+demand b s image area accepted =
+    let src = sheetSource s in
+    let l = memory-laid image area b (sourceGlobals src) (compiled (b .listing) (b .work) s) accepted in
+    record {
+      bytes = λ distinct kinds.
+          subst (λ (x : Bytes). EveryByte src x area) (ap imageBytes l) (subst (EveryByte src (memoryOf (sourceGlobals src) .image)) (ap areaBytes l) (every-byte src distinct kinds));
+      elements = array-given (namesOf src);
+      records = records-apart (recordedAdts src);
     }

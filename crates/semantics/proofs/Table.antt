@@ -6,8 +6,8 @@ use mathlib.Core.List.{List, [], _∷_, _++_, map}
 use lib.ListN.{replicate}
 use Rattle.semantics.specs.Open.{computed}
 use Rattle.semantics.specs.Text.{Bytes, bytes}
-use Rattle.semantics.specs.Sheet.{each}
-use Rattle.semantics.specs.Refusal.{Outcome, program, compiled}
+use Rattle.semantics.specs.Sheet.{concatMap}
+use Rattle.semantics.specs.Refusal.{Outcome, listingOf}
 use Rattle.semantics.specs.Refusal.Outcome.{listed, refused}
 
 pub record Row : Type 0 where
@@ -78,7 +78,7 @@ rows =
     ∷ refuses (named 33) 3 2
     ∷ record {
       sheet = literal "1024";
-      outcome = listed (bytes "glo,a,0,4,1\ndat,array,0,2,1024\ndat,set,0,0\ndat,words,0,1024" ++ each bytes (replicate 1024 ",0") ++ bytes "\ndat,back\n" ++ opaque ++ bytes "typ,2,4,0,00\n");
+      outcome = listed (bytes "glo,a,0,4,1\ndat,array,0,2,1024\ndat,set,0,0\ndat,words,0,1024" ++ concatMap bytes (replicate 1024 ",0") ++ bytes "\ndat,back\n" ++ opaque ++ bytes "typ,2,4,0,00\n");
     }
     ∷ refuses (literal "1025") 12 5
     ∷ refuses (bytes "ex,int,-1\nty,int\nex,alloc,1,2\nty,int\nty,array,4\nvar,5,3,1,a\n") 10 6
@@ -91,6 +91,6 @@ rows =
     ∷ []
 
 -- every row's sheet has its outcome
-pub rows-hold : map (λ (r : Row). compiled program (r .sheet)) rows ≡ map (λ (r : Row). r .outcome) rows
+pub rows-hold : map (λ (r : Row). listingOf (r .sheet)) rows ≡ map (λ (r : Row). r .outcome) rows
 unfolding computed
 rows-hold = refl

@@ -17,7 +17,7 @@ use Rattle.semantics.specs.Tree.El.{next, star, at}
 use Rattle.semantics.specs.Tree.Els.{noEls, andEl}
 use Rattle.semantics.specs.Tree.Ses.{noSes, andSe}
 use Rattle.semantics.specs.Tree.ElemKind.{kByte, kWord, kBig, kReal, kPtr}
-use Rattle.semantics.specs.Fold.{Result, bind, Const, foldAt0, toReal, toWhole}
+use Rattle.semantics.specs.Fold.{Result, bind, Names, foldAt0, toReal, toWhole}
 use Rattle.semantics.specs.Fold.Result.{ok, failed, refuse}
 
 -- ---- kinds of elements
@@ -80,7 +80,7 @@ constReal (vStr s) = fin false 0 (pos 0)
 
 pub record ConstArray : Type 0 where
   pub kind : ElemKind
-  pub length' : ℕ
+  pub count : ℕ
   pub values : List ConstVal
 
 abbrev pub longestAlloc : ℕ
@@ -88,7 +88,7 @@ longestAlloc = 2 ^ 31 - 1
 
 -- an `alloc` of a length: no values are given
 abbrev pub allocated : ElemKind → ConstVal → Result ConstArray
-allocated k (vInt (pos n)) = cond (leb n longestAlloc) (ok (record { kind = k; length' = n; values = [] })) (refuse 9)
+allocated k (vInt (pos n)) = cond (leb n longestAlloc) (ok (record { kind = k; count = n; values = [] })) (refuse 9)
 allocated k (vInt (negsuc n)) = cond (leb n longestAlloc) (refuse 10) (refuse 9)
 allocated k (vReal x) = failed
 allocated k (vStr s) = failed
@@ -103,34 +103,34 @@ pub record Placement : Type 0 where
 
 -- a literal so far: where the next plain element falls, the end of its indices, the placements in order, and the last wildcard
 pub record Filled : Type 0 where
-  pub next' : ℕ
+  pub nextIndex : ℕ
   pub reach : ℕ
   pub placements : List Placement
   pub wildcard : Option ConstVal
 
 abbrev pub noneFilled : Filled
-noneFilled = record { next' = 0; reach = 0; placements = []; wildcard = none }
+noneFilled = record { nextIndex = 0; reach = 0; placements = []; wildcard = none }
 
 abbrev pub placeSpan : ConstVal → ℕ → ℕ → Filled → Filled
-placeSpan v l h f = record { next' = suc h; reach = max (f .reach) (suc h); placements = f .placements ++ (record { low = l; high = h; value = v } ∷ []); wildcard = f .wildcard }
+placeSpan v l h f = record { nextIndex = suc h; reach = max (f .reach) (suc h); placements = f .placements ++ (record { low = l; high = h; value = v } ∷ []); wildcard = f .wildcard }
 
 -- indices low to high, none where high is below low; a negative index fails
-abbrev pub placed : ConstVal → ℤ → ℤ → Filled → Result Filled
-placed v (pos l) (pos h) f = cond (leb l h) (ok (placeSpan v l h f)) (ok f)
-placed v (pos l) (negsuc h) f = ok f
-placed v (negsuc l) (pos h) f = failed
-placed v (negsuc l) (negsuc h) f = cond (leb h l) failed (ok f)
+abbrev pub placeIndices : ConstVal → ℤ → ℤ → Filled → Result Filled
+placeIndices v (pos l) (pos h) f = cond (leb l h) (ok (placeSpan v l h f)) (ok f)
+placeIndices v (pos l) (negsuc h) f = ok f
+placeIndices v (negsuc l) (pos h) f = failed
+placeIndices v (negsuc l) (negsuc h) f = cond (leb h l) failed (ok f)
 
 -- a plain element: the index 2^63 counts as negative
 abbrev pub placeNext : ConstVal → Filled → Result Filled
-placeNext v f = cond (ltb (f .next') (2 ^ 63)) (placed v (pos (f .next')) (pos (f .next')) f) failed
+placeNext v f = cond (ltb (f .nextIndex) (2 ^ 63)) (placeIndices v (pos (f .nextIndex)) (pos (f .nextIndex)) f) failed
 
 abbrev pub placeSpans : ConstVal → List (ℤ × ℤ) → Filled → Result Filled
 placeSpans v [] f = ok f
-placeSpans v (s ∷ ss) f = bind (placed v (s .0) (s .1) f) (placeSpans v ss)
+placeSpans v (s ∷ ss) f = bind (placeIndices v (s .0) (s .1) f) (placeSpans v ss)
 
 abbrev pub setWildcard : ConstVal → Filled → Filled
-setWildcard v f = record { next' = f .next'; reach = f .reach; placements = f .placements; wildcard = some v }
+setWildcard v f = record { nextIndex = f .nextIndex; reach = f .reach; placements = f .placements; wildcard = some v }
 
 -- ---- selectors
 
@@ -139,31 +139,31 @@ asInt (vInt x) = ok x
 asInt (vReal x) = failed
 asInt (vStr s) = failed
 
-abbrev pub indexOf : List Const → Ex → Result ℤ
-indexOf cs e = bind (foldAt0 cs e) asInt
+abbrev pub indexOf : Names → Ex → Result ℤ
+indexOf ns e = bind (foldAt0 ns e) asInt
 
-abbrev pub highOf : List Const → ℤ → MaybeEx → Result ℤ
-highOf cs l absent = ok l
-highOf cs l (given e) = indexOf cs e
+abbrev pub highOf : Names → ℤ → MaybeEx → Result ℤ
+highOf ns l absent = ok l
+highOf ns l (given e) = indexOf ns e
 
-abbrev pub spanOf : List Const → Ex → MaybeEx → Result (ℤ × ℤ)
-spanOf cs l h = bind (indexOf cs l) (λ (x : ℤ). bind (highOf cs x h) (λ (y : ℤ). ok (x, y)))
+abbrev pub spanOf : Names → Ex → MaybeEx → Result (ℤ × ℤ)
+spanOf ns l h = bind (indexOf ns l) (λ (x : ℤ). bind (highOf ns x h) (λ (y : ℤ). ok (x, y)))
 
 -- low and high of each in turn
-abbrev pub spansOf : List Const → Ses → Result (List (ℤ × ℤ))
-spansOf cs noSes = ok []
-spansOf cs (andSe l h ss) = bind (spanOf cs l h) (λ (s : ℤ × ℤ). bind (spansOf cs ss) (λ (r : List (ℤ × ℤ)). ok (s ∷ r)))
+abbrev pub spansOf : Names → Ses → Result (List (ℤ × ℤ))
+spansOf ns noSes = ok []
+spansOf ns (andSe l h ss) = bind (spanOf ns l h) (λ (s : ℤ × ℤ). bind (spansOf ns ss) (λ (r : List (ℤ × ℤ)). ok (s ∷ r)))
 
 -- ---- elements: the value first, then its selectors
 
-abbrev pub fillElement : List Const → El → Filled → Result Filled
-fillElement cs (next e) f = bind (foldAt0 cs e) (λ (v : ConstVal). placeNext v f)
-fillElement cs (star e) f = bind (foldAt0 cs e) (λ (v : ConstVal). ok (setWildcard v f))
-fillElement cs (at e ss) f = bind (foldAt0 cs e) (λ (v : ConstVal). bind (spansOf cs ss) (λ (l : List (ℤ × ℤ)). placeSpans v l f))
+abbrev pub fillElement : Names → El → Filled → Result Filled
+fillElement ns (next e) f = bind (foldAt0 ns e) (λ (v : ConstVal). placeNext v f)
+fillElement ns (star e) f = bind (foldAt0 ns e) (λ (v : ConstVal). ok (setWildcard v f))
+fillElement ns (at e ss) f = bind (foldAt0 ns e) (λ (v : ConstVal). bind (spansOf ns ss) (λ (l : List (ℤ × ℤ)). placeSpans v l f))
 
-abbrev pub fill : List Const → Els → Filled → Result Filled
-fill cs noEls f = ok f
-fill cs (andEl e es) f = bind (fillElement cs e f) (fill cs es)
+abbrev pub fill : Names → Els → Filled → Result Filled
+fill ns noEls f = ok f
+fill ns (andEl e es) f = bind (fillElement ns e f) (fill ns es)
 
 -- ---- the values of a literal
 
@@ -234,25 +234,25 @@ asSize (vReal x) = failed
 asSize (vStr s) = failed
 
 -- its size, or else as many as its indices reach
-abbrev pub literalSize : List Const → MaybeEx → Filled → Result ℕ
-literalSize cs absent f = ok (f .reach)
-literalSize cs (given e) f = bind (foldAt0 cs e) asSize
+abbrev pub literalSize : Names → MaybeEx → Filled → Result ℕ
+literalSize ns absent f = ok (f .reach)
+literalSize ns (given e) f = bind (foldAt0 ns e) asSize
 
 abbrev pub built : Option Ty → Option Ty → Els → Filled → ℕ → Result ConstArray
 built declared ty es f n =
     let vs = valuesFrom (f .placements) (filler (f .wildcard)) 0 n in
-    ok (record { kind = literalKind declared ty es vs; length' = n; values = vs })
+    ok (record { kind = literalKind declared ty es vs; count = n; values = vs })
 
 abbrev pub measured : Option Ty → Option Ty → Els → Filled → ℕ → Result ConstArray
 measured declared ty es f n = cond (any (outside n) (f .placements)) (refuse 11) (cond (leb n longestLiteral) (built declared ty es f n) (refuse 12))
 
-abbrev pub literal : List Const → Option Ty → MaybeEx → Option Ty → Els → Result ConstArray
-literal cs declared s ty es = bind (fill cs es noneFilled) (λ (f : Filled). bind (literalSize cs s f) (measured declared ty es f))
+abbrev pub literal : Names → Option Ty → MaybeEx → Option Ty → Els → Result ConstArray
+literal ns declared s ty es = bind (fill ns es noneFilled) (λ (f : Filled). bind (literalSize ns s f) (measured declared ty es f))
 
 -- the constant array that an `alloc` or a literal is, where the global's type declares an element type or none
-abbrev pub arrayOf : List Const → Option Ty → ArrayEx → Result ConstArray
-arrayOf cs declared (alloc e t) = bind (foldAt0 cs e) (allocated (elemKind (orElse t declared)))
-arrayOf cs declared (lit s t es) = literal cs declared s t es
+abbrev pub arrayOf : Names → Option Ty → ArrayEx → Result ConstArray
+arrayOf ns declared (alloc e t) = bind (foldAt0 ns e) (allocated (elemKind (orElse t declared)))
+arrayOf ns declared (lit s t es) = literal ns declared s t es
 
-abbrev pub constArray : List Const → Option Ty → Ex → Result ConstArray
-constArray cs declared e = byForm (λ (n : Bytes). failed) (λ (t : Ty). failed) (arrayOf cs declared) failed e
+abbrev pub constArray : Names → Option Ty → Ex → Result ConstArray
+constArray ns declared e = byForm (λ (n : Bytes). failed) (λ (t : Ty). failed) (arrayOf ns declared) failed e

@@ -8,7 +8,7 @@ use lib.Dec.{eqb}
 use Rattle.semantics.specs.Text.{Bytes, filter, isNone, holdsOf}
 use Rattle.semantics.specs.Tree.{ConstVal, ConstDecl}
 use Rattle.semantics.specs.Sheet.{Module, Located, Source}
-use Rattle.semantics.specs.Fold.{Result, Const, plain, qualified, sameOption, fold}
+use Rattle.semantics.specs.Fold.{Result, Const, Names, plain, qualified, sameOption, fold}
 use Rattle.semantics.specs.Fold.Result.{ok, failed, refuse}
 
 -- ---- the iota counter
@@ -29,7 +29,7 @@ abbrev pub iotaAt : ℕ → ℕ → IotaCounter → ℕ
 iotaAt line col i = cond (sameGroup line col (i .group)) (i .value) 0
 
 -- the counter, moved on
-abbrev pub iotaNext : ℕ → ℕ → IotaCounter → IotaCounter
+unfoldable pub iotaNext : ℕ → ℕ → IotaCounter → IotaCounter
 iotaNext line col i = record { group = some (line, col); value = suc (iotaAt line col i) }
 
 -- ---- a pass
@@ -64,7 +64,7 @@ abbrev pub pass : Option Bytes → List (Located ConstDecl) → IotaCounter → 
 pass impl [] i log = record { log = log; refused = none }
 pass impl (c ∷ cs) i log =
     let d = c .it in
-    entered impl c (fold log (pos (iotaAt (d .line) (d .col) i)) (d .value)) (pass impl cs (iotaNext (d .line) (d .col) i)) log
+    entered impl c (fold (record { log = log }) (pos (iotaAt (d .line) (d .col) i)) (d .value)) (pass impl cs (iotaNext (d .line) (d .col) i)) log
 
 -- ---- the passes: one per module, and then one for the top level
 
@@ -89,3 +89,7 @@ passesFrom impl (p ∷ ps) log = andThen (pass impl p newCounter log) (passesFro
 
 unfoldable pub constants : Source → Folding
 constants s = passesFrom (s .implement) (passesOf s) []
+
+-- what `var` lines know of names: all constants
+abbrev pub namesOf : Source → Names
+namesOf s = record { log = constants s .log }

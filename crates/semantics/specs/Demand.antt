@@ -1,6 +1,6 @@
 -- Demand 3: what stands in each byte of the image and of the area, by place. Nothing here speaks of a replay:
 -- a byte is found by the global, or by the array, in whose place it lies.
-use Prim.Native.Nat.{ℕ, zero, suc, _+_, _-_, _*_, _/_, _%_, _^_, _≤_, _<_}
+use Prim.Native.Nat.{ℕ, zero, suc, _+_, _-_, _*_, _/_, _%_, _^_, _≤_, _<_, max}
 use mathlib.Core.Path.{_≡_}
 use mathlib.Core.Bool.{Bool, true, false, not, _&&_, cond}
 use mathlib.Core.List.{List, [], _∷_, _++_, map}
@@ -10,20 +10,21 @@ use lib.IntN.{ℤ, pos, negsuc}
 use lib.Signed.{leZ}
 use lib.Dec.{leb, ltb, eqb}
 use Rattle.semantics.specs.Text.{Bytes, same, any, all, bigEndian}
-use Rattle.semantics.specs.Tree.{Basic, Ty, Ex, ArrayEx, Els, Fd, Case, AdtDecl, ConstVal, ElemKind, byForm}
+use Rattle.semantics.specs.Tree.{Basic, Ty, Ex, ArrayEx, Els, Fd, Case, AdtDecl, ConstVal, ElemKind, MaybeEx, byForm, elemOf}
 use Rattle.semantics.specs.Tree.Basic.{int, byte, big, real, string}
 use Rattle.semantics.specs.Tree.Ty.{basic, ptr, array, tuple}
 use Rattle.semantics.specs.Tree.ConstVal.{vInt, vReal, vStr}
 use Rattle.semantics.specs.Tree.ArrayEx.{alloc, lit}
+use Rattle.semantics.specs.Tree.MaybeEx.{absent, given}
 use Rattle.semantics.specs.Tree.El.{next, star, at}
 use Rattle.semantics.specs.Tree.Els.{noEls, andEl}
 use Rattle.semantics.specs.Tree.ElemKind.{kByte, kWord, kBig, kReal, kPtr}
-use Rattle.semantics.specs.Sheet.{Source, sheetSource, each}
-use Rattle.semantics.specs.Layout.{sizeOf, isPtr, mapOf, Placed, Recorded, records, recordsOf, seen}
-use Rattle.semantics.specs.Fold.{Result, Const, foldAt0, bits64}
+use Rattle.semantics.specs.Sheet.{Source, sheetSource, concatMap}
+use Rattle.semantics.specs.Layout.{sizeOf, isPtr, mapOf, Placed, Recorded, recordedAdts, records, recordsOf, seen}
+use Rattle.semantics.specs.Fold.{Result, Names, foldAt0, bits64}
 use Rattle.semantics.specs.Fold.Result.{ok, failed, refuse}
-use Rattle.semantics.specs.Const.{constants}
-use Rattle.semantics.specs.Array.{ConstArray, spansOf, isReal, isStr, constByte, constWord, constBig, constReal}
+use Rattle.semantics.specs.Const.{namesOf}
+use Rattle.semantics.specs.Array.{ConstArray, elemKind, spansOf, isReal, isStr, constByte, constWord, constBig, constReal}
 use Rattle.semantics.specs.Global.{Item, Init, Declared, declaredIn, initOf, initItems, globalSize, newOffset, Global}
 use Rattle.semantics.specs.Global.Item.{valuesItem, strItem, arrayItem, setItem, backItem}
 use Rattle.semantics.specs.Global.Init.{noInit, constInit, arrayInit, pendingInit}
@@ -34,9 +35,9 @@ use Rattle.semantics.specs.Refusal.Imaged.{laid}
 -- ---- the premises
 
 -- no name stands twice
-abbrev pub namesApart : List Declared → Bool
-namesApart [] = true
-namesApart (d ∷ ds) = not (any (λ (e : Declared). same (e .name) (d .name)) ds) && namesApart ds
+abbrev pub namesDistinct : List Declared → Bool
+namesDistinct [] = true
+namesDistinct (d ∷ ds) = not (any (λ (e : Declared). same (e .name) (d .name)) ds) && namesDistinct ds
 
 abbrev pub isInt : ConstVal → Bool
 isInt (vInt x) = true
@@ -87,7 +88,7 @@ pub record Laid : Type 0 where
 abbrev pub afterPart : ℕ → Init → ℕ
 afterPart end noInit = end
 afterPart end (constInit v) = end
-afterPart end (arrayInit a) = partAt end + elemSize (a .kind) * a .length'
+afterPart end (arrayInit a) = partAt end + elemSize (a .kind) * a .count
 afterPart end pendingInit = end
 
 abbrev pub laidFrom : ℕ → ℕ → ℕ → List Declared → List Laid
@@ -97,9 +98,9 @@ laidFrom end k area (d ∷ ds) =
     record { global = d; offset = off; item = k; start = partAt area }
     ∷ laidFrom (off + globalSize (d .ty)) (k + length (initItems off (d .ty) (d .first))) (afterPart area (d .first)) ds
 
--- a sheet's globals, behind its constants
+-- a sheet's globals with their first values, which see all its constants
 abbrev pub sourceDeclared : Source → List Declared
-sourceDeclared s = declaredIn (constants s .log) s
+sourceDeclared s = declaredIn (namesOf s) s
 
 abbrev pub laidOf : Source → List Laid
 laidOf s = laidFrom 0 0 0 (sourceDeclared s)
@@ -120,14 +121,14 @@ firstBytes t k (arrayInit a) = handle k
 firstBytes t k pendingInit = []
 
 -- whether byte p is one of n bytes from off on
-abbrev pub lies : ℕ → ℕ → ℕ → Bool
-lies p off n = leb off p && ltb p (off + n)
+abbrev pub liesIn : ℕ → ℕ → ℕ → Bool
+liesIn p off n = leb off p && ltb p (off + n)
 
 -- byte p of the image: of the value of the global that has it in its place, else 0
 abbrev pub imageByte : List Laid → ℕ → ℕ
 imageByte [] p = 0
 imageByte (l ∷ ls) p =
-    cond (lies p (l .offset) (globalSize (l .global .ty)))
+    cond (liesIn p (l .offset) (globalSize (l .global .ty)))
     (getD (firstBytes (l .global .ty) (l .item) (l .global .first)) (p - l .offset) 0)
     (imageByte ls p)
 
@@ -163,7 +164,7 @@ abbrev pub partByte : ℕ → ℕ → ℕ → Init → ℕ → ℕ
 partByte p k start noInit rest = rest
 partByte p k start (constInit v) rest = rest
 partByte p k start (arrayInit a) rest =
-    cond (lies p start (elemSize (a .kind) * a .length')) (getD (elementsBytes (a .kind) (suc (suc k)) (a .values)) (p - start) 0) rest
+    cond (liesIn p start (elemSize (a .kind) * a .count)) (getD (elementsBytes (a .kind) (suc (suc k)) (a .values)) (p - start) 0) rest
 partByte p k start pendingInit rest = rest
 
 abbrev pub areaByte : List Laid → ℕ → ℕ
@@ -188,45 +189,67 @@ spanList failed = []
 spanList (refuse r) = []
 
 -- whether selectors low to high name an index
-abbrev pub names : ℕ → ℤ × ℤ → Bool
-names i s = leZ (s .0) (pos i) && leZ (pos i) (s .1)
+abbrev pub covers : ℕ → ℤ × ℤ → Bool
+covers i s = leZ (s .0) (pos i) && leZ (pos i) (s .1)
 
 abbrev pub afterHigh : ℤ → ℕ
 afterHigh (pos h) = suc h
 afterHigh (negsuc h) = 0
 
 -- the index of a plain element: behind the last span that is not empty
-abbrev pub behind : ℕ → List (ℤ × ℤ) → ℕ
-behind n [] = n
-behind n (s ∷ ss) = behind (cond (leZ (s .0) (s .1)) (afterHigh (s .1)) n) ss
+abbrev pub nextIndexAfter : ℕ → List (ℤ × ℤ) → ℕ
+nextIndexAfter n [] = n
+nextIndexAfter n (s ∷ ss) = nextIndexAfter (cond (leZ (s .0) (s .1)) (afterHigh (s .1)) n) ss
 
 -- the value last given to index i, or else v; n is the index that the next plain element has
-abbrev pub lastGiven : List Const → ℕ → ℕ → Result ConstVal → Els → Result ConstVal
-lastGiven cs i n v noEls = v
-lastGiven cs i n v (andEl (next e) es) = lastGiven cs i (suc n) (cond (eqb i n) (foldAt0 cs e) v) es
-lastGiven cs i n v (andEl (star e) es) = lastGiven cs i n v es
-lastGiven cs i n v (andEl (at e ss) es) =
-    let list = spanList (spansOf cs ss) in
-    lastGiven cs i (behind n list) (cond (any (names i) list) (foldAt0 cs e) v) es
+abbrev pub lastGiven : Names → ℕ → ℕ → Result ConstVal → Els → Result ConstVal
+lastGiven ns i n v noEls = v
+lastGiven ns i n v (andEl (next e) es) = lastGiven ns i (suc n) (cond (eqb i n) (foldAt0 ns e) v) es
+lastGiven ns i n v (andEl (star e) es) = lastGiven ns i n v es
+lastGiven ns i n v (andEl (at e ss) es) =
+    let list = spanList (spansOf ns ss) in
+    lastGiven ns i (nextIndexAfter n list) (cond (any (covers i) list) (foldAt0 ns e) v) es
 
 -- the filler: the last wildcard, else v
-abbrev pub lastStar : List Const → Result ConstVal → Els → Result ConstVal
-lastStar cs v noEls = v
-lastStar cs v (andEl (next e) es) = lastStar cs v es
-lastStar cs v (andEl (star e) es) = lastStar cs (foldAt0 cs e) es
-lastStar cs v (andEl (at e ss) es) = lastStar cs v es
+abbrev pub lastStar : Names → Result ConstVal → Els → Result ConstVal
+lastStar ns v noEls = v
+lastStar ns v (andEl (next e) es) = lastStar ns v es
+lastStar ns v (andEl (star e) es) = lastStar ns (foldAt0 ns e) es
+lastStar ns v (andEl (at e ss) es) = lastStar ns v es
 
-abbrev pub elementAt : List Const → Els → ℕ → Result ConstVal
-elementAt cs es i = lastGiven cs i 0 (lastStar cs (ok (vInt (pos 0))) es) es
+abbrev pub elementAt : Names → Els → ℕ → Result ConstVal
+elementAt ns es i = lastGiven ns i 0 (lastStar ns (ok (vInt (pos 0))) es) es
+
+-- where spans end that reach further than r
+abbrev pub spansReach : ℕ → List (ℤ × ℤ) → ℕ
+spansReach r [] = r
+spansReach r (s ∷ ss) = spansReach (cond (leZ (s .0) (s .1)) (max r (afterHigh (s .1))) r) ss
+
+-- where the indices of elements end that reach further than r; n is the index that the next plain element has
+abbrev pub reachOf : Names → ℕ → ℕ → Els → ℕ
+reachOf ns n r noEls = r
+reachOf ns n r (andEl (next e) es) = reachOf ns (suc n) (max r (suc n)) es
+reachOf ns n r (andEl (star e) es) = reachOf ns n r es
+reachOf ns n r (andEl (at e ss) es) =
+    let list = spanList (spansOf ns ss) in
+    reachOf ns (nextIndexAfter n list) (spansReach r list) es
+
+-- a literal's length: its size, or else as many as its indices reach
+abbrev pub LengthOf : Names → Els → MaybeEx → ℕ → Type 0
+LengthOf ns es absent n = n ≡ reachOf ns 0 0 es
+LengthOf ns es (given e) n = foldAt0 ns e ≡ ok (vInt (pos n))
 
 -- a literal's array has one value for each index, the one last given to it or else the filler; an `alloc` array has none
-abbrev pub Given : List Const → ConstArray → ArrayEx → Type 0
-Given cs a (alloc e t) = a .values ≡ []
-Given cs a (lit s t es) = (length (a .values) ≡ a .length') × ((i : ℕ) → i < a .length' → ok (getD (a .values) i (vInt (pos 0))) ≡ elementAt cs es i)
+abbrev pub Given : Names → ConstArray → ArrayEx → Type 0
+Given ns a (alloc e t) = (foldAt0 ns e ≡ ok (vInt (pos (a .count)))) × (a .values ≡ [])
+Given ns a (lit s t es) =
+    LengthOf ns es s (a .count) × (length (a .values) ≡ a .count)
+    × ((i : ℕ) → i < a .count → ok (getD (a .values) i (vInt (pos 0))) ≡ elementAt ns es i)
 
--- and no other expression is an array
-abbrev pub GivenBy : List Const → ConstArray → Ex → Type 0
-GivenBy cs a e = byForm (λ (n : Bytes). ⊥) (λ (t : Ty). ⊥) (Given cs a) ⊥ e
+-- no other expression is an array; the elements are of the kind of the array type's elements
+pub record GivenBy (ns : Names) (declared : Option Ty) (e : Ex) (a : ConstArray) : Type 0 where
+  pub values : byForm (λ (n : Bytes). ⊥) (λ (t : Ty). ⊥) (Given ns a) ⊥ e
+  pub kind : (u : Ty) → declared ≡ some u → a .kind ≡ elemKind u
 
 -- ---- handles and the items of the sheet
 
@@ -282,15 +305,15 @@ abbrev pub ItemAt : List Item → ℕ → ℕ → ℕ → Init → Type 0
 ItemAt is off k start noInit = Unit {0}
 ItemAt is off k start (constInit v) = ValueAt is off k v
 ItemAt is off k start (arrayInit a) =
-    Put is k none (arrayItem off (a .kind) (a .length')) × (partOf is k ≡ start) × ElementsAt is off (suc (suc k)) (a .kind) (a .values)
+    Put is k none (arrayItem off (a .kind) (a .count)) × (partOf is k ≡ start) × ElementsAt is off (suc (suc k)) (a .kind) (a .values)
 ItemAt is off k start pendingInit = Unit {0}
 
 abbrev pub ItemsAt : List Item → List Laid → Type 0
 ItemsAt is [] = Unit {0}
 ItemsAt is (l ∷ ls) = ItemAt is (l .offset) (l .item) (l .start) (l .global .first) × ItemsAt is ls
 
-abbrev pub placed : Laid → Global
-placed l = record { name = l .global .name; offset = l .offset; ty = l .global .ty }
+abbrev pub globalOf : Laid → Global
+globalOf l = record { name = l .global .name; offset = l .offset; ty = l .global .ty }
 
 -- ---- records
 
@@ -327,7 +350,7 @@ typedNames (some t) ns = map (λ (n : Bytes). record { name = n; ty = t }) ns
 
 -- the typed fields of an `adt` line, in order
 abbrev pub typedFields : List Fd → List Typed
-typedFields fs = each (λ (f : Fd). typedNames (f .ty) (f .names)) fs
+typedFields fs = concatMap (λ (f : Fd). typedNames (f .ty) (f .names)) fs
 
 abbrev pub typedOf : Placed → Typed
 typedOf p = record { name = p .name; ty = p .ty }
@@ -345,35 +368,36 @@ pointerAt off p = isPtr (p .ty) && eqb (p .offset) off
 abbrev pub bitAt : Bytes → ℕ → ℕ
 bitAt m w = getD m (w / 8) 0 / 2 ^ (7 - w % 8) % 2
 
--- fields lie apart, in order, inside the size, and a word is marked exactly where a pointer starts
+-- fields lie apart, in order, inside the size, and where none is a tuple a word is marked exactly where a pointer starts
 pub record Apart (fs : List Fd) (r : Recorded) : Type 0 where
-  pub theirs : map typedOf (r .fields) ≡ typedFields fs
+  pub sameFields : map typedOf (r .fields) ≡ typedFields fs
   pub inOrder : InOrder 0 (r .shape .size) (r .fields)
-  pub marks : (w : ℕ) → bitAt (mapOf (r .shape)) w ≡ cond (any (pointerAt (w * 4)) (r .fields)) 1 0
+  pub marks : noTuple fs ≡ true → (w : ℕ) → bitAt (mapOf (r .shape)) w ≡ cond (any (pointerAt (w * 4)) (r .fields)) 1 0
 
 abbrev pub AllApart : List AdtDecl → List Recorded → Type 0
 AllApart ds [] = Unit {0}
-AllApart ds (r ∷ rs) = ((fs : List Fd) → filling (r .key) none ds ≡ some fs → noTuple fs ≡ true → Apart fs r) × AllApart ds rs
+AllApart ds (r ∷ rs) = ((fs : List Fd) → filling (r .key) none ds ≡ some fs → Apart fs r) × AllApart ds rs
 
 -- ---- demand 3
 
-pub record Found (s : Source) (image area : Bytes) : Type 0 where
-  -- every byte of the image and of the area, and how many there are
+-- every byte of the image and of the area, and how many there are; these are the sheet's places, and each handle's item is the
+-- sheet's item put at the handle's own place
+pub record EveryByte (s : Source) (image area : Bytes) : Type 0 where
   pub imageLong : length image ≡ imageEnd 0 (laidOf s)
   pub areaLong : length area ≡ areaEnd 0 (laidOf s)
   pub imageBytes : (p : ℕ) → getD image p 0 ≡ imageByte (laidOf s) p
   pub areaBytes : (p : ℕ) → getD area p 0 ≡ areaByte (laidOf s) p
-  -- of any first value that is an array: its values are, index by index, those last given, or else the filler
-  pub elements : (t : Ty) (e : Ex) (a : ConstArray) → initOf (constants s .log) t (some e) ≡ ok (arrayInit a) → GivenBy (constants s .log) a e
-  -- these are the sheet's places, and each handle's item is the sheet's item put at the handle's own place
-  pub places : sourceGlobals s .places ≡ map placed (laidOf s)
+  pub places : sourceGlobals s .places ≡ map globalOf (laidOf s)
   pub items : ItemsAt (sourceGlobals s .items) (laidOf s)
-  -- each record that an `adt` line without tuple field fills
-  pub records : AllApart (s .adts) (records (s .adts))
 
--- of a sheet that neither compiling nor replay refuses, whose names are apart and whose values are of their types' kinds
+pub record WholeImage (s : Source) (image area : Bytes) : Type 0 where
+  -- where no global's name stands twice and each first value is of its type's kind
+  pub bytes : namesDistinct (sourceDeclared s) ≡ true → kindsFit (sourceDeclared s) ≡ true → EveryByte s image area
+  -- of any first value that is an array: its values are, index by index, those last given, or else the filler
+  pub elements : (t : Ty) (e : Ex) (a : ConstArray) → initOf (namesOf s) t (some e) ≡ ok (arrayInit a) → GivenBy (namesOf s) (elemOf t) e a
+  -- each record that an `adt` line fills
+  pub records : AllApart (recordedAdts s) (records (recordedAdts s))
+
+-- of a sheet that neither compiling nor replay refuses
 abbrev pub Demand : Type 0
-Demand =
-    (b : Buffers) (s image area : Bytes) → imaged b s ≡ laid image area
-    → namesApart (sourceDeclared (sheetSource s)) ≡ true → kindsFit (sourceDeclared (sheetSource s)) ≡ true
-    → Found (sheetSource s) image area
+Demand = (b : Buffers) (s image area : Bytes) → imaged b s ≡ laid image area → WholeImage (sheetSource s) image area

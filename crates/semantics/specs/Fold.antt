@@ -17,7 +17,7 @@ use Rattle.semantics.specs.Tree.ConstVal.{vInt, vReal, vStr}
 use Rattle.semantics.specs.Tree.Ex.{constant, ident, modQual, unary, binary, cast, len, arrayEx, otherEx}
 use Rattle.semantics.specs.Tree.UnaryOp.{neg, not as lnot, bitNot, ref}
 use Rattle.semantics.specs.Tree.Arith.{add, sub, mul, div}
-use Rattle.semantics.specs.Tree.IntOp.{mod', and, or, xor, lshift, rshift, eq, neq, lt, gt, leq, geq}
+use Rattle.semantics.specs.Tree.IntOp.{rem, and, or, xor, lshift, rshift, eq, neq, lt, gt, leq, geq}
 use Rattle.semantics.specs.Tree.BinOp.{arith, intOp, power, logAnd, logOr}
 
 -- ---- what work on a value gives: a result, a failure, or a refusal with its number
@@ -80,7 +80,7 @@ intArith mul x y = intOk (wrap (x *ℤ y))
 intArith div x y = cond (isZero y) failed (intOk (wrap (quotZ x y)))
 
 abbrev pub intOnly : IntOp → ℤ → ℤ → Result ConstVal
-intOnly mod' x y = cond (isZero y) failed (intOk (remZ x y))
+intOnly rem x y = cond (isZero y) failed (intOk (remZ x y))
 intOnly and x y = bitwise bitAnd x y
 intOnly or x y = bitwise bitOr x y
 intOnly xor x y = bitwise bitXor x y
@@ -233,32 +233,40 @@ pub record Const : Type 0 where
   pub key : Key
   pub value : Option ConstVal
 
--- the newest value of a key, where the newest constant stands first
-abbrev pub valueOf : Key → List Const → Option ConstVal
-valueOf k [] = none
-valueOf k (c ∷ cs) = cond (sameKey k (c .key)) (c .value) (valueOf k cs)
+-- what a fold knows of names: the constants folded so far, the newest first
+pub record Names : Type 0 where
+  pub log : List Const
 
--- a bare name
-abbrev pub constValue : List Const → Bytes → Result ConstVal
-constValue cs n = fromOption (valueOf (plain n) cs)
+-- the newest constant of a key
+abbrev pub lookUp : Key → List Const → Option Const
+lookUp k [] = none
+lookUp k (c ∷ cs) = cond (sameKey k (c .key)) (some c) (lookUp k cs)
+
+abbrev pub valueOf : Option Const → Option ConstVal
+valueOf none = none
+valueOf (some c) = c .value
+
+-- a bare name: an unknown one fails, and so does one of a constant that failed
+abbrev pub constValue : Names → Bytes → Result ConstVal
+constValue ns n = fromOption (valueOf (lookUp (plain n) (ns .log)))
 
 -- a name of the module that an expression names
-abbrev pub qualifiedValue : List Const → Ex → Bytes → Result ConstVal
-qualifiedValue cs e n = byForm (λ (m : Bytes). fromOption (valueOf (qualified m n) cs)) (λ (t : Ty). failed) (λ (a : ArrayEx). failed) failed e
+abbrev pub qualifiedValue : Names → Ex → Bytes → Result ConstVal
+qualifiedValue ns e n = byForm (λ (m : Bytes). fromOption (valueOf (lookUp (qualified m n) (ns .log)))) (λ (t : Ty). failed) (λ (a : ArrayEx). failed) failed e
 
 -- ---- folding: left first, and a failure or refusal ends it
 
-unfoldable pub fold : List Const → ℤ → Ex → Result ConstVal
-fold cs iota (constant v) = ok v
-fold cs iota (ident n) = cond (same n (bytes "iota")) (ok (vInt iota)) (constValue cs n)
-fold cs iota (modQual e n) = qualifiedValue cs e n
-fold cs iota (unary o e) = bind (fold cs iota e) (foldUnary o)
-fold cs iota (binary l o r) = bind (fold cs iota l) (λ (x : ConstVal). bind (fold cs iota r) (foldBinary o x))
-fold cs iota (cast t e) = bind (fold cs iota e) (λ (v : ConstVal). ok (foldCast (basicOf t) v))
-fold cs iota (len e) = bind (fold cs iota e) foldLen
-fold cs iota (arrayEx a) = failed
-fold cs iota otherEx = failed
+unfoldable pub fold : Names → ℤ → Ex → Result ConstVal
+fold ns iota (constant v) = ok v
+fold ns iota (ident n) = cond (same n (bytes "iota")) (ok (vInt iota)) (constValue ns n)
+fold ns iota (modQual e n) = qualifiedValue ns e n
+fold ns iota (unary o e) = bind (fold ns iota e) (foldUnary o)
+fold ns iota (binary l o r) = bind (fold ns iota l) (λ (x : ConstVal). bind (fold ns iota r) (foldBinary o x))
+fold ns iota (cast t e) = bind (fold ns iota e) (λ (v : ConstVal). ok (foldCast (basicOf t) v))
+fold ns iota (len e) = bind (fold ns iota e) foldLen
+fold ns iota (arrayEx a) = failed
+fold ns iota otherEx = failed
 
 -- outside constants `iota` is 0
-abbrev pub foldAt0 : List Const → Ex → Result ConstVal
-foldAt0 cs e = fold cs (pos 0) e
+abbrev pub foldAt0 : Names → Ex → Result ConstVal
+foldAt0 ns e = fold ns (pos 0) e

@@ -29,7 +29,7 @@ use Rattle.semantics.specs.Tree.TypeKey.{adtKey, elemKey, blockKey, opaq
 pub data Kind : Type 0 where
   kTy kEx kEl kSe kFd kPc kAdt kPick kCon kVar kMod kEnd kImpl kFrame kNeed : Kind
 
--- a letter for each kind, by which kinds are compared
+-- the letter that the code's table of forms has for a kind; kinds are compared by it
 abbrev pub letter : Kind → ℕ
 letter kTy = 75
 letter kEx = 69
@@ -55,7 +55,7 @@ sameKind j k = eqb (letter j) (letter k)
 pub data Atom : Type 0 where
   name key : Atom
   ref maybe : Kind → Atom
-  unaryOp binaryOp place size : Atom
+  unaryOp binaryOp lineOrCol size : Atom
   i64 offset real text : Atom
 
 -- a field; or an N and as many fields
@@ -82,8 +82,8 @@ isKey (n ∷ (m ∷ (x ∷ xs))) = false
 abbrev pub notNaN : ℕ → Bool
 notNaN b = leb (b % 2 ^ 63) (0x7FF * 2 ^ 52)
 
-abbrev pub isReal : Bytes → Bool
-isReal bs = eqb (length bs) 8 && notNaN (fromBigEndian 0 bs)
+abbrev pub isRealBytes : Bytes → Bool
+isRealBytes bs = eqb (length bs) 8 && notNaN (fromBigEndian 0 bs)
 
 -- whether a field is good
 abbrev pub holds : Atom → Bytes → Bool
@@ -93,11 +93,11 @@ holds (ref k) f = isNumber f
 holds (maybe k) f = isNumber f
 holds unaryOp f = upTo 3 f
 holds binaryOp f = upTo 18 f
-holds place f = upTo 65535 f
+holds lineOrCol f = upTo 65535 f
 holds size f = upTo 4096 f
 holds i64 f = holdsOf (between (2 ^ 63) (2 ^ 63 - 1)) (intOf f)
 holds offset f = holdsOf (between 4096 4096) (intOf f)
-holds real f = holdsOf isReal (unhex f)
+holds real f = holdsOf isRealBytes (unhex f)
 holds text f = holdsOf isUtf8 (unhex f)
 
 -- N: a count 0 to 16
@@ -113,7 +113,7 @@ Value (ref k) = Node
 Value (maybe k) = Option Node
 Value unaryOp = UnaryOp
 Value binaryOp = BinOp
-Value place = ℕ
+Value lineOrCol = ℕ
 Value size = ℕ
 Value i64 = ℤ
 Value offset = ℤ
@@ -139,7 +139,7 @@ value (ref k) ns f = nodeAt ns (numberOf f)
 value (maybe k) ns f = perhapsAt ns (numberOf f)
 value unaryOp ns f = getD unaryOps (numberOf f) UnaryOp.ref
 value binaryOp ns f = getD binOps (numberOf f) BinOp.power
-value place ns f = numberOf f
+value lineOrCol ns f = numberOf f
 value size ns f = numberOf f
 value i64 ns f = orElse (pos 0) (intOf f)
 value offset ns f = orElse (pos 0) (intOf f)
@@ -160,8 +160,8 @@ pub record Row : Type 0 where
   pub parts : List Part
   pub make : Makes parts
 
-abbrev pub row : Kind → String → (ps : List Part) → Makes ps → Row
-row k w ps m = record { kind = k; words = bytes w; parts = ps; make = m }
+abbrev pub form : Kind → String → (ps : List Part) → Makes ps → Row
+form k w ps m = record { kind = k; words = bytes w; parts = ps; make = m }
 
 abbrev pub tysOf : List Node → Tys
 tysOf [] = noTys
@@ -206,52 +206,52 @@ perhapsEx = one (maybe kEx)
 -- keywords, the fields behind them, and what the line makes
 unfoldable pub forms : List Row
 forms =
-    row kTy "ty,int" [] (aTy (basic int))
-    ∷ row kTy "ty,byte" [] (aTy (basic byte))
-    ∷ row kTy "ty,big" [] (aTy (basic big))
-    ∷ row kTy "ty,real" [] (aTy (basic Basic.real))
-    ∷ row kTy "ty,string" [] (aTy (basic string))
-    ∷ row kTy "ty,ptr" [] (aTy ptr)
-    ∷ row kTy "ty,array" (toTy ∷ []) (λ t. aTy (array (t .ty)))
-    ∷ row kTy "ty,tuple" (many (ref kTy) ∷ []) (λ ts. aTy (tuple (tysOf ts)))
-    ∷ row kEx "ex,int" (one i64 ∷ []) (λ z. anEx (constant (vInt z)))
-    ∷ row kEx "ex,real" (one real ∷ []) (λ x. anEx (constant (vReal x)))
-    ∷ row kEx "ex,str" (one text ∷ []) (λ s. anEx (constant (vStr s)))
-    ∷ row kEx "ex,id" (one name ∷ []) (λ n. anEx (ident n))
-    ∷ row kEx "ex,qual" (toEx ∷ one name ∷ []) (λ e n. anEx (modQual (e .ex) n))
-    ∷ row kEx "ex,un" (one unaryOp ∷ toEx ∷ []) (λ o e. anEx (unary o (e .ex)))
-    ∷ row kEx "ex,bin" (one binaryOp ∷ toEx ∷ toEx ∷ []) (λ o l r. anEx (binary (l .ex) o (r .ex)))
-    ∷ row kEx "ex,cast" (toTy ∷ toEx ∷ []) (λ t e. anEx (cast (t .ty) (e .ex)))
-    ∷ row kEx "ex,len" (toEx ∷ []) (λ e. anEx (len (e .ex)))
-    ∷ row kEx "ex,alloc" (toEx ∷ toTy ∷ []) (λ e t. anEx (arrayEx (alloc (e .ex) (t .ty))))
-    ∷ row kEx "ex,lit" (perhapsEx ∷ perhapsTy ∷ many (ref kEl) ∷ []) (λ s t es. anEx (arrayEx (lit (maybeEx s) (tyOf t) (elsOf es))))
-    ∷ row kEx "ex,other" [] (anEx otherEx)
-    ∷ row kEl "el,next" (toEx ∷ []) (λ e. anEl (next (e .ex)))
-    ∷ row kEl "el,star" (toEx ∷ []) (λ e. anEl (star (e .ex)))
-    ∷ row kEl "el,at" (toEx ∷ many (ref kSe) ∷ []) (λ e ss. anEl (at (e .ex) (sesOf ss)))
-    ∷ row kSe "se" (toEx ∷ perhapsEx ∷ []) (λ l h. aSe (l .ex) (maybeEx h))
-    ∷ row kFd "fd" (perhapsTy ∷ many name ∷ []) (λ t ns. anFd (tyOf t) ns)
-    ∷ row kPc "pc" (many name ∷ many (ref kFd) ∷ []) (λ ts fs. aCase ts (fdsOf fs))
-    ∷ row kAdt "adt" (one name ∷ many (ref kFd) ∷ []) (λ n fs. anAdt n (fdsOf fs) none)
-    ∷ row kPick "pick" (one name ∷ many (ref kFd) ∷ many (ref kPc) ∷ []) (λ n fs ks. anAdt n (fdsOf fs) (some (casesOf ks)))
-    ∷ row kCon "con" (one name ∷ one place ∷ one place ∷ toEx ∷ []) (λ n l c e. aConst n l c (e .ex))
-    ∷ row kVar "var" (toTy ∷ perhapsEx ∷ many name ∷ []) (λ t e ns. aVar (t .ty) (exOf e) ns)
-    ∷ row kMod "mod" (one name ∷ []) aModule
-    ∷ row kEnd "end" [] anEnd
-    ∷ row kImpl "impl" (one name ∷ []) anImpl
-    ∷ row kFrame "frame" (one size ∷ many offset ∷ []) aFrame
-    ∷ row kNeed "need,adt" (one key ∷ []) (λ k. aNeed (adtKey k))
-    ∷ row kNeed "need,elem,int" [] (aNeed (elemKey kWord))
-    ∷ row kNeed "need,elem,byte" [] (aNeed (elemKey kByte))
-    ∷ row kNeed "need,elem,big" [] (aNeed (elemKey kBig))
-    ∷ row kNeed "need,elem,real" [] (aNeed (elemKey kReal))
-    ∷ row kNeed "need,elem,string" [] (aNeed (elemKey kPtr))
-    ∷ row kNeed "need,block" (one size ∷ many offset ∷ []) (λ s os. aNeed (blockKey (record { size = s; pointers = os })))
-    ∷ row kNeed "need,opaque" [] (aNeed opaqueKey)
+    form kTy "ty,int" [] (aTy (basic int))
+    ∷ form kTy "ty,byte" [] (aTy (basic byte))
+    ∷ form kTy "ty,big" [] (aTy (basic big))
+    ∷ form kTy "ty,real" [] (aTy (basic Basic.real))
+    ∷ form kTy "ty,string" [] (aTy (basic string))
+    ∷ form kTy "ty,ptr" [] (aTy ptr)
+    ∷ form kTy "ty,array" (toTy ∷ []) (λ t. aTy (array (t .ty)))
+    ∷ form kTy "ty,tuple" (many (ref kTy) ∷ []) (λ ts. aTy (tuple (tysOf ts)))
+    ∷ form kEx "ex,int" (one i64 ∷ []) (λ z. anEx (constant (vInt z)))
+    ∷ form kEx "ex,real" (one real ∷ []) (λ x. anEx (constant (vReal x)))
+    ∷ form kEx "ex,str" (one text ∷ []) (λ s. anEx (constant (vStr s)))
+    ∷ form kEx "ex,id" (one name ∷ []) (λ n. anEx (ident n))
+    ∷ form kEx "ex,qual" (toEx ∷ one name ∷ []) (λ e n. anEx (modQual (e .ex) n))
+    ∷ form kEx "ex,un" (one unaryOp ∷ toEx ∷ []) (λ o e. anEx (unary o (e .ex)))
+    ∷ form kEx "ex,bin" (one binaryOp ∷ toEx ∷ toEx ∷ []) (λ o l r. anEx (binary (l .ex) o (r .ex)))
+    ∷ form kEx "ex,cast" (toTy ∷ toEx ∷ []) (λ t e. anEx (cast (t .ty) (e .ex)))
+    ∷ form kEx "ex,len" (toEx ∷ []) (λ e. anEx (len (e .ex)))
+    ∷ form kEx "ex,alloc" (toEx ∷ toTy ∷ []) (λ e t. anEx (arrayEx (alloc (e .ex) (t .ty))))
+    ∷ form kEx "ex,lit" (perhapsEx ∷ perhapsTy ∷ many (ref kEl) ∷ []) (λ s t es. anEx (arrayEx (lit (maybeEx s) (tyOf t) (elsOf es))))
+    ∷ form kEx "ex,other" [] (anEx otherEx)
+    ∷ form kEl "el,next" (toEx ∷ []) (λ e. anEl (next (e .ex)))
+    ∷ form kEl "el,star" (toEx ∷ []) (λ e. anEl (star (e .ex)))
+    ∷ form kEl "el,at" (toEx ∷ many (ref kSe) ∷ []) (λ e ss. anEl (at (e .ex) (sesOf ss)))
+    ∷ form kSe "se" (toEx ∷ perhapsEx ∷ []) (λ l h. aSe (l .ex) (maybeEx h))
+    ∷ form kFd "fd" (perhapsTy ∷ many name ∷ []) (λ t ns. anFd (tyOf t) ns)
+    ∷ form kPc "pc" (many name ∷ many (ref kFd) ∷ []) (λ ts fs. aCase ts (fdsOf fs))
+    ∷ form kAdt "adt" (one name ∷ many (ref kFd) ∷ []) (λ n fs. anAdt n (fdsOf fs) none)
+    ∷ form kPick "pick" (one name ∷ many (ref kFd) ∷ many (ref kPc) ∷ []) (λ n fs ks. anAdt n (fdsOf fs) (some (casesOf ks)))
+    ∷ form kCon "con" (one name ∷ one lineOrCol ∷ one lineOrCol ∷ toEx ∷ []) (λ n l c e. aConst n l c (e .ex))
+    ∷ form kVar "var" (toTy ∷ perhapsEx ∷ many name ∷ []) (λ t e ns. aVar (t .ty) (exOf e) ns)
+    ∷ form kMod "mod" (one name ∷ []) aModule
+    ∷ form kEnd "end" [] anEnd
+    ∷ form kImpl "impl" (one name ∷ []) anImpl
+    ∷ form kFrame "frame" (one size ∷ many offset ∷ []) aFrame
+    ∷ form kNeed "need,adt" (one key ∷ []) (λ k. aNeed (adtKey k))
+    ∷ form kNeed "need,elem,int" [] (aNeed (elemKey kWord))
+    ∷ form kNeed "need,elem,byte" [] (aNeed (elemKey kByte))
+    ∷ form kNeed "need,elem,big" [] (aNeed (elemKey kBig))
+    ∷ form kNeed "need,elem,real" [] (aNeed (elemKey kReal))
+    ∷ form kNeed "need,elem,string" [] (aNeed (elemKey kPtr))
+    ∷ form kNeed "need,block" (one size ∷ many offset ∷ []) (λ s os. aNeed (blockKey (record { size = s; pointers = os })))
+    ∷ form kNeed "need,opaque" [] (aNeed opaqueKey)
     ∷ []
 
 abbrev pub noRow : Row
-noRow = row kEnd "" [] anEnd
+noRow = form kEnd "" [] anEnd
 
 -- ---- the form of a line
 
@@ -262,7 +262,7 @@ begins [] (b ∷ bs) = eqb b 44
 begins (w ∷ ws) [] = false
 begins (w ∷ ws) (b ∷ bs) = eqb b w && begins ws bs
 
--- the number of the first row whose keywords a line begins with, or how many rows there are
+-- the number of the first form whose keywords a line begins with, or how many rows there are
 abbrev pub rowOf : List Row → Bytes → ℕ
 rowOf [] l = 0
 rowOf (r ∷ rs) l = cond (begins (r .words) l) 0 (suc (rowOf rs l))
@@ -282,21 +282,21 @@ fits (p ∷ ps) [] = false
 fits (one a ∷ ps) (f ∷ fs) = holds a f && fits ps fs
 fits (many a ∷ ps) (f ∷ fs) = isCount f && fits (ones (numberOf f) a ++ ps) fs
 
--- a line's row, and the fields behind its keywords
+-- a line's form, and the fields behind its keywords
 pub record Read : Type 0 where
-  pub row : Row
+  pub form : Row
   pub fields : List Bytes
 
-abbrev pub readOf : Bytes → Read
+unfoldable pub readOf : Bytes → Read
 readOf l =
     let r = getD forms (rowOf forms l) noRow in
-    record { row = r; fields = fieldsFrom (length (r .words) + 1) l }
+    record { form = r; fields = fieldsFrom (length (r .words) + 1) l }
 
--- whether line k has a form: at most 255 bytes, the fields of its row, and `impl` on line 1 only
+-- whether line k has a form: at most 255 bytes, the fields of its form, and `impl` on line 1 only
 unfoldable pub formed : ℕ → Bytes → Bool
 formed k l =
     let r = readOf l in
-    leb (length l) 255 && ltb (rowOf forms l) (length forms) && fits (r .row .parts) (r .fields) && (eqb k 1 || not (sameKind (r .row .kind) kImpl))
+    leb (length l) 255 && ltb (rowOf forms l) (length forms) && fits (r .form .parts) (r .fields) && (eqb k 1 || not (sameKind (r .form .kind) kImpl))
 
 -- ---- what it makes
 
@@ -313,4 +313,4 @@ make (many a ∷ ps) m ns fs =
 
 -- what a line makes, where ns are the nodes of the lines before it
 unfoldable pub nodeOf : List Node → Read → Node
-nodeOf ns r = make (r .row .parts) (r .row .make) ns (r .fields)
+nodeOf ns r = make (r .form .parts) (r .form .make) ns (r .fields)

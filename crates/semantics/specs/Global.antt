@@ -10,9 +10,9 @@ use Rattle.semantics.specs.Tree.{Ty, Ex, VarDecl, ConstVal, ElemKind, el
 use Rattle.semantics.specs.Tree.Ty.{basic, ptr, array, tuple}
 use Rattle.semantics.specs.Tree.ConstVal.{vInt, vReal, vStr}
 use Rattle.semantics.specs.Tree.ElemKind.{kByte, kWord, kBig, kReal, kPtr}
-use Rattle.semantics.specs.Sheet.{Located, Source, each}
+use Rattle.semantics.specs.Sheet.{Located, Source, concatMap}
 use Rattle.semantics.specs.Layout.{alignUp, basicSize}
-use Rattle.semantics.specs.Fold.{Result, bind, Const, foldAt0}
+use Rattle.semantics.specs.Fold.{Result, bind, Names, foldAt0}
 use Rattle.semantics.specs.Fold.Result.{ok, failed, refuse}
 use Rattle.semantics.specs.Const.{Refusal, implements}
 use Rattle.semantics.specs.Array.{ConstArray, constArray, constWord, constByte, constBig, constReal, isOfKind, lowest}
@@ -57,7 +57,7 @@ contents off k [] = []
 contents off k (v ∷ vs) = setItem off ∷ (elementItems k (v ∷ vs) ++ (backItem ∷ []))
 
 abbrev pub arrayItems : ℕ → ConstArray → List Item
-arrayItems off a = arrayItem off (a .kind) (a .length') ∷ contents off (a .kind) (a .values)
+arrayItems off a = arrayItem off (a .kind) (a .count) ∷ contents off (a .kind) (a .values)
 
 -- the item follows the value; the type decides only between big and word
 abbrev pub valueItem : ℕ → Ty → ConstVal → Item
@@ -85,9 +85,9 @@ firstValue (ok v) a = ok (constInit v)
 firstValue failed a = arrayValue a
 firstValue (refuse r) a = refuse r
 
-abbrev pub initOf : List Const → Ty → Option Ex → Result Init
-initOf cs t none = ok noInit
-initOf cs t (some e) = firstValue (foldAt0 cs e) (constArray cs (elemOf t) e)
+abbrev pub initOf : Names → Ty → Option Ex → Result Init
+initOf ns t none = ok noInit
+initOf ns t (some e) = firstValue (foldAt0 ns e) (constArray ns (elemOf t) e)
 
 abbrev pub initItems : ℕ → Ty → Init → List Item
 initItems off t noInit = []
@@ -111,19 +111,19 @@ pub record Declared : Type 0 where
   pub ty : Ty
   pub first : Init
 
--- where a value is refused, the sheet is, and there is no first value
+-- a value that is refused, and with it the sheet, leaves no first value; `initOf` never fails
 abbrev pub orNoInit : Result Init → Init
 orNoInit (ok i) = i
 orNoInit failed = noInit
 orNoInit (refuse r) = noInit
 
-abbrev pub declaredBy : List Const → Located VarDecl → List Declared
-declaredBy cs v =
+abbrev pub declaredBy : Names → Located VarDecl → List Declared
+declaredBy ns v =
     let d = v .it in
-    map (λ (n : Bytes). record { name = n; ty = d .ty; first = orNoInit (initOf cs (d .ty) (d .init)) }) (laidNames (d .names))
+    map (λ (n : Bytes). record { name = n; ty = d .ty; first = orNoInit (initOf ns (d .ty) (d .init)) }) (laidNames (d .names))
 
-abbrev pub declaredIn : List Const → Source → List Declared
-declaredIn cs s = each (declaredBy cs) (laidVars s)
+abbrev pub declaredIn : Names → Source → List Declared
+declaredIn ns s = concatMap (declaredBy ns) (laidVars s)
 
 -- ---- refusals 8 to 12 at `var` lines
 
@@ -132,12 +132,12 @@ noneOf [] = true
 noneOf (x ∷ xs) = false
 
 -- a value is folded once per line, also where no name is laid out; arrays are looked at only for a name
-abbrev pub varValue : List Const → VarDecl → Result Init
-varValue cs d = cond (noneOf (laidNames (d .names))) (plainValue (d .init)) (initOf cs (d .ty) (d .init))
+abbrev pub varValue : Names → VarDecl → Result Init
+varValue ns d = cond (noneOf (laidNames (d .names))) (plainValue (d .init)) (initOf ns (d .ty) (d .init))
   where
     plainValue : Option Ex → Result Init
     plainValue none = ok noInit
-    plainValue (some e) = bind (foldAt0 cs e) (λ (v : ConstVal). ok (constInit v))
+    plainValue (some e) = bind (foldAt0 ns e) (λ (v : ConstVal). ok (constInit v))
 
 abbrev pub refusedBy : {A : Type 0} → ℕ → Result A → Option Refusal → Option Refusal
 refusedBy k (ok a) o = o
@@ -145,9 +145,9 @@ refusedBy k failed o = o
 refusedBy k (refuse r) o = some (record { number = r; line = k })
 
 -- the first line that is refused
-abbrev pub varsRefused : List Const → List (Located VarDecl) → Option Refusal
-varsRefused cs [] = none
-varsRefused cs (v ∷ vs) = refusedBy (v .line) (varValue cs (v .it)) (varsRefused cs vs)
+abbrev pub varsRefused : Names → List (Located VarDecl) → Option Refusal
+varsRefused ns [] = none
+varsRefused ns (v ∷ vs) = refusedBy (v .line) (varValue ns (v .it)) (varsRefused ns vs)
 
 -- ---- places
 
@@ -163,6 +163,7 @@ pub record Global : Type 0 where
   pub offset : ℕ
   pub ty : Ty
 
+-- places in order, the end of allocation, names with pending values, and items
 pub record Globals : Type 0 where
   pub places : List Global
   pub end : ℕ
@@ -182,8 +183,8 @@ pendOf n (constInit v) = []
 pendOf n (arrayInit a) = []
 pendOf n pendingInit = n ∷ []
 
-abbrev pub withFirst : ℕ → Declared → Globals → Globals
-withFirst off d g = record { places = g .places; end = g .end; pends = g .pends ++ pendOf (d .name) (d .first); items = g .items ++ initItems off (d .ty) (d .first) }
+abbrev pub withFirstValue : ℕ → Declared → Globals → Globals
+withFirstValue off d g = record { places = g .places; end = g .end; pends = g .pends ++ pendOf (d .name) (d .first); items = g .items ++ initItems off (d .ty) (d .first) }
 
 abbrev pub newOffset : Ty → ℕ → ℕ
 newOffset t end = alignUp (globalSize t) end
@@ -195,12 +196,12 @@ newPlace d g =
 
 -- a name met again keeps its place
 abbrev pub declareAt : Declared → Option ℕ → Globals → Globals
-declareAt d (some off) g = withFirst off d g
-declareAt d none g = withFirst (newOffset (d .ty) (g .end)) d (newPlace d g)
+declareAt d (some off) g = withFirstValue off d g
+declareAt d none g = withFirstValue (newOffset (d .ty) (g .end)) d (newPlace d g)
 
 abbrev pub globalsFrom : Globals → List Declared → Globals
 globalsFrom g [] = g
 globalsFrom g (d ∷ ds) = globalsFrom (declareAt d (placeOf (d .name) (g .places)) g) ds
 
-abbrev pub globals : List Const → Source → Globals
-globals cs s = globalsFrom noGlobals (declaredIn cs s)
+abbrev pub globals : Names → Source → Globals
+globals ns s = globalsFrom noGlobals (declaredIn ns s)

@@ -9,7 +9,7 @@ use lib.Ieee.{Float, binary64, toBits}
 use lib.Dec.{eqb}
 use Rattle.semantics.specs.Text.{Bytes, bigEndian}
 use Rattle.semantics.specs.Tree.{ElemKind}
-use Rattle.semantics.specs.Sheet.{each}
+use Rattle.semantics.specs.Sheet.{concatMap}
 use Rattle.semantics.specs.Layout.{alignUp}
 use Rattle.semantics.specs.Fold.{bits64}
 use Rattle.semantics.specs.Global.{Values, Item, Globals}
@@ -31,9 +31,9 @@ realBytes x = bigEndian 8 (toBits binary64 x)
 
 abbrev pub valuesBytes : Values → Bytes
 valuesBytes (byteValues vs) = vs
-valuesBytes (wordValues vs) = each wordBytes vs
-valuesBytes (bigValues vs) = each bigBytes vs
-valuesBytes (realValues vs) = each realBytes vs
+valuesBytes (wordValues vs) = concatMap wordBytes vs
+valuesBytes (bigValues vs) = concatMap bigBytes vs
+valuesBytes (realValues vs) = concatMap realBytes vs
 
 -- the handle of a string or array: its item number from 0, plus 1, in 4 bytes
 abbrev pub handle : ℕ → Bytes
@@ -67,7 +67,7 @@ abbrev pub written : Bytes → ℕ → Bytes → Bytes
 written xs p ys = take p (xs ++ replicate (p - length xs) 0) ++ (ys ++ drop (p + length ys) xs)
 
 -- an array item's place in the module's data, and the start of its part of the area
-pub record Part : Type 0 where
+pub record ArrayPart : Type 0 where
   pub place : ℕ
   pub start : ℕ
 
@@ -78,11 +78,11 @@ pub record Replay : Type 0 where
   pub image : Bytes
   pub area : Bytes
   pub end : ℕ
-  pub parts : List Part
+  pub parts : List ArrayPart
   pub inside : Option ℕ
 
 -- the part of the newest array at a place
-abbrev pub startOf : ℕ → List Part → ℕ
+abbrev pub startOf : ℕ → List ArrayPart → ℕ
 startOf off [] = 0
 startOf off (p ∷ ps) = cond (eqb off (p .place)) (p .start) (startOf off ps)
 
@@ -116,5 +116,5 @@ pub record Memory : Type 0 where
   pub image : Bytes
   pub area : Bytes
 
-abbrev pub memoryOf : Globals → Memory
+unfoldable pub memoryOf : Globals → Memory
 memoryOf g = let r = replay (g .end) (g .items) in record { image = r .image; area = r .area }

@@ -12,7 +12,7 @@ use Rattle.semantics.specs.Tree.{Basic, Ty, Tys, Fd, Case, AdtDecl, Shap
 use Rattle.semantics.specs.Tree.Basic.{int, byte, big, real, string}
 use Rattle.semantics.specs.Tree.Ty.{basic, ptr, array, tuple}
 use Rattle.semantics.specs.Tree.Tys.{noTys, andTy}
-use Rattle.semantics.specs.Sheet.{each}
+use Rattle.semantics.specs.Sheet.{Located, Source, concatMap}
 
 -- ---- sizes and alignments
 
@@ -21,8 +21,8 @@ abbrev pub alignUp : ℕ → ℕ → ℕ
 alignUp a n = (n + (a - 1)) / a * a
 
 -- a size: at least 4, rounded up to 4
-abbrev pub closed : ℕ → ℕ
-closed end = alignUp 4 (max end 4)
+abbrev pub roundedSize : ℕ → ℕ
+roundedSize end = alignUp 4 (max end 4)
 
 abbrev pub basicSize : Basic → ℕ
 basicSize int = 4
@@ -47,7 +47,7 @@ abbrev mutual
   sizeOf (basic b) = basicSize b
   sizeOf ptr = 4
   sizeOf (array t) = 4
-  sizeOf (tuple ts) = closed (endOfAll ts 0)
+  sizeOf (tuple ts) = roundedSize (endOfAll ts 0)
 
   -- where fields of these types end that begin at off, each aligned
   pub endOfAll : Tys → ℕ → ℕ
@@ -118,27 +118,27 @@ pub record Placed : Type 0 where
   pub offset : ℕ
 
 -- fields, and where they end
-pub record Run : Type 0 where
+pub record Placing : Type 0 where
   pub placed : List Placed
   pub end : ℕ
 
-abbrev pub after : Placed → Run → Run
-after p r = record { placed = p ∷ r .placed; end = r .end }
+abbrev pub withField : Placed → Placing → Placing
+withField p r = record { placed = p ∷ r .placed; end = r .end }
 
 -- the names of an `fd` line, one behind the other
-abbrev pub placeNames : Ty → ℕ → List Bytes → Run
+abbrev pub placeNames : Ty → ℕ → List Bytes → Placing
 placeNames t off [] = record { placed = []; end = off }
-placeNames t off (n ∷ ns) = after (record { name = n; ty = t; offset = off }) (placeNames t (off + sizeOf t) ns)
+placeNames t off (n ∷ ns) = withField (record { name = n; ty = t; offset = off }) (placeNames t (off + sizeOf t) ns)
 
 -- alignment is done once, before the first name, also where there is none; an untyped line is skipped
-abbrev pub placeLine : Option Ty → List Bytes → ℕ → Run
+abbrev pub placeLine : Option Ty → List Bytes → ℕ → Placing
 placeLine none ns off = record { placed = []; end = off }
 placeLine (some t) ns off = placeNames t (alignUp (alignOf t) off) ns
 
-abbrev pub joined : Run → Run → Run
+abbrev pub joined : Placing → Placing → Placing
 joined r s = record { placed = r .placed ++ s .placed; end = s .end }
 
-abbrev pub place : ℕ → List Fd → Run
+abbrev pub place : ℕ → List Fd → Placing
 place off [] = record { placed = []; end = off }
 place off (f ∷ fs) = let r = placeLine (f .ty) (f .names) off in joined r (place (r .end) fs)
 
@@ -149,10 +149,10 @@ furthest end [] = end
 furthest end (p ∷ ps) = furthest (max end (p .offset + sizeOf (p .ty))) ps
 
 abbrev pub pointersOf : List Placed → List ℤ
-pointersOf ps = each (λ (p : Placed). marksOf (p .ty) (p .offset)) ps
+pointersOf ps = concatMap (λ (p : Placed). marksOf (p .ty) (p .offset)) ps
 
-abbrev pub shapeOf : ℕ → List Placed → Shape
-shapeOf base ps = record { size = closed (furthest base ps); pointers = pointersOf ps }
+unfoldable pub shapeOf : ℕ → List Placed → Shape
+shapeOf base ps = record { size = roundedSize (furthest base ps); pointers = pointersOf ps }
 
 -- a record with pick takes the largest size and all variants' pointers
 abbrev pub pickShape : Shape → List Shape → Shape
@@ -173,15 +173,15 @@ abbrev pub plainRecord : Bytes → Shape → List Placed → Recorded
 plainRecord t s ps = record { key = t; tag = negsuc 0; group = negsuc 0; shape = s; fields = ps }
 
 -- where fields begin that stand behind the tag word of a record with pick
-abbrev pub tagged : ℕ
-tagged = 4
+abbrev pub behindTag : ℕ
+behindTag = 4
 
 -- a variant's fields: the common ones, then its own
 abbrev pub variantFields : List Fd → Case → List Placed
-variantFields common k = let r = place tagged common in r .placed ++ place (r .end) (k .fields) .placed
+variantFields common k = let r = place behindTag common in r .placed ++ place (r .end) (k .fields) .placed
 
 abbrev pub variantShape : List Fd → Case → Shape
-variantShape common k = shapeOf tagged (variantFields common k)
+variantShape common k = shapeOf behindTag (variantFields common k)
 
 abbrev pub variantsOf : Bytes → Shape → List Placed → ℕ → ℕ → List Bytes → List Recorded
 variantsOf t s ps g n [] = []
@@ -195,8 +195,8 @@ casesFrom t common g n (k ∷ ks) =
 
 abbrev pub withPick : Bytes → List Fd → List Case → List Recorded
 withPick t fs ks =
-    let ps = place tagged fs .placed in
-    plainRecord t (pickShape (shapeOf tagged ps) (map (variantShape fs) ks)) ps ∷ casesFrom t fs 0 0 ks
+    let ps = place behindTag fs .placed in
+    plainRecord t (pickShape (shapeOf behindTag ps) (map (variantShape fs) ks)) ps ∷ casesFrom t fs 0 0 ks
 
 abbrev pub withoutPick : Bytes → List Fd → Recorded
 withoutPick t fs = let ps = place 0 fs .placed in plainRecord t (shapeOf 0 ps) ps
@@ -210,9 +210,12 @@ recordsOf d = recordsFor (d .name) (d .fields) (d .pick)
 
 -- ---- the records of a sheet
 
--- in order of recording
+-- the declarations that are recorded, in that order
+abbrev pub recordedAdts : Source → List AdtDecl
+recordedAdts s = map (λ (d : Located AdtDecl). d .it) (s .adts)
+
 abbrev pub recordLog : List AdtDecl → List Recorded
-recordLog ds = each recordsOf ds
+recordLog ds = concatMap recordsOf ds
 
 -- the last record of a key, or else r
 abbrev pub lastOf : Bytes → Recorded → List Recorded → Recorded
@@ -223,9 +226,9 @@ abbrev pub seen : Bytes → List Recorded → Bool
 seen k rs = any (λ (r : Recorded). same k (r .key)) rs
 
 -- each key once, where it was first recorded, with its last record
-abbrev pub settled : List Recorded → List Recorded → List Recorded
-settled before [] = []
-settled before (r ∷ rs) = cond (seen (r .key) before) (settled (r ∷ before) rs) (lastOf (r .key) r rs ∷ settled (r ∷ before) rs)
+abbrev pub recordsByKey : List Recorded → List Recorded → List Recorded
+recordsByKey before [] = []
+recordsByKey before (r ∷ rs) = cond (seen (r .key) before) (recordsByKey (r ∷ before) rs) (lastOf (r .key) r rs ∷ recordsByKey (r ∷ before) rs)
 
 unfoldable pub records : List AdtDecl → List Recorded
-records ds = settled [] (recordLog ds)
+records ds = recordsByKey [] (recordLog ds)

@@ -9,16 +9,16 @@ use Rattle.semantics.specs.Text.{Bytes, bytes, any, filter, isNone, deci
 use Rattle.semantics.specs.Tree.{ConstVal, Shape, TypeKey}
 use Rattle.semantics.specs.Tree.ConstVal.{vInt, vReal, vStr}
 use Rattle.semantics.specs.Tree.TypeKey.{elemKey}
-use Rattle.semantics.specs.Sheet.{Source, each}
-use Rattle.semantics.specs.Layout.{Placed, Recorded, records, sizeOf, isPtr, mapOf, pointerCount}
-use Rattle.semantics.specs.Fold.{Key, Const, sameKey, valueOf}
+use Rattle.semantics.specs.Sheet.{Source, concatMap}
+use Rattle.semantics.specs.Layout.{Placed, Recorded, recordedAdts, records, sizeOf, isPtr, mapOf, pointerCount}
+use Rattle.semantics.specs.Fold.{Key, Const, sameKey, lookUp, valueOf}
 use Rattle.semantics.specs.Global.{Values, Item, Global, Globals, globalSize}
 use Rattle.semantics.specs.Global.Values.{byteValues, wordValues, bigValues, realValues}
 use Rattle.semantics.specs.Global.Item.{valuesItem, strItem, arrayItem, setItem, backItem}
 use Rattle.semantics.specs.Types.{idOf, descriptors}
 
 -- a line of fields
-abbrev pub row : List Bytes → Bytes
+unfoldable pub row : List Bytes → Bytes
 row [] = 10 ∷ []
 row (f ∷ []) = f ++ (10 ∷ [])
 row (f ∷ (g ∷ fs)) = f ++ (44 ∷ row (g ∷ fs))
@@ -39,7 +39,7 @@ fieldRow p = row (bytes "fld" ∷ p .name ∷ decimal (p .offset) ∷ decimal (s
 unfoldable pub recordRows : Recorded → Bytes
 recordRows r =
     row (bytes "rec" ∷ r .key ∷ decimalℤ (r .tag) ∷ decimalℤ (r .group) ∷ decimal (r .shape .size) ∷ mapText (r .shape) ∷ [])
-    ++ each fieldRow (r .fields)
+    ++ concatMap fieldRow (r .fields)
 
 -- ---- constants: con,NAME, then i, r, s with the value, or x
 
@@ -65,13 +65,13 @@ abbrev pub isPlain : Key → Bool
 isPlain k = isNone (k .within)
 
 abbrev pub constRow : List Const → Key → Bytes
-constRow cs k = row (bytes "con" ∷ keyText k ∷ valueFields (valueOf k cs))
+constRow cs k = row (bytes "con" ∷ keyText k ∷ valueFields (valueOf (lookUp k cs)))
 
 -- all M->NAME first, then plain
 unfoldable pub constRows : List Const → Bytes
 constRows cs =
-    each (constRow cs) (filter (λ (k : Key). not (isPlain k)) (keysIn cs))
-    ++ each (constRow cs) (filter isPlain (keysIn cs))
+    concatMap (constRow cs) (filter (λ (k : Key). not (isPlain k)) (keysIn cs))
+    ++ concatMap (constRow cs) (filter isPlain (keysIn cs))
 
 -- ---- globals: glo,NAME,OFFSET,SIZE,P, then pend,NAME
 
@@ -120,10 +120,10 @@ useRow id k = row (bytes "use" ∷ decimal (id k) ∷ [])
 
 unfoldable pub listing : Source → List Const → Globals → Bytes
 listing s cs g =
-    each recordRows (records (s .adts))
+    concatMap recordRows (records (recordedAdts s))
     ++ constRows cs
-    ++ each globalRow (g .places)
-    ++ each pendRow (g .pends)
-    ++ each (itemRow (idOf s (g .items))) (g .items)
+    ++ concatMap globalRow (g .places)
+    ++ concatMap pendRow (g .pends)
+    ++ concatMap (itemRow (idOf s (g .items))) (g .items)
     ++ typeRows 0 (descriptors s (g .items))
-    ++ each (useRow (idOf s (g .items))) (s .needs)
+    ++ concatMap (useRow (idOf s (g .items))) (s .needs)

@@ -5,16 +5,16 @@ use mathlib.Core.List.{List, [], _∷_, _++_}
 use mathlib.Core.Option.{Option, none, some}
 use lib.ListN.{length, getD, replicate}
 use lib.Dec.{leb, ltb, eqb}
-use Rattle.semantics.specs.Text.{Bytes, any, lineParts}
+use Rattle.semantics.specs.Text.{Bytes, bytes, any, lineParts, decimal}
 use Rattle.semantics.specs.Tree.{Case, AdtDecl, VarDecl, Declares, Node}
 use Rattle.semantics.specs.Form.{Kind, Atom, Part, Read, noRow, letter, sameKind, ones, numberOf, formed}
 use Rattle.semantics.specs.Form.Kind.{kMod, kEnd}
-use Rattle.semantics.specs.Form.Atom.{name, key, ref, maybe, unaryOp, binaryOp, place, size, i64, offset, real, text}
+use Rattle.semantics.specs.Form.Atom.{name, key, ref, maybe, unaryOp, binaryOp, lineOrCol, size, i64, offset, real, text}
 use Rattle.semantics.specs.Form.Part.{one, many}
 use Rattle.semantics.specs.Sheet.{Source, readsOf, nodesFrom, sheetSource}
-use Rattle.semantics.specs.Const.{Refusal, constants}
+use Rattle.semantics.specs.Const.{Refusal, constants, namesOf}
 use Rattle.semantics.specs.Global.{Globals, globals, laidVars, varsRefused}
-use Rattle.semantics.specs.Listing.{listing}
+use Rattle.semantics.specs.Listing.{row, listing}
 use Rattle.semantics.specs.Image.{Memory, memoryOf, areaAfter}
 
 -- Each of 3 to 7 is the number of the first offending line, 0 where there is none.
@@ -45,7 +45,7 @@ refOf (ref k) f rs = record { kind = letter k; optional = false; line = numberOf
 refOf (maybe k) f rs = record { kind = letter k; optional = true; line = numberOf f } ∷ rs
 refOf unaryOp f rs = rs
 refOf binaryOp f rs = rs
-refOf place f rs = rs
+refOf lineOrCol f rs = rs
 refOf size f rs = rs
 refOf i64 f rs = rs
 refOf offset f rs = rs
@@ -61,25 +61,25 @@ refsIn (one a ∷ ps) (f ∷ fs) = refOf a f (refsIn ps fs)
 refsIn (many a ∷ ps) (f ∷ fs) = refsIn (ones (numberOf f) a ++ ps) fs
 
 abbrev pub refsOf : Read → List Ref
-refsOf l = refsIn (l .row .parts) (l .fields)
+refsOf l = refsIn (l .form .parts) (l .fields)
 
 abbrev pub noRead : Read
-noRead = record { row = noRow; fields = [] }
+noRead = record { form = noRow; fields = [] }
 
 -- line r of lines, from 1
 abbrev pub lineAt : List Read → ℕ → Read
 lineAt ls r = getD ls (r - 1) noRead
 
 -- whether a reference of line k is good: 0 where it may be, or an earlier line of its kind, not among those referred to so far
-abbrev pub good : List Read → ℕ → List ℕ → Ref → Bool
-good ls k used r =
+abbrev pub goodRef : List Read → ℕ → List ℕ → Ref → Bool
+goodRef ls k used r =
     cond (eqb (r .line) 0) (r .optional)
-    (ltb (r .line) k && eqb (letter (lineAt ls (r .line) .row .kind)) (r .kind) && not (any (eqb (r .line)) used))
+    (ltb (r .line) k && eqb (letter (lineAt ls (r .line) .form .kind)) (r .kind) && not (any (eqb (r .line)) used))
 
 -- the lines used after a line's references, none where one is bad
 abbrev pub useAll : List Read → ℕ → List Ref → List ℕ → Option (List ℕ)
 useAll ls k [] used = some used
-useAll ls k (r ∷ rs) used = cond (good ls k used r) (useAll ls k rs (r .line ∷ used)) none
+useAll ls k (r ∷ rs) used = cond (goodRef ls k used r) (useAll ls k rs (r .line ∷ used)) none
 
 abbrev pub orBad : ℕ → (List ℕ → ℕ) → Option (List ℕ) → ℕ
 orBad k go none = k
@@ -107,13 +107,13 @@ tooDeepFrom k depths (l ∷ ls) =
 -- ---- 6: `mod` in `mod`, `end` outside, or an open `mod` at the last line
 
 abbrev pub isA : Kind → Read → Bool
-isA k l = sameKind (l .row .kind) k
+isA k l = sameKind (l .form .kind) k
 
 unfoldable pub badModuleFrom : ℕ → Bool → List Read → ℕ
-badModuleFrom k open' [] = cond open' (k - 1) 0
-badModuleFrom k open' (l ∷ ls) =
-    cond (isA kMod l && open' || isA kEnd l && not open') k
-    (badModuleFrom (suc k) (cond (isA kMod l) true (cond (isA kEnd l) false open')) ls)
+badModuleFrom k isOpen [] = cond isOpen (k - 1) 0
+badModuleFrom k isOpen (l ∷ ls) =
+    cond (isA kMod l && isOpen || isA kEnd l && not isOpen) k
+    (badModuleFrom (suc k) (cond (isA kMod l) true (cond (isA kEnd l) false isOpen)) ls)
 
 -- ---- 7: counts
 
@@ -168,7 +168,14 @@ refuseAt n k o = cond (eqb k 0) o (refused n k)
 abbrev pub refuseIf : ℕ → Bool → Outcome → Outcome
 refuseIf n b o = cond b (refused n 0) o
 
--- 8 to 12, as the work meets them
+-- a listing that fits its buffer
+abbrev pub listedIn : ℕ → Bytes → Outcome
+listedIn n out = refuseIf 13 (ltb n (length out)) (listed out)
+
+abbrev pub orRefused : Option Refusal → Option Refusal → Option Refusal
+orRefused none o = o
+orRefused (some r) o = some r
+
 abbrev pub refuseWork : Option Refusal → Outcome → Outcome
 refuseWork none o = o
 refuseWork (some r) o = refused (r .number) (r .line)
@@ -183,47 +190,40 @@ checked ls o =
     (refuseAt 6 (badModuleFrom 1 false rs)
     (refuseAt 7 (tooManyFrom 1 noCounts (nodesFrom [] rs)) o))))
 
--- the bytes that each lent buffer has
-pub record Buffers : Type 0 where
-  pub listing : ℕ
-  pub work : ℕ
-  pub image : ℕ
-  pub area : ℕ
-
--- what the programs lend
-abbrev pub program : Buffers
-program = record { listing = 65536; work = 65536; image = 65536; area = 65536 }
-
 abbrev pub longestSheet : ℕ
 longestSheet = 65535
 
 abbrev pub leastWork : ℕ
 leastWork = 65536
 
--- a sheet's globals, behind its constants
+-- 8 to 12, as the work meets them: constants, then `var` lines
+abbrev pub workRefused : Source → Option Refusal
+workRefused s = orRefused (constants s .refused) (varsRefused (namesOf s) (laidVars s))
+
 abbrev pub sourceGlobals : Source → Globals
-sourceGlobals s = globals (constants s .log) s
+sourceGlobals s = globals (namesOf s) s
 
 abbrev pub sourceListing : Source → Bytes
 sourceListing s = listing s (constants s .log) (sourceGlobals s)
 
--- a listing that fits its buffer
-abbrev pub listedIn : ℕ → Bytes → Outcome
-listedIn n out = refuseIf 13 (ltb n (length out)) (listed out)
-
--- declarations, worked through: constants, then `var` lines
+-- declarations, worked through, into a listing buffer of n bytes
 abbrev pub worked : ℕ → Source → Outcome
-worked n s =
-    refuseWork (constants s .refused)
-    (refuseWork (varsRefused (constants s .log) (laidVars s)) (listedIn n (sourceListing s)))
+worked n s = refuseWork (workRefused s) (listedIn n (sourceListing s))
 
--- what compiling a sheet gives
-unfoldable pub compiled : Buffers → Bytes → Outcome
-compiled b s =
+-- what compiling a sheet gives, where the listing's buffer and the working space have so many bytes
+unfoldable pub compiled : ℕ → ℕ → Bytes → Outcome
+compiled listing work s =
     refuseIf 1 (ltb longestSheet (length s))
-    (refuseIf 2 (ltb (b .work) leastWork) (checked (lineParts s) (worked (b .listing) (sheetSource s))))
+    (refuseIf 2 (ltb work leastWork) (checked (lineParts s) (worked listing (sheetSource s))))
 
 -- ---- the outcome of replay
+
+-- the bytes that each lent buffer has
+pub record Buffers : Type 0 where
+  pub listing : ℕ
+  pub work : ℕ
+  pub image : ℕ
+  pub area : ℕ
 
 pub data Imaged : Type 0 where
   laid : Bytes → Bytes → Imaged
@@ -242,16 +242,26 @@ afterListing b g (refused n k) = notLaid n k
 
 -- what compiling a sheet and replaying its items gives
 unfoldable pub imaged : Buffers → Bytes → Imaged
-imaged b s = afterListing b (sourceGlobals (sheetSource s)) (compiled b s)
+imaged b s = afterListing b (sourceGlobals (sheetSource s)) (compiled (b .listing) (b .work) s)
 
--- ---- what the lent buffers hold afterwards: zeros behind what was written, and zeros alone after a refusal
+-- ---- what the lent buffers hold afterwards: what was written and zeros behind it, and zeros alone after a refusal.
+-- The working space holds zeros in any case.
+
+abbrev pub zeros : ℕ → Bytes
+zeros n = replicate n 0
 
 abbrev pub padded : ℕ → Bytes → Bytes
-padded n xs = xs ++ replicate (n - length xs) 0
+padded n xs = xs ++ zeros (n - length xs)
 
+-- the listing's bytes after compiling
 abbrev pub listingBytes : Outcome → Bytes
 listingBytes (listed out) = out
 listingBytes (refused n k) = []
+
+-- and after compiling and replaying
+abbrev pub listingKept : Outcome → Imaged → Bytes
+listingKept o (laid image area) = listingBytes o
+listingKept o (notLaid n k) = []
 
 abbrev pub imageBytes : Imaged → Bytes
 imageBytes (laid image area) = image
@@ -260,3 +270,22 @@ imageBytes (notLaid n k) = []
 abbrev pub areaBytes : Imaged → Bytes
 areaBytes (laid image area) = area
 areaBytes (notLaid n k) = []
+
+-- ---- the programs: each buffer has 65,536 bytes
+
+abbrev pub lent : ℕ
+lent = 65536
+
+abbrev pub listingOf : Bytes → Outcome
+listingOf s = compiled lent lent s
+
+abbrev pub programBuffers : Buffers
+programBuffers = record { listing = lent; work = lent; image = lent; area = lent }
+
+abbrev pub imageOf : Bytes → Imaged
+imageOf s = imaged programBuffers s
+
+-- what the listing program prints; a refusal prints `no,NUMBER,LINE`
+abbrev pub printed : Outcome → Bytes
+printed (listed out) = out
+printed (refused n k) = row (bytes "no" ∷ decimal n ∷ decimal k ∷ [])

@@ -46,12 +46,12 @@ locatedFrom {A} f k o (n ∷ ns) =
 abbrev pub located : {A : Type 0} → (Declares → List A) → List Node → List (Located A)
 located f ns = locatedFrom f 1 none ns
 
-abbrev pub each : {A B : Type 0} → (A → List B) → List A → List B
-each f [] = []
-each f (x ∷ xs) = f x ++ each f xs
+abbrev pub concatMap : {A B : Type 0} → (A → List B) → List A → List B
+concatMap f [] = []
+concatMap f (x ∷ xs) = f x ++ concatMap f xs
 
 abbrev pub declared : {A : Type 0} → (Declares → List A) → List Node → List A
-declared f ns = each (λ (n : Node). f (n .declares)) ns
+declared f ns = concatMap (λ (n : Node). f (n .declares)) ns
 
 abbrev pub firstOf : {A : Type 0} → List A → Option A
 firstOf [] = none
@@ -61,7 +61,7 @@ firstOf (x ∷ xs) = some x
 pub record Source : Type 0 where
   pub implement : Option Bytes
   pub modules : List Module
-  pub adts : List AdtDecl
+  pub adts : List (Located AdtDecl)
   pub consts : List (Located ConstDecl)
   pub vars : List (Located VarDecl)
   pub frames : List Shape
@@ -74,13 +74,16 @@ abbrev pub sourceOf : List Node → Source
 sourceOf ns = record {
   implement = firstOf (declared (λ (d : Declares). d .implements) ns);
   modules = map moduleOf (located (λ (d : Declares). d .opens) ns);
-  adts = declared (λ (d : Declares). d .adts) ns;
+  adts = located (λ (d : Declares). d .adts) ns;
   consts = located (λ (d : Declares). d .consts) ns;
   vars = located (λ (d : Declares). d .vars) ns;
   frames = declared (λ (d : Declares). d .frames) ns;
   needs = declared (λ (d : Declares). d .needs) ns;
 }
 
--- the declarations of the lines of a sheet
+-- the declarations of lines
+abbrev pub linesSource : List Bytes → Source
+linesSource ls = sourceOf (nodesFrom [] (readsOf ls))
+
 unfoldable pub sheetSource : Bytes → Source
-sheetSource s = sourceOf (nodesFrom [] (readsOf (lineParts s)))
+sheetSource s = linesSource (lineParts s)

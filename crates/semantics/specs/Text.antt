@@ -87,7 +87,8 @@ partStart (p ∷ ps) (suc n) = length p + 1 + partStart ps n
 
 -- ---- a field of the sheet as that part of the sheet: lines from 1, fields from 0
 
--- line n, the empty line where it isn't there
+-- line n, the empty line where it isn't there: what stands behind the last LF counts, for where that is nothing its one field
+-- is the empty part at the sheet's end too
 abbrev pub lineOf : Bytes → ℕ → Bytes
 lineOf s zero = []
 lineOf s (suc n) = getD (lineParts s) n []
@@ -102,7 +103,7 @@ hasField s n i = hasLine s n && ltb i (length (fieldsOf (lineOf s n)))
 
 -- the field's bytes
 unfoldable pub fieldOf : Bytes → ℕ → ℕ → Bytes
-fieldOf s n i = cond (hasField s n i) (getD (fieldsOf (lineOf s n)) i []) []
+fieldOf s n i = getD (fieldsOf (lineOf s n)) i []
 
 -- where it stands in the sheet: at the sheet's end where it isn't there
 unfoldable pub fieldStart : Bytes → ℕ → ℕ → ℕ
@@ -110,11 +111,11 @@ fieldStart s n i = cond (hasField s n i) (partStart (lineParts s) (n - 1) + part
 
 -- ---- decimal numbers
 
-abbrev pub within : ℕ → ℕ → ℕ → Bool
-within lo hi n = leb lo n && leb n hi
+abbrev pub inRange : ℕ → ℕ → ℕ → Bool
+inRange lo hi n = leb lo n && leb n hi
 
 abbrev pub isDigit : ℕ → Bool
-isDigit b = within 48 57 b
+isDigit b = inRange 48 57 b
 
 -- the number that decimal digits write behind the digits of n, none where a byte is no digit
 abbrev pub digitsValue : ℕ → Bytes → Option ℕ
@@ -157,7 +158,7 @@ abbrev pub hexDigit : ℕ → ℕ
 hexDigit d = cond (ltb d 10) (48 + d) (55 + d)
 
 abbrev pub hexValue : ℕ → Option ℕ
-hexValue b = cond (isDigit b) (some (b - 48)) (cond (within 65 70 b) (some (b - 55)) none)
+hexValue b = cond (isDigit b) (some (b - 48)) (cond (inRange 65 70 b) (some (b - 55)) none)
 
 unfoldable pub hexOf : Bytes → Bytes
 hexOf [] = []
@@ -176,7 +177,7 @@ unhex (h ∷ []) = none
 unhex (h ∷ (l ∷ ds)) = hexPair (hexValue h) (hexValue l) (unhex ds)
 
 -- n's k lowest bytes, the highest first
-abbrev pub bigEndian : ℕ → ℕ → Bytes
+unfoldable pub bigEndian : ℕ → ℕ → Bytes
 bigEndian zero n = []
 bigEndian (suc k) n = n / 256 ^ k % 256 ∷ bigEndian k n
 
@@ -188,7 +189,7 @@ fromBigEndian n (b ∷ bs) = fromBigEndian (n * 256 + b) bs
 -- ---- names
 
 abbrev pub isLetter : ℕ → Bool
-isLetter b = within 65 90 b || within 97 122 b || eqb b 95
+isLetter b = inRange 65 90 b || inRange 97 122 b || eqb b 95
 
 -- NAME: 1 to 32 letters, digits and `_`, with no leading digit
 unfoldable pub isName : Bytes → Bool
@@ -203,17 +204,17 @@ Lead = ℕ × ℕ × ℕ
 
 abbrev pub lead : ℕ → Option Lead
 lead b =
-    cond (within 0x00 0x7F b) (some (0, 0, 0))
-    (cond (within 0xC2 0xDF b) (some (1, 0x80, 0xBF))
-    (cond (within 0xE0 0xE0 b) (some (2, 0xA0, 0xBF))
-    (cond (within 0xED 0xED b) (some (2, 0x80, 0x9F))
-    (cond (within 0xE1 0xEF b) (some (2, 0x80, 0xBF))
-    (cond (within 0xF0 0xF0 b) (some (3, 0x90, 0xBF))
-    (cond (within 0xF1 0xF3 b) (some (3, 0x80, 0xBF))
-    (cond (within 0xF4 0xF4 b) (some (3, 0x80, 0x8F)) none)))))))
+    cond (inRange 0x00 0x7F b) (some (0, 0, 0))
+    (cond (inRange 0xC2 0xDF b) (some (1, 0x80, 0xBF))
+    (cond (inRange 0xE0 0xE0 b) (some (2, 0xA0, 0xBF))
+    (cond (inRange 0xED 0xED b) (some (2, 0x80, 0x9F))
+    (cond (inRange 0xE1 0xEF b) (some (2, 0x80, 0xBF))
+    (cond (inRange 0xF0 0xF0 b) (some (3, 0x90, 0xBF))
+    (cond (inRange 0xF1 0xF3 b) (some (3, 0x80, 0xBF))
+    (cond (inRange 0xF4 0xF4 b) (some (3, 0x80, 0x8F)) none)))))))
 
 abbrev pub afterByte : ℕ → Lead → Option Lead
-afterByte b l = cond (eqb (l .0) 0) (lead b) (cond (within (l .1) (l .2) b) (some (l .0 - 1, 0x80, 0xBF)) none)
+afterByte b l = cond (eqb (l .0) 0) (lead b) (cond (inRange (l .1) (l .2) b) (some (l .0 - 1, 0x80, 0xBF)) none)
 
 abbrev pub follows : ℕ → Option Lead → Option Lead
 follows b none = none
@@ -230,4 +231,4 @@ isUtf8 bs = goesOn (some (0, 0, 0)) bs
 -- how many characters UTF-8 text has: its bytes other than 80 to BF
 unfoldable pub characters : Bytes → ℕ
 characters [] = 0
-characters (b ∷ bs) = cond (within 0x80 0xBF b) 0 1 + characters bs
+characters (b ∷ bs) = cond (inRange 0x80 0xBF b) 0 1 + characters bs

@@ -55,7 +55,7 @@ pub data Arith : Type 0 where
 
 -- operators on integers alone
 pub data IntOp : Type 0 where
-  mod' and or xor lshift rshift eq neq lt gt leq geq : IntOp
+  rem and or xor lshift rshift eq neq lt gt leq geq : IntOp
 
 pub data BinOp : Type 0 where
   arith : Arith → BinOp
@@ -68,7 +68,7 @@ unaryOps = neg ∷ not ∷ bitNot ∷ ref ∷ []
 
 abbrev pub binOps : List BinOp
 binOps =
-    arith add ∷ arith sub ∷ arith mul ∷ arith div ∷ intOp mod' ∷ power ∷ intOp and ∷ intOp or ∷ intOp xor ∷ intOp lshift ∷ intOp rshift
+    arith add ∷ arith sub ∷ arith mul ∷ arith div ∷ intOp rem ∷ power ∷ intOp and ∷ intOp or ∷ intOp xor ∷ intOp lshift ∷ intOp rshift
     ∷ intOp eq ∷ intOp neq ∷ intOp lt ∷ intOp gt ∷ intOp leq ∷ intOp geq ∷ logAnd ∷ logOr ∷ []
 
 mutual
@@ -177,7 +177,7 @@ pub record Declares : Type 0 where
   pub closes : Bool
   pub implements : List Bytes
 
--- ---- what a line makes: one of these, and for the others what no line says
+-- ---- what a line makes: one of these; the others hold a filler, which nothing reads where refusal 4 finds no fault
 
 pub record Node : Type 0 where
   pub ty : Ty

@@ -8,8 +8,8 @@ use Rattle.semantics.specs.Text.{Bytes, any}
 use Rattle.semantics.specs.Tree.{ElemKind, TypeKey, Shape}
 use Rattle.semantics.specs.Tree.ElemKind.{kByte, kWord, kBig, kReal, kPtr}
 use Rattle.semantics.specs.Tree.TypeKey.{adtKey, elemKey, blockKey, opaqueKey}
-use Rattle.semantics.specs.Sheet.{Source, each}
-use Rattle.semantics.specs.Layout.{Recorded, plainRecord, recordLog, lastOf}
+use Rattle.semantics.specs.Sheet.{Source, concatMap}
+use Rattle.semantics.specs.Layout.{Recorded, plainRecord, recordedAdts, recordLog, lastOf}
 use Rattle.semantics.specs.Fold.{eqZ}
 use Rattle.semantics.specs.Array.{kindNumber}
 use Rattle.semantics.specs.Global.{Item}
@@ -48,7 +48,7 @@ distinct before (k ∷ ks) = cond (any (sameTypeKey k) before) (distinct before 
 
 -- the keys that get descriptors behind the frames: needs, then array elements
 unfoldable pub keys : Source → List Item → List TypeKey
-keys s is = distinct [] (s .needs ++ each arrayKey is)
+keys s is = distinct [] (s .needs ++ concatMap arrayKey is)
 
 abbrev pub position : TypeKey → List TypeKey → ℕ
 position k [] = 0
@@ -61,7 +61,7 @@ idOf s is k = 2 + length (s .frames) + position k (keys s is)
 -- ---- descriptors
 
 -- an opaque record: 12 words, all pointers
-abbrev pub opaqueShape : Shape
+unfoldable pub opaqueShape : Shape
 opaqueShape = record { size = 48; pointers = map pos (0 ∷ 4 ∷ 8 ∷ 12 ∷ 16 ∷ 20 ∷ 24 ∷ 28 ∷ 32 ∷ 36 ∷ 40 ∷ 44 ∷ []) }
 
 abbrev pub elemShape : ElemKind → Shape
@@ -82,4 +82,4 @@ keyShape rs (blockKey s) = s
 keyShape rs opaqueKey = opaqueShape
 
 unfoldable pub descriptors : Source → List Item → List Shape
-descriptors s is = opaqueShape ∷ (opaqueShape ∷ (s .frames ++ map (keyShape (recordLog (s .adts))) (keys s is)))
+descriptors s is = opaqueShape ∷ (opaqueShape ∷ (s .frames ++ map (keyShape (recordLog (recordedAdts s))) (keys s is)))
