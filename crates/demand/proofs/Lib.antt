@@ -1,4 +1,3 @@
-pub mod Laws
 pub mod Bytes
 pub mod Records
 pub mod Elements

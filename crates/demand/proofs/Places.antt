@@ -10,7 +10,7 @@ use Rattle.semantics.specs.Global.{Item, Declared, Global, Globals, placeOf, de
 use Rattle.semantics.specs.Refusal.{sourceGlobals}
 use Rattle.semantics.specs.Demand.{namesDistinct, sourceDeclared, laidFrom, laidOf, globalOf}
 use borrow.Author.Tests.{not-true}
-use Rattle.demand.proofs.Laws.{and-left, and-right, or-left, or-right}
+use Rattle.laws.proofs.Tests.{and-left, and-right, or-left, or-right}
 
 -- ---- places, items and end by the globals
 

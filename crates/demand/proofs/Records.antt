@@ -1,45 +1,24 @@
 -- The records' part of demand 3: fields lie apart, in order, inside the record, and its map marks exactly the words at which pointers start.
-use Prim.Native.Nat.{ℕ, zero, suc, _+_, _-_, _*_, _/_, _%_, _^_, _≤_, _<_, max}
-use native.Mathlib.Nat.{le-refl, le-trans, pow-succ', div-div-eq-div-mul}
+use Prim.Native.Nat.{ℕ, _+_, _*_, _/_, _%_, _≤_, max}
+use native.Mathlib.Nat.{le-refl, le-trans}
 use native.Mathlib.Omega.{arith}
-use mathlib.Core.Path.{_≡_, refl, sym, ap, _∙_}
+use mathlib.Core.Path.{_≡_, refl, sym}
 use mathlib.Core.Bool.{Bool, true, false, _&&_, _||_, cond}
 use mathlib.Core.List.{List, [], _∷_, _++_, map, map-append}
 use mathlib.Core.Option.{Option, none, some}
-use lib.ListN.{getD}
-use lib.IntN.{ℤ, pos, negsuc}
-use lib.Dec.{leb, eqb}
-use borrow.Author.Tests.{leb-true, eqb-true, le-leb, eq-eqb, ne-eqb}
+use lib.IntN.{pos}
+use lib.Dec.{eqb}
+use borrow.Author.Tests.{eqb-true, le-leb, eq-eqb}
 use Rattle.semantics.specs.Text.{Bytes, same, any}
-use Rattle.semantics.specs.Tree.{Ty, Tys, Fd, Case, AdtDecl}
-use Rattle.semantics.specs.Tree.Basic.{int, byte, big, real, string}
+use Rattle.semantics.specs.Tree.{Ty, Fd, Case, AdtDecl}
 use Rattle.semantics.specs.Tree.Ty.{basic, ptr, array, tuple}
-use Rattle.semantics.specs.Tree.Tys.{noTys, andTy}
-use Rattle.semantics.specs.Layout.{alignUp, roundedSize, alignOf, alignOfAll, sizeOf, isPtr, marks, marked, mapBits, mapBytes, wordsOf, pointerMap, Placed, placeNames, placeLine, place, furthest, pointersOf, shapeOf, Recorded, withoutPick, withPick, recordsFor, recordsOf, recordLog, lastOf, seen, recordsByKey, records}
-use Rattle.semantics.specs.Demand.{filledBy, filling, typedNames, typedFields, typedOf, InOrder, pointerAt, bitAt, Apart, AllApart}
-use Rattle.demand.proofs.Laws.{and-unless, or-left, or-right, tests-agree, same-refl, same-eq}
+use Rattle.semantics.specs.Layout.{alignUp, roundedSize, alignOf, sizeOf, isPtr, marks, marked, Placed, placeNames, placeLine, place, furthest, pointersOf, shapeOf, Recorded, withoutPick, withPick, recordsFor, recordsOf, recordLog, lastOf, seen, recordsByKey, records}
+use Rattle.semantics.specs.Demand.{filledBy, filling, typedNames, typedFields, typedOf, InOrder, pointerAt, Apart, AllApart}
+use Rattle.laws.proofs.Tests.{or-left, or-right, tests-agree, same-refl, same-eq}
+use Rattle.laws.proofs.Alignments.{four-or-eight, aligned}
+use Rattle.laws.proofs.Maps.{map-bits}
 
--- ---- alignments are 4 or 8, and sizes are words
-
--- what holds of 4 and of 8 holds of each alignment
-mutual
-  pub four-or-eight : (P : ℕ → Type 0) → P 4 → P 8 → (t : Ty) → P (alignOf t)
-  four-or-eight P four eight (basic int) = four
-  four-or-eight P four eight (basic byte) = four
-  four-or-eight P four eight (basic big) = eight
-  four-or-eight P four eight (basic real) = eight
-  four-or-eight P four eight (basic string) = four
-  four-or-eight P four eight ptr = four
-  four-or-eight P four eight (array t) = four
-  four-or-eight P four eight (tuple ts) = all-four-or-eight P four eight ts
-
-  all-four-or-eight : (P : ℕ → Type 0) → P 4 → P 8 → (ts : Tys) → P (alignOfAll ts)
-  all-four-or-eight P four eight noTys = four
-  all-four-or-eight P four eight (andTy t ts) =
-      four-or-eight (λ a. P (max a (alignOfAll ts))) (all-four-or-eight (λ a. P (max 4 a)) four eight ts) (all-four-or-eight (λ a. P (max 8 a)) eight eight ts) t
-
-aligned : (t : Ty) (off : ℕ) → (off ≤ alignUp (alignOf t) off) × (alignUp (alignOf t) off % 4 ≡ 0)
-aligned t off = four-or-eight (λ a. (off ≤ alignUp a off) × (alignUp a off % 4 ≡ 0)) (omega arith) (omega arith) t
+-- ---- sizes are words
 
 sized : (t : Ty) → (4 ≤ sizeOf t) × (sizeOf t % 4 ≡ 0)
 sized (basic b) = four-or-eight (λ n. (4 ≤ n) × (n % 4 ≡ 0)) (omega arith) (omega arith) (basic b)
@@ -101,62 +80,6 @@ fields-theirs : (fs : List Fd) (off : ℕ) → map typedOf (place off fs .placed
 fields-theirs [] off = refl
 fields-theirs (f ∷ fs) off =
     rw (map-append, line-theirs (f .ty) off (f .names), fields-theirs fs (placeLine (f .ty) (f .names) off .end))
-
--- ---- no word is marked past the size
-
-mark-past : (size w : ℕ) (z : ℤ) → size < w * 4 + 4 → marks size w z ≡ false
-mark-past size w (negsuc n) h = refl
-mark-past size w (pos off) h = and-unless (leb (off + 4) size) (eqb (off / 4) w) (λ e. ne-eqb (off / 4) w (omega (arith, leb-true)))
-
-marked-past : (size w : ℕ) (zs : List ℤ) → size < w * 4 + 4 → marked size zs w ≡ false
-marked-past size w [] h = refl
-marked-past size w (z ∷ zs) h = rw (mark-past size w z h) (marked-past size w zs h)
-
--- ---- bit w of a map tells whether word w is marked
-
-bit-le : (b : Bool) → cond b 1 0 ≤ 1
-bit-le true = omega arith
-bit-le false = omega arith
-
-double : (b : Bool) (d : ℕ) → cond b (2 ^ suc d) 0 ≡ 2 * cond b (2 ^ d) 0
-double true d = pow-succ' 2 d
-double false d = refl
-
-module _ (size : ℕ) (zs : List ℤ) where
-  abbrev bits : ℕ → ℕ → ℕ
-  bits d w = mapBits size zs d w
-
-  abbrev bit : ℕ → ℕ
-  bit w = cond (marked size zs w) 1 0
-
-  bits-past : (d w : ℕ) → size < w * 4 + 4 → bits d w ≡ 0
-  bits-past zero w h = refl
-  bits-past (suc d) w h = rw (marked-past size w zs h, bits-past d (suc w) (omega arith))
-
-  -- byte j has the 8 words from 8 * j on: behind the last byte none is marked
-  bytes-at : (n w j : ℕ) → size < (w + 8 * n) * 4 + 4 → getD (mapBytes size zs n w) j 0 ≡ bits 8 (w + 8 * j)
-  bytes-at zero w j h = sym (bits-past 8 (w + 8 * j) (omega arith))
-  bytes-at (suc n) w zero h = let e : w ≡ w + 8 * 0 = omega arith in ap (bits 8) e
-  bytes-at (suc n) w (suc j) h = let e : w + 8 + 8 * j ≡ w + 8 * suc j = omega arith in bytes-at n (w + 8) j (omega arith) ∙ ap (bits 8) e
-
-  -- the last word is the lowest bit
-  last-bit : (d w v : ℕ) → v ≡ w + d → bits (suc d) w ≡ 2 * bits d w + bit v
-  last-bit zero w v e = let f : v ≡ w = omega arith in omega (arith, ap bit f)
-  last-bit (suc d) w v e = omega (arith, last-bit d (suc w) v (omega arith), double (marked size zs w) d)
-
-  half : (d w : ℕ) → bits (suc d) w / 2 ≡ bits d w
-  half d w = omega (arith, last-bit d w (w + d) refl, bit-le (marked size zs (w + d)))
-
-  -- and bit k is the word k words before the last
-  nth-bit : (n k w v : ℕ) → v + k ≡ w + n → k ≤ n → bits (suc n) w / 2 ^ k % 2 ≡ bit v
-  nth-bit n zero w v e h = omega (arith, last-bit n w v (omega arith), bit-le (marked size zs v))
-  nth-bit zero (suc k) w v e h = absurd (omega arith)
-  nth-bit (suc n) (suc k) w v e h =
-      rw (pow-succ' 2 k, ← div-div-eq-div-mul (bits (suc (suc n)) w) 2 (2 ^ k), half (suc n) w) (nth-bit n k w v (omega arith) (omega arith))
-
-  map-bits : (w : ℕ) → bitAt (pointerMap size zs) w ≡ bit w
-  unfolding pointerMap
-  map-bits w = rw (bytes-at ((wordsOf size + 7) / 8) 0 (w / 8) (omega arith)) (nth-bit 7 (7 - w % 8) (0 + 8 * (w / 8)) w (omega arith) (omega arith))
 
 -- ---- the words marked are those at which pointers start
 

@@ -86,7 +86,7 @@ abbrev pub marked : ℕ → List ℤ → ℕ → Bool
 marked size offs w = any (marks size w) offs
 
 -- the d words from w on, bit d - 1 first
-abbrev pub mapBits : ℕ → List ℤ → ℕ → ℕ → ℕ
+unfoldable pub mapBits : ℕ → List ℤ → ℕ → ℕ → ℕ
 mapBits size offs zero w = 0
 mapBits size offs (suc d) w = cond (marked size offs w) (2 ^ d) 0 + mapBits size offs d (suc w)
 

@@ -1,0 +1,3 @@
+pub mod Tests
+pub mod Maps
+pub mod Alignments

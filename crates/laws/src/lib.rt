@@ -1,0 +1,1 @@
+// Laws about the definitions of semantics that several crates cite, in proofs/.

@@ -1,0 +1,4 @@
+pub mod Rounding
+pub mod Marks
+pub mod Pass
+pub mod Bounds

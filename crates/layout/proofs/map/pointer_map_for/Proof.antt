@@ -1,0 +1,87 @@
+-- `map::pointer_map_for` meets its contract. The invariant is what the pass holds after n finished bytes, with a bound on the count, so that it
+-- fits. The measure is the number of bytes still to come. Assumes nothing.
+use Prim.Native.Nat.{_*_, _-_, _≤_, _<_}
+use native.Mathlib.Omega.{arith}
+use lib.ListN.{length}
+use Rattle.semantics.specs.Layout.{pointerMap}
+use Rattle.layout.specs.Pass.{Pass}
+use Rattle.layout.proofs.Pass.{start, step, done, pass-length}
+use Rattle.layout.proofs.map.pointer_map_for.Statement.{statement}
+use Rattle.layout.proofs.map.pointer_map_for.Tie as tie
+
+abbrev Inv-loop : tie.InvT-loop
+Inv-loop size offsets map₀ end count₀ n₀ map count n = (count ≤ 8 * n) × Pass size offsets map₀ n map count
+
+abbrev μ-loop : tie.MeasureT-loop
+μ-loop size offsets map₀ end count₀ n₀ map count n = end - n
+
+map-bytes-requires : tie.Need-map-bytes-requires Inv-loop μ-loop
+map-bytes-requires c κs = tt
+
+loop-holds : tie.Need-loop-holds Inv-loop μ-loop
+loop-holds c = (omega arith, start _ _ _)
+
+mul-map-byte : tie.Need-mul-map-byte Inv-loop μ-loop
+mul-map-byte c = omega arith
+
+cast-map-byte : tie.Need-cast-map-byte Inv-loop μ-loop
+cast-map-byte c = omega arith
+
+map-byte-requires : tie.Need-map-byte-requires Inv-loop μ-loop
+map-byte-requires c κs = tt
+
+ones-of-requires : tie.Need-ones-of-requires Inv-loop μ-loop
+ones-of-requires c κs = tt
+
+add-count : tie.Need-add-count Inv-loop μ-loop
+add-count c = omega arith
+
+put-requires : tie.Need-put-requires Inv-loop μ-loop
+put-requires c κs = tt
+
+add-n : tie.Need-add-n Inv-loop μ-loop
+add-n c = omega arith
+
+loop-less : tie.Need-loop-less Inv-loop μ-loop
+loop-less c = omega arith
+
+loop-again : tie.Need-loop-again Inv-loop μ-loop
+loop-again c =
+    let counted = c .before .before .before .before in
+    let head = counted .before .before .before in
+    let size = head .before .before .before .args .size in
+    let offs = head .before .before .before .args .offsets .now in
+    let inside : head .loop .n < length (pointerMap size offs) = omega (arith, head .before .map-bytes .ensures .0 offs) in
+    let more = step size offs _ _ _ _ _ _ inside (counted .before .map-byte .ensures) (counted .ones-of .ensures .0) (head .loop .inv .1) in
+    (omega arith, rw (c .before .before .put .ensures) more)
+
+same-length : tie.Need-same-length Inv-loop μ-loop
+same-length c = pass-length _ _ _ _ _ _ (c .before .loop .inv .1)
+
+returns : tie.Need-returns Inv-loop μ-loop
+returns c =
+    let head = c .before in
+    let size = head .before .before .before .args .size in
+    let offs = head .before .before .before .args .offsets .now in
+    let last : length (pointerMap size offs) ≤ head .loop .n = omega (arith, head .before .map-bytes .ensures .0 offs) in
+    done size offs _ _ _ _ last (head .loop .inv .1)
+
+pub pointer-map-for-spec : {M : Type 1} → statement M
+pointer-map-for-spec =
+    tie.close
+    (tie.spec
+    Inv-loop
+    μ-loop
+    map-bytes-requires
+    loop-holds
+    mul-map-byte
+    cast-map-byte
+    map-byte-requires
+    ones-of-requires
+    add-count
+    put-requires
+    add-n
+    loop-less
+    loop-again
+    same-length
+    returns)
