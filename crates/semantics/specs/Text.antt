@@ -101,9 +101,9 @@ hasLine s (suc n) = ltb n (length (lineParts s))
 abbrev pub hasField : Bytes → ℕ → ℕ → Bool
 hasField s n i = hasLine s n && ltb i (length (fieldsOf (lineOf s n)))
 
--- the field's bytes
+-- the field's bytes: none where it isn't there
 unfoldable pub fieldOf : Bytes → ℕ → ℕ → Bytes
-fieldOf s n i = getD (fieldsOf (lineOf s n)) i []
+fieldOf s n i = cond (hasField s n i) (getD (fieldsOf (lineOf s n)) i []) []
 
 -- where it stands in the sheet: at the sheet's end where it isn't there
 unfoldable pub fieldStart : Bytes → ℕ → ℕ → ℕ

@@ -1,0 +1,14 @@
+-- The bytes of a name.
+use Prim.Native.Nat.{ℕ}
+use mathlib.Core.Bool.{Bool, _||_}
+use Rattle.semantics.specs.Text.{Bytes, all, isLetter, isDigit}
+
+unfoldable pub letter : ℕ → Bool
+letter b = isLetter b
+
+-- a letter or a digit
+unfoldable pub mark : ℕ → Bool
+mark b = isLetter b || isDigit b
+
+unfoldable pub marks : Bytes → Bool
+marks s = all (λ (x : ℕ). isLetter x || isDigit x) s

@@ -1,0 +1,48 @@
+-- Laws of hexadecimal digits, and of a number's bytes.
+use Prim.Native.Nat.{ℕ, zero, suc, _+_, _-_, _*_, _/_, _%_, _^_, _<_}
+use mathlib.Core.Path.{_≡_, refl, sym, ap, _∙_}
+use mathlib.Core.List.{[], _∷_, _++_}
+use native.Mathlib.Nat.{pow-suc}
+use native.Mathlib.Numerals.{add-one}
+use native.Mathlib.Omega.{arith}
+use lib.ListN.{length, take, getD}
+use lib.Seq.{take-suc}
+use lib.Pow.{pow-add}
+use lib.Bits.{bitAnd, and-mask}
+use Rattle.semantics.specs.Text.{Bytes, hexOf, bigEndian}
+use Rattle.write.specs.Wrote.{Wrote}
+use Rattle.write.proofs.Wrote.{then}
+
+hex-append : (s t : Bytes) → hexOf (s ++ t) ≡ hexOf s ++ hexOf t
+unfolding hexOf
+hex-append [] t = refl
+hex-append (b ∷ s) t = rw (hex-append s t)
+
+-- one more byte of a list
+pub hex-next : (s : Bytes) (k : ℕ) → k < length s → {d : Bytes} {a : ℕ} {e : Bytes} {b : ℕ} {f : Bytes} {c : ℕ}
+    → Wrote d a (hexOf (take k s)) e b → Wrote e b (hexOf (getD s k 0 ∷ [])) f c → Wrote d a (hexOf (take (k + 1) s)) f c
+hex-next s k h v w = rw (add-one, take-suc s k 0 h, hex-append) (then v w)
+
+-- ---- a number's bytes, the highest first
+
+pub big-length : (k n : ℕ) → length (bigEndian k n) ≡ k
+unfolding bigEndian
+big-length zero n = refl
+big-length (suc k) n = ap suc (big-length k n)
+
+big-at : (j k n : ℕ) → k < j → getD (bigEndian j n) k 0 ≡ n / 256 ^ (j - suc k) % 256
+unfolding bigEndian
+big-at zero k n h = absurd (omega arith)
+big-at (suc j) zero n h = let q : suc j - 1 ≡ j = omega arith in rw q
+big-at (suc j) (suc k) n h = let q : suc j - suc (suc k) ≡ j - suc k = omega arith in rw q (big-at j k n (omega arith))
+
+pub power : (k : ℕ) → 256 ^ k ≡ 2 ^ (8 * k)
+power zero = refl
+power (suc k) =
+    let q : 8 * suc k ≡ 8 * k + 8 = omega arith in
+    pow-suc 256 k ∙ rw (power k, q, pow-add 2 (8 * k) 8)
+
+pub byte-at : (n k : ℕ) → k < 8 → bitAnd (n / 2 ^ (56 - 8 * k)) 255 ≡ getD (bigEndian 8 n) k 0
+byte-at n k h =
+    let q : 56 - 8 * k ≡ 8 * (8 - suc k) = omega arith in
+    and-mask (n / 2 ^ (56 - 8 * k)) 8 ∙ sym (big-at 8 k n h ∙ rw (power (8 - suc k), q))

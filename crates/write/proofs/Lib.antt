@@ -1,0 +1,6 @@
+pub mod Wrote
+pub mod Decimal
+pub mod Hex
+pub mod Signed
+pub mod Back
+pub mod Uncut

@@ -1,0 +1,9 @@
+-- Text that no separator cuts.
+use Prim.Native.Nat.{ℕ}
+use mathlib.Core.Bool.{Bool}
+use lib.Dec.{ltb}
+use Rattle.semantics.specs.Text.{Bytes, all}
+
+-- every byte lies above the comma, which lies above LF
+unfoldable pub isPlain : Bytes → Bool
+isPlain t = all (λ (b : ℕ). ltb 44 b) t
