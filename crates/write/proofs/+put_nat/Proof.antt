@@ -1,5 +1,5 @@
 -- `write::put_nat` meets its contract. Called with n / 10, which is smaller.
-use Prim.Native.Nat.{ℕ}
+use Prim.Native.Nat.{ℕ, _<_}
 use mathlib.Core.Path.{sym}
 use native.Mathlib.Omega.{arith}
 use borrow.Author.Needs.{needs}
