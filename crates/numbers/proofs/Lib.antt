@@ -1,0 +1,5 @@
+pub mod Widths
+pub mod Wrapping
+pub mod Leading
+pub mod Whole
+pub mod Patterns

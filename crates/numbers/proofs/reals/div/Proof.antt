@@ -1,0 +1,12 @@
+-- `reals::div` meets its contract: the machine's operator is the rule's.
+use mathlib.Core.Path.{refl}
+use lib.Ieee.{add, sub, mul, div}
+use Rattle.numbers.proofs.reals.div.Statement.{statement}
+use Rattle.numbers.proofs.reals.div.Tie as tie
+
+returns : tie.Need-returns
+unfolding add sub mul div
+returns c = refl
+
+pub div-spec : {M : Type 1} → statement M
+div-spec = tie.close (tie.spec returns)

@@ -1,0 +1,3 @@
+pub mod conversions;
+pub mod ints;
+pub mod reals;
