@@ -36,7 +36,7 @@ module _ (s : Bytes) (c i : ℕ) where
   until-end h = rw (drop-of-length-le s h)
 
 -- the bytes before the first c are as many as its place says
-until-take : (c : ℕ) (s : Bytes) → take (length (until c s)) s ≡ until c s
+pub until-take : (c : ℕ) (s : Bytes) → take (length (until c s)) s ≡ until c s
 unfolding until
 until-take c [] = refl
 until-take c (b ∷ bs) = go (eqb b c) refl (until-take c bs)
@@ -56,7 +56,7 @@ until-le c (b ∷ bs) = go (eqb b c) refl (until-le c bs)
 
 -- ---- all parts: the first, and those behind the first c; or the text alone where it has no c
 
-parts-step : (c : ℕ) (s : Bytes) → length (until c s) < length s → partsAt c s ≡ until c s ∷ partsAt c (drop (suc (length (until c s))) s)
+pub parts-step : (c : ℕ) (s : Bytes) → length (until c s) < length s → partsAt c s ≡ until c s ∷ partsAt c (drop (suc (length (until c s))) s)
 unfolding until
 parts-step c [] h = absurd (omega arith)
 parts-step c (b ∷ bs) h = go (eqb b c) refl (λ k. parts-step c bs k)
@@ -69,7 +69,7 @@ parts-step c (b ∷ bs) h = go (eqb b c) refl (λ k. parts-step c bs k)
         let k : length (until c bs) < length bs = omega (arith, simp q at h) in
         simp q (rw (ih k))
 
-parts-one : (c : ℕ) (s : Bytes) → length s ≤ length (until c s) → partsAt c s ≡ s ∷ []
+pub parts-one : (c : ℕ) (s : Bytes) → length s ≤ length (until c s) → partsAt c s ≡ s ∷ []
 unfolding until
 parts-one c [] h = refl
 parts-one c (b ∷ bs) h = go (eqb b c) refl (λ k. parts-one c bs k)

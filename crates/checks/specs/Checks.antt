@@ -1,0 +1,53 @@
+-- Refusals 1 to 7 together, and what holds of a sheet that passes them.
+use Prim.Native.Nat.{ℕ, _≤_, _<_}
+use mathlib.Core.Path.{_≡_}
+use mathlib.Core.Bool.{true, false}
+use mathlib.Core.List.{[]}
+use lib.ListN.{length}
+use lib.Dec.{ltb}
+use Rattle.semantics.specs.Text.{Bytes, lineParts}
+use Rattle.semantics.specs.Refusal.{Outcome, refused, refuseIf, refuseAt, longestSheet, leastWork, zeros, noCounts, refsOf, badRefFrom, tooDeepFrom, badModuleFrom, tooManyFrom, checked}
+use Rattle.lines.specs.Lines.{readsIn, readAt, nodesIn, Whole}
+use Rattle.refs.specs.Refs.{fineRefs, usesIn}
+use Rattle.nesting.specs.Nesting.{depthOf, lowerRefs}
+use Rattle.counts.specs.Counts.{Bounded}
+use Rattle.checks.specs.declared.Checks.{Checks}
+use Rattle.checks.specs.declared.Checks.the-variants.{Lines, Refused}
+
+-- what an answer makes of the outcome of a sheet that passes: 01's number and line where it is refused
+abbrev pub settled : Checks → Outcome → Outcome
+settled (Lines n) o = o
+settled (Refused r k) o = refused r k
+
+-- refusals 4 to 7
+abbrev pub ruled : Bytes → Outcome → Outcome
+ruled s o =
+    refuseAt 4 (badRefFrom (readsIn s) 1 [] (readsIn s))
+    (refuseAt 5 (tooDeepFrom 1 [] (readsIn s))
+    (refuseAt 6 (badModuleFrom 1 false (readsIn s))
+    (refuseAt 7 (tooManyFrom 1 noCounts (nodesIn s)) o)))
+
+-- and 1 and 2 before them, where the working space has so many bytes
+abbrev pub tested : ℕ → Bytes → Outcome → Outcome
+tested work s o = refuseIf 1 (ltb longestSheet (length s)) (refuseIf 2 (ltb work leastWork) (checked (lineParts s) o))
+
+-- what holds of a sheet of n lines that passes, with its tables
+pub record Checked (s t : Bytes) (n : ℕ) : Type 0 where
+  pub whole : Whole s t n
+  pub good : badRefFrom (readsIn s) 1 [] (readsIn s) ≡ 0
+  pub fine : (i : ℕ) → i < n → fineRefs (readsIn s) i (refsOf (readAt s i)) ≡ true
+  pub once : (r : ℕ) → 0 < r → usesIn r (readsIn s) ≤ 1
+  pub low : (i : ℕ) → i < n → depthOf (readsIn s) i ≤ 32
+  pub falls : (i : ℕ) → i < n → lowerRefs (readsIn s) i (refsOf (readAt s i)) ≡ true
+  pub modules : badModuleFrom 1 false (readsIn s) ≡ 0
+  pub bounds : Bounded (nodesIn s)
+
+-- the tables of a sheet that passes, and zeros where it is refused
+abbrev pub Tables : Bytes → Bytes → Checks → Type 0
+Tables s t (Lines n) = Checked s t n
+Tables s t (Refused r k) = t ≡ zeros (length t)
+
+-- before zeros are made
+abbrev pub Passes : Bytes → Bytes → Checks → Type 0
+Passes s t (Lines n) = Checked s t n
+Passes s t (Refused r k) = Unit {0}

@@ -1,0 +1,154 @@
+// Refusal 7: counts.
+ghost use mathlib.Core.Path.{_≡_};
+ghost use mathlib.Core.Bool.{false, cond};
+ghost use mathlib.Core.List.{[]};
+ghost use Prim.Native.Nat.{_-_, _≤_, _<_};
+ghost use lib.Dec.{eqb};
+ghost use Rattle.semantics.specs.Form.{letter};
+ghost use Rattle.semantics.specs.Refusal.{over, noCounts, refsOf, badRefFrom, tooManyFrom};
+ghost use Rattle.lines.specs.Lines.{readsIn, readAt, nodesIn, Whole};
+ghost use Rattle.counts.specs.Counts.{countsOf, fieldNumber, oneOf, tagsIn, recordsOf, varNames, added};
+
+const ADT: u8 = b'A';
+
+const PICK: u8 = b'B';
+
+const CASE: u8 = b'C';
+
+const CON: u8 = b'D';
+
+const FRAME: u8 = b'G';
+
+const VAR: u8 = b'H';
+
+const NEED: u8 = b'N';
+
+// `con`, `need` and `frame` lines, records plus tags, and `var` names.
+pub struct Tally {
+    pub consts: usize,
+    pub needs: usize,
+    pub frames: usize,
+    pub records: usize,
+    pub names: usize,
+}
+
+fn one(k: u8, kind: u8) -> usize
+    ensures { λ r. ⌜ (r ≡ oneOf k kind) × (r ≤ 1) ⌝ }
+{
+    if k == kind {
+        return 1;
+    }
+    0
+}
+
+// The tags of the case to which a field with letter x and number v refers; 0 where it refers to none.
+fn case_tags(sheet: &[u8], work: &[u8], n: usize, x: u8, v: usize) -> usize
+    requires { ⌜ (Whole (now sheet) (now work) n) × (x ≡ 67 → (0 < v) × (v ≤ n) × (letter (readAt (now sheet) (v - 1) .form .kind) ≡ 67)) ⌝ }
+    ensures { λ r. ⌜ (r ≡ cond (eqb x 67) (fieldNumber (readAt (now (sheet .entry)) (v - 1)) 0) 0) × (r ≤ 65537) ⌝ }
+{
+    if x == CASE {
+        return lines::number_at(sheet, work, n, v - 1, 0);
+    }
+    0
+}
+
+// The tags of the cases of line i, from 0.
+fn tags(sheet: &[u8], work: &[u8], n: usize, i: usize) -> usize
+    requires { ⌜ (Whole (now sheet) (now work) n) × (badRefFrom (readsIn (now sheet)) 1 [] (readsIn (now sheet)) ≡ 0) × (i < n) ⌝ }
+    ensures { λ r. ⌜ (r ≡ tagsIn (readsIn (now (sheet .entry))) (refsOf (readAt (now (sheet .entry)) i))) × (r ≤ 16777472) ⌝ }
+{
+    let l = lines::line_at(sheet, work, n, i);
+    let f = lines::form_at(work, i);
+    let mut w = form::begin(f);
+    let mut d = 0;
+    while w.at <= l.len() {
+        let s = form::next(l, f, w);
+        d += case_tags(sheet, work, n, s.letter, s.number);
+        let u = s.next;
+        w = u;
+    }
+    d
+}
+
+// The records that line i, of kind k, declares.
+fn records(sheet: &[u8], work: &[u8], n: usize, i: usize, k: u8) -> usize
+    requires { ⌜ (Whole (now sheet) (now work) n) × (badRefFrom (readsIn (now sheet)) 1 [] (readsIn (now sheet)) ≡ 0) × (i < n) × (k ≡ letter (readAt (now sheet) i .form .kind)) ⌝ }
+    ensures { λ r. ⌜ (r ≡ recordsOf (readsIn (now (sheet .entry))) (readAt (now (sheet .entry)) i)) × (r ≤ 16777473) ⌝ }
+{
+    if k == ADT {
+        return 1;
+    }
+    if k == PICK {
+        return 1 + tags(sheet, work, n, i);
+    }
+    0
+}
+
+// The `var` names that it declares.
+fn names(sheet: &[u8], work: &[u8], n: usize, i: usize, k: u8) -> usize
+    requires { ⌜ (Whole (now sheet) (now work) n) × (i < n) × (k ≡ letter (readAt (now sheet) i .form .kind)) ⌝ }
+    ensures { λ r. ⌜ (r ≡ varNames (readAt (now (sheet .entry)) i)) × (r ≤ 65537) ⌝ }
+{
+    if k == VAR {
+        return lines::number_at(sheet, work, n, i, 2);
+    }
+    0
+}
+
+// The counts with those of line i.
+fn count(sheet: &[u8], work: &[u8], n: usize, i: usize, t: Tally) -> Tally
+    requires { ⌜ (Whole (now sheet) (now work) n) × (badRefFrom (readsIn (now sheet)) 1 [] (readsIn (now sheet)) ≡ 0) × (i < n) × (over (countsOf t) ≡ false) ⌝ }
+    ensures { λ r. ⌜ countsOf r ≡ added (readsIn (now (sheet .entry))) (readAt (now (sheet .entry)) i) (countsOf t) ⌝ }
+{
+    let k = form::kind(lines::form_at(work, i));
+    let r = records(sheet, work, n, i, k);
+    let v = names(sheet, work, n, i, k);
+    Tally {
+        consts: t.consts + one(k, CON),
+        needs: t.needs + one(k, NEED),
+        frames: t.frames + one(k, FRAME),
+        records: t.records + r,
+        names: t.names + v,
+    }
+}
+
+fn is_over(t: Tally) -> bool
+    ensures { λ r. ⌜ r ≡ over (countsOf t) ⌝ }
+{
+    if 128 < t.consts {
+        return true;
+    }
+    if 128 < t.needs {
+        return true;
+    }
+    if 128 < t.frames {
+        return true;
+    }
+    if 128 < t.records {
+        return true;
+    }
+    256 < t.names
+}
+
+// The first line at which a count passes its bound, 0 where there is none.
+pub fn too_many(sheet: &[u8], work: &[u8], n: usize) -> usize
+    requires { ⌜ (Whole (now sheet) (now work) n) × (badRefFrom (readsIn (now sheet)) 1 [] (readsIn (now sheet)) ≡ 0) ⌝ }
+    ensures { λ r. ⌜ r ≡ tooManyFrom 1 noCounts (nodesIn (now (sheet .entry))) ⌝ }
+{
+    let mut t = Tally {
+        consts: 0,
+        needs: 0,
+        frames: 0,
+        records: 0,
+        names: 0,
+    };
+    let mut i = 0;
+    while i < n {
+        t = count(sheet, work, n, i, t);
+        if is_over(t) {
+            return i + 1;
+        }
+        i += 1;
+    }
+    0
+}

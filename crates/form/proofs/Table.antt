@@ -1,0 +1,178 @@
+-- The table's bytes are those of its Form.forms; facts of all Form.forms, by one test.
+use mathlib.Core.Path.{_≡_, refl, ap, _∙_}
+use mathlib.Core.Bool.{Bool, true, false, cond, not, _&&_}
+use mathlib.Core.List.{List, [], _∷_, _++_}
+use Prim.Native.Nat.{ℕ, zero, suc, _+_, _*_, _≤_, _<_}
+use native.Mathlib.Omega.{arith}
+use lib.Dec.{leb, ltb, eqb}
+use lib.ListN.{length, getD, length-append, List·getD-append}
+use lib.Seq.{getD-append-add}
+use borrow.Author.Tests.{eq-eqb, ltb-true, leb-true, eqb-true, eqb-false, not-true}
+use Rattle.semantics.specs.Text as Text
+use Rattle.semantics.specs.Form as Form
+use Rattle.semantics.specs.Form.Part.{one, many}
+use Rattle.form.specs.Table.{code, codes, fill, encode, table, rowAt, wordsAt, kindAt, codesAt}
+
+fill-length : (n : ℕ) (xs : List ℕ) → length (fill n xs) ≡ n
+fill-length zero xs = refl
+fill-length (suc n) [] = ap suc (fill-length n [])
+fill-length (suc n) (x ∷ xs) = ap suc (fill-length n xs)
+
+fill-at : (n : ℕ) (xs : List ℕ) (i : ℕ) → i < n → getD (fill n xs) i 0 ≡ getD xs i 32
+fill-at zero xs i h = absurd (omega arith)
+fill-at (suc n) [] zero h = refl
+fill-at (suc n) [] (suc i) h = fill-at n [] i (omega arith)
+fill-at (suc n) (x ∷ xs) zero h = refl
+fill-at (suc n) (x ∷ xs) (suc i) h = fill-at n xs i (omega arith)
+
+encode-length : (r : Form.Row) → length (encode r) ≡ 24
+encode-length r =
+    ap suc (length-append (fill 17 (r .words)) (Form.letter (r .kind) ∷ fill 5 (codes (r .parts)))
+    ∙ simp (fill-length))
+
+-- a byte of the table is a byte of its row
+table-at : (rs : List Form.Row) (f i : ℕ) → f < length rs → i < 24 → getD (table rs) (24 * f + i) 0 ≡ getD (encode (getD rs f Form.noRow)) i 0
+table-at [] f i h k = absurd (omega arith)
+table-at (r ∷ rs) zero i h k =
+    let e : 24 * 0 + i ≡ i = omega arith in
+    rw e (List·getD-append (encode r) (table rs) 0 i (omega (arith, encode-length r)))
+table-at (r ∷ rs) (suc f) i h k =
+    let e : 24 * suc f + i ≡ length (encode r) + (24 * f + i) = omega (arith, encode-length r) in
+    ap (λ (j : ℕ). getD (encode r ++ table rs) j 0) e ∙ getD-append-add (encode r) (table rs) (24 * f + i) 0 ∙ table-at rs f i (omega arith) k
+
+pub row-count : length Form.forms ≡ 42
+unfolding Form.forms
+row-count = refl
+
+module _ (f : ℕ) (h : f < 42) where
+  row-bytes : (i : ℕ) → i < 24 → getD (table Form.forms) (24 * f + i) 0 ≡ getD (encode (rowAt f)) i 0
+  row-bytes i k = table-at Form.forms f i (omega (arith, row-count)) k
+
+  pub word-cell : (i : ℕ) → i < 17 → getD (table Form.forms) (24 * f + 1 + i) 0 ≡ getD (wordsAt f) i 32
+  word-cell i k =
+      let e : 24 * f + 1 + i ≡ 24 * f + suc i = omega arith in
+      rw e (row-bytes (suc i) (omega arith)
+      ∙ List·getD-append (fill 17 (rowAt f .words)) _ 0 i (omega (arith, fill-length 17 (rowAt f .words))) ∙ fill-at 17 (rowAt f .words) i k)
+
+  behind-words : (n : ℕ) → getD (fill 17 (rowAt f .words) ++ (Form.letter (rowAt f .kind) ∷ fill 5 (codes (rowAt f .parts)))) (17 + n) 0 ≡ getD (Form.letter (rowAt f .kind) ∷ fill 5 (codes (rowAt f .parts))) n 0
+  behind-words n =
+      let e : 17 + n ≡ length (fill 17 (rowAt f .words)) + n = omega (arith, fill-length 17 (rowAt f .words)) in
+      ap (λ (j : ℕ). getD (fill 17 (rowAt f .words) ++ (Form.letter (rowAt f .kind) ∷ fill 5 (codes (rowAt f .parts)))) j 0) e
+      ∙ getD-append-add (fill 17 (rowAt f .words)) (Form.letter (rowAt f .kind) ∷ fill 5 (codes (rowAt f .parts))) n 0
+
+  pub kind-cell : getD (table Form.forms) (24 * f + 18) 0 ≡ kindAt f
+  kind-cell = row-bytes 18 (omega arith) ∙ behind-words 0
+
+  pub atom-cell : (j : ℕ) → j < 5 → getD (table Form.forms) (24 * f + 19 + j) 0 ≡ getD (codesAt f) j 32
+  atom-cell j k =
+      let e : 24 * f + 19 + j ≡ 24 * f + suc (17 + suc j) = omega arith in
+      rw e (row-bytes (suc (17 + suc j)) (omega arith) ∙ behind-words (suc j) ∙ fill-at 5 (codes (rowAt f .parts)) j k)
+
+-- ---- what holds of all Form.forms
+
+plain : ℕ → Bool
+plain b = not (eqb b 32) && ltb b 129
+
+unfoldable pub fine : Form.Part → Bool
+fine (one a) = true
+fine (many a) = leb 65 (code a)
+
+tidy : Form.Row → Bool
+tidy r = Text.all plain (r .words) && (leb (length (r .words)) 16 && (Text.all plain (codes (r .parts)) && (leb (length (codes (r .parts))) 4 && Text.all fine (r .parts))))
+
+all-tidy : Text.all tidy Form.forms ≡ true
+unfolding Form.forms tidy plain fine
+all-tidy = refl
+
+pub never : {A : Type 0} → false ≡ true → A
+never h = let z : _≡_ {A = ℕ} 0 1 = cc in absurd (omega arith)
+
+pub both : (a b : Bool) → a && b ≡ true → (a ≡ true) × (b ≡ true)
+both true b h = (refl, h)
+both false b h = never h
+
+all-at : {A : Type 0} (p : A → Bool) (d : A) (xs : List A) (i : ℕ) → Text.all p xs ≡ true → i < length xs → p (getD xs i d) ≡ true
+all-at p d [] i h k = absurd (omega arith)
+all-at p d (x ∷ xs) zero h k = both (p x) (Text.all p xs) h .0
+all-at p d (x ∷ xs) (suc i) h k = all-at p d xs i (both (p x) (Text.all p xs) h .1) (omega arith)
+
+plain-not : (b : ℕ) → plain b ≡ true → (b ≡ 32 → ⊥) × (b < 129)
+unfolding plain
+plain-not b h =
+    let w = both (not (eqb b 32)) (ltb b 129) h in
+    (eqb-false b 32 (not-true (eqb b 32) (w .0)), ltb-true b 129 (w .1))
+
+module _ (f : ℕ) (h : f < 42) where
+  row-tidy : tidy (rowAt f) ≡ true
+  row-tidy = all-at tidy Form.noRow Form.forms f all-tidy (omega (arith, row-count))
+
+  t0 : (Text.all plain (wordsAt f) ≡ true) × (leb (length (wordsAt f)) 16 && (Text.all plain (codesAt f) && (leb (length (codesAt f)) 4 && Text.all fine (rowAt f .parts))) ≡ true)
+  unfolding tidy
+  t0 = both _ _ row-tidy
+
+  t1 : (leb (length (wordsAt f)) 16 ≡ true) × (Text.all plain (codesAt f) && (leb (length (codesAt f)) 4 && Text.all fine (rowAt f .parts)) ≡ true)
+  t1 = both _ _ (t0 .1)
+
+  t2 : (Text.all plain (codesAt f) ≡ true) × (leb (length (codesAt f)) 4 && Text.all fine (rowAt f .parts) ≡ true)
+  t2 = both _ _ (t1 .1)
+
+  pub words-plain : (i : ℕ) → i < length (wordsAt f) → (getD (wordsAt f) i 32 ≡ 32 → ⊥)
+  words-plain i k = plain-not _ (all-at plain 32 (wordsAt f) i (t0 .0) k) .0
+
+  pub words-short : length (wordsAt f) ≤ 16
+  words-short = leb-true _ _ (t1 .0)
+
+  pub codes-plain : (i : ℕ) → i < length (codesAt f) → (getD (codesAt f) i 32 ≡ 32 → ⊥) × (getD (codesAt f) i 32 < 129)
+  codes-plain i k = plain-not _ (all-at plain 32 (codesAt f) i (t2 .0) k)
+
+  pub codes-short : length (codesAt f) ≤ 4
+  codes-short = leb-true _ _ (both (leb (length (codesAt f)) 4) (Text.all fine (rowAt f .parts)) (t2 .1) .0)
+
+  pub parts-fine : Text.all fine (rowAt f .parts) ≡ true
+  parts-fine = both (leb (length (codesAt f)) 4) (Text.all fine (rowAt f .parts)) (t2 .1) .1
+
+-- ---- the form of a kind that has but one, and what holds of each form
+
+sole : ℕ → ℕ → ℕ → List Form.Row → Bool
+sole k f i [] = true
+sole k f i (r ∷ rs) = cond (eqb (Form.letter (r .kind)) k) (eqb i f) true && sole k f (suc i) rs
+
+sole-at : (k f : ℕ) (rs : List Form.Row) (i j : ℕ) → sole k f i rs ≡ true → j < length rs → Form.letter (getD rs j Form.noRow .kind) ≡ k → i + j ≡ f
+unfolding sole
+sole-at k f [] i j h l e = absurd (omega arith)
+sole-at k f (r ∷ rs) i zero h l e =
+    let p : eqb i f ≡ true = rw (eq-eqb (Form.letter (r .kind)) k e) at (both (cond (eqb (Form.letter (r .kind)) k) (eqb i f) true) (sole k f (suc i) rs) h .0) in
+    omega (arith, eqb-true i f p)
+sole-at k f (r ∷ rs) i (suc j) h l e =
+    let q = sole-at k f rs (suc i) j (both (cond (eqb (Form.letter (r .kind)) k) (eqb i f) true) (sole k f (suc i) rs) h .1) (omega arith) e in
+    omega arith
+
+-- form f alone has the kind k
+pub Only : ℕ → ℕ → Type 0
+Only k f = sole k f 0 Form.forms ≡ true
+
+pub only-pc : Only 67 25
+unfolding Only sole Form.forms
+only-pc = refl
+
+pub only-pick : Only 66 27
+unfolding Only sole Form.forms
+only-pick = refl
+
+pub only-var : Only 72 29
+unfolding Only sole Form.forms
+only-var = refl
+
+pub form-of-kind : {k f : ℕ} → Only k f → (g : ℕ) → g < 42 → kindAt g ≡ k → g ≡ f
+unfolding Only
+form-of-kind {k} {f} o g h e = omega (arith, sole-at k f Form.forms 0 g o (omega (arith, row-count)) e)
+
+infixr 5 _also_
+pub data Each (P : Form.Row → Type 0) : List Form.Row → Type 0 where
+  done : Each P []
+  _also_ : {r : Form.Row} {rs : List Form.Row} → P r → Each P rs → Each P (r ∷ rs)
+
+pub each-at : (P : Form.Row → Type 0) (rs : List Form.Row) → Each P rs → (f : ℕ) → f < length rs → P (getD rs f Form.noRow)
+each-at P [] h f l = absurd (omega arith)
+each-at P (r ∷ rs) (p also h) zero l = p
+each-at P (r ∷ rs) (p also h) (suc f) l = each-at P rs h f (omega arith)

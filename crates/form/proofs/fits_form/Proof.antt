@@ -1,0 +1,89 @@
+-- `form::fits_form` meets its contract.
+use native.Mathlib.Omega.{arith}
+use borrow.Author.Needs.{needs}
+use Prim.Native.Nat.{ℕ, _-_, _+_}
+use mathlib.Core.Path.{_≡_, _∙_, sym, ap}
+use mathlib.Core.List.{List}
+use lib.ListN.{length}
+use lib.Dec.{eqb}
+use denote.Ref.{now}
+use borrow.Author.Tests.{not-true, not-false}
+use Rattle.form.specs.Letters.{fits, lettersFrom, fieldsLeft, Ready}
+use Rattle.form.specs.Table.{codesAt}
+use Rattle.form.proofs.Laws.{ready-start, fits-bad, fits-turn, fits-end, not-blank, walk-start}
+use Rattle.semantics.specs.Form.{fieldsFrom}
+use Rattle.form.proofs.fits_form.Statement.{statement}
+use Rattle.form.proofs.fits_form.Tie as tie
+
+abbrev Inv-loop : tie.InvT-loop
+Inv-loop l from f w₀ w = (Ready f (w .j) (w .c) (w .e)) × (fits (codesAt f) (fieldsFrom from l) ≡ fits (lettersFrom f w) (fieldsLeft l w))
+
+abbrev μ-loop : tie.MeasureT-loop
+μ-loop l from f w₀ w = length l + 1 - w .at
+
+loop-holds : tie.Need-loop-holds Inv-loop μ-loop
+loop-holds c = (ready-start (c .before .args .f) (c .before .pre .0), ap (λ (xs : List ℕ). fits xs (fieldsFrom (c .before .args .from) (now (c .before .args .l)))) (sym (walk-start (c .before .args .f) 65)))
+
+letter-requires : tie.Need-letter-requires Inv-loop μ-loop
+letter-requires c κs = c .before .before .loop .inv .0
+
+find-requires : tie.Need-find-requires Inv-loop μ-loop
+find-requires c κs = search needs
+
+sub-s : tie.Need-sub-s Inv-loop μ-loop
+sub-s c = search needs
+
+part-s-start : tie.Need-part-s-start Inv-loop μ-loop
+part-s-start c = search needs
+
+part-s-end : tie.Need-part-s-end Inv-loop μ-loop
+part-s-end c = search needs
+
+is-good-requires : tie.Need-is-good-requires Inv-loop μ-loop
+is-good-requires c κs = search needs
+
+returns : tie.Need-returns Inv-loop μ-loop
+returns c = sym (c .before .before .before .before .before .before .before .loop .inv .1 ∙ fits-bad (now (c .before .before .before .before .before .before .before .before .before .args .l)) (c .before .before .before .before .before .before .before .loop .w .at) (c .before .before .before .find .result) (c .before .before .before .before .before .if1 .taken) (c .before .before .before .find .ensures .0) (c .before .before .before .before .letter .result) _ (c .before .before .before .before .letter .ensures) (sym (c .before .is-good .ensures) ∙ not-true (c .before .is-good .result) (c .if2 .taken)))
+
+number-requires : tie.Need-number-requires Inv-loop μ-loop
+number-requires c κs = search needs
+
+add-step : tie.Need-add-step Inv-loop μ-loop
+add-step c = search needs
+
+step-requires : tie.Need-step-requires Inv-loop μ-loop
+step-requires c κs = (c .before .before .before .before .before .before .before .before .loop .inv .0, c .before .before .before .before .before .letter .ensures, not-blank (c .before .before .before .before .before .letter .result) _ (sym (c .before .before .is-good .ensures) ∙ not-false (c .before .before .is-good .result) (c .before .if2 .left)))
+
+loop-less : tie.Need-loop-less Inv-loop μ-loop
+loop-less c = omega (arith, c .step .ensures .2, c .before .before .before .before .before .find .ensures, c .before .before .before .before .before .before .before .if1 .taken)
+
+loop-again : tie.Need-loop-again Inv-loop μ-loop
+loop-again c = (c .step .ensures .0, c .before .before .before .before .before .before .before .before .before .loop .inv .1 ∙ fits-turn (now (c .before .before .before .before .before .before .before .before .before .before .before .args .l)) (c .before .before .before .before .before .before .before .before .before .loop .w .at) (c .before .before .before .before .before .find .result) (c .before .before .before .before .before .before .before .if1 .taken) (c .before .before .before .before .before .find .ensures .0) (c .before .before .before .before .before .before .letter .result) _ (c .before .before .before .before .before .before .letter .ensures) (c .before .number .result) _ (sym (c .before .before .before .is-good .ensures) ∙ not-false (c .before .before .before .is-good .result) (c .before .before .if2 .left)) (c .before .number .ensures .0) (c .step .ensures .1) ∙ ap (λ (j : ℕ). fits (lettersFrom (c .before .before .before .before .before .before .before .before .before .before .before .args .f) (c .step .result)) (fieldsFrom j (now (c .before .before .before .before .before .before .before .before .before .before .before .args .l)))) (sym (c .step .ensures .2)))
+
+letter-requires-2 : tie.Need-letter-requires-2 Inv-loop μ-loop
+letter-requires-2 c κs = c .before .before .loop .inv .0
+
+returns-2 : tie.Need-returns-2 Inv-loop μ-loop
+returns-2 c = ap (λ (x : ℕ). eqb x 32) (c .letter2 .ensures) ∙ sym (c .before .before .before .loop .inv .1 ∙ fits-end (c .before .before .before .loop .w .at) (now (c .before .before .before .before .before .args .l)) _ (c .before .if1 .left))
+
+pub fits-form-spec : {M : Type 1} → statement M
+fits-form-spec =
+    tie.close
+    (tie.spec
+    Inv-loop
+    μ-loop
+    loop-holds
+    letter-requires
+    find-requires
+    sub-s
+    part-s-start
+    part-s-end
+    is-good-requires
+    returns
+    number-requires
+    add-step
+    step-requires
+    loop-less
+    loop-again
+    letter-requires-2
+    returns-2)

@@ -1,0 +1,87 @@
+-- Fields by the letters of the table, and where a walk over them stands.
+use Prim.Native.Nat.{ℕ, _+_, _-_, _≤_, _<_}
+use mathlib.Core.Path.{_≡_}
+use mathlib.Core.Bool.{Bool, true, cond, _&&_}
+use mathlib.Core.List.{List, [], _∷_, _++_}
+use lib.ListN.{length, drop, getD, replicate}
+use lib.Dec.{leb, ltb, eqb}
+use Rattle.semantics.specs.Text.{Bytes, holdsOf, partsAt, unhex, isName}
+use Rattle.semantics.specs.Form as Form
+use Rattle.text.specs.Number as Number
+use Rattle.text.specs.Utf8 as Utf8
+use Rattle.form.specs.declared.Walk.{Walk}
+use Rattle.form.specs.Table.{rowCount, wordsAt, codesAt}
+
+unfoldable pub isKeyField : Bytes → Bool
+isKeyField f = Form.isKey (partsAt 46 f)
+
+unfoldable pub isReal : Bytes → Bool
+isReal f = holdsOf Form.isRealBytes (unhex f)
+
+-- what a number must be below where its letter is x; 65,537 where it may be any number
+unfoldable pub limitOf : ℕ → ℕ
+limitOf x =
+    cond (leb 97 x) 17
+    (cond (eqb x 85) 4
+    (cond (eqb x 86) 19
+    (cond (eqb x 80) 65536
+    (cond (eqb x 83) 4097
+    (cond (eqb x 32) 0 65537)))))
+
+-- whether a field holds what the letter x says
+unfoldable pub holds : ℕ → Bytes → Bool
+holds x f =
+    cond (eqb x 87) (isName f)
+    (cond (eqb x 81) (isKeyField f)
+    (cond (eqb x 88) (Number.isBetween 9223372036854775808 9223372036854775807 f)
+    (cond (eqb x 89) (Number.isBetween 4096 4096 f)
+    (cond (eqb x 82) (isReal f)
+    (cond (eqb x 84) (Utf8.isText f)
+    (ltb (Number.numberOf 65536 f) (limitOf x)))))))
+
+-- the letters after a field, where n is its number
+unfoldable pub after : ℕ → Bytes → Bytes
+after n [] = []
+after n (x ∷ xs) = cond (leb 97 x) (replicate n (x - 32) ++ xs) xs
+
+-- whether fields are those of letters; 32 stands behind the last of them
+unfoldable pub fits : Bytes → List Bytes → Bool
+fits xs [] = eqb (getD xs 0 32) 32
+fits xs (f ∷ fs) = holds (getD xs 0 32) f && fits (after (Form.numberOf f) xs) fs
+
+-- the letters still to come: c times e, and then the form's letters from j on
+unfoldable pub pending : ℕ → ℕ → ℕ → ℕ → Bytes
+pending f j c e = replicate c e ++ drop j (codesAt f)
+
+pub record Ready (f j c e : ℕ) : Type 0 where
+  pub form : f < rowCount
+  pub within : j ≤ length (codesAt f)
+  pub single : e < 97
+
+-- ---- a walk over the fields of a line
+
+abbrev pub lettersFrom : ℕ → Walk → Bytes
+lettersFrom f w = pending f (w .j) (w .c) (w .e)
+
+abbrev pub fieldsLeft : Bytes → Walk → List Bytes
+fieldsLeft l w = Form.fieldsFrom (w .at) l
+
+-- the fields from where it stands are those of the letters still to come
+pub record Standing (f : ℕ) (l : Bytes) (w : Walk) : Type 0 where
+  pub ready : Ready f (w .j) (w .c) (w .e)
+  pub fit : fits (lettersFrom f w) (fieldsLeft l w) ≡ true
+
+-- it went past a field with the letter x, whose number is v
+pub record Stepped (f : ℕ) (l : Bytes) (w : Walk) (x v : ℕ) (u : Walk) : Type 0 where
+  pub field : Bytes
+  pub letter : x ≡ getD (lettersFrom f w) 0 32
+  pub fields : fieldsLeft l w ≡ field ∷ fieldsLeft l u
+  pub good : holds x field ≡ true
+  pub number : v ≡ Number.numberOf 65536 field
+  pub letters : lettersFrom f u ≡ after (Form.numberOf field) (lettersFrom f w)
+  pub standing : Standing f l u
+  pub further : w .at < u .at
+
+-- a walk over the fields behind the keywords of form f
+abbrev pub beginning : ℕ → Walk
+beginning f = record { at = length (wordsAt f) + 1; j = 0; c = 0; e = 65 }

@@ -1,0 +1,431 @@
+// The forms of lines: a table, and one walk over a line's fields by it.
+ghost use mathlib.Core.Path.{_≡_};
+ghost use mathlib.Core.Bool.{cond};
+ghost use mathlib.Core.List.{[]};
+ghost use Prim.Native.Nat.{_+_, _≤_, _<_};
+ghost use lib.ListN.{length, getD};
+ghost use Rattle.semantics.specs.Form.{forms, begins, rowOf, fieldsFrom};
+ghost use Rattle.text.specs.Number.{numberOf, isBetween};
+ghost use Rattle.form.specs.Table.{rowCount, wordsAt, kindAt, codesAt, fieldsBehind, formOf};
+ghost use Rattle.form.specs.Letters.{isKeyField, isReal, limitOf, holds, after, fits, lettersFrom, Ready, Standing, Stepped, beginning};
+
+// A row: keywords, the kind's letter, and a letter for each field behind the keywords. A to O are kinds, and references to lines of
+// that kind; 32 lower, `!` to `/`, may be 0 too. P to Y are other fields. A small letter is a count and as many fields.
+const FORMS: [u8; 1008] = *b"
+ty,int           K     
+ty,byte          K     
+ty,big           K     
+ty,real          K     
+ty,string        K     
+ty,ptr           K     
+ty,array         KK    
+ty,tuple         Kk    
+ex,int           EX    
+ex,real          ER    
+ex,str           ET    
+ex,id            EW    
+ex,qual          EEW   
+ex,un            EUE   
+ex,bin           EVEE  
+ex,cast          EKE   
+ex,len           EE    
+ex,alloc         EEK   
+ex,lit           E%+l  
+ex,other         E     
+el,next          LE    
+el,star          LE    
+el,at            LEj   
+se               JE%   
+fd               F+w   
+pc               Cwf   
+adt              AWf   
+pick             BWfc  
+con              DWPPE 
+var              HK%w  
+mod              MW    
+end              O     
+impl             IW    
+frame            GSy   
+need,adt         NQ    
+need,elem,int    N     
+need,elem,byte   N     
+need,elem,big    N     
+need,elem,real   N     
+need,elem,string N     
+need,block       NSy   
+need,opaque      N     ";
+
+const ROWS: usize = 42;
+
+const BLANK: u8 = 32;
+
+const COMMA: u8 = 44;
+
+const DOT: u8 = 46;
+
+const IMPL: u8 = b'I';
+
+const SIGN: u64 = 0x8000000000000000;
+
+const INFINITY: u64 = 0x7FF0000000000000;
+
+// Letters of fields: from MANY on a count, and a LINE or COL is a PLACE.
+const MANY: u8 = b'a';
+
+const NAME: u8 = b'W';
+
+const KEY: u8 = b'Q';
+
+const UNARY: u8 = b'U';
+
+const BINARY: u8 = b'V';
+
+const PLACE: u8 = b'P';
+
+const SIZE: u8 = b'S';
+
+const I64: u8 = b'X';
+
+const OFFSET: u8 = b'Y';
+
+const REAL: u8 = b'R';
+
+const TEXT: u8 = b'T';
+
+fn word(f: usize, i: usize) -> u8
+    requires { ⌜ (f < rowCount) × (i < 17) ⌝ }
+    ensures { λ r. ⌜ r ≡ getD (wordsAt f) i 32 ⌝ }
+{
+    FORMS[24 * f + 1 + i]
+}
+
+pub fn kind(f: usize) -> u8
+    requires { ⌜ f < rowCount ⌝ }
+    ensures { λ r. ⌜ r ≡ kindAt f ⌝ }
+{
+    FORMS[24 * f + 18]
+}
+
+fn atom(f: usize, j: usize) -> u8
+    requires { ⌜ (f < rowCount) × (j < 5) ⌝ }
+    ensures { λ r. ⌜ r ≡ getD (codesAt f) j 32 ⌝ }
+{
+    FORMS[24 * f + 19 + j]
+}
+
+// ---- keywords
+
+// Where the fields behind the keywords of form f begin; 0 where a line begins otherwise.
+fn behind(l: &[u8], f: usize) -> usize
+    requires { ⌜ (f < rowCount) × (length (now l) ≤ 255) ⌝ }
+    ensures { λ r. ⌜ r ≡ cond (begins (wordsAt f) (now (l .entry))) (length (wordsAt f) + 1) 0 ⌝ }
+{
+    let mut i = 0;
+    loop {
+        let w = word(f, i);
+        if w == BLANK {
+            if i == l.len() {
+                return i + 1;
+            }
+            if l[i] == COMMA {
+                return i + 1;
+            }
+            return 0;
+        }
+        if i == l.len() {
+            return 0;
+        }
+        if l[i] != w {
+            return 0;
+        }
+        i += 1;
+    }
+}
+
+// The first form whose keywords a line begins with.
+fn row_of(l: &[u8]) -> usize
+    requires { ⌜ length (now l) ≤ 255 ⌝ }
+    ensures { λ r. ⌜ (r ≡ rowOf forms (now (l .entry))) × (r ≤ rowCount) ⌝ }
+{
+    let mut f = 0;
+    while f < ROWS {
+        if behind(l, f) != 0 {
+            return f;
+        }
+        f += 1;
+    }
+    f
+}
+
+// ---- fields
+
+fn limit(x: u8) -> u64
+    ensures { λ r. ⌜ r ≡ limitOf x ⌝ }
+{
+    if MANY <= x {
+        return 17;
+    }
+    if x == UNARY {
+        return 4;
+    }
+    if x == BINARY {
+        return 19;
+    }
+    if x == PLACE {
+        return 65536;
+    }
+    if x == SIZE {
+        return 4097;
+    }
+    if x == BLANK {
+        return 0;
+    }
+    65537
+}
+
+// NAME or NAME.NAME.
+fn is_key(s: &[u8]) -> bool
+    ensures { λ r. ⌜ r ≡ isKeyField (now (s .entry)) ⌝ }
+{
+    let p = text::find(s, 0, DOT);
+    if p == s.len() {
+        return text::name::is_name(s);
+    }
+    let a = p + 1;
+    let q = text::find(s, a, DOT);
+    if q < s.len() {
+        return false;
+    }
+    if !text::name::is_name(&s[0..p]) {
+        return false;
+    }
+    text::name::is_name(&s[a..q])
+}
+
+fn is_i64(s: &[u8]) -> bool
+    ensures { λ r. ⌜ r ≡ isBetween 9223372036854775808 9223372036854775807 (now (s .entry)) ⌝ }
+{
+    let r = text::number::read_integer(s);
+    match r {
+        text::number::Integer::Is(_) => true,
+        text::number::Integer::Bad => false,
+    }
+}
+
+// 16 digits of a real that is no NaN: without its sign, it is not above infinity.
+fn is_real(s: &[u8]) -> bool
+    ensures { λ r. ⌜ r ≡ isReal (now (s .entry)) ⌝ }
+{
+    let w = text::hex::read_word(s);
+    match w {
+        text::hex::Word::Bits(b) => b % SIGN <= INFINITY,
+        text::hex::Word::Bad => false,
+    }
+}
+
+// Whether a field holds what its letter says.
+fn is_good(s: &[u8], x: u8) -> bool
+    ensures { λ r. ⌜ r ≡ holds x (now (s .entry)) ⌝ }
+{
+    if x == NAME {
+        return text::name::is_name(s);
+    }
+    if x == KEY {
+        return is_key(s);
+    }
+    if x == I64 {
+        return is_i64(s);
+    }
+    if x == OFFSET {
+        return text::number::is_between(s, 4096, 4096);
+    }
+    if x == REAL {
+        return is_real(s);
+    }
+    if x == TEXT {
+        return text::utf8::is_text(s);
+    }
+    text::number::read_number(s, 65536) < limit(x)
+}
+
+// ---- the walk
+
+// A field that begins at `at`, past the line's end where none is left: c more fields with the letter e, then the form's letters from j on.
+pub struct Walk {
+    pub at: usize,
+    pub j: usize,
+    pub c: usize,
+    pub e: u8,
+}
+
+// The letter of the field at which a walk stands.
+fn letter(f: usize, w: Walk) -> u8
+    requires { ⌜ Ready f (w .j) (w .c) (w .e) ⌝ }
+    ensures { λ r. ⌜ r ≡ getD (lettersFrom f w) 0 32 ⌝ }
+{
+    let c = w.c;
+    let j = w.j;
+    if 0 < c {
+        return w.e;
+    }
+    atom(f, j)
+}
+
+// Past a field with the letter x, whose number is n, to the one that begins at `at`.
+fn step(f: usize, w: Walk, x: u8, n: usize, at: usize) -> Walk
+    requires { ⌜ (Ready f (w .j) (w .c) (w .e)) × (x ≡ getD (lettersFrom f w) 0 32) × (x ≡ 32 → ⊥) ⌝ }
+    ensures { λ r. ⌜ (Ready f (r .j) (r .c) (r .e)) × (lettersFrom f r ≡ after n (lettersFrom f w)) × (r .at ≡ at) ⌝ }
+{
+    let j = w.j;
+    let c = w.c;
+    let e = w.e;
+    if 0 < c {
+        return Walk {
+            at: at,
+            j: j,
+            c: c - 1,
+            e: e,
+        };
+    }
+    if MANY <= x {
+        return Walk {
+            at: at,
+            j: j + 1,
+            c: n,
+            e: x - 32,
+        };
+    }
+    Walk {
+        at: at,
+        j: j + 1,
+        c: 0,
+        e: e,
+    }
+}
+
+// ---- the form of a line
+
+// A field as a number: 65536 where it is larger, 65537 where it is none.
+pub fn number(s: &[u8]) -> usize
+    ensures { λ r. ⌜ (r ≡ numberOf 65536 (now (s .entry))) × (r ≤ 65537) ⌝ }
+{
+    text::number::read_number(s, 65536) as usize
+}
+
+// Whether the fields from `from` on are those of form f.
+fn fits_form(l: &[u8], from: usize, f: usize) -> bool
+    requires { ⌜ (f < rowCount) × (length (now l) ≤ 255) ⌝ }
+    ensures { λ r. ⌜ r ≡ fits (codesAt f) (fieldsFrom from (now (l .entry))) ⌝ }
+{
+    let mut w = Walk {
+        at: from,
+        j: 0,
+        c: 0,
+        e: 65,
+    };
+    while w.at <= l.len() {
+        let at = w.at;
+        let x = letter(f, w);
+        let e = text::find(l, at, COMMA);
+        let s = &l[at..e];
+        if !is_good(s, x) {
+            return false;
+        }
+        w = step(f, w, x, number(s), e + 1);
+    }
+    letter(f, w) == BLANK
+}
+
+// The number of line k's form, 42 where it has none.
+pub fn form_of(l: &[u8], k: usize) -> usize
+    ensures { λ r. ⌜ (r ≡ formOf k (now (l .entry))) × (r ≤ rowCount) ⌝ }
+{
+    if 255 < l.len() {
+        return ROWS;
+    }
+    let f = row_of(l);
+    if f == ROWS {
+        return ROWS;
+    }
+    let at = behind(l, f);
+    if !fits_form(l, at, f) {
+        return ROWS;
+    }
+    if kind(f) != IMPL {
+        return f;
+    }
+    if k == 1 {
+        return f;
+    }
+    ROWS
+}
+
+// ---- readers of a line that has form f
+
+// How long the keywords of form f are.
+pub fn width(f: usize) -> usize
+    requires { ⌜ f < rowCount ⌝ }
+    ensures { λ r. ⌜ (r ≡ length (wordsAt f)) × (r ≤ 16) ⌝ }
+{
+    let mut i = 0;
+    loop {
+        if word(f, i) == BLANK {
+            return i;
+        }
+        i += 1;
+    }
+}
+
+// Field i behind the keywords of form f, as that part of the line; empty where there is none.
+pub fn field(l: &[u8], f: usize, i: usize) -> &[u8]
+    requires { ⌜ f < rowCount ⌝ }
+    ensures { λ r. ⌜ now r ≡ getD (fieldsBehind f (now (l .entry))) i [] ⌝ }
+{
+    let mut at = width(f) + 1;
+    let mut k = 0;
+    while at <= l.len() {
+        let e = text::find(l, at, COMMA);
+        if k == i {
+            return &l[at..e];
+        }
+        k += 1;
+        at = e + 1;
+    }
+    &l[l.len()..]
+}
+
+// A walk over the fields behind the keywords.
+pub fn begin(f: usize) -> Walk
+    requires { ⌜ f < rowCount ⌝ }
+    ensures { λ r. ⌜ r ≡ beginning f ⌝ }
+{
+    Walk {
+        at: width(f) + 1,
+        j: 0,
+        c: 0,
+        e: 65,
+    }
+}
+
+// What a walk meets: the field's letter and its number, and where it goes on.
+pub struct Seen {
+    pub letter: u8,
+    pub number: usize,
+    pub next: Walk,
+}
+
+pub fn next(l: &[u8], f: usize, w: Walk) -> Seen
+    requires { ⌜ (Standing f (now l) w) × (w .at ≤ length (now l)) ⌝ }
+    ensures { λ r. ⌜ Stepped f (now (l .entry)) w (r .letter) (r .number) (r .next) ⌝ }
+{
+    let at = w.at;
+    let x = letter(f, w);
+    let e = text::find(l, at, COMMA);
+    let v = number(&l[at..e]);
+    let u = step(f, w, x, v, e + 1);
+    Seen {
+        letter: x,
+        number: v,
+        next: u,
+    }
+}

@@ -1,0 +1,18 @@
+-- `lines::number_at` meets its contract.
+use mathlib.Core.Path.{_∙_, ap}
+use Rattle.text.specs.Number.{numberOf}
+use borrow.Author.Needs.{needs}
+use Rattle.lines.proofs.number_at.Statement.{statement}
+use Rattle.lines.proofs.number_at.Tie as tie
+
+field-at-requires : tie.Need-field-at-requires
+field-at-requires c κs = search needs
+
+number-requires : tie.Need-number-requires
+number-requires c κs = search needs
+
+returns : tie.Need-returns
+returns c = (c .number .ensures .0 ∙ ap (numberOf 65536) (c .before .field-at .ensures), c .number .ensures .1)
+
+pub number-at-spec : {M : Type 1} → statement M
+number-at-spec = tie.close (tie.spec field-at-requires number-requires returns)

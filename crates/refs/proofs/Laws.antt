@@ -1,0 +1,295 @@
+-- Laws of claims, of a line's references, and of the pass over all lines.
+use mathlib.Core.Path.{_≡_, refl, sym, ap, _∙_}
+use mathlib.Core.Bool.{Bool, true, false, cond, not, _&&_, _||_}
+use mathlib.Core.List.{List, [], _∷_}
+use mathlib.Core.Option.{Option, none, some}
+use Prim.Native.Nat.{ℕ, suc, _+_, _-_, _≤_, _<_, min}
+use native.Mathlib.Omega.{arith}
+use native.Mathlib.Numerals.{add-one}
+use lib.Dec.{ltb, eqb}
+use lib.ListN.{length, drop, getD, set, drop-of-length-le}
+use lib.Seq.{drop-cons, getD-set-same, getD-set-other}
+use borrow.Author.Tests.{lt-ltb, le-ltb, eq-eqb, ne-eqb, ltb-true, ltb-false, eqb-true, eqb-false}
+use Rattle.semantics.specs.Text.{any}
+use Rattle.semantics.specs.Form as Form
+use Rattle.semantics.specs.Refusal as Refusal
+use Rattle.semantics.specs.Refusal.{useAll, refsOf, badRefFrom}
+use Rattle.text.specs.Number as Number
+use Rattle.form.specs.declared.Walk.{Walk}
+use Rattle.form.specs.Table.{kindAt}
+use Rattle.form.proofs.Table.{never}
+use Rattle.form.specs.Letters.{holds, lettersFrom, fieldsLeft, beginning, Standing, Stepped}
+use Rattle.lines.specs.Lines.{textAt, readsIn, readAt, formAt, Whole}
+use Rattle.lines.proofs.Line.{line-count, kind-is, form-low}
+use Rattle.refs.specs.Refs.{isRef, wantedBy, refOf, refsIn, usedAt, claims, marked, flag, Used, Uses, Outcome}
+use Rattle.refs.proofs.Letters.{ref-number, refs-begin, stands, refs-step, refs-end, whole-set}
+
+-- ---- a claim, by the tests that lead to its answer
+
+module _ (t : List ℕ) (k x r : ℕ) where
+  pub claim-low : x ≤ 32 → (true ≡ claims t k x r) × (t ≡ marked t x r)
+  unfolding claims marked
+  claim-low h = (rw (le-ltb 32 x h), rw (le-ltb 32 x h))
+
+  pub claim-high : 80 ≤ x → (true ≡ claims t k x r) × (t ≡ marked t x r)
+  unfolding claims marked
+  claim-high h = (rw (lt-ltb 32 x (omega arith), le-ltb x 80 h), rw (lt-ltb 32 x (omega arith), le-ltb x 80 h))
+
+  module _ (low : 32 < x) (high : x < 80) where
+    same-either : (b : Bool) → r ≡ 0 → t ≡ cond b (marked t x r) t
+    unfolding marked
+    same-either true z = rw (lt-ltb 32 x low, lt-ltb x 80 high, eq-eqb r 0 z)
+    same-either false z = refl
+
+    pub claim-zero : r ≡ 0 → (ltb x 64 ≡ claims t k x r) × (t ≡ cond (ltb x 64) (marked t x r) t)
+    unfolding claims
+    claim-zero z = (rw (lt-ltb 32 x low, lt-ltb x 80 high, eq-eqb r 0 z), same-either (ltb x 64) z)
+
+    module _ (some : r ≡ 0 → ⊥) where
+      open-claim : claims t k x r ≡ ltb r k && eqb (kindAt (formAt t (r - 1))) (wantedBy x) && eqb (usedAt t (r - 1)) 0
+      unfolding claims
+      open-claim = rw (lt-ltb 32 x low, lt-ltb x 80 high, ne-eqb r 0 some)
+
+      pub claim-late : k ≤ r → (false ≡ claims t k x r) × (t ≡ t)
+      claim-late h = (sym (open-claim ∙ rw (le-ltb r k h)), refl)
+
+      module _ (early : r < k) where
+        pub claim-kind : (kindAt (formAt t (r - 1)) ≡ wantedBy x → ⊥) → (false ≡ claims t k x r) × (t ≡ t)
+        claim-kind n = (sym (open-claim ∙ rw (lt-ltb r k early, ne-eqb _ _ n)), refl)
+
+        module _ (kind : kindAt (formAt t (r - 1)) ≡ wantedBy x) where
+          pub claim-used : (usedAt t (r - 1) ≡ 0 → ⊥) → (false ≡ claims t k x r) × (t ≡ t)
+          claim-used n = (sym (open-claim ∙ rw (lt-ltb r k early, eq-eqb _ _ kind, ne-eqb _ _ n)), refl)
+
+          pub claim-good : usedAt t (r - 1) ≡ 0 → (true ≡ claims t k x r) × (set t (3072 + (r - 1)) 1 ≡ marked t x r)
+          unfolding marked
+          claim-good e = (sym (open-claim ∙ rw (lt-ltb r k early, eq-eqb _ _ kind, eq-eqb _ _ e)), rw (lt-ltb 32 x low, lt-ltb x 80 high, ne-eqb r 0 some))
+
+whole-marked : (s t : List ℕ) (n x r : ℕ) → Whole s t n → Whole s (marked t x r) n
+unfolding marked
+whole-marked s t n x r w = go (isRef x && not (eqb r 0))
+  where
+    go : (b : Bool) → Whole s (cond b (set t (3072 + (r - 1)) 1) t) n
+    go true = whole-set s t n (r - 1) 1 w
+    go false = w
+
+-- ---- one field
+
+not-flag : (b : Bool) → not b ≡ eqb (flag b) 0
+not-flag true = refl
+not-flag false = refl
+
+-- one field's reference done: o is what it makes of the lines used
+pub record Turn (ls : List Form.Read) (k : ℕ) (o : Option (List ℕ)) (rs : List Refusal.Ref) (t : List ℕ) : Type 0 where
+  pub us : List ℕ
+  pub same : o ≡ useAll ls k rs us
+  pub table : Used t us
+
+-- what a reference is by its letter and field
+pub asRef : ℕ → List ℕ → Refusal.Ref
+asRef x f = record { kind = wantedBy x; optional = ltb x 64; line = Form.numberOf f }
+
+module _ (s t : List ℕ) (n k : ℕ) (w : Whole s t n) (hk : k ≤ n) (us : List ℕ) (used : Used t us) (x : ℕ) (f : List ℕ) (v : ℕ)
+    (hv : v ≡ Number.numberOf 65536 f) (good : holds x f ≡ true) (rs : List Refusal.Ref) where
+  few : n ≤ 1024
+  few = w .lined .few
+
+  m : ℕ
+  m = Form.numberOf f
+
+  module _ (low : 32 < x) (high : x < 80) where
+    v-is : v ≡ min m 65536
+    unfolding m
+    v-is = hv ∙ ref-number x f low high good
+
+    same-good : Refusal.goodRef (readsIn s) k us (asRef x f) ≡ claims t k x v
+    unfolding asRef m claims
+    same-good = go (eqb m 0) (ltb m k) refl refl
+      where
+        go : (y z : Bool) → eqb m 0 ≡ y → ltb m k ≡ z → Refusal.goodRef (readsIn s) k us (asRef x f) ≡ claims t k x v
+        go true z p q =
+            let e : m ≡ 0 = eqb-true m 0 p in
+            simp (p, lt-ltb 32 x low, lt-ltb x 80 high, eq-eqb v 0 (omega (arith, v-is)))
+        go false false p q =
+            let e : (m ≡ 0 → ⊥) = eqb-false m 0 p in
+            let l : k ≤ m = ltb-false m k q in
+            simp (p, q, lt-ltb 32 x low, lt-ltb x 80 high, ne-eqb v 0 (λ z. e (omega (arith, v-is))), le-ltb v k (omega (arith, v-is)))
+        go false true p q =
+            let e : (m ≡ 0 → ⊥) = eqb-false m 0 p in
+            let l : m < k = ltb-true m k q in
+            let d : v ≡ m = omega (arith, v-is) in
+            let c : suc (m - 1) ≡ m = omega (arith, e) in
+            let h : m - 1 < n = omega (arith, e) in
+            let u : not (any (eqb m) us) ≡ eqb (usedAt t (m - 1)) 0 = not-flag (any (eqb m) us) ∙ ap (λ (j : ℕ). eqb j 0) (sym (used (m - 1) (omega arith) ∙ ap (λ (j : ℕ). flag (any (eqb j) us)) c)) in
+            rw d (simp (p, q, lt-ltb 32 x low, lt-ltb x 80 high, kind-is s t n w (m - 1) h, u))
+
+    claim-early : claims t k x v ≡ true → (v ≡ 0 → ⊥) → v < k
+    claim-early c z = go (ltb v k) refl
+      where
+        go : (y : Bool) → ltb v k ≡ y → v < k
+        go true q = ltb-true v k q
+        go false q = never (sym (open-claim t k x v low high z ∙ rw q) ∙ c)
+
+    used-after : claims t k x v ≡ true → Used (marked t x v) (m ∷ us)
+    unfolding marked usedAt m
+    used-after c i h = go (eqb v 0) refl
+      where
+        go : (y : Bool) → eqb v 0 ≡ y → getD (marked t x v) (3072 + i) 0 ≡ flag (any (eqb (suc i)) (m ∷ us))
+        go true q =
+            let z : v ≡ 0 = eqb-true v 0 q in
+            simp (lt-ltb 32 x low, lt-ltb x 80 high, q, ne-eqb (suc i) m (λ y. omega (arith, v-is))) (used i h)
+        go false q =
+            let z : (v ≡ 0 → ⊥) = eqb-false v 0 q in
+            let e : v < k = claim-early c z in
+            let d : v ≡ m = omega (arith, v-is) in
+            simp (lt-ltb 32 x low, lt-ltb x 80 high, q) (on (eqb (suc i) m) refl z d e)
+          where
+            on : (y : Bool) → eqb (suc i) m ≡ y → (v ≡ 0 → ⊥) → v ≡ m → v < k → getD (set t (3072 + (v - 1)) 1) (3072 + i) 0 ≡ flag (eqb (suc i) m || any (eqb (suc i)) us)
+            on true p z d e =
+                let a : suc i ≡ m = eqb-true (suc i) m p in
+                let b : 3072 + (v - 1) ≡ 3072 + i = omega arith in
+                rw (p, b) (getD-set-same t (3072 + i) 1 0 (omega (arith, w .room)))
+            on false p z d e =
+                let a : (suc i ≡ m → ⊥) = eqb-false (suc i) m p in
+                rw p (getD-set-other t (3072 + (v - 1)) (3072 + i) 1 0 (λ y. a (omega (arith, z, d))) ∙ used i h)
+
+    ref-open : useAll (readsIn s) k (refOf x f rs) us ≡ cond (claims t k x v) (useAll (readsIn s) k rs (m ∷ us)) none
+    unfolding refOf m asRef
+    ref-open = simp (lt-ltb 32 x low, lt-ltb x 80 high) (ap (λ (b : Bool). cond b (useAll (readsIn s) k rs (Form.numberOf f ∷ us)) none) same-good)
+
+  -- no reference
+  plain-open : isRef x ≡ false → useAll (readsIn s) k (refOf x f rs) us ≡ useAll (readsIn s) k rs us
+  unfolding refOf
+  plain-open e = rw e
+
+  plain-claims : isRef x ≡ false → (claims t k x v ≡ true) × (marked t x v ≡ t)
+  unfolding claims marked
+  plain-claims e = (rw e, rw e)
+
+  turn-good : claims t k x v ≡ true → Turn (readsIn s) k (useAll (readsIn s) k (refOf x f rs) us) rs (marked t x v)
+  turn-good c = go (ltb 32 x) (ltb x 80) refl refl
+    where
+      go : (y z : Bool) → ltb 32 x ≡ y → ltb x 80 ≡ z → Turn (readsIn s) k (useAll (readsIn s) k (refOf x f rs) us) rs (marked t x v)
+      go false z p q =
+          let e : isRef x ≡ false = rw p in
+          record { us = us; same = plain-open e; table = rw (plain-claims e .1) used }
+      go true false p q =
+          let e : isRef x ≡ false = rw (p, q) in
+          record { us = us; same = plain-open e; table = rw (plain-claims e .1) used }
+      go true true p q =
+          let l = ltb-true 32 x p in
+          let h = ltb-true x 80 q in
+          record { us = m ∷ us; same = ref-open l h ∙ rw c; table = used-after l h c }
+
+  turn-bad : claims t k x v ≡ false → useAll (readsIn s) k (refOf x f rs) us ≡ none
+  turn-bad c = go (ltb 32 x) (ltb x 80) refl refl
+    where
+      no : isRef x ≡ false → useAll (readsIn s) k (refOf x f rs) us ≡ none
+      no e = never (sym c ∙ plain-claims e .0)
+
+      go : (y z : Bool) → ltb 32 x ≡ y → ltb x 80 ≡ z → useAll (readsIn s) k (refOf x f rs) us ≡ none
+      go false z p q = no (rw p)
+      go true false p q = no (rw (p, q))
+      go true true p q = ref-open (ltb-true 32 x p) (ltb-true x 80 q) ∙ rw c
+
+-- ---- the fields of a line
+
+-- the lines used before are those of t₀, and the fields up to w are done
+pub record Going (s t : List ℕ) (n i f : ℕ) (l : List ℕ) (w : Walk) (t₀ : List ℕ) : Type 0 where
+  pub whole : Whole s t n
+  pub standing : Standing f l w
+  pub turns : (us : List ℕ) → Used t₀ us → Turn (readsIn s) (i + 1) (useAll (readsIn s) (i + 1) (refsOf (readAt s i)) us) (refsIn (lettersFrom f w) (fieldsLeft l w)) t
+
+pub going-start : (s t : List ℕ) (n i : ℕ) → Whole s t n → i < n → (l : List ℕ) (f : ℕ) → l ≡ textAt s i → f ≡ formAt t i → (w : Walk) → w ≡ beginning f → Going s t n i f l w t
+going-start s t n i w h l f hl hf u hu = rw hu (record {
+  whole = w;
+  standing = stands s t n i w h l f hl hf;
+  turns = λ us r. record { us = us; same = ap (λ (rs : List Refusal.Ref). useAll (readsIn s) (i + 1) rs us) (refs-begin s t n i w h l f hl hf); table = r };
+})
+
+module _ (s t t₀ : List ℕ) (n i : ℕ) (hi : i < n) (f : ℕ) (l : List ℕ) (w u : Walk) (x v : ℕ) (q : Stepped f l w x v u) (g : Going s t n i f l w t₀) where
+  rest : List Refusal.Ref
+  rest = refsIn (lettersFrom f u) (fieldsLeft l u)
+
+  pub going-stop : {b : Bool} (y : List ℕ) → b ≡ claims t (i + 1) x v → b ≡ false → y ≡ cond b (marked t x v) t
+      → Whole s y n × ((us : List ℕ) → Used t₀ us → useAll (readsIn s) (i + 1) (refsOf (readAt s i)) us ≡ none)
+  unfolding rest
+  going-stop y p c hy =
+      let d : y ≡ t = hy ∙ rw c in (
+        rw d (g .whole),
+        λ us r.
+            let k = g .turns us r in
+            k .same ∙ rw (refs-step f l w u x v q) (turn-bad s t n (i + 1) (g .whole) (omega arith) (k .us) (k .table) x (q .field) v (q .number) (q .good) rest (sym p ∙ c)),
+      )
+
+  pub going-on : {b : Bool} (y : List ℕ) → b ≡ claims t (i + 1) x v → b ≡ true → y ≡ cond b (marked t x v) t → Going s y n i f l u t₀
+  unfolding rest
+  going-on y p c hy =
+      let d : y ≡ marked t x v = hy ∙ rw c in
+      rw d (record {
+        whole = whole-marked s t n x v (g .whole);
+        standing = q .standing;
+        turns = λ us r.
+            let k = g .turns us r in
+            let z = turn-good s t n (i + 1) (g .whole) (omega arith) (k .us) (k .table) x (q .field) v (q .number) (q .good) rest (sym p ∙ c) in
+            record { us = z .us; same = k .same ∙ rw (refs-step f l w u x v q) (z .same); table = z .table };
+      })
+
+pub going-end : (s t t₀ : List ℕ) (n i f : ℕ) (l : List ℕ) (w : Walk) → length l < w .at → Going s t n i f l w t₀
+    → (us : List ℕ) → Used t₀ us → Uses t (useAll (readsIn s) (i + 1) (refsOf (readAt s i)) us)
+going-end s t t₀ n i f l w h g us u =
+    let q = g .turns us u in
+    record { us = q .us; is = q .same ∙ rw (refs-end f l w h); table = q .table }
+
+pub forms-low : (s t : List ℕ) (n k : ℕ) → Whole s t n → k ≤ n → (j : ℕ) → j + 1 < k → formAt t j < 42
+forms-low s t n k w h j l = form-low s t n w j (omega arith)
+
+-- ---- the pass over all lines
+
+pub record Passing (s t : List ℕ) (n i : ℕ) : Type 0 where
+  pub whole : Whole s t n
+  pub us : List ℕ
+  pub table : Used t us
+  pub same : badRefFrom (readsIn s) 1 [] (readsIn s) ≡ badRefFrom (readsIn s) (i + 1) us (drop i (readsIn s))
+
+pub passing-start : (s t : List ℕ) (n : ℕ) → Whole s t n → Used t [] → Passing s t n 0
+passing-start s t n w u = record { whole = w; us = []; table = u; same = refl }
+
+bad-cons : (ls : List Form.Read) (k : ℕ) (us : List ℕ) (m : Form.Read) (ms : List Form.Read) → badRefFrom ls k us (m ∷ ms) ≡ Refusal.orBad k (λ (u : List ℕ). badRefFrom ls (suc k) u ms) (useAll ls k (refsOf m) us)
+unfolding badRefFrom
+bad-cons ls k us m ms = refl
+
+bad-nil : (ls : List Form.Read) (k : ℕ) (us : List ℕ) → badRefFrom ls k us [] ≡ 0
+unfolding badRefFrom
+bad-nil ls k us = refl
+
+module _ (s t : List ℕ) (n i : ℕ) (p : Passing s t n i) where
+  pub passing-end : n ≤ i → 0 ≡ badRefFrom (readsIn s) 1 [] (readsIn s)
+  passing-end h = sym (p .same ∙ rw (drop-of-length-le (readsIn s) {i = i} (omega (arith, line-count s t n (p .whole)))) none-bad)
+    where
+      none-bad : badRefFrom (readsIn s) (i + 1) (p .us) [] ≡ 0
+      none-bad = bad-nil (readsIn s) (i + 1) (p .us)
+
+  module _ (h : i < n) where
+    opened-line : badRefFrom (readsIn s) 1 [] (readsIn s) ≡ Refusal.orBad (i + 1) (λ (u : List ℕ). badRefFrom (readsIn s) (i + 1 + 1) u (drop (i + 1) (readsIn s))) (useAll (readsIn s) (i + 1) (refsOf (readAt s i)) (p .us))
+    opened-line =
+        p .same
+        ∙ ap (badRefFrom (readsIn s) (i + 1) (p .us)) (drop-cons (readsIn s) i Refusal.noRead (omega (arith, line-count s t n (p .whole))))
+        ∙ bad-cons (readsIn s) (i + 1) (p .us) (readAt s i) (drop (suc i) (readsIn s))
+        ∙ rw (← add-one (i + 1), ← add-one i)
+
+    pub passing-bad : useAll (readsIn s) (i + 1) (refsOf (readAt s i)) (p .us) ≡ none → i + 1 ≡ badRefFrom (readsIn s) 1 [] (readsIn s)
+    passing-bad e = sym (opened-line ∙ rw e)
+
+    pub passing-next : (u : List ℕ) → Whole s u n → Uses u (useAll (readsIn s) (i + 1) (refsOf (readAt s i)) (p .us)) → Passing s u n (i + 1)
+    passing-next u w r = record { whole = w; us = r .us; table = r .table; same = opened-line ∙ rw (r .is) }
+
+-- ---- an outcome by its answer
+
+pub outcome-bad : (t : List ℕ) (o : Option (List ℕ)) (b : Bool) → b ≡ false → Outcome t o b → o ≡ none
+outcome-bad t o true e h = never (sym e)
+outcome-bad t o false e h = h
+
+pub outcome-good : (t : List ℕ) (o : Option (List ℕ)) (b : Bool) → b ≡ true → Outcome t o b → Uses t o
+outcome-good t o true e h = h
+outcome-good t o false e h = never e

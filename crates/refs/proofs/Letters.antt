@@ -1,0 +1,127 @@
+-- The references of a line by the letters of its form.
+use mathlib.Core.Path.{_≡_, refl, sym, ap, _∙_}
+use mathlib.Core.Bool.{true}
+use mathlib.Core.List.{List, [], _∷_, _++_}
+use mathlib.Core.Option.{Option, none, some}
+use Prim.Native.Nat.{ℕ, _+_, _-_, _≤_, _<_, min}
+use native.Mathlib.Omega.{arith}
+use lib.Dec.{leb}
+use lib.ListN.{length, set, length-set}
+use lib.Seq.{getD-set-other}
+use borrow.Author.Tests.{lt-ltb, le-ltb, leb-true, ltb-true}
+use Rattle.semantics.specs.Text as Text
+use Rattle.semantics.specs.Form as Form
+use Rattle.semantics.specs.Form.Atom.{name, key, ref, maybe, unaryOp, binaryOp, lineOrCol, size, i64, offset, real, text}
+use Rattle.semantics.specs.Form.Part.{one, many}
+use Rattle.semantics.specs.Refusal as Refusal
+use Rattle.text.specs.Number as Number
+use Rattle.form.specs.declared.Walk.{Walk}
+use Rattle.form.specs.Table.{code, codes, rowAt}
+use Rattle.form.specs.Letters.{after, pending, holds, lettersFrom, fieldsLeft, beginning, Standing, Stepped}
+use Rattle.form.proofs.Table.{both, fine, parts-fine}
+use Rattle.form.proofs.Laws.{fields-end, one-after, many-after, ones-fine, kind-letter, ref-holds, walk-begins}
+use Rattle.lines.specs.Lines.{textAt, readAt, start, formAt, Lined, Whole}
+use Rattle.lines.proofs.Line.{form-low, form-is, fields-are, read-fits}
+use Rattle.refs.specs.Refs.{refOf, refsIn}
+
+-- ---- letters say what the table's parts say
+
+not-ref : (x : ℕ) (f : List ℕ) (rs : List Refusal.Ref) → 80 ≤ x → refOf x f rs ≡ rs
+unfolding refOf
+not-ref x f rs h = rw (lt-ltb 32 x (omega arith), le-ltb x 80 h)
+
+ref-code : (k : Form.Kind) (f : List ℕ) (rs : List Refusal.Ref) → refOf (Form.letter k) f rs ≡ Refusal.refOf (ref k) f rs
+unfolding refOf
+ref-code k f rs = let h = kind-letter k in simp (lt-ltb 32 (Form.letter k) (omega arith), lt-ltb (Form.letter k) 80 (h .1), le-ltb (Form.letter k) 64 (omega arith))
+
+maybe-code : (k : Form.Kind) (f : List ℕ) (rs : List Refusal.Ref) → refOf (Form.letter k - 32) f rs ≡ Refusal.refOf (maybe k) f rs
+unfolding refOf
+maybe-code k f rs =
+    let h = kind-letter k in
+    let e : Form.letter k - 32 + 32 ≡ Form.letter k = omega arith in
+    simp (lt-ltb 32 (Form.letter k - 32) (omega arith), lt-ltb (Form.letter k - 32) 80 (omega arith), lt-ltb (Form.letter k - 32) 64 (omega arith), e)
+
+atom-code : (a : Form.Atom) (f : List ℕ) (rs : List Refusal.Ref) → refOf (code a) f rs ≡ Refusal.refOf a f rs
+unfolding refOf
+atom-code name f rs = refl
+atom-code key f rs = refl
+atom-code (ref k) f rs = ref-code k f rs
+atom-code (maybe k) f rs = maybe-code k f rs
+atom-code unaryOp f rs = refl
+atom-code binaryOp f rs = refl
+atom-code lineOrCol f rs = refl
+atom-code size f rs = refl
+atom-code i64 f rs = refl
+atom-code offset f rs = refl
+atom-code real f rs = refl
+atom-code text f rs = refl
+
+no-letters : (fs : List (List ℕ)) → refsIn [] fs ≡ []
+unfolding refsIn refOf after
+no-letters [] = refl
+no-letters (f ∷ fs) = no-letters fs
+
+refs-codes : (fs : List (List ℕ)) (ps : List Form.Part) → Text.all fine ps ≡ true → refsIn (codes ps) fs ≡ Refusal.refsIn ps fs
+unfolding refsIn fine
+refs-codes [] [] h = refl
+refs-codes [] (one a ∷ ps) h = refl
+refs-codes [] (many a ∷ ps) h = refl
+refs-codes (f ∷ fs) [] h = no-letters (f ∷ fs)
+refs-codes (f ∷ fs) (one a ∷ ps) h = rw (one-after (Form.numberOf f) a (codes ps), refs-codes fs ps h) (atom-code a f (Refusal.refsIn ps fs))
+refs-codes (f ∷ fs) (many a ∷ ps) h =
+    let w = both (leb 65 (code a)) (Text.all fine ps) h in
+    let k = leb-true 65 (code a) (w .0) in
+    rw (many-after (Form.numberOf f) a ps (w .0), refs-codes fs (Form.ones (Form.numberOf f) a ++ ps) (ones-fine (Form.numberOf f) a ps (w .1)))
+    (not-ref (code a + 32) f _ (omega arith))
+
+-- the number of a reference, as it is read
+pub ref-number : (x : ℕ) (f : List ℕ) → 32 < x → x < 80 → holds x f ≡ true → Number.numberOf 65536 f ≡ min (Form.numberOf f) 65536
+unfolding Number.numberOf
+ref-number x f low high h = go (Text.natOf f) (ltb-true _ _ (sym (ref-holds x f low high) ∙ h))
+  where
+    go : (o : Option ℕ) → Number.capped 65536 o < 65537 → Number.capped 65536 o ≡ min (Text.orElse 0 o) 65536
+    go none k = absurd (omega arith)
+    go (some m) k = refl
+
+-- ---- the walk over a line
+
+module _ (s t : List ℕ) (n i : ℕ) (w : Whole s t n) (h : i < n) (l : List ℕ) (f : ℕ) (hl : l ≡ textAt s i) (hf : f ≡ formAt t i) where
+  pub refs-begin : Refusal.refsOf (readAt s i) ≡ refsIn (lettersFrom f (beginning f)) (fieldsLeft l (beginning f))
+  unfolding pending
+  refs-begin =
+      rw (form-is s t n w i h, fields-are s t n w i h, hf, hl)
+      (sym (refs-codes _ (rowAt (formAt t i) .parts) (parts-fine (formAt t i) (form-low s t n w i h))))
+
+  pub stands : Standing f l (beginning f)
+  stands = rw (hf, hl) (walk-begins (formAt t i) (textAt s i) (form-low s t n w i h) (rw (fields-are s t n w i h) at (read-fits s t n w i h)))
+
+pub refs-step : (f : ℕ) (l : List ℕ) (w u : Walk) (x v : ℕ) (q : Stepped f l w x v u) → refsIn (lettersFrom f w) (fieldsLeft l w) ≡ refOf x (q .field) (refsIn (lettersFrom f u) (fieldsLeft l u))
+unfolding refsIn
+refs-step f l w u x v q = ap (refsIn (lettersFrom f w)) (q .fields) ∙ rw (← q .letter, ← q .letters)
+
+pub refs-end : (f : ℕ) (l : List ℕ) (w : Walk) → length l < w .at → refsIn (lettersFrom f w) (fieldsLeft l w) ≡ []
+unfolding refsIn
+refs-end f l w h = rw (fields-end (w .at) l h)
+
+-- ---- bytes above the tables of lines may change
+
+module _ (t : List ℕ) (j y : ℕ) where
+  start-kept : (i : ℕ) → i < 1024 → start (set t (3072 + j) y) i ≡ start t i
+  unfolding start
+  start-kept i h = rw (getD-set-other t (3072 + j) i y 0 (omega arith), getD-set-other t (3072 + j) (1024 + i) y 0 (omega arith))
+
+  form-kept : (i : ℕ) → i < 1024 → formAt (set t (3072 + j) y) i ≡ formAt t i
+  unfolding formAt
+  form-kept i h = getD-set-other t (3072 + j) (2048 + i) y 0 (omega arith)
+
+  lined-kept : (s : List ℕ) (n : ℕ) → Lined s t n → Lined s (set t (3072 + j) y) n
+  lined-kept s n l = record {
+    few = l .few;
+    at = λ i h. rw (start-kept i (omega (arith, l .few))) (l .at i h);
+    within = λ i h. rw (start-kept i (omega (arith, l .few))) (l .within i h);
+    row = λ i h. rw (form-kept i (omega (arith, l .few))) (l .row i h);
+    good = λ i h. l .good i h;
+  }
+
+pub whole-set : (s t : List ℕ) (n j y : ℕ) → Whole s t n → Whole s (set t (3072 + j) y) n
+whole-set s t n j y w = record { lined = lined-kept t j y s n (w .lined); count = w .count; room = rw (length-set t (3072 + j) y) (w .room) }

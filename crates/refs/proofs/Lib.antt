@@ -1,0 +1,5 @@
+pub mod Letters
+pub mod Laws
+pub mod Fine
+pub mod Once
+pub mod Nodes
