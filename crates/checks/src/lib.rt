@@ -19,16 +19,6 @@ pub enum Checks {
     Refused(u8, usize),
 }
 
-fn clear(work: &mut [u8])
-    ensures { λ _. ⌜ now (work .exit) ≡ zeros (length (now (work .entry))) ⌝ }
-{
-    let mut i = 0;
-    while i < work.len() {
-        work[i] = 0;
-        i += 1;
-    }
-}
-
 // Refusals 4 to 7, where all n lines have a form and none is used.
 fn rules(sheet: &[u8], work: &mut [u8], n: usize) -> Checks
     requires { ⌜ (Whole (now sheet) (now work) n) × (Used (now work) []) ⌝ }
@@ -68,7 +58,7 @@ fn passes(sheet: &[u8], work: &mut [u8]) -> Checks
 pub fn check(sheet: &[u8], work: &mut [u8]) -> Checks
     ensures { λ r. ⌜ ((o : Outcome) → tested (length (now (work .entry))) (now (sheet .entry)) o ≡ settled r o) × (Tables (now (sheet .entry)) (now (work .exit)) r) ⌝ }
 {
-    clear(work);
+    write::zero(work);
     if LONGEST < sheet.len() {
         return Checks::Refused(1, 0);
     }
@@ -78,7 +68,7 @@ pub fn check(sheet: &[u8], work: &mut [u8]) -> Checks
     match passes(sheet, work) {
         Checks::Lines(n) => Checks::Lines(n),
         Checks::Refused(r, k) => {
-            clear(work);
+            write::zero(work);
             Checks::Refused(r, k)
         }
     }
