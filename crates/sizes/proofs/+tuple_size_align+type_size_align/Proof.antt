@@ -1,0 +1,352 @@
+use Rattle.sizes.proofs.Types.{in-sheet, measures-plain, Measuring, measuring-start, measuring-end, measuring-next, field-line, field-before}
+use mathlib.Core.Bool.{true, false}
+use denote.Ref.{now}
+use mathlib.Core.Path.{refl, sym, _∙_}
+use borrow.Author.Needs.{needs}
+use native.Mathlib.Omega.{arith}
+use Prim.Native.Nat.{_+_, _-_, _*_}
+use Prim.Native.Nat.{ℕ, _<_}
+use borrow.Fn.Kinds.{In}
+use borrow.Fn.PlainCycle.{Measures, is, falls, and}
+use Rattle.sizes.proofs.tuple_size_align.Reads as tuple-size-align
+use Rattle.sizes.proofs.tuple_size_align.Kinds as tuple-size-align-kinds
+use Rattle.sizes.proofs.+tuple_size_align+type_size_align.Lts-tuple_size_align as tuple-size-align-lts
+use Rattle.sizes.proofs.type_size_align.Reads as type-size-align
+use Rattle.sizes.proofs.type_size_align.Kinds as type-size-align-kinds
+use Rattle.sizes.proofs.+tuple_size_align+type_size_align.Lts-type_size_align as type-size-align-lts
+use Rattle.lines.proofs.form_at.Reads as form-at-reads
+use Rattle.lines.proofs.number_at.Reads as number-at-reads
+use Rattle.sizes.proofs.behind.Reads as behind-reads
+use Rattle.sizes.proofs.is_long.Reads as is-long-reads
+use Rattle.sizes.proofs.rounded_size.Reads as rounded-size-reads
+use Rattle.sizes.proofs.+tuple_size_align+type_size_align.{statement}
+use Rattle.sizes.proofs.+tuple_size_align+type_size_align.Tie.{close}
+
+abbrev μ-tuple-size-align : Measures 2 tuple-size-align-kinds.ps ℕ
+μ-tuple-size-align κs a = 2 * a .1 .1 .1 .0
+
+abbrev μ-type-size-align : Measures 2 type-size-align-kinds.ps ℕ
+μ-type-size-align κs a = 2 * a .1 .1 .1 .0 + 1
+
+abbrev tuple-size-align-at : ℕ → In 2 tuple-size-align-kinds.ps
+tuple-size-align-at t =
+    and
+    2
+    tuple-size-align-kinds.ps
+    (is 2 tuple-size-align-kinds.ps μ-tuple-size-align t)
+    tuple-size-align.Pre
+
+abbrev tuple-size-align-below : ℕ → In 2 tuple-size-align-kinds.ps
+tuple-size-align-below t =
+    and
+    2
+    tuple-size-align-kinds.ps
+    (falls 2 tuple-size-align-kinds.ps _<_ μ-tuple-size-align t)
+    tuple-size-align.Pre
+
+abbrev type-size-align-at : ℕ → In 2 type-size-align-kinds.ps
+type-size-align-at t =
+    and
+    2
+    type-size-align-kinds.ps
+    (is 2 type-size-align-kinds.ps μ-type-size-align t)
+    type-size-align.Pre
+
+abbrev type-size-align-below : ℕ → In 2 type-size-align-kinds.ps
+type-size-align-below t =
+    and
+    2
+    type-size-align-kinds.ps
+    (falls 2 type-size-align-kinds.ps _<_ μ-type-size-align t)
+    type-size-align.Pre
+
+abbrev tuple-size-align-Inv-loop : tuple-size-align-lts.InvT-loop
+tuple-size-align-Inv-loop sheet work n r count t₀ j₀ t j = Measuring sheet r count (t .size) (t .align) j
+
+abbrev tuple-size-align-μ-loop : tuple-size-align-lts.MeasureT-loop
+tuple-size-align-μ-loop sheet work n r count t₀ j₀ t j = count - j
+
+-- src/lib.rt:85:50
+tuple-size-align-sub-number-at : (t : ℕ) → tuple-size-align-lts.Need-sub-number-at (
+  number-at-reads.Asked,
+  number-at-reads.Learnt,
+  type-size-align-below t,
+  type-size-align.Post,
+  behind-reads.Asked,
+  behind-reads.Learnt,
+  rounded-size-reads.Asked,
+  rounded-size-reads.Learnt,
+) (tuple-size-align-at t) tuple-size-align.Post tuple-size-align-Inv-loop tuple-size-align-μ-loop
+tuple-size-align-sub-number-at t c = c .before .before .pre .1 .line .first
+
+-- src/lib.rt:85:9
+tuple-size-align-number-at-requires : (t : ℕ) → tuple-size-align-lts.Need-number-at-requires (
+  number-at-reads.Asked,
+  number-at-reads.Learnt,
+  type-size-align-below t,
+  type-size-align.Post,
+  behind-reads.Asked,
+  behind-reads.Learnt,
+  rounded-size-reads.Asked,
+  rounded-size-reads.Learnt,
+) (tuple-size-align-at t) tuple-size-align.Post tuple-size-align-Inv-loop tuple-size-align-μ-loop
+tuple-size-align-number-at-requires t c κs = (c .before .before .pre .1 .line .checked .whole, in-sheet (now (c .before .before .args .sheet)) (now (c .before .before .args .work)) (c .before .before .args .n) (c .before .before .args .r) (c .before .before .pre .1 .line))
+
+-- src/lib.rt:88:5
+tuple-size-align-loop-holds : (t : ℕ) → tuple-size-align-lts.Need-loop-holds (
+  number-at-reads.Asked,
+  number-at-reads.Learnt,
+  type-size-align-below t,
+  type-size-align.Post,
+  behind-reads.Asked,
+  behind-reads.Learnt,
+  rounded-size-reads.Asked,
+  rounded-size-reads.Learnt,
+) (tuple-size-align-at t) tuple-size-align.Post tuple-size-align-Inv-loop tuple-size-align-μ-loop
+tuple-size-align-loop-holds t c = measuring-start (now (c .before .before .before .args .sheet)) (now (c .before .before .before .args .work)) (c .before .before .before .args .n) (c .before .before .before .args .r) (c .before .before .before .pre .1) (c .number-at .result) (c .number-at .ensures .0)
+
+-- src/lib.rt:89:9
+tuple-size-align-add-j : (t : ℕ) → tuple-size-align-lts.Need-add-j (
+  number-at-reads.Asked,
+  number-at-reads.Learnt,
+  type-size-align-below t,
+  type-size-align.Post,
+  behind-reads.Asked,
+  behind-reads.Learnt,
+  rounded-size-reads.Asked,
+  rounded-size-reads.Learnt,
+) (tuple-size-align-at t) tuple-size-align.Post tuple-size-align-Inv-loop tuple-size-align-μ-loop
+tuple-size-align-add-j t c = record { fits = omega (arith, c .loop-test .taken, c .before .before .number-at .ensures .1) }
+
+-- src/lib.rt:90:82
+tuple-size-align-sub-number-at-2 : (t : ℕ) → tuple-size-align-lts.Need-sub-number-at-2 (
+  number-at-reads.Asked,
+  number-at-reads.Learnt,
+  type-size-align-below t,
+  type-size-align.Post,
+  behind-reads.Asked,
+  behind-reads.Learnt,
+  rounded-size-reads.Asked,
+  rounded-size-reads.Learnt,
+) (tuple-size-align-at t) tuple-size-align.Post tuple-size-align-Inv-loop tuple-size-align-μ-loop
+tuple-size-align-sub-number-at-2 t c = c .before .before .before .before .before .pre .1 .line .first
+
+-- src/lib.rt:90:49
+tuple-size-align-number-at-requires-2 : (t : ℕ) → tuple-size-align-lts.Need-number-at-requires-2 (
+  number-at-reads.Asked,
+  number-at-reads.Learnt,
+  type-size-align-below t,
+  type-size-align.Post,
+  behind-reads.Asked,
+  behind-reads.Learnt,
+  rounded-size-reads.Asked,
+  rounded-size-reads.Learnt,
+) (tuple-size-align-at t) tuple-size-align.Post tuple-size-align-Inv-loop tuple-size-align-μ-loop
+tuple-size-align-number-at-requires-2 t c κs = (c .before .before .before .before .before .pre .1 .line .checked .whole, in-sheet (now (c .before .before .before .before .before .args .sheet)) (now (c .before .before .before .before .before .args .work)) (c .before .before .before .before .before .args .n) (c .before .before .before .before .before .args .r) (c .before .before .before .before .before .pre .1 .line))
+
+-- src/lib.rt:90:13
+tuple-size-align-type-size-align-requires :
+    (t : ℕ) → tuple-size-align-lts.Need-type-size-align-requires (
+      number-at-reads.Asked,
+      number-at-reads.Learnt,
+      type-size-align-below t,
+      type-size-align.Post,
+      behind-reads.Asked,
+      behind-reads.Learnt,
+      rounded-size-reads.Asked,
+      rounded-size-reads.Learnt,
+    )
+    (tuple-size-align-at t)
+    tuple-size-align.Post
+    tuple-size-align-Inv-loop
+    tuple-size-align-μ-loop
+tuple-size-align-type-size-align-requires t c κs = (omega (arith, c .before .before .before .before .before .before .pre .0, field-before (now (c .before .before .before .before .before .before .args .sheet)) (now (c .before .before .before .before .before .before .args .work)) (c .before .before .before .before .before .before .args .n) (c .before .before .before .before .before .before .args .r) (c .before .before .before .before .before .before .pre .1) (c .before .before .before .number-at .result) (c .before .before .before .number-at .ensures .0) (c .before .before .loop .t .size) (c .before .before .loop .t .align) (c .before .before .loop .j) (c .before .before .loop .inv) (c .before .loop-test .taken) (c .number-at2 .result) (c .number-at2 .ensures .0)), field-line (now (c .before .before .before .before .before .before .args .sheet)) (now (c .before .before .before .before .before .before .args .work)) (c .before .before .before .before .before .before .args .n) (c .before .before .before .before .before .before .args .r) (c .before .before .before .before .before .before .pre .1) (c .before .before .before .number-at .result) (c .before .before .before .number-at .ensures .0) (c .before .before .loop .t .size) (c .before .before .loop .t .align) (c .before .before .loop .j) (c .before .before .loop .inv) (c .before .loop-test .taken) (c .number-at2 .result) (c .number-at2 .ensures .0))
+
+-- src/lib.rt:91:9
+tuple-size-align-behind-requires : (t : ℕ) → tuple-size-align-lts.Need-behind-requires (
+  number-at-reads.Asked,
+  number-at-reads.Learnt,
+  type-size-align-below t,
+  type-size-align.Post,
+  behind-reads.Asked,
+  behind-reads.Learnt,
+  rounded-size-reads.Asked,
+  rounded-size-reads.Learnt,
+) (tuple-size-align-at t) tuple-size-align.Post tuple-size-align-Inv-loop tuple-size-align-μ-loop
+tuple-size-align-behind-requires t c κs = (c .before .before .before .loop .inv .small, c .type-size-align .ensures .small, c .type-size-align .ensures .low)
+
+-- src/lib.rt:88:5
+tuple-size-align-loop-less : (t : ℕ) → tuple-size-align-lts.Need-loop-less (
+  number-at-reads.Asked,
+  number-at-reads.Learnt,
+  type-size-align-below t,
+  type-size-align.Post,
+  behind-reads.Asked,
+  behind-reads.Learnt,
+  rounded-size-reads.Asked,
+  rounded-size-reads.Learnt,
+) (tuple-size-align-at t) tuple-size-align.Post tuple-size-align-Inv-loop tuple-size-align-μ-loop
+tuple-size-align-loop-less t c = omega (arith, c .before .before .before .loop-test .taken)
+
+-- src/lib.rt:88:5
+tuple-size-align-loop-again : (t : ℕ) → tuple-size-align-lts.Need-loop-again (
+  number-at-reads.Asked,
+  number-at-reads.Learnt,
+  type-size-align-below t,
+  type-size-align.Post,
+  behind-reads.Asked,
+  behind-reads.Learnt,
+  rounded-size-reads.Asked,
+  rounded-size-reads.Learnt,
+) (tuple-size-align-at t) tuple-size-align.Post tuple-size-align-Inv-loop tuple-size-align-μ-loop
+tuple-size-align-loop-again t c = measuring-next (now (c .before .before .before .before .before .before .before .before .args .sheet)) (now (c .before .before .before .before .before .before .before .before .args .work)) (c .before .before .before .before .before .before .before .before .args .n) (c .before .before .before .before .before .before .before .before .args .r) (c .before .before .before .before .before .before .before .before .pre .1) (c .before .before .before .before .before .number-at .result) (c .before .before .before .before .before .number-at .ensures .0) (c .before .before .before .before .loop .t .size) (c .before .before .before .before .loop .t .align) (c .before .before .before .before .loop .j) (c .before .before .before .before .loop .inv) (c .before .before .before .loop-test .taken) (c .before .before .number-at2 .result) (c .before .before .number-at2 .ensures .0) (c .before .type-size-align .result .size) (c .before .type-size-align .result .align) (c .behind .result .size) (c .behind .result .align) (c .before .type-size-align .ensures) (c .behind .ensures .0) (c .behind .ensures .1)
+
+-- src/lib.rt:94:15
+tuple-size-align-rounded-size-requires : (t : ℕ) → tuple-size-align-lts.Need-rounded-size-requires (
+  number-at-reads.Asked,
+  number-at-reads.Learnt,
+  type-size-align-below t,
+  type-size-align.Post,
+  behind-reads.Asked,
+  behind-reads.Learnt,
+  rounded-size-reads.Asked,
+  rounded-size-reads.Learnt,
+) (tuple-size-align-at t) tuple-size-align.Post tuple-size-align-Inv-loop tuple-size-align-μ-loop
+tuple-size-align-rounded-size-requires t c κs = omega (arith, c .before .loop .inv .small)
+
+-- src/lib.rt:81:1
+tuple-size-align-returns : (t : ℕ) → tuple-size-align-lts.Need-returns (
+  number-at-reads.Asked,
+  number-at-reads.Learnt,
+  type-size-align-below t,
+  type-size-align.Post,
+  behind-reads.Asked,
+  behind-reads.Learnt,
+  rounded-size-reads.Asked,
+  rounded-size-reads.Learnt,
+) (tuple-size-align-at t) tuple-size-align.Post tuple-size-align-Inv-loop tuple-size-align-μ-loop
+tuple-size-align-returns t c = measuring-end (now (c .before .before .before .before .before .before .args .sheet)) (now (c .before .before .before .before .before .before .args .work)) (c .before .before .before .before .before .before .args .n) (c .before .before .before .before .before .before .args .r) (c .before .before .before .before .before .before .pre .1) (c .before .before .before .number-at .result) (c .before .before .before .number-at .ensures .0) (c .before .before .loop .t .size) (c .before .before .loop .t .align) (c .before .before .loop .j) (c .before .before .loop .inv) (c .before .loop-test .left) (c .rounded-size .ensures) refl
+
+-- src/lib.rt:69:34
+type-size-align-sub-form-at : (t : ℕ) → type-size-align-lts.Need-sub-form-at (
+  form-at-reads.Asked,
+  form-at-reads.Learnt,
+  tuple-size-align-below t,
+  tuple-size-align.Post,
+  is-long-reads.Asked,
+  is-long-reads.Learnt,
+) (type-size-align-at t) type-size-align.Post
+type-size-align-sub-form-at t c = c .before .before .pre .1 .first
+
+-- src/lib.rt:69:9
+type-size-align-form-at-requires : (t : ℕ) → type-size-align-lts.Need-form-at-requires (
+  form-at-reads.Asked,
+  form-at-reads.Learnt,
+  tuple-size-align-below t,
+  tuple-size-align.Post,
+  is-long-reads.Asked,
+  is-long-reads.Learnt,
+) (type-size-align-at t) type-size-align.Post
+type-size-align-form-at-requires t c κs = (omega (arith, c .before .before .pre .1 .last, c .before .before .pre .1 .first, c .before .before .pre .1 .checked .whole .lined .few), c .before .before .pre .1 .checked .whole .room)
+
+-- src/lib.rt:71:9
+type-size-align-tuple-size-align-requires :
+    (t : ℕ) → type-size-align-lts.Need-tuple-size-align-requires (
+      form-at-reads.Asked,
+      form-at-reads.Learnt,
+      tuple-size-align-below t,
+      tuple-size-align.Post,
+      is-long-reads.Asked,
+      is-long-reads.Learnt,
+    ) (type-size-align-at t) type-size-align.Post
+type-size-align-tuple-size-align-requires t c κs = (omega (arith, c .before .before .before .before .pre .0), record { line = c .before .before .before .before .pre .1; form = sym (c .before .form-at .ensures) ∙ c .if1 .taken })
+
+-- src/lib.rt:71:9
+type-size-align-returns : (t : ℕ) → type-size-align-lts.Need-returns (
+  form-at-reads.Asked,
+  form-at-reads.Learnt,
+  tuple-size-align-below t,
+  tuple-size-align.Post,
+  is-long-reads.Asked,
+  is-long-reads.Learnt,
+) (type-size-align-at t) type-size-align.Post
+type-size-align-returns t c = c .tuple-size-align .ensures
+
+-- src/lib.rt:73:8
+type-size-align-is-long-requires : (t : ℕ) → type-size-align-lts.Need-is-long-requires (
+  form-at-reads.Asked,
+  form-at-reads.Learnt,
+  tuple-size-align-below t,
+  tuple-size-align.Post,
+  is-long-reads.Asked,
+  is-long-reads.Learnt,
+) (type-size-align-at t) type-size-align.Post
+type-size-align-is-long-requires t c κs = search needs
+
+-- src/lib.rt:74:9
+type-size-align-returns-2 : (t : ℕ) → type-size-align-lts.Need-returns-2 (
+  form-at-reads.Asked,
+  form-at-reads.Learnt,
+  tuple-size-align-below t,
+  tuple-size-align.Post,
+  is-long-reads.Asked,
+  is-long-reads.Learnt,
+) (type-size-align-at t) type-size-align.Post
+type-size-align-returns-2 t c = measures-plain (now (c .before .before .before .before .before .before .args .sheet)) (now (c .before .before .before .before .before .before .args .work)) (c .before .before .before .before .before .before .args .n) (c .before .before .before .before .before .before .args .r) (c .before .before .before .before .before .before .pre .1) (c .before .before .before .form-at .result) (c .before .before .before .form-at .ensures) (c .before .before .if1 .left) true (sym (c .if2 .taken) ∙ c .before .is-long .ensures)
+
+-- src/lib.rt:65:1
+type-size-align-returns-3 : (t : ℕ) → type-size-align-lts.Need-returns-3 (
+  form-at-reads.Asked,
+  form-at-reads.Learnt,
+  tuple-size-align-below t,
+  tuple-size-align.Post,
+  is-long-reads.Asked,
+  is-long-reads.Learnt,
+) (type-size-align-at t) type-size-align.Post
+type-size-align-returns-3 t c = measures-plain (now (c .before .before .before .before .before .before .args .sheet)) (now (c .before .before .before .before .before .before .args .work)) (c .before .before .before .before .before .before .args .n) (c .before .before .before .before .before .before .args .r) (c .before .before .before .before .before .before .pre .1) (c .before .before .before .form-at .result) (c .before .before .before .form-at .ensures) (c .before .before .if1 .left) false (sym (c .if2 .left) ∙ c .before .is-long .ensures)
+
+pub +tuple-size-align+type-size-align-spec : {M : Type 1} → statement M
++tuple-size-align+type-size-align-spec =
+    close μ-tuple-size-align μ-type-size-align (λ t. tuple-size-align-lts.spec (
+      number-at-reads.Asked,
+      number-at-reads.Learnt,
+      type-size-align-below t,
+      type-size-align.Post,
+      behind-reads.Asked,
+      behind-reads.Learnt,
+      rounded-size-reads.Asked,
+      rounded-size-reads.Learnt,
+    )
+    (tuple-size-align-at t)
+    tuple-size-align.Post
+    tuple-size-align-Inv-loop
+    tuple-size-align-μ-loop
+    (tuple-size-align-sub-number-at t)
+    (tuple-size-align-number-at-requires t)
+    (tuple-size-align-loop-holds t)
+    (tuple-size-align-add-j t)
+    (tuple-size-align-sub-number-at-2 t)
+    (tuple-size-align-number-at-requires-2 t)
+    (tuple-size-align-type-size-align-requires t)
+    (tuple-size-align-behind-requires t)
+    (tuple-size-align-loop-less t)
+    (tuple-size-align-loop-again t)
+    (tuple-size-align-rounded-size-requires t)
+    (tuple-size-align-returns t))
+    λ t. type-size-align-lts.spec (
+      form-at-reads.Asked,
+      form-at-reads.Learnt,
+      tuple-size-align-below t,
+      tuple-size-align.Post,
+      is-long-reads.Asked,
+      is-long-reads.Learnt,
+    )
+    (type-size-align-at t)
+    type-size-align.Post
+    (type-size-align-sub-form-at t)
+    (type-size-align-form-at-requires t)
+    (type-size-align-tuple-size-align-requires t)
+    (type-size-align-returns t)
+    (type-size-align-is-long-requires t)
+    (type-size-align-returns-2 t)
+    (type-size-align-returns-3 t)

@@ -1,0 +1,347 @@
+-- Where `fd` lines are placed.
+use mathlib.Core.Path.{_≡_, refl, sym, ap, _∙_}
+use mathlib.Core.Bool.{Bool, true, false}
+use mathlib.Core.List.{List, [], _∷_, _++_}
+use mathlib.Core.Option.{some}
+use Prim.Native.Nat.{ℕ, zero, suc, _+_, _-_, _*_, _≤_, _<_, max}
+use native.Mathlib.Nat.{mul-le-mul-left, mul-le-mul-right, suc-mul}
+use native.Mathlib.Numerals.{add-one}
+use native.Mathlib.Omega.{arith}
+use lib.Dec.{ltb, eqb}
+use lib.ListN.{length, drop, getD}
+use lib.Seq.{getD-drop}
+use borrow.Author.Tests.{ltb-true, eqb-true, eqb-false, ne-eqb}
+use Rattle.semantics.specs.Text.{Bytes, headPart, tailParts}
+use Rattle.semantics.specs.Tree.{Ty, Node}
+use Rattle.semantics.specs.Form.{Read, Row, Atom, Part, letter, forms, nodeAt, perhapsAt, values, numberOf, fits, holds, isCount, isNumber, ones, tyOf, fdsOf}
+use Rattle.semantics.specs.Form.Kind.{kTy, kFd, kPc}
+use Rattle.semantics.specs.Form.Atom.{name, ref, maybe}
+use Rattle.semantics.specs.Form.Part.{one, many}
+use Rattle.semantics.specs.Refusal.{lineAt, refsIn}
+use Rattle.semantics.specs.Layout.{alignUp, sizeOf, alignOf, Placed, placeNames, place, furthest}
+use Rattle.text.specs.Number as Number
+use Rattle.form.specs.Table.{rowAt, kindAt, rowNode}
+use Rattle.form.proofs.Table.{both}
+use Rattle.lines.specs.Lines.{readsIn, readAt, nodesIn, formAt}
+use Rattle.lines.proofs.Line.{form-low, form-is, kind-is, read-fits}
+use Rattle.refs.specs.Refs.{fineRef, fineRefs}
+use Rattle.refs.proofs.Fine.{needed-ref}
+use Rattle.refs.proofs.Nodes.{node-at}
+use Rattle.checks.specs.Checks.{Checked}
+use Rattle.sizes.specs.declared.place.Reached.{Reached}
+use Rattle.sizes.specs.Sizes.{typeAt, TypeLine, Measures}
+use Rattle.sizes.specs.Places.{fieldAt, fieldsAt, ownFields, commonAt, caseAt, FieldLine, FieldRefs, RecordLine, CaseLine, LinePlaced, AllPlaced}
+use Rattle.sizes.proofs.Types.{field-form, case-form, adt-form, pick-form, number-exact, count-number, Good, group-good, head-drop, tail-drop}
+
+-- 16 names of the largest type
+pub names-small : {a b : ℕ} → a ≤ 16 → b ≤ 8192 → a * b ≤ 131072
+names-small {a} {b} h k = omega (arith, mul-le-mul-left a k, mul-le-mul-right 8192 h)
+
+-- names lie one behind the other, so the last ends furthest
+names-end : (t : Ty) (off : ℕ) (ns : List Bytes) → placeNames t off ns .end ≡ off + length ns * sizeOf t
+names-end t off [] = omega arith
+names-end t off (n ∷ ns) = omega (arith, names-end t (off + sizeOf t) ns, suc-mul (length ns) (sizeOf t))
+
+names-furthest : (t : Ty) (off f : ℕ) (n : Bytes) (ns : List Bytes) → furthest f (placeNames t off (n ∷ ns) .placed) ≡ max f (placeNames t off (n ∷ ns) .end)
+names-furthest t off f n [] = refl
+names-furthest t off f n (m ∷ ns) = omega (arith, names-furthest t (off + sizeOf t) (max f (off + sizeOf t)) m ns, names-end t (off + sizeOf t) (m ∷ ns))
+
+module _ (p q : Reached) (size align names : ℕ) (at : ℕ) (ha : at ≡ alignUp align (p .end)) (he : q .end ≡ at + names * size) (t : Ty) (ns : List Bytes) (m : Measures t size align) (hn : names ≡ length ns) where
+  line-end : q .end ≡ placeNames t (alignUp (alignOf t) (p .end)) ns .end
+  line-end = rw (names-end t (alignUp (alignOf t) (p .end)) ns, he, ha, hn, m .whole, m .step)
+
+  pub placed-none : names ≡ 0 → q .furthest ≡ p .furthest → LinePlaced (some t) ns p q
+  placed-none z hf = record { end = line-end; furthest = hf ∙ go ns (sym hn ∙ z) }
+    where
+      go : (ms : List Bytes) → length ms ≡ 0 → p .furthest ≡ furthest (p .furthest) (placeNames t (alignUp (alignOf t) (p .end)) ms .placed)
+      go [] e = refl
+      go (x ∷ ms) e = absurd (omega arith)
+
+  pub placed-some : (names ≡ 0 → ⊥) → q .furthest ≡ max (p .furthest) (q .end) → LinePlaced (some t) ns p q
+  placed-some z hf = record { end = line-end; furthest = hf ∙ rw line-end (go ns (λ e. z (hn ∙ e))) }
+    where
+      go : (ms : List Bytes) → (length ms ≡ 0 → ⊥) → max (p .furthest) (placeNames t (alignUp (alignOf t) (p .end)) ms .end) ≡ furthest (p .furthest) (placeNames t (alignUp (alignOf t) (p .end)) ms .placed)
+      go [] e = absurd (e refl)
+      go (x ∷ ms) e = sym (names-furthest t (alignUp (alignOf t) (p .end)) (p .furthest) x ms)
+
+-- ---- an `fd` line
+
+abbrev fieldParts : List Part
+fieldParts = one (maybe kTy) ∷ (many name ∷ [])
+
+first-ref : (ls : List Read) (i : ℕ) (fs : List (List ℕ)) → fits fieldParts fs ≡ true → fineRefs ls i (refsIn fieldParts fs) ≡ true
+    → (isNumber (getD fs 0 []) ≡ true) × (isCount (getD fs 1 []) ≡ true) × (fineRef ls (i + 1) (record { kind = 75; optional = true; line = numberOf (getD fs 0 []) }) ≡ true)
+unfolding fineRefs
+first-ref ls i [] h k = let z : _≡_ {A = ℕ} 0 1 = cc in absurd (omega arith)
+first-ref ls i (f ∷ []) h k = let p : false ≡ true = both (isNumber f) false h .1 in let z : _≡_ {A = ℕ} 0 1 = cc in absurd (omega arith)
+first-ref ls i (f ∷ (g ∷ fs)) h k =
+    let v = both (isNumber f) (fits (many name ∷ []) (g ∷ fs)) h in
+    let w = both (isCount g) (fits (ones (numberOf g) name ++ []) fs) (v .1) in
+    (v .0, w .0, both (fineRef ls (i + 1) (record { kind = 75; optional = true; line = numberOf f })) (fineRefs ls i (refsIn (many name ∷ []) (g ∷ fs))) k .0)
+
+-- a reference that is not 0
+given-ref : (ls : List Read) (k q m : ℕ) → fineRef ls k (record { kind = q; optional = true; line = m }) ≡ true → (m ≡ 0 → ⊥) → (m < k) × (letter (lineAt ls m .form .kind) ≡ q)
+given-ref ls k q m h z =
+    let w = both (ltb m k) (eqb (letter (lineAt ls m .form .kind)) q) (rw (ne-eqb m 0 z) at h) in
+    (ltb-true m k (w .0), eqb-true (letter (lineAt ls m .form .kind)) q (w .1))
+
+second-part : (fs : List (List ℕ)) → headPart (tailParts fs) ≡ getD fs 1 []
+second-part [] = refl
+second-part (f ∷ []) = refl
+second-part (f ∷ (g ∷ fs)) = refl
+
+values-length : (a : Atom) (ns : List Node) (n : ℕ) (fs : List (List ℕ)) → length (values a ns n fs) ≡ n
+values-length a ns zero fs = refl
+values-length a ns (suc n) fs = ap suc (values-length a ns n (tailParts fs))
+
+module _ (s t : List ℕ) (n r : ℕ) (l : FieldLine s t n r) where
+  field-in : r - 1 < n
+  field-in = omega (arith, l .first, l .last)
+
+  form-fd : formAt t (r - 1) ≡ 24
+  form-fd = field-form (formAt t (r - 1)) (form-low s t n (l .checked .whole) (r - 1) field-in) (sym (kind-is s t n (l .checked .whole) (r - 1) field-in) ∙ l .kind)
+
+  parts-good : (isNumber (getD (readAt s (r - 1) .fields) 0 []) ≡ true) × (isCount (getD (readAt s (r - 1) .fields) 1 []) ≡ true)
+      × (fineRef (readsIn s) (r - 1 + 1) (record { kind = 75; optional = true; line = numberOf (getD (readAt s (r - 1) .fields) 0 []) }) ≡ true)
+  unfolding forms
+  parts-good =
+      let w = l .checked .whole in
+      let p : readAt s (r - 1) .form .parts ≡ fieldParts = ap (λ (x : Row). x .parts) (form-is s t n w (r - 1) field-in) ∙ ap (λ (g : ℕ). rowAt g .parts) form-fd in
+      first-ref (readsIn s) (r - 1) (readAt s (r - 1) .fields) (rw form-fd at (read-fits s t n w (r - 1) field-in)) (rw p at (l .checked .fine (r - 1) field-in))
+
+  fd-is : fieldAt s r ≡ record { ty = tyOf (perhapsAt (nodesIn s) (numberOf (getD (readAt s (r - 1) .fields) 0 []))); names = values name (nodesIn s) (numberOf (getD (readAt s (r - 1) .fields) 1 [])) (tailParts (tailParts (readAt s (r - 1) .fields))) }
+  unfolding forms
+  fd-is =
+      ap (λ (m : Node). m .fd) (node-at s t n (l .checked .whole) (l .checked .good) (r - 1) field-in)
+      ∙ rw (form-fd, head-drop 0 (readAt s (r - 1) .fields), second-part (readAt s (r - 1) .fields))
+
+  module _ (v : ℕ) (hv : v ≡ Number.numberOf 65536 (getD (readAt s (r - 1) .fields) 0 [])) where
+    type-number : v ≡ numberOf (getD (readAt s (r - 1) .fields) 0 [])
+    type-number = hv ∙ number-exact (getD (readAt s (r - 1) .fields) 0 []) (parts-good .0) (go (eqb (numberOf (getD (readAt s (r - 1) .fields) 0 [])) 0) refl)
+      where
+        go : (b : Bool) → eqb (numberOf (getD (readAt s (r - 1) .fields) 0 [])) 0 ≡ b → numberOf (getD (readAt s (r - 1) .fields) 0 []) ≤ 65536
+        go true e = omega (arith, eqb-true (numberOf (getD (readAt s (r - 1) .fields) 0 [])) 0 e)
+        go false e =
+            let w = given-ref (readsIn s) (r - 1 + 1) 75 (numberOf (getD (readAt s (r - 1) .fields) 0 [])) (parts-good .2) (eqb-false (numberOf (getD (readAt s (r - 1) .fields) 0 [])) 0 e) in
+            omega (arith, w .0, l .last, l .checked .whole .lined .few)
+
+    pub placed-untyped : v ≡ 0 → (p : Reached) → LinePlaced (fieldAt s r .ty) (fieldAt s r .names) p p
+    placed-untyped z p = rw (fd-is, sym type-number ∙ z) (record { end = refl; furthest = refl })
+
+    module _ (z : v ≡ 0 → ⊥) where
+      pub type-line : TypeLine s t n v
+      type-line =
+          let w = given-ref (readsIn s) (r - 1 + 1) 75 v (rw (← type-number) at (parts-good .2)) z in
+          record { checked = l .checked; first = omega (arith, z); last = omega (arith, w .0, l .first, l .last); kind = w .1 }
+
+      typed : fieldAt s r .ty ≡ some (typeAt s v)
+      typed = rw (fd-is, ← type-number) (ap tyOf (perhaps-some v z))
+        where
+          perhaps-some : (m : ℕ) → (m ≡ 0 → ⊥) → perhapsAt (nodesIn s) m ≡ some (nodeAt (nodesIn s) m)
+          perhaps-some zero e = absurd (e refl)
+          perhaps-some (suc m) e = refl
+
+      module _ (w : ℕ) (hw : w ≡ Number.numberOf 65536 (getD (readAt s (r - 1) .fields) 1 [])) where
+        pub names-few : w ≤ 16
+        names-few = let q = count-number (getD (readAt s (r - 1) .fields) 1 []) (parts-good .1) in omega (arith, q .1, hw, number-exact (getD (readAt s (r - 1) .fields) 1 []) (q .0) (omega (arith, q .1)))
+
+        names-are : w ≡ length (fieldAt s r .names)
+        names-are =
+            let q = count-number (getD (readAt s (r - 1) .fields) 1 []) (parts-good .1) in
+            rw fd-is (hw ∙ number-exact (getD (readAt s (r - 1) .fields) 1 []) (q .0) (omega (arith, q .1)) ∙ sym (values-length name (nodesIn s) _ _))
+
+        pub placed-typed : (p q : Reached) → ((ns : List Bytes) → w ≡ length ns → LinePlaced (some (typeAt s v)) ns p q) → LinePlaced (fieldAt s r .ty) (fieldAt s r .names) p q
+        placed-typed p q h = rw typed (h (fieldAt s r .names) names-are)
+
+-- ---- several `fd` lines
+
+furthest-append : (f : ℕ) (ps qs : List Placed) → furthest f (ps ++ qs) ≡ furthest (furthest f ps) qs
+furthest-append f [] qs = refl
+furthest-append f (p ∷ ps) qs = furthest-append (max f (p .offset + sizeOf (p .ty))) ps qs
+
+-- q is behind the first j lines
+pub record Passing (s : List ℕ) (r from count : ℕ) (p q : Reached) (j : ℕ) : Type 0 where
+  pub within : j ≤ count
+  pub end : place (q .end) (fieldsAt s r (from + j) (count - j)) .end ≡ place (p .end) (fieldsAt s r from count) .end
+  pub furthest : furthest (q .furthest) (place (q .end) (fieldsAt s r (from + j) (count - j)) .placed) ≡ furthest (p .furthest) (place (p .end) (fieldsAt s r from count) .placed)
+  pub small : q .end ≤ p .end + 131080 * j
+
+module _ (s t : List ℕ) (n r from count : ℕ) (l : FieldRefs s t n r from count) (p : Reached) where
+  pub refs-in : r - 1 < n
+  refs-in = omega (arith, l .first, l .last)
+
+  pub passing-start : Passing s r from count p p 0
+  passing-start =
+      let z : from + 0 ≡ from = omega arith in
+      let y : count - 0 ≡ count = omega arith in
+      record { within = omega arith; end = rw (z, y); furthest = rw (z, y); small = omega arith }
+
+  module _ (q : Reached) (j : ℕ) (m : Passing s r from count p q j) where
+    pub passing-end : count ≤ j → AllPlaced (fieldsAt s r from count) p q
+    passing-end h = let z : count - j ≡ 0 = omega arith in record { end = rw z at (m .end); furthest = rw z at (m .furthest) }
+
+    module _ (h : j < count) (v : ℕ) (hv : v ≡ Number.numberOf 65536 (getD (readAt s (r - 1) .fields) (from + j) [])) where
+      line-number : v ≡ numberOf (getD (readAt s (r - 1) .fields) (from + j) [])
+      line-number = hv ∙ number-exact (getD (readAt s (r - 1) .fields) (from + j) []) (l .number j h) (omega (arith, l .each j h .last, l .checked .whole .lined .few))
+
+      pub passing-line : FieldLine s t n v
+      passing-line = rw line-number (l .each j h)
+
+      fields-next : fieldsAt s r (from + j) (count - j) ≡ fieldAt s v ∷ fieldsAt s r (from + (j + 1)) (count - (j + 1))
+      fields-next =
+          let z : count - j ≡ suc (count - (j + 1)) = omega arith in
+          let y : from + (j + 1) ≡ suc (from + j) = omega arith in
+          rw (z, y, head-drop (from + j) (readAt s (r - 1) .fields), tail-drop (from + j) (readAt s (r - 1) .fields), line-number)
+
+      pub passing-next : (u : Reached) → LinePlaced (fieldAt s v .ty) (fieldAt s v .names) q u → u .end ≤ q .end + 131080 → Passing s r from count p u (j + 1)
+      passing-next u x b = record {
+        within = omega arith;
+        end = rw (x .end) (rw fields-next at (m .end));
+        furthest = rw (x .end, x .furthest, ← furthest-append) (rw fields-next at (m .furthest));
+        small = omega (arith, m .small);
+      }
+
+-- ---- a count at field `at` of line r, and as many references to `fd` lines
+
+module _ (s t : List ℕ) (n r : ℕ) (c : Checked s t n) (first : 0 < r) (last : r ≤ n) (at : ℕ) (near : at ≤ 250) (ps : List Part)
+    (hf : fits (many (ref kFd) ∷ ps) (drop at (readAt s (r - 1) .fields)) ≡ true)
+    (hr : fineRefs (readsIn s) (r - 1) (refsIn (many (ref kFd) ∷ ps) (drop at (readAt s (r - 1) .fields))) ≡ true)
+    (count : ℕ) (hc : count ≡ Number.numberOf 65536 (getD (readAt s (r - 1) .fields) at [])) where
+  group : (isCount (getD (readAt s (r - 1) .fields) at []) ≡ true) × ((j : ℕ) → j < numberOf (getD (readAt s (r - 1) .fields) at []) → Good (readsIn s) (r - 1) 70 (getD (readAt s (r - 1) .fields) (at + 1 + j) []))
+  group =
+      let g = group-good (readsIn s) (r - 1) kFd ps (drop at (readAt s (r - 1) .fields)) hf hr in
+      let z : at + 0 ≡ at = omega arith in
+      let e : getD (drop at (readAt s (r - 1) .fields)) 0 [] ≡ getD (readAt s (r - 1) .fields) at [] = getD-drop at (readAt s (r - 1) .fields) 0 [] ∙ rw z in
+      (rw e at (g .0), λ j l. let y : at + 1 + j ≡ at + suc j = omega arith in rw (y, ← getD-drop at (readAt s (r - 1) .fields) (suc j) []) (g .1 j (rw e l)))
+
+  count-exact : (count ≡ numberOf (getD (readAt s (r - 1) .fields) at [])) × (count ≤ 16)
+  count-exact =
+      let q = count-number (getD (readAt s (r - 1) .fields) at []) (group .0) in
+      let e = hc ∙ number-exact (getD (readAt s (r - 1) .fields) at []) (q .0) (omega (arith, q .1)) in
+      (e, omega (arith, e, q .1))
+
+  group-refs : FieldRefs s t n r (at + 1) count
+  group-refs = record {
+    checked = c;
+    first = first;
+    last = last;
+    near = omega (arith, near);
+    few = count-exact .1;
+    number = λ j h. group .1 j (omega (arith, count-exact .0)) .number;
+    each = λ j h.
+        let k = needed-ref (readsIn s) (r - 1 + 1) 70 (numberOf (getD (readAt s (r - 1) .fields) (at + 1 + j) [])) (group .1 j (omega (arith, count-exact .0)) .fine) in
+        record { checked = c; first = omega (arith, k .0); last = omega (arith, k .1, last, first); kind = k .2 };
+  }
+
+  group-fields : fdsOf (values (ref kFd) (nodesIn s) (numberOf (headPart (drop at (readAt s (r - 1) .fields)))) (tailParts (drop at (readAt s (r - 1) .fields)))) ≡ fieldsAt s r (at + 1) count
+  group-fields = rw (head-drop at (readAt s (r - 1) .fields), tail-drop at (readAt s (r - 1) .fields), ← count-exact .0, ← add-one at)
+
+-- ---- an `adt` or `pick` line: a name, the group of its fields, and what a pick has behind it
+
+name-first : (ls : List Read) (i : ℕ) (ps : List Part) (fs : List (List ℕ)) → fits (one name ∷ ps) fs ≡ true → fineRefs ls i (refsIn (one name ∷ ps) fs) ≡ true
+    → (fits ps (drop 1 fs) ≡ true) × (fineRefs ls i (refsIn ps (drop 1 fs)) ≡ true)
+name-first ls i ps [] h k = let z : _≡_ {A = ℕ} 0 1 = cc in absurd (omega arith)
+name-first ls i ps (f ∷ fs) h k = (both (holds name f) (fits ps fs) h .1, k)
+
+record RecordRow (s : List ℕ) (r : ℕ) : Type 0 where
+  behind : List Part
+  parts : readAt s (r - 1) .form .parts ≡ one name ∷ (many (ref kFd) ∷ behind)
+  fields : commonAt s r ≡ fdsOf (values (ref kFd) (nodesIn s) (numberOf (headPart (tailParts (readAt s (r - 1) .fields)))) (tailParts (tailParts (readAt s (r - 1) .fields))))
+
+module _ (s t : List ℕ) (n r : ℕ) (l : RecordLine s t n r) where
+  record-in : r - 1 < n
+  record-in = omega (arith, l .first, l .last)
+
+  same-kind : kindAt (formAt t (r - 1)) ≡ letter (readAt s (r - 1) .form .kind)
+  same-kind = sym (kind-is s t n (l .checked .whole) (r - 1) record-in)
+
+  record-row : RecordRow s r
+  unfolding forms
+  record-row = go (eqb (letter (readAt s (r - 1) .form .kind)) 65) refl
+    where
+      row : (f : ℕ) → formAt t (r - 1) ≡ f → readAt s (r - 1) .form .parts ≡ rowAt f .parts
+      row f e = ap (λ (x : Row). x .parts) (form-is s t n (l .checked .whole) (r - 1) record-in) ∙ ap (λ (g : ℕ). rowAt g .parts) e
+
+      own : (f : ℕ) → formAt t (r - 1) ≡ f → commonAt s r ≡ ownFields (rowNode (nodesIn s) f (readAt s (r - 1) .fields) .declares .adts)
+      own f e =
+          ap (λ (m : Node). ownFields (m .declares .adts)) (node-at s t n (l .checked .whole) (l .checked .good) (r - 1) record-in)
+          ∙ ap (λ (g : ℕ). ownFields (rowNode (nodesIn s) g (readAt s (r - 1) .fields) .declares .adts)) e
+
+      go : (b : Bool) → eqb (letter (readAt s (r - 1) .form .kind)) 65 ≡ b → RecordRow s r
+      go true q =
+          let e = adt-form (formAt t (r - 1)) (form-low s t n (l .checked .whole) (r - 1) record-in) (same-kind ∙ eqb-true _ _ q) in
+          record { behind = []; parts = row 26 e; fields = own 26 e }
+      go false q =
+          let k : eqb (letter (readAt s (r - 1) .form .kind)) 66 ≡ true = rw q at (l .kind) in
+          let e = pick-form (formAt t (r - 1)) (form-low s t n (l .checked .whole) (r - 1) record-in) (same-kind ∙ eqb-true _ _ k) in
+          record { behind = many (ref kPc) ∷ []; parts = row 27 e; fields = own 27 e }
+
+  record-fits : (fits (many (ref kFd) ∷ record-row .behind) (drop 1 (readAt s (r - 1) .fields)) ≡ true)
+      × (fineRefs (readsIn s) (r - 1) (refsIn (many (ref kFd) ∷ record-row .behind) (drop 1 (readAt s (r - 1) .fields))) ≡ true)
+  record-fits =
+      name-first (readsIn s) (r - 1) (many (ref kFd) ∷ record-row .behind) (readAt s (r - 1) .fields)
+      (rw (← form-is s t n (l .checked .whole) (r - 1) record-in, record-row .parts) at (read-fits s t n (l .checked .whole) (r - 1) record-in))
+      (rw (record-row .parts) at (l .checked .fine (r - 1) record-in))
+
+  module _ (count : ℕ) (hc : count ≡ Number.numberOf 65536 (getD (readAt s (r - 1) .fields) 1 [])) where
+    pub common-refs : FieldRefs s t n r 2 count
+    common-refs = group-refs s t n r (l .checked) (l .first) (l .last) 1 (omega arith) (record-row .behind) (record-fits .0) (record-fits .1) count hc
+
+    pub common-is : commonAt s r ≡ fieldsAt s r 2 count
+    common-is =
+        record-row .fields ∙ rw (tail-drop 0 (readAt s (r - 1) .fields))
+        (group-fields s t n r (l .checked) (l .first) (l .last) 1 (omega arith) (record-row .behind) (record-fits .0) (record-fits .1) count hc)
+
+-- ---- a `pc` line: the group of its fields stands behind that of its tags
+
+module _ (ls : List Read) (i : ℕ) (ps : List Part) where
+  names-first : (m : ℕ) (fs : List (List ℕ)) → fits (ones m name ++ ps) fs ≡ true → fineRefs ls i (refsIn (ones m name ++ ps) fs) ≡ true
+      → (fits ps (drop m fs) ≡ true) × (fineRefs ls i (refsIn ps (drop m fs)) ≡ true)
+  names-first zero fs h k = (h, k)
+  names-first (suc m) [] h k = let z : _≡_ {A = ℕ} 0 1 = cc in absurd (omega arith)
+  names-first (suc m) (f ∷ fs) h k = names-first m fs (both (holds name f) (fits (ones m name ++ ps) fs) h .1) k
+
+  tags-first : (fs : List (List ℕ)) → fits (many name ∷ ps) fs ≡ true → fineRefs ls i (refsIn (many name ∷ ps) fs) ≡ true
+      → (isCount (getD fs 0 []) ≡ true) × (fits ps (drop (suc (numberOf (getD fs 0 []))) fs) ≡ true) × (fineRefs ls i (refsIn ps (drop (suc (numberOf (getD fs 0 []))) fs)) ≡ true)
+  tags-first [] h k = let z : _≡_ {A = ℕ} 0 1 = cc in absurd (omega arith)
+  tags-first (f ∷ fs) h k =
+      let w = both (isCount f) (fits (ones (numberOf f) name ++ ps) fs) h in
+      let v = names-first (numberOf f) fs (w .1) k in
+      (w .0, v .0, v .1)
+
+module _ (s t : List ℕ) (n r : ℕ) (l : CaseLine s t n r) where
+  case-in : r - 1 < n
+  case-in = omega (arith, l .first, l .last)
+
+  form-pc : formAt t (r - 1) ≡ 25
+  form-pc = case-form (formAt t (r - 1)) (form-low s t n (l .checked .whole) (r - 1) case-in) (sym (kind-is s t n (l .checked .whole) (r - 1) case-in) ∙ l .kind)
+
+  case-good : (isCount (getD (readAt s (r - 1) .fields) 0 []) ≡ true) × (fits (many (ref kFd) ∷ []) (drop (suc (numberOf (getD (readAt s (r - 1) .fields) 0 []))) (readAt s (r - 1) .fields)) ≡ true)
+      × (fineRefs (readsIn s) (r - 1) (refsIn (many (ref kFd) ∷ []) (drop (suc (numberOf (getD (readAt s (r - 1) .fields) 0 []))) (readAt s (r - 1) .fields))) ≡ true)
+  unfolding forms
+  case-good =
+      let w = l .checked .whole in
+      let p : readAt s (r - 1) .form .parts ≡ many name ∷ (many (ref kFd) ∷ []) = ap (λ (x : Row). x .parts) (form-is s t n w (r - 1) case-in) ∙ ap (λ (g : ℕ). rowAt g .parts) form-pc in
+      tags-first (readsIn s) (r - 1) (many (ref kFd) ∷ []) (readAt s (r - 1) .fields) (rw form-pc at (read-fits s t n w (r - 1) case-in)) (rw p at (l .checked .fine (r - 1) case-in))
+
+  module _ (tags : ℕ) (ht : tags ≡ Number.numberOf 65536 (getD (readAt s (r - 1) .fields) 0 [])) where
+    tags-exact : (suc (numberOf (getD (readAt s (r - 1) .fields) 0 [])) ≡ tags + 1) × (tags ≤ 16)
+    tags-exact =
+        let q = count-number (getD (readAt s (r - 1) .fields) 0 []) (case-good .0) in
+        let e = ht ∙ number-exact (getD (readAt s (r - 1) .fields) 0 []) (q .0) (omega (arith, q .1)) in
+        (omega (arith, e), omega (arith, e, q .1))
+
+    tags-few : tags ≤ 16
+    tags-few = tags-exact .1
+
+    module _ (count : ℕ) (hc : count ≡ Number.numberOf 65536 (getD (readAt s (r - 1) .fields) (tags + 1) [])) where
+      pub case-refs : FieldRefs s t n r (tags + 1 + 1) count
+      case-refs =
+          group-refs s t n r (l .checked) (l .first) (l .last) (tags + 1) (omega (arith, tags-few)) [] (rw (tags-exact .0) at (case-good .1)) (rw (tags-exact .0) at (case-good .2)) count hc
+
+      pub case-is : caseAt s r ≡ fieldsAt s r (tags + 1 + 1) count
+      unfolding forms
+      case-is =
+          ap (λ (m : Node). m .case .fields) (node-at s t n (l .checked .whole) (l .checked .good) (r - 1) case-in)
+          ∙ rw (form-pc, head-drop 0 (readAt s (r - 1) .fields), tags-exact .0)
+          (group-fields s t n r (l .checked) (l .first) (l .last) (tags + 1) (omega (arith, tags-few)) [] (rw (tags-exact .0) at (case-good .1)) (rw (tags-exact .0) at (case-good .2)) count hc)

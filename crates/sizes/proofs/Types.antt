@@ -1,0 +1,278 @@
+-- What a `ty` line makes, by its form, and how a tuple is measured.
+use mathlib.Core.Path.{_≡_, refl, sym, ap, _∙_}
+use mathlib.Core.Bool.{Bool, true, false, cond, _&&_}
+use mathlib.Core.List.{List, [], _∷_, _++_}
+use mathlib.Core.Option.{Option, none, some}
+use Prim.Native.Nat.{ℕ, zero, suc, _+_, _-_, _≤_, _<_, max}
+use native.Mathlib.Numerals.{add-one}
+use native.Mathlib.Omega.{arith}
+use lib.Dec.{leb, ltb, eqb}
+use lib.ListN.{length, drop, getD}
+use borrow.Author.Tests.{leb-true, ltb-true, eq-eqb}
+use Rattle.semantics.specs.Text as Text
+use Rattle.semantics.specs.Text.{headPart, tailParts}
+use Rattle.semantics.specs.Tree.{Tys, Node}
+use Rattle.semantics.specs.Tree.Ty.{tuple}
+use Rattle.semantics.specs.Tree.Tys.{noTys, andTy}
+use Rattle.semantics.specs.Form.{Read, Row, Kind, Part, letter, forms, noRow, values, numberOf, fits, holds, isCount, isNumber, ones, tysOf}
+use Rattle.semantics.specs.Form.Kind.{kTy}
+use Rattle.semantics.specs.Form.Atom.{ref}
+use Rattle.semantics.specs.Form.Part.{many}
+use Rattle.semantics.specs.Refusal.{refsIn}
+use Rattle.semantics.specs.Layout.{alignUp, roundedSize, sizeOf, alignOf, alignOfAll, endOfAll, isPtr}
+use Rattle.laws.proofs.Alignments.{four-or-eight, aligned}
+use Rattle.layout.proofs.Bounds.{size-bound}
+use Rattle.text.specs.Number as Number
+use Rattle.form.specs.Table.{rowAt, kindAt, rowNode}
+use Rattle.form.proofs.Table.{both, row-count}
+use Rattle.lines.specs.Lines.{readsIn, readAt, nodesIn, formAt}
+use Rattle.lines.proofs.Line.{form-low, form-is, kind-is, read-fits}
+use Rattle.refs.specs.Refs.{fineRef, fineRefs}
+use Rattle.refs.proofs.Fine.{needed-ref}
+use Rattle.refs.proofs.Nodes.{node-at}
+use Rattle.sizes.specs.Sizes.{isLong, typeAt, TypeLine, TupleLine, Measures}
+use Rattle.sizes.proofs.Lines.{type-lines}
+
+-- ---- the forms of a kind
+
+-- whether the rows of kind k, counted from i, are among those from a up to b
+spans : ℕ → ℕ → ℕ → ℕ → List Row → Bool
+spans k a b i [] = true
+spans k a b i (r ∷ rs) = cond (eqb (letter (r .kind)) k) (leb a i && ltb i b) true && spans k a b (suc i) rs
+
+spans-at : (k a b : ℕ) (rs : List Row) (i j : ℕ) → spans k a b i rs ≡ true → j < length rs → letter (getD rs j noRow .kind) ≡ k → (a ≤ i + j) × (i + j < b)
+unfolding spans
+spans-at k a b [] i j h l e = absurd (omega arith)
+spans-at k a b (r ∷ rs) i zero h l e =
+    let p : leb a i && ltb i b ≡ true = rw (eq-eqb (letter (r .kind)) k e) at (both (cond (eqb (letter (r .kind)) k) (leb a i && ltb i b) true) (spans k a b (suc i) rs) h .0) in
+    let w = both (leb a i) (ltb i b) p in
+    (omega (arith, leb-true a i (w .0)), omega (arith, ltb-true i b (w .1)))
+spans-at k a b (r ∷ rs) i (suc j) h l e =
+    let q = spans-at k a b rs (suc i) j (both (cond (eqb (letter (r .kind)) k) (leb a i && ltb i b) true) (spans k a b (suc i) rs) h .1) (omega arith) e in
+    (omega (arith, q .0), omega (arith, q .1))
+
+-- types are the first 8 forms, and `fd`, `pc`, `adt` and `pick` are 24 to 27
+type-form : (f : ℕ) → f < 42 → kindAt f ≡ 75 → f < 8
+unfolding spans forms
+type-form f h e = omega (arith, spans-at 75 0 8 forms 0 f refl (omega (arith, row-count)) e .1)
+
+pub field-form : (f : ℕ) → f < 42 → kindAt f ≡ 70 → f ≡ 24
+unfolding spans forms
+field-form f h e = let w = spans-at 70 24 25 forms 0 f refl (omega (arith, row-count)) e in omega (arith, w .0, w .1)
+
+pub case-form : (f : ℕ) → f < 42 → kindAt f ≡ 67 → f ≡ 25
+unfolding spans forms
+case-form f h e = let w = spans-at 67 25 26 forms 0 f refl (omega (arith, row-count)) e in omega (arith, w .0, w .1)
+
+pub adt-form : (f : ℕ) → f < 42 → kindAt f ≡ 65 → f ≡ 26
+unfolding spans forms
+adt-form f h e = let w = spans-at 65 26 27 forms 0 f refl (omega (arith, row-count)) e in omega (arith, w .0, w .1)
+
+pub pick-form : (f : ℕ) → f < 42 → kindAt f ≡ 66 → f ≡ 27
+unfolding spans forms
+pick-form f h e = let w = spans-at 66 27 28 forms 0 f refl (omega (arith, row-count)) e in omega (arith, w .0, w .1)
+
+module _ (ns : List Node) (fs : List (List ℕ)) where
+  -- all but big, real and tuples take a word
+  plain-size : (f : ℕ) → f < 8 → (f ≡ 7 → ⊥) → (sizeOf (rowNode ns f fs .ty) ≡ cond (isLong f) 8 4) × (alignOf (rowNode ns f fs .ty) ≡ cond (isLong f) 8 4)
+  unfolding forms
+  plain-size zero h a = (refl, refl)
+  plain-size (suc zero) h a = (refl, refl)
+  plain-size (suc (suc zero)) h a = (refl, refl)
+  plain-size (suc (suc (suc zero))) h a = (refl, refl)
+  plain-size (suc (suc (suc (suc zero)))) h a = (refl, refl)
+  plain-size (suc (suc (suc (suc (suc zero))))) h a = (refl, refl)
+  plain-size (suc (suc (suc (suc (suc (suc zero)))))) h a = (refl, refl)
+  plain-size (suc (suc (suc (suc (suc (suc (suc zero))))))) h a = absurd (a refl)
+  plain-size (suc (suc (suc (suc (suc (suc (suc (suc f)))))))) h a = absurd (omega arith)
+
+  marks-word : (f : ℕ) → f < 8 → ltb 3 f ≡ isPtr (rowNode ns f fs .ty)
+  unfolding forms
+  marks-word zero h = refl
+  marks-word (suc zero) h = refl
+  marks-word (suc (suc zero)) h = refl
+  marks-word (suc (suc (suc zero))) h = refl
+  marks-word (suc (suc (suc (suc zero)))) h = refl
+  marks-word (suc (suc (suc (suc (suc zero))))) h = refl
+  marks-word (suc (suc (suc (suc (suc (suc zero)))))) h = refl
+  marks-word (suc (suc (suc (suc (suc (suc (suc zero))))))) h = refl
+  marks-word (suc (suc (suc (suc (suc (suc (suc (suc f)))))))) h = absurd (omega arith)
+
+-- ---- the type of a line
+
+module _ (s t : List ℕ) (n r : ℕ) (l : TypeLine s t n r) where
+  pub in-sheet : r - 1 < n
+  in-sheet = omega (arith, l .first, l .last)
+
+  type-is : typeAt s r ≡ rowNode (nodesIn s) (formAt t (r - 1)) (readAt s (r - 1) .fields) .ty
+  type-is = ap (λ (m : Node). m .ty) (node-at s t n (l .checked .whole) (l .checked .good) (r - 1) in-sheet)
+
+  form-first : formAt t (r - 1) < 8
+  form-first = type-form (formAt t (r - 1)) (form-low s t n (l .checked .whole) (r - 1) in-sheet) (sym (kind-is s t n (l .checked .whole) (r - 1) in-sheet) ∙ l .kind)
+
+  -- 8 bytes for each of its lines
+  size-small : sizeOf (typeAt s r) ≤ 8192
+  size-small = omega (arith, size-bound (typeAt s r), type-lines s t n (l .checked) r (l .first) (l .last), l .checked .whole .lined .few, l .last)
+
+  measured : {a b : ℕ} → a ≡ sizeOf (typeAt s r) → b ≡ alignOf (typeAt s r) → Measures (typeAt s r) a b
+  measured e g = record { whole = e; step = g; small = omega (arith, size-small); low = omega (arith, four-or-eight (λ a. a ≤ 8) (omega arith) (omega arith) (typeAt s r)) }
+
+  module _ (f : ℕ) (hf : f ≡ formAt t (r - 1)) where
+    pub measures-plain : (f ≡ 7 → ⊥) → (b : Bool) → b ≡ isLong f → Measures (typeAt s r) (cond b 8 4) (cond b 8 4)
+    measures-plain a b e =
+        let w = plain-size (nodesIn s) (readAt s (r - 1) .fields) f (omega (arith, form-first)) a in
+        measured (rw e (sym (rw (type-is, ← hf) (w .0)))) (rw e (sym (rw (type-is, ← hf) (w .1))))
+
+    pub marks-first : ltb 3 f ≡ isPtr (typeAt s r)
+    marks-first = rw (type-is, ← hf) (marks-word (nodesIn s) (readAt s (r - 1) .fields) f (omega (arith, form-first)))
+
+-- ---- numbers as they are read
+
+pub number-exact : (f : List ℕ) → isNumber f ≡ true → numberOf f ≤ 65536 → Number.numberOf 65536 f ≡ numberOf f
+unfolding Number.numberOf
+number-exact f = go (Text.natOf f)
+  where
+    go : (o : Option ℕ) → Text.holdsOf (λ (m : ℕ). true) o ≡ true → Text.orElse 0 o ≤ 65536 → Number.capped 65536 o ≡ Text.orElse 0 o
+    go none h k = let z : _≡_ {A = ℕ} 0 1 = cc in absurd (omega arith)
+    go (some m) h k = omega arith
+
+pub count-number : (f : List ℕ) → isCount f ≡ true → (isNumber f ≡ true) × (numberOf f ≤ 16)
+count-number f = go (Text.natOf f)
+  where
+    go : (o : Option ℕ) → Text.holdsOf (λ (m : ℕ). leb m 16) o ≡ true → (Text.holdsOf (λ (m : ℕ). true) o ≡ true) × (Text.orElse 0 o ≤ 16)
+    go none h = let z : _≡_ {A = ℕ} 0 1 = cc in absurd (omega arith)
+    go (some m) h = (refl, leb-true m 16 h)
+
+-- ---- the fields of a tuple, and other groups of references
+
+-- a reference to an earlier line of kind k
+pub record Good (ls : List Read) (i : ℕ) (k : ℕ) (f : List ℕ) : Type 0 where
+  pub fine : fineRef ls (i + 1) (record { kind = k; optional = false; line = numberOf f }) ≡ true
+  pub number : isNumber f ≡ true
+
+module _ (ls : List Read) (i : ℕ) (a : Kind) (ps : List Part) where
+  good-field : (m : ℕ) (fs : List (List ℕ)) → fits (ones m (ref a) ++ ps) fs ≡ true → fineRefs ls i (refsIn (ones m (ref a) ++ ps) fs) ≡ true → (j : ℕ) → j < m → Good ls i (letter a) (getD fs j [])
+  unfolding fineRefs
+  good-field zero fs h k j l = absurd (omega arith)
+  good-field (suc m) [] h k j l = let z : _≡_ {A = ℕ} 0 1 = cc in absurd (omega arith)
+  good-field (suc m) (f ∷ fs) h k j l =
+      let v = both (holds (ref a) f) (fits (ones m (ref a) ++ ps) fs) h in
+      let w = both (fineRef ls (i + 1) (record { kind = letter a; optional = false; line = numberOf f })) (fineRefs ls i (refsIn (ones m (ref a) ++ ps) fs)) k in
+      go j l (record { fine = w .0; number = v .0 }) (λ q y. good-field m fs (v .1) (w .1) q y)
+    where
+      go : (q : ℕ) → q < suc m → Good ls i (letter a) f → ((y : ℕ) → y < m → Good ls i (letter a) (getD fs y [])) → Good ls i (letter a) (getD (f ∷ fs) q [])
+      go zero l g ih = g
+      go (suc q) l g ih = ih q (omega arith)
+
+  -- a count, and as many references
+  pub group-good : (fs : List (List ℕ)) → fits (many (ref a) ∷ ps) fs ≡ true → fineRefs ls i (refsIn (many (ref a) ∷ ps) fs) ≡ true
+      → (isCount (getD fs 0 []) ≡ true) × ((j : ℕ) → j < numberOf (getD fs 0 []) → Good ls i (letter a) (getD fs (suc j) []))
+  group-good [] h k = let z : _≡_ {A = ℕ} 0 1 = cc in absurd (omega arith)
+  group-good (f ∷ fs) h k = let w = both (isCount f) (fits (ones (numberOf f) (ref a) ++ ps) fs) h in (w .0, λ j l. good-field (numberOf f) fs (w .1) k j l)
+
+pub head-drop : (j : ℕ) (fs : List (List ℕ)) → headPart (drop j fs) ≡ getD fs j []
+head-drop zero [] = refl
+head-drop zero (f ∷ fs) = refl
+head-drop (suc j) [] = refl
+head-drop (suc j) (f ∷ fs) = head-drop j fs
+
+pub tail-drop : (j : ℕ) (fs : List (List ℕ)) → tailParts (drop j fs) ≡ drop (suc j) fs
+tail-drop zero [] = refl
+tail-drop zero (f ∷ fs) = refl
+tail-drop (suc j) [] = refl
+tail-drop (suc j) (f ∷ fs) = tail-drop j fs
+
+-- the types of a tuple of line r from field j on, where it has so many
+abbrev pub typesFrom : List ℕ → ℕ → ℕ → ℕ → Tys
+typesFrom s r count j = tysOf (values (ref kTy) (nodesIn s) (count - j) (drop (suc j) (readAt s (r - 1) .fields)))
+
+ends-above : (ts : Tys) (off : ℕ) → off ≤ endOfAll ts off
+ends-above noTys off = omega arith
+ends-above (andTy t ts) off = omega (arith, aligned t off, ends-above ts (alignUp (alignOf t) off + sizeOf t))
+
+-- the fields before j end at `size`, and need `align`
+pub record Measuring (s : List ℕ) (r count size align j : ℕ) : Type 0 where
+  pub within : j ≤ count
+  pub end : endOfAll (typesFrom s r count j) size ≡ endOfAll (typesFrom s r count 0) 0
+  pub most : max align (alignOfAll (typesFrom s r count j)) ≡ alignOfAll (typesFrom s r count 0)
+  pub small : size ≤ 8192
+  pub word : 4 ≤ align
+
+module _ (s t : List ℕ) (n r : ℕ) (l : TupleLine s t n r) (count : ℕ) (hc : count ≡ Number.numberOf 65536 (getD (readAt s (r - 1) .fields) 0 [])) where
+  fields-good : (isCount (getD (readAt s (r - 1) .fields) 0 []) ≡ true) × ((j : ℕ) → j < numberOf (getD (readAt s (r - 1) .fields) 0 []) → Good (readsIn s) (r - 1) 75 (getD (readAt s (r - 1) .fields) (suc j) []))
+  unfolding forms
+  fields-good =
+      let w = l .line .checked .whole in
+      let h = in-sheet s t n r (l .line) in
+      let p : readAt s (r - 1) .form .parts ≡ many (ref kTy) ∷ [] = ap (λ (x : Row). x .parts) (form-is s t n w (r - 1) h) ∙ ap (λ (g : ℕ). rowAt g .parts) (l .form) in
+      group-good (readsIn s) (r - 1) kTy [] (readAt s (r - 1) .fields) (rw (l .form) at (read-fits s t n w (r - 1) h)) (rw p at (l .line .checked .fine (r - 1) h))
+
+  count-is : count ≡ numberOf (getD (readAt s (r - 1) .fields) 0 [])
+  count-is =
+      let q = count-number (getD (readAt s (r - 1) .fields) 0 []) (fields-good .0) in
+      hc ∙ number-exact (getD (readAt s (r - 1) .fields) 0 []) (q .0) (omega (arith, q .1))
+
+  tuple-is : typeAt s r ≡ tuple (typesFrom s r count 0)
+  unfolding forms
+  tuple-is =
+      let z : count - 0 ≡ count = omega arith in
+      type-is s t n r (l .line) ∙ rw (l .form, head-drop 0 (readAt s (r - 1) .fields), tail-drop 0 (readAt s (r - 1) .fields), z, count-is)
+
+  ends-small : endOfAll (typesFrom s r count 0) 0 ≤ 8192
+  ends-small =
+      let e : sizeOf (typeAt s r) ≡ roundedSize (endOfAll (typesFrom s r count 0) 0) = ap sizeOf tuple-is in
+      omega (arith, size-small s t n r (l .line), e)
+
+  pub measuring-start : Measuring s r count 0 4 0
+  measuring-start = record { within = omega arith; end = refl; most = four-or-eight (λ a. max 4 a ≡ a) refl refl (tuple (typesFrom s r count 0)); small = omega arith; word = omega arith }
+
+  module _ (size align j : ℕ) (m : Measuring s r count size align j) where
+    pub measuring-end : {a b : ℕ} → count ≤ j → a ≡ roundedSize size → b ≡ align → Measures (typeAt s r) a b
+    measuring-end h ha hb =
+        let z : count - j ≡ 0 = omega arith in
+        let e : size ≡ endOfAll (typesFrom s r count 0) 0 = rw z at (m .end) in
+        let g : max align 4 ≡ alignOfAll (typesFrom s r count 0) = rw z at (m .most) in
+        let d : align ≡ max align 4 = omega (arith, m .word) in
+        measured s t n r (l .line) (ha ∙ rw (tuple-is, e)) (hb ∙ d ∙ g ∙ sym (ap alignOf tuple-is))
+
+    module _ (h : j < count) (v : ℕ) (hv : v ≡ Number.numberOf 65536 (getD (readAt s (r - 1) .fields) (j + 1) [])) where
+      ref-good : Good (readsIn s) (r - 1) 75 (getD (readAt s (r - 1) .fields) (j + 1) [])
+      ref-good = rw add-one (fields-good .1 j (omega (arith, count-is)))
+
+      ref-is : (numberOf (getD (readAt s (r - 1) .fields) (j + 1) []) ≡ 0 → ⊥) × (numberOf (getD (readAt s (r - 1) .fields) (j + 1) []) < r - 1 + 1)
+          × (letter (readAt s (numberOf (getD (readAt s (r - 1) .fields) (j + 1) []) - 1) .form .kind) ≡ 75)
+      ref-is = needed-ref (readsIn s) (r - 1 + 1) 75 (numberOf (getD (readAt s (r - 1) .fields) (j + 1) [])) (ref-good .fine)
+
+      number-is : v ≡ numberOf (getD (readAt s (r - 1) .fields) (j + 1) [])
+      number-is =
+          hv ∙ number-exact (getD (readAt s (r - 1) .fields) (j + 1) []) (ref-good .number)
+          (omega (arith, ref-is .1, l .line .last, l .line .checked .whole .lined .few))
+
+      -- a field is the type of an earlier line
+      pub field-line : TypeLine s t n v
+      field-line = record {
+        checked = l .line .checked;
+        first = omega (arith, number-is, ref-is .0);
+        last = omega (arith, number-is, ref-is .1, l .line .last);
+        kind = rw number-is (ref-is .2);
+      }
+
+      pub field-before : v < r
+      field-before = omega (arith, number-is, ref-is .1, l .line .first)
+
+      types-next : typesFrom s r count j ≡ andTy (typeAt s v) (typesFrom s r count (j + 1))
+      types-next =
+          let z : count - j ≡ suc (count - (j + 1)) = omega arith in
+          rw (z, head-drop (suc j) (readAt s (r - 1) .fields), tail-drop (suc j) (readAt s (r - 1) .fields), number-is, add-one j)
+
+      pub measuring-next : (a b c d : ℕ) → Measures (typeAt s v) a b → c ≡ alignUp b size + a → d ≡ max align b → Measuring s r count c d (j + 1)
+      measuring-next a b c d x hc hd =
+          let e : endOfAll (typesFrom s r count (j + 1)) c ≡ endOfAll (typesFrom s r count 0) 0 = rw (hc, x .whole, x .step) (rw types-next at (m .end)) in
+          let g : max align (max (alignOf (typeAt s v)) (alignOfAll (typesFrom s r count (j + 1)))) ≡ alignOfAll (typesFrom s r count 0) = rw types-next at (m .most) in
+          record {
+            within = omega arith;
+            end = e;
+            most = omega (arith, g, hd, x .step);
+            small = omega (arith, ends-above (typesFrom s r count (j + 1)) c, e, ends-small);
+            word = omega (arith, m .word, hd);
+          }

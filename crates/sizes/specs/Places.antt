@@ -1,0 +1,79 @@
+-- The `fd` lines of a checked sheet, and where they are placed.
+use Prim.Native.Nat.{ℕ, _+_, _-_, _≤_, _<_}
+use mathlib.Core.Path.{_≡_}
+use mathlib.Core.Bool.{true, _||_}
+use mathlib.Core.List.{List, [], _∷_}
+use mathlib.Core.Option.{Option}
+use lib.Dec.{eqb}
+use lib.ListN.{drop, getD}
+use Rattle.semantics.specs.Text.{Bytes}
+use Rattle.semantics.specs.Tree.{Ty, Fd, AdtDecl}
+use Rattle.semantics.specs.Form.{letter, nodeAt, values, numberOf, isNumber, fdsOf}
+use Rattle.semantics.specs.Form.Kind.{kFd}
+use Rattle.semantics.specs.Form.Atom.{ref}
+use Rattle.semantics.specs.Layout as Layout
+use Rattle.semantics.specs.Layout.{placeLine, place}
+use Rattle.lines.specs.Lines.{readAt, nodesIn}
+use Rattle.checks.specs.Checks.{Checked}
+use Rattle.sizes.specs.declared.place.Reached.{Reached}
+
+-- what line r makes, from 1
+abbrev pub fieldAt : Bytes → ℕ → Fd
+fieldAt s r = nodeAt (nodesIn s) r .fd
+
+-- line r of a checked sheet is an `fd` line, 70
+pub record FieldLine (s t : Bytes) (n r : ℕ) : Type 0 where
+  pub checked : Checked s t n
+  pub first : 0 < r
+  pub last : r ≤ n
+  pub kind : letter (readAt s (r - 1) .form .kind) ≡ 70
+
+-- what `count` fields of line r from field `from` on refer to
+abbrev pub fieldsAt : Bytes → ℕ → ℕ → ℕ → List Fd
+fieldsAt s r from count = fdsOf (values (ref kFd) (nodesIn s) count (drop from (readAt s (r - 1) .fields)))
+
+-- they refer to `fd` lines
+pub record FieldRefs (s t : Bytes) (n r from count : ℕ) : Type 0 where
+  pub checked : Checked s t n
+  pub first : 0 < r
+  pub last : r ≤ n
+  pub near : from ≤ 255
+  pub few : count ≤ 16
+  pub number : (j : ℕ) → j < count → isNumber (getD (readAt s (r - 1) .fields) (from + j) []) ≡ true
+  pub each : (j : ℕ) → j < count → FieldLine s t n (numberOf (getD (readAt s (r - 1) .fields) (from + j) []))
+
+-- the fields of what line r declares, apart from cases
+abbrev pub ownFields : List AdtDecl → List Fd
+ownFields [] = []
+ownFields (d ∷ ds) = d .fields
+
+abbrev pub commonAt : Bytes → ℕ → List Fd
+commonAt s r = ownFields (nodeAt (nodesIn s) r .declares .adts)
+
+-- line r of a checked sheet is an `adt` line, 65, or a `pick` line, 66
+pub record RecordLine (s t : Bytes) (n r : ℕ) : Type 0 where
+  pub checked : Checked s t n
+  pub first : 0 < r
+  pub last : r ≤ n
+  pub kind : eqb (letter (readAt s (r - 1) .form .kind)) 65 || eqb (letter (readAt s (r - 1) .form .kind)) 66 ≡ true
+
+-- the fields of the case that line r makes
+abbrev pub caseAt : Bytes → ℕ → List Fd
+caseAt s r = nodeAt (nodesIn s) r .case .fields
+
+-- line r of a checked sheet is a `pc` line, 67
+pub record CaseLine (s t : Bytes) (n r : ℕ) : Type 0 where
+  pub checked : Checked s t n
+  pub first : 0 < r
+  pub last : r ≤ n
+  pub kind : letter (readAt s (r - 1) .form .kind) ≡ 67
+
+-- from p to q by one line
+pub record LinePlaced (t : Option Ty) (ns : List Bytes) (p q : Reached) : Type 0 where
+  pub end : q .end ≡ placeLine t ns (p .end) .end
+  pub furthest : q .furthest ≡ Layout.furthest (p .furthest) (placeLine t ns (p .end) .placed)
+
+-- and by lines
+pub record AllPlaced (fs : List Fd) (p q : Reached) : Type 0 where
+  pub end : q .end ≡ place (p .end) fs .end
+  pub furthest : q .furthest ≡ Layout.furthest (p .furthest) (place (p .end) fs .placed)

@@ -1,0 +1,99 @@
+// Where the fields of a record lie.
+use crate::SizeAlign;
+use crate::larger;
+use crate::type_size_align;
+use layout::align::align_up;
+ghost use Prim.Native.Nat.{_+_, _≤_};
+ghost use mathlib.Core.List.{List};
+ghost use mathlib.Core.Option.{some};
+ghost use mathlib.Core.Path.{_≡_};
+ghost use lib.ListN.{length};
+ghost use Rattle.semantics.specs.Text.{Bytes};
+ghost use Rattle.semantics.specs.Tree.{Ty};
+ghost use Rattle.sizes.specs.Sizes.{Measures};
+ghost use Rattle.sizes.specs.Places.{fieldAt, fieldsAt, commonAt, caseAt, FieldLine, FieldRefs, RecordLine, CaseLine, LinePlaced, AllPlaced};
+
+// Where the fields placed so far end, and the furthest end of one of them: a line without names aligns, and places none.
+pub struct Reached {
+    pub end: u32,
+    pub furthest: u32,
+}
+
+// Behind one more `fd` line, with so many names of a type of size and alignment x.
+pub fn place_line(p: Reached, x: SizeAlign, names: u32) -> Reached
+    requires { ⌜ (p .end ≤ 4500000) × (x .size ≤ 8192) × (x .align ≤ 8) × (names ≤ 16) ⌝ }
+    ensures { λ q. ⌜ ((t : Ty) (ns : List Bytes) → Measures t (x .size) (x .align) → names ≡ length ns → LinePlaced (some t) ns p q) × (q .end ≤ p .end + 131080) ⌝ }
+{
+    let at = align_up(p.end, x.align) as u32;
+    let end = at + names * x.size;
+    if names == 0 {
+        return Reached {
+            end: end,
+            furthest: p.furthest,
+        };
+    }
+    Reached {
+        end: end,
+        furthest: larger(p.furthest, end),
+    }
+}
+
+// Behind the `fd` line r. An untyped one is skipped.
+pub fn place_field(sheet: &[u8], work: &[u8], n: usize, r: usize, p: Reached) -> Reached
+    requires { ⌜ (FieldLine (now sheet) (now work) n r) × (p .end ≤ 4500000) ⌝ }
+    ensures { λ q. ⌜ (LinePlaced (fieldAt (now (sheet .entry)) r .ty) (fieldAt (now (sheet .entry)) r .names) p q) × (q .end ≤ p .end + 131080) ⌝ }
+{
+    let t = lines::number_at(sheet, work, n, r - 1, 0);
+    if t == 0 {
+        return p;
+    }
+    let x = type_size_align(sheet, work, n, t);
+    place_line(p, x, lines::number_at(sheet, work, n, r - 1, 1) as u32)
+}
+
+// Behind the `fd` lines to which `count` fields of line r refer, from field `from` on.
+pub fn place_fields(
+    sheet: &[u8],
+    work: &[u8],
+    n: usize,
+    r: usize,
+    from: usize,
+    count: usize,
+    p: Reached,
+) -> Reached
+    requires { ⌜ (FieldRefs (now sheet) (now work) n r from count) × (p .end ≤ 2200000) ⌝ }
+    ensures { λ q. ⌜ (AllPlaced (fieldsAt (now (sheet .entry)) r from count) p q) × (q .end ≤ p .end + 2097280) ⌝ }
+{
+    let mut q = p;
+    let mut j = 0;
+    while j < count {
+        q = place_field(
+            sheet,
+            work,
+            n,
+            lines::number_at(sheet, work, n, r - 1, from + j),
+            q,
+        );
+        j += 1;
+    }
+    q
+}
+
+// Behind the fields of the `adt` or `pick` line r that are no case's. They begin at 0, or behind a pick's tag at 4.
+pub fn place_common(sheet: &[u8], work: &[u8], n: usize, r: usize, p: Reached) -> Reached
+    requires { ⌜ (RecordLine (now sheet) (now work) n r) × (p .end ≤ 4) ⌝ }
+    ensures { λ q. ⌜ (AllPlaced (commonAt (now (sheet .entry)) r) p q) × (q .end ≤ 2097284) ⌝ }
+{
+    let count = lines::number_at(sheet, work, n, r - 1, 1);
+    place_fields(sheet, work, n, r, 2, count, p)
+}
+
+// Behind the fields of the `pc` line r, which follow its tags.
+pub fn place_case(sheet: &[u8], work: &[u8], n: usize, r: usize, p: Reached) -> Reached
+    requires { ⌜ (CaseLine (now sheet) (now work) n r) × (p .end ≤ 2097284) ⌝ }
+    ensures { λ q. ⌜ (AllPlaced (caseAt (now (sheet .entry)) r) p q) × (q .end ≤ 4194564) ⌝ }
+{
+    let at = lines::number_at(sheet, work, n, r - 1, 0) + 1;
+    let count = lines::number_at(sheet, work, n, r - 1, at);
+    place_fields(sheet, work, n, r, at + 1, count, p)
+}
