@@ -3,7 +3,7 @@ use Prim.Native.Nat.{ℕ, _≤_, _<_}
 use mathlib.Core.Path.{_≡_}
 use mathlib.Core.Bool.{true, false}
 use mathlib.Core.List.{[]}
-use lib.ListN.{length}
+use lib.ListN.{length, take}
 use lib.Dec.{ltb}
 use Rattle.semantics.specs.Text.{Bytes, lineParts}
 use Rattle.semantics.specs.Refusal.{Outcome, refused, refuseIf, refuseAt, longestSheet, leastWork, zeros, noCounts, refsOf, badRefFrom, tooDeepFrom, badModuleFrom, tooManyFrom, checked}
@@ -41,6 +41,11 @@ pub record Checked (s t : Bytes) (n : ℕ) : Type 0 where
   pub falls : (i : ℕ) → i < n → lowerRefs (readsIn s) i (refsOf (readAt s i)) ≡ true
   pub modules : badModuleFrom 1 false (readsIn s) ≡ 0
   pub bounds : Bounded (nodesIn s)
+
+-- of the working space t what stands below k is kept in u
+pub record Kept (k : ℕ) (t u : Bytes) : Type 0 where
+  pub below : take k u ≡ take k t
+  pub long : length u ≡ length t
 
 -- the tables of a sheet that passes, and zeros where it is refused
 abbrev pub Tables : Bytes → Bytes → Checks → Type 0
