@@ -1,0 +1,1 @@
+// What the lines of a sheet declare, in their order: definitions and laws alone.
