@@ -58,7 +58,7 @@ pub place-above : (fs : List Fd) (off : ℕ) → off ≤ place off fs .end
 place-above [] off = le-refl off
 place-above (f ∷ fs) off = let end = placeLine (f .ty) (f .names) off .end in omega (arith, line-above (f .ty) off (f .names), place-above fs end)
 
-every-append : {A : Type 0} (P : A → Type 0) (xs ys : List A) → Every P xs → Every P ys → Every P (xs ++ ys)
+pub every-append : {A : Type 0} (P : A → Type 0) (xs ys : List A) → Every P xs → Every P ys → Every P (xs ++ ys)
 every-append P [] ys u v = v
 every-append P (x ∷ xs) ys u v = (u .0, every-append P xs ys (u .1) v)
 
@@ -149,12 +149,31 @@ records-bound n d h u b = go (d .pick) u b
 
 -- ---- on a sheet of 1,024 lines
 
--- where fields end that begin at 0, or behind a tag at 4
+-- fields that begin at 0, or behind a tag at 4: where they end, and the size of a record that has them alone
 pub sheet-place-bound : (fs : List Fd) (base : ℕ) → base ≤ 4 → FewNames fs → fieldLines fs ≤ 1024 → place base fs .end ≤ 131080
 sheet-place-bound fs base b h l = omega (arith, place-bound fs base h)
 
-pub sheet-records-bound : (d : AdtDecl) → FewNames (d .fields) → FewInPick (d .pick) → declLines d ≤ 1024 → Every (Sized 131080) (recordsOf d)
-sheet-records-bound d h u l = records-bound 131080 d h u (omega arith)
+pub sheet-shape-bound : (fs : List Fd) (base : ℕ) → base ≤ 4 → FewNames fs → fieldLines fs ≤ 1024 → shapeOf base (place base fs .placed) .size ≤ 131080
+sheet-shape-bound fs base b h l = omega (arith, shape-bound fs base h)
+
+-- a declaration of few names that takes no more lines than a sheet has
+abbrev pub Small : AdtDecl → Type 0
+Small d = FewNames (d .fields) × FewInPick (d .pick) × (declLines d ≤ 1024)
+
+pub sheet-records-bound : (d : AdtDecl) → Small d → Every (Sized 131080) (recordsOf d)
+sheet-records-bound d h = records-bound 131080 d (h .0) (h .1) (omega (arith, h .2))
+
+-- a case without tags makes no record, so cases are bounded by themselves too
+abbrev pub CasesSized : ℕ → List Fd → Option (List Case) → Type 0
+CasesSized n fs none = Unit {0}
+CasesSized n fs (some ks) = Every (λ (k : Case). variantShape fs k .size ≤ n) ks
+
+pub sheet-cases-bound : (d : AdtDecl) → Small d → CasesSized 131080 (d .fields) (d .pick)
+sheet-cases-bound d h = go (d .pick) (h .1) (h .2)
+  where
+    go : (p : Option (List Case)) → FewInPick p → suc (fieldLines (d .fields) + pickLines p) ≤ 1024 → CasesSized 131080 (d .fields) p
+    go none u l = tt
+    go (some ks) u l = each-variant 131080 (d .fields) ks (h .0) u (omega arith)
 
 -- a buffer of 128 bytes holds the map of every frame and block, one of 4,097 that of every record
 pub map-bound : (n size : ℕ) (zs : List ℤ) → size ≤ 32 * n → length (pointerMap size zs) ≤ n

@@ -1,5 +1,5 @@
--- How many lines a type of a checked sheet takes: the type of line r at most r. A line takes one more than the lines that it refers to, and each line
--- is referred to at most once, so that no line is counted twice.
+-- How many lines a checked sheet spends on what its lines make: what line r makes takes at most r. A line takes one more than the lines that it
+-- refers to, and each line is referred to at most once, so that no line is counted twice.
 use mathlib.Core.Path.{_≡_, refl, ap}
 use mathlib.Core.Bool.{Bool, true, false, cond, _&&_}
 use mathlib.Core.List.{List, [], _∷_, _++_}
@@ -7,23 +7,24 @@ use Prim.Native.Nat.{ℕ, zero, suc, _+_, _-_, _*_, _≤_, _<_}
 use native.Mathlib.Nat.{mul-add, mul-one, mul-le-mul-left, le-trans}
 use native.Mathlib.Omega.{arith}
 use lib.Dec.{ltb, eqb}
-use lib.ListN.{length, getD}
+use lib.ListN.{length, drop, getD}
 use borrow.Author.Tests.{eqb-true, eqb-false, ltb-true}
-use Rattle.semantics.specs.Text.{headPart, tailParts}
-use Rattle.semantics.specs.Tree.{Node}
-use Rattle.semantics.specs.Form.{Read, Row, letter, forms, nodeAt, make, values, numberOf, fits, holds, isCount, ones, tysOf}
-use Rattle.semantics.specs.Form.Kind.{kTy}
-use Rattle.semantics.specs.Form.Atom.{ref}
+use Rattle.semantics.specs.Tree.{Node, noNode}
+use Rattle.semantics.specs.Form.{Read, Atom, Part, letter, forms, nodeAt, nodeOf, perhapsAt, value, values, numberOf, fits, holds, isCount, ones}
+use Rattle.semantics.specs.Form.Atom.{name, key, ref, maybe, unaryOp, binaryOp, lineOrCol, size, i64, offset, real, text}
 use Rattle.semantics.specs.Form.Part.{one, many}
-use Rattle.semantics.specs.Refusal.{Ref, noRead, lineAt, refsIn, refsOf}
-use Rattle.form.proofs.Table.{both, row-count, Each, done, _also_, each-at}
-use Rattle.layout.specs.Lines.{linesOf, linesOfAll}
+use Rattle.semantics.specs.Sheet.{nodesFrom}
+use Rattle.semantics.specs.Refusal.{Ref, noRead, lineAt, refOf, refsIn, refsOf, sumOf}
+use Rattle.form.proofs.Table.{never, both, row-count, each-at}
+use Rattle.layout.specs.Lines.{linesOf, declLines, Every}
+use Rattle.layout.proofs.Bounds.{every-append}
 use Rattle.lines.specs.Lines.{readsIn, readAt, nodesIn, formAt}
 use Rattle.lines.proofs.Line.{line-count, form-low, form-is, read-fits}
 use Rattle.refs.specs.Refs.{fineRef, fineRefs, usesOf, usesIn}
 use Rattle.refs.proofs.Fine.{needed-ref}
 use Rattle.refs.proofs.Nodes.{node-at}
 use Rattle.checks.specs.Checks.{Checked}
+use Rattle.sizes.proofs.Rows.{nodeLines, perhapsLines, valueLines, partsLines, FewOf, FewBefore, Sound, all-sound}
 
 -- ---- sums
 
@@ -41,63 +42,61 @@ unfolding sumTo
 sum-add e f g zero h = refl
 sum-add e f g (suc k) h = omega (arith, h k, sum-add e f g k h)
 
--- ---- a line takes one more than the lines that it refers to
+-- ---- the lines that fields refer to
 
--- of the type of line r, none where r is 0
+-- what line r makes, none where r is 0
 unfoldable linesAt : List Node → ℕ → ℕ
-linesAt ns zero = 0
-linesAt ns (suc r) = linesOf (nodeAt ns (suc r) .ty)
+linesAt ns r = perhapsLines (perhapsAt ns r)
 
 linesIn : (ℕ → ℕ) → List Ref → ℕ
 linesIn w [] = 0
 linesIn w (r ∷ rs) = w (r .line) + linesIn w rs
 
 module _ (ns : List Node) (ls : List Read) (i : ℕ) where
-  line-of : (m : ℕ) → fineRef ls (i + 1) (record { kind = 75; optional = false; line = m }) ≡ true → linesOf (nodeAt ns m .ty) ≡ linesAt ns m
+  line-of : (k m : ℕ) → fineRef ls (i + 1) (record { kind = k; optional = false; line = m }) ≡ true → linesAt ns m ≡ nodeLines (nodeAt ns m)
   unfolding linesAt
-  line-of zero h = absurd (needed-ref ls (i + 1) 75 0 h .0 refl)
-  line-of (suc m) h = refl
+  line-of k zero h = absurd (needed-ref ls (i + 1) k 0 h .0 refl)
+  line-of k (suc m) h = refl
 
-  -- the fields of a tuple
-  lines-of-all : (n : ℕ) (fs : List (List ℕ)) → fits (ones n (ref kTy) ++ []) fs ≡ true → fineRefs ls i (refsIn (ones n (ref kTy) ++ []) fs) ≡ true
-      → linesOfAll (tysOf (values (ref kTy) ns n fs)) ≡ linesIn (linesAt ns) (refsIn (ones n (ref kTy) ++ []) fs)
-  unfolding fineRefs linesIn
-  lines-of-all zero [] h k = refl
-  lines-of-all zero (f ∷ fs) h k = let z : _≡_ {A = ℕ} 0 1 = cc in absurd (omega arith)
-  lines-of-all (suc n) [] h k = let z : _≡_ {A = ℕ} 0 1 = cc in absurd (omega arith)
-  lines-of-all (suc n) (f ∷ fs) h k =
-      let w = both (fineRef ls (i + 1) (record { kind = 75; optional = false; line = numberOf f })) (fineRefs ls i (refsIn (ones n (ref kTy) ++ []) fs)) k in
-      rw (line-of (numberOf f) (w .0), lines-of-all n fs (both (holds (ref kTy) f) (fits (ones n (ref kTy) ++ []) fs) h .1) (w .1))
+  value-lines : (a : Atom) (f : List ℕ) (rs : List Ref) → fineRefs ls i (refOf a f rs) ≡ true
+      → (linesIn (linesAt ns) (refOf a f rs) ≡ valueLines a (value a ns f) + linesIn (linesAt ns) rs) × (fineRefs ls i rs ≡ true)
+  unfolding fineRefs linesIn linesAt
+  value-lines name f rs h = (omega arith, h)
+  value-lines key f rs h = (omega arith, h)
+  value-lines (ref k) f rs h =
+      let w = both (fineRef ls (i + 1) (record { kind = letter k; optional = false; line = numberOf f })) (fineRefs ls i rs) h in
+      (rw (line-of (letter k) (numberOf f) (w .0)), w .1)
+  value-lines (maybe k) f rs h = (refl, both (fineRef ls (i + 1) (record { kind = letter k; optional = true; line = numberOf f })) (fineRefs ls i rs) h .1)
+  value-lines unaryOp f rs h = (omega arith, h)
+  value-lines binaryOp f rs h = (omega arith, h)
+  value-lines lineOrCol f rs h = (omega arith, h)
+  value-lines size f rs h = (omega arith, h)
+  value-lines i64 f rs h = (omega arith, h)
+  value-lines offset f rs h = (omega arith, h)
+  value-lines real f rs h = (omega arith, h)
+  value-lines text f rs h = (omega arith, h)
 
-  abbrev Grows : Row → Type 0
-  Grows r = (fs : List (List ℕ)) → fits (r .parts) fs ≡ true → fineRefs ls i (refsIn (r .parts) fs) ≡ true
-      → linesOf (make (r .parts) (r .make) ns fs .ty) ≤ 1 + linesIn (linesAt ns) (refsIn (r .parts) fs)
+  group-lines : (a : Atom) (n : ℕ) (ps : List Part) (fs : List (List ℕ)) → fits (ones n a ++ ps) fs ≡ true → fineRefs ls i (refsIn (ones n a ++ ps) fs) ≡ true
+      → (linesIn (linesAt ns) (refsIn (ones n a ++ ps) fs) ≡ sumOf (valueLines a) (values a ns n fs) + linesIn (linesAt ns) (refsIn ps (drop n fs)))
+      × (fits ps (drop n fs) ≡ true) × (fineRefs ls i (refsIn ps (drop n fs)) ≡ true)
+  group-lines a zero ps fs h k = (omega arith, h, k)
+  group-lines a (suc n) ps [] h k = never h
+  group-lines a (suc n) ps (f ∷ fs) h k =
+      let v = value-lines a f (refsIn (ones n a ++ ps) fs) k in
+      let w = group-lines a n ps fs (both (holds a f) (fits (ones n a ++ ps) fs) h .1) (v .1) in
+      (omega (arith, v .0, w .0), w .1, w .2)
 
-  one-line : (x : ℕ) → 1 ≤ 1 + x
-  one-line x = omega arith
-
-  array-lines : (fs : List (List ℕ)) → fits (one (ref kTy) ∷ []) fs ≡ true → fineRefs ls i (refsIn (one (ref kTy) ∷ []) fs) ≡ true
-      → suc (linesOf (nodeAt ns (numberOf (headPart fs)) .ty)) ≤ 1 + linesIn (linesAt ns) (refsIn (one (ref kTy) ∷ []) fs)
-  unfolding fineRefs linesIn
-  array-lines [] h k = let z : _≡_ {A = ℕ} 0 1 = cc in absurd (omega arith)
-  array-lines (f ∷ fs) h k =
-      omega (arith, line-of (numberOf f) (both (fineRef ls (i + 1) (record { kind = 75; optional = false; line = numberOf f })) (fineRefs ls i (refsIn [] fs)) k .0))
-
-  tuple-lines : (fs : List (List ℕ)) → fits (many (ref kTy) ∷ []) fs ≡ true → fineRefs ls i (refsIn (many (ref kTy) ∷ []) fs) ≡ true
-      → suc (linesOfAll (tysOf (values (ref kTy) ns (numberOf (headPart fs)) (tailParts fs)))) ≤ 1 + linesIn (linesAt ns) (refsIn (many (ref kTy) ∷ []) fs)
-  tuple-lines [] h k = let z : _≡_ {A = ℕ} 0 1 = cc in absurd (omega arith)
-  tuple-lines (f ∷ fs) h k = omega (arith, lines-of-all (numberOf f) fs (both (isCount f) (fits (ones (numberOf f) (ref kTy) ++ []) fs) h .1) k)
-
-  all-grow : Each Grows forms
-  unfolding forms
-  all-grow =
-      (λ fs h k. one-line _) also (λ fs h k. one-line _) also (λ fs h k. one-line _) also (λ fs h k. one-line _) also (λ fs h k. one-line _) also (λ fs h k. one-line _) also
-      array-lines also tuple-lines also (λ fs h k. one-line _) also (λ fs h k. one-line _) also (λ fs h k. one-line _) also (λ fs h k. one-line _) also
-      (λ fs h k. one-line _) also (λ fs h k. one-line _) also (λ fs h k. one-line _) also (λ fs h k. one-line _) also (λ fs h k. one-line _) also (λ fs h k. one-line _) also
-      (λ fs h k. one-line _) also (λ fs h k. one-line _) also (λ fs h k. one-line _) also (λ fs h k. one-line _) also (λ fs h k. one-line _) also (λ fs h k. one-line _) also
-      (λ fs h k. one-line _) also (λ fs h k. one-line _) also (λ fs h k. one-line _) also (λ fs h k. one-line _) also (λ fs h k. one-line _) also (λ fs h k. one-line _) also
-      (λ fs h k. one-line _) also (λ fs h k. one-line _) also (λ fs h k. one-line _) also (λ fs h k. one-line _) also (λ fs h k. one-line _) also (λ fs h k. one-line _) also
-      (λ fs h k. one-line _) also (λ fs h k. one-line _) also (λ fs h k. one-line _) also (λ fs h k. one-line _) also (λ fs h k. one-line _) also (λ fs h k. one-line _) also done
+  parts-lines : (ps : List Part) (fs : List (List ℕ)) → fits ps fs ≡ true → fineRefs ls i (refsIn ps fs) ≡ true → linesIn (linesAt ns) (refsIn ps fs) ≡ partsLines ps ns fs
+  unfolding linesIn
+  parts-lines [] [] h k = refl
+  parts-lines [] (f ∷ fs) h k = never h
+  parts-lines (one a ∷ ps) [] h k = never h
+  parts-lines (one a ∷ ps) (f ∷ fs) h k =
+      let v = value-lines a f (refsIn ps fs) k in omega (arith, v .0, parts-lines ps fs (both (holds a f) (fits ps fs) h .1) (v .1))
+  parts-lines (many a ∷ ps) [] h k = never h
+  parts-lines (many a ∷ ps) (f ∷ fs) h k =
+      let w = group-lines a (numberOf f) ps fs (both (isCount f) (fits (ones (numberOf f) a ++ ps) fs) h .1) k in
+      omega (arith, w .0, parts-lines ps (drop (numberOf f) fs) (w .1) (w .2))
 
 -- ---- what lines take, summed over references and over the lines referred to
 
@@ -173,18 +172,65 @@ module _ (w : ℕ → ℕ) where
         few-lines k h =
             omega (arith, lines-sum k h, all-sum k k (omega arith) h, sum-le (λ r. w r * usesTo k r) w k (λ r l. at-most r k h))
 
-module _ (s t : List ℕ) (n : ℕ) (c : Checked s t n) where
-  grows-at : (i : ℕ) → i < length (readsIn s) → linesAt (nodesIn s) (suc i) ≤ 1 + linesIn (linesAt (nodesIn s)) (refsOf (readAt s i))
-  unfolding linesAt
-  grows-at i h =
-      let l : i < n = omega (arith, line-count s t n (c .whole)) in
-      let g = each-at (Grows (nodesIn s) (readsIn s) i) forms (all-grow (nodesIn s) (readsIn s) i) (formAt t i) (omega (arith, row-count, form-low s t n (c .whole) i l)) (readAt s i .fields) (read-fits s t n (c .whole) i l) in
-      let z : suc i - 1 ≡ i = omega arith in
-      rw (z, node-at s t n (c .whole) (c .good) i l, form-is s t n (c .whole) i l) (g (rw (form-is s t n (c .whole) i l) at (c .fine i l)))
+-- ---- on a checked sheet
 
-  -- the type of line r takes at most r lines
-  pub type-lines : (r : ℕ) → 0 < r → r ≤ n → linesOf (nodeAt (nodesIn s) r .ty) ≤ r
+every-get : {A : Type 0} (P : A → Type 0) (d : A) (xs : List A) → P d → Every P xs → (j : ℕ) → P (getD xs j d)
+every-get P d [] h u j = h
+every-get P d (x ∷ xs) h u zero = u .0
+every-get P d (x ∷ xs) h u (suc j) = every-get P d xs h (u .1) j
+
+pub every-of : {A : Type 0} (P : A → Type 0) (d : A) (xs : List A) → ((j : ℕ) → j < length xs → P (getD xs j d)) → Every P xs
+every-of P d [] h = tt
+every-of P d (x ∷ xs) h = (h 0 (omega arith), every-of P d xs (λ j l. h (suc j) (omega arith)))
+
+abbrev Keeps : Read → Type 0
+Keeps r = (ns : List Node) → FewBefore ns → FewOf (nodeOf ns r)
+
+no-names : FewOf noNode
+no-names = (omega arith, tt, tt)
+
+few-from : (rs : List Read) (ns : List Node) → Every FewOf ns → Every Keeps rs → Every FewOf (nodesFrom ns rs)
+unfolding nodesFrom
+few-from [] ns h g = h
+few-from (r ∷ rs) ns h g =
+    few-from rs (ns ++ (nodeOf ns r ∷ [])) (every-append FewOf ns (nodeOf ns r ∷ []) h (g .0 ns (λ m. every-get FewOf noNode ns no-names h (m - 1)), tt)) (g .1)
+
+module _ (s t : List ℕ) (n : ℕ) (c : Checked s t n) where
+  module _ (i : ℕ) (h : i < n) where
+    row-sound : (ns : List Node) → Sound ns (readAt s i .form)
+    row-sound ns = rw (form-is s t n (c .whole) i h) (each-at (Sound ns) forms (all-sound ns) (formAt t i) (omega (arith, row-count, form-low s t n (c .whole) i h)))
+
+    fields-fit : fits (readAt s i .form .parts) (readAt s i .fields) ≡ true
+    fields-fit = rw (form-is s t n (c .whole) i h) (read-fits s t n (c .whole) i h)
+
+    keeps-few : Keeps (readAt s i)
+    unfolding nodeOf
+    keeps-few ns g = row-sound ns (readAt s i .fields) fields-fit .1 g
+
+    grows : linesAt (nodesIn s) (suc i) ≤ 1 + linesIn (linesAt (nodesIn s)) (refsOf (readAt s i))
+    unfolding linesAt
+    grows =
+        let z : suc i - 1 ≡ i = omega arith in
+        let e = parts-lines (nodesIn s) (readsIn s) i (readAt s i .form .parts) (readAt s i .fields) fields-fit (c .fine i h) in
+        rw (z, node-at s t n (c .whole) (c .good) i h, ← form-is s t n (c .whole) i h) (omega (arith, e, row-sound (nodesIn s) (readAt s i .fields) fields-fit .0))
+
+  in-sheet : {i : ℕ} → i < length (readsIn s) → i < n
+  in-sheet l = omega (arith, line-count s t n (c .whole))
+
+  -- no line has or refers to more than 16 names of a field
+  pub few-at : (r : ℕ) → FewOf (nodeAt (nodesIn s) r)
+  few-at r = every-get FewOf noNode (nodesIn s) no-names (few-from (readsIn s) [] tt (every-of Keeps noRead (readsIn s) (λ i l. keeps-few i (in-sheet l)))) (r - 1)
+
+  -- what line r makes takes at most r lines
+  pub node-lines : (r : ℕ) → 0 < r → r ≤ n → nodeLines (nodeAt (nodesIn s) r) ≤ r
   unfolding linesAt
-  type-lines zero p h = absurd (omega arith)
-  type-lines (suc r) p h =
-      few-lines (linesAt (nodesIn s)) (readsIn s) (λ i l. c .fine i (omega (arith, line-count s t n (c .whole)))) refl (c .once) grows-at (suc r) (omega (arith, line-count s t n (c .whole)))
+  node-lines zero p h = absurd (omega arith)
+  node-lines (suc r) p h =
+      few-lines (linesAt (nodesIn s)) (readsIn s) (λ i l. c .fine i (in-sheet l)) refl (c .once) (λ i l. grows i (in-sheet l)) (suc r) (omega (arith, line-count s t n (c .whole)))
+
+  -- its type, and what an `adt` or `pick` line declares
+  pub type-lines : (r : ℕ) → 0 < r → r ≤ n → linesOf (nodeAt (nodesIn s) r .ty) ≤ r
+  type-lines r p h = omega (arith, node-lines r p h)
+
+  pub decl-lines : (r : ℕ) → 0 < r → r ≤ n → sumOf declLines (nodeAt (nodesIn s) r .declares .adts) ≤ r
+  decl-lines r p h = omega (arith, node-lines r p h)

@@ -13,7 +13,7 @@ use lib.Seq.{getD-drop}
 use borrow.Author.Tests.{ltb-true, eqb-true, eqb-false, ne-eqb}
 use Rattle.semantics.specs.Text.{Bytes, headPart, tailParts}
 use Rattle.semantics.specs.Tree.{Ty, Node}
-use Rattle.semantics.specs.Form.{Read, Row, Atom, Part, letter, forms, nodeAt, perhapsAt, values, numberOf, fits, holds, isCount, isNumber, ones, tyOf, fdsOf}
+use Rattle.semantics.specs.Form.{Read, Row, Part, letter, forms, nodeAt, perhapsAt, values, numberOf, fits, holds, isCount, isNumber, ones, tyOf, fdsOf}
 use Rattle.semantics.specs.Form.Kind.{kTy, kFd, kPc}
 use Rattle.semantics.specs.Form.Atom.{name, ref, maybe}
 use Rattle.semantics.specs.Form.Part.{one, many}
@@ -31,7 +31,8 @@ use Rattle.checks.specs.Checks.{Checked}
 use Rattle.sizes.specs.declared.place.Reached.{Reached}
 use Rattle.sizes.specs.Sizes.{typeAt, TypeLine, Measures}
 use Rattle.sizes.specs.Places.{fieldAt, fieldsAt, ownFields, commonAt, caseAt, FieldLine, FieldRefs, RecordLine, CaseLine, LinePlaced, AllPlaced}
-use Rattle.sizes.proofs.Types.{field-form, case-form, adt-form, pick-form, number-exact, count-number, Good, group-good, head-drop, tail-drop}
+use Rattle.sizes.proofs.Rows.{count-number, values-length}
+use Rattle.sizes.proofs.Types.{field-form, case-form, adt-form, pick-form, number-exact, Good, group-good, head-drop, tail-drop}
 
 -- 16 names of the largest type
 pub names-small : {a b : ℕ} → a ≤ 16 → b ≤ 8192 → a * b ≤ 131072
@@ -89,10 +90,6 @@ second-part : (fs : List (List ℕ)) → headPart (tailParts fs) ≡ getD fs 1 [
 second-part [] = refl
 second-part (f ∷ []) = refl
 second-part (f ∷ (g ∷ fs)) = refl
-
-values-length : (a : Atom) (ns : List Node) (n : ℕ) (fs : List (List ℕ)) → length (values a ns n fs) ≡ n
-values-length a ns zero fs = refl
-values-length a ns (suc n) fs = ap suc (values-length a ns n (tailParts fs))
 
 module _ (s t : List ℕ) (n r : ℕ) (l : FieldLine s t n r) where
   field-in : r - 1 < n

@@ -31,6 +31,7 @@ use Rattle.refs.specs.Refs.{fineRef, fineRefs}
 use Rattle.refs.proofs.Fine.{needed-ref}
 use Rattle.refs.proofs.Nodes.{node-at}
 use Rattle.sizes.specs.Sizes.{isLong, typeAt, TypeLine, TupleLine, Measures}
+use Rattle.sizes.proofs.Rows.{count-number}
 use Rattle.sizes.proofs.Lines.{type-lines}
 
 -- ---- the forms of a kind
@@ -135,13 +136,6 @@ number-exact f = go (Text.natOf f)
     go : (o : Option ℕ) → Text.holdsOf (λ (m : ℕ). true) o ≡ true → Text.orElse 0 o ≤ 65536 → Number.capped 65536 o ≡ Text.orElse 0 o
     go none h k = let z : _≡_ {A = ℕ} 0 1 = cc in absurd (omega arith)
     go (some m) h k = omega arith
-
-pub count-number : (f : List ℕ) → isCount f ≡ true → (isNumber f ≡ true) × (numberOf f ≤ 16)
-count-number f = go (Text.natOf f)
-  where
-    go : (o : Option ℕ) → Text.holdsOf (λ (m : ℕ). leb m 16) o ≡ true → (Text.holdsOf (λ (m : ℕ). true) o ≡ true) × (Text.orElse 0 o ≤ 16)
-    go none h = let z : _≡_ {A = ℕ} 0 1 = cc in absurd (omega arith)
-    go (some m) h = (refl, leb-true m 16 h)
 
 -- ---- the fields of a tuple, and other groups of references
 
