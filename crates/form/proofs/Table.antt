@@ -151,6 +151,10 @@ sole-at k f (r ∷ rs) i (suc j) h l e =
 pub Only : ℕ → ℕ → Type 0
 Only k f = sole k f 0 Form.forms ≡ true
 
+pub only-frame : Only 71 33
+unfolding Only sole Form.forms
+only-frame = refl
+
 pub only-pc : Only 67 25
 unfolding Only sole Form.forms
 only-pc = refl
@@ -162,6 +166,10 @@ only-pick = refl
 pub only-var : Only 72 29
 unfolding Only sole Form.forms
 only-var = refl
+
+pub only-con : Only 68 28
+unfolding Only sole Form.forms
+only-con = refl
 
 pub form-of-kind : {k f : ℕ} → Only k f → (g : ℕ) → g < 42 → kindAt g ≡ k → g ≡ f
 unfolding Only

@@ -86,7 +86,7 @@ place-within (f ∷ fs) off end h =
 
 -- ---- the size of a record
 
-furthest-within : (e end : ℕ) (ps : List Placed) → e ≤ end → Within end ps → furthest e ps ≤ end
+pub furthest-within : (e end : ℕ) (ps : List Placed) → e ≤ end → Within end ps → furthest e ps ≤ end
 furthest-within e end [] h u = h
 furthest-within e end (p ∷ ps) h u = furthest-within (max e (p .offset + sizeOf (p .ty))) end ps (omega arith) (u .1)
 

@@ -46,7 +46,7 @@ unfolding onesIn ones
 digits-all zero n h = let e : n ≡ 0 = omega arith in rw e
 digits-all (suc k) n h = let l : n / 2 < 2 ^ k = omega (arith, pow-suc 2 k) in ones-step n ∙ ap (λ (x : ℕ). n % 2 + x) (digits-all k (n / 2) l)
 
-count-more : (l : Bytes) (b : ℕ) → pointerCount (l ++ b ∷ []) ≡ pointerCount l + onesIn 8 b
+pub count-more : (l : Bytes) (b : ℕ) → pointerCount (l ++ b ∷ []) ≡ pointerCount l + onesIn 8 b
 unfolding pointerCount
 count-more [] b = omega arith
 count-more (a ∷ l) b = omega (arith, count-more l b)

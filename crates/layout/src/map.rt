@@ -60,7 +60,7 @@ pub fn map_byte(size: u32, offsets: &[i32], w: u32) -> u8
 }
 
 // How many bits of a byte are set.
-fn ones_of(b: u8) -> u32
+pub fn ones_of(b: u8) -> u32
     ensures { λ r. ⌜ (r ≡ onesIn 8 b) × (r ≤ 8) ⌝ }
 {
     u8::count_ones(b)

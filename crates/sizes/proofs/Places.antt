@@ -2,7 +2,7 @@
 use mathlib.Core.Path.{_≡_, refl, sym, ap, _∙_}
 use mathlib.Core.Bool.{Bool, true, false}
 use mathlib.Core.List.{List, [], _∷_, _++_}
-use mathlib.Core.Option.{some}
+use mathlib.Core.Option.{none, some}
 use Prim.Native.Nat.{ℕ, zero, suc, _+_, _-_, _*_, _≤_, _<_, max}
 use native.Mathlib.Nat.{mul-le-mul-left, mul-le-mul-right, suc-mul}
 use native.Mathlib.Numerals.{add-one}
@@ -39,7 +39,7 @@ pub names-small : {a b : ℕ} → a ≤ 16 → b ≤ 8192 → a * b ≤ 131072
 names-small {a} {b} h k = omega (arith, mul-le-mul-left a k, mul-le-mul-right 8192 h)
 
 -- names lie one behind the other, so the last ends furthest
-names-end : (t : Ty) (off : ℕ) (ns : List Bytes) → placeNames t off ns .end ≡ off + length ns * sizeOf t
+pub names-end : (t : Ty) (off : ℕ) (ns : List Bytes) → placeNames t off ns .end ≡ off + length ns * sizeOf t
 names-end t off [] = omega arith
 names-end t off (n ∷ ns) = omega (arith, names-end t (off + sizeOf t) ns, suc-mul (length ns) (sizeOf t))
 
@@ -122,8 +122,11 @@ module _ (s t : List ℕ) (n r : ℕ) (l : FieldLine s t n r) where
             let w = given-ref (readsIn s) (r - 1 + 1) 75 (numberOf (getD (readAt s (r - 1) .fields) 0 [])) (parts-good .2) (eqb-false (numberOf (getD (readAt s (r - 1) .fields) 0 [])) 0 e) in
             omega (arith, w .0, l .last, l .checked .whole .lined .few)
 
+    pub untyped : v ≡ 0 → fieldAt s r .ty ≡ none
+    untyped z = rw (fd-is, sym type-number ∙ z)
+
     pub placed-untyped : v ≡ 0 → (p : Reached) → LinePlaced (fieldAt s r .ty) (fieldAt s r .names) p p
-    placed-untyped z p = rw (fd-is, sym type-number ∙ z) (record { end = refl; furthest = refl })
+    placed-untyped z p = rw (untyped z) (record { end = refl; furthest = refl })
 
     module _ (z : v ≡ 0 → ⊥) where
       pub type-line : TypeLine s t n v
@@ -131,7 +134,7 @@ module _ (s t : List ℕ) (n r : ℕ) (l : FieldLine s t n r) where
           let w = given-ref (readsIn s) (r - 1 + 1) 75 v (rw (← type-number) at (parts-good .2)) z in
           record { checked = l .checked; first = omega (arith, z); last = omega (arith, w .0, l .first, l .last); kind = w .1 }
 
-      typed : fieldAt s r .ty ≡ some (typeAt s v)
+      pub typed : fieldAt s r .ty ≡ some (typeAt s v)
       typed = rw (fd-is, ← type-number) (ap tyOf (perhaps-some v z))
         where
           perhaps-some : (m : ℕ) → (m ≡ 0 → ⊥) → perhapsAt (nodesIn s) m ≡ some (nodeAt (nodesIn s) m)
@@ -142,7 +145,7 @@ module _ (s t : List ℕ) (n r : ℕ) (l : FieldLine s t n r) where
         pub names-few : w ≤ 16
         names-few = let q = count-number (getD (readAt s (r - 1) .fields) 1 []) (parts-good .1) in omega (arith, q .1, hw, number-exact (getD (readAt s (r - 1) .fields) 1 []) (q .0) (omega (arith, q .1)))
 
-        names-are : w ≡ length (fieldAt s r .names)
+        pub names-are : w ≡ length (fieldAt s r .names)
         names-are =
             let q = count-number (getD (readAt s (r - 1) .fields) 1 []) (parts-good .1) in
             rw fd-is (hw ∙ number-exact (getD (readAt s (r - 1) .fields) 1 []) (q .0) (omega (arith, q .1)) ∙ sym (values-length name (nodesIn s) _ _))
@@ -152,7 +155,7 @@ module _ (s t : List ℕ) (n r : ℕ) (l : FieldLine s t n r) where
 
 -- ---- several `fd` lines
 
-furthest-append : (f : ℕ) (ps qs : List Placed) → furthest f (ps ++ qs) ≡ furthest (furthest f ps) qs
+pub furthest-append : (f : ℕ) (ps qs : List Placed) → furthest f (ps ++ qs) ≡ furthest (furthest f ps) qs
 furthest-append f [] qs = refl
 furthest-append f (p ∷ ps) qs = furthest-append (max f (p .offset + sizeOf (p .ty))) ps qs
 
@@ -163,38 +166,40 @@ pub record Passing (s : List ℕ) (r from count : ℕ) (p q : Reached) (j : ℕ)
   pub furthest : furthest (q .furthest) (place (q .end) (fieldsAt s r (from + j) (count - j)) .placed) ≡ furthest (p .furthest) (place (p .end) (fieldsAt s r from count) .placed)
   pub small : q .end ≤ p .end + 131080 * j
 
-module _ (s t : List ℕ) (n r from count : ℕ) (l : FieldRefs s t n r from count) (p : Reached) where
+module _ (s t : List ℕ) (n r from count : ℕ) (l : FieldRefs s t n r from count) where
   pub refs-in : r - 1 < n
   refs-in = omega (arith, l .first, l .last)
 
-  pub passing-start : Passing s r from count p p 0
-  passing-start =
-      let z : from + 0 ≡ from = omega arith in
-      let y : count - 0 ≡ count = omega arith in
-      record { within = omega arith; end = rw (z, y); furthest = rw (z, y); small = omega arith }
+  module _ (j : ℕ) (h : j < count) (v : ℕ) (hv : v ≡ Number.numberOf 65536 (getD (readAt s (r - 1) .fields) (from + j) [])) where
+    line-number : v ≡ numberOf (getD (readAt s (r - 1) .fields) (from + j) [])
+    line-number = hv ∙ number-exact (getD (readAt s (r - 1) .fields) (from + j) []) (l .number j h) (omega (arith, l .each j h .last, l .checked .whole .lined .few))
 
-  module _ (q : Reached) (j : ℕ) (m : Passing s r from count p q j) where
-    pub passing-end : count ≤ j → AllPlaced (fieldsAt s r from count) p q
-    passing-end h = let z : count - j ≡ 0 = omega arith in record { end = rw z at (m .end); furthest = rw z at (m .furthest) }
+    pub passing-line : FieldLine s t n v
+    passing-line = rw line-number (l .each j h)
 
-    module _ (h : j < count) (v : ℕ) (hv : v ≡ Number.numberOf 65536 (getD (readAt s (r - 1) .fields) (from + j) [])) where
-      line-number : v ≡ numberOf (getD (readAt s (r - 1) .fields) (from + j) [])
-      line-number = hv ∙ number-exact (getD (readAt s (r - 1) .fields) (from + j) []) (l .number j h) (omega (arith, l .each j h .last, l .checked .whole .lined .few))
+    pub fields-next : fieldsAt s r (from + j) (count - j) ≡ fieldAt s v ∷ fieldsAt s r (from + (j + 1)) (count - (j + 1))
+    fields-next =
+        let z : count - j ≡ suc (count - (j + 1)) = omega arith in
+        let y : from + (j + 1) ≡ suc (from + j) = omega arith in
+        rw (z, y, head-drop (from + j) (readAt s (r - 1) .fields), tail-drop (from + j) (readAt s (r - 1) .fields), line-number)
 
-      pub passing-line : FieldLine s t n v
-      passing-line = rw line-number (l .each j h)
+  module _ (p : Reached) where
+    pub passing-start : Passing s r from count p p 0
+    passing-start =
+        let z : from + 0 ≡ from = omega arith in
+        let y : count - 0 ≡ count = omega arith in
+        record { within = omega arith; end = rw (z, y); furthest = rw (z, y); small = omega arith }
 
-      fields-next : fieldsAt s r (from + j) (count - j) ≡ fieldAt s v ∷ fieldsAt s r (from + (j + 1)) (count - (j + 1))
-      fields-next =
-          let z : count - j ≡ suc (count - (j + 1)) = omega arith in
-          let y : from + (j + 1) ≡ suc (from + j) = omega arith in
-          rw (z, y, head-drop (from + j) (readAt s (r - 1) .fields), tail-drop (from + j) (readAt s (r - 1) .fields), line-number)
+    module _ (q : Reached) (j : ℕ) (m : Passing s r from count p q j) where
+      pub passing-end : count ≤ j → AllPlaced (fieldsAt s r from count) p q
+      passing-end h = let z : count - j ≡ 0 = omega arith in record { end = rw z at (m .end); furthest = rw z at (m .furthest) }
 
-      pub passing-next : (u : Reached) → LinePlaced (fieldAt s v .ty) (fieldAt s v .names) q u → u .end ≤ q .end + 131080 → Passing s r from count p u (j + 1)
-      passing-next u x b = record {
+      pub passing-next : (h : j < count) (v : ℕ) → v ≡ Number.numberOf 65536 (getD (readAt s (r - 1) .fields) (from + j) []) → (u : Reached)
+          → LinePlaced (fieldAt s v .ty) (fieldAt s v .names) q u → u .end ≤ q .end + 131080 → Passing s r from count p u (j + 1)
+      passing-next h v hv u x b = record {
         within = omega arith;
-        end = rw (x .end) (rw fields-next at (m .end));
-        furthest = rw (x .end, x .furthest, ← furthest-append) (rw fields-next at (m .furthest));
+        end = rw (x .end) (rw (fields-next j h v hv) at (m .end));
+        furthest = rw (x .end, x .furthest, ← furthest-append) (rw (fields-next j h v hv) at (m .furthest));
         small = omega (arith, m .small);
       }
 
@@ -235,7 +240,7 @@ module _ (s t : List ℕ) (n r : ℕ) (c : Checked s t n) (first : 0 < r) (last 
 
 -- ---- an `adt` or `pick` line: a name, the group of its fields, and what a pick has behind it
 
-name-first : (ls : List Read) (i : ℕ) (ps : List Part) (fs : List (List ℕ)) → fits (one name ∷ ps) fs ≡ true → fineRefs ls i (refsIn (one name ∷ ps) fs) ≡ true
+pub name-first : (ls : List Read) (i : ℕ) (ps : List Part) (fs : List (List ℕ)) → fits (one name ∷ ps) fs ≡ true → fineRefs ls i (refsIn (one name ∷ ps) fs) ≡ true
     → (fits ps (drop 1 fs) ≡ true) × (fineRefs ls i (refsIn ps (drop 1 fs)) ≡ true)
 name-first ls i ps [] h k = let z : _≡_ {A = ℕ} 0 1 = cc in absurd (omega arith)
 name-first ls i ps (f ∷ fs) h k = (both (holds name f) (fits ps fs) h .1, k)

@@ -18,7 +18,7 @@ pub struct SizeAlign {
     pub align: u32,
 }
 
-fn larger(a: u32, b: u32) -> u32
+pub fn larger(a: u32, b: u32) -> u32
     ensures { λ r. ⌜ r ≡ max a b ⌝ }
 {
     if a < b {

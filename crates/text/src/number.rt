@@ -58,7 +58,7 @@ fn digits(s: &[u8], from: usize) -> u64
 }
 
 // The number that the bytes from `from` on write, MOST where it is larger, MOST + 1 where there is none: a zero stands alone.
-fn natural(s: &[u8], from: usize) -> u64
+pub fn natural(s: &[u8], from: usize) -> u64
     ensures { λ r. ⌜ r ≡ numberOf most (drop from (now (s .entry))) ⌝ }
 {
     if s.len() <= from {
@@ -89,7 +89,7 @@ pub fn read_number(s: &[u8], cap: u32) -> u64
 }
 
 // An integer's sign and size: `-` stands only before a number other than 0.
-fn read_signed(s: &[u8]) -> Signed
+pub fn read_signed(s: &[u8]) -> Signed
     ensures { λ r. ⌜ r ≡ signedOf (now (s .entry)) ⌝ }
 {
     if s.len() == 0 {

@@ -101,7 +101,7 @@ pub fn put_hex(out: &mut [u8], at: usize, part: &[u8]) -> usize
 }
 
 // Byte k of the eight of n, the highest first.
-fn byte_of(n: u64, k: usize) -> u8
+pub fn byte_of(n: u64, k: usize) -> u8
     requires { ⌜ k < 8 ⌝ }
     ensures { λ r. ⌜ r ≡ getD (bigEndian 8 n) k 0 ⌝ }
 {

@@ -25,11 +25,11 @@ add-number-at c = record { fits = omega (arith, c .before .before .before .befor
 
 -- src/place.rt:57:41
 number-at-requires : tie.Need-number-at-requires Inv-loop μ-loop
-number-at-requires c κs = (c .before .before .before .before .pre .0 .checked .whole, refs-in (now (c .before .before .before .before .args .sheet)) (now (c .before .before .before .before .args .work)) (c .before .before .before .before .args .n) (c .before .before .before .before .args .r) (c .before .before .before .before .args .from) (c .before .before .before .before .args .count) (c .before .before .before .before .pre .0) (c .before .before .before .before .args .p))
+number-at-requires c κs = (c .before .before .before .before .pre .0 .checked .whole, refs-in (now (c .before .before .before .before .args .sheet)) (now (c .before .before .before .before .args .work)) (c .before .before .before .before .args .n) (c .before .before .before .before .args .r) (c .before .before .before .before .args .from) (c .before .before .before .before .args .count) (c .before .before .before .before .pre .0))
 
 -- src/place.rt:57:9
 place-field-requires : tie.Need-place-field-requires Inv-loop μ-loop
-place-field-requires c κs = (passing-line (now (c .before .before .before .before .before .args .sheet)) (now (c .before .before .before .before .before .args .work)) (c .before .before .before .before .before .args .n) (c .before .before .before .before .before .args .r) (c .before .before .before .before .before .args .from) (c .before .before .before .before .before .args .count) (c .before .before .before .before .before .pre .0) (c .before .before .before .before .before .args .p) (c .before .before .loop .q) (c .before .before .loop .j) (c .before .before .loop .inv) (c .before .loop-test .taken) (c .number-at .result) (c .number-at .ensures .0), omega (arith, c .before .before .loop .inv .small, c .before .before .before .before .before .pre .1, c .before .before .before .before .before .pre .0 .few, c .before .loop-test .taken))
+place-field-requires c κs = (passing-line (now (c .before .before .before .before .before .args .sheet)) (now (c .before .before .before .before .before .args .work)) (c .before .before .before .before .before .args .n) (c .before .before .before .before .before .args .r) (c .before .before .before .before .before .args .from) (c .before .before .before .before .before .args .count) (c .before .before .before .before .before .pre .0) (c .before .before .loop .j) (c .before .loop-test .taken) (c .number-at .result) (c .number-at .ensures .0), omega (arith, c .before .before .loop .inv .small, c .before .before .before .before .before .pre .1, c .before .before .before .before .before .pre .0 .few, c .before .loop-test .taken))
 
 -- src/place.rt:58:9
 add-j : tie.Need-add-j Inv-loop μ-loop

@@ -1,0 +1,81 @@
+// Expressions folded: the value of an `ex` line of a checked sheet, left first. Strings stand in the working space as on a stack.
+mod leaf;
+
+ghost use mathlib.Core.Path.{_≡_};
+ghost use Prim.Native.Nat.{_-_};
+ghost use Rattle.values.specs.Values.{valueIn, Answers};
+ghost use Rattle.checks.specs.Checks.{Kept};
+ghost use Rattle.fold.specs.Folds.{exAt, onOne, operandOf, Foldable, Folds, OperatorLine, Applies};
+use values::ConstVal;
+use values::Folded;
+
+// Forms of expressions. Those before UNARY refer to no line that is folded, and those behind LEN fail.
+const UNARY: usize = 13;
+
+const BINARY: usize = 14;
+
+const CAST: usize = 15;
+
+const LEN: usize = 16;
+
+// The line of the only or left operand of line r.
+fn operand(sheet: &[u8], work: &[u8], n: usize, r: usize) -> usize
+    requires { ⌜ OperatorLine (now sheet) (now work) n r ⌝ }
+    ensures { λ k. ⌜ k ≡ operandOf (now (sheet .entry)) (now (work .entry)) r ⌝ }
+{
+    if lines::form_at(work, r - 1) == LEN {
+        return lines::number_at(sheet, work, n, r - 1, 0);
+    }
+    lines::number_at(sheet, work, n, r - 1, 1)
+}
+
+// What line r makes of the value of its only operand, which stands at `top` where it is a string.
+fn apply(sheet: &[u8], work: &mut [u8], n: usize, r: usize, v: ConstVal, top: usize) -> Folded
+    requires { ⌜ Applies (now sheet) (now work) n r v top ⌝ }
+    ensures { λ x. ⌜ (Answers (now (work .exit)) top x (onOne (exAt (now (sheet .entry)) r) (valueIn (now (work .entry)) v))) × (Kept top (now (work .entry)) (now (work .exit))) ⌝ }
+{
+    let f = lines::form_at(work, r - 1);
+    if f == UNARY {
+        return values::fold_unary(lines::number_at(sheet, work, n, r - 1, 0), v);
+    }
+    if f == CAST {
+        let code = lines::form_at(work, lines::number_at(sheet, work, n, r - 1, 0) - 1);
+        return Folded::Value(values::fold_cast(work, code, v, top));
+    }
+    values::fold_len(work, v)
+}
+
+// The value of line r, where the first m constants are known: a string stands at `top`. Each line below r is visited once.
+pub fn fold_const(
+    sheet: &[u8],
+    work: &mut [u8],
+    n: usize,
+    m: usize,
+    iota: u32,
+    r: usize,
+    top: usize,
+) -> Folded
+    requires { ⌜ Foldable (now sheet) (now work) n m r top ⌝ }
+    ensures { λ x. ⌜ Folds (now (sheet .entry)) (now (work .entry)) m iota r top (now (work .exit)) x ⌝ }
+{
+    let f = lines::form_at(work, r - 1);
+    if f < UNARY {
+        return leaf::leaf(sheet, work, n, m, iota, r, top);
+    }
+    if LEN < f {
+        return Folded::Failed;
+    }
+    let x = fold_const(sheet, work, n, m, iota, operand(sheet, work, n, r), top);
+    let Folded::Value(v) = x else {
+        return x;
+    };
+    if f != BINARY {
+        return apply(sheet, work, n, r, v, top);
+    }
+    let right = lines::number_at(sheet, work, n, r - 1, 2);
+    let y = fold_const(sheet, work, n, m, iota, right, top + values::size(v));
+    let Folded::Value(w) = y else {
+        return y;
+    };
+    values::fold_binary(lines::number_at(sheet, work, n, r - 1, 0), v, w)
+}

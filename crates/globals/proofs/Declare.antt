@@ -1,0 +1,200 @@
+-- Laws of names that get places.
+use mathlib.Core.Path.{_≡_, refl, sym, ap, _∙_, subst}
+use mathlib.Core.Logic.{⊎-elim}
+use mathlib.Core.Bool.{Bool, true, false}
+use mathlib.Core.List.{List, [], _∷_, _++_}
+use mathlib.Core.Option.{Option, none}
+use Prim.Native.Nat.{ℕ, zero, suc, _+_, _-_, _*_, _≤_, _<_}
+use native.Mathlib.Nat.{eq-or-lt-of-le}
+use native.Mathlib.Omega.{arith}
+use lib.ListN.{length, drop, getD}
+use lib.Seq.{getD-drop}
+use Rattle.semantics.specs.Text.{Bytes, bytes, same}
+use Rattle.semantics.specs.Tree.{Ty}
+use Rattle.semantics.specs.Tree.Basic.{int, byte, big, real, string}
+use Rattle.semantics.specs.Tree.Ty.{basic, ptr, array, tuple}
+use Rattle.semantics.specs.Form.{values, numberOf}
+use Rattle.semantics.specs.Form.Atom.{name}
+use Rattle.semantics.specs.Layout.{alignUp}
+use Rattle.semantics.specs.Const.{implements}
+use Rattle.semantics.specs.Global.{Global, globalSize, placeOf, newOffset}
+use Rattle.text.specs.Number as Number
+use Rattle.lines.specs.Lines.{readAt, nodesIn}
+use Rattle.sizes.specs.Sizes.{typeAt}
+use Rattle.implement.specs.Modules.{moduleAt}
+use Rattle.globals.specs.declared.Globals.{Globals}
+use Rattle.globals.specs.Laying.{Laying, lay, layNames, counts}
+use Rattle.globals.specs.Table.{VarLine, nameOn, typeOn, namesOn, lineOf, entered, entryAt, placesIn, layingIn, offsetBy, Around, Standing, Laid}
+use Rattle.globals.proofs.Laying.{names-next}
+use Rattle.globals.proofs.Line.{type-on, count-on}
+use Rattle.globals.proofs.Table.{line-new, position-new, offset-new, line-old, around-entered, places-more, places-entered, around-all, around-then, checked-around, var-around}
+
+-- a global takes 4 bytes or 8
+four-or-eight : (P : ℕ → Type 0) → P 4 → P 8 → (t : Ty) → P (globalSize t)
+four-or-eight P a b (basic int) = a
+four-or-eight P a b (basic byte) = a
+four-or-eight P a b (basic big) = b
+four-or-eight P a b (basic real) = b
+four-or-eight P a b (basic string) = a
+four-or-eight P a b ptr = a
+four-or-eight P a b (array t) = a
+four-or-eight P a b (tuple ts) = a
+
+-- 8 bytes each are enough
+place-low : (t : Ty) (end count : ℕ) → end ≤ 8 * count → alignUp (globalSize t) end ≤ 8 * count
+place-low t end count h = four-or-eight (λ a. alignUp a end ≤ 8 * count) (omega arith) (omega arith) t
+
+-- ---- places as they were
+
+pub laid-same : {s t : Bytes} {n : ℕ} {l : Laying} {g : Globals} {m : ℕ} → Standing s t n g → layingIn s t g ≡ l → g .count ≤ m → Laid s t t n l g m
+laid-same st e h = record { standing = st; around = around-all; laying = e; most = h }
+
+-- the test for `nil`, of a name that was read
+pub nil-test : {x y : Bytes} {b : Bool} → y ≡ x → b ≡ same y (bytes "nil") → same x (bytes "nil") ≡ b
+nil-test e h = rw (← e) (sym h)
+
+pub lay-nil : (t : Ty) (x : Bytes) (l : Laying) → same x (bytes "nil") ≡ true → l ≡ lay t x l
+unfolding lay
+lay-nil t x l e = rw e
+
+pub lay-again : (t : Ty) (x : Bytes) (l : Laying) (w : Bytes) (p : ℕ) → same x (bytes "nil") ≡ false → offsetBy w p ≡ placeOf x (l .places) → (p ≡ 0 → ⊥) → l ≡ lay t x l
+unfolding lay offsetBy
+lay-again t x l w zero e h z = absurd (z refl)
+lay-again t x l w (suc p) e h z = rw (e, ← h)
+
+-- ---- a new place
+
+module _ (s t : Bytes) (n r j : ℕ) (g : Globals) (st : Standing s t n g) (l : VarLine s t n r) (hj : j < 16) (full : g .count < 256)
+    (v : ℕ) (hv : v ≡ Number.numberOf 65536 (getD (readAt s (r - 1) .fields) 0 [])) (size : ℕ) (hs : size ≡ globalSize (typeAt s v)) (off : ℕ) (ho : off ≡ alignUp size (g .end)) where
+  size-is : size ≡ globalSize (typeOn s r)
+  size-is = hs ∙ ap globalSize (type-on s t n r l v hv)
+
+  off-is : off ≡ newOffset (typeOn s r) (g .end)
+  off-is = ho ∙ ap (λ (a : ℕ). alignUp a (g .end)) size-is
+
+  off-low : off ≤ 8 * g .count
+  off-low = rw off-is (place-low (typeOn s r) (g .end) (g .count) (st .low))
+
+  size-low : size ≤ 8
+  size-low = rw size-is (four-or-eight (λ a. a ≤ 8) (omega arith) (omega arith) (typeOn s r))
+
+  line-low : r < 65536
+  line-low = omega (arith, l .last, l .checked .whole .lined .few)
+
+  pub enter-fits : (g .count < 256) × (r < 65536) × (j < 256) × (off < 65536) × (65536 ≤ length t)
+  enter-fits = (full, line-low, omega arith, omega (arith, off-low), l .checked .whole .room)
+
+  pub end-fits : off + size < 4294967296
+  end-fits = omega (arith, off-low, size-low)
+
+  new : Bytes
+  new = entered t (g .count) r j off
+
+  around-new : Around t new
+  unfolding new
+  around-new = around-entered t (g .count) r j off full line-low (omega (arith, off-low)) (l .checked .whole .room)
+
+  each-new : (i : ℕ) → i < g .count + 1 → VarLine s new n (lineOf new i)
+  unfolding new
+  each-new i h = let w : i ≤ g .count = omega arith in ⊎-elim (λ (e : i ≡ g .count). subst (λ (k : ℕ). VarLine s new n (lineOf new k)) (sym e) last) (λ (q : i < g .count). old q) (eq-or-lt-of-le w)
+    where
+      last : VarLine s new n (lineOf new (g .count))
+      last = rw (line-new t (g .count) r j off full line-low (omega (arith, off-low)) (l .checked .whole .room)) (var-around around-new l)
+
+      old : i < g .count → VarLine s new n (lineOf new i)
+      old q = rw (line-old t (g .count) r j off full line-low (omega (arith, off-low)) (l .checked .whole .room) i q) (var-around around-new (st .tabled .each i q))
+
+  entry-new : entryAt s new (g .count) ≡ record { name = nameOn s r j; offset = newOffset (typeOn s r) (g .end); ty = typeOn s r }
+  unfolding new entryAt
+  entry-new =
+      rw (
+        line-new t (g .count) r j off full line-low (omega (arith, off-low)) (l .checked .whole .room),
+        position-new t (g .count) r j off full line-low (omega (arith, off-low)) (l .checked .whole .room),
+        offset-new t (g .count) r j off full line-low (omega (arith, off-low)) (l .checked .whole .room),
+        off-is,
+      )
+
+  places-old : placesIn s new (g .count) ≡ placesIn s t (g .count)
+  unfolding new
+  places-old = places-entered s t (g .count) r j off full line-low (omega (arith, off-low)) (l .checked .whole .room)
+
+  module _ (p : ℕ) (hn : same (nameOn s r j) (bytes "nil") ≡ false) (hp : offsetBy t p ≡ placeOf (nameOn s r j) (placesIn s t (g .count))) (hz : p ≡ 0) (h : Globals) (hc : h .count ≡ g .count + 1) (he : h .end ≡ off + size) where
+    places-new : placesIn s new (h .count) ≡ placesIn s t (g .count) ++ (record { name = nameOn s r j; offset = newOffset (typeOn s r) (g .end); ty = typeOn s r } ∷ [])
+    places-new =
+        ap (placesIn s new) hc ∙ places-more s new (g .count)
+        ∙ ap (λ (e : Global). placesIn s new (g .count) ++ (e ∷ [])) entry-new ∙ ap (λ (l : List Global). l ++ (record { name = nameOn s r j; offset = newOffset (typeOn s r) (g .end); ty = typeOn s r } ∷ [])) places-old
+
+    laying-new : layingIn s new h ≡ lay (typeOn s r) (nameOn s r j) (layingIn s t g)
+    unfolding lay offsetBy
+    laying-new =
+        let q : placeOf (nameOn s r j) (placesIn s t (g .count)) ≡ none = sym hp ∙ ap (offsetBy t) hz in
+        let f : h .end ≡ newOffset (typeOn s r) (g .end) + globalSize (typeOn s r) = he ∙ rw (off-is, size-is) in
+        rw (hn, q, places-new, f)
+
+    laid-new : Laid s t new n (lay (typeOn s r) (nameOn s r j) (layingIn s t g)) h (g .count + 1)
+    laid-new = record {
+      standing = record {
+        tabled = record { checked = checked-around around-new (l .checked); few = omega arith; each = λ i q. each-new i (omega arith) };
+        low = omega (arith, off-low, size-low);
+      };
+      around = around-new;
+      laying = laying-new;
+      most = omega arith;
+    }
+
+    pub laid-entered : {u : Bytes} → u ≡ entered t (g .count) r j off → Laid s t u n (lay (typeOn s r) (nameOn s r j) (layingIn s t g)) h (g .count + 1)
+    unfolding new
+    laid-entered e = rw e laid-new
+
+-- ---- one after the other
+
+pub laid-then : (F : Laying → Laying) {s t u v : Bytes} {n : ℕ} {l : Laying} {g h : Globals} {m : ℕ} (k : ℕ) → Laid s t u n l g m → Laid s u v n (F (layingIn s u g)) h (g .count + k) → Laid s t v n (F l) h (m + k)
+laid-then F k a b = record { standing = b .standing; around = around-then (a .around) (b .around); laying = b .laying ∙ ap F (a .laying); most = omega (arith, a .most, b .most) }
+
+-- ---- the names of a line
+
+-- the first j names have places
+pub record Naming (s t u : Bytes) (n r count : ℕ) (g h : Globals) (j : ℕ) : Type 0 where
+  pub within : j ≤ count
+  pub laid : Laid s t u n (layNames (typeOn s r) (values name (nodesIn s) j (drop 3 (readAt s (r - 1) .fields))) (layingIn s t g)) h (g .count + j)
+
+module _ (s t : Bytes) (n r : ℕ) (g : Globals) (count : ℕ) where
+  pub naming-start : Standing s t n g → Naming s t t n r count g g 0
+  unfolding layNames
+  naming-start st = record { within = omega arith; laid = laid-same st refl (omega arith) }
+
+  module _ (l : VarLine s t n r) (hc : count ≡ Number.numberOf 65536 (getD (readAt s (r - 1) .fields) 2 [])) (u : Bytes) (h : Globals) (j : ℕ) (m : Naming s t u n r count g h j) where
+    pub naming-here : j < count → g .count + length (namesOn s r) ≤ 256 → (Standing s u n h) × (VarLine s u n r) × (j < 16) × (h .count < 256)
+    naming-here k full =
+        let q = count-on s t n r l count hc in
+        (m .laid .standing, var-around (m .laid .around) l, omega (arith, q .1), omega (arith, q .2, m .laid .most))
+
+    pub naming-next : {v : Bytes} {h′ : Globals} → j < count → Laid s u v n (lay (typeOn s r) (nameOn s r j) (layingIn s u h)) h′ (h .count + 1) → Naming s t v n r count g h′ (j + 1)
+    naming-next {v} {h′} k a =
+        let fs = readAt s (r - 1) .fields in
+        let e : layNames (typeOn s r) (values name (nodesIn s) (j + 1) (drop 3 fs)) (layingIn s t g) ≡ lay (typeOn s r) (nameOn s r j) (layNames (typeOn s r) (values name (nodesIn s) j (drop 3 fs)) (layingIn s t g))
+        = names-next (typeOn s r) (nodesIn s) (drop 3 fs) j (layingIn s t g) ∙ rw (getD-drop 3 fs j []) in
+        let b = laid-then (lay (typeOn s r) (nameOn s r j)) 1 (m .laid) a in
+        record { within = omega arith; laid = record { standing = b .standing; around = b .around; laying = b .laying ∙ sym e; most = omega (arith, b .most) } }
+
+    pub naming-end : count ≤ j → Laid s t u n (layNames (typeOn s r) (namesOn s r) (layingIn s t g)) h (g .count + length (namesOn s r))
+    naming-end k =
+        let q = count-on s t n r l count hc in
+        let z : j ≡ numberOf (getD (readAt s (r - 1) .fields) 2 []) = omega (arith, q .0, m .within) in
+        record {
+          standing = m .laid .standing;
+          around = m .laid .around;
+          laying = m .laid .laying ∙ ap (λ (x : ℕ). layNames (typeOn s r) (values name (nodesIn s) x (drop 3 (readAt s (r - 1) .fields))) (layingIn s t g)) z;
+          most = omega (arith, m .laid .most, q .2, m .within);
+        }
+
+-- ---- lines that count
+
+pub counts-outside : (impl : Option Bytes) (s : Bytes) (k : ℕ) → k ≡ 0 → true ≡ counts impl (moduleAt s k)
+unfolding moduleAt
+counts-outside impl s k e = rw e
+
+pub counts-inside : (impl : Option Bytes) (s : Bytes) (k : ℕ) → (k ≡ 0 → ⊥) → implements impl (moduleAt s k) ≡ counts impl (moduleAt s k)
+unfolding moduleAt
+counts-inside impl s zero z = absurd (z refl)
+counts-inside impl s (suc k) z = refl

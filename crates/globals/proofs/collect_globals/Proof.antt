@@ -1,0 +1,59 @@
+-- `globals::collect_globals` meets its contract.
+use Prim.Native.Nat.{_-_}
+use mathlib.Core.Path.{refl}
+use borrow.Author.Needs.{needs}
+use denote.Ref.{now}
+use Rattle.globals.proofs.Collect.{open-around, Collecting, collecting-start, collecting-here, collecting-next, collecting-end}
+use Rattle.globals.proofs.collect_globals.Statement.{statement}
+use Rattle.globals.proofs.collect_globals.Tie as tie
+
+abbrev Inv-loop : tie.InvT-loop
+Inv-loop sheet work₀ n g₀ k₀ i₀ work g k i = Collecting sheet work₀ work n g k i
+
+abbrev μ-loop : tie.MeasureT-loop
+μ-loop sheet work₀ n g₀ k₀ i₀ work g k i = n - i
+
+loop-holds : tie.Need-loop-holds Inv-loop μ-loop
+loop-holds c = collecting-start (now (c .before .before .args .sheet)) (now (c .before .before .args .work)) (c .before .before .args .n) (c .before .before .pre) refl refl
+
+declare-line-requires : tie.Need-declare-line-requires Inv-loop μ-loop
+declare-line-requires c κs =
+    let l = c .before .before .loop in
+    collecting-here (now (c .before .before .before .before .before .args .sheet)) (now (c .before .before .before .before .before .args .work)) (c .before .before .before .before .before .args .n) (c .before .before .before .before .before .pre) (l .work) (l .g) (l .k) (l .i) (l .inv) (c .before .loop-test .taken)
+
+open-after-requires : tie.Need-open-after-requires Inv-loop μ-loop
+open-after-requires c κs = (open-around (c .before .before .before .declare-line .ensures .around) (c .before .before .before .before .before .before .loop .inv .here), c .before .before .before .before .before .loop-test .taken)
+
+add-i : tie.Need-add-i Inv-loop μ-loop
+add-i c = search needs
+
+loop-less : tie.Need-loop-less Inv-loop μ-loop
+loop-less c = search needs
+
+loop-again : tie.Need-loop-again Inv-loop μ-loop
+loop-again c =
+    let l = c .before .before .before .before .before .before .before .loop in
+    collecting-next (now (c .before .before .before .before .before .before .before .before .before .before .args .sheet)) (now (c .before .before .before .before .before .before .before .before .before .before .args .work)) (c .before .before .before .before .before .before .before .before .before .before .args .n) (c .before .before .before .before .before .before .before .before .before .before .pre) (l .work) (l .g) (l .k) (l .i) (l .inv) (c .before .before .before .before .before .before .loop-test .taken) (c .before .before .before .before .declare-line .ensures) (c .open-after .ensures)
+
+same-length : tie.Need-same-length Inv-loop μ-loop
+same-length c = c .before .loop .inv .laid .around .below .long
+
+returns : tie.Need-returns Inv-loop μ-loop
+returns c =
+    let l = c .before .loop in
+    collecting-end (now (c .before .before .before .before .args .sheet)) (now (c .before .before .before .before .args .work)) (c .before .before .before .before .args .n) (c .before .before .before .before .pre) (l .work) (l .g) (l .k) (l .i) (l .inv) (c .loop-test .left)
+
+pub collect-globals-spec : {M : Type 1} → statement M
+collect-globals-spec =
+    tie.close
+    (tie.spec
+    Inv-loop
+    μ-loop
+    loop-holds
+    declare-line-requires
+    open-after-requires
+    add-i
+    loop-less
+    loop-again
+    same-length
+    returns)

@@ -1,0 +1,70 @@
+-- `globals::declare_global` meets its contract.
+use Prim.Native.Nat.{_-_}
+use borrow.Author.Needs.{needs}
+use denote.Ref.{now}
+use Rattle.globals.proofs.Declare.{Naming, naming-start, naming-here, naming-next, naming-end}
+use Rattle.globals.proofs.Line.{var-in}
+use Rattle.globals.proofs.declare_global.Statement.{statement}
+use Rattle.globals.proofs.declare_global.Tie as tie
+
+abbrev Inv-loop : tie.InvT-loop
+Inv-loop sheet work₀ n r count h₀ j₀ work h j = Naming sheet work₀ work n r count h₀ h j
+
+abbrev μ-loop : tie.MeasureT-loop
+μ-loop sheet work₀ n r count h₀ j₀ work h j = count - j
+
+sub-number-at : tie.Need-sub-number-at Inv-loop μ-loop
+sub-number-at c = search needs
+
+number-at-requires : tie.Need-number-at-requires Inv-loop μ-loop
+number-at-requires c κs =
+    let a = c .before .before .before .args in
+    (c .before .before .before .pre .1 .checked .whole, var-in (now (a .sheet)) (now (a .work)) (a .n) (a .r) (c .before .before .before .pre .1))
+
+loop-holds : tie.Need-loop-holds Inv-loop μ-loop
+loop-holds c =
+    let a = c .before .before .before .before .args in
+    naming-start (now (a .sheet)) (now (a .work)) (a .n) (a .r) (a .g) (c .number-at .result) (c .before .before .before .before .pre .0)
+
+declare-name-requires : tie.Need-declare-name-requires Inv-loop μ-loop
+declare-name-requires c κs =
+    let a = c .before .before .before .before .before .before .before .args in
+    let l = c .before .before .loop in
+    naming-here (now (a .sheet)) (now (a .work)) (a .n) (a .r) (a .g) (c .before .before .before .number-at .result) (c .before .before .before .before .before .before .before .pre .1) (c .before .before .before .number-at .ensures .0) (l .work) (l .h) (l .j) (l .inv) (c .before .loop-test .taken) (c .before .before .before .before .before .before .before .pre .2)
+
+add-j : tie.Need-add-j Inv-loop μ-loop
+add-j c = search needs
+
+loop-less : tie.Need-loop-less Inv-loop μ-loop
+loop-less c = search needs
+
+loop-again : tie.Need-loop-again Inv-loop μ-loop
+loop-again c =
+    let a = c .before .before .before .before .before .before .before .before .before .before .args in
+    let l = c .before .before .before .before .before .loop in
+    naming-next (now (a .sheet)) (now (a .work)) (a .n) (a .r) (a .g) (c .before .before .before .before .before .before .number-at .result) (c .before .before .before .before .before .before .before .before .before .before .pre .1) (c .before .before .before .before .before .before .number-at .ensures .0) (l .work) (l .h) (l .j) (l .inv) (c .before .before .before .before .loop-test .taken) (c .before .before .declare-name .ensures)
+
+same-length : tie.Need-same-length Inv-loop μ-loop
+same-length c = c .before .loop .inv .laid .around .below .long
+
+returns : tie.Need-returns Inv-loop μ-loop
+returns c =
+    let a = c .before .before .before .before .before .before .args in
+    let l = c .before .loop in
+    naming-end (now (a .sheet)) (now (a .work)) (a .n) (a .r) (a .g) (c .before .before .number-at .result) (c .before .before .before .before .before .before .pre .1) (c .before .before .number-at .ensures .0) (l .work) (l .h) (l .j) (l .inv) (c .loop-test .left)
+
+pub declare-global-spec : {M : Type 1} → statement M
+declare-global-spec =
+    tie.close
+    (tie.spec
+    Inv-loop
+    μ-loop
+    sub-number-at
+    number-at-requires
+    loop-holds
+    declare-name-requires
+    add-j
+    loop-less
+    loop-again
+    same-length
+    returns)

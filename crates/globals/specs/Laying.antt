@@ -1,0 +1,48 @@
+-- Places of globals by names alone: first values have no part in them.
+use Prim.Native.Nat.{ℕ, _+_}
+use mathlib.Core.Bool.{Bool, _||_, cond}
+use mathlib.Core.List.{List, [], _∷_, _++_}
+use mathlib.Core.Option.{Option, none, some}
+use Rattle.semantics.specs.Text.{Bytes, bytes, same, isNone}
+use Rattle.semantics.specs.Tree.{Ty, VarDecl, Declares}
+use Rattle.semantics.specs.Sheet.{Module, Located, sheetSource}
+use Rattle.semantics.specs.Const.{implements}
+use Rattle.semantics.specs.Global.{Global, Globals, placeOf, newOffset, globalSize}
+use Rattle.lines.specs.Lines.{nodesIn}
+use Rattle.source.specs.Walk.{locatedTo}
+
+-- places in order, and the end of allocation
+pub record Laying : Type 0 where
+  pub places : List Global
+  pub end : ℕ
+
+abbrev pub noLaying : Laying
+noLaying = record { places = []; end = 0 }
+
+abbrev pub layingOf : Globals → Laying
+layingOf g = record { places = g .places; end = g .end }
+
+-- one more name of a type: a name met again keeps its place
+abbrev pub layAt : Ty → Bytes → Option ℕ → Laying → Laying
+layAt t n (some off) l = l
+layAt t n none l = record { places = l .places ++ (record { name = n; offset = newOffset t (l .end); ty = t } ∷ []); end = newOffset t (l .end) + globalSize t }
+
+-- `nil` has none
+unfoldable pub lay : Ty → Bytes → Laying → Laying
+lay t n l = cond (same n (bytes "nil")) l (layAt t n (placeOf n (l .places)) l)
+
+unfoldable pub layNames : Ty → List Bytes → Laying → Laying
+layNames t [] l = l
+layNames t (n ∷ ns) l = layNames t ns (lay t n l)
+
+-- lines outside modules and in the implemented one count
+abbrev pub counts : Option Bytes → Option Module → Bool
+counts impl m = isNone m || implements impl m
+
+unfoldable pub layVars : Option Bytes → List (Located VarDecl) → Laying → Laying
+layVars impl [] l = l
+layVars impl (v ∷ vs) l = layVars impl vs (cond (counts impl (v .within)) (layNames (v .it .ty) (v .it .names) l) l)
+
+-- those of a sheet's first i lines
+unfoldable pub laidTo : Bytes → ℕ → Laying
+laidTo s i = layVars (sheetSource s .implement) (locatedTo (λ (d : Declares). d .vars) (nodesIn s) i) noLaying

@@ -1,0 +1,122 @@
+-- The table of globals in the working space, and the places that it holds.
+-- Entry i takes 8 bytes from 7168 + 8 i: the `var` line, from 1, in two bytes, the low one first; the position of the name among the line's
+-- names, from 0; the offset in two bytes; three are free.
+use Prim.Native.Nat.{ℕ, zero, suc, _+_, _-_, _*_, _/_, _%_, _≤_, _<_}
+use mathlib.Core.Path.{_≡_}
+use mathlib.Core.List.{List, [], _∷_}
+use mathlib.Core.Option.{Option, none, some}
+use mathlib.Core.Bool.{cond}
+use lib.Dec.{eqb}
+use lib.ListN.{length, drop, getD}
+use lib.Seq.{sets}
+use Rattle.semantics.specs.Text.{Bytes}
+use Rattle.semantics.specs.Tree.{Ty, VarDecl, Declares}
+use Rattle.semantics.specs.Form.{letter}
+use Rattle.semantics.specs.Sheet.{sheetSource}
+use Rattle.semantics.specs.Refusal.{sumOf}
+use Rattle.semantics.specs.Fold.{Names}
+use Rattle.semantics.specs.Global.{Global, globals}
+use Rattle.lines.specs.Lines.{readAt, nodesIn}
+use Rattle.checks.specs.Checks.{Checked, Kept}
+use Rattle.source.specs.Walk.{declaresAt, openAt, declaredTo, varOf}
+use Rattle.globals.specs.declared.Globals.{Globals}
+use Rattle.globals.specs.Laying.{Laying, layNames, counts}
+
+-- ---- a `var` line: the type's line, the value's, and a count with as many names
+
+-- line r of a checked sheet is a `var` line, 72
+pub record VarLine (s t : Bytes) (n r : ℕ) : Type 0 where
+  pub checked : Checked s t n
+  pub first : 0 < r
+  pub last : r ≤ n
+  pub kind : letter (readAt s (r - 1) .form .kind) ≡ 72
+
+abbrev pub nameOn : Bytes → ℕ → ℕ → Bytes
+nameOn s r j = getD (readAt s (r - 1) .fields) (3 + j) []
+
+abbrev pub typeOn : Bytes → ℕ → Ty
+typeOn s r = varOf (nodesIn s) (readAt s (r - 1) .fields) .ty
+
+abbrev pub namesOn : Bytes → ℕ → List Bytes
+namesOn s r = varOf (nodesIn s) (readAt s (r - 1) .fields) .names
+
+-- ---- the table
+
+unfoldable pub wordAt : Bytes → ℕ → ℕ
+wordAt t a = getD t a 0 + 256 * getD t (a + 1) 0
+
+abbrev pub lineOf : Bytes → ℕ → ℕ
+lineOf t i = wordAt t (7168 + 8 * i)
+
+unfoldable pub positionOf : Bytes → ℕ → ℕ
+positionOf t i = getD t (7170 + 8 * i) 0
+
+abbrev pub offsetOf : Bytes → ℕ → ℕ
+offsetOf t i = wordAt t (7171 + 8 * i)
+
+unfoldable pub entered : Bytes → ℕ → ℕ → ℕ → ℕ → Bytes
+entered t i line position offset = sets t (7168 + 8 * i) (line % 256 ∷ line / 256 ∷ position ∷ offset % 256 ∷ offset / 256 ∷ [])
+
+-- entry i
+unfoldable pub entryAt : Bytes → Bytes → ℕ → Global
+entryAt s t i = record { name = nameOn s (lineOf t i) (positionOf t i); offset = offsetOf t i; ty = typeOn s (lineOf t i) }
+
+-- k entries from i on
+unfoldable pub entriesFrom : Bytes → Bytes → ℕ → ℕ → List Global
+entriesFrom s t i zero = []
+entriesFrom s t i (suc k) = entryAt s t i ∷ entriesFrom s t (suc i) k
+
+abbrev pub placesIn : Bytes → Bytes → ℕ → List Global
+placesIn s t g = entriesFrom s t 0 g
+
+abbrev pub layingIn : Bytes → Bytes → Globals → Laying
+layingIn s t g = record { places = placesIn s t (g .count); end = g .end }
+
+-- g entries, each of a `var` line
+pub record Tabled (s t : Bytes) (n g : ℕ) : Type 0 where
+  pub checked : Checked s t n
+  pub few : g ≤ 256
+  pub each : (i : ℕ) → i < g → VarLine s t n (lineOf t i)
+
+-- what a number of an entry, from 1, says of a name: 0 is none
+unfoldable pub offsetBy : Bytes → ℕ → Option ℕ
+offsetBy t zero = none
+offsetBy t (suc i) = some (offsetOf t i)
+
+-- what stands outside the table is kept
+pub record Around (t u : Bytes) : Type 0 where
+  pub below : Kept 7168 t u
+  pub above : drop 9216 u ≡ drop 9216 t
+
+-- ---- globals as they are collected
+
+-- g places are entered: no place is further from the start than 8 bytes for each before it
+pub record Standing (s t : Bytes) (n : ℕ) (g : Globals) : Type 0 where
+  pub tabled : Tabled s t n (g .count)
+  pub low : g .end ≤ 8 * g .count
+
+-- from t on, the working space came to hold these places, at most so many
+pub record Laid (s t u : Bytes) (n : ℕ) (l : Laying) (g : Globals) (m : ℕ) : Type 0 where
+  pub standing : Standing s u n g
+  pub around : Around t u
+  pub laying : layingIn s u g ≡ l
+  pub most : g .count ≤ m
+
+-- how many names line i declares, from 0, and the first i lines
+unfoldable pub namesAt : Bytes → ℕ → ℕ
+namesAt s i = sumOf (λ (v : VarDecl). length (v .names)) (declaresAt (nodesIn s) i .vars)
+
+unfoldable pub namesTo : Bytes → ℕ → ℕ
+namesTo s i = sumOf (λ (v : VarDecl). length (v .names)) (declaredTo (λ (d : Declares). d .vars) (nodesIn s) i)
+
+-- one more line
+unfoldable pub layLine : Bytes → ℕ → Laying → Laying
+layLine s i l = cond (eqb (letter (readAt s i .form .kind)) 72) (cond (counts (sheetSource s .implement) (openAt (nodesIn s) i)) (layNames (typeOn s (i + 1)) (namesOn s (i + 1)) l) l) l
+
+-- all globals of a sheet are entered, whatever names are known to their first values
+pub record Collected (s t : Bytes) (n : ℕ) (g : Globals) : Type 0 where
+  pub tabled : Tabled s t n (g .count)
+  pub places : (ns : Names) → placesIn s t (g .count) ≡ globals ns (sheetSource s) .places
+  pub end : (ns : Names) → g .end ≡ globals ns (sheetSource s) .end
+  pub count : (ns : Names) → g .count ≡ length (globals ns (sheetSource s) .places)
+  pub low : g .end ≤ 8 * g .count

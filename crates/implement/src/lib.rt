@@ -1,0 +1,63 @@
+// The modules of a checked sheet: which one is open before a line, and whether the sheet implements it.
+ghost use mathlib.Core.Path.{_≡_};
+ghost use Prim.Native.Nat.{_+_, _≤_, _<_};
+ghost use Rattle.semantics.specs.Text as Text;
+ghost use Rattle.semantics.specs.Sheet.{sheetSource};
+ghost use Rattle.semantics.specs.Const as Const;
+ghost use Rattle.checks.specs.Checks.{Checked};
+ghost use Rattle.implement.specs.Modules.{moduleAt, Open};
+
+// Letters of kinds.
+const MOD: u8 = b'M';
+
+const END: u8 = b'O';
+
+const IMPL: u8 = b'I';
+
+pub fn same(a: &[u8], b: &[u8]) -> bool
+    ensures { λ r. ⌜ r ≡ Text.same (now (a .entry)) (now (b .entry)) ⌝ }
+{
+    if a.len() != b.len() {
+        return false;
+    }
+    let mut i = 0;
+    while i < a.len() {
+        if a[i] != b[i] {
+            return false;
+        }
+        i += 1;
+    }
+    true
+}
+
+// Whether the sheet implements the module of line k; 0 is none.
+pub fn implements(sheet: &[u8], work: &[u8], n: usize, k: usize) -> bool
+    requires { ⌜ (Checked (now sheet) (now work) n) × (k ≤ n) ⌝ }
+    ensures { λ r. ⌜ r ≡ Const.implements (sheetSource (now (sheet .entry)) .implement) (moduleAt (now (sheet .entry)) k) ⌝ }
+{
+    if k == 0 {
+        return false;
+    }
+    if form::kind(lines::form_at(work, 0)) != IMPL {
+        return false;
+    }
+    same(
+        lines::field_at(sheet, work, n, 0, 0),
+        lines::field_at(sheet, work, n, k - 1, 0),
+    )
+}
+
+// The line of the module that is open behind line i, from 0, where that of line k is open before it; 0 is none.
+pub fn open_after(sheet: &[u8], work: &[u8], n: usize, i: usize, k: usize) -> usize
+    requires { ⌜ (Open (now sheet) (now work) n i k) × (i < n) ⌝ }
+    ensures { λ r. ⌜ Open (now (sheet .entry)) (now (work .entry)) n (i + 1) r ⌝ }
+{
+    let kind = form::kind(lines::form_at(work, i));
+    if kind == MOD {
+        return i + 1;
+    }
+    if kind == END {
+        return 0;
+    }
+    k
+}

@@ -1,0 +1,409 @@
+-- Laws of the table of constants.
+use mathlib.Core.Path.{_≡_, refl, sym, ap, _∙_}
+use mathlib.Core.Bool.{Bool, true, false, cond, not, _&&_, _||_}
+use mathlib.Core.List.{List, [], _∷_, _++_, append-assoc, append-nil}
+use mathlib.Core.Option.{Option, none, some}
+use Prim.Native.Nat.{ℕ, zero, suc, _+_, _-_, _*_, _/_, _%_, _≤_, _<_}
+use native.Mathlib.Omega.{arith}
+use native.Mathlib.Numerals.{add-one}
+use lib.Dec.{leb, ltb, eqb}
+use lib.Ieee.{binary64, ofBits}
+use lib.ListN.{length, take, drop, getD, drop-of-length-le, length-drop}
+use lib.Seq.{drop-cons, drop-drop, take-take, getD-drop}
+use borrow.Author.Tests.{lt-ltb, eq-eqb, ne-eqb, eqb-true, not-true, not-false}
+use Rattle.semantics.specs.Text.{Bytes, same, holdsOf, fromBigEndian}
+use Rattle.semantics.specs.Tree.{ConstVal, Declares}
+use Rattle.semantics.specs.Tree.ConstVal.{vInt, vReal, vStr}
+use Rattle.semantics.specs.Form as Form
+use Rattle.semantics.specs.Sheet.{Module, Source, sheetSource, sourceOf, firstOf}
+use Rattle.semantics.specs.Fold.{Key, Const, signed64, plain, qualified, sameOption, lookUp, valueOf}
+use Rattle.semantics.specs.Const.{entries, implements}
+use Rattle.form.proofs.Table.{both}
+use Rattle.form.specs.Table.{kindAt}
+use Rattle.lines.specs.Lines.{textAt, readAt, nodesIn, formAt}
+use Rattle.lines.proofs.Line.{read-is, kind-is}
+use Rattle.refs.proofs.Nodes.{node-count}
+use Rattle.checks.specs.Checks.{Checked, Kept}
+use Rattle.checks.proofs.Kept.{kept-at, kept-less, checked-kept}
+use Rattle.source.specs.Walk.{declaresAt, declaredTo, byKind}
+use Rattle.source.proofs.Walk.{declared-all, source-of}
+use Rattle.source.proofs.Declares.{line-declares}
+use Rattle.names.specs.Table.{wordAt, lineOf, moduleLineOf, bitsAt, valueBy, slotAt, kindOf, bitsOf, fieldAt, moduleAt, entriesAt, logIn, Entry, Logged, found, hasKey, answersPlain, answersQualified}
+
+-- ---- two names
+
+pub same-length : (a b : Bytes) → (length a ≡ length b → ⊥) → same a b ≡ false
+same-length [] [] h = absurd (h refl)
+same-length [] (y ∷ b) h = refl
+same-length (x ∷ a) [] h = refl
+same-length (x ∷ a) (y ∷ b) h = go (eqb x y) (same-length a b (λ e. h (ap suc e)))
+  where
+    go : (t : Bool) → same a b ≡ false → t && same a b ≡ false
+    go true e = e
+    go false e = refl
+
+module _ (a b : Bytes) (i : ℕ) (h : i < length a) (k : i < length b) where
+  same-open : same (drop i a) (drop i b) ≡ eqb (getD a i 0) (getD b i 0) && same (drop (i + 1) a) (drop (i + 1) b)
+  same-open = rw (add-one, drop-cons a i 0 h, drop-cons b i 0 k)
+
+  pub same-next : getD a i 0 ≡ getD b i 0 → same (drop i a) (drop i b) ≡ same (drop (i + 1) a) (drop (i + 1) b)
+  same-next e = same-open ∙ rw (eq-eqb (getD a i 0) (getD b i 0) e)
+
+  pub same-not : (getD a i 0 ≡ getD b i 0 → ⊥) → same (drop i a) (drop i b) ≡ false
+  same-not e = same-open ∙ rw (ne-eqb (getD a i 0) (getD b i 0) e)
+
+pub same-end : (a b : Bytes) (i : ℕ) → length a ≤ i → length b ≤ i → same (drop i a) (drop i b) ≡ true
+same-end a b i h k = rw (drop-of-length-le a {i = i} h, drop-of-length-le b {i = i} k)
+
+-- ---- 8 bytes as a number
+
+pub bits-next : (t : Bytes) (a k acc : ℕ) → k < 8 → a + 8 ≤ length t
+    → fromBigEndian acc (take (8 - k) (drop (a + k) t)) ≡ fromBigEndian (acc * 256 + getD t (a + k) 0) (take (8 - (k + 1)) (drop (a + (k + 1)) t))
+bits-next t a k acc h room =
+    let e : 8 - k ≡ suc (8 - (k + 1)) = omega arith in
+    let f : suc (a + k) ≡ a + (k + 1) = omega arith in
+    rw (e, drop-cons t (a + k) 0 (omega arith), f)
+
+pub bits-start : (t : Bytes) (a : ℕ) → fromBigEndian 0 (take 8 (drop a t)) ≡ fromBigEndian 0 (take (8 - 0) (drop (a + 0) t))
+bits-start t a = let e : a + 0 ≡ a = omega arith in rw e
+
+pub bits-end : (t : Bytes) (a k acc : ℕ) {b : ℕ} → 8 ≤ k → b ≡ fromBigEndian acc (take (8 - k) (drop (a + k) t)) → acc ≡ b
+bits-end t a k acc h e = let z : 8 - k ≡ 0 = omega arith in sym (e ∙ rw z)
+
+-- ---- a slot by its kind and bits
+
+pub slot-is : (t : Bytes) (i : ℕ) → slotAt t (5124 + 16 * i) ≡ valueBy t (kindOf t i) (bitsOf t i)
+unfolding slotAt
+slot-is t i = let e : 5124 + 16 * i + 1 ≡ 5125 + 16 * i = omega arith in rw e
+
+module _ (t : Bytes) (k b : ℕ) where
+  pub value-failed : (k ≡ 1 → ⊥) → (k ≡ 2 → ⊥) → (k ≡ 3 → ⊥) → valueBy t k b ≡ none
+  unfolding valueBy
+  value-failed p q r = rw (ne-eqb k 1 p, ne-eqb k 2 q, ne-eqb k 3 r)
+
+  pub value-int : k ≡ 1 → valueBy t k b ≡ some (vInt (signed64 b))
+  unfolding valueBy
+  value-int e = rw e
+
+  pub value-real : k ≡ 2 → valueBy t k b ≡ some (vReal (ofBits binary64 b))
+  unfolding valueBy
+  value-real e = rw e
+
+  pub value-text : k ≡ 3 → valueBy t k b ≡ some (vStr (take (b / 65536) (drop (b % 65536) t)))
+  unfolding valueBy
+  value-text e = rw e
+
+-- ---- the implemented module
+
+module _ (s t : Bytes) (n : ℕ) (c : Checked s t n) where
+  no-impl : (i : ℕ) → i < n → 0 < i → eqb (Form.letter (readAt s i .form .kind)) 73 ≡ false
+  unfolding Form.formed
+  no-impl i h p =
+      let g = c .whole .lined .good i h in
+      let r = Form.readOf (textAt s i) in
+      let w = both (leb (length (textAt s i)) 255 && ltb (Form.rowOf Form.forms (textAt s i)) (length Form.forms) && Form.fits (r .form .parts) (r .fields)) (eqb (i + 1) 1 || not (eqb (Form.letter (r .form .kind)) 73)) g .1 in
+      let z : eqb (i + 1) 1 ≡ false = ne-eqb (i + 1) 1 (λ e. omega arith) in
+      ap (λ (q : Form.Read). eqb (Form.letter (q .form .kind)) 73) (read-is s t n (c .whole) i h) ∙ not-true (eqb (Form.letter (r .form .kind)) 73) (rw z at w)
+
+  implements-at : (i : ℕ) → i < n → declaresAt (nodesIn s) i .implements ≡ cond (eqb (Form.letter (readAt s i .form .kind)) 73) (getD (readAt s i .fields) 0 [] ∷ []) []
+  unfolding byKind
+  implements-at i h = ap (λ (d : Declares). d .implements) (line-declares s t n c i h)
+
+  implements-first : (i : ℕ) → i < n → declaredTo (λ (d : Declares). d .implements) (nodesIn s) (suc i) ≡ cond (eqb (Form.letter (readAt s 0 .form .kind)) 73) (fieldAt s 1 ∷ []) []
+  unfolding declaredTo
+  implements-first zero h = implements-at 0 h
+  implements-first (suc i) h =
+      rw (implements-first i (omega arith), implements-at (suc i) h, no-impl (suc i) h (omega arith)) (append-nil (cond (eqb (Form.letter (readAt s 0 .form .kind)) 73) (fieldAt s 1 ∷ []) []))
+
+  pub implement-is : 0 < n → sheetSource s .implement ≡ cond (eqb (Form.letter (readAt s 0 .form .kind)) 73) (some (fieldAt s 1)) none
+  implement-is h =
+      let e : length (nodesIn s) ≡ suc (n - 1) = node-count s t n (c .whole) ∙ omega arith in
+      ap (λ (o : Source). o .implement) (source-of s)
+      ∙ ap firstOf (declared-all (λ (d : Declares). d .implements) (nodesIn s) ∙ ap (declaredTo (λ (d : Declares). d .implements) (nodesIn s)) e ∙ implements-first (n - 1) (omega arith))
+      ∙ go (eqb (Form.letter (readAt s 0 .form .kind)) 73)
+    where
+      go : (b : Bool) → firstOf (cond b (fieldAt s 1 ∷ []) []) ≡ cond b (some (fieldAt s 1)) none
+      go true = refl
+      go false = refl
+
+  -- the module of line k, by line 1
+  module _ (k : ℕ) (p : 0 < k) (h : k ≤ n) where
+    module-some : (j : ℕ) → 0 < j → moduleAt s j ≡ some (record { name = fieldAt s j; line = j })
+    unfolding moduleAt
+    module-some zero q = absurd (omega arith)
+    module-some (suc j) q = refl
+
+    -- the letter that is read of line 1
+    pub first-kind : {f x : ℕ} → f ≡ formAt t 0 → x ≡ kindAt f → Form.letter (readAt s 0 .form .kind) ≡ x
+    first-kind {f} {x} e d = kind-is s t n (c .whole) 0 (omega arith) ∙ ap kindAt (sym e) ∙ sym d
+
+    pub implements-not : (Form.letter (readAt s 0 .form .kind) ≡ 73 → ⊥) → implements (sheetSource s .implement) (moduleAt s k) ≡ false
+    implements-not z = rw (module-some k p, implement-is (omega arith), ne-eqb (Form.letter (readAt s 0 .form .kind)) 73 z)
+
+    pub implements-by : Form.letter (readAt s 0 .form .kind) ≡ 73 → implements (sheetSource s .implement) (moduleAt s k) ≡ same (fieldAt s 1) (fieldAt s k)
+    implements-by z = rw (module-some k p, implement-is (omega arith), eq-eqb (Form.letter (readAt s 0 .form .kind)) 73 z)
+
+pub implements-none : (o : Option Bytes) (s : Bytes) → implements o (moduleAt s 0) ≡ false
+unfolding moduleAt
+implements-none o s = refl
+
+-- ---- look-ups
+
+chosen : (b : Bool) (v : Option ConstVal) (k : Key) (o : Option Const) → valueOf (cond b (some (record { key = k; value = v })) o) ≡ cond (b && true) v (valueOf o)
+chosen true v k o = refl
+chosen false v k o = refl
+
+passed : (b : Bool) (v w : Option ConstVal) → w ≡ cond (b && false) v w
+passed true v w = refl
+passed false v w = refl
+
+has-one : (b r : Bool) → b || r ≡ (b && true) || r
+has-one true r = refl
+has-one false r = refl
+
+has-none : (b r : Bool) → r ≡ (b && false) || r
+has-none true r = refl
+has-none false r = refl
+
+has-both : (a b r : Bool) → (a && b) || r ≡ (b && (true && a)) || r
+has-both true true r = refl
+has-both true false r = refl
+has-both false true r = refl
+has-both false false r = refl
+
+module _ (impl : Option Bytes) (s x y : Bytes) (v : Option ConstVal) (rest : List Const) where
+  plain-has-within : (i : Bool) (m : Bytes)
+      → hasKey (plain x) ((cond i (record { key = plain y; value = v } ∷ []) [] ++ (record { key = qualified m y; value = v } ∷ [])) ++ rest) ≡ (same x y && i) || hasKey (plain x) rest
+  unfolding hasKey
+  plain-has-within true m = has-one (same x y) (hasKey (plain x) rest)
+  plain-has-within false m = has-none (same x y) (hasKey (plain x) rest)
+
+  plain-has : (k : ℕ) → hasKey (plain x) (entries impl (moduleAt s k) y v ++ rest) ≡ (same x y && (eqb k 0 || implements impl (moduleAt s k))) || hasKey (plain x) rest
+  unfolding moduleAt hasKey
+  plain-has zero = has-one (same x y) (hasKey (plain x) rest)
+  plain-has (suc k) = rw (ne-eqb (suc k) 0 (λ e. omega arith)) (plain-has-within (sameOption impl (some (fieldAt s (suc k)))) (fieldAt s (suc k)))
+
+  qualified-has-within : (q : Bytes) (i : Bool) (m : Bytes)
+      → hasKey (qualified q x) ((cond i (record { key = plain y; value = v } ∷ []) [] ++ (record { key = qualified m y; value = v } ∷ [])) ++ rest) ≡ (same x y && (true && same q m)) || hasKey (qualified q x) rest
+  unfolding hasKey
+  qualified-has-within q true m = has-both (same q m) (same x y) (hasKey (qualified q x) rest)
+  qualified-has-within q false m = has-both (same q m) (same x y) (hasKey (qualified q x) rest)
+
+  qualified-has : (q : Bytes) (k : ℕ) → hasKey (qualified q x) (entries impl (moduleAt s k) y v ++ rest) ≡ (same x y && (not (eqb k 0) && same q (fieldAt s k))) || hasKey (qualified q x) rest
+  unfolding moduleAt hasKey
+  qualified-has q zero = has-none (same x y) (hasKey (qualified q x) rest)
+  qualified-has q (suc k) = rw (ne-eqb (suc k) 0 (λ e. omega arith)) (qualified-has-within q (sameOption impl (some (fieldAt s (suc k)))) (fieldAt s (suc k)))
+
+  plain-within : (i : Bool) (m : Bytes)
+      → valueOf (lookUp (plain x) ((cond i (record { key = plain y; value = v } ∷ []) [] ++ (record { key = qualified m y; value = v } ∷ [])) ++ rest)) ≡ cond (same x y && i) v (valueOf (lookUp (plain x) rest))
+  plain-within true m = chosen (same x y) v (plain y) (lookUp (plain x) rest)
+  plain-within false m = passed (same x y) v (valueOf (lookUp (plain x) rest))
+
+  plain-step : (k : ℕ) → valueOf (lookUp (plain x) (entries impl (moduleAt s k) y v ++ rest)) ≡ cond (same x y && (eqb k 0 || implements impl (moduleAt s k))) v (valueOf (lookUp (plain x) rest))
+  unfolding moduleAt
+  plain-step zero = chosen (same x y) v (plain y) (lookUp (plain x) rest)
+  plain-step (suc k) = rw (ne-eqb (suc k) 0 (λ e. omega arith)) (plain-within (sameOption impl (some (fieldAt s (suc k)))) (fieldAt s (suc k)))
+
+  module _ (q : Bytes) where
+    last : (m : Bytes)
+        → valueOf (cond (same q m && same x y) (some (record { key = qualified m y; value = v })) (lookUp (qualified q x) rest)) ≡ cond (same x y && (true && same q m)) v (valueOf (lookUp (qualified q x) rest))
+    last m = go (same q m) (same x y)
+      where
+        go : (a b : Bool) → valueOf (cond (a && b) (some (record { key = qualified m y; value = v })) (lookUp (qualified q x) rest)) ≡ cond (b && (true && a)) v (valueOf (lookUp (qualified q x) rest))
+        go true true = refl
+        go true false = refl
+        go false true = refl
+        go false false = refl
+
+    qualified-within : (i : Bool) (m : Bytes)
+        → valueOf (lookUp (qualified q x) ((cond i (record { key = plain y; value = v } ∷ []) [] ++ (record { key = qualified m y; value = v } ∷ [])) ++ rest)) ≡ cond (same x y && (true && same q m)) v (valueOf (lookUp (qualified q x) rest))
+    qualified-within true m = last m
+    qualified-within false m = last m
+
+    qualified-step : (k : ℕ) → valueOf (lookUp (qualified q x) (entries impl (moduleAt s k) y v ++ rest)) ≡ cond (same x y && (not (eqb k 0) && same q (fieldAt s k))) v (valueOf (lookUp (qualified q x) rest))
+    unfolding moduleAt
+    qualified-step zero = passed (same x y) v (valueOf (lookUp (qualified q x) rest))
+    qualified-step (suc k) = rw (ne-eqb (suc k) 0 (λ e. omega arith)) (qualified-within (sameOption impl (some (fieldAt s (suc k)))) (fieldAt s (suc k)))
+
+-- a look-up, where it is known which entries answer it
+pub record Answers (s t : Bytes) (k : Key) (answers : ℕ → Bool) : Type 0 where
+  pub value : (i : ℕ) (rest : List Const) → valueOf (lookUp k (entriesAt s t i ++ rest)) ≡ cond (answers i) (slotAt t (5124 + 16 * i)) (valueOf (lookUp k rest))
+  pub has : (i : ℕ) (rest : List Const) → hasKey k (entriesAt s t i ++ rest) ≡ answers i || hasKey k rest
+
+-- it comes to the first i entries
+pub record Looking (s t : Bytes) (k : Key) (m i : ℕ) : Type 0 where
+  pub value : valueOf (lookUp k (logIn s t m)) ≡ valueOf (lookUp k (logIn s t i))
+  pub has : hasKey k (logIn s t m) ≡ hasKey k (logIn s t i)
+
+pub record Looked (s t : Bytes) (k : Key) (m r : ℕ) : Type 0 where
+  pub value : valueOf (lookUp k (logIn s t m)) ≡ found t r
+  pub has : hasKey k (logIn s t m) ≡ ltb 0 r
+
+pub looking : (s t : Bytes) (k : Key) (m : ℕ) → Looking s t k m m
+looking s t k m = record { value = refl; has = refl }
+
+module _ (s t : Bytes) (k : Key) (answers : ℕ → Bool) (a : Answers s t k answers) (m : ℕ) where
+  pub look-hit : (i : ℕ) → Looking s t k m i → 0 < i → true ≡ answers (i - 1) → Looked s t k m i
+  unfolding logIn found
+  look-hit zero l p h = absurd (omega arith)
+  look-hit (suc i) l p h =
+      let e : suc i - 1 ≡ i = omega arith in
+      let g : answers i ≡ true = sym (rw e at h) in
+      record { value = l .value ∙ a .value i (logIn s t i) ∙ rw g; has = l .has ∙ a .has i (logIn s t i) ∙ rw (g, lt-ltb 0 (suc i) (omega arith)) }
+
+  pub look-on : (i : ℕ) → Looking s t k m i → 0 < i → false ≡ answers (i - 1) → Looking s t k m (i - 1)
+  unfolding logIn
+  look-on zero l p h = absurd (omega arith)
+  look-on (suc i) l p h =
+      let e : suc i - 1 ≡ i = omega arith in
+      let g : answers i ≡ false = sym (rw e at h) in
+      rw e (record { value = l .value ∙ a .value i (logIn s t i) ∙ rw g; has = l .has ∙ a .has i (logIn s t i) ∙ rw g })
+
+pub look-end : (s t : Bytes) (k : Key) (m i : ℕ) → Looking s t k m i → i ≤ 0 → Looked s t k m 0
+unfolding logIn found hasKey
+look-end s t k m zero l h = record { value = l .value; has = l .has }
+look-end s t k m (suc i) l h = absurd (omega arith)
+
+pub answers-plain : (s t x : Bytes) → Answers s t (plain x) (λ (i : ℕ). answersPlain s t i x)
+unfolding entriesAt answersPlain
+answers-plain s t x = record {
+  value = λ i rest. plain-step (sheetSource s .implement) s x (fieldAt s (lineOf t i)) (slotAt t (5124 + 16 * i)) rest (moduleLineOf t i);
+  has = λ i rest. plain-has (sheetSource s .implement) s x (fieldAt s (lineOf t i)) (slotAt t (5124 + 16 * i)) rest (moduleLineOf t i);
+}
+
+pub answers-qualified : (s t q x : Bytes) → Answers s t (qualified q x) (λ (i : ℕ). answersQualified s t i q x)
+unfolding entriesAt answersQualified
+answers-qualified s t q x = record {
+  value = λ i rest. qualified-step (sheetSource s .implement) s x (fieldAt s (lineOf t i)) (slotAt t (5124 + 16 * i)) rest q (moduleLineOf t i);
+  has = λ i rest. qualified-has (sheetSource s .implement) s x (fieldAt s (lineOf t i)) (slotAt t (5124 + 16 * i)) rest q (moduleLineOf t i);
+}
+
+-- which entries answer, as it is tested
+module _ (s t : Bytes) (i : ℕ) (x : Bytes) {b : Bool} {k : ℕ} (line : k ≡ lineOf t i) (name : b ≡ same x (fieldAt s k)) where
+  named : same x (fieldAt s (lineOf t i)) ≡ b
+  named = ap (λ (j : ℕ). same x (fieldAt s j)) (sym line) ∙ sym name
+
+  pub plain-other : not b ≡ true → false ≡ answersPlain s t i x
+  unfolding answersPlain
+  plain-other f = rw (named, not-true b f)
+
+  pub qualified-other : (q : Bytes) → not b ≡ true → false ≡ answersQualified s t i q x
+  unfolding answersQualified
+  qualified-other q f = rw (named, not-true b f)
+
+  module _ (f : not b ≡ false) {j : ℕ} (within : j ≡ moduleLineOf t i) where
+    pub plain-top : j ≡ 0 → true ≡ answersPlain s t i x
+    unfolding answersPlain
+    plain-top z = rw (named, not-false b f, ← within, eq-eqb j 0 z)
+
+    pub plain-in : (j ≡ 0 → ⊥) → {r : Bool} → r ≡ implements (sheetSource s .implement) (moduleAt s j) → r ≡ answersPlain s t i x
+    unfolding answersPlain
+    plain-in z {r} e = rw (named, not-false b f, ← within, ne-eqb j 0 z) e
+
+    pub qualified-top : (q : Bytes) → j ≡ 0 → false ≡ answersQualified s t i q x
+    unfolding answersQualified
+    qualified-top q z = rw (named, not-false b f, ← within, eq-eqb j 0 z)
+
+    pub qualified-in : (q : Bytes) → (j ≡ 0 → ⊥) → {r : Bool} → r ≡ same q (fieldAt s j) → r ≡ answersQualified s t i q x
+    unfolding answersQualified
+    qualified-in q z {r} e = rw (named, not-false b f, ← within, ne-eqb j 0 z) e
+
+-- ---- what is kept
+
+pub part-low : (a b c : ℕ) (l : Bytes) → a + b ≤ c → take b (drop a (take c l)) ≡ take b (drop a l)
+part-low zero b c l h = take-take b c l (omega arith)
+part-low (suc a) b zero l h = absurd (omega arith)
+part-low (suc a) b (suc c) [] h = refl
+part-low (suc a) b (suc c) (x ∷ l) h = part-low a b c l (omega arith)
+
+pub part-kept : {c : ℕ} {t u : Bytes} → Kept c t u → (a b : ℕ) → a + b ≤ c → take b (drop a u) ≡ take b (drop a t)
+part-kept {c} {t} {u} k a b h = sym (part-low a b c u h) ∙ ap (λ (l : Bytes). take b (drop a l)) (k .below) ∙ part-low a b c t h
+
+module _ {c : ℕ} {t u : Bytes} (w : Kept c t u) where
+  word-kept : (a : ℕ) → a + 1 < c → wordAt u a ≡ wordAt t a
+  unfolding wordAt
+  word-kept a h = rw (kept-at w a (omega arith), kept-at w (a + 1) h)
+
+  bits-kept : (a : ℕ) → a + 8 ≤ c → bitsAt u a ≡ bitsAt t a
+  unfolding bitsAt
+  bits-kept a h = ap (fromBigEndian 0) (part-kept w a 8 h)
+
+-- the string of an entry is the same
+abbrev pub SameText : Bytes → Bytes → ℕ → Type 0
+SameText t u i = kindOf t i ≡ 3 → take (bitsOf t i / 65536) (drop (bitsOf t i % 65536) u) ≡ take (bitsOf t i / 65536) (drop (bitsOf t i % 65536) t)
+
+-- an entry stays as it is where it and its string are kept
+module _ {t u : Bytes} (n i : ℕ) (w : Kept (5136 + 16 * i) t u) (e : Entry t n i) where
+  line-kept : lineOf u i ≡ lineOf t i
+  line-kept = word-kept w (5120 + 16 * i) (omega arith)
+
+  module-kept : moduleLineOf u i ≡ moduleLineOf t i
+  module-kept = word-kept w (5122 + 16 * i) (omega arith)
+
+  kind-kept : kindOf u i ≡ kindOf t i
+  kind-kept = kept-at w (5124 + 16 * i) (omega arith)
+
+  word-of : bitsOf u i ≡ bitsOf t i
+  word-of = bits-kept w (5125 + 16 * i) (omega arith)
+
+  entry-kept : Entry u n i
+  entry-kept = record {
+    first = rw line-kept (e .first);
+    last = rw line-kept (e .last);
+    within = rw module-kept (e .within);
+    kind = rw kind-kept (e .kind);
+    text = λ q. rw word-of (e .text (sym kind-kept ∙ q));
+    own = λ q. rw word-of (e .own (sym kind-kept ∙ q));
+  }
+
+  module _ (same : SameText t u i) where
+    slot-kept : slotAt u (5124 + 16 * i) ≡ slotAt t (5124 + 16 * i)
+    unfolding valueBy
+    slot-kept = slot-is u i ∙ rw (kind-kept, word-of) (go (eqb (kindOf t i) 3) refl) ∙ sym (slot-is t i)
+      where
+        go : (q : Bool) → eqb (kindOf t i) 3 ≡ q → valueBy u (kindOf t i) (bitsOf t i) ≡ valueBy t (kindOf t i) (bitsOf t i)
+        go true x = rw (x, same (eqb-true (kindOf t i) 3 x))
+        go false x = rw x
+
+    entries-kept : (s : Bytes) → entriesAt s u i ≡ entriesAt s t i
+    unfolding entriesAt
+    entries-kept s = rw (line-kept, module-kept, slot-kept)
+
+-- and so does a table
+module _ {s t u : Bytes} {n m : ℕ} (w : Kept (5120 + 16 * m) t u) (l : Logged s t n m) where
+  own-part : (i : ℕ) → i < m → Kept (5136 + 16 * i) t u
+  own-part i h = kept-less (omega arith) w
+
+  pub logged-same : Logged s u n m
+  logged-same = record { few = l .few; each = λ i h. entry-kept n i (own-part i h) (l .each i h) }
+
+  module _ (same : (i : ℕ) → i < m → SameText t u i) where
+    log-upto : (k : ℕ) → k ≤ m → logIn s u k ≡ logIn s t k
+    unfolding logIn
+    log-upto zero h = refl
+    log-upto (suc k) h = rw (entries-kept n k (own-part k (omega arith)) (l .each k (omega arith)) (same k (omega arith)) s, log-upto k (omega arith))
+
+    pub log-same : logIn s u m ≡ logIn s t m
+    log-same = log-upto m (omega arith)
+
+    found-same : (r : ℕ) → r ≤ m → found u r ≡ found t r
+    unfolding found
+    found-same zero h = refl
+    found-same (suc i) h = slot-kept n i (own-part i (omega arith)) (l .each i (omega arith)) (same i (omega arith))
+
+-- where all below the stack of folds is kept
+module _ {s t u : Bytes} {n m : ℕ} (w : Kept 49152 t u) (l : Logged s t n m) where
+  table-part : Kept (5120 + 16 * m) t u
+  table-part = kept-less (omega (arith, l .few)) w
+
+  texts-kept : (i : ℕ) → i < m → SameText t u i
+  texts-kept i h q = part-kept w (bitsOf t i % 65536) (bitsOf t i / 65536) (l .each i h .text q .high)
+
+  pub logged-kept : Logged s u n m
+  logged-kept = logged-same table-part l
+
+  pub log-kept : logIn s u m ≡ logIn s t m
+  log-kept = log-same table-part l texts-kept
+
+  pub found-kept : (r : ℕ) → r ≤ m → found u r ≡ found t r
+  found-kept r h = found-same table-part l texts-kept r h

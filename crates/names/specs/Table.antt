@@ -1,0 +1,107 @@
+-- The table of constants in the working space, and the log that it holds.
+-- Entry i takes 16 bytes from 5120 + 16 i: the `con` line and its module's line, 0 for none, two bytes each, the low one first; then a slot.
+-- A slot is a kind and 8 bytes, the highest first: 0 failed, 1 an integer's bits, 2 a real's, 3 a string's place + 65536 times its length.
+use Prim.Native.Nat.{ℕ, zero, suc, _+_, _-_, _*_, _/_, _%_, _≤_, _<_}
+use mathlib.Core.Path.{_≡_}
+use mathlib.Core.Bool.{Bool, cond, not, _&&_, _||_}
+use mathlib.Core.List.{List, [], _++_}
+use mathlib.Core.Option.{Option, none, some}
+use lib.Dec.{eqb}
+use lib.Ieee.{binary64, ofBits}
+use lib.ListN.{take, drop, getD}
+use Rattle.semantics.specs.Text.{Bytes, same, any, fromBigEndian}
+use Rattle.semantics.specs.Tree.{ConstVal}
+use Rattle.semantics.specs.Tree.ConstVal.{vInt, vReal, vStr}
+use Rattle.semantics.specs.Sheet.{Module, sheetSource}
+use Rattle.semantics.specs.Fold.{Key, Const, signed64, sameKey}
+use Rattle.semantics.specs.Const.{entries, implements}
+use Rattle.lines.specs.Lines.{readAt}
+
+unfoldable pub wordAt : Bytes → ℕ → ℕ
+wordAt t a = getD t a 0 + 256 * getD t (a + 1) 0
+
+abbrev pub lineOf : Bytes → ℕ → ℕ
+lineOf t i = wordAt t (5120 + 16 * i)
+
+abbrev pub moduleLineOf : Bytes → ℕ → ℕ
+moduleLineOf t i = wordAt t (5122 + 16 * i)
+
+-- ---- slots
+
+-- 8 bytes, the highest first
+unfoldable pub bitsAt : Bytes → ℕ → ℕ
+bitsAt t a = fromBigEndian 0 (take 8 (drop a t))
+
+-- the value of a kind and bits
+unfoldable pub valueBy : Bytes → ℕ → ℕ → Option ConstVal
+unfolding ofBits
+valueBy t k b =
+    cond (eqb k 1) (some (vInt (signed64 b)))
+    (cond (eqb k 2) (some (vReal (ofBits binary64 b)))
+    (cond (eqb k 3) (some (vStr (take (b / 65536) (drop (b % 65536) t)))) none))
+
+unfoldable pub slotAt : Bytes → ℕ → Option ConstVal
+slotAt t a = valueBy t (getD t a 0) (bitsAt t (a + 1))
+
+-- the kind and the bits of entry i
+abbrev pub kindOf : Bytes → ℕ → ℕ
+kindOf t i = getD t (5124 + 16 * i) 0
+
+abbrev pub bitsOf : Bytes → ℕ → ℕ
+bitsOf t i = bitsAt t (5125 + 16 * i)
+
+-- ---- the log
+
+abbrev pub fieldAt : Bytes → ℕ → Bytes
+fieldAt s k = getD (readAt s (k - 1) .fields) 0 []
+
+-- the module of a `mod` line, none for 0
+unfoldable pub moduleAt : Bytes → ℕ → Option Module
+moduleAt s zero = none
+moduleAt s (suc k) = some (record { name = fieldAt s (suc k); line = suc k })
+
+unfoldable pub entriesAt : Bytes → Bytes → ℕ → List Const
+entriesAt s t i = entries (sheetSource s .implement) (moduleAt s (moduleLineOf t i)) (fieldAt s (lineOf t i)) (slotAt t (5124 + 16 * i))
+
+-- the constants of the first m entries, the newest first
+unfoldable pub logIn : Bytes → Bytes → ℕ → List Const
+logIn s t zero = []
+logIn s t (suc m) = entriesAt s t m ++ logIn s t m
+
+-- a string's bytes lie among the constants' strings
+pub record Text (b : ℕ) : Type 0 where
+  pub low : 16384 ≤ b % 65536
+  pub high : b % 65536 + b / 65536 ≤ 49152
+  pub short : b / 65536 ≤ 256
+
+-- an entry of a table for a sheet of n lines; its string lies at a place of its own
+pub record Entry (t : Bytes) (n i : ℕ) : Type 0 where
+  pub first : 0 < lineOf t i
+  pub last : lineOf t i ≤ n
+  pub within : moduleLineOf t i ≤ n
+  pub kind : kindOf t i ≤ 3
+  pub text : kindOf t i ≡ 3 → Text (bitsOf t i)
+  pub own : kindOf t i ≡ 3 → bitsOf t i % 65536 ≡ 16384 + 256 * i
+
+pub record Logged (s t : Bytes) (n m : ℕ) : Type 0 where
+  pub few : m ≤ 128
+  pub each : (i : ℕ) → i < m → Entry t n i
+
+-- what a look-up answers: 0 for no constant, else the entry's number from 1
+unfoldable pub found : Bytes → ℕ → Option ConstVal
+found t zero = none
+found t (suc i) = slotAt t (5124 + 16 * i)
+
+-- ---- which keys an entry enters
+
+-- whether constants have one of a key
+unfoldable pub hasKey : Key → List Const → Bool
+hasKey k cs = any (λ (c : Const). sameKey k (c .key)) cs
+
+-- the name alone, outside modules and in the implemented module
+unfoldable pub answersPlain : Bytes → Bytes → ℕ → Bytes → Bool
+answersPlain s t i x = same x (fieldAt s (lineOf t i)) && (eqb (moduleLineOf t i) 0 || implements (sheetSource s .implement) (moduleAt s (moduleLineOf t i)))
+
+-- the module's name and the name
+unfoldable pub answersQualified : Bytes → Bytes → ℕ → Bytes → Bytes → Bool
+answersQualified s t i q x = same x (fieldAt s (lineOf t i)) && (not (eqb (moduleLineOf t i) 0) && same q (fieldAt s (moduleLineOf t i)))

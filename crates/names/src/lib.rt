@@ -1,0 +1,196 @@
+// The table of constants: look-ups by name and by module and name, the newest entry first.
+ghost use mathlib.Core.Path.{_≡_};
+ghost use mathlib.Core.Bool.{_&&_, _||_};
+ghost use mathlib.Core.List.{[]};
+ghost use mathlib.Core.Option.{some};
+ghost use Prim.Native.Nat.{_+_, _-_, _*_, _≤_, _<_};
+ghost use lib.Dec.{ltb};
+ghost use lib.ListN.{length, getD};
+ghost use Rattle.semantics.specs.Text as Text;
+ghost use Rattle.semantics.specs.Sheet.{sheetSource};
+ghost use Rattle.semantics.specs.Fold.{plain, qualified, lookUp, valueOf};
+ghost use Rattle.semantics.specs.Const as Const;
+ghost use Rattle.checks.specs.Checks.{Checked};
+ghost use Rattle.names.specs.Table.{wordAt, lineOf, moduleLineOf, bitsAt, bitsOf, kindOf, fieldAt, moduleAt, logIn, Logged, found, hasKey, answersPlain, answersQualified};
+
+const TABLE: usize = 5120;
+
+const IMPL: u8 = b'I';
+
+pub fn same(a: &[u8], b: &[u8]) -> bool
+    ensures { λ r. ⌜ r ≡ Text.same (now (a .entry)) (now (b .entry)) ⌝ }
+{
+    if a.len() != b.len() {
+        return false;
+    }
+    let mut i = 0;
+    while i < a.len() {
+        if a[i] != b[i] {
+            return false;
+        }
+        i += 1;
+    }
+    true
+}
+
+fn wide(x: u8) -> usize
+    ensures { λ r. ⌜ (r ≡ x) × (r < 256) ⌝ }
+{
+    x as usize
+}
+
+fn wide64(x: u8) -> u64
+    ensures { λ r. ⌜ (r ≡ x) × (r < 256) ⌝ }
+{
+    x as u64
+}
+
+fn word_at(work: &[u8], a: usize) -> usize
+    requires { ⌜ a + 1 < length (now work) ⌝ }
+    ensures { λ r. ⌜ r ≡ wordAt (now (work .entry)) a ⌝ }
+{
+    wide(work[a]) + 256 * wide(work[a + 1])
+}
+
+fn bits_at(work: &[u8], a: usize) -> u64
+    requires { ⌜ a + 8 ≤ length (now work) ⌝ }
+    ensures { λ r. ⌜ r ≡ bitsAt (now (work .entry)) a ⌝ }
+{
+    let mut acc: u64 = 0;
+    let mut k = 0;
+    while k < 8 {
+        acc = acc * 256 + wide64(work[a + k]);
+        k += 1;
+    }
+    acc
+}
+
+// The `con` line of entry i.
+pub fn line_of(work: &[u8], i: usize) -> usize
+    requires { ⌜ (i < 128) × (65536 ≤ length (now work)) ⌝ }
+    ensures { λ r. ⌜ r ≡ lineOf (now (work .entry)) i ⌝ }
+{
+    word_at(work, TABLE + 16 * i)
+}
+
+// The line of its module, 0 for none.
+pub fn module_line_of(work: &[u8], i: usize) -> usize
+    requires { ⌜ (i < 128) × (65536 ≤ length (now work)) ⌝ }
+    ensures { λ r. ⌜ r ≡ moduleLineOf (now (work .entry)) i ⌝ }
+{
+    word_at(work, TABLE + 2 + 16 * i)
+}
+
+pub fn slot_kind(work: &[u8], i: usize) -> u8
+    requires { ⌜ (i < 128) × (65536 ≤ length (now work)) ⌝ }
+    ensures { λ r. ⌜ r ≡ kindOf (now (work .entry)) i ⌝ }
+{
+    work[TABLE + 4 + 16 * i]
+}
+
+pub fn slot_bits(work: &[u8], i: usize) -> u64
+    requires { ⌜ (i < 128) × (65536 ≤ length (now work)) ⌝ }
+    ensures { λ r. ⌜ r ≡ bitsOf (now (work .entry)) i ⌝ }
+{
+    bits_at(work, TABLE + 5 + 16 * i)
+}
+
+// Whether the sheet implements the module of line k; 0 is none.
+pub fn implements(sheet: &[u8], work: &[u8], n: usize, k: usize) -> bool
+    requires { ⌜ (Checked (now sheet) (now work) n) × (k ≤ n) ⌝ }
+    ensures { λ r. ⌜ r ≡ Const.implements (sheetSource (now (sheet .entry)) .implement) (moduleAt (now (sheet .entry)) k) ⌝ }
+{
+    if k == 0 {
+        return false;
+    }
+    if form::kind(lines::form_at(work, 0)) != IMPL {
+        return false;
+    }
+    same(
+        lines::field_at(sheet, work, n, 0, 0),
+        lines::field_at(sheet, work, n, k - 1, 0),
+    )
+}
+
+// Whether the `con` line k has this name.
+fn is_named(sheet: &[u8], work: &[u8], n: usize, k: usize, name: &[u8]) -> bool
+    requires { ⌜ (Checked (now sheet) (now work) n) × (0 < k) × (k ≤ n) ⌝ }
+    ensures { λ r. ⌜ r ≡ Text.same (now (name .entry)) (fieldAt (now (sheet .entry)) k) ⌝ }
+{
+    same(name, lines::field_at(sheet, work, n, k - 1, 0))
+}
+
+// Whether entry i enters a constant by the plain name.
+fn answers_plain(sheet: &[u8], work: &[u8], n: usize, m: usize, i: usize, name: &[u8]) -> bool
+    requires { ⌜ (Checked (now sheet) (now work) n) × (Logged (now sheet) (now work) n m) × (i < m) ⌝ }
+    ensures { λ r. ⌜ r ≡ answersPlain (now (sheet .entry)) (now (work .entry)) i (now (name .entry)) ⌝ }
+{
+    if !is_named(sheet, work, n, line_of(work, i), name) {
+        return false;
+    }
+    let k = module_line_of(work, i);
+    if k == 0 {
+        return true;
+    }
+    implements(sheet, work, n, k)
+}
+
+// Whether it enters one by module and name.
+fn answers_qualified(
+    sheet: &[u8],
+    work: &[u8],
+    n: usize,
+    m: usize,
+    i: usize,
+    within: &[u8],
+    name: &[u8],
+) -> bool
+    requires { ⌜ (Checked (now sheet) (now work) n) × (Logged (now sheet) (now work) n m) × (i < m) ⌝ }
+    ensures { λ r. ⌜ r ≡ answersQualified (now (sheet .entry)) (now (work .entry)) i (now (within .entry)) (now (name .entry)) ⌝ }
+{
+    if !is_named(sheet, work, n, line_of(work, i), name) {
+        return false;
+    }
+    let k = module_line_of(work, i);
+    if k == 0 {
+        return false;
+    }
+    is_named(sheet, work, n, k, within)
+}
+
+// The newest constant of a plain name: 0 where there is none, else its entry's number from 1.
+pub fn look_up(sheet: &[u8], work: &[u8], n: usize, m: usize, name: &[u8]) -> usize
+    requires { ⌜ (Checked (now sheet) (now work) n) × (Logged (now sheet) (now work) n m) ⌝ }
+    ensures { λ r. ⌜ (valueOf (lookUp (plain (now (name .entry))) (logIn (now (sheet .entry)) (now (work .entry)) m)) ≡ found (now (work .entry)) r) × (r ≤ m) × (hasKey (plain (now (name .entry))) (logIn (now (sheet .entry)) (now (work .entry)) m) ≡ ltb 0 r) ⌝ }
+{
+    let mut i = m;
+    while 0 < i {
+        if answers_plain(sheet, work, n, m, i - 1, name) {
+            return i;
+        }
+        i -= 1;
+    }
+    0
+}
+
+// The same of a module's name.
+pub fn look_up_in(
+    sheet: &[u8],
+    work: &[u8],
+    n: usize,
+    m: usize,
+    within: &[u8],
+    name: &[u8],
+) -> usize
+    requires { ⌜ (Checked (now sheet) (now work) n) × (Logged (now sheet) (now work) n m) ⌝ }
+    ensures { λ r. ⌜ (valueOf (lookUp (qualified (now (within .entry)) (now (name .entry))) (logIn (now (sheet .entry)) (now (work .entry)) m)) ≡ found (now (work .entry)) r) × (r ≤ m) × (hasKey (qualified (now (within .entry)) (now (name .entry))) (logIn (now (sheet .entry)) (now (work .entry)) m) ≡ ltb 0 r) ⌝ }
+{
+    let mut i = m;
+    while 0 < i {
+        if answers_qualified(sheet, work, n, m, i - 1, within, name) {
+            return i;
+        }
+        i -= 1;
+    }
+    0
+}

@@ -1,0 +1,7 @@
+pub mod Bits
+pub mod Maps
+pub mod Cases
+pub mod Sizes
+pub mod Kept
+pub mod Marking
+pub mod Pointers
