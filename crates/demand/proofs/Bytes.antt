@@ -39,10 +39,10 @@ shifted-nil o p = go (leb o p) refl
     go false e = shifted-below o [] p (leb-false o p e)
 
 -- element p of joined lists
-getD-first : (xs ys : Bytes) (p : ℕ) → p < length xs → getD (xs ++ ys) p 0 ≡ getD xs p 0
+pub getD-first : (xs ys : Bytes) (p : ℕ) → p < length xs → getD (xs ++ ys) p 0 ≡ getD xs p 0
 getD-first xs ys p h = List·getD-append xs ys 0 p h
 
-getD-second : (xs ys : Bytes) (p : ℕ) → length xs ≤ p → getD (xs ++ ys) p 0 ≡ getD ys (p - length xs) 0
+pub getD-second : (xs ys : Bytes) (p : ℕ) → length xs ≤ p → getD (xs ++ ys) p 0 ≡ getD ys (p - length xs) 0
 getD-second xs ys p h =
     let e : p ≡ length xs + (p - length xs) = omega arith in
     ap (λ (n : ℕ). getD (xs ++ ys) n 0) e ∙ getD-append-add xs ys (p - length xs) 0
@@ -67,7 +67,7 @@ shifted-append o xs ys p = go (leb o p) refl (ltb p (o + length xs)) refl
 
 -- bytes written inside, over zeros
 module _ (xs : Bytes) (o : ℕ) (ys : Bytes) (fits : o + length ys ≤ length xs) where
-  written-is : written xs o ys ≡ take o xs ++ (ys ++ drop (o + length ys) xs)
+  pub written-is : written xs o ys ≡ take o xs ++ (ys ++ drop (o + length ys) xs)
   written-is =
       let e : o - length xs ≡ 0 = omega arith in
       ap (λ (n : ℕ). take o (xs ++ replicate n 0) ++ (ys ++ drop (o + length ys) xs)) e ∙ ap (λ (zs : Bytes). take o zs ++ (ys ++ drop (o + length ys) xs)) (append-nil xs)

@@ -32,7 +32,7 @@ names-sized : (d : Bytes → Declared) → ((n : Bytes) → Sized (d n .first)) 
 names-sized d h [] ys s = s
 names-sized d h (n ∷ ns) ys s = (h n, names-sized d h ns ys s)
 
-vars-sized : (ns : Names) (vs : List (Located VarDecl)) → AllSized (concatMap (declaredBy ns) vs)
+pub vars-sized : (ns : Names) (vs : List (Located VarDecl)) → AllSized (concatMap (declaredBy ns) vs)
 vars-sized ns [] = tt
 vars-sized ns (v ∷ vs) = names-sized _ (λ n. init-sized ns (v .it .ty) (v .it .init)) (laidNames (v .it .names)) _ (vars-sized ns vs)
 

@@ -1,21 +1,21 @@
 -- Laws of the table of constants.
 use mathlib.Core.Path.{_≡_, refl, sym, ap, _∙_}
 use mathlib.Core.Bool.{Bool, true, false, cond, not, _&&_, _||_}
-use mathlib.Core.List.{List, [], _∷_, _++_, append-assoc, append-nil}
+use mathlib.Core.List.{List, [], _∷_, _++_, append-nil}
 use mathlib.Core.Option.{Option, none, some}
 use Prim.Native.Nat.{ℕ, zero, suc, _+_, _-_, _*_, _/_, _%_, _≤_, _<_}
 use native.Mathlib.Omega.{arith}
 use native.Mathlib.Numerals.{add-one}
 use lib.Dec.{leb, ltb, eqb}
 use lib.Ieee.{binary64, ofBits}
-use lib.ListN.{length, take, drop, getD, drop-of-length-le, length-drop}
-use lib.Seq.{drop-cons, drop-drop, take-take, getD-drop}
+use lib.ListN.{length, take, drop, getD, drop-of-length-le}
+use lib.Seq.{drop-cons, take-take}
 use borrow.Author.Tests.{lt-ltb, eq-eqb, ne-eqb, eqb-true, not-true, not-false}
-use Rattle.semantics.specs.Text.{Bytes, same, holdsOf, fromBigEndian}
+use Rattle.semantics.specs.Text.{Bytes, same, fromBigEndian}
 use Rattle.semantics.specs.Tree.{ConstVal, Declares}
 use Rattle.semantics.specs.Tree.ConstVal.{vInt, vReal, vStr}
 use Rattle.semantics.specs.Form as Form
-use Rattle.semantics.specs.Sheet.{Module, Source, sheetSource, sourceOf, firstOf}
+use Rattle.semantics.specs.Sheet.{Source, sheetSource, firstOf}
 use Rattle.semantics.specs.Fold.{Key, Const, signed64, plain, qualified, sameOption, lookUp, valueOf}
 use Rattle.semantics.specs.Const.{entries, implements}
 use Rattle.form.proofs.Table.{both}
@@ -24,7 +24,7 @@ use Rattle.lines.specs.Lines.{textAt, readAt, nodesIn, formAt}
 use Rattle.lines.proofs.Line.{read-is, kind-is}
 use Rattle.refs.proofs.Nodes.{node-count}
 use Rattle.checks.specs.Checks.{Checked, Kept}
-use Rattle.checks.proofs.Kept.{kept-at, kept-less, checked-kept}
+use Rattle.checks.proofs.Kept.{kept-at, kept-less}
 use Rattle.source.specs.Walk.{declaresAt, declaredTo, byKind}
 use Rattle.source.proofs.Walk.{declared-all, source-of}
 use Rattle.source.proofs.Declares.{line-declares}
@@ -386,11 +386,6 @@ module _ {s t u : Bytes} {n m : ℕ} (w : Kept (5120 + 16 * m) t u) (l : Logged 
     pub log-same : logIn s u m ≡ logIn s t m
     log-same = log-upto m (omega arith)
 
-    found-same : (r : ℕ) → r ≤ m → found u r ≡ found t r
-    unfolding found
-    found-same zero h = refl
-    found-same (suc i) h = slot-kept n i (own-part i (omega arith)) (l .each i (omega arith)) (same i (omega arith))
-
 -- where all below the stack of folds is kept
 module _ {s t u : Bytes} {n m : ℕ} (w : Kept 49152 t u) (l : Logged s t n m) where
   table-part : Kept (5120 + 16 * m) t u
@@ -404,6 +399,3 @@ module _ {s t u : Bytes} {n m : ℕ} (w : Kept 49152 t u) (l : Logged s t n m) w
 
   pub log-kept : logIn s u m ≡ logIn s t m
   log-kept = log-same table-part l texts-kept
-
-  pub found-kept : (r : ℕ) → r ≤ m → found u r ≡ found t r
-  found-kept r h = found-same table-part l texts-kept r h

@@ -1,11 +1,8 @@
 // The table of constants: look-ups by name and by module and name, the newest entry first.
 ghost use mathlib.Core.Path.{_≡_};
-ghost use mathlib.Core.Bool.{_&&_, _||_};
-ghost use mathlib.Core.List.{[]};
-ghost use mathlib.Core.Option.{some};
-ghost use Prim.Native.Nat.{_+_, _-_, _*_, _≤_, _<_};
+ghost use Prim.Native.Nat.{_+_, _≤_, _<_};
 ghost use lib.Dec.{ltb};
-ghost use lib.ListN.{length, getD};
+ghost use lib.ListN.{length};
 ghost use Rattle.semantics.specs.Text as Text;
 ghost use Rattle.semantics.specs.Sheet.{sheetSource};
 ghost use Rattle.semantics.specs.Fold.{plain, qualified, lookUp, valueOf};

@@ -82,7 +82,7 @@ parts-one c (b ∷ bs) h = go (eqb b c) refl (λ k. parts-one c bs k)
 
 -- ---- where parts begin
 
-start-step : (c m : ℕ) (s : Bytes) → length (until c s) < length s → startOf c (suc m) s ≡ length (until c s) + 1 + startOf c m (drop (suc (length (until c s))) s)
+pub start-step : (c m : ℕ) (s : Bytes) → length (until c s) < length s → startOf c (suc m) s ≡ length (until c s) + 1 + startOf c m (drop (suc (length (until c s))) s)
 unfolding startOf
 start-step c m s h =
     rw (parts-step c s h) (rw leb·suc-suc (go (drop (suc (length (until c s))) s) (length-drop (suc (length (until c s))) s) (ltb m (length (partsAt c (drop (suc (length (until c s))) s))))))
@@ -92,11 +92,11 @@ start-step c m s h =
     go r e true = refl
     go r e false = omega arith
 
-start-none : (c m : ℕ) (s : Bytes) → length s ≤ length (until c s) → startOf c (suc m) s ≡ length s + 1
+pub start-none : (c m : ℕ) (s : Bytes) → length s ≤ length (until c s) → startOf c (suc m) s ≡ length s + 1
 unfolding startOf
 start-none c m s h = rw (parts-one c s h) (simp (le-ltb (suc m) 1 (omega arith)))
 
-start-zero : (c : ℕ) (s : Bytes) → startOf c 0 s ≡ 0
+pub start-zero : (c : ℕ) (s : Bytes) → startOf c 0 s ≡ 0
 unfolding startOf
 start-zero c s = go (ltb (length (until c s)) (length s)) refl
   where
@@ -127,7 +127,7 @@ module _ (c n : ℕ) (s : Bytes) where
       go true e = e
       go false e = absurd (omega (arith, simp e at h))
 
-  part-absent : length s < startOf c n s → ltb n (length (partsAt c s)) ≡ false
+  pub part-absent : length s < startOf c n s → ltb n (length (partsAt c s)) ≡ false
   part-absent h = go (ltb n (length (partsAt c s))) refl
     where
       go : (t : Bool) → ltb n (length (partsAt c s)) ≡ t → ltb n (length (partsAt c s)) ≡ false
@@ -163,7 +163,7 @@ part-at c (suc n) s h = go (ltb (length (until c s)) (length s)) refl (λ k. par
     go false e ih = absurd (omega (arith, ap length (parts-one c s (ltb-false (length (until c s)) (length s) e))))
 
 -- the part as a view: from where it begins to the next c
-part-view : (c n a z : ℕ) (s : Bytes) → a ≡ startOf c n s → a ≤ length s → z ≡ a + length (until c (drop a s)) → take (z - a) (drop a s) ≡ getD (partsAt c s) n []
+pub part-view : (c n a z : ℕ) (s : Bytes) → a ≡ startOf c n s → a ≤ length s → z ≡ a + length (until c (drop a s)) → take (z - a) (drop a s) ≡ getD (partsAt c s) n []
 part-view c n a z s ha h hz =
     let q : z - a ≡ length (until c (drop a s)) = omega arith in
     let l : startOf c n s ≤ length s = omega arith in

@@ -12,7 +12,7 @@ use Rattle.semantics.specs.Text.{Bytes, partsAt, decimal, decimalℤ, hexDigit,
 use Rattle.write.specs.Plain.{isPlain}
 use Rattle.write.proofs.Decimal.{decimal-one, decimal-more}
 
-plain-append : (s t : Bytes) → isPlain s ≡ true → isPlain t ≡ true → isPlain (s ++ t) ≡ true
+pub plain-append : (s t : Bytes) → isPlain s ≡ true → isPlain t ≡ true → isPlain (s ++ t) ≡ true
 unfolding isPlain
 plain-append [] t h k = k
 plain-append (b ∷ s) t h k = go (ltb 44 b) refl h (λ l. plain-append s t l k)

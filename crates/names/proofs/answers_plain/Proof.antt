@@ -1,43 +1,29 @@
+-- `names::answers_plain` meets its contract.
 use Rattle.names.proofs.Laws as Laws
-use borrow.Author.Tests.{eq-eqb, ne-eqb}
 use denote.Ref.{now}
 use native.Mathlib.Omega.{arith}
-use mathlib.Core.Path.{_≡_, _∙_, sym, ap}
 use borrow.Author.Needs.{needs}
 use Rattle.names.proofs.answers_plain.Statement.{statement}
 use Rattle.names.proofs.answers_plain.Tie as tie
-use Rattle.names.proofs.answers_plain.Reads as reads
-use Rattle.names.proofs.answers_plain.Lts as lts
-use Rattle.names.proofs.implements.Reads as implements-reads
-use Rattle.names.proofs.is_named.Reads as is-named-reads
-use Rattle.names.proofs.line_of.Reads as line-of-reads
-use Rattle.names.proofs.module_line_of.Reads as module-line-of-reads
 
--- src/lib.rt:127:34
 line-of-requires : tie.Need-line-of-requires
 line-of-requires c κs = search needs
 
--- src/lib.rt:127:9
 is-named-requires : tie.Need-is-named-requires
 is-named-requires c κs = let e = c .before .before .before .before .pre .1 .each (c .before .before .before .before .args .i) (c .before .before .before .before .pre .2) in (c .before .before .before .before .pre .0, omega (arith, c .line-of .ensures, e .first), omega (arith, c .line-of .ensures, e .last))
 
--- src/lib.rt:128:9
 returns : tie.Need-returns
 returns c = Laws.plain-other (now (c .before .before .before .before .before .before .args .sheet)) (now (c .before .before .before .before .before .before .args .work)) (c .before .before .before .before .before .before .args .i) (now (c .before .before .before .before .before .before .args .name)) (c .before .before .line-of .ensures) (c .before .is-named .ensures) (c .if1 .taken)
 
--- src/lib.rt:130:9
 module-line-of-requires : tie.Need-module-line-of-requires
 module-line-of-requires c κs = search needs
 
--- src/lib.rt:132:9
 returns-2 : tie.Need-returns-2
 returns-2 c = Laws.plain-top (now (c .before .before .before .before .before .before .before .before .args .sheet)) (now (c .before .before .before .before .before .before .before .before .args .work)) (c .before .before .before .before .before .before .before .before .args .i) (now (c .before .before .before .before .before .before .before .before .args .name)) (c .before .before .before .before .line-of .ensures) (c .before .before .before .is-named .ensures) (c .before .before .if1 .left) (c .before .module-line-of .ensures) (c .if2 .taken)
 
--- src/lib.rt:134:5
 implements-requires : tie.Need-implements-requires
 implements-requires c κs = let e = c .before .before .before .before .before .before .before .before .pre .1 .each (c .before .before .before .before .before .before .before .before .args .i) (c .before .before .before .before .before .before .before .before .pre .2) in (c .before .before .before .before .before .before .before .before .pre .0, omega (arith, c .before .module-line-of .ensures, e .within))
 
--- src/lib.rt:123:1
 returns-3 : tie.Need-returns-3
 returns-3 c = Laws.plain-in (now (c .before .before .before .before .before .before .before .before .before .args .sheet)) (now (c .before .before .before .before .before .before .before .before .before .args .work)) (c .before .before .before .before .before .before .before .before .before .args .i) (now (c .before .before .before .before .before .before .before .before .before .args .name)) (c .before .before .before .before .before .line-of .ensures) (c .before .before .before .before .is-named .ensures) (c .before .before .before .if1 .left) (c .before .before .module-line-of .ensures) (c .before .if2 .left) (c .implements .ensures)
 

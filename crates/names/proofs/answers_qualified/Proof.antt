@@ -1,42 +1,29 @@
+-- `names::answers_qualified` meets its contract.
 use Rattle.names.proofs.Laws as Laws
-use borrow.Author.Tests.{eq-eqb, ne-eqb}
 use denote.Ref.{now}
 use native.Mathlib.Omega.{arith}
-use mathlib.Core.Path.{_≡_, _∙_, sym, ap}
 use borrow.Author.Needs.{needs}
 use Rattle.names.proofs.answers_qualified.Statement.{statement}
 use Rattle.names.proofs.answers_qualified.Tie as tie
-use Rattle.names.proofs.answers_qualified.Reads as reads
-use Rattle.names.proofs.answers_qualified.Lts as lts
-use Rattle.names.proofs.is_named.Reads as is-named-reads
-use Rattle.names.proofs.line_of.Reads as line-of-reads
-use Rattle.names.proofs.module_line_of.Reads as module-line-of-reads
 
--- src/lib.rt:150:34
 line-of-requires : tie.Need-line-of-requires
 line-of-requires c κs = search needs
 
--- src/lib.rt:150:9
 is-named-requires : tie.Need-is-named-requires
 is-named-requires c κs = let e = c .before .before .before .before .before .pre .1 .each (c .before .before .before .before .before .args .i) (c .before .before .before .before .before .pre .2) in (c .before .before .before .before .before .pre .0, omega (arith, c .line-of .ensures, e .first), omega (arith, c .line-of .ensures, e .last))
 
--- src/lib.rt:151:9
 returns : tie.Need-returns
 returns c = Laws.qualified-other (now (c .before .before .before .before .before .before .before .args .sheet)) (now (c .before .before .before .before .before .before .before .args .work)) (c .before .before .before .before .before .before .before .args .i) (now (c .before .before .before .before .before .before .before .args .name)) (c .before .before .line-of .ensures) (c .before .is-named .ensures) (now (c .before .before .before .before .before .before .before .args .within)) (c .if1 .taken)
 
--- src/lib.rt:153:9
 module-line-of-requires : tie.Need-module-line-of-requires
 module-line-of-requires c κs = search needs
 
--- src/lib.rt:155:9
 returns-2 : tie.Need-returns-2
 returns-2 c = Laws.qualified-top (now (c .before .before .before .before .before .before .before .before .before .args .sheet)) (now (c .before .before .before .before .before .before .before .before .before .args .work)) (c .before .before .before .before .before .before .before .before .before .args .i) (now (c .before .before .before .before .before .before .before .before .before .args .name)) (c .before .before .before .before .line-of .ensures) (c .before .before .before .is-named .ensures) (c .before .before .if1 .left) (c .before .module-line-of .ensures) (now (c .before .before .before .before .before .before .before .before .before .args .within)) (c .if2 .taken)
 
--- src/lib.rt:157:5
 is-named-requires-2 : tie.Need-is-named-requires-2
 is-named-requires-2 c κs = let e = c .before .before .before .before .before .before .before .before .before .pre .1 .each (c .before .before .before .before .before .before .before .before .before .args .i) (c .before .before .before .before .before .before .before .before .before .pre .2) in (c .before .before .before .before .before .before .before .before .before .pre .0, omega arith, omega (arith, c .before .module-line-of .ensures, e .within))
 
--- src/lib.rt:138:1
 returns-3 : tie.Need-returns-3
 returns-3 c = Laws.qualified-in (now (c .before .before .before .before .before .before .before .before .before .before .args .sheet)) (now (c .before .before .before .before .before .before .before .before .before .before .args .work)) (c .before .before .before .before .before .before .before .before .before .before .args .i) (now (c .before .before .before .before .before .before .before .before .before .before .args .name)) (c .before .before .before .before .before .line-of .ensures) (c .before .before .before .before .is-named .ensures) (c .before .before .before .if1 .left) (c .before .before .module-line-of .ensures) (now (c .before .before .before .before .before .before .before .before .before .before .args .within)) (c .before .if2 .left) (c .is-named2 .ensures)
 

@@ -1,19 +1,17 @@
+-- `names::bits_at` meets its contract.
 use Rattle.names.proofs.Laws as Laws
 use Rattle.names.specs.Table.{bitsAt}
 use Rattle.text.proofs.Hexes.{bytes-grow, bytes-fit}
 use Rattle.semantics.specs.Text.{fromBigEndian}
 use borrow.Author.Needs.{needs}
 use denote.Ref.{now}
-use lib.ListN.{length, take, drop}
+use lib.ListN.{take, drop}
 use lib.Dec.{lit<}
 use native.Mathlib.Omega.{arith}
-use mathlib.Core.Path.{_≡_, _∙_, sym, refl}
-use Prim.Native.Nat.{_≤_, _<_, _+_, _-_, _*_, _^_}
+use mathlib.Core.Path.{_≡_, _∙_}
+use Prim.Native.Nat.{_≤_, _<_, _+_, _-_, _^_}
 use Rattle.names.proofs.bits_at.Statement.{statement}
 use Rattle.names.proofs.bits_at.Tie as tie
-use Rattle.names.proofs.bits_at.Reads as reads
-use Rattle.names.proofs.bits_at.Lts as lts
-use Rattle.names.proofs.wide64.Reads as wide64-reads
 
 abbrev Inv-loop : tie.InvT-loop
 Inv-loop work a acc₀ k₀ acc k = (k ≤ 8) × (acc < 256 ^ k) × (bitsAt work a ≡ fromBigEndian acc (take (8 - k) (drop (a + k) work)))
@@ -21,44 +19,34 @@ Inv-loop work a acc₀ k₀ acc k = (k ≤ 8) × (acc < 256 ^ k) × (bitsAt work
 abbrev μ-loop : tie.MeasureT-loop
 μ-loop work a acc₀ k₀ acc k = 8 - k
 
--- src/lib.rt:60:5
 loop-holds : tie.Need-loop-holds Inv-loop μ-loop
 unfolding bitsAt
 loop-holds c = (omega arith, lit< tt, Laws.bits-start (now (c .before .args .work)) (c .before .args .a))
 
--- src/lib.rt:61:15
 mul-acc : tie.Need-mul-acc Inv-loop μ-loop
 mul-acc c = record { fits = let h = bytes-fit (c .before .loop .acc) (c .before .loop .k) 0 (c .before .loop .inv .1) (c .loop-test .taken) (omega arith) in omega arith }
 
--- src/lib.rt:61:39
 add-wide64 : tie.Need-add-wide64 Inv-loop μ-loop
 add-wide64 c = search needs
 
--- src/lib.rt:61:34
 shared-slice-read-wide64 : tie.Need-shared-slice-read-wide64 Inv-loop μ-loop
 shared-slice-read-wide64 c = search needs
 
--- src/lib.rt:61:27
 wide64-requires : tie.Need-wide64-requires Inv-loop μ-loop
 wide64-requires c κs = search needs
 
--- src/lib.rt:61:15
 add-acc : tie.Need-add-acc Inv-loop μ-loop
 add-acc c = record { fits = bytes-fit (c .before .before .before .loop .acc) (c .before .before .before .loop .k) (c .wide64 .result) (c .before .before .before .loop .inv .1) (c .before .before .loop-test .taken) (omega arith) }
 
--- src/lib.rt:62:9
 add-k : tie.Need-add-k Inv-loop μ-loop
 add-k c = search needs
 
--- src/lib.rt:60:5
 loop-less : tie.Need-loop-less Inv-loop μ-loop
 loop-less c = search needs
 
--- src/lib.rt:60:5
 loop-again : tie.Need-loop-again Inv-loop μ-loop
 loop-again c = (omega arith, bytes-grow (c .before .before .before .loop .acc) (c .before .before .before .loop .k) (c .wide64 .result) (c .before .before .before .loop .inv .1) (omega arith), c .before .before .before .loop .inv .2 ∙ Laws.bits-next (now (c .before .before .before .before .before .args .work)) (c .before .before .before .before .before .args .a) (c .before .before .before .loop .k) (c .before .before .before .loop .acc) (omega arith) (omega arith) ∙ rw (c .wide64 .ensures .0))
 
--- src/lib.rt:54:1
 returns : tie.Need-returns Inv-loop μ-loop
 returns c = Laws.bits-end (now (c .before .before .before .args .work)) (c .before .before .before .args .a) (c .before .loop .k) (c .before .loop .acc) (omega arith) (c .before .loop .inv .2)
 

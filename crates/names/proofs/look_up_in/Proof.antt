@@ -1,16 +1,14 @@
+-- `names::look_up_in` meets its contract.
 use Rattle.names.proofs.Laws as Laws
-use Rattle.names.specs.Table.{logIn, answersQualified}
-use Rattle.semantics.specs.Fold.{qualified, lookUp, valueOf}
+use Rattle.names.specs.Table.{answersQualified}
+use Rattle.semantics.specs.Fold.{qualified}
 use borrow.Author.Needs.{needs}
 use denote.Ref.{now}
 use native.Mathlib.Omega.{arith}
-use mathlib.Core.Path.{_≡_, _∙_, sym, ap, refl}
-use Prim.Native.Nat.{ℕ, _≤_, _-_}
+use mathlib.Core.Path.{_∙_, sym}
+use Prim.Native.Nat.{ℕ, _≤_}
 use Rattle.names.proofs.look_up_in.Statement.{statement}
 use Rattle.names.proofs.look_up_in.Tie as tie
-use Rattle.names.proofs.look_up_in.Reads as reads
-use Rattle.names.proofs.look_up_in.Lts as lts
-use Rattle.names.proofs.answers_qualified.Reads as answers-qualified-reads
 
 abbrev Inv-loop : tie.InvT-loop
 Inv-loop sheet work n m within name i₀ i = (i ≤ m) × Laws.Looking sheet work (qualified within name) m i
@@ -18,35 +16,27 @@ Inv-loop sheet work n m within name i₀ i = (i ≤ m) × Laws.Looking sheet wor
 abbrev μ-loop : tie.MeasureT-loop
 μ-loop sheet work n m within name i₀ i = i
 
--- src/lib.rt:188:5
 loop-holds : tie.Need-loop-holds Inv-loop μ-loop
 loop-holds c = (omega arith, Laws.looking (now (c .before .before .before .before .args .sheet)) (now (c .before .before .before .before .args .work)) (qualified (now (c .before .before .before .before .args .within)) (now (c .before .before .before .before .args .name))) (c .before .before .before .before .args .m))
 
--- src/lib.rt:189:49
 sub-answers-qualified : tie.Need-sub-answers-qualified Inv-loop μ-loop
 sub-answers-qualified c = search needs
 
--- src/lib.rt:189:12
 answers-qualified-requires : tie.Need-answers-qualified-requires Inv-loop μ-loop
 answers-qualified-requires c κs = search needs
 
--- src/lib.rt:190:13
 returns : tie.Need-returns Inv-loop μ-loop
 returns c = let w = Laws.look-hit (now (c .before .before .before .before .before .before .before .before .args .sheet)) (now (c .before .before .before .before .before .before .before .before .args .work)) (qualified (now (c .before .before .before .before .before .before .before .before .args .within)) (now (c .before .before .before .before .before .before .before .before .args .name))) (λ (j : ℕ). answersQualified (now (c .before .before .before .before .before .before .before .before .args .sheet)) (now (c .before .before .before .before .before .before .before .before .args .work)) j (now (c .before .before .before .before .before .before .before .before .args .within)) (now (c .before .before .before .before .before .before .before .before .args .name))) (Laws.answers-qualified (now (c .before .before .before .before .before .before .before .before .args .sheet)) (now (c .before .before .before .before .before .before .before .before .args .work)) (now (c .before .before .before .before .before .before .before .before .args .within)) (now (c .before .before .before .before .before .before .before .before .args .name))) (c .before .before .before .before .before .before .before .before .args .m) (c .before .before .before .loop .i) (c .before .before .before .loop .inv .1) (omega arith) (sym (c .if1 .taken) ∙ c .before .answers-qualified .ensures) in (w .value, c .before .before .before .loop .inv .0, w .has)
 
--- src/lib.rt:192:9
 sub-i : tie.Need-sub-i Inv-loop μ-loop
 sub-i c = search needs
 
--- src/lib.rt:188:5
 loop-less : tie.Need-loop-less Inv-loop μ-loop
 loop-less c = search needs
 
--- src/lib.rt:188:5
 loop-again : tie.Need-loop-again Inv-loop μ-loop
 loop-again c = (omega arith, Laws.look-on (now (c .before .before .before .before .before .before .before .before .args .sheet)) (now (c .before .before .before .before .before .before .before .before .args .work)) (qualified (now (c .before .before .before .before .before .before .before .before .args .within)) (now (c .before .before .before .before .before .before .before .before .args .name))) (λ (j : ℕ). answersQualified (now (c .before .before .before .before .before .before .before .before .args .sheet)) (now (c .before .before .before .before .before .before .before .before .args .work)) j (now (c .before .before .before .before .before .before .before .before .args .within)) (now (c .before .before .before .before .before .before .before .before .args .name))) (Laws.answers-qualified (now (c .before .before .before .before .before .before .before .before .args .sheet)) (now (c .before .before .before .before .before .before .before .before .args .work)) (now (c .before .before .before .before .before .before .before .before .args .within)) (now (c .before .before .before .before .before .before .before .before .args .name))) (c .before .before .before .before .before .before .before .before .args .m) (c .before .before .before .loop .i) (c .before .before .before .loop .inv .1) (omega arith) (sym (c .if1 .left) ∙ c .before .answers-qualified .ensures))
 
--- src/lib.rt:176:1
 returns-2 : tie.Need-returns-2 Inv-loop μ-loop
 returns-2 c = let w = Laws.look-end (now (c .before .before .before .before .before .before .args .sheet)) (now (c .before .before .before .before .before .before .args .work)) (qualified (now (c .before .before .before .before .before .before .args .within)) (now (c .before .before .before .before .before .before .args .name))) (c .before .before .before .before .before .before .args .m) (c .before .loop .i) (c .before .loop .inv .1) (omega arith) in (w .value, omega arith, w .has)
 

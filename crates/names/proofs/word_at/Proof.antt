@@ -1,41 +1,31 @@
+-- `names::word_at` meets its contract.
 use Rattle.names.specs.Table.{wordAt}
 use native.Mathlib.Omega.{arith}
 use borrow.Author.Needs.{needs}
 use Rattle.names.proofs.word_at.Statement.{statement}
 use Rattle.names.proofs.word_at.Tie as tie
-use Rattle.names.proofs.word_at.Reads as reads
-use Rattle.names.proofs.word_at.Lts as lts
-use Rattle.names.proofs.wide.Reads as wide-reads
 
--- src/lib.rt:51:10
 shared-slice-read-wide : tie.Need-shared-slice-read-wide
 shared-slice-read-wide c = search needs
 
--- src/lib.rt:51:5
 wide-requires : tie.Need-wide-requires
 wide-requires c κs = search needs
 
--- src/lib.rt:51:37
 add-wide : tie.Need-add-wide
 add-wide c = search needs
 
--- src/lib.rt:51:32
 shared-slice-read-wide-2 : tie.Need-shared-slice-read-wide-2
 shared-slice-read-wide-2 c = search needs
 
--- src/lib.rt:51:27
 wide-requires-2 : tie.Need-wide-requires-2
 wide-requires-2 c κs = search needs
 
--- src/lib.rt:51:21
 mul-result : tie.Need-mul-result
 mul-result c = search needs
 
--- src/lib.rt:51:5
 add-result : tie.Need-add-result
 add-result c = search needs
 
--- src/lib.rt:47:1
 returns : tie.Need-returns
 unfolding wordAt
 returns c = omega (arith, c .before .before .wide .ensures, c .wide2 .ensures)

@@ -1,0 +1,52 @@
+-- `const_rows::rows` meets its contract.
+use Rattle.const_rows.proofs.Laws as Laws
+use Rattle.const_rows.specs.Rows.{rowsTo}
+use Rattle.write.proofs.Wrote.{wrote-length}
+use Rattle.write.specs.Wrote.{Wrote}
+use borrow.Author.Needs.{needs}
+use denote.Ref.{now}
+use native.Mathlib.Omega.{arith}
+use Prim.Native.Nat.{_-_, _≤_}
+use Rattle.const_rows.proofs.rows.Statement.{statement}
+use Rattle.const_rows.proofs.rows.Tie as tie
+
+abbrev Inv-loop : tie.InvT-loop
+Inv-loop sheet work n m listing₀ at plain p₀ i₀ listing p i = (i ≤ m) × (Wrote listing₀ at (rowsTo plain sheet work m i) listing p)
+
+abbrev μ-loop : tie.MeasureT-loop
+μ-loop sheet work n m listing₀ at plain p₀ i₀ listing p i = m - i
+
+loop-holds : tie.Need-loop-holds Inv-loop μ-loop
+loop-holds c = (omega arith, Laws.rows-start (now (c .before .before .before .args .sheet)) (now (c .before .before .before .args .work)) (c .before .before .before .args .m) (c .before .before .before .args .plain) (c .before .before .before .pre .1))
+
+entry-row-requires : tie.Need-entry-row-requires Inv-loop μ-loop
+entry-row-requires c κs = (c .before .before .before .before .before .before .pre .0, c .before .loop-test .taken, Laws.place-low (c .before .before .loop .inv .1))
+
+add-i : tie.Need-add-i Inv-loop μ-loop
+add-i c = search needs
+
+loop-less : tie.Need-loop-less Inv-loop μ-loop
+loop-less c = search needs
+
+loop-again : tie.Need-loop-again Inv-loop μ-loop
+loop-again c = (omega arith, Laws.rows-next (now (c .before .before .before .before .before .before .before .before .before .args .sheet)) (now (c .before .before .before .before .before .before .before .before .before .args .work)) (c .before .before .before .before .before .before .before .before .before .args .m) (c .before .before .before .before .before .before .before .before .before .args .plain) (c .before .before .before .before .before .loop .i) (c .before .before .before .before .before .loop .inv .1) (c .before .before .entry-row .ensures))
+
+same-length : tie.Need-same-length Inv-loop μ-loop
+same-length c = wrote-length (c .before .loop .inv .1)
+
+returns : tie.Need-returns Inv-loop μ-loop
+returns c = Laws.rows-end (now (c .before .before .before .before .before .args .sheet)) (now (c .before .before .before .before .before .args .work)) (c .before .before .before .before .before .args .m) (c .before .before .before .before .before .args .plain) (c .before .loop .i) (omega arith) (omega arith) (c .before .loop .inv .1)
+
+pub rows-spec : {M : Type 1} → statement M
+rows-spec =
+    tie.close
+    (tie.spec
+    Inv-loop
+    μ-loop
+    loop-holds
+    entry-row-requires
+    add-i
+    loop-less
+    loop-again
+    same-length
+    returns)

@@ -1,0 +1,59 @@
+-- The rows of constants, entry by entry: an entry adds the row of its key where no entry before it has the key.
+use Prim.Native.Nat.{ℕ, suc, _≤_}
+use mathlib.Core.Path.{_≡_}
+use mathlib.Core.Bool.{Bool, true, false, cond, not, _||_}
+use mathlib.Core.List.{[]}
+use lib.Dec.{eqb}
+use lib.ListN.{length}
+use Rattle.semantics.specs.Text.{Bytes, filter}
+use Rattle.semantics.specs.Sheet.{sheetSource, concatMap}
+use Rattle.semantics.specs.Fold.{Key, plain, qualified}
+use Rattle.semantics.specs.Const.{implements}
+use Rattle.semantics.specs.Listing.{keysIn, isPlain, constRow}
+use Rattle.checks.specs.Checks.{Checked}
+use Rattle.names.specs.Table.{lineOf, moduleLineOf, kindOf, bitsOf, fieldAt, moduleAt, logIn, Text, Logged, hasKey}
+
+-- the keys of entry i
+abbrev pub plainKey : Bytes → Bytes → ℕ → Key
+plainKey s t i = plain (fieldAt s (lineOf t i))
+
+abbrev pub qualifiedKey : Bytes → Bytes → ℕ → Key
+qualifiedKey s t i = qualified (fieldAt s (moduleLineOf t i)) (fieldAt s (lineOf t i))
+
+-- whether constants of the module of line k have plain names
+abbrev pub isOwn : Bytes → ℕ → Bool
+isOwn s k = eqb k 0 || implements (sheetSource s .implement) (moduleAt s k)
+
+-- the rows of M->NAME that the first i entries add, and the plain ones, where m entries have values
+unfoldable pub qualifiedTo : Bytes → Bytes → ℕ → ℕ → Bytes
+qualifiedTo s t m i = concatMap (constRow (logIn s t m)) (filter (λ (k : Key). not (isPlain k)) (keysIn (logIn s t i)))
+
+unfoldable pub plainTo : Bytes → Bytes → ℕ → ℕ → Bytes
+plainTo s t m i = concatMap (constRow (logIn s t m)) (filter isPlain (keysIn (logIn s t i)))
+
+-- those that entry i adds
+unfoldable pub qualifiedPart : Bytes → Bytes → ℕ → ℕ → Bytes
+qualifiedPart s t m i = cond (eqb (moduleLineOf t i) 0 || hasKey (qualifiedKey s t i) (logIn s t i)) [] (constRow (logIn s t m) (qualifiedKey s t i))
+
+unfoldable pub plainPart : Bytes → Bytes → ℕ → ℕ → Bytes
+plainPart s t m i = cond (not (isOwn s (moduleLineOf t i)) || hasKey (plainKey s t i) (logIn s t i)) [] (constRow (logIn s t m) (plainKey s t i))
+
+-- the plain ones, or those of M->NAME
+abbrev pub rowsTo : Bool → Bytes → Bytes → ℕ → ℕ → Bytes
+rowsTo true s t m i = plainTo s t m i
+rowsTo false s t m i = qualifiedTo s t m i
+
+abbrev pub partOf : Bool → Bytes → Bytes → ℕ → ℕ → Bytes
+partOf true s t m i = plainPart s t m i
+partOf false s t m i = qualifiedPart s t m i
+
+-- what a look-up answered can be shown: r is 0, or one more than the number of an entry
+pub record Shown (t : Bytes) (r : ℕ) : Type 0 where
+  pub few : r ≤ 128
+  pub long : 65536 ≤ length t
+  pub text : (i : ℕ) → r ≡ suc i → kindOf t i ≡ 3 → Text (bitsOf t i)
+
+-- the table of a checked sheet has m entries
+pub record Table (s t : Bytes) (n m : ℕ) : Type 0 where
+  pub checked : Checked s t n
+  pub logged : Logged s t n m

@@ -1,0 +1,183 @@
+// Rows of the listing for constants: all M->NAME, then all plain names, each in the order of first insertion with its last value.
+ghost use mathlib.Core.Path.{_≡_};
+ghost use mathlib.Core.List.{_∷_, _++_};
+ghost use Prim.Native.Nat.{_+_, _≤_, _<_};
+ghost use lib.ListN.{length};
+ghost use Rattle.semantics.specs.Listing.{row, valueFields, constRows};
+ghost use Rattle.write.specs.Wrote.{Wrote};
+ghost use Rattle.names.specs.Table.{found, logIn};
+ghost use Rattle.const_rows.specs.Rows.{isOwn, qualifiedPart, plainPart, rowsTo, partOf, Shown, Table};
+
+const LF: u8 = 10;
+
+const COMMA: u8 = 44;
+
+// Kinds of slots.
+const INT: u8 = 1;
+
+const REAL: u8 = 2;
+
+const STRING: u8 = 3;
+
+// The fields of the value that a look-up found, to the row's end.
+fn put_value(work: &[u8], listing: &mut [u8], at: usize, r: usize) -> usize
+    requires { ⌜ Shown (now work) r ⌝ }
+    ensures { λ p. ⌜ Wrote (now (listing .entry)) at (row (valueFields (found (now (work .entry)) r))) (now (listing .exit)) p ⌝ }
+{
+    if r == 0 {
+        return write::put_part(listing, at, b"x\n");
+    }
+    let k = names::slot_kind(work, r - 1);
+    let b = names::slot_bits(work, r - 1);
+    if k == INT {
+        let p = write::put_part(listing, at, b"i,");
+        let q = write::put_int(listing, p, numbers::ints::of_bits(b));
+        return write::put(listing, q, LF);
+    }
+    if k == REAL {
+        let p = write::put_part(listing, at, b"r,");
+        let q = write::put_word(listing, p, numbers::reals::bits(numbers::reals::of_bits(b)));
+        return write::put(listing, q, LF);
+    }
+    if k == STRING {
+        let a = (b % 65536) as usize;
+        let e = a + (b / 65536) as usize;
+        let p = write::put_part(listing, at, b"s,");
+        let q = write::put_hex(listing, p, &work[a..e]);
+        return write::put(listing, q, LF);
+    }
+    write::put_part(listing, at, b"x\n")
+}
+
+// A name, and behind it the value.
+fn put_rest(work: &[u8], listing: &mut [u8], at: usize, name: &[u8], r: usize) -> usize
+    requires { ⌜ Shown (now work) r ⌝ }
+    ensures { λ p. ⌜ Wrote (now (listing .entry)) at (now (name .entry) ++ (44 ∷ row (valueFields (found (now (work .entry)) r)))) (now (listing .exit)) p ⌝ }
+{
+    let p = write::put_part(listing, at, name);
+    let q = write::put(listing, p, COMMA);
+    put_value(work, listing, q, r)
+}
+
+// The row of M->NAME that entry i adds, if it adds one.
+fn qualified_row(
+    sheet: &[u8],
+    work: &[u8],
+    n: usize,
+    m: usize,
+    listing: &mut [u8],
+    at: usize,
+    i: usize,
+) -> usize
+    requires { ⌜ (Table (now sheet) (now work) n m) × (i < m) × (at ≤ length (now listing) + 1) ⌝ }
+    ensures { λ p. ⌜ Wrote (now (listing .entry)) at (qualifiedPart (now (sheet .entry)) (now (work .entry)) m i) (now (listing .exit)) p ⌝ }
+{
+    let k = names::module_line_of(work, i);
+    if k == 0 {
+        return at;
+    }
+    let within = lines::field_at(sheet, work, n, k - 1, 0);
+    let name = lines::field_at(sheet, work, n, names::line_of(work, i) - 1, 0);
+    if names::look_up_in(sheet, work, n, i, within, name) != 0 {
+        return at;
+    }
+    let r = names::look_up_in(sheet, work, n, m, within, name);
+    let p = write::put_part(listing, at, b"con,");
+    let q = write::put_part(listing, p, within);
+    let a = write::put_part(listing, q, b"->");
+    put_rest(work, listing, a, name, r)
+}
+
+// Whether constants of the module of line k, or of none for 0, have plain names.
+fn is_own(sheet: &[u8], work: &[u8], n: usize, m: usize, k: usize) -> bool
+    requires { ⌜ (Table (now sheet) (now work) n m) × (k ≤ n) ⌝ }
+    ensures { λ b. ⌜ b ≡ isOwn (now (sheet .entry)) k ⌝ }
+{
+    if k == 0 {
+        return true;
+    }
+    names::implements(sheet, work, n, k)
+}
+
+// The row of a plain name that entry i adds, if it adds one.
+fn plain_row(
+    sheet: &[u8],
+    work: &[u8],
+    n: usize,
+    m: usize,
+    listing: &mut [u8],
+    at: usize,
+    i: usize,
+) -> usize
+    requires { ⌜ (Table (now sheet) (now work) n m) × (i < m) × (at ≤ length (now listing) + 1) ⌝ }
+    ensures { λ p. ⌜ Wrote (now (listing .entry)) at (plainPart (now (sheet .entry)) (now (work .entry)) m i) (now (listing .exit)) p ⌝ }
+{
+    if !is_own(sheet, work, n, m, names::module_line_of(work, i)) {
+        return at;
+    }
+    let name = lines::field_at(sheet, work, n, names::line_of(work, i) - 1, 0);
+    if names::look_up(sheet, work, n, i, name) != 0 {
+        return at;
+    }
+    let r = names::look_up(sheet, work, n, m, name);
+    let p = write::put_part(listing, at, b"con,");
+    put_rest(work, listing, p, name, r)
+}
+
+// The row that entry i adds among the plain names, or among M->NAME.
+fn entry_row(
+    sheet: &[u8],
+    work: &[u8],
+    n: usize,
+    m: usize,
+    listing: &mut [u8],
+    at: usize,
+    i: usize,
+    plain: bool,
+) -> usize
+    requires { ⌜ (Table (now sheet) (now work) n m) × (i < m) × (at ≤ length (now listing) + 1) ⌝ }
+    ensures { λ p. ⌜ Wrote (now (listing .entry)) at (partOf plain (now (sheet .entry)) (now (work .entry)) m i) (now (listing .exit)) p ⌝ }
+{
+    if plain {
+        return plain_row(sheet, work, n, m, listing, at, i);
+    }
+    qualified_row(sheet, work, n, m, listing, at, i)
+}
+
+// All of them.
+fn rows(
+    sheet: &[u8],
+    work: &[u8],
+    n: usize,
+    m: usize,
+    listing: &mut [u8],
+    at: usize,
+    plain: bool,
+) -> usize
+    requires { ⌜ (Table (now sheet) (now work) n m) × (at ≤ length (now listing) + 1) ⌝ }
+    ensures { λ p. ⌜ Wrote (now (listing .entry)) at (rowsTo plain (now (sheet .entry)) (now (work .entry)) m m) (now (listing .exit)) p ⌝ }
+{
+    let mut p = at;
+    let mut i = 0;
+    while i < m {
+        p = entry_row(sheet, work, n, m, listing, p, i, plain);
+        i += 1;
+    }
+    p
+}
+
+pub fn const_rows(
+    sheet: &[u8],
+    work: &[u8],
+    n: usize,
+    m: usize,
+    listing: &mut [u8],
+    at: usize,
+) -> usize
+    requires { ⌜ Table (now sheet) (now work) n m ⌝ }
+    ensures { λ p. ⌜ Wrote (now (listing .entry)) at (constRows (logIn (now (sheet .entry)) (now (work .entry)) m)) (now (listing .exit)) p ⌝ }
+{
+    let p = write::put_part(listing, at, b""); // a place past the end is one past it from here on
+    let q = rows(sheet, work, n, m, listing, p, false);
+    rows(sheet, work, n, m, listing, q, true)
+}

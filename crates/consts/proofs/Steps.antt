@@ -1,0 +1,109 @@
+-- Laws of one constant, and of the iota counter.
+use mathlib.Core.Path.{_≡_, sym, ap, _∙_}
+use mathlib.Core.Bool.{true, false, not}
+use mathlib.Core.List.{[], _++_}
+use mathlib.Core.Option.{Option, none, some}
+use Prim.Native.Nat.{ℕ, _+_, _-_, _≤_}
+use native.Mathlib.Omega.{arith}
+use native.Mathlib.Numerals.{add-one}
+use lib.IntN.{pos}
+use lib.ListN.{getD}
+use borrow.Author.Tests.{eq-eqb, ne-eqb, not-true, not-false}
+use Rattle.semantics.specs.Text.{Bytes}
+use Rattle.semantics.specs.Tree as Tree
+use Rattle.semantics.specs.Form.{nodeAt, numberOf}
+use Rattle.semantics.specs.Sheet.{sheetSource}
+use Rattle.semantics.specs.Fold.{fold}
+use Rattle.semantics.specs.Const.{iotaAt, iotaNext, entries}
+use Rattle.text.specs.Number as Number
+use Rattle.lines.specs.Lines.{readAt, nodesIn}
+use Rattle.checks.specs.Checks.{Kept}
+use Rattle.checks.proofs.Kept.{kept-then, kept-less}
+use Rattle.names.specs.Table.{fieldAt, moduleAt, logIn, Logged}
+use Rattle.names.proofs.Laws.{logged-kept, log-kept}
+use Rattle.values.specs.declared.ConstVal.{ConstVal}
+use Rattle.values.specs.declared.Folded.{Folded}
+use Rattle.values.specs.declared.Folded.the-variants.{Value, Failed, TooLong}
+use Rattle.values.specs.Values.{valueIn, resultIn, At}
+use Rattle.entries.specs.Entering.{Free, Entered}
+use Rattle.fold.specs.Folds.{foldAt, Foldable, Folds}
+use Rattle.consts.specs.declared.IotaCounter.{IotaCounter}
+use Rattle.consts.specs.Passes.{counterOf, constAt, ConstLine, Steps}
+use Rattle.consts.proofs.Lines.{ex-number, ex-line}
+
+-- ---- the iota counter
+
+module _ (c : IotaCounter) (line col : ℕ) where
+  pub iota-first : not (c .started) ≡ true → (0 ≡ iotaAt line col (counterOf c)) × (0 ≤ c .value)
+  unfolding counterOf
+  iota-first h = (rw (not-true (c .started) h), omega arith)
+
+  module _ (h : not (c .started) ≡ false) where
+    pub iota-line : (line ≡ c .line → ⊥) → (0 ≡ iotaAt line col (counterOf c)) × (0 ≤ c .value)
+    unfolding counterOf
+    iota-line p = (rw (not-false (c .started) h, ne-eqb line (c .line) p), omega arith)
+
+    module _ (p : line ≡ c .line) where
+      pub iota-col : (col ≡ c .col → ⊥) → (0 ≡ iotaAt line col (counterOf c)) × (0 ≤ c .value)
+      unfolding counterOf
+      iota-col q = (rw (not-false (c .started) h, eq-eqb line (c .line) p, ne-eqb col (c .col) q), omega arith)
+
+      pub iota-on : col ≡ c .col → (c .value ≡ iotaAt line col (counterOf c)) × (c .value ≤ c .value)
+      unfolding counterOf
+      iota-on q = (rw (not-false (c .started) h, eq-eqb line (c .line) p, eq-eqb col (c .col) q), omega arith)
+
+  pub iota-moves : {r : ℕ} → r ≡ iotaAt line col (counterOf c) → counterOf (record { started = true; line = line; col = col; value = r + 1 }) ≡ iotaNext line col (counterOf c)
+  unfolding counterOf iotaNext
+  iota-moves {r} e = rw (add-one, e)
+
+-- ---- one constant
+
+module _ (s t : Bytes) (n m k i : ℕ) (l : ConstLine s t n m k i) (r : ℕ) (is : r ≡ Number.numberOf 65536 (getD (readAt s i .fields) 3 [])) where
+  pub foldable : Foldable s t n m r 49152
+  foldable =
+      let e = ex-line s t n i (l .checked) (l .line) (l .kind) r is in
+      record {
+        line = e;
+        log = l .logged;
+        low = omega arith;
+        room = omega (arith, l .checked .low (r - 1) (omega (arith, e .first, e .last)), l .checked .whole .room);
+      }
+
+  pub free : {u : Bytes} → Kept 49152 t u → Free u m (i + 1) k
+  free w = record { few = l .few; first = omega arith; last = omega (arith, l .line, l .checked .whole .lined .few); owner = omega (arith, l .group, l .checked .whole .lined .few); long = omega (arith, w .long, l .checked .whole .room) }
+
+  module _ (iota : ℕ) (u : Bytes) (x : Folded) (f : Folds s t m iota r 49152 u x) where
+    -- the fold, by what the code has
+    fold-is : {y : Folded} → x ≡ y → fold (record { log = logIn s t m }) (pos iota) (constAt s k i .it .value) ≡ resultIn u y
+    unfolding foldAt
+    fold-is q =
+        ap (λ (j : ℕ). fold (record { log = logIn s t m }) (pos iota) (nodeAt (nodesIn s) j .ex)) (sym (ex-number s t n i (l .checked) (l .line) (l .kind) r is))
+        ∙ sym (f .answer .value) ∙ ap (resultIn u) q
+
+    name-is : fieldAt s (i + 1) ≡ getD (readAt s i .fields) 0 []
+    name-is = let e : i + 1 - 1 ≡ i = omega arith in rw e
+
+    module _ (o : Option Tree.ConstVal) (w : Bytes) (e : Entered s u n m (i + 1) k o w) where
+      log-is : logIn s w (m + 1) ≡ entries (sheetSource s .implement) (moduleAt s k) (getD (readAt s i .fields) 0 []) o ++ logIn s t m
+      log-is = e .log ∙ rw (name-is, log-kept (f .kept) (l .logged))
+
+      all-kept : Kept 5120 t w
+      all-kept = kept-then (kept-less (omega arith) (f .kept)) (e .kept)
+
+    pub at-value : {v : ConstVal} → x ≡ Value v → At 49152 v
+    at-value q = rw q at (f .answer .at)
+
+    pub took-value : {v : ConstVal} → x ≡ Value v → (w : Bytes) → Entered s u n m (i + 1) k (some (valueIn u v)) w → Kept 5120 t w × Steps s t w n m k i iota true
+    unfolding resultIn
+    took-value {v} q w e = (all-kept (some (valueIn u v)) w e, (e .logged, λ go. rw (fold-is q, log-is (some (valueIn u v)) w e)))
+
+    pub took-failed : x ≡ Failed → (w : Bytes) → Entered s u n m (i + 1) k none w → Kept 5120 t w × Steps s t w n m k i iota true
+    unfolding resultIn
+    took-failed q w e = (all-kept none w e, (e .logged, λ go. rw (fold-is q, log-is none w e)))
+
+    pub took-none : x ≡ TooLong → Kept 5120 t u × Steps s t u n m k i iota false
+    unfolding resultIn
+    took-none q = (kept-less (omega arith) (f .kept), λ go. rw (fold-is q))
+
+    pub log-after : Logged s u n m
+    log-after = logged-kept (f .kept) (l .logged)

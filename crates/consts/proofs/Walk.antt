@@ -1,0 +1,239 @@
+-- Laws of a pass, line by line.
+use mathlib.Core.Path.{_≡_, refl, sym, ap, _∙_}
+use mathlib.Core.Bool.{Bool, true, false, cond}
+use mathlib.Core.List.{List, [], _∷_}
+use mathlib.Core.Option.{Option, none, some}
+use Prim.Native.Nat.{ℕ, suc, _+_, _≤_, _<_}
+use native.Mathlib.Omega.{arith}
+use native.Mathlib.Numerals.{add-one}
+use lib.Dec.{eqb}
+use lib.ListN.{length, getD}
+use borrow.Author.Tests.{eqb-true, eqb-false}
+use Rattle.semantics.specs.Text.{Bytes}
+use Rattle.semantics.specs.Tree.{ConstDecl}
+use Rattle.semantics.specs.Form.{letter, numberOf}
+use Rattle.semantics.specs.Sheet.{Located, sheetSource}
+use Rattle.semantics.specs.Fold.{Const}
+use Rattle.semantics.specs.Const.{Refusal, Folding, iotaAt, iotaNext, newCounter, pass, passesFrom, constants}
+use Rattle.text.specs.Number as Number
+use Rattle.form.specs.Table.{kindAt}
+use Rattle.lines.specs.Lines.{readAt, nodesIn, formAt}
+use Rattle.lines.proofs.Line.{kind-is, form-low}
+use Rattle.checks.specs.Checks.{Checked, Kept}
+use Rattle.checks.proofs.Kept.{kept-less, checked-kept}
+use Rattle.source.specs.Walk.{openAt}
+use Rattle.names.specs.Table.{moduleAt, logIn}
+use Rattle.consts.specs.declared.IotaCounter.{IotaCounter}
+use Rattle.consts.specs.declared.Pass.{Pass}
+use Rattle.consts.specs.declared.Visited.{Visited}
+use Rattle.consts.specs.declared.Visited.the-variants as Visited
+use Rattle.consts.specs.declared.Collected.{Collected}
+use Rattle.consts.specs.declared.Collected.the-variants as Collected
+use Rattle.consts.specs.Passes.{groupFrom, passesAfter, openAfter, counterOf, constAt, ConstLine, step, tooLong, Steps, AtConstant, Standing, goes, Moves, Visits, Group, Logs, Passes, Before, rest, Past, Collects}
+use Rattle.consts.proofs.Passes.{open-mod, open-end, open-other, group-other, group-in, group-out, group-end, passes-start, passes-mod, passes-other, passes-end, count-mod, count-top, few-consts}
+use Rattle.consts.proofs.Lines.{line-number, col-number}
+
+-- the letter that is read of line i
+module _ {s t : Bytes} {n : ℕ} (c : Checked s t n) {i : ℕ} (h : i < n) where
+  pub form-small : {f : ℕ} → f ≡ formAt t i → f < 42
+  form-small e = omega (arith, form-low s t n (c .whole) i h)
+
+  pub kind-read : {f x : ℕ} → f ≡ formAt t i → x ≡ kindAt f → letter (readAt s i .form .kind) ≡ x
+  kind-read e d = kind-is s t n (c .whole) i h ∙ ap kindAt (sym e) ∙ sym d
+
+module _ (s t : Bytes) (n k : ℕ) (p : Pass) (st : Standing s t n k p) (h : p .line < n) where
+  -- where the group goes on behind the line
+  moves-past : (w : ℕ) → openAt (nodesIn s) (suc (p .line)) ≡ moduleAt s w → groupFrom s k (p .line) ≡ groupFrom s k (suc (p .line))
+      → Moves s t t n k p (record { line = p .line + 1; within = w; count = p .count; iota = p .iota })
+  unfolding goes
+  moves-past w o g = record {
+    stands = record {
+      checked = st .checked;
+      logged = st .logged;
+      inside = omega arith;
+      group = st .group;
+      opened = rw add-one o;
+      room = rw (add-one, ← g) (st .room);
+      small = st .small;
+    };
+    next = refl;
+    same = rw (add-one, g);
+    count = rw (add-one, g);
+  }
+
+  module _ {x : ℕ} (kind : letter (readAt s (p .line) .form .kind) ≡ x) where
+    open-is : openAt (nodesIn s) (suc (p .line)) ≡ moduleAt s (openAfter x (p .line) (p .within))
+    unfolding openAfter
+    open-is = go (eqb x 77) refl (eqb x 79) refl
+      where
+        go : (a : Bool) → eqb x 77 ≡ a → (b : Bool) → eqb x 79 ≡ b → openAt (nodesIn s) (suc (p .line)) ≡ moduleAt s (cond a (p .line + 1) (cond b 0 (p .within)))
+        go true e b d = rw add-one (open-mod s t n (st .checked) (p .line) h (kind ∙ eqb-true x 77 e))
+        go false e true d = open-end s t n (st .checked) (p .line) h (kind ∙ eqb-true x 79 d)
+        go false e false d = open-other s t n (st .checked) (p .line) h (λ q. eqb-false x 77 e (sym kind ∙ q)) (λ q. eqb-false x 79 d (sym kind ∙ q)) ∙ st .opened
+
+    pub moves-other : (x ≡ 68 → ⊥) → {w : ℕ} → w ≡ openAfter x (p .line) (p .within) → Moves s t t n k p (record { line = p .line + 1; within = w; count = p .count; iota = p .iota })
+    moves-other z {w} e = moves-past w (open-is ∙ ap (moduleAt s) (sym e)) (group-other s t n (st .checked) (p .line) h k (λ q. z (sym kind ∙ q)))
+
+    module _ (con : x ≡ 68) where
+      still : openAt (nodesIn s) (suc (p .line)) ≡ moduleAt s (p .within)
+      still = open-other s t n (st .checked) (p .line) h (λ q. omega (arith, kind)) (λ q. omega (arith, kind)) ∙ st .opened
+
+      pub moves-out : (p .within ≡ k → ⊥) → Moves s t t n k p (record { line = p .line + 1; within = p .within; count = p .count; iota = p .iota })
+      moves-out z = moves-past (p .within) still (group-out s t n (st .checked) (p .line) h (p .within) (st .opened) k (kind ∙ con) z)
+
+      pub at-constant : p .within ≡ k → AtConstant s n k p
+      at-constant e = record { line = h; kind = kind ∙ con; own = e }
+
+-- ---- a constant of the group
+
+module _ (s t : Bytes) (n k : ℕ) (p : Pass) (st : Standing s t n k p) (a : AtConstant s n k p) where
+  group-is : groupFrom s k (p .line) ≡ constAt s k (p .line) ∷ groupFrom s k (suc (p .line))
+  group-is = group-in s t n (st .checked) (p .line) (a .line) (p .within) (st .opened) k (a .kind) (a .own) ∙ ap (λ (o : ℕ). constAt s o (p .line) ∷ groupFrom s k (suc (p .line))) (a .own)
+
+  longer : length (groupFrom s k (p .line)) ≡ suc (length (groupFrom s k (suc (p .line))))
+  longer = ap length group-is
+
+  pub const-line : ConstLine s t n (p .count) k (p .line)
+  const-line = record {
+    checked = st .checked;
+    logged = st .logged;
+    few = omega (arith, st .room, longer);
+    line = a .line;
+    kind = a .kind;
+    group = st .group;
+  }
+
+  module _ (line col iota : ℕ) (hl : line ≡ Number.numberOf 65536 (getD (readAt s (p .line) .fields) 1 [])) (hc : col ≡ Number.numberOf 65536 (getD (readAt s (p .line) .fields) 2 []))
+      (hi : iota ≡ iotaAt line col (counterOf (p .iota))) where
+    line-is : line ≡ constAt s k (p .line) .it .line
+    line-is = hl ∙ line-number s t n (p .line) (st .checked) (a .line) (a .kind)
+
+    col-is : col ≡ constAt s k (p .line) .it .col
+    col-is = hc ∙ col-number s t n (p .line) (st .checked) (a .line) (a .kind)
+
+    goes-is : goes s t k p ≡ step s t (p .count) k (p .line) iota (pass (sheetSource s .implement) (groupFrom s k (suc (p .line))) (iotaNext line col (counterOf (p .iota))))
+    unfolding goes
+    goes-is = rw (group-is, hi, line-is, col-is)
+
+    module _ (u : Bytes) (kept : Kept 5120 t u) where
+      pub visit-refused : Steps s t u n (p .count) k (p .line) iota false → goes s t k p .refused ≡ some (tooLong (p .line + 1))
+      visit-refused f = ap (λ (g : Folding). g .refused) (goes-is ∙ f (pass (sheetSource s .implement) (groupFrom s k (suc (p .line))) (iotaNext line col (counterOf (p .iota))))) ∙ rw add-one
+
+      pub visit-on : Steps s t u n (p .count) k (p .line) iota true → (c : IotaCounter) → counterOf c ≡ iotaNext line col (counterOf (p .iota)) → c .value ≤ p .iota .value + 1
+          → Moves s t u n k p (record { line = p .line + 1; within = p .within; count = p .count + 1; iota = c })
+      unfolding goes
+      visit-on f c e small = record {
+        stands = record {
+          checked = checked-kept (kept-less (omega arith) kept) (st .checked);
+          logged = f .0;
+          inside = omega (arith, a .line);
+          group = st .group;
+          opened = rw add-one (still s t n k p st (a .line) (a .kind) refl);
+          room = rw (add-one (p .line)) (omega (arith, st .room, longer));
+          small = omega (arith, st .small);
+        };
+        next = refl;
+        same = rw (add-one (p .line), e) (sym (goes-is ∙ f .1 (pass (sheetSource s .implement) (groupFrom s k (suc (p .line))) (iotaNext line col (counterOf (p .iota))))));
+        count = rw (add-one (p .line)) (omega (arith, longer));
+      }
+
+-- ---- a pass
+
+module _ (s t u : Bytes) (n k : ℕ) (p : Pass) where
+  pub went-on : {r : Visited} {q : Pass} → r ≡ Visited.On q → Visits s t u n k p r → Moves s t u n k p q
+  went-on e v = rw e at v
+
+  pub stopped : {r : Visited} {j : ℕ} → r ≡ Visited.Refused j → Visits s t u n k p r → goes s t k p .refused ≡ some (tooLong j)
+  stopped e v = rw e at v
+
+abbrev pub beginning : ℕ → Pass
+beginning m = record { line = 0; within = 0; count = m; iota = record { started = false; line = 0; col = 0; value = 0 } }
+
+module _ (s t : Bytes) (n m k : ℕ) (g : Group s t n m k) where
+  pub begins : Standing s t n k (beginning m)
+  unfolding openAt moduleAt
+  begins = record { checked = g .checked; logged = g .logged; inside = omega arith; group = g .group; opened = refl; room = g .room; small = omega arith }
+
+  begin-is : goes s t k (beginning m) ≡ pass (sheetSource s .implement) (groupFrom s k 0) newCounter (logIn s t m)
+  unfolding goes counterOf
+  begin-is = refl
+
+  module _ (u : Bytes) (p : Pass) (st : Standing s u n k p) (same : goes s u k p ≡ goes s t k (beginning m)) where
+    pub pass-refused : {j : ℕ} → goes s u k p .refused ≡ some (tooLong j) → pass (sheetSource s .implement) (groupFrom s k 0) newCounter (logIn s t m) .refused ≡ some (tooLong j)
+    pass-refused e = ap (λ (f : Folding). f .refused) (sym begin-is ∙ sym same) ∙ e
+
+    pub pass-done : n ≤ p .line → p .count + length (groupFrom s k (p .line)) ≡ m + length (groupFrom s k 0)
+        → Logs s u n (p .count) (pass (sheetSource s .implement) (groupFrom s k 0) newCounter (logIn s t m)) × (p .count ≡ m + length (groupFrom s k 0))
+    unfolding goes
+    pass-done h count =
+        let e = group-end s u n (st .checked) k (p .line) h in
+        (record { logged = st .logged; same = sym begin-is ∙ sym same ∙ rw e }, omega (arith, ap length e))
+
+-- ---- all passes
+
+then-on : (g : List (Located ConstDecl)) (ps : List (List (Located ConstDecl))) (impl : Option Bytes) (log new : List Const)
+    → pass impl g newCounter log ≡ record { log = new; refused = none } → passesFrom impl (g ∷ ps) log ≡ passesFrom impl ps new
+then-on g ps impl log new e = rw e
+
+then-stop : (g : List (Located ConstDecl)) (ps : List (List (Located ConstDecl))) (impl : Option Bytes) (log : List Const) {x : Refusal}
+    → pass impl g newCounter log .refused ≡ some x → passesFrom impl (g ∷ ps) log .refused ≡ some x
+then-stop g ps impl log e = rw e e
+
+module _ (s t : Bytes) (n m i : ℕ) (b : Before s t n m i) where
+  -- a line that opens no module
+  pub past-other : i < n → (letter (readAt s i .form .kind) ≡ 77 → ⊥) → Before s t n m (i + 1) × (rest s t m (i + 1) ≡ rest s t m i)
+  unfolding rest
+  past-other h z =
+      (record { checked = b .checked; logged = b .logged; few = rw add-one (omega (arith, b .few, count-mod s t n (b .checked) i)) }, rw (add-one, passes-other s t n (b .checked) i h z))
+
+  pub module-group : i < n → Group s t n m (i + 1)
+  module-group h = record {
+    checked = b .checked;
+    logged = b .logged;
+    group = omega arith;
+    room = rw add-one (omega (arith, b .few, count-mod s t n (b .checked) i, count-top s t n (b .checked) (suc i), few-consts s t n (b .checked)));
+  }
+
+  pub past-module : i < n → letter (readAt s i .form .kind) ≡ 77 → (u : Bytes) → Kept 5120 t u → (r : Collected) → Passes s t u n m (i + 1) r → Past s t u n m i r
+  unfolding rest
+  past-module h e u kept (Collected.Count c) (l, q) = (
+    record {
+      checked = checked-kept (kept-less (omega arith) kept) (b .checked);
+      logged = l .logged;
+      few = rw add-one (omega (arith, b .few, count-mod s t n (b .checked) i, (rw add-one at q)));
+    },
+    sym (rw (passes-mod s t n (b .checked) i h e) (then-on (groupFrom s (suc i) 0) (passesAfter s (suc i)) (sheetSource s .implement) (logIn s t m) (logIn s u c) (rw add-one at (l .same)) ∙ rw add-one)),
+  )
+  past-module h e u kept (Collected.Refused j) q =
+      rw (passes-mod s t n (b .checked) i h e) (then-stop (groupFrom s (suc i) 0) (passesAfter s (suc i)) (sheetSource s .implement) (logIn s t m) (rw add-one at q))
+
+  pub top-group : Group s t n m 0
+  top-group = record {
+    checked = b .checked;
+    logged = b .logged;
+    group = omega arith;
+    room = omega (arith, b .few, count-top s t n (b .checked) i, few-consts s t n (b .checked));
+  }
+
+  pub past-all : n ≤ i → rest s t m i ≡ constants (sheetSource s) → (u : Bytes) → (r : Collected) → Passes s t u n m 0 r → Collects s u n r
+  unfolding rest
+  past-all h same u (Collected.Count c) (l, q) =
+      let e : constants (sheetSource s) ≡ record { log = logIn s u c; refused = none } =
+      sym same ∙ rw (passes-end s t n (b .checked) i h) (then-on (groupFrom s 0 0) [] (sheetSource s .implement) (logIn s t m) (logIn s u c) (l .same)) in
+      (ap (λ (f : Folding). f .refused) e, ap (λ (f : Folding). f .log) e, l .logged)
+  past-all h same u (Collected.Refused j) q =
+      ap (λ (f : Folding). f .refused) (sym same) ∙ rw (passes-end s t n (b .checked) i h) (then-stop (groupFrom s 0 0) [] (sheetSource s .implement) (logIn s t m) q)
+
+pub start-before : (s t : Bytes) (n : ℕ) → Checked s t n → Before s t n 0 0
+start-before s t n c = record { checked = c; logged = record { few = omega arith; each = λ i h. absurd (omega arith) }; few = omega arith }
+
+pub start-same : (s t : Bytes) (n : ℕ) → Checked s t n → rest s t 0 0 ≡ constants (sheetSource s)
+unfolding rest logIn
+start-same s t n c = sym (passes-start s t n c)
+
+module _ (s t u : Bytes) (n m i : ℕ) where
+  pub went-past : {r : Collected} {c : ℕ} → r ≡ Collected.Count c → Past s t u n m i r → Before s u n c (i + 1) × (rest s u c (i + 1) ≡ rest s t m i)
+  went-past e p = rw e at p
+
+  pub refused-at : {r : Collected} {j : ℕ} → r ≡ Collected.Refused j → Past s t u n m i r → rest s t m i ≡ constants (sheetSource s) → constants (sheetSource s) .refused ≡ some (tooLong j)
+  refused-at e p same = ap (λ (f : Folding). f .refused) (sym same) ∙ (rw e at p)

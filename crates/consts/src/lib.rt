@@ -1,0 +1,221 @@
+// The constants of a sheet, in their passes: one for each module in the sheet's order, then one for the top level.
+use values::Folded;
+ghost use mathlib.Core.Path.{_≡_};
+ghost use Prim.Native.Nat.{_+_, _≤_, _<_};
+ghost use Rattle.semantics.specs.Const.{iotaAt, iotaNext};
+ghost use Rattle.checks.specs.Checks.{Checked, Kept};
+ghost use Rattle.consts.specs.Passes.{openAfter, counterOf, ConstLine, Steps, AtConstant, Standing, Visits, Group, Passes, Before, Past, Collects};
+
+// Letters of kinds.
+const CON: u8 = b'D';
+
+const MOD: u8 = b'M';
+
+const END: u8 = b'O';
+
+// Where the stack of folds begins.
+const STACK: usize = 49152;
+
+// How many constants there are, or the line whose string grows too long.
+pub enum Collected {
+    Count(usize),
+    Refused(usize),
+}
+
+// LINE and COL of the previous constant, and the next value of `iota` there.
+pub struct IotaCounter {
+    pub started: bool,
+    pub line: usize,
+    pub col: usize,
+    pub value: u32,
+}
+
+// A pass before line `line`, from 0, where the module of line `within` is open.
+pub struct Pass {
+    pub line: usize,
+    pub within: usize,
+    pub count: usize,
+    pub iota: IotaCounter,
+}
+
+pub enum Visited {
+    On(Pass),
+    Refused(usize),
+}
+
+// `iota` at a constant: 0 where LINE or COL differs from the previous one's.
+fn iota_at(c: IotaCounter, line: usize, col: usize) -> u32
+    ensures { λ r. ⌜ (r ≡ iotaAt line col (counterOf c)) × (r ≤ c .value) ⌝ }
+{
+    if !c.started {
+        return 0;
+    }
+    if line != c.line {
+        return 0;
+    }
+    if col != c.col {
+        return 0;
+    }
+    c.value
+}
+
+// The counter, moved on.
+fn iota_next(c: IotaCounter, line: usize, col: usize) -> IotaCounter
+    requires { ⌜ c .value ≤ 128 ⌝ }
+    ensures { λ r. ⌜ (counterOf r ≡ iotaNext line col (counterOf c)) × (r .value ≤ c .value + 1) ⌝ }
+{
+    IotaCounter {
+        started: true,
+        line,
+        col,
+        value: iota_at(c, line, col) + 1,
+    }
+}
+
+// The line of the module that is open behind line i, from 0, which has kind x.
+fn open_after(x: u8, i: usize, within: usize) -> usize
+    requires { ⌜ i < 1024 ⌝ }
+    ensures { λ r. ⌜ r ≡ openAfter x i within ⌝ }
+{
+    if x == MOD {
+        return i + 1;
+    }
+    if x == END {
+        return 0;
+    }
+    within
+}
+
+// The constant of line i, from 0, in the module of line k: folded, and entered as entry m. False where its string grows too long.
+fn take_constant(
+    sheet: &[u8],
+    work: &mut [u8],
+    n: usize,
+    m: usize,
+    k: usize,
+    i: usize,
+    iota: u32,
+) -> bool
+    requires { ⌜ ConstLine (now sheet) (now work) n m k i ⌝ }
+    ensures { λ b. ⌜ (Kept 5120 (now (work .entry)) (now (work .exit))) × (Steps (now (sheet .entry)) (now (work .entry)) (now (work .exit)) n m k i iota b) ⌝ }
+{
+    let r = lines::number_at(sheet, work, n, i, 3);
+    let x = fold::fold_const(sheet, work, n, m, iota, r, STACK);
+    match x {
+        Folded::Value(v) => {
+            entries::enter(work, m, i + 1, k, v);
+            true
+        }
+        Folded::Failed => {
+            entries::enter_failed(work, m, i + 1, k);
+            true
+        }
+        Folded::TooLong => false,
+    }
+}
+
+// The constant of the line at which a pass stands.
+fn visit_constant(sheet: &[u8], work: &mut [u8], n: usize, k: usize, p: Pass) -> Visited
+    requires { ⌜ (Standing (now sheet) (now work) n k p) × (AtConstant (now sheet) n k p) ⌝ }
+    ensures { λ r. ⌜ (Kept 5120 (now (work .entry)) (now (work .exit))) × (Visits (now (sheet .entry)) (now (work .entry)) (now (work .exit)) n k p r) ⌝ }
+{
+    let i = p.line;
+    let within = p.within;
+    let m = p.count;
+    let c = p.iota;
+    let line = lines::number_at(sheet, work, n, i, 1);
+    let col = lines::number_at(sheet, work, n, i, 2);
+    if !take_constant(sheet, work, n, m, k, i, iota_at(c, line, col)) {
+        return Visited::Refused(i + 1);
+    }
+    let next = iota_next(c, line, col);
+    Visited::On(Pass {
+        line: i + 1,
+        within,
+        count: m + 1,
+        iota: next,
+    })
+}
+
+// One line of a pass over the constants of the module of line k, or of the top level, 0.
+fn visit(sheet: &[u8], work: &mut [u8], n: usize, k: usize, p: Pass) -> Visited
+    requires { ⌜ (Standing (now sheet) (now work) n k p) × (p .line < n) ⌝ }
+    ensures { λ r. ⌜ (Kept 5120 (now (work .entry)) (now (work .exit))) × (Visits (now (sheet .entry)) (now (work .entry)) (now (work .exit)) n k p r) ⌝ }
+{
+    let i = p.line;
+    let within = p.within;
+    let c = p.iota;
+    let x = form::kind(lines::form_at(work, i));
+    if x != CON {
+        return Visited::On(Pass {
+            line: i + 1,
+            within: open_after(x, i, within),
+            count: p.count,
+            iota: c,
+        });
+    }
+    if within == k {
+        return visit_constant(sheet, work, n, k, p);
+    }
+    Visited::On(Pass {
+        line: i + 1,
+        within,
+        count: p.count,
+        iota: c,
+    })
+}
+
+// A pass, with entries from m on.
+fn pass_consts(sheet: &[u8], work: &mut [u8], n: usize, m: usize, k: usize) -> Collected
+    requires { ⌜ Group (now sheet) (now work) n m k ⌝ }
+    ensures { λ r. ⌜ (Kept 5120 (now (work .entry)) (now (work .exit))) × (Passes (now (sheet .entry)) (now (work .entry)) (now (work .exit)) n m k r) ⌝ }
+{
+    let mut p = Pass {
+        line: 0,
+        within: 0,
+        count: m,
+        iota: IotaCounter {
+            started: false,
+            line: 0,
+            col: 0,
+            value: 0,
+        },
+    };
+    while p.line < n {
+        let r = visit(sheet, work, n, k, p);
+        match r {
+            Visited::On(q) => p = q,
+            Visited::Refused(j) => return Collected::Refused(j),
+        }
+    }
+    Collected::Count(p.count)
+}
+
+// The pass of the module that line i, from 0, opens, if it opens one.
+fn module_consts(sheet: &[u8], work: &mut [u8], n: usize, m: usize, i: usize) -> Collected
+    requires { ⌜ (Before (now sheet) (now work) n m i) × (i < n) ⌝ }
+    ensures { λ r. ⌜ (Kept 5120 (now (work .entry)) (now (work .exit))) × (Past (now (sheet .entry)) (now (work .entry)) (now (work .exit)) n m i r) ⌝ }
+{
+    if form::kind(lines::form_at(work, i)) != MOD {
+        return Collected::Count(m);
+    }
+    pass_consts(sheet, work, n, m, i + 1)
+}
+
+// All constants, into their table.
+pub fn collect_consts(sheet: &[u8], work: &mut [u8], n: usize) -> Collected
+    requires { ⌜ Checked (now sheet) (now work) n ⌝ }
+    ensures { λ r. ⌜ (Kept 5120 (now (work .entry)) (now (work .exit))) × (Collects (now (sheet .entry)) (now (work .exit)) n r) ⌝ }
+{
+    let mut m = 0;
+    let mut i = 0;
+    while i < n {
+        let r = module_consts(sheet, work, n, m, i);
+        match r {
+            Collected::Count(c) => m = c,
+            Collected::Refused(j) => return Collected::Refused(j),
+        }
+        i += 1;
+    }
+    pass_consts(sheet, work, n, m, 0)
+}

@@ -1,0 +1,207 @@
+-- Laws of entries.
+use mathlib.Core.Path.{_≡_, refl, sym, ap, _∙_, subst}
+use mathlib.Core.Bool.{true}
+use mathlib.Core.List.{[], _++_, append-assoc}
+use mathlib.Core.Logic.{⊎-elim}
+use mathlib.Core.Option.{Option, none, some}
+use Prim.Native.Nat.{ℕ, _+_, _-_, _*_, _/_, _%_, _≤_, _<_, min}
+use native.Mathlib.Omega.{arith}
+use native.Mathlib.Numerals.{add-one}
+use native.Mathlib.Nat.{eq-or-lt-of-le}
+use lib.Dec.{T}
+use lib.IntN.{ℤ}
+use lib.Ieee.{Float, binary64, toBits, fits}
+use lib.Ieee.Bits.{ofBits-toBits}
+use lib.ListN.{length, take, drop, getD}
+use lib.Seq.{getD-take, getD-drop, take-at, drop-drop, take-all, sets-eq, length-take-le, drop-at, drop-append-add}
+use mir.Syntax.{w64}
+use mir.Val.{SFits}
+use mir.ValLaws.{toZ-ofZ}
+use Rattle.semantics.specs.Text.{Bytes, bigEndian, fromBigEndian}
+use Rattle.semantics.specs.Tree as Tree
+use Rattle.semantics.specs.Tree.ConstVal.{vInt, vReal, vStr}
+use Rattle.semantics.specs.Fold.{bits64, wrap}
+use Rattle.semantics.specs.Const.{entries}
+use Rattle.numbers.proofs.Widths.{held}
+use Rattle.numbers.proofs.Wrapping.{wrap-same}
+use Rattle.write.specs.Wrote.{over}
+use Rattle.write.proofs.Hex.{big-length}
+use Rattle.write.proofs.Back.{word-back}
+use Rattle.checks.specs.Checks.{Kept}
+use Rattle.checks.proofs.Kept.{kept-then, kept-less}
+use Rattle.names.specs.Table.{wordAt, lineOf, moduleLineOf, bitsAt, valueBy, kindOf, bitsOf, entriesAt, logIn, Entry, Logged}
+use Rattle.names.proofs.Laws.{slot-is, value-failed, value-int, value-real, value-text, part-low, part-kept, SameText, logged-same, log-same}
+use Rattle.values.specs.declared.ConstVal.{ConstVal}
+use Rattle.values.specs.declared.ConstVal.the-variants.{Int, Real, Str}
+use Rattle.values.specs.Values.{stringIn, valueIn, At}
+use Rattle.values.proofs.Written.{wrote-kept, string-length}
+use Rattle.entries.specs.Entering.{entryOf, kindFor, Says, stringOf, Free, Entered}
+
+-- ---- bits of values
+
+pub says-int : {v : ConstVal} {z : ℤ} {b : ℕ} (p : ℕ) → v ≡ Int z → SFits w64 z → b ≡ bits64 (held w64 z) → Says v p b
+unfolding wrap
+says-int {v} {z} {b} p e f d =
+    let g : b ≡ bits64 z = d ∙ ap bits64 (toZ-ofZ w64 z f) in
+    rw (e, g) (wrap-same f)
+
+pub says-real : {v : ConstVal} {x : Float} {b : ℕ} (p : ℕ) → v ≡ Real x → fits binary64 x ≡ true → b ≡ toBits binary64 x → Says v p b
+says-real {v} {x} {b} p e f d = rw (e, d) (ofBits-toBits binary64 x (subst T (sym f) tt))
+
+pub says-text : {v : ConstVal} {q l b : ℕ} (p : ℕ) → v ≡ Str q l → b ≡ p + 65536 * l → Says v p b
+says-text p e d = rw e d
+
+pub text-short : {v : ConstVal} {q l : ℕ} → v ≡ Str q l → At 49152 v → (q ≡ 49152) × (l ≤ 256)
+text-short e a = rw e at a
+
+pub over-none : (t : Bytes) (a : ℕ) → t ≡ over t a []
+unfolding over
+over-none t a = refl
+
+pub string-none : {v w : ConstVal} (t : Bytes) (a : ℕ) → v ≡ w → stringOf t w ≡ [] → t ≡ over t a (stringOf t v)
+string-none t a e d = rw (e, d) (over-none t a)
+
+pub string-some : {v : ConstVal} {q l : ℕ} (t u : Bytes) (a : ℕ) → v ≡ Str q l → u ≡ over t a (take l (drop q t)) → u ≡ over t a (stringOf t v)
+unfolding stringIn
+string-some t u a e d = rw e d
+
+-- ---- an entry's bytes
+
+entry-length : (line within kind bits : ℕ) → length (entryOf line within kind bits) ≡ 13
+unfolding entryOf
+entry-length line within kind bits = omega (arith, big-length 8 bits)
+
+-- bytes written over others lie there, and all others are kept
+module _ (t r : Bytes) (a : ℕ) (room : a + length r ≤ length t) where
+  over-is : over t a r ≡ take a t ++ (r ++ drop (a + length r) t)
+  unfolding over
+  over-is = sets-eq r t a room ∙ append-assoc (take a t) r (drop (a + length r) t)
+
+  before-length : length (take a t) ≡ a
+  before-length = length-take-le a t (omega arith)
+
+  over-there : take (length r) (drop a (over t a r)) ≡ r
+  over-there = rw (over-is, drop-at (take a t) (r ++ drop (a + length r) t) a before-length) (take-at r (drop (a + length r) t) (length r) refl)
+
+  over-behind : (p : ℕ) → a + length r ≤ p → drop p (over t a r) ≡ drop p t
+  over-behind p h =
+      let q = p - (a + length r) in
+      let e : p ≡ length (take a t) + (length r + q) = omega (arith, before-length) in
+      let d : a + length r + q ≡ p = omega arith in
+      rw over-is
+      (ap (λ (j : ℕ). drop j (take a t ++ (r ++ drop (a + length r) t))) e
+      ∙ drop-append-add (take a t) (r ++ drop (a + length r) t) (length r + q)
+      ∙ drop-append-add r (drop (a + length r) t) q
+      ∙ drop-drop q (a + length r) t
+      ∙ ap (λ (j : ℕ). drop j t) d)
+
+  over-kept : Kept a t (over t a r)
+  over-kept = wrote-kept {d = t} {a = a} {t = r} {e = over t a r} {b = min (a + length r) (length t + 1)} (record { bytes = refl; place = refl })
+
+module _ (t u : Bytes) (m line within kind bits : ℕ) (f : Free t m line within) (str : Bytes) (short : length str ≤ 256)
+    (is : u ≡ over (over t (16384 + 256 * m) str) (5120 + 16 * m) (entryOf line within kind bits))
+    (low : kind ≤ 3) (word : bits < 18446744073709551616) (text : kind ≡ 3 → (bits % 65536 ≡ 16384 + 256 * m) × (bits / 65536 ≤ 256)) where
+  string-room : 16384 + 256 * m + length str ≤ length t
+  string-room = omega (arith, f .few, f .long)
+
+  string-kept : Kept (16384 + 256 * m) t (over t (16384 + 256 * m) str)
+  string-kept = over-kept t str (16384 + 256 * m) string-room
+
+  entry-room : 5120 + 16 * m + length (entryOf line within kind bits) ≤ length (over t (16384 + 256 * m) str)
+  entry-room = omega (arith, f .few, f .long, entry-length line within kind bits, string-kept .long)
+
+  entry-only : Kept (5120 + 16 * m) (over t (16384 + 256 * m) str) u
+  entry-only = rw is (over-kept (over t (16384 + 256 * m) str) (entryOf line within kind bits) (5120 + 16 * m) entry-room)
+
+  table-kept : Kept (5120 + 16 * m) t u
+  table-kept = kept-then (kept-less (omega (arith, f .few)) string-kept) entry-only
+
+  -- what stands behind the table is as the string leaves it
+  behind : (p : ℕ) → 7168 ≤ p → drop p u ≡ drop p (over t (16384 + 256 * m) str)
+  behind p h = rw is (over-behind (over t (16384 + 256 * m) str) (entryOf line within kind bits) (5120 + 16 * m) entry-room p (omega (arith, f .few, entry-length line within kind bits)))
+
+  -- ---- the new entry
+
+  here : take 13 (drop (5120 + 16 * m) u) ≡ entryOf line within kind bits
+  here = rw (is, ← entry-length line within kind bits) (over-there (over t (16384 + 256 * m) str) (entryOf line within kind bits) (5120 + 16 * m) entry-room)
+
+  byte-here : (p j : ℕ) → p ≡ 5120 + 16 * m + j → j < 13 → getD u p 0 ≡ getD (entryOf line within kind bits) j 0
+  byte-here p j e h =
+      ap (λ (q : ℕ). getD u q 0) e ∙ sym (getD-drop (5120 + 16 * m) u j 0) ∙ sym (getD-take 13 (drop (5120 + 16 * m) u) j 0 h) ∙ ap (λ (l : Bytes). getD l j 0) here
+
+  line-here : lineOf u m ≡ line
+  unfolding wordAt entryOf
+  line-here = omega (arith, byte-here (5120 + 16 * m) 0 (omega arith) (omega arith), byte-here (5120 + 16 * m + 1) 1 (omega arith) (omega arith))
+
+  within-here : moduleLineOf u m ≡ within
+  unfolding wordAt entryOf
+  within-here = omega (arith, byte-here (5122 + 16 * m) 2 (omega arith) (omega arith), byte-here (5122 + 16 * m + 1) 3 (omega arith) (omega arith))
+
+  kind-here : kindOf u m ≡ kind
+  unfolding entryOf
+  kind-here = byte-here (5124 + 16 * m) 4 (omega arith) (omega arith)
+
+  bits-here : bitsOf u m ≡ bits
+  unfolding bitsAt entryOf
+  bits-here =
+      let a : 5125 + 16 * m ≡ 5120 + 16 * m + 5 = omega arith in
+      let e : take 8 (drop (5125 + 16 * m) u) ≡ bigEndian 8 bits =
+      rw (a, ← drop-drop 5 (5120 + 16 * m) u) (sym (part-low 5 8 13 (drop (5120 + 16 * m) u) (omega arith)) ∙ ap (λ (l : Bytes). take 8 (drop 5 l)) here ∙ take-all 8 (bigEndian 8 bits) (omega (arith, big-length 8 bits))) in
+      ap (fromBigEndian 0) e ∙ word-back bits (omega arith)
+
+  entry-new : (n : ℕ) → line ≤ n → within ≤ n → Entry u n m
+  entry-new n p q = record {
+    first = rw line-here (f .first);
+    last = rw line-here p;
+    within = rw within-here q;
+    kind = rw kind-here low;
+    text = λ k. let g = text (sym kind-here ∙ k) in rw bits-here (record { low = omega arith; high = omega (arith, f .few); short = g .1 });
+    own = λ k. rw bits-here (text (sym kind-here ∙ k) .0);
+  }
+
+  -- the string that was copied
+  text-here : kind ≡ 3 → bits / 65536 ≡ length str → valueBy u kind bits ≡ some (vStr str)
+  text-here k e =
+      value-text u kind bits k
+      ∙ rw (text k .0, e, behind (16384 + 256 * m) (omega arith), over-there t str (16384 + 256 * m) string-room)
+
+  -- ---- the earlier ones
+
+  texts-same : (s : Bytes) (n : ℕ) → Logged s t n m → (i : ℕ) → i < m → SameText t u i
+  texts-same s n l i h k =
+      let g = l .each i h .own k in
+      let e = l .each i h .text k in
+      rw (behind (bitsOf t i % 65536) (omega arith)) (part-kept string-kept (bitsOf t i % 65536) (bitsOf t i / 65536) (omega (arith, e .short)))
+
+  entered : (v : Option Tree.ConstVal) → valueBy u kind bits ≡ v → (s : Bytes) (n : ℕ) → line ≤ n → within ≤ n → Logged s t n m → Entered s t n m line within v u
+  unfolding logIn entriesAt
+  entered v e s n p q l = record {
+    log = rw (add-one, line-here, within-here, slot-is u m, kind-here, bits-here, e, log-same table-kept l (texts-same s n l));
+    logged = record { few = omega (arith, f .few); each = λ i h. ⊎-elim (λ (x : i ≡ m). subst (Entry u n) (sym x) (entry-new n p q)) (λ (x : i < m). logged-same table-kept l .each i x) (eq-or-lt-of-le (omega arith)) };
+    kept = kept-less (omega arith) table-kept;
+  }
+
+module _ (t u : Bytes) (m line within : ℕ) (f : Free t m line within) where
+  pub entered-failed : u ≡ over t (5120 + 16 * m) (entryOf line within 0 0) → (s : Bytes) (n : ℕ) → line ≤ n → within ≤ n → Logged s t n m → Entered s t n m line within none u
+  entered-failed e =
+      entered t u m line within 0 0 f [] (omega arith) (e ∙ ap (λ (x : Bytes). over x (5120 + 16 * m) (entryOf line within 0 0)) (over-none t (16384 + 256 * m))) (omega arith) (omega arith) (λ k. absurd (omega arith))
+      none (value-failed u 0 0 (λ k. omega arith) (λ k. omega arith) (λ k. omega arith))
+
+  -- a value, by its variant
+  pub entered-value : (v : ConstVal) → At 49152 v → {b : ℕ} → b < 18446744073709551616 → Says v (16384 + 256 * m) b
+      → u ≡ over (over t (16384 + 256 * m) (stringOf t v)) (5120 + 16 * m) (entryOf line within (kindFor v) b)
+      → (s : Bytes) (n : ℕ) → line ≤ n → within ≤ n → Logged s t n m → Entered s t n m line within (some (valueIn t v)) u
+  unfolding valueIn
+  entered-value (Int z) a {b} h says e =
+      entered t u m line within 1 b f [] (omega arith) e (omega arith) h (λ k. absurd (omega arith))
+      (some (vInt z)) (value-int u 1 b refl ∙ ap (λ (x : ℤ). some (vInt x)) says)
+  entered-value (Real x) a {b} h says e =
+      entered t u m line within 2 b f [] (omega arith) e (omega arith) h (λ k. absurd (omega arith))
+      (some (vReal x)) (value-real u 2 b refl ∙ ap (λ (y : Float). some (vReal y)) says)
+  entered-value (Str p l) a {b} h says e =
+      let g : length (stringIn t p l) ≡ l = string-length t p l (omega (arith, f .long)) in
+      let c : (bits : ℕ) → bits ≡ 16384 + 256 * m + 65536 * l → (bits % 65536 ≡ 16384 + 256 * m) × (bits / 65536 ≡ l) = λ bits q. (omega (arith, f .few), omega (arith, f .few)) in
+      let x : (k : _≡_ {A = ℕ} 3 3) → (b % 65536 ≡ 16384 + 256 * m) × (b / 65536 ≤ 256) = λ k. (c b says .0, omega (arith, c b says .1)) in
+      let y : length (stringIn t p l) ≤ 256 = omega arith in
+      entered t u m line within 3 b f (stringIn t p l) y e (omega arith) h x
+      (some (vStr (stringIn t p l))) (text-here t u m line within 3 b f (stringIn t p l) y e (omega arith) h x refl (c b says .1 ∙ sym g))

@@ -1,0 +1,102 @@
+// Entries of the table of constants.
+use values::ConstVal;
+ghost use mathlib.Core.Path.{_≡_};
+ghost use mathlib.Core.Option.{none, some};
+ghost use Prim.Native.Nat.{ℕ, _+_, _*_, _≤_, _<_};
+ghost use lib.ListN.{length};
+ghost use Rattle.semantics.specs.Text.{Bytes, bigEndian};
+ghost use Rattle.write.specs.Wrote.{over, Wrote};
+ghost use Rattle.names.specs.Table.{Logged};
+ghost use Rattle.values.specs.Values.{valueIn, At};
+ghost use Rattle.entries.specs.Entering.{entryOf, kindFor, Says, stringOf, Free, Entered};
+
+const TABLE: usize = 5120;
+
+const STRINGS: usize = 16384;
+
+// 64 bits as eight bytes, the highest first.
+fn put_bits(out: &mut [u8], at: usize, n: u64) -> usize
+    ensures { λ r. ⌜ Wrote (now (out .entry)) at (bigEndian 8 n) (now (out .exit)) r ⌝ }
+{
+    if out.len() < at {
+        return out.len() + 1;
+    }
+    let mut p = at;
+    let mut k = 0;
+    while k < 8 {
+        p = write::put(out, p, write::byte_of(n, k));
+        k += 1;
+    }
+    p
+}
+
+// Entry m: a `con` line, its module's line, and a slot.
+fn put_entry(work: &mut [u8], m: usize, line: usize, within: usize, kind: u8, bits: u64)
+    requires { ⌜ Free (now work) m line within ⌝ }
+    ensures { λ _. ⌜ now (work .exit) ≡ over (now (work .entry)) (5120 + 16 * m) (entryOf line within kind bits) ⌝ }
+{
+    let a = write::put(work, TABLE + 16 * m, (line % 256) as u8);
+    let b = write::put(work, a, (line / 256) as u8);
+    let c = write::put(work, b, (within % 256) as u8);
+    let d = write::put(work, c, (within / 256) as u8);
+    let e = write::put(work, d, kind);
+    let _ = put_bits(work, e, bits);
+}
+
+fn kind_of(v: ConstVal) -> u8
+    ensures { λ r. ⌜ r ≡ kindFor v ⌝ }
+{
+    match v {
+        ConstVal::Int(_) => 1,
+        ConstVal::Real(_) => 2,
+        ConstVal::Str(_, _) => 3,
+    }
+}
+
+// The bits that say a value, whose string is to lie at `place`.
+fn bits_of(v: ConstVal, place: usize) -> u64
+    requires { ⌜ (place < 65536) × (At 49152 v) ⌝ }
+    ensures { λ b. ⌜ Says v place b ⌝ }
+{
+    match v {
+        ConstVal::Int(z) => numbers::ints::bits(z),
+        ConstVal::Real(x) => numbers::reals::bits(x),
+        ConstVal::Str(_, l) => (place + 65536 * l) as u64,
+    }
+}
+
+// A value's string, copied from the stack of folds to `place`.
+fn keep_string(work: &mut [u8], v: ConstVal, m: usize)
+    requires { ⌜ (m < 128) × (65536 ≤ length (now work)) × (At 49152 v) ⌝ }
+    ensures { λ _. ⌜ now (work .exit) ≡ over (now (work .entry)) (16384 + 256 * m) (stringOf (now (work .entry)) v) ⌝ }
+{
+    match v {
+        ConstVal::Int(_) => {}
+        ConstVal::Real(_) => {}
+        ConstVal::Str(p, l) => values::copy(work, p, STRINGS + 256 * m, l),
+    }
+}
+
+// A constant that has a value.
+pub fn enter(work: &mut [u8], m: usize, line: usize, within: usize, v: ConstVal)
+    requires { ⌜ (Free (now work) m line within) × (At 49152 v) ⌝ }
+    ensures { λ _. ⌜ ((s : Bytes) (n : ℕ) → line ≤ n → within ≤ n → Logged s (now (work .entry)) n m → Entered s (now (work .entry)) n m line within (some (valueIn (now (work .entry)) v)) (now (work .exit))) ⌝ }
+{
+    keep_string(work, v, m);
+    put_entry(
+        work,
+        m,
+        line,
+        within,
+        kind_of(v),
+        bits_of(v, STRINGS + 256 * m),
+    );
+}
+
+// One that failed.
+pub fn enter_failed(work: &mut [u8], m: usize, line: usize, within: usize)
+    requires { ⌜ Free (now work) m line within ⌝ }
+    ensures { λ _. ⌜ ((s : Bytes) (n : ℕ) → line ≤ n → within ≤ n → Logged s (now (work .entry)) n m → Entered s (now (work .entry)) n m line within none (now (work .exit))) ⌝ }
+{
+    put_entry(work, m, line, within, 0, 0);
+}

@@ -1,0 +1,207 @@
+// The rows of records: `rec`, and `fld` for each field.
+use layout::map::map_bytes;
+use records::key::case_of;
+use records::key::is_first;
+use records::key::line_of;
+use records::key::name_of;
+use records::key::newest_of;
+use records::key::number_of;
+use records::key::tag_of;
+use sizes::place::Reached;
+ghost use mathlib.Core.Path.{_≡_};
+ghost use mathlib.Core.List.{_∷_};
+ghost use Prim.Native.Nat.{_+_, _≤_, _<_};
+ghost use lib.ListN.{length};
+ghost use Rattle.semantics.specs.Listing.{recordRows};
+ghost use Rattle.write.specs.Wrote.{Wrote};
+ghost use Rattle.shapes.specs.Maps.{MapRoom, Made};
+ghost use Rattle.records.specs.Log.{recordedAt, EntryIn, Logged};
+ghost use Rattle.field_rows.specs.Rows.{placedRows};
+ghost use Rattle.record_rows.specs.Rows.{TagWrote, headText, shapeText, keyRows, allRows, LogEntry, Printed};
+
+// Where a pointer map stands while it is printed.
+const MAP: usize = 49152;
+
+const DOT: u8 = 46;
+
+// The form of `adt` lines.
+const ADT: usize = 26;
+
+// Fields of a record with pick begin behind its tag word.
+const TAG: u32 = 4;
+
+// KEY, with its comma: T, or T.tag.
+fn put_key(sheet: &[u8], work: &[u8], n: usize, i: usize, out: &mut [u8], at: usize) -> usize
+    requires { ⌜ EntryIn (now sheet) (now work) n i ⌝ }
+    ensures { λ p. ⌜ Wrote (now (out .entry)) at (44 ∷ recordedAt (now (sheet .entry)) (now (work .entry)) i .key) (now (out .exit)) p ⌝ }
+{
+    let p = rows::put_comma_part(out, at, name_of(sheet, work, n, i));
+    if case_of(work, i) == 0 {
+        return p;
+    }
+    let q = write::put(out, p, DOT);
+    write::put_part(out, q, tag_of(sheet, work, n, i))
+}
+
+// TAG and GROUP, with their commas: -1 for T itself.
+fn put_tag(work: &[u8], i: usize, out: &mut [u8], at: usize) -> usize
+    requires { ⌜ (i < 128) × (65536 ≤ length (now work)) ⌝ }
+    ensures { λ p. ⌜ TagWrote (now (work .entry)) i (now (out .entry)) at (now (out .exit)) p ⌝ }
+{
+    let c = case_of(work, i);
+    if c == 0 {
+        return write::put_part(out, at, b",-1,-1");
+    }
+    let p = rows::put_comma_nat(out, at, number_of(work, i) as u64);
+    rows::put_comma_nat(out, p, (c - 1) as u64)
+}
+
+fn put_head(sheet: &[u8], work: &[u8], n: usize, i: usize, out: &mut [u8], at: usize) -> usize
+    requires { ⌜ EntryIn (now sheet) (now work) n i ⌝ }
+    ensures { λ p. ⌜ Wrote (now (out .entry)) at (headText (recordedAt (now (sheet .entry)) (now (work .entry)) i)) (now (out .exit)) p ⌝ }
+{
+    let p = write::put_part(out, at, b"rec");
+    let q = put_key(sheet, work, n, i, out, p);
+    put_tag(work, i, out, q)
+}
+
+// The size of the record of entry i.
+pub fn entry_size(sheet: &[u8], work: &[u8], n: usize, m: usize, i: usize) -> u32
+    requires { ⌜ LogEntry (now sheet) (now work) n m i ⌝ }
+    ensures { λ x. ⌜ (x ≡ recordedAt (now (sheet .entry)) (now (work .entry)) i .shape .size) × (x ≤ 131080) ⌝ }
+{
+    let r = line_of(work, i);
+    let c = case_of(work, i);
+    if c == 0 {
+        return shapes::record_size(sheet, work, n, r);
+    }
+    shapes::variant_size(sheet, work, n, r, c - 1)
+}
+
+// Makes its pointer map, for a block of this size.
+pub fn map_entry(sheet: &[u8], work: &mut [u8], n: usize, i: usize, size: u32)
+    requires { ⌜ (EntryIn (now sheet) (now work) n i) × (MapRoom (now work) size) ⌝ }
+    ensures { λ _. ⌜ Made size (recordedAt (now (sheet .entry)) (now (work .entry)) i .shape .pointers) (now (work .entry)) (now (work .exit)) ⌝ }
+{
+    let r = line_of(work, i);
+    let c = case_of(work, i);
+    if c == 0 {
+        shapes::map_record(sheet, work, n, r, size);
+        return;
+    }
+    shapes::map_variant(sheet, work, n, r, c - 1, size);
+}
+
+// SIZE and MAP, and the end of the row.
+fn put_shape(
+    sheet: &[u8],
+    work: &mut [u8],
+    n: usize,
+    m: usize,
+    i: usize,
+    out: &mut [u8],
+    at: usize,
+) -> usize
+    requires { ⌜ LogEntry (now sheet) (now work) n m i ⌝ }
+    ensures { λ p. ⌜ Printed (now (out .entry)) at (shapeText (recordedAt (now (sheet .entry)) (now (work .entry)) i .shape)) (now (out .exit)) p (now (work .entry)) (now (work .exit)) ⌝ }
+{
+    let size = entry_size(sheet, work, n, m, i);
+    map_entry(sheet, work, n, i, size);
+    let p = rows::put_comma_nat(out, at, size as u64);
+    let end = MAP + map_bytes(size);
+    let q = rows::put_comma_hex(out, p, &work[MAP..end]);
+    rows::put_lf(out, q)
+}
+
+// The rows of the fields: T's are the common ones, a variant's the common ones and then its own.
+fn put_fields(sheet: &[u8], work: &[u8], n: usize, i: usize, out: &mut [u8], at: usize) -> usize
+    requires { ⌜ (EntryIn (now sheet) (now work) n i) × (at ≤ length (now out) + 1) ⌝ }
+    ensures { λ p. ⌜ Wrote (now (out .entry)) at (placedRows (recordedAt (now (sheet .entry)) (now (work .entry)) i .fields)) (now (out .exit)) p ⌝ }
+{
+    let r = line_of(work, i);
+    if lines::form_at(work, r - 1) == ADT {
+        return field_rows::put_common(
+            sheet,
+            work,
+            n,
+            r,
+            Reached {
+                end: 0,
+                furthest: 0,
+            },
+            out,
+            at,
+        );
+    }
+    let tag = Reached {
+        end: TAG,
+        furthest: TAG,
+    };
+    let p = field_rows::put_common(sheet, work, n, r, tag, out, at);
+    let c = case_of(work, i);
+    if c == 0 {
+        return p;
+    }
+    let q = sizes::place::place_common(sheet, work, n, r, tag);
+    let v = shapes::case_line(sheet, work, n, r, c - 1);
+    field_rows::put_case(sheet, work, n, v, q, out, p)
+}
+
+// The rows of the record of entry i.
+pub fn put_record(
+    sheet: &[u8],
+    work: &mut [u8],
+    n: usize,
+    m: usize,
+    i: usize,
+    out: &mut [u8],
+    at: usize,
+) -> usize
+    requires { ⌜ LogEntry (now sheet) (now work) n m i ⌝ }
+    ensures { λ p. ⌜ Printed (now (out .entry)) at (recordRows (recordedAt (now (sheet .entry)) (now (work .entry)) i)) (now (out .exit)) p (now (work .entry)) (now (work .exit)) ⌝ }
+{
+    let p = put_head(sheet, work, n, i, out, at);
+    let q = put_shape(sheet, work, n, m, i, out, p);
+    put_fields(sheet, work, n, i, out, q)
+}
+
+// The rows of entry i's key, where entry i is the first of that key: those of its newest entry.
+fn put_newest(
+    sheet: &[u8],
+    work: &mut [u8],
+    n: usize,
+    m: usize,
+    i: usize,
+    out: &mut [u8],
+    at: usize,
+) -> usize
+    requires { ⌜ (LogEntry (now sheet) (now work) n m i) × (at ≤ length (now out) + 1) ⌝ }
+    ensures { λ p. ⌜ Printed (now (out .entry)) at (keyRows (now (sheet .entry)) i) (now (out .exit)) p (now (work .entry)) (now (work .exit)) ⌝ }
+{
+    if is_first(sheet, work, n, m, i) {
+        let j = newest_of(sheet, work, n, m, i);
+        return put_record(sheet, work, n, m, j, out, at);
+    }
+    at
+}
+
+// The rows of all records, of which the log has m: each key once, where it was first recorded.
+pub fn record_rows(
+    sheet: &[u8],
+    work: &mut [u8],
+    n: usize,
+    m: usize,
+    out: &mut [u8],
+    at: usize,
+) -> usize
+    requires { ⌜ (Logged (now sheet) (now work) n m) × (at ≤ length (now out) + 1) ⌝ }
+    ensures { λ p. ⌜ Printed (now (out .entry)) at (allRows (now (sheet .entry))) (now (out .exit)) p (now (work .entry)) (now (work .exit)) ⌝ }
+{
+    let mut p = at;
+    let mut i = 0;
+    while i < m {
+        p = put_newest(sheet, work, n, m, i, out, p);
+        i += 1;
+    }
+    p
+}

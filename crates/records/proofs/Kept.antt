@@ -1,0 +1,31 @@
+-- The log stays as it is where the bytes below its end are kept.
+use mathlib.Core.Path.{_≡_, ap, _∙_}
+use mathlib.Core.List.{List}
+use Prim.Native.Nat.{ℕ, _+_, _*_, _<_}
+use native.Mathlib.Omega.{arith}
+use Rattle.checks.specs.Checks.{Kept}
+use Rattle.checks.proofs.Kept.{kept-at, kept-less, checked-kept}
+use Rattle.records.specs.Log.{byteOf, entryAt, recordOf, recordedAt, Logged}
+
+module _ {t u : List ℕ} (k : Kept 10240 t u) where
+  entry-kept : (i : ℕ) → i < 128 → entryAt u i ≡ entryAt t i
+  unfolding entryAt
+  entry-kept i h = rw (at 0 (omega arith), at 1 (omega arith), at 2 (omega arith), at 3 (omega arith), at 4 (omega arith))
+    where
+      at : (j : ℕ) → j < 8 → byteOf u i j ≡ byteOf t i j
+      at j l = kept-at k (9216 + (8 * i + j)) (omega arith)
+
+  pub recorded-kept : (s : List ℕ) (i : ℕ) → i < 128 → recordedAt s u i ≡ recordedAt s t i
+  unfolding recordedAt
+  recorded-kept s i h = ap (recordOf s) (entry-kept i h)
+
+  pub logged-kept : {s : List ℕ} {n m : ℕ} → Logged s t n m → Logged s u n m
+  logged-kept {s} g =
+      let c = checked-kept (kept-less (omega arith) k) (g .checked) in
+      record {
+        checked = c;
+        count = g .count;
+        few = g .few;
+        each = λ i h. recorded-kept s i (omega (arith, g .few)) ∙ g .each i h;
+        entries = λ i h. record { checked = c; low = g .entries i h .low; sound = rw (entry-kept i (g .entries i h .low)) (g .entries i h .sound) };
+      }

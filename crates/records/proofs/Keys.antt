@@ -1,0 +1,228 @@
+-- Keys: how they compare, and the last record of one.
+use mathlib.Core.Path.{_≡_, refl, sym, ap, _∙_}
+use mathlib.Core.Bool.{Bool, true, false, not, cond, _&&_, _||_}
+use mathlib.Core.List.{List, [], _∷_, _++_}
+use mathlib.Core.Option.{Option, none, some}
+use Prim.Native.Nat.{ℕ, zero, suc, _+_, _-_, _≤_, _<_}
+use native.Mathlib.Numerals.{add-one}
+use native.Mathlib.Omega.{arith}
+use lib.Dec.{eqb, leb}
+use lib.ListN.{length, drop, take, getD, length-append, length-drop, drop-of-length-le}
+use lib.Seq.{drop-cons, take-suc, take-all, getD-take, length-take-le}
+use borrow.Author.Tests.{eqb-true, eqb-false, eq-eqb, ne-eqb}
+use Rattle.semantics.specs.Text.{Bytes, same, all, isName, isLetter, isDigit}
+use Rattle.semantics.specs.Tree.{AdtDecl, Case}
+use Rattle.semantics.specs.Layout.{Recorded, recordsFor, lastOf, seen}
+use Rattle.form.proofs.Table.{never, both}
+use Rattle.text.proofs.Tests.{and-false}
+use Rattle.names.proofs.Laws.{same-length}
+use Rattle.sizes.specs.Places.{RecordLine}
+use Rattle.records.specs.Log.{declAt, firstRecord, ownRecord, casesIn, caseIn, variantRecord, recordIn, entryAt, recordedAt, nameOf, tagOf, logOf, noRecord, EntryIn, Logged, Newest}
+use Rattle.records.specs.Lines.{caseOf}
+use Rattle.shapes.specs.Shapes.{VariantLine, CaseOf}
+use Rattle.records.proofs.Lists.{default-same}
+use Rattle.records.proofs.Picks.{name-good, pick-line, variant-line, case-is}
+
+and-assoc : (p q r : Bool) → p && (q && r) ≡ p && q && r
+and-assoc true q r = refl
+and-assoc false q r = refl
+
+-- ---- bytes that are the same
+
+pub same-refl : (a : Bytes) → same a a ≡ true
+same-refl [] = refl
+same-refl (x ∷ a) = rw (eq-eqb x x refl, same-refl a)
+
+-- ---- a name and a tag
+
+pub joined-short : (k a b : Bytes) → length k ≤ length a → false ≡ same k (a ++ (46 ∷ b))
+joined-short k a b h = sym (same-length k (a ++ (46 ∷ b)) (λ e. omega (arith, length-append a (46 ∷ b))))
+
+joined-parts : (k a b : Bytes) → length a < length k → same k (a ++ (46 ∷ b)) ≡ same (take (length a) k) a && (eqb (getD k (length a) 0) 46 && same (drop (suc (length a)) k) b)
+joined-parts [] a b h = absurd (omega arith)
+joined-parts (x ∷ k) [] b h = refl
+joined-parts (x ∷ k) (y ∷ a) b h = rw (joined-parts k a b (omega arith)) (and-assoc (eqb x y) (same (take (length a) k) a) _)
+
+module _ (k a b : Bytes) (h : length a < length k) where
+  pub joined-undotted : (getD k (length a) 0 ≡ 46 → ⊥) → false ≡ same k (a ++ (46 ∷ b))
+  joined-undotted n = sym (joined-parts k a b h ∙ rw (ne-eqb _ _ n) (and-false (same (take (length a) k) a)))
+
+  name-part : take (length a - 0) (drop 0 k) ≡ take (length a) k
+  name-part = let z : length a - 0 ≡ length a = omega arith in rw z
+
+  tag-part : take (length k - (length a + 1)) (drop (length a + 1) k) ≡ drop (suc (length a)) k
+  tag-part = take-all (length k - (length a + 1)) (drop (length a + 1) k) (omega (arith, length-drop (length a + 1) k)) ∙ rw (add-one (length a))
+
+  pub joined-unnamed : {p : Bool} → p ≡ same (take (length a - 0) (drop 0 k)) a → p ≡ false → false ≡ same k (a ++ (46 ∷ b))
+  joined-unnamed e q = sym (joined-parts k a b h ∙ rw (← name-part, sym e ∙ q))
+
+  pub joined-tag : {p q : Bool} → getD k (length a) 0 ≡ 46 → p ≡ same (take (length a - 0) (drop 0 k)) a → p ≡ true → q ≡ same (take (length k - (length a + 1)) (drop (length a + 1) k)) b → q ≡ same k (a ++ (46 ∷ b))
+  joined-tag d e t g = g ∙ rw tag-part (sym (joined-parts k a b h ∙ rw (← name-part, sym e ∙ t, eq-eqb _ _ d)))
+
+-- ---- a name has no full stop
+
+mark-not : (x : ℕ) → isLetter x || isDigit x ≡ true → eqb x 46 ≡ false
+mark-not x h = go (eqb x 46) refl
+  where
+    go : (b : Bool) → eqb x 46 ≡ b → b ≡ false
+    go true q = never (rw (eqb-true x 46 q) at h)
+    go false q = refl
+
+letter-not : (x : ℕ) → isLetter x ≡ true → eqb x 46 ≡ false
+letter-not x h = mark-not x (rw h)
+
+undotted : Bytes → Bool
+undotted a = all (λ (x : ℕ). not (eqb x 46)) a
+
+marks-undotted : (a : Bytes) → all (λ (x : ℕ). isLetter x || isDigit x) a ≡ true → undotted a ≡ true
+unfolding undotted
+marks-undotted [] h = refl
+marks-undotted (x ∷ a) h =
+    let w = both (isLetter x || isDigit x) (all (λ (y : ℕ). isLetter y || isDigit y) a) h in
+    rw (mark-not x (w .0)) (marks-undotted a (w .1))
+
+name-undotted : (a : Bytes) → isName a ≡ true → undotted a ≡ true
+unfolding isName undotted
+name-undotted [] h = never h
+name-undotted (x ∷ a) h =
+    let v = both (isLetter x && all (λ (y : ℕ). isLetter y || isDigit y) a) (leb (length (x ∷ a)) 32) h in
+    let w = both (isLetter x) (all (λ (y : ℕ). isLetter y || isDigit y) a) (v .0) in
+    rw (letter-not x (w .0)) (marks-undotted a (w .1))
+
+undotted-first : (x : ℕ) (a : Bytes) → undotted (x ∷ a) ≡ true → (eqb 46 x ≡ false) × (eqb x 46 ≡ false) × (undotted a ≡ true)
+unfolding undotted
+undotted-first x a h =
+    let w = both (not (eqb x 46)) (all (λ (y : ℕ). not (eqb y 46)) a) h in
+    go (eqb x 46) refl (w .0) (w .1)
+  where
+    go : (b : Bool) → eqb x 46 ≡ b → not b ≡ true → all (λ (y : ℕ). not (eqb y 46)) a ≡ true → (eqb 46 x ≡ false) × (eqb x 46 ≡ false) × (undotted a ≡ true)
+    go true q n k = never n
+    go false q n k = (ne-eqb 46 x (λ e. eqb-false x 46 q (sym e)), q, k)
+
+tagged-plain : (a b c : Bytes) → undotted c ≡ true → same (a ++ (46 ∷ b)) c ≡ false
+tagged-plain [] b [] h = refl
+tagged-plain [] b (x ∷ c) h = rw (undotted-first x c h .0)
+tagged-plain (y ∷ a) b [] h = refl
+tagged-plain (y ∷ a) b (x ∷ c) h = rw (tagged-plain a b c (undotted-first x c h .2)) (and-false (eqb y x))
+
+tagged-both : (a b c d : Bytes) → undotted a ≡ true → undotted c ≡ true → same (a ++ (46 ∷ b)) (c ++ (46 ∷ d)) ≡ same a c && same b d
+tagged-both [] b [] d h k = refl
+tagged-both [] b (x ∷ c) d h k = rw (undotted-first x c k .0)
+tagged-both (y ∷ a) b [] d h k = rw (undotted-first y a h .1)
+tagged-both (y ∷ a) b (x ∷ c) d h k =
+    rw (tagged-both a b c d (undotted-first y a h .2) (undotted-first x c k .2)) (and-assoc (eqb y x) (same a c) (same b d))
+
+-- ---- the key of an entry
+
+own-key : (d : AdtDecl) → ownRecord d .key ≡ d .name
+unfolding ownRecord
+own-key d = go (d .pick)
+  where
+    go : (o : Option (List Case)) → firstRecord (recordsFor (d .name) (d .fields) o) .key ≡ d .name
+    go none = refl
+    go (some ks) = refl
+
+module _ (s t : Bytes) (i : ℕ) where
+  pub plain-key : entryAt t i .case ≡ 0 → recordedAt s t i .key ≡ nameOf s (entryAt t i)
+  unfolding recordedAt nameOf
+  plain-key e =
+      ap (λ (c : ℕ). recordIn (declAt s (entryAt t i .line)) c (entryAt t i .position) (entryAt t i .number) .key) e
+      ∙ own-key (declAt s (entryAt t i .line))
+
+  pub variant-key : (entryAt t i .case ≡ 0 → ⊥) → recordedAt s t i .key ≡ nameOf s (entryAt t i) ++ (46 ∷ tagOf s (entryAt t i))
+  unfolding recordedAt nameOf tagOf variantRecord
+  variant-key n = go (entryAt t i .case) n
+    where
+      go : (c : ℕ) → (c ≡ 0 → ⊥) → recordIn (declAt s (entryAt t i .line)) c (entryAt t i .position) (entryAt t i .number) .key
+          ≡ declAt s (entryAt t i .line) .name ++ (46 ∷ getD (caseIn (declAt s (entryAt t i .line)) (c - 1) .tags) (entryAt t i .position) [])
+      go zero m = absurd (m refl)
+      go (suc c) m = let z : suc c - 1 ≡ c = omega arith in rw z
+
+module _ (s t : Bytes) (n i : ℕ) (l : EntryIn s t n i) where
+  pub entry-line : RecordLine s t n (entryAt t i .line)
+  entry-line = record { checked = l .checked; first = l .sound .first; last = l .sound .last; kind = l .sound .kind }
+
+  name-plain : undotted (nameOf s (entryAt t i)) ≡ true
+  unfolding nameOf
+  name-plain = name-undotted (declAt s (entryAt t i .line) .name) (name-good s t n (entryAt t i .line) entry-line)
+
+  module _ (h : 0 < entryAt t i .case) where
+    before : entryAt t i .case ≡ suc (entryAt t i .case - 1)
+    before = omega arith
+
+    entry-case : entryAt t i .case - 1 < length (casesIn (declAt s (entryAt t i .line)))
+    entry-case = l .sound .case (entryAt t i .case - 1) before
+
+    pub entry-variant : VariantLine s t n (entryAt t i .line) (entryAt t i .case - 1)
+    entry-variant = variant-line (pick-line s t n (entryAt t i .line) entry-line entry-case) entry-case
+
+    pub entry-tag : (v : ℕ) → CaseOf s t n (entryAt t i .line) (entryAt t i .case - 1) v → entryAt t i .position < length (caseOf s v .tags)
+    entry-tag v x = rw (case-is x) (l .sound .tag (entryAt t i .case - 1) before)
+
+    pub tag-read : (v : ℕ) → CaseOf s t n (entryAt t i .line) (entryAt t i .case - 1) v → getD (caseOf s v .tags) (entryAt t i .position) [] ≡ tagOf s (entryAt t i)
+    unfolding tagOf
+    tag-read v x = rw (case-is x)
+
+module _ (s t : Bytes) (n i j : ℕ) (k : EntryIn s t n i) (l : EntryIn s t n j) (p : entryAt t i .case ≡ 0 → ⊥) where
+  pub keys-plain : entryAt t j .case ≡ 0 → false ≡ same (recordedAt s t i .key) (recordedAt s t j .key)
+  keys-plain e = sym (rw (variant-key s t i p, plain-key s t j e) (tagged-plain (nameOf s (entryAt t i)) (tagOf s (entryAt t i)) (nameOf s (entryAt t j)) (name-plain s t n j l)))
+
+  module _ (q : entryAt t j .case ≡ 0 → ⊥) where
+    keys-both : same (recordedAt s t i .key) (recordedAt s t j .key) ≡ same (nameOf s (entryAt t i)) (nameOf s (entryAt t j)) && same (tagOf s (entryAt t i)) (tagOf s (entryAt t j))
+    keys-both = rw (variant-key s t i p, variant-key s t j q) (tagged-both (nameOf s (entryAt t i)) (tagOf s (entryAt t i)) (nameOf s (entryAt t j)) (tagOf s (entryAt t j)) (name-plain s t n i k) (name-plain s t n j l))
+
+    pub keys-unnamed : {a : Bool} → a ≡ same (nameOf s (entryAt t i)) (nameOf s (entryAt t j)) → a ≡ false → false ≡ same (recordedAt s t i .key) (recordedAt s t j .key)
+    keys-unnamed e f = sym (keys-both ∙ rw (sym e ∙ f))
+
+    pub keys-tags : {a b : Bool} → a ≡ same (nameOf s (entryAt t i)) (nameOf s (entryAt t j)) → a ≡ true → b ≡ same (tagOf s (entryAt t i)) (tagOf s (entryAt t j)) → b ≡ same (recordedAt s t i .key) (recordedAt s t j .key)
+    keys-tags e f g = g ∙ sym (keys-both ∙ rw (sym e ∙ f))
+
+-- ---- the last record of a key
+
+pub last-append : (k : Bytes) (d : Recorded) (xs ys : List Recorded) → lastOf k d (xs ++ ys) ≡ lastOf k (lastOf k d xs) ys
+last-append k d [] ys = refl
+last-append k d (x ∷ xs) ys = last-append k (cond (same k (x .key)) x d) xs ys
+
+-- the first i records hold the last of key k
+abbrev pub Deciding : Bytes → Bytes → ℕ → Type 0
+Deciding s k i = (d : Recorded) → lastOf k d (logOf s) ≡ lastOf k d (take i (logOf s))
+
+module _ (s t : Bytes) (n m : ℕ) (g : Logged s t n m) (k : Bytes) where
+  pub deciding-start : Deciding s k m
+  deciding-start d = rw (take-all m (logOf s) (omega (arith, g .count)))
+
+  module _ (i : ℕ) (h : i < m) where
+    step : (d : Recorded) → lastOf k d (take (suc i) (logOf s)) ≡ cond (same k (recordedAt s t i .key)) (recordedAt s t i) (lastOf k d (take i (logOf s)))
+    step d = rw (take-suc (logOf s) i noRecord (omega (arith, g .count)), g .each i h) (last-append k d (take i (logOf s)) (getD (logOf s) i noRecord ∷ []))
+
+    pub deciding-next : {b : Bool} → Deciding s k (suc i) → b ≡ same k (recordedAt s t i .key) → b ≡ false → Deciding s k i
+    deciding-next w e q d = w d ∙ step d ∙ rw (sym e ∙ q)
+
+    pub deciding-found : {b : Bool} → Deciding s k (suc i) → b ≡ same k (recordedAt s t i .key) → b ≡ true → (d : Recorded) → lastOf k d (logOf s) ≡ recordedAt s t i
+    deciding-found w e q d = w d ∙ step d ∙ rw (sym e ∙ q)
+
+  pub newest-none : Deciding s k 0 → Newest s k 0
+  newest-none w = record { low = omega arith; last = λ d. w d }
+
+  pub newest-found : (i j : ℕ) → i < m → j ≡ suc i → ((d : Recorded) → lastOf k d (logOf s) ≡ recordedAt s t i) → Newest s k j
+  newest-found i j h e w = record {
+    low = omega (arith, g .count);
+    last = λ d. w d ∙ g .each i h ∙ default-same (logOf s) i noRecord d (omega (arith, g .count)) ∙ rw e;
+  }
+
+  module _ (i j : ℕ) (l : i < m) (h : j < i) where
+    seen-on : seen k (drop j (take i (logOf s))) ≡ same k (recordedAt s t j .key) || seen k (drop (suc j) (take i (logOf s)))
+    seen-on =
+        let z : j < length (take i (logOf s)) = omega (arith, length-take-le i (logOf s) (omega (arith, g .count)), g .count) in
+        rw (drop-cons (take i (logOf s)) j noRecord z, getD-take i (logOf s) j noRecord h, g .each j (omega arith))
+
+    pub seen-found : {b : Bool} → seen k (take i (logOf s)) ≡ seen k (drop j (take i (logOf s))) → b ≡ same k (recordedAt s t j .key) → b ≡ true → false ≡ not (seen k (take i (logOf s)))
+    seen-found w e q = let z : seen k (take i (logOf s)) ≡ true = w ∙ seen-on ∙ rw (sym e ∙ q) in rw z
+
+    pub seen-next : {b : Bool} → seen k (take i (logOf s)) ≡ seen k (drop j (take i (logOf s))) → b ≡ same k (recordedAt s t j .key) → b ≡ false → seen k (take i (logOf s)) ≡ seen k (drop (j + 1) (take i (logOf s)))
+    seen-next w e q = w ∙ seen-on ∙ rw (sym e ∙ q, add-one j)
+
+  pub seen-none : (i j : ℕ) → i < m → i ≤ j → seen k (take i (logOf s)) ≡ seen k (drop j (take i (logOf s))) → true ≡ not (seen k (take i (logOf s)))
+  seen-none i j l h w =
+      let z : seen k (take i (logOf s)) ≡ false = w ∙ rw (drop-of-length-le (take i (logOf s)) {i = j} (omega (arith, length-take-le i (logOf s) (omega (arith, g .count))))) in
+      rw z

@@ -1,0 +1,6 @@
+pub mod Lists
+pub mod Table
+pub mod Picks
+pub mod Log
+pub mod Keys
+pub mod Kept

@@ -1,0 +1,29 @@
+use Rattle.records.specs.Log.{entryAt}
+use borrow.Author.Needs.{needs}
+use Rattle.records.proofs.key.line_of.Statement.{statement}
+use Rattle.records.proofs.key.line_of.Tie as tie
+
+-- src/key.rt:33:5
+byte-at-requires : tie.Need-byte-at-requires
+byte-at-requires c κs = search needs
+
+-- src/key.rt:33:33
+byte-at-requires-2 : tie.Need-byte-at-requires-2
+byte-at-requires-2 c κs = search needs
+
+-- src/key.rt:33:27
+mul-result : tie.Need-mul-result
+mul-result c = search needs
+
+-- src/key.rt:33:5
+add-result : tie.Need-add-result
+add-result c = search needs
+
+-- src/key.rt:29:1
+returns : tie.Need-returns
+unfolding entryAt
+returns c = rw (c .before .byte-at .ensures .0, c .byte-at2 .ensures .0)
+
+pub line-of-spec : {M : Type 1} → statement M
+line-of-spec =
+    tie.close (tie.spec byte-at-requires byte-at-requires-2 mul-result add-result returns)

@@ -1,0 +1,174 @@
+-- The log of records in the working space: a line, and a case of it and a tag of that case where the record is a variant.
+use Prim.Native.Nat.{ℕ, zero, suc, _+_, _*_, _/_, _%_, _-_, _≤_, _<_}
+use mathlib.Core.Path.{_≡_}
+use mathlib.Core.Bool.{true, _||_}
+use mathlib.Core.List.{List, [], _∷_, _++_}
+use lib.Dec.{eqb}
+use lib.IntN.{pos}
+use lib.ListN.{length, getD}
+use Rattle.semantics.specs.Text.{Bytes}
+use Rattle.semantics.specs.Tree.{AdtDecl, Case, Node, noCase}
+use Rattle.semantics.specs.Form.{letter}
+use Rattle.semantics.specs.Sheet.{concatMap, sheetSource}
+use Rattle.semantics.specs.Layout.{Recorded, recordsOf, recordedAdts, recordLog, lastOf, variantShape, variantFields}
+use Rattle.semantics.specs.Types.{unknown}
+use Rattle.lines.specs.Lines.{readAt, nodesIn}
+use Rattle.checks.specs.Checks.{Checked, Kept}
+use Rattle.source.specs.Walk.{declaresAt}
+use Rattle.shapes.specs.Shapes as Shapes
+
+-- ---- the records of a declaration
+
+-- what line r declares, from 1
+unfoldable pub declAt : Bytes → ℕ → AdtDecl
+declAt s r = Shapes.declAt s r
+
+abbrev pub firstRecord : List Recorded → Recorded
+firstRecord [] = unknown []
+firstRecord (r ∷ rs) = r
+
+-- T's own record stands first
+unfoldable pub ownRecord : AdtDecl → Recorded
+ownRecord d = firstRecord (recordsOf d)
+
+abbrev pub casesIn : AdtDecl → List Case
+casesIn d = Shapes.casesIn (d .pick)
+
+abbrev pub caseIn : AdtDecl → ℕ → Case
+caseIn d c = getD (casesIn d) c noCase
+
+-- the variant of the tag at place p of case c, with the number k
+unfoldable pub variantRecord : AdtDecl → ℕ → ℕ → ℕ → Recorded
+variantRecord d c p k = record {
+  key = d .name ++ (46 ∷ getD (caseIn d c .tags) p []);
+  tag = pos k;
+  group = pos c;
+  shape = variantShape (d .fields) (caseIn d c);
+  fields = variantFields (d .fields) (caseIn d c);
+}
+
+-- ---- entries
+
+-- case 0 is T itself, and c + 1 is case c
+pub record Entry : Type 0 where
+  pub line : ℕ
+  pub case : ℕ
+  pub position : ℕ
+  pub number : ℕ
+
+abbrev pub recordIn : AdtDecl → ℕ → ℕ → ℕ → Recorded
+recordIn d zero p k = ownRecord d
+recordIn d (suc c) p k = variantRecord d c p k
+
+abbrev pub recordOf : Bytes → Entry → Recorded
+recordOf s e = recordIn (declAt s (e .line)) (e .case) (e .position) (e .number)
+
+-- an entry's record is T, or T.tag
+unfoldable pub nameOf : Bytes → Entry → Bytes
+nameOf s e = declAt s (e .line) .name
+
+unfoldable pub tagOf : Bytes → Entry → Bytes
+tagOf s e = getD (caseIn (declAt s (e .line)) (e .case - 1) .tags) (e .position) []
+
+-- 8 bytes an entry, the line low byte first
+abbrev pub entryBytes : ℕ → ℕ → ℕ → ℕ → Bytes
+entryBytes r c p k = (r % 256) ∷ (r / 256) ∷ c ∷ p ∷ k ∷ 0 ∷ 0 ∷ 0 ∷ []
+
+abbrev pub bytesOf : Entry → Bytes
+bytesOf e = entryBytes (e .line) (e .case) (e .position) (e .number)
+
+-- byte k of entry i
+abbrev pub byteOf : Bytes → ℕ → ℕ → ℕ
+byteOf t i k = getD t (9216 + (8 * i + k)) 0
+
+unfoldable pub entryAt : Bytes → ℕ → Entry
+entryAt t i = record { line = byteOf t i 0 + 256 * byteOf t i 1; case = byteOf t i 2; position = byteOf t i 3; number = byteOf t i 4 }
+
+-- the record that entry i stands for
+unfoldable pub recordedAt : Bytes → Bytes → ℕ → Recorded
+recordedAt s t i = recordOf s (entryAt t i)
+
+-- ---- the entries of a sheet
+
+-- so many tags of a case, from place p and number k on
+abbrev pub tagEntries : ℕ → ℕ → ℕ → ℕ → ℕ → List Entry
+tagEntries r c p k zero = []
+tagEntries r c p k (suc q) = record { line = r; case = c; position = p; number = k } ∷ tagEntries r c (suc p) (suc k) q
+
+-- tags count over all cases
+abbrev pub caseEntries : ℕ → ℕ → ℕ → List Case → List Entry
+caseEntries r c k [] = []
+caseEntries r c k (x ∷ xs) = tagEntries r (suc c) 0 k (length (x .tags)) ++ caseEntries r (suc c) (k + length (x .tags)) xs
+
+abbrev pub declEntries : ℕ → AdtDecl → List Entry
+declEntries r d = record { line = r; case = 0; position = 0; number = 0 } ∷ caseEntries r 0 0 (casesIn d)
+
+abbrev pub lineEntries : ℕ → List AdtDecl → List Entry
+lineEntries r [] = []
+lineEntries r (d ∷ ds) = declEntries r d
+
+-- of line r, from 1
+unfoldable pub entriesOf : Bytes → ℕ → List Entry
+entriesOf s r = lineEntries r (declaresAt (nodesIn s) (r - 1) .adts)
+
+-- those of the first i lines
+unfoldable pub entriesTo : List Node → ℕ → List Entry
+entriesTo ns zero = []
+entriesTo ns (suc i) = entriesTo ns i ++ lineEntries (suc i) (declaresAt ns i .adts)
+
+-- and their bytes
+unfoldable pub logBytes : List Entry → Bytes
+logBytes es = concatMap bytesOf es
+
+-- ---- the log of a checked sheet
+
+unfoldable pub logOf : Bytes → List Recorded
+logOf s = recordLog (recordedAdts (sheetSource s))
+
+abbrev pub noRecord : Recorded
+noRecord = unknown []
+
+-- an entry names a line of records, and where it names a case and a tag, these are there
+pub record Sound (s : Bytes) (n : ℕ) (e : Entry) : Type 0 where
+  pub first : 0 < e .line
+  pub last : e .line ≤ n
+  pub kind : eqb (letter (readAt s (e .line - 1) .form .kind)) 65 || eqb (letter (readAt s (e .line - 1) .form .kind)) 66 ≡ true
+  pub case : (c : ℕ) → e .case ≡ suc c → c < length (casesIn (declAt s (e .line)))
+  pub tag : (c : ℕ) → e .case ≡ suc c → e .position < length (caseIn (declAt s (e .line)) c .tags)
+
+-- entry i is one of a checked sheet's
+pub record EntryIn (s t : Bytes) (n i : ℕ) : Type 0 where
+  pub checked : Checked s t n
+  pub low : i < 128
+  pub sound : Sound s n (entryAt t i)
+
+-- the log of all records, of which there are m
+pub record Logged (s t : Bytes) (n m : ℕ) : Type 0 where
+  pub checked : Checked s t n
+  pub count : m ≡ length (logOf s)
+  pub few : m ≤ 128
+  pub each : (i : ℕ) → i < m → recordedAt s t i ≡ getD (logOf s) i noRecord
+  pub entries : (i : ℕ) → i < m → EntryIn s t n i
+
+-- what making it leaves
+pub record Collected (s t u : Bytes) (n m : ℕ) : Type 0 where
+  pub log : Logged s u n m
+  pub kept : Kept 9216 t u
+  pub above : (j : ℕ) → 10240 ≤ j → getD u j 0 ≡ getD t j 0
+
+-- ---- the entries of a key
+
+-- record i of a log where j is i + 1, and else d
+abbrev pub chosen : List Recorded → ℕ → Recorded → Recorded
+chosen rs zero d = d
+chosen rs (suc i) d = getD rs i d
+
+-- j stands for the last record of key k
+pub record Newest (s : Bytes) (k : Bytes) (j : ℕ) : Type 0 where
+  pub low : j ≤ length (logOf s)
+  pub last : (d : Recorded) → lastOf k d (logOf s) ≡ chosen (logOf s) j d
+
+-- record j is the last with the key of record i
+pub record NewestOf (s t : Bytes) (m i j : ℕ) : Type 0 where
+  pub low : j < m
+  pub last : (d : Recorded) → lastOf (recordedAt s t i .key) d (logOf s) ≡ recordedAt s t j

@@ -1,0 +1,166 @@
+// The entries of the log, and their keys: T, or T.tag.
+use crate::RECORDS;
+use crate::line;
+ghost use mathlib.Core.Path.{_≡_};
+ghost use mathlib.Core.Bool.{not};
+ghost use mathlib.Core.List.{_++_, _∷_};
+ghost use Prim.Native.Nat.{_+_, _≤_, _<_};
+ghost use lib.ListN.{length, take};
+ghost use Rattle.semantics.specs.Text.{same};
+ghost use Rattle.semantics.specs.Layout.{seen};
+ghost use Rattle.records.specs.Log.{byteOf, entryAt, recordedAt, nameOf, tagOf, logOf, EntryIn, Logged, Newest, NewestOf};
+
+const DOT: u8 = 46;
+
+fn wide(x: u8) -> usize
+    ensures { λ r. ⌜ (r ≡ x) × (r < 256) ⌝ }
+{
+    x as usize
+}
+
+fn byte_at(work: &[u8], i: usize, k: usize) -> usize
+    requires { ⌜ (i < 128) × (k < 8) × (65536 ≤ length (now work)) ⌝ }
+    ensures { λ r. ⌜ (r ≡ byteOf (now (work .entry)) i k) × (r < 256) ⌝ }
+{
+    wide(work[RECORDS + (8 * i + k)])
+}
+
+// The line of entry i, from 1.
+pub fn line_of(work: &[u8], i: usize) -> usize
+    requires { ⌜ (i < 128) × (65536 ≤ length (now work)) ⌝ }
+    ensures { λ r. ⌜ r ≡ entryAt (now (work .entry)) i .line ⌝ }
+{
+    byte_at(work, i, 0) + 256 * byte_at(work, i, 1)
+}
+
+// Its case from 1, and 0 for T itself.
+pub fn case_of(work: &[u8], i: usize) -> usize
+    requires { ⌜ (i < 128) × (65536 ≤ length (now work)) ⌝ }
+    ensures { λ r. ⌜ (r ≡ entryAt (now (work .entry)) i .case) × (r < 256) ⌝ }
+{
+    byte_at(work, i, 2)
+}
+
+fn position_of(work: &[u8], i: usize) -> usize
+    requires { ⌜ (i < 128) × (65536 ≤ length (now work)) ⌝ }
+    ensures { λ r. ⌜ r ≡ entryAt (now (work .entry)) i .position ⌝ }
+{
+    byte_at(work, i, 3)
+}
+
+// Its tag's number.
+pub fn number_of(work: &[u8], i: usize) -> usize
+    requires { ⌜ (i < 128) × (65536 ≤ length (now work)) ⌝ }
+    ensures { λ r. ⌜ (r ≡ entryAt (now (work .entry)) i .number) × (r < 256) ⌝ }
+{
+    byte_at(work, i, 4)
+}
+
+// T.
+pub fn name_of<'a>(sheet: &'a [u8], work: &[u8], n: usize, i: usize) -> &'a [u8]
+    requires { ⌜ EntryIn (now sheet) (now work) n i ⌝ }
+    ensures { λ x. ⌜ now x ≡ nameOf (now (sheet .entry)) (entryAt (now (work .entry)) i) ⌝ }
+{
+    line::record_name(sheet, work, n, line_of(work, i))
+}
+
+// The tag of a variant.
+pub fn tag_of<'a>(sheet: &'a [u8], work: &[u8], n: usize, i: usize) -> &'a [u8]
+    requires { ⌜ (EntryIn (now sheet) (now work) n i) × (0 < entryAt (now work) i .case) ⌝ }
+    ensures { λ x. ⌜ now x ≡ tagOf (now (sheet .entry)) (entryAt (now (work .entry)) i) ⌝ }
+{
+    let v = shapes::case_line(sheet, work, n, line_of(work, i), case_of(work, i) - 1);
+    line::tag_at(sheet, work, n, v, position_of(work, i))
+}
+
+// Whether a key is a name and a tag, with a full stop between.
+fn is_joined(key: &[u8], name: &[u8], tag: &[u8]) -> bool
+    ensures { λ r. ⌜ r ≡ same (now (key .entry)) (now (name .entry) ++ (46 ∷ now (tag .entry))) ⌝ }
+{
+    let k = name.len();
+    if key.len() <= k {
+        return false;
+    }
+    if key[k] != DOT {
+        return false;
+    }
+    if !names::same(&key[0..k], name) {
+        return false;
+    }
+    names::same(&key[k + 1..], tag)
+}
+
+// Whether entry i has this key.
+pub fn key_is(sheet: &[u8], work: &[u8], n: usize, i: usize, key: &[u8]) -> bool
+    requires { ⌜ EntryIn (now sheet) (now work) n i ⌝ }
+    ensures { λ r. ⌜ r ≡ same (now (key .entry)) (recordedAt (now (sheet .entry)) (now (work .entry)) i .key) ⌝ }
+{
+    let name = name_of(sheet, work, n, i);
+    if case_of(work, i) == 0 {
+        return names::same(key, name);
+    }
+    is_joined(key, name, tag_of(sheet, work, n, i))
+}
+
+// Whether entries i and j have one key. No name holds a full stop.
+pub fn same_key(sheet: &[u8], work: &[u8], n: usize, i: usize, j: usize) -> bool
+    requires { ⌜ (EntryIn (now sheet) (now work) n i) × (EntryIn (now sheet) (now work) n j) ⌝ }
+    ensures { λ r. ⌜ r ≡ same (recordedAt (now (sheet .entry)) (now (work .entry)) i .key) (recordedAt (now (sheet .entry)) (now (work .entry)) j .key) ⌝ }
+{
+    let name = name_of(sheet, work, n, i);
+    if case_of(work, i) == 0 {
+        return key_is(sheet, work, n, j, name);
+    }
+    if case_of(work, j) == 0 {
+        return false;
+    }
+    if !names::same(name, name_of(sheet, work, n, j)) {
+        return false;
+    }
+    names::same(tag_of(sheet, work, n, i), tag_of(sheet, work, n, j))
+}
+
+// The last entry with this key, plus 1; 0 where there is none.
+pub fn newest(sheet: &[u8], work: &[u8], n: usize, m: usize, key: &[u8]) -> usize
+    requires { ⌜ Logged (now sheet) (now work) n m ⌝ }
+    ensures { λ r. ⌜ Newest (now (sheet .entry)) (now (key .entry)) r ⌝ }
+{
+    let mut i = m;
+    while 0 < i {
+        i -= 1;
+        if key_is(sheet, work, n, i, key) {
+            return i + 1;
+        }
+    }
+    0
+}
+
+// The last entry with the key of entry i.
+pub fn newest_of(sheet: &[u8], work: &[u8], n: usize, m: usize, i: usize) -> usize
+    requires { ⌜ (Logged (now sheet) (now work) n m) × (i < m) ⌝ }
+    ensures { λ r. ⌜ NewestOf (now (sheet .entry)) (now (work .entry)) m i r ⌝ }
+{
+    let mut j = m;
+    while i + 1 < j {
+        j -= 1;
+        if same_key(sheet, work, n, i, j) {
+            return j;
+        }
+    }
+    i
+}
+
+// Whether no earlier entry has the key of entry i.
+pub fn is_first(sheet: &[u8], work: &[u8], n: usize, m: usize, i: usize) -> bool
+    requires { ⌜ (Logged (now sheet) (now work) n m) × (i < m) ⌝ }
+    ensures { λ r. ⌜ r ≡ not (seen (recordedAt (now (sheet .entry)) (now (work .entry)) i .key) (take i (logOf (now (sheet .entry))))) ⌝ }
+{
+    let mut j = 0;
+    while j < i {
+        if same_key(sheet, work, n, i, j) {
+            return false;
+        }
+        j += 1;
+    }
+    true
+}

@@ -1,0 +1,135 @@
+-- Laws of the fields of a row.
+use Prim.Native.Nat.{ℕ, suc, _+_, _-_, _^_, _≤_, _<_, min}
+use mathlib.Core.Path.{_≡_, refl, sym, ap, _∙_}
+use mathlib.Core.Bool.{Bool, true, false, _&&_, cond}
+use mathlib.Core.List.{[]}
+use mathlib.Core.Option.{Option, none, some}
+use native.Mathlib.Numerals.{add-one}
+use native.Mathlib.Omega.{arith}
+use lib.IntN.{ℤ, pos, negsuc}
+use mir.Syntax.{w64}
+use mir.Val.{SFits, toZ, ofZ}
+use mir.ValLaws.{toZ-ofZ}
+use lib.Dec.{eqb}
+use lib.ListN.{length, take, drop, getD, drop-of-length-le, List·getD-eq-default}
+use lib.Seq.{drop-cons}
+use borrow.Author.Tests.{eq-eqb, ne-eqb, leb-true, ltb-true, ltb-false}
+use Rattle.semantics.specs.Text.{Bytes, bytes, same, orElse, natOf, intOf, unhex, fieldsOf, fromBigEndian}
+use Rattle.semantics.specs.Form.{between}
+use Rattle.semantics.specs.Fold.{bits64}
+use Rattle.laws.proofs.Tests.{same-eq}
+use Rattle.text.specs.Parts.{until, startOf}
+use Rattle.text.specs.Number.{most, capped, numberOf, whole, integerOf}
+use Rattle.text.specs.Hex.{word, wordOf}
+use Rattle.text.specs.declared.number.Integer.the-variants.{Is, Bad}
+use Rattle.text.specs.declared.hex.Word.the-variants.{Bits, Bad as NoWord}
+use Rattle.text.proofs.Parts.{part-view, part-absent}
+use Rattle.stored.specs.Reading.{numberIn, keywordOf, integerBits, wordBits, bitsIn}
+
+-- ---- words
+
+pub words-apart : (s w : Bytes) → (length s ≡ length w → ⊥) → same s w ≡ false
+words-apart s w h = go (same s w) refl
+  where
+    go : (b : Bool) → same s w ≡ b → same s w ≡ false
+    go true e = absurd (h (ap length (same-eq s w e)))
+    go false e = e
+
+module _ (s w : Bytes) (i : ℕ) (hs : i < length s) (hw : i < length w) where
+  opened : same (drop i s) (drop i w) ≡ eqb (getD s i 0) (getD w i 0) && same (drop (suc i) s) (drop (suc i) w)
+  opened = rw (drop-cons s i 0 hs, drop-cons w i 0 hw)
+
+  pub word-differs : (getD s i 0 ≡ getD w i 0 → ⊥) → same (drop i s) (drop i w) ≡ false
+  word-differs h = opened ∙ rw (ne-eqb (getD s i 0) (getD w i 0) h)
+
+  pub word-turn : getD s i 0 ≡ getD w i 0 → same (drop i s) (drop i w) ≡ same (drop (i + 1) s) (drop (i + 1) w)
+  word-turn h = opened ∙ rw (eq-eqb (getD s i 0) (getD w i 0) h, add-one)
+
+pub word-end : (s w : Bytes) (i : ℕ) → length s ≤ i → length w ≤ i → same (drop i s) (drop i w) ≡ true
+word-end s w i h k = rw (drop-of-length-le s h, drop-of-length-le w k)
+
+-- the number of a keyword by what it is compared with
+abbrev chosen : Bool → Bool → Bool → Bool → Bool → Bool → Bool → Bool → ℕ
+chosen a b c d e f g h = cond a 1 (cond b 2 (cond c 3 (cond d 4 (cond e 5 (cond f 6 (cond g 7 (cond h 8 0)))))))
+
+pub keyword-is : (k : Bytes) {a b c d e f g h : Bool} → same k (bytes "bytes") ≡ a → same k (bytes "words") ≡ b → same k (bytes "bigs") ≡ c → same k (bytes "reals") ≡ d
+    → same k (bytes "str") ≡ e → same k (bytes "array") ≡ f → same k (bytes "set") ≡ g → same k (bytes "back") ≡ h → chosen a b c d e f g h ≡ keywordOf k
+unfolding keywordOf
+keyword-is k a b c d e f g h = sym (λ i. chosen (a i) (b i) (c i) (d i) (e i) (f i) (g i) (h i))
+
+-- ---- fields
+
+pub a-field : (row : Bytes) (i a e : ℕ) → a ≡ startOf 44 i row → a ≤ length row → e ≡ a + length (until 44 (drop a row)) → take (e - a) (drop a row) ≡ getD (fieldsOf row) i []
+a-field row i a e ha h he = part-view 44 i a e row ha h he
+
+pub no-field : (row : Bytes) (i a : ℕ) → a ≡ startOf 44 i row → length row < a → [] ≡ getD (fieldsOf row) i []
+no-field row i a ha h = sym (List·getD-eq-default (fieldsOf row) [] (ltb-false i (length (fieldsOf row)) (part-absent 44 i row (omega arith))))
+
+-- ---- numbers
+
+module _ (f : Bytes) {n : ℕ} (is : n ≡ numberOf most (drop 0 f)) where
+  by-number : (o : Option ℕ) → n ≡ capped most o → (most < n → 0 ≡ min (orElse 0 o) most) × (n ≤ most → n ≡ min (orElse 0 o) most)
+  by-number none e = (λ h. omega arith, λ h. absurd (omega arith))
+  by-number (some m) e = (λ h. absurd (omega arith), λ h. e)
+
+  pub no-number : most < n → 0 ≡ min (numberIn f) most
+  unfolding numberIn numberOf
+  no-number h = by-number (natOf f) is .0 h
+
+  pub a-number : n ≤ most → n ≡ min (numberIn f) most
+  unfolding numberIn numberOf
+  a-number h = by-number (natOf f) is .1 h
+
+-- ---- values
+
+fits-64 : (y : ℤ) → between (2 ^ 63) (2 ^ 63 - 1) y ≡ true → SFits w64 y
+fits-64 (pos n) h = let l = leb-true n (2 ^ 63 - 1) h in record { sfits = omega arith }
+fits-64 (negsuc n) h = let l = ltb-true n (2 ^ 63) h in record { sfits = l }
+
+pub integer-is : (f : Bytes) {z : ℤ} → integerOf f ≡ Is z → bits64 (toZ w64 (ofZ w64 z)) ≡ bitsIn false f
+unfolding integerOf bitsIn
+integer-is f {z} e = go (intOf f) e
+  where
+    go : (o : Option ℤ) → whole o ≡ Is z → bits64 (toZ w64 (ofZ w64 z)) ≡ integerBits o
+    go none e = let q : _≡_ {A = ℕ} 0 1 = cc in absurd (omega arith)
+    go (some y) e = by (between (2 ^ 63) (2 ^ 63 - 1) y) refl e
+      where
+        by : (b : Bool) → between (2 ^ 63) (2 ^ 63 - 1) y ≡ b → cond b (Is y) Bad ≡ Is z → bits64 (toZ w64 (ofZ w64 z)) ≡ cond b (bits64 y) 0
+        by true h e = let q : z ≡ y = cc in ap (λ (x : ℤ). bits64 (toZ w64 (ofZ w64 x))) q ∙ ap bits64 (toZ-ofZ w64 y (fits-64 y h))
+        by false h e = let q : _≡_ {A = ℕ} 0 1 = cc in absurd (omega arith)
+
+pub integer-bad : (f : Bytes) → integerOf f ≡ Bad → 0 ≡ bitsIn false f
+unfolding integerOf bitsIn
+integer-bad f e = go (intOf f) e
+  where
+    go : (o : Option ℤ) → whole o ≡ Bad → 0 ≡ integerBits o
+    go none e = refl
+    go (some y) e = by (between (2 ^ 63) (2 ^ 63 - 1) y) e
+      where
+        by : (b : Bool) → cond b (Is y) Bad ≡ Bad → 0 ≡ cond b (bits64 y) 0
+        by true e = let q : _≡_ {A = ℕ} 0 1 = cc in absurd (omega arith)
+        by false e = refl
+
+pub real-is : (f : Bytes) {b : ℕ} → wordOf f ≡ Bits b → b ≡ bitsIn true f
+unfolding wordOf bitsIn
+real-is f {b} e = go (unhex f) e
+  where
+    go : (o : Option Bytes) → word o ≡ Bits b → b ≡ wordBits o
+    go none e = let q : _≡_ {A = ℕ} 0 1 = cc in absurd (omega arith)
+    go (some bs) e = by (eqb (length bs) 8) e
+      where
+        by : (t : Bool) → cond t (Bits (fromBigEndian 0 bs)) NoWord ≡ Bits b → b ≡ cond t (fromBigEndian 0 bs) 0
+        by true e = cc
+        by false e = let q : _≡_ {A = ℕ} 0 1 = cc in absurd (omega arith)
+
+pub real-bad : (f : Bytes) → wordOf f ≡ NoWord → 0 ≡ bitsIn true f
+unfolding wordOf bitsIn
+real-bad f e = go (unhex f) e
+  where
+    go : (o : Option Bytes) → word o ≡ NoWord → 0 ≡ wordBits o
+    go none e = refl
+    go (some bs) e = by (eqb (length bs) 8) e
+      where
+        by : (t : Bool) → cond t (Bits (fromBigEndian 0 bs)) NoWord ≡ NoWord → 0 ≡ cond t (fromBigEndian 0 bs) 0
+        by true e = let q : _≡_ {A = ℕ} 0 1 = cc in absurd (omega arith)
+        by false e = refl

@@ -1,0 +1,13 @@
+-- `replay::rows::first` meets its contract.
+use Rattle.replay.specs.Rows.{begun}
+use Rattle.replay.specs.Steps.{seen, layingOf}
+use mathlib.Core.Path.{refl}
+use Rattle.replay.proofs.rows.first.Statement.{statement}
+use Rattle.replay.proofs.rows.first.Tie as tie
+
+returns : tie.Need-returns
+unfolding seen layingOf begun
+returns c = record { is = λ image area e. rw e; start = refl; part = refl; item = refl }
+
+pub first-spec : {M : Type 1} → statement M
+first-spec = tie.close (tie.spec returns)

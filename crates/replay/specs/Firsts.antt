@@ -1,0 +1,15 @@
+-- The state before the first row.
+use Prim.Native.Nat.{ℕ}
+use mathlib.Core.Path.{_≡_}
+use lib.ListN.{length}
+use Rattle.semantics.specs.Text.{Bytes}
+use Rattle.replay.specs.declared.items.State.{State}
+use Rattle.replay.specs.Steps.{seen}
+use Rattle.replay.specs.Rows.{begun}
+
+-- for every image of n bytes and every area
+pub record First (n end : ℕ) (r : State) : Type 0 where
+  pub is : (image area : Bytes) → length image ≡ n → seen r image area ≡ begun end image area
+  pub start : r .start ≡ 0
+  pub part : r .end ≡ 0
+  pub item : r .item ≡ 0

@@ -1,0 +1,5 @@
+pub mod Rest
+pub mod Steps
+pub mod Rows
+pub mod Firsts
+pub mod Whole

@@ -1,0 +1,159 @@
+// The rows of a listing, one after the other.
+use crate::fields;
+use crate::items;
+use crate::items::State;
+ghost use mathlib.Core.Path.{_≡_};
+ghost use Prim.Native.Nat.{_+_, _≤_, min};
+ghost use lib.ListN.{length};
+ghost use Rattle.stored.specs.Reading.{largestSize};
+ghost use Rattle.replay.specs.Steps.{layingOf, seen, Ready, Lays};
+ghost use Rattle.replay.specs.Rows.{sizeAt, width, laidItem, laidRow, begun, laidText, Noted, Sizes};
+ghost use Rattle.replay.specs.Firsts.{First};
+
+const LF: u8 = 10;
+
+const COMMA: u8 = 44;
+
+// The table of sizes in the working space: a byte for each number below TYPES.
+const TABLE: usize = 5120;
+
+const TABLE_END: usize = 6144;
+
+const TYPES: u64 = 1024;
+
+// The size of a descriptor, 0 where it is not known.
+fn size_of(work: &[u8], id: u64) -> usize
+    ensures { λ r. ⌜ r ≡ sizeAt (now (work .entry)) id ⌝ }
+{
+    if TYPES <= id {
+        return 0;
+    }
+    let i = TABLE + id as usize;
+    if work.len() <= i {
+        return 0;
+    }
+    work[i] as usize
+}
+
+fn width_of(k: usize) -> usize
+    ensures { λ r. ⌜ (r ≡ width k) × (r ≤ 8) ⌝ }
+{
+    if k == 1 {
+        return 1;
+    }
+    if k == 2 {
+        return 4;
+    }
+    8
+}
+
+// The item of a row by its keyword's number.
+fn lay_item(s: State, k: usize, row: &[u8], work: &[u8], image: &mut [u8], area: &mut [u8]) -> State
+    requires { ⌜ Ready s (length (now area)) ⌝ }
+    ensures { λ r. ⌜ Lays (laidItem (sizeAt (now (work .entry))) k (now (row .entry)) (layingOf s (now (image .entry)) (now (area .entry)))) s r (now (image .exit)) (now (area .exit)) ⌝ }
+{
+    if k == 0 {
+        return s;
+    }
+    let off = fields::number(fields::field(row, 2)) as usize;
+    if k < 5 {
+        let from = text::skip(row, 4, COMMA);
+        return items::lay_values(s, image, area, off, row, from, width_of(k), k == 4);
+    }
+    if k == 5 {
+        return items::lay_handle(s, image, area, off);
+    }
+    if k == 6 {
+        let id = fields::number(fields::field(row, 3));
+        let n = fields::number(fields::field(row, 4));
+        return items::lay_array(s, image, area, off, size_of(work, id), n);
+    }
+    items::moved(s, image, area, k == 7)
+}
+
+// A row: its item where it is a `dat` row.
+fn step(s: State, row: &[u8], work: &[u8], image: &mut [u8], area: &mut [u8]) -> State
+    requires { ⌜ Ready s (length (now area)) ⌝ }
+    ensures { λ r. ⌜ Lays (laidRow (sizeAt (now (work .entry))) (now (row .entry)) (layingOf s (now (image .entry)) (now (area .entry)))) s r (now (image .exit)) (now (area .exit)) ⌝ }
+{
+    if fields::is_word(fields::field(row, 0), b"dat") {
+        return lay_item(
+            s,
+            fields::keyword(fields::field(row, 1)),
+            row,
+            work,
+            image,
+            area,
+        );
+    }
+    s
+}
+
+// Before the first row: n is the image buffer's length, and `end` where allocation ends.
+fn first(n: usize, end: usize) -> State
+    ensures { λ r. ⌜ First n end r ⌝ }
+{
+    State {
+        item: 0,
+        start: 0,
+        end: 0,
+        inside: false,
+        long: end,
+        full: n < end,
+    }
+}
+
+// All rows, until something does not fit.
+pub fn lay_rows(listing: &[u8], work: &[u8], image: &mut [u8], area: &mut [u8], end: usize) -> State
+    ensures { λ r. ⌜ seen r (now (image .exit)) (now (area .exit)) ≡ laidText (sizeAt (now (work .entry))) (now (listing .entry)) (begun end (now (image .entry)) (now (area .entry))) ⌝ }
+{
+    let mut s = first(image.len(), end);
+    let mut at = 0;
+    while at < listing.len() {
+        if s.full {
+            return s;
+        }
+        let e = text::find(listing, at, LF);
+        s = step(s, &listing[at..e], work, image, area);
+        at = e + 1;
+    }
+    s
+}
+
+// A size no further than 255, which lies above that of every array's element.
+fn small(n: u64) -> u8
+    ensures { λ r. ⌜ r ≡ min n largestSize ⌝ }
+{
+    if 255 < n {
+        return 255;
+    }
+    n as u8
+}
+
+// What a row says of sizes.
+fn note_size(row: &[u8], work: &mut [u8])
+    requires { ⌜ 65536 ≤ length (now work) ⌝ }
+    ensures { λ _. ⌜ Noted (now (row .entry)) (now (work .entry)) (now (work .exit)) ⌝ }
+{
+    if fields::is_word(fields::field(row, 0), b"typ") {
+        let id = fields::number(fields::field(row, 1));
+        if id < TYPES {
+            let i = TABLE + id as usize;
+            work[i] = small(fields::number(fields::field(row, 2)));
+        }
+    }
+}
+
+// The sizes of descriptors, which stand behind the items.
+pub fn read_sizes(listing: &[u8], work: &mut [u8])
+    requires { ⌜ 65536 ≤ length (now work) ⌝ }
+    ensures { λ _. ⌜ Sizes (now (listing .entry)) (now (work .entry)) (now (work .exit)) ⌝ }
+{
+    write::zero(&mut work[TABLE..TABLE_END]);
+    let mut at = 0;
+    while at < listing.len() {
+        let e = text::find(listing, at, LF);
+        note_size(&listing[at..e], work);
+        at = e + 1;
+    }
+}

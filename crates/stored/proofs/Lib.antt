@@ -1,0 +1,10 @@
+pub mod Rows
+pub mod Items
+pub mod Others
+pub mod Written
+pub mod Laying
+pub mod Places
+pub mod Sizes
+pub mod Ranges
+pub mod Examples
+pub mod Names
