@@ -78,7 +78,7 @@ pends-from (d ∷ ds) g =
 
 -- ---- by lines
 
-concat-append : {A B : Type 0} (f : A → List B) (xs ys : List A) → concatMap f (xs ++ ys) ≡ concatMap f xs ++ concatMap f ys
+pub concat-append : {A B : Type 0} (f : A → List B) (xs ys : List A) → concatMap f (xs ++ ys) ≡ concatMap f xs ++ concatMap f ys
 concat-append f [] ys = refl
 concat-append f (x ∷ xs) ys = rw (concat-append f xs ys) (sym (append-assoc (f x) (concatMap f xs) (concatMap f ys)))
 

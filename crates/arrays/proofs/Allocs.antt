@@ -1,0 +1,92 @@
+-- `alloc` lines.
+use mathlib.Core.Path.{_≡_, refl, sym, ap, _∙_}
+use mathlib.Core.List.{[], _∷_}
+use mathlib.Core.Option.{some}
+use Prim.Native.Nat.{ℕ, zero, suc, _-_}
+use native.Mathlib.Omega.{arith}
+use lib.ListN.{getD, drop}
+use lib.Seq.{getD-drop}
+use Rattle.semantics.specs.Text.{Bytes}
+use Rattle.semantics.specs.Tree.{Node, ElemKind}
+use Rattle.semantics.specs.Tree.Ex.{arrayEx}
+use Rattle.semantics.specs.Tree.ArrayEx.{alloc as allocEx}
+use Rattle.semantics.specs.Tree.ElemKind.{kByte, kWord, kBig, kReal, kPtr}
+use Rattle.semantics.specs.Form.{numberOf, forms}
+use Rattle.semantics.specs.Form.Kind.{kTy, kEx}
+use Rattle.semantics.specs.Form.Atom.{ref}
+use Rattle.semantics.specs.Form.Part.{one}
+use Rattle.semantics.specs.Fold.{bind}
+use Rattle.semantics.specs.Array.{kindNumber, elemKind, allocated, constArray}
+use Rattle.text.specs.Number as Number
+use Rattle.lines.specs.Lines.{readsIn, readAt}
+use Rattle.sizes.specs.Sizes.{typeAt, TypeLine}
+use Rattle.sizes.proofs.Types.{Good, head-drop, tail-drop}
+use Rattle.values.specs.declared.Folded.{Folded}
+use Rattle.values.specs.Values.{resultIn}
+use Rattle.placements.proofs.Same.{keeps-less, keeps-kept}
+use Rattle.fold.specs.Folds.{exAt, Foldable, Folds}
+use Rattle.literals.specs.Literals.{namesIn, Line}
+use Rattle.literals.proofs.Lines.{parts-at, makes, good-line, ref-head}
+use Rattle.literals.proofs.Selectors.{foldable, folds-to}
+use Rattle.arrays.specs.declared.Arrayed.{Arrayed}
+use Rattle.arrays.specs.Arrays.{kindAt, arrayedIn, Stands, Answers, typeOf, allocType, AllocLine}
+
+pub kind-back : (k : ElemKind) → kindAt (kindNumber k) ≡ k
+kind-back kByte = refl
+kind-back kWord = refl
+kind-back kBig = refl
+kind-back kReal = refl
+kind-back kPtr = refl
+
+pub type-line : {s t : Bytes} {n m r : ℕ} → Line 75 s t n m r → TypeLine s t n r
+type-line l = record { checked = l .checked; first = l .first; last = l .last; kind = l .kind }
+
+pub type-given : (s : Bytes) (r : ℕ) → (r ≡ 0 → ⊥) → typeOf s r ≡ some (typeAt s r)
+type-given s zero h = absurd (h refl)
+type-given s (suc r) h = refl
+
+module _ {s t : Bytes} {n m declared r : ℕ} (k : AllocLine s t n m declared r) where
+  l : Line 69 s t n m r
+  l = k .array .line
+
+  alloc-refs : Good (readsIn s) (r - 1) 69 (getD (readAt s (r - 1) .fields) 0 []) × Good (readsIn s) (r - 1) 75 (getD (readAt s (r - 1) .fields) 1 [])
+  unfolding forms
+  alloc-refs =
+      let w = parts-at l (k .form) in
+      let x = ref-head (readsIn s) (r - 1) kEx (one (ref kTy) ∷ []) (readAt s (r - 1) .fields) (w .0) (w .1) in
+      let y = ref-head (readsIn s) (r - 1) kTy [] (drop 1 (readAt s (r - 1) .fields)) (x .1) (x .2) in
+      (x .0, rw (getD-drop 1 (readAt s (r - 1) .fields) 0 []) at (y .0))
+
+  alloc-is : exAt s r ≡ arrayEx (allocEx (exAt s (numberOf (getD (readAt s (r - 1) .fields) 0 []))) (typeAt s (numberOf (getD (readAt s (r - 1) .fields) 1 []))))
+  unfolding forms
+  alloc-is =
+      let fs = readAt s (r - 1) .fields in
+      ap (λ (x : Node). x .ex) (makes l (k .form)) ∙ rw (tail-drop 0 fs, head-drop 0 fs, head-drop 1 fs)
+
+  pub declared-line : (declared ≡ 0 → ⊥) → TypeLine s t n declared
+  declared-line h = k .array .declares h
+
+  pub declared-kind : {x : ℕ} → (declared ≡ 0 → ⊥) → x ≡ kindNumber (elemKind (typeAt s declared)) → x ≡ kindNumber (elemKind (allocType s declared r))
+  declared-kind h e = rw (type-given s declared h) e
+
+  module _ {v : ℕ} (hv : v ≡ Number.numberOf 65536 (getD (readAt s (r - 1) .fields) 1 [])) where
+    pub own-line : TypeLine s t n v
+    own-line = type-line (good-line l 75 (getD (readAt s (r - 1) .fields) 1 []) v hv (alloc-refs .1) .1)
+
+    pub own-kind : {x : ℕ} → declared ≡ 0 → x ≡ kindNumber (elemKind (typeAt s v)) → x ≡ kindNumber (elemKind (allocType s declared r))
+    own-kind h e = rw h (rw (good-line l 75 (getD (readAt s (r - 1) .fields) 1 []) v hv (alloc-refs .1) .0) at e)
+
+  module _ {q : ℕ} (hq : q ≡ Number.numberOf 65536 (getD (readAt s (r - 1) .fields) 0 [])) where
+    length-line : (q ≡ numberOf (getD (readAt s (r - 1) .fields) 0 [])) × Line 69 s t n m q
+    length-line = good-line l 69 (getD (readAt s (r - 1) .fields) 0 []) q hq (alloc-refs .0)
+
+    pub length-foldable : Foldable s t n m q 49152
+    length-foldable = foldable {e = 0} (record { line = length-line .1; few = omega arith })
+
+    pub alloc-answers : {kind : ℕ} → kind ≡ kindNumber (elemKind (allocType s declared r)) → {u : Bytes} {x : Folded} → Folds s t m 0 q 49152 u x
+        → (y : Arrayed) → arrayedIn u y ≡ bind (resultIn u x) (allocated (kindAt kind)) → Stands u y → Answers t (constArray (namesIn s t m) (typeOf s declared) (exAt s r)) y u
+    alloc-answers {kind} e {u} {x} g y h st = record {
+      result = rw (folds-to g, e, kind-back (elemKind (allocType s declared r))) at h ∙ sym (rw (alloc-is, ← length-line .0));
+      stands = st;
+      keeps = keeps-less (omega arith) (omega arith) (keeps-kept {a = 0} (omega arith) (g .kept));
+    }

@@ -1,0 +1,5 @@
+pub mod Lengths
+pub mod Elements
+pub mod Sizes
+pub mod Allocs
+pub mod Wholes

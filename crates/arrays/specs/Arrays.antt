@@ -1,0 +1,99 @@
+-- Constant arrays, as the code answers them.
+use Prim.Native.Nat.{ℕ, _-_, _≤_, _<_}
+use mathlib.Core.Path.{_≡_}
+use mathlib.Core.List.{[], _∷_}
+use mathlib.Core.Option.{Option}
+use lib.ListN.{getD}
+use Rattle.semantics.specs.Text.{Bytes, orElse}
+use Rattle.semantics.specs.Tree.{Ty, MaybeEx, ElemKind}
+use Rattle.semantics.specs.Tree.ElemKind.{kByte, kWord, kBig, kReal, kPtr}
+use Rattle.semantics.specs.Form.{numberOf, maybeEx, tyOf, perhapsAt}
+use Rattle.semantics.specs.Fold.{Result, bind}
+use Rattle.semantics.specs.Fold.Result.{ok, failed, refuse}
+use Rattle.semantics.specs.Array.{ConstArray, Filled, literalSize, measured}
+use Rattle.lines.specs.Lines.{readAt, nodesIn, formAt}
+use Rattle.sizes.specs.Sizes.{typeAt, TypeLine}
+use Rattle.placements.specs.Placements.{entryAt, slotAt, valuesIn, Keeps, Standing, Filling}
+use Rattle.literals.specs.Literals.{namesIn, elsAt, Line, LiteralLine, above}
+use Rattle.arrays.specs.declared.Size.{Size}
+use Rattle.arrays.specs.declared.Size.the-variants as Size
+use Rattle.arrays.specs.declared.Arrayed.{Arrayed}
+use Rattle.arrays.specs.declared.Arrayed.the-variants.{Alloc, Literal, Pending, Refused}
+
+-- ---- answers
+
+abbrev pub kindAt : ℕ → ElemKind
+kindAt k = getD (kByte ∷ kWord ∷ kBig ∷ kReal ∷ kPtr ∷ []) k kPtr
+
+-- the values of a literal stand in the working space t
+abbrev pub arrayedIn : Bytes → Arrayed → Result ConstArray
+arrayedIn t (Alloc k n) = ok (record { kind = kindAt k; count = n; values = [] })
+arrayedIn t (Literal k n) = ok (record { kind = kindAt k; count = n; values = valuesIn t 0 n })
+arrayedIn t Pending = failed
+arrayedIn t (Refused r) = refuse r
+
+abbrev pub sizeResult : Size → Result ℕ
+sizeResult (Size.Of n) = ok n
+sizeResult Size.Failed = failed
+sizeResult Size.TooLong = refuse 8
+
+-- a literal has at most 1,024 values, and their strings stand on the stack
+abbrev pub Stands : Bytes → Arrayed → Type 0
+Stands t (Alloc k n) = Unit {0}
+Stands t (Literal k n) = (n ≤ 1024) × ((i : ℕ) → i < n → Standing (above 16) (slotAt t (entryAt t i)))
+Stands t Pending = Unit {0}
+Stands t (Refused r) = Unit {0}
+
+-- t has become u, where x is the result r
+pub record Answers (t : Bytes) (r : Result ConstArray) (x : Arrayed) (u : Bytes) : Type 0 where
+  pub result : arrayedIn u x ≡ r
+  pub stands : Stands u x
+  pub keeps : Keeps 16384 49152 t u
+
+-- x is the result r, with its values in t
+pub record Measured (t : Bytes) (r : Result ConstArray) (x : Arrayed) : Type 0 where
+  pub result : arrayedIn t x ≡ r
+  pub stands : Stands t x
+
+-- ---- lines
+
+-- the type of line r, none for 0
+abbrev pub typeOf : Bytes → ℕ → Option Ty
+typeOf s r = tyOf (perhapsAt (nodesIn s) r)
+
+abbrev pub sizeAt : Bytes → ℕ → MaybeEx
+sizeAt s r = maybeEx (perhapsAt (nodesIn s) (numberOf (getD (readAt s (r - 1) .fields) 0 [])))
+
+abbrev pub ownType : Bytes → ℕ → Option Ty
+ownType s r = typeOf s (numberOf (getD (readAt s (r - 1) .fields) 1 []))
+
+-- the element type of an `alloc` line
+abbrev pub allocType : Bytes → ℕ → ℕ → Ty
+allocType s declared r = orElse (typeAt s (numberOf (getD (readAt s (r - 1) .fields) 1 []))) (typeOf s declared)
+
+-- `declared` is 0 or a `ty` line
+abbrev pub Declared : Bytes → Bytes → ℕ → ℕ → Type 0
+Declared s t n declared = (declared ≡ 0 → ⊥) → TypeLine s t n declared
+
+-- line r is an `ex` line, for a global whose type declares its elements' type in a line, or 0
+pub record ArrayLine (s t : Bytes) (n m declared r : ℕ) : Type 0 where
+  pub line : Line 69 s t n m r
+  pub declares : Declared s t n declared
+
+pub record AllocLine (s t : Bytes) (n m declared r : ℕ) : Type 0 where
+  pub array : ArrayLine s t n m declared r
+  pub form : formAt t (r - 1) ≡ 17
+
+pub record LitLine (s t : Bytes) (n m declared r : ℕ) : Type 0 where
+  pub literal : LiteralLine s t n m r
+  pub declares : Declared s t n declared
+
+-- and has `count` values
+pub record Counted (s t : Bytes) (n m declared r count : ℕ) : Type 0 where
+  pub lit : LitLine s t n m declared r
+  pub few : count ≤ 1024
+
+-- t has become u, where x is what the literal of line r is whose elements t holds
+pub record Sized (s t : Bytes) (m declared r reach : ℕ) (x : Arrayed) (u : Bytes) : Type 0 where
+  pub answers : (k next : ℕ) (f : Filled) → k ≤ 16 → Filling t (above 16) k next reach f → Measured u (bind (literalSize (namesIn s t m) (sizeAt s r) f) (measured (typeOf s declared) (ownType s r) (elsAt s r) f)) x
+  pub keeps : Keeps 16384 49152 t u

@@ -1,0 +1,302 @@
+// Constant arrays: `alloc` and literals.
+use placements::Placed;
+use values::ConstVal;
+use values::Folded;
+ghost use mathlib.Core.Path.{_≡_};
+ghost use Prim.Native.Nat.{ℕ, _≤_, _<_};
+ghost use Rattle.semantics.specs.Text.{Bytes};
+ghost use Rattle.semantics.specs.Fold.{bind};
+ghost use Rattle.semantics.specs.Tree.ConstVal.{vInt};
+ghost use Rattle.semantics.specs.Array as Array;
+ghost use Rattle.semantics.specs.Array.{Filled, kindNumber, elemKind, isByteCast, isByteLiteral, asSize, literalKind, constArray};
+ghost use Rattle.checks.specs.Checks.{Kept};
+ghost use Rattle.sizes.specs.Sizes.{typeAt, TypeLine};
+ghost use Rattle.values.specs.Values.{resultIn};
+ghost use Rattle.placements.specs.Placements.{valuesIn, Filling};
+ghost use Rattle.fold.specs.Folds.{exAt};
+ghost use Rattle.literals.specs.Literals.{namesIn, elsAt, Line, LiteralLine, above};
+ghost use Rattle.arrays.specs.Arrays.{kindAt, arrayedIn, sizeResult, Stands, Measured, Answers, typeOf, sizeAt, ownType, allocType, ArrayLine, AllocLine, LitLine, Counted, Sized};
+
+// Forms of types and expressions.
+const INT: usize = 0;
+
+const BYTE: usize = 1;
+
+const STRING: usize = 4;
+
+const CAST: usize = 15;
+
+const ALLOC: usize = 17;
+
+const LIT: usize = 18;
+
+const STACK: usize = 49152;
+
+// Above the strings of 16 elements.
+const ABOVE: usize = 53248;
+
+const LONGEST_ALLOC: i64 = 2147483647;
+
+const LONGEST: u64 = 1024;
+
+// Kinds of elements: 0 bytes, 1 words, 2 bigs, 3 reals, 4 pointers.
+const BYTES: u8 = 0;
+
+const WORDS: u8 = 1;
+
+const POINTERS: u8 = 4;
+
+pub enum Size {
+    Of(u64),
+    Failed,
+    TooLong,
+}
+
+// The kind of the elements and their number; the values of a literal stand in the working space.
+pub enum Arrayed {
+    Alloc(u8, u32),
+    Literal(u8, usize),
+    Pending,
+    Refused(u8),
+}
+
+// How an array holds elements of the type of line r.
+pub fn elem_kind(sheet: &[u8], work: &[u8], n: usize, r: usize) -> u8
+    requires { ⌜ TypeLine (now sheet) (now work) n r ⌝ }
+    ensures { λ k. ⌜ (k ≡ kindNumber (elemKind (typeAt (now (sheet .entry)) r))) × (k ≤ 4) ⌝ }
+{
+    let f = lines::form_at(work, r - 1);
+    if f == INT {
+        return WORDS;
+    }
+    if f == BYTE {
+        return BYTES;
+    }
+    if f < STRING {
+        return f as u8;
+    }
+    POINTERS
+}
+
+// ---- `alloc`
+
+// An `alloc` of a length.
+fn allocated_int(kind: u8, z: i64) -> Arrayed
+    ensures { λ x. ⌜ ((t : Bytes) → (arrayedIn t x ≡ Array.allocated (kindAt kind) (vInt z)) × (Stands t x)) ⌝ }
+{
+    if z > LONGEST_ALLOC {
+        return Arrayed::Refused(9);
+    }
+    if z < -2147483648 {
+        return Arrayed::Refused(9);
+    }
+    if z < 0 {
+        return Arrayed::Refused(10);
+    }
+    Arrayed::Alloc(kind, z as u32)
+}
+
+fn allocated(kind: u8, x: Folded) -> Arrayed
+    ensures { λ y. ⌜ ((t : Bytes) → (arrayedIn t y ≡ bind (resultIn t x) (Array.allocated (kindAt kind))) × (Stands t y)) ⌝ }
+{
+    match x {
+        Folded::Value(v) => match v {
+            ConstVal::Int(z) => allocated_int(kind, z),
+            ConstVal::Real(_) => Arrayed::Pending,
+            ConstVal::Str(_, _) => Arrayed::Pending,
+        },
+        Folded::Failed => Arrayed::Pending,
+        Folded::TooLong => Arrayed::Refused(8),
+    }
+}
+
+// The element type is the one that is declared, or else the `alloc` line's own.
+fn alloc_kind(sheet: &[u8], work: &[u8], n: usize, m: usize, declared: usize, r: usize) -> u8
+    requires { ⌜ AllocLine (now sheet) (now work) n m declared r ⌝ }
+    ensures { λ k. ⌜ k ≡ kindNumber (elemKind (allocType (now (sheet .entry)) declared r)) ⌝ }
+{
+    if declared != 0 {
+        return elem_kind(sheet, work, n, declared);
+    }
+    elem_kind(sheet, work, n, lines::number_at(sheet, work, n, r - 1, 1))
+}
+
+fn alloc(sheet: &[u8], work: &mut [u8], n: usize, m: usize, declared: usize, r: usize) -> Arrayed
+    requires { ⌜ AllocLine (now sheet) (now work) n m declared r ⌝ }
+    ensures { λ x. ⌜ Answers (now (work .entry)) (constArray (namesIn (now (sheet .entry)) (now (work .entry)) m) (typeOf (now (sheet .entry)) declared) (exAt (now (sheet .entry)) r)) x (now (work .exit)) ⌝ }
+{
+    let kind = alloc_kind(sheet, work, n, m, declared, r);
+    let q = lines::number_at(sheet, work, n, r - 1, 0);
+    allocated(kind, fold::fold_const(sheet, work, n, m, 0, q, STACK))
+}
+
+// ---- literals
+
+fn as_size(x: Folded) -> Size
+    ensures { λ y. ⌜ ((t : Bytes) → sizeResult y ≡ bind (resultIn t x) asSize) ⌝ }
+{
+    match x {
+        Folded::Value(v) => match v {
+            ConstVal::Int(z) => {
+                if z < 0 {
+                    return Size::Failed;
+                }
+                Size::Of(z as u64)
+            }
+            ConstVal::Real(_) => Size::Failed,
+            ConstVal::Str(_, _) => Size::Failed,
+        },
+        Folded::Failed => Size::Failed,
+        Folded::TooLong => Size::TooLong,
+    }
+}
+
+// The size of a literal: its own, or as many as its indices reach.
+fn literal_size(sheet: &[u8], work: &mut [u8], n: usize, m: usize, r: usize, reach: u64) -> Size
+    requires { ⌜ LiteralLine (now sheet) (now work) n m r ⌝ }
+    ensures { λ x. ⌜ ((f : Filled) → reach ≡ f .reach → sizeResult x ≡ Array.literalSize (namesIn (now (sheet .entry)) (now (work .entry)) m) (sizeAt (now (sheet .entry)) r) f) × (Kept (above 16) (now (work .entry)) (now (work .exit))) ⌝ }
+{
+    let q = lines::number_at(sheet, work, n, r - 1, 0);
+    if q == 0 {
+        return Size::Of(reach);
+    }
+    as_size(fold::fold_const(sheet, work, n, m, 0, q, ABOVE))
+}
+
+// Whether the expression of line r is itself a cast to byte.
+fn is_byte_cast(sheet: &[u8], work: &[u8], n: usize, m: usize, r: usize) -> bool
+    requires { ⌜ Line 69 (now sheet) (now work) n m r ⌝ }
+    ensures { λ b. ⌜ b ≡ isByteCast (exAt (now (sheet .entry)) r) ⌝ }
+{
+    if lines::form_at(work, r - 1) != CAST {
+        return false;
+    }
+    elem_kind(sheet, work, n, lines::number_at(sheet, work, n, r - 1, 0)) == BYTES
+}
+
+// Whether there is an element, and the value of every one is a cast to byte.
+fn is_byte_literal(sheet: &[u8], work: &[u8], n: usize, m: usize, r: usize) -> bool
+    requires { ⌜ LiteralLine (now sheet) (now work) n m r ⌝ }
+    ensures { λ b. ⌜ b ≡ isByteLiteral (elsAt (now (sheet .entry)) r) ⌝ }
+{
+    let count = lines::number_at(sheet, work, n, r - 1, 2);
+    let mut j = 0;
+    while j < count {
+        let q = lines::number_at(sheet, work, n, r - 1, 3 + j);
+        if !is_byte_cast(
+            sheet,
+            work,
+            n,
+            m,
+            lines::number_at(sheet, work, n, q - 1, 0),
+        ) {
+            return false;
+        }
+        j += 1;
+    }
+    0 < count
+}
+
+// By the type that is declared, or else the literal's own, or else by its values.
+fn literal_kind(
+    sheet: &[u8],
+    work: &[u8],
+    n: usize,
+    m: usize,
+    declared: usize,
+    r: usize,
+    count: usize,
+) -> u8
+    requires { ⌜ Counted (now sheet) (now work) n m declared r count ⌝ }
+    ensures { λ k. ⌜ k ≡ kindNumber (literalKind (typeOf (now (sheet .entry)) declared) (ownType (now (sheet .entry)) r) (elsAt (now (sheet .entry)) r) (valuesIn (now (work .entry)) 0 count)) ⌝ }
+{
+    if declared != 0 {
+        return elem_kind(sheet, work, n, declared);
+    }
+    let own = lines::number_at(sheet, work, n, r - 1, 1);
+    if own != 0 {
+        return elem_kind(sheet, work, n, own);
+    }
+    if is_byte_literal(sheet, work, n, m, r) {
+        return BYTES;
+    }
+    placements::kind_of_values(work, count)
+}
+
+// A literal of a size, whose indices end at `reach`.
+fn measured(
+    sheet: &[u8],
+    work: &[u8],
+    n: usize,
+    m: usize,
+    declared: usize,
+    r: usize,
+    reach: u64,
+    size: u64,
+) -> Arrayed
+    requires { ⌜ LitLine (now sheet) (now work) n m declared r ⌝ }
+    ensures { λ x. ⌜ ((k next : ℕ) (f : Filled) → Filling (now (work .entry)) (above 16) k next reach f → Measured (now (work .entry)) (Array.measured (typeOf (now (sheet .entry)) declared) (ownType (now (sheet .entry)) r) (elsAt (now (sheet .entry)) r) f size) x) ⌝ }
+{
+    if size < reach {
+        return Arrayed::Refused(11);
+    }
+    if LONGEST < size {
+        return Arrayed::Refused(12);
+    }
+    let count = size as usize;
+    Arrayed::Literal(literal_kind(sheet, work, n, m, declared, r, count), count)
+}
+
+// A literal whose elements are placed.
+fn sized(
+    sheet: &[u8],
+    work: &mut [u8],
+    n: usize,
+    m: usize,
+    declared: usize,
+    r: usize,
+    reach: u64,
+) -> Arrayed
+    requires { ⌜ LitLine (now sheet) (now work) n m declared r ⌝ }
+    ensures { λ x. ⌜ Sized (now (sheet .entry)) (now (work .entry)) m declared r reach x (now (work .exit)) ⌝ }
+{
+    match literal_size(sheet, work, n, m, r, reach) {
+        Size::Of(size) => measured(sheet, work, n, m, declared, r, reach, size),
+        Size::Failed => Arrayed::Pending,
+        Size::TooLong => Arrayed::Refused(8),
+    }
+}
+
+fn literal(sheet: &[u8], work: &mut [u8], n: usize, m: usize, declared: usize, r: usize) -> Arrayed
+    requires { ⌜ LitLine (now sheet) (now work) n m declared r ⌝ }
+    ensures { λ x. ⌜ Answers (now (work .entry)) (constArray (namesIn (now (sheet .entry)) (now (work .entry)) m) (typeOf (now (sheet .entry)) declared) (exAt (now (sheet .entry)) r)) x (now (work .exit)) ⌝ }
+{
+    match literals::fill(sheet, work, n, m, r) {
+        Placed::Into(_, reach) => sized(sheet, work, n, m, declared, r, reach),
+        Placed::Negative => Arrayed::Pending,
+        Placed::Failed => Arrayed::Pending,
+        Placed::TooLong => Arrayed::Refused(8),
+    }
+}
+
+// The constant array that line r is, where `declared` is the line of the type that the global's type declares for elements, or 0.
+pub fn const_array(
+    sheet: &[u8],
+    work: &mut [u8],
+    n: usize,
+    m: usize,
+    declared: usize,
+    r: usize,
+) -> Arrayed
+    requires { ⌜ ArrayLine (now sheet) (now work) n m declared r ⌝ }
+    ensures { λ x. ⌜ Answers (now (work .entry)) (constArray (namesIn (now (sheet .entry)) (now (work .entry)) m) (typeOf (now (sheet .entry)) declared) (exAt (now (sheet .entry)) r)) x (now (work .exit)) ⌝ }
+{
+    let f = lines::form_at(work, r - 1);
+    if f == ALLOC {
+        return alloc(sheet, work, n, m, declared, r);
+    }
+    if f == LIT {
+        return literal(sheet, work, n, m, declared, r);
+    }
+    Arrayed::Pending
+}

@@ -1,0 +1,4 @@
+pub mod Elements
+pub mod Rows
+pub mod Arrays
+pub mod Literals

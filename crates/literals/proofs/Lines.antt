@@ -1,0 +1,231 @@
+-- The fields of a literal's lines, the lines that they refer to, and what the lines make.
+use mathlib.Core.Path.{_≡_, refl, sym, ap, _∙_}
+use mathlib.Core.Bool.{Bool, true, false, cond, _&&_}
+use mathlib.Core.List.{List, [], _∷_}
+use Prim.Native.Nat.{ℕ, zero, suc, _+_, _-_, _≤_, _<_}
+use native.Mathlib.Omega.{arith}
+use lib.Dec.{leb, ltb, eqb}
+use lib.ListN.{length, drop, getD}
+use lib.Seq.{getD-drop}
+use borrow.Author.Tests.{leb-true, ltb-true, eq-eqb, eqb-true, eqb-false}
+use Rattle.semantics.specs.Text.{Bytes}
+use Rattle.semantics.specs.Tree.{Ex, Node}
+use Rattle.semantics.specs.Tree.MaybeEx.{absent, given}
+use Rattle.semantics.specs.Tree.El.{next, star, at}
+use Rattle.semantics.specs.Array.{elValue}
+use Rattle.semantics.specs.Form.{Read, Row, Kind, Part, letter, forms, noRow, numberOf, fits, isCount, isNumber, nodeAt, perhapsAt, values, maybeEx, sesOf}
+use Rattle.semantics.specs.Form.Kind.{kEx, kSe}
+use Rattle.semantics.specs.Form.Atom.{ref, maybe}
+use Rattle.semantics.specs.Form.Part.{one, many}
+use Rattle.semantics.specs.Refusal.{lineAt, refsIn}
+use Rattle.text.specs.Number as Number
+use Rattle.form.specs.Table.{rowAt, kindAt, rowNode}
+use Rattle.form.proofs.Table.{never, both, row-count}
+use Rattle.lines.specs.Lines.{readsIn, readAt, nodesIn, formAt}
+use Rattle.lines.proofs.Line.{form-low, form-is, kind-is, read-fits}
+use Rattle.refs.specs.Refs.{fineRef, fineRefs}
+use Rattle.refs.proofs.Fine.{needed-ref}
+use Rattle.refs.proofs.Nodes.{node-at}
+use Rattle.sizes.proofs.Rows.{count-number}
+use Rattle.sizes.proofs.Types.{Good, group-good, number-exact, head-drop, tail-drop}
+use Rattle.fold.specs.Folds.{exAt}
+use Rattle.literals.specs.Literals.{elAt, seAt, Line}
+
+-- ---- the forms of a kind
+
+-- whether the rows of kind k, counted from i, are among those from a up to b
+spans : ℕ → ℕ → ℕ → ℕ → List Row → Bool
+spans k a b i [] = true
+spans k a b i (r ∷ rs) = cond (eqb (letter (r .kind)) k) (leb a i && ltb i b) true && spans k a b (suc i) rs
+
+spans-at : (k a b : ℕ) (rs : List Row) (i j : ℕ) → spans k a b i rs ≡ true → j < length rs → letter (getD rs j noRow .kind) ≡ k → (a ≤ i + j) × (i + j < b)
+unfolding spans
+spans-at k a b [] i j h l e = absurd (omega arith)
+spans-at k a b (r ∷ rs) i zero h l e =
+    let p : leb a i && ltb i b ≡ true = rw (eq-eqb (letter (r .kind)) k e) at (both (cond (eqb (letter (r .kind)) k) (leb a i && ltb i b) true) (spans k a b (suc i) rs) h .0) in
+    let w = both (leb a i) (ltb i b) p in
+    (omega (arith, leb-true a i (w .0)), omega (arith, ltb-true i b (w .1)))
+spans-at k a b (r ∷ rs) i (suc j) h l e =
+    let q = spans-at k a b rs (suc i) j (both (cond (eqb (letter (r .kind)) k) (leb a i && ltb i b) true) (spans k a b (suc i) rs) h .1) (omega arith) e in
+    (omega (arith, q .0), omega (arith, q .1))
+
+-- types are the first 8 forms, elements 20 to 22, selectors 23
+pub type-form : (f : ℕ) → f < 42 → kindAt f ≡ 75 → f < 8
+unfolding spans forms
+type-form f h e = omega (arith, spans-at 75 0 8 forms 0 f refl (omega (arith, row-count)) e .1)
+
+element-form : (f : ℕ) → f < 42 → kindAt f ≡ 76 → (20 ≤ f) × (f < 23)
+unfolding spans forms
+element-form f h e = let w = spans-at 76 20 23 forms 0 f refl (omega (arith, row-count)) e in (omega (arith, w .0), omega (arith, w .1))
+
+selector-form : (f : ℕ) → f < 42 → kindAt f ≡ 74 → (23 ≤ f) × (f < 24)
+unfolding spans forms
+selector-form f h e = let w = spans-at 74 23 24 forms 0 f refl (omega (arith, row-count)) e in (omega (arith, w .0), omega (arith, w .1))
+
+-- ---- references among fields
+
+-- a reference that may be 0
+pub record May (ls : List Read) (i : ℕ) (k : ℕ) (f : Bytes) : Type 0 where
+  pub fine : fineRef ls (i + 1) (record { kind = k; optional = true; line = numberOf f }) ≡ true
+  pub number : isNumber f ≡ true
+
+module _ (ls : List Read) (i : ℕ) (a : Kind) (ps : List Part) where
+  pub ref-head : (fs : List Bytes) → fits (one (ref a) ∷ ps) fs ≡ true → fineRefs ls i (refsIn (one (ref a) ∷ ps) fs) ≡ true
+      → Good ls i (letter a) (getD fs 0 []) × (fits ps (drop 1 fs) ≡ true) × (fineRefs ls i (refsIn ps (drop 1 fs)) ≡ true)
+  unfolding fineRefs
+  ref-head [] h k = never h
+  ref-head (f ∷ fs) h k =
+      let v = both (isNumber f) (fits ps fs) h in
+      let w = both (fineRef ls (i + 1) (record { kind = letter a; optional = false; line = numberOf f })) (fineRefs ls i (refsIn ps fs)) k in
+      (record { fine = w .0; number = v .0 }, v .1, w .1)
+
+  pub maybe-head : (fs : List Bytes) → fits (one (maybe a) ∷ ps) fs ≡ true → fineRefs ls i (refsIn (one (maybe a) ∷ ps) fs) ≡ true
+      → May ls i (letter a) (getD fs 0 []) × (fits ps (drop 1 fs) ≡ true) × (fineRefs ls i (refsIn ps (drop 1 fs)) ≡ true)
+  unfolding fineRefs
+  maybe-head [] h k = never h
+  maybe-head (f ∷ fs) h k =
+      let v = both (isNumber f) (fits ps fs) h in
+      let w = both (fineRef ls (i + 1) (record { kind = letter a; optional = true; line = numberOf f })) (fineRefs ls i (refsIn ps fs)) k in
+      (record { fine = w .0; number = v .0 }, v .1, w .1)
+
+-- a count at field j, and as many references behind it
+pub record Group (ls : List Read) (i k j : ℕ) (fs : List Bytes) : Type 0 where
+  pub count : isCount (getD fs j []) ≡ true
+  pub each : (q : ℕ) → q < numberOf (getD fs j []) → Good ls i k (getD fs (suc j + q) [])
+
+pub group-at : (ls : List Read) (i j : ℕ) (a : Kind) (ps : List Part) (fs : List Bytes) → fits (many (ref a) ∷ ps) (drop j fs) ≡ true → fineRefs ls i (refsIn (many (ref a) ∷ ps) (drop j fs)) ≡ true → Group ls i (letter a) j fs
+group-at ls i j a ps fs h k =
+    let w = group-good ls i a ps (drop j fs) h k in
+    let z : j + 0 ≡ j = omega arith in
+    let e : getD (drop j fs) 0 [] ≡ getD fs j [] = getD-drop j fs 0 [] ∙ ap (λ (x : ℕ). getD fs x []) z in
+    record {
+      count = rw e at (w .0);
+      each = λ q l.
+          let y : j + suc q ≡ suc j + q = omega arith in
+          rw (← (getD-drop j fs (suc q) [] ∙ ap (λ (x : ℕ). getD fs x []) y)) (w .1 q (rw e l));
+    }
+
+-- ---- the lines that are referred to
+
+module _ {k : ℕ} {s t : Bytes} {n m r : ℕ} (l : Line k s t n m r) where
+  pub line-in : r - 1 < n
+  line-in = omega (arith, l .first, l .last)
+
+  pub line-form : (formAt t (r - 1) < 42) × (kindAt (formAt t (r - 1)) ≡ k)
+  line-form = (form-low s t n (l .checked .whole) (r - 1) line-in, sym (kind-is s t n (l .checked .whole) (r - 1) line-in) ∙ l .kind)
+
+  pub parts-at : {f : ℕ} → formAt t (r - 1) ≡ f → (fits (rowAt f .parts) (readAt s (r - 1) .fields) ≡ true) × (fineRefs (readsIn s) (r - 1) (refsIn (rowAt f .parts) (readAt s (r - 1) .fields)) ≡ true)
+  parts-at {f} e =
+      let w = l .checked .whole in
+      let p : readAt s (r - 1) .form .parts ≡ rowAt f .parts = ap (λ (x : Row). x .parts) (form-is s t n w (r - 1) line-in) ∙ ap (λ (g : ℕ). rowAt g .parts) e in
+      (rw e at (read-fits s t n w (r - 1) line-in), rw p at (l .checked .fine (r - 1) line-in))
+
+  pub makes : {f : ℕ} → formAt t (r - 1) ≡ f → nodeAt (nodesIn s) r ≡ rowNode (nodesIn s) f (readAt s (r - 1) .fields)
+  makes e = node-at s t n (l .checked .whole) (l .checked .good) (r - 1) line-in ∙ ap (λ (g : ℕ). rowNode (nodesIn s) g (readAt s (r - 1) .fields)) e
+
+  module _ (q : ℕ) (f : Bytes) (v : ℕ) (hv : v ≡ Number.numberOf 65536 f) where
+    pub good-line : Good (readsIn s) (r - 1) q f → (v ≡ numberOf f) × Line q s t n m v
+    good-line g =
+        let w = needed-ref (readsIn s) (r - 1 + 1) q (numberOf f) (g .fine) in
+        let e : v ≡ numberOf f = hv ∙ number-exact f (g .number) (omega (arith, w .1, l .last, l .checked .whole .lined .few)) in
+        (e, rw e (record { checked = l .checked; log = l .log; first = omega (arith, w .0); last = omega (arith, w .1, l .first, l .last); kind = w .2 }))
+
+    pub may-line : May (readsIn s) (r - 1) q f → (v ≡ numberOf f) × ((v ≡ 0 → ⊥) → Line q s t n m v)
+    may-line g = go (eqb (numberOf f) 0) refl
+      where
+        go : (b : Bool) → eqb (numberOf f) 0 ≡ b → (v ≡ numberOf f) × ((v ≡ 0 → ⊥) → Line q s t n m v)
+        go true d =
+            let z = eqb-true (numberOf f) 0 d in
+            let e : v ≡ numberOf f = hv ∙ number-exact f (g .number) (omega arith) in
+            (e, λ y. absurd (y (e ∙ z)))
+        go false d =
+            let z = eqb-false (numberOf f) 0 d in
+            let c : cond (eqb (numberOf f) 0) true (ltb (numberOf f) (r - 1 + 1) && eqb (letter (lineAt (readsIn s) (numberOf f) .form .kind)) q) ≡ true = g .fine in
+            let w = both (ltb (numberOf f) (r - 1 + 1)) (eqb (letter (lineAt (readsIn s) (numberOf f) .form .kind)) q) (rw d at c) in
+            let x : numberOf f < r - 1 + 1 = ltb-true (numberOf f) (r - 1 + 1) (w .0) in
+            let e : v ≡ numberOf f = hv ∙ number-exact f (g .number) (omega (arith, l .last, l .checked .whole .lined .few)) in
+            (e, λ y. rw e (record { checked = l .checked; log = l .log; first = omega (arith, z); last = omega (arith, l .first, l .last); kind = eqb-true (letter (lineAt (readsIn s) (numberOf f) .form .kind)) q (w .1) }))
+
+  pub count-is : {j q : ℕ} {v : ℕ} → Group (readsIn s) (r - 1) q j (readAt s (r - 1) .fields) → v ≡ Number.numberOf 65536 (getD (readAt s (r - 1) .fields) j []) → (v ≡ numberOf (getD (readAt s (r - 1) .fields) j [])) × (v ≤ 16)
+  count-is {j} {q} {v} g hv =
+      let w = count-number (getD (readAt s (r - 1) .fields) j []) (g .count) in
+      let e : v ≡ numberOf (getD (readAt s (r - 1) .fields) j []) = hv ∙ number-exact (getD (readAt s (r - 1) .fields) j []) (w .0) (omega (arith, w .1)) in
+      (e, omega (arith, w .1))
+
+-- an optional expression
+pub maybe-given : (ns : List Node) (v : ℕ) → (v ≡ 0 → ⊥) → maybeEx (perhapsAt ns v) ≡ given (nodeAt ns v .ex)
+maybe-given ns zero h = absurd (h refl)
+maybe-given ns (suc v) h = refl
+
+pub maybe-absent : (ns : List Node) (v : ℕ) → v ≡ 0 → maybeEx (perhapsAt ns v) ≡ absent
+maybe-absent ns v e = rw e
+
+-- ---- selectors
+
+module _ {s t : Bytes} {n m r : ℕ} (l : Line 74 s t n m r) where
+  se-form : formAt t (r - 1) ≡ 23
+  se-form = let w = line-form l in let x = selector-form (formAt t (r - 1)) (w .0) (w .1) in omega (arith, x .0, x .1)
+
+  pub se-refs : Good (readsIn s) (r - 1) 69 (getD (readAt s (r - 1) .fields) 0 []) × May (readsIn s) (r - 1) 69 (getD (readAt s (r - 1) .fields) 1 [])
+  unfolding forms
+  se-refs =
+      let w = parts-at l se-form in
+      let x = ref-head (readsIn s) (r - 1) kEx (one (maybe kEx) ∷ []) (readAt s (r - 1) .fields) (w .0) (w .1) in
+      let y = maybe-head (readsIn s) (r - 1) kEx [] (drop 1 (readAt s (r - 1) .fields)) (x .1) (x .2) in
+      (x .0, rw (getD-drop 1 (readAt s (r - 1) .fields) 0 []) at (y .0))
+
+  pub se-is : seAt s r ≡ record { low = exAt s (numberOf (getD (readAt s (r - 1) .fields) 0 [])); high = maybeEx (perhapsAt (nodesIn s) (numberOf (getD (readAt s (r - 1) .fields) 1 []))) }
+  unfolding forms
+  se-is = ap (λ (x : Node). x .se) (makes l se-form) ∙ rw (tail-drop 0 (readAt s (r - 1) .fields), head-drop 0 (readAt s (r - 1) .fields), head-drop 1 (readAt s (r - 1) .fields))
+
+-- ---- elements
+
+module _ {s t : Bytes} {n m r : ℕ} (l : Line 76 s t n m r) where
+  -- 20 a plain element, 21 a wildcard, 22 one with selectors
+  by-form : {P : Type 0} → (formAt t (r - 1) ≡ 20 → P) → (formAt t (r - 1) ≡ 21 → P) → (formAt t (r - 1) ≡ 22 → P) → P
+  by-form {P} a b c = let w = line-form l in let x = element-form (formAt t (r - 1)) (w .0) (w .1) in go (eqb (formAt t (r - 1)) 20) refl (eqb (formAt t (r - 1)) 21) refl (x .0) (x .1)
+    where
+      go : (p : Bool) → eqb (formAt t (r - 1)) 20 ≡ p → (q : Bool) → eqb (formAt t (r - 1)) 21 ≡ q → 20 ≤ formAt t (r - 1) → formAt t (r - 1) < 23 → P
+      go true d q e x y = a (eqb-true (formAt t (r - 1)) 20 d)
+      go false d true e x y = b (eqb-true (formAt t (r - 1)) 21 e)
+      go false d false e x y = c (omega (arith, eqb-false (formAt t (r - 1)) 20 d, eqb-false (formAt t (r - 1)) 21 e))
+
+  pub last-form : (formAt t (r - 1) ≡ 20 → ⊥) → (formAt t (r - 1) ≡ 21 → ⊥) → formAt t (r - 1) ≡ 22
+  last-form a b = by-form (λ e. absurd (a e)) (λ e. absurd (b e)) (λ e. e)
+
+  abbrev valueAt : Ex
+  valueAt = exAt s (numberOf (getD (readAt s (r - 1) .fields) 0 []))
+
+  module _ (e : formAt t (r - 1) ≡ 22) where
+    at-refs : Good (readsIn s) (r - 1) 69 (getD (readAt s (r - 1) .fields) 0 []) × Group (readsIn s) (r - 1) 74 1 (readAt s (r - 1) .fields)
+    unfolding forms
+    at-refs =
+        let w = parts-at l e in
+        let x = ref-head (readsIn s) (r - 1) kEx (many (ref kSe) ∷ []) (readAt s (r - 1) .fields) (w .0) (w .1) in
+        (x .0, group-at (readsIn s) (r - 1) 1 kSe [] (readAt s (r - 1) .fields) (x .1) (x .2))
+
+    pub selectors : Group (readsIn s) (r - 1) 74 1 (readAt s (r - 1) .fields)
+    selectors = at-refs .1
+
+    pub el-at : elAt s r ≡ at valueAt (sesOf (values (ref kSe) (nodesIn s) (numberOf (getD (readAt s (r - 1) .fields) 1 [])) (drop 2 (readAt s (r - 1) .fields))))
+    unfolding forms
+    el-at = ap (λ (x : Node). x .el) (makes l e) ∙ rw (tail-drop 0 (readAt s (r - 1) .fields), tail-drop 1 (readAt s (r - 1) .fields), head-drop 0 (readAt s (r - 1) .fields), head-drop 1 (readAt s (r - 1) .fields))
+
+  pub el-next : formAt t (r - 1) ≡ 20 → elAt s r ≡ next valueAt
+  unfolding forms
+  el-next e = ap (λ (x : Node). x .el) (makes l e) ∙ rw (head-drop 0 (readAt s (r - 1) .fields))
+
+  pub el-star : formAt t (r - 1) ≡ 21 → elAt s r ≡ star valueAt
+  unfolding forms
+  el-star e = ap (λ (x : Node). x .el) (makes l e) ∙ rw (head-drop 0 (readAt s (r - 1) .fields))
+
+  pub el-value : elValue (elAt s r) ≡ valueAt
+  el-value = by-form (λ e. ap elValue (el-next e)) (λ e. ap elValue (el-star e)) (λ e. ap elValue (el-at e))
+
+  pub value-ref : Good (readsIn s) (r - 1) 69 (getD (readAt s (r - 1) .fields) 0 [])
+  unfolding forms
+  value-ref =
+      by-form
+      (λ e. let w = parts-at l e in ref-head (readsIn s) (r - 1) kEx [] (readAt s (r - 1) .fields) (w .0) (w .1) .0)
+      (λ e. let w = parts-at l e in ref-head (readsIn s) (r - 1) kEx [] (readAt s (r - 1) .fields) (w .0) (w .1) .0)
+      (λ e. at-refs e .0)

@@ -1,0 +1,106 @@
+-- The values of a literal, as the table and the slots give them.
+use mathlib.Core.Path.{_≡_, refl, sym, _∙_}
+use mathlib.Core.Bool.{Bool, true, false, _||_}
+use mathlib.Core.List.{List, [], _∷_}
+use Prim.Native.Nat.{ℕ, zero, suc, _+_, _-_, _≤_, _<_}
+use native.Mathlib.Omega.{arith}
+use native.Mathlib.Numerals.{add-one}
+use borrow.Author.Tests.{eq-eqb, ne-eqb}
+use Rattle.semantics.specs.Text.{Bytes, any}
+use Rattle.semantics.specs.Tree as Tree
+use Rattle.semantics.specs.Tree.ConstVal.{vInt, vReal, vStr}
+use Rattle.semantics.specs.Array.{Filled, valueAt, valuesFrom, filler, isStr, isReal, kindNumber, kindOfValues}
+use Rattle.values.specs.declared.ConstVal.{ConstVal}
+use Rattle.values.specs.declared.ConstVal.the-variants.{Int, Real, Str}
+use Rattle.values.specs.Values.{valueIn}
+use Rattle.placements.specs.Placements.{entryAt, slotAt, elementAt, valuesIn, Standing, entered, Filling, rankOf, hasRank}
+
+module _ {t : Bytes} {top k next reach : ℕ} {f : Filled} (p : Filling t top k next reach f) where
+  value-is : (i : ℕ) → i < 1024 → valueAt (f .placements) (filler (f .wildcard)) i ≡ elementAt t (entryAt t i)
+  value-is i h = p .values i h (filler (f .wildcard)) ∙ go (entryAt t i)
+    where
+      go : (b : ℕ) → entered t (filler (f .wildcard)) b ≡ elementAt t b
+      go zero = sym (p .fills)
+      go (suc j) = refl
+
+  pub values-are : (n i : ℕ) → i + n ≤ 1024 → valuesFrom (f .placements) (filler (f .wildcard)) i n ≡ valuesIn t i n
+  unfolding valuesIn
+  values-are zero i h = refl
+  values-are (suc n) i h = rw (value-is i (omega arith), values-are n (suc i) (omega arith))
+
+  pub value-stands : (i : ℕ) → i < 1024 → Standing top (slotAt t (entryAt t i))
+  value-stands i h = p .strings (entryAt t i) (p .known i h)
+
+-- ---- ranks
+
+pub rank-int : (t : Bytes) (v : ConstVal) {z : _} → v ≡ Int z → 1 ≡ rankOf (valueIn t v)
+unfolding valueIn
+rank-int t v e = rw e
+
+pub rank-real : (t : Bytes) (v : ConstVal) {x : _} → v ≡ Real x → 2 ≡ rankOf (valueIn t v)
+unfolding valueIn
+rank-real t v e = rw e
+
+pub rank-string : (t : Bytes) (v : ConstVal) {p l : ℕ} → v ≡ Str p l → 3 ≡ rankOf (valueIn t v)
+unfolding valueIn
+rank-string t v e = rw e
+
+-- i values are passed, of another rank
+pub record Passing (t : Bytes) (count wanted i : ℕ) : Type 0 where
+  pub within : i ≤ count
+  pub rest : any (hasRank wanted) (valuesIn t i (count - i)) ≡ any (hasRank wanted) (valuesIn t 0 count)
+
+pub passing-start : (t : Bytes) (count wanted : ℕ) → Passing t count wanted 0
+passing-start t count wanted = let z : count - 0 ≡ count = omega arith in record { within = omega arith; rest = rw z }
+
+module _ {t : Bytes} {count wanted i : ℕ} (p : Passing t count wanted i) where
+  next-value : i < count → any (hasRank wanted) (valuesIn t i (count - i)) ≡ hasRank wanted (elementAt t (entryAt t i)) || any (hasRank wanted) (valuesIn t (i + 1) (count - (i + 1)))
+  unfolding valuesIn
+  next-value h = let z : count - i ≡ suc (count - (i + 1)) = omega arith in rw (z, add-one)
+
+  module _ (h : i < count) (v : ConstVal) (e : v ≡ slotAt t (entryAt t i)) {r : ℕ} (q : r ≡ rankOf (valueIn t v)) where
+    rank-is : r ≡ rankOf (elementAt t (entryAt t i))
+    unfolding elementAt
+    rank-is = rw e at q
+
+    pub passing-found : r ≡ wanted → true ≡ any (hasRank wanted) (valuesIn t 0 count)
+    passing-found d = sym (sym (p .rest) ∙ next-value h ∙ rw (eq-eqb (rankOf (elementAt t (entryAt t i))) wanted (sym rank-is ∙ d)))
+
+    pub passing-next : (r ≡ wanted → ⊥) → Passing t count wanted (i + 1)
+    passing-next d = record { within = omega arith; rest = sym (next-value h ∙ rw (ne-eqb (rankOf (elementAt t (entryAt t i))) wanted (λ x. d (rank-is ∙ x)))) ∙ p .rest }
+
+  pub passing-end : count ≤ i → false ≡ any (hasRank wanted) (valuesIn t 0 count)
+  unfolding valuesIn
+  passing-end h = let z : count - i ≡ 0 = omega arith in rw z at (p .rest)
+
+-- ---- kinds
+
+any-alike : (p q : Tree.ConstVal → Bool) → ((v : Tree.ConstVal) → p v ≡ q v) → (vs : List Tree.ConstVal) → any p vs ≡ any q vs
+any-alike p q h [] = refl
+any-alike p q h (v ∷ vs) = rw (h v, any-alike p q h vs)
+
+strings-are : (vs : List Tree.ConstVal) → any (hasRank 3) vs ≡ any isStr vs
+strings-are = any-alike (hasRank 3) isStr go
+  where
+    go : (v : Tree.ConstVal) → hasRank 3 v ≡ isStr v
+    go (vInt z) = refl
+    go (vReal x) = refl
+    go (vStr s) = refl
+
+reals-are : (vs : List Tree.ConstVal) → any (hasRank 2) vs ≡ any isReal vs
+reals-are = any-alike (hasRank 2) isReal go
+  where
+    go : (v : Tree.ConstVal) → hasRank 2 v ≡ isReal v
+    go (vInt z) = refl
+    go (vReal x) = refl
+    go (vStr s) = refl
+
+module _ (vs : List Tree.ConstVal) where
+  pub kind-strings : true ≡ any (hasRank 3) vs → 4 ≡ kindNumber (kindOfValues vs)
+  kind-strings h = rw (sym (strings-are vs) ∙ sym h)
+
+  pub kind-reals : false ≡ any (hasRank 3) vs → true ≡ any (hasRank 2) vs → 3 ≡ kindNumber (kindOfValues vs)
+  kind-reals g h = rw (sym (strings-are vs) ∙ sym g, sym (reals-are vs) ∙ sym h)
+
+  pub kind-words : false ≡ any (hasRank 3) vs → false ≡ any (hasRank 2) vs → 1 ≡ kindNumber (kindOfValues vs)
+  kind-words g h = rw (sym (strings-are vs) ∙ sym g, sym (reals-are vs) ∙ sym h)

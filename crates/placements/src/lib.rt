@@ -1,0 +1,174 @@
+// Where the elements of a literal fall: a table of its first 1,024 indices, and slots for the elements' values.
+ghost use mathlib.Core.Path.{_≡_};
+ghost use Prim.Native.Nat.{ℕ, _+_, _*_, _^_, _≤_, _<_, min, max};
+ghost use lib.ListN.{length};
+ghost use Rattle.semantics.specs.Text.{Bytes, any};
+ghost use Rattle.semantics.specs.Tree.{ConstVal};
+ghost use Rattle.semantics.specs.Array.{noneFilled, placeIndices, placeNext, kindNumber, kindOfValues};
+ghost use Rattle.values.specs.Values.{valueIn};
+ghost use Rattle.slots.specs.Slots.{Small, Stored};
+ghost use Rattle.placements.specs.declared.Placed.the-variants.{Into};
+ghost use Rattle.placements.specs.Placements.{entryAt, slotAt, valuesIn, Keeps, Painted, Filling, Places, rankOf, hasRank};
+
+const TABLE: usize = 11264;
+
+const SLOTS: usize = 12288;
+
+const INDICES: u64 = 1024;
+
+// 2^63, the first index that counts as negative.
+const BEYOND: u64 = 9223372036854775808;
+
+// Values are an integer, a real or a string.
+const REAL: u8 = 2;
+
+const STRING: u8 = 3;
+
+// A literal so far, with the next plain index and the end of its indices; or how it ends.
+pub enum Placed {
+    Into(u64, u64),
+    Negative,
+    Failed,
+    TooLong,
+}
+
+fn wide(x: u8) -> usize
+    ensures { λ r. ⌜ (r ≡ x) × (r < 256) ⌝ }
+{
+    x as usize
+}
+
+fn larger(a: u64, b: u64) -> u64
+    ensures { λ r. ⌜ r ≡ max a b ⌝ }
+{
+    if a < b {
+        return b;
+    }
+    a
+}
+
+fn clipped(i: u64) -> usize
+    ensures { λ r. ⌜ r ≡ min i 1024 ⌝ }
+{
+    if i < INDICES {
+        return i as usize;
+    }
+    INDICES as usize
+}
+
+// Indices low to high take the value of element e, from 1; those past the table are not kept.
+fn paint(work: &mut [u8], low: u64, high: u64, e: u8)
+    requires { ⌜ (high < 2 ^ 63) × (65536 ≤ length (now work)) ⌝ }
+    ensures { λ _. ⌜ Painted (now (work .entry)) low high e (now (work .exit)) ⌝ }
+{
+    let mut i = clipped(low);
+    let end = clipped(high + 1);
+    while i < end {
+        work[TABLE + i] = e;
+        i += 1;
+    }
+}
+
+// An empty literal: no index has a value of its own, and the filler is 0.
+pub fn empty(work: &mut [u8])
+    requires { ⌜ 65536 ≤ length (now work) ⌝ }
+    ensures { λ _. ⌜ (Filling (now (work .exit)) 49152 0 0 0 noneFilled) × ((b : ℕ) → Keeps 16384 b (now (work .entry)) (now (work .exit))) ⌝ }
+{
+    paint(work, 0, 1023, 0);
+    slots::put_value(work, SLOTS, values::ConstVal::Int(0));
+}
+
+// The value of element j, from 1, or of the filler, 0.
+pub fn put_value(work: &mut [u8], j: usize, v: values::ConstVal)
+    requires { ⌜ (j ≤ 16) × (65536 ≤ length (now work)) × (Small v) ⌝ }
+    ensures { λ _. ⌜ Stored (now (work .entry)) (12288 + 16 * j) v (now (work .exit)) ⌝ }
+{
+    slots::put_value(work, SLOTS + 16 * j, v);
+}
+
+fn place_span(work: &mut [u8], e: usize, low: u64, high: u64, reach: u64) -> Placed
+    requires { ⌜ (high < 2 ^ 63) × (e ≤ 16) × (65536 ≤ length (now work)) ⌝ }
+    ensures { λ r. ⌜ (r ≡ Into (high + 1) (max reach (high + 1))) × (Painted (now (work .entry)) low high e (now (work .exit))) ⌝ }
+{
+    paint(work, low, high, e as u8);
+    Placed::Into(high + 1, larger(reach, high + 1))
+}
+
+// A plain element.
+pub fn place_next(work: &mut [u8], e: usize, next: u64, reach: u64) -> Placed
+    requires { ⌜ (e ≤ 16) × (65536 ≤ length (now work)) ⌝ }
+    ensures { λ r. ⌜ Places (now (work .entry)) e next reach placeNext r (now (work .exit)) ⌝ }
+{
+    if next < BEYOND {
+        return place_span(work, e, next, next, reach);
+    }
+    Placed::Negative
+}
+
+// Indices low to high of a selector.
+pub fn place_indices(
+    work: &mut [u8],
+    e: usize,
+    low: i64,
+    high: i64,
+    next: u64,
+    reach: u64,
+) -> Placed
+    requires { ⌜ (e ≤ 16) × (65536 ≤ length (now work)) ⌝ }
+    ensures { λ r. ⌜ Places (now (work .entry)) e next reach (λ (v : ConstVal). placeIndices v low high) r (now (work .exit)) ⌝ }
+{
+    if high < low {
+        return Placed::Into(next, reach);
+    }
+    if low < 0 {
+        return Placed::Negative;
+    }
+    place_span(work, e, low as u64, high as u64, reach)
+}
+
+// The value at index i.
+pub fn element(work: &[u8], i: usize) -> values::ConstVal
+    requires { ⌜ (i < 1024) × (65536 ≤ length (now work)) ⌝ }
+    ensures { λ r. ⌜ r ≡ slotAt (now (work .entry)) (entryAt (now (work .entry)) i) ⌝ }
+{
+    slots::value_at(work, SLOTS + 16 * wide(work[TABLE + i]))
+}
+
+fn rank(v: values::ConstVal) -> u8
+    ensures { λ r. ⌜ ((t : Bytes) → r ≡ rankOf (valueIn t v)) ⌝ }
+{
+    match v {
+        values::ConstVal::Int(_) => 1,
+        values::ConstVal::Real(_) => REAL,
+        values::ConstVal::Str(_, _) => STRING,
+    }
+}
+
+// Whether one of the first `count` values has a rank.
+fn has(work: &[u8], count: usize, wanted: u8) -> bool
+    requires { ⌜ (count ≤ 1024) × (65536 ≤ length (now work)) ⌝ }
+    ensures { λ b. ⌜ b ≡ any (hasRank wanted) (valuesIn (now (work .entry)) 0 count) ⌝ }
+{
+    let mut i = 0;
+    while i < count {
+        if rank(element(work, i)) == wanted {
+            return true;
+        }
+        i += 1;
+    }
+    false
+}
+
+// By the first `count` values: pointers where one is a string, else reals where one is a real, else words.
+pub fn kind_of_values(work: &[u8], count: usize) -> u8
+    requires { ⌜ (count ≤ 1024) × (65536 ≤ length (now work)) ⌝ }
+    ensures { λ r. ⌜ r ≡ kindNumber (kindOfValues (valuesIn (now (work .entry)) 0 count)) ⌝ }
+{
+    if has(work, count, STRING) {
+        return 4;
+    }
+    if has(work, count, REAL) {
+        return 3;
+    }
+    1
+}

@@ -1,0 +1,272 @@
+-- The pass over the lines that numbers what they need.
+use mathlib.Core.Path.{_≡_, refl, sym, ap, _∙_}
+use mathlib.Core.Bool.{Bool, true, false, cond}
+use mathlib.Core.List.{List, [], _∷_, _++_}
+use Prim.Native.Nat.{ℕ, zero, suc, _+_, _-_, _≤_, _<_}
+use native.Mathlib.Omega.{arith}
+use native.Mathlib.Nat.{eq-or-lt-of-le}
+use native.Mathlib.Numerals.{add-one}
+use mathlib.Core.Logic.{⊎-elim}
+use lib.Dec.{eqb}
+use lib.ListN.{length, take, getD, length-append, List·getD-append}
+use lib.Seq.{take-suc, take-all, getD-at}
+use borrow.Author.Tests.{eq-eqb, ne-eqb}
+use Rattle.semantics.specs.Text.{any}
+use Rattle.semantics.specs.Tree.{Declares, Node, ElemKind, TypeKey}
+use Rattle.semantics.specs.Tree.ElemKind.{kByte, kWord, kBig, kReal, kPtr}
+use Rattle.semantics.specs.Tree.TypeKey.{elemKey, opaqueKey}
+use Rattle.semantics.specs.Form.{letter}
+use Rattle.semantics.specs.Sheet.{sheetSource}
+use Rattle.semantics.specs.Array.{kindNumber}
+use Rattle.semantics.specs.Types.{sameTypeKey, distinct, position}
+use Rattle.form.specs.Table.{kindAt}
+use Rattle.lines.specs.Lines.{readAt, nodesIn, formAt}
+use Rattle.lines.proofs.Line.{kind-is}
+use Rattle.refs.proofs.Nodes.{node-count}
+use Rattle.checks.specs.Checks.{Checked}
+use Rattle.checks.proofs.Kept.{kept-less, checked-kept}
+use Rattle.source.specs.Walk.{declaresAt, declaredTo}
+use Rattle.source.proofs.Walk.{declared-all, source-of}
+use Rattle.type_keys.specs.Keys.{needAt, NeedLine}
+use Rattle.type_keys.specs.Table.{lineOf, placeOf, kindOf, placed, kindsUsed, kindBy, needsTo, entered, kindEntered, Needs, Kinds, Outside, Numbering, NeedNext}
+use Rattle.type_keys.proofs.Distinct.{newKey, any-append, or-false, position-same, position-within, position-none, position-more, length-more, placed-more, known-same, known-length, placed-some, placed-none, distinct-more, distinct-few, key-member, none-distinct, known-more}
+use Rattle.type_keys.proofs.Forms.{needs-line, kind-low}
+use Rattle.type_keys.proofs.Same.{elems-are, elem-is}
+use Rattle.type_keys.proofs.Table.{outside-then, outside-less, line-below, place-below, kind-above, entered-outside, entered-line, entered-place, other-line, other-place, kind-outside, kind-entered}
+
+-- ---- how many needs there are
+
+module _ {A : Type 0} (f : Declares → List A) (ns : List Node) where
+  one-more : (i : ℕ) → length (declaredTo f ns i) ≤ length (declaredTo f ns (suc i))
+  unfolding declaredTo
+  one-more i = omega (arith, length-append (declaredTo f ns i) (f (declaresAt ns i)))
+
+  pub declared-more : (i d : ℕ) → length (declaredTo f ns i) ≤ length (declaredTo f ns (i + d))
+  declared-more i zero = let z : i + 0 ≡ i = omega arith in rw z (omega arith)
+  declared-more i (suc d) =
+      let z : i + suc d ≡ suc (i + d) = omega arith in
+      rw z (omega (arith, declared-more i d, one-more (i + d)))
+
+module _ (s t : List ℕ) (n : ℕ) (c : Checked s t n) where
+  pub needs-all : needsTo s n ≡ sheetSource s .needs
+  needs-all = rw (source-of s, declared-all (λ (d : Declares). d .needs) (nodesIn s), node-count s t n (c .whole))
+
+  pub needs-few : (i : ℕ) → i ≤ n → length (needsTo s i) ≤ 128
+  needs-few i h =
+      let z : i + (n - i) ≡ n = omega arith in
+      let e : length (needsTo s i) ≤ length (needsTo s n) = rw z at (declared-more (λ (d : Declares). d .needs) (nodesIn s) i (n - i)) in
+      let g : needsTo s n ≡ _ = sym (declared-all (λ (d : Declares). d .needs) (nodesIn s) ∙ rw (node-count s t n (c .whole))) in
+      omega (arith, e, ap length g, c .bounds .needs)
+
+  module _ (i : ℕ) (h : i < n) where
+    pub needs-next : letter (readAt s i .form .kind) ≡ 78 → needsTo s (i + 1) ≡ needsTo s i ++ (needAt s i ∷ [])
+    unfolding declaredTo
+    needs-next e = rw (add-one i, needs-line s t n c i h, eq-eqb (letter (readAt s i .form .kind)) 78 e)
+
+    pub needs-stay : (letter (readAt s i .form .kind) ≡ 78 → ⊥) → needsTo s (i + 1) ≡ needsTo s i
+    unfolding declaredTo
+    needs-stay e = rw (add-one i, needs-line s t n c i h, ne-eqb (letter (readAt s i .form .kind)) 78 e) (append-nil (needsTo s i))
+      where
+        append-nil : (l : List TypeKey) → l ++ [] ≡ l
+        append-nil [] = refl
+        append-nil (x ∷ l) = rw (append-nil l)
+
+-- ---- the position of a need's key
+
+module _ (s t : List ℕ) (n i needs keys : ℕ) (x : NeedNext s t n i needs keys) where
+  ks : List TypeKey
+  ks = needsTo s i
+
+  pub known-line : (q : ℕ) → q < needs → NeedLine s t n (lineOf t q)
+  known-line q h = let z : q < length (needsTo s i) = omega (arith, x .numbering .count) in record { checked = x .numbering .checked; within = x .numbering .table .within q z; kind = x .numbering .table .kind q z }
+
+  module _ (q : ℕ) (h : q < needs) (b : Bool) (e : b ≡ sameTypeKey (needAt s i) (needAt s (lineOf t q))) where
+    low : q < length (needsTo s i)
+    low = omega (arith, x .numbering .count)
+
+    same-as : b ≡ sameTypeKey (needAt s i) (getD (needsTo s i) q opaqueKey)
+    same-as = e ∙ ap (sameTypeKey (needAt s i)) (x .numbering .table .key q low)
+
+    pub place-found : b ≡ true → placeOf t q ≡ position (needAt s i) (distinct [] (needsTo s i))
+    place-found g = x .numbering .table .place q low ∙ sym (position-same (needAt s i) (getD (needsTo s i) q opaqueKey) (sym same-as ∙ g) (distinct [] (needsTo s i)))
+
+    pub place-next : b ≡ false → any (sameTypeKey (needAt s i)) (take q (needsTo s i)) ≡ false → any (sameTypeKey (needAt s i)) (take (q + 1) (needsTo s i)) ≡ false
+    place-next g k = rw (add-one q, take-suc (needsTo s i) q opaqueKey low, any-append (sameTypeKey (needAt s i)) (take q (needsTo s i)) (getD (needsTo s i) q opaqueKey ∷ []), k, ← same-as, g)
+
+  pub place-new : (q : ℕ) → needs ≤ q → any (sameTypeKey (needAt s i)) (take q (needsTo s i)) ≡ false → keys ≡ position (needAt s i) (distinct [] (needsTo s i))
+  place-new q h k =
+      let z = rw (take-all q (needsTo s i) (omega (arith, x .numbering .count))) at k in
+      x .numbering .kinds .count ∙ sym (position-none (needAt s i) (distinct [] (needsTo s i)) (none-distinct (needAt s i) (needsTo s i) z))
+
+  pub needs-room : (needs < 128) × (position (needAt s i) (distinct [] (needsTo s i)) ≤ 127) × (keys ≤ 127)
+  needs-room =
+      let e = needs-few s t n (x .line .checked) (i + 1) (omega (arith, x .line .within)) in
+      let g = ap length (needs-next s t n (x .line .checked) i (x .line .within) (x .line .kind)) ∙ length-append (needsTo s i) (needAt s i ∷ []) in
+      (omega (arith, e, g, x .numbering .count), omega (arith, e, g, position-within (needAt s i) (distinct [] (needsTo s i)), distinct-few [] (needsTo s i)), omega (arith, e, g, x .numbering .kinds .count, distinct-few [] (needsTo s i)))
+
+-- ---- one key more
+
+pub keys-more : (k : TypeKey) (l : List TypeKey) (p keys : ℕ) → p ≡ position k (distinct [] l) → keys ≡ length (distinct [] l) → length (distinct [] (l ++ (k ∷ []))) ≡ cond (eqb p keys) (suc keys) keys
+keys-more k l p keys hp hk = rw (distinct-more k l, hp, hk) (length-more k (distinct [] l))
+
+-- what holds of all keys and of one more
+each : (l : List TypeKey) (k : TypeKey) (P : ℕ → TypeKey → Type 0) → ((q : ℕ) → q < length l → P q (getD l q opaqueKey)) → P (length l) k → (q : ℕ) → q < length (l ++ (k ∷ [])) → P q (getD (l ++ (k ∷ [])) q opaqueKey)
+each [] k P a b zero h = b
+each [] k P a b (suc q) h = absurd (omega arith)
+each (x ∷ l) k P a b zero h = a 0 (omega arith)
+each (x ∷ l) k P a b (suc q) h = each l k (λ q. P (suc q)) (λ q h. a (suc q) (omega arith)) b q (omega arith)
+
+-- where the bytes of kinds are as they were but for the kind of the key k
+pub kinds-more : {t u : List ℕ} {l : List TypeKey} {keys : ℕ} (k : TypeKey) (more : ℕ) → Kinds t l keys
+    → ((e : ElemKind) → kindOf u (kindNumber e) ≡ cond (sameTypeKey (elemKey e) k) (suc (position k (distinct [] l))) (kindOf t (kindNumber e)))
+    → more ≡ length (distinct [] (l ++ (k ∷ []))) → more ≤ 128 + kindsUsed u → Kinds u (l ++ (k ∷ [])) more
+kinds-more {t} {u} {l} {keys} k more x h g w = record {
+  count = g;
+  place = λ e. h e ∙ rw (distinct-more k l, placed-more k (distinct [] l) (elemKey e), x .place e);
+  few = w;
+}
+
+module _ (s t : List ℕ) (n i needs keys : ℕ) (x : NeedNext s t n i needs keys) (f p : ℕ) (hf : f ≡ formAt t i) (hp : p ≡ position (needAt s i) (distinct [] (needsTo s i)))
+    (u v : List ℕ) (hu : u ≡ entered t needs i p) (hv : v ≡ kindEntered u (kindBy f) p) where
+  room : 65536 ≤ length t
+  room = x .numbering .checked .whole .room
+
+  first : Outside 10240 10624 t u
+  first = rw hu (entered-outside t room needs i p (needs-room s t n i needs keys x .0))
+
+  second : Outside 10624 10629 u v
+  second = rw hv (kind-outside u (omega (arith, room, first .kept .long)) (kindBy f) p)
+
+  pub numbered-outside : Outside 10240 11264 t v
+  numbered-outside = outside-then (outside-less 10240 11264 (omega arith) (omega arith) first) (outside-less 10240 11264 (omega arith) (omega arith) second)
+
+  line-at : (q : ℕ) → q < 128 → lineOf v q ≡ lineOf (entered t needs i p) q
+  line-at q h = line-below second q h ∙ ap (λ (l : List ℕ). lineOf l q) hu
+
+  place-at : (q : ℕ) → q < 128 → placeOf v q ≡ placeOf (entered t needs i p) q
+  place-at q h = place-below second q h ∙ ap (λ (l : List ℕ). placeOf l q) hu
+
+  module _ (q : ℕ) (h : q < length (needsTo s i)) where
+    few : q < 128
+    few = omega (arith, needs-room s t n i needs keys x .0, x .numbering .count)
+
+    apart : q ≡ needs → ⊥
+    apart e = omega (arith, x .numbering .count)
+
+    old-line : lineOf v q ≡ lineOf t q
+    old-line = line-at q few ∙ other-line t room needs i p (needs-room s t n i needs keys x .0) q few apart
+
+    old-place : placeOf v q ≡ placeOf t q
+    old-place = place-at q few ∙ other-place t room needs i p (needs-room s t n i needs keys x .0) q few apart
+
+  new-line : lineOf v (length (needsTo s i)) ≡ i
+  new-line = rw (← x .numbering .count) (line-at needs (needs-room s t n i needs keys x .0) ∙ entered-line t room needs i p (needs-room s t n i needs keys x .0))
+
+  new-place : placeOf v (length (needsTo s i)) ≡ p
+  new-place = rw (← x .numbering .count) (place-at needs (needs-room s t n i needs keys x .0) ∙ entered-place t room needs i p (needs-room s t n i needs keys x .0))
+
+  places-stay : (q : ℕ) → q < length (needsTo s i) → placeOf v q ≡ position (getD (needsTo s i) q opaqueKey) (distinct [] (needsTo s i ++ (needAt s i ∷ [])))
+  places-stay q h =
+      old-place q h ∙ x .numbering .table .place q h
+      ∙ sym (known-more (getD (needsTo s i) q opaqueKey) (needsTo s i) (needAt s i ∷ []) (key-member opaqueKey (needsTo s i) q h) .1)
+
+  needs-more : Needs s v n (needsTo s i ++ (needAt s i ∷ []))
+  needs-more =
+      let old = x .numbering .table in
+      record {
+        few = omega (arith, length-append (needsTo s i) (needAt s i ∷ []), needs-room s t n i needs keys x .0, x .numbering .count);
+        within = λ q h. each (needsTo s i) (needAt s i) (λ q k. lineOf v q < n) (λ q h. rw (old-line q h) (old .within q h)) (rw new-line (x .line .within)) q h;
+        kind = λ q h. each (needsTo s i) (needAt s i) (λ q k. letter (readAt s (lineOf v q) .form .kind) ≡ 78) (λ q h. rw (old-line q h) (old .kind q h)) (rw new-line (x .line .kind)) q h;
+        key = λ q h. each (needsTo s i) (needAt s i) (λ q k. needAt s (lineOf v q) ≡ k) (λ q h. rw (old-line q h) (old .key q h)) (ap (needAt s) new-line) q h;
+        place = λ q h. each (needsTo s i) (needAt s i) (λ q k. placeOf v q ≡ position k (distinct [] (needsTo s i ++ (needAt s i ∷ [])))) places-stay (new-place ∙ hp ∙ rw (distinct-more (needAt s i) (needsTo s i)) (sym (position-more (needAt s i) (distinct [] (needsTo s i))))) q h;
+      }
+
+  kinds-are : (e : ElemKind) → kindOf v (kindNumber e) ≡ cond (sameTypeKey (elemKey e) (needAt s i)) (suc (position (needAt s i) (distinct [] (needsTo s i)))) (kindOf t (kindNumber e))
+  kinds-are e =
+      ap (λ (l : List ℕ). kindOf l (kindNumber e)) hv
+      ∙ kind-entered u (omega (arith, room, first .kept .long)) (kindBy f) p (kindNumber e) (kind-low e)
+      ∙ rw (elem-is s t n i (x .line) e, ← hf, ← hp, kind-above first (kindNumber e))
+
+  pub numbered : (more : ℕ) → more ≡ length (distinct [] (needsTo s i ++ (needAt s i ∷ []))) → Numbering s v n (i + 1) (needs + 1) more
+  numbered m hm =
+      let c = x .numbering .checked in
+      let e = needs-next s t n c i (x .line .within) (x .line .kind) in
+      let few = needs-few s t n c (i + 1) (omega (arith, x .line .within)) in
+      record {
+        checked = checked-kept (kept-less (omega arith) (numbered-outside .kept)) c;
+        within = omega (arith, x .line .within);
+        count = rw e (sym (length-append (needsTo s i) (needAt s i ∷ []) ∙ omega (arith, x .numbering .count)));
+        table = rw e needs-more;
+        kinds = rw e (kinds-more (needAt s i) m (x .numbering .kinds) kinds-are hm (omega (arith, hm, distinct-few [] (needsTo s i ++ (needAt s i ∷ [])), ap length e, few)));
+      }
+
+-- ---- lines that need nothing, and the ends of the pass
+
+module _ (s t : List ℕ) (n i needs keys : ℕ) (x : Numbering s t n i needs keys) where
+  pub numbering-stay : i < n → (letter (readAt s i .form .kind) ≡ 78 → ⊥) → Numbering s t n (i + 1) needs keys
+  numbering-stay h e =
+      let z = needs-stay s t n (x .checked) i h e in
+      record { checked = x .checked; within = omega arith; count = rw z (x .count); table = rw z (x .table); kinds = rw z (x .kinds) }
+
+  pub numbering-need : i < n → letter (readAt s i .form .kind) ≡ 78 → NeedNext s t n i needs keys
+  numbering-need h e = record { numbering = x; line = record { checked = x .checked; within = h; kind = e } }
+
+  pub numbering-end : n ≤ i → (needs ≡ length (sheetSource s .needs)) × (Needs s t n (sheetSource s .needs)) × (Kinds t (sheetSource s .needs) keys)
+  numbering-end h =
+      let z : i ≡ n = omega (arith, x .within) in
+      let e : needsTo s i ≡ sheetSource s .needs = ap (needsTo s) z ∙ needs-all s t n (x .checked) in
+      (x .count ∙ ap length e, rw e at (x .table), rw e at (x .kinds))
+
+pub numbering-start : (s t : List ℕ) (n : ℕ) → Checked s t n → ((k : ℕ) → k < 5 → kindOf t k ≡ 0) → Numbering s t n 0 0 0
+unfolding declaredTo
+numbering-start s t n c z = record {
+  checked = c;
+  within = omega arith;
+  count = refl;
+  table = record {
+    few = omega arith;
+    within = λ q h. absurd (omega arith);
+    kind = λ q h. absurd (omega arith);
+    key = λ q h. absurd (omega arith);
+    place = λ q h. absurd (omega arith);
+  };
+  kinds = record { count = refl; place = λ k. z (kindNumber k) (kind-low k); few = omega arith };
+}
+
+-- ---- an element
+
+used-more : (t u : List ℕ) (k : ℕ) → k < 5 → kindOf t k ≡ 0 → (kindOf u k ≡ 0 → ⊥) → ((j : ℕ) → j < 5 → (j ≡ k → ⊥) → kindOf u j ≡ kindOf t j) → kindsUsed u ≡ suc (kindsUsed t)
+unfolding kindsUsed
+used-more t u zero h z p o = rw (ne-eqb (kindOf u 0) 0 p, z, o 1 (omega arith) (λ e. absurd (omega arith)), o 2 (omega arith) (λ e. absurd (omega arith)), o 3 (omega arith) (λ e. absurd (omega arith)), o 4 (omega arith) (λ e. absurd (omega arith))) (omega arith)
+used-more t u (suc zero) h z p o = rw (ne-eqb (kindOf u 1) 0 p, z, o 0 (omega arith) (λ e. absurd (omega arith)), o 2 (omega arith) (λ e. absurd (omega arith)), o 3 (omega arith) (λ e. absurd (omega arith)), o 4 (omega arith) (λ e. absurd (omega arith))) (omega arith)
+used-more t u (suc (suc zero)) h z p o = rw (ne-eqb (kindOf u 2) 0 p, z, o 0 (omega arith) (λ e. absurd (omega arith)), o 1 (omega arith) (λ e. absurd (omega arith)), o 3 (omega arith) (λ e. absurd (omega arith)), o 4 (omega arith) (λ e. absurd (omega arith))) (omega arith)
+used-more t u (suc (suc (suc zero))) h z p o = rw (ne-eqb (kindOf u 3) 0 p, z, o 0 (omega arith) (λ e. absurd (omega arith)), o 1 (omega arith) (λ e. absurd (omega arith)), o 2 (omega arith) (λ e. absurd (omega arith)), o 4 (omega arith) (λ e. absurd (omega arith))) (omega arith)
+used-more t u (suc (suc (suc (suc zero)))) h z p o = rw (ne-eqb (kindOf u 4) 0 p, z, o 0 (omega arith) (λ e. absurd (omega arith)), o 1 (omega arith) (λ e. absurd (omega arith)), o 2 (omega arith) (λ e. absurd (omega arith)), o 3 (omega arith) (λ e. absurd (omega arith))) (omega arith)
+used-more t u (suc (suc (suc (suc (suc k))))) h z p o = absurd (omega arith)
+
+module _ (t : List ℕ) (room : 65536 ≤ length t) (k : ElemKind) (l : List TypeKey) (keys : ℕ) (x : Kinds t l keys) where
+  pub kind-known : (kindOf t (kindNumber k) ≡ 0 → ⊥) → Kinds t (l ++ (elemKey k ∷ [])) keys
+  kind-known h =
+      let a = placed-some (elemKey k) (distinct [] l) (λ z. h (x .place k ∙ z)) in
+      kinds-more (elemKey k) keys x
+      (λ e. x .place e ∙ known-same (elemKey k) (distinct [] l) a (elemKey e) ∙ rw (← x .place e))
+      (x .count ∙ rw (distinct-more (elemKey k) l) (sym (known-length (elemKey k) (distinct [] l) a)))
+      (x .few)
+
+  module _ (kind : ℕ) (hk : kind ≡ kindNumber k) (z : kindOf t kind ≡ 0) (u : List ℕ) (hu : u ≡ kindEntered t kind keys) where
+    none : any (sameTypeKey (elemKey k)) (distinct [] l) ≡ false
+    none = placed-none (elemKey k) (distinct [] l) (sym (x .place k) ∙ rw (← hk) z)
+
+    place : keys ≡ position (elemKey k) (distinct [] l)
+    place = x .count ∙ sym (position-none (elemKey k) (distinct [] l) none)
+
+    entered-at : (j : ℕ) → j < 5 → kindOf u j ≡ cond (eqb j kind) (suc keys) (kindOf t j)
+    entered-at j h = rw hu (kind-entered t room kind keys j h)
+
+    pub kind-new : Kinds u (l ++ (elemKey k ∷ [])) (keys + 1)
+    kind-new =
+        let low : kind < 5 = omega (arith, kind-low k) in
+        kinds-more (elemKey k) (keys + 1) x
+        (λ e. entered-at (kindNumber e) (kind-low e) ∙ rw (elems-are e k, hk, place))
+        (sym (keys-more (elemKey k) l keys keys place (x .count) ∙ rw (eq-eqb keys keys refl) (omega arith)))
+        (omega (arith, x .few, used-more t u kind low z (λ q. let y : suc keys ≡ 0 = sym (entered-at kind low ∙ rw (eq-eqb kind kind refl)) ∙ q in absurd (omega arith)) (λ j h ne. entered-at j h ∙ rw (ne-eqb j kind ne))))

@@ -1,0 +1,79 @@
+-- When two `need` lines have one key, by their forms.
+use mathlib.Core.Path.{_≡_, refl, sym, ap, _∙_}
+use mathlib.Core.Bool.{Bool, true, false, cond, _&&_}
+use mathlib.Core.List.{List}
+use Prim.Native.Nat.{ℕ, zero, suc, _+_, _-_, _<_}
+use native.Mathlib.Omega.{arith}
+use lib.Dec.{eqb}
+use lib.ListN.{getD}
+use borrow.Author.Tests.{ne-eqb, eq-eqb}
+use Rattle.semantics.specs.Text.{same}
+use Rattle.semantics.specs.Tree.{Node, ElemKind, TypeKey}
+use Rattle.semantics.specs.Tree.TypeKey.{adtKey, elemKey, blockKey, opaqueKey}
+use Rattle.semantics.specs.Array.{kindNumber}
+use Rattle.semantics.specs.Types.{sameTypeKey}
+use Rattle.lines.specs.Lines.{readAt, nodesIn, formAt}
+use Rattle.source.specs.Walk.{fieldAt}
+use Rattle.type_keys.specs.Keys.{needAt, NeedLine, shapeAt, ShapeLine}
+use Rattle.type_keys.specs.Table.{kindBy}
+use Rattle.type_keys.proofs.Distinct.{same-self}
+use Rattle.type_keys.proofs.Forms.{elemBy, keyBy, key-is, form-from, kind-low, eqZ-pos}
+use Rattle.type_keys.proofs.Texts.{names-same}
+
+module _ (s t : List ℕ) (n i : ℕ) (l : NeedLine s t n i) where
+  pub name-key : formAt t i ≡ 34 → needAt s i ≡ adtKey (fieldAt (readAt s i .fields) 0)
+  name-key e = key-is s t n i l ∙ rw e
+
+  pub block-key : formAt t i ≡ 40 → needAt s i ≡ blockKey (shapeAt s i)
+  unfolding shapeAt
+  block-key e = key-is s t n i l ∙ rw e
+
+  pub opaque-key : formAt t i ≡ 41 → needAt s i ≡ opaqueKey
+  opaque-key e = key-is s t n i l ∙ rw e
+
+  pub plain-key : (formAt t i ≡ 34 → ⊥) → (formAt t i ≡ 40 → ⊥) → needAt s i ≡ cond (eqb (formAt t i) 41) opaqueKey (elemKey (elemBy (formAt t i)))
+  plain-key a b = key-is s t n i l ∙ rw (ne-eqb (formAt t i) 34 a, ne-eqb (formAt t i) 40 b)
+
+  pub block-line : formAt t i ≡ 40 → ShapeLine s t n i
+  block-line e = record { checked = l .checked; within = l .within; form = rw e }
+
+module _ (s t : List ℕ) (n i j : ℕ) (a : NeedLine s t n i) (b : NeedLine s t n j) (f : ℕ) (ha : f ≡ formAt t i) (hb : f ≡ formAt t j) where
+  pub names-are : f ≡ 34 → {x y : List ℕ} {r : Bool} → x ≡ fieldAt (readAt s i .fields) 0 → y ≡ fieldAt (readAt s j .fields) 0 → r ≡ same x y → r ≡ sameTypeKey (needAt s i) (needAt s j)
+  names-are e {x} {y} p q h = h ∙ sym (rw (name-key s t n i a (sym ha ∙ e), name-key s t n j b (sym hb ∙ e), ← p, ← q) (names-same x y))
+
+  pub blocks-are : f ≡ 40 → {r : Bool} → r ≡ sameTypeKey (blockKey (shapeAt s i)) (blockKey (shapeAt s j)) → r ≡ sameTypeKey (needAt s i) (needAt s j)
+  blocks-are e h = h ∙ sym (rw (block-key s t n i a (sym ha ∙ e), block-key s t n j b (sym hb ∙ e)))
+
+  pub others-are : (f ≡ 34 → ⊥) → (f ≡ 40 → ⊥) → true ≡ sameTypeKey (needAt s i) (needAt s j)
+  others-are p q =
+      let e : needAt s i ≡ needAt s j = plain-key s t n i a (λ z. p (ha ∙ z)) (λ z. q (ha ∙ z)) ∙ rw (← ha, hb) (sym (plain-key s t n j b (λ z. p (hb ∙ z)) (λ z. q (hb ∙ z)))) in
+      sym (ap (sameTypeKey (needAt s i)) (sym e) ∙ same-self (needAt s i))
+
+-- ---- which kind of element a `need` line asks for
+
+and-true : (a : Bool) → a && true ≡ a
+and-true true = refl
+and-true false = refl
+
+pub elems-are : (j k : ElemKind) → sameTypeKey (elemKey j) (elemKey k) ≡ eqb (kindNumber j) (kindNumber k)
+elems-are j k = rw (eqZ-pos (kindNumber j) (kindNumber k)) (and-true (eqb (kindNumber j) (kindNumber k)))
+
+module _ (ns : List Node) (fs : List (List ℕ)) (k : ElemKind) where
+  no-kind : false ≡ eqb (kindNumber k) 5
+  no-kind = sym (ne-eqb (kindNumber k) 5 (λ e. omega (arith, kind-low k)))
+
+  elem-by : (d : ℕ) → d < 8 → sameTypeKey (elemKey k) (keyBy (34 + d) ns fs) ≡ eqb (kindNumber k) (kindBy (34 + d))
+  elem-by zero h = no-kind
+  elem-by (suc zero) h = elems-are k ElemKind.kWord
+  elem-by (suc (suc zero)) h = elems-are k ElemKind.kByte
+  elem-by (suc (suc (suc zero))) h = elems-are k ElemKind.kBig
+  elem-by (suc (suc (suc (suc zero)))) h = elems-are k ElemKind.kReal
+  elem-by (suc (suc (suc (suc (suc zero))))) h = elems-are k ElemKind.kPtr
+  elem-by (suc (suc (suc (suc (suc (suc zero)))))) h = no-kind
+  elem-by (suc (suc (suc (suc (suc (suc (suc zero))))))) h = no-kind
+  elem-by (suc (suc (suc (suc (suc (suc (suc (suc d)))))))) h = absurd (omega arith)
+
+pub elem-is : (s t : List ℕ) (n i : ℕ) (l : NeedLine s t n i) (k : ElemKind) → sameTypeKey (elemKey k) (needAt s i) ≡ eqb (kindNumber k) (kindBy (formAt t i))
+elem-is s t n i l k =
+    let z : 34 + (formAt t i - 34) ≡ formAt t i = omega (arith, form-from s t n i l .0) in
+    rw (key-is s t n i l) (rw z at (elem-by (nodesIn s) (readAt s i .fields) k (formAt t i - 34) (omega (arith, form-from s t n i l .1))))

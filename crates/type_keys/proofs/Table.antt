@@ -1,0 +1,142 @@
+-- The table: what is read of it after a store.
+use mathlib.Core.Path.{_≡_, refl, sym, ap, _∙_}
+use mathlib.Core.Bool.{Bool, true, false, cond}
+use mathlib.Core.List.{List, []}
+use Prim.Native.Nat.{ℕ, suc, _+_, _-_, _*_, _/_, _%_, _≤_, _<_}
+use native.Mathlib.Omega.{arith}
+use native.Mathlib.Nat.{div-add-mod'}
+use lib.Dec.{ltb, eqb}
+use lib.ListN.{length, take, drop, getD, set, length-set}
+use lib.Seq.{getD-set-same, getD-set-other, take-set-le, drop-set-lt, getD-drop, drop-drop}
+use borrow.Author.Tests.{lt-ltb, le-ltb, ltb-true, ltb-false, eq-eqb, ne-eqb, eqb-true, eqb-false}
+use Rattle.checks.specs.Checks.{Kept}
+use Rattle.checks.proofs.Kept.{kept-all, kept-then, kept-less, kept-at}
+use Rattle.type_keys.specs.Table.{lineOf, placeOf, kindOf, entered, kindEntered, Outside}
+
+-- ---- what is kept
+
+pub outside-all : {a b : ℕ} {t : List ℕ} → Outside a b t t
+outside-all = record { kept = kept-all; above = refl }
+
+pub outside-then : {a b : ℕ} {t u v : List ℕ} → Outside a b t u → Outside a b u v → Outside a b t v
+outside-then x y = record { kept = kept-then (x .kept) (y .kept); above = y .above ∙ x .above }
+
+pub outside-less : {a b : ℕ} {t u : List ℕ} (c d : ℕ) → c ≤ a → b ≤ d → Outside a b t u → Outside c d t u
+outside-less {a} {b} {t} {u} c d h k x =
+    let z : b + (d - b) ≡ d = omega arith in
+    record { kept = kept-less h (x .kept); above = rw z at (sym (drop-drop (d - b) b u) ∙ ap (drop (d - b)) (x .above) ∙ drop-drop (d - b) b t) }
+
+pub outside-set : (a b : ℕ) (t : List ℕ) (j x : ℕ) → a ≤ j → j < b → Outside a b t (set t j x)
+outside-set a b t j x h k = record { kept = record { below = take-set-le a t j x h; long = length-set t j x }; above = drop-set-lt b t j x k }
+
+pub outside-above : {a b : ℕ} {t u : List ℕ} → Outside a b t u → (j : ℕ) → b ≤ j → getD u j 0 ≡ getD t j 0
+outside-above {a} {b} {t} {u} x j h =
+    let z : b + (j - b) ≡ j = omega arith in
+    rw z at (sym (getD-drop b u (j - b) 0) ∙ ap (λ (l : List ℕ). getD l (j - b) 0) (x .above) ∙ getD-drop b t (j - b) 0)
+
+-- ---- the parts of the table
+
+module _ {t u : List ℕ} where
+  -- a store among the kinds of elements leaves the needs
+  pub line-below : {b : ℕ} → Outside 10624 b t u → (q : ℕ) → q < 128 → lineOf u q ≡ lineOf t q
+  unfolding lineOf
+  line-below x q h = rw (kept-at (x .kept) (10240 + q) (omega arith), kept-at (x .kept) (10368 + q) (omega arith))
+
+  pub place-below : {b : ℕ} → Outside 10624 b t u → (q : ℕ) → q < 128 → placeOf u q ≡ placeOf t q
+  unfolding placeOf
+  place-below x q h = kept-at (x .kept) (10496 + q) (omega arith)
+
+  -- and one among the needs the kinds
+  pub kind-above : {a : ℕ} → Outside a 10624 t u → (k : ℕ) → kindOf u k ≡ kindOf t k
+  unfolding kindOf
+  kind-above x k = outside-above x (10624 + k) (omega arith)
+
+-- ---- a need
+
+module _ (t : List ℕ) (room : 65536 ≤ length t) (q i p : ℕ) (hq : q < 128) where
+  pub entered-outside : Outside 10240 10624 t (entered t q i p)
+  unfolding entered
+  entered-outside =
+      let a = set t (10240 + q) (i % 256) in
+      let b = set a (10368 + q) (i / 256) in
+      outside-then (outside-set 10240 10624 t (10240 + q) (i % 256) (omega arith) (omega arith))
+      (outside-then (outside-set 10240 10624 a (10368 + q) (i / 256) (omega arith) (omega arith))
+      (outside-set 10240 10624 b (10496 + q) p (omega arith) (omega arith)))
+
+  long-1 : length (set t (10240 + q) (i % 256)) ≡ length t
+  long-1 = length-set t (10240 + q) (i % 256)
+
+  long-2 : length (set (set t (10240 + q) (i % 256)) (10368 + q) (i / 256)) ≡ length t
+  long-2 = length-set (set t (10240 + q) (i % 256)) (10368 + q) (i / 256) ∙ long-1
+
+  pub entered-line : lineOf (entered t q i p) q ≡ i
+  unfolding lineOf entered
+  entered-line =
+      let a = set t (10240 + q) (i % 256) in
+      let b = set a (10368 + q) (i / 256) in
+      rw (
+        getD-set-other b (10496 + q) (10240 + q) p 0 (λ e. absurd (omega arith)),
+        getD-set-other a (10368 + q) (10240 + q) (i / 256) 0 (λ e. absurd (omega arith)),
+        getD-set-same t (10240 + q) (i % 256) 0 (omega arith),
+        getD-set-other b (10496 + q) (10368 + q) p 0 (λ e. absurd (omega arith)),
+        getD-set-same a (10368 + q) (i / 256) 0 (omega (arith, long-1)),
+      )
+      (omega (arith, div-add-mod' i 256))
+
+  pub entered-place : placeOf (entered t q i p) q ≡ p
+  unfolding placeOf entered
+  entered-place = getD-set-same (set (set t (10240 + q) (i % 256)) (10368 + q) (i / 256)) (10496 + q) p 0 (omega (arith, long-2))
+
+  module _ (j : ℕ) (hj : j < 128) (ne : j ≡ q → ⊥) where
+    pub other-line : lineOf (entered t q i p) j ≡ lineOf t j
+    unfolding lineOf entered
+    other-line =
+        let a = set t (10240 + q) (i % 256) in
+        let b = set a (10368 + q) (i / 256) in
+        rw (
+          getD-set-other b (10496 + q) (10240 + j) p 0 (λ e. absurd (omega arith)),
+          getD-set-other a (10368 + q) (10240 + j) (i / 256) 0 (λ e. absurd (omega arith)),
+          getD-set-other t (10240 + q) (10240 + j) (i % 256) 0 (λ e. ne (omega arith)),
+          getD-set-other b (10496 + q) (10368 + j) p 0 (λ e. absurd (omega arith)),
+          getD-set-other a (10368 + q) (10368 + j) (i / 256) 0 (λ e. ne (omega arith)),
+          getD-set-other t (10240 + q) (10368 + j) (i % 256) 0 (λ e. absurd (omega arith)),
+        )
+
+    pub other-place : placeOf (entered t q i p) j ≡ placeOf t j
+    unfolding placeOf entered
+    other-place =
+        let a = set t (10240 + q) (i % 256) in
+        let b = set a (10368 + q) (i / 256) in
+        rw (getD-set-other b (10496 + q) (10496 + j) p 0 (λ e. ne (omega arith)), getD-set-other a (10368 + q) (10496 + j) (i / 256) 0 (λ e. absurd (omega arith)), getD-set-other t (10240 + q) (10496 + j) (i % 256) 0 (λ e. absurd (omega arith)))
+
+-- ---- a kind of element
+
+module _ (t : List ℕ) (room : 65536 ≤ length t) (k p : ℕ) where
+  pub kind-outside : Outside 10624 10629 t (kindEntered t k p)
+  unfolding kindEntered
+  kind-outside = go (ltb k 5) refl
+    where
+      go : (b : Bool) → ltb k 5 ≡ b → Outside 10624 10629 t (cond b (set t (10624 + k) (p + 1)) t)
+      go true e = outside-set 10624 10629 t (10624 + k) (p + 1) (omega arith) (omega (arith, ltb-true k 5 e))
+      go false e = outside-all
+
+  pub kind-entered : (j : ℕ) → j < 5 → kindOf (kindEntered t k p) j ≡ cond (eqb j k) (suc p) (kindOf t j)
+  unfolding kindEntered kindOf
+  kind-entered j h = go (ltb k 5) refl (eqb j k) refl
+    where
+      go : (b : Bool) → ltb k 5 ≡ b → (e : Bool) → eqb j k ≡ e → getD (cond b (set t (10624 + k) (p + 1)) t) (10624 + j) 0 ≡ cond e (suc p) (getD t (10624 + j) 0)
+      go true b true e =
+          let z : j ≡ k = eqb-true j k e in
+          rw (z, getD-set-same t (10624 + k) (p + 1) 0 (omega (arith, ltb-true k 5 b))) (omega arith)
+      go true b false e = getD-set-other t (10624 + k) (10624 + j) (p + 1) 0 (λ z. eqb-false j k e (omega arith))
+      go false b true e = absurd (omega (arith, eqb-true j k e, ltb-false k 5 b))
+      go false b false e = refl
+
+-- one more kind cleared
+pub cleared-next : (t : List ℕ) (k : ℕ) → k < 5 → 65536 ≤ length t → ((j : ℕ) → j < k → kindOf t j ≡ 0) → (j : ℕ) → j < k + 1 → kindOf (set t (10624 + k) 0) j ≡ 0
+unfolding kindOf
+cleared-next t k h room z j l = go (eqb j k) refl
+  where
+    go : (e : Bool) → eqb j k ≡ e → getD (set t (10624 + k) 0) (10624 + j) 0 ≡ 0
+    go true e = let q : j ≡ k = eqb-true j k e in rw (q, getD-set-same t (10624 + k) 0 0 (omega arith))
+    go false e = getD-set-other t (10624 + k) (10624 + j) 0 0 (λ q. eqb-false j k e (omega arith)) ∙ z j (omega (arith, eqb-false j k e))

@@ -1,0 +1,44 @@
+-- The keys of `need` lines, and the shapes that lines write out.
+use Prim.Native.Nat.{ℕ, _+_, _-_, _<_}
+use mathlib.Core.Path.{_≡_}
+use mathlib.Core.Bool.{true, _||_}
+use mathlib.Core.List.{List, [], _∷_}
+use lib.Dec.{eqb}
+use lib.IntN.{ℤ, pos, negsuc}
+use lib.ListN.{getD}
+use Rattle.semantics.specs.Text.{Bytes}
+use Rattle.semantics.specs.Tree.{Shape, TypeKey}
+use Rattle.semantics.specs.Tree.TypeKey.{opaqueKey}
+use Rattle.semantics.specs.Form.{letter}
+use Rattle.lines.specs.Lines.{readAt, nodesIn, formAt}
+use Rattle.checks.specs.Checks.{Checked}
+use Rattle.source.specs.Walk.{declaresAt, frameOf}
+
+abbrev pub firstKey : List TypeKey → TypeKey
+firstKey [] = opaqueKey
+firstKey (k ∷ ks) = k
+
+-- the key of the `need` line i, from 0
+unfoldable pub needAt : Bytes → ℕ → TypeKey
+needAt s i = firstKey (declaresAt (nodesIn s) i .needs)
+
+-- line i of a checked sheet is a `need` line, 78
+pub record NeedLine (s t : Bytes) (n i : ℕ) : Type 0 where
+  pub checked : Checked s t n
+  pub within : i < n
+  pub kind : letter (readAt s i .form .kind) ≡ 78
+
+-- the size and the offsets that line i writes out
+unfoldable pub shapeAt : Bytes → ℕ → Shape
+shapeAt s i = frameOf (nodesIn s) (readAt s i .fields)
+
+-- line i is a `frame` line, 33, or a `need,block` line, 40
+pub record ShapeLine (s t : Bytes) (n i : ℕ) : Type 0 where
+  pub checked : Checked s t n
+  pub within : i < n
+  pub form : eqb (formAt t i) 33 || eqb (formAt t i) 40 ≡ true
+
+-- an offset from −4,096 on as a number from 0 on
+abbrev pub raised : ℤ → ℕ
+raised (pos n) = 4096 + n
+raised (negsuc n) = 4095 - n

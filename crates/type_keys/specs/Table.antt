@@ -1,0 +1,88 @@
+-- The table of descriptor keys in the working space, from byte 10240 on.
+use Prim.Native.Nat.{ℕ, suc, _+_, _-_, _*_, _/_, _%_, _≤_, _<_}
+use mathlib.Core.Path.{_≡_}
+use mathlib.Core.Bool.{cond, _&&_}
+use mathlib.Core.List.{List, []}
+use lib.Dec.{leb, ltb, eqb}
+use lib.ListN.{length, drop, getD, set}
+use Rattle.semantics.specs.Text.{Bytes, any}
+use Rattle.semantics.specs.Tree.{ElemKind, TypeKey, Declares}
+use Rattle.semantics.specs.Tree.TypeKey.{elemKey, opaqueKey}
+use Rattle.semantics.specs.Form.{letter}
+use Rattle.semantics.specs.Array.{kindNumber}
+use Rattle.semantics.specs.Types.{sameTypeKey, distinct, position}
+use Rattle.lines.specs.Lines.{readAt, nodesIn}
+use Rattle.checks.specs.Checks.{Checked, Kept}
+use Rattle.source.specs.Walk.{declaredTo}
+use Rattle.type_keys.specs.Keys.{needAt, NeedLine}
+
+-- 128 bytes each: the line of need q, low and high byte, and the position of its key among the distinct keys
+unfoldable pub lineOf : Bytes → ℕ → ℕ
+lineOf t q = getD t (10240 + q) 0 + 256 * getD t (10368 + q) 0
+
+unfoldable pub placeOf : Bytes → ℕ → ℕ
+placeOf t q = getD t (10496 + q) 0
+
+-- for each kind of element 0 where its key is not used, or its position plus 1
+unfoldable pub kindOf : Bytes → ℕ → ℕ
+kindOf t k = getD t (10624 + k) 0
+
+abbrev pub placed : TypeKey → List TypeKey → ℕ
+placed k js = cond (any (sameTypeKey k) js) (suc (position k js)) 0
+
+-- the table has the lines of the needs ks, and their positions
+pub record Needs (s t : Bytes) (n : ℕ) (ks : List TypeKey) : Type 0 where
+  pub few : length ks ≤ 128
+  pub within : (q : ℕ) → q < length ks → lineOf t q < n
+  pub kind : (q : ℕ) → q < length ks → letter (readAt s (lineOf t q) .form .kind) ≡ 78
+  pub key : (q : ℕ) → q < length ks → needAt s (lineOf t q) ≡ getD ks q opaqueKey
+  pub place : (q : ℕ) → q < length ks → placeOf t q ≡ position (getD ks q opaqueKey) (distinct [] ks)
+
+abbrev pub isUsed : ℕ → ℕ
+isUsed p = cond (eqb p 0) 0 1
+
+-- how many kinds of elements are used
+unfoldable pub kindsUsed : Bytes → ℕ
+kindsUsed t = isUsed (kindOf t 0) + isUsed (kindOf t 1) + isUsed (kindOf t 2) + isUsed (kindOf t 3) + isUsed (kindOf t 4)
+
+-- so many keys are distinct among ks, and these are the positions of elements among them; all but those of elements are needs'
+pub record Kinds (t : Bytes) (ks : List TypeKey) (keys : ℕ) : Type 0 where
+  pub count : keys ≡ length (distinct [] ks)
+  pub place : (k : ElemKind) → kindOf t (kindNumber k) ≡ placed (elemKey k) (distinct [] ks)
+  pub few : keys ≤ 128 + kindsUsed t
+
+-- u is as long as t and holds the same bytes but from a up to b
+pub record Outside (a b : ℕ) (t u : Bytes) : Type 0 where
+  pub kept : Kept a t u
+  pub above : drop b u ≡ drop b t
+
+-- ---- one line after the other
+
+-- what the first i lines need
+abbrev pub needsTo : Bytes → ℕ → List TypeKey
+needsTo s i = declaredTo (λ (d : Declares). d .needs) (nodesIn s) i
+
+-- the table has what the first i lines need
+pub record Numbering (s t : Bytes) (n i needs keys : ℕ) : Type 0 where
+  pub checked : Checked s t n
+  pub within : i ≤ n
+  pub count : needs ≡ length (needsTo s i)
+  pub table : Needs s t n (needsTo s i)
+  pub kinds : Kinds t (needsTo s i) keys
+
+-- and what line i needs too, which is a `need` line
+pub record NeedNext (s t : Bytes) (n i needs keys : ℕ) : Type 0 where
+  pub numbering : Numbering s t n i needs keys
+  pub line : NeedLine s t n i
+
+-- the kind of element that form f needs, 5 for none: 36 is byte, 35 int
+abbrev pub kindBy : ℕ → ℕ
+kindBy f = cond (eqb f 35) 1 (cond (eqb f 36) 0 (cond (leb 37 f && leb f 39) (f - 35) 5))
+
+-- ---- what is stored
+
+unfoldable pub entered : Bytes → ℕ → ℕ → ℕ → Bytes
+entered t q i p = set (set (set t (10240 + q) (i % 256)) (10368 + q) (i / 256)) (10496 + q) p
+
+unfoldable pub kindEntered : Bytes → ℕ → ℕ → Bytes
+kindEntered t k p = cond (ltb k 5) (set t (10624 + k) (p + 1)) t

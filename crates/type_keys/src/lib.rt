@@ -1,0 +1,251 @@
+// The keys of descriptors, and their numbers.
+pub mod ids;
+pub mod shape;
+
+ghost use mathlib.Core.Path.{_≡_};
+ghost use mathlib.Core.List.{[], _∷_, _++_};
+ghost use Prim.Native.Nat.{ℕ, _+_, _≤_, _<_};
+ghost use lib.ListN.{length};
+ghost use mathlib.Core.List.{List};
+ghost use Rattle.semantics.specs.Text.{same};
+ghost use Rattle.semantics.specs.Tree.{ElemKind, TypeKey};
+ghost use Rattle.semantics.specs.Tree.TypeKey.{elemKey};
+ghost use Rattle.semantics.specs.Sheet.{sheetSource};
+ghost use Rattle.semantics.specs.Array.{kindNumber};
+ghost use Rattle.semantics.specs.Types.{sameTypeKey, distinct, position};
+ghost use Rattle.checks.specs.Checks.{Checked};
+ghost use Rattle.type_keys.specs.Keys.{needAt, NeedLine};
+ghost use Rattle.type_keys.specs.Table.{lineOf, placeOf, kindOf, kindBy, needsTo, entered, kindEntered, Needs, Kinds, Outside, Numbering, NeedNext};
+
+const NEED: u8 = b'N';
+
+// Forms of `need` lines.
+const ADT: usize = 34;
+
+const INT: usize = 35;
+
+const BYTE: usize = 36;
+
+const BIG: usize = 37;
+
+const STRING: usize = 39;
+
+const BLOCK: usize = 40;
+
+// The table in the working space: for each need its line, low and high byte, and the position of its key among the distinct
+// keys; for each kind of element 0 where it is not used, or its position plus 1.
+const LOW: usize = 10240;
+
+const HIGH: usize = 10368;
+
+const PLACES: usize = 10496;
+
+const KINDS: usize = 10624;
+
+// How many needs there are, and how many of their keys are distinct.
+pub struct Numbered {
+    pub needs: usize,
+    pub keys: usize,
+}
+
+fn wide(x: u8) -> usize
+    ensures { λ r. ⌜ (r ≡ x) × (r < 256) ⌝ }
+{
+    x as usize
+}
+
+// Whether two texts are the same.
+fn same_text(x: &[u8], y: &[u8]) -> bool
+    ensures { λ r. ⌜ r ≡ same (now (x .entry)) (now (y .entry)) ⌝ }
+{
+    if x.len() != y.len() {
+        return false;
+    }
+    let mut i = 0;
+    while i < x.len() {
+        if x[i] != y[i] {
+            return false;
+        }
+        i += 1;
+    }
+    true
+}
+
+// Whether the `need` lines a and b, from 0, have the same key.
+pub fn same_need(sheet: &[u8], work: &[u8], n: usize, a: usize, b: usize) -> bool
+    requires { ⌜ (NeedLine (now sheet) (now work) n a) × (NeedLine (now sheet) (now work) n b) ⌝ }
+    ensures { λ r. ⌜ r ≡ sameTypeKey (needAt (now (sheet .entry)) a) (needAt (now (sheet .entry)) b) ⌝ }
+{
+    let f = lines::form_at(work, a);
+    if f != lines::form_at(work, b) {
+        return false;
+    }
+    if f == ADT {
+        return same_text(
+            lines::field_at(sheet, work, n, a, 0),
+            lines::field_at(sheet, work, n, b, 0),
+        );
+    }
+    if f == BLOCK {
+        return shape::same_shape(sheet, work, n, a, b);
+    }
+    true
+}
+
+// ---- the table
+
+// The line of need q, from 0.
+pub fn need_line(work: &[u8], q: usize) -> usize
+    requires { ⌜ (q < 128) × (65536 ≤ length (now work)) ⌝ }
+    ensures { λ r. ⌜ r ≡ lineOf (now (work .entry)) q ⌝ }
+{
+    wide(work[LOW + q]) + 256 * wide(work[HIGH + q])
+}
+
+// The position of its key.
+pub fn need_place(work: &[u8], q: usize) -> usize
+    requires { ⌜ (q < 128) × (65536 ≤ length (now work)) ⌝ }
+    ensures { λ r. ⌜ (r ≡ placeOf (now (work .entry)) q) × (r < 256) ⌝ }
+{
+    wide(work[PLACES + q])
+}
+
+// The position of the key of a kind of element plus 1, 0 where it is not used.
+pub fn kind_place(work: &[u8], kind: usize) -> usize
+    requires { ⌜ (kind < 5) × (65536 ≤ length (now work)) ⌝ }
+    ensures { λ r. ⌜ (r ≡ kindOf (now (work .entry)) kind) × (r < 256) ⌝ }
+{
+    wide(work[KINDS + kind])
+}
+
+// Need q is on line i, and its key has position p.
+fn enter(work: &mut [u8], q: usize, i: usize, p: usize)
+    requires { ⌜ (q < 128) × (i < 1024) × (p < 256) × (65536 ≤ length (now work)) ⌝ }
+    ensures { λ _. ⌜ now (work .exit) ≡ entered (now (work .entry)) q i p ⌝ }
+{
+    work[LOW + q] = (i % 256) as u8;
+    work[HIGH + q] = (i / 256) as u8;
+    work[PLACES + q] = p as u8;
+}
+
+// The key of a kind of element has position p; 5 is no kind.
+fn enter_kind(work: &mut [u8], kind: usize, p: usize)
+    requires { ⌜ (p < 255) × (65536 ≤ length (now work)) ⌝ }
+    ensures { λ _. ⌜ now (work .exit) ≡ kindEntered (now (work .entry)) kind p ⌝ }
+{
+    if kind < 5 {
+        work[KINDS + kind] = (p + 1) as u8;
+    }
+}
+
+// No kind of element is used.
+fn clear_kinds(work: &mut [u8])
+    requires { ⌜ 65536 ≤ length (now work) ⌝ }
+    ensures { λ _. ⌜ (Outside 10624 10629 (now (work .entry)) (now (work .exit))) × ((k : ℕ) → k < 5 → kindOf (now (work .exit)) k ≡ 0) ⌝ }
+{
+    let mut k = 0;
+    while k < 5 {
+        work[KINDS + k] = 0;
+        k += 1;
+    }
+}
+
+// ---- positions
+
+// The kind of element that form f needs, 5 for none.
+pub fn kind_needed(f: usize) -> usize
+    ensures { λ r. ⌜ r ≡ kindBy f ⌝ }
+{
+    if f == INT {
+        return 1;
+    }
+    if f == BYTE {
+        return 0;
+    }
+    if f < BIG {
+        return 5;
+    }
+    if STRING < f {
+        return 5;
+    }
+    f - 35
+}
+
+// The position of the key of the `need` line i among those of the lines before; the next position, where it is new.
+fn place_for(sheet: &[u8], work: &[u8], n: usize, i: usize, d: Numbered) -> usize
+    requires { ⌜ NeedNext (now sheet) (now work) n i (d .needs) (d .keys) ⌝ }
+    ensures { λ r. ⌜ r ≡ position (needAt (now (sheet .entry)) i) (distinct [] (needsTo (now (sheet .entry)) i)) ⌝ }
+{
+    let mut q = 0;
+    while q < d.needs {
+        if same_need(sheet, work, n, i, need_line(work, q)) {
+            return need_place(work, q);
+        }
+        q += 1;
+    }
+    d.keys
+}
+
+// How many keys there are with one at position p.
+fn with_key(p: usize, keys: usize) -> usize
+    requires { ⌜ keys < 1024 ⌝ }
+    ensures { λ r. ⌜ ((k : TypeKey) (ks : List TypeKey) → p ≡ position k (distinct [] ks) → keys ≡ length (distinct [] ks) → r ≡ length (distinct [] (ks ++ (k ∷ [])))) ⌝ }
+{
+    if p == keys {
+        return keys + 1;
+    }
+    keys
+}
+
+// Numbers the key of the `need` line i.
+fn number_need(sheet: &[u8], work: &mut [u8], n: usize, i: usize, d: Numbered) -> Numbered
+    requires { ⌜ NeedNext (now sheet) (now work) n i (d .needs) (d .keys) ⌝ }
+    ensures { λ r. ⌜ (Numbering (now (sheet .entry)) (now (work .exit)) n (i + 1) (r .needs) (r .keys)) × (Outside 10240 11264 (now (work .entry)) (now (work .exit))) ⌝ }
+{
+    let p = place_for(sheet, work, n, i, d);
+    let f = lines::form_at(work, i);
+    enter(work, d.needs, i, p);
+    enter_kind(work, kind_needed(f), p);
+    Numbered {
+        needs: d.needs + 1,
+        keys: with_key(p, d.keys),
+    }
+}
+
+// Numbers what line i needs.
+fn number_line(sheet: &[u8], work: &mut [u8], n: usize, i: usize, d: Numbered) -> Numbered
+    requires { ⌜ (Numbering (now sheet) (now work) n i (d .needs) (d .keys)) × (i < n) ⌝ }
+    ensures { λ r. ⌜ (Numbering (now (sheet .entry)) (now (work .exit)) n (i + 1) (r .needs) (r .keys)) × (Outside 10240 11264 (now (work .entry)) (now (work .exit))) ⌝ }
+{
+    if form::kind(lines::form_at(work, i)) != NEED {
+        return d;
+    }
+    number_need(sheet, work, n, i, d)
+}
+
+// Numbers the keys of all needs, in sheet order, equal ones once.
+pub fn number_needs(sheet: &[u8], work: &mut [u8], n: usize) -> Numbered
+    requires { ⌜ Checked (now sheet) (now work) n ⌝ }
+    ensures { λ r. ⌜ (r .needs ≡ length (sheetSource (now (sheet .entry)) .needs)) × (Needs (now (sheet .entry)) (now (work .exit)) n (sheetSource (now (sheet .entry)) .needs)) × (Kinds (now (work .exit)) (sheetSource (now (sheet .entry)) .needs) (r .keys)) × (Outside 10240 11264 (now (work .entry)) (now (work .exit))) ⌝ }
+{
+    clear_kinds(work);
+    let mut d = Numbered { needs: 0, keys: 0 };
+    let mut i = 0;
+    while i < n {
+        d = number_line(sheet, work, n, i, d);
+        i += 1;
+    }
+    d
+}
+
+// Numbers the key of an array's elements where it is new; so many keys are there then.
+pub fn number_kind(work: &mut [u8], kind: usize, keys: usize) -> usize
+    requires { ⌜ (kind < 5) × (keys < 255) × (65536 ≤ length (now work)) ⌝ }
+    ensures { λ r. ⌜ ((k : ElemKind) (ks : List TypeKey) → kind ≡ kindNumber k → Kinds (now (work .entry)) ks keys → Kinds (now (work .exit)) (ks ++ (elemKey k ∷ [])) r) × (Outside 10624 10629 (now (work .entry)) (now (work .exit))) ⌝ }
+{
+    if kind_place(work, kind) != 0 {
+        return keys;
+    }
+    enter_kind(work, kind, keys);
+    keys + 1
+}

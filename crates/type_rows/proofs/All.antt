@@ -1,0 +1,73 @@
+-- All rows of types together.
+use mathlib.Core.Path.{_≡_, refl, sym, ap, _∙_}
+use mathlib.Core.List.{List, [], _∷_, _++_, map, append-assoc, append-nil}
+use Prim.Native.Nat.{ℕ, _+_, _≤_, _<_}
+use native.Mathlib.Omega.{arith}
+use lib.ListN.{length, drop}
+use lib.Seq.{drop-at}
+use Rattle.semantics.specs.Tree.{TypeKey, Shape, ElemKind}
+use Rattle.semantics.specs.Sheet.{sheetSource, concatMap}
+use Rattle.semantics.specs.Global.{Item}
+use Rattle.semantics.specs.Array.{kindNumber}
+use Rattle.semantics.specs.Types.{distinct, arrayKey, keys, keyShape, opaqueShape, descriptors}
+use Rattle.semantics.specs.Listing.{typeRows}
+use Rattle.write.specs.Wrote.{Wrote}
+use Rattle.write.proofs.Wrote.{wrote-as}
+use Rattle.checks.specs.Checks.{Kept, Checked}
+use Rattle.records.specs.Log.{logOf}
+use Rattle.records.proofs.Lists.{map-append}
+use Rattle.type_keys.specs.Table.{kindOf, kindsUsed, Kinds}
+use Rattle.type_keys.proofs.Distinct.{newKey, distinct-more}
+use Rattle.type_keys.proofs.Forms.{kind-low}
+use Rattle.type_keys.proofs.Numbers.{frames-all, frames-few}
+use Rattle.type_rows.specs.declared.Next.{Next}
+use Rattle.type_rows.specs.Rows.{Wrotes, shapesOf}
+use Rattle.type_rows.proofs.Rows.{rows-then}
+use Rattle.type_rows.proofs.Wrotes.{wrotes-then}
+use Rattle.type_rows.proofs.Elements.{kind-kept}
+
+-- keys keep their places when more come
+record Longer (l k : List TypeKey) : Type 0 where
+  rest : List TypeKey
+  is : k ≡ l ++ rest
+
+longer : (l ms : List TypeKey) → Longer (distinct [] l) (distinct [] (l ++ ms))
+longer l [] = record { rest = []; is = ap (distinct []) (append-nil l) ∙ sym (append-nil (distinct [] l)) }
+longer l (m ∷ ms) =
+    let z : (l ++ (m ∷ [])) ++ ms ≡ l ++ (m ∷ ms) = append-assoc l (m ∷ []) ms in
+    let x = longer (l ++ (m ∷ [])) ms in
+    record { rest = newKey m (distinct [] l) ++ x .rest; is = ap (distinct []) (sym z) ∙ x .is ∙ rw (distinct-more m l) (append-assoc (distinct [] l) (newKey m (distinct [] l)) (x .rest)) }
+
+pub keys-split : (l ms : List TypeKey) → distinct [] (l ++ ms) ≡ distinct [] l ++ drop (length (distinct [] l)) (distinct [] (l ++ ms))
+keys-split l ms =
+    let x = longer l ms in
+    x .is ∙ ap (λ (r : List TypeKey). distinct [] l ++ r) (sym (ap (drop (length (distinct [] l))) (x .is) ∙ drop-at (distinct [] l) (x .rest) (length (distinct [] l)) refl))
+
+descriptors-are : (s : List ℕ) (is : List Item) → descriptors (sheetSource s) is
+    ≡ (opaqueShape ∷ opaqueShape ∷ []) ++ (sheetSource s .frames ++ (shapesOf s (distinct [] (sheetSource s .needs)) ++ shapesOf s (drop (length (distinct [] (sheetSource s .needs))) (distinct [] (sheetSource s .needs ++ concatMap arrayKey is)))))
+unfolding descriptors keys logOf
+descriptors-are s is =
+    ap (λ (xs : List Shape). opaqueShape ∷ (opaqueShape ∷ (sheetSource s .frames ++ xs)))
+    (ap (map (keyShape (logOf s))) (keys-split (sheetSource s .needs) (concatMap arrayKey is)) ∙ map-append (keyShape (logOf s)) (distinct [] (sheetSource s .needs)) (drop (length (distinct [] (sheetSource s .needs))) (distinct [] (sheetSource s .needs ++ concatMap arrayKey is))))
+
+pub all-rows : (s : List ℕ) (is : List Item) {p q r : Next} {d0 d1 d2 d3 d4 t1 t2 t3 t4 : List ℕ} {at : ℕ} → p .id ≡ 2
+    → Wrote d0 at (typeRows 0 (opaqueShape ∷ opaqueShape ∷ [])) d1 (p .at) → Wrotes (sheetSource s .frames) p q t1 t2 d1 d2 → Wrotes (shapesOf s (distinct [] (sheetSource s .needs))) q r t2 t3 d2 d3
+    → (z : Next) → Wrotes (shapesOf s (drop (length (distinct [] (sheetSource s .needs))) (distinct [] (sheetSource s .needs ++ concatMap arrayKey is)))) r z t3 t4 d3 d4
+    → Wrote d0 at (typeRows 0 (descriptors (sheetSource s) is)) d4 (z .at)
+all-rows s is {p} h w0 w1 w2 z w3 =
+    let a = shapesOf s (distinct [] (sheetSource s .needs)) in
+    let b = shapesOf s (drop (length (distinct [] (sheetSource s .needs))) (distinct [] (sheetSource s .needs ++ concatMap arrayKey is))) in
+    wrote-as (ap (typeRows 0) (sym (descriptors-are s is)))
+    (rows-then 0 (opaqueShape ∷ opaqueShape ∷ []) (sheetSource s .frames ++ (a ++ b)) (p .id) h w0 (wrotes-then (sheetSource s .frames) (a ++ b) w1 (wrotes-then a b w2 w3) .wrote))
+
+-- kinds stay where only the map is made anew
+pub kinds-kept : {t u : List ℕ} {l : List TypeKey} {count : ℕ} → Kept 49152 t u → Kinds t l count → Kinds u l count
+unfolding kindsUsed
+kinds-kept k x = record {
+  count = x .count;
+  place = λ e. kind-kept k (kindNumber e) (kind-low e) ∙ x .place e;
+  few = rw (kind-kept k 0 (omega arith), kind-kept k 1 (omega arith), kind-kept k 2 (omega arith), kind-kept k 3 (omega arith), kind-kept k 4 (omega arith)) (x .few);
+}
+
+pub frames-low : (s t : List ℕ) (n : ℕ) → Checked s t n → length (sheetSource s .frames) ≤ 128
+frames-low s t n c = rw (← frames-all s t n c) (frames-few s t n c n (omega arith))

@@ -1,0 +1,47 @@
+// The rows of array elements that no need asked for.
+use crate::Next;
+use crate::row::put_elem;
+use type_keys::kind_place;
+ghost use mathlib.Core.Path.{_≡_};
+ghost use mathlib.Core.List.{List, [], _++_};
+ghost use Prim.Native.Nat.{ℕ, _+_, _≤_, _<_};
+ghost use lib.ListN.{length, drop};
+ghost use Rattle.semantics.specs.Text.{Bytes};
+ghost use Rattle.semantics.specs.Tree.{TypeKey};
+ghost use Rattle.semantics.specs.Sheet.{concatMap};
+ghost use Rattle.semantics.specs.Global.{Item};
+ghost use Rattle.semantics.specs.Types.{distinct, arrayKey};
+ghost use Rattle.checks.specs.Checks.{Kept};
+ghost use Rattle.type_keys.specs.Table.{kindOf, Kinds};
+ghost use Rattle.type_rows.specs.Rows.{Wrotes, shapesOf};
+
+// The kind of element whose byte is `place`; 5 where there is none.
+fn kind_at(work: &[u8], place: usize) -> usize
+    requires { ⌜ 65536 ≤ length (now work) ⌝ }
+    ensures { λ r. ⌜ (r < 5 → kindOf (now (work .entry)) r ≡ place) × ((k : ℕ) → k < 5 → kindOf (now (work .entry)) k ≡ place → r ≤ k) ⌝ }
+{
+    let mut k = 0;
+    while k < 5 {
+        if kind_place(work, k) == place {
+            return k;
+        }
+        k += 1;
+    }
+    k
+}
+
+// The keys behind those of needs, up to the last of `keys`. The keys' rows begin at `base`.
+pub fn kind_rows(work: &mut [u8], base: usize, keys: usize, out: &mut [u8], p: Next) -> Next
+    requires { ⌜ (65536 ≤ length (now work)) × (base ≤ p .id) × (base < 1024) × (keys < 1024) × (p .at ≤ length (now out) + 1) ⌝ }
+    ensures { λ r. ⌜ ((s : Bytes) (ls : List TypeKey) (is : List Item) → p .id ≡ base + length (distinct [] ls) → Kinds (now (work .entry)) (ls ++ concatMap arrayKey is) keys → Wrotes (shapesOf s (drop (length (distinct [] ls)) (distinct [] (ls ++ concatMap arrayKey is)))) p r (now (work .entry)) (now (work .exit)) (now (out .entry)) (now (out .exit))) × (Kept 49152 (now (work .entry)) (now (work .exit))) ⌝ }
+{
+    let end = base + keys;
+    let mut at = p.at;
+    let mut id = p.id;
+    while id < end {
+        let kind = kind_at(work, id - base + 1);
+        at = put_elem(work, id, kind, out, at);
+        id += 1;
+    }
+    Next { at: at, id: id }
+}

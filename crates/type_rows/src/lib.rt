@@ -1,0 +1,176 @@
+// `typ` and `use` rows.
+pub mod kinds;
+pub mod record;
+pub mod row;
+pub mod used;
+
+ghost use mathlib.Core.Path.{_≡_};
+ghost use mathlib.Core.List.{List, [], _∷_, _++_};
+ghost use Prim.Native.Nat.{ℕ, _+_, _≤_, _<_};
+ghost use lib.ListN.{length, take};
+ghost use Rattle.semantics.specs.Text.{Bytes};
+ghost use Rattle.semantics.specs.Sheet.{sheetSource, concatMap};
+ghost use Rattle.semantics.specs.Global.{Item};
+ghost use Rattle.semantics.specs.Types.{opaqueShape, keyShape, distinct, arrayKey, idOf, descriptors};
+ghost use Rattle.semantics.specs.Listing.{typeRows, useRow};
+ghost use Rattle.write.specs.Wrote.{Wrote};
+ghost use Rattle.checks.specs.Checks.{Checked, Kept};
+ghost use Rattle.source.specs.Walk.{declaresAt};
+ghost use Rattle.lines.specs.Lines.{nodesIn};
+ghost use Rattle.records.specs.Log.{logOf, Logged};
+ghost use Rattle.type_keys.specs.Keys.{needAt, NeedLine};
+ghost use Rattle.type_keys.specs.Table.{Needs, Kinds};
+ghost use Rattle.type_rows.specs.declared.Next.{Next};
+ghost use Rattle.type_rows.specs.Rows.{Rowed, Wrotes, keysTo, shapesOf, Ready};
+
+// Forms of `need` lines.
+const ADT: usize = 34;
+
+const BLOCK: usize = 40;
+
+const OPAQUE: usize = 41;
+
+// Where the next row goes, and its number.
+pub struct Next {
+    pub at: usize,
+    pub id: usize,
+}
+
+// Two opaque records.
+fn opaque_rows(work: &mut [u8], out: &mut [u8], at: usize) -> usize
+    requires { ⌜ 65536 ≤ length (now work) ⌝ }
+    ensures { λ r. ⌜ (Wrote (now (out .entry)) at (typeRows 0 (opaqueShape ∷ opaqueShape ∷ [])) (now (out .exit)) r) × (Kept 49152 (now (work .entry)) (now (work .exit))) ⌝ }
+{
+    let p = row::put_opaque(work, 0, out, at);
+    row::put_opaque(work, 1, out, p)
+}
+
+// ---- frames
+
+// The row of line i, where it is a frame.
+fn next_frame(sheet: &[u8], work: &mut [u8], n: usize, i: usize, out: &mut [u8], r: Next) -> Next
+    requires { ⌜ (Checked (now sheet) (now work) n) × (i < n) × (r .id < 1024) × (r .at ≤ length (now out) + 1) ⌝ }
+    ensures { λ q. ⌜ Wrotes (declaresAt (nodesIn (now (sheet .entry))) i .frames) r q (now (work .entry)) (now (work .exit)) (now (out .entry)) (now (out .exit)) ⌝ }
+{
+    if type_keys::ids::is_frame(sheet, work, n, i) {
+        let id = r.id;
+        let at = row::put_line(sheet, work, n, i, id, out, r.at);
+        return Next { at: at, id: id + 1 };
+    }
+    r
+}
+
+// Frames are never shared.
+fn frame_rows(sheet: &[u8], work: &mut [u8], n: usize, out: &mut [u8], at: usize) -> Next
+    requires { ⌜ (Checked (now sheet) (now work) n) × (at ≤ length (now out) + 1) ⌝ }
+    ensures { λ q. ⌜ Wrotes (sheetSource (now (sheet .entry)) .frames) (record { at = at; id = 2 }) q (now (work .entry)) (now (work .exit)) (now (out .entry)) (now (out .exit)) ⌝ }
+{
+    let mut r = Next { at: at, id: 2 };
+    let mut i = 0;
+    while i < n {
+        r = next_frame(sheet, work, n, i, out, r);
+        i += 1;
+    }
+    r
+}
+
+// ---- needs
+
+// The row of what the `need` line i asks for.
+fn put_need(
+    sheet: &[u8],
+    work: &mut [u8],
+    n: usize,
+    m: usize,
+    i: usize,
+    id: usize,
+    out: &mut [u8],
+    at: usize,
+) -> usize
+    requires { ⌜ (Logged (now sheet) (now work) n m) × (NeedLine (now sheet) (now work) n i) ⌝ }
+    ensures { λ r. ⌜ Rowed id (keyShape (logOf (now (sheet .entry))) (needAt (now (sheet .entry)) i)) (now (work .entry)) (now (work .exit)) (now (out .entry)) at (now (out .exit)) r ⌝ }
+{
+    let f = lines::form_at(work, i);
+    if f == ADT {
+        return record::put_record(sheet, work, n, m, i, id, out, at);
+    }
+    if f == BLOCK {
+        return row::put_line(sheet, work, n, i, id, out, at);
+    }
+    if f == OPAQUE {
+        return row::put_opaque(work, id, out, at);
+    }
+    row::put_elem(work, id, type_keys::kind_needed(f), out, at)
+}
+
+// The row of need q, where its key is new. The keys' rows begin at `base`.
+fn next_need(
+    sheet: &[u8],
+    work: &mut [u8],
+    n: usize,
+    m: usize,
+    needs: usize,
+    q: usize,
+    base: usize,
+    out: &mut [u8],
+    r: Next,
+) -> Next
+    requires { ⌜ (Ready (now sheet) (now work) n m needs) × (q < needs) × (base < 1024) × (r .id ≡ base + length (keysTo (now sheet) q)) × (r .at ≤ length (now out) + 1) ⌝ }
+    ensures { λ z. ⌜ ((p : Next) (t d : Bytes) → Wrotes (shapesOf (now (sheet .entry)) (keysTo (now (sheet .entry)) q)) p r t (now (work .entry)) d (now (out .entry)) → Wrotes (shapesOf (now (sheet .entry)) (keysTo (now (sheet .entry)) (q + 1))) p z t (now (work .exit)) d (now (out .exit))) × (z .id ≡ base + length (keysTo (now (sheet .entry)) (q + 1))) ⌝ }
+{
+    let id = r.id;
+    if base + type_keys::need_place(work, q) != id {
+        return r;
+    }
+    let i = type_keys::need_line(work, q);
+    let at = put_need(sheet, work, n, m, i, id, out, r.at);
+    Next { at: at, id: id + 1 }
+}
+
+// Each key of a need once, where it first comes.
+fn need_rows(
+    sheet: &[u8],
+    work: &mut [u8],
+    n: usize,
+    m: usize,
+    needs: usize,
+    out: &mut [u8],
+    p: Next,
+) -> Next
+    requires { ⌜ (Ready (now sheet) (now work) n m needs) × (p .id < 1024) × (p .at ≤ length (now out) + 1) ⌝ }
+    ensures { λ r. ⌜ Wrotes (shapesOf (now (sheet .entry)) (distinct [] (sheetSource (now (sheet .entry)) .needs))) p r (now (work .entry)) (now (work .exit)) (now (out .entry)) (now (out .exit)) ⌝ }
+{
+    let base = p.id;
+    let mut r = p;
+    let mut q = 0;
+    while q < needs {
+        r = next_need(sheet, work, n, m, needs, q, base, out, r);
+        q += 1;
+    }
+    r
+}
+
+// ---- all types
+
+// Two opaque records, the frames, what is needed, and the elements of arrays, where there are so many keys. Arrays' elements are numbered
+// before.
+pub fn type_rows(
+    sheet: &[u8],
+    work: &mut [u8],
+    n: usize,
+    m: usize,
+    needs: usize,
+    keys: usize,
+    out: &mut [u8],
+    at: usize,
+) -> usize
+    requires { ⌜ (Ready (now sheet) (now work) n m needs) × (keys < 1024) × (at ≤ length (now out) + 1) ⌝ }
+    ensures { λ r. ⌜ ((is : List Item) → Kinds (now (work .entry)) (sheetSource (now (sheet .entry)) .needs ++ concatMap arrayKey is) keys → Wrote (now (out .entry)) at (typeRows 0 (descriptors (sheetSource (now (sheet .entry))) is)) (now (out .exit)) r) × (Kept 49152 (now (work .entry)) (now (work .exit))) ⌝ }
+{
+    let p = opaque_rows(work, out, at);
+    let f = frame_rows(sheet, work, n, out, p);
+    let base = f.id;
+    let r = need_rows(sheet, work, n, m, needs, out, f);
+    let z = kinds::kind_rows(work, base, keys, out, r);
+    z.at
+}

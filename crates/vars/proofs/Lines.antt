@@ -1,0 +1,114 @@
+-- A `var` line: its type, and the line of its value.
+use mathlib.Core.Path.{_≡_, refl, sym, ap, _∙_}
+use mathlib.Core.List.{List, [], _∷_}
+use mathlib.Core.Option.{none, some}
+use Prim.Native.Nat.{ℕ, zero, suc, _-_, _<_}
+use native.Mathlib.Omega.{arith}
+use lib.ListN.{getD, drop}
+use lib.Seq.{getD-drop}
+use Rattle.semantics.specs.Text.{Bytes}
+use Rattle.semantics.specs.Tree.{Node, elemOf}
+use Rattle.semantics.specs.Form.{forms, numberOf, nodeAt, perhapsAt, exOf}
+use Rattle.semantics.specs.Form.Kind.{kTy, kEx}
+use Rattle.semantics.specs.Form.Atom.{name, maybe}
+use Rattle.semantics.specs.Form.Part.{one, many}
+use Rattle.text.specs.Number as Number
+use Rattle.form.specs.Table.{rowNode}
+use Rattle.form.proofs.Table.{only-var, form-of-kind}
+use Rattle.lines.specs.Lines.{readsIn, readAt, nodesIn, formAt}
+use Rattle.sizes.specs.Sizes.{typeAt, TypeLine}
+use Rattle.sizes.proofs.Types.{Good, head-drop}
+use Rattle.fold.specs.Folds.{exAt, Foldable}
+use Rattle.literals.specs.Literals.{Line}
+use Rattle.literals.proofs.Lines.{May, type-form, line-form, parts-at, makes, good-line, may-line, ref-head, maybe-head}
+use Rattle.literals.proofs.Selectors.{foldable}
+use Rattle.arrays.specs.Arrays.{typeOf}
+use Rattle.arrays.proofs.Allocs.{type-given}
+use Rattle.globals.specs.Table.{VarLine}
+use Rattle.vars.specs.First.{varOn}
+
+-- only arrays have an element type
+elem-of-form : (ns : List Node) (fs : List Bytes) (f : ℕ) → f < 8 → (f ≡ 6 → ⊥) → none ≡ elemOf (rowNode ns f fs .ty)
+unfolding forms
+elem-of-form ns fs zero h z = refl
+elem-of-form ns fs (suc zero) h z = refl
+elem-of-form ns fs (suc (suc zero)) h z = refl
+elem-of-form ns fs (suc (suc (suc zero))) h z = refl
+elem-of-form ns fs (suc (suc (suc (suc zero)))) h z = refl
+elem-of-form ns fs (suc (suc (suc (suc (suc zero))))) h z = refl
+elem-of-form ns fs (suc (suc (suc (suc (suc (suc zero)))))) h z = absurd (z refl)
+elem-of-form ns fs (suc (suc (suc (suc (suc (suc (suc zero))))))) h z = refl
+elem-of-form ns fs (suc (suc (suc (suc (suc (suc (suc (suc f)))))))) h z = absurd (omega arith)
+
+value-given : (ns : List Node) (r : ℕ) → (r ≡ 0 → ⊥) → exOf (perhapsAt ns r) ≡ some (nodeAt ns r .ex)
+value-given ns zero h = absurd (h refl)
+value-given ns (suc r) h = refl
+
+module _ {s t : Bytes} {n m r : ℕ} (l : Line 72 s t n m r) where
+  pub var-line : VarLine s t n r
+  var-line = record { checked = l .checked; first = l .first; last = l .last; kind = l .kind }
+
+  var-form : formAt t (r - 1) ≡ 29
+  var-form = let w = line-form l in form-of-kind only-var (formAt t (r - 1)) (w .0) (w .1)
+
+  var-refs : Good (readsIn s) (r - 1) 75 (getD (readAt s (r - 1) .fields) 0 []) × May (readsIn s) (r - 1) 69 (getD (readAt s (r - 1) .fields) 1 [])
+  unfolding forms
+  var-refs =
+      let w = parts-at l var-form in
+      let x = ref-head (readsIn s) (r - 1) kTy (one (maybe kEx) ∷ (many name ∷ [])) (readAt s (r - 1) .fields) (w .0) (w .1) in
+      let y = maybe-head (readsIn s) (r - 1) kEx (many name ∷ []) (drop 1 (readAt s (r - 1) .fields)) (x .1) (x .2) in
+      (x .0, rw (getD-drop 1 (readAt s (r - 1) .fields) 0 []) at (y .0))
+
+  -- ---- the type
+
+  module _ {ty : ℕ} (ht : ty ≡ Number.numberOf 65536 (getD (readAt s (r - 1) .fields) 0 [])) where
+    type-ref : (ty ≡ numberOf (getD (readAt s (r - 1) .fields) 0 [])) × Line 75 s t n m ty
+    type-ref = good-line l 75 (getD (readAt s (r - 1) .fields) 0 []) ty ht (var-refs .0)
+
+    pub type-line : Line 75 s t n m ty
+    type-line = type-ref .1
+
+    type-is : varOn s r .ty ≡ typeAt s ty
+    type-is = rw (type-ref .0)
+
+    module _ {f : ℕ} (hf : f ≡ formAt t (ty - 1)) where
+      pub element-none : (f ≡ 6 → ⊥) → typeOf s 0 ≡ elemOf (varOn s r .ty)
+      element-none z =
+          let w = line-form type-line in
+          elem-of-form (nodesIn s) (readAt s (ty - 1) .fields) f (rw hf (type-form (formAt t (ty - 1)) (w .0) (w .1))) z
+          ∙ ap (λ (x : Node). elemOf (x .ty)) (sym (makes type-line (sym hf))) ∙ ap elemOf (sym type-is)
+
+      module _ (e : f ≡ 6) {d : ℕ} (hd : d ≡ Number.numberOf 65536 (getD (readAt s (ty - 1) .fields) 0 [])) where
+        element-ref : (d ≡ numberOf (getD (readAt s (ty - 1) .fields) 0 [])) × Line 75 s t n m d
+        unfolding forms
+        element-ref =
+            let w = parts-at type-line (sym hf ∙ e) in
+            good-line type-line 75 (getD (readAt s (ty - 1) .fields) 0 []) d hd (ref-head (readsIn s) (ty - 1) kTy [] (readAt s (ty - 1) .fields) (w .0) (w .1) .0)
+
+        pub element-line : TypeLine s t n d
+        element-line = let q = element-ref .1 in record { checked = q .checked; first = q .first; last = q .last; kind = q .kind }
+
+        pub element-some : typeOf s d ≡ elemOf (varOn s r .ty)
+        unfolding forms
+        element-some =
+            type-given s d (λ z. omega (arith, element-line .first))
+            ∙ sym (ap elemOf type-is ∙ ap (λ (x : Node). elemOf (x .ty)) (makes type-line (sym hf ∙ e)) ∙ rw (head-drop 0 (readAt s (ty - 1) .fields), ← element-ref .0))
+
+  -- ---- the value
+
+  module _ {q : ℕ} (hq : q ≡ Number.numberOf 65536 (getD (readAt s (r - 1) .fields) 1 [])) where
+    value-ref : (q ≡ numberOf (getD (readAt s (r - 1) .fields) 1 [])) × ((q ≡ 0 → ⊥) → Line 69 s t n m q)
+    value-ref = may-line l 69 (getD (readAt s (r - 1) .fields) 1 []) q hq (var-refs .1)
+
+    pub init-none : q ≡ 0 → varOn s r .init ≡ none
+    init-none z = rw (sym (value-ref .0) ∙ z)
+
+    module _ (z : q ≡ 0 → ⊥) where
+      pub value-line : Line 69 s t n m q
+      value-line = value-ref .1 z
+
+      pub value-foldable : Foldable s t n m q 49152
+      value-foldable = foldable {e = 0} (record { line = value-line; few = omega arith })
+
+      pub init-some : varOn s r .init ≡ some (exAt s q)
+      init-some = rw (← value-ref .0) (value-given (nodesIn s) q z)

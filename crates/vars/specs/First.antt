@@ -1,0 +1,68 @@
+-- First values of `var` lines, as the code answers them.
+use Prim.Native.Nat.{ℕ, _-_, _≤_, _<_}
+use mathlib.Core.Path.{_≡_}
+use mathlib.Core.List.{[]}
+use mathlib.Core.Option.{Option, none, some}
+use Rattle.semantics.specs.Text.{Bytes}
+use Rattle.semantics.specs.Tree as Tree
+use Rattle.semantics.specs.Tree.{Ex, VarDecl}
+use Rattle.semantics.specs.Fold.{Result, bind, Names, foldAt0}
+use Rattle.semantics.specs.Fold.Result.{ok, failed, refuse}
+use Rattle.semantics.specs.Global.{Init, noInit, constInit, arrayInit, pendingInit}
+use Rattle.lines.specs.Lines.{readAt, nodesIn}
+use Rattle.source.specs.Walk.{varOf}
+use Rattle.values.specs.declared.ConstVal.{ConstVal}
+use Rattle.values.specs.Values.{valueIn, At}
+use Rattle.placements.specs.Placements.{entryAt, slotAt, valuesIn, Keeps, Standing}
+use Rattle.literals.specs.Literals.{Line, above}
+use Rattle.arrays.specs.Arrays.{kindAt}
+use Rattle.vars.specs.declared.First.{First}
+use Rattle.vars.specs.declared.First.the-variants.{NoValue, Value, Alloc, Literal, Pending, Refused}
+
+-- ---- answers
+
+-- strings and the values of a literal stand in the working space t
+abbrev pub initIn : Bytes → First → Result Init
+initIn t NoValue = ok noInit
+initIn t (Value v) = ok (constInit (valueIn t v))
+initIn t (Alloc k n) = ok (arrayInit (record { kind = kindAt k; count = n; values = [] }))
+initIn t (Literal k n) = ok (arrayInit (record { kind = kindAt k; count = n; values = valuesIn t 0 n }))
+initIn t Pending = ok pendingInit
+initIn t (Refused r) = refuse r
+
+-- where the strings of a value stand; a literal has at most 1,024 values
+abbrev pub Stands : Bytes → First → Type 0
+Stands t NoValue = Unit {0}
+Stands t (Value v) = At 49152 v
+Stands t (Alloc k n) = Unit {0}
+Stands t (Literal k n) = (n ≤ 1024) × ((i : ℕ) → i < n → Standing (above 16) (slotAt t (entryAt t i)))
+Stands t Pending = Unit {0}
+Stands t (Refused r) = Unit {0}
+
+-- t has become u, where x is the result r
+pub record Inits (t : Bytes) (r : Result Init) (x : First) (u : Bytes) : Type 0 where
+  pub result : initIn u x ≡ r
+  pub stands : Stands u x
+  pub keeps : Keeps 16384 49152 t u
+
+-- ---- lines
+
+-- what the `var` line r declares
+abbrev pub varOn : Bytes → ℕ → VarDecl
+varOn s r = varOf (nodesIn s) (readAt s (r - 1) .fields)
+
+-- line r is a `var` line, 72, and has its value in line q, 69
+pub record Valued (s t : Bytes) (n m r q : ℕ) : Type 0 where
+  pub line : Line 72 s t n m r
+  pub value : Line 69 s t n m q
+
+-- a value that is folded where no name is laid out
+abbrev pub plain : Names → Option Ex → Result Init
+plain ns none = ok noInit
+plain ns (some e) = bind (foldAt0 ns e) (λ (v : Tree.ConstVal). ok (constInit v))
+
+-- one that fails is taken as pending
+abbrev pub settled : Result Init → Result Init
+settled (ok i) = ok i
+settled failed = ok pendingInit
+settled (refuse r) = refuse r

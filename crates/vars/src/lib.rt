@@ -1,0 +1,126 @@
+// First values of globals.
+pub mod pends;
+
+use arrays::Arrayed;
+use values::ConstVal;
+use values::Folded;
+ghost use mathlib.Core.Path.{_≡_};
+ghost use mathlib.Core.Bool.{not};
+ghost use Rattle.semantics.specs.Text.{Bytes};
+ghost use Rattle.semantics.specs.Tree.{elemOf};
+ghost use Rattle.semantics.specs.Array.{constArray};
+ghost use Rattle.semantics.specs.Global.{arrayValue, initOf, laidNames, noneOf, varValue};
+ghost use Rattle.fold.specs.Folds.{exAt};
+ghost use Rattle.literals.specs.Literals.{namesIn, Line};
+ghost use Rattle.arrays.specs.Arrays as Arrays;
+ghost use Rattle.arrays.specs.Arrays.{arrayedIn, typeOf, Declared};
+ghost use Rattle.globals.specs.Table.{VarLine, namesOn};
+ghost use Rattle.vars.specs.First.{initIn, Stands, Inits, varOn, Valued, plain, settled};
+
+// The form of `ty,array` lines.
+const ARRAY: usize = 6;
+
+const STACK: usize = 49152;
+
+// The first value of a global: none, a folded one, the kind and the number of an array's elements, or one that is left pending.
+// Strings and the values of a literal stand in the working space.
+pub enum First {
+    NoValue,
+    Value(ConstVal),
+    Alloc(u8, u32),
+    Literal(u8, usize),
+    Pending,
+    Refused(u8),
+}
+
+// An array as a first value.
+fn of_array(x: Arrayed) -> First
+    ensures { λ y. ⌜ ((t : Bytes) → Arrays.Stands t x → (initIn t y ≡ arrayValue (arrayedIn t x)) × (Stands t y)) ⌝ }
+{
+    match x {
+        Arrayed::Alloc(k, n) => First::Alloc(k, n),
+        Arrayed::Literal(k, n) => First::Literal(k, n),
+        Arrayed::Pending => First::Pending,
+        Arrayed::Refused(r) => First::Refused(r),
+    }
+}
+
+// The line of the element type that the type of the `var` line r has, 0 where it is no array.
+fn element_type(sheet: &[u8], work: &[u8], n: usize, m: usize, r: usize) -> usize
+    requires { ⌜ Line 72 (now sheet) (now work) n m r ⌝ }
+    ensures { λ d. ⌜ (typeOf (now (sheet .entry)) d ≡ elemOf (varOn (now (sheet .entry)) r .ty)) × (Declared (now (sheet .entry)) (now (work .entry)) n d) ⌝ }
+{
+    let ty = lines::number_at(sheet, work, n, r - 1, 0);
+    if lines::form_at(work, ty - 1) != ARRAY {
+        return 0;
+    }
+    lines::number_at(sheet, work, n, ty - 1, 0)
+}
+
+// The value of line q as an array.
+fn array_value(sheet: &[u8], work: &mut [u8], n: usize, m: usize, r: usize, q: usize) -> First
+    requires { ⌜ Valued (now sheet) (now work) n m r q ⌝ }
+    ensures { λ x. ⌜ Inits (now (work .entry)) (arrayValue (constArray (namesIn (now (sheet .entry)) (now (work .entry)) m) (elemOf (varOn (now (sheet .entry)) r .ty)) (exAt (now (sheet .entry)) q))) x (now (work .exit)) ⌝ }
+{
+    let declared = element_type(sheet, work, n, m, r);
+    of_array(arrays::const_array(sheet, work, n, m, declared, q))
+}
+
+// The first value of the `var` line r: only one that does not fold is looked at as an array.
+pub fn first_value(sheet: &[u8], work: &mut [u8], n: usize, m: usize, r: usize) -> First
+    requires { ⌜ Line 72 (now sheet) (now work) n m r ⌝ }
+    ensures { λ x. ⌜ Inits (now (work .entry)) (initOf (namesIn (now (sheet .entry)) (now (work .entry)) m) (varOn (now (sheet .entry)) r .ty) (varOn (now (sheet .entry)) r .init)) x (now (work .exit)) ⌝ }
+{
+    let q = lines::number_at(sheet, work, n, r - 1, 1);
+    if q == 0 {
+        return First::NoValue;
+    }
+    match fold::fold_const(sheet, work, n, m, 0, q, STACK) {
+        Folded::Value(v) => First::Value(v),
+        Folded::Failed => array_value(sheet, work, n, m, r, q),
+        Folded::TooLong => First::Refused(8),
+    }
+}
+
+// Whether line r has a name that is laid out: `nil` is not.
+pub fn has_names(sheet: &[u8], work: &[u8], n: usize, r: usize) -> bool
+    requires { ⌜ VarLine (now sheet) (now work) n r ⌝ }
+    ensures { λ b. ⌜ b ≡ not (noneOf (laidNames (namesOn (now (sheet .entry)) r))) ⌝ }
+{
+    let count = lines::number_at(sheet, work, n, r - 1, 2);
+    let mut j = 0;
+    while j < count {
+        if !implement::same(lines::field_at(sheet, work, n, r - 1, 3 + j), b"nil") {
+            return true;
+        }
+        j += 1;
+    }
+    false
+}
+
+// The value of line r without regard to arrays.
+fn plain_value(sheet: &[u8], work: &mut [u8], n: usize, m: usize, r: usize) -> First
+    requires { ⌜ Line 72 (now sheet) (now work) n m r ⌝ }
+    ensures { λ x. ⌜ Inits (now (work .entry)) (settled (plain (namesIn (now (sheet .entry)) (now (work .entry)) m) (varOn (now (sheet .entry)) r .init))) x (now (work .exit)) ⌝ }
+{
+    let q = lines::number_at(sheet, work, n, r - 1, 1);
+    if q == 0 {
+        return First::NoValue;
+    }
+    match fold::fold_const(sheet, work, n, m, 0, q, STACK) {
+        Folded::Value(v) => First::Value(v),
+        Folded::Failed => First::Pending,
+        Folded::TooLong => First::Refused(8), // met without a name too
+    }
+}
+
+// What the work on line r meets: a value is folded once for the line, and arrays are looked at only for a name.
+pub fn var_value(sheet: &[u8], work: &mut [u8], n: usize, m: usize, r: usize) -> First
+    requires { ⌜ Line 72 (now sheet) (now work) n m r ⌝ }
+    ensures { λ x. ⌜ Inits (now (work .entry)) (settled (varValue (namesIn (now (sheet .entry)) (now (work .entry)) m) (varOn (now (sheet .entry)) r))) x (now (work .exit)) ⌝ }
+{
+    if has_names(sheet, work, n, r) {
+        return first_value(sheet, work, n, m, r);
+    }
+    plain_value(sheet, work, n, m, r)
+}
