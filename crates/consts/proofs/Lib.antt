@@ -1,4 +1,5 @@
 pub mod Passes
+pub mod Group
 pub mod Lines
 pub mod Steps
 pub mod Walk

@@ -1,6 +1,6 @@
 -- Laws of a pass, line by line.
 use mathlib.Core.Path.{_≡_, refl, sym, ap, _∙_}
-use mathlib.Core.Bool.{Bool, true, false, cond}
+use mathlib.Core.Bool.{Bool, true, false, cond, not}
 use mathlib.Core.List.{List, [], _∷_}
 use mathlib.Core.Option.{Option, none, some}
 use Prim.Native.Nat.{ℕ, suc, _+_, _≤_, _<_}
@@ -8,7 +8,8 @@ use native.Mathlib.Omega.{arith}
 use native.Mathlib.Numerals.{add-one}
 use lib.Dec.{eqb}
 use lib.ListN.{length, getD}
-use borrow.Author.Tests.{eqb-true, eqb-false}
+use borrow.Author.Tests.{eqb-true, eqb-false, not-true}
+use Rattle.form.proofs.Table.{both}
 use Rattle.semantics.specs.Text.{Bytes}
 use Rattle.semantics.specs.Tree.{ConstDecl}
 use Rattle.semantics.specs.Form.{letter, numberOf}
@@ -29,8 +30,9 @@ use Rattle.consts.specs.declared.Visited.{Visited}
 use Rattle.consts.specs.declared.Visited.the-variants as Visited
 use Rattle.consts.specs.declared.Collected.{Collected}
 use Rattle.consts.specs.declared.Collected.the-variants as Collected
-use Rattle.consts.specs.Passes.{groupFrom, passesAfter, openAfter, counterOf, constAt, ConstLine, step, tooLong, Steps, AtConstant, Standing, goes, Moves, Visits, Group, Logs, Passes, Before, rest, Past, Collects}
+use Rattle.consts.specs.Passes.{groupFrom, passesAfter, openAfter, counterOf, constAt, ConstLine, step, tooLong, Steps, AtConstant, Standing, goes, Moves, Visits, Group, Logs, Passes, Before, rest, Past, Collects, left}
 use Rattle.consts.proofs.Passes.{open-mod, open-end, open-other, group-other, group-in, group-out, group-end, passes-start, passes-mod, passes-other, passes-end, count-mod, count-top, few-consts}
+use Rattle.consts.proofs.Group.{group-start, group-left}
 use Rattle.consts.proofs.Lines.{line-number, col-number}
 
 -- the letter that is read of line i
@@ -146,28 +148,49 @@ module _ (s t u : Bytes) (n k : ℕ) (p : Pass) where
   pub stopped : {r : Visited} {j : ℕ} → r ≡ Visited.Refused j → Visits s t u n k p r → goes s t k p .refused ≡ some (tooLong j)
   stopped e v = rw e at v
 
-abbrev pub beginning : ℕ → Pass
-beginning m = record { line = 0; within = 0; count = m; iota = record { started = false; line = 0; col = 0; value = 0 } }
+abbrev pub beginning : ℕ → ℕ → Pass
+beginning k m = record { line = k; within = k; count = m; iota = record { started = false; line = 0; col = 0; value = 0 } }
 
 module _ (s t : Bytes) (n m k : ℕ) (g : Group s t n m k) where
-  pub begins : Standing s t n k (beginning m)
-  unfolding openAt moduleAt
-  begins = record { checked = g .checked; logged = g .logged; inside = omega arith; group = g .group; opened = refl; room = g .room; small = omega arith }
+  start-is : groupFrom s k k ≡ groupFrom s k 0
+  start-is = group-start s t n (g .checked) k (g .group)
 
-  begin-is : goes s t k (beginning m) ≡ pass (sheetSource s .implement) (groupFrom s k 0) newCounter (logIn s t m)
+  pub begins : Standing s t n k (beginning k m)
+  begins = record {
+    checked = g .checked;
+    logged = g .logged;
+    inside = g .group;
+    group = g .group;
+    opened = g .opened;
+    room = omega (arith, g .room, ap length start-is);
+    small = omega arith;
+  }
+
+  pub begin-count : m + length (groupFrom s k k) ≡ m + length (groupFrom s k 0)
+  begin-count = rw start-is
+
+  begin-is : goes s t k (beginning k m) ≡ pass (sheetSource s .implement) (groupFrom s k 0) newCounter (logIn s t m)
   unfolding goes counterOf
-  begin-is = refl
+  begin-is = rw start-is
 
-  module _ (u : Bytes) (p : Pass) (st : Standing s u n k p) (same : goes s u k p ≡ goes s t k (beginning m)) where
+  module _ (u : Bytes) (p : Pass) (st : Standing s u n k p) (same : goes s u k p ≡ goes s t k (beginning k m)) where
     pub pass-refused : {j : ℕ} → goes s u k p .refused ≡ some (tooLong j) → pass (sheetSource s .implement) (groupFrom s k 0) newCounter (logIn s t m) .refused ≡ some (tooLong j)
     pass-refused e = ap (λ (f : Folding). f .refused) (sym begin-is ∙ sym same) ∙ e
 
-    pub pass-done : n ≤ p .line → p .count + length (groupFrom s k (p .line)) ≡ m + length (groupFrom s k 0)
+    -- the pass is done at the last line, and where the module is left
+    pub at-end : n ≤ p .line → groupFrom s k (p .line) ≡ []
+    at-end h = group-end s u n (st .checked) k (p .line) h
+
+    pub at-left : {b : Bool} → b ≡ left k (p .within) → b ≡ true → k ≤ p .line → groupFrom s k (p .line) ≡ []
+    unfolding left
+    at-left e q l =
+        let w = both (not (eqb k 0)) (not (eqb (p .within) k)) (sym e ∙ q) in
+        group-left s u n (st .checked) k (p .line) (p .within) (st .inside) l (eqb-false k 0 (not-true (eqb k 0) (w .0))) (st .opened) (eqb-false (p .within) k (not-true (eqb (p .within) k) (w .1)))
+
+    pub pass-done : groupFrom s k (p .line) ≡ [] → p .count + length (groupFrom s k (p .line)) ≡ m + length (groupFrom s k 0)
         → Logs s u n (p .count) (pass (sheetSource s .implement) (groupFrom s k 0) newCounter (logIn s t m)) × (p .count ≡ m + length (groupFrom s k 0))
     unfolding goes
-    pass-done h count =
-        let e = group-end s u n (st .checked) k (p .line) h in
-        (record { logged = st .logged; same = sym begin-is ∙ sym same ∙ rw e }, omega (arith, ap length e))
+    pass-done e count = (record { logged = st .logged; same = sym begin-is ∙ sym same ∙ rw e }, omega (arith, ap length e))
 
 -- ---- all passes
 
@@ -186,11 +209,12 @@ module _ (s t : Bytes) (n m i : ℕ) (b : Before s t n m i) where
   past-other h z =
       (record { checked = b .checked; logged = b .logged; few = rw add-one (omega (arith, b .few, count-mod s t n (b .checked) i)) }, rw (add-one, passes-other s t n (b .checked) i h z))
 
-  pub module-group : i < n → Group s t n m (i + 1)
-  module-group h = record {
+  pub module-group : i < n → letter (readAt s i .form .kind) ≡ 77 → Group s t n m (i + 1)
+  module-group h e = record {
     checked = b .checked;
     logged = b .logged;
     group = omega arith;
+    opened = rw (add-one i) (open-mod s t n (b .checked) i h e);
     room = rw add-one (omega (arith, b .few, count-mod s t n (b .checked) i, count-top s t n (b .checked) (suc i), few-consts s t n (b .checked)));
   }
 
@@ -208,10 +232,12 @@ module _ (s t : Bytes) (n m i : ℕ) (b : Before s t n m i) where
       rw (passes-mod s t n (b .checked) i h e) (then-stop (groupFrom s (suc i) 0) (passesAfter s (suc i)) (sheetSource s .implement) (logIn s t m) (rw add-one at q))
 
   pub top-group : Group s t n m 0
+  unfolding openAt moduleAt
   top-group = record {
     checked = b .checked;
     logged = b .logged;
     group = omega arith;
+    opened = refl;
     room = omega (arith, b .few, count-top s t n (b .checked) i, few-consts s t n (b .checked));
   }
 

@@ -1,7 +1,7 @@
 -- The constants of a sheet pass by pass, as a walk over its lines meets them. Lines are counted from 0 here.
 use Prim.Native.Nat.{ℕ, zero, suc, _+_, _≤_, _<_}
 use mathlib.Core.Path.{_≡_}
-use mathlib.Core.Bool.{Bool, true, false, cond}
+use mathlib.Core.Bool.{Bool, true, false, cond, not, _&&_}
 use mathlib.Core.List.{List, [], _∷_, _++_, map}
 use mathlib.Core.Option.{none, some}
 use lib.Dec.{leb, eqb}
@@ -64,6 +64,10 @@ counterOf c = record { group = cond (c .started) (some (c .line, c .col)) none; 
 -- the module that is open behind line i, of kind x: `mod` is 77 and `end` 79
 unfoldable pub openAfter : ℕ → ℕ → ℕ → ℕ
 openAfter x i within = cond (eqb x 77) (i + 1) (cond (eqb x 79) 0 within)
+
+-- whether a pass over the group k is done where the module of line `within` is open; the top level's goes on over modules
+unfoldable pub left : ℕ → ℕ → Bool
+left k within = not (eqb k 0) && not (eqb within k)
 
 -- ---- one constant
 
@@ -129,6 +133,7 @@ pub record Group (s t : Bytes) (n m k : ℕ) : Type 0 where
   pub checked : Checked s t n
   pub logged : Logged s t n m
   pub group : k ≤ n
+  pub opened : openAt (nodesIn s) k ≡ moduleAt s k
   pub room : m + length (groupFrom s k 0) ≤ 128
 
 -- they are entered, up to entry m

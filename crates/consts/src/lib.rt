@@ -4,7 +4,7 @@ ghost use mathlib.Core.Path.{_≡_};
 ghost use Prim.Native.Nat.{_+_, _≤_, _<_};
 ghost use Rattle.semantics.specs.Const.{iotaAt, iotaNext};
 ghost use Rattle.checks.specs.Checks.{Checked, Kept};
-ghost use Rattle.consts.specs.Passes.{openAfter, counterOf, ConstLine, Steps, AtConstant, Standing, Visits, Group, Passes, Before, Past, Collects};
+ghost use Rattle.consts.specs.Passes.{openAfter, counterOf, ConstLine, Steps, AtConstant, Standing, Visits, Group, Passes, Before, Past, Collects, left};
 
 // Letters of kinds.
 const CON: u8 = b'D';
@@ -165,14 +165,24 @@ fn visit(sheet: &[u8], work: &mut [u8], n: usize, k: usize, p: Pass) -> Visited
     })
 }
 
-// A pass, with entries from m on.
+// Whether the module of line k is left, where that of line `within` is open; the top level, 0, is never left.
+fn is_left(k: usize, within: usize) -> bool
+    ensures { λ b. ⌜ b ≡ left k within ⌝ }
+{
+    if k == 0 {
+        return false;
+    }
+    within != k
+}
+
+// A pass, with entries from m on: from the line behind the one that opens the group to where the group is left.
 fn pass_consts(sheet: &[u8], work: &mut [u8], n: usize, m: usize, k: usize) -> Collected
     requires { ⌜ Group (now sheet) (now work) n m k ⌝ }
     ensures { λ r. ⌜ (Kept 5120 (now (work .entry)) (now (work .exit))) × (Passes (now (sheet .entry)) (now (work .entry)) (now (work .exit)) n m k r) ⌝ }
 {
     let mut p = Pass {
-        line: 0,
-        within: 0,
+        line: k,
+        within: k,
         count: m,
         iota: IotaCounter {
             started: false,
@@ -182,6 +192,9 @@ fn pass_consts(sheet: &[u8], work: &mut [u8], n: usize, m: usize, k: usize) -> C
         },
     };
     while p.line < n {
+        if is_left(k, p.within) {
+            return Collected::Count(p.count);
+        }
         let r = visit(sheet, work, n, k, p);
         match r {
             Visited::On(q) => p = q,

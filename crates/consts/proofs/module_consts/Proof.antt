@@ -23,7 +23,7 @@ add-pass-consts : tie.Need-add-pass-consts
 add-pass-consts c = search needs
 
 pass-consts-requires : tie.Need-pass-consts-requires
-pass-consts-requires c κs = Walk.module-group (now (c .before .before .before .before .before .before .before .args .sheet)) (now (c .before .before .before .before .before .before .before .args .work)) (c .before .before .before .before .before .before .before .args .n) (c .before .before .before .before .before .before .before .args .m) (c .before .before .before .before .before .before .before .args .i) (c .before .before .before .before .before .before .before .pre .0) (c .before .before .before .before .before .before .before .pre .1)
+pass-consts-requires c κs = Walk.module-group (now (c .before .before .before .before .before .before .before .args .sheet)) (now (c .before .before .before .before .before .before .before .args .work)) (c .before .before .before .before .before .before .before .args .n) (c .before .before .before .before .before .before .before .args .m) (c .before .before .before .before .before .before .before .args .i) (c .before .before .before .before .before .before .before .pre .0) (c .before .before .before .before .before .before .before .pre .1) (Walk.kind-read (c .before .before .before .before .before .before .before .pre .0 .checked) (c .before .before .before .before .before .before .before .pre .1) (c .before .before .before .form-at .ensures) (c .before .before .kind .ensures) ∙ c .before .if1 .left)
 
 same-length-2 : tie.Need-same-length-2
 same-length-2 c = search needs
