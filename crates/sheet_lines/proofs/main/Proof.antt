@@ -1,89 +1,64 @@
+-- `sheet_lines::main` meets its contract.
 use native.Mathlib.Omega.{arith}
 use Rattle.sheet_lines.proofs.Laws.{checked-lines}
 use borrow.Author.Needs.{needs}
 use Rattle.sheet_lines.proofs.main.Statement.{statement}
 use Rattle.sheet_lines.proofs.main.Tie as tie
-use Rattle.sheet_lines.proofs.main.Reads as reads
-use Rattle.sheet_lines.proofs.main.Lts as lts
-use Rattle.checks.proofs.check.Reads as check-reads
-use Rattle.io.proofs.large_buffer.Reads as large-buffer-reads
-use Rattle.io.proofs.read_full.Reads as read-full-reads
-use Rattle.sheet_lines.proofs.print_lines.Reads as print-lines-reads
-use Rattle.sheet_lines.proofs.refuse.Reads as refuse-reads
 
--- src/main.rt:55:21
 large-buffer-requires : tie.Need-large-buffer-requires
 large-buffer-requires c κs = search needs
 
--- src/main.rt:56:20
 large-buffer-requires-2 : tie.Need-large-buffer-requires-2
 large-buffer-requires-2 c κs = search needs
 
--- src/main.rt:57:19
 large-buffer-requires-3 : tie.Need-large-buffer-requires-3
 large-buffer-requires-3 c κs = search needs
 
--- src/main.rt:58:41
 slice-aggregate-read-full : tie.Need-slice-aggregate-read-full
 slice-aggregate-read-full c = search needs
 
--- src/main.rt:58:9
 read-full-requires : tie.Need-read-full-requires
 read-full-requires c κs = search needs
 
--- src/main.rt:59:25
 array-share-prefix-sheet : tie.Need-array-share-prefix-sheet
 array-share-prefix-sheet c = search needs
 
--- src/main.rt:59:25
 slice-aggregate-check : tie.Need-slice-aggregate-check
 slice-aggregate-check c = search needs
 
--- src/main.rt:59:38
 slice-aggregate-check-2 : tie.Need-slice-aggregate-check-2
 slice-aggregate-check-2 c = search needs
 
--- src/main.rt:59:11
 check-requires : tie.Need-check-requires
 check-requires c κs = search needs
 
--- src/main.rt:60:25
 enum-known-number : tie.Need-enum-known-number
 enum-known-number c = search needs
 
--- src/main.rt:60:42
 refuse-requires : tie.Need-refuse-requires
 refuse-requires c κs = search needs
 
--- src/main.rt:61:23
 enum-known-k : tie.Need-enum-known-k
 enum-known-k c = search needs
 
--- src/main.rt:61:41
 array-share-prefix-sheet-2 : tie.Need-array-share-prefix-sheet-2
 array-share-prefix-sheet-2 c = search needs
 
--- src/main.rt:61:41
 slice-aggregate-print-lines : tie.Need-slice-aggregate-print-lines
 slice-aggregate-print-lines c = search needs
 
--- src/main.rt:61:54
 slice-aggregate-print-lines-2 : tie.Need-slice-aggregate-print-lines-2
 slice-aggregate-print-lines-2 c = search needs
 
--- src/main.rt:61:68
 slice-aggregate-print-lines-3 : tie.Need-slice-aggregate-print-lines-3
 slice-aggregate-print-lines-3 c = search needs
 
--- src/main.rt:61:29
 print-lines-requires : tie.Need-print-lines-requires
 print-lines-requires c κs = checked-lines (c .before .before .before .before .before .before .before .check .result) (c .before .before .before .before .k .given .1) (c .before .before .before .before .before .before .before .check .ensures .1)
 
--- src/main.rt:54:1
 returns : tie.Need-returns
 returns c = search needs
 
--- src/main.rt:54:1
 returns-2 : tie.Need-returns-2
 returns-2 c = search needs
 
