@@ -1,6 +1,6 @@
 -- Distinct keys: one more key, and positions that stay.
 use mathlib.Core.Path.{_≡_, refl, sym, ap, _∙_}
-use mathlib.Core.Bool.{Bool, true, false, cond, _&&_, _||_}
+use mathlib.Core.Bool.{Bool, true, false, cond, _||_}
 use mathlib.Core.List.{List, [], _∷_, _++_, append-assoc}
 use Prim.Native.Nat.{ℕ, zero, suc, _+_, _≤_, _<_}
 use native.Mathlib.Omega.{arith}
@@ -10,7 +10,6 @@ use lib.ListN.{length, getD, length-append}
 use borrow.Author.Tests.{le-leb, leb-true, eq-eqb, ne-eqb}
 use Rattle.semantics.specs.Text.{any}
 use Rattle.semantics.specs.Tree.{TypeKey}
-use Rattle.semantics.specs.Tree.TypeKey.{opaqueKey}
 use Rattle.semantics.specs.Fold.{eqZ}
 use Rattle.semantics.specs.Types.{sameInts, keyCode, sameTypeKey, distinct, position}
 use Rattle.type_keys.specs.Table.{placed}

@@ -1,38 +1,31 @@
 -- The key of a `need` line, by its form; and the fields of the lines that write out a shape.
 use mathlib.Core.Path.{_≡_, refl, sym, ap, _∙_}
-use mathlib.Core.Bool.{Bool, true, false, cond, _&&_, _||_}
-use mathlib.Core.List.{List, [], _∷_, _++_, map}
-use mathlib.Core.Option.{Option, none, some}
+use mathlib.Core.Bool.{Bool, true, false, cond, _&&_}
+use mathlib.Core.List.{List, [], _∷_}
 use Prim.Native.Nat.{ℕ, zero, suc, _+_, _-_, _≤_, _<_}
 use native.Mathlib.Omega.{arith}
-use lib.Dec.{leb, ltb, eqb}
-use lib.IntN.{ℤ, pos, negsuc}
-use lib.ListN.{length, drop, getD}
-use borrow.Author.Tests.{eqb-true, leb-true, ltb-true, le-leb, lt-leb, ne-eqb, eq-eqb}
-use Rattle.semantics.specs.Text as Text
-use Rattle.semantics.specs.Text.{headPart, tailParts}
+use lib.Dec.{leb, eqb}
+use lib.IntN.{pos}
+use lib.ListN.{length, getD}
+use borrow.Author.Tests.{eqb-true, leb-true, le-leb, ne-eqb, eq-eqb}
+use Rattle.semantics.specs.Text.{headPart}
 use Rattle.semantics.specs.Tree.{Node, ElemKind, TypeKey}
 use Rattle.semantics.specs.Tree.ElemKind.{kByte, kWord, kBig, kReal, kPtr}
 use Rattle.semantics.specs.Tree.TypeKey.{adtKey, elemKey, blockKey, opaqueKey}
 use Rattle.semantics.specs.Form as Form
-use Rattle.semantics.specs.Form.{Row, letter, forms, make, values, numberOf, isNumber, isCount, between, holds, fits, ones}
-use Rattle.semantics.specs.Form.Atom.{size, offset}
-use Rattle.semantics.specs.Form.Part.{one, many}
+use Rattle.semantics.specs.Form.{Row, letter, forms, make}
 use Rattle.semantics.specs.Fold.{eqZ}
 use Rattle.semantics.specs.Array.{kindNumber}
-use Rattle.semantics.specs.Types.{sameInts, keyCode, sameTypeKey}
-use Rattle.text.specs.Number as Number
-use Rattle.text.specs.declared.number.Signed.{Signed}
-use Rattle.text.specs.declared.number.Signed.the-variants as Signed
-use Rattle.form.specs.Table.{rowAt, kindAt, rowNode}
+use Rattle.semantics.specs.Types.{sameTypeKey}
+use Rattle.form.specs.Table.{kindAt, rowNode}
 use Rattle.form.proofs.Table.{both, row-count, Each, done, _also_, each-at}
-use Rattle.lines.specs.Lines.{readAt, nodesIn, formAt, Whole}
-use Rattle.lines.proofs.Line.{form-low, form-is, kind-is, read-fits}
+use Rattle.lines.specs.Lines.{readAt, nodesIn, formAt}
+use Rattle.lines.proofs.Line.{form-low, kind-is}
 use Rattle.refs.proofs.Nodes.{node-at}
 use Rattle.checks.specs.Checks.{Checked}
 use Rattle.source.specs.Walk.{declaresAt, fieldAt, frameOf}
 use Rattle.laws.proofs.Tests.{never}
-use Rattle.type_keys.specs.Keys.{firstKey, needAt, NeedLine, shapeAt, ShapeLine, raised}
+use Rattle.type_keys.specs.Keys.{firstKey, needAt, NeedLine}
 
 -- ---- `need` lines are the forms from 34 on
 

@@ -23,7 +23,7 @@ use Rattle.source.specs.Walk.{declaresAt, declaredTo, byKind}
 use Rattle.source.proofs.Walk.{declared-all, source-of}
 use Rattle.source.proofs.Declares.{line-declares}
 use Rattle.type_keys.specs.Keys.{shapeAt, ShapeLine}
-use Rattle.type_keys.specs.Table.{lineOf, placeOf, kindOf, Needs, Kinds, Outside}
+use Rattle.type_keys.specs.Table.{placeOf, kindOf, Needs, Kinds, Outside}
 use Rattle.type_keys.proofs.Distinct.{key-member, known-more, placed-some}
 use Rattle.type_keys.proofs.Pass.{declared-more}
 use Rattle.type_keys.proofs.Table.{line-below, place-below}

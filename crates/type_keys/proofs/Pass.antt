@@ -4,32 +4,27 @@ use mathlib.Core.Bool.{Bool, true, false, cond}
 use mathlib.Core.List.{List, [], _∷_, _++_}
 use Prim.Native.Nat.{ℕ, zero, suc, _+_, _-_, _≤_, _<_}
 use native.Mathlib.Omega.{arith}
-use native.Mathlib.Nat.{eq-or-lt-of-le}
 use native.Mathlib.Numerals.{add-one}
-use mathlib.Core.Logic.{⊎-elim}
 use lib.Dec.{eqb}
-use lib.ListN.{length, take, getD, length-append, List·getD-append}
-use lib.Seq.{take-suc, take-all, getD-at}
+use lib.ListN.{length, take, getD, length-append}
+use lib.Seq.{take-suc, take-all}
 use borrow.Author.Tests.{eq-eqb, ne-eqb}
 use Rattle.semantics.specs.Text.{any}
 use Rattle.semantics.specs.Tree.{Declares, Node, ElemKind, TypeKey}
-use Rattle.semantics.specs.Tree.ElemKind.{kByte, kWord, kBig, kReal, kPtr}
 use Rattle.semantics.specs.Tree.TypeKey.{elemKey, opaqueKey}
 use Rattle.semantics.specs.Form.{letter}
 use Rattle.semantics.specs.Sheet.{sheetSource}
 use Rattle.semantics.specs.Array.{kindNumber}
 use Rattle.semantics.specs.Types.{sameTypeKey, distinct, position}
-use Rattle.form.specs.Table.{kindAt}
 use Rattle.lines.specs.Lines.{readAt, nodesIn, formAt}
-use Rattle.lines.proofs.Line.{kind-is}
 use Rattle.refs.proofs.Nodes.{node-count}
 use Rattle.checks.specs.Checks.{Checked}
 use Rattle.checks.proofs.Kept.{kept-less, checked-kept}
 use Rattle.source.specs.Walk.{declaresAt, declaredTo}
 use Rattle.source.proofs.Walk.{declared-all, source-of}
 use Rattle.type_keys.specs.Keys.{needAt, NeedLine}
-use Rattle.type_keys.specs.Table.{lineOf, placeOf, kindOf, placed, kindsUsed, kindBy, needsTo, entered, kindEntered, Needs, Kinds, Outside, Numbering, NeedNext}
-use Rattle.type_keys.proofs.Distinct.{newKey, any-append, or-false, position-same, position-within, position-none, position-more, length-more, placed-more, known-same, known-length, placed-some, placed-none, distinct-more, distinct-few, key-member, none-distinct, known-more}
+use Rattle.type_keys.specs.Table.{lineOf, placeOf, kindOf, kindsUsed, kindBy, needsTo, entered, kindEntered, Needs, Kinds, Outside, Numbering, NeedNext}
+use Rattle.type_keys.proofs.Distinct.{any-append, position-same, position-within, position-none, position-more, length-more, placed-more, known-same, known-length, placed-some, placed-none, distinct-more, distinct-few, key-member, none-distinct, known-more}
 use Rattle.type_keys.proofs.Forms.{needs-line, kind-low}
 use Rattle.type_keys.proofs.Same.{elems-are, elem-is}
 use Rattle.type_keys.proofs.Table.{outside-then, outside-less, line-below, place-below, kind-above, entered-outside, entered-line, entered-place, other-line, other-place, kind-outside, kind-entered}

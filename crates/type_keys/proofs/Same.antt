@@ -5,10 +5,9 @@ use mathlib.Core.List.{List}
 use Prim.Native.Nat.{ℕ, zero, suc, _+_, _-_, _<_}
 use native.Mathlib.Omega.{arith}
 use lib.Dec.{eqb}
-use lib.ListN.{getD}
-use borrow.Author.Tests.{ne-eqb, eq-eqb}
+use borrow.Author.Tests.{ne-eqb}
 use Rattle.semantics.specs.Text.{same}
-use Rattle.semantics.specs.Tree.{Node, ElemKind, TypeKey}
+use Rattle.semantics.specs.Tree.{Node, ElemKind}
 use Rattle.semantics.specs.Tree.TypeKey.{adtKey, elemKey, blockKey, opaqueKey}
 use Rattle.semantics.specs.Array.{kindNumber}
 use Rattle.semantics.specs.Types.{sameTypeKey}

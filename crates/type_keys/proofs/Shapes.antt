@@ -6,11 +6,11 @@ use mathlib.Core.Option.{Option, none, some}
 use Prim.Native.Nat.{ℕ, zero, suc, _+_, _-_, _≤_, _<_, min}
 use native.Mathlib.Omega.{arith}
 use native.Mathlib.Numerals.{add-one}
-use lib.Dec.{leb, ltb, eqb}
+use lib.Dec.{leb, eqb}
 use lib.IntN.{ℤ, pos, negsuc}
 use lib.ListN.{length, drop, getD, drop-of-length-le}
 use lib.Seq.{drop-cons, getD-drop}
-use borrow.Author.Tests.{eqb-true, leb-true, ltb-true, ne-eqb, eq-eqb, le-leb}
+use borrow.Author.Tests.{eqb-true, leb-true, ltb-true, ne-eqb, eq-eqb}
 use Rattle.semantics.specs.Text as Text
 use Rattle.semantics.specs.Tree.{Node, Shape}
 use Rattle.semantics.specs.Tree.TypeKey.{blockKey}

@@ -1,15 +1,14 @@
 -- The table: what is read of it after a store.
 use mathlib.Core.Path.{_≡_, refl, sym, ap, _∙_}
 use mathlib.Core.Bool.{Bool, true, false, cond}
-use mathlib.Core.List.{List, []}
-use Prim.Native.Nat.{ℕ, suc, _+_, _-_, _*_, _/_, _%_, _≤_, _<_}
+use mathlib.Core.List.{List}
+use Prim.Native.Nat.{ℕ, suc, _+_, _-_, _/_, _%_, _≤_, _<_}
 use native.Mathlib.Omega.{arith}
 use native.Mathlib.Nat.{div-add-mod'}
 use lib.Dec.{ltb, eqb}
-use lib.ListN.{length, take, drop, getD, set, length-set}
+use lib.ListN.{length, drop, getD, set, length-set}
 use lib.Seq.{getD-set-same, getD-set-other, take-set-le, drop-set-lt, getD-drop, drop-drop}
-use borrow.Author.Tests.{lt-ltb, le-ltb, ltb-true, ltb-false, eq-eqb, ne-eqb, eqb-true, eqb-false}
-use Rattle.checks.specs.Checks.{Kept}
+use borrow.Author.Tests.{ltb-true, ltb-false, eqb-true, eqb-false}
 use Rattle.checks.proofs.Kept.{kept-all, kept-then, kept-less, kept-at}
 use Rattle.type_keys.specs.Table.{lineOf, placeOf, kindOf, entered, kindEntered, Outside}
 

@@ -1,11 +1,11 @@
 -- All rows of types together.
 use mathlib.Core.Path.{_≡_, refl, sym, ap, _∙_}
 use mathlib.Core.List.{List, [], _∷_, _++_, map, append-assoc, append-nil}
-use Prim.Native.Nat.{ℕ, _+_, _≤_, _<_}
+use Prim.Native.Nat.{ℕ, _+_, _≤_}
 use native.Mathlib.Omega.{arith}
 use lib.ListN.{length, drop}
 use lib.Seq.{drop-at}
-use Rattle.semantics.specs.Tree.{TypeKey, Shape, ElemKind}
+use Rattle.semantics.specs.Tree.{TypeKey, Shape}
 use Rattle.semantics.specs.Sheet.{sheetSource, concatMap}
 use Rattle.semantics.specs.Global.{Item}
 use Rattle.semantics.specs.Array.{kindNumber}
@@ -16,7 +16,7 @@ use Rattle.write.proofs.Wrote.{wrote-as}
 use Rattle.checks.specs.Checks.{Kept, Checked}
 use Rattle.records.specs.Log.{logOf}
 use Rattle.records.proofs.Lists.{map-append}
-use Rattle.type_keys.specs.Table.{kindOf, kindsUsed, Kinds}
+use Rattle.type_keys.specs.Table.{kindsUsed, Kinds}
 use Rattle.type_keys.proofs.Distinct.{newKey, distinct-more}
 use Rattle.type_keys.proofs.Forms.{kind-low}
 use Rattle.type_keys.proofs.Numbers.{frames-all, frames-few}

@@ -1,16 +1,15 @@
 -- The keys behind those of needs: elements of arrays, each at its own position.
 use mathlib.Core.Path.{_≡_, refl, sym, ap, _∙_}
-use mathlib.Core.Bool.{Bool, true, false, cond, _||_}
-use mathlib.Core.List.{List, [], _∷_, _++_, map, append-assoc, append-nil}
+use mathlib.Core.Bool.{Bool, true, false, cond}
+use mathlib.Core.List.{List, [], _∷_, _++_, append-assoc, append-nil}
 use Prim.Native.Nat.{ℕ, zero, suc, _+_, _-_, _≤_, _<_}
 use native.Mathlib.Omega.{arith}
-use native.Mathlib.Numerals.{add-one}
-use lib.Dec.{ltb, eqb}
+use lib.Dec.{ltb}
 use lib.ListN.{length, take, drop, getD, length-append, length-drop, List·getD-append}
 use lib.Seq.{getD-at, getD-drop, take-suc, take-all}
 use borrow.Author.Tests.{ltb-true, ltb-false, eqb-true}
 use Rattle.semantics.specs.Text.{any}
-use Rattle.semantics.specs.Tree.{ElemKind, TypeKey, Shape}
+use Rattle.semantics.specs.Tree.{ElemKind, TypeKey}
 use Rattle.semantics.specs.Tree.ElemKind.{kByte, kWord, kBig, kReal, kPtr}
 use Rattle.semantics.specs.Tree.TypeKey.{elemKey, opaqueKey}
 use Rattle.semantics.specs.Sheet.{concatMap}

@@ -1,14 +1,11 @@
 -- The shape of a need's key, by its form.
 use mathlib.Core.Path.{_≡_, refl, sym, ap, _∙_}
-use mathlib.Core.Bool.{cond}
-use mathlib.Core.List.{List, []}
+use mathlib.Core.List.{List}
 use Prim.Native.Nat.{ℕ, zero, suc, _+_, _-_, _≤_, _<_}
 use native.Mathlib.Omega.{arith}
-use lib.Dec.{eqb}
-use lib.ListN.{length, getD}
+use lib.ListN.{getD}
 use borrow.Author.Tests.{ne-eqb}
-use Rattle.semantics.specs.Tree.{Shape, TypeKey}
-use Rattle.semantics.specs.Tree.TypeKey.{adtKey, elemKey, blockKey, opaqueKey}
+use Rattle.semantics.specs.Tree.TypeKey.{adtKey, elemKey}
 use Rattle.semantics.specs.Layout.{Recorded, lastOf}
 use Rattle.semantics.specs.Array.{kindNumber}
 use Rattle.semantics.specs.Types.{opaqueShape, elemShape, keyShape, unknown}

@@ -1,19 +1,17 @@
 -- Rows written one behind the other: frames, and the keys of needs.
-use mathlib.Core.Path.{_≡_, refl, sym, ap, _∙_}
+use mathlib.Core.Path.{_≡_, refl, ap, _∙_}
 use mathlib.Core.Bool.{Bool, true, false, cond}
-use mathlib.Core.List.{List, [], _∷_, _++_, map, append-nil}
+use mathlib.Core.List.{List, [], _∷_, _++_, append-nil}
 use Prim.Native.Nat.{ℕ, suc, _+_, _-_, _≤_, _<_}
 use native.Mathlib.Omega.{arith}
 use native.Mathlib.Numerals.{add-one}
-use lib.Dec.{eqb}
 use lib.ListN.{length, take, drop, getD, length-append, take-append-drop}
 use lib.Seq.{take-suc, take-all, getD-take, length-take-le}
-use borrow.Author.Tests.{eq-eqb, ne-eqb}
 use Rattle.semantics.specs.Text.{any}
 use Rattle.semantics.specs.Tree.{Shape, TypeKey}
 use Rattle.semantics.specs.Tree.TypeKey.{opaqueKey}
 use Rattle.semantics.specs.Sheet.{sheetSource}
-use Rattle.semantics.specs.Types.{sameTypeKey, distinct, position, keyShape, opaqueShape}
+use Rattle.semantics.specs.Types.{sameTypeKey, distinct, position, keyShape}
 use Rattle.semantics.specs.Listing.{typeRows}
 use Rattle.write.specs.Wrote.{Wrote}
 use Rattle.write.proofs.Wrote.{wrote-length, wrote-none}
@@ -23,12 +21,11 @@ use Rattle.records.specs.Log.{logOf}
 use Rattle.records.proofs.Lists.{map-append}
 use Rattle.records.proofs.Kept.{logged-kept}
 use Rattle.type_keys.specs.Keys.{needAt, NeedLine}
-use Rattle.type_keys.specs.Table.{lineOf, placeOf, kindOf, Needs}
+use Rattle.type_keys.specs.Table.{lineOf, placeOf}
 use Rattle.type_keys.proofs.Distinct.{newKey, position-none, position-low, position-more, distinct-more, distinct-few, key-member, known-more}
 use Rattle.type_rows.specs.declared.Next.{Next}
 use Rattle.type_rows.specs.Rows.{Rowed, Wrotes, keysTo, shapesOf, Ready}
 use Rattle.type_rows.proofs.Rows.{rows-then}
-use Rattle.type_rows.proofs.Kept.{map-checked}
 
 pub within : {d : List ℕ} {a : ℕ} {t e : List ℕ} {b : ℕ} → Wrote d a t e b → b ≤ length e + 1
 within w = omega (arith, w .place, wrote-length w)

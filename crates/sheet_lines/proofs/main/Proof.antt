@@ -1,5 +1,4 @@
 -- `sheet_lines::main` meets its contract.
-use native.Mathlib.Omega.{arith}
 use Rattle.sheet_lines.proofs.Laws.{checked-lines}
 use borrow.Author.Needs.{needs}
 use Rattle.sheet_lines.proofs.main.Statement.{statement}

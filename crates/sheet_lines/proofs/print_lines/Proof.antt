@@ -1,5 +1,4 @@
 -- `sheet_lines::print_lines` meets its contract.
-use native.Mathlib.Omega.{arith}
 use Rattle.sheet_lines.proofs.Laws.{held-tables}
 use denote.Ref.{now}
 use borrow.Author.Needs.{needs}

@@ -1,5 +1,4 @@
 -- `tables::make_others` meets its contract.
-use native.Mathlib.Omega.{arith}
 use Rattle.tables.proofs.Laws.{tables-held, tables-log, tables-kept}
 use mathlib.Core.Path.{refl}
 use borrow.Author.Needs.{needs}

@@ -1,5 +1,4 @@
 -- `tables::make_tables` meets its contract.
-use native.Mathlib.Omega.{arith}
 use Rattle.tables.proofs.Laws.{constants-there, constants-refused, still-checked, log-as}
 use Rattle.checks.proofs.Kept.{kept-then}
 use mathlib.Core.Path.{_∙_, sym}

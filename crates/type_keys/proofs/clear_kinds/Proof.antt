@@ -1,15 +1,12 @@
 use Prim.Native.Nat.{_+_}
 use native.Mathlib.Omega.{arith}
 use borrow.Author.Needs.{needs}
-use denote.Ref.{now}
 use mathlib.Core.Path.{_≡_}
 use Prim.Native.Nat.{ℕ, _-_, _<_, _≤_}
 use Rattle.type_keys.proofs.Table.{outside-all, outside-then, outside-set, cleared-next}
 use Rattle.type_keys.specs.Table.{kindOf, Outside}
 use Rattle.type_keys.proofs.clear_kinds.Statement.{statement}
 use Rattle.type_keys.proofs.clear_kinds.Tie as tie
-use Rattle.type_keys.proofs.clear_kinds.Reads as reads
-use Rattle.type_keys.proofs.clear_kinds.Lts as lts
 
 abbrev Inv-loop : tie.InvT-loop
 Inv-loop work₀ k₀ work k = (k ≤ 5) × (Outside 10624 10629 work₀ work) × ((j : ℕ) → j < k → kindOf work j ≡ 0)
@@ -17,35 +14,27 @@ Inv-loop work₀ k₀ work k = (k ≤ 5) × (Outside 10624 10629 work₀ work) �
 abbrev μ-loop : tie.MeasureT-loop
 μ-loop work₀ k₀ work k = 5 - k
 
--- src/lib.rt:146:5
 loop-holds : tie.Need-loop-holds Inv-loop μ-loop
 loop-holds c = (omega arith, outside-all, λ j h. absurd (omega arith))
 
--- src/lib.rt:147:14
 add-work : tie.Need-add-work Inv-loop μ-loop
 add-work c = search needs
 
--- src/lib.rt:147:9
 slice-write-work : tie.Need-slice-write-work Inv-loop μ-loop
 slice-write-work c = search needs
 
--- src/lib.rt:148:9
 add-k : tie.Need-add-k Inv-loop μ-loop
 add-k c = search needs
 
--- src/lib.rt:146:5
 loop-less : tie.Need-loop-less Inv-loop μ-loop
 loop-less c = search needs
 
--- src/lib.rt:146:5
 loop-again : tie.Need-loop-again Inv-loop μ-loop
 loop-again c = (omega (arith, c .loop-test .taken), outside-then (c .before .loop .inv .1) (outside-set 10624 10629 (c .before .loop .work) (10624 + c .before .loop .k) 0 (omega arith) (omega (arith, c .loop-test .taken))), cleared-next (c .before .loop .work) (c .before .loop .k) (c .loop-test .taken) (omega (arith, c .before .before .pre, c .before .loop .inv .1 .kept .long)) (c .before .loop .inv .2))
 
--- src/lib.rt:141:1
 same-length : tie.Need-same-length Inv-loop μ-loop
 same-length c = search needs
 
--- src/lib.rt:141:1
 returns : tie.Need-returns Inv-loop μ-loop
 returns c = (c .before .loop .inv .1, λ k h. c .before .loop .inv .2 k (omega (arith, c .loop-test .left)))
 

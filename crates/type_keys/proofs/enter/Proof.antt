@@ -5,50 +5,37 @@ use Rattle.type_keys.specs.Table.{entered}
 use borrow.Author.Needs.{needs}
 use Rattle.type_keys.proofs.enter.Statement.{statement}
 use Rattle.type_keys.proofs.enter.Tie as tie
-use Rattle.type_keys.proofs.enter.Reads as reads
-use Rattle.type_keys.proofs.enter.Lts as lts
 
--- src/lib.rt:125:21
 cast-work : tie.Need-cast-work
 cast-work c = search needs
 
--- src/lib.rt:125:10
 add-work : tie.Need-add-work
 add-work c = search needs
 
--- src/lib.rt:125:5
 slice-write-work : tie.Need-slice-write-work
 slice-write-work c = search needs
 
--- src/lib.rt:126:22
 cast-work-2 : tie.Need-cast-work-2
 cast-work-2 c = search needs
 
--- src/lib.rt:126:10
 add-work-2 : tie.Need-add-work-2
 add-work-2 c = search needs
 
--- src/lib.rt:126:5
 slice-write-work-2 : tie.Need-slice-write-work-2
 slice-write-work-2 c = simp length-set (omega arith)
 
--- src/lib.rt:127:24
 cast-work-3 : tie.Need-cast-work-3
 cast-work-3 c = search needs
 
--- src/lib.rt:127:10
 add-work-3 : tie.Need-add-work-3
 add-work-3 c = search needs
 
--- src/lib.rt:127:5
 slice-write-work-3 : tie.Need-slice-write-work-3
 slice-write-work-3 c = simp length-set (omega arith)
 
--- src/lib.rt:121:1
 same-length : tie.Need-same-length
 same-length c = search needs
 
--- src/lib.rt:121:1
 returns : tie.Need-returns
 unfolding entered
 returns c = refl

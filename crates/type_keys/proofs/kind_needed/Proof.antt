@@ -3,30 +3,22 @@ use borrow.Author.Tests.{le-leb, lt-leb, eq-eqb, ne-eqb}
 use borrow.Author.Needs.{needs}
 use Rattle.type_keys.proofs.kind_needed.Statement.{statement}
 use Rattle.type_keys.proofs.kind_needed.Tie as tie
-use Rattle.type_keys.proofs.kind_needed.Reads as reads
-use Rattle.type_keys.proofs.kind_needed.Lts as lts
 
--- src/lib.rt:159:9
 returns : tie.Need-returns
 returns c = search (le-leb, lt-leb, eq-eqb, ne-eqb)
 
--- src/lib.rt:162:9
 returns-2 : tie.Need-returns-2
 returns-2 c = search (le-leb, lt-leb, eq-eqb, ne-eqb)
 
--- src/lib.rt:165:9
 returns-3 : tie.Need-returns-3
 returns-3 c = search (le-leb, lt-leb, eq-eqb, ne-eqb)
 
--- src/lib.rt:168:9
 returns-4 : tie.Need-returns-4
 returns-4 c = rw (ne-eqb (c .before .before .before .before .args .f) 35 (c .before .before .before .if1 .left), ne-eqb (c .before .before .before .before .args .f) 36 (c .before .before .if2 .left), le-leb 37 (c .before .before .before .before .args .f) (omega (arith, c .before .if3 .left)), lt-leb (c .before .before .before .before .args .f) 39 (c .if4 .taken))
 
--- src/lib.rt:170:5
 sub-result : tie.Need-sub-result
 sub-result c = search needs
 
--- src/lib.rt:155:1
 returns-5 : tie.Need-returns-5
 returns-5 c = rw (ne-eqb (c .before .before .before .before .args .f) 35 (c .before .before .before .if1 .left), ne-eqb (c .before .before .before .before .args .f) 36 (c .before .before .if2 .left), le-leb 37 (c .before .before .before .before .args .f) (omega (arith, c .before .if3 .left)), le-leb (c .before .before .before .before .args .f) 39 (omega (arith, c .if4 .left)))
 

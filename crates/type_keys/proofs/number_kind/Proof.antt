@@ -1,5 +1,4 @@
 use Rattle.type_keys.specs.Table.{kindOf}
-use native.Mathlib.Omega.{arith}
 use denote.Ref.{now}
 use mathlib.Core.Path.{_∙_, sym, ap}
 use Rattle.type_keys.proofs.Table.{outside-all, kind-outside}
@@ -7,36 +6,25 @@ use Rattle.type_keys.proofs.Pass.{kind-known, kind-new}
 use borrow.Author.Needs.{needs}
 use Rattle.type_keys.proofs.number_kind.Statement.{statement}
 use Rattle.type_keys.proofs.number_kind.Tie as tie
-use Rattle.type_keys.proofs.number_kind.Reads as reads
-use Rattle.type_keys.proofs.number_kind.Lts as lts
-use Rattle.type_keys.proofs.enter_kind.Reads as enter-kind-reads
-use Rattle.type_keys.proofs.kind_place.Reads as kind-place-reads
 
--- src/lib.rt:245:8
 kind-place-requires : tie.Need-kind-place-requires
 kind-place-requires c κs = search needs
 
--- src/lib.rt:246:9
 same-length : tie.Need-same-length
 same-length c = search needs
 
--- src/lib.rt:246:9
 returns : tie.Need-returns
 returns c = (λ k ks hk x. kind-known (now (c .before .before .before .before .args .work)) (c .before .before .before .before .pre .2) k ks (c .before .before .before .before .args .keys) x (λ z. c .if1 .taken (c .before .kind-place .ensures .0 ∙ ap (kindOf (now (c .before .before .before .before .args .work))) hk ∙ z)), outside-all)
 
--- src/lib.rt:248:5
 enter-kind-requires : tie.Need-enter-kind-requires
 enter-kind-requires c κs = search needs
 
--- src/lib.rt:249:5
 add-result : tie.Need-add-result
 add-result c = search needs
 
--- src/lib.rt:241:1
 same-length-2 : tie.Need-same-length-2
 same-length-2 c = search needs
 
--- src/lib.rt:241:1
 returns-2 : tie.Need-returns-2
 returns-2 c = (λ k ks hk x. kind-new (now (c .before .before .before .before .before .before .before .before .args .work)) (c .before .before .before .before .before .before .before .before .pre .2) k ks (c .before .before .before .before .before .before .before .before .args .keys) x (c .before .before .before .before .before .before .before .before .args .kind) hk (sym (c .before .before .before .before .before .kind-place .ensures .0) ∙ c .before .before .before .before .if1 .left) (c .before .before .enter-kind .last .0) (c .before .before .enter-kind .ensures), rw (c .before .before .enter-kind .ensures) (kind-outside (now (c .before .before .before .before .before .before .before .before .args .work)) (c .before .before .before .before .before .before .before .before .pre .2) (c .before .before .before .before .before .before .before .before .args .kind) (c .before .before .before .before .before .before .before .before .args .keys)))
 

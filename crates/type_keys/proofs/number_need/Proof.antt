@@ -1,58 +1,38 @@
 use native.Mathlib.Omega.{arith}
-use lib.ListN.{length}
-use mathlib.Core.List.{List}
 use Prim.Native.Nat.{ℕ}
 use denote.Ref.{now}
-use mathlib.Core.Path.{_≡_, _∙_, sym, ap}
-use Rattle.type_keys.specs.Table.{needsTo, kindBy, kindEntered}
+use mathlib.Core.Path.{_∙_, ap}
+use Rattle.type_keys.specs.Table.{needsTo, kindEntered}
 use Rattle.type_keys.specs.Keys.{needAt}
-use Rattle.type_keys.proofs.Table.{entered-outside}
 use Rattle.type_keys.proofs.Pass.{needs-room, numbered, numbered-outside}
 use borrow.Author.Needs.{needs}
 use Rattle.type_keys.proofs.number_need.Statement.{statement}
 use Rattle.type_keys.proofs.number_need.Tie as tie
-use Rattle.type_keys.proofs.number_need.Reads as reads
-use Rattle.type_keys.proofs.number_need.Lts as lts
-use Rattle.lines.proofs.form_at.Reads as form-at-reads
-use Rattle.type_keys.proofs.enter.Reads as enter-reads
-use Rattle.type_keys.proofs.enter_kind.Reads as enter-kind-reads
-use Rattle.type_keys.proofs.kind_needed.Reads as kind-needed-reads
-use Rattle.type_keys.proofs.place_for.Reads as place-for-reads
-use Rattle.type_keys.proofs.with_key.Reads as with-key-reads
 
--- src/lib.rt:204:9
 place-for-requires : tie.Need-place-for-requires
 place-for-requires c κs = search needs
 
--- src/lib.rt:205:9
 form-at-requires : tie.Need-form-at-requires
 form-at-requires c κs = search needs
 
--- src/lib.rt:206:5
 enter-requires : tie.Need-enter-requires
 enter-requires c κs = let w = needs-room (now (c .before .before .before .before .before .before .before .args .sheet)) (now (c .before .before .before .before .before .before .before .args .work)) (c .before .before .before .before .before .before .before .args .n) (c .before .before .before .before .before .before .before .args .i) (c .before .before .before .before .before .before .before .args .d .needs) (c .before .before .before .before .before .before .before .args .d .keys) (c .before .before .before .before .before .before .before .pre) in (w .0, omega (arith, c .before .before .before .before .before .before .before .pre .line .within, c .before .before .before .before .before .before .before .pre .line .checked .whole .lined .few), omega (arith, w .1, c .before .before .before .place-for .ensures), c .before .before .before .before .before .before .before .pre .line .checked .whole .room)
 
--- src/lib.rt:207:22
 kind-needed-requires : tie.Need-kind-needed-requires
 kind-needed-requires c κs = search needs
 
--- src/lib.rt:207:5
 enter-kind-requires : tie.Need-enter-kind-requires
 enter-kind-requires c κs = let w = needs-room (now (c .before .before .before .before .before .before .before .before .before .before .before .before .args .sheet)) (now (c .before .before .before .before .before .before .before .before .before .before .before .before .args .work)) (c .before .before .before .before .before .before .before .before .before .before .before .before .args .n) (c .before .before .before .before .before .before .before .before .before .before .before .before .args .i) (c .before .before .before .before .before .before .before .before .before .before .before .before .args .d .needs) (c .before .before .before .before .before .before .before .before .before .before .before .before .args .d .keys) (c .before .before .before .before .before .before .before .before .before .before .before .before .pre) in (omega (arith, w .1, c .before .before .before .before .before .before .before .before .place-for .ensures), omega (arith, c .before .before .before .before .enter .kept .0, c .before .before .before .before .before .before .before .before .before .before .before .before .pre .line .checked .whole .room))
 
--- src/lib.rt:209:16
 add-t17 : tie.Need-add-t17
 add-t17 c = search needs
 
--- src/lib.rt:210:15
 with-key-requires : tie.Need-with-key-requires
 with-key-requires c κs = omega (arith, needs-room (now (c .before .before .before .before .before .before .before .before .before .before .before .before .before .before .before .before .args .sheet)) (now (c .before .before .before .before .before .before .before .before .before .before .before .before .before .before .before .before .args .work)) (c .before .before .before .before .before .before .before .before .before .before .before .before .before .before .before .before .args .n) (c .before .before .before .before .before .before .before .before .before .before .before .before .before .before .before .before .args .i) (c .before .before .before .before .before .before .before .before .before .before .before .before .before .before .before .before .args .d .needs) (c .before .before .before .before .before .before .before .before .before .before .before .before .before .before .before .before .args .d .keys) (c .before .before .before .before .before .before .before .before .before .before .before .before .before .before .before .before .pre) .2)
 
--- src/lib.rt:200:1
 same-length : tie.Need-same-length
 same-length c = search needs
 
--- src/lib.rt:200:1
 returns : tie.Need-returns
 returns c = let x = c .before .before .before .before .before .before .before .before .before .before .before .before .before .before .before .before .before .pre in
     let hv = c .before .before .before .before .enter-kind .ensures ∙ ap (λ (k : ℕ). kindEntered (c .before .before .before .before .before .before .before .before .before .enter .last .0) k (c .before .before .before .before .before .before .before .before .before .before .before .before .before .place-for .result)) (c .before .before .before .before .before .kind-needed .ensures) in

@@ -8,10 +8,6 @@ use Rattle.type_keys.proofs.Table.{outside-all, outside-then, outside-l
 use Rattle.type_keys.proofs.Pass.{numbering-start, numbering-end}
 use Rattle.type_keys.proofs.number_needs.Statement.{statement}
 use Rattle.type_keys.proofs.number_needs.Tie as tie
-use Rattle.type_keys.proofs.number_needs.Reads as reads
-use Rattle.type_keys.proofs.number_needs.Lts as lts
-use Rattle.type_keys.proofs.clear_kinds.Reads as clear-kinds-reads
-use Rattle.type_keys.proofs.number_line.Reads as number-line-reads
 
 abbrev Inv-loop : tie.InvT-loop
 Inv-loop sheet work₀ n d₀ i₀ work d i = (Numbering sheet work n i (d .needs) (d .keys)) × (Outside 10240 11264 work₀ work)
@@ -19,35 +15,27 @@ Inv-loop sheet work₀ n d₀ i₀ work d i = (Numbering sheet work n i (d .need
 abbrev μ-loop : tie.MeasureT-loop
 μ-loop sheet work₀ n d₀ i₀ work d i = n - i
 
--- src/lib.rt:230:5
 clear-kinds-requires : tie.Need-clear-kinds-requires Inv-loop μ-loop
 clear-kinds-requires c κs = search needs
 
--- src/lib.rt:233:5
 loop-holds : tie.Need-loop-holds Inv-loop μ-loop
 loop-holds c = (numbering-start (now (c .before .before .before .before .before .before .args .sheet)) (c .before .before .clear-kinds .last .0) (c .before .before .before .before .before .before .args .n) (checked-kept (kept-less (omega arith) (c .before .before .clear-kinds .ensures .0 .kept)) (c .before .before .before .before .before .before .pre)) (c .before .before .clear-kinds .ensures .1), outside-all)
 
--- src/lib.rt:234:9
 number-line-requires : tie.Need-number-line-requires Inv-loop μ-loop
 number-line-requires c κs = (c .before .before .loop .inv .0, c .before .loop-test .taken)
 
--- src/lib.rt:235:9
 add-i : tie.Need-add-i Inv-loop μ-loop
 add-i c = search needs
 
--- src/lib.rt:233:5
 loop-less : tie.Need-loop-less Inv-loop μ-loop
 loop-less c = search needs
 
--- src/lib.rt:233:5
 loop-again : tie.Need-loop-again Inv-loop μ-loop
 loop-again c = (c .before .before .number-line .ensures .0, outside-then (c .before .before .before .before .before .loop .inv .1) (c .before .before .number-line .ensures .1))
 
--- src/lib.rt:226:1
 same-length : tie.Need-same-length Inv-loop μ-loop
 same-length c = search needs
 
--- src/lib.rt:226:1
 returns : tie.Need-returns Inv-loop μ-loop
 returns c = let w = numbering-end (now (c .before .before .before .before .before .before .before .before .args .sheet)) (c .before .loop .work) (c .before .before .before .before .before .before .before .before .args .n) (c .before .loop .i) (c .before .loop .d .needs) (c .before .loop .d .keys) (c .before .loop .inv .0) (c .loop-test .left) in (w .0, w .1, w .2, outside-then (outside-less 10240 11264 (omega arith) (omega arith) (c .before .before .before .before .clear-kinds .ensures .0)) (c .before .loop .inv .1))
 

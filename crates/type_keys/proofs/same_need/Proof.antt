@@ -1,4 +1,3 @@
-use native.Mathlib.Omega.{arith}
 use denote.Ref.{now}
 use mathlib.Core.Path.{_∙_, sym}
 use Rattle.type_keys.proofs.Same.{block-line, names-are, blocks-are, others-are}
@@ -6,50 +5,34 @@ use Rattle.type_keys.proofs.Forms.{forms-apart}
 use borrow.Author.Needs.{needs}
 use Rattle.type_keys.proofs.same_need.Statement.{statement}
 use Rattle.type_keys.proofs.same_need.Tie as tie
-use Rattle.type_keys.proofs.same_need.Reads as reads
-use Rattle.type_keys.proofs.same_need.Lts as lts
-use Rattle.lines.proofs.field_at.Reads as field-at-reads
-use Rattle.lines.proofs.form_at.Reads as form-at-reads
-use Rattle.type_keys.proofs.same_text.Reads as same-text-reads
-use Rattle.type_keys.proofs.shape.same_shape.Reads as same-shape-reads
 
--- src/lib.rt:78:9
 form-at-requires : tie.Need-form-at-requires
 form-at-requires c κs = search needs
 
--- src/lib.rt:79:13
 form-at-requires-2 : tie.Need-form-at-requires-2
 form-at-requires-2 c κs = search needs
 
--- src/lib.rt:80:9
 returns : tie.Need-returns
 returns c = sym (forms-apart (now (c .before .before .before .before .before .args .sheet)) (now (c .before .before .before .before .before .args .work)) (c .before .before .before .before .before .args .n) (c .before .before .before .before .before .args .a) (c .before .before .before .before .before .args .b) (c .before .before .before .before .before .pre .0) (c .before .before .before .before .before .pre .1) (λ e. c .if1 .taken (c .before .before .form-at .ensures ∙ e ∙ sym (c .before .form-at2 .ensures))))
 
--- src/lib.rt:84:13
 field-at-requires : tie.Need-field-at-requires
 field-at-requires c κs = search needs
 
--- src/lib.rt:85:13
 field-at-requires-2 : tie.Need-field-at-requires-2
 field-at-requires-2 c κs = search needs
 
--- src/lib.rt:83:9
 same-text-requires : tie.Need-same-text-requires
 same-text-requires c κs = search needs
 
--- src/lib.rt:83:9
 returns-2 : tie.Need-returns-2
 returns-2 c = names-are (now (c .before .before .before .before .before .before .before .before .before .args .sheet)) (now (c .before .before .before .before .before .before .before .before .before .args .work)) (c .before .before .before .before .before .before .before .before .before .args .n) (c .before .before .before .before .before .before .before .before .before .args .a) (c .before .before .before .before .before .before .before .before .before .args .b) (c .before .before .before .before .before .before .before .before .before .pre .0) (c .before .before .before .before .before .before .before .before .before .pre .1) (c .before .before .before .before .before .before .form-at .result) (c .before .before .before .before .before .before .form-at .ensures) (c .before .before .before .before .if1 .left ∙ c .before .before .before .before .before .form-at2 .ensures) (c .before .before .before .if2 .taken) (c .before .before .field-at .ensures) (c .before .field-at2 .ensures) (c .same-text .ensures)
 
--- src/lib.rt:89:9
 same-shape-requires : tie.Need-same-shape-requires
 same-shape-requires c κs = (block-line (now (c .before .before .before .before .before .before .before .args .sheet)) (now (c .before .before .before .before .before .before .before .args .work)) (c .before .before .before .before .before .before .before .args .n) (c .before .before .before .before .before .before .before .args .a) (c .before .before .before .before .before .before .before .pre .0) (sym (c .before .before .before .before .form-at .ensures) ∙ c .if3 .taken), block-line (now (c .before .before .before .before .before .before .before .args .sheet)) (now (c .before .before .before .before .before .before .before .args .work)) (c .before .before .before .before .before .before .before .args .n) (c .before .before .before .before .before .before .before .args .b) (c .before .before .before .before .before .before .before .pre .1) (sym (c .before .before .if1 .left ∙ c .before .before .before .form-at2 .ensures) ∙ c .if3 .taken))
 
--- src/lib.rt:89:9
 returns-3 : tie.Need-returns-3
 returns-3 c = blocks-are (now (c .before .before .before .before .before .before .before .before .args .sheet)) (now (c .before .before .before .before .before .before .before .before .args .work)) (c .before .before .before .before .before .before .before .before .args .n) (c .before .before .before .before .before .before .before .before .args .a) (c .before .before .before .before .before .before .before .before .args .b) (c .before .before .before .before .before .before .before .before .pre .0) (c .before .before .before .before .before .before .before .before .pre .1) (c .before .before .before .before .before .form-at .result) (c .before .before .before .before .before .form-at .ensures) (c .before .before .before .if1 .left ∙ c .before .before .before .before .form-at2 .ensures) (c .before .if3 .taken) (c .same-shape .ensures)
 
--- src/lib.rt:74:1
 returns-4 : tie.Need-returns-4
 returns-4 c = others-are (now (c .before .before .before .before .before .before .before .args .sheet)) (now (c .before .before .before .before .before .before .before .args .work)) (c .before .before .before .before .before .before .before .args .n) (c .before .before .before .before .before .before .before .args .a) (c .before .before .before .before .before .before .before .args .b) (c .before .before .before .before .before .before .before .pre .0) (c .before .before .before .before .before .before .before .pre .1) (c .before .before .before .before .form-at .result) (c .before .before .before .before .form-at .ensures) (c .before .before .if1 .left ∙ c .before .before .before .form-at2 .ensures) (c .before .if2 .left) (c .if3 .left)
 

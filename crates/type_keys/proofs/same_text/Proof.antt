@@ -8,8 +8,6 @@ use Rattle.semantics.specs.Text.{same}
 use Rattle.type_keys.proofs.Texts.{texts-apart, text-end, text-next, text-not}
 use Rattle.type_keys.proofs.same_text.Statement.{statement}
 use Rattle.type_keys.proofs.same_text.Tie as tie
-use Rattle.type_keys.proofs.same_text.Reads as reads
-use Rattle.type_keys.proofs.same_text.Lts as lts
 
 abbrev Inv-loop : tie.InvT-loop
 Inv-loop x y i₀ i = (length x ≡ length y) × (i ≤ length x) × (same x y ≡ same (drop i x) (drop i y))
@@ -17,39 +15,30 @@ Inv-loop x y i₀ i = (length x ≡ length y) × (i ≤ length x) × (same x y �
 abbrev μ-loop : tie.MeasureT-loop
 μ-loop x y i₀ i = length x - i
 
--- src/lib.rt:19:9
 returns : tie.Need-returns Inv-loop μ-loop
 returns c = texts-apart (now (c .before .args .x)) (now (c .before .args .y)) (c .if1 .taken)
 
--- src/lib.rt:22:5
 loop-holds : tie.Need-loop-holds Inv-loop μ-loop
 loop-holds c = (c .if1 .left, omega arith, refl)
 
--- src/lib.rt:23:12
 shared-slice-read-if2 : tie.Need-shared-slice-read-if2 Inv-loop μ-loop
 shared-slice-read-if2 c = search needs
 
--- src/lib.rt:23:20
 shared-slice-read-if2-2 : tie.Need-shared-slice-read-if2-2 Inv-loop μ-loop
 shared-slice-read-if2-2 c = search needs
 
--- src/lib.rt:24:13
 returns-2 : tie.Need-returns-2 Inv-loop μ-loop
 returns-2 c = text-not (now (c .before .before .before .before .before .before .args .x)) (now (c .before .before .before .before .before .before .args .y)) (c .before .before .before .before .loop .inv .0) (c .before .before .before .before .loop .i) (c .before .before .before .loop-test .taken) (c .before .before .before .before .loop .inv .2) (c .if2 .taken)
 
--- src/lib.rt:26:9
 add-i : tie.Need-add-i Inv-loop μ-loop
 add-i c = search needs
 
--- src/lib.rt:22:5
 loop-less : tie.Need-loop-less Inv-loop μ-loop
 loop-less c = search needs
 
--- src/lib.rt:22:5
 loop-again : tie.Need-loop-again Inv-loop μ-loop
 loop-again c = (c .before .before .before .before .loop .inv .0, omega arith, text-next (now (c .before .before .before .before .before .before .args .x)) (now (c .before .before .before .before .before .before .args .y)) (c .before .before .before .before .loop .inv .0) (c .before .before .before .before .loop .i) (c .before .before .before .loop-test .taken) (c .before .before .before .before .loop .inv .2) (c .if2 .left))
 
--- src/lib.rt:15:1
 returns-3 : tie.Need-returns-3 Inv-loop μ-loop
 returns-3 c = text-end (now (c .before .before .before .args .x)) (now (c .before .before .before .args .y)) (c .before .loop .inv .0) (c .before .loop .i) (c .loop-test .left) (c .before .loop .inv .2)
 

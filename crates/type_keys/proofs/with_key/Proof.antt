@@ -5,18 +5,13 @@ use Rattle.type_keys.proofs.Pass.{keys-more}
 use borrow.Author.Needs.{needs}
 use Rattle.type_keys.proofs.with_key.Statement.{statement}
 use Rattle.type_keys.proofs.with_key.Tie as tie
-use Rattle.type_keys.proofs.with_key.Reads as reads
-use Rattle.type_keys.proofs.with_key.Lts as lts
 
--- src/lib.rt:194:16
 add-result : tie.Need-add-result
 add-result c = search needs
 
--- src/lib.rt:194:9
 returns : tie.Need-returns
 returns c = λ k ks hp hk. sym (keys-more k ks (c .before .args .p) (c .before .args .keys) hp hk ∙ rw (eq-eqb (c .before .args .p) (c .before .args .keys) (c .if1 .taken)) (omega arith))
 
--- src/lib.rt:189:1
 returns-2 : tie.Need-returns-2
 returns-2 c = λ k ks hp hk. sym (keys-more k ks (c .before .args .p) (c .before .args .keys) hp hk ∙ rw (ne-eqb (c .before .args .p) (c .before .args .keys) (c .if1 .left)))
 

@@ -2,7 +2,7 @@ use native.Mathlib.Omega.{arith}
 use borrow.Author.Needs.{needs}
 use Prim.Native.Nat.{_≤_, _-_}
 use denote.Ref.{now}
-use mathlib.Core.Path.{_≡_, _∙_, sym, refl, ap}
+use mathlib.Core.Path.{_≡_, refl}
 use Rattle.write.proofs.Wrote.{wrote-length}
 use Rattle.lines.specs.Lines.{nodesIn}
 use Rattle.source.specs.Walk.{declaredTo, declaresAt}
@@ -12,9 +12,6 @@ use Rattle.type_rows.proofs.Kept.{map-checked}
 use Rattle.type_rows.proofs.Wrotes.{within, wrotes-none, wrotes-then}
 use Rattle.type_rows.proofs.frame_rows.Statement.{statement}
 use Rattle.type_rows.proofs.frame_rows.Tie as tie
-use Rattle.type_rows.proofs.frame_rows.Reads as reads
-use Rattle.type_rows.proofs.frame_rows.Lts as lts
-use Rattle.type_rows.proofs.next_frame.Reads as next-frame-reads
 
 abbrev Inv-loop : tie.InvT-loop
 Inv-loop sheet work₀ n out₀ at r₀ i₀ work out r i = (i ≤ n) × (r₀ .id ≡ 2) × Wrotes (framesTo sheet i) r₀ r work₀ work out₀ out
@@ -22,36 +19,28 @@ Inv-loop sheet work₀ n out₀ at r₀ i₀ work out r i = (i ≤ n) × (r₀ .
 abbrev μ-loop : tie.MeasureT-loop
 μ-loop sheet work₀ n out₀ at r₀ i₀ work out r i = n - i
 
--- src/lib.rt:75:5
 loop-holds : tie.Need-loop-holds Inv-loop μ-loop
 unfolding declaredTo
 loop-holds c = (omega arith, refl, wrotes-none (c .before .before .before .pre .1))
 
--- src/lib.rt:76:9
 next-frame-requires : tie.Need-next-frame-requires Inv-loop μ-loop
 next-frame-requires c κs = (map-checked (c .before .before .before .loop .inv .2 .kept) (c .before .before .before .before .before .before .before .pre .0), c .before .before .loop-test .taken, omega (arith, c .before .before .before .loop .inv .1, c .before .before .before .loop .inv .2 .id, frames-few (now (c .before .before .before .before .before .before .before .args .sheet)) (now (c .before .before .before .before .before .before .before .args .work)) (c .before .before .before .before .before .before .before .args .n) (c .before .before .before .before .before .before .before .pre .0) (c .before .before .before .loop .i) (c .before .before .before .loop .inv .0)), within (c .before .before .before .loop .inv .2 .wrote))
 
--- src/lib.rt:77:9
 add-i : tie.Need-add-i Inv-loop μ-loop
 add-i c = search needs
 
--- src/lib.rt:75:5
 loop-less : tie.Need-loop-less Inv-loop μ-loop
 loop-less c = search needs
 
--- src/lib.rt:75:5
 loop-again : tie.Need-loop-again Inv-loop μ-loop
 loop-again c = (omega (arith, c .before .before .before .before .before .before .before .loop-test .taken), c .before .before .before .before .before .before .before .before .loop .inv .1, rw (frames-more (now (c .before .before .before .before .before .before .before .before .before .before .before .before .args .sheet)) (now (c .before .before .before .before .before .before .before .before .before .before .before .before .args .work)) (c .before .before .before .before .before .before .before .before .before .before .before .before .args .n) (c .before .before .before .before .before .before .before .before .before .before .before .before .pre .0) (c .before .before .before .before .before .before .before .before .loop .i) (c .before .before .before .before .before .before .before .loop-test .taken)) (wrotes-then (framesTo (now (c .before .before .before .before .before .before .before .before .before .before .before .before .args .sheet)) (c .before .before .before .before .before .before .before .before .loop .i)) (declaresAt (nodesIn (now (c .before .before .before .before .before .before .before .before .before .before .before .before .args .sheet))) (c .before .before .before .before .before .before .before .before .loop .i) .frames) (c .before .before .before .before .before .before .before .before .loop .inv .2) (c .before .before .before .before .next-frame .ensures)))
 
--- src/lib.rt:69:1
 same-length : tie.Need-same-length Inv-loop μ-loop
 same-length c = c .before .loop .inv .2 .kept .long
 
--- src/lib.rt:69:1
 same-length-2 : tie.Need-same-length-2 Inv-loop μ-loop
 same-length-2 c = wrote-length (c .before .loop .inv .2 .wrote)
 
--- src/lib.rt:69:1
 returns : tie.Need-returns Inv-loop μ-loop
 returns c = let e : c .before .loop .i ≡ c .before .before .before .before .before .args .n = omega (arith, c .loop-test .left, c .before .loop .inv .0) in rw (← frames-all (now (c .before .before .before .before .before .args .sheet)) (now (c .before .before .before .before .before .args .work)) (c .before .before .before .before .before .args .n) (c .before .before .before .before .before .pre .0), ← e) (c .before .loop .inv .2)
 

@@ -3,15 +3,12 @@ use borrow.Author.Needs.{needs}
 use denote.Ref.{now}
 use Prim.Native.Nat.{_≤_, _-_, _+_}
 use lib.ListN.{length}
-use mathlib.Core.Path.{_≡_, _∙_, sym, ap, refl}
+use mathlib.Core.Path.{_≡_, refl}
 use Rattle.write.proofs.Wrote.{wrote-length}
 use Rattle.type_rows.specs.Rows.{Wrotes, keysTo, shapesOf}
 use Rattle.type_rows.proofs.Wrotes.{within, wrotes-none, ready-kept, keys-all}
 use Rattle.type_rows.proofs.need_rows.Statement.{statement}
 use Rattle.type_rows.proofs.need_rows.Tie as tie
-use Rattle.type_rows.proofs.need_rows.Reads as reads
-use Rattle.type_rows.proofs.need_rows.Lts as lts
-use Rattle.type_rows.proofs.next_need.Reads as next-need-reads
 
 abbrev Inv-loop : tie.InvT-loop
 Inv-loop sheet work₀ n m needs out₀ base r₀ q₀ work out r q = (q ≤ needs) × (base ≡ r₀ .id) × (r .id ≡ base + length (keysTo sheet q)) × Wrotes (shapesOf sheet (keysTo sheet q)) r₀ r work₀ work out₀ out
@@ -19,35 +16,27 @@ Inv-loop sheet work₀ n m needs out₀ base r₀ q₀ work out r q = (q ≤ nee
 abbrev μ-loop : tie.MeasureT-loop
 μ-loop sheet work₀ n m needs out₀ base r₀ q₀ work out r q = needs - q
 
--- src/lib.rt:151:5
 loop-holds : tie.Need-loop-holds Inv-loop μ-loop
 loop-holds c = (omega arith, refl, omega arith, wrotes-none (c .before .before .before .pre .2))
 
--- src/lib.rt:152:9
 next-need-requires : tie.Need-next-need-requires Inv-loop μ-loop
 next-need-requires c κs = (ready-kept (c .before .before .before .loop .inv .3 .kept) (c .before .before .before .before .before .before .before .pre .0), c .before .before .loop-test .taken, omega (arith, c .before .before .before .loop .inv .1, c .before .before .before .before .before .before .before .pre .1), c .before .before .before .loop .inv .2, within (c .before .before .before .loop .inv .3 .wrote))
 
--- src/lib.rt:153:9
 add-q : tie.Need-add-q Inv-loop μ-loop
 add-q c = search needs
 
--- src/lib.rt:151:5
 loop-less : tie.Need-loop-less Inv-loop μ-loop
 loop-less c = search needs
 
--- src/lib.rt:151:5
 loop-again : tie.Need-loop-again Inv-loop μ-loop
 loop-again c = (omega (arith, c .before .before .before .before .before .before .before .loop-test .taken), c .before .before .before .before .before .before .before .before .loop .inv .1, c .before .before .before .before .next-need .ensures .1, c .before .before .before .before .next-need .ensures .0 (c .before .before .before .before .before .before .before .before .before .before .before .before .args .p) (now (c .before .before .before .before .before .before .before .before .before .before .before .before .args .work)) (now (c .before .before .before .before .before .before .before .before .before .before .before .before .args .out)) (c .before .before .before .before .before .before .before .before .loop .inv .3))
 
--- src/lib.rt:136:1
 same-length : tie.Need-same-length Inv-loop μ-loop
 same-length c = c .before .loop .inv .3 .kept .long
 
--- src/lib.rt:136:1
 same-length-2 : tie.Need-same-length-2 Inv-loop μ-loop
 same-length-2 c = wrote-length (c .before .loop .inv .3 .wrote)
 
--- src/lib.rt:136:1
 returns : tie.Need-returns Inv-loop μ-loop
 returns c = rw (← keys-all (now (c .before .before .before .before .before .args .sheet)) (c .before .loop .q) (omega (arith, c .loop-test .left, c .before .before .before .before .before .pre .0 .count))) (c .before .loop .inv .3)
 

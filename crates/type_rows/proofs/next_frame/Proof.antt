@@ -1,4 +1,3 @@
-use native.Mathlib.Omega.{arith}
 use denote.Ref.{now}
 use mathlib.Core.Bool.{true, false}
 use mathlib.Core.Path.{_∙_, sym, refl}
@@ -8,40 +7,28 @@ use Rattle.type_rows.proofs.Wrotes.{wrotes-none, wrotes-one}
 use borrow.Author.Needs.{needs}
 use Rattle.type_rows.proofs.next_frame.Statement.{statement}
 use Rattle.type_rows.proofs.next_frame.Tie as tie
-use Rattle.type_rows.proofs.next_frame.Reads as reads
-use Rattle.type_rows.proofs.next_frame.Lts as lts
-use Rattle.type_keys.proofs.ids.is_frame.Reads as is-frame-reads
-use Rattle.type_rows.proofs.row.put_line.Reads as put-line-reads
 
--- src/lib.rt:60:8
 is-frame-requires : tie.Need-is-frame-requires
 is-frame-requires c κs = search needs
 
--- src/lib.rt:62:13
 put-line-requires : tie.Need-put-line-requires
 put-line-requires c κs = frame-line (now (c .before .before .before .before .before .before .before .before .args .sheet)) (now (c .before .before .before .before .before .before .before .before .args .work)) (c .before .before .before .before .before .before .before .before .args .n) (c .before .before .before .before .before .before .before .before .pre .0) (c .before .before .before .before .before .before .before .before .args .i) (c .before .before .before .before .before .before .before .before .pre .1) (eqb-true _ 71 (sym (c .before .before .before .is-frame .ensures) ∙ c .before .before .if1 .taken))
 
--- src/lib.rt:63:35
 add-t16 : tie.Need-add-t16
 add-t16 c = search needs
 
--- src/lib.rt:63:9
 same-length : tie.Need-same-length
 same-length c = search needs
 
--- src/lib.rt:63:9
 same-length-2 : tie.Need-same-length-2
 same-length-2 c = search needs
 
--- src/lib.rt:63:9
 returns : tie.Need-returns
 returns c = rw (frames-by (now (c .before .before .before .before .before .before .before .before .before .before .before .before .before .args .sheet)) (now (c .before .before .before .before .before .before .before .before .before .before .before .before .before .args .work)) (c .before .before .before .before .before .before .before .before .before .before .before .before .before .args .n) (c .before .before .before .before .before .before .before .before .before .before .before .before .before .pre .0) (c .before .before .before .before .before .before .before .before .before .before .before .before .before .args .i) (c .before .before .before .before .before .before .before .before .before .before .before .before .before .pre .1) true (sym (c .before .before .before .before .before .before .before .if1 .taken) ∙ c .before .before .before .before .before .before .before .before .is-frame .ensures)) (wrotes-one refl (c .before .before .before .before .put-line .ensures))
 
--- src/lib.rt:49:1
 same-length-3 : tie.Need-same-length-3
 same-length-3 c = search needs
 
--- src/lib.rt:49:1
 returns-2 : tie.Need-returns-2
 returns-2 c = rw (frames-by (now (c .before .before .before .before .before .before .args .sheet)) (now (c .before .before .before .before .before .before .args .work)) (c .before .before .before .before .before .before .args .n) (c .before .before .before .before .before .before .pre .0) (c .before .before .before .before .before .before .args .i) (c .before .before .before .before .before .before .pre .1) false (sym (c .if1 .left) ∙ c .before .is-frame .ensures)) (wrotes-none (c .before .before .before .before .before .before .pre .3))
 

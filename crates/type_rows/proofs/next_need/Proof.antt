@@ -3,60 +3,45 @@ use denote.Ref.{now}
 use Prim.Native.Nat.{ℕ, _+_}
 use lib.ListN.{length, length-append}
 use mathlib.Core.List.{_∷_, []}
-use mathlib.Core.Path.{_≡_, _∙_, sym, ap, refl}
+use mathlib.Core.Path.{_∙_, sym, ap, refl}
 use Rattle.records.specs.Log.{logOf}
 use Rattle.semantics.specs.Types.{keyShape}
 use Rattle.type_keys.specs.Keys.{needAt}
-use Rattle.type_keys.specs.Table.{lineOf, placeOf}
+use Rattle.type_keys.specs.Table.{lineOf}
 use Rattle.type_rows.specs.Rows.{keysTo}
-use Rattle.type_rows.proofs.Wrotes.{need-at, need-low, keys-stay, keys-next, keys-then, keys-low, wrotes-one}
+use Rattle.type_rows.proofs.Wrotes.{need-at, need-low, keys-stay, keys-next, keys-then, wrotes-one}
 use Rattle.type_rows.proofs.Maps.{rowed-as}
 use borrow.Author.Needs.{needs}
 use Rattle.type_rows.proofs.next_need.Statement.{statement}
 use Rattle.type_rows.proofs.next_need.Tie as tie
-use Rattle.type_rows.proofs.next_need.Reads as reads
-use Rattle.type_rows.proofs.next_need.Lts as lts
-use Rattle.type_keys.proofs.need_line.Reads as need-line-reads
-use Rattle.type_keys.proofs.need_place.Reads as need-place-reads
-use Rattle.type_rows.proofs.put_need.Reads as put-need-reads
 
--- src/lib.rt:127:15
 need-place-requires : tie.Need-need-place-requires
 need-place-requires c κs = (need-low (now (c .before .before .before .before .args .sheet)) (now (c .before .before .before .before .args .work)) (c .before .before .before .before .args .n) (c .before .before .before .before .args .m) (c .before .before .before .before .args .needs) (c .before .before .before .before .pre .0) (c .before .before .before .before .args .q) (c .before .before .before .before .pre .1), c .before .before .before .before .pre .0 .log .checked .whole .room)
 
--- src/lib.rt:127:8
 add-if1 : tie.Need-add-if1
 add-if1 c = search needs
 
--- src/lib.rt:128:9
 same-length : tie.Need-same-length
 same-length c = search needs
 
--- src/lib.rt:128:9
 returns : tie.Need-returns
 returns c = let e = keys-stay (now (c .before .before .before .before .before .before .args .sheet)) (now (c .before .before .before .before .before .before .args .work)) (c .before .before .before .before .before .before .args .n) (c .before .before .before .before .before .before .args .m) (c .before .before .before .before .before .before .args .needs) (c .before .before .before .before .before .before .pre .0) (c .before .before .before .before .before .before .args .q) (c .before .before .before .before .before .before .pre .1) (c .before .before .before .before .before .before .args .base) (c .before .before .before .before .before .before .args .r .id) (c .before .before .before .before .before .before .pre .3) (λ z. c .if1 .taken (ap (λ (y : ℕ). c .before .before .before .before .before .before .args .base + y) (c .before .need-place .ensures .0) ∙ z)) in (λ p t d w. rw e w, c .before .before .before .before .before .before .pre .3 ∙ ap (λ (y : ℕ). c .before .before .before .before .before .before .args .base + y) (sym (ap length e)))
 
--- src/lib.rt:130:9
 need-line-requires : tie.Need-need-line-requires
 need-line-requires c κs = (need-low (now (c .before .before .before .before .before .before .before .args .sheet)) (now (c .before .before .before .before .before .before .before .args .work)) (c .before .before .before .before .before .before .before .args .n) (c .before .before .before .before .before .before .before .args .m) (c .before .before .before .before .before .before .before .args .needs) (c .before .before .before .before .before .before .before .pre .0) (c .before .before .before .before .before .before .before .args .q) (c .before .before .before .before .before .before .before .pre .1), c .before .before .before .before .before .before .before .pre .0 .log .checked .whole .room)
 
--- src/lib.rt:131:9
 put-need-requires : tie.Need-put-need-requires
 put-need-requires c κs = (c .before .before .before .before .before .before .before .before .before .before .pre .0 .log, rw (c .before .before .need-line .ensures) (need-at (now (c .before .before .before .before .before .before .before .before .before .before .args .sheet)) (now (c .before .before .before .before .before .before .before .before .before .before .args .work)) (c .before .before .before .before .before .before .before .before .before .before .args .n) (c .before .before .before .before .before .before .before .before .before .before .args .m) (c .before .before .before .before .before .before .before .before .before .before .args .needs) (c .before .before .before .before .before .before .before .before .before .before .pre .0) (c .before .before .before .before .before .before .before .before .before .before .args .q) (c .before .before .before .before .before .before .before .before .before .before .pre .1)))
 
--- src/lib.rt:132:24
 add-t13 : tie.Need-add-t13
 add-t13 c = search needs
 
--- src/lib.rt:112:1
 same-length-2 : tie.Need-same-length-2
 same-length-2 c = search needs
 
--- src/lib.rt:112:1
 same-length-3 : tie.Need-same-length-3
 same-length-3 c = search needs
 
--- src/lib.rt:112:1
 returns-2 : tie.Need-returns-2
 returns-2 c = let e = keys-next (now (c .before .before .before .before .before .before .before .before .before .before .before .before .before .before .before .args .sheet)) (now (c .before .before .before .before .before .before .before .before .before .before .before .before .before .before .before .args .work)) (c .before .before .before .before .before .before .before .before .before .before .before .before .before .before .before .args .n) (c .before .before .before .before .before .before .before .before .before .before .before .before .before .before .before .args .m) (c .before .before .before .before .before .before .before .before .before .before .before .before .before .before .before .args .needs) (c .before .before .before .before .before .before .before .before .before .before .before .before .before .before .before .pre .0) (c .before .before .before .before .before .before .before .before .before .before .before .before .before .before .before .args .q) (c .before .before .before .before .before .before .before .before .before .before .before .before .before .before .before .pre .1) (c .before .before .before .before .before .before .before .before .before .before .before .before .before .before .before .args .base) (c .before .before .before .before .before .before .before .before .before .before .before .before .before .before .before .args .r .id) (c .before .before .before .before .before .before .before .before .before .before .before .before .before .before .before .pre .3) (sym (ap (λ (y : ℕ). c .before .before .before .before .before .before .before .before .before .before .before .before .before .before .before .args .base + y) (c .before .before .before .before .before .before .before .before .before .before .need-place .ensures .0)) ∙ c .before .before .before .before .before .before .before .before .before .if1 .left) in
     let y = needAt (now (c .before .before .before .before .before .before .before .before .before .before .before .before .before .before .before .args .sheet)) (lineOf (now (c .before .before .before .before .before .before .before .before .before .before .before .before .before .before .before .args .work)) (c .before .before .before .before .before .before .before .before .before .before .before .before .before .before .before .args .q)) in

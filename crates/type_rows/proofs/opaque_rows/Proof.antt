@@ -5,27 +5,19 @@ use Rattle.type_rows.proofs.Wrotes.{two-rows}
 use borrow.Author.Needs.{needs}
 use Rattle.type_rows.proofs.opaque_rows.Statement.{statement}
 use Rattle.type_rows.proofs.opaque_rows.Tie as tie
-use Rattle.type_rows.proofs.opaque_rows.Reads as reads
-use Rattle.type_rows.proofs.opaque_rows.Lts as lts
-use Rattle.type_rows.proofs.row.put_opaque.Reads as put-opaque-reads
 
--- src/lib.rt:42:9
 put-opaque-requires : tie.Need-put-opaque-requires
 put-opaque-requires c κs = search needs
 
--- src/lib.rt:43:5
 put-opaque-requires-2 : tie.Need-put-opaque-requires-2
 put-opaque-requires-2 c κs = omega (arith, c .before .before .before .before .before .before .before .before .before .before .before .pre, c .before .before .before .before .before .before .put-opaque .ensures .kept .long)
 
--- src/lib.rt:38:1
 same-length : tie.Need-same-length
 same-length c = search needs
 
--- src/lib.rt:38:1
 same-length-2 : tie.Need-same-length-2
 same-length-2 c = search needs
 
--- src/lib.rt:38:1
 returns : tie.Need-returns
 returns c = (two-rows opaqueShape opaqueShape (c .before .before .before .before .before .before .before .before .before .before .before .put-opaque .ensures) (c .before .before .before .before .put-opaque2 .ensures), kept-then (c .before .before .before .before .before .before .before .before .before .before .before .put-opaque .ensures .kept) (c .before .before .before .before .put-opaque2 .ensures .kept))
 

@@ -1,4 +1,3 @@
-use native.Mathlib.Omega.{arith}
 use denote.Ref.{now}
 use mathlib.Core.Path.{_∙_, sym}
 use Rattle.records.specs.Log.{logOf}
@@ -9,84 +8,58 @@ use Rattle.type_rows.proofs.Maps.{rowed-as}
 use borrow.Author.Needs.{needs}
 use Rattle.type_rows.proofs.put_need.Statement.{statement}
 use Rattle.type_rows.proofs.put_need.Tie as tie
-use Rattle.type_rows.proofs.put_need.Reads as reads
-use Rattle.type_rows.proofs.put_need.Lts as lts
-use Rattle.lines.proofs.form_at.Reads as form-at-reads
-use Rattle.type_keys.proofs.kind_needed.Reads as kind-needed-reads
-use Rattle.type_rows.proofs.record.put_record.Reads as put-record-reads
-use Rattle.type_rows.proofs.row.put_elem.Reads as put-elem-reads
-use Rattle.type_rows.proofs.row.put_line.Reads as put-line-reads
-use Rattle.type_rows.proofs.row.put_opaque.Reads as put-opaque-reads
 
--- src/lib.rt:98:9
 form-at-requires : tie.Need-form-at-requires
 form-at-requires c κs = search needs
 
--- src/lib.rt:100:9
 put-record-requires : tie.Need-put-record-requires
 put-record-requires c κs = search needs
 
--- src/lib.rt:100:9
 same-length : tie.Need-same-length
 same-length c = search needs
 
--- src/lib.rt:100:9
 same-length-2 : tie.Need-same-length-2
 same-length-2 c = search needs
 
--- src/lib.rt:100:9
 returns : tie.Need-returns
 returns c = search needs
 
--- src/lib.rt:103:9
 put-line-requires : tie.Need-put-line-requires
 put-line-requires c κs = block-line (now (c .before .before .before .before .before .before .before .before .before .args .sheet)) (now (c .before .before .before .before .before .before .before .before .before .args .work)) (c .before .before .before .before .before .before .before .before .before .args .n) (c .before .before .before .before .before .before .before .before .before .args .i) (c .before .before .before .before .before .before .before .before .before .pre .1) (sym (c .before .before .before .before .form-at .ensures) ∙ c .before .before .if2 .taken)
 
--- src/lib.rt:103:9
 same-length-3 : tie.Need-same-length-3
 same-length-3 c = search needs
 
--- src/lib.rt:103:9
 same-length-4 : tie.Need-same-length-4
 same-length-4 c = search needs
 
--- src/lib.rt:103:9
 returns-2 : tie.Need-returns-2
 returns-2 c = rowed-as (block-shape (now (c .before .before .before .before .before .before .before .before .before .before .before .before .before .before .args .sheet)) (now (c .before .before .before .before .before .before .before .before .before .before .before .before .before .before .args .work)) (c .before .before .before .before .before .before .before .before .before .before .before .before .before .before .args .n) (c .before .before .before .before .before .before .before .before .before .before .before .before .before .before .args .i) (c .before .before .before .before .before .before .before .before .before .before .before .before .before .before .pre .1) (c .before .before .before .before .before .before .before .before .before .form-at .result) (c .before .before .before .before .before .before .before .before .before .form-at .ensures) (logOf (now (c .before .before .before .before .before .before .before .before .before .before .before .before .before .before .args .sheet))) (c .before .before .before .before .before .before .before .if2 .taken)) (c .before .before .before .before .put-line .ensures)
 
--- src/lib.rt:106:9
 put-opaque-requires : tie.Need-put-opaque-requires
 put-opaque-requires c κs = search needs
 
--- src/lib.rt:106:9
 same-length-5 : tie.Need-same-length-5
 same-length-5 c = search needs
 
--- src/lib.rt:106:9
 same-length-6 : tie.Need-same-length-6
 same-length-6 c = search needs
 
--- src/lib.rt:106:9
 returns-3 : tie.Need-returns-3
 returns-3 c = rowed-as (opaque-shape (now (c .before .before .before .before .before .before .before .before .before .before .before .before .before .before .before .args .sheet)) (now (c .before .before .before .before .before .before .before .before .before .before .before .before .before .before .before .args .work)) (c .before .before .before .before .before .before .before .before .before .before .before .before .before .before .before .args .n) (c .before .before .before .before .before .before .before .before .before .before .before .before .before .before .before .args .i) (c .before .before .before .before .before .before .before .before .before .before .before .before .before .before .before .pre .1) (c .before .before .before .before .before .before .before .before .before .before .form-at .result) (c .before .before .before .before .before .before .before .before .before .before .form-at .ensures) (logOf (now (c .before .before .before .before .before .before .before .before .before .before .before .before .before .before .before .args .sheet))) (c .before .before .before .before .before .before .before .if3 .taken)) (c .before .before .before .before .put-opaque .ensures)
 
--- src/lib.rt:108:29
 kind-needed-requires : tie.Need-kind-needed-requires
 kind-needed-requires c κs = search needs
 
--- src/lib.rt:108:5
 put-elem-requires : tie.Need-put-elem-requires
 put-elem-requires c κs = search needs
 
--- src/lib.rt:85:1
 same-length-7 : tie.Need-same-length-7
 same-length-7 c = search needs
 
--- src/lib.rt:85:1
 same-length-8 : tie.Need-same-length-8
 same-length-8 c = search needs
 
--- src/lib.rt:85:1
 returns-4 : tie.Need-returns-4
 returns-4 c = rowed-as (elem-shape (now (c .before .before .before .before .before .before .before .before .before .before .before .before .before .before .before .before .args .sheet)) (now (c .before .before .before .before .before .before .before .before .before .before .before .before .before .before .before .before .args .work)) (c .before .before .before .before .before .before .before .before .before .before .before .before .before .before .before .before .args .n) (c .before .before .before .before .before .before .before .before .before .before .before .before .before .before .before .before .args .i) (c .before .before .before .before .before .before .before .before .before .before .before .before .before .before .before .before .pre .1) (c .before .before .before .before .before .before .before .before .before .before .before .form-at .result) (c .before .before .before .before .before .before .before .before .before .before .before .form-at .ensures) (logOf (now (c .before .before .before .before .before .before .before .before .before .before .before .before .before .before .before .before .args .sheet))) (c .before .before .before .before .before .before .before .before .before .before .if1 .left) (c .before .before .before .before .before .before .before .before .before .if2 .left) (c .before .before .before .before .before .before .before .before .if3 .left)) (c .before .before .before .before .put-elem .ensures .0 (elemBy (c .before .before .before .before .before .before .before .before .before .before .before .form-at .result)) (elem-number (now (c .before .before .before .before .before .before .before .before .before .before .before .before .before .before .before .before .args .sheet)) (now (c .before .before .before .before .before .before .before .before .before .before .before .before .before .before .before .before .args .work)) (c .before .before .before .before .before .before .before .before .before .before .before .before .before .before .before .before .args .n) (c .before .before .before .before .before .before .before .before .before .before .before .before .before .before .before .before .args .i) (c .before .before .before .before .before .before .before .before .before .before .before .before .before .before .before .before .pre .1) (c .before .before .before .before .before .before .before .before .before .before .before .form-at .result) (c .before .before .before .before .before .before .before .before .before .before .before .form-at .ensures) (logOf (now (c .before .before .before .before .before .before .before .before .before .before .before .before .before .before .before .before .args .sheet))) (c .before .before .before .before .before .before .before .before .before .before .if1 .left) (c .before .before .before .before .before .before .before .before .before .if2 .left) (c .before .before .before .before .before .before .before .before .if3 .left) (c .before .before .before .before .before .before .kind-needed .result) (c .before .before .before .before .before .before .kind-needed .ensures)))
 

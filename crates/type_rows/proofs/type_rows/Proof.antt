@@ -1,7 +1,7 @@
 use native.Mathlib.Omega.{arith}
 use denote.Ref.{now}
 use Prim.Native.Nat.{ℕ, _+_}
-use mathlib.Core.Path.{_≡_, _∙_, sym, ap, refl}
+use mathlib.Core.Path.{_∙_, ap, refl}
 use mathlib.Core.List.{[]}
 use Rattle.checks.proofs.Kept.{kept-then}
 use Rattle.semantics.specs.Types.{distinct}
@@ -12,38 +12,25 @@ use Rattle.type_rows.proofs.Wrotes.{within, ready-kept, shapes-length}
 use borrow.Author.Needs.{needs}
 use Rattle.type_rows.proofs.type_rows.Statement.{statement}
 use Rattle.type_rows.proofs.type_rows.Tie as tie
-use Rattle.type_rows.proofs.type_rows.Reads as reads
-use Rattle.type_rows.proofs.type_rows.Lts as lts
-use Rattle.type_rows.proofs.frame_rows.Reads as frame-rows-reads
-use Rattle.type_rows.proofs.kinds.kind_rows.Reads as kind-rows-reads
-use Rattle.type_rows.proofs.need_rows.Reads as need-rows-reads
-use Rattle.type_rows.proofs.opaque_rows.Reads as opaque-rows-reads
 
--- src/lib.rt:177:9
 opaque-rows-requires : tie.Need-opaque-rows-requires
 opaque-rows-requires c κs = search needs
 
--- src/lib.rt:178:9
 frame-rows-requires : tie.Need-frame-rows-requires
 frame-rows-requires c κs = (map-checked (c .before .before .before .before .before .before .opaque-rows .ensures .1) (c .before .before .before .before .before .before .before .before .before .before .before .before .pre .0 .log .checked), within (c .before .before .before .before .before .before .opaque-rows .ensures .0))
 
--- src/lib.rt:180:9
 need-rows-requires : tie.Need-need-rows-requires
 need-rows-requires c κs = (ready-kept (c .before .before .before .before .before .before .frame-rows .ensures .kept) (ready-kept (c .before .before .before .before .before .before .before .before .before .before .before .before .before .opaque-rows .ensures .1) (c .before .before .before .before .before .before .before .before .before .before .before .before .before .before .before .before .before .before .before .pre .0)), omega (arith, c .before .before .before .before .before .before .frame-rows .ensures .id, frames-low (now (c .before .before .before .before .before .before .before .before .before .before .before .before .before .before .before .before .before .before .before .args .sheet)) (now (c .before .before .before .before .before .before .before .before .before .before .before .before .before .before .before .before .before .before .before .args .work)) (c .before .before .before .before .before .before .before .before .before .before .before .before .before .before .before .before .before .before .before .args .n) (c .before .before .before .before .before .before .before .before .before .before .before .before .before .before .before .before .before .before .before .pre .0 .log .checked)), within (c .before .before .before .before .before .before .frame-rows .ensures .wrote))
 
--- src/lib.rt:181:9
 kind-rows-requires : tie.Need-kind-rows-requires
 kind-rows-requires c κs = (omega (arith, c .before .before .before .before .before .before .before .before .before .before .before .before .before .before .before .before .before .before .before .before .before .before .before .before .before .before .pre .0 .log .checked .whole .room, c .before .before .before .before .before .before .before .before .before .before .before .before .before .before .before .before .before .before .before .before .opaque-rows .ensures .1 .long, c .before .before .before .before .before .before .before .before .before .before .before .before .before .frame-rows .ensures .kept .long, c .before .before .before .before .before .before .need-rows .ensures .kept .long), omega (arith, c .before .before .before .before .before .before .need-rows .ensures .id), omega (arith, c .before .before .before .before .before .before .before .before .before .before .before .before .before .frame-rows .ensures .id, frames-low (now (c .before .before .before .before .before .before .before .before .before .before .before .before .before .before .before .before .before .before .before .before .before .before .before .before .before .before .args .sheet)) (now (c .before .before .before .before .before .before .before .before .before .before .before .before .before .before .before .before .before .before .before .before .before .before .before .before .before .before .args .work)) (c .before .before .before .before .before .before .before .before .before .before .before .before .before .before .before .before .before .before .before .before .before .before .before .before .before .before .args .n) (c .before .before .before .before .before .before .before .before .before .before .before .before .before .before .before .before .before .before .before .before .before .before .before .before .before .before .pre .0 .log .checked)), c .before .before .before .before .before .before .before .before .before .before .before .before .before .before .before .before .before .before .before .before .before .before .before .before .before .before .pre .1, within (c .before .before .before .before .before .before .need-rows .ensures .wrote))
 
--- src/lib.rt:164:1
 same-length : tie.Need-same-length
 same-length c = search needs
 
--- src/lib.rt:164:1
 same-length-2 : tie.Need-same-length-2
 same-length-2 c = search needs
 
--- src/lib.rt:164:1
 returns : tie.Need-returns
 returns c = let k = kept-then (c .before .before .before .before .before .before .before .before .before .before .before .before .before .before .before .before .before .before .before .before .before .before .before .before .before .opaque-rows .ensures .1) (kept-then (c .before .before .before .before .before .before .before .before .before .before .before .before .before .before .before .before .before .before .frame-rows .ensures .kept) (c .before .before .before .before .before .before .before .before .before .before .before .need-rows .ensures .kept)) in
     (λ is x. all-rows (now (c .before .before .before .before .before .before .before .before .before .before .before .before .before .before .before .before .before .before .before .before .before .before .before .before .before .before .before .before .before .before .before .args .sheet)) is refl (c .before .before .before .before .before .before .before .before .before .before .before .before .before .before .before .before .before .before .before .before .before .before .before .before .before .opaque-rows .ensures .0) (c .before .before .before .before .before .before .before .before .before .before .before .before .before .before .before .before .before .before .frame-rows .ensures) (c .before .before .before .before .before .before .before .before .before .before .before .need-rows .ensures) (c .before .before .before .before .kind-rows .result) (c .before .before .before .before .kind-rows .ensures .0 (now (c .before .before .before .before .before .before .before .before .before .before .before .before .before .before .before .before .before .before .before .before .before .before .before .before .before .before .before .before .before .before .before .args .sheet)) (sheetSource (now (c .before .before .before .before .before .before .before .before .before .before .before .before .before .before .before .before .before .before .before .before .before .before .before .before .before .before .before .before .before .before .before .args .sheet)) .needs) is (c .before .before .before .before .before .before .before .before .before .before .before .need-rows .ensures .id ∙ ap (λ (y : ℕ). c .before .before .before .before .before .before .before .before .before .before .before .before .before .before .before .before .before .before .frame-rows .result .id + y) (shapes-length (now (c .before .before .before .before .before .before .before .before .before .before .before .before .before .before .before .before .before .before .before .before .before .before .before .before .before .before .before .before .before .before .before .args .sheet)) (distinct [] (sheetSource (now (c .before .before .before .before .before .before .before .before .before .before .before .before .before .before .before .before .before .before .before .before .before .before .before .before .before .before .before .before .before .before .before .args .sheet)) .needs)))) (kinds-kept k x)), kept-then k (c .before .before .before .before .kind-rows .ensures .1))

@@ -1,24 +1,17 @@
-use native.Mathlib.Omega.{arith}
 use denote.Ref.{now}
 use mathlib.Core.Bool.{true, false}
-use mathlib.Core.Path.{_≡_, _∙_, sym, ap}
+use mathlib.Core.Path.{_∙_, sym}
 use Rattle.type_keys.proofs.Numbers.{frames-count}
 use borrow.Author.Needs.{needs}
 use Rattle.type_keys.proofs.ids.frames_of.Statement.{statement}
 use Rattle.type_keys.proofs.ids.frames_of.Tie as tie
-use Rattle.type_keys.proofs.ids.frames_of.Reads as reads
-use Rattle.type_keys.proofs.ids.frames_of.Lts as lts
-use Rattle.type_keys.proofs.ids.is_frame.Reads as is-frame-reads
 
--- src/ids.rt:45:8
 is-frame-requires : tie.Need-is-frame-requires
 is-frame-requires c κs = search needs
 
--- src/ids.rt:46:9
 returns : tie.Need-returns
 returns c = frames-count (now (c .before .before .before .before .args .sheet)) (now (c .before .before .before .before .args .work)) (c .before .before .before .before .args .n) (c .before .before .before .before .pre .0) (c .before .before .before .before .args .i) (c .before .before .before .before .pre .1) true (sym (c .if1 .taken) ∙ c .before .is-frame .ensures)
 
--- src/ids.rt:41:1
 returns-2 : tie.Need-returns-2
 returns-2 c = frames-count (now (c .before .before .before .before .args .sheet)) (now (c .before .before .before .before .args .work)) (c .before .before .before .before .args .n) (c .before .before .before .before .pre .0) (c .before .before .before .before .args .i) (c .before .before .before .before .pre .1) false (sym (c .if1 .left) ∙ c .before .is-frame .ensures)
 

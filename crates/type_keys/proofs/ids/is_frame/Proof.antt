@@ -2,26 +2,19 @@ use native.Mathlib.Omega.{arith}
 use Prim.Native.Nat.{ℕ}
 use lib.Dec.{eqb}
 use denote.Ref.{now}
-use mathlib.Core.Path.{_≡_, _∙_, sym, ap}
+use mathlib.Core.Path.{_∙_, sym, ap}
 use Rattle.form.specs.Table.{kindAt}
 use Rattle.lines.proofs.Line.{form-low, kind-is}
 use borrow.Author.Needs.{needs}
 use Rattle.type_keys.proofs.ids.is_frame.Statement.{statement}
 use Rattle.type_keys.proofs.ids.is_frame.Tie as tie
-use Rattle.type_keys.proofs.ids.is_frame.Reads as reads
-use Rattle.type_keys.proofs.ids.is_frame.Lts as lts
-use Rattle.form.proofs.kind.Reads as kind-reads
-use Rattle.lines.proofs.form_at.Reads as form-at-reads
 
--- src/ids.rt:37:16
 form-at-requires : tie.Need-form-at-requires
 form-at-requires c κs = search needs
 
--- src/ids.rt:37:5
 kind-requires : tie.Need-kind-requires
 kind-requires c κs = omega (arith, c .form-at .ensures, form-low (now (c .before .before .before .args .sheet)) (now (c .before .before .before .args .work)) (c .before .before .before .args .n) (c .before .before .before .pre .0 .whole) (c .before .before .before .args .i) (c .before .before .before .pre .1))
 
--- src/ids.rt:33:1
 returns : tie.Need-returns
 returns c = ap (λ (k : ℕ). eqb k 71) (c .kind .ensures ∙ ap kindAt (c .before .form-at .ensures) ∙ sym (kind-is (now (c .before .before .before .before .args .sheet)) (now (c .before .before .before .before .args .work)) (c .before .before .before .before .args .n) (c .before .before .before .before .pre .0 .whole) (c .before .before .before .before .args .i) (c .before .before .before .before .pre .1)))
 

@@ -1,27 +1,18 @@
-use native.Mathlib.Omega.{arith}
 use denote.Ref.{now}
-use mathlib.Core.Path.{_≡_, refl, _∙_, sym, ap}
+use mathlib.Core.Path.{_∙_}
 use Rattle.semantics.specs.Types.{arrayKey}
 use Rattle.semantics.specs.Sheet.{sheetSource, concatMap}
-use Rattle.semantics.specs.Global.{Item}
 use Rattle.type_keys.proofs.Numbers.{need-position, keys-are}
 use borrow.Author.Needs.{needs}
 use Rattle.type_keys.proofs.ids.need_id.Statement.{statement}
 use Rattle.type_keys.proofs.ids.need_id.Tie as tie
-use Rattle.type_keys.proofs.ids.need_id.Reads as reads
-use Rattle.type_keys.proofs.ids.need_id.Lts as lts
-use Rattle.type_keys.proofs.ids.id_of.Reads as id-of-reads
-use Rattle.type_keys.proofs.need_place.Reads as need-place-reads
 
--- src/ids.rt:49:19
 need-place-requires : tie.Need-need-place-requires
 need-place-requires c κs = search needs
 
--- src/ids.rt:49:5
 id-of-requires : tie.Need-id-of-requires
 id-of-requires c κs = search needs
 
--- src/ids.rt:45:1
 returns : tie.Need-returns
 returns c = (λ s n is x h e. c .id-of .ensures .0 (sheetSource s) is _ e (c .before .need-place .ensures .0 ∙ rw (keys-are s is) (need-position s (now (c .before .before .before .args .work)) n (sheetSource s .needs) x (concatMap arrayKey is) (c .before .before .before .args .q) h)), c .id-of .ensures .1)
 

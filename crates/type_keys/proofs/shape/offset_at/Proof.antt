@@ -4,30 +4,22 @@ use lib.IntN.{pos}
 use mathlib.Core.List.{List}
 use Prim.Native.Nat.{ℕ}
 use native.Mathlib.Omega.{arith}
-use mathlib.Core.Path.{_≡_, _∙_, ap}
+use mathlib.Core.Path.{_∙_, ap}
 use denote.Ref.{now}
 use Rattle.type_keys.proofs.Shapes.{offset-holds, offset-is, count-low}
 use borrow.Author.Needs.{needs}
 use Rattle.type_keys.proofs.shape.offset_at.Statement.{statement}
 use Rattle.type_keys.proofs.shape.offset_at.Tie as tie
-use Rattle.type_keys.proofs.shape.offset_at.Reads as reads
-use Rattle.type_keys.proofs.shape.offset_at.Lts as lts
-use Rattle.lines.proofs.field_at.Reads as field-at-reads
-use Rattle.type_keys.proofs.shape.read_offset.Reads as read-offset-reads
 
--- src/shape.rt:49:52
 add-field-at : tie.Need-add-field-at
 add-field-at c = record { fits = omega (arith, c .before .before .pre .1, count-low (now (c .before .before .args .sheet)) (now (c .before .before .args .work)) (c .before .before .args .n) (c .before .before .args .i) (c .before .before .pre .0)) }
 
--- src/shape.rt:49:17
 field-at-requires : tie.Need-field-at-requires
 field-at-requires c κs = search needs
 
--- src/shape.rt:49:5
 read-offset-requires : tie.Need-read-offset-requires
 read-offset-requires c κs = rw (c .field-at .ensures) (offset-holds (now (c .before .before .before .args .sheet)) (now (c .before .before .before .args .work)) (c .before .before .before .args .n) (c .before .before .before .args .i) (c .before .before .before .pre .0) (c .before .before .before .args .j) (c .before .before .before .pre .1))
 
--- src/shape.rt:45:1
 returns : tie.Need-returns
 returns c = (c .read-offset .ensures .0 ∙ ap (λ (f : List ℕ). raised (orElse (pos 0) (intOf f))) (c .before .field-at .ensures) ∙ ap raised (offset-is (now (c .before .before .before .before .args .sheet)) (now (c .before .before .before .before .args .work)) (c .before .before .before .before .args .n) (c .before .before .before .before .args .i) (c .before .before .before .before .pre .0) (c .before .before .before .before .args .j) (c .before .before .before .before .pre .1)), c .read-offset .ensures .1)
 

@@ -1,19 +1,14 @@
 use native.Mathlib.Omega.{arith}
-use mathlib.Core.Path.{_≡_, _∙_}
+use mathlib.Core.Path.{_∙_}
 use denote.Ref.{now}
 use Rattle.type_keys.proofs.Shapes.{count-is, count-low}
 use borrow.Author.Needs.{needs}
 use Rattle.type_keys.proofs.shape.offset_count.Statement.{statement}
 use Rattle.type_keys.proofs.shape.offset_count.Tie as tie
-use Rattle.type_keys.proofs.shape.offset_count.Reads as reads
-use Rattle.type_keys.proofs.shape.offset_count.Lts as lts
-use Rattle.lines.proofs.number_at.Reads as number-at-reads
 
--- src/shape.rt:41:5
 number-at-requires : tie.Need-number-at-requires
 number-at-requires c κs = search needs
 
--- src/shape.rt:37:1
 returns : tie.Need-returns
 returns c = let e = c .number-at .ensures .0 ∙ count-is (now (c .before .before .before .args .sheet)) (now (c .before .before .before .args .work)) (c .before .before .before .args .n) (c .before .before .before .args .i) (c .before .before .before .pre) in (e, omega (arith, e, count-low (now (c .before .before .before .args .sheet)) (now (c .before .before .before .args .work)) (c .before .before .before .args .n) (c .before .before .before .args .i) (c .before .before .before .pre)))
 

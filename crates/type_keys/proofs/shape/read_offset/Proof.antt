@@ -1,47 +1,34 @@
 use native.Mathlib.Omega.{arith}
-use mathlib.Core.Path.{_≡_, _∙_, sym}
 use denote.Ref.{now}
 use Rattle.type_keys.proofs.Shapes.{read-plus, read-minus, read-none}
 use borrow.Author.Needs.{needs}
 use Rattle.type_keys.proofs.shape.read_offset.Statement.{statement}
 use Rattle.type_keys.proofs.shape.read_offset.Tie as tie
-use Rattle.type_keys.proofs.shape.read_offset.Reads as reads
-use Rattle.type_keys.proofs.shape.read_offset.Lts as lts
-use Rattle.text.proofs.number.read_signed.Reads as read-signed-reads
 
--- src/shape.rt:20:9
 read-signed-requires : tie.Need-read-signed-requires
 read-signed-requires c κs = search needs
 
--- src/shape.rt:22:22
 enum-known-z : tie.Need-enum-known-z
 enum-known-z c = search needs
 
--- src/shape.rt:22:28
 add-result : tie.Need-add-result
 add-result c = record { fits = omega (arith, read-plus (now (c .before .before .before .before .before .args .f)) (c .before .before .before .before .before .pre) (c .before .before .before .read-signed .result) (c .before .before .before .read-signed .ensures) _ (c .before .z .given .1) .0) }
 
--- src/shape.rt:23:23
 enum-known-z-2 : tie.Need-enum-known-z-2
 enum-known-z-2 c = search needs
 
--- src/shape.rt:23:29
 sub-result : tie.Need-sub-result
 sub-result c = read-minus (now (c .before .before .before .before .before .args .f)) (c .before .before .before .before .before .pre) (c .before .before .before .read-signed .result) (c .before .before .before .read-signed .ensures) _ (c .before .z2 .given .1) .0
 
--- src/shape.rt:24:30
 enum-told : tie.Need-enum-told
 enum-told c = search needs
 
--- src/shape.rt:16:1
 returns : tie.Need-returns
 returns c = let w = read-plus (now (c .before .before .before .before .before .args .f)) (c .before .before .before .before .before .pre) (c .before .before .before .read-signed .result) (c .before .before .before .read-signed .ensures) _ (c .before .z .given .1) in (w .1, omega (arith, w .0))
 
--- src/shape.rt:16:1
 returns-2 : tie.Need-returns-2
 returns-2 c = let w = read-minus (now (c .before .before .before .before .before .args .f)) (c .before .before .before .before .before .pre) (c .before .before .before .read-signed .result) (c .before .before .before .read-signed .ensures) _ (c .before .z2 .given .1) in (w .1, omega (arith, w .0))
 
--- src/shape.rt:16:1
 returns-3 : tie.Need-returns-3
 returns-3 c = (read-none (now (c .before .before .before .before .args .f)) (c .before .before .read-signed .result) (c .before .before .read-signed .ensures) (c .enum-told .given .1), omega arith)
 

@@ -1,18 +1,13 @@
 use native.Mathlib.Omega.{arith}
 use borrow.Author.Needs.{needs}
 use lib.ListN.{length}
-use Prim.Native.Nat.{_-_, _≤_}
+use Prim.Native.Nat.{_-_}
 use mathlib.Core.Path.{_≡_, _∙_, sym}
 use denote.Ref.{now}
 use Rattle.type_keys.specs.Keys.{shapeAt}
 use Rattle.type_keys.proofs.Shapes.{SameTo, same-start, same-end, same-next, same-not, sizes-apart, sizes-same, counts-apart, offset-near}
 use Rattle.type_keys.proofs.shape.same_shape.Statement.{statement}
 use Rattle.type_keys.proofs.shape.same_shape.Tie as tie
-use Rattle.type_keys.proofs.shape.same_shape.Reads as reads
-use Rattle.type_keys.proofs.shape.same_shape.Lts as lts
-use Rattle.type_keys.proofs.shape.offset_at.Reads as offset-at-reads
-use Rattle.type_keys.proofs.shape.offset_count.Reads as offset-count-reads
-use Rattle.type_keys.proofs.shape.size_at.Reads as size-at-reads
 
 abbrev Inv-loop : tie.InvT-loop
 Inv-loop sheet work n a b count j₀ j = (shapeAt sheet a .size ≡ shapeAt sheet b .size) × (count ≡ length (shapeAt sheet a .pointers)) × (length (shapeAt sheet a .pointers) ≡ length (shapeAt sheet b .pointers)) × SameTo (shapeAt sheet a .pointers) (shapeAt sheet b .pointers) j
@@ -20,59 +15,45 @@ Inv-loop sheet work n a b count j₀ j = (shapeAt sheet a .size ≡ shapeAt shee
 abbrev μ-loop : tie.MeasureT-loop
 μ-loop sheet work n a b count j₀ j = count - j
 
--- src/shape.rt:57:8
 size-at-requires : tie.Need-size-at-requires Inv-loop μ-loop
 size-at-requires c κs = c .before .before .pre .0
 
--- src/shape.rt:57:38
 size-at-requires-2 : tie.Need-size-at-requires-2 Inv-loop μ-loop
 size-at-requires-2 c κs = c .before .before .before .pre .1
 
--- src/shape.rt:58:9
 returns : tie.Need-returns Inv-loop μ-loop
 returns c = sizes-apart (shapeAt (now (c .before .before .before .before .before .args .sheet)) (c .before .before .before .before .before .args .a)) (shapeAt (now (c .before .before .before .before .before .args .sheet)) (c .before .before .before .before .before .args .b)) (λ e. c .if1 .taken (c .before .before .size-at .ensures .0 ∙ e ∙ sym (c .before .size-at2 .ensures .0)))
 
--- src/shape.rt:60:9
 offset-count-requires : tie.Need-offset-count-requires Inv-loop μ-loop
 offset-count-requires c κs = c .before .before .before .before .before .pre .0
 
--- src/shape.rt:61:17
 offset-count-requires-2 : tie.Need-offset-count-requires-2 Inv-loop μ-loop
 offset-count-requires-2 c κs = c .before .before .before .before .before .before .pre .1
 
--- src/shape.rt:62:9
 returns-2 : tie.Need-returns-2 Inv-loop μ-loop
 returns-2 c = counts-apart (shapeAt (now (c .before .before .before .before .before .before .before .before .args .sheet)) (c .before .before .before .before .before .before .before .before .args .a)) (shapeAt (now (c .before .before .before .before .before .before .before .before .args .sheet)) (c .before .before .before .before .before .before .before .before .args .b)) (sym (c .before .before .before .before .before .size-at .ensures .0) ∙ c .before .before .before .if1 .left ∙ c .before .before .before .before .size-at2 .ensures .0) (λ e. c .if2 .taken (c .before .before .offset-count .ensures .0 ∙ e ∙ sym (c .before .offset-count2 .ensures .0)))
 
--- src/shape.rt:65:5
 loop-holds : tie.Need-loop-holds Inv-loop μ-loop
 loop-holds c = (sym (c .before .before .before .before .before .size-at .ensures .0) ∙ c .before .before .before .if1 .left ∙ c .before .before .before .before .size-at2 .ensures .0, c .before .before .offset-count .ensures .0, sym (c .before .before .offset-count .ensures .0) ∙ c .if2 .left ∙ c .before .offset-count2 .ensures .0, same-start _ _ (sym (c .before .before .offset-count .ensures .0) ∙ c .if2 .left ∙ c .before .offset-count2 .ensures .0))
 
--- src/shape.rt:66:12
 offset-at-requires : tie.Need-offset-at-requires Inv-loop μ-loop
 offset-at-requires c κs = (c .before .before .before .before .before .before .before .before .before .before .pre .0, omega (arith, c .loop-test .taken, c .before .loop .inv .1))
 
--- src/shape.rt:66:47
 offset-at-requires-2 : tie.Need-offset-at-requires-2 Inv-loop μ-loop
 offset-at-requires-2 c κs = (c .before .before .before .before .before .before .before .before .before .before .before .pre .1, omega (arith, c .before .loop-test .taken, c .before .before .loop .inv .1, c .before .before .loop .inv .2))
 
--- src/shape.rt:67:13
 returns-3 : tie.Need-returns-3 Inv-loop μ-loop
 returns-3 c = sizes-same (shapeAt (now (c .before .before .before .before .before .before .before .before .before .before .before .before .before .args .sheet)) (c .before .before .before .before .before .before .before .before .before .before .before .before .before .args .a)) (shapeAt (now (c .before .before .before .before .before .before .before .before .before .before .before .before .before .args .sheet)) (c .before .before .before .before .before .before .before .before .before .before .before .before .before .args .b)) (c .before .before .before .before .loop .inv .0) (same-not _ _ (c .before .before .before .before .loop .inv .2) (c .before .before .before .before .loop .j) (omega (arith, c .before .before .before .loop-test .taken, c .before .before .before .before .loop .inv .1)) (c .before .before .before .before .loop .inv .3) (offset-near _ _ _ _ (c .before .before .before .before .before .before .before .before .before .before .before .before .before .pre .0) (c .before .before .before .before .loop .j) (omega (arith, c .before .before .before .loop-test .taken, c .before .before .before .before .loop .inv .1))) (offset-near _ _ _ _ (c .before .before .before .before .before .before .before .before .before .before .before .before .before .pre .1) (c .before .before .before .before .loop .j) (omega (arith, c .before .before .before .loop-test .taken, c .before .before .before .before .loop .inv .1, c .before .before .before .before .loop .inv .2))) (λ e. c .if3 .taken (c .before .before .offset-at .ensures .0 ∙ e ∙ sym (c .before .offset-at2 .ensures .0))))
 
--- src/shape.rt:69:9
 add-j : tie.Need-add-j Inv-loop μ-loop
 add-j c = search needs
 
--- src/shape.rt:65:5
 loop-less : tie.Need-loop-less Inv-loop μ-loop
 loop-less c = search needs
 
--- src/shape.rt:65:5
 loop-again : tie.Need-loop-again Inv-loop μ-loop
 loop-again c = (c .before .before .before .before .loop .inv .0, c .before .before .before .before .loop .inv .1, c .before .before .before .before .loop .inv .2, same-next _ _ (c .before .before .before .before .loop .inv .2) (c .before .before .before .before .loop .j) (omega (arith, c .before .before .before .loop-test .taken, c .before .before .before .before .loop .inv .1)) (c .before .before .before .before .loop .inv .3) (offset-near _ _ _ _ (c .before .before .before .before .before .before .before .before .before .before .before .before .before .pre .0) (c .before .before .before .before .loop .j) (omega (arith, c .before .before .before .loop-test .taken, c .before .before .before .before .loop .inv .1))) (offset-near _ _ _ _ (c .before .before .before .before .before .before .before .before .before .before .before .before .before .pre .1) (c .before .before .before .before .loop .j) (omega (arith, c .before .before .before .loop-test .taken, c .before .before .before .before .loop .inv .1, c .before .before .before .before .loop .inv .2))) (sym (c .before .before .offset-at .ensures .0) ∙ c .if3 .left ∙ c .before .offset-at2 .ensures .0))
 
--- src/shape.rt:53:1
 returns-4 : tie.Need-returns-4 Inv-loop μ-loop
 returns-4 c = sizes-same (shapeAt (now (c .before .before .before .before .before .before .before .before .before .before .args .sheet)) (c .before .before .before .before .before .before .before .before .before .before .args .a)) (shapeAt (now (c .before .before .before .before .before .before .before .before .before .before .args .sheet)) (c .before .before .before .before .before .before .before .before .before .before .args .b)) (c .before .loop .inv .0) (same-end _ _ (c .before .loop .inv .2) (c .before .loop .j) (omega (arith, c .loop-test .left, c .before .loop .inv .1)) (c .before .loop .inv .3))
 

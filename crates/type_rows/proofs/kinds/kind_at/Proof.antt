@@ -1,6 +1,5 @@
 use native.Mathlib.Omega.{arith}
 use borrow.Author.Needs.{needs}
-use denote.Ref.{now}
 use Prim.Native.Nat.{ℕ, _≤_, _<_, _-_}
 use mathlib.Core.Path.{_≡_, _∙_, sym}
 use borrow.Author.Count.{below-more}
@@ -8,9 +7,6 @@ use Rattle.type_keys.specs.Table.{kindOf}
 use Rattle.type_rows.proofs.Elements.{not-below}
 use Rattle.type_rows.proofs.kinds.kind_at.Statement.{statement}
 use Rattle.type_rows.proofs.kinds.kind_at.Tie as tie
-use Rattle.type_rows.proofs.kinds.kind_at.Reads as reads
-use Rattle.type_rows.proofs.kinds.kind_at.Lts as lts
-use Rattle.type_keys.proofs.kind_place.Reads as kind-place-reads
 
 abbrev Inv-loop : tie.InvT-loop
 Inv-loop work place k₀ k = (k ≤ 5) × ((j : ℕ) → j < k → kindOf work j ≡ place → ⊥)
@@ -18,31 +14,24 @@ Inv-loop work place k₀ k = (k ≤ 5) × ((j : ℕ) → j < k → kindOf work j
 abbrev μ-loop : tie.MeasureT-loop
 μ-loop work place k₀ k = 5 - k
 
--- src/kinds.rt:24:5
 loop-holds : tie.Need-loop-holds Inv-loop μ-loop
 loop-holds c = (omega arith, λ j h e. omega arith)
 
--- src/kinds.rt:25:12
 kind-place-requires : tie.Need-kind-place-requires Inv-loop μ-loop
 kind-place-requires c κs = search needs
 
--- src/kinds.rt:26:13
 returns : tie.Need-returns Inv-loop μ-loop
 returns c = (λ h. sym (c .before .kind-place .ensures .0) ∙ c .if1 .taken, λ j h e. not-below j (c .before .before .before .loop .k) (λ l. c .before .before .before .loop .inv .1 j l e))
 
--- src/kinds.rt:28:9
 add-k : tie.Need-add-k Inv-loop μ-loop
 add-k c = search needs
 
--- src/kinds.rt:24:5
 loop-less : tie.Need-loop-less Inv-loop μ-loop
 loop-less c = search needs
 
--- src/kinds.rt:24:5
 loop-again : tie.Need-loop-again Inv-loop μ-loop
 loop-again c = (omega (arith, c .before .before .loop-test .taken), below-more _ _ (c .before .before .before .loop .inv .1) (λ e. c .if1 .left (c .before .kind-place .ensures .0 ∙ e)))
 
--- src/kinds.rt:19:1
 returns-2 : tie.Need-returns-2 Inv-loop μ-loop
 returns-2 c = (λ h. absurd (omega (arith, h, c .loop-test .left)), λ j h e. not-below j (c .before .loop .k) (λ l. c .before .loop .inv .1 j l e))
 

@@ -1,19 +1,13 @@
 use native.Mathlib.Omega.{arith}
 use borrow.Author.Needs.{needs}
-use denote.Ref.{now}
 use lib.ListN.{length}
 use Prim.Native.Nat.{_≤_, _-_, _+_}
-use mathlib.Core.Path.{_≡_, _∙_, sym, refl}
-use Rattle.write.proofs.Wrote.{wrote-length}
+use mathlib.Core.Path.{_≡_, _∙_, refl}
 use Rattle.checks.proofs.Kept.{kept-all, kept-then}
 use Rattle.checks.specs.Checks.{Kept}
 use Rattle.type_rows.proofs.Elements.{KindRows, kinds-start, kinds-next, kinds-end}
 use Rattle.type_rows.proofs.kinds.kind_rows.Statement.{statement}
 use Rattle.type_rows.proofs.kinds.kind_rows.Tie as tie
-use Rattle.type_rows.proofs.kinds.kind_rows.Reads as reads
-use Rattle.type_rows.proofs.kinds.kind_rows.Lts as lts
-use Rattle.type_rows.proofs.kinds.kind_at.Reads as kind-at-reads
-use Rattle.type_rows.proofs.row.put_elem.Reads as put-elem-reads
 
 abbrev Inv-loop : tie.InvT-loop
 Inv-loop work₀ base keys out₀ end at₀ id₀ work out at id = (id₀ ≤ id) × (end ≡ base + keys) × (base ≤ id₀) × (Kept 49152 work₀ work) × (length out ≡ length out₀) × (KindRows base (record { at = at₀; id = id₀ }) at id work₀ work out₀ out keys)
@@ -21,51 +15,39 @@ Inv-loop work₀ base keys out₀ end at₀ id₀ work out at id = (id₀ ≤ id
 abbrev μ-loop : tie.MeasureT-loop
 μ-loop work₀ base keys out₀ end at₀ id₀ work out at id = end - id
 
--- src/kinds.rt:38:15
 add-end : tie.Need-add-end Inv-loop μ-loop
 add-end c = search needs
 
--- src/kinds.rt:41:5
 loop-holds : tie.Need-loop-holds Inv-loop μ-loop
 loop-holds c = (omega arith, refl, c .before .before .pre .1, kept-all, refl, kinds-start (c .before .before .args .base) (c .before .before .args .keys) (c .before .before .args .p) (c .before .before .pre .4))
 
--- src/kinds.rt:42:34
 sub-kind-at : tie.Need-sub-kind-at Inv-loop μ-loop
 sub-kind-at c = omega (arith, c .before .before .loop .inv .0, c .before .before .loop .inv .2)
 
--- src/kinds.rt:42:34
 add-kind-at : tie.Need-add-kind-at Inv-loop μ-loop
 add-kind-at c = search needs
 
--- src/kinds.rt:42:13
 kind-at-requires : tie.Need-kind-at-requires Inv-loop μ-loop
 kind-at-requires c κs = omega (arith, c .before .before .before .before .before .pre .0, c .before .before .loop .inv .3 .long)
 
--- src/kinds.rt:43:9
 put-elem-requires : tie.Need-put-elem-requires Inv-loop μ-loop
 put-elem-requires c κs = omega (arith, c .before .before .before .before .before .before .before .before .pre .0, c .before .before .before .before .before .loop .inv .3 .long)
 
--- src/kinds.rt:44:9
 add-id : tie.Need-add-id Inv-loop μ-loop
 add-id c = search needs
 
--- src/kinds.rt:41:5
 loop-less : tie.Need-loop-less Inv-loop μ-loop
 loop-less c = search needs
 
--- src/kinds.rt:41:5
 loop-again : tie.Need-loop-again Inv-loop μ-loop
 loop-again c = (omega (arith, c .before .before .before .before .before .before .before .before .before .before .loop .inv .0), c .before .before .before .before .before .before .before .before .before .before .loop .inv .1, c .before .before .before .before .before .before .before .before .before .before .loop .inv .2, kept-then (c .before .before .before .before .before .before .before .before .before .before .loop .inv .3) (c .before .before .before .before .put-elem .ensures .1), c .before .before .before .before .put-elem .kept .1 .1 .1 .0 ∙ c .before .before .before .before .before .before .before .before .before .before .loop .inv .4, kinds-next (c .before .before .before .before .before .before .before .before .before .before .before .before .before .args .base) (c .before .before .before .before .before .before .before .before .before .before .before .before .before .args .keys) (c .before .before .before .before .before .before .before .before .before .before .before .before .before .args .p) (c .before .before .before .before .before .before .before .before .before .before .loop .at) (c .before .before .before .before .before .before .before .before .before .before .loop .id) (c .before .before .before .before .before .before .before .before .before .before .loop .inv .0) (omega (arith, c .before .before .before .before .before .before .before .before .before .loop-test .taken, c .before .before .before .before .before .before .before .before .before .before .loop .inv .1)) (c .before .before .before .before .before .before .before .before .before .before .loop .inv .2) (c .before .before .before .before .before .before .before .before .before .before .loop .inv .5) (c .before .before .before .before .before .before .before .before .before .before .loop .inv .3) (c .before .before .before .before .before .before .before .kind-at .result) (c .before .before .before .before .put-elem .result) (c .before .before .before .before .before .before .before .kind-at .ensures .0) (c .before .before .before .before .before .before .before .kind-at .ensures .1) (c .before .before .before .before .put-elem .ensures .0))
 
--- src/kinds.rt:34:1
 same-length : tie.Need-same-length Inv-loop μ-loop
 same-length c = c .before .loop .inv .3 .long
 
--- src/kinds.rt:34:1
 same-length-2 : tie.Need-same-length-2 Inv-loop μ-loop
 same-length-2 c = c .before .loop .inv .4
 
--- src/kinds.rt:34:1
 returns : tie.Need-returns Inv-loop μ-loop
 returns c = (kinds-end (c .before .before .before .before .args .base) (c .before .before .before .before .args .keys) (c .before .before .before .before .args .p) (c .before .loop .at) (c .before .loop .id) (c .before .loop .inv .0) (omega (arith, c .loop-test .left, c .before .loop .inv .1)) (c .before .loop .inv .5), c .before .loop .inv .3)
 

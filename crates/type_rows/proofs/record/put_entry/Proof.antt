@@ -1,4 +1,3 @@
-use native.Mathlib.Omega.{arith}
 use denote.Ref.{now}
 use mathlib.Core.Path.{refl}
 use Rattle.shapes.proofs.Maps.{room-kept}
@@ -7,33 +6,22 @@ use Rattle.type_rows.proofs.Maps.{shape-is, rowed-as}
 use borrow.Author.Needs.{needs}
 use Rattle.type_rows.proofs.record.put_entry.Statement.{statement}
 use Rattle.type_rows.proofs.record.put_entry.Tie as tie
-use Rattle.type_rows.proofs.record.put_entry.Reads as reads
-use Rattle.type_rows.proofs.record.put_entry.Lts as lts
-use Rattle.record_rows.proofs.entry_size.Reads as entry-size-reads
-use Rattle.record_rows.proofs.map_entry.Reads as map-entry-reads
-use Rattle.type_rows.proofs.row.put_type.Reads as put-type-reads
 
--- src/record.rt:26:9
 entry-size-requires : tie.Need-entry-size-requires
 entry-size-requires c κs = search needs
 
--- src/record.rt:27:5
 map-entry-requires : tie.Need-map-entry-requires
 map-entry-requires c κs = (c .before .before .before .before .before .before .pre .log .entries (c .before .before .before .before .before .before .args .e) (c .before .before .before .before .before .before .pre .low), record { room = c .before .before .before .before .before .before .pre .log .checked .whole .room; small = c .before .entry-size .ensures .1 })
 
--- src/record.rt:28:5
 put-type-requires : tie.Need-put-type-requires
 put-type-requires c κs = room-kept (c .before .before .before .before .map-entry .ensures .kept) (record { room = c .before .before .before .before .before .before .before .before .before .before .before .pre .log .checked .whole .room; small = c .before .before .before .before .before .before .entry-size .ensures .1 })
 
--- src/record.rt:13:1
 same-length : tie.Need-same-length
 same-length c = search needs
 
--- src/record.rt:13:1
 same-length-2 : tie.Need-same-length-2
 same-length-2 c = search needs
 
--- src/record.rt:13:1
 returns : tie.Need-returns
 returns c = rowed-as (shape-is (recordedAt (now (c .before .before .before .before .before .before .before .before .before .before .before .before .before .before .args .sheet)) (now (c .before .before .before .before .before .before .before .before .before .before .before .before .before .before .args .work)) (c .before .before .before .before .before .before .before .before .before .before .before .before .before .before .args .e) .shape) (c .before .before .before .before .before .before .before .before .before .entry-size .result) (recordedAt (now (c .before .before .before .before .before .before .before .before .before .before .before .before .before .before .args .sheet)) (now (c .before .before .before .before .before .before .before .before .before .before .before .before .before .before .args .work)) (c .before .before .before .before .before .before .before .before .before .before .before .before .before .before .args .e) .shape .pointers) (c .before .before .before .before .before .before .before .before .before .entry-size .ensures .0) refl) (record { wrote = c .before .before .put-type .ensures _ (c .before .before .before .before .before .before .before .map-entry .ensures .map); kept = c .before .before .before .before .before .before .before .map-entry .ensures .kept })
 

@@ -1,6 +1,5 @@
 use native.Mathlib.Omega.{arith}
 use denote.Ref.{now}
-use mathlib.Core.Path.{_∙_, sym}
 use Rattle.type_keys.specs.Keys.{needAt}
 use Rattle.semantics.specs.Types.{keyShape}
 use Rattle.records.specs.Log.{logOf}
@@ -10,54 +9,37 @@ use Rattle.type_rows.proofs.Maps.{shape-is, rowed-as}
 use borrow.Author.Needs.{needs}
 use Rattle.type_rows.proofs.record.put_record.Statement.{statement}
 use Rattle.type_rows.proofs.record.put_record.Tie as tie
-use Rattle.type_rows.proofs.record.put_record.Reads as reads
-use Rattle.type_rows.proofs.record.put_record.Lts as lts
-use Rattle.lines.proofs.field_at.Reads as field-at-reads
-use Rattle.records.proofs.key.newest.Reads as newest-reads
-use Rattle.type_rows.proofs.record.put_entry.Reads as put-entry-reads
-use Rattle.type_rows.proofs.row.put_words.Reads as put-words-reads
 
--- src/record.rt:57:9
 field-at-requires : tie.Need-field-at-requires
 field-at-requires c κs = search needs
 
--- src/record.rt:52:9
 newest-requires : tie.Need-newest-requires
 newest-requires c κs = search needs
 
--- src/record.rt:60:9
 put-words-requires : tie.Need-put-words-requires
 put-words-requires c κs = (record { room = c .before .before .before .before .before .before .before .before .before .pre .0 .checked .whole .room; small = omega arith }, omega arith)
 
--- src/record.rt:60:9
 same-length : tie.Need-same-length
 same-length c = search needs
 
--- src/record.rt:60:9
 same-length-2 : tie.Need-same-length-2
 same-length-2 c = search needs
 
--- src/record.rt:60:9
 returns : tie.Need-returns
 returns c = rowed-as (shape-is (keyShape (logOf (now (c .before .before .before .before .before .before .before .before .before .before .before .before .before .before .args .sheet))) (needAt (now (c .before .before .before .before .before .before .before .before .before .before .before .before .before .before .args .sheet)) (c .before .before .before .before .before .before .before .before .before .before .before .before .before .before .args .i))) 4 (words 0) (unknown-size (now (c .before .before .before .before .before .before .before .before .before .before .before .before .before .before .args .sheet)) (now (c .before .before .before .before .before .before .before .before .before .before .before .before .before .before .args .work)) (c .before .before .before .before .before .before .before .before .before .before .before .before .before .before .args .n) (c .before .before .before .before .before .before .before .before .before .before .before .before .before .before .args .i) (c .before .before .before .before .before .before .before .before .before .before .before .before .before .before .pre .1) (c .before .before .before .before .before .before .before .before .before .before .before .before .before .before .pre .2) (now (c .before .before .before .before .before .before .before .before .before .field-at .result)) (c .before .before .before .before .before .before .before .before .before .field-at .ensures) (c .before .before .before .before .before .before .before .before .newest .result) (c .before .before .before .before .before .before .before .before .newest .ensures) (c .before .before .before .before .before .before .before .if1 .taken)) (unknown-words (now (c .before .before .before .before .before .before .before .before .before .before .before .before .before .before .args .sheet)) (now (c .before .before .before .before .before .before .before .before .before .before .before .before .before .before .args .work)) (c .before .before .before .before .before .before .before .before .before .before .before .before .before .before .args .n) (c .before .before .before .before .before .before .before .before .before .before .before .before .before .before .args .i) (c .before .before .before .before .before .before .before .before .before .before .before .before .before .before .pre .1) (c .before .before .before .before .before .before .before .before .before .before .before .before .before .before .pre .2) (now (c .before .before .before .before .before .before .before .before .before .field-at .result)) (c .before .before .before .before .before .before .before .before .before .field-at .ensures) (c .before .before .before .before .before .before .before .before .newest .result) (c .before .before .before .before .before .before .before .before .newest .ensures) (c .before .before .before .before .before .before .before .if1 .taken))) (c .before .before .before .before .put-words .ensures)
 
--- src/record.rt:62:34
 sub-put-entry : tie.Need-sub-put-entry
 sub-put-entry c = search needs
 
--- src/record.rt:62:5
 put-entry-requires : tie.Need-put-entry-requires
 put-entry-requires c κs = record { log = c .before .before .before .before .before .before .before .before .before .pre .0; low = known-low (now (c .before .before .before .before .before .before .before .before .before .args .sheet)) (now (c .before .before .before .before .before .before .before .before .before .args .work)) (c .before .before .before .before .before .before .before .before .before .args .n) (c .before .before .before .before .before .before .before .before .before .args .i) (c .before .before .before .before .before .before .before .before .before .pre .1) (c .before .before .before .before .before .before .before .before .before .pre .2) (now (c .before .before .before .before .field-at .result)) (c .before .before .before .before .field-at .ensures) (c .before .before .before .newest .result) (c .before .before .before .newest .ensures) (c .before .before .before .before .before .before .before .before .before .args .m) (c .before .before .before .before .before .before .before .before .before .pre .0) (c .before .before .if1 .left) }
 
--- src/record.rt:39:1
 same-length-3 : tie.Need-same-length-3
 same-length-3 c = search needs
 
--- src/record.rt:39:1
 same-length-4 : tie.Need-same-length-4
 same-length-4 c = search needs
 
--- src/record.rt:39:1
 returns-2 : tie.Need-returns-2
 returns-2 c = rowed-as (known-shape (now (c .before .before .before .before .before .before .before .before .before .before .before .before .before .before .args .sheet)) (now (c .before .before .before .before .before .before .before .before .before .before .before .before .before .before .args .work)) (c .before .before .before .before .before .before .before .before .before .before .before .before .before .before .args .n) (c .before .before .before .before .before .before .before .before .before .before .before .before .before .before .args .i) (c .before .before .before .before .before .before .before .before .before .before .before .before .before .before .pre .1) (c .before .before .before .before .before .before .before .before .before .before .before .before .before .before .pre .2) (now (c .before .before .before .before .before .before .before .before .before .field-at .result)) (c .before .before .before .before .before .before .before .before .before .field-at .ensures) (c .before .before .before .before .before .before .before .before .newest .result) (c .before .before .before .before .before .before .before .before .newest .ensures) (c .before .before .before .before .before .before .before .before .before .before .before .before .before .before .args .m) (c .before .before .before .before .before .before .before .before .before .before .before .before .before .before .pre .0) (c .before .before .before .before .before .before .before .if1 .left)) (c .before .before .before .before .put-entry .ensures)
 

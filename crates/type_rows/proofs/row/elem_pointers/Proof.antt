@@ -1,17 +1,12 @@
 use native.Mathlib.Omega.{arith}
-use borrow.Author.Needs.{needs}
 use borrow.Author.Tests.{eq-eqb, ne-eqb}
 use Rattle.type_rows.proofs.Maps.{words-by}
 use Rattle.type_rows.proofs.row.elem_pointers.Statement.{statement}
 use Rattle.type_rows.proofs.row.elem_pointers.Tie as tie
-use Rattle.type_rows.proofs.row.elem_pointers.Reads as reads
-use Rattle.type_rows.proofs.row.elem_pointers.Lts as lts
 
--- src/row.rt:93:9
 returns : tie.Need-returns
 returns c = (λ k e. rw (eq-eqb (c .before .args .kind) 4 (c .if1 .taken)) at (words-by (c .before .args .kind) k e), omega arith)
 
--- src/row.rt:89:1
 returns-2 : tie.Need-returns-2
 returns-2 c = (λ k e. rw (ne-eqb (c .before .args .kind) 4 (c .if1 .left)) at (words-by (c .before .args .kind) k e), omega arith)
 

@@ -1,23 +1,16 @@
-use Prim.Native.Nat.{ℕ}
-use mathlib.Core.Path.{_≡_, ap, _∙_}
+use mathlib.Core.Path.{_≡_, _∙_}
 use Rattle.shapes.proofs.Maps.{room-kept, made-then}
 use Rattle.shapes.specs.Maps.{Marks}
 use Rattle.type_rows.proofs.Maps.{words-next, words-none}
 use native.Mathlib.Omega.{arith}
 use borrow.Author.Needs.{needs}
-use denote.Ref.{now}
 use Prim.Native.Nat.{_≤_, _-_}
-use mathlib.Core.Path.{_≡_, ap}
+use mathlib.Core.Path.{_≡_}
 use Rattle.shapes.proofs.Maps.{room-kept}
-use Rattle.shapes.specs.Maps.{Made}
 use Rattle.type_rows.specs.Rows.{words}
 use Rattle.type_rows.proofs.Maps.{words-next}
 use Rattle.type_rows.proofs.row.map_words.Statement.{statement}
 use Rattle.type_rows.proofs.row.map_words.Tie as tie
-use Rattle.type_rows.proofs.row.map_words.Reads as reads
-use Rattle.type_rows.proofs.row.map_words.Lts as lts
-use Rattle.shapes.proofs.map.clear_map.Reads as clear-map-reads
-use Rattle.shapes.proofs.map.mark_at.Reads as mark-at-reads
 
 abbrev Inv-loop : tie.InvT-loop
 Inv-loop work₀ size count k₀ work k = (k ≤ count) × Marks size (words k) work₀ work
@@ -25,39 +18,30 @@ Inv-loop work₀ size count k₀ work k = (k ≤ count) × Marks size (words k) 
 abbrev μ-loop : tie.MeasureT-loop
 μ-loop work₀ size count k₀ work k = count - k
 
--- src/row.rt:42:5
 clear-map-requires : tie.Need-clear-map-requires Inv-loop μ-loop
 clear-map-requires c κs = search needs
 
--- src/row.rt:44:5
 loop-holds : tie.Need-loop-holds Inv-loop μ-loop
 loop-holds c = (omega arith, words-none)
 
--- src/row.rt:45:42
 mul-mark-at : tie.Need-mul-mark-at Inv-loop μ-loop
 mul-mark-at c = search needs
 
--- src/row.rt:45:9
 mark-at-requires : tie.Need-mark-at-requires Inv-loop μ-loop
 mark-at-requires c κs = room-kept (c .before .before .loop .inv .1 .kept) (room-kept (c .before .before .before .before .before .clear-map .ensures .kept) (c .before .before .before .before .before .before .before .before .pre .0))
 
--- src/row.rt:46:9
 add-k : tie.Need-add-k Inv-loop μ-loop
 add-k c = search needs
 
--- src/row.rt:44:5
 loop-less : tie.Need-loop-less Inv-loop μ-loop
 loop-less c = search needs
 
--- src/row.rt:44:5
 loop-again : tie.Need-loop-again Inv-loop μ-loop
 loop-again c = (omega (arith, c .before .before .before .before .loop-test .taken), words-next (c .before .before .before .before .before .loop .k) (c .before .before .before .before .before .loop .inv .1) (c .before .before .mark-at .ensures))
 
--- src/row.rt:38:1
 same-length : tie.Need-same-length Inv-loop μ-loop
 same-length c = c .before .loop .inv .1 .kept .long ∙ c .before .before .before .before .clear-map .ensures .kept .long
 
--- src/row.rt:38:1
 returns : tie.Need-returns Inv-loop μ-loop
 returns c = let e : c .before .loop .k ≡ c .before .before .before .before .before .before .before .args .count = omega (arith, c .loop-test .left, c .before .loop .inv .0) in made-then (c .before .before .before .before .before .before .before .pre .0) (c .before .before .before .before .clear-map .ensures) (rw e at (c .before .loop .inv .1))
 

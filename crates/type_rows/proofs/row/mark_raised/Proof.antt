@@ -1,29 +1,20 @@
-use native.Mathlib.Omega.{arith}
 use Rattle.type_rows.proofs.Maps.{below-zero, from-zero}
 use borrow.Author.Needs.{needs}
 use Rattle.type_rows.proofs.row.mark_raised.Statement.{statement}
 use Rattle.type_rows.proofs.row.mark_raised.Tie as tie
-use Rattle.type_rows.proofs.row.mark_raised.Reads as reads
-use Rattle.type_rows.proofs.row.mark_raised.Lts as lts
-use Rattle.shapes.proofs.map.mark_at.Reads as mark-at-reads
 
--- src/row.rt:114:9
 returns : tie.Need-returns
 returns c = λ y h e. below-zero (c .before .before .args .z) y h e (c .if1 .taken)
 
--- src/row.rt:116:38
 cast-mark-at : tie.Need-cast-mark-at
 cast-mark-at c = search needs
 
--- src/row.rt:116:5
 mark-at-requires : tie.Need-mark-at-requires
 mark-at-requires c κs = search needs
 
--- src/row.rt:109:1
 same-length : tie.Need-same-length
 same-length c = search needs
 
--- src/row.rt:109:1
 returns-2 : tie.Need-returns-2
 returns-2 c = λ y h e. from-zero (c .before .before .before .before .before .before .args .z) y h e (c .before .before .before .before .if1 .left) (c .before .before .mark-at .ensures)
 

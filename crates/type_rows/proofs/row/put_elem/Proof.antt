@@ -5,33 +5,22 @@ use Rattle.type_rows.proofs.Maps.{shape-is, rowed-as}
 use borrow.Author.Needs.{needs}
 use Rattle.type_rows.proofs.row.put_elem.Statement.{statement}
 use Rattle.type_rows.proofs.row.put_elem.Tie as tie
-use Rattle.type_rows.proofs.row.put_elem.Reads as reads
-use Rattle.type_rows.proofs.row.put_elem.Lts as lts
-use Rattle.type_rows.proofs.row.elem_pointers.Reads as elem-pointers-reads
-use Rattle.type_rows.proofs.row.elem_size.Reads as elem-size-reads
-use Rattle.type_rows.proofs.row.put_words.Reads as put-words-reads
 
--- src/row.rt:103:25
 elem-size-requires : tie.Need-elem-size-requires
 elem-size-requires c κs = search needs
 
--- src/row.rt:103:42
 elem-pointers-requires : tie.Need-elem-pointers-requires
 elem-pointers-requires c κs = search needs
 
--- src/row.rt:103:5
 put-words-requires : tie.Need-put-words-requires
 put-words-requires c κs = (record { room = c .before .before .before .before .before .before .pre; small = omega (arith, c .before .before .elem-size .ensures .1) }, omega (arith, c .before .elem-pointers .ensures .1))
 
--- src/row.rt:99:1
 same-length : tie.Need-same-length
 same-length c = search needs
 
--- src/row.rt:99:1
 same-length-2 : tie.Need-same-length-2
 same-length-2 c = search needs
 
--- src/row.rt:99:1
 returns : tie.Need-returns
 returns c = (λ k e. rowed-as (shape-is (elemShape k) (c .before .before .before .before .before .before .before .elem-size .result) (words (c .before .before .before .before .before .before .elem-pointers .result)) (c .before .before .before .before .before .before .before .elem-size .ensures .0 k e) (c .before .before .before .before .before .before .elem-pointers .ensures .0 k e)) (c .before .before .before .before .put-words .ensures), c .before .before .before .before .put-words .ensures .kept)
 

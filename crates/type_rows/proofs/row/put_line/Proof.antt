@@ -2,39 +2,27 @@ use native.Mathlib.Omega.{arith}
 use denote.Ref.{now}
 use mathlib.Core.Path.{refl}
 use Rattle.shapes.proofs.Maps.{room-kept}
-use Rattle.type_rows.proofs.Kept.{shape-kept}
 use Rattle.type_keys.specs.Keys.{shapeAt}
 use Rattle.type_rows.proofs.Maps.{shape-is, rowed-as}
 use borrow.Author.Needs.{needs}
 use Rattle.type_rows.proofs.row.put_line.Statement.{statement}
 use Rattle.type_rows.proofs.row.put_line.Tie as tie
-use Rattle.type_rows.proofs.row.put_line.Reads as reads
-use Rattle.type_rows.proofs.row.put_line.Lts as lts
-use Rattle.type_keys.proofs.shape.size_at.Reads as size-at-reads
-use Rattle.type_rows.proofs.row.map_line.Reads as map-line-reads
-use Rattle.type_rows.proofs.row.put_type.Reads as put-type-reads
 
--- src/row.rt:147:9
 size-at-requires : tie.Need-size-at-requires
 size-at-requires c κs = search needs
 
--- src/row.rt:148:5
 map-line-requires : tie.Need-map-line-requires
 map-line-requires c κs = (c .before .before .before .before .before .before .pre, record { room = c .before .before .before .before .before .before .pre .checked .whole .room; small = omega (arith, c .before .size-at .ensures .1) })
 
--- src/row.rt:149:5
 put-type-requires : tie.Need-put-type-requires
 put-type-requires c κs = room-kept (c .before .before .before .before .map-line .ensures .kept) (record { room = c .before .before .before .before .before .before .before .before .before .before .before .pre .checked .whole .room; small = omega (arith, c .before .before .before .before .before .before .size-at .ensures .1) })
 
--- src/row.rt:135:1
 same-length : tie.Need-same-length
 same-length c = search needs
 
--- src/row.rt:135:1
 same-length-2 : tie.Need-same-length-2
 same-length-2 c = search needs
 
--- src/row.rt:135:1
 returns : tie.Need-returns
 returns c = rowed-as (shape-is (shapeAt (now (c .before .before .before .before .before .before .before .before .before .before .before .before .before .before .args .sheet)) (c .before .before .before .before .before .before .before .before .before .before .before .before .before .before .args .i)) (c .before .before .before .before .before .before .before .before .before .size-at .result) (shapeAt (now (c .before .before .before .before .before .before .before .before .before .before .before .before .before .before .args .sheet)) (c .before .before .before .before .before .before .before .before .before .before .before .before .before .before .args .i) .pointers) (c .before .before .before .before .before .before .before .before .before .size-at .ensures .0) refl) (record { wrote = c .before .before .put-type .ensures _ (c .before .before .before .before .before .before .before .map-line .ensures .map); kept = c .before .before .before .before .before .before .before .map-line .ensures .kept })
 

@@ -5,23 +5,16 @@ use Rattle.type_rows.proofs.Maps.{opaque-words, opaque-size, shape-is, 
 use borrow.Author.Needs.{needs}
 use Rattle.type_rows.proofs.row.put_opaque.Statement.{statement}
 use Rattle.type_rows.proofs.row.put_opaque.Tie as tie
-use Rattle.type_rows.proofs.row.put_opaque.Reads as reads
-use Rattle.type_rows.proofs.row.put_opaque.Lts as lts
-use Rattle.type_rows.proofs.row.put_words.Reads as put-words-reads
 
--- src/row.rt:70:5
 put-words-requires : tie.Need-put-words-requires
 put-words-requires c κs = (record { room = c .before .before .before .before .pre; small = omega arith }, omega arith)
 
--- src/row.rt:66:1
 same-length : tie.Need-same-length
 same-length c = search needs
 
--- src/row.rt:66:1
 same-length-2 : tie.Need-same-length-2
 same-length-2 c = search needs
 
--- src/row.rt:66:1
 returns : tie.Need-returns
 returns c = rowed-as (shape-is opaqueShape 48 (words 12) opaque-size opaque-words) (c .before .before .before .before .put-words .ensures)
 

@@ -6,82 +6,58 @@ use mathlib.Core.List.{_∷_, List}
 use Rattle.type_rows.proofs.Rows.{map-end, map-part}
 use native.Mathlib.Omega.{arith}
 use denote.Ref.{now}
-use mathlib.Core.Path.{_≡_, ap, sym, _∙_}
-use Rattle.shapes.specs.Maps.{mapIn, mapLength}
+use mathlib.Core.Path.{ap}
+use Rattle.shapes.specs.Maps.{mapIn}
 use Rattle.type_rows.proofs.Rows.{type-row}
 use borrow.Author.Needs.{needs}
 use Rattle.type_rows.proofs.row.put_type.Statement.{statement}
 use Rattle.type_rows.proofs.row.put_type.Tie as tie
-use Rattle.type_rows.proofs.row.put_type.Reads as reads
-use Rattle.type_rows.proofs.row.put_type.Lts as lts
-use Rattle.layout.proofs.map.map_bytes.Reads as map-bytes-reads
-use Rattle.rows.proofs.put_comma_hex.Reads as put-comma-hex-reads
-use Rattle.rows.proofs.put_comma_nat.Reads as put-comma-nat-reads
-use Rattle.rows.proofs.put_lf.Reads as put-lf-reads
-use Rattle.shapes.proofs.map.map_ones.Reads as map-ones-reads
-use Rattle.write.proofs.put_part.Reads as put-part-reads
 
--- src/row.rt:26:21
 map-bytes-requires : tie.Need-map-bytes-requires
 map-bytes-requires c κs = search needs
 
--- src/row.rt:26:15
 add-end : tie.Need-add-end
 add-end c = search needs
 
--- src/row.rt:27:42
 slice-aggregate-put-part : tie.Need-slice-aggregate-put-part
 slice-aggregate-put-part c = search needs
 
--- src/row.rt:27:9
 put-part-requires : tie.Need-put-part-requires
 put-part-requires c κs = search needs
 
--- src/row.rt:28:5
 put-comma-nat-requires : tie.Need-put-comma-nat-requires
 put-comma-nat-requires c κs = search needs
 
--- src/row.rt:29:5
 put-comma-nat-requires-2 : tie.Need-put-comma-nat-requires-2
 put-comma-nat-requires-2 c κs = search needs
 
--- src/row.rt:30:37
 map-ones-requires : tie.Need-map-ones-requires
 map-ones-requires c κs = search needs
 
--- src/row.rt:30:37
 cast-put-comma-nat : tie.Need-cast-put-comma-nat
 cast-put-comma-nat c = search needs
 
--- src/row.rt:30:5
 put-comma-nat-requires-3 : tie.Need-put-comma-nat-requires-3
 put-comma-nat-requires-3 c κs = search needs
 
--- src/row.rt:31:37
 sub-put-comma-hex : tie.Need-sub-put-comma-hex
 sub-put-comma-hex c = search needs
 
--- src/row.rt:31:37
 part-put-comma-hex-start : tie.Need-part-put-comma-hex-start
 part-put-comma-hex-start c = search needs
 
--- src/row.rt:31:37
 part-put-comma-hex-end : tie.Need-part-put-comma-hex-end
 part-put-comma-hex-end c = omega (arith, map-end (c .before .before .before .before .before .before .before .before .before .before .before .before .before .before .before .before .before .before .before .before .before .before .pre) (c .before .before .before .before .before .before .before .before .before .before .before .before .before .before .before .before .before .before .before .map-bytes .ensures .0) .1)
 
--- src/row.rt:31:5
 put-comma-hex-requires : tie.Need-put-comma-hex-requires
 put-comma-hex-requires c κs = search needs
 
--- src/row.rt:32:5
 put-lf-requires : tie.Need-put-lf-requires
 put-lf-requires c κs = search needs
 
--- src/row.rt:22:1
 same-length : tie.Need-same-length
 same-length c = search needs
 
--- src/row.rt:22:1
 returns : tie.Need-returns
 returns c = let e = map-end (c .before .before .before .before .before .before .before .before .before .before .before .before .before .before .before .before .before .before .before .before .before .before .before .before .before .before .before .before .before .before .pre) (c .before .before .before .before .before .before .before .before .before .before .before .before .before .before .before .before .before .before .before .before .before .before .before .before .before .before .before .map-bytes .ensures .0) .0 in λ offs x. type-row (c .before .before .before .before .before .before .before .before .before .before .before .before .before .before .before .before .before .before .before .before .before .before .before .before .before .before .before .before .before .before .args .id) (c .before .before .before .before .before .before .before .before .before .before .before .before .before .before .before .before .before .before .before .before .before .before .before .before .before .before .before .before .before .before .args .size) (mapIn (now (c .before .before .before .before .before .before .before .before .before .before .before .before .before .before .before .before .before .before .before .before .before .before .before .before .before .before .before .before .before .before .args .work)) (c .before .before .before .before .before .before .before .before .before .before .before .before .before .before .before .before .before .before .before .before .before .before .before .before .before .before .before .before .before .before .args .size)) offs (x .bytes) (c .before .before .before .before .before .before .before .before .before .before .before .before .map-ones .result) (c .before .before .before .before .before .before .before .before .before .before .before .before .map-ones .ensures) (c .before .before .before .before .before .before .before .before .before .before .before .before .before .before .before .before .before .before .before .before .before .before .before .before .put-part .ensures) (c .before .before .before .before .before .before .before .before .before .before .before .before .before .before .before .before .before .before .before .before .put-comma-nat .ensures) (c .before .before .before .before .before .before .before .before .before .before .before .before .before .before .before .before .put-comma-nat2 .ensures) (c .before .before .before .before .before .before .before .before .before .before .before .put-comma-nat3 .ensures) (wrote-as (ap (λ (m : List ℕ). 44 ∷ hexOf m) (map-part (now (c .before .before .before .before .before .before .before .before .before .before .before .before .before .before .before .before .before .before .before .before .before .before .before .before .before .before .before .before .before .before .args .work)) (c .before .before .before .before .before .before .before .before .before .before .before .before .before .before .before .before .before .before .before .before .before .before .before .before .before .before .before .before .before .before .args .size) (49152 + c .before .before .before .before .before .before .before .before .before .before .before .before .before .before .before .before .before .before .before .before .before .before .before .before .before .before .before .map-bytes .result - 49152) (omega (arith, e)))) (c .before .before .before .before .before .before .put-comma-hex .ensures)) (c .before .before .put-lf .ensures)
 

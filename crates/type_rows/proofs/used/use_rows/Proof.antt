@@ -5,20 +5,16 @@ use borrow.Author.Needs.{needs}
 use denote.Ref.{now}
 use Prim.Native.Nat.{_≤_, _-_}
 use lib.ListN.{length, take}
-use mathlib.Core.Path.{_≡_, _∙_, sym}
-use mathlib.Core.List.{List, []}
+use mathlib.Core.Path.{_≡_, _∙_}
+use mathlib.Core.List.{List}
 use Rattle.write.specs.Wrote.{Wrote}
 use Rattle.semantics.specs.Listing.{useRow}
 use Rattle.semantics.specs.Types.{idOf}
 use Rattle.semantics.specs.Global.{Item}
 use Rattle.semantics.specs.Sheet.{sheetSource, concatMap}
-use Rattle.type_rows.proofs.Uses.{uses-start, uses-next, uses-end}
+use Rattle.type_rows.proofs.Uses.{uses-next, uses-end}
 use Rattle.type_rows.proofs.used.use_rows.Statement.{statement}
 use Rattle.type_rows.proofs.used.use_rows.Tie as tie
-use Rattle.type_rows.proofs.used.use_rows.Reads as reads
-use Rattle.type_rows.proofs.used.use_rows.Lts as lts
-use Rattle.type_keys.proofs.ids.need_id.Reads as need-id-reads
-use Rattle.type_rows.proofs.used.put_use.Reads as put-use-reads
 
 abbrev Inv-loop : tie.InvT-loop
 Inv-loop sheet work n needs frames out₀ at p₀ q₀ out p q = (q ≤ needs) × (length out ≡ length out₀) × ((is : List Item) → Wrote out₀ at (concatMap (useRow (idOf (sheetSource sheet) is)) (take q (sheetSource sheet .needs))) out p)
@@ -26,35 +22,27 @@ Inv-loop sheet work n needs frames out₀ at p₀ q₀ out p q = (q ≤ needs) �
 abbrev μ-loop : tie.MeasureT-loop
 μ-loop sheet work n needs frames out₀ at p₀ q₀ out p q = needs - q
 
--- src/used.rt:36:5
 loop-holds : tie.Need-loop-holds Inv-loop μ-loop
 loop-holds c = (omega arith, refl, λ is. wrote-none _ _ (c .before .before .before .pre .1))
 
--- src/used.rt:37:29
 need-id-requires : tie.Need-need-id-requires Inv-loop μ-loop
 need-id-requires c κs = (c .before .before .before .before .before .before .pre .0 .few, omega (arith, c .before .loop-test .taken, c .before .before .before .before .before .before .pre .0 .count, c .before .before .before .before .before .before .pre .0 .table .few), c .before .before .before .before .before .before .pre .0 .checked .whole .room)
 
--- src/used.rt:37:9
 put-use-requires : tie.Need-put-use-requires Inv-loop μ-loop
 put-use-requires c κs = search needs
 
--- src/used.rt:38:9
 add-q : tie.Need-add-q Inv-loop μ-loop
 add-q c = search needs
 
--- src/used.rt:36:5
 loop-less : tie.Need-loop-less Inv-loop μ-loop
 loop-less c = search needs
 
--- src/used.rt:36:5
 loop-again : tie.Need-loop-again Inv-loop μ-loop
 loop-again c = (omega (arith, c .before .before .before .before .before .loop-test .taken), wrote-length (c .before .before .put-use .ensures) ∙ c .before .before .before .before .before .before .loop .inv .1, λ is. uses-next (idOf (sheetSource (now (c .before .before .before .before .before .before .before .before .before .before .args .sheet))) is) (sheetSource (now (c .before .before .before .before .before .before .before .before .before .before .args .sheet)) .needs) (c .before .before .before .before .before .before .loop .q) (c .before .before .before .need-id .result) (omega (arith, c .before .before .before .before .before .loop-test .taken, c .before .before .before .before .before .before .before .before .before .before .pre .0 .count)) (c .before .before .before .need-id .ensures .0 (now (c .before .before .before .before .before .before .before .before .before .before .args .sheet)) (c .before .before .before .before .before .before .before .before .before .before .args .n) is (c .before .before .before .before .before .before .before .before .before .before .pre .0 .table) (omega (arith, c .before .before .before .before .before .loop-test .taken, c .before .before .before .before .before .before .before .before .before .before .pre .0 .count)) (c .before .before .before .before .before .before .before .before .before .before .pre .0 .framed)) (c .before .before .before .before .before .before .loop .inv .2 is) (c .before .before .put-use .ensures))
 
--- src/used.rt:22:1
 same-length : tie.Need-same-length Inv-loop μ-loop
 same-length c = search needs
 
--- src/used.rt:22:1
 returns : tie.Need-returns Inv-loop μ-loop
 returns c = λ is. uses-end (idOf (sheetSource (now (c .before .before .before .before .before .args .sheet))) is) (sheetSource (now (c .before .before .before .before .before .args .sheet)) .needs) (c .before .loop .q) (omega (arith, c .loop-test .left, c .before .before .before .before .before .pre .0 .count)) (c .before .loop .inv .2 is)
 
