@@ -71,11 +71,11 @@ pub fn entry_size(sheet: &[u8], work: &[u8], n: usize, m: usize, i: usize) -> u3
     ensures { λ x. ⌜ (x ≡ recordedAt (now (sheet .entry)) (now (work .entry)) i .shape .size) × (x ≤ 131080) ⌝ }
 {
     let r = line_of(work, i);
-    let c = case_of(work, i);
-    if c == 0 {
+    let case = case_of(work, i);
+    if case == 0 {
         return shapes::record_size(sheet, work, n, r);
     }
-    shapes::variant_size(sheet, work, n, r, c - 1)
+    shapes::variant_size(sheet, work, n, r, case - 1)
 }
 
 // Makes its pointer map, for a block of this size.
