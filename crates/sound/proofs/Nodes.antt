@@ -101,14 +101,14 @@ all-keep =
     let pick : RowKeeps (rowAt 27) = λ n f fs g ks h. decl-node ((f, fields-plain fs g, cases-plain ks h), tt) tt tt tt in
     let con : RowKeeps (rowAt 28) = λ n f l g c h e k. decl-node tt ((f, k .ex), tt) tt tt in
     let var : RowKeeps (rowAt 29) = λ t f e g ns h. decl-node tt tt ((names-plain ns h, init-limited e g), tt) tt in
-    let mod′ : RowKeeps (rowAt 30) = λ n h. decl-node tt tt tt (h, tt) in
+    let opening : RowKeeps (rowAt 30) = λ n h. decl-node tt tt tt (h, tt) in
     let impl : RowKeeps (rowAt 32) = λ n h. no-decl in
     let frame : RowKeeps (rowAt 33) = λ s g os h. no-decl in
     let need : RowKeeps (rowAt 34) = λ k h. no-decl in
     let block : RowKeeps (rowAt 40) = λ s g os h. no-decl in
     no-ex also no-ex also no-ex also no-ex also no-ex also no-ex also array also tuple also
     int also real also string also id also qual also un also bin also cast also len also alloc also lit also ex-node tt also
-    plain also star also at also se also fd also pc also adt also pick also con also var also mod′ also no-decl also impl also frame also
+    plain also star also at also se also fd also pc also adt also pick also con also var also opening also no-decl also impl also frame also
     need also no-decl also no-decl also no-decl also no-decl also no-decl also block also no-decl also done
 
 -- ---- the lines of a sheet
