@@ -2,3 +2,5 @@ pub mod Limits
 pub mod Fields
 pub mod Nodes
 pub mod Folds
+pub mod Constants
+pub mod Arrays
