@@ -4,3 +4,4 @@ pub mod Nodes
 pub mod Folds
 pub mod Constants
 pub mod Arrays
+pub mod Facts
