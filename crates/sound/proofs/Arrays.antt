@@ -7,19 +7,17 @@ use mathlib.Core.Option.{Option, none, some}
 use lib.IntN.{ℤ, pos, negsuc}
 use lib.Dec.{leb, ltb}
 use Rattle.semantics.specs.Text.{Bytes, any}
-use Rattle.semantics.specs.Tree.{Ty, Ex, ArrayEx, MaybeEx, El, Els, ConstVal, ElemKind, VarDecl, elemOf}
+use Rattle.semantics.specs.Tree.{Ty, Ex, ArrayEx, El, Els, ConstVal, ElemKind, VarDecl, elemOf}
 use Rattle.semantics.specs.Tree.ConstVal.{vInt, vReal, vStr}
 use Rattle.semantics.specs.Tree.Ex.{constant, ident, modQual, unary, binary, cast, len, arrayEx, otherEx}
 use Rattle.semantics.specs.Tree.ArrayEx.{alloc, lit}
-use Rattle.semantics.specs.Tree.MaybeEx.{absent, given}
 use Rattle.semantics.specs.Tree.El.{next, star, at}
 use Rattle.semantics.specs.Tree.Els.{noEls, andEl}
 use Rattle.semantics.specs.Sheet.{Located, Source, concatMap}
-use Rattle.semantics.specs.Fold.{Result, Const, Names, bind, foldAt0}
+use Rattle.semantics.specs.Fold.{Result, Names, bind, foldAt0}
 use Rattle.semantics.specs.Fold.Result.{ok, failed, refuse}
-use Rattle.semantics.specs.Array.{ConstArray, Placement, Filled, allocated, placeSpan, placeIndices, placeNext, placeSpans, setWildcard, spansOf, fillElement, fill, noneFilled, valueAt, valuesFrom, filler, literalSize, outside, built, measured, literal, arrayOf, constArray, longestAlloc, longestLiteral}
-use Rattle.semantics.specs.Global.{Init, Declared, arrayValue, firstValue, initOf, laidVars, laidNames, orNoInit, declaredBy, declaredIn}
-use Rattle.semantics.specs.Global.Init.{noInit, constInit, arrayInit, pendingInit}
+use Rattle.semantics.specs.Array.{ConstArray, Placement, Filled, allocated, placeSpan, placeIndices, placeNext, placeSpans, setWildcard, spansOf, fillElement, fill, noneFilled, valueAt, valuesFrom, filler, literalSize, outside, built, measured, arrayOf, constArray, longestAlloc, longestLiteral}
+use Rattle.semantics.specs.Global.{Init, Declared, firstValue, initOf, laidVars, laidNames, orNoInit, declaredBy, declaredIn}
 use Rattle.stored.proofs.Items.{Each, each-join}
 use Rattle.stored.proofs.Others.{each-filter}
 use Rattle.stored.proofs.Ranges.{Sound, SoundFirst}

@@ -1,7 +1,6 @@
 -- The constants of a source with few constants, whose literals are within the limits, have values within the limits.
 use Prim.Native.Nat.{ℕ, suc, _+_, _≤_}
 use native.Mathlib.Omega.{arith}
-use mathlib.Core.Path.{refl}
 use mathlib.Core.Bool.{Bool, true, false, cond}
 use mathlib.Core.List.{List, [], _∷_, _++_, map}
 use mathlib.Core.Option.{Option, none, some}
@@ -11,7 +10,7 @@ use borrow.Author.Tests.{le-leb}
 use Rattle.semantics.specs.Text.{Bytes, filter, isNone}
 use Rattle.semantics.specs.Tree.{ConstVal, ConstDecl}
 use Rattle.semantics.specs.Sheet.{Module, Located, Source}
-use Rattle.semantics.specs.Fold.{Result, Const, Names, plain, qualified, fold}
+use Rattle.semantics.specs.Fold.{Result, Const, plain, qualified, fold}
 use Rattle.semantics.specs.Fold.Result.{ok, failed, refuse}
 use Rattle.semantics.specs.Const.{IotaCounter, newCounter, sameGroup, iotaAt, iotaNext, Folding, implements, entries, entered, pass, standsIn, modulePasses, topLevel, passesOf, passesFrom, constants}
 use Rattle.stored.proofs.Items.{Each, each-join, Fits64}

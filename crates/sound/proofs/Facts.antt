@@ -3,12 +3,12 @@ use Prim.Native.Nat.{ℕ, suc, _+_, _≤_}
 use native.Mathlib.Omega.{arith}
 use mathlib.Core.Path.{_≡_, refl, sym, ap, _∙_}
 use mathlib.Core.Bool.{Bool, true, false, cond}
-use mathlib.Core.List.{List, [], _∷_, _++_, map}
-use mathlib.Core.Option.{Option, none, some}
+use mathlib.Core.List.{List, [], _∷_, map}
+use mathlib.Core.Option.{Option, none}
 use lib.ListN.{length, length-append}
 use Rattle.semantics.specs.Text.{Bytes}
 use Rattle.semantics.specs.Tree.{AdtDecl, ConstDecl, VarDecl, Declares, Node}
-use Rattle.semantics.specs.Sheet.{Module, Located, opened, openAfter, locatedFrom, located, declared, sheetSource}
+use Rattle.semantics.specs.Sheet.{Module, Located, opened, openAfter, locatedFrom, declared, sheetSource}
 use Rattle.semantics.specs.Const.{namesOf}
 use Rattle.semantics.specs.Global.{Declared, declaredIn}
 use Rattle.lines.specs.Lines.{nodesIn}

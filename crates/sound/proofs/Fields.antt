@@ -2,7 +2,7 @@
 use Prim.Native.Nat.{ℕ, zero, suc, _-_, _≤_}
 use native.Mathlib.Omega.{arith}
 use mathlib.Core.Path.{_≡_, refl}
-use mathlib.Core.Bool.{Bool, true, false, cond, _&&_}
+use mathlib.Core.Bool.{Bool, true, false, cond}
 use mathlib.Core.List.{List, [], _∷_, _++_}
 use mathlib.Core.Option.{Option, none, some}
 use lib.ListN.{length, drop, getD, length-drop}
@@ -10,9 +10,9 @@ use lib.Dec.{T, ltb, eqb}
 use lib.IntN.{ℤ, pos}
 use lib.Ieee.{binary64, fits}
 use lib.Ieee.Bits.{ofBits-fits}
-use Rattle.semantics.specs.Text.{Bytes, partsAt, fieldsOf, headPart, tailParts, cut, orElse, holdsOf, intOf, unhex, hexPair, hexValue, fromBigEndian, isName}
+use Rattle.semantics.specs.Text.{Bytes, partsAt, fieldsOf, headPart, tailParts, cut, orElse, holdsOf, intOf, unhex, hexPair, hexValue, fromBigEndian}
 use Rattle.semantics.specs.Tree.{Node, noNode}
-use Rattle.semantics.specs.Form.{Atom, Part, Value, Makes, holds, between, value, values, make, numberOf, nodeAt, perhapsAt, isCount, fits as fields-fit, fieldsFrom, ones}
+use Rattle.semantics.specs.Form.{Atom, Part, Value, Makes, holds, between, value, values, make, numberOf, perhapsAt, isCount, fits as fields-fit, fieldsFrom, ones}
 use Rattle.semantics.specs.Form.Atom.{name, key, ref, maybe, unaryOp, binaryOp, lineOrCol, size, i64, offset, real, text}
 use Rattle.semantics.specs.Form.Part.{one, many}
 use Rattle.form.proofs.Table.{never, both}
@@ -98,7 +98,7 @@ Keeps [] m = LimitedNode m
 Keeps (one a ∷ ps) m = (v : Value a) → LimitedField a v → Keeps ps (m v)
 Keeps (many a ∷ ps) m = (vs : List (Value a)) → Each (LimitedField a) vs → Keeps ps (m vs)
 
-pub no-node : LimitedNode noNode
+no-node : LimitedNode noNode
 no-node = record { ex = tt; el = tt; fd = tt; tags = tt; fields = tt; adts = tt; consts = tt; vars = tt; opens = tt }
 
 node-limited : (ns : List Node) (j : ℕ) → Each LimitedNode ns → LimitedNode (getD ns j noNode)

@@ -2,9 +2,8 @@
 use Prim.Native.Nat.{ℕ, zero, suc, _+_, _-_, _*_, _%_, _^_, _≤_, _<_}
 use native.Mathlib.Omega.{arith}
 use native.Mathlib.Numerals.{add-one}
-use mathlib.Core.Path.{_≡_, refl, sym}
-use mathlib.Core.Bool.{Bool, true, false, cond}
-use mathlib.Core.Bool.{not as notb}
+use mathlib.Core.Path.{_≡_, refl}
+use mathlib.Core.Bool.{Bool, true, false, cond, not as notb}
 use mathlib.Core.List.{List, [], _∷_, _++_}
 use mathlib.Core.Option.{Option, none, some}
 use lib.ListN.{length}
@@ -16,11 +15,9 @@ use lib.Ieee as F
 use lib.Ieee.{Float, binary64}
 use lib.Ieee.Casts.{toSigned-in}
 use lib.Ieee.Fits.{add-fits, sub-fits, mul-fits, div-fits, neg-fits, ofInt-fits}
-use mir.Syntax.{w64}
-use mir.Val.{SFits}
 use borrow.Author.Tests.{le-leb, lt-ltb, leb-true, ltb-true, ltb-false}
 use Rattle.semantics.specs.Text.{Bytes, bytes, same, characters, inRange}
-use Rattle.semantics.specs.Tree.{Basic, Ty, Ex, ConstVal, UnaryOp, Arith, IntOp, BinOp, basicOf}
+use Rattle.semantics.specs.Tree.{Basic, Ex, ConstVal, UnaryOp, Arith, IntOp, BinOp, basicOf}
 use Rattle.semantics.specs.Tree.Basic.{int, byte, big, real, string}
 use Rattle.semantics.specs.Tree.ConstVal.{vInt, vReal, vStr}
 use Rattle.semantics.specs.Tree.Ex.{constant, ident, modQual, unary, binary, cast, len, arrayEx, otherEx}

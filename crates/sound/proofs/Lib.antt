@@ -5,3 +5,4 @@ pub mod Folds
 pub mod Constants
 pub mod Arrays
 pub mod Facts
+pub mod Replay

@@ -1,5 +1,5 @@
 -- What every node of a checked sheet keeps to: its names hold no separators, and its literals have 64 bits or at most 256 bytes.
-use Prim.Native.Nat.{ℕ, _≤_}
+use Prim.Native.Nat.{_≤_}
 use mathlib.Core.Path.{_≡_}
 use mathlib.Core.Bool.{true}
 use mathlib.Core.Option.{Option, none, some}
