@@ -1,11 +1,11 @@
--- What holds of the declarations of a checked sheet, and the replay of its listing.
-use Prim.Native.Nat.{ℕ, suc, _+_, _≤_}
+-- What holds of the declarations of a checked sheet: plain names, few frames and needs, first values of 64 bits.
+use Prim.Native.Nat.{ℕ, suc, _≤_}
 use native.Mathlib.Omega.{arith}
-use mathlib.Core.Path.{_≡_, refl, sym, ap, _∙_}
+use mathlib.Core.Path.{_≡_, refl}
 use mathlib.Core.Bool.{Bool, true, false, cond}
 use mathlib.Core.List.{List, [], _∷_, map}
 use mathlib.Core.Option.{Option, none}
-use lib.ListN.{length, length-append}
+use lib.ListN.{length, length-append, length-map}
 use Rattle.semantics.specs.Text.{Bytes}
 use Rattle.semantics.specs.Tree.{AdtDecl, ConstDecl, VarDecl, Declares, Node}
 use Rattle.semantics.specs.Sheet.{Module, Located, opened, openAfter, locatedFrom, declared, sheetSource}
@@ -43,12 +43,8 @@ module _ {A : Type 0} (f : Declares → List A) where
   located-length : (k : ℕ) (o : Option Module) (ns : List Node) → length (locatedFrom f k o ns) ≡ length (declared f ns)
   located-length k o [] = refl
   located-length k o (n ∷ ns) =
-      length-append (map (at k o) (f (n .declares))) (locatedFrom f (suc k) (openAfter k (n .declares) o) ns)
-      ∙ (λ j. map-length (f (n .declares)) j + located-length (suc k) (openAfter k (n .declares) o) ns j) ∙ sym (length-append (f (n .declares)) (declared f ns))
-    where
-      map-length : (xs : List A) → length (map (at k o) xs) ≡ length xs
-      map-length [] = refl
-      map-length (x ∷ xs) = ap suc (map-length xs)
+      let rest = openAfter k (n .declares) o in
+      omega (arith, length-append (map (at k o) (f (n .declares))) (locatedFrom f (suc k) rest ns), length-map (f (n .declares)) (at k o), located-length (suc k) rest ns, length-append (f (n .declares)) (declared f ns))
 
   module _ (P : A → Type 0) where
     abbrev LocatedAs : Located A → Type 0

@@ -1,1 +1,1 @@
-// What holds of the declarations of every checked sheet: plain names, few frames and needs, first values of 64 bits. Laws alone.
+// What holds of the declarations of every checked sheet, and with it the replay of its listing: laws alone.
