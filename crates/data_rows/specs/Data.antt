@@ -1,14 +1,16 @@
 -- The data items of a sheet, their rows, and the keys of array elements.
 use Prim.Native.Nat.{ℕ, _≤_, _<_}
 use mathlib.Core.Path.{_≡_}
-use mathlib.Core.List.{List, _++_}
+use mathlib.Core.List.{List, [], _∷_, _++_}
 use lib.ListN.{length, getD}
 use Rattle.semantics.specs.Text.{Bytes}
-use Rattle.semantics.specs.Tree.{Ty, VarDecl, TypeKey}
-use Rattle.semantics.specs.Sheet.{Located, concatMap, sheetSource}
+use Rattle.semantics.specs.Tree.{Ty, VarDecl, ElemKind, TypeKey}
+use Rattle.semantics.specs.Tree.TypeKey.{elemKey}
+use Rattle.semantics.specs.Sheet.{Located, Source, concatMap, sheetSource}
 use Rattle.semantics.specs.Fold.{Result, Names}
 use Rattle.semantics.specs.Global.{Item, Init, Global, orNoInit, initItems, laidNames, globals}
-use Rattle.semantics.specs.Types.{arrayKey, idOf}
+use Rattle.semantics.specs.Array.{kindNumber}
+use Rattle.semantics.specs.Types.{arrayKey, distinct, keys, idOf}
 use Rattle.semantics.specs.Listing.{itemRow}
 use Rattle.write.specs.Wrote.{Wrote}
 use Rattle.checks.specs.Checks.{Checked, Kept}
@@ -23,6 +25,7 @@ use Rattle.vars.specs.declared.First.{First}
 use Rattle.vars.specs.First.{Stands}
 use Rattle.data_rows.specs.declared.Next.{Next}
 use Rattle.data_rows.specs.declared.Counts.{Counts}
+use Rattle.data_rows.specs.declared.Numbered.{Numbered}
 
 -- ---- a sheet s whose first m constants stand in the working space t
 
@@ -48,6 +51,11 @@ pub record Ready (s t : Bytes) (n m g frames keys : ℕ) : Type 0 where
   pub few : frames ≤ 128
 
 -- ---- items one after the other
+
+-- the key of a kind of elements has the number r .id, and r .keys keys have one, where t has become u
+abbrev pub Numbers : Bytes → Bytes → ℕ → ℕ → ℕ → Numbered → Type 0
+Numbers t u frames kind count r = (k : ElemKind) (ks : List TypeKey) → kind ≡ kindNumber k → Kinds t ks count
+    → Kinds u (ks ++ (elemKey k ∷ [])) (r .keys) × ((s : Source) (is : List Item) (ms : List TypeKey) → frames ≡ length (s .frames) → keys s is ≡ distinct [] ((ks ++ (elemKey k ∷ [])) ++ ms) → idOf s is (elemKey k) ≡ r .id)
 
 -- the items xs were printed, from p to q, and their keys have numbers, whatever items stand before them and behind
 pub record Listed (s : Bytes) (xs : List Item) (p q : Next) (t u d e : Bytes) : Type 0 where

@@ -2,18 +2,14 @@
 use values::ConstVal;
 use vars::First;
 ghost use mathlib.Core.Path.{_≡_};
-ghost use mathlib.Core.List.{List, [], _∷_, _++_};
-ghost use Prim.Native.Nat.{_≤_, _<_};
+ghost use mathlib.Core.List.{[], _∷_};
+ghost use Prim.Native.Nat.{_<_};
 ghost use lib.ListN.{length};
 ghost use Rattle.semantics.specs.Text.{Bytes};
-ghost use Rattle.semantics.specs.Tree.{ElemKind, TypeKey};
 ghost use Rattle.semantics.specs.Tree.ElemKind.{kBig};
-ghost use Rattle.semantics.specs.Tree.TypeKey.{elemKey};
-ghost use Rattle.semantics.specs.Sheet.{Source, sheetSource};
+ghost use Rattle.semantics.specs.Sheet.{sheetSource};
 ghost use Rattle.semantics.specs.Array.{kindNumber, isOfKind};
-ghost use Rattle.semantics.specs.Global.{Item, valueItem, arrayItems};
-ghost use Rattle.semantics.specs.Types as Types;
-ghost use Rattle.semantics.specs.Types.{distinct, idOf};
+ghost use Rattle.semantics.specs.Global.{valueItem, arrayItems};
 ghost use Rattle.write.specs.Wrote.{Wrote};
 ghost use Rattle.checks.specs.Checks.{Kept};
 ghost use Rattle.implement.specs.Modules.{Open};
@@ -26,7 +22,7 @@ ghost use Rattle.globals.specs.Vars.{varItems};
 ghost use Rattle.type_keys.specs.Table.{Kinds, Outside};
 ghost use Rattle.vars.specs.First.{initIn, varOn};
 ghost use Rattle.vars.specs.Pends.{laidAt};
-ghost use Rattle.data_rows.specs.Data.{itemsIn, keysOf, rowsOf, Ready, Keeping, Listed, Keyed, Held, Filled, NameTask, firstItems, nameItems, lineItems};
+ghost use Rattle.data_rows.specs.Data.{itemsIn, keysOf, rowsOf, Ready, Numbers, Keeping, Listed, Keyed, Held, Filled, NameTask, firstItems, nameItems, lineItems};
 
 // The form of `var` lines.
 const VAR: usize = 29;
@@ -88,7 +84,7 @@ fn no_rows(out: &mut [u8], p: Next) -> Next
 // The number of the key of a kind of elements, which gets one where it has none.
 fn number_elements(work: &mut [u8], frames: usize, kind: u8, keys: usize) -> Numbered
     requires { ⌜ (kind < 5) × (Keyed (now work) frames keys) ⌝ }
-    ensures { λ r. ⌜ ((k : ElemKind) (ks : List TypeKey) → kind ≡ kindNumber k → Kinds (now (work .entry)) ks keys → (Kinds (now (work .exit)) (ks ++ (elemKey k ∷ [])) (r .keys)) × ((s : Source) (is : List Item) (ms : List TypeKey) → frames ≡ length (s .frames) → Types.keys s is ≡ distinct [] ((ks ++ (elemKey k ∷ [])) ++ ms) → idOf s is (elemKey k) ≡ r .id)) × (Outside 10624 10629 (now (work .entry)) (now (work .exit))) ⌝ }
+    ensures { λ r. ⌜ (Numbers (now (work .entry)) (now (work .exit)) frames kind keys r) × (Outside 10624 10629 (now (work .entry)) (now (work .exit))) ⌝ }
 {
     let k = kind as usize;
     let count = type_keys::number_kind(work, k, keys);
