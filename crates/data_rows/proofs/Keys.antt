@@ -25,12 +25,13 @@ use Rattle.data_rows.specs.Data.{keysOf, Numbers}
 
 -- ---- kinds
 
-pub kind-own : (k : ℕ) → k < 4 → k ≡ kindNumber (kindAt k)
+pub kind-own : (k : ℕ) → k < 5 → k ≡ kindNumber (kindAt k)
 kind-own zero h = refl
 kind-own (suc zero) h = refl
 kind-own (suc (suc zero)) h = refl
 kind-own (suc (suc (suc zero))) h = refl
-kind-own (suc (suc (suc (suc k)))) h = absurd (omega arith)
+kind-own (suc (suc (suc (suc zero)))) h = refl
+kind-own (suc (suc (suc (suc (suc k))))) h = absurd (omega arith)
 
 pub kind-pointer : (k : ℕ) → 4 ≤ k → 4 ≡ kindNumber (kindAt k)
 kind-pointer zero h = absurd (omega arith)
@@ -39,6 +40,10 @@ kind-pointer (suc (suc zero)) h = absurd (omega arith)
 kind-pointer (suc (suc (suc zero))) h = absurd (omega arith)
 kind-pointer (suc (suc (suc (suc zero)))) h = refl
 kind-pointer (suc (suc (suc (suc (suc k))))) h = refl
+
+-- an array of a kind
+abbrev pub arrayBy : ℕ → ℕ → List ConstVal → ConstArray
+arrayBy k n vs = record { kind = kindAt k; count = n; values = vs }
 
 -- ---- how many keys there are
 

@@ -1,3 +1,8 @@
+use native.Mathlib.Omega.{arith}
+use Rattle.data_rows.proofs.Listed.{listed-array}
+use Rattle.data_rows.proofs.Keys.{arrayBy}
+use mathlib.Core.List.{[]}
+use mathlib.Core.Path.{refl}
 use borrow.Author.Needs.{needs}
 use Rattle.data_rows.proofs.alloc_rows.Statement.{statement}
 use Rattle.data_rows.proofs.alloc_rows.Tie as tie
@@ -29,7 +34,7 @@ same-length-2 c = search needs
 
 -- src/lib.rt:125:1
 returns : tie.Need-returns
-returns c = ?
+returns c = (λ s hf. listed-array (c .before .before .before .before .before .before .before .before .before .before .before .args .off) (arrayBy (c .before .before .before .before .before .before .before .before .before .before .before .args .kind) (c .before .before .before .before .before .before .before .before .before .before .before .args .count) []) (c .before .before .before .before .before .before .number-elements .ensures .0) (c .before .before .before .before .before .before .before .kind-number .ensures .0) hf refl (λ f h. c .before .before .alloc-item .ensures f (arrayBy (c .before .before .before .before .before .before .before .before .before .before .before .args .kind) (c .before .before .before .before .before .before .before .before .before .before .before .args .count) []) h refl refl), c .before .before .before .before .before .before .number-elements .ensures .1)
 
 pub alloc-rows-spec : {M : Type 1} → statement M
 alloc-rows-spec =

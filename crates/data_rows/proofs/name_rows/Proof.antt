@@ -1,3 +1,10 @@
+use native.Mathlib.Omega.{arith}
+use Rattle.data_rows.proofs.Names.{name-nil, name-items}
+use Rattle.data_rows.proofs.Listed.{listed-as, listed-none}
+use Rattle.type_keys.proofs.Table.{outside-all}
+use Rattle.vars.specs.First.{initIn}
+use Rattle.globals.specs.Table.{typeOn, placesIn}
+use denote.Ref.{now}
 use borrow.Author.Needs.{needs}
 use Rattle.data_rows.proofs.name_rows.Statement.{statement}
 use Rattle.data_rows.proofs.name_rows.Tie as tie
@@ -43,7 +50,7 @@ same-length-2 c = search needs
 
 -- src/lib.rt:207:9
 returns : tie.Need-returns
-returns c = ?
+returns c = (listed-as (name-nil (typeOn (now (c .before .before .before .before .before .before .before .before .before .before .before .before .args .sheet)) (c .before .before .before .before .before .before .before .before .before .before .before .before .args .r)) (placesIn (now (c .before .before .before .before .before .before .before .before .before .before .before .before .args .sheet)) (now (c .before .before .before .before .before .before .before .before .before .before .before .before .args .work)) (c .before .before .before .before .before .before .before .before .before .before .before .before .args .c .globals)) (initIn (now (c .before .before .before .before .before .before .before .before .before .before .before .before .args .work)) (c .before .before .before .before .before .before .before .before .before .before .before .before .args .x)) (c .before .before .before .before .before .before .before .field-at .ensures) (c .before .before .before .before .before .same .ensures) (c .before .before .before .before .if1 .taken)) (listed-none (c .before .before .no-rows .ensures .0) (c .before .before .no-rows .ensures .1)), outside-all)
 
 -- src/lib.rt:209:9
 offset-in-requires : tie.Need-offset-in-requires
@@ -63,7 +70,7 @@ same-length-4 c = search needs
 
 -- src/lib.rt:192:1
 returns-2 : tie.Need-returns-2
-returns-2 c = ?
+returns-2 c = (listed-as (name-items (typeOn (now (c .before .before .before .before .before .before .before .before .before .before .before .before .before .before .before .before .before .args .sheet)) (c .before .before .before .before .before .before .before .before .before .before .before .before .before .before .before .before .before .args .r)) (placesIn (now (c .before .before .before .before .before .before .before .before .before .before .before .before .before .before .before .before .before .args .sheet)) (now (c .before .before .before .before .before .before .before .before .before .before .before .before .before .before .before .before .before .args .work)) (c .before .before .before .before .before .before .before .before .before .before .before .before .before .before .before .before .before .args .c .globals)) (initIn (now (c .before .before .before .before .before .before .before .before .before .before .before .before .before .before .before .before .before .args .work)) (c .before .before .before .before .before .before .before .before .before .before .before .before .before .before .before .before .before .args .x)) (c .before .before .before .before .before .before .before .before .before .before .before .before .field-at .ensures) (c .before .before .before .before .before .before .before .before .before .before .same .ensures) (c .before .before .before .before .before .before .before .before .before .if1 .left) (c .before .before .before .before .before .before .before .offset-in .ensures .0)) (c .before .before .before .before .first-rows .ensures .0), c .before .before .before .before .first-rows .ensures .1)
 
 pub name-rows-spec : {M : Type 1} → statement M
 name-rows-spec =
