@@ -81,7 +81,7 @@ pub record Walking (s t : Bytes) (c : Counts) (p : Next) (d u e : Bytes) (q : Ne
   pub long : length e ≡ length d
   pub listed : Listed s (lineItems (namesIn s t (c .consts)) (placesIn s t (c .globals)) (laidVarsTo s i)) p q t u d e
 
-abbrev counted : ℕ → ℕ → ℕ → ℕ → Counts
+abbrev pub counted : ℕ → ℕ → ℕ → ℕ → Counts
 counted n m g frames = record { lines = n; consts = m; globals = g; frames = frames }
 
 module _ {s t : Bytes} {n m g frames keys : ℕ} (r : Ready s t n m g frames keys) where
