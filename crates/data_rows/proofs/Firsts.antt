@@ -1,6 +1,6 @@
 -- The rows of a first value, by what it is.
 use mathlib.Core.Path.{_≡_, subst}
-use mathlib.Core.List.{List, [], _∷_}
+use mathlib.Core.List.{[], _∷_}
 use Prim.Native.Nat.{ℕ, _≤_}
 use lib.Dec.{eqb}
 use lib.ListN.{length}

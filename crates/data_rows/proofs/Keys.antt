@@ -1,27 +1,25 @@
 -- Kinds of elements, and the keys that items use.
 use mathlib.Core.Path.{_≡_, refl, sym, ap, _∙_}
 use mathlib.Core.Bool.{Bool, true, false, cond}
-use mathlib.Core.List.{List, [], _∷_, _++_, append-assoc, append-nil}
+use mathlib.Core.List.{List, [], _∷_, _++_, append-assoc}
 use Prim.Native.Nat.{ℕ, zero, suc, _+_, _≤_, _<_}
 use native.Mathlib.Omega.{arith}
 use lib.Dec.{eqb}
-use lib.ListN.{length}
 use Rattle.semantics.specs.Text.{Bytes}
 use Rattle.semantics.specs.Tree.{Ty, ConstVal, ElemKind, TypeKey}
 use Rattle.semantics.specs.Tree.ConstVal.{vInt, vReal, vStr}
 use Rattle.semantics.specs.Tree.ElemKind.{kByte, kWord, kBig, kReal, kPtr}
 use Rattle.semantics.specs.Tree.TypeKey.{elemKey}
-use Rattle.semantics.specs.Sheet.{Source, concatMap, sheetSource}
+use Rattle.semantics.specs.Sheet.{concatMap, sheetSource}
 use Rattle.semantics.specs.Array.{ConstArray, kindNumber}
 use Rattle.semantics.specs.Global.{Item, strItems, elementItems, contents, arrayItems, valueItem}
 use Rattle.semantics.specs.Global.Item.{backItem}
-use Rattle.semantics.specs.Types.{arrayKey, distinct, position, keys, idOf}
+use Rattle.semantics.specs.Types.{arrayKey, distinct, position, keys}
 use Rattle.globals.proofs.Vars.{concat-append}
 use Rattle.arrays.specs.Arrays.{kindAt}
 use Rattle.type_keys.specs.Table.{kindOf, isUsed, kindsUsed, Kinds}
 use Rattle.type_keys.proofs.Distinct.{same-self, distinct-more, placed-more}
-use Rattle.data_rows.specs.declared.Numbered.{Numbered}
-use Rattle.data_rows.specs.Data.{keysOf, Numbers}
+use Rattle.data_rows.specs.Data.{keysOf}
 
 -- ---- kinds
 

@@ -6,20 +6,20 @@ use native.Mathlib.Numerals.{add-one}
 use native.Mathlib.Omega.{arith}
 use lib.ListN.{length}
 use Rattle.semantics.specs.Text.{Bytes}
-use Rattle.semantics.specs.Tree.{VarDecl, TypeKey}
+use Rattle.semantics.specs.Tree.{VarDecl}
 use Rattle.semantics.specs.Sheet.{Located, concatMap, sheetSource}
 use Rattle.semantics.specs.Fold.{Result, Names}
 use Rattle.semantics.specs.Global.{Item, Init, Global, initOf, globals}
-use Rattle.semantics.specs.Types.{arrayKey, idOf}
+use Rattle.semantics.specs.Types.{idOf}
 use Rattle.semantics.specs.Listing.{itemRow}
 use Rattle.write.specs.Wrote.{Wrote}
-use Rattle.write.proofs.Wrote.{wrote-none, wrote-length, wrote-as}
+use Rattle.write.proofs.Wrote.{wrote-none, wrote-length}
 use Rattle.checks.specs.Checks.{Kept}
 use Rattle.source.specs.Walk.{openAt}
 use Rattle.implement.specs.Modules.{moduleAt, Open}
 use Rattle.names.specs.Table.{logIn}
 use Rattle.literals.specs.Literals.{namesIn, Line}
-use Rattle.literals.proofs.Names.{kept-low}
+use Rattle.literals.proofs.Names.{kept-low, line-kept}
 use Rattle.globals.specs.Table.{placesIn, typeOn, namesOn}
 use Rattle.globals.specs.Vars.{laidVarsTo, varItems}
 use Rattle.globals.proofs.Vars.{concat-append}
@@ -30,7 +30,6 @@ use Rattle.vars.specs.First.{initIn, Inits, varOn}
 use Rattle.vars.specs.Pends.{locatedAt, laidAt, LineTask}
 use Rattle.vars.proofs.Lines.{var-line}
 use Rattle.vars.proofs.Items.{items-all}
-use Rattle.literals.proofs.Names.{line-kept}
 use Rattle.data_rows.specs.declared.Next.{Next}
 use Rattle.data_rows.specs.declared.Counts.{Counts}
 use Rattle.data_rows.specs.Data.{itemsIn, keysOf, rowsOf, Ready, Keeping, Listed, Held, NameTask, nameItems, lineItems}
@@ -51,8 +50,8 @@ module _ {s t u : Bytes} {c : Counts} {r : ℕ} {x : First} {keys : ℕ} (h : He
         → Listed s (varItems (namesIn s t (c .consts)) (placesIn s t (c .globals)) (varOn s r)) p q t v d e × Keeping t v
     line-items b =
         let i : nameItems (typeOn s r) (placesIn s u (c .globals)) (initIn u x) (namesOn s r) ≡ varItems (namesIn s t (c .consts)) (placesIn s t (c .globals)) (varOn s r) =
-            ap (λ (ps : List Global). nameItems (typeOn s r) ps (initIn u x) (namesOn s r)) (places-still (keeping-first (a .keeps)) s (h .places))
-            ∙ ap (λ (y : Result Init). nameItems (typeOn s r) (placesIn s t (c .globals)) y (namesOn s r)) (a .result) in
+        ap (λ (ps : List Global). nameItems (typeOn s r) ps (initIn u x) (namesOn s r)) (places-still (keeping-first (a .keeps)) s (h .places))
+        ∙ ap (λ (y : Result Init). nameItems (typeOn s r) (placesIn s t (c .globals)) y (namesOn s r)) (a .result) in
         let w = listed-as i (b .0) in
         let k = kept-low (a .keeps) 10629 (omega arith) in
         (record { rows = λ bs cs y. w .rows bs cs (kinds-still k y); kinds = λ bs y. w .kinds bs (kinds-still k y) }, keeping-then (keeping-first (a .keeps)) (keeping-outside (b .1)))
@@ -130,7 +129,7 @@ module _ {s t : Bytes} {n m g frames keys : ℕ} (r : Ready s t n m g frames key
         let is = itemsIn s t m in
         let z : i ≡ n = omega (arith, w .here .within) in
         let y : lineItems ns (placesIn s t g) (laidVarsTo s i) ≡ is =
-            ap (λ (j : ℕ). lineItems ns (placesIn s t g) (laidVarsTo s j)) z ∙ ap (λ (ps : List Global). lineItems ns ps (laidVarsTo s n)) (r .laid ns) ∙ items-all ns s (r .checked) in
+        ap (λ (j : ℕ). lineItems ns (placesIn s t g) (laidVarsTo s j)) z ∙ ap (λ (ps : List Global). lineItems ns ps (laidVarsTo s n)) (r .laid ns) ∙ items-all ns s (r .checked) in
         let o : Next = record { at = at; keys = keys } in
         let a : Listed s is o q t u b e = listed-then [] is (listed-none {p = o} v k) (listed-as y (w .listed)) in
         let x = a .kinds [] needs-kinds in

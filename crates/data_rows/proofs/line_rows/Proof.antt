@@ -1,6 +1,5 @@
-use native.Mathlib.Omega.{arith}
-use Rattle.data_rows.proofs.Walk.{line-task, line-items}
 -- `data_rows::line_rows` meets its contract.
+use Rattle.data_rows.proofs.Walk.{line-task, line-items}
 use borrow.Author.Needs.{needs}
 use Rattle.data_rows.proofs.line_rows.Statement.{statement}
 use Rattle.data_rows.proofs.line_rows.Tie as tie

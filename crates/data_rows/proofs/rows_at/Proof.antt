@@ -1,11 +1,10 @@
-use native.Mathlib.Omega.{arith}
+-- `data_rows::rows_at` meets its contract.
 use Rattle.data_rows.proofs.Walk.{task-at, none-at, laid-at}
 use Rattle.vars.proofs.Laid.{laid-other, laid-line, laid-skipped, laid-here}
 use Rattle.globals.specs.Table.{placesIn}
 use Rattle.literals.specs.Literals.{namesIn}
 use borrow.Author.Tests.{not-true, not-false}
 use denote.Ref.{now}
--- `data_rows::rows_at` meets its contract.
 use borrow.Author.Needs.{needs}
 use Rattle.data_rows.proofs.rows_at.Statement.{statement}
 use Rattle.data_rows.proofs.rows_at.Tie as tie
