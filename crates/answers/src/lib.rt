@@ -61,7 +61,7 @@ pub fn line_of(r: Refusal) -> usize
 }
 
 // The refusal of this number at this line.
-pub fn by_number(number: u8, line: usize) -> Refusal
+pub fn refuse(number: u8, line: usize) -> Refusal
     requires { ⌜ Numbered number line ⌝ }
     ensures { λ r. ⌜ (numberOf r ≡ number) × (lineOf r ≡ line) ⌝ }
 {

@@ -45,42 +45,45 @@ pub record Known (s t : Bytes) (n : ℕ) (x : Tables) : Type 0 where
   pub folded : constants (sheetSource s) .refused ≡ none
   pub log : constants (sheetSource s) .log ≡ logIn s t (x .consts)
 
--- ---- answers of a checked sheet
+-- ---- answers
 
--- the listing of p bytes stands on L bytes, and the sheet's tables in the working space u; o is what the work gives
-pub record Lays (s : Bytes) (o : Outcome) (L p end : ℕ) (d u : Bytes) : Type 0 where
+-- o is what compiling gives: the listing of p bytes stands on L bytes, and the sheet's tables in the working space u of W bytes
+pub record Lays (s : Bytes) (o : Outcome) (L W p end : ℕ) (d u : Bytes) : Type 0 where
   pub outcome : o ≡ listed (sourceListing (sheetSource s))
-  pub place : p ≡ length (sourceListing (sheetSource s))
-  pub fits : p ≤ L
+  pub long : p ≡ length (sourceListing (sheetSource s))
+  pub room : p ≤ L
   pub bytes : d ≡ padded L (sourceListing (sheetSource s))
-  pub end-is : end ≡ sourceGlobals (sheetSource s) .end
+  pub ends : end ≡ sourceGlobals (sheetSource s) .end
+  pub work : 65536 ≤ W
   pub lines : ℕ
   pub checked : Checked s u lines
 
--- the refusal q at line k, whatever has been written
+-- refusal q at line k
 pub record Stops (o : Outcome) (q k : ℕ) : Type 0 where
   pub outcome : o ≡ refused q k
   pub numbered : Numbered q k
 
 -- and the L bytes of the listing are zero
-pub record Clears (o : Outcome) (L q k : ℕ) (d : Bytes) : Type 0 where
-  pub stops : Stops o q k
+pub record Refuses (o : Outcome) (L q k : ℕ) (d : Bytes) : Type 0 where
+  pub outcome : o ≡ refused q k
+  pub numbered : Numbered q k
   pub bytes : d ≡ zeros L
 
--- before zeros are made
-abbrev pub Tries : Bytes → ℕ → Listed → Bytes → Bytes → Type 0
-Tries s L (Written p end) d u = Lays s (worked L (sheetSource s)) L p end d u
-Tries s L (Refused q k) d u = Stops (worked L (sheetSource s)) q k
+-- the answer where o is the outcome, before the listing of a refused sheet is zeroed, and after
+abbrev pub Tries : Bytes → Outcome → ℕ → ℕ → Listed → Bytes → Bytes → Type 0
+Tries s o L W (Written p end) d u = Lays s o L W p end d u
+Tries s o L W (Refused q k) d u = Stops o q k
 
-abbrev pub Works : Bytes → ℕ → Listed → Bytes → Bytes → Type 0
-Works s L (Written p end) d u = Lays s (worked L (sheetSource s)) L p end d u
-Works s L (Refused q k) d u = Clears (worked L (sheetSource s)) L q k d
+abbrev pub Settles : Bytes → Outcome → ℕ → ℕ → Listed → Bytes → Bytes → Type 0
+Settles s o L W (Written p end) d u = Lays s o L W p end d u
+Settles s o L W (Refused q k) d u = Refuses o L q k d
 
--- ---- answers of any sheet, in a listing of L bytes and a working space of W bytes
+-- that of a checked sheet, and of any
+abbrev pub Works : Bytes → ℕ → ℕ → Listed → Bytes → Bytes → Type 0
+Works s L W r d u = Settles s (worked L (sheetSource s)) L W r d u
 
 abbrev pub Lists : Bytes → ℕ → ℕ → Listed → Bytes → Bytes → Type 0
-Lists s L W (Written p end) d u = Lays s (compiled L W s) L p end d u × (65536 ≤ W)
-Lists s L W (Refused q k) d u = Clears (compiled L W s) L q k d
+Lists s L W r d u = Settles s (compiled L W s) L W r d u
 
 abbrev pub answered : Answer → Bytes → Outcome
 answered (Answer.Listed n) d = listed (take n d)

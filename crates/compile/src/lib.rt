@@ -7,7 +7,8 @@ use vars::pends::Pends;
 ghost use mathlib.Core.Path.{_≡_};
 ghost use Prim.Native.Nat.{_≤_};
 ghost use lib.ListN.{length};
-ghost use Rattle.semantics.specs.Refusal.{zeros, padded, listingBytes, compiled};
+ghost use Rattle.semantics.specs.Sheet.{sheetSource};
+ghost use Rattle.semantics.specs.Refusal.{zeros, padded, listingBytes, worked, compiled};
 ghost use Rattle.write.specs.Wrote.{Wrote};
 ghost use Rattle.checks.specs.Checks.{Checked};
 ghost use Rattle.compile.specs.Compile.{Lists, Works, Tries, Known, declaredText, typesText, answered, lengthOf};
@@ -35,14 +36,7 @@ fn put_declared(sheet: &[u8], work: &mut [u8], n: usize, x: Tables, out: &mut [u
 }
 
 // Items, types and uses.
-fn put_types(
-    sheet: &[u8],
-    work: &mut [u8],
-    n: usize,
-    x: Tables,
-    out: &mut [u8],
-    at: usize,
-) -> usize
+fn put_types(sheet: &[u8], work: &mut [u8], n: usize, x: Tables, out: &mut [u8], at: usize) -> usize
     requires { ⌜ Known (now sheet) (now work) n x ⌝ }
     ensures { λ p. ⌜ (Wrote (now (out .entry)) at (typesText (now (sheet .entry))) (now (out .exit)) p) × (Checked (now (sheet .entry)) (now (work .exit)) n) ⌝ }
 {
@@ -55,7 +49,7 @@ fn put_types(
 // All rows, where the constants are not refused. A first value is refused before the listing outgrows its buffer.
 fn list_rows(sheet: &[u8], listing: &mut [u8], work: &mut [u8], n: usize, x: Tables) -> Listed
     requires { ⌜ (Known (now sheet) (now work) n x) × (now listing ≡ zeros (length (now listing))) ⌝ }
-    ensures { λ r. ⌜ Tries (now (sheet .entry)) (length (now (listing .entry))) r (now (listing .exit)) (now (work .exit)) ⌝ }
+    ensures { λ r. ⌜ Tries (now (sheet .entry)) (worked (length (now (listing .entry))) (sheetSource (now (sheet .entry)))) (length (now (listing .entry))) (length (now (work .entry))) r (now (listing .exit)) (now (work .exit)) ⌝ }
 {
     let p = put_declared(sheet, work, n, x, listing);
     match vars::pends::pend_rows(sheet, work, n, x.consts, listing, p) {
@@ -72,7 +66,7 @@ fn list_rows(sheet: &[u8], listing: &mut [u8], work: &mut [u8], n: usize, x: Tab
 
 fn list_sheet(sheet: &[u8], listing: &mut [u8], work: &mut [u8], n: usize) -> Listed
     requires { ⌜ (Checked (now sheet) (now work) n) × (now listing ≡ zeros (length (now listing))) ⌝ }
-    ensures { λ r. ⌜ Tries (now (sheet .entry)) (length (now (listing .entry))) r (now (listing .exit)) (now (work .exit)) ⌝ }
+    ensures { λ r. ⌜ Tries (now (sheet .entry)) (worked (length (now (listing .entry))) (sheetSource (now (sheet .entry)))) (length (now (listing .entry))) (length (now (work .entry))) r (now (listing .exit)) (now (work .exit)) ⌝ }
 {
     match tables::make_tables(sheet, work, n) {
         Made::Refused(k) => Listed::Refused(8, k),
@@ -83,7 +77,7 @@ fn list_sheet(sheet: &[u8], listing: &mut [u8], work: &mut [u8], n: usize) -> Li
 // The listing of a checked sheet, or zeros.
 fn list_checked(sheet: &[u8], listing: &mut [u8], work: &mut [u8], n: usize) -> Listed
     requires { ⌜ (Checked (now sheet) (now work) n) × (now listing ≡ zeros (length (now listing))) ⌝ }
-    ensures { λ r. ⌜ Works (now (sheet .entry)) (length (now (listing .entry))) r (now (listing .exit)) (now (work .exit)) ⌝ }
+    ensures { λ r. ⌜ Works (now (sheet .entry)) (length (now (listing .entry))) (length (now (work .entry))) r (now (listing .exit)) (now (work .exit)) ⌝ }
 {
     match list_sheet(sheet, listing, work, n) {
         Listed::Written(p, end) => Listed::Written(p, end),
@@ -113,6 +107,6 @@ pub fn compile(sheet: &[u8], listing: &mut [u8], work: &mut [u8]) -> Answer
     write::zero(work);
     match r {
         Listed::Written(p, _) => Answer::Listed(p),
-        Listed::Refused(q, k) => Answer::Refused(answers::by_number(q, k)),
+        Listed::Refused(q, k) => Answer::Refused(answers::refuse(q, k)),
     }
 }
