@@ -10,7 +10,7 @@ use Rattle.semantics.specs.Layout.{recordedAdts, records}
 use Rattle.semantics.specs.Const.{constants, namesOf}
 use Rattle.semantics.specs.Types.{idOf, descriptors}
 use Rattle.semantics.specs.Listing.{recordRows, constRows, globalRow, itemRow, typeRows, useRow}
-use Rattle.semantics.specs.Refusal.{Outcome, listed, refused, zeros, padded, worked, sourceGlobals, sourceListing, compiled}
+use Rattle.semantics.specs.Refusal.{Outcome, listed, refused, zeros, padded, listingBytes, worked, sourceGlobals, sourceListing, compiled}
 use Rattle.checks.specs.Checks.{Checked}
 use Rattle.names.specs.Table.{logIn}
 use Rattle.tables.specs.declared.Tables.{Tables}
@@ -92,3 +92,11 @@ answered (Answer.Refused r) d = refused (numberOf r) (lineOf r)
 abbrev pub lengthOf : Answer → ℕ
 lengthOf (Answer.Listed n) = n
 lengthOf (Answer.Refused r) = 0
+
+-- what the answer says, and what stands on the listing and in the working space
+abbrev pub Compiles : Bytes → ℕ → ℕ → Answer → Bytes → Bytes → Type 0
+Compiles s L W a d u =
+    (answered a d ≡ compiled L W s)
+    × (lengthOf a ≤ L)
+    × (d ≡ padded L (listingBytes (compiled L W s)))
+    × (u ≡ zeros W)

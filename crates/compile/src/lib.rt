@@ -5,13 +5,12 @@ use tables::Made;
 use tables::Tables;
 use vars::pends::Pends;
 ghost use mathlib.Core.Path.{_≡_};
-ghost use Prim.Native.Nat.{_≤_};
 ghost use lib.ListN.{length};
 ghost use Rattle.semantics.specs.Sheet.{sheetSource};
-ghost use Rattle.semantics.specs.Refusal.{zeros, padded, listingBytes, worked, compiled};
+ghost use Rattle.semantics.specs.Refusal.{zeros, worked};
 ghost use Rattle.write.specs.Wrote.{Wrote};
 ghost use Rattle.checks.specs.Checks.{Checked};
-ghost use Rattle.compile.specs.Compile.{Lists, Works, Tries, Known, declaredText, typesText, answered, lengthOf};
+ghost use Rattle.compile.specs.Compile.{Lists, Works, Tries, Known, Compiles, declaredText, typesText};
 
 // What stands before the working space is zeroed: the listing's length and the end of allocation, or a refusal's number and line.
 pub enum Listed {
@@ -41,8 +40,7 @@ fn put_types(sheet: &[u8], work: &mut [u8], n: usize, x: Tables, out: &mut [u8],
     ensures { λ p. ⌜ (Wrote (now (out .entry)) at (typesText (now (sheet .entry))) (now (out .exit)) p) × (Checked (now (sheet .entry)) (now (work .exit)) n) ⌝ }
 {
     let frames = type_keys::ids::frame_count(sheet, work, n);
-    let d = data_rows::data_rows(sheet, work, n, x.consts, x.globals, frames, x.keys, out, at);
-    let p = type_rows::type_rows(sheet, work, n, x.records, x.needs, d.keys, out, d.at);
+    let p = type_rows::type_rows(sheet, work, n, x.records, x.needs, x.keys, out, at);
     type_rows::used::use_rows(sheet, work, n, x.needs, frames, out, p)
 }
 
@@ -101,7 +99,7 @@ pub fn list(sheet: &[u8], listing: &mut [u8], work: &mut [u8]) -> Listed
 
 // The listing with zeros behind it, or zeros and the refusal; the working space is zero in any case.
 pub fn compile(sheet: &[u8], listing: &mut [u8], work: &mut [u8]) -> Answer
-    ensures { λ a. ⌜ (answered a (now (listing .exit)) ≡ compiled (length (now (listing .entry))) (length (now (work .entry))) (now (sheet .entry))) × (lengthOf a ≤ length (now (listing .entry))) × (now (listing .exit) ≡ padded (length (now (listing .entry))) (listingBytes (compiled (length (now (listing .entry))) (length (now (work .entry))) (now (sheet .entry))))) × (now (work .exit) ≡ zeros (length (now (work .entry)))) ⌝ }
+    ensures { λ a. ⌜ Compiles (now (sheet .entry)) (length (now (listing .entry))) (length (now (work .entry))) a (now (listing .exit)) (now (work .exit)) ⌝ }
 {
     let r = list(sheet, listing, work);
     write::zero(work);
