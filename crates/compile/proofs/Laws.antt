@@ -1,21 +1,21 @@
 -- The rows together are the listing, and what compiling gives by each answer.
-use mathlib.Core.Path.{_≡_, refl, sym, ap, _∙_, subst}
-use mathlib.Core.List.{List, [], _++_, append-assoc}
+use mathlib.Core.Path.{_≡_, sym, ap, _∙_, subst}
+use mathlib.Core.List.{List, _++_, append-assoc}
 use mathlib.Core.Option.{none, some}
-use Prim.Native.Nat.{ℕ, _-_, _≤_, _<_}
+use Prim.Native.Nat.{ℕ, _≤_, _<_}
 use native.Mathlib.Omega.{arith}
-use lib.ListN.{length, length-replicate}
+use lib.ListN.{length}
 use borrow.Author.Tests.{lt-ltb, le-ltb}
 use Rattle.semantics.specs.Text.{Bytes}
 use Rattle.semantics.specs.Sheet.{sheetSource, concatMap}
 use Rattle.semantics.specs.Fold.{Const, Names}
-use Rattle.semantics.specs.Const.{constants, namesOf}
-use Rattle.semantics.specs.Global.{Global, laidVars, varsRefused, globals}
+use Rattle.semantics.specs.Const.{namesOf}
+use Rattle.semantics.specs.Global.{laidVars, varsRefused, globals}
 use Rattle.semantics.specs.Types.{idOf, descriptors}
 use Rattle.semantics.specs.Listing.{constRows, globalRow, pendRow, itemRow, typeRows, useRow, listing}
-use Rattle.semantics.specs.Refusal.{Outcome, listed, refused, zeros, padded, worked, sourceGlobals, sourceListing}
+use Rattle.semantics.specs.Refusal.{Outcome, refused, zeros, worked, sourceGlobals, sourceListing}
 use Rattle.write.specs.Wrote.{Wrote}
-use Rattle.write.proofs.Wrote.{wrote-as, wrote-length, then, on-zeros}
+use Rattle.write.proofs.Wrote.{wrote-as, then, on-zeros}
 use Rattle.checks.specs.Checks.{Checked}
 use Rattle.names.specs.Table.{logIn}
 use Rattle.literals.specs.Literals.{namesIn}
@@ -29,9 +29,8 @@ use Rattle.tables.specs.declared.Tables.{Tables}
 use Rattle.tables.specs.declared.Made.{Made}
 use Rattle.tables.specs.declared.Made.the-variants as Made
 use Rattle.tables.specs.Tables.{Makes}
-use Rattle.answers.specs.Answers.{Numbered}
 use Rattle.compile.specs.declared.Listed.{Listed}
-use Rattle.compile.specs.Compile.{declaredText, typesText, Known, Lays, Stops, Refuses, Tries, Settles}
+use Rattle.compile.specs.Compile.{declaredText, typesText, Known, Lays, Stops, Tries}
 use Rattle.compile.proofs.Numbers.{with-line, without-line, vars-numbered}
 
 three-last : (a b c d : Bytes) → a ++ ((b ++ c) ++ d) ≡ ((a ++ b) ++ c) ++ d
@@ -51,7 +50,7 @@ module _ {s t : Bytes} {n : ℕ} {x : Tables} (k : Known s t n x) where
       then (then a (wrote-as (ap constRows (sym (k .log))) b)) (wrote-as (ap (concatMap globalRow) (k .held .globals .places (namesOf (sheetSource s)))) c)
 
   -- the names that first values see
-  names-are : namesIn s t (x .consts) ≡ namesOf (sheetSource s)
+  pub names-are : namesIn s t (x .consts) ≡ namesOf (sheetSource s)
   names-are = ap (λ (l : List Const). record { log = l }) (sym (k .log))
 
   -- the pending names' rows, where no line is refused

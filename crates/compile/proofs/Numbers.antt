@@ -12,7 +12,7 @@ use lib.ListN.{length}
 use lib.Ieee as F
 use lib.Ieee.{Float}
 use Rattle.semantics.specs.Text.{Bytes, any, orElse, lineParts, same, bytes}
-use Rattle.semantics.specs.Tree.{Ty, Ex, ArrayEx, MaybeEx, El, Els, Ses, ConstVal, ElemKind, UnaryOp, Arith, IntOp, BinOp, VarDecl, elemOf, basicOf}
+use Rattle.semantics.specs.Tree.{Ty, Ex, ArrayEx, MaybeEx, El, Els, Ses, ConstVal, ElemKind, UnaryOp, Arith, IntOp, BinOp, VarDecl, elemOf}
 use Rattle.semantics.specs.Tree.ConstVal.{vInt, vReal, vStr}
 use Rattle.semantics.specs.Tree.Ex.{constant, ident, modQual, unary, binary, cast, len, arrayEx, otherEx}
 use Rattle.semantics.specs.Tree.ArrayEx.{alloc, lit}
@@ -26,10 +26,10 @@ use Rattle.semantics.specs.Tree.IntOp.{rem, and, or, xor, lshift, rshift, eq, n
 use Rattle.semantics.specs.Tree.BinOp.{arith as arithOp, intOp, power, logAnd, logOr}
 use Rattle.semantics.specs.Sheet.{Located, readsOf, nodesFrom}
 use Rattle.semantics.specs.Const.{Refusal}
-use Rattle.semantics.specs.Fold.{Result, bind, fromOption, toReal, valueOf, lookUp, eqZ, plain, qualified, test, isZero, intOnly, intArith, intBinary, realBinary, joinStr, strBinary, foldBinary, intUnary, realUnary, foldUnary, foldLen, constValue, qualifiedValue, Names, fold, foldAt0, intOk}
+use Rattle.semantics.specs.Fold.{Result, bind, fromOption, toReal, valueOf, lookUp, eqZ, plain, qualified, test, isZero, intOnly, intArith, intBinary, realBinary, strBinary, foldBinary, foldUnary, foldLen, qualifiedValue, Names, fold, foldAt0}
 use Rattle.semantics.specs.Fold.Result.{ok, failed, refuse}
-use Rattle.semantics.specs.Array.{Filled, elemKind, outside, ConstArray, noneFilled, placeIndices, placeNext, placeSpans, asInt, indexOf, highOf, spanOf, spansOf, fillElement, fill, asSize, literalSize, measured, literal, allocated, arrayOf, constArray}
-use Rattle.semantics.specs.Global.{Init, varValue, initOf, firstValue, arrayValue, laidNames, noneOf, refusedBy, varsRefused}
+use Rattle.semantics.specs.Array.{Filled, elemKind, outside, ConstArray, noneFilled, placeIndices, placeSpans, asInt, indexOf, highOf, spanOf, spansOf, fillElement, fill, asSize, literalSize, allocated, arrayOf, constArray}
+use Rattle.semantics.specs.Global.{varValue, initOf, firstValue, laidNames, noneOf, refusedBy, varsRefused}
 use Rattle.semantics.specs.Refusal.{Outcome, listed, refused, refuseIf, refuseAt, noCounts, badForm, badRefFrom, tooDeepFrom, badModuleFrom, tooManyFrom}
 use Rattle.checks.specs.Checks.{tested}
 use Rattle.answers.specs.Answers.{Numbered}

@@ -7,7 +7,7 @@ use lib.ListN.{length, take}
 use Rattle.semantics.specs.Text.{Bytes}
 use Rattle.semantics.specs.Sheet.{sheetSource, concatMap}
 use Rattle.semantics.specs.Layout.{recordedAdts, records}
-use Rattle.semantics.specs.Const.{constants, namesOf}
+use Rattle.semantics.specs.Const.{constants}
 use Rattle.semantics.specs.Types.{idOf, descriptors}
 use Rattle.semantics.specs.Listing.{recordRows, constRows, globalRow, itemRow, typeRows, useRow}
 use Rattle.semantics.specs.Refusal.{Outcome, listed, refused, zeros, padded, listingBytes, worked, sourceGlobals, sourceListing, compiled}
@@ -15,7 +15,6 @@ use Rattle.checks.specs.Checks.{Checked}
 use Rattle.names.specs.Table.{logIn}
 use Rattle.tables.specs.declared.Tables.{Tables}
 use Rattle.tables.specs.Tables.{Held}
-use Rattle.answers.specs.declared.Refusal.{Refusal}
 use Rattle.answers.specs.Answers.{numberOf, lineOf, Numbered}
 use Rattle.compile.specs.declared.Listed.{Listed}
 use Rattle.compile.specs.declared.Listed.the-variants.{Written, Refused}

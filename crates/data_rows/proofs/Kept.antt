@@ -1,5 +1,5 @@
 -- What stays while items are printed: tables, constants' strings, and the first value of a line.
-use mathlib.Core.Path.{_≡_, refl, sym, ap, _∙_}
+use mathlib.Core.Path.{_≡_, refl, _∙_}
 use Prim.Native.Nat.{ℕ, zero, suc, _+_, _/_, _%_, _≤_, _<_}
 use mathlib.Core.List.{List}
 use native.Mathlib.Omega.{arith}
@@ -13,7 +13,7 @@ use Rattle.names.specs.Table.{bitsOf, logIn, Logged}
 use Rattle.names.proofs.Laws.{logged-same, log-same}
 use Rattle.values.specs.declared.ConstVal.{ConstVal}
 use Rattle.values.specs.declared.ConstVal.the-variants.{Int, Real, Str}
-use Rattle.values.specs.Values.{valueIn, At, Within}
+use Rattle.values.specs.Values.{At, Within}
 use Rattle.placements.specs.Placements.{entryAt, slotAt, elementAt, valuesIn, Keeps, Standing}
 use Rattle.placements.proofs.Same.{part-same, value-same, slot-kept, element-same}
 use Rattle.literals.specs.Literals.{above}

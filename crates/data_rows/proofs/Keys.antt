@@ -1,36 +1,35 @@
 -- Kinds of elements, and the keys that items use.
 use mathlib.Core.Path.{_≡_, refl, sym, ap, _∙_}
 use mathlib.Core.Bool.{Bool, true, false, cond}
-use mathlib.Core.List.{List, [], _∷_, _++_, append-assoc, append-nil}
+use mathlib.Core.List.{List, [], _∷_, _++_, append-assoc}
 use Prim.Native.Nat.{ℕ, zero, suc, _+_, _≤_, _<_}
 use native.Mathlib.Omega.{arith}
 use lib.Dec.{eqb}
-use lib.ListN.{length}
 use Rattle.semantics.specs.Text.{Bytes}
 use Rattle.semantics.specs.Tree.{Ty, ConstVal, ElemKind, TypeKey}
 use Rattle.semantics.specs.Tree.ConstVal.{vInt, vReal, vStr}
 use Rattle.semantics.specs.Tree.ElemKind.{kByte, kWord, kBig, kReal, kPtr}
 use Rattle.semantics.specs.Tree.TypeKey.{elemKey}
-use Rattle.semantics.specs.Sheet.{Source, concatMap, sheetSource}
+use Rattle.semantics.specs.Sheet.{concatMap, sheetSource}
 use Rattle.semantics.specs.Array.{ConstArray, kindNumber}
 use Rattle.semantics.specs.Global.{Item, strItems, elementItems, contents, arrayItems, valueItem}
 use Rattle.semantics.specs.Global.Item.{backItem}
-use Rattle.semantics.specs.Types.{arrayKey, distinct, position, keys, idOf}
+use Rattle.semantics.specs.Types.{arrayKey, distinct, position, keys}
 use Rattle.globals.proofs.Vars.{concat-append}
 use Rattle.arrays.specs.Arrays.{kindAt}
 use Rattle.type_keys.specs.Table.{kindOf, isUsed, kindsUsed, Kinds}
 use Rattle.type_keys.proofs.Distinct.{same-self, distinct-more, placed-more}
-use Rattle.data_rows.specs.declared.Numbered.{Numbered}
-use Rattle.data_rows.specs.Data.{keysOf, Numbers}
+use Rattle.data_rows.specs.Data.{keysOf}
 
 -- ---- kinds
 
-pub kind-own : (k : ℕ) → k < 4 → k ≡ kindNumber (kindAt k)
+pub kind-own : (k : ℕ) → k < 5 → k ≡ kindNumber (kindAt k)
 kind-own zero h = refl
 kind-own (suc zero) h = refl
 kind-own (suc (suc zero)) h = refl
 kind-own (suc (suc (suc zero))) h = refl
-kind-own (suc (suc (suc (suc k)))) h = absurd (omega arith)
+kind-own (suc (suc (suc (suc zero)))) h = refl
+kind-own (suc (suc (suc (suc (suc k))))) h = absurd (omega arith)
 
 pub kind-pointer : (k : ℕ) → 4 ≤ k → 4 ≡ kindNumber (kindAt k)
 kind-pointer zero h = absurd (omega arith)
@@ -39,6 +38,10 @@ kind-pointer (suc (suc zero)) h = absurd (omega arith)
 kind-pointer (suc (suc (suc zero))) h = absurd (omega arith)
 kind-pointer (suc (suc (suc (suc zero)))) h = refl
 kind-pointer (suc (suc (suc (suc (suc k))))) h = refl
+
+-- an array of a kind
+abbrev pub arrayBy : ℕ → ℕ → List ConstVal → ConstArray
+arrayBy k n vs = record { kind = kindAt k; count = n; values = vs }
 
 -- ---- how many keys there are
 

@@ -62,11 +62,11 @@ module _ {s : Bytes} {p q : Next} where
 pub listed-then : {s : Bytes} (xs ys : List Item) {p q r : Next} {t u v d e f : Bytes} → Listed s xs p q t u d e → Listed s ys q r u v e f → Listed s (xs ++ ys) p r t v d f
 listed-then {s} xs ys {p} {q} {r} {t} {u} {v} {d} {e} {f} a b = record {
   rows = λ bs cs x.
-    let g = idOf (sheetSource s) (bs ++ ((xs ++ ys) ++ cs)) in
-    let h : bs ++ (xs ++ (ys ++ cs)) ≡ bs ++ ((xs ++ ys) ++ cs) = ap (λ (l : List Item). bs ++ l) (sym (append-assoc xs ys cs)) in
-    let k : (bs ++ xs) ++ (ys ++ cs) ≡ bs ++ ((xs ++ ys) ++ cs) = append-assoc bs xs (ys ++ cs) ∙ h in
-    let y : Wrote d (p .at) (itemRows g xs) e (q .at) = subst (λ (l : List Item). Wrote d (p .at) (itemRows (idOf (sheetSource s) l) xs) e (q .at)) h (a .rows bs (ys ++ cs) x) in
-    let z : Wrote e (q .at) (itemRows g ys) f (r .at) = subst (λ (l : List Item). Wrote e (q .at) (itemRows (idOf (sheetSource s) l) ys) f (r .at)) k (b .rows (bs ++ xs) cs (a .kinds bs x)) in
-    wrote-as (sym (rows-append g xs ys)) (then y z);
+      let g = idOf (sheetSource s) (bs ++ ((xs ++ ys) ++ cs)) in
+      let h : bs ++ (xs ++ (ys ++ cs)) ≡ bs ++ ((xs ++ ys) ++ cs) = ap (λ (l : List Item). bs ++ l) (sym (append-assoc xs ys cs)) in
+      let k : (bs ++ xs) ++ (ys ++ cs) ≡ bs ++ ((xs ++ ys) ++ cs) = append-assoc bs xs (ys ++ cs) ∙ h in
+      let y : Wrote d (p .at) (itemRows g xs) e (q .at) = subst (λ (l : List Item). Wrote d (p .at) (itemRows (idOf (sheetSource s) l) xs) e (q .at)) h (a .rows bs (ys ++ cs) x) in
+      let z : Wrote e (q .at) (itemRows g ys) f (r .at) = subst (λ (l : List Item). Wrote e (q .at) (itemRows (idOf (sheetSource s) l) ys) f (r .at)) k (b .rows (bs ++ xs) cs (a .kinds bs x)) in
+      wrote-as (sym (rows-append g xs ys)) (then y z);
   kinds = λ bs x. subst (λ (l : List Item). Kinds v (keysOf s l) (r .keys)) (append-assoc bs xs ys) (b .kinds (bs ++ xs) (a .kinds bs x));
 }

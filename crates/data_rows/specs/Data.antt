@@ -67,19 +67,21 @@ pub record Keeping (t u : Bytes) : Type 0 where
   pub below : Kept 10624 t u
   pub strings : (j : ℕ) → 16384 ≤ j → j < 49152 → getD u j 0 ≡ getD t j 0
 
--- so many keys have numbers, and one more can get one
+-- so many keys have numbers
 pub record Keyed (t : Bytes) (frames keys : ℕ) : Type 0 where
   pub few : frames ≤ 128
   pub long : 65536 ≤ length t
   pub known : List TypeKey
   pub kinds : Kinds t known keys
 
--- the tables that lines are printed from
+-- the tables that lines are printed from, where the keys of the items printed so far have numbers
 pub record Held (s t : Bytes) (c : Counts) (keys : ℕ) : Type 0 where
   pub log : Logged s t (c .lines) (c .consts)
   pub places : Tabled s t (c .lines) (c .globals)
   pub framed : c .frames ≡ length (sheetSource s .frames)
-  pub keyed : Keyed t (c .frames) keys
+  pub few : c .frames ≤ 128
+  pub printed : List Item
+  pub kinds : Kinds t (keysOf s printed) keys
 
 -- the working space holds a literal of `count` values
 pub record Filled (t : Bytes) (count : ℕ) : Type 0 where

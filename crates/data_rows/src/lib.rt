@@ -230,14 +230,7 @@ fn names_rows(
 }
 
 // The rows of the `var` line r. Its first value stands in the working space while they are printed.
-fn line_rows(
-    sheet: &[u8],
-    work: &mut [u8],
-    c: Counts,
-    r: usize,
-    out: &mut [u8],
-    p: Next,
-) -> Next
+fn line_rows(sheet: &[u8], work: &mut [u8], c: Counts, r: usize, out: &mut [u8], p: Next) -> Next
     requires { ⌜ (Held (now sheet) (now work) c (p .keys)) × (Line 72 (now sheet) (now work) (c .lines) (c .consts) r) ⌝ }
     ensures { λ q. ⌜ (Listed (now (sheet .entry)) (varItems (namesIn (now (sheet .entry)) (now (work .entry)) (c .consts)) (placesIn (now (sheet .entry)) (now (work .entry)) (c .globals)) (varOn (now (sheet .entry)) r)) p q (now (work .entry)) (now (work .exit)) (now (out .entry)) (now (out .exit))) × (Keeping (now (work .entry)) (now (work .exit))) ⌝ }
 {

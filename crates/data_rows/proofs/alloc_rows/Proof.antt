@@ -1,35 +1,29 @@
+-- `data_rows::alloc_rows` meets its contract.
+use Rattle.data_rows.proofs.Listed.{listed-array}
+use Rattle.data_rows.proofs.Keys.{arrayBy}
+use mathlib.Core.List.{[]}
+use mathlib.Core.Path.{refl}
 use borrow.Author.Needs.{needs}
 use Rattle.data_rows.proofs.alloc_rows.Statement.{statement}
 use Rattle.data_rows.proofs.alloc_rows.Tie as tie
-use Rattle.data_rows.proofs.alloc_rows.Reads as reads
-use Rattle.data_rows.proofs.alloc_rows.Lts as lts
-use Rattle.data_rows.proofs.kind_number.Reads as kind-number-reads
-use Rattle.data_rows.proofs.number_elements.Reads as number-elements-reads
-use Rattle.items.proofs.alloc_item.Reads as alloc-item-reads
 
--- src/lib.rt:137:43
 kind-number-requires : tie.Need-kind-number-requires
 kind-number-requires c κs = search needs
 
--- src/lib.rt:137:9
 number-elements-requires : tie.Need-number-elements-requires
 number-elements-requires c κs = search needs
 
--- src/lib.rt:139:13
 alloc-item-requires : tie.Need-alloc-item-requires
 alloc-item-requires c κs = search needs
 
--- src/lib.rt:125:1
 same-length : tie.Need-same-length
 same-length c = search needs
 
--- src/lib.rt:125:1
 same-length-2 : tie.Need-same-length-2
 same-length-2 c = search needs
 
--- src/lib.rt:125:1
 returns : tie.Need-returns
-returns c = ?
+returns c = (λ s hf. listed-array (c .before .before .before .before .before .before .before .before .before .before .before .args .off) (arrayBy (c .before .before .before .before .before .before .before .before .before .before .before .args .kind) (c .before .before .before .before .before .before .before .before .before .before .before .args .count) []) (c .before .before .before .before .before .before .number-elements .ensures .0) (c .before .before .before .before .before .before .before .kind-number .ensures .0) hf refl (λ f h. c .before .before .alloc-item .ensures f (arrayBy (c .before .before .before .before .before .before .before .before .before .before .before .args .kind) (c .before .before .before .before .before .before .before .before .before .before .before .args .count) []) h refl refl), c .before .before .before .before .before .before .number-elements .ensures .1)
 
 pub alloc-rows-spec : {M : Type 1} → statement M
 alloc-rows-spec =
