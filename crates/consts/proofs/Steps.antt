@@ -1,14 +1,12 @@
 -- Laws of one constant.
 use mathlib.Core.Path.{_≡_, sym, ap, _∙_}
-use mathlib.Core.Bool.{true, false, not}
+use mathlib.Core.Bool.{true, false}
 use mathlib.Core.List.{[], _++_}
 use mathlib.Core.Option.{Option, none, some}
-use Prim.Native.Nat.{ℕ, _+_, _-_, _≤_}
+use Prim.Native.Nat.{ℕ, _+_, _-_}
 use native.Mathlib.Omega.{arith}
-use native.Mathlib.Numerals.{add-one}
 use lib.IntN.{pos}
 use lib.ListN.{getD}
-use borrow.Author.Tests.{eq-eqb, ne-eqb, not-true, not-false}
 use Rattle.semantics.specs.Text.{Bytes}
 use Rattle.semantics.specs.Tree as Tree
 use Rattle.semantics.specs.Form.{nodeAt, numberOf}

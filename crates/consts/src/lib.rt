@@ -2,7 +2,7 @@
 use iota::IotaCounter;
 use values::Folded;
 ghost use mathlib.Core.Path.{_≡_};
-ghost use Prim.Native.Nat.{_+_, _≤_, _<_};
+ghost use Prim.Native.Nat.{_+_, _<_};
 ghost use Rattle.checks.specs.Checks.{Checked, Kept};
 ghost use Rattle.consts.specs.Passes.{openAfter, ConstLine, Steps, AtConstant, Standing, Visits, Group, Passes, Before, Past, Collects, left};
 
@@ -89,6 +89,7 @@ fn visit_constant(sheet: &[u8], work: &mut [u8], n: usize, k: usize, p: Pass) ->
     let line = lines::number_at(sheet, work, n, i, 1);
     let col = lines::number_at(sheet, work, n, i, 2);
     let stepped = iota::advance(c, line, col);
+    let next = stepped.next;
     if !take_constant(sheet, work, n, m, k, i, stepped.value) {
         return Visited::Refused(i + 1);
     }
@@ -96,7 +97,7 @@ fn visit_constant(sheet: &[u8], work: &mut [u8], n: usize, k: usize, p: Pass) ->
         line: i + 1,
         within,
         count: m + 1,
-        iota: stepped.next,
+        iota: next,
     })
 }
 
