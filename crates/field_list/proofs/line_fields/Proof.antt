@@ -1,57 +1,46 @@
+-- `field_list::line_fields` meets its contract. The loop's invariant: the array holds the first i fields, and the next one begins at `at`.
+use mathlib.Core.Path.{_≡_, refl}
+use Prim.Native.Nat.{_+_, _-_, _*_, _≤_}
+use native.Mathlib.Omega.{arith}
+use Rattle.field_list.specs.Fields.{fieldsFrom, lineFields}
+use Rattle.field_list.proofs.Laws.{line-set, next-offset, next-low}
 use Rattle.field_list.proofs.line_fields.Statement.{statement}
 use Rattle.field_list.proofs.line_fields.Tie as tie
-use Rattle.field_list.proofs.line_fields.Reads as reads
-use Rattle.field_list.proofs.line_fields.Lts as lts
 
 abbrev Inv-loop : tie.InvT-loop
-Inv-loop off size pointer count a₀ at₀ i₀ a at i = ?
+Inv-loop off size pointer count a₀ at₀ i₀ a at i = (i ≤ count) × (at ≡ off + i * size) × (a ≡ lineFields off size pointer i)
 
 abbrev μ-loop : tie.MeasureT-loop
-μ-loop off size pointer count a₀ at₀ i₀ a at i = ?
+μ-loop off size pointer count a₀ at₀ i₀ a at i = count - i
 
--- src/lib.rt:26:5
 loop-holds : tie.Need-loop-holds Inv-loop μ-loop
-loop-holds c = ?
+unfolding fieldsFrom lineFields
+loop-holds c = (omega arith, omega arith, refl)
 
--- src/lib.rt:32:9
 mul-a : tie.Need-mul-a Inv-loop μ-loop
-mul-a c = ?
+mul-a c = record { fits = omega (arith, c .loop-test .taken, c .before .before .pre .0) }
 
--- src/lib.rt:32:9
 array-set-from-a : tie.Need-array-set-from-a Inv-loop μ-loop
-array-set-from-a c = ?
+array-set-from-a c = omega (arith, c .loop-test .taken, c .before .before .pre .0)
 
--- src/lib.rt:33:9
 add-at : tie.Need-add-at Inv-loop μ-loop
-add-at c = ?
+add-at c = record { fits = omega (arith, next-low (c .before .before .args .size) (c .before .before .args .off) (c .before .loop .at) (c .before .loop .i) (c .before .before .args .count) (c .before .loop .inv .1) (c .loop-test .taken), c .before .before .pre .1) }
 
--- src/lib.rt:34:9
 add-i : tie.Need-add-i Inv-loop μ-loop
-add-i c = ?
+add-i c = record { fits = omega (arith, array-set-from-a c) }
 
--- src/lib.rt:26:5
 loop-less : tie.Need-loop-less Inv-loop μ-loop
-loop-less c = ?
+loop-less c = omega (arith, c .loop-test .taken)
 
--- src/lib.rt:26:5
 loop-again : tie.Need-loop-again Inv-loop μ-loop
-loop-again c = ?
+loop-again c = (
+  omega (arith, c .loop-test .taken),
+  next-offset (c .before .before .args .size) (c .before .before .args .off) (c .before .loop .at) (c .before .loop .i) (c .before .loop .inv .1),
+  rw (c .before .loop .inv .2) (line-set (c .before .before .args .size) (c .before .before .args .pointer) (c .before .before .args .off) (c .before .loop .at) (c .before .loop .i) (array-set-from-a c) (c .before .loop .inv .1)),
+)
 
--- src/lib.rt:14:1
 returns : tie.Need-returns Inv-loop μ-loop
-returns c = ?
+returns c = let e : c .before .loop .i ≡ c .before .before .args .count = omega (arith, c .before .loop .inv .0, c .loop-test .left) in rw e at (c .before .loop .inv .2)
 
 pub line-fields-spec : {M : Type 1} → statement M
-line-fields-spec =
-    tie.close
-    (tie.spec
-    Inv-loop
-    μ-loop
-    loop-holds
-    mul-a
-    array-set-from-a
-    add-at
-    add-i
-    loop-less
-    loop-again
-    returns)
+line-fields-spec = tie.close (tie.spec Inv-loop μ-loop loop-holds mul-a array-set-from-a add-at add-i loop-less loop-again returns)
