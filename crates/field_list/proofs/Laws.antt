@@ -2,13 +2,13 @@
 use mathlib.Core.Path.{_≡_, refl, ap}
 use mathlib.Core.Bool.{Bool}
 use mathlib.Core.List.{List, _∷_, _++_}
-use Prim.Native.Nat.{ℕ, zero, suc, _+_, _-_, _*_, _≤_, _<_}
+use Prim.Native.Nat.{ℕ, zero, suc, _+_, _-_, _*_, _≤_, _<_, max}
 use native.Mathlib.Nat.{suc-mul, mul-le-mul-right}
 use native.Mathlib.Numerals.{add-one}
 use native.Mathlib.Omega.{arith}
 use lib.ListN.{take, set, replicate}
 use Rattle.field_list.specs.declared.Field.{Field}
-use Rattle.field_list.specs.Fields.{fieldsFrom, noField, lineFields}
+use Rattle.field_list.specs.Fields.{fieldsFrom, noField, lineFields, furthestIn}
 
 module _ (size : ℕ) where
   pub next-offset : (off at i : ℕ) → at ≡ off + i * size → at + size ≡ off + (i + 1) * size
@@ -43,3 +43,12 @@ module _ (size : ℕ) (pointer : Bool) where
   pub line-take : (off n : ℕ) → take n (lineFields off size pointer n) ≡ fieldsFrom off size pointer n
   unfolding lineFields
   line-take off n = take-first off n (replicate (16 - n) noField)
+
+-- ---- the furthest end
+
+pub furthest-low : (k off size : ℕ) (pointer : Bool) (n f : ℕ) → f < k → off + n * size < k → furthestIn f (fieldsFrom off size pointer n) < k
+unfolding fieldsFrom
+furthest-low k off size pointer zero f h l = h
+furthest-low k off size pointer (suc n) f h l =
+    let m : off + size + n * size < k = omega (arith, l, suc-mul n size) in
+    furthest-low k (off + size) size pointer n (max f (off + size)) (omega (arith, h, m)) m

@@ -2,7 +2,7 @@
 -- The working space is passed on for good, at its own lifetime, share and name (`gave-slice`).
 -- All that it knows of `mark_list` is that it meets its contract. The array's length is N, and nothing here computes with it.
 -- Assumes nothing.
-use mathlib.Core.Path.{_≡_, refl, sym, ap, subst}
+use mathlib.Core.Path.{_≡_, refl, sym, subst}
 use Prim.Native.Nat.{ℕ, _<_, _≤_, _*_, _^_}
 use native.Mathlib.Omega.{arith}
 use mathlib.Core.List.{[], _∷_, List}
