@@ -1,20 +1,18 @@
--- Laws of one constant, and of the iota counter.
+-- Laws of one constant.
 use mathlib.Core.Path.{_≡_, sym, ap, _∙_}
-use mathlib.Core.Bool.{true, false, not}
+use mathlib.Core.Bool.{true, false}
 use mathlib.Core.List.{[], _++_}
 use mathlib.Core.Option.{Option, none, some}
-use Prim.Native.Nat.{ℕ, _+_, _-_, _≤_}
+use Prim.Native.Nat.{ℕ, _+_, _-_}
 use native.Mathlib.Omega.{arith}
-use native.Mathlib.Numerals.{add-one}
 use lib.IntN.{pos}
 use lib.ListN.{getD}
-use borrow.Author.Tests.{eq-eqb, ne-eqb, not-true, not-false}
 use Rattle.semantics.specs.Text.{Bytes}
 use Rattle.semantics.specs.Tree as Tree
 use Rattle.semantics.specs.Form.{nodeAt, numberOf}
 use Rattle.semantics.specs.Sheet.{sheetSource}
 use Rattle.semantics.specs.Fold.{fold}
-use Rattle.semantics.specs.Const.{iotaAt, iotaNext, entries}
+use Rattle.semantics.specs.Const.{entries}
 use Rattle.text.specs.Number as Number
 use Rattle.lines.specs.Lines.{readAt, nodesIn}
 use Rattle.checks.specs.Checks.{Kept}
@@ -27,36 +25,8 @@ use Rattle.values.specs.declared.Folded.the-variants.{Value, Failed, TooLong}
 use Rattle.values.specs.Values.{valueIn, resultIn, At}
 use Rattle.entries.specs.Entering.{Free, Entered}
 use Rattle.fold.specs.Folds.{foldAt, Foldable, Folds}
-use Rattle.consts.specs.declared.IotaCounter.{IotaCounter}
-use Rattle.consts.specs.Passes.{counterOf, constAt, ConstLine, Steps}
+use Rattle.consts.specs.Passes.{constAt, ConstLine, Steps}
 use Rattle.consts.proofs.Lines.{ex-number, ex-line}
-
--- ---- the iota counter
-
-module _ (c : IotaCounter) (line col : ℕ) where
-  pub iota-first : not (c .started) ≡ true → (0 ≡ iotaAt line col (counterOf c)) × (0 ≤ c .value)
-  unfolding counterOf
-  iota-first h = (rw (not-true (c .started) h), omega arith)
-
-  module _ (h : not (c .started) ≡ false) where
-    pub iota-line : (line ≡ c .line → ⊥) → (0 ≡ iotaAt line col (counterOf c)) × (0 ≤ c .value)
-    unfolding counterOf
-    iota-line p = (rw (not-false (c .started) h, ne-eqb line (c .line) p), omega arith)
-
-    module _ (p : line ≡ c .line) where
-      pub iota-col : (col ≡ c .col → ⊥) → (0 ≡ iotaAt line col (counterOf c)) × (0 ≤ c .value)
-      unfolding counterOf
-      iota-col q = (rw (not-false (c .started) h, eq-eqb line (c .line) p, ne-eqb col (c .col) q), omega arith)
-
-      pub iota-on : col ≡ c .col → (c .value ≡ iotaAt line col (counterOf c)) × (c .value ≤ c .value)
-      unfolding counterOf
-      iota-on q = (rw (not-false (c .started) h, eq-eqb line (c .line) p, eq-eqb col (c .col) q), omega arith)
-
-  pub iota-moves : {r : ℕ} → r ≡ iotaAt line col (counterOf c) → counterOf (record { started = true; line = line; col = col; value = r + 1 }) ≡ iotaNext line col (counterOf c)
-  unfolding counterOf iotaNext
-  iota-moves {r} e = rw (add-one, e)
-
--- ---- one constant
 
 module _ (s t : Bytes) (n m k i : ℕ) (l : ConstLine s t n m k i) (r : ℕ) (is : r ≡ Number.numberOf 65536 (getD (readAt s i .fields) 3 [])) where
   pub foldable : Foldable s t n m r 49152

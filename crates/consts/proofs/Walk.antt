@@ -24,13 +24,15 @@ use Rattle.checks.specs.Checks.{Checked, Kept}
 use Rattle.checks.proofs.Kept.{kept-less, checked-kept}
 use Rattle.source.specs.Walk.{openAt}
 use Rattle.names.specs.Table.{moduleAt, logIn}
-use Rattle.consts.specs.declared.IotaCounter.{IotaCounter}
+use Rattle.iota.specs.declared.Stepped.{Stepped}
+use Rattle.iota.specs.Iota.{counterOf, steppedOf}
+use Rattle.iota.proofs.Counter.{moved-counter, moved-value}
 use Rattle.consts.specs.declared.Pass.{Pass}
 use Rattle.consts.specs.declared.Visited.{Visited}
 use Rattle.consts.specs.declared.Visited.the-variants as Visited
 use Rattle.consts.specs.declared.Collected.{Collected}
 use Rattle.consts.specs.declared.Collected.the-variants as Collected
-use Rattle.consts.specs.Passes.{groupFrom, passesAfter, openAfter, counterOf, constAt, ConstLine, step, tooLong, Steps, AtConstant, Standing, goes, Moves, Visits, Group, Logs, Passes, Before, rest, Past, Collects, left}
+use Rattle.consts.specs.Passes.{groupFrom, passesAfter, openAfter, constAt, ConstLine, step, tooLong, Steps, AtConstant, Standing, goes, Moves, Visits, Group, Logs, Passes, Before, rest, Past, Collects, left}
 use Rattle.consts.proofs.Passes.{open-mod, open-end, open-other, group-other, group-in, group-out, group-end, passes-start, passes-mod, passes-other, passes-end, count-mod, count-top, few-consts}
 use Rattle.consts.proofs.Group.{group-start, group-left}
 use Rattle.consts.proofs.Lines.{line-number, col-number}
@@ -105,26 +107,34 @@ module _ (s t : Bytes) (n k : ℕ) (p : Pass) (st : Standing s t n k p) (a : AtC
     group = st .group;
   }
 
-  module _ (line col iota : ℕ) (hl : line ≡ Number.numberOf 65536 (getD (readAt s (p .line) .fields) 1 [])) (hc : col ≡ Number.numberOf 65536 (getD (readAt s (p .line) .fields) 2 []))
-      (hi : iota ≡ iotaAt line col (counterOf (p .iota))) where
+  module _ (line col : ℕ) (hl : line ≡ Number.numberOf 65536 (getD (readAt s (p .line) .fields) 1 [])) (hc : col ≡ Number.numberOf 65536 (getD (readAt s (p .line) .fields) 2 []))
+      (x : Stepped) (hx : x ≡ steppedOf (p .iota) line col) where
     line-is : line ≡ constAt s k (p .line) .it .line
     line-is = hl ∙ line-number s t n (p .line) (st .checked) (a .line) (a .kind)
 
     col-is : col ≡ constAt s k (p .line) .it .col
     col-is = hc ∙ col-number s t n (p .line) (st .checked) (a .line) (a .kind)
 
-    goes-is : goes s t k p ≡ step s t (p .count) k (p .line) iota (pass (sheetSource s .implement) (groupFrom s k (suc (p .line))) (iotaNext line col (counterOf (p .iota))))
+    value-is : x .value ≡ iotaAt line col (counterOf (p .iota))
+    value-is = ap (λ (y : Stepped). y .value) hx
+
+    next-is : counterOf (x .next) ≡ iotaNext line col (counterOf (p .iota))
+    next-is = rw hx (moved-counter (p .iota) line col (omega (arith, st .small, st .room)))
+
+    next-small : x .next .value ≤ p .iota .value + 1
+    next-small = rw hx (moved-value (p .iota) line col)
+
+    goes-is : goes s t k p ≡ step s t (p .count) k (p .line) (x .value) (pass (sheetSource s .implement) (groupFrom s k (suc (p .line))) (iotaNext line col (counterOf (p .iota))))
     unfolding goes
-    goes-is = rw (group-is, hi, line-is, col-is)
+    goes-is = rw (group-is, value-is, line-is, col-is)
 
     module _ (u : Bytes) (kept : Kept 5120 t u) where
-      pub visit-refused : Steps s t u n (p .count) k (p .line) iota false → goes s t k p .refused ≡ some (tooLong (p .line + 1))
+      pub visit-refused : Steps s t u n (p .count) k (p .line) (x .value) false → goes s t k p .refused ≡ some (tooLong (p .line + 1))
       visit-refused f = ap (λ (g : Folding). g .refused) (goes-is ∙ f (pass (sheetSource s .implement) (groupFrom s k (suc (p .line))) (iotaNext line col (counterOf (p .iota))))) ∙ rw add-one
 
-      pub visit-on : Steps s t u n (p .count) k (p .line) iota true → (c : IotaCounter) → counterOf c ≡ iotaNext line col (counterOf (p .iota)) → c .value ≤ p .iota .value + 1
-          → Moves s t u n k p (record { line = p .line + 1; within = p .within; count = p .count + 1; iota = c })
+      pub visit-on : Steps s t u n (p .count) k (p .line) (x .value) true → Moves s t u n k p (record { line = p .line + 1; within = p .within; count = p .count + 1; iota = x .next })
       unfolding goes
-      visit-on f c e small = record {
+      visit-on f = record {
         stands = record {
           checked = checked-kept (kept-less (omega arith) kept) (st .checked);
           logged = f .0;
@@ -132,10 +142,10 @@ module _ (s t : Bytes) (n k : ℕ) (p : Pass) (st : Standing s t n k p) (a : AtC
           group = st .group;
           opened = rw add-one (still s t n k p st (a .line) (a .kind) refl);
           room = rw (add-one (p .line)) (omega (arith, st .room, longer));
-          small = omega (arith, st .small);
+          small = omega (arith, st .small, next-small);
         };
         next = refl;
-        same = rw (add-one (p .line), e) (sym (goes-is ∙ f .1 (pass (sheetSource s .implement) (groupFrom s k (suc (p .line))) (iotaNext line col (counterOf (p .iota))))));
+        same = rw (add-one (p .line), next-is) (sym (goes-is ∙ f .1 (pass (sheetSource s .implement) (groupFrom s k (suc (p .line))) (iotaNext line col (counterOf (p .iota))))));
         count = rw (add-one (p .line)) (omega (arith, longer));
       }
 

@@ -12,13 +12,12 @@ use Rattle.semantics.specs.Tree.{ConstDecl, Declares, Node}
 use Rattle.semantics.specs.Form.{letter}
 use Rattle.semantics.specs.Sheet.{Module, Located, locatedFrom, moduleOf, sheetSource}
 use Rattle.semantics.specs.Fold.{Const, fold}
-use Rattle.semantics.specs.Const as Const
 use Rattle.semantics.specs.Const.{Refusal, Folding, newCounter, entered, pass, passesFrom, standsIn, topLevel, constants}
 use Rattle.lines.specs.Lines.{readAt, nodesIn}
 use Rattle.checks.specs.Checks.{Checked}
 use Rattle.source.specs.Walk.{openAt, conOf}
 use Rattle.names.specs.Table.{moduleAt, logIn, Logged}
-use Rattle.consts.specs.declared.IotaCounter.{IotaCounter}
+use Rattle.iota.specs.Iota.{counterOf}
 use Rattle.consts.specs.declared.Pass.{Pass}
 use Rattle.consts.specs.declared.Visited.{Visited}
 use Rattle.consts.specs.declared.Visited.the-variants as Visited
@@ -55,11 +54,6 @@ countBefore s i = length (filter (inEarlier i) (sheetSource s .consts))
 -- the constant of a `con` line in the module of line o
 abbrev pub constAt : Bytes → ℕ → ℕ → Located ConstDecl
 constAt s o i = record { line = suc i; within = moduleAt s o; it = conOf (nodesIn s) (readAt s i .fields) }
-
--- ---- the iota counter, as the code has it
-
-unfoldable pub counterOf : IotaCounter → Const.IotaCounter
-counterOf c = record { group = cond (c .started) (some (c .line, c .col)) none; value = c .value }
 
 -- the module that is open behind line i, of kind x: `mod` is 77 and `end` 79
 unfoldable pub openAfter : ℕ → ℕ → ℕ → ℕ

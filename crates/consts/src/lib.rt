@@ -1,10 +1,10 @@
 // The constants of a sheet, in their passes: one for each module in the sheet's order, then one for the top level.
+use iota::IotaCounter;
 use values::Folded;
 ghost use mathlib.Core.Path.{_≡_};
-ghost use Prim.Native.Nat.{_+_, _≤_, _<_};
-ghost use Rattle.semantics.specs.Const.{iotaAt, iotaNext};
+ghost use Prim.Native.Nat.{_+_, _<_};
 ghost use Rattle.checks.specs.Checks.{Checked, Kept};
-ghost use Rattle.consts.specs.Passes.{openAfter, counterOf, ConstLine, Steps, AtConstant, Standing, Visits, Group, Passes, Before, Past, Collects, left};
+ghost use Rattle.consts.specs.Passes.{openAfter, ConstLine, Steps, AtConstant, Standing, Visits, Group, Passes, Before, Past, Collects, left};
 
 // Letters of kinds.
 const CON: u8 = b'D';
@@ -22,14 +22,6 @@ pub enum Collected {
     Refused(usize),
 }
 
-// LINE and COL of the previous constant, and the next value of `iota` there.
-pub struct IotaCounter {
-    pub started: bool,
-    pub line: usize,
-    pub col: usize,
-    pub value: u32,
-}
-
 // A pass before line `line`, from 0, where the module of line `within` is open.
 pub struct Pass {
     pub line: usize,
@@ -41,35 +33,6 @@ pub struct Pass {
 pub enum Visited {
     On(Pass),
     Refused(usize),
-}
-
-// `iota` at a constant: 0 where LINE or COL differs from the previous one's.
-fn iota_at(c: IotaCounter, line: usize, col: usize) -> u32
-    ensures { λ r. ⌜ (r ≡ iotaAt line col (counterOf c)) × (r ≤ c .value) ⌝ }
-{
-    if !c.started {
-        return 0;
-    }
-    if line != c.line {
-        return 0;
-    }
-    if col != c.col {
-        return 0;
-    }
-    c.value
-}
-
-// The counter, moved on.
-fn iota_next(c: IotaCounter, line: usize, col: usize) -> IotaCounter
-    requires { ⌜ c .value ≤ 128 ⌝ }
-    ensures { λ r. ⌜ (counterOf r ≡ iotaNext line col (counterOf c)) × (r .value ≤ c .value + 1) ⌝ }
-{
-    IotaCounter {
-        started: true,
-        line,
-        col,
-        value: iota_at(c, line, col) + 1,
-    }
 }
 
 // The line of the module that is open behind line i, from 0, which has kind x.
@@ -125,10 +88,11 @@ fn visit_constant(sheet: &[u8], work: &mut [u8], n: usize, k: usize, p: Pass) ->
     let c = p.iota;
     let line = lines::number_at(sheet, work, n, i, 1);
     let col = lines::number_at(sheet, work, n, i, 2);
-    if !take_constant(sheet, work, n, m, k, i, iota_at(c, line, col)) {
+    let stepped = iota::advance(c, line, col);
+    let next = stepped.next;
+    if !take_constant(sheet, work, n, m, k, i, stepped.value) {
         return Visited::Refused(i + 1);
     }
-    let next = iota_next(c, line, col);
     Visited::On(Pass {
         line: i + 1,
         within,

@@ -4,16 +4,12 @@ use native.Mathlib.Omega.{arith}
 use mathlib.Core.List.{List}
 use Rattle.checks.specs.Checks.{Kept, Checked}
 use Rattle.checks.proofs.Kept.{kept-less, checked-kept}
-use Rattle.sizes.specs.Sizes.{TypeLine}
 use Rattle.sizes.specs.Places.{FieldRefs, RecordLine}
 use Rattle.shapes.specs.Shapes.{PickLine, VariantLine}
 
 module _ {t u : List ℕ} (k : Kept 49152 t u) where
   still : {s : List ℕ} {n : ℕ} → Checked s t n → Checked s u n
   still c = checked-kept (kept-less (omega arith) k) c
-
-  pub type-kept : {s : List ℕ} {n r : ℕ} → TypeLine s t n r → TypeLine s u n r
-  type-kept l = record { checked = still (l .checked); first = l .first; last = l .last; kind = l .kind }
 
   pub refs-kept : {s : List ℕ} {n r from count : ℕ} → FieldRefs s t n r from count → FieldRefs s u n r from count
   refs-kept l = record {

@@ -5,3 +5,4 @@ pub mod Sizes
 pub mod Kept
 pub mod Marking
 pub mod Pointers
+pub mod Lists

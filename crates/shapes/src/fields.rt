@@ -1,23 +1,36 @@
-// Marks the pointers of fields in the map that stands in the working space.
+// Marks the pointers of fields in the map that stands in the working space. The fields of an `fd` line are gathered in a list, and the list is lent.
 use crate::map;
+use field_list::Field;
 use layout::align::align_up;
 ghost use Prim.Native.Nat.{_+_, _*_, _≤_};
 ghost use mathlib.Core.Path.{_≡_};
-ghost use Rattle.semantics.specs.Layout.{sizeOf, marksOf};
+ghost use lib.ListN.{take};
+ghost use Rattle.semantics.specs.Layout.{isPtr};
 ghost use Rattle.sizes.specs.Sizes.{typeAt, TypeLine};
 ghost use Rattle.sizes.specs.Places.{fieldAt, fieldsAt, commonAt, caseAt, FieldLine, FieldRefs, RecordLine, CaseLine};
+ghost use Rattle.field_list.specs.Fields.{fieldsFrom, pointersIn};
 ghost use Rattle.shapes.specs.Maps.{MapRoom, Marks};
-ghost use Rattle.shapes.specs.Fields.{marksOfAll, LineMarked, AllMarked};
+ghost use Rattle.shapes.specs.Fields.{LineMarked, AllMarked};
 
-// What the type of line t marks where it lies at `off`: its first word, if that is a pointer.
-fn mark_type(sheet: &[u8], work: &mut [u8], n: usize, t: usize, size: u32, off: u32)
-    requires { ⌜ (TypeLine (now sheet) (now work) n t) × (MapRoom (now work) size) ⌝ }
-    ensures { λ _. ⌜ Marks size (marksOf (typeAt (now (sheet .entry)) t) off) (now (work .entry)) (now (work .exit)) ⌝ }
+// Marks the pointers of a lent list of fields.
+pub fn mark_list(size: u32, fields: &[Field], work: &mut [u8])
+    requires { ⌜ MapRoom (now work) size ⌝ }
+    ensures { λ _. ⌜ Marks size (pointersIn (now (fields .entry))) (now (work .entry)) (now (work .exit)) ⌝ }
 {
-    if sizes::is_pointer(sheet, work, n, t) {
-        map::mark_at(work, size, off);
-        return;
+    let mut i: usize = 0;
+    while i < fields.len() {
+        let f = fields[i];
+        map::mark_if(&mut *work, size, f.offset, f.pointer);
+        i += 1;
     }
+}
+
+// The same of the first fields of an array, which are lent here.
+fn mark_first(size: u32, a: [Field; 16], count: usize, work: &mut [u8])
+    requires { ⌜ (count ≤ 16) × (MapRoom (now work) size) ⌝ }
+    ensures { λ _. ⌜ Marks size (pointersIn (take count a)) (now (work .entry)) (now (work .exit)) ⌝ }
+{
+    mark_list(size, &a[..count], work)
 }
 
 // So many fields of the type of line t, of size `step`, one behind the other. Returns where they end.
@@ -29,19 +42,15 @@ fn mark_names(
     size: u32,
     off: u32,
     step: u32,
-    names: u32,
+    names: usize,
 ) -> u32
-    requires { ⌜ (TypeLine (now sheet) (now work) n t) × (MapRoom (now work) size) × (step ≡ sizeOf (typeAt (now sheet) t)) × (step ≤ 8192) × (names ≤ 16) × (off ≤ 4600000) ⌝ }
-    ensures { λ q. ⌜ (q ≡ off + names * step) × (Marks size (marksOfAll (typeAt (now (sheet .entry)) t) off names) (now (work .entry)) (now (work .exit))) ⌝ }
+    requires { ⌜ (TypeLine (now sheet) (now work) n t) × (MapRoom (now work) size) × (step ≤ 8192) × (names ≤ 16) × (off ≤ 4600000) ⌝ }
+    ensures { λ q. ⌜ (q ≡ off + names * step) × (Marks size (pointersIn (fieldsFrom off step (isPtr (typeAt (now (sheet .entry)) t)) names)) (now (work .entry)) (now (work .exit))) ⌝ }
 {
-    let mut at = off;
-    let mut k = 0;
-    while k < names {
-        mark_type(sheet, work, n, t, size, at);
-        at += step;
-        k += 1;
-    }
-    at
+    let pointer = sizes::is_pointer(sheet, work, n, t);
+    let a = field_list::line_fields(off, step, pointer, names);
+    mark_first(size, a, names, work);
+    off + (names as u32) * step
 }
 
 // The fields of the `fd` line r, from `off` on. An untyped line has none.
@@ -54,7 +63,7 @@ fn mark_field(sheet: &[u8], work: &mut [u8], n: usize, r: usize, size: u32, off:
         return off;
     }
     let x = sizes::type_size_align(sheet, work, n, t);
-    let names = lines::number_at(sheet, work, n, r - 1, 1) as u32;
+    let names = lines::number_at(sheet, work, n, r - 1, 1);
     let at = align_up(off, x.align) as u32;
     mark_names(sheet, work, n, t, size, at, x.size, names)
 }

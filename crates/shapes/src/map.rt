@@ -1,5 +1,6 @@
 // A pointer map in the working space.
 ghost use mathlib.Core.Path.{_≡_};
+ghost use mathlib.Core.Bool.{cond};
 ghost use mathlib.Core.List.{[], _∷_};
 ghost use Prim.Native.Nat.{_+_, _^_, _-_, _%_, _<_};
 ghost use lib.IntN.{pos};
@@ -43,6 +44,17 @@ pub fn mark_at(work: &mut [u8], size: u32, off: u32)
     let w = off / 4;
     let at = MAP + (w / 8) as usize;
     work[at] = work[at] | bit_of(w);
+}
+
+// The same of a field's offset: one that is no pointer marks nothing.
+pub fn mark_if(work: &mut [u8], size: u32, off: u32, pointer: bool)
+    requires { ⌜ MapRoom (now work) size ⌝ }
+    ensures { λ _. ⌜ Marks size (cond pointer (pos off ∷ []) []) (now (work .entry)) (now (work .exit)) ⌝ }
+{
+    if pointer {
+        mark_at(work, size, off);
+        return;
+    }
 }
 
 // The same of an offset that may be below 0: such a one marks nothing.

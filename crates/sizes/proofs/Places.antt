@@ -8,7 +8,7 @@ use native.Mathlib.Nat.{mul-le-mul-left, mul-le-mul-right, suc-mul}
 use native.Mathlib.Numerals.{add-one}
 use native.Mathlib.Omega.{arith}
 use lib.Dec.{ltb, eqb}
-use lib.ListN.{length, drop, getD}
+use lib.ListN.{length, take, drop, getD}
 use lib.Seq.{getD-drop}
 use borrow.Author.Tests.{ltb-true, eqb-true, eqb-false, ne-eqb}
 use Rattle.semantics.specs.Text.{Bytes, headPart, tailParts}
@@ -19,6 +19,9 @@ use Rattle.semantics.specs.Form.Atom.{name, ref, maybe}
 use Rattle.semantics.specs.Form.Part.{one, many}
 use Rattle.semantics.specs.Refusal.{lineAt, refsIn}
 use Rattle.semantics.specs.Layout.{alignUp, sizeOf, alignOf, Placed, placeNames, place, furthest}
+use Rattle.field_list.specs.declared.Field.{Field}
+use Rattle.field_list.specs.Fields.{fieldsFrom, lineFields, furthestIn}
+use Rattle.field_list.proofs.Laws.{line-take}
 use Rattle.text.specs.Number as Number
 use Rattle.form.specs.Table.{rowAt, kindAt, rowNode}
 use Rattle.form.proofs.Table.{both}
@@ -38,32 +41,26 @@ use Rattle.sizes.proofs.Types.{field-form, case-form, adt-form, pick-fo
 pub names-small : {a b : ℕ} → a ≤ 16 → b ≤ 8192 → a * b ≤ 131072
 names-small {a} {b} h k = omega (arith, mul-le-mul-left a k, mul-le-mul-right 8192 h)
 
--- names lie one behind the other, so the last ends furthest
+-- names lie one behind the other
 pub names-end : (t : Ty) (off : ℕ) (ns : List Bytes) → placeNames t off ns .end ≡ off + length ns * sizeOf t
 names-end t off [] = omega arith
 names-end t off (n ∷ ns) = omega (arith, names-end t (off + sizeOf t) ns, suc-mul (length ns) (sizeOf t))
 
-names-furthest : (t : Ty) (off f : ℕ) (n : Bytes) (ns : List Bytes) → furthest f (placeNames t off (n ∷ ns) .placed) ≡ max f (placeNames t off (n ∷ ns) .end)
-names-furthest t off f n [] = refl
-names-furthest t off f n (m ∷ ns) = omega (arith, names-furthest t (off + sizeOf t) (max f (off + sizeOf t)) m ns, names-end t (off + sizeOf t) (m ∷ ns))
+names-furthest : (t : Ty) (pointer : Bool) (off f : ℕ) (ns : List Bytes) → furthestIn f (fieldsFrom off (sizeOf t) pointer (length ns)) ≡ furthest f (placeNames t off ns .placed)
+unfolding fieldsFrom
+names-furthest t pointer off f [] = refl
+names-furthest t pointer off f (n ∷ ns) = names-furthest t pointer (off + sizeOf t) (max f (off + sizeOf t)) ns
 
-module _ (p q : Reached) (size align names : ℕ) (at : ℕ) (ha : at ≡ alignUp align (p .end)) (he : q .end ≡ at + names * size) (t : Ty) (ns : List Bytes) (m : Measures t size align) (hn : names ≡ length ns) where
-  line-end : q .end ≡ placeNames t (alignUp (alignOf t) (p .end)) ns .end
-  line-end = rw (names-end t (alignUp (alignOf t) (p .end)) ns, he, ha, hn, m .whole, m .step)
+-- the furthest end of a line's list
+pub list-furthest : (size at names f : ℕ) (pointer : Bool) {a : List Field} {e : ℕ} → a ≡ lineFields at size pointer names → e ≡ furthestIn f (take names a) → e ≡ furthestIn f (fieldsFrom at size pointer names)
+list-furthest size at names f pointer h k = k ∙ rw (h, line-take size pointer at names)
 
-  pub placed-none : names ≡ 0 → q .furthest ≡ p .furthest → LinePlaced (some t) ns p q
-  placed-none z hf = record { end = line-end; furthest = hf ∙ go ns (sym hn ∙ z) }
-    where
-      go : (ms : List Bytes) → length ms ≡ 0 → p .furthest ≡ furthest (p .furthest) (placeNames t (alignUp (alignOf t) (p .end)) ms .placed)
-      go [] e = refl
-      go (x ∷ ms) e = absurd (omega arith)
-
-  pub placed-some : (names ≡ 0 → ⊥) → q .furthest ≡ max (p .furthest) (q .end) → LinePlaced (some t) ns p q
-  placed-some z hf = record { end = line-end; furthest = hf ∙ rw line-end (go ns (λ e. z (hn ∙ e))) }
-    where
-      go : (ms : List Bytes) → (length ms ≡ 0 → ⊥) → max (p .furthest) (placeNames t (alignUp (alignOf t) (p .end)) ms .end) ≡ furthest (p .furthest) (placeNames t (alignUp (alignOf t) (p .end)) ms .placed)
-      go [] e = absurd (e refl)
-      go (x ∷ ms) e = sym (names-furthest t (alignUp (alignOf t) (p .end)) (p .furthest) x ms)
+pub line-placed : (p q : Reached) (size align names at : ℕ) (pointer : Bool) → at ≡ alignUp align (p .end) → q .end ≡ at + names * size → q .furthest ≡ furthestIn (p .furthest) (fieldsFrom at size pointer names)
+    → (t : Ty) (ns : List Bytes) → Measures t size align → names ≡ length ns → LinePlaced (some t) ns p q
+line-placed p q size align names at pointer ha he hf t ns m hn = record {
+  end = rw (names-end t (alignUp (alignOf t) (p .end)) ns, he, ha, hn, m .whole, m .step);
+  furthest = hf ∙ rw (← names-furthest t pointer (alignUp (alignOf t) (p .end)) (p .furthest) ns, ha, hn, m .whole, m .step);
+}
 
 -- ---- an `fd` line
 

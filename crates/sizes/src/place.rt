@@ -1,6 +1,6 @@
 // Where the fields of a record lie.
 use crate::SizeAlign;
-use crate::larger;
+use crate::is_pointer;
 use crate::type_size_align;
 use layout::align::align_up;
 ghost use Prim.Native.Nat.{_+_, _≤_};
@@ -19,22 +19,17 @@ pub struct Reached {
     pub furthest: u32,
 }
 
-// Behind one more `fd` line, with so many names of a type of size and alignment x.
-pub fn place_line(p: Reached, x: SizeAlign, names: u32) -> Reached
+// Behind one more `fd` line, with so many names of a type of size and alignment x. Its fields are gathered in a list, and the list is lent.
+pub fn place_line(p: Reached, x: SizeAlign, pointer: bool, names: usize) -> Reached
     requires { ⌜ (p .end ≤ 4500000) × (x .size ≤ 8192) × (x .align ≤ 8) × (names ≤ 16) ⌝ }
     ensures { λ q. ⌜ ((t : Ty) (ns : List Bytes) → Measures t (x .size) (x .align) → names ≡ length ns → LinePlaced (some t) ns p q) × (q .end ≤ p .end + 131080) ⌝ }
 {
     let at = align_up(p.end, x.align) as u32;
-    let end = at + names * x.size;
-    if names == 0 {
-        return Reached {
-            end: end,
-            furthest: p.furthest,
-        };
-    }
+    let fields = field_list::line_fields(at, x.size, pointer, names);
+    let furthest = field_list::furthest_of(p.furthest as u64, fields, names);
     Reached {
-        end: end,
-        furthest: larger(p.furthest, end),
+        end: at + (names as u32) * x.size,
+        furthest: furthest as u32,
     }
 }
 
@@ -48,7 +43,8 @@ pub fn place_field(sheet: &[u8], work: &[u8], n: usize, r: usize, p: Reached) ->
         return p;
     }
     let x = type_size_align(sheet, work, n, t);
-    place_line(p, x, lines::number_at(sheet, work, n, r - 1, 1) as u32)
+    let pointer = is_pointer(sheet, work, n, t);
+    place_line(p, x, pointer, lines::number_at(sheet, work, n, r - 1, 1))
 }
 
 // Behind the `fd` lines to which `count` fields of line r refer, from field `from` on.

@@ -1,6 +1,4 @@
 -- `consts::is_left` meets its contract.
-use native.Mathlib.Omega.{arith}
-use borrow.Author.Needs.{needs}
 use borrow.Author.Tests.{eq-eqb, ne-eqb}
 use Rattle.consts.specs.Passes.{left}
 use Rattle.consts.proofs.is_left.Statement.{statement}

@@ -1,7 +1,7 @@
 -- `consts::visit_constant` meets its contract.
-use borrow.Author.Tests.{not-true, not-false}
-use Rattle.consts.proofs.Walk as Walk
 use denote.Ref.{now}
+use Rattle.consts.proofs.Walk as Walk
+use borrow.Author.Tests.{not-true, not-false}
 use borrow.Author.Needs.{needs}
 use Rattle.consts.proofs.visit_constant.Statement.{statement}
 use Rattle.consts.proofs.visit_constant.Tie as tie
@@ -12,11 +12,11 @@ number-at-requires c κs = search needs
 number-at-requires-2 : tie.Need-number-at-requires-2
 number-at-requires-2 c κs = search needs
 
-iota-at-requires : tie.Need-iota-at-requires
-iota-at-requires c κs = search needs
+advance-requires : tie.Need-advance-requires
+advance-requires c κs = search needs
 
 take-constant-requires : tie.Need-take-constant-requires
-take-constant-requires c κs = Walk.const-line (now (c .before .before .before .before .before .before .before .before .before .args .sheet)) (now (c .before .before .before .before .before .before .before .before .before .args .work)) (c .before .before .before .before .before .before .before .before .before .args .n) (c .before .before .before .before .before .before .before .before .before .args .k) (c .before .before .before .before .before .before .before .before .before .args .p) (c .before .before .before .before .before .before .before .before .before .pre .0) (c .before .before .before .before .before .before .before .before .before .pre .1)
+take-constant-requires c κs = Walk.const-line (now (c .before .before .before .before .before .before .before .before .before .before .args .sheet)) (now (c .before .before .before .before .before .before .before .before .before .before .args .work)) (c .before .before .before .before .before .before .before .before .before .before .args .n) (c .before .before .before .before .before .before .before .before .before .before .args .k) (c .before .before .before .before .before .before .before .before .before .before .args .p) ((c .before .before .before .before .before .before .before .before .before .before .pre) .0) ((c .before .before .before .before .before .before .before .before .before .before .pre) .1)
 
 add-t22 : tie.Need-add-t22
 add-t22 c = search needs
@@ -25,10 +25,7 @@ same-length : tie.Need-same-length
 same-length c = search needs
 
 returns : tie.Need-returns
-returns c = (c .before .before .before .take-constant .ensures .0, Walk.visit-refused (now (c .before .before .before .before .before .before .before .before .before .before .before .before .before .args .sheet)) (now (c .before .before .before .before .before .before .before .before .before .before .before .before .before .args .work)) (c .before .before .before .before .before .before .before .before .before .before .before .before .before .args .n) (c .before .before .before .before .before .before .before .before .before .before .before .before .before .args .k) (c .before .before .before .before .before .before .before .before .before .before .before .before .before .args .p) (c .before .before .before .before .before .before .before .before .before .before .before .before .before .pre .0) (c .before .before .before .before .before .before .before .before .before .before .before .before .before .pre .1) (c .before .before .before .before .before .before .before .before .number-at .result) (c .before .before .before .before .before .before .number-at2 .result) (c .before .before .before .before .iota-at .result) (c .before .before .before .before .before .before .before .before .number-at .ensures .0) (c .before .before .before .before .before .before .number-at2 .ensures .0) (c .before .before .before .before .iota-at .ensures .0) _ (c .before .before .before .take-constant .ensures .0) (rw (not-true (c .before .before .before .take-constant .result) (c .if1 .taken)) at (c .before .before .before .take-constant .ensures .1)))
-
-iota-next-requires : tie.Need-iota-next-requires
-iota-next-requires c κs = search needs
+returns c = (c .before .before .before .take-constant .ensures .0, Walk.visit-refused (now (c .before .before .before .before .before .before .before .before .before .before .before .before .before .before .args .sheet)) (now (c .before .before .before .before .before .before .before .before .before .before .before .before .before .before .args .work)) (c .before .before .before .before .before .before .before .before .before .before .before .before .before .before .args .n) (c .before .before .before .before .before .before .before .before .before .before .before .before .before .before .args .k) (c .before .before .before .before .before .before .before .before .before .before .before .before .before .before .args .p) ((c .before .before .before .before .before .before .before .before .before .before .before .before .before .before .pre) .0) ((c .before .before .before .before .before .before .before .before .before .before .before .before .before .before .pre) .1) (c .before .before .before .before .before .before .before .before .before .number-at .result) (c .before .before .before .before .before .before .before .number-at2 .result) (c .before .before .before .before .before .before .before .before .before .number-at .ensures .0) (c .before .before .before .before .before .before .before .number-at2 .ensures .0) (c .before .before .before .before .before .before .advance .result) (c .before .before .before .before .before .before .advance .ensures) _ (c .before .before .before .take-constant .ensures .0) (rw (not-true (c .before .before .before .take-constant .result) (c .if1 .taken)) at (c .before .before .before .take-constant .ensures .1)))
 
 add-t23 : tie.Need-add-t23
 add-t23 c = search needs
@@ -40,7 +37,7 @@ same-length-2 : tie.Need-same-length-2
 same-length-2 c = search needs
 
 returns-2 : tie.Need-returns-2
-returns-2 c = (c .before .before .before .before .take-constant .ensures .0, Walk.visit-on (now (c .before .before .before .before .before .before .before .before .before .before .before .before .before .before .args .sheet)) (now (c .before .before .before .before .before .before .before .before .before .before .before .before .before .before .args .work)) (c .before .before .before .before .before .before .before .before .before .before .before .before .before .before .args .n) (c .before .before .before .before .before .before .before .before .before .before .before .before .before .before .args .k) (c .before .before .before .before .before .before .before .before .before .before .before .before .before .before .args .p) (c .before .before .before .before .before .before .before .before .before .before .before .before .before .before .pre .0) (c .before .before .before .before .before .before .before .before .before .before .before .before .before .before .pre .1) (c .before .before .before .before .before .before .before .before .before .number-at .result) (c .before .before .before .before .before .before .before .number-at2 .result) (c .before .before .before .before .before .iota-at .result) (c .before .before .before .before .before .before .before .before .before .number-at .ensures .0) (c .before .before .before .before .before .before .before .number-at2 .ensures .0) (c .before .before .before .before .before .iota-at .ensures .0) _ (c .before .before .before .before .take-constant .ensures .0) (rw (not-false (c .before .before .before .before .take-constant .result) (c .before .if1 .left)) at (c .before .before .before .before .take-constant .ensures .1)) (c .iota-next .result) (c .iota-next .ensures .0) (c .iota-next .ensures .1))
+returns-2 c = (c .before .before .before .take-constant .ensures .0, Walk.visit-on (now (c .before .before .before .before .before .before .before .before .before .before .before .before .before .before .args .sheet)) (now (c .before .before .before .before .before .before .before .before .before .before .before .before .before .before .args .work)) (c .before .before .before .before .before .before .before .before .before .before .before .before .before .before .args .n) (c .before .before .before .before .before .before .before .before .before .before .before .before .before .before .args .k) (c .before .before .before .before .before .before .before .before .before .before .before .before .before .before .args .p) ((c .before .before .before .before .before .before .before .before .before .before .before .before .before .before .pre) .0) ((c .before .before .before .before .before .before .before .before .before .before .before .before .before .before .pre) .1) (c .before .before .before .before .before .before .before .before .before .number-at .result) (c .before .before .before .before .before .before .before .number-at2 .result) (c .before .before .before .before .before .before .before .before .before .number-at .ensures .0) (c .before .before .before .before .before .before .before .number-at2 .ensures .0) (c .before .before .before .before .before .before .advance .result) (c .before .before .before .before .before .before .advance .ensures) _ (c .before .before .before .take-constant .ensures .0) (rw (not-false (c .before .before .before .take-constant .result) (c .if1 .left)) at (c .before .before .before .take-constant .ensures .1)))
 
 pub visit-constant-spec : {M : Type 1} → statement M
 visit-constant-spec =
@@ -48,12 +45,11 @@ visit-constant-spec =
     (tie.spec
     number-at-requires
     number-at-requires-2
-    iota-at-requires
+    advance-requires
     take-constant-requires
     add-t22
     same-length
     returns
-    iota-next-requires
     add-t23
     add-t24
     same-length-2

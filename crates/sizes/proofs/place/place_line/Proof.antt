@@ -1,39 +1,58 @@
-use native.Mathlib.Omega.{arith}
-use Rattle.sizes.proofs.Places.{names-small, placed-none, placed-some}
+-- `sizes::place::place_line` meets its contract.
+use Rattle.sizes.proofs.Places.{names-small, list-furthest, line-placed}
+use Rattle.field_list.proofs.Laws.{furthest-low}
 use mathlib.Core.Path.{refl}
+use Prim.Native.Nat.{_<_, _^_}
+use native.Mathlib.Omega.{arith}
 use borrow.Author.Needs.{needs}
 use Rattle.sizes.proofs.place.place_line.Statement.{statement}
 use Rattle.sizes.proofs.place.place_line.Tie as tie
 
--- src/place.rt:28:14
 align-up-requires : tie.Need-align-up-requires
 align-up-requires c κs = search needs
 
--- src/place.rt:28:14
 cast-at : tie.Need-cast-at
 cast-at c = search needs
 
--- src/place.rt:29:20
-mul-end : tie.Need-mul-end
-mul-end c = record { fits = omega (arith, names-small (c .before .before .pre .3) (c .before .before .pre .1)) }
+line-fields-requires : tie.Need-line-fields-requires
+line-fields-requires c κs = ((c .before .pre) .3, omega (arith, names-small ((c .before .pre) .3) ((c .before .pre) .1), c .align-up .ensures .1, (c .before .pre) .0, (c .before .pre) .2))
 
--- src/place.rt:29:15
-add-end : tie.Need-add-end
-add-end c = record { fits = omega (arith, names-small (c .before .before .pre .3) (c .before .before .pre .1), c .before .align-up .ensures .1, c .before .before .pre .0, c .before .before .pre .2) }
+cast-furthest-of : tie.Need-cast-furthest-of
+cast-furthest-of c = search needs
 
--- src/place.rt:31:9
+furthest-of-requires : tie.Need-furthest-of-requires
+furthest-of-requires c κs = search needs
+
+cast-t9 : tie.Need-cast-t9
+cast-t9 c = search needs
+
+mul-t10 : tie.Need-mul-t10
+mul-t10 c = record { fits = omega (arith, names-small ((c .before .before .before .before .before .pre) .3) ((c .before .before .before .before .before .pre) .1)) }
+
+add-t11 : tie.Need-add-t11
+add-t11 c = record { fits = omega (arith, names-small ((c .before .before .before .before .before .pre) .3) ((c .before .before .before .before .before .pre) .1), c .before .before .before .before .align-up .ensures .1, (c .before .before .before .before .before .pre) .0, (c .before .before .before .before .before .pre) .2) }
+
+cast-t12 : tie.Need-cast-t12
+cast-t12 c =
+    let st = c .before .before .before .before .before in
+    let e = list-furthest (st .args .x .size) (c .before .before .before .before .align-up .result) (st .args .names) (st .args .p .furthest) (st .args .pointer) (c .before .before .before .line-fields .ensures) (c .before .furthest-of .ensures) in
+    let low : st .args .p .furthest < 2 ^ 32 = c .before .before .struct-known .given .1 .0 .fits in
+    record { fits = rw e (furthest-low (2 ^ 32) (c .before .before .before .before .align-up .result) (st .args .x .size) (st .args .pointer) (st .args .names) (st .args .p .furthest) low (line-fields-requires (c .before .before .before .before) tt .1)) }
+
 returns : tie.Need-returns
-returns c = (λ t ns m hn. placed-none (c .before .before .before .args .p) _ (c .before .before .before .args .x .size) (c .before .before .before .args .x .align) (c .before .before .before .args .names) (c .before .before .align-up .result) (c .before .before .align-up .ensures .0) refl t ns m hn (c .if1 .taken) refl, omega (arith, names-small (c .before .before .before .pre .3) (c .before .before .before .pre .1), c .before .before .align-up .ensures .1, c .before .before .before .pre .2))
-
--- src/place.rt:33:35
-larger-requires : tie.Need-larger-requires
-larger-requires c κs = search needs
-
--- src/place.rt:24:1
-returns-2 : tie.Need-returns-2
-returns-2 c = (λ t ns m hn. placed-some (c .before .before .before .before .args .p) _ (c .before .before .before .before .args .x .size) (c .before .before .before .before .args .x .align) (c .before .before .before .before .args .names) (c .before .before .before .align-up .result) (c .before .before .before .align-up .ensures .0) refl t ns m hn (c .before .if1 .left) (c .larger .ensures), omega (arith, names-small (c .before .before .before .before .pre .3) (c .before .before .before .before .pre .1), c .before .before .before .align-up .ensures .1, c .before .before .before .before .pre .2))
+returns c = (line-placed (c .before .before .before .before .before .args .p) _ (c .before .before .before .before .before .args .x .size) (c .before .before .before .before .before .args .x .align) (c .before .before .before .before .before .args .names) (c .before .before .before .before .align-up .result) (c .before .before .before .before .before .args .pointer) (c .before .before .before .before .align-up .ensures .0) refl (list-furthest (c .before .before .before .before .before .args .x .size) (c .before .before .before .before .align-up .result) (c .before .before .before .before .before .args .names) (c .before .before .before .before .before .args .p .furthest) (c .before .before .before .before .before .args .pointer) (c .before .before .before .line-fields .ensures) (c .before .furthest-of .ensures)), omega (arith, names-small ((c .before .before .before .before .before .pre) .3) ((c .before .before .before .before .before .pre) .1), c .before .before .before .before .align-up .ensures .1, (c .before .before .before .before .before .pre) .2))
 
 pub place-line-spec : {M : Type 1} → statement M
 place-line-spec =
     tie.close
-    (tie.spec align-up-requires cast-at mul-end add-end returns larger-requires returns-2)
+    (tie.spec
+    align-up-requires
+    cast-at
+    line-fields-requires
+    cast-furthest-of
+    furthest-of-requires
+    cast-t9
+    mul-t10
+    add-t11
+    cast-t12
+    returns)
