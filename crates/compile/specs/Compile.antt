@@ -7,9 +7,6 @@ use Rattle.semantics.specs.Sheet.{sheetSource}
 use Rattle.semantics.specs.Global.{Declared, declaredIn}
 use Rattle.semantics.specs.Const.{namesOf}
 use Rattle.semantics.specs.Refusal.{Outcome, listed, refused, compiled, sourceListing, sourceGlobals, zeros, padded}
-use Rattle.stored.proofs.Items.{Each}
-use Rattle.stored.proofs.Names.{PlainSource}
-use Rattle.stored.proofs.Ranges.{SoundFirst}
 use Rattle.checks.specs.Checks.{Checked}
 use Rattle.answers.specs.Answers.{numberOf, lineOf, Numbered}
 use Rattle.compile.specs.declared.Listed.{Listed}
@@ -38,9 +35,5 @@ Settles s o L W (Refused q k) d u = Refuses o L q k d
 abbrev pub Lists : Bytes → ℕ → ℕ → Listed → Bytes → Bytes → Type 0
 Lists s L W r d u = Settles s (compiled L W s) L W r d u
 
-abbrev pub Sounds : Type 0
-Sounds = (s t : Bytes) (n : ℕ) → Checked s t n → PlainSource (sheetSource s) × (length (sheetSource s .frames) ≤ 128) × (length (sheetSource s .needs) ≤ 128) × Each (λ (d : Declared). SoundFirst (d .first)) (declaredIn (namesOf (sheetSource s)) (sheetSource s))
-
 pub record Stub : Type 0 where
   pub lists : (s : Bytes) (L W : ℕ) (d u : Bytes) → Lists s L W (Refused 1 0) d u
-  pub sound : Sounds

@@ -20,12 +20,13 @@ use Rattle.demand.proofs.Theorem.{demand}
 use Rattle.replay.specs.declared.Replayed.{Replayed}
 use Rattle.replay.specs.declared.Replayed.the-variants as Replayed
 use Rattle.replay.specs.Whole.{Replays}
-use Rattle.replay.proofs.Meets.{lengthsOf, Meets, sheet-meets}
+use Rattle.replay.proofs.Meets.{lengthsOf, Meets}
+use Rattle.sound.proofs.Replay.{sheet-replayed}
 use Rattle.answers.specs.declared.Refusal.{Refusal}
 use Rattle.answers.specs.Answers.{numberOf, lineOf}
 use Rattle.compile.specs.declared.Listed.{Listed}
 use Rattle.compile.specs.declared.Listed.the-variants as Listed
-use Rattle.compile.specs.Compile.{Lays, Refuses, Lists, Sounds}
+use Rattle.compile.specs.Compile.{Lays, Refuses, Lists}
 use Rattle.image.specs.declared.Imaged.{Imaged}
 use Rattle.image.specs.declared.Imaged.the-variants.{Laid, Refused}
 use Rattle.image.specs.Image.{pictured, Pictures}
@@ -51,7 +52,7 @@ has-refused s L W u {q} {k} {listing} e h = subst (λ (r : Listed). Lists s L W 
 
 -- ---- the answers
 
-module _ (sound : Sounds) (s : Bytes) (b : Buffers) where
+module _ (s : Bytes) (b : Buffers) where
   laid-pictures : {l i a : ℕ} {listing image area : Bytes} (out x y : Bytes) → compiled (b .listing) (b .work) s ≡ listed out → imaged b s ≡ laid x y
       → l ≡ length out → l ≤ b .listing → listing ≡ padded (b .listing) out
       → i ≡ length x → image ≡ padded (b .image) x → length image ≡ b .image
@@ -107,10 +108,9 @@ module _ (sound : Sounds) (s : Bytes) (b : Buffers) where
   met : {l end : ℕ} {listing u t t′ image image′ area area′ : Bytes} {r : Replayed} → Listing l end listing u → length image ≡ b .image → length area ≡ b .area
       → Replays (take (l - 0) listing) end t t′ image image′ area area′ r → Meets (imaged b s) (b .image) (b .area) r image′ area′
   met {l} {end} {listing} {u} {t} {t′} {image} {image′} {area} {area′} {r} h image-long area-long e =
-      let f = sound s u (h .lines) (h .checked) in
       let out = front (b .listing) (sourceListing (sheetSource s)) (h .bytes) (sub-zero l ∙ h .long) in
       let at : Replays (sourceListing (sheetSource s)) (items .end) t t′ image image′ area area′ r = subst (λ (n : ℕ). Replays (sourceListing (sheetSource s)) n t t′ image image′ area area′ r) (h .ends) (subst (λ (x : Bytes). Replays x end t t′ image image′ area area′ r) out e) in
-      subst (λ (q : Image). Meets q (b .image) (b .area) r image′ area′) (sym (replays (h .outcome))) (sheet-meets (sheetSource s) b (f .0) (f .1) (f .2) (f .3) image-long area-long at)
+      subst (λ (q : Image). Meets q (b .image) (b .area) r image′ area′) (sym (replays (h .outcome))) (sheet-replayed s u (h .lines) (h .checked) b image-long area-long at)
 
   outgrown : (t u : Bool) (x y : Bytes) → Replayed.Outgrown ≡ lengthsOf (cond t (notLaid 13 0) (cond u (notLaid 13 0) (laid x y))) → cond t (notLaid 13 0) (cond u (notLaid 13 0) (laid x y)) ≡ notLaid 13 0
   outgrown true u x y h = refl

@@ -1,0 +1,160 @@
+use borrow.Author.Needs.{needs}
+use Rattle.image_main.proofs.main.Statement.{statement}
+use Rattle.image_main.proofs.main.Tie as tie
+use Rattle.image_main.proofs.main.Reads as reads
+use Rattle.image_main.proofs.main.Lts as lts
+use Rattle.image.proofs.image.Reads as image-reads
+use Rattle.image_main.proofs.print_row.Reads as print-row-reads
+use Rattle.image_main.proofs.refuse.Reads as refuse-reads
+use Rattle.io.proofs.large_buffer.Reads as large-buffer-reads
+use Rattle.io.proofs.read_full.Reads as read-full-reads
+
+-- src/main.rt:28:21
+large-buffer-requires : tie.Need-large-buffer-requires
+large-buffer-requires c κs = search needs
+
+-- src/main.rt:29:23
+large-buffer-requires-2 : tie.Need-large-buffer-requires-2
+large-buffer-requires-2 c κs = search needs
+
+-- src/main.rt:30:23
+large-buffer-requires-3 : tie.Need-large-buffer-requires-3
+large-buffer-requires-3 c κs = search needs
+
+-- src/main.rt:31:20
+large-buffer-requires-4 : tie.Need-large-buffer-requires-4
+large-buffer-requires-4 c κs = search needs
+
+-- src/main.rt:32:20
+large-buffer-requires-5 : tie.Need-large-buffer-requires-5
+large-buffer-requires-5 c κs = search needs
+
+-- src/main.rt:33:41
+slice-aggregate-read-full : tie.Need-slice-aggregate-read-full
+slice-aggregate-read-full c = search needs
+
+-- src/main.rt:33:9
+read-full-requires : tie.Need-read-full-requires
+read-full-requires c κs = search needs
+
+-- src/main.rt:34:24
+array-share-prefix-sheet : tie.Need-array-share-prefix-sheet
+array-share-prefix-sheet c = search needs
+
+-- src/main.rt:34:24
+slice-aggregate-image : tie.Need-slice-aggregate-image
+slice-aggregate-image c = search needs
+
+-- src/main.rt:34:37
+slice-aggregate-image-2 : tie.Need-slice-aggregate-image-2
+slice-aggregate-image-2 c = search needs
+
+-- src/main.rt:34:51
+slice-aggregate-image-3 : tie.Need-slice-aggregate-image-3
+slice-aggregate-image-3 c = search needs
+
+-- src/main.rt:34:65
+slice-aggregate-image-4 : tie.Need-slice-aggregate-image-4
+slice-aggregate-image-4 c = search needs
+
+-- src/main.rt:34:76
+slice-aggregate-image-5 : tie.Need-slice-aggregate-image-5
+slice-aggregate-image-5 c = search needs
+
+-- src/main.rt:34:11
+image-requires : tie.Need-image-requires
+image-requires c κs = ?
+
+-- src/main.rt:35:25
+enum-known-r : tie.Need-enum-known-r
+enum-known-r c = search needs
+
+-- src/main.rt:35:31
+refuse-requires : tie.Need-refuse-requires
+refuse-requires c κs = search needs
+
+-- src/main.rt:36:25
+enum-known-i : tie.Need-enum-known-i
+enum-known-i c = search needs
+
+-- src/main.rt:37:23
+slice-aggregate-print-row : tie.Need-slice-aggregate-print-row
+slice-aggregate-print-row c = search needs
+
+-- src/main.rt:37:34
+sub-print-row : tie.Need-sub-print-row
+sub-print-row c = search needs
+
+-- src/main.rt:37:34
+part-print-row-start : tie.Need-part-print-row-start
+part-print-row-start c = search needs
+
+-- src/main.rt:37:34
+part-print-row-end : tie.Need-part-print-row-end
+part-print-row-end c = ?
+
+-- src/main.rt:37:13
+print-row-requires : tie.Need-print-row-requires
+print-row-requires c κs = search needs
+
+-- src/main.rt:38:23
+slice-aggregate-print-row-2 : tie.Need-slice-aggregate-print-row-2
+slice-aggregate-print-row-2 c = search needs
+
+-- src/main.rt:38:33
+sub-print-row-2 : tie.Need-sub-print-row-2
+sub-print-row-2 c = search needs
+
+-- src/main.rt:38:33
+part-print-row-start-2 : tie.Need-part-print-row-start-2
+part-print-row-start-2 c = search needs
+
+-- src/main.rt:38:33
+part-print-row-end-2 : tie.Need-part-print-row-end-2
+part-print-row-end-2 c = ?
+
+-- src/main.rt:38:13
+print-row-requires-2 : tie.Need-print-row-requires-2
+print-row-requires-2 c κs = search needs
+
+-- src/main.rt:27:1
+returns : tie.Need-returns
+returns c = search needs
+
+-- src/main.rt:27:1
+returns-2 : tie.Need-returns-2
+returns-2 c = search needs
+
+pub main-spec : {M : Type 1} → statement M
+main-spec =
+    tie.close
+    (tie.spec
+    large-buffer-requires
+    large-buffer-requires-2
+    large-buffer-requires-3
+    large-buffer-requires-4
+    large-buffer-requires-5
+    slice-aggregate-read-full
+    read-full-requires
+    array-share-prefix-sheet
+    slice-aggregate-image
+    slice-aggregate-image-2
+    slice-aggregate-image-3
+    slice-aggregate-image-4
+    slice-aggregate-image-5
+    image-requires
+    enum-known-r
+    refuse-requires
+    enum-known-i
+    slice-aggregate-print-row
+    sub-print-row
+    part-print-row-start
+    part-print-row-end
+    print-row-requires
+    slice-aggregate-print-row-2
+    sub-print-row-2
+    part-print-row-start-2
+    part-print-row-end-2
+    print-row-requires-2
+    returns
+    returns-2)
