@@ -143,3 +143,8 @@ module _ (s : Bytes) (b : Buffers) where
         let q = is ∙ never-fits (sym given ∙ m .answer ∙ ap lengthsOf is) in
         refused-pictures x (q ∙ (λ j. notLaid (sym number j) (sym line j))) (blank (b .listing) (listing-is ∙ ap zeros listing-long))
         (m .imageIs ∙ (λ j. padded (b .image) (imageBytes (q j)))) (m .areaIs ∙ (λ j. padded (b .area) (areaBytes (q j))))
+
+-- ---- for callers
+
+pub laid-within : {s : Bytes} {b : Buffers} {r : Imaged} {listing image area : Bytes} {l i a : ℕ} → r ≡ Laid l i a → Pictures s b r listing image area → (l ≤ b .listing) × (i ≤ b .image) × (a ≤ b .area)
+laid-within {s} {b} {r} {listing} {image} {area} e h = let x = subst (λ (r : Imaged). Pictures s b r listing image area) e h .lengths in (x .1, x .2, x .3)

@@ -1,3 +1,5 @@
+use native.Mathlib.Omega.{arith}
+use Rattle.image.proofs.Laws.{laid-within}
 use borrow.Author.Needs.{needs}
 use Rattle.image_main.proofs.main.Statement.{statement}
 use Rattle.image_main.proofs.main.Tie as tie
@@ -91,7 +93,7 @@ part-print-row-start c = search needs
 
 -- src/main.rt:37:34
 part-print-row-end : tie.Need-part-print-row-end
-part-print-row-end c = ?
+part-print-row-end c = let w = laid-within (c .before .before .before .i .given .1) (c .before .before .before .before .before .before .before .before .before .image .ensures .0) in omega (arith, w .1, c .before .before .before .before .before .before .before .before .before .image .kept .1 .1 .0)
 
 -- src/main.rt:37:13
 print-row-requires : tie.Need-print-row-requires
@@ -111,7 +113,7 @@ part-print-row-start-2 c = search needs
 
 -- src/main.rt:38:33
 part-print-row-end-2 : tie.Need-part-print-row-end-2
-part-print-row-end-2 c = ?
+part-print-row-end-2 c = let w = laid-within (c .before .before .before .before .before .before .before .i .given .1) (c .before .before .before .before .before .before .before .before .before .before .before .before .before .image .ensures .0) in omega (arith, w .2, c .before .before .before .before .before .before .before .before .before .before .before .before .before .image .kept .1 .1 .1 .0)
 
 -- src/main.rt:38:13
 print-row-requires-2 : tie.Need-print-row-requires-2
