@@ -81,7 +81,7 @@ module _ (s : Bytes) (b : Buffers) where
     demand = tt;
   }
 
--- ---- a refused sheet
+  -- ---- a refused sheet
 
   not-listed : {q k : ℕ} → compiled (b .listing) (b .work) s ≡ refused q k → imaged b s ≡ notLaid q k
   unfolding imaged
@@ -93,7 +93,7 @@ module _ (s : Bytes) (b : Buffers) where
   list-refused r h number line image-is area-is =
       refused-pictures r (not-listed (h .outcome) ∙ (λ j. notLaid (sym number j) (sym line j))) (blank (b .listing) (h .bytes)) (blank (b .image) image-is) (blank (b .area) area-is)
 
--- ---- replay
+  -- ---- replay
 
   abbrev items : Globals
   items = sourceGlobals (sheetSource s)

@@ -31,7 +31,13 @@ fn lay(
             write::zero(area);
             Imaged::Refused(answers::refuse(number, line))
         }
-        Listed::Written(l, end) => match replay::replay(&listing[0..l], work, image, area, end as usize) {
+        Listed::Written(l, end) => match replay::replay(
+            &listing[0..l],
+            work,
+            image,
+            area,
+            end as usize,
+        ) {
             Replayed::Laid(i, a) => Imaged::Laid(l, i, a),
             Replayed::Outgrown => {
                 write::zero(listing);

@@ -4,6 +4,8 @@ use answers::Refusal;
 use image::Imaged;
 use libc::STDIN_FILENO;
 use libc::STDOUT_FILENO;
+ghost use Prim.Native.Nat.{_≤_};
+ghost use lib.ListN.{length};
 
 fn refuse(r: Refusal) {
     io::write_all(STDOUT_FILENO, b"no,");
@@ -13,15 +15,15 @@ fn refuse(r: Refusal) {
     io::write_all(STDOUT_FILENO, b"\n");
 }
 
-// A row of a name and bytes; the buffer has room for the digits of 65,536 bytes.
-fn print_row(name: &[u8], bytes: &[u8]) {
-    let mut row = [0u8; 131200];
+// A row of a name and bytes.
+fn print_row(name: &[u8], bytes: &[u8])
+    requires { ⌜ (length (now name) ≤ 6) × (length (now bytes) ≤ 65536) ⌝ }
+{
+    let mut row = [0u8; 131079];
     let p = write::put_part(&mut row, 0, name);
     let q = write::put_hex(&mut row, p, bytes);
     let n = write::put(&mut row, q, 10);
-    if n <= row.len() {
-        io::write_all(STDOUT_FILENO, &row[0..n]);
-    }
+    io::write_all(STDOUT_FILENO, &row[0..n]);
 }
 
 fn main() {
@@ -31,7 +33,13 @@ fn main() {
     let mut area = io::large_buffer();
     let mut work = io::large_buffer();
     let n = io::read_full(STDIN_FILENO, &mut sheet);
-    match image::image(&sheet[..n], &mut listing, &mut picture, &mut area, &mut work) {
+    match image::image(
+        &sheet[..n],
+        &mut listing,
+        &mut picture,
+        &mut area,
+        &mut work,
+    ) {
         Imaged::Refused(r) => refuse(r),
         Imaged::Laid(_, i, a) => {
             print_row(b"image,", &picture[0..i]);
