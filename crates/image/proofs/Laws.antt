@@ -1,10 +1,10 @@
 -- From what compiling and replay leave to the contract of `image`.
-use Prim.Native.Nat.{ℕ, _+_, _-_, _≤_}
+use Prim.Native.Nat.{ℕ, _-_, _≤_}
 use native.Mathlib.Nat.{sub-zero}
 use native.Mathlib.Omega.{arith}
 use mathlib.Core.Path.{_≡_, refl, sym, ap, _∙_, subst}
 use mathlib.Core.Bool.{Bool, true, false, cond}
-use mathlib.Core.List.{List, [], _∷_, _++_}
+use mathlib.Core.List.{[]}
 use lib.ListN.{length, take, length-append}
 use lib.Seq.{take-append-seam}
 use lib.Dec.{ltb}
@@ -12,7 +12,7 @@ use Rattle.semantics.specs.Text.{Bytes}
 use Rattle.semantics.specs.Sheet.{sheetSource}
 use Rattle.semantics.specs.Global.{Globals}
 use Rattle.semantics.specs.Image.{memoryOf, areaAfter}
-use Rattle.semantics.specs.Refusal.{Buffers, Outcome, compiled, imaged, zeros, padded, listingBytes, listingKept, imageBytes, areaBytes, laidIn, replayed, afterListing, sourceGlobals, sourceListing}
+use Rattle.semantics.specs.Refusal.{Buffers, Outcome, compiled, imaged, zeros, padded, listingBytes, listingKept, imageBytes, areaBytes, replayed, afterListing, sourceGlobals, sourceListing}
 use Rattle.semantics.specs.Refusal.{Imaged as Image}
 use Rattle.semantics.specs.Refusal.Outcome.{listed, refused}
 use Rattle.semantics.specs.Refusal.Imaged.{laid, notLaid}
@@ -29,7 +29,7 @@ use Rattle.compile.specs.declared.Listed.the-variants as Listed
 use Rattle.compile.specs.Compile.{Lays, Refuses, Lists}
 use Rattle.image.specs.declared.Imaged.{Imaged}
 use Rattle.image.specs.declared.Imaged.the-variants.{Laid, Refused}
-use Rattle.image.specs.Image.{pictured, Pictures}
+use Rattle.image.specs.Image.{Pictures}
 
 -- ---- bytes and zeros behind them
 
@@ -105,6 +105,7 @@ module _ (s : Bytes) (b : Buffers) where
   abbrev Listing : ℕ → ℕ → Bytes → Bytes → Type 0
   Listing l end listing u = Lays s (compiled (b .listing) (b .work) s) (b .listing) (b .work) l end listing u
 
+  -- the items of the sheet's listing are replayed, so that the definition's image and area stand there
   met : {l end : ℕ} {listing u t t′ image image′ area area′ : Bytes} {r : Replayed} → Listing l end listing u → length image ≡ b .image → length area ≡ b .area
       → Replays (take (l - 0) listing) end t t′ image image′ area area′ r → Meets (imaged b s) (b .image) (b .area) r image′ area′
   met {l} {end} {listing} {u} {t} {t′} {image} {image′} {area} {area′} {r} h image-long area-long e =
@@ -112,6 +113,7 @@ module _ (s : Bytes) (b : Buffers) where
       let at : Replays (sourceListing (sheetSource s)) (items .end) t t′ image image′ area area′ r = subst (λ (n : ℕ). Replays (sourceListing (sheetSource s)) n t t′ image image′ area area′ r) (h .ends) (subst (λ (x : Bytes). Replays x end t t′ image image′ area area′ r) out e) in
       subst (λ (q : Image). Meets q (b .image) (b .area) r image′ area′) (sym (replays (h .outcome))) (sheet-replayed s u (h .lines) (h .checked) b image-long area-long at)
 
+  -- replay refuses by 13 alone
   outgrown : (t u : Bool) (x y : Bytes) → Replayed.Outgrown ≡ lengthsOf (cond t (notLaid 13 0) (cond u (notLaid 13 0) (laid x y))) → cond t (notLaid 13 0) (cond u (notLaid 13 0) (laid x y)) ≡ notLaid 13 0
   outgrown true u x y h = refl
   outgrown false true x y h = refl
@@ -144,7 +146,7 @@ module _ (s : Bytes) (b : Buffers) where
         refused-pictures x (q ∙ (λ j. notLaid (sym number j) (sym line j))) (blank (b .listing) (listing-is ∙ ap zeros listing-long))
         (m .imageIs ∙ (λ j. padded (b .image) (imageBytes (q j)))) (m .areaIs ∙ (λ j. padded (b .area) (areaBytes (q j))))
 
--- ---- for callers
+-- ---- for callers: the parts of the buffers that the answer counts
 
 pub laid-within : {s : Bytes} {b : Buffers} {r : Imaged} {listing image area : Bytes} {l i a : ℕ} → r ≡ Laid l i a → Pictures s b r listing image area → (l ≤ b .listing) × (i ≤ b .image) × (a ≤ b .area)
 laid-within {s} {b} {r} {listing} {image} {area} e h = let x = subst (λ (r : Imaged). Pictures s b r listing image area) e h .lengths in (x .1, x .2, x .3)

@@ -1,5 +1,5 @@
 -- What `image` leaves of a sheet: the answer, every byte of the lent buffers, and demand 3 of the bytes laid.
-use Prim.Native.Nat.{ℕ, _≤_}
+use Prim.Native.Nat.{_≤_}
 use mathlib.Core.Path.{_≡_}
 use lib.ListN.{length, take}
 use Rattle.semantics.specs.Text.{Bytes}

@@ -31,19 +31,16 @@ fn lay(
             write::zero(area);
             Imaged::Refused(answers::refuse(number, line))
         }
-        Listed::Written(l, end) => match replay::replay(
-            &listing[0..l],
-            work,
-            image,
-            area,
-            end as usize,
-        ) {
-            Replayed::Laid(i, a) => Imaged::Laid(l, i, a),
-            Replayed::Outgrown => {
-                write::zero(listing);
-                Imaged::Refused(answers::refuse(13, 0))
+        Listed::Written(l, end) => {
+            let laid = replay::replay(&listing[0..l], work, image, area, end as usize);
+            match laid {
+                Replayed::Laid(i, a) => Imaged::Laid(l, i, a),
+                Replayed::Outgrown => {
+                    write::zero(listing);
+                    Imaged::Refused(answers::refuse(13, 0))
+                }
             }
-        },
+        }
     }
 }
 

@@ -1,57 +1,41 @@
+-- `image_main::print_row` meets its contract.
 use native.Mathlib.Omega.{arith}
 use denote.Ref.{now}
 use Rattle.image_main.proofs.Laws.{hex-length}
 use borrow.Author.Needs.{needs}
 use Rattle.image_main.proofs.print_row.Statement.{statement}
 use Rattle.image_main.proofs.print_row.Tie as tie
-use Rattle.image_main.proofs.print_row.Reads as reads
-use Rattle.image_main.proofs.print_row.Lts as lts
-use Rattle.io.proofs.write_all.Reads as write-all-reads
-use Rattle.write.proofs.put.Reads as put-reads
-use Rattle.write.proofs.put_hex.Reads as put-hex-reads
-use Rattle.write.proofs.put_part.Reads as put-part-reads
 
--- src/main.rt:23:29
 slice-aggregate-put-part : tie.Need-slice-aggregate-put-part
 slice-aggregate-put-part c = search needs
 
--- src/main.rt:23:9
 put-part-requires : tie.Need-put-part-requires
 put-part-requires c κs = search needs
 
--- src/main.rt:24:28
 slice-aggregate-put-hex : tie.Need-slice-aggregate-put-hex
 slice-aggregate-put-hex c = search needs
 
--- src/main.rt:24:9
 put-hex-requires : tie.Need-put-hex-requires
 put-hex-requires c κs = search needs
 
--- src/main.rt:25:24
 slice-aggregate-put : tie.Need-slice-aggregate-put
 slice-aggregate-put c = search needs
 
--- src/main.rt:25:9
 put-requires : tie.Need-put-requires
 put-requires c κs = search needs
 
--- src/main.rt:26:34
 sub-write-all : tie.Need-sub-write-all
 sub-write-all c = search needs
 
--- src/main.rt:26:34
 part-write-all-start : tie.Need-part-write-all-start
 part-write-all-start c = search needs
 
--- src/main.rt:26:34
 part-write-all-end : tie.Need-part-write-all-end
 part-write-all-end c = omega (arith, c .before .before .before .before .before .before .before .before .before .before .before .before .pre .0, c .before .before .before .before .before .before .before .before .before .before .before .before .pre .1, c .before .before .before .before .before .before .before .before .put-part .ensures .place, c .before .before .before .before .before .put-hex .ensures .place, c .before .before .put .ensures .place, hex-length (now (c .before .before .before .before .before .before .before .before .before .before .before .before .args .bytes)), c .before .before .before .before .before .before .before .before .put-part .kept .0, c .before .before .before .before .before .put-hex .kept .0, c .before .before .put .kept .0)
 
--- src/main.rt:26:5
 write-all-requires : tie.Need-write-all-requires
 write-all-requires c κs = search needs
 
--- src/main.rt:19:1
 returns : tie.Need-returns
 returns c = search needs
 
