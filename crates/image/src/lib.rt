@@ -5,7 +5,6 @@ use replay::Replayed;
 ghost use mathlib.Core.Path.{_≡_};
 ghost use lib.ListN.{length};
 ghost use Rattle.semantics.specs.Refusal.{zeros};
-ghost use Rattle.compile.specs.Compile.{Stub};
 ghost use Rattle.image.specs.Image.{lentOf, Pictures};
 
 // The lengths of listing, image and area, or a refusal.
@@ -22,7 +21,6 @@ fn lay(
     area: &mut [u8],
     work: &mut [u8],
 ) -> Imaged
-    requires { ⌜ Stub ⌝ }
     ensures { λ r. ⌜ Pictures (now (sheet .entry)) (lentOf (now (listing .entry)) (now (image .entry)) (now (area .entry)) (now (work .entry))) r (now (listing .exit)) (now (image .exit)) (now (area .exit)) ⌝ }
 {
     match compile::list(sheet, listing, work) {
@@ -52,7 +50,6 @@ pub fn image(
     area: &mut [u8],
     work: &mut [u8],
 ) -> Imaged
-    requires { ⌜ Stub ⌝ }
     ensures { λ r. ⌜ (Pictures (now (sheet .entry)) (lentOf (now (listing .entry)) (now (image .entry)) (now (area .entry)) (now (work .entry))) r (now (listing .exit)) (now (image .exit)) (now (area .exit))) × (now (work .exit) ≡ zeros (length (now (work .entry)))) ⌝ }
 {
     let r = lay(sheet, listing, image, area, work);

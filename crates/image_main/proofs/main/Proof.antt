@@ -47,7 +47,7 @@ slice-aggregate-image-5 : tie.Need-slice-aggregate-image-5
 slice-aggregate-image-5 c = search needs
 
 image-requires : tie.Need-image-requires
-image-requires c κs = ?
+image-requires c κs = search needs
 
 enum-known-r : tie.Need-enum-known-r
 enum-known-r c = search needs
