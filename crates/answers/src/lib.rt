@@ -1,0 +1,83 @@
+// The refusals of 01, and their numbers and lines.
+ghost use mathlib.Core.Path.{_≡_};
+ghost use Rattle.answers.specs.Answers.{numberOf, lineOf, Numbered};
+
+// One case for each of the thirteen, in their order, with its line where it has one.
+pub enum Refusal {
+    LongSheet,
+    SmallSpace,
+    NoForm(usize),
+    BadReference(usize),
+    DeepNesting(usize),
+    BadModule(usize),
+    TooMany(usize),
+    LongString(usize),
+    LongAlloc(usize),
+    NegativeAlloc(usize),
+    OutsideLiteral(usize),
+    LongLiteral(usize),
+    Outgrown,
+}
+
+pub fn number_of(r: Refusal) -> u8
+    ensures { λ q. ⌜ q ≡ numberOf r ⌝ }
+{
+    match r {
+        Refusal::LongSheet => 1,
+        Refusal::SmallSpace => 2,
+        Refusal::NoForm(_) => 3,
+        Refusal::BadReference(_) => 4,
+        Refusal::DeepNesting(_) => 5,
+        Refusal::BadModule(_) => 6,
+        Refusal::TooMany(_) => 7,
+        Refusal::LongString(_) => 8,
+        Refusal::LongAlloc(_) => 9,
+        Refusal::NegativeAlloc(_) => 10,
+        Refusal::OutsideLiteral(_) => 11,
+        Refusal::LongLiteral(_) => 12,
+        Refusal::Outgrown => 13,
+    }
+}
+
+// Its line, from 1; 0 where it has none.
+pub fn line_of(r: Refusal) -> usize
+    ensures { λ k. ⌜ k ≡ lineOf r ⌝ }
+{
+    match r {
+        Refusal::LongSheet => 0,
+        Refusal::SmallSpace => 0,
+        Refusal::NoForm(k) => k,
+        Refusal::BadReference(k) => k,
+        Refusal::DeepNesting(k) => k,
+        Refusal::BadModule(k) => k,
+        Refusal::TooMany(k) => k,
+        Refusal::LongString(k) => k,
+        Refusal::LongAlloc(k) => k,
+        Refusal::NegativeAlloc(k) => k,
+        Refusal::OutsideLiteral(k) => k,
+        Refusal::LongLiteral(k) => k,
+        Refusal::Outgrown => 0,
+    }
+}
+
+// The refusal of this number at this line.
+pub fn refuse(number: u8, line: usize) -> Refusal
+    requires { ⌜ Numbered number line ⌝ }
+    ensures { λ r. ⌜ (numberOf r ≡ number) × (lineOf r ≡ line) ⌝ }
+{
+    match number {
+        1 => Refusal::LongSheet,
+        2 => Refusal::SmallSpace,
+        3 => Refusal::NoForm(line),
+        4 => Refusal::BadReference(line),
+        5 => Refusal::DeepNesting(line),
+        6 => Refusal::BadModule(line),
+        7 => Refusal::TooMany(line),
+        8 => Refusal::LongString(line),
+        9 => Refusal::LongAlloc(line),
+        10 => Refusal::NegativeAlloc(line),
+        11 => Refusal::OutsideLiteral(line),
+        12 => Refusal::LongLiteral(line),
+        _ => Refusal::Outgrown,
+    }
+}

@@ -1,0 +1,73 @@
+-- What an answer says of the outcome, from the checks up to zeros.
+use mathlib.Core.Path.{_≡_, sym, ap, _∙_, subst}
+use Prim.Native.Nat.{ℕ, _-_}
+use native.Mathlib.Omega.{arith}
+use lib.ListN.{length, take}
+use lib.Seq.{take-at}
+use Rattle.semantics.specs.Text.{Bytes}
+use Rattle.semantics.specs.Sheet.{sheetSource}
+use Rattle.semantics.specs.Refusal.{Outcome, listed, refused, zeros, padded, listingBytes, worked, compiled, sourceListing}
+use Rattle.checks.specs.Checks.{settled, tested, Checked, Tables}
+use Rattle.checks.specs.declared.Checks.{Checks}
+use Rattle.checks.specs.declared.Checks.the-variants as Answer
+use Rattle.checks.proofs.Laws.{compiled-by}
+use Rattle.answers.specs.declared.Refusal.{Refusal}
+use Rattle.answers.specs.Answers.{numberOf, lineOf, Numbered}
+use Rattle.compile.specs.declared.Listed.{Listed}
+use Rattle.compile.specs.declared.Listed.the-variants.{Written, Refused}
+use Rattle.compile.specs.declared.Answer.the-variants as Answers
+use Rattle.compile.specs.Compile.{Lays, Refuses, Tries, Settles, Works, Lists, Compiles}
+use Rattle.compile.proofs.Numbers.{tested-numbered}
+
+-- ---- the listing of a refused sheet is zeroed
+
+module _ (s : Bytes) (o : Outcome) (L W : ℕ) (d u : Bytes) {r : Listed} where
+  pub tried-written : {p end : ℕ} → r ≡ Written p end → Tries s o L W r d u → Lays s o L W p end d u
+  tried-written e h = subst (λ (x : Listed). Tries s o L W x d u) e h
+
+  pub tried-refused : {q k : ℕ} → r ≡ Refused q k → Tries s o L W r d u → (e : Bytes) → e ≡ zeros L → Refuses o L q k e
+  tried-refused e h b z = let x = subst (λ (x : Listed). Tries s o L W x d u) e h in record { outcome = x .outcome; numbered = x .numbered; bytes = z }
+
+-- ---- the checks before
+
+pub tables-lines : (s t : Bytes) {r : Checks} {n : ℕ} → r ≡ Answer.Lines n → Tables s t r → Checked s t n
+tables-lines s t e h = subst (Tables s t) e h
+
+module _ (s : Bytes) (W : ℕ) {r : Checks} (h : (o : Outcome) → tested W s o ≡ settled r o) where
+  pub check-refused : (L : ℕ) {q k : ℕ} {d : Bytes} → r ≡ Answer.Refused q k → d ≡ zeros L → Refuses (compiled L W s) L q k d
+  check-refused L e z = record {
+    outcome = compiled-by s W r h L ∙ ap (λ (x : Checks). settled x (worked L (sheetSource s))) e;
+    numbered = tested-numbered W s (λ o. h o ∙ ap (λ (x : Checks). settled x o) e);
+    bytes = z;
+  }
+
+  pub check-passed : (L l w : ℕ) {n : ℕ} (y : Listed) (d u : Bytes) → r ≡ Answer.Lines n → l ≡ L → w ≡ W → Works s l w y d u → Lists s L W y d u
+  check-passed L l w y d u e a b g =
+      let o : compiled L W s ≡ worked L (sheetSource s) = compiled-by s W r h L ∙ ap (λ (x : Checks). settled x (worked L (sheetSource s))) e in
+      subst (λ (x : Outcome). Settles s x L W y d u) (sym o) (subst (λ (j : ℕ). Works s j W y d u) a (subst (λ (j : ℕ). Works s l j y d u) b g))
+
+-- ---- the working space is zeroed
+
+module _ (s : Bytes) (L W : ℕ) (d u : Bytes) {r : Listed} (h : Lists s L W r d u) where
+  pub listed-numbered : {q k : ℕ} → r ≡ Refused q k → Numbered q k
+  listed-numbered e = subst (λ (x : Listed). Lists s L W x d u) e h .numbered
+
+  pub compiles-listed : {p end : ℕ} {t : Bytes} → r ≡ Written p end → t ≡ zeros W → Compiles s L W (Answers.Listed p) d t
+  compiles-listed {p} e z =
+      let x = subst (λ (x : Listed). Lists s L W x d u) e h in
+      let text = sourceListing (sheetSource s) in (
+        ap listed (ap (take p) (x .bytes) ∙ take-at text (zeros (L - length text)) p (sym (x .long))) ∙ sym (x .outcome),
+        x .room,
+        x .bytes ∙ ap (λ (o : Outcome). padded L (listingBytes o)) (sym (x .outcome)),
+        z,
+      )
+
+  pub compiles-refused : {q k : ℕ} {t : Bytes} (a : Refusal) → r ≡ Refused q k → (numberOf a ≡ q) × (lineOf a ≡ k) → t ≡ zeros W → Compiles s L W (Answers.Refused a) d t
+  compiles-refused a e n z =
+      let x = subst (λ (x : Listed). Lists s L W x d u) e h in
+      let all : L ≡ L - 0 = omega arith in (
+        rw (n .0, n .1) (sym (x .outcome)),
+        omega arith,
+        x .bytes ∙ ap zeros all ∙ ap (λ (o : Outcome). padded L (listingBytes o)) (sym (x .outcome)),
+        z,
+      )

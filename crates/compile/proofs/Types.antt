@@ -1,0 +1,53 @@
+-- Items, types and uses together.
+use mathlib.Core.Path.{_≡_, ap}
+use mathlib.Core.List.{List, _++_}
+use Prim.Native.Nat.{ℕ, _+_, _≤_}
+use native.Mathlib.Omega.{arith}
+use lib.ListN.{length}
+use Rattle.semantics.specs.Text.{Bytes}
+use Rattle.semantics.specs.Sheet.{sheetSource, concatMap}
+use Rattle.semantics.specs.Fold.{Names}
+use Rattle.semantics.specs.Global.{Item, globals}
+use Rattle.semantics.specs.Types.{idOf, descriptors}
+use Rattle.semantics.specs.Listing.{typeRows, useRow}
+use Rattle.write.specs.Wrote.{Wrote}
+use Rattle.write.proofs.Wrote.{wrote-as, wrote-length, then}
+use Rattle.checks.specs.Checks.{Kept}
+use Rattle.checks.proofs.Kept.{kept-less, checked-kept}
+use Rattle.records.proofs.Kept.{logged-kept}
+use Rattle.type_rows.specs.Rows as Types
+use Rattle.type_rows.specs.Rows.{Numbers}
+use Rattle.data_rows.specs.Data.{itemsIn, rowsOf}
+use Rattle.tables.specs.declared.Tables.{Tables}
+use Rattle.compile.specs.Compile.{Known, typesText}
+use Rattle.compile.proofs.Kept.{needs-stay}
+use Rattle.compile.proofs.Laws.{names-are}
+
+-- the next place is no further than one past the end
+pub place-low : {d : Bytes} {a : ℕ} {t e : Bytes} {b : ℕ} → Wrote d a t e b → b ≤ length e + 1
+place-low w = omega (arith, w .place, wrote-length w)
+
+module _ {s t : Bytes} {n frames : ℕ} {x : Tables} (k : Known s t n x) (fr : (frames ≡ length (sheetSource s .frames)) × (frames ≤ 128)) where
+  module _ {u : Bytes} (h : Kept 10624 t u) where
+    pub types-ready : Types.Ready s u n (x .records) (x .needs)
+    types-ready = record { log = logged-kept (kept-less (omega arith) h) (k .held .records); table = needs-stay h (k .held .needs); count = k .held .count }
+
+    pub uses-ready : {v : Bytes} → Kept 49152 u v → Numbers s v n (x .needs) frames
+    uses-ready m = record {
+      checked = checked-kept (kept-less (omega arith) m) (checked-kept (kept-less (omega arith) h) (k .held .checked));
+      table = needs-stay (kept-less (omega arith) m) (needs-stay h (k .held .needs));
+      count = k .held .count;
+      framed = fr .0;
+      few = fr .1;
+    }
+
+abbrev textOf : Bytes → List Item → Bytes
+textOf s is = (rowsOf s is ++ typeRows 0 (descriptors (sheetSource s) is)) ++ concatMap (useRow (idOf (sheetSource s) is)) (sheetSource s .needs)
+
+pub types-rows : {s t : Bytes} {n : ℕ} {x : Tables} → Known s t n x → {d e f g : Bytes} {a b c r : ℕ}
+    → Wrote d a (rowsOf s (itemsIn s t (x .consts))) e b → Wrote e b (typeRows 0 (descriptors (sheetSource s) (itemsIn s t (x .consts)))) f c
+    → ((is : List Item) → Wrote f c (concatMap (useRow (idOf (sheetSource s) is)) (sheetSource s .needs)) g r)
+    → Wrote d a (typesText s) g r
+unfolding typesText
+types-rows {s} {t} {n} {x} k v w z =
+    wrote-as (ap (λ (ns : Names). textOf s (globals ns (sheetSource s) .items)) (names-are k)) (then (then v w) (z (itemsIn s t (x .consts))))

@@ -1,0 +1,101 @@
+-- What compiling leaves, step by step.
+use Prim.Native.Nat.{ℕ, _≤_}
+use mathlib.Core.Path.{_≡_}
+use mathlib.Core.List.{_++_}
+use mathlib.Core.Option.{none}
+use lib.ListN.{length, take}
+use Rattle.semantics.specs.Text.{Bytes}
+use Rattle.semantics.specs.Sheet.{sheetSource, concatMap}
+use Rattle.semantics.specs.Layout.{recordedAdts, records}
+use Rattle.semantics.specs.Const.{constants}
+use Rattle.semantics.specs.Types.{idOf, descriptors}
+use Rattle.semantics.specs.Listing.{recordRows, constRows, globalRow, itemRow, typeRows, useRow}
+use Rattle.semantics.specs.Refusal.{Outcome, listed, refused, zeros, padded, listingBytes, worked, sourceGlobals, sourceListing, compiled}
+use Rattle.checks.specs.Checks.{Checked}
+use Rattle.names.specs.Table.{logIn}
+use Rattle.tables.specs.declared.Tables.{Tables}
+use Rattle.tables.specs.Tables.{Held}
+use Rattle.answers.specs.Answers.{numberOf, lineOf, Numbered}
+use Rattle.compile.specs.declared.Listed.{Listed}
+use Rattle.compile.specs.declared.Listed.the-variants.{Written, Refused}
+use Rattle.compile.specs.declared.Answer.{Answer}
+use Rattle.compile.specs.declared.Answer.the-variants as Answer
+
+-- ---- the listing in parts
+
+-- records, constants and globals
+unfoldable pub declaredText : Bytes → Bytes
+declaredText s =
+    concatMap recordRows (records (recordedAdts (sheetSource s)))
+    ++ constRows (constants (sheetSource s) .log)
+    ++ concatMap globalRow (sourceGlobals (sheetSource s) .places)
+
+-- items, types and uses
+unfoldable pub typesText : Bytes → Bytes
+typesText s =
+    let g = sourceGlobals (sheetSource s) in
+    concatMap (itemRow (idOf (sheetSource s) (g .items))) (g .items)
+    ++ typeRows 0 (descriptors (sheetSource s) (g .items))
+    ++ concatMap (useRow (idOf (sheetSource s) (g .items))) (sheetSource s .needs)
+
+-- the tables stand, and no constant is refused
+pub record Known (s t : Bytes) (n : ℕ) (x : Tables) : Type 0 where
+  pub held : Held s t n x
+  pub folded : constants (sheetSource s) .refused ≡ none
+  pub log : constants (sheetSource s) .log ≡ logIn s t (x .consts)
+
+-- ---- answers
+
+-- o is what compiling gives: the listing of p bytes stands on L bytes, and the sheet's tables in the working space u of W bytes
+pub record Lays (s : Bytes) (o : Outcome) (L W p end : ℕ) (d u : Bytes) : Type 0 where
+  pub outcome : o ≡ listed (sourceListing (sheetSource s))
+  pub long : p ≡ length (sourceListing (sheetSource s))
+  pub room : p ≤ L
+  pub bytes : d ≡ padded L (sourceListing (sheetSource s))
+  pub ends : end ≡ sourceGlobals (sheetSource s) .end
+  pub work : 65536 ≤ W
+  pub lines : ℕ
+  pub checked : Checked s u lines
+
+-- refusal q at line k
+pub record Stops (o : Outcome) (q k : ℕ) : Type 0 where
+  pub outcome : o ≡ refused q k
+  pub numbered : Numbered q k
+
+-- and the L bytes of the listing are zero
+pub record Refuses (o : Outcome) (L q k : ℕ) (d : Bytes) : Type 0 where
+  pub outcome : o ≡ refused q k
+  pub numbered : Numbered q k
+  pub bytes : d ≡ zeros L
+
+-- the answer where o is the outcome, before the listing of a refused sheet is zeroed, and after
+abbrev pub Tries : Bytes → Outcome → ℕ → ℕ → Listed → Bytes → Bytes → Type 0
+Tries s o L W (Written p end) d u = Lays s o L W p end d u
+Tries s o L W (Refused q k) d u = Stops o q k
+
+abbrev pub Settles : Bytes → Outcome → ℕ → ℕ → Listed → Bytes → Bytes → Type 0
+Settles s o L W (Written p end) d u = Lays s o L W p end d u
+Settles s o L W (Refused q k) d u = Refuses o L q k d
+
+-- that of a checked sheet, and of any
+abbrev pub Works : Bytes → ℕ → ℕ → Listed → Bytes → Bytes → Type 0
+Works s L W r d u = Settles s (worked L (sheetSource s)) L W r d u
+
+abbrev pub Lists : Bytes → ℕ → ℕ → Listed → Bytes → Bytes → Type 0
+Lists s L W r d u = Settles s (compiled L W s) L W r d u
+
+abbrev pub answered : Answer → Bytes → Outcome
+answered (Answer.Listed n) d = listed (take n d)
+answered (Answer.Refused r) d = refused (numberOf r) (lineOf r)
+
+abbrev pub lengthOf : Answer → ℕ
+lengthOf (Answer.Listed n) = n
+lengthOf (Answer.Refused r) = 0
+
+-- what the answer says, and what stands on the listing and in the working space
+abbrev pub Compiles : Bytes → ℕ → ℕ → Answer → Bytes → Bytes → Type 0
+Compiles s L W a d u =
+    (answered a d ≡ compiled L W s)
+    × (lengthOf a ≤ L)
+    × (d ≡ padded L (listingBytes (compiled L W s)))
+    × (u ≡ zeros W)

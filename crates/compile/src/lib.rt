@@ -1,0 +1,111 @@
+// Compiling: a sheet to its listing, or a refusal.
+use answers::Refusal;
+use checks::Checks;
+use tables::Made;
+use tables::Tables;
+use vars::pends::Pends;
+ghost use mathlib.Core.Path.{_≡_};
+ghost use lib.ListN.{length};
+ghost use Rattle.semantics.specs.Sheet.{sheetSource};
+ghost use Rattle.semantics.specs.Refusal.{zeros, worked};
+ghost use Rattle.write.specs.Wrote.{Wrote};
+ghost use Rattle.checks.specs.Checks.{Checked};
+ghost use Rattle.compile.specs.Compile.{Lists, Works, Tries, Known, Compiles, declaredText, typesText};
+
+// What stands before the working space is zeroed: the listing's length and the end of allocation, or a refusal's number and line.
+pub enum Listed {
+    Written(usize, u32),
+    Refused(u8, usize),
+}
+
+// The listing's length, or the refusal.
+pub enum Answer {
+    Listed(usize),
+    Refused(Refusal),
+}
+
+// Records, constants and globals, from the listing's start.
+fn put_declared(sheet: &[u8], work: &mut [u8], n: usize, x: Tables, out: &mut [u8]) -> usize
+    requires { ⌜ Known (now sheet) (now work) n x ⌝ }
+    ensures { λ p. ⌜ (Wrote (now (out .entry)) 0 (declaredText (now (sheet .entry))) (now (out .exit)) p) × (Known (now (sheet .entry)) (now (work .exit)) n x) ⌝ }
+{
+    let p = record_rows::record_rows(sheet, work, n, x.records, out, 0);
+    let q = const_rows::const_rows(sheet, work, n, x.consts, out, p);
+    globals::listing::global_rows(sheet, work, n, x.globals, out, q)
+}
+
+// Items, types and uses.
+fn put_types(sheet: &[u8], work: &mut [u8], n: usize, x: Tables, out: &mut [u8], at: usize) -> usize
+    requires { ⌜ Known (now sheet) (now work) n x ⌝ }
+    ensures { λ p. ⌜ (Wrote (now (out .entry)) at (typesText (now (sheet .entry))) (now (out .exit)) p) × (Checked (now (sheet .entry)) (now (work .exit)) n) ⌝ }
+{
+    let frames = type_keys::ids::frame_count(sheet, work, n);
+    let d = data_rows::data_rows(sheet, work, n, x.consts, x.globals, frames, x.keys, out, at);
+    let p = type_rows::type_rows(sheet, work, n, x.records, x.needs, d.keys, out, d.at);
+    type_rows::used::use_rows(sheet, work, n, x.needs, frames, out, p)
+}
+
+// All rows, where the constants are not refused. A first value is refused before the listing outgrows its buffer.
+fn list_rows(sheet: &[u8], listing: &mut [u8], work: &mut [u8], n: usize, x: Tables) -> Listed
+    requires { ⌜ (Known (now sheet) (now work) n x) × (now listing ≡ zeros (length (now listing))) ⌝ }
+    ensures { λ r. ⌜ Tries (now (sheet .entry)) (worked (length (now (listing .entry))) (sheetSource (now (sheet .entry)))) (length (now (listing .entry))) (length (now (work .entry))) r (now (listing .exit)) (now (work .exit)) ⌝ }
+{
+    let p = put_declared(sheet, work, n, x, listing);
+    match vars::pends::pend_rows(sheet, work, n, x.consts, listing, p) {
+        Pends::Refused(q, k) => Listed::Refused(q, k),
+        Pends::Written(q) => {
+            let end = put_types(sheet, work, n, x, listing, q);
+            if end <= listing.len() {
+                return Listed::Written(end, x.end);
+            }
+            Listed::Refused(13, 0)
+        }
+    }
+}
+
+fn list_sheet(sheet: &[u8], listing: &mut [u8], work: &mut [u8], n: usize) -> Listed
+    requires { ⌜ (Checked (now sheet) (now work) n) × (now listing ≡ zeros (length (now listing))) ⌝ }
+    ensures { λ r. ⌜ Tries (now (sheet .entry)) (worked (length (now (listing .entry))) (sheetSource (now (sheet .entry)))) (length (now (listing .entry))) (length (now (work .entry))) r (now (listing .exit)) (now (work .exit)) ⌝ }
+{
+    match tables::make_tables(sheet, work, n) {
+        Made::Refused(k) => Listed::Refused(8, k),
+        Made::Whole(x) => list_rows(sheet, listing, work, n, x),
+    }
+}
+
+// The listing of a checked sheet, or zeros.
+fn list_checked(sheet: &[u8], listing: &mut [u8], work: &mut [u8], n: usize) -> Listed
+    requires { ⌜ (Checked (now sheet) (now work) n) × (now listing ≡ zeros (length (now listing))) ⌝ }
+    ensures { λ r. ⌜ Works (now (sheet .entry)) (length (now (listing .entry))) (length (now (work .entry))) r (now (listing .exit)) (now (work .exit)) ⌝ }
+{
+    match list_sheet(sheet, listing, work, n) {
+        Listed::Written(p, end) => Listed::Written(p, end),
+        Listed::Refused(q, k) => {
+            write::zero(listing);
+            Listed::Refused(q, k)
+        }
+    }
+}
+
+// The listing, while the working space still has the tables; zeros where the sheet is refused.
+pub fn list(sheet: &[u8], listing: &mut [u8], work: &mut [u8]) -> Listed
+    ensures { λ r. ⌜ Lists (now (sheet .entry)) (length (now (listing .entry))) (length (now (work .entry))) r (now (listing .exit)) (now (work .exit)) ⌝ }
+{
+    write::zero(listing);
+    match checks::check(sheet, work) {
+        Checks::Refused(q, k) => Listed::Refused(q, k),
+        Checks::Lines(n) => list_checked(sheet, listing, work, n),
+    }
+}
+
+// The listing with zeros behind it, or zeros and the refusal; the working space is zero in any case.
+pub fn compile(sheet: &[u8], listing: &mut [u8], work: &mut [u8]) -> Answer
+    ensures { λ a. ⌜ Compiles (now (sheet .entry)) (length (now (listing .entry))) (length (now (work .entry))) a (now (listing .exit)) (now (work .exit)) ⌝ }
+{
+    let r = list(sheet, listing, work);
+    write::zero(work);
+    match r {
+        Listed::Written(p, _) => Answer::Listed(p),
+        Listed::Refused(q, k) => Answer::Refused(answers::refuse(q, k)),
+    }
+}

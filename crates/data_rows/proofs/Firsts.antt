@@ -1,0 +1,59 @@
+-- The rows of a first value, by what it is.
+use mathlib.Core.Path.{_≡_, subst}
+use mathlib.Core.List.{[], _∷_}
+use Prim.Native.Nat.{ℕ, _≤_}
+use lib.Dec.{eqb}
+use lib.ListN.{length}
+use Rattle.semantics.specs.Text.{Bytes}
+use Rattle.semantics.specs.Tree.{Ty}
+use Rattle.semantics.specs.Tree.ElemKind.{kBig}
+use Rattle.semantics.specs.Array.{kindNumber, elemKind, isOfKind}
+use Rattle.semantics.specs.Global.{valueItem, arrayItems}
+use Rattle.sizes.specs.Sizes.{typeAt}
+use Rattle.values.specs.declared.ConstVal.{ConstVal}
+use Rattle.values.specs.Values.{valueIn, Within}
+use Rattle.placements.specs.Placements.{valuesIn}
+use Rattle.arrays.specs.Arrays.{kindAt}
+use Rattle.vars.specs.declared.First.{First}
+use Rattle.vars.specs.declared.First.the-variants.{NoValue, Value, Alloc, Literal, Pending, Refused}
+use Rattle.vars.specs.First.{initIn, Stands}
+use Rattle.data_rows.specs.declared.Next.{Next}
+use Rattle.data_rows.specs.declared.Counts.{Counts}
+use Rattle.data_rows.specs.Data.{Listed, Keyed, Held, Filled, NameTask, firstItems}
+use Rattle.data_rows.proofs.Kept.{within-at}
+use Rattle.data_rows.proofs.Listed.{listed-as}
+
+pub big-is : (s : Bytes) (v : ℕ) {k : ℕ} {t : Ty} → typeAt s v ≡ t → k ≡ kindNumber (elemKind (typeAt s v)) → isOfKind kBig t ≡ eqb k 2
+big-is s v e h = rw (h, e)
+
+pub held-long : {s t : Bytes} {c : Counts} {keys : ℕ} → Held s t c keys → 65536 ≤ length t
+held-long h = h .places .checked .whole .room
+
+pub held-keyed : {s t : Bytes} {c : Counts} {keys : ℕ} → Held s t c keys → Keyed t (c .frames) keys
+held-keyed h = record { few = h .few; long = held-long h; known = _; kinds = h .kinds }
+
+module _ {s t : Bytes} {c : Counts} {r : ℕ} {x : First} {keys : ℕ} (k : NameTask s t c r x keys) where
+  pub first-within : {v : ConstVal} → x ≡ Value v → Within (length t) v
+  first-within {v} e = within-at (length t) v (held-long (k .held)) (subst (Stands t) e (k .stands))
+
+  pub first-filled : {kind n : ℕ} → x ≡ Literal kind n → Filled t n
+  first-filled e = let w = subst (Stands t) e (k .stands) in record { few = w .0; strings = w .1 }
+
+module _ {s t : Bytes} {x : First} (ty : Ty) (off : ℕ) {p q : Next} {u d e : Bytes} where
+  pub first-none : x ≡ NoValue → Listed s [] p q t u d e → Listed s (firstItems ty off (initIn t x)) p q t u d e
+  first-none h l = listed-as (rw h) l
+
+  pub first-value : {v : ConstVal} → x ≡ Value v → Listed s (valueItem off ty (valueIn t v) ∷ []) p q t u d e → Listed s (firstItems ty off (initIn t x)) p q t u d e
+  first-value h l = listed-as (rw h) l
+
+  pub first-alloc : {kind n : ℕ} → x ≡ Alloc kind n → Listed s (arrayItems off (record { kind = kindAt kind; count = n; values = [] })) p q t u d e → Listed s (firstItems ty off (initIn t x)) p q t u d e
+  first-alloc h l = listed-as (rw h) l
+
+  pub first-literal : {kind n : ℕ} → x ≡ Literal kind n → Listed s (arrayItems off (record { kind = kindAt kind; count = n; values = valuesIn t 0 n })) p q t u d e → Listed s (firstItems ty off (initIn t x)) p q t u d e
+  first-literal h l = listed-as (rw h) l
+
+  pub first-pending : x ≡ Pending → Listed s [] p q t u d e → Listed s (firstItems ty off (initIn t x)) p q t u d e
+  first-pending h l = listed-as (rw h) l
+
+  pub first-refused : {n : ℕ} → x ≡ Refused n → Listed s [] p q t u d e → Listed s (firstItems ty off (initIn t x)) p q t u d e
+  first-refused h l = listed-as (rw h) l

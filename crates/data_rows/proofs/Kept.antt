@@ -1,0 +1,134 @@
+-- What stays while items are printed: tables, constants' strings, and the first value of a line.
+use mathlib.Core.Path.{_≡_, refl, _∙_}
+use Prim.Native.Nat.{ℕ, zero, suc, _+_, _/_, _%_, _≤_, _<_}
+use mathlib.Core.List.{List}
+use native.Mathlib.Omega.{arith}
+use lib.ListN.{length}
+use Rattle.semantics.specs.Text.{Bytes}
+use Rattle.semantics.specs.Tree.{TypeKey}
+use Rattle.semantics.specs.Array.{kindNumber}
+use Rattle.checks.specs.Checks.{Kept, Checked}
+use Rattle.checks.proofs.Kept.{kept-all, kept-then, kept-less, kept-at, checked-kept}
+use Rattle.names.specs.Table.{bitsOf, logIn, Logged}
+use Rattle.names.proofs.Laws.{logged-same, log-same}
+use Rattle.values.specs.declared.ConstVal.{ConstVal}
+use Rattle.values.specs.declared.ConstVal.the-variants.{Int, Real, Str}
+use Rattle.values.specs.Values.{At, Within}
+use Rattle.placements.specs.Placements.{entryAt, slotAt, elementAt, valuesIn, Keeps, Standing}
+use Rattle.placements.proofs.Same.{part-same, value-same, slot-kept, element-same}
+use Rattle.literals.specs.Literals.{above}
+use Rattle.literals.proofs.Names.{kept-low}
+use Rattle.globals.specs.Table.{VarLine, placesIn, Tabled}
+use Rattle.globals.proofs.Table.{places-kept, tabled-kept}
+use Rattle.items.specs.Items.{Literal}
+use Rattle.type_keys.specs.Table.{kindOf, kindsUsed, Kinds, Outside}
+use Rattle.type_keys.proofs.Table.{outside-above}
+use Rattle.type_keys.proofs.Forms.{kind-low}
+use Rattle.vars.specs.declared.First.{First}
+use Rattle.vars.specs.declared.First.the-variants as First
+use Rattle.vars.specs.First.{initIn, Stands}
+use Rattle.data_rows.specs.Data.{Keeping, Filled}
+
+-- ---- tables
+
+pub keeping-all : {t : Bytes} → Keeping t t
+keeping-all = record { below = kept-all; strings = λ j h k. refl }
+
+pub keeping-then : {t u v : Bytes} → Keeping t u → Keeping u v → Keeping t v
+keeping-then a b = record { below = kept-then (a .below) (b .below); strings = λ j h k. b .strings j h k ∙ a .strings j h k }
+
+pub keeping-first : {t u : Bytes} → Keeps 16384 49152 t u → Keeping t u
+keeping-first k = record { below = kept-low k 10624 (omega arith); strings = k .above }
+
+pub keeping-outside : {t u : Bytes} → Outside 10624 10629 t u → Keeping t u
+keeping-outside o = record { below = o .kept; strings = λ j h k. outside-above o j (omega arith) }
+
+module _ {t u : Bytes} (k : Keeping t u) where
+  pub checked-still : {s : Bytes} {n : ℕ} → Checked s t n → Checked s u n
+  checked-still c = checked-kept (kept-less (omega arith) (k .below)) c
+
+  pub var-still : {s : Bytes} {n r : ℕ} → VarLine s t n r → VarLine s u n r
+  var-still l = record { checked = checked-still (l .checked); first = l .first; last = l .last; kind = l .kind }
+
+  pub tabled-still : {s : Bytes} {n g : ℕ} → Tabled s t n g → Tabled s u n g
+  tabled-still d = tabled-kept (kept-less (omega arith) (k .below)) d
+
+  pub places-still : (s : Bytes) {n g : ℕ} → Tabled s t n g → placesIn s u g ≡ placesIn s t g
+  places-still s {n} {g} d = places-kept (kept-less (omega arith) (k .below)) s g (d .few)
+
+  module _ {s : Bytes} {n m : ℕ} (l : Logged s t n m) where
+    pub logged-still : Logged s u n m
+    logged-still = logged-same (kept-less (omega (arith, l .few)) (k .below)) l
+
+    pub log-still : logIn s u m ≡ logIn s t m
+    log-still =
+        log-same (kept-less (omega (arith, l .few)) (k .below)) l
+        (λ i h q. let x = l .each i h .text q in part-same t u (k .below .long) (bitsOf t i / 65536) (bitsOf t i % 65536) (λ j y z. k .strings j (omega (arith, x .low)) (omega (arith, x .high))))
+
+kind-same : {t u : Bytes} → Kept 10629 t u → (j : ℕ) → j < 5 → kindOf u j ≡ kindOf t j
+unfolding kindOf
+kind-same k j h = kept-at k (10624 + j) (omega arith)
+
+-- the kinds of elements stay where a first value is worked out
+pub kinds-still : {t u : Bytes} {ks : List TypeKey} {keys : ℕ} → Kept 10629 t u → Kinds t ks keys → Kinds u ks keys
+unfolding kindsUsed
+kinds-still {t} {u} k x = record {
+  count = x .count;
+  place = λ e. same (kindNumber e) (kind-low e) ∙ x .place e;
+  few = rw (same 0 (omega arith), same 1 (omega arith), same 2 (omega arith), same 3 (omega arith), same 4 (omega arith)) (x .few);
+}
+  where
+    same : (j : ℕ) → j < 5 → kindOf u j ≡ kindOf t j
+    same j h = kind-same k j h
+
+-- ---- the first value of a line
+
+standing-at : (v : ConstVal) → At 49152 v → Standing (above 16) v
+standing-at (Int z) h = tt
+standing-at (Real x) h = tt
+standing-at (Str p l) h = (omega (arith, h .0), omega (arith, h .0, h .1), h .1)
+
+pub within-at : (n : ℕ) (v : ConstVal) → 65536 ≤ n → At 49152 v → Within n v
+within-at n (Int z) l h = tt
+within-at n (Real x) l h = tt
+within-at n (Str p q) l h = (omega (arith, h .0, h .1), h .1)
+
+within-standing : (n : ℕ) (v : ConstVal) → 65536 ≤ n → Standing (above 16) v → Within n v
+within-standing n (Int z) l h = tt
+within-standing n (Real x) l h = tt
+within-standing n (Str p q) l h = (omega (arith, h .1), h .2)
+
+pub literal-filled : {t : Bytes} {count : ℕ} → 65536 ≤ length t → Filled t count → Literal t count
+literal-filled {t} l f = record { long = l; few = f .few; strings = λ i h. within-standing (length t) (slotAt t (entryAt t i)) l (f .strings i h) }
+
+-- storing numbers of elements leaves it
+module _ {t u : Bytes} (o : Outside 10624 10629 t u) where
+  entry-still : (i : ℕ) → entryAt u i ≡ entryAt t i
+  unfolding entryAt
+  entry-still i = outside-above o (11264 + i) (omega arith)
+
+  slot-still : (j : ℕ) → slotAt u j ≡ slotAt t j
+  slot-still j = slot-kept t u (o .kept .long) j (λ i x y. outside-above o i (omega arith))
+
+  values-from : (n i : ℕ) → ((j : ℕ) → j < i + n → Standing (above 16) (slotAt t (entryAt t j))) → valuesIn u i n ≡ valuesIn t i n
+  unfolding valuesIn
+  values-from zero i h = refl
+  values-from (suc n) i h =
+      let e : elementAt u (entryAt t i) ≡ elementAt t (entryAt t i) = element-same t u (o .kept .long) (above 16) (entryAt t i) (h i (omega arith)) (λ j x y. outside-above o j (omega arith)) (λ j x y. outside-above o j (omega arith)) in
+      rw (entry-still i, e, values-from n (suc i) (λ j l. h j (omega arith)))
+
+  pub values-still : (n : ℕ) → Filled t n → valuesIn u 0 n ≡ valuesIn t 0 n
+  values-still n f = values-from n 0 (λ j h. f .strings j (omega arith))
+
+  pub filled-still : {n : ℕ} → Filled t n → Filled u n
+  filled-still f = record { few = f .few; strings = λ i h. rw (entry-still i, slot-still (entryAt t i)) (f .strings i h) }
+
+  pub first-still : (x : First) → Stands t x → (initIn u x ≡ initIn t x) × Stands u x
+  first-still First.NoValue h = (refl, tt)
+  first-still (First.Value v) h = (rw (value-same t u (o .kept .long) (above 16) v (standing-at v h) (λ j x y. outside-above o j (omega arith))), h)
+  first-still (First.Alloc k n) h = (refl, tt)
+  first-still (First.Literal k n) h =
+      let f : Filled t n = record { few = h .0; strings = h .1 } in
+      (rw (values-still n f), (h .0, filled-still f .strings))
+  first-still First.Pending h = (refl, tt)
+  first-still (First.Refused r) h = (refl, tt)

@@ -1,0 +1,67 @@
+-- `data_rows::names_rows` meets its contract.
+use Rattle.data_rows.proofs.Names.{Naming, naming-start, naming-next, naming-end}
+use Rattle.vars.proofs.Names.{few-names}
+use Prim.Native.Nat.{_-_}
+use mathlib.Core.Path.{_∙_}
+use denote.Ref.{now}
+use native.Mathlib.Omega.{arith}
+use borrow.Author.Needs.{needs}
+use Rattle.data_rows.proofs.names_rows.Statement.{statement}
+use Rattle.data_rows.proofs.names_rows.Tie as tie
+
+abbrev Inv-loop : tie.InvT-loop
+Inv-loop sheet work₀ c r x out₀ count q₀ j₀ work out q j = Naming sheet work₀ c r x count q₀ out₀ work out q j
+
+abbrev μ-loop : tie.MeasureT-loop
+μ-loop sheet work₀ c r x out₀ count q₀ j₀ work out q j = count - j
+
+sub-number-at : tie.Need-sub-number-at Inv-loop μ-loop
+sub-number-at c = search needs
+
+number-at-requires : tie.Need-number-at-requires Inv-loop μ-loop
+number-at-requires c κs = search needs
+
+no-rows-requires : tie.Need-no-rows-requires Inv-loop μ-loop
+no-rows-requires c κs = search needs
+
+loop-holds : tie.Need-loop-holds Inv-loop μ-loop
+loop-holds c = naming-start (c .before .before .before .before .before .before .before .before .before .pre) (c .before .before .before .before .number-at .ensures .0) (c .before .before .no-rows .ensures .0) (c .before .before .no-rows .ensures .1)
+
+name-rows-requires : tie.Need-name-rows-requires Inv-loop μ-loop
+name-rows-requires c κs = (c .before .before .before .loop .inv .task, omega (arith, few-names (now (c .before .before .before .before .before .before .before .before .before .before .before .before .before .args .sheet)) (now (c .before .before .before .before .before .before .before .before .before .before .before .before .before .args .work)) (c .before .before .before .before .before .before .before .before .before .before .before .before .before .args .c .lines) (c .before .before .before .before .before .before .before .before .before .before .before .before .before .args .r) ((c .before .before .before .before .before .before .before .before .before .before .before .before .before .pre) .line) (c .before .before .before .before .before .before .before .before .number-at .ensures .0), c .before .before .loop-test .taken))
+
+add-j : tie.Need-add-j Inv-loop μ-loop
+add-j c = search needs
+
+loop-less : tie.Need-loop-less Inv-loop μ-loop
+loop-less c = search needs
+
+loop-again : tie.Need-loop-again Inv-loop μ-loop
+loop-again c = naming-next (c .before .before .before .before .before .before .before .before .loop .inv) (c .before .before .before .before .before .before .before .loop-test .taken) (c .before .out2 .given) (c .before .before .before .before .name-rows .ensures)
+
+same-length : tie.Need-same-length Inv-loop μ-loop
+same-length c = c .before .loop .inv .outside .kept .long
+
+same-length-2 : tie.Need-same-length-2 Inv-loop μ-loop
+same-length-2 c = c .before .loop .inv .long ∙ c .before .before .before .out .given
+
+returns : tie.Need-returns Inv-loop μ-loop
+returns c = naming-end (c .before .loop .inv) (c .loop-test .left) (c .before .before .before .before .no-rows .ensures .0) (c .before .before .before .before .no-rows .ensures .1)
+
+pub names-rows-spec : {M : Type 1} → statement M
+names-rows-spec =
+    tie.close
+    (tie.spec
+    Inv-loop
+    μ-loop
+    sub-number-at
+    number-at-requires
+    no-rows-requires
+    loop-holds
+    name-rows-requires
+    add-j
+    loop-less
+    loop-again
+    same-length
+    same-length-2
+    returns)

@@ -1,0 +1,106 @@
+-- The data items of a sheet, their rows, and the keys of array elements.
+use Prim.Native.Nat.{ℕ, _≤_, _<_}
+use mathlib.Core.Path.{_≡_}
+use mathlib.Core.List.{List, [], _∷_, _++_}
+use lib.ListN.{length, getD}
+use Rattle.semantics.specs.Text.{Bytes}
+use Rattle.semantics.specs.Tree.{Ty, VarDecl, ElemKind, TypeKey}
+use Rattle.semantics.specs.Tree.TypeKey.{elemKey}
+use Rattle.semantics.specs.Sheet.{Located, Source, concatMap, sheetSource}
+use Rattle.semantics.specs.Fold.{Result, Names}
+use Rattle.semantics.specs.Global.{Item, Init, Global, orNoInit, initItems, laidNames, globals}
+use Rattle.semantics.specs.Array.{kindNumber}
+use Rattle.semantics.specs.Types.{arrayKey, distinct, keys, idOf}
+use Rattle.semantics.specs.Listing.{itemRow}
+use Rattle.write.specs.Wrote.{Wrote}
+use Rattle.checks.specs.Checks.{Checked, Kept}
+use Rattle.names.specs.Table.{Logged}
+use Rattle.placements.specs.Placements.{entryAt, slotAt, Standing}
+use Rattle.literals.specs.Literals.{namesIn, above}
+use Rattle.globals.specs.Table.{placesIn, VarLine, Tabled}
+use Rattle.globals.specs.Vars.{offsetIn, varItems}
+use Rattle.items.specs.Items.{itemRows}
+use Rattle.type_keys.specs.Table.{Kinds}
+use Rattle.vars.specs.declared.First.{First}
+use Rattle.vars.specs.First.{Stands}
+use Rattle.data_rows.specs.declared.Next.{Next}
+use Rattle.data_rows.specs.declared.Counts.{Counts}
+use Rattle.data_rows.specs.declared.Numbered.{Numbered}
+
+-- ---- a sheet s whose first m constants stand in the working space t
+
+abbrev pub itemsIn : Bytes → Bytes → ℕ → List Item
+itemsIn s t m = globals (namesIn s t m) (sheetSource s) .items
+
+-- the keys of needs, then those of the arrays among items
+abbrev pub keysOf : Bytes → List Item → List TypeKey
+keysOf s is = sheetSource s .needs ++ concatMap arrayKey is
+
+-- the rows of all items
+abbrev pub rowsOf : Bytes → List Item → Bytes
+rowsOf s is = concatMap (itemRow (idOf (sheetSource s) is)) is
+
+-- the tables of a checked sheet of n lines: m constants, g globals, and the numbers of the keys of needs
+pub record Ready (s t : Bytes) (n m g frames keys : ℕ) : Type 0 where
+  pub checked : Checked s t n
+  pub log : Logged s t n m
+  pub places : Tabled s t n g
+  pub laid : (ns : Names) → placesIn s t g ≡ globals ns (sheetSource s) .places
+  pub kinds : Kinds t (sheetSource s .needs) keys
+  pub framed : frames ≡ length (sheetSource s .frames)
+  pub few : frames ≤ 128
+
+-- ---- items one after the other
+
+-- the key of a kind of elements has the number r .id, and r .keys keys have one, where t has become u
+abbrev pub Numbers : Bytes → Bytes → ℕ → ℕ → ℕ → Numbered → Type 0
+Numbers t u frames kind count r = (k : ElemKind) (ks : List TypeKey) → kind ≡ kindNumber k → Kinds t ks count
+    → Kinds u (ks ++ (elemKey k ∷ [])) (r .keys) × ((s : Source) (is : List Item) (ms : List TypeKey) → frames ≡ length (s .frames) → keys s is ≡ distinct [] ((ks ++ (elemKey k ∷ [])) ++ ms) → idOf s is (elemKey k) ≡ r .id)
+
+-- the items xs were printed, from p to q, and their keys have numbers, whatever items stand before them and behind
+pub record Listed (s : Bytes) (xs : List Item) (p q : Next) (t u d e : Bytes) : Type 0 where
+  pub rows : (before behind : List Item) → Kinds t (keysOf s before) (p .keys) → Wrote d (p .at) (itemRows (idOf (sheetSource s) (before ++ (xs ++ behind))) xs) e (q .at)
+  pub kinds : (before : List Item) → Kinds t (keysOf s before) (p .keys) → Kinds u (keysOf s (before ++ xs)) (q .keys)
+
+-- the tables below those of descriptors' elements, and the constants' strings, are kept
+pub record Keeping (t u : Bytes) : Type 0 where
+  pub below : Kept 10624 t u
+  pub strings : (j : ℕ) → 16384 ≤ j → j < 49152 → getD u j 0 ≡ getD t j 0
+
+-- so many keys have numbers
+pub record Keyed (t : Bytes) (frames keys : ℕ) : Type 0 where
+  pub few : frames ≤ 128
+  pub long : 65536 ≤ length t
+  pub known : List TypeKey
+  pub kinds : Kinds t known keys
+
+-- the tables that lines are printed from, where the keys of the items printed so far have numbers
+pub record Held (s t : Bytes) (c : Counts) (keys : ℕ) : Type 0 where
+  pub log : Logged s t (c .lines) (c .consts)
+  pub places : Tabled s t (c .lines) (c .globals)
+  pub framed : c .frames ≡ length (sheetSource s .frames)
+  pub few : c .frames ≤ 128
+  pub printed : List Item
+  pub kinds : Kinds t (keysOf s printed) keys
+
+-- the working space holds a literal of `count` values
+pub record Filled (t : Bytes) (count : ℕ) : Type 0 where
+  pub few : count ≤ 1024
+  pub strings : (i : ℕ) → i < count → Standing (above 16) (slotAt t (entryAt t i))
+
+-- line r is a `var` line, whose first value x stands in the working space
+pub record NameTask (s t : Bytes) (c : Counts) (r : ℕ) (x : First) (keys : ℕ) : Type 0 where
+  pub held : Held s t c keys
+  pub line : VarLine s t (c .lines) r
+  pub stands : Stands t x
+
+-- ---- the items of a name at an offset, of names at their places, and of lines
+
+abbrev pub firstItems : Ty → ℕ → Result Init → List Item
+firstItems ty off x = initItems off ty (orNoInit x)
+
+abbrev pub nameItems : Ty → List Global → Result Init → List Bytes → List Item
+nameItems ty ps x ns = concatMap (λ (n : Bytes). firstItems ty (offsetIn n ps) x) (laidNames ns)
+
+abbrev pub lineItems : Names → List Global → List (Located VarDecl) → List Item
+lineItems ns ps vs = concatMap (λ (v : Located VarDecl). varItems ns ps (v .it)) vs
