@@ -1,5 +1,6 @@
 -- Demand 3 on examples, by computation: it holds of two sheets' images, and not of wrong ones.
-use Prim.Native.Nat.{ℕ, zero, suc}
+use Prim.Native.Nat.{ℕ, zero, suc, _-_}
+use native.Mathlib.Omega.{arith}
 use mathlib.Core.Path.{_≡_, refl}
 use mathlib.Core.Bool.{Bool, true, false, _&&_}
 use mathlib.Core.List.{List, [], _∷_, _++_, map}
@@ -9,7 +10,7 @@ use Rattle.semantics.specs.Text.{Bytes, bytes, same}
 use Rattle.semantics.specs.Sheet.{Source, sheetSource}
 use Rattle.semantics.specs.Image.{memoryOf}
 use Rattle.semantics.specs.Refusal.{programBuffers, sourceGlobals}
-use Rattle.semantics.specs.Demand.{sourceDeclared, namesDistinct, kindsFit, laidOf, imageEnd, areaEnd, imageByte, areaByte, EveryByte}
+use Rattle.semantics.specs.Demand.{sourceDeclared, namesDistinct, kindsFit, laidOf, imageEnd, areaEnd, imageByte, areaByte, EveryByte, WholeImage}
 use Rattle.demand.proofs.Theorem.{demand}
 
 -- f from 0 to n − 1
@@ -73,3 +74,18 @@ trials =
 trials-tell : map (λ (t : Trial). premises many && agree many (t .image) (t .area)) trials ≡ map (λ (t : Trial). t .right) trials
 unfolding computed
 trials-tell = refl
+
+-- ---- the claim itself is false of them
+
+abbrev cleared : Bytes → ℕ → Bytes
+cleared xs n = take n xs ++ replicate (length xs - n) 0
+
+-- an image of zeros: byte 3 is that of the handle of a
+pub no-zero-image : WholeImage many (cleared image 0) area → ⊥
+unfolding computed
+no-zero-image w = let h = w .bytes refl refl .imageBytes 3 in absurd (omega (arith, h))
+
+-- an area whose first array is filled and whose others are skipped: byte 11 is that of the handle of the first string of u
+pub no-first-array-only : WholeImage many image (cleared area 8) → ⊥
+unfolding computed
+no-first-array-only w = let h = w .bytes refl refl .areaBytes 11 in absurd (omega (arith, h))

@@ -1,0 +1,58 @@
+// The image of a sheet's data and the area of its arrays: the sheet is compiled, and the items of its listing are replayed.
+use answers::Refusal;
+use compile::Listed;
+use replay::Replayed;
+ghost use mathlib.Core.Path.{_≡_};
+ghost use lib.ListN.{length};
+ghost use Rattle.semantics.specs.Refusal.{zeros};
+ghost use Rattle.image.specs.Image.{lentOf, Pictures};
+
+// The lengths of listing, image and area, or a refusal.
+pub enum Imaged {
+    Laid(usize, usize, usize),
+    Refused(Refusal),
+}
+
+// The buffers as `image` leaves them, but for the working space.
+fn lay(
+    sheet: &[u8],
+    listing: &mut [u8],
+    image: &mut [u8],
+    area: &mut [u8],
+    work: &mut [u8],
+) -> Imaged
+    ensures { λ r. ⌜ Pictures (now (sheet .entry)) (lentOf (now (listing .entry)) (now (image .entry)) (now (area .entry)) (now (work .entry))) r (now (listing .exit)) (now (image .exit)) (now (area .exit)) ⌝ }
+{
+    match compile::list(sheet, listing, work) {
+        Listed::Refused(number, line) => {
+            write::zero(image);
+            write::zero(area);
+            Imaged::Refused(answers::refuse(number, line))
+        }
+        Listed::Written(l, end) => {
+            let laid = replay::replay(&listing[0..l], work, image, area, end as usize);
+            match laid {
+                Replayed::Laid(i, a) => Imaged::Laid(l, i, a),
+                Replayed::Outgrown => {
+                    write::zero(listing);
+                    Imaged::Refused(answers::refuse(13, 0))
+                }
+            }
+        }
+    }
+}
+
+// Whatever the sheet and the buffers: the lengths, with the bytes and zeros behind them, or a refusal, with zeros alone.
+pub fn image(
+    sheet: &[u8],
+    listing: &mut [u8],
+    image: &mut [u8],
+    area: &mut [u8],
+    work: &mut [u8],
+) -> Imaged
+    ensures { λ r. ⌜ (Pictures (now (sheet .entry)) (lentOf (now (listing .entry)) (now (image .entry)) (now (area .entry)) (now (work .entry))) r (now (listing .exit)) (now (image .exit)) (now (area .exit))) × (now (work .exit) ≡ zeros (length (now (work .entry)))) ⌝ }
+{
+    let r = lay(sheet, listing, image, area, work);
+    write::zero(work);
+    r
+}
