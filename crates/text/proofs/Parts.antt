@@ -7,11 +7,11 @@ use native.Mathlib.Numerals.{add-one}
 use native.Mathlib.Nat.{add-zero}
 use native.Mathlib.Omega.{arith}
 use lib.ListN.{length, take, drop, getD, drop-of-length-le, length-drop}
-use lib.Seq.{drop-cons, drop-drop}
+use lib.Seq.{drop-cons, drop-drop, drop-length, take-nil, length-take-le, take-take}
 use lib.Dec.{eqb, ltb, leb·suc-suc}
 use borrow.Author.Tests.{eq-eqb, ne-eqb, lt-ltb, le-ltb, ltb-true, ltb-false}
 use Rattle.semantics.specs.Text.{Bytes, headPart, partsAt, partStart, lineParts, lineOf, hasLine, hasField, fieldOf, fieldStart}
-use Rattle.text.specs.Parts.{until, startOf}
+use Rattle.text.specs.Parts.{until, startOf, StandsAt}
 
 -- ---- the first part
 
@@ -194,12 +194,26 @@ skip-end c n k at s h l g =
 
 -- ---- fields
 
+-- k bytes from x of the first m
+within-first : (k x m : ℕ) (l : Bytes) → x + k ≤ m → take k (drop x (take m l)) ≡ take k (drop x l)
+within-first k zero m l h = take-take k m l (omega arith)
+within-first k (suc x) zero l h = absurd (omega arith)
+within-first k (suc x) (suc m) [] h = refl
+within-first k (suc x) (suc m) (b ∷ bs) h = within-first k x m bs (omega arith)
+
+-- a part of a part: the bytes x to y of those from a to e
+part-of-part : (s : Bytes) (a e x y : ℕ) → x ≤ y → y ≤ e - a → take (a + y - (a + x)) (drop (a + x) s) ≡ take (y - x) (drop x (take (e - a) (drop a s)))
+part-of-part s a e x y o h =
+    let q : a + y - (a + x) ≡ y - x = omega arith in
+    rw q (sym (within-first (y - x) x (e - a) (drop a s) (omega arith) ∙ ap (take (y - x)) (drop-drop x a s)))
+
+-- a field that is not there stands at the sheet's end
 abbrev Absent : Bytes → ℕ → ℕ → Type 0
-Absent s n i = (fieldOf s n i ≡ []) × (fieldStart s n i ≡ length s)
+Absent s n i = StandsAt s n i (length s) (length s)
 
 absent : (s : Bytes) (n i : ℕ) → hasField s n i ≡ false → Absent s n i
 unfolding fieldOf fieldStart
-absent s n i h = (simp h, simp h)
+absent s n i h = record { starts = simp h; ordered = omega arith; within = omega arith; view = rw (drop-length, take-nil) (simp h) }
 
 pub no-line-zero : (s : Bytes) (n i : ℕ) → n ≡ 0 → Absent s n i
 no-line-zero s n i e = absent s n i (rw e)
@@ -237,11 +251,15 @@ module _ (s : Bytes) (n i : ℕ) {a : ℕ} (some : n ≡ 0 → ⊥) (ha : a ≡ 
       pub no-field : length line < x → Absent s n i
       no-field l = absent s n i (rw (has-line, part-there 10 (n - 1) s begins, ← line-view, part-absent 44 i line (omega arith)))
 
-      pub a-field : {y : ℕ} → x ≤ length line → y ≡ x + length (until 44 (drop x line)) → (take (y - x) (drop x line) ≡ fieldOf s n i) × (fieldStart s n i ≡ a + x)
+      pub a-field : {y : ℕ} → e ≤ length s → x ≤ length line → y ≡ x + length (until 44 (drop x line)) → y ≤ length line → StandsAt s n i (a + x) (a + y)
       unfolding fieldOf fieldStart
-      a-field {y} l hy =
+      a-field {y} w l hy m =
           let k : startOf 44 i line ≤ length line = omega arith in
-          let there : hasField s n i ≡ true = rw (has-line, part-there 10 (n - 1) s begins, ← line-view, part-there 44 i line k) in (
-            part-view 44 i x y line hx l hy ∙ sym (simp there (rw (← line-view))),
-            simp there (rw (start-there 10 (n - 1) s begins, ← ha, ← line-view, start-there 44 i line k, ← hx)),
-          )
+          let there : hasField s n i ≡ true = rw (has-line, part-there 10 (n - 1) s begins, ← line-view, part-there 44 i line k) in
+          let lengths : length line ≡ e - a = length-take-le (e - a) (drop a s) (omega (arith, length-drop a s)) in
+          record {
+            starts = sym (simp there (rw (start-there 10 (n - 1) s begins, ← ha, ← line-view, start-there 44 i line k, ← hx)));
+            ordered = omega arith;
+            within = omega arith;
+            view = part-of-part s a e x y (omega arith) (omega arith) ∙ part-view 44 i x y line hx l hy ∙ sym (simp there (rw (← line-view)));
+          }

@@ -8,7 +8,7 @@ ghost use mathlib.Core.Path.{_≡_};
 ghost use Prim.Native.Nat.{_+_, _≤_};
 ghost use lib.ListN.{length, drop};
 ghost use Rattle.semantics.specs.Text.{inRange, fieldOf, fieldStart};
-ghost use Rattle.text.specs.Parts.{until, startOf};
+ghost use Rattle.text.specs.Parts.{until, startOf, StandsAt};
 
 const LF: u8 = 10;
 
@@ -46,25 +46,48 @@ pub fn skip(s: &[u8], n: usize, b: u8) -> usize
     at
 }
 
-// Field i, from 0, of a line, from 1, as that part of the sheet; the empty part at the sheet's end where either is absent.
-pub fn field(sheet: &[u8], line: usize, i: usize) -> &[u8]
-    ensures { λ r. ⌜ (now r ≡ fieldOf (now (sheet .entry)) line i) × (r .ptr .0 ≡ sheet .entry .ptr .0) × (r .ptr .1 ≡ sheet .entry .ptr .1 + fieldStart (now (sheet .entry)) line i) ⌝ }
+// A part of a sheet, from its start to its end.
+pub struct Place {
+    pub start: usize,
+    pub end: usize,
+}
+
+// Where field i, from 0, of a line, from 1, stands: at the sheet's end, and empty, where either is absent.
+pub fn field_place(sheet: &[u8], line: usize, i: usize) -> Place
+    ensures { λ p. ⌜ StandsAt (now (sheet .entry)) line i (p .start) (p .end) ⌝ }
 {
+    let absent = Place {
+        start: sheet.len(),
+        end: sheet.len(),
+    };
     if line == 0 {
-        return &sheet[sheet.len()..];
+        return absent;
     }
     let a = skip(sheet, line - 1, LF);
     if sheet.len() < a {
-        return &sheet[sheet.len()..];
+        return absent;
     }
     let e = find(sheet, a, LF);
     let t = &sheet[a..e];
     let x = skip(t, i, COMMA);
     if t.len() < x {
-        return &sheet[sheet.len()..]; // the sheet's end, not the line's
+        return absent; // at the sheet's end, not the line's
     }
     let y = find(t, x, COMMA);
-    &t[x..y]
+    Place {
+        start: a + x,
+        end: a + y,
+    }
+}
+
+// Field i, from 0, of a line, from 1, as that part of the sheet; the empty part at the sheet's end where either is absent.
+pub fn field(sheet: &[u8], line: usize, i: usize) -> &[u8]
+    ensures { λ r. ⌜ (now r ≡ fieldOf (now (sheet .entry)) line i) × (r .ptr .0 ≡ sheet .entry .ptr .0) × (r .ptr .1 ≡ sheet .entry .ptr .1 + fieldStart (now (sheet .entry)) line i) ⌝ }
+{
+    let p = field_place(sheet, line, i);
+    let a = p.start;
+    let e = p.end;
+    &sheet[a..e]
 }
 
 fn is_within(b: u8, lo: u8, hi: u8) -> bool

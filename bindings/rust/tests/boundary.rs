@@ -1,0 +1,198 @@
+//! What crosses the boundary: bytes, lengths, refusals, and what the lent buffers hold afterwards.
+use limbo_sheet::{
+    field, image, image_into, listing, listing_into, Refusal, LENT, LONGEST_SHEET, WORK,
+};
+
+const SHEET: &[u8] = include_bytes!("../../c/round.sheet");
+const PRINTED: &str = include_str!("../../c/round.out");
+const EMPTY: &[u8] = b"typ,0,48,12,FFF0\ntyp,1,48,12,FFF0\n";
+const IMAGE: &[u8] = &[0, 0, 0, 1];
+const AREA: &[u8] = &[0, 0, 0, 7, 0, 0, 0, 0, 0, 0, 0, 0];
+
+/// The listing alone: the example prints the image and the area behind it.
+fn round_listing() -> &'static [u8] {
+    &PRINTED.as_bytes()[..PRINTED.find("image,").unwrap()]
+}
+
+const DIRT: u8 = 0xAA;
+
+fn dirty(length: usize) -> Vec<u8> {
+    vec![DIRT; length]
+}
+
+fn zeros(buffer: &[u8]) -> bool {
+    buffer.iter().all(|b| *b == 0)
+}
+
+fn refusal(number: u8, line: usize) -> Refusal {
+    Refusal { number, line }
+}
+
+/// Lends the front of `rest`, and keeps back a byte behind it.
+fn lend<'a>(rest: &mut &'a mut [u8], length: usize) -> (&'a mut [u8], &'a u8) {
+    let (buffer, behind) = std::mem::take(rest).split_at_mut(length);
+    let (kept, behind) = behind.split_first_mut().unwrap();
+    *rest = behind;
+    (buffer, kept)
+}
+
+/// Compiles into buffers of these lengths that lie side by side and do not hold zeros.
+fn compiled(sheet: &[u8], listing: usize, work: usize) -> Result<Vec<u8>, Refusal> {
+    let mut all = dirty(listing + work + 2);
+    let mut rest = &mut all[..];
+    let ((listing, a), (work, b)) = (lend(&mut rest, listing), lend(&mut rest, work));
+    let r = listing_into(sheet, listing, work);
+    assert_eq!([a, b], [&DIRT; 2]);
+    assert!(zeros(work) && zeros(&listing[r.unwrap_or(0)..]));
+    r.map(|n| listing[..n].to_vec())
+}
+
+/// The same with listing, image, area and working space.
+fn laid(sheet: &[u8], lent: [usize; 4]) -> Result<[Vec<u8>; 3], Refusal> {
+    let mut all = dirty(lent.iter().sum::<usize>() + 4);
+    let mut rest = &mut all[..];
+    let [(listing, a), (image, b), (area, c), (work, d)] = lent.map(|n| lend(&mut rest, n));
+    let r = image_into(sheet, listing, image, area, work);
+    assert_eq!([a, b, c, d], [&DIRT; 4]);
+    let n = r.unwrap_or_default();
+    let rests = [
+        &listing[n.listing..],
+        &image[n.image..],
+        &area[n.area..],
+        work,
+    ];
+    assert!(rests.into_iter().all(zeros));
+    r.map(|n| {
+        [
+            listing[..n.listing].to_vec(),
+            image[..n.image].to_vec(),
+            area[..n.area].to_vec(),
+        ]
+    })
+}
+
+#[test]
+fn round_sheet() {
+    assert_eq!(listing(SHEET).unwrap(), round_listing());
+    assert_eq!(
+        image(SHEET).unwrap(),
+        (round_listing().to_vec(), IMAGE.to_vec(), AREA.to_vec())
+    );
+    assert_eq!(compiled(SHEET, LENT, WORK).unwrap(), round_listing());
+    assert_eq!(
+        laid(SHEET, [LENT, LENT, LENT, WORK]).unwrap(),
+        [round_listing(), IMAGE, AREA]
+    );
+}
+
+#[test]
+fn empty_sheet() {
+    assert_eq!(listing(b"").unwrap(), EMPTY);
+    assert_eq!(image(b"").unwrap(), (EMPTY.to_vec(), vec![], vec![]));
+    assert_eq!(
+        laid(b"", [EMPTY.len(), 0, 0, WORK]).unwrap(),
+        [EMPTY, b"", b""]
+    );
+}
+
+#[test]
+fn buffers_that_just_fit_and_larger_ones() {
+    let n = round_listing().len();
+    assert_eq!(compiled(SHEET, n, WORK).unwrap(), round_listing());
+    assert_eq!(
+        compiled(SHEET, 3 * LENT, WORK + 1).unwrap(),
+        round_listing()
+    );
+    assert_eq!(
+        laid(SHEET, [n, IMAGE.len(), AREA.len(), WORK]).unwrap(),
+        [round_listing(), IMAGE, AREA]
+    );
+}
+
+#[test]
+fn long_sheet() {
+    let long = vec![b'z'; LONGEST_SHEET + 1];
+    assert_eq!(compiled(&long, LENT, WORK), Err(refusal(1, 0)));
+    assert_eq!(laid(&long, [LENT, LENT, LENT, WORK]), Err(refusal(1, 0)));
+    assert_eq!(compiled(&long[1..], LENT, WORK), Err(refusal(3, 1)));
+    assert_eq!(compiled(&long, 0, 0), Err(refusal(1, 0)));
+}
+
+#[test]
+fn small_space() {
+    for work in [0, 1, WORK - 1] {
+        assert_eq!(compiled(SHEET, LENT, work), Err(refusal(2, 0)));
+        assert_eq!(laid(SHEET, [LENT, LENT, LENT, work]), Err(refusal(2, 0)));
+    }
+}
+
+#[test]
+fn small_listing() {
+    for n in [0, 1, round_listing().len() - 1] {
+        assert_eq!(compiled(SHEET, n, WORK), Err(refusal(13, 0)));
+        assert_eq!(laid(SHEET, [n, LENT, LENT, WORK]), Err(refusal(13, 0)));
+    }
+}
+
+#[test]
+fn small_image_and_small_area() {
+    for n in 0..IMAGE.len() {
+        assert_eq!(laid(SHEET, [LENT, n, LENT, WORK]), Err(refusal(13, 0)));
+    }
+    for n in 0..AREA.len() {
+        assert_eq!(laid(SHEET, [LENT, LENT, n, WORK]), Err(refusal(13, 0)));
+    }
+}
+
+#[test]
+fn refused_lines() {
+    let alloc = b"ex,int,-1\nty,int\nex,alloc,1,2\nty,ptr\nvar,4,3,1,x\n";
+    let cases: [(&[u8], u8, usize); 4] = [
+        (b"ty,int\nzz\n", 3, 2),
+        (b"ty,int\nty,array,2\n", 4, 2),
+        (b"mod,A\nty,int\n", 6, 2),
+        (alloc, 10, 5),
+    ];
+    for (sheet, number, line) in cases {
+        assert_eq!(compiled(sheet, LENT, WORK), Err(refusal(number, line)));
+        assert_eq!(
+            laid(sheet, [LENT, LENT, LENT, WORK]),
+            Err(refusal(number, line))
+        );
+    }
+}
+
+#[test]
+fn fields_are_parts_of_the_sheet() {
+    assert_eq!(field(SHEET, 6, 1), b"Scan");
+    assert_eq!(field(SHEET, 1, 0).as_ptr(), SHEET.as_ptr());
+    let end = SHEET.as_ptr_range().end;
+    for (line, i) in [(0, 0), (6, 5), (19, 0), (usize::MAX, 0), (1, usize::MAX)] {
+        let part = field(SHEET, line, i);
+        assert!(part.is_empty() && part.as_ptr() == end, "{line}, {i}");
+    }
+    assert_eq!(field(b"", 1, 0), b"");
+    assert_eq!(field(b"a,b", 1, 1), b"b");
+    let long = [b"\n".repeat(LONGEST_SHEET), b"x,y".to_vec()].concat();
+    assert_eq!(field(&long, LONGEST_SHEET + 1, 1), b"y");
+}
+
+#[test]
+fn refusals_say_what_they_are() {
+    assert_eq!(refusal(6, 3).to_string(), "refusal 6 at line 3: `mod` stands in `mod`, `end` outside, or the last line leaves `mod` open.");
+    assert_eq!(
+        refusal(13, 0).to_string(),
+        "refusal 13: Listing, image or area outgrows its buffer."
+    );
+    let all: std::collections::HashSet<_> = (1..=13).map(|n| refusal(n, 0).sentence()).collect();
+    assert_eq!(all.len(), 13);
+}
+
+#[test]
+fn calls_at_once() {
+    std::thread::scope(|s| {
+        for _ in 0..4 {
+            s.spawn(|| assert_eq!(image(SHEET).unwrap().1, IMAGE));
+        }
+    });
+}
