@@ -14,7 +14,8 @@ use Rattle.semantics.specs.Fold.{Key, Const, plain, qualified, sameOption, same
 use Rattle.semantics.specs.Const.{entries, implements}
 use Rattle.semantics.specs.Listing.{keysIn, isPlain, constRow}
 use Rattle.form.proofs.Table.{never, both}
-use Rattle.names.specs.Table.{lineOf, moduleLineOf, slotAt, fieldAt, moduleAt, entriesAt, logIn, hasKey}
+use Rattle.implement.specs.Modules.{moduleAt}
+use Rattle.names.specs.Table.{lineOf, moduleLineOf, slotAt, fieldAt, entriesAt, logIn, hasKey}
 use Rattle.const_rows.specs.Rows.{plainKey, qualifiedKey, isOwn, qualifiedTo, plainTo, qualifiedPart, plainPart}
 
 -- ---- lists

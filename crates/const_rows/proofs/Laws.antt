@@ -24,7 +24,8 @@ use Rattle.semantics.specs.Listing.{row, valueFields, constRow, constRows}
 use Rattle.numbers.proofs.Widths.{held}
 use Rattle.write.specs.Wrote.{Wrote}
 use Rattle.write.proofs.Wrote.{wrote-length, wrote-none, wrote-as, then}
-use Rattle.names.specs.Table.{lineOf, moduleLineOf, valueBy, kindOf, bitsOf, fieldAt, moduleAt, logIn, Logged, found, hasKey}
+use Rattle.implement.specs.Modules.{moduleAt}
+use Rattle.names.specs.Table.{lineOf, moduleLineOf, valueBy, kindOf, bitsOf, fieldAt, logIn, Logged, found, hasKey}
 use Rattle.names.proofs.Laws.{slot-is, value-failed, value-int, value-real, value-text}
 use Rattle.const_rows.specs.Rows.{plainKey, qualifiedKey, isOwn, qualifiedTo, plainTo, qualifiedPart, plainPart, rowsTo, partOf, Shown, Table}
 use Rattle.const_rows.proofs.Keys.{qualified-none, plain-none, qualified-more, plain-more}

@@ -10,8 +10,9 @@ use Rattle.semantics.specs.Sheet.{sheetSource, concatMap}
 use Rattle.semantics.specs.Fold.{Key, plain, qualified}
 use Rattle.semantics.specs.Const.{implements}
 use Rattle.semantics.specs.Listing.{keysIn, isPlain, constRow}
+use Rattle.implement.specs.Modules.{moduleAt}
 use Rattle.checks.specs.Checks.{Checked}
-use Rattle.names.specs.Table.{lineOf, moduleLineOf, kindOf, bitsOf, fieldAt, moduleAt, logIn, Text, Logged, hasKey}
+use Rattle.names.specs.Table.{lineOf, moduleLineOf, kindOf, bitsOf, fieldAt, logIn, Text, Logged, hasKey}
 
 -- the keys of entry i
 abbrev pub plainKey : Bytes → Bytes → ℕ → Key

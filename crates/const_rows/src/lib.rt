@@ -96,7 +96,7 @@ fn is_own(sheet: &[u8], work: &[u8], n: usize, m: usize, k: usize) -> bool
     if k == 0 {
         return true;
     }
-    names::implements(sheet, work, n, k)
+    implement::implements(sheet, work, n, k)
 }
 
 // The row of a plain name that entry i adds, if it adds one.

@@ -9,9 +9,9 @@ use borrow.Author.Tests.{eqb-true, eqb-false}
 use Rattle.semantics.specs.Text.{Bytes}
 use Rattle.semantics.specs.Form.{letter}
 use Rattle.lines.specs.Lines.{readAt, nodesIn}
+use Rattle.implement.specs.Modules.{moduleAt}
 use Rattle.checks.specs.Checks.{Checked}
 use Rattle.source.specs.Walk.{openAt}
-use Rattle.names.specs.Table.{moduleAt}
 use Rattle.consts.specs.Passes.{groupFrom}
 use Rattle.consts.proofs.Passes.{open-mod, open-end, open-other, group-other, group-out, group-end}
 

@@ -16,11 +16,11 @@ use Rattle.semantics.specs.Sheet.{Module, Located, Source, locatedFrom, located
 use Rattle.semantics.specs.Const.{passesFrom, standsIn, topLevel, constants}
 use Rattle.lines.specs.Lines.{readAt, nodesIn}
 use Rattle.refs.proofs.Nodes.{node-count}
+use Rattle.implement.specs.Modules.{moduleAt}
 use Rattle.checks.specs.Checks.{Checked}
 use Rattle.source.specs.Walk.{declaresAt, openAt, locatedTo, conOf, byKind}
 use Rattle.source.proofs.Walk.{source-of, located-all, located-its, declared-all}
 use Rattle.source.proofs.Declares.{line-declares}
-use Rattle.names.specs.Table.{moduleAt}
 use Rattle.consts.specs.Passes.{restFrom, inGroup, groupFrom, passesAfter, inEarlier, countBefore, constAt}
 
 -- ---- one line

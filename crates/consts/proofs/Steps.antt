@@ -15,9 +15,10 @@ use Rattle.semantics.specs.Fold.{fold}
 use Rattle.semantics.specs.Const.{entries}
 use Rattle.text.specs.Number as Number
 use Rattle.lines.specs.Lines.{readAt, nodesIn}
+use Rattle.implement.specs.Modules.{moduleAt}
 use Rattle.checks.specs.Checks.{Kept}
 use Rattle.checks.proofs.Kept.{kept-then, kept-less}
-use Rattle.names.specs.Table.{fieldAt, moduleAt, logIn, Logged}
+use Rattle.names.specs.Table.{fieldAt, logIn, Logged}
 use Rattle.names.proofs.Laws.{logged-kept, log-kept}
 use Rattle.values.specs.declared.ConstVal.{ConstVal}
 use Rattle.values.specs.declared.Folded.{Folded}

@@ -20,10 +20,11 @@ use Rattle.text.specs.Number as Number
 use Rattle.form.specs.Table.{kindAt}
 use Rattle.lines.specs.Lines.{readAt, nodesIn, formAt}
 use Rattle.lines.proofs.Line.{kind-is, form-low}
+use Rattle.implement.specs.Modules.{moduleAt}
 use Rattle.checks.specs.Checks.{Checked, Kept}
 use Rattle.checks.proofs.Kept.{kept-less, checked-kept}
 use Rattle.source.specs.Walk.{openAt}
-use Rattle.names.specs.Table.{moduleAt, logIn}
+use Rattle.names.specs.Table.{logIn}
 use Rattle.iota.specs.declared.Stepped.{Stepped}
 use Rattle.iota.specs.Iota.{counterOf, steppedOf}
 use Rattle.iota.proofs.Counter.{moved-counter, moved-value}

@@ -14,9 +14,10 @@ use Rattle.semantics.specs.Sheet.{Module, Located, locatedFrom, moduleOf, sheet
 use Rattle.semantics.specs.Fold.{Const, fold}
 use Rattle.semantics.specs.Const.{Refusal, Folding, newCounter, entered, pass, passesFrom, standsIn, topLevel, constants}
 use Rattle.lines.specs.Lines.{readAt, nodesIn}
+use Rattle.implement.specs.Modules.{moduleAt}
 use Rattle.checks.specs.Checks.{Checked}
 use Rattle.source.specs.Walk.{openAt, conOf}
-use Rattle.names.specs.Table.{moduleAt, logIn, Logged}
+use Rattle.names.specs.Table.{logIn, Logged}
 use Rattle.iota.specs.Iota.{counterOf}
 use Rattle.consts.specs.declared.Pass.{Pass}
 use Rattle.consts.specs.declared.Visited.{Visited}

@@ -199,7 +199,7 @@ fn name_rows(
     ensures { λ q. ⌜ (Listed (now (sheet .entry)) (nameItems (typeOn (now (sheet .entry)) r) (placesIn (now (sheet .entry)) (now (work .entry)) (c .globals)) (initIn (now (work .entry)) x) (nameOn (now (sheet .entry)) r j ∷ [])) p q (now (work .entry)) (now (work .exit)) (now (out .entry)) (now (out .exit))) × (Outside 10624 10629 (now (work .entry)) (now (work .exit))) ⌝ }
 {
     let name = lines::field_at(sheet, work, c.lines, r - 1, 3 + j);
-    if implement::same(name, b"nil") {
+    if words::same(name, b"nil") {
         return no_rows(out, p);
     }
     let off = globals::offset_in(sheet, work, c.lines, c.globals, name);

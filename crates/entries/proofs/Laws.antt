@@ -27,9 +27,10 @@ use Rattle.numbers.proofs.Wrapping.{wrap-same}
 use Rattle.write.specs.Wrote.{over}
 use Rattle.write.proofs.Hex.{big-length}
 use Rattle.write.proofs.Back.{word-back}
+use Rattle.words.specs.Words.{wordAt, bitsAt}
 use Rattle.checks.specs.Checks.{Kept}
 use Rattle.checks.proofs.Kept.{kept-then, kept-less}
-use Rattle.names.specs.Table.{wordAt, lineOf, moduleLineOf, bitsAt, valueBy, kindOf, bitsOf, entriesAt, logIn, Entry, Logged}
+use Rattle.names.specs.Table.{lineOf, moduleLineOf, valueBy, kindOf, bitsOf, entriesAt, logIn, Entry, Logged}
 use Rattle.names.proofs.Laws.{slot-is, value-failed, value-int, value-real, value-text, part-low, part-kept, SameText, logged-same, log-same}
 use Rattle.values.specs.declared.ConstVal.{ConstVal}
 use Rattle.values.specs.declared.ConstVal.the-variants.{Int, Real, Str}

@@ -10,8 +10,9 @@ use Rattle.semantics.specs.Tree as Tree
 use Rattle.semantics.specs.Sheet.{sheetSource}
 use Rattle.semantics.specs.Fold.{signed64}
 use Rattle.semantics.specs.Const.{entries}
+use Rattle.implement.specs.Modules.{moduleAt}
 use Rattle.checks.specs.Checks.{Kept}
-use Rattle.names.specs.Table.{fieldAt, moduleAt, logIn, Logged}
+use Rattle.names.specs.Table.{fieldAt, logIn, Logged}
 use Rattle.values.specs.declared.ConstVal.{ConstVal}
 use Rattle.values.specs.declared.ConstVal.the-variants.{Int, Real, Str}
 use Rattle.values.specs.Values.{stringIn}

@@ -14,22 +14,6 @@ const TABLE: usize = 5120;
 
 const STRINGS: usize = 16384;
 
-// 64 bits as eight bytes, the highest first.
-fn put_bits(out: &mut [u8], at: usize, n: u64) -> usize
-    ensures { λ r. ⌜ Wrote (now (out .entry)) at (bigEndian 8 n) (now (out .exit)) r ⌝ }
-{
-    if out.len() < at {
-        return out.len() + 1;
-    }
-    let mut p = at;
-    let mut k = 0;
-    while k < 8 {
-        p = write::put(out, p, write::byte_of(n, k));
-        k += 1;
-    }
-    p
-}
-
 // Entry m: a `con` line, its module's line, and a slot.
 fn put_entry(work: &mut [u8], m: usize, line: usize, within: usize, kind: u8, bits: u64)
     requires { ⌜ Free (now work) m line within ⌝ }
@@ -40,7 +24,7 @@ fn put_entry(work: &mut [u8], m: usize, line: usize, within: usize, kind: u8, bi
     let c = write::put(work, b, (within % 256) as u8);
     let d = write::put(work, c, (within / 256) as u8);
     let e = write::put(work, d, kind);
-    let _ = put_bits(work, e, bits);
+    let _ = words::put_bits(work, e, bits);
 }
 
 fn kind_of(v: ConstVal) -> u8

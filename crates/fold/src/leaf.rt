@@ -117,7 +117,7 @@ fn ident(
     ensures { λ x. ⌜ Folds (now (sheet .entry)) (now (work .entry)) m iota r top (now (work .exit)) x ⌝ }
 {
     let name = lines::field_at(sheet, work, n, r - 1, 0);
-    if names::same(name, b"iota") {
+    if words::same(name, b"iota") {
         return Folded::Value(ConstVal::Int(iota as i64));
     }
     let k = names::look_up(sheet, work, n, m, name);

@@ -10,9 +10,10 @@ use lib.ListN.{length, take, drop, getD, set, length-set}
 use lib.Seq.{sets, length-sets, getD-set-same, getD-set-other, take-set-le, drop-set-lt}
 use Rattle.semantics.specs.Text.{Bytes, same, orElse}
 use Rattle.semantics.specs.Global.{Global, placeOf}
+use Rattle.words.specs.Words.{wordAt}
 use Rattle.checks.specs.Checks.{Checked, Kept}
 use Rattle.checks.proofs.Kept.{kept-all, kept-then, kept-less, kept-at, checked-kept}
-use Rattle.globals.specs.Table.{VarLine, wordAt, lineOf, positionOf, offsetOf, entered, entryAt, entriesFrom, placesIn, Tabled, offsetBy, Around}
+use Rattle.globals.specs.Table.{VarLine, lineOf, positionOf, offsetOf, entered, entryAt, entriesFrom, placesIn, Tabled, offsetBy, Around}
 
 -- ---- a run of stores
 

@@ -17,6 +17,7 @@ use Rattle.semantics.specs.Refusal.{sumOf}
 use Rattle.semantics.specs.Fold.{Names}
 use Rattle.semantics.specs.Global.{Global, globals}
 use Rattle.lines.specs.Lines.{readAt, nodesIn}
+use Rattle.words.specs.Words.{wordAt}
 use Rattle.checks.specs.Checks.{Checked, Kept}
 use Rattle.source.specs.Walk.{declaresAt, openAt, declaredTo, varOf}
 use Rattle.globals.specs.declared.Globals.{Globals}
@@ -41,9 +42,6 @@ abbrev pub namesOn : Bytes → ℕ → List Bytes
 namesOn s r = varOf (nodesIn s) (readAt s (r - 1) .fields) .names
 
 -- ---- the table
-
-unfoldable pub wordAt : Bytes → ℕ → ℕ
-wordAt t a = getD t a 0 + 256 * getD t (a + 1) 0
 
 abbrev pub lineOf : Bytes → ℕ → ℕ
 lineOf t i = wordAt t (7168 + 8 * i)

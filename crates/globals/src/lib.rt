@@ -12,7 +12,7 @@ ghost use Rattle.checks.specs.Checks.{Checked};
 ghost use Rattle.implement.specs.Modules.{moduleAt, Open};
 ghost use Rattle.globals.specs.Laying.{lay, layNames, counts};
 ghost use Rattle.globals.specs.Vars.{offsetIn};
-ghost use Rattle.globals.specs.Table.{VarLine, nameOn, typeOn, namesOn, wordAt, lineOf, positionOf, offsetOf, entered, entryAt, placesIn, layingIn, Tabled, offsetBy, Around, Standing, Laid, namesAt, layLine, Collected};
+ghost use Rattle.globals.specs.Table.{VarLine, nameOn, typeOn, namesOn, lineOf, positionOf, offsetOf, entered, entryAt, placesIn, layingIn, Tabled, offsetBy, Around, Standing, Laid, namesAt, layLine, Collected};
 
 const TABLE: usize = 7168;
 
@@ -24,25 +24,12 @@ pub struct Globals {
     pub end: u32,
 }
 
-fn wide(x: u8) -> usize
-    ensures { λ r. ⌜ (r ≡ x) × (r < 256) ⌝ }
-{
-    x as usize
-}
-
-fn word_at(work: &[u8], a: usize) -> usize
-    requires { ⌜ (a < 65535) × (65536 ≤ length (now work)) ⌝ }
-    ensures { λ r. ⌜ (r ≡ wordAt (now (work .entry)) a) × (r < 65536) ⌝ }
-{
-    wide(work[a]) + 256 * wide(work[a + 1])
-}
-
 // The `var` line of entry i, from 1.
 pub fn line_of(work: &[u8], i: usize) -> usize
     requires { ⌜ (i < 256) × (65536 ≤ length (now work)) ⌝ }
     ensures { λ r. ⌜ r ≡ lineOf (now (work .entry)) i ⌝ }
 {
-    word_at(work, TABLE + 8 * i)
+    words::word_at(work, TABLE + 8 * i)
 }
 
 // The position of its name among the line's names, from 0.
@@ -50,7 +37,7 @@ pub fn position_of(work: &[u8], i: usize) -> usize
     requires { ⌜ (i < 256) × (65536 ≤ length (now work)) ⌝ }
     ensures { λ r. ⌜ (r ≡ positionOf (now (work .entry)) i) × (r < 256) ⌝ }
 {
-    wide(work[TABLE + 2 + 8 * i])
+    words::wide(work[TABLE + 2 + 8 * i])
 }
 
 // Its offset.
@@ -58,7 +45,7 @@ pub fn offset_of(work: &[u8], i: usize) -> usize
     requires { ⌜ (i < 256) × (65536 ≤ length (now work)) ⌝ }
     ensures { λ r. ⌜ (r ≡ offsetOf (now (work .entry)) i) × (r < 65536) ⌝ }
 {
-    word_at(work, TABLE + 3 + 8 * i)
+    words::word_at(work, TABLE + 3 + 8 * i)
 }
 
 fn enter(work: &mut [u8], i: usize, line: usize, position: usize, offset: usize)
@@ -89,7 +76,7 @@ pub fn place_of(sheet: &[u8], work: &[u8], n: usize, g: usize, name: &[u8]) -> u
 {
     let mut i = 0;
     while i < g {
-        if implement::same(name, name_of(sheet, work, n, g, i)) {
+        if words::same(name, name_of(sheet, work, n, g, i)) {
             return i + 1;
         }
         i += 1;
@@ -127,7 +114,7 @@ fn declare_name(sheet: &[u8], work: &mut [u8], n: usize, r: usize, j: usize, g: 
     ensures { λ h. ⌜ Laid (now (sheet .entry)) (now (work .entry)) (now (work .exit)) n (lay (typeOn (now (sheet .entry)) r) (nameOn (now (sheet .entry)) r j) (layingIn (now (sheet .entry)) (now (work .entry)) g)) h (g .count + 1) ⌝ }
 {
     let name = lines::field_at(sheet, work, n, r - 1, 3 + j);
-    if implement::same(name, b"nil") {
+    if words::same(name, b"nil") {
         return g;
     }
     if place_of(sheet, work, n, g.count, name) != 0 {

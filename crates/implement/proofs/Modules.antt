@@ -26,31 +26,6 @@ use Rattle.source.proofs.Walk.{declared-all, source-of}
 use Rattle.source.proofs.Declares.{line-declares}
 use Rattle.implement.specs.Modules.{firstField, moduleAt, Open}
 
--- ---- two names
-
-pub same-length : (a b : Bytes) → (length a ≡ length b → ⊥) → same a b ≡ false
-same-length [] [] h = absurd (h refl)
-same-length [] (y ∷ b) h = refl
-same-length (x ∷ a) [] h = refl
-same-length (x ∷ a) (y ∷ b) h = go (eqb x y) (same-length a b (λ e. h (ap suc e)))
-  where
-    go : (t : Bool) → same a b ≡ false → t && same a b ≡ false
-    go true e = e
-    go false e = refl
-
-module _ (a b : Bytes) (i : ℕ) (h : i < length a) (k : i < length b) where
-  same-open : same (drop i a) (drop i b) ≡ eqb (getD a i 0) (getD b i 0) && same (drop (i + 1) a) (drop (i + 1) b)
-  same-open = rw (add-one, drop-cons a i 0 h, drop-cons b i 0 k)
-
-  pub same-next : getD a i 0 ≡ getD b i 0 → same (drop i a) (drop i b) ≡ same (drop (i + 1) a) (drop (i + 1) b)
-  same-next e = same-open ∙ rw (eq-eqb (getD a i 0) (getD b i 0) e)
-
-  pub same-not : (getD a i 0 ≡ getD b i 0 → ⊥) → same (drop i a) (drop i b) ≡ false
-  same-not e = same-open ∙ rw (ne-eqb (getD a i 0) (getD b i 0) e)
-
-pub same-end : (a b : Bytes) (i : ℕ) → length a ≤ i → length b ≤ i → same (drop i a) (drop i b) ≡ true
-same-end a b i h k = rw (drop-of-length-le a {i = i} h, drop-of-length-le b {i = i} k)
-
 -- ---- the implemented module
 
 -- the kind of a line, by its form

@@ -8,9 +8,10 @@ use lib.ListN.{take, getD, length-take}
 use lib.Seq.{getD-take, ext-getD}
 use borrow.Author.Tests.{eqb-true}
 use Rattle.semantics.specs.Text.{Bytes}
+use Rattle.words.specs.Words.{wordAt, bitsAt}
 use Rattle.checks.specs.Checks.{Kept}
 use Rattle.checks.proofs.Kept.{checked-kept}
-use Rattle.names.specs.Table.{wordAt, bitsAt, valueBy, slotAt, entriesAt, logIn, Text, Entry, Logged}
+use Rattle.names.specs.Table.{valueBy, slotAt, entriesAt, logIn, Text, Entry, Logged}
 use Rattle.placements.specs.Placements.{Keeps}
 use Rattle.placements.proofs.Same.{part-same}
 use Rattle.literals.specs.Literals.{Line}

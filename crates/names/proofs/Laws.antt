@@ -23,52 +23,14 @@ use Rattle.form.specs.Table.{kindAt}
 use Rattle.lines.specs.Lines.{textAt, readAt, nodesIn, formAt}
 use Rattle.lines.proofs.Line.{read-is, kind-is}
 use Rattle.refs.proofs.Nodes.{node-count}
+use Rattle.words.specs.Words.{wordAt, bitsAt}
+use Rattle.implement.specs.Modules.{moduleAt}
 use Rattle.checks.specs.Checks.{Checked, Kept}
 use Rattle.checks.proofs.Kept.{kept-at, kept-less}
 use Rattle.source.specs.Walk.{declaresAt, declaredTo, byKind}
 use Rattle.source.proofs.Walk.{declared-all, source-of}
 use Rattle.source.proofs.Declares.{line-declares}
-use Rattle.names.specs.Table.{wordAt, lineOf, moduleLineOf, bitsAt, valueBy, slotAt, kindOf, bitsOf, fieldAt, moduleAt, entriesAt, logIn, Entry, Logged, found, hasKey, answersPlain, answersQualified}
-
--- ---- two names
-
-pub same-length : (a b : Bytes) → (length a ≡ length b → ⊥) → same a b ≡ false
-same-length [] [] h = absurd (h refl)
-same-length [] (y ∷ b) h = refl
-same-length (x ∷ a) [] h = refl
-same-length (x ∷ a) (y ∷ b) h = go (eqb x y) (same-length a b (λ e. h (ap suc e)))
-  where
-    go : (t : Bool) → same a b ≡ false → t && same a b ≡ false
-    go true e = e
-    go false e = refl
-
-module _ (a b : Bytes) (i : ℕ) (h : i < length a) (k : i < length b) where
-  same-open : same (drop i a) (drop i b) ≡ eqb (getD a i 0) (getD b i 0) && same (drop (i + 1) a) (drop (i + 1) b)
-  same-open = rw (add-one, drop-cons a i 0 h, drop-cons b i 0 k)
-
-  pub same-next : getD a i 0 ≡ getD b i 0 → same (drop i a) (drop i b) ≡ same (drop (i + 1) a) (drop (i + 1) b)
-  same-next e = same-open ∙ rw (eq-eqb (getD a i 0) (getD b i 0) e)
-
-  pub same-not : (getD a i 0 ≡ getD b i 0 → ⊥) → same (drop i a) (drop i b) ≡ false
-  same-not e = same-open ∙ rw (ne-eqb (getD a i 0) (getD b i 0) e)
-
-pub same-end : (a b : Bytes) (i : ℕ) → length a ≤ i → length b ≤ i → same (drop i a) (drop i b) ≡ true
-same-end a b i h k = rw (drop-of-length-le a {i = i} h, drop-of-length-le b {i = i} k)
-
--- ---- 8 bytes as a number
-
-pub bits-next : (t : Bytes) (a k acc : ℕ) → k < 8 → a + 8 ≤ length t
-    → fromBigEndian acc (take (8 - k) (drop (a + k) t)) ≡ fromBigEndian (acc * 256 + getD t (a + k) 0) (take (8 - (k + 1)) (drop (a + (k + 1)) t))
-bits-next t a k acc h room =
-    let e : 8 - k ≡ suc (8 - (k + 1)) = omega arith in
-    let f : suc (a + k) ≡ a + (k + 1) = omega arith in
-    rw (e, drop-cons t (a + k) 0 (omega arith), f)
-
-pub bits-start : (t : Bytes) (a : ℕ) → fromBigEndian 0 (take 8 (drop a t)) ≡ fromBigEndian 0 (take (8 - 0) (drop (a + 0) t))
-bits-start t a = let e : a + 0 ≡ a = omega arith in rw e
-
-pub bits-end : (t : Bytes) (a k acc : ℕ) {b : ℕ} → 8 ≤ k → b ≡ fromBigEndian acc (take (8 - k) (drop (a + k) t)) → acc ≡ b
-bits-end t a k acc h e = let z : 8 - k ≡ 0 = omega arith in sym (e ∙ rw z)
+use Rattle.names.specs.Table.{lineOf, moduleLineOf, valueBy, slotAt, kindOf, bitsOf, fieldAt, entriesAt, logIn, Entry, Logged, found, hasKey, answersPlain, answersQualified}
 
 -- ---- a slot by its kind and bits
 
@@ -92,60 +54,6 @@ module _ (t : Bytes) (k b : ℕ) where
   pub value-text : k ≡ 3 → valueBy t k b ≡ some (vStr (take (b / 65536) (drop (b % 65536) t)))
   unfolding valueBy
   value-text e = rw e
-
--- ---- the implemented module
-
-module _ (s t : Bytes) (n : ℕ) (c : Checked s t n) where
-  no-impl : (i : ℕ) → i < n → 0 < i → eqb (Form.letter (readAt s i .form .kind)) 73 ≡ false
-  unfolding Form.formed
-  no-impl i h p =
-      let g = c .whole .lined .good i h in
-      let r = Form.readOf (textAt s i) in
-      let w = both (leb (length (textAt s i)) 255 && ltb (Form.rowOf Form.forms (textAt s i)) (length Form.forms) && Form.fits (r .form .parts) (r .fields)) (eqb (i + 1) 1 || not (eqb (Form.letter (r .form .kind)) 73)) g .1 in
-      let z : eqb (i + 1) 1 ≡ false = ne-eqb (i + 1) 1 (λ e. omega arith) in
-      ap (λ (q : Form.Read). eqb (Form.letter (q .form .kind)) 73) (read-is s t n (c .whole) i h) ∙ not-true (eqb (Form.letter (r .form .kind)) 73) (rw z at w)
-
-  implements-at : (i : ℕ) → i < n → declaresAt (nodesIn s) i .implements ≡ cond (eqb (Form.letter (readAt s i .form .kind)) 73) (getD (readAt s i .fields) 0 [] ∷ []) []
-  unfolding byKind
-  implements-at i h = ap (λ (d : Declares). d .implements) (line-declares s t n c i h)
-
-  implements-first : (i : ℕ) → i < n → declaredTo (λ (d : Declares). d .implements) (nodesIn s) (suc i) ≡ cond (eqb (Form.letter (readAt s 0 .form .kind)) 73) (fieldAt s 1 ∷ []) []
-  unfolding declaredTo
-  implements-first zero h = implements-at 0 h
-  implements-first (suc i) h =
-      rw (implements-first i (omega arith), implements-at (suc i) h, no-impl (suc i) h (omega arith)) (append-nil (cond (eqb (Form.letter (readAt s 0 .form .kind)) 73) (fieldAt s 1 ∷ []) []))
-
-  pub implement-is : 0 < n → sheetSource s .implement ≡ cond (eqb (Form.letter (readAt s 0 .form .kind)) 73) (some (fieldAt s 1)) none
-  implement-is h =
-      let e : length (nodesIn s) ≡ suc (n - 1) = node-count s t n (c .whole) ∙ omega arith in
-      ap (λ (o : Source). o .implement) (source-of s)
-      ∙ ap firstOf (declared-all (λ (d : Declares). d .implements) (nodesIn s) ∙ ap (declaredTo (λ (d : Declares). d .implements) (nodesIn s)) e ∙ implements-first (n - 1) (omega arith))
-      ∙ go (eqb (Form.letter (readAt s 0 .form .kind)) 73)
-    where
-      go : (b : Bool) → firstOf (cond b (fieldAt s 1 ∷ []) []) ≡ cond b (some (fieldAt s 1)) none
-      go true = refl
-      go false = refl
-
-  -- the module of line k, by line 1
-  module _ (k : ℕ) (p : 0 < k) (h : k ≤ n) where
-    module-some : (j : ℕ) → 0 < j → moduleAt s j ≡ some (record { name = fieldAt s j; line = j })
-    unfolding moduleAt
-    module-some zero q = absurd (omega arith)
-    module-some (suc j) q = refl
-
-    -- the letter that is read of line 1
-    pub first-kind : {f x : ℕ} → f ≡ formAt t 0 → x ≡ kindAt f → Form.letter (readAt s 0 .form .kind) ≡ x
-    first-kind {f} {x} e d = kind-is s t n (c .whole) 0 (omega arith) ∙ ap kindAt (sym e) ∙ sym d
-
-    pub implements-not : (Form.letter (readAt s 0 .form .kind) ≡ 73 → ⊥) → implements (sheetSource s .implement) (moduleAt s k) ≡ false
-    implements-not z = rw (module-some k p, implement-is (omega arith), ne-eqb (Form.letter (readAt s 0 .form .kind)) 73 z)
-
-    pub implements-by : Form.letter (readAt s 0 .form .kind) ≡ 73 → implements (sheetSource s .implement) (moduleAt s k) ≡ same (fieldAt s 1) (fieldAt s k)
-    implements-by z = rw (module-some k p, implement-is (omega arith), eq-eqb (Form.letter (readAt s 0 .form .kind)) 73 z)
-
-pub implements-none : (o : Option Bytes) (s : Bytes) → implements o (moduleAt s 0) ≡ false
-unfolding moduleAt
-implements-none o s = refl
 
 -- ---- look-ups
 

@@ -1,7 +1,7 @@
 -- The table of constants in the working space, and the log that it holds.
 -- Entry i takes 16 bytes from 5120 + 16 i: the `con` line and its module's line, 0 for none, two bytes each, the low one first; then a slot.
 -- A slot is a kind and 8 bytes, the highest first: 0 failed, 1 an integer's bits, 2 a real's, 3 a string's place + 65536 times its length.
-use Prim.Native.Nat.{ℕ, zero, suc, _+_, _-_, _*_, _/_, _%_, _≤_, _<_}
+use Prim.Native.Nat.{ℕ, zero, suc, _+_, _*_, _/_, _%_, _≤_, _<_}
 use mathlib.Core.Path.{_≡_}
 use mathlib.Core.Bool.{Bool, cond, not, _&&_, _||_}
 use mathlib.Core.List.{List, [], _++_}
@@ -9,16 +9,14 @@ use mathlib.Core.Option.{Option, none, some}
 use lib.Dec.{eqb}
 use lib.Ieee.{binary64, ofBits}
 use lib.ListN.{take, drop, getD}
-use Rattle.semantics.specs.Text.{Bytes, same, any, fromBigEndian}
+use Rattle.semantics.specs.Text.{Bytes, same, any}
 use Rattle.semantics.specs.Tree.{ConstVal}
 use Rattle.semantics.specs.Tree.ConstVal.{vInt, vReal, vStr}
-use Rattle.semantics.specs.Sheet.{Module, sheetSource}
+use Rattle.semantics.specs.Sheet.{sheetSource}
 use Rattle.semantics.specs.Fold.{Key, Const, signed64, sameKey}
 use Rattle.semantics.specs.Const.{entries, implements}
-use Rattle.lines.specs.Lines.{readAt}
-
-unfoldable pub wordAt : Bytes → ℕ → ℕ
-wordAt t a = getD t a 0 + 256 * getD t (a + 1) 0
+use Rattle.words.specs.Words.{wordAt, bitsAt}
+use Rattle.implement.specs.Modules.{firstField, moduleAt}
 
 abbrev pub lineOf : Bytes → ℕ → ℕ
 lineOf t i = wordAt t (5120 + 16 * i)
@@ -27,10 +25,6 @@ abbrev pub moduleLineOf : Bytes → ℕ → ℕ
 moduleLineOf t i = wordAt t (5122 + 16 * i)
 
 -- ---- slots
-
--- 8 bytes, the highest first
-unfoldable pub bitsAt : Bytes → ℕ → ℕ
-bitsAt t a = fromBigEndian 0 (take 8 (drop a t))
 
 -- the value of a kind and bits
 unfoldable pub valueBy : Bytes → ℕ → ℕ → Option ConstVal
@@ -53,12 +47,7 @@ bitsOf t i = bitsAt t (5125 + 16 * i)
 -- ---- the log
 
 abbrev pub fieldAt : Bytes → ℕ → Bytes
-fieldAt s k = getD (readAt s (k - 1) .fields) 0 []
-
--- the module of a `mod` line, none for 0
-unfoldable pub moduleAt : Bytes → ℕ → Option Module
-moduleAt s zero = none
-moduleAt s (suc k) = some (record { name = fieldAt s (suc k); line = suc k })
+fieldAt s k = firstField s k
 
 unfoldable pub entriesAt : Bytes → Bytes → ℕ → List Const
 entriesAt s t i = entries (sheetSource s .implement) (moduleAt s (moduleLineOf t i)) (fieldAt s (lineOf t i)) (slotAt t (5124 + 16 * i))

@@ -4,70 +4,18 @@ ghost use Prim.Native.Nat.{_+_, _≤_, _<_};
 ghost use lib.Dec.{ltb};
 ghost use lib.ListN.{length};
 ghost use Rattle.semantics.specs.Text as Text;
-ghost use Rattle.semantics.specs.Sheet.{sheetSource};
 ghost use Rattle.semantics.specs.Fold.{plain, qualified, lookUp, valueOf};
-ghost use Rattle.semantics.specs.Const as Const;
 ghost use Rattle.checks.specs.Checks.{Checked};
-ghost use Rattle.names.specs.Table.{wordAt, lineOf, moduleLineOf, bitsAt, bitsOf, kindOf, fieldAt, moduleAt, logIn, Logged, found, hasKey, answersPlain, answersQualified};
+ghost use Rattle.names.specs.Table.{lineOf, moduleLineOf, bitsOf, kindOf, fieldAt, logIn, Logged, found, hasKey, answersPlain, answersQualified};
 
 const TABLE: usize = 5120;
-
-const IMPL: u8 = b'I';
-
-pub fn same(a: &[u8], b: &[u8]) -> bool
-    ensures { λ r. ⌜ r ≡ Text.same (now (a .entry)) (now (b .entry)) ⌝ }
-{
-    if a.len() != b.len() {
-        return false;
-    }
-    let mut i = 0;
-    while i < a.len() {
-        if a[i] != b[i] {
-            return false;
-        }
-        i += 1;
-    }
-    true
-}
-
-fn wide(x: u8) -> usize
-    ensures { λ r. ⌜ (r ≡ x) × (r < 256) ⌝ }
-{
-    x as usize
-}
-
-fn wide64(x: u8) -> u64
-    ensures { λ r. ⌜ (r ≡ x) × (r < 256) ⌝ }
-{
-    x as u64
-}
-
-fn word_at(work: &[u8], a: usize) -> usize
-    requires { ⌜ a + 1 < length (now work) ⌝ }
-    ensures { λ r. ⌜ r ≡ wordAt (now (work .entry)) a ⌝ }
-{
-    wide(work[a]) + 256 * wide(work[a + 1])
-}
-
-fn bits_at(work: &[u8], a: usize) -> u64
-    requires { ⌜ a + 8 ≤ length (now work) ⌝ }
-    ensures { λ r. ⌜ r ≡ bitsAt (now (work .entry)) a ⌝ }
-{
-    let mut acc: u64 = 0;
-    let mut k = 0;
-    while k < 8 {
-        acc = acc * 256 + wide64(work[a + k]);
-        k += 1;
-    }
-    acc
-}
 
 // The `con` line of entry i.
 pub fn line_of(work: &[u8], i: usize) -> usize
     requires { ⌜ (i < 128) × (65536 ≤ length (now work)) ⌝ }
     ensures { λ r. ⌜ r ≡ lineOf (now (work .entry)) i ⌝ }
 {
-    word_at(work, TABLE + 16 * i)
+    words::word_at(work, TABLE + 16 * i)
 }
 
 // The line of its module, 0 for none.
@@ -75,7 +23,7 @@ pub fn module_line_of(work: &[u8], i: usize) -> usize
     requires { ⌜ (i < 128) × (65536 ≤ length (now work)) ⌝ }
     ensures { λ r. ⌜ r ≡ moduleLineOf (now (work .entry)) i ⌝ }
 {
-    word_at(work, TABLE + 2 + 16 * i)
+    words::word_at(work, TABLE + 2 + 16 * i)
 }
 
 pub fn slot_kind(work: &[u8], i: usize) -> u8
@@ -89,24 +37,7 @@ pub fn slot_bits(work: &[u8], i: usize) -> u64
     requires { ⌜ (i < 128) × (65536 ≤ length (now work)) ⌝ }
     ensures { λ r. ⌜ r ≡ bitsOf (now (work .entry)) i ⌝ }
 {
-    bits_at(work, TABLE + 5 + 16 * i)
-}
-
-// Whether the sheet implements the module of line k; 0 is none.
-pub fn implements(sheet: &[u8], work: &[u8], n: usize, k: usize) -> bool
-    requires { ⌜ (Checked (now sheet) (now work) n) × (k ≤ n) ⌝ }
-    ensures { λ r. ⌜ r ≡ Const.implements (sheetSource (now (sheet .entry)) .implement) (moduleAt (now (sheet .entry)) k) ⌝ }
-{
-    if k == 0 {
-        return false;
-    }
-    if form::kind(lines::form_at(work, 0)) != IMPL {
-        return false;
-    }
-    same(
-        lines::field_at(sheet, work, n, 0, 0),
-        lines::field_at(sheet, work, n, k - 1, 0),
-    )
+    words::bits_at(work, TABLE + 5 + 16 * i)
 }
 
 // Whether the `con` line k has this name.
@@ -114,7 +45,7 @@ fn is_named(sheet: &[u8], work: &[u8], n: usize, k: usize, name: &[u8]) -> bool
     requires { ⌜ (Checked (now sheet) (now work) n) × (0 < k) × (k ≤ n) ⌝ }
     ensures { λ r. ⌜ r ≡ Text.same (now (name .entry)) (fieldAt (now (sheet .entry)) k) ⌝ }
 {
-    same(name, lines::field_at(sheet, work, n, k - 1, 0))
+    words::same(name, lines::field_at(sheet, work, n, k - 1, 0))
 }
 
 // Whether entry i enters a constant by the plain name.
@@ -129,7 +60,7 @@ fn answers_plain(sheet: &[u8], work: &[u8], n: usize, m: usize, i: usize, name: 
     if k == 0 {
         return true;
     }
-    implements(sheet, work, n, k)
+    implement::implements(sheet, work, n, k)
 }
 
 // Whether it enters one by module and name.

@@ -8,7 +8,8 @@ use Rattle.semantics.specs.Text.{Bytes}
 use Rattle.values.specs.declared.ConstVal.{ConstVal}
 use Rattle.values.specs.declared.ConstVal.the-variants.{Int, Real, Str}
 use Rattle.values.specs.Values.{stringIn, valueIn}
-use Rattle.slots.specs.Slots.{bitsAt, slotOf}
+use Rattle.words.specs.Words.{bitsAt}
+use Rattle.slots.specs.Slots.{slotOf}
 use Rattle.checks.specs.Checks.{Kept}
 use Rattle.checks.proofs.Kept.{kept-at}
 use Rattle.placements.specs.Placements.{slotAt, elementAt, Keeps, Standing}

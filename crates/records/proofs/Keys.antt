@@ -15,7 +15,7 @@ use Rattle.semantics.specs.Tree.{AdtDecl, Case}
 use Rattle.semantics.specs.Layout.{Recorded, recordsFor, lastOf, seen}
 use Rattle.form.proofs.Table.{never, both}
 use Rattle.text.proofs.Tests.{and-false}
-use Rattle.names.proofs.Laws.{same-length}
+use Rattle.words.proofs.Laws.{same-length}
 use Rattle.sizes.specs.Places.{RecordLine}
 use Rattle.records.specs.Log.{declAt, firstRecord, ownRecord, casesIn, caseIn, variantRecord, recordIn, entryAt, recordedAt, nameOf, tagOf, logOf, noRecord, EntryIn, Logged, Newest}
 use Rattle.records.specs.Lines.{caseOf}

@@ -84,10 +84,10 @@ fn is_joined(key: &[u8], name: &[u8], tag: &[u8]) -> bool
     if key[k] != DOT {
         return false;
     }
-    if !names::same(&key[0..k], name) {
+    if !words::same(&key[0..k], name) {
         return false;
     }
-    names::same(&key[k + 1..], tag)
+    words::same(&key[k + 1..], tag)
 }
 
 // Whether entry i has this key.
@@ -97,7 +97,7 @@ pub fn key_is(sheet: &[u8], work: &[u8], n: usize, i: usize, key: &[u8]) -> bool
 {
     let name = name_of(sheet, work, n, i);
     if case_of(work, i) == 0 {
-        return names::same(key, name);
+        return words::same(key, name);
     }
     is_joined(key, name, tag_of(sheet, work, n, i))
 }
@@ -114,10 +114,10 @@ pub fn same_key(sheet: &[u8], work: &[u8], n: usize, i: usize, j: usize) -> bool
     if case_of(work, j) == 0 {
         return false;
     }
-    if !names::same(name, name_of(sheet, work, n, j)) {
+    if !words::same(name, name_of(sheet, work, n, j)) {
         return false;
     }
-    names::same(tag_of(sheet, work, n, i), tag_of(sheet, work, n, j))
+    words::same(tag_of(sheet, work, n, i), tag_of(sheet, work, n, j))
 }
 
 // The last entry with this key, plus 1; 0 where there is none.

@@ -24,36 +24,8 @@ use Rattle.write.proofs.Hex.{big-length}
 use Rattle.write.proofs.Back.{word-back}
 use Rattle.values.specs.declared.ConstVal.{ConstVal}
 use Rattle.values.specs.declared.ConstVal.the-variants.{Int, Real, Str}
-use Rattle.slots.specs.Slots.{bitsAt, slotBy, slotOf, Stored}
-
--- ---- reading
-
--- k bytes are read, and those that are left complete the number
-pub record Reading (t : Bytes) (a n k : ℕ) : Type 0 where
-  pub within : k ≤ 8
-  pub small : n < 256 ^ k
-  pub rest : fromBigEndian n (take (8 - k) (drop (a + k) t)) ≡ bitsAt t a
-
-pub reading-start : (t : Bytes) (a : ℕ) → Reading t a 0 0
-unfolding bitsAt
-reading-start t a = let z : a + 0 ≡ a = omega arith in record { within = omega arith; small = lit< tt; rest = rw z }
-
-module _ {t : Bytes} {a n k : ℕ} (r : Reading t a n k) where
-  pub reading-fits : k < 8 → (v : ℕ) → v < 256 → n * 256 + v < 18446744073709551616
-  reading-fits h v l = bytes-fit n k v (r .small) h l
-
-  pub reading-next : k < 8 → a + 8 ≤ length t → {v : ℕ} → v ≡ getD t (a + k) 0 → v < 256 → Reading t a (n * 256 + v) (k + 1)
-  reading-next h f {v} e l =
-      let z : 8 - k ≡ suc (8 - (k + 1)) = omega arith in
-      let y : suc (a + k) ≡ a + (k + 1) = omega arith in
-      record {
-        within = omega arith;
-        small = bytes-grow n k v (r .small) l;
-        rest = rw (e, ← y) (rw (z, drop-cons t (a + k) 0 (omega arith)) at (r .rest));
-      }
-
-  pub reading-end : 8 ≤ k → n ≡ bitsAt t a
-  reading-end h = let z : 8 - k ≡ 0 = omega arith in rw z at (r .rest)
+use Rattle.words.specs.Words.{bitsAt}
+use Rattle.slots.specs.Slots.{slotBy, slotOf, Stored}
 
 -- ---- storing
 

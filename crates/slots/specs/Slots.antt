@@ -5,15 +5,12 @@ use mathlib.Core.Bool.{cond}
 use mathlib.Core.Logic.{_⊎_}
 use lib.Dec.{eqb}
 use lib.Ieee.{binary64, ofBits}
-use lib.ListN.{length, take, drop, getD}
-use Rattle.semantics.specs.Text.{Bytes, fromBigEndian}
+use lib.ListN.{length, getD}
+use Rattle.semantics.specs.Text.{Bytes}
 use Rattle.semantics.specs.Fold.{signed64}
+use Rattle.words.specs.Words.{bitsAt}
 use Rattle.values.specs.declared.ConstVal.{ConstVal}
 use Rattle.values.specs.declared.ConstVal.the-variants.{Int, Real, Str}
-
--- 8 bytes, the highest first
-unfoldable pub bitsAt : Bytes → ℕ → ℕ
-bitsAt t a = fromBigEndian 0 (take 8 (drop a t))
 
 unfoldable pub slotBy : ℕ → ℕ → ConstVal
 unfolding ofBits

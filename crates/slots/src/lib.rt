@@ -1,11 +1,11 @@
 // Folded values in slots of the working space: a kind, and 8 bytes of bits, the highest first.
 ghost use mathlib.Core.Path.{_≡_};
 ghost use mathlib.Core.List.{_∷_};
-ghost use Prim.Native.Nat.{_+_, _≤_, _<_};
-ghost use lib.ListN.{length, getD};
+ghost use Prim.Native.Nat.{_+_, _≤_};
+ghost use lib.ListN.{length};
 ghost use Rattle.semantics.specs.Text.{bigEndian};
 ghost use Rattle.write.specs.Wrote.{over};
-ghost use Rattle.slots.specs.Slots.{bitsAt, slotOf, Small, Stored};
+ghost use Rattle.slots.specs.Slots.{slotOf, Small, Stored};
 
 const INTEGER: u8 = 1;
 
@@ -13,29 +13,11 @@ const REAL: u8 = 2;
 
 const STRING: u8 = 3;
 
-fn wide(x: u8) -> u64
-    ensures { λ r. ⌜ (r ≡ x) × (r < 256) ⌝ }
-{
-    x as u64
-}
-
-// Byte k of the eight of n, the highest first.
-fn byte_of(n: u64, k: usize) -> u8
-    requires { ⌜ k < 8 ⌝ }
-    ensures { λ r. ⌜ r ≡ getD (bigEndian 8 n) k 0 ⌝ }
-{
-    ((n >> (56 - 8 * k)) & 255) as u8
-}
-
 fn store(work: &mut [u8], a: usize, kind: u8, bits: u64)
     ensures { λ _. ⌜ now (work .exit) ≡ over (now (work .entry)) a (kind ∷ bigEndian 8 bits) ⌝ }
 {
-    let mut p = write::put(work, a, kind);
-    let mut k = 0;
-    while k < 8 {
-        p = write::put(work, p, byte_of(bits, k));
-        k += 1;
-    }
+    let p = write::put(work, a, kind);
+    let _ = words::put_bits(work, p, bits);
 }
 
 pub fn put_value(work: &mut [u8], a: usize, v: values::ConstVal)
@@ -49,24 +31,11 @@ pub fn put_value(work: &mut [u8], a: usize, v: values::ConstVal)
     }
 }
 
-fn bits_at(work: &[u8], a: usize) -> u64
-    requires { ⌜ a + 8 ≤ length (now work) ⌝ }
-    ensures { λ r. ⌜ r ≡ bitsAt (now (work .entry)) a ⌝ }
-{
-    let mut n: u64 = 0;
-    let mut k = 0;
-    while k < 8 {
-        n = n * 256 + wide(work[a + k]);
-        k += 1;
-    }
-    n
-}
-
 pub fn value_at(work: &[u8], a: usize) -> values::ConstVal
     requires { ⌜ a + 9 ≤ length (now work) ⌝ }
     ensures { λ r. ⌜ r ≡ slotOf (now (work .entry)) a ⌝ }
 {
-    let b = bits_at(work, a + 1);
+    let b = words::bits_at(work, a + 1);
     let kind = work[a];
     if kind == REAL {
         return values::ConstVal::Real(numbers::reals::of_bits(b));

@@ -7,7 +7,6 @@ ghost use mathlib.Core.List.{[], _∷_, _++_};
 ghost use Prim.Native.Nat.{ℕ, _+_, _≤_, _<_};
 ghost use lib.ListN.{length};
 ghost use mathlib.Core.List.{List};
-ghost use Rattle.semantics.specs.Text.{same};
 ghost use Rattle.semantics.specs.Tree.{ElemKind, TypeKey};
 ghost use Rattle.semantics.specs.Tree.TypeKey.{elemKey};
 ghost use Rattle.semantics.specs.Sheet.{sheetSource};
@@ -48,29 +47,6 @@ pub struct Numbered {
     pub keys: usize,
 }
 
-fn wide(x: u8) -> usize
-    ensures { λ r. ⌜ (r ≡ x) × (r < 256) ⌝ }
-{
-    x as usize
-}
-
-// Whether two texts are the same.
-fn same_text(x: &[u8], y: &[u8]) -> bool
-    ensures { λ r. ⌜ r ≡ same (now (x .entry)) (now (y .entry)) ⌝ }
-{
-    if x.len() != y.len() {
-        return false;
-    }
-    let mut i = 0;
-    while i < x.len() {
-        if x[i] != y[i] {
-            return false;
-        }
-        i += 1;
-    }
-    true
-}
-
 // Whether the `need` lines a and b, from 0, have the same key.
 pub fn same_need(sheet: &[u8], work: &[u8], n: usize, a: usize, b: usize) -> bool
     requires { ⌜ (NeedLine (now sheet) (now work) n a) × (NeedLine (now sheet) (now work) n b) ⌝ }
@@ -81,7 +57,7 @@ pub fn same_need(sheet: &[u8], work: &[u8], n: usize, a: usize, b: usize) -> boo
         return false;
     }
     if f == ADT {
-        return same_text(
+        return words::same(
             lines::field_at(sheet, work, n, a, 0),
             lines::field_at(sheet, work, n, b, 0),
         );
@@ -99,7 +75,7 @@ pub fn need_line(work: &[u8], q: usize) -> usize
     requires { ⌜ (q < 128) × (65536 ≤ length (now work)) ⌝ }
     ensures { λ r. ⌜ r ≡ lineOf (now (work .entry)) q ⌝ }
 {
-    wide(work[LOW + q]) + 256 * wide(work[HIGH + q])
+    words::wide(work[LOW + q]) + 256 * words::wide(work[HIGH + q])
 }
 
 // The position of its key.
@@ -107,7 +83,7 @@ pub fn need_place(work: &[u8], q: usize) -> usize
     requires { ⌜ (q < 128) × (65536 ≤ length (now work)) ⌝ }
     ensures { λ r. ⌜ (r ≡ placeOf (now (work .entry)) q) × (r < 256) ⌝ }
 {
-    wide(work[PLACES + q])
+    words::wide(work[PLACES + q])
 }
 
 // The position of the key of a kind of element plus 1, 0 where it is not used.
@@ -115,7 +91,7 @@ pub fn kind_place(work: &[u8], kind: usize) -> usize
     requires { ⌜ (kind < 5) × (65536 ≤ length (now work)) ⌝ }
     ensures { λ r. ⌜ (r ≡ kindOf (now (work .entry)) kind) × (r < 256) ⌝ }
 {
-    wide(work[KINDS + kind])
+    words::wide(work[KINDS + kind])
 }
 
 // Need q is on line i, and its key has position p.

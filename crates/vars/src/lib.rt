@@ -90,7 +90,7 @@ pub fn has_names(sheet: &[u8], work: &[u8], n: usize, r: usize) -> bool
     let count = lines::number_at(sheet, work, n, r - 1, 2);
     let mut j = 0;
     while j < count {
-        if !implement::same(lines::field_at(sheet, work, n, r - 1, 3 + j), b"nil") {
+        if !words::same(lines::field_at(sheet, work, n, r - 1, 3 + j), b"nil") {
             return true;
         }
         j += 1;

@@ -44,7 +44,7 @@ fn pend_name(
     ensures { λ p. ⌜ Wrote (now (out .entry)) at (concatMap pendRow (laidNames (nameOn (now (sheet .entry)) r j ∷ []))) (now (out .exit)) p ⌝ }
 {
     let name = lines::field_at(sheet, work, n, r - 1, 3 + j);
-    if implement::same(name, b"nil") {
+    if words::same(name, b"nil") {
         return no_rows(out, at);
     }
     rows::pend_row(out, at, name)

@@ -21,11 +21,11 @@ field-at-requires c κs = search needs
 field-at-requires-2 : tie.Need-field-at-requires-2
 field-at-requires-2 c κs = search needs
 
-same-text-requires : tie.Need-same-text-requires
-same-text-requires c κs = search needs
+same-requires : tie.Need-same-requires
+same-requires c κs = search needs
 
 returns-2 : tie.Need-returns-2
-returns-2 c = names-are (now (c .before .before .before .before .before .before .before .before .before .args .sheet)) (now (c .before .before .before .before .before .before .before .before .before .args .work)) (c .before .before .before .before .before .before .before .before .before .args .n) (c .before .before .before .before .before .before .before .before .before .args .a) (c .before .before .before .before .before .before .before .before .before .args .b) (c .before .before .before .before .before .before .before .before .before .pre .0) (c .before .before .before .before .before .before .before .before .before .pre .1) (c .before .before .before .before .before .before .form-at .result) (c .before .before .before .before .before .before .form-at .ensures) (c .before .before .before .before .if1 .left ∙ c .before .before .before .before .before .form-at2 .ensures) (c .before .before .before .if2 .taken) (c .before .before .field-at .ensures) (c .before .field-at2 .ensures) (c .same-text .ensures)
+returns-2 c = names-are (now (c .before .before .before .before .before .before .before .before .before .args .sheet)) (now (c .before .before .before .before .before .before .before .before .before .args .work)) (c .before .before .before .before .before .before .before .before .before .args .n) (c .before .before .before .before .before .before .before .before .before .args .a) (c .before .before .before .before .before .before .before .before .before .args .b) (c .before .before .before .before .before .before .before .before .before .pre .0) (c .before .before .before .before .before .before .before .before .before .pre .1) (c .before .before .before .before .before .before .form-at .result) (c .before .before .before .before .before .before .form-at .ensures) (c .before .before .before .before .if1 .left ∙ c .before .before .before .before .before .form-at2 .ensures) (c .before .before .before .if2 .taken) (c .before .before .field-at .ensures) (c .before .field-at2 .ensures) (c .same .ensures)
 
 same-shape-requires : tie.Need-same-shape-requires
 same-shape-requires c κs = (block-line (now (c .before .before .before .before .before .before .before .args .sheet)) (now (c .before .before .before .before .before .before .before .args .work)) (c .before .before .before .before .before .before .before .args .n) (c .before .before .before .before .before .before .before .args .a) (c .before .before .before .before .before .before .before .pre .0) (sym (c .before .before .before .before .form-at .ensures) ∙ c .if3 .taken), block-line (now (c .before .before .before .before .before .before .before .args .sheet)) (now (c .before .before .before .before .before .before .before .args .work)) (c .before .before .before .before .before .before .before .args .n) (c .before .before .before .before .before .before .before .args .b) (c .before .before .before .before .before .before .before .pre .1) (sym (c .before .before .if1 .left ∙ c .before .before .before .form-at2 .ensures) ∙ c .if3 .taken))
@@ -45,7 +45,7 @@ same-need-spec =
     returns
     field-at-requires
     field-at-requires-2
-    same-text-requires
+    same-requires
     returns-2
     same-shape-requires
     returns-3

@@ -1,5 +1,5 @@
--- `names::same` meets its contract.
-use Rattle.names.proofs.Laws as Laws
+-- `words::same` meets its contract.
+use Rattle.words.proofs.Laws as Laws
 use Rattle.semantics.specs.Text as Text
 use borrow.Author.Needs.{needs}
 use denote.Ref.{now}
@@ -7,8 +7,8 @@ use lib.ListN.{length, drop}
 use native.Mathlib.Omega.{arith}
 use mathlib.Core.Path.{_≡_, _∙_, sym, refl}
 use Prim.Native.Nat.{_≤_, _-_}
-use Rattle.names.proofs.same.Statement.{statement}
-use Rattle.names.proofs.same.Tie as tie
+use Rattle.words.proofs.same.Statement.{statement}
+use Rattle.words.proofs.same.Tie as tie
 
 abbrev Inv-loop : tie.InvT-loop
 Inv-loop a b i₀ i = (i ≤ length a) × (length a ≡ length b) × (Text.same a b ≡ Text.same (drop i a) (drop i b))

@@ -1,6 +1,6 @@
--- `names::bits_at` meets its contract.
-use Rattle.names.proofs.Laws as Laws
-use Rattle.names.specs.Table.{bitsAt}
+-- `words::bits_at` meets its contract.
+use Rattle.words.proofs.Laws as Laws
+use Rattle.words.specs.Words.{bitsAt}
 use Rattle.text.proofs.Hexes.{bytes-grow, bytes-fit}
 use Rattle.semantics.specs.Text.{fromBigEndian}
 use borrow.Author.Needs.{needs}
@@ -10,8 +10,8 @@ use lib.Dec.{lit<}
 use native.Mathlib.Omega.{arith}
 use mathlib.Core.Path.{_≡_, _∙_}
 use Prim.Native.Nat.{_≤_, _<_, _+_, _-_, _^_}
-use Rattle.names.proofs.bits_at.Statement.{statement}
-use Rattle.names.proofs.bits_at.Tie as tie
+use Rattle.words.proofs.bits_at.Statement.{statement}
+use Rattle.words.proofs.bits_at.Tie as tie
 
 abbrev Inv-loop : tie.InvT-loop
 Inv-loop work a acc₀ k₀ acc k = (k ≤ 8) × (acc < 256 ^ k) × (bitsAt work a ≡ fromBigEndian acc (take (8 - k) (drop (a + k) work)))

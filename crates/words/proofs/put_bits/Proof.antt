@@ -1,4 +1,4 @@
--- `entries::put_bits` meets its contract.
+-- `words::put_bits` meets its contract.
 use Rattle.write.proofs.Hex.{big-length}
 use Rattle.write.proofs.Wrote.{wrote-none, wrote-past, wrote-as, wrote-next}
 use Rattle.write.specs.Wrote.{Wrote}
@@ -10,8 +10,8 @@ use lib.Seq.{take-all}
 use native.Mathlib.Omega.{arith}
 use mathlib.Core.Path.{_≡_, _∙_, refl}
 use Prim.Native.Nat.{_-_, _≤_}
-use Rattle.entries.proofs.put_bits.Statement.{statement}
-use Rattle.entries.proofs.put_bits.Tie as tie
+use Rattle.words.proofs.put_bits.Statement.{statement}
+use Rattle.words.proofs.put_bits.Tie as tie
 
 abbrev Inv-loop : tie.InvT-loop
 Inv-loop out₀ at n p₀ k₀ out p k = (k ≤ 8) × (length out ≡ length out₀) × Wrote out₀ at (take k (bigEndian 8 n)) out p

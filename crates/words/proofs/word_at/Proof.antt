@@ -1,9 +1,8 @@
--- `names::word_at` meets its contract.
-use Rattle.names.specs.Table.{wordAt}
-use native.Mathlib.Omega.{arith}
+-- `words::word_at` meets its contract.
+use Rattle.words.specs.Words.{wordAt}
 use borrow.Author.Needs.{needs}
-use Rattle.names.proofs.word_at.Statement.{statement}
-use Rattle.names.proofs.word_at.Tie as tie
+use Rattle.words.proofs.word_at.Statement.{statement}
+use Rattle.words.proofs.word_at.Tie as tie
 
 shared-slice-read-wide : tie.Need-shared-slice-read-wide
 shared-slice-read-wide c = search needs
@@ -28,7 +27,7 @@ add-result c = search needs
 
 returns : tie.Need-returns
 unfolding wordAt
-returns c = omega (arith, c .before .before .wide .ensures, c .wide2 .ensures)
+returns c = (search needs, search needs)
 
 pub word-at-spec : {M : Type 1} → statement M
 word-at-spec =

@@ -1,0 +1,52 @@
+-- Laws of comparing bytes, and of reading eight of them.
+use mathlib.Core.Path.{_≡_, refl, sym, ap, _∙_}
+use mathlib.Core.Bool.{Bool, true, false, _&&_}
+use mathlib.Core.List.{[], _∷_}
+use Prim.Native.Nat.{ℕ, suc, _+_, _-_, _*_, _≤_, _<_}
+use native.Mathlib.Omega.{arith}
+use native.Mathlib.Numerals.{add-one}
+use lib.Dec.{eqb}
+use lib.ListN.{length, take, drop, getD, drop-of-length-le}
+use lib.Seq.{drop-cons}
+use borrow.Author.Tests.{eq-eqb, ne-eqb}
+use Rattle.semantics.specs.Text.{Bytes, same, fromBigEndian}
+
+-- ---- two texts
+
+pub same-length : (a b : Bytes) → (length a ≡ length b → ⊥) → same a b ≡ false
+same-length [] [] h = absurd (h refl)
+same-length [] (y ∷ b) h = refl
+same-length (x ∷ a) [] h = refl
+same-length (x ∷ a) (y ∷ b) h = go (eqb x y) (same-length a b (λ e. h (ap suc e)))
+  where
+    go : (t : Bool) → same a b ≡ false → t && same a b ≡ false
+    go true e = e
+    go false e = refl
+
+module _ (a b : Bytes) (i : ℕ) (h : i < length a) (k : i < length b) where
+  same-open : same (drop i a) (drop i b) ≡ eqb (getD a i 0) (getD b i 0) && same (drop (i + 1) a) (drop (i + 1) b)
+  same-open = rw (add-one, drop-cons a i 0 h, drop-cons b i 0 k)
+
+  pub same-next : getD a i 0 ≡ getD b i 0 → same (drop i a) (drop i b) ≡ same (drop (i + 1) a) (drop (i + 1) b)
+  same-next e = same-open ∙ rw (eq-eqb (getD a i 0) (getD b i 0) e)
+
+  pub same-not : (getD a i 0 ≡ getD b i 0 → ⊥) → same (drop i a) (drop i b) ≡ false
+  same-not e = same-open ∙ rw (ne-eqb (getD a i 0) (getD b i 0) e)
+
+pub same-end : (a b : Bytes) (i : ℕ) → length a ≤ i → length b ≤ i → same (drop i a) (drop i b) ≡ true
+same-end a b i h k = rw (drop-of-length-le a {i = i} h, drop-of-length-le b {i = i} k)
+
+-- ---- 8 bytes as a number
+
+pub bits-next : (t : Bytes) (a k acc : ℕ) → k < 8 → a + 8 ≤ length t
+    → fromBigEndian acc (take (8 - k) (drop (a + k) t)) ≡ fromBigEndian (acc * 256 + getD t (a + k) 0) (take (8 - (k + 1)) (drop (a + (k + 1)) t))
+bits-next t a k acc h room =
+    let e : 8 - k ≡ suc (8 - (k + 1)) = omega arith in
+    let f : suc (a + k) ≡ a + (k + 1) = omega arith in
+    rw (e, drop-cons t (a + k) 0 (omega arith), f)
+
+pub bits-start : (t : Bytes) (a : ℕ) → fromBigEndian 0 (take 8 (drop a t)) ≡ fromBigEndian 0 (take (8 - 0) (drop (a + 0) t))
+bits-start t a = let e : a + 0 ≡ a = omega arith in rw e
+
+pub bits-end : (t : Bytes) (a k acc : ℕ) {b : ℕ} → 8 ≤ k → b ≡ fromBigEndian acc (take (8 - k) (drop (a + k) t)) → acc ≡ b
+bits-end t a k acc h e = let z : 8 - k ≡ 0 = omega arith in sym (e ∙ rw z)

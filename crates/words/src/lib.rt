@@ -1,0 +1,74 @@
+// Bytes compared, and numbers that are stored in bytes.
+ghost use mathlib.Core.Path.{_≡_};
+ghost use Prim.Native.Nat.{_+_, _≤_, _<_};
+ghost use lib.ListN.{length};
+ghost use Rattle.semantics.specs.Text as Text;
+ghost use Rattle.semantics.specs.Text.{bigEndian};
+ghost use Rattle.write.specs.Wrote.{Wrote};
+ghost use Rattle.words.specs.Words.{wordAt, bitsAt};
+
+pub fn same(a: &[u8], b: &[u8]) -> bool
+    ensures { λ r. ⌜ r ≡ Text.same (now (a .entry)) (now (b .entry)) ⌝ }
+{
+    if a.len() != b.len() {
+        return false;
+    }
+    let mut i = 0;
+    while i < a.len() {
+        if a[i] != b[i] {
+            return false;
+        }
+        i += 1;
+    }
+    true
+}
+
+pub fn wide(x: u8) -> usize
+    ensures { λ r. ⌜ (r ≡ x) × (r < 256) ⌝ }
+{
+    x as usize
+}
+
+fn wide64(x: u8) -> u64
+    ensures { λ r. ⌜ (r ≡ x) × (r < 256) ⌝ }
+{
+    x as u64
+}
+
+// Two bytes, the low one first.
+pub fn word_at(work: &[u8], a: usize) -> usize
+    requires { ⌜ a + 1 < length (now work) ⌝ }
+    ensures { λ r. ⌜ (r ≡ wordAt (now (work .entry)) a) × (r < 65536) ⌝ }
+{
+    wide(work[a]) + 256 * wide(work[a + 1])
+}
+
+// Eight bytes, the highest first.
+pub fn bits_at(work: &[u8], a: usize) -> u64
+    requires { ⌜ a + 8 ≤ length (now work) ⌝ }
+    ensures { λ r. ⌜ r ≡ bitsAt (now (work .entry)) a ⌝ }
+{
+    let mut acc: u64 = 0;
+    let mut k = 0;
+    while k < 8 {
+        acc = acc * 256 + wide64(work[a + k]);
+        k += 1;
+    }
+    acc
+}
+
+// The same eight bytes, stored.
+pub fn put_bits(out: &mut [u8], at: usize, n: u64) -> usize
+    ensures { λ r. ⌜ Wrote (now (out .entry)) at (bigEndian 8 n) (now (out .exit)) r ⌝ }
+{
+    if out.len() < at {
+        return out.len() + 1;
+    }
+    let mut p = at;
+    let mut k = 0;
+    while k < 8 {
+        p = write::put(out, p, write::byte_of(n, k));
+        k += 1;
+    }
+    p
+}
