@@ -1,17 +1,19 @@
 /* A sheet of Limbo declarations to its listing, and to the image of its data. Link libexport.a, which `rt staticlib export`
  * writes to target/staticlib. The code is proved; a caller in C is checked by nothing and owes this:
  *
- * - A buffer is a pointer to its first byte and its length in bytes. No pointer is NULL, also where the length is 0. No length
- *   passes PTRDIFF_MAX.
+ * - A buffer is a pointer to its first byte and its length in bytes, all of which may be read, and written where the buffer is not
+ *   const. No pointer is NULL, also where the length is 0. No length passes PTRDIFF_MAX.
  * - A buffer that is written (listing, image, area, work) overlaps no other buffer of the same call.
  *
- * Nothing else is asked: any bytes are a sheet, any lengths will do, and buffers may hold anything before the call. The functions
- * read and write the given buffers only, keep nothing between calls and may run in several threads at once.
+ * - During a call nothing else writes its sheet, and nothing else reads or writes its written buffers.
+ *
+ * Any bytes are a sheet, any lengths will do, and buffers may hold anything before the call. The functions read and write the given
+ * buffers only and keep nothing between calls, so that calls with other buffers may run in several threads at once.
  *
  * Every written buffer is written whole. The listing, the image and the area hold their bytes and zeros behind them, and after
  * a refusal zeros only; the working space holds zeros in any case.
  *
- * x86-64 Linux only: the archive has code for no other machine. */
+ * x86-64 Linux with pointers of 64 bits only: the archive has code for no other machine. */
 #ifndef LIMBO_SHEET_H
 #define LIMBO_SHEET_H
 

@@ -3,8 +3,8 @@ use limbo_sheet::{
     field, image, image_into, listing, listing_into, Refusal, LENT, LONGEST_SHEET, WORK,
 };
 
-const SHEET: &[u8] = include_bytes!("../../c/round.sheet");
-const PRINTED: &str = include_str!("../../c/round.out");
+const SHEET: &[u8] = include_bytes!("../../../cases/round.sheet");
+const PRINTED: &str = include_str!("../../../cases/round.out");
 const EMPTY: &[u8] = b"typ,0,48,12,FFF0\ntyp,1,48,12,FFF0\n";
 const IMAGE: &[u8] = &[0, 0, 0, 1];
 const AREA: &[u8] = &[0, 0, 0, 7, 0, 0, 0, 0, 0, 0, 0, 0];

@@ -51,7 +51,8 @@ abbrev pub sameKind : Kind → Kind → Bool
 sameKind j k = eqb (letter j) (letter k)
 
 -- What a field holds: `name` a NAME, `key` a NAME or NAME.NAME, `ref` an R to a line of a kind, `maybe` the same or 0,
--- `place` a LINE or COL, `size` a SIZE in bytes, `real` 16 digits that are no NaN, `text` the hex of UTF-8.
+-- `unaryOp` and `binaryOp` an OP, `lineOrCol` a LINE or COL, `size` a SIZE in bytes, `i64` an integer of 64 bits, `offset` an
+-- offset of a pointer, `real` 16 digits that are no NaN, `text` the hex of UTF-8.
 pub data Atom : Type 0 where
   name key : Atom
   ref maybe : Kind → Atom
