@@ -19,14 +19,14 @@ use Rattle.compile.specs.declared.Answer.the-variants as Answers
 use Rattle.compile.specs.Compile.{Lays, Refuses, Tries, Settles, Works, Lists, Compiles}
 use Rattle.compile.proofs.Numbers.{tested-numbered}
 
--- ---- the listing of a refused sheet is zeroed
+-- ---- the buffers of a refused sheet are zeroed
 
 module _ (s : Bytes) (o : Outcome) (L W : ℕ) (d u : Bytes) {r : Listed} where
   pub tried-written : {p end : ℕ} → r ≡ Written p end → Tries s o L W r d u → Lays s o L W p end d u
   tried-written e h = subst (λ (x : Listed). Tries s o L W x d u) e h
 
-  pub tried-refused : {q k : ℕ} → r ≡ Refused q k → Tries s o L W r d u → (e : Bytes) → e ≡ zeros L → Refuses o L q k e
-  tried-refused e h b z = let x = subst (λ (x : Listed). Tries s o L W x d u) e h in record { outcome = x .outcome; numbered = x .numbered; bytes = z }
+  pub tried-refused : {q k : ℕ} → r ≡ Refused q k → Tries s o L W r d u → {e v : Bytes} → e ≡ zeros L → v ≡ zeros W → Refuses o L W q k e v
+  tried-refused e h y z = let x = subst (λ (x : Listed). Tries s o L W x d u) e h in record { outcome = x .outcome; numbered = x .numbered; bytes = y; work = z }
 
 -- ---- the checks before
 
@@ -34,11 +34,12 @@ pub tables-lines : (s t : Bytes) {r : Checks} {n : ℕ} → r ≡ Answer.Lines n
 tables-lines s t e h = subst (Tables s t) e h
 
 module _ (s : Bytes) (W : ℕ) {r : Checks} (h : (o : Outcome) → tested W s o ≡ settled r o) where
-  pub check-refused : (L : ℕ) {q k : ℕ} {d : Bytes} → r ≡ Answer.Refused q k → d ≡ zeros L → Refuses (compiled L W s) L q k d
-  check-refused L e z = record {
+  pub check-refused : (L : ℕ) {q k : ℕ} {d u : Bytes} → r ≡ Answer.Refused q k → d ≡ zeros L → length u ≡ W → Tables s u r → Refuses (compiled L W s) L W q k d u
+  check-refused L {q} {k} {d} {u} e z l x = record {
     outcome = compiled-by s W r h L ∙ ap (λ (x : Checks). settled x (worked L (sheetSource s))) e;
     numbered = tested-numbered W s (λ o. h o ∙ ap (λ (x : Checks). settled x o) e);
     bytes = z;
+    work = subst (Tables s u) e x ∙ ap zeros l;
   }
 
   pub check-passed : (L l w : ℕ) {n : ℕ} (y : Listed) (d u : Bytes) → r ≡ Answer.Lines n → l ≡ L → w ≡ W → Works s l w y d u → Lists s L W y d u
@@ -60,6 +61,7 @@ module _ (s : Bytes) (L W : ℕ) (d u : Bytes) {r : Listed} (h : Lists s L W r d
         x .room,
         x .bytes ∙ ap (λ (o : Outcome). padded L (listingBytes o)) (sym (x .outcome)),
         z,
+        x .long ∙ ap (λ (o : Outcome). length (listingBytes o)) (sym (x .outcome)),
       )
 
   pub compiles-refused : {q k : ℕ} {t : Bytes} (a : Refusal) → r ≡ Refused q k → (numberOf a ≡ q) × (lineOf a ≡ k) → t ≡ zeros W → Compiles s L W (Answers.Refused a) d t
@@ -70,4 +72,5 @@ module _ (s : Bytes) (L W : ℕ) (d u : Bytes) {r : Listed} (h : Lists s L W r d
         omega arith,
         x .bytes ∙ ap zeros all ∙ ap (λ (o : Outcome). padded L (listingBytes o)) (sym (x .outcome)),
         z,
+        ap (λ (o : Outcome). length (listingBytes o)) (sym (x .outcome)),
       )

@@ -62,20 +62,21 @@ pub record Stops (o : Outcome) (q k : ℕ) : Type 0 where
   pub outcome : o ≡ refused q k
   pub numbered : Numbered q k
 
--- and the L bytes of the listing are zero
-pub record Refuses (o : Outcome) (L q k : ℕ) (d : Bytes) : Type 0 where
+-- and the L bytes of the listing and the W bytes of the working space are zero
+pub record Refuses (o : Outcome) (L W q k : ℕ) (d u : Bytes) : Type 0 where
   pub outcome : o ≡ refused q k
   pub numbered : Numbered q k
   pub bytes : d ≡ zeros L
+  pub work : u ≡ zeros W
 
--- the answer where o is the outcome, before the listing of a refused sheet is zeroed, and after
+-- the answer where o is the outcome, before the buffers of a refused sheet are zeroed, and after
 abbrev pub Tries : Bytes → Outcome → ℕ → ℕ → Listed → Bytes → Bytes → Type 0
 Tries s o L W (Written p end) d u = Lays s o L W p end d u
 Tries s o L W (Refused q k) d u = Stops o q k
 
 abbrev pub Settles : Bytes → Outcome → ℕ → ℕ → Listed → Bytes → Bytes → Type 0
 Settles s o L W (Written p end) d u = Lays s o L W p end d u
-Settles s o L W (Refused q k) d u = Refuses o L q k d
+Settles s o L W (Refused q k) d u = Refuses o L W q k d u
 
 -- that of a checked sheet, and of any
 abbrev pub Works : Bytes → ℕ → ℕ → Listed → Bytes → Bytes → Type 0
@@ -99,3 +100,4 @@ Compiles s L W a d u =
     × (lengthOf a ≤ L)
     × (d ≡ padded L (listingBytes (compiled L W s)))
     × (u ≡ zeros W)
+    × (lengthOf a ≡ length (listingBytes (compiled L W s)))

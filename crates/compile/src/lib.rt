@@ -73,7 +73,7 @@ fn list_sheet(sheet: &[u8], listing: &mut [u8], work: &mut [u8], n: usize) -> Li
     }
 }
 
-// The listing of a checked sheet, or zeros.
+// The listing of a checked sheet, or zeros in both buffers.
 fn list_checked(sheet: &[u8], listing: &mut [u8], work: &mut [u8], n: usize) -> Listed
     requires { ⌜ (Checked (now sheet) (now work) n) × (now listing ≡ zeros (length (now listing))) ⌝ }
     ensures { λ r. ⌜ Works (now (sheet .entry)) (length (now (listing .entry))) (length (now (work .entry))) r (now (listing .exit)) (now (work .exit)) ⌝ }
@@ -82,12 +82,13 @@ fn list_checked(sheet: &[u8], listing: &mut [u8], work: &mut [u8], n: usize) -> 
         Listed::Written(p, end) => Listed::Written(p, end),
         Listed::Refused(q, k) => {
             write::zero(listing);
+            write::zero(work);
             Listed::Refused(q, k)
         }
     }
 }
 
-// The listing, while the working space still has the tables; zeros where the sheet is refused.
+// The listing, while the working space still has the tables; zeros in both where the sheet is refused.
 pub fn list(sheet: &[u8], listing: &mut [u8], work: &mut [u8]) -> Listed
     ensures { λ r. ⌜ Lists (now (sheet .entry)) (length (now (listing .entry))) (length (now (work .entry))) r (now (listing .exit)) (now (work .exit)) ⌝ }
 {
@@ -103,7 +104,7 @@ pub fn compile(sheet: &[u8], listing: &mut [u8], work: &mut [u8]) -> Answer
     ensures { λ a. ⌜ Compiles (now (sheet .entry)) (length (now (listing .entry))) (length (now (work .entry))) a (now (listing .exit)) (now (work .exit)) ⌝ }
 {
     let r = list(sheet, listing, work);
-    write::zero(work);
+    write::zero(work); // the tables, where the sheet is listed
     match r {
         Listed::Written(p, _) => Answer::Listed(p),
         Listed::Refused(q, k) => Answer::Refused(answers::refuse(q, k)),

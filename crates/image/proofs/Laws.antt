@@ -47,7 +47,7 @@ blank n h = h ∙ ap zeros (sym (sub-zero n))
 pub has-listed : (s : Bytes) (L W : ℕ) {l end : ℕ} {listing u : Bytes} {r : Listed} → r ≡ Listed.Written l end → Lists s L W r listing u → Lays s (compiled L W s) L W l end listing u
 has-listed s L W {l} {end} {listing} {u} e h = subst (λ (r : Listed). Lists s L W r listing u) e h
 
-pub has-refused : (s : Bytes) (L W : ℕ) (u : Bytes) {q k : ℕ} {listing : Bytes} {r : Listed} → r ≡ Listed.Refused q k → Lists s L W r listing u → Refuses (compiled L W s) L q k listing
+pub has-refused : (s : Bytes) (L W : ℕ) (u : Bytes) {q k : ℕ} {listing : Bytes} {r : Listed} → r ≡ Listed.Refused q k → Lists s L W r listing u → Refuses (compiled L W s) L W q k listing u
 has-refused s L W u {q} {k} {listing} e h = subst (λ (r : Listed). Lists s L W r listing u) e h
 
 -- ---- the answers
@@ -87,7 +87,7 @@ module _ (s : Bytes) (b : Buffers) where
   unfolding imaged
   not-listed c = ap (afterListing b (sourceGlobals (sheetSource s))) c
 
-  pub list-refused : {q k : ℕ} {listing image area : Bytes} (r : Refusal) → Refuses (compiled (b .listing) (b .work) s) (b .listing) q k listing
+  pub list-refused : {q k : ℕ} {listing image area work : Bytes} (r : Refusal) → Refuses (compiled (b .listing) (b .work) s) (b .listing) (b .work) q k listing work
       → numberOf r ≡ q → lineOf r ≡ k → image ≡ zeros (b .image) → area ≡ zeros (b .area)
       → Pictures s b (Refused r) listing image area
   list-refused r h number line image-is area-is =

@@ -29,7 +29,7 @@ same-length-2 : tie.Need-same-length-2
 same-length-2 c = search needs
 
 returns : tie.Need-returns
-returns c = check-refused (now (c .before .before .before .before .before .before .before .before .before .before .before .before .before .before .args .sheet)) (length (now (c .before .before .before .before .before .before .before .before .before .before .before .before .before .before .args .work))) (c .before .before .before .before .before .check .ensures .0) (length (now (c .before .before .before .before .before .before .before .before .before .before .before .before .before .before .args .listing))) (c .before .q .given .1) (c .before .before .before .before .before .before .before .before .before .zero .ensures)
+returns c = check-refused (now (c .before .before .before .before .before .before .before .before .before .before .before .before .before .before .args .sheet)) (length (now (c .before .before .before .before .before .before .before .before .before .before .before .before .before .before .args .work))) (c .before .before .before .before .before .check .ensures .0) (length (now (c .before .before .before .before .before .before .before .before .before .before .before .before .before .before .args .listing))) (c .before .q .given .1) (c .before .before .before .before .before .before .before .before .before .zero .ensures) (c .before .before .before .before .before .check .kept .1 .0) (c .before .before .before .before .before .check .ensures .1)
 
 same-length-3 : tie.Need-same-length-3
 same-length-3 c = search needs
