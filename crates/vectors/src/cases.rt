@@ -72,7 +72,7 @@ pub fn read_header() -> Header {
     h
 }
 
-pub fn skip(n: usize) {
+fn skip(n: usize) {
     let mut space = io::buffer();
     let mut left = n;
     while left > 4096 {

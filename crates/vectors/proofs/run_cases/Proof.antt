@@ -7,11 +7,12 @@ use Rattle.vectors.proofs.run_cases.Statement.{statement}
 use Rattle.vectors.proofs.run_cases.Tie as tie
 
 abbrev Inv-loop : tie.InvT-loop
-Inv-loop sheet₀ wanted₀ listing₀ work₀ counts₀ k₀ sheet wanted listing work counts k =
-    (k ≤ 10000000) × (length sheet ≡ length sheet₀) × (length wanted ≡ length wanted₀) × (length listing ≡ length listing₀) × (length work ≡ length work₀)
+Inv-loop sheet₀ wanted₀ text₀ listing₀ picture₀ area₀ work₀ counts₀ k₀ sheet wanted text listing picture area work counts k =
+    (k ≤ 10000000) × (length sheet ≡ length sheet₀) × (length wanted ≡ length wanted₀) × (length text ≡ length text₀) × (length listing ≡ length listing₀) × (length picture ≡ length picture₀) × (length area ≡ length area₀) × (length work ≡ length work₀)
 
 abbrev μ-loop : tie.MeasureT-loop
-μ-loop sheet₀ wanted₀ listing₀ work₀ counts₀ k₀ sheet wanted listing work counts k = 10000000 - k
+μ-loop sheet₀ wanted₀ text₀ listing₀ picture₀ area₀ work₀ counts₀ k₀ sheet wanted text listing picture area work counts k =
+    10000000 - k
 
 loop-holds : tie.Need-loop-holds Inv-loop μ-loop
 loop-holds c = search needs
@@ -31,6 +32,15 @@ same-length-3 c = search needs
 same-length-4 : tie.Need-same-length-4 Inv-loop μ-loop
 same-length-4 c = search needs
 
+same-length-5 : tie.Need-same-length-5 Inv-loop μ-loop
+same-length-5 c = search needs
+
+same-length-6 : tie.Need-same-length-6 Inv-loop μ-loop
+same-length-6 c = search needs
+
+same-length-7 : tie.Need-same-length-7 Inv-loop μ-loop
+same-length-7 c = search needs
+
 returns : tie.Need-returns Inv-loop μ-loop
 returns c = search needs
 
@@ -49,17 +59,26 @@ loop-less c = search needs
 loop-again : tie.Need-loop-again Inv-loop μ-loop
 loop-again c = search needs
 
-same-length-5 : tie.Need-same-length-5 Inv-loop μ-loop
-same-length-5 c = search needs
-
-same-length-6 : tie.Need-same-length-6 Inv-loop μ-loop
-same-length-6 c = search needs
-
-same-length-7 : tie.Need-same-length-7 Inv-loop μ-loop
-same-length-7 c = search needs
-
 same-length-8 : tie.Need-same-length-8 Inv-loop μ-loop
 same-length-8 c = search needs
+
+same-length-9 : tie.Need-same-length-9 Inv-loop μ-loop
+same-length-9 c = search needs
+
+same-length-10 : tie.Need-same-length-10 Inv-loop μ-loop
+same-length-10 c = search needs
+
+same-length-11 : tie.Need-same-length-11 Inv-loop μ-loop
+same-length-11 c = search needs
+
+same-length-12 : tie.Need-same-length-12 Inv-loop μ-loop
+same-length-12 c = search needs
+
+same-length-13 : tie.Need-same-length-13 Inv-loop μ-loop
+same-length-13 c = search needs
+
+same-length-14 : tie.Need-same-length-14 Inv-loop μ-loop
+same-length-14 c = search needs
 
 returns-2 : tie.Need-returns-2 Inv-loop μ-loop
 returns-2 c = search needs
@@ -76,14 +95,20 @@ run-cases-spec =
     same-length-2
     same-length-3
     same-length-4
+    same-length-5
+    same-length-6
+    same-length-7
     returns
     add-k
     run-case-requires
     count-requires
     loop-less
     loop-again
-    same-length-5
-    same-length-6
-    same-length-7
     same-length-8
+    same-length-9
+    same-length-10
+    same-length-11
+    same-length-12
+    same-length-13
+    same-length-14
     returns-2)

@@ -1,0 +1,73 @@
+//! Times the Rust and the proved compiler on the same sheets, in one process.
+//!
+//!   bench RUNS SHEET..
+//!
+//! Of each sheet it prints its path and the medians of so many runs of both,
+//! in nanoseconds: sheet to syntax tree to listing in the Rust (driver.rs),
+//! sheet to listing in the other. Their listings must be the same.
+#![allow(dead_code, unused)]
+
+mod ast;
+mod codegen;
+mod symtab;
+mod token;
+
+use std::time::Instant;
+
+const ROOM: usize = 65536;
+
+unsafe extern "C" {
+    // A slice is a pointer and a length.
+    fn limbo_compile(
+        sheet: *const u8,
+        sheet_bytes: usize,
+        listing: *mut u8,
+        listing_bytes: usize,
+        work: *mut u8,
+        work_bytes: usize,
+        count: *mut usize,
+    ) -> u8;
+}
+
+fn proved<'a>(sheet: &[u8], listing: &'a mut [u8], work: &mut [u8]) -> &'a [u8] {
+    let mut count = 0;
+    let number = unsafe {
+        limbo_compile(
+            sheet.as_ptr(),
+            sheet.len(),
+            listing.as_mut_ptr(),
+            listing.len(),
+            work.as_mut_ptr(),
+            work.len(),
+            &mut count,
+        )
+    };
+    assert_eq!(number, 0, "refused at line {count}");
+    &listing[..count]
+}
+
+fn median(mut times: Vec<u128>) -> u128 {
+    times.sort();
+    times[times.len() / 2]
+}
+
+fn main() {
+    let mut args = std::env::args().skip(1);
+    let runs: usize = args.next().expect("RUNS").parse().expect("RUNS");
+    for path in args {
+        let sheet = std::fs::read(&path).expect("a sheet");
+        let (mut listing, mut work) = (vec![0; ROOM], vec![0; ROOM]);
+        let rust = codegen::driver::answer(&sheet, "ref", false);
+        assert_eq!(rust.as_bytes(), proved(&sheet, &mut listing, &mut work), "{path}");
+        let (mut of_rust, mut of_proved) = (Vec::new(), Vec::new());
+        for _ in 0..runs {
+            let start = Instant::now();
+            std::hint::black_box(codegen::driver::answer(std::hint::black_box(&sheet), "ref", false));
+            of_rust.push(start.elapsed().as_nanos());
+            let start = Instant::now();
+            std::hint::black_box(proved(std::hint::black_box(&sheet), &mut listing, &mut work));
+            of_proved.push(start.elapsed().as_nanos());
+        }
+        println!("{path} {} {}", median(of_rust), median(of_proved));
+    }
+}
