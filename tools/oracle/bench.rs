@@ -3,8 +3,9 @@
 //!   bench RUNS SHEET..
 //!
 //! Of each sheet it prints its path and the medians of so many runs of both,
-//! in nanoseconds: sheet to syntax tree to listing in the Rust (driver.rs),
-//! sheet to listing in the other. Their listings must be the same.
+//! in nanoseconds of the processor's time: sheet to syntax tree to listing in
+//! the Rust (driver.rs), sheet to listing in the other. Their listings must be
+//! the same.
 #![allow(dead_code, unused)]
 
 mod ast;
@@ -12,11 +13,22 @@ mod codegen;
 mod symtab;
 mod token;
 
-use std::time::Instant;
+use std::hint::black_box;
 
 const ROOM: usize = 65536;
 
+/// Linux on x86-64.
+const CLOCK_THREAD_CPUTIME_ID: i32 = 3;
+
+#[repr(C)]
+struct Timespec {
+    seconds: i64,
+    nanoseconds: i64,
+}
+
 unsafe extern "C" {
+    fn clock_gettime(clock: i32, time: *mut Timespec) -> i32;
+
     // A slice is a pointer and a length.
     fn limbo_compile(
         sheet: *const u8,
@@ -46,7 +58,14 @@ fn proved<'a>(sheet: &[u8], listing: &'a mut [u8], work: &mut [u8]) -> &'a [u8] 
     &listing[..count]
 }
 
-fn median(mut times: Vec<u128>) -> u128 {
+/// The time that this thread has had so far.
+fn now() -> i64 {
+    let mut time = Timespec { seconds: 0, nanoseconds: 0 };
+    assert_eq!(unsafe { clock_gettime(CLOCK_THREAD_CPUTIME_ID, &mut time) }, 0);
+    time.seconds * 1_000_000_000 + time.nanoseconds
+}
+
+fn median(mut times: Vec<i64>) -> i64 {
     times.sort();
     times[times.len() / 2]
 }
@@ -61,12 +80,12 @@ fn main() {
         assert_eq!(rust.as_bytes(), proved(&sheet, &mut listing, &mut work), "{path}");
         let (mut of_rust, mut of_proved) = (Vec::new(), Vec::new());
         for _ in 0..runs {
-            let start = Instant::now();
-            std::hint::black_box(codegen::driver::answer(std::hint::black_box(&sheet), "ref", false));
-            of_rust.push(start.elapsed().as_nanos());
-            let start = Instant::now();
-            std::hint::black_box(proved(std::hint::black_box(&sheet), &mut listing, &mut work));
-            of_proved.push(start.elapsed().as_nanos());
+            let start = now();
+            black_box(codegen::driver::answer(black_box(&sheet), "ref", false));
+            let middle = now();
+            black_box(proved(black_box(&sheet), &mut listing, &mut work));
+            of_rust.push(middle - start);
+            of_proved.push(now() - middle);
         }
         println!("{path} {} {}", median(of_rust), median(of_proved));
     }
