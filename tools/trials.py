@@ -2,7 +2,7 @@
 seed gives the same sheets.
 
     trials(seed, first, count) -> a list of Trial
-    answered(trials)           -> for each its Case, or None
+    answered(trials, first)    -> for each its Case, or None
 
 Most sheets are those of sheets.py. The families below add what these seldom
 meet: references that nest 32 deep, counts and lengths at their limits, strings
@@ -376,15 +376,16 @@ def asked_of(made):
     return made.asked
 
 
-def answered(made):
-    """For each trial its case, or None where there is no answer."""
-    cases = [settled(one, f"{one.kind}-{number}") for number, one in enumerate(made)]
+def answered(made, first):
+    """For each trial its case, or None where there is no answer; names count from the first."""
+    names = [f"{one.kind}-{number}" for number, one in enumerate(made, first)]
+    cases = [settled(one, name) for one, name in zip(made, names)]
     waiting = [number for number, case in enumerate(cases) if case is None and asked_of(made[number]) is not None]
     for number, answer in zip(waiting, oracle.ask([made[number].asked for number in waiting])):
         if answer is None:
             continue
         one, origin, (out, img) = made[number], "rust", answers.of_rust(answer)
-        if one.then and not store.refused(out):
+        if one.then and store.refused(out) in (None, (13, 0)):  # 13 is tried last
             origin, out, img = "made", b"no,%d,%d\n" % one.then, b""
-        cases[number] = store.Case(f"{one.kind}-{number}", origin, one.sheet, out, img)
+        cases[number] = store.Case(names[number], origin, one.sheet, out, img)
     return cases
