@@ -116,7 +116,7 @@ def strings(rng):
 
 def plain_con(maker, line):
     maker.put("con", maker.name(), 1, 1, line)
-    return plain("strings", maker.sheet())
+    return plain("unmet", maker.sheet())
 
 
 def fault(maker, before, then):
@@ -370,8 +370,8 @@ def settled(made, name):
 
 
 def asked_of(made):
-    """The sheet to ask about; None where a string might be too long."""
-    if made.asked == made.sheet and made.kind != "strings" and checks.may_join_over(made.sheet):
+    """The sheet to ask about; None where a string might be too long, unless it is known not to be built."""
+    if made.asked == made.sheet and made.kind != "unmet" and checks.may_join_over(made.sheet):
         return None
     return made.asked
 
