@@ -19,7 +19,7 @@ import answers
 import checks
 import oracle
 import store
-from edges import listing_of, put_alloc
+from edges import listing_of, put_alloc, sheet_of
 from sheets import TYPES, Maker, damaged, hex_text, whole
 
 # asked: the sheet that the Rust is asked about; None: none. then: the refusal
@@ -308,13 +308,7 @@ def lengths(rng):
         for _ in range(rng.randint(1022, 1026) - len(maker.lines)):
             maker.put(*rng.choice((("ty", "int"), ("ex", "other"), ("fd", 0, 0), ("ex", "int", 1))))
     else:
-        rest = 65536 + rng.randint(-3, 2) - len(maker.sheet())
-        while rest > 0:
-            size = 256 if rest > 512 else rest // 2 if rest > 256 else rest
-            maker.put("ex", "str", "4" * (size - 8)) if size % 2 == 0 else maker.put("ex", "id", "a" * min(32, size - 7))
-            rest -= len(maker.lines[-1]) + 1
-            if rest < 16:
-                break
+        return plain("lengths", maker.sheet() + sheet_of(65536 + rng.randint(-3, 2) - len(maker.sheet())))
     return plain("lengths", maker.sheet())
 
 
