@@ -78,3 +78,11 @@ def unpack(data):
             raise ValueError("the last case is cut")
         cases.append(Case(header[1].decode(), header[2].decode(), *texts))
     return cases
+
+
+def tally(cases):
+    """What the program `vectors` prints of these cases where none differs."""
+    refusals = [refused(case.out) for case in cases]
+    lines = [f"cases,{len(cases)}", f"listed,{refusals.count(None)}", f"imaged,{sum(1 for case in cases if case.img)}"]
+    lines += [f"refused,{number},{sum(1 for r in refusals if r and r[0] == number)}" for number in range(1, 14)]
+    return "\n".join(lines + ["differ,0", ""]).encode()

@@ -427,7 +427,7 @@ fn refusal(file: &SourceFile) -> String {
     panic!("no declaration is refused on its own");
 }
 
-fn answer(bytes: &[u8], ptr: &str, with_end: bool) -> String {
+pub fn answer(bytes: &[u8], ptr: &str, with_end: bool) -> String {
     let sheet = Sheet::parse(bytes, ptr);
     let file = sheet.source_file();
     let mut cg = CodeGen::new();

@@ -1,0 +1,239 @@
+// Runs the cases on standard input (cases/README.md) through `compile` and `image`, and holds what they give to what is stored. A listing without an
+// image is held to `compile` alone. Prints the number of each case that differs, from 1, and then how many cases there are, how many listings, images
+// and refusals of each number are equal, and how many cases differ.
+use answers::Refusal;
+use cases::Header;
+use compile::Answer;
+use image::Imaged;
+use libc::STDOUT_FILENO;
+
+mod cases;
+
+// More cases than a list has.
+const MOST: usize = 10000000;
+
+const COMMA: u8 = 44;
+
+const LF: u8 = 10;
+
+// What becomes of a case: an equal listing, an equal refusal by its number (1 to 13), another answer, or an equal listing and image.
+const LISTED: usize = 0;
+
+const DIFFERS: usize = 14;
+
+const IMAGED: usize = 15;
+
+const OUTCOMES: usize = 16;
+
+fn print_count(name: &[u8], n: u64) {
+    io::write_all(STDOUT_FILENO, name);
+    io::write_all(STDOUT_FILENO, b",");
+    io::print_decimal(STDOUT_FILENO, n);
+    io::write_all(STDOUT_FILENO, b"\n");
+}
+
+// Whether the first n bytes of a buffer are the wanted ones.
+fn are_first(wanted: &[u8], buffer: &[u8], n: usize) -> bool {
+    if n <= buffer.len() {
+        return check::same(&buffer[0..n], wanted);
+    }
+    false
+}
+
+fn listed(listing: &[u8], n: usize, wanted: &[u8]) -> usize {
+    if are_first(wanted, listing, n) {
+        return LISTED;
+    }
+    DIFFERS
+}
+
+fn refused(r: Refusal, wanted: &[u8]) -> usize {
+    let mut text = [0u8; 32];
+    let number = answers::number_of(r);
+    let mut p = write::put_part(&mut text, 0, b"no,");
+    p = write::put_nat(&mut text, p, number as u64);
+    p = write::put(&mut text, p, COMMA);
+    p = write::put_nat(&mut text, p, answers::line_of(r) as u64);
+    p = write::put(&mut text, p, LF);
+    if are_first(wanted, &text, p) {
+        return number as usize;
+    }
+    DIFFERS
+}
+
+fn outcome(sheet: &[u8], wanted: &[u8], listing: &mut [u8], work: &mut [u8]) -> usize {
+    match compile::compile(sheet, listing, work) {
+        Answer::Listed(n) => listed(listing, n, wanted),
+        Answer::Refused(r) => refused(r, wanted),
+    }
+}
+
+// Whether a text is the rows of an image and an area.
+fn is_rows(text: &[u8], picture: &[u8], area: &[u8]) -> bool {
+    let mut rows = [0u8; 262160];
+    let mut p = write::put_part(&mut rows, 0, b"image,");
+    p = write::put_hex(&mut rows, p, picture);
+    p = write::put_part(&mut rows, p, b"\narea,");
+    p = write::put_hex(&mut rows, p, area);
+    p = write::put(&mut rows, p, LF);
+    are_first(text, &rows, p)
+}
+
+fn laid(text: &[u8], picture: &[u8], i: usize, area: &[u8], a: usize) -> bool {
+    if i <= picture.len() {
+        if a <= area.len() {
+            return is_rows(text, &picture[0..i], &area[0..a]);
+        }
+    }
+    false
+}
+
+// What becomes of a case with an image, or with a refusal o, whose listing is as it should be.
+fn image_outcome(
+    sheet: &[u8],
+    wanted: &[u8],
+    text: &[u8],
+    o: usize,
+    listing: &mut [u8],
+    picture: &mut [u8],
+    area: &mut [u8],
+    work: &mut [u8],
+) -> usize {
+    match image::image(sheet, listing, picture, area, work) {
+        Imaged::Laid(n, i, a) => {
+            if laid(text, picture, i, area, a) {
+                if listed(listing, n, wanted) == LISTED {
+                    return IMAGED;
+                }
+            }
+            DIFFERS
+        }
+        Imaged::Refused(r) => {
+            if o == LISTED {
+                if refused(r, text) == DIFFERS {
+                    return DIFFERS;
+                }
+                return IMAGED;
+            }
+            refused(r, wanted)
+        }
+    }
+}
+
+fn case_outcome(
+    sheet: &[u8],
+    wanted: &[u8],
+    text: &[u8],
+    listing: &mut [u8],
+    picture: &mut [u8],
+    area: &mut [u8],
+    work: &mut [u8],
+) -> usize {
+    let o = outcome(sheet, wanted, listing, work);
+    if o == DIFFERS {
+        return DIFFERS;
+    }
+    if o == LISTED && text.len() == 0 {
+        return LISTED;
+    }
+    image_outcome(sheet, wanted, text, o, listing, picture, area, work)
+}
+
+fn run_case(
+    h: Header,
+    sheet: &mut [u8],
+    wanted: &mut [u8],
+    text: &mut [u8],
+    listing: &mut [u8],
+    picture: &mut [u8],
+    area: &mut [u8],
+    work: &mut [u8],
+) -> usize {
+    let n = cases::read_part(sheet, h.sheet);
+    let m = cases::read_part(wanted, h.answer);
+    let k = cases::read_part(text, h.image);
+    case_outcome(
+        &sheet[0..n],
+        &wanted[0..m],
+        &text[0..k],
+        listing,
+        picture,
+        area,
+        work,
+    )
+}
+
+fn add(counts: &mut [u64; 16], outcome: usize) {
+    if outcome < OUTCOMES {
+        counts[outcome] = std::num::wrapping_add_u64(counts[outcome], 1);
+    }
+}
+
+fn count(counts: &mut [u64; 16], outcome: usize, number: u64) {
+    add(counts, outcome);
+    if outcome == IMAGED {
+        add(counts, LISTED);
+    }
+    if outcome == DIFFERS {
+        print_count(b"differs", number);
+    }
+}
+
+fn run_cases(
+    sheet: &mut [u8],
+    wanted: &mut [u8],
+    text: &mut [u8],
+    listing: &mut [u8],
+    picture: &mut [u8],
+    area: &mut [u8],
+    work: &mut [u8],
+    counts: &mut [u64; 16],
+) -> usize {
+    let mut k = 0;
+    while k < MOST {
+        let h = cases::read_header();
+        if h.answer == 0 {
+            return k;
+        }
+        k += 1;
+        let o = run_case(h, sheet, wanted, text, listing, picture, area, work);
+        count(counts, o, k as u64);
+    }
+    k
+}
+
+fn print_refusals(counts: &[u64; 16]) {
+    let mut k: usize = 1;
+    while k < DIFFERS {
+        io::write_all(STDOUT_FILENO, b"refused,");
+        io::print_decimal(STDOUT_FILENO, k as u64);
+        print_count(b"", counts[k]);
+        k += 1;
+    }
+}
+
+fn main() {
+    let mut sheet = io::large_buffer();
+    let mut wanted = io::large_buffer();
+    let mut text = [0u8; 262160];
+    let mut listing = io::large_buffer();
+    let mut picture = io::large_buffer();
+    let mut area = io::large_buffer();
+    let mut work = io::large_buffer();
+    let mut counts = [0u64; 16];
+    let n = run_cases(
+        &mut sheet,
+        &mut wanted,
+        &mut text,
+        &mut listing,
+        &mut picture,
+        &mut area,
+        &mut work,
+        &mut counts,
+    );
+    print_count(b"cases", n as u64);
+    print_count(b"listed", counts[LISTED]);
+    print_count(b"imaged", counts[IMAGED]);
+    print_refusals(&counts);
+    print_count(b"differ", counts[DIFFERS]);
+}

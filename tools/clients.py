@@ -1,0 +1,97 @@
+"""Sheets for the benchmark.
+
+    clients(records)      -> a sheet of so many client records, with constants,
+                             tables and needs
+    largest()             -> such a sheet of 1,024 lines and 65,535 bytes
+    deep(depth)           -> a record of a tuple in a tuple, so many deep
+"""
+from sheets import Build, hex_text
+
+NAMES = ("Scan", "Upload", "Round", "Tag", "Reader", "Site", "Queue", "Batch", "Guard", "Shift")
+# Of a record: its fields, types and names. A pick has two variants more.
+SHAPES = (
+    (("string", "tag"), ("big", "at"), ("int", "reader", "site")),
+    (("ptr", "next"), ("int", "tries", "state"), ("real", "delay")),
+    (("byte", "flags"), ("array", "tags"), ("big", "begun", "ended")),
+    (("tuple", "place"), ("string", "owner", "note"), ("int", "count")),
+)
+
+
+def put_type(build, name):
+    if name == "array":
+        return build.put("ty", "array", build.put("ty", "string"))
+    if name == "tuple":
+        return build.put("ty", "tuple", 2, build.put("ty", "big"), build.put("ty", "int"))
+    return build.put("ty", name)
+
+
+def put_fields(build, shape, pad):
+    return [build.put("fd", put_type(build, of), len(names), *(name + pad for name in names)) for of, *names in shape]
+
+
+def put_record(build, number, pad):
+    name = f"{NAMES[number % len(NAMES)]}{number}{pad}"
+    fields = put_fields(build, SHAPES[number % len(SHAPES)], pad)
+    if number % 5 == 4:
+        cases = [build.put("pc", 1, tag + pad, 1, *put_fields(build, ((of, "value"),), pad)) for tag, of in (("Sent", "big"), ("Failed", "string"))]
+        build.put("pick", name, len(fields), *fields, len(cases), *cases)
+    else:
+        build.put("adt", name, len(fields), *fields)
+    build.put("need", "adt", name)
+
+
+def put_constant(build, number, pad):
+    name = f"C{number}{pad}"
+    if number % 3 == 0:
+        value = build.put("ex", "id", "iota")
+    elif number % 3 == 1:
+        value = build.put("ex", "bin", 2, build.put("ex", "id", f"C{number - 1}{pad}"), build.put("ex", "int", 60 + number))
+    else:
+        value = build.put("ex", "str", hex_text(f"round {number}"))
+    build.put("con", name, number, 1, value)
+
+
+def put_table(build, number, pad):
+    elements = [build.put("el", "next", build.put("ex", "int", 10 * number + step)) for step in range(3)]
+    elements.append(build.put("el", "star", build.put("ex", "int", -1)))
+    literal = build.put("ex", "lit", build.put("ex", "int", 24), 0, len(elements), *elements)
+    build.put("var", build.put("ty", "array", build.put("ty", "int")), literal, 1, f"table{number}{pad}")
+
+
+def filled(records, pad=""):
+    build = Build()
+    build.put("impl", "Client")
+    for number in range(records):
+        put_record(build, number, pad)
+        put_constant(build, number, pad)
+        if number % 6 == 0:
+            put_table(build, number, pad)
+        build.put("var", build.put("ty", ("int", "big", "string")[number % 3]), 0, 1, f"g{number}{pad}")
+    return build
+
+
+def clients(records):
+    return filled(records).sheet()
+
+
+def largest():
+    """Records with long names, constants and globals with long strings, and
+    lines that nothing refers to for the bytes that are left."""
+    build = filled(38, "p" * 24)
+    for number in range(80):
+        build.put("con", f"S{number}", 1, 1, build.put("ex", "str", "5A" * 124))
+    for number in range(25):
+        build.put("var", build.put("ty", "string"), build.put("ex", "str", "5A" * 124), 1, f"s{number}")
+    while len(build.lines) < 1024:
+        left = 65535 - len(build.sheet()) - 8 * (1024 - len(build.lines))
+        build.put("ex", "str", "5A" * min(124, left // 2))
+    return build.sheet()
+
+
+def deep(depth):
+    build = Build()
+    line = build.put("ty", "int")
+    for _ in range(depth):
+        line = build.put("ty", "tuple", 1, line)
+    build.put("adt", "T", 1, build.put("fd", line, 1, "a"))
+    return build.sheet()
