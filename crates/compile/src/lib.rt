@@ -63,6 +63,7 @@ fn list_rows(sheet: &[u8], listing: &mut [u8], work: &mut [u8], n: usize, x: Tab
     }
 }
 
+// The listing of a checked sheet; the rows written before a refusal still stand.
 fn list_sheet(sheet: &[u8], listing: &mut [u8], work: &mut [u8], n: usize) -> Listed
     requires { ⌜ (Checked (now sheet) (now work) n) × (now listing ≡ zeros (length (now listing))) ⌝ }
     ensures { λ r. ⌜ Tries (now (sheet .entry)) (worked (length (now (listing .entry))) (sheetSource (now (sheet .entry)))) (length (now (listing .entry))) (length (now (work .entry))) r (now (listing .exit)) (now (work .exit)) ⌝ }
@@ -73,7 +74,7 @@ fn list_sheet(sheet: &[u8], listing: &mut [u8], work: &mut [u8], n: usize) -> Li
     }
 }
 
-// The listing of a checked sheet, or zeros in both buffers.
+// The same, with zeros in both buffers where it is refused.
 fn list_checked(sheet: &[u8], listing: &mut [u8], work: &mut [u8], n: usize) -> Listed
     requires { ⌜ (Checked (now sheet) (now work) n) × (now listing ≡ zeros (length (now listing))) ⌝ }
     ensures { λ r. ⌜ Works (now (sheet .entry)) (length (now (listing .entry))) (length (now (work .entry))) r (now (listing .exit)) (now (work .exit)) ⌝ }
@@ -88,7 +89,7 @@ fn list_checked(sheet: &[u8], listing: &mut [u8], work: &mut [u8], n: usize) -> 
     }
 }
 
-// The listing, while the working space still has the tables; zeros in both where the sheet is refused.
+// The listing of any sheet, while the working space still has the tables; zeros in both where the sheet is refused.
 pub fn list(sheet: &[u8], listing: &mut [u8], work: &mut [u8]) -> Listed
     ensures { λ r. ⌜ Lists (now (sheet .entry)) (length (now (listing .entry))) (length (now (work .entry))) r (now (listing .exit)) (now (work .exit)) ⌝ }
 {
