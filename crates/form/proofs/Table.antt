@@ -68,6 +68,20 @@ module _ (f : ℕ) (h : f < 42) where
       let e : 24 * f + 19 + j ≡ 24 * f + suc (17 + suc j) = omega arith in
       rw e (row-bytes (suc (17 + suc j)) (omega arith) ∙ behind-words (suc j) ∙ fill-at 5 (codes (rowAt f .parts)) j k)
 
+-- the lengths of keywords, each a small letter
+unfoldable pub widths : List Form.Row → Text.Bytes
+widths [] = []
+widths (r ∷ rs) = (length (r .words) + 96) ∷ widths rs
+
+widths-at : (rs : List Form.Row) (f : ℕ) → f < length rs → getD (widths rs) f 0 ≡ length (getD rs f Form.noRow .words) + 96
+unfolding widths
+widths-at [] f h = absurd (omega arith)
+widths-at (r ∷ rs) zero h = refl
+widths-at (r ∷ rs) (suc f) h = widths-at rs f (omega arith)
+
+pub width-cell : (f : ℕ) → f < 42 → getD (widths Form.forms) f 0 ≡ length (wordsAt f) + 96
+width-cell f h = widths-at Form.forms f (omega (arith, row-count))
+
 -- ---- what holds of all Form.forms
 
 plain : ℕ → Bool

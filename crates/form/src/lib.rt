@@ -6,7 +6,7 @@ ghost use Prim.Native.Nat.{_+_, _≤_, _<_};
 ghost use lib.ListN.{length, getD};
 ghost use Rattle.semantics.specs.Form.{forms, begins, rowOf, fieldsFrom};
 ghost use Rattle.text.specs.Number.{numberOf, isBetween};
-ghost use Rattle.form.specs.Table.{rowCount, wordsAt, kindAt, codesAt, fieldsBehind, formOf};
+ghost use Rattle.form.specs.Table.{table, rowCount, wordsAt, kindAt, codesAt, fieldsBehind, formOf};
 ghost use Rattle.form.specs.Letters.{isKeyField, isReal, limitOf, holds, after, fits, lettersFrom, Ready, Standing, Stepped, beginning};
 
 // A row: keywords, the kind's letter, and a letter for each field behind the keywords. A to O are kinds, and references to lines of
@@ -55,6 +55,9 @@ need,elem,string N
 need,block       NSy   
 need,opaque      N     ";
 
+// How long the keywords of each row are: a stands for 1.
+const WIDTHS: [u8; 42] = *b"fgfgifhhfgfegefgfhfhggebbbcdccccdehmnmnpjk";
+
 const ROWS: usize = 42;
 
 const BLANK: u8 = 32;
@@ -92,11 +95,12 @@ const REAL: u8 = b'R';
 
 const TEXT: u8 = b'T';
 
-fn word(f: usize, i: usize) -> u8
-    requires { ⌜ (f < rowCount) × (i < 17) ⌝ }
+// The table is lent to what looks at many of its bytes: the array would be made anew for each.
+fn word(t: &[u8; 1008], f: usize, i: usize) -> u8
+    requires { ⌜ (now t ≡ table forms) × (f < rowCount) × (i < 17) ⌝ }
     ensures { λ r. ⌜ r ≡ getD (wordsAt f) i 32 ⌝ }
 {
-    FORMS[24 * f + 1 + i]
+    t[24 * f + 1 + i]
 }
 
 pub fn kind(f: usize) -> u8
@@ -116,13 +120,13 @@ fn atom(f: usize, j: usize) -> u8
 // ---- keywords
 
 // Where the fields behind the keywords of form f begin; 0 where a line begins otherwise.
-fn behind(l: &[u8], f: usize) -> usize
-    requires { ⌜ (f < rowCount) × (length (now l) ≤ 255) ⌝ }
+fn behind_in(t: &[u8; 1008], l: &[u8], f: usize) -> usize
+    requires { ⌜ (f < rowCount) × (length (now l) ≤ 255) × (now t ≡ table forms) ⌝ }
     ensures { λ r. ⌜ r ≡ cond (begins (wordsAt f) (now (l .entry))) (length (wordsAt f) + 1) 0 ⌝ }
 {
     let mut i = 0;
     loop {
-        let w = word(f, i);
+        let w = word(t, f, i);
         if w == BLANK {
             if i == l.len() {
                 return i + 1;
@@ -142,19 +146,35 @@ fn behind(l: &[u8], f: usize) -> usize
     }
 }
 
+fn behind(l: &[u8], f: usize) -> usize
+    requires { ⌜ (f < rowCount) × (length (now l) ≤ 255) ⌝ }
+    ensures { λ r. ⌜ r ≡ cond (begins (wordsAt f) (now (l .entry))) (length (wordsAt f) + 1) 0 ⌝ }
+{
+    let t = FORMS;
+    behind_in(&t, l, f)
+}
+
 // The first form whose keywords a line begins with.
-fn row_of(l: &[u8]) -> usize
-    requires { ⌜ length (now l) ≤ 255 ⌝ }
+fn row_in(t: &[u8; 1008], l: &[u8]) -> usize
+    requires { ⌜ (length (now l) ≤ 255) × (now t ≡ table forms) ⌝ }
     ensures { λ r. ⌜ (r ≡ rowOf forms (now (l .entry))) × (r ≤ rowCount) ⌝ }
 {
     let mut f = 0;
     while f < ROWS {
-        if behind(l, f) != 0 {
+        if behind_in(t, l, f) != 0 {
             return f;
         }
         f += 1;
     }
     f
+}
+
+fn row_of(l: &[u8]) -> usize
+    requires { ⌜ length (now l) ≤ 255 ⌝ }
+    ensures { λ r. ⌜ (r ≡ rowOf forms (now (l .entry))) × (r ≤ rowCount) ⌝ }
+{
+    let t = FORMS;
+    row_in(&t, l)
 }
 
 // ---- fields
@@ -367,13 +387,7 @@ pub fn width(f: usize) -> usize
     requires { ⌜ f < rowCount ⌝ }
     ensures { λ r. ⌜ (r ≡ length (wordsAt f)) × (r ≤ 16) ⌝ }
 {
-    let mut i = 0;
-    loop {
-        if word(f, i) == BLANK {
-            return i;
-        }
-        i += 1;
-    }
+    (WIDTHS[f] - 96) as usize
 }
 
 // Field i behind the keywords of form f, as that part of the line; empty where there is none.

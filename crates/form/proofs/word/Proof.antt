@@ -1,6 +1,9 @@
 -- `form::word` meets its contract.
+use Prim.Native.Nat.{ℕ, _+_, _*_}
+use mathlib.Core.Path.{ap, _∙_}
+use mathlib.Core.List.{List}
+use lib.ListN.{getD}
 use Rattle.form.proofs.Table.{word-cell}
-use Rattle.semantics.specs.Form.{forms}
 use borrow.Author.Needs.{needs}
 use Rattle.form.proofs.word.Statement.{statement}
 use Rattle.form.proofs.word.Tie as tie
@@ -14,12 +17,13 @@ add-result c = search needs
 add-result-2 : tie.Need-add-result-2
 add-result-2 c = search needs
 
-array-read-result : tie.Need-array-read-result
-array-read-result c = search needs
+element-copy-out-result : tie.Need-element-copy-out-result
+element-copy-out-result c = search needs
 
 returns : tie.Need-returns
-unfolding forms
-returns c = word-cell (c .args .f) (c .pre .0) (c .args .i) (c .pre .1)
+returns c =
+    ap (λ (xs : List ℕ). getD xs (24 * c .before .args .f + 1 + c .before .args .i) 0) (c .before .pre .0)
+    ∙ word-cell (c .before .args .f) (c .before .pre .1) (c .before .args .i) (c .before .pre .2)
 
 pub word-spec : {M : Type 1} → statement M
-word-spec = tie.close (tie.spec mul-result add-result add-result-2 array-read-result returns)
+word-spec = tie.close (tie.spec mul-result add-result add-result-2 element-copy-out-result returns)
