@@ -60,27 +60,41 @@ module _ (f : ℕ) (h : f < 42) where
       ap (λ (j : ℕ). getD (fill 17 (rowAt f .words) ++ (Form.letter (rowAt f .kind) ∷ fill 5 (codes (rowAt f .parts)))) j 0) e
       ∙ getD-append-add (fill 17 (rowAt f .words)) (Form.letter (rowAt f .kind) ∷ fill 5 (codes (rowAt f .parts))) n 0
 
-  pub kind-cell : getD (table Form.forms) (24 * f + 18) 0 ≡ kindAt f
-  kind-cell = row-bytes 18 (omega arith) ∙ behind-words 0
+-- a byte for each row
+unfoldable pub column : (Form.Row → ℕ) → List Form.Row → Text.Bytes
+column g [] = []
+column g (r ∷ rs) = g r ∷ column g rs
 
-  pub atom-cell : (j : ℕ) → j < 5 → getD (table Form.forms) (24 * f + 19 + j) 0 ≡ getD (codesAt f) j 32
-  atom-cell j k =
-      let e : 24 * f + 19 + j ≡ 24 * f + suc (17 + suc j) = omega arith in
-      rw e (row-bytes (suc (17 + suc j)) (omega arith) ∙ behind-words (suc j) ∙ fill-at 5 (codes (rowAt f .parts)) j k)
+column-at : (g : Form.Row → ℕ) (rs : List Form.Row) (f : ℕ) → f < length rs → getD (column g rs) f 0 ≡ g (getD rs f Form.noRow)
+unfolding column
+column-at g [] f h = absurd (omega arith)
+column-at g (r ∷ rs) zero h = refl
+column-at g (r ∷ rs) (suc f) h = column-at g rs f (omega arith)
+
+pub kind-cell : (f : ℕ) → f < 42 → getD (column (λ (r : Form.Row). Form.letter (r .kind)) Form.forms) f 0 ≡ kindAt f
+kind-cell f h = column-at (λ (r : Form.Row). Form.letter (r .kind)) Form.forms f (omega (arith, row-count))
+
+-- five letters for each row
+unfoldable pub letters : List Form.Row → Text.Bytes
+letters [] = []
+letters (r ∷ rs) = fill 5 (codes (r .parts)) ++ letters rs
+
+letters-at : (rs : List Form.Row) (f j : ℕ) → f < length rs → j < 5 → getD (letters rs) (5 * f + j) 0 ≡ getD (codes (getD rs f Form.noRow .parts)) j 32
+unfolding letters
+letters-at [] f j h k = absurd (omega arith)
+letters-at (r ∷ rs) zero j h k =
+    let e : 5 * 0 + j ≡ j = omega arith in
+    rw e (List·getD-append (fill 5 (codes (r .parts))) (letters rs) 0 j (omega (arith, fill-length 5 (codes (r .parts))))) ∙ fill-at 5 (codes (r .parts)) j k
+letters-at (r ∷ rs) (suc f) j h k =
+    let e : 5 * suc f + j ≡ length (fill 5 (codes (r .parts))) + (5 * f + j) = omega (arith, fill-length 5 (codes (r .parts))) in
+    ap (λ (i : ℕ). getD (fill 5 (codes (r .parts)) ++ letters rs) i 0) e ∙ getD-append-add (fill 5 (codes (r .parts))) (letters rs) (5 * f + j) 0 ∙ letters-at rs f j (omega arith) k
+
+pub atom-cell : (f : ℕ) → f < 42 → (j : ℕ) → j < 5 → getD (letters Form.forms) (5 * f + j) 0 ≡ getD (codesAt f) j 32
+atom-cell f h j k = letters-at Form.forms f j (omega (arith, row-count)) k
 
 -- the lengths of keywords, each a small letter
-unfoldable pub widths : List Form.Row → Text.Bytes
-widths [] = []
-widths (r ∷ rs) = (length (r .words) + 96) ∷ widths rs
-
-widths-at : (rs : List Form.Row) (f : ℕ) → f < length rs → getD (widths rs) f 0 ≡ length (getD rs f Form.noRow .words) + 96
-unfolding widths
-widths-at [] f h = absurd (omega arith)
-widths-at (r ∷ rs) zero h = refl
-widths-at (r ∷ rs) (suc f) h = widths-at rs f (omega arith)
-
-pub width-cell : (f : ℕ) → f < 42 → getD (widths Form.forms) f 0 ≡ length (wordsAt f) + 96
-width-cell f h = widths-at Form.forms f (omega (arith, row-count))
+pub width-cell : (f : ℕ) → f < 42 → getD (column (λ (r : Form.Row). length (r .words) + 96) Form.forms) f 0 ≡ length (wordsAt f) + 96
+width-cell f h = column-at (λ (r : Form.Row). length (r .words) + 96) Form.forms f (omega (arith, row-count))
 
 -- ---- what holds of all Form.forms
 

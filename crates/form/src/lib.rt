@@ -55,6 +55,11 @@ need,elem,string N
 need,block       NSy   
 need,opaque      N     ";
 
+// The same kinds alone, and the same letters of fields: an array is made anew for each look at it.
+const KINDS: [u8; 42] = *b"KKKKKKKKEEEEEEEEEEEELLLJFCABDHMOIGNNNNNNNN";
+
+const FIELDS: [u8; 210] = *b"                              K    k    X    R    T    W    EW   UE   VEE  KE   E    EK   %+l       E    E    Ej   E%   +w   wf   Wf   Wfc  WPPE K%w  W         W    Sy   Q                             Sy        ";
+
 // How long the keywords of each row are: a stands for 1.
 const WIDTHS: [u8; 42] = *b"fgfgifhhfgfegefgfhfhggebbbcdccccdehmnmnpjk";
 
@@ -107,14 +112,14 @@ pub fn kind(f: usize) -> u8
     requires { ⌜ f < rowCount ⌝ }
     ensures { λ r. ⌜ r ≡ kindAt f ⌝ }
 {
-    FORMS[24 * f + 18]
+    KINDS[f]
 }
 
 fn atom(f: usize, j: usize) -> u8
     requires { ⌜ (f < rowCount) × (j < 5) ⌝ }
     ensures { λ r. ⌜ r ≡ getD (codesAt f) j 32 ⌝ }
 {
-    FORMS[24 * f + 19 + j]
+    FIELDS[5 * f + j]
 }
 
 // ---- keywords
