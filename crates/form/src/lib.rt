@@ -58,7 +58,8 @@ need,opaque      N     ";
 // The same kinds alone, and the same letters of fields: an array is made anew for each look at it.
 const KINDS: [u8; 42] = *b"KKKKKKKKEEEEEEEEEEEELLLJFCABDHMOIGNNNNNNNN";
 
-const FIELDS: [u8; 210] = *b"                              K    k    X    R    T    W    EW   UE   VEE  KE   E    EK   %+l       E    E    Ej   E%   +w   wf   Wf   Wfc  WPPE K%w  W         W    Sy   Q                             Sy        ";
+const FIELDS: [u8; 210] =
+    *b"                              K    k    X    R    T    W    EW   UE   VEE  KE   E    EK   %+l       E    E    Ej   E%   +w   wf   Wf   Wfc  WPPE K%w  W         W    Sy   Q                             Sy        ";
 
 // How long the keywords of each row are: a stands for 1.
 const WIDTHS: [u8; 42] = *b"fgfgifhhfgfegefgfhfhggebbbcdccccdehmnmnpjk";
