@@ -7,7 +7,7 @@ use native.Mathlib.Omega.{arith}
 use native.Mathlib.Numerals.{add-one}
 use native.Mathlib.Nat.{eq-or-lt-of-le}
 use mathlib.Core.Logic.{_⊎_, ⊎-elim}
-use lib.Dec.{leb, ltb}
+use lib.Dec.{leb, ltb, eqb}
 use lib.ListN.{length, take, drop, getD, set, length-drop, length-set}
 use lib.Seq.{drop-drop, take-all, getD-set-same, getD-set-other}
 use borrow.Author.Tests.{le-leb, lt-leb, eq-eqb, ne-eqb, ltb-true, ltb-false}
@@ -99,6 +99,47 @@ pub line-text : (s t : List ℕ) (n i a e : ℕ) → Whole s t n → i < n → a
 line-text s t n i a e l h ha he =
     let q : e - a ≡ length (until 10 (drop a s)) = omega arith in
     rw q (until-take 10 (drop a s) ∙ sym (get-head [] i (Text.lineParts s) (drop 1 (Text.lineParts (drop a s))) (until 10 (drop a s)) (sym (l .lined .at i h) ∙ ap (λ (j : ℕ). Text.lineParts (drop j s)) (sym ha) ∙ parts-cons (drop a s))))
+
+-- the bytes that parts take, with an LF between any two
+abbrev total : List (List ℕ) → ℕ
+total [] = 0
+total (p ∷ []) = length p
+total (p ∷ (q ∷ ps)) = length p + suc (total (q ∷ ps))
+
+total-cons : (p : List ℕ) (ps : List (List ℕ)) → 0 < length ps → total (p ∷ ps) ≡ length p + suc (total ps)
+total-cons p [] h = absurd (omega arith)
+total-cons p (q ∷ ps) h = refl
+
+total-first : (b : ℕ) (p : List ℕ) (ps : List (List ℕ)) → total ((b ∷ p) ∷ ps) ≡ suc (total (p ∷ ps))
+total-first b p [] = refl
+total-first b p (q ∷ ps) = omega arith
+
+parts-total : (s : List ℕ) → total (Text.lineParts s) ≡ length s
+parts-total [] = refl
+parts-total (b ∷ s) = go (eqb b 10) (Text.lineParts s) (parts-some s) (parts-total s)
+  where
+    go : (t : Bool) (ps : List (List ℕ)) → 0 < length ps → total ps ≡ length s → total (Text.cut t b ps) ≡ suc (length s)
+    go true ps h e = total-cons [] ps h ∙ omega arith
+    go false [] h e = absurd (omega arith)
+    go false (p ∷ ps) h e = total-first b p ps ∙ ap suc e
+
+-- the next line starts behind a line's LF
+next-start : (s t : List ℕ) (n i : ℕ) → Whole s t n → i + 1 < n → start t (i + 1) ≡ start t i + length (until 10 (drop (start t i) s)) + 1
+next-start s t n i l h =
+    let a = start t i in
+    let b = start t (i + 1) in
+    let q : i < n = omega arith in
+    let tail : Text.lineParts (drop b s) ≡ drop 1 (Text.lineParts (drop a s)) =
+    l .lined .at (i + 1) h ∙ drop-tail i (Text.lineParts s) (drop 1 (Text.lineParts (drop a s))) (until 10 (drop a s)) (sym (l .lined .at i q) ∙ parts-cons (drop a s)) in
+    let here : length (drop a s) ≡ length (until 10 (drop a s)) + suc (length (drop b s)) =
+    sym (parts-total (drop a s)) ∙ ap total (parts-cons (drop a s) ∙ ap (λ (ps : List (List ℕ)). until 10 (drop a s) ∷ ps) (sym tail))
+    ∙ total-cons (until 10 (drop a s)) (Text.lineParts (drop b s)) (parts-some (drop b s)) ∙ ap (λ (m : ℕ). length (until 10 (drop a s)) + suc m) (parts-total (drop b s)) in
+    omega (arith, length-drop a s, length-drop b s, l .lined .within i q, l .lined .within (i + 1) h)
+
+pub next-line : (s t : List ℕ) (n i : ℕ) {a b : ℕ} → Whole s t n → i + 1 < n → a ≡ start t i → b ≡ start t (i + 1) → (b - 1 ≡ a + length (until 10 (drop a s))) × (0 < b) × (b ≤ length s) × (a ≤ b - 1)
+next-line s t n i {a} {b} l h ha hb =
+    let e : b ≡ a + length (until 10 (drop a s)) + 1 = hb ∙ next-start s t n i l h ∙ ap (λ (x : ℕ). x + length (until 10 (drop x s)) + 1) (sym ha) in
+    (omega arith, omega arith, omega (arith, hb, l .lined .within (i + 1) h), omega arith)
 
 -- ---- a turn of the pass
 

@@ -52,6 +52,10 @@ pub fn line_at<'a>(sheet: &'a [u8], work: &[u8], n: usize, i: usize) -> &'a [u8]
     ensures { λ r. ⌜ now r ≡ textAt (now (sheet .entry)) i ⌝ }
 {
     let a = start_of(work, i);
+    if i + 1 < n {
+        let b = start_of(work, i + 1); // behind this line's LF
+        return &sheet[a..b - 1];
+    }
     let e = text::find(sheet, a, LF);
     &sheet[a..e]
 }
