@@ -105,6 +105,12 @@ tagged-plain [] b (x ∷ c) h = rw (undotted-first x c h .0)
 tagged-plain (y ∷ a) b [] h = refl
 tagged-plain (y ∷ a) b (x ∷ c) h = rw (tagged-plain a b c (undotted-first x c h .2)) (and-false (eqb y x))
 
+plain-tagged : (a b c : Bytes) → undotted c ≡ true → same c (a ++ (46 ∷ b)) ≡ false
+plain-tagged [] b [] h = refl
+plain-tagged [] b (x ∷ c) h = rw (undotted-first x c h .1)
+plain-tagged (y ∷ a) b [] h = refl
+plain-tagged (y ∷ a) b (x ∷ c) h = rw (plain-tagged a b c (undotted-first x c h .2)) (and-false (eqb x y))
+
 tagged-both : (a b c d : Bytes) → undotted a ≡ true → undotted c ≡ true → same (a ++ (46 ∷ b)) (c ++ (46 ∷ d)) ≡ same a c && same b d
 tagged-both [] b [] d h k = refl
 tagged-both [] b (x ∷ c) d h k = rw (undotted-first x c k .0)
@@ -163,19 +169,68 @@ module _ (s t : Bytes) (n i : ℕ) (l : EntryIn s t n i) where
     unfolding tagOf
     tag-read v x = rw (case-is x)
 
-module _ (s t : Bytes) (n i j : ℕ) (k : EntryIn s t n i) (l : EntryIn s t n j) (p : entryAt t i .case ≡ 0 → ⊥) where
-  pub keys-plain : entryAt t j .case ≡ 0 → false ≡ same (recordedAt s t i .key) (recordedAt s t j .key)
-  keys-plain e = sym (rw (variant-key s t i p, plain-key s t j e) (tagged-plain (nameOf s (entryAt t i)) (tagOf s (entryAt t i)) (nameOf s (entryAt t j)) (name-plain s t n j l)))
+-- the keys of two entries, by their cases
+abbrev keyed : ℕ → ℕ → Bool → Bool → Bool
+keyed zero zero names tags = names
+keyed zero (suc d) names tags = false
+keyed (suc c) zero names tags = false
+keyed (suc c) (suc d) names tags = names && tags
 
-  module _ (q : entryAt t j .case ≡ 0 → ⊥) where
-    keys-both : same (recordedAt s t i .key) (recordedAt s t j .key) ≡ same (nameOf s (entryAt t i)) (nameOf s (entryAt t j)) && same (tagOf s (entryAt t i)) (tagOf s (entryAt t j))
-    keys-both = rw (variant-key s t i p, variant-key s t j q) (tagged-both (nameOf s (entryAt t i)) (tagOf s (entryAt t i)) (nameOf s (entryAt t j)) (tagOf s (entryAt t j)) (name-plain s t n i k) (name-plain s t n j l))
+module _ (s t : Bytes) (n i j : ℕ) (k : EntryIn s t n i) (l : EntryIn s t n j) where
+  abbrev names : Bool
+  names = same (nameOf s (entryAt t i)) (nameOf s (entryAt t j))
 
-    pub keys-unnamed : {a : Bool} → a ≡ same (nameOf s (entryAt t i)) (nameOf s (entryAt t j)) → a ≡ false → false ≡ same (recordedAt s t i .key) (recordedAt s t j .key)
-    keys-unnamed e f = sym (keys-both ∙ rw (sym e ∙ f))
+  abbrev tags : Bool
+  tags = same (tagOf s (entryAt t i)) (tagOf s (entryAt t j))
 
-    pub keys-tags : {a b : Bool} → a ≡ same (nameOf s (entryAt t i)) (nameOf s (entryAt t j)) → a ≡ true → b ≡ same (tagOf s (entryAt t i)) (tagOf s (entryAt t j)) → b ≡ same (recordedAt s t i .key) (recordedAt s t j .key)
-    keys-tags e f g = g ∙ sym (keys-both ∙ rw (sym e ∙ f))
+  keys-are : same (recordedAt s t i .key) (recordedAt s t j .key) ≡ keyed (entryAt t i .case) (entryAt t j .case) names tags
+  keys-are = go (entryAt t i .case) (entryAt t j .case) refl refl
+    where
+      go : (c d : ℕ) → entryAt t i .case ≡ c → entryAt t j .case ≡ d
+          → same (recordedAt s t i .key) (recordedAt s t j .key) ≡ keyed c d names tags
+      go zero zero e f = rw (plain-key s t i e, plain-key s t j f)
+      go zero (suc d) e f = rw (plain-key s t i e, variant-key s t j (λ z. omega arith)) (plain-tagged (nameOf s (entryAt t j)) (tagOf s (entryAt t j)) (nameOf s (entryAt t i)) (name-plain s t n i k))
+      go (suc c) zero e f = rw (variant-key s t i (λ z. omega arith), plain-key s t j f) (tagged-plain (nameOf s (entryAt t i)) (tagOf s (entryAt t i)) (nameOf s (entryAt t j)) (name-plain s t n j l))
+      go (suc c) (suc d) e f =
+          rw (variant-key s t i (λ z. omega arith), variant-key s t j (λ z. omega arith))
+          (tagged-both (nameOf s (entryAt t i)) (tagOf s (entryAt t i)) (nameOf s (entryAt t j)) (tagOf s (entryAt t j)) (name-plain s t n i k) (name-plain s t n j l))
+
+  module _ {a : Bool} (e : a ≡ same (nameOf s (entryAt t i)) (nameOf s (entryAt t j))) where
+    pub keys-unnamed : a ≡ false → false ≡ same (recordedAt s t i .key) (recordedAt s t j .key)
+    keys-unnamed f = sym (keys-are ∙ ap (λ (b : Bool). keyed (entryAt t i .case) (entryAt t j .case) b tags) (sym e ∙ f) ∙ go (entryAt t i .case) (entryAt t j .case) tags)
+      where
+        go : (c d : ℕ) (b : Bool) → keyed c d false b ≡ false
+        go zero zero b = refl
+        go zero (suc d) b = refl
+        go (suc c) zero b = refl
+        go (suc c) (suc d) b = refl
+
+    module _ (f : a ≡ true) where
+      named : same (recordedAt s t i .key) (recordedAt s t j .key) ≡ keyed (entryAt t i .case) (entryAt t j .case) true tags
+      named = keys-are ∙ ap (λ (b : Bool). keyed (entryAt t i .case) (entryAt t j .case) b tags) (sym e ∙ f)
+
+      pub keys-own : entryAt t i .case ≡ 0 → eqb (entryAt t j .case) 0 ≡ same (recordedAt s t i .key) (recordedAt s t j .key)
+      keys-own z = sym (named ∙ ap (λ (c : ℕ). keyed c (entryAt t j .case) true tags) z ∙ go (entryAt t j .case) tags)
+        where
+          go : (d : ℕ) (b : Bool) → keyed 0 d true b ≡ eqb d 0
+          go zero b = refl
+          go (suc d) b = sym (ne-eqb (suc d) 0 (λ q. omega arith))
+
+      module _ (p : entryAt t i .case ≡ 0 → ⊥) where
+        pub keys-plain : entryAt t j .case ≡ 0 → false ≡ same (recordedAt s t i .key) (recordedAt s t j .key)
+        keys-plain z = sym (named ∙ ap (λ (d : ℕ). keyed (entryAt t i .case) d true tags) z ∙ go (entryAt t i .case) tags p)
+          where
+            go : (c : ℕ) (b : Bool) → (c ≡ 0 → ⊥) → keyed c 0 true b ≡ false
+            go zero b q = absurd (q refl)
+            go (suc c) b q = refl
+
+        pub keys-tags : {b : Bool} → (entryAt t j .case ≡ 0 → ⊥) → b ≡ same (tagOf s (entryAt t i)) (tagOf s (entryAt t j)) → b ≡ same (recordedAt s t i .key) (recordedAt s t j .key)
+        keys-tags q g = g ∙ sym (named ∙ go (entryAt t i .case) (entryAt t j .case) tags p q)
+          where
+            go : (c d : ℕ) (b : Bool) → (c ≡ 0 → ⊥) → (d ≡ 0 → ⊥) → keyed c d true b ≡ b
+            go zero d b x y = absurd (x refl)
+            go (suc c) zero b x y = absurd (y refl)
+            go (suc c) (suc d) b x y = refl
 
 -- ---- the last record of a key
 

@@ -99,22 +99,25 @@ pub fn key_is(sheet: &[u8], work: &[u8], n: usize, i: usize, key: &[u8]) -> bool
     if case_of(work, i) == 0 {
         return words::same(key, name);
     }
+    if key.len() <= name.len() {
+        return false; // before the tag is looked for
+    }
     is_joined(key, name, tag_of(sheet, work, n, i))
 }
 
-// Whether entries i and j have one key. No name holds a full stop.
+// Whether entries i and j have one key. No name holds a full stop, so T itself and a variant have none in common.
 pub fn same_key(sheet: &[u8], work: &[u8], n: usize, i: usize, j: usize) -> bool
     requires { ⌜ (EntryIn (now sheet) (now work) n i) × (EntryIn (now sheet) (now work) n j) ⌝ }
     ensures { λ r. ⌜ r ≡ same (recordedAt (now (sheet .entry)) (now (work .entry)) i .key) (recordedAt (now (sheet .entry)) (now (work .entry)) j .key) ⌝ }
 {
-    let name = name_of(sheet, work, n, i);
-    if case_of(work, i) == 0 {
-        return key_is(sheet, work, n, j, name);
-    }
-    if case_of(work, j) == 0 {
+    if !words::same(name_of(sheet, work, n, i), name_of(sheet, work, n, j)) {
         return false;
     }
-    if !words::same(name, name_of(sheet, work, n, j)) {
+    let c = case_of(work, j);
+    if case_of(work, i) == 0 {
+        return c == 0;
+    }
+    if c == 0 {
         return false;
     }
     words::same(tag_of(sheet, work, n, i), tag_of(sheet, work, n, j))

@@ -13,47 +13,36 @@ use Rattle.compile.proofs.list_checked.Lts as lts
 use Rattle.compile.proofs.list_sheet.Reads as list-sheet-reads
 use Rattle.write.proofs.zero.Reads as zero-reads
 
--- src/lib.rt:81:11
 list-sheet-requires : tie.Need-list-sheet-requires
 list-sheet-requires c κs = search needs
 
--- src/lib.rt:82:25
 enum-known-p : tie.Need-enum-known-p
 enum-known-p c = search needs
 
--- src/lib.rt:83:25
 enum-known-q : tie.Need-enum-known-q
 enum-known-q c = search needs
 
--- src/lib.rt:84:13
 zero-requires : tie.Need-zero-requires
 zero-requires c κs = search needs
 
--- src/lib.rt:85:13
 zero-requires-2 : tie.Need-zero-requires-2
 zero-requires-2 c κs = search needs
 
--- src/lib.rt:77:1
 same-length : tie.Need-same-length
 same-length c = search needs
 
--- src/lib.rt:77:1
 same-length-2 : tie.Need-same-length-2
 same-length-2 c = search needs
 
--- src/lib.rt:77:1
 returns : tie.Need-returns
 returns c = tried-written (now (c .before .before .before .before .before .before .before .before .before .before .before .before .before .args .sheet)) (worked (length (now (c .before .before .before .before .before .before .before .before .before .before .before .before .before .args .listing))) (sheetSource (now (c .before .before .before .before .before .before .before .before .before .before .before .before .before .args .sheet)))) (length (now (c .before .before .before .before .before .before .before .before .before .before .before .before .before .args .listing))) (length (now (c .before .before .before .before .before .before .before .before .before .before .before .before .before .args .work))) _ _ (c .before .p .given .1) (c .before .before .before .before .before .before .before .list-sheet .ensures)
 
--- src/lib.rt:77:1
 same-length-3 : tie.Need-same-length-3
 same-length-3 c = search needs
 
--- src/lib.rt:77:1
 same-length-4 : tie.Need-same-length-4
 same-length-4 c = search needs
 
--- src/lib.rt:77:1
 returns-2 : tie.Need-returns-2
 returns-2 c = tried-refused (now (c .before .before .before .before .before .before .before .before .before .before .before .before .before .before .before .before .before .before .before .before .before .args .sheet)) (worked (length (now (c .before .before .before .before .before .before .before .before .before .before .before .before .before .before .before .before .before .before .before .before .before .args .listing))) (sheetSource (now (c .before .before .before .before .before .before .before .before .before .before .before .before .before .before .before .before .before .before .before .before .before .args .sheet)))) (length (now (c .before .before .before .before .before .before .before .before .before .before .before .before .before .before .before .before .before .before .before .before .before .args .listing))) (length (now (c .before .before .before .before .before .before .before .before .before .before .before .before .before .before .before .before .before .before .before .before .before .args .work))) _ _ (c .before .before .before .before .before .before .before .before .before .q .given .1) (c .before .before .before .before .before .before .before .before .before .before .before .before .before .before .before .list-sheet .ensures) (c .before .before .before .before .before .before .zero .ensures ∙ ap zeros (c .before .before .before .before .before .before .before .before .before .before .before .before .before .before .before .list-sheet .kept .1 .0)) (c .before .before .zero2 .ensures ∙ ap zeros (c .before .before .before .before .before .before .before .before .before .before .before .before .before .before .before .list-sheet .kept .1 .1 .0))
 

@@ -5,39 +5,30 @@ use borrow.Author.Needs.{needs}
 use Rattle.field_rows.proofs.put_case.Statement.{statement}
 use Rattle.field_rows.proofs.put_case.Tie as tie
 
--- src/lib.rt:127:49
 sub-number-at : tie.Need-sub-number-at
 sub-number-at c = search needs
 
--- src/lib.rt:127:16
 number-at-requires : tie.Need-number-at-requires
 number-at-requires c κs = search needs
 
--- src/lib.rt:127:16
 add-from : tie.Need-add-from
 add-from c = search needs
 
--- src/lib.rt:128:50
 sub-number-at-2 : tie.Need-sub-number-at-2
 sub-number-at-2 c = search needs
 
--- src/lib.rt:128:9
 number-at-requires-2 : tie.Need-number-at-requires-2
 number-at-requires-2 c κs = search needs
 
--- src/lib.rt:129:35
 add-put-fields : tie.Need-add-put-fields
 add-put-fields c = search needs
 
--- src/lib.rt:129:5
 put-fields-requires : tie.Need-put-fields-requires
 put-fields-requires c κs = (case-refs (now (c .before .before .before .before .before .before .args .sheet)) (now (c .before .before .before .before .before .before .args .work)) (c .before .before .before .before .before .before .args .n) (c .before .before .before .before .before .before .args .r) (c .before .before .before .before .before .before .pre .0) (c .before .before .number-at .result) (c .before .before .number-at .ensures .0) (c .before .number-at2 .result) (c .before .number-at2 .ensures .0), omega (arith, c .before .before .before .before .before .before .pre .1), c .before .before .before .before .before .before .pre .2)
 
--- src/lib.rt:115:1
 same-length : tie.Need-same-length
 same-length c = search needs
 
--- src/lib.rt:115:1
 returns : tie.Need-returns
 returns c = rw (case-is (now (c .before .before .before .before .before .before .before .before .before .args .sheet)) (now (c .before .before .before .before .before .before .before .before .before .args .work)) (c .before .before .before .before .before .before .before .before .before .args .n) (c .before .before .before .before .before .before .before .before .before .args .r) (c .before .before .before .before .before .before .before .before .before .pre .0) (c .before .before .before .before .before .number-at .result) (c .before .before .before .before .before .number-at .ensures .0) (c .before .before .before .before .number-at2 .result) (c .before .before .before .before .number-at2 .ensures .0)) (c .before .before .put-fields .ensures)
 

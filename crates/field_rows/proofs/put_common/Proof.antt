@@ -5,23 +5,18 @@ use borrow.Author.Needs.{needs}
 use Rattle.field_rows.proofs.put_common.Statement.{statement}
 use Rattle.field_rows.proofs.put_common.Tie as tie
 
--- src/lib.rt:110:50
 sub-number-at : tie.Need-sub-number-at
 sub-number-at c = search needs
 
--- src/lib.rt:110:9
 number-at-requires : tie.Need-number-at-requires
 number-at-requires c κs = search needs
 
--- src/lib.rt:111:5
 put-fields-requires : tie.Need-put-fields-requires
 put-fields-requires c κs = (common-refs (now (c .before .before .before .before .before .args .sheet)) (now (c .before .before .before .before .before .args .work)) (c .before .before .before .before .before .args .n) (c .before .before .before .before .before .args .r) (c .before .before .before .before .before .pre .0) (c .before .number-at .result) (c .before .number-at .ensures .0), omega (arith, c .before .before .before .before .before .pre .1), c .before .before .before .before .before .pre .2)
 
--- src/lib.rt:98:1
 same-length : tie.Need-same-length
 same-length c = search needs
 
--- src/lib.rt:98:1
 returns : tie.Need-returns
 returns c = rw (common-is (now (c .before .before .before .before .before .before .before .before .args .sheet)) (now (c .before .before .before .before .before .before .before .before .args .work)) (c .before .before .before .before .before .before .before .before .args .n) (c .before .before .before .before .before .before .before .before .args .r) (c .before .before .before .before .before .before .before .before .pre .0) (c .before .before .before .before .number-at .result) (c .before .before .before .before .number-at .ensures .0)) (c .before .before .put-fields .ensures)
 

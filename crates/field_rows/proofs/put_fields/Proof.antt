@@ -14,47 +14,36 @@ Inv-loop sheet work n r from count out₀ at q₀ x₀ j₀ out q x j = Fielding
 abbrev μ-loop : tie.MeasureT-loop
 μ-loop sheet work n r from count out₀ at q₀ x₀ j₀ out q x j = count - j
 
--- src/lib.rt:88:5
 loop-holds : tie.Need-loop-holds Inv-loop μ-loop
 loop-holds c = fielding-start (now (c .before .before .before .args .sheet)) (now (c .before .before .before .args .work)) (c .before .before .before .args .n) (c .before .before .before .args .r) (c .before .before .before .args .from) (c .before .before .before .args .count) (c .before .before .before .pre .0) (c .before .before .before .args .p) (now (c .before .before .before .args .out)) (c .before .before .before .args .at) (c .before .before .before .pre .2)
 
--- src/lib.rt:89:50
 sub-number-at : tie.Need-sub-number-at Inv-loop μ-loop
 sub-number-at c = c .before .before .before .before .before .pre .0 .first
 
--- src/lib.rt:89:57
 add-number-at : tie.Need-add-number-at Inv-loop μ-loop
 add-number-at c = record { fits = omega (arith, c .before .before .before .before .before .pre .0 .near, c .before .before .before .before .before .pre .0 .few, c .loop-test .taken) }
 
--- src/lib.rt:89:13
 number-at-requires : tie.Need-number-at-requires Inv-loop μ-loop
 number-at-requires c κs = (c .before .before .before .before .before .pre .0 .checked .whole, refs-in (now (c .before .before .before .before .before .args .sheet)) (now (c .before .before .before .before .before .args .work)) (c .before .before .before .before .before .args .n) (c .before .before .before .before .before .args .r) (c .before .before .before .before .before .args .from) (c .before .before .before .before .before .args .count) (c .before .before .before .before .before .pre .0))
 
--- src/lib.rt:90:9
 put-line-requires : tie.Need-put-line-requires Inv-loop μ-loop
 put-line-requires c κs = (passing-line (now (c .before .before .before .before .before .before .before .args .sheet)) (now (c .before .before .before .before .before .before .before .args .work)) (c .before .before .before .before .before .before .before .args .n) (c .before .before .before .before .before .before .before .args .r) (c .before .before .before .before .before .before .before .args .from) (c .before .before .before .before .before .before .before .args .count) (c .before .before .before .before .before .before .before .pre .0) (c .before .before .before .loop .j) (c .before .before .loop-test .taken) (c .before .number-at .result) (c .before .number-at .ensures .0), omega (arith, c .before .before .before .loop .inv .small, c .before .before .before .before .before .before .before .pre .1, c .before .before .before .before .before .before .before .pre .0 .few, c .before .before .loop-test .taken), place-low (c .before .before .before .loop .inv .wrote))
 
--- src/lib.rt:91:9
 place-field-requires : tie.Need-place-field-requires Inv-loop μ-loop
 place-field-requires c κs = (passing-line (now (c .before .before .before .before .before .before .before .before .before .before .args .sheet)) (now (c .before .before .before .before .before .before .before .before .before .before .args .work)) (c .before .before .before .before .before .before .before .before .before .before .args .n) (c .before .before .before .before .before .before .before .before .before .before .args .r) (c .before .before .before .before .before .before .before .before .before .before .args .from) (c .before .before .before .before .before .before .before .before .before .before .args .count) (c .before .before .before .before .before .before .before .before .before .before .pre .0) (c .before .before .before .before .before .before .loop .j) (c .before .before .before .before .before .loop-test .taken) (c .before .before .before .before .number-at .result) (c .before .before .before .before .number-at .ensures .0), omega (arith, c .before .before .before .before .before .before .loop .inv .small, c .before .before .before .before .before .before .before .before .before .before .pre .1, c .before .before .before .before .before .before .before .before .before .before .pre .0 .few, c .before .before .before .before .before .loop-test .taken))
 
--- src/lib.rt:92:9
 add-j : tie.Need-add-j Inv-loop μ-loop
 add-j c = record { fits = omega (arith, c .before .before .before .before .before .before .before .before .before .before .before .pre .0 .few, c .before .before .before .before .before .before .loop-test .taken) }
 
--- src/lib.rt:88:5
 loop-less : tie.Need-loop-less Inv-loop μ-loop
 loop-less c = omega (arith, c .before .before .before .before .before .before .loop-test .taken)
 
--- src/lib.rt:88:5
 loop-again : tie.Need-loop-again Inv-loop μ-loop
 loop-again c = fielding-next (now (c .before .before .before .before .before .before .before .before .before .before .before .args .sheet)) (now (c .before .before .before .before .before .before .before .before .before .before .before .args .work)) (c .before .before .before .before .before .before .before .before .before .before .before .args .n) (c .before .before .before .before .before .before .before .before .before .before .before .args .r) (c .before .before .before .before .before .before .before .before .before .before .before .args .from) (c .before .before .before .before .before .before .before .before .before .before .before .args .count) (c .before .before .before .before .before .before .before .before .before .before .before .pre .0) (c .before .before .before .before .before .before .before .before .before .before .before .args .p) (now (c .before .before .before .before .before .before .before .before .before .before .before .args .out)) (c .before .before .before .before .before .before .before .before .before .before .before .args .at) _ _ (c .before .before .before .before .before .before .before .loop .q) (c .before .before .before .before .before .before .before .loop .j) (c .before .before .before .before .before .before .before .loop .inv) (c .before .before .before .before .before .before .loop-test .taken) (c .before .before .before .before .before .number-at .result) (c .before .before .before .before .before .number-at .ensures .0) _ _ (c .before .before .before .put-line .ensures) _ (c .place-field .ensures .0) (c .place-field .ensures .1)
 
--- src/lib.rt:71:1
 same-length : tie.Need-same-length Inv-loop μ-loop
 same-length c = wrote-length (c .before .loop .inv .wrote)
 
--- src/lib.rt:71:1
 returns : tie.Need-returns Inv-loop μ-loop
 returns c = fielding-end (now (c .before .before .before .before .before .args .sheet)) (now (c .before .before .before .before .before .args .work)) (c .before .before .before .before .before .args .n) (c .before .before .before .before .before .args .r) (c .before .before .before .before .before .args .from) (c .before .before .before .before .before .args .count) (c .before .before .before .before .before .pre .0) (c .before .before .before .before .before .args .p) (now (c .before .before .before .before .before .args .out)) (c .before .before .before .before .before .args .at) _ _ (c .before .loop .q) (c .before .loop .j) (c .before .loop .inv) (c .loop-test .left)
 

@@ -7,47 +7,36 @@ use borrow.Author.Needs.{needs}
 use Rattle.field_rows.proofs.put_line.Statement.{statement}
 use Rattle.field_rows.proofs.put_line.Tie as tie
 
--- src/lib.rt:60:46
 sub-number-at : tie.Need-sub-number-at
 sub-number-at c = search needs
 
--- src/lib.rt:60:9
 number-at-requires : tie.Need-number-at-requires
 number-at-requires c κs = search needs
 
--- src/lib.rt:62:9
 returns : tie.Need-returns
 returns c = wrote-as (rows-untyped (now (c .before .before .before .before .before .args .sheet)) (now (c .before .before .before .before .before .args .work)) (c .before .before .before .before .before .args .n) (c .before .before .before .before .before .args .r) (c .before .before .before .before .before .pre .0) (c .before .number-at .result) (c .before .number-at .ensures .0) (c .before .before .before .before .before .args .off) (c .if1 .taken)) (wrote-none (now (c .before .before .before .before .before .args .out)) (c .before .before .before .before .before .args .at) (c .before .before .before .before .before .pre .2))
 
--- src/lib.rt:64:9
 type-size-align-requires : tie.Need-type-size-align-requires
 type-size-align-requires c κs = type-line (now (c .before .before .before .before .before .args .sheet)) (now (c .before .before .before .before .before .args .work)) (c .before .before .before .before .before .args .n) (c .before .before .before .before .before .args .r) (c .before .before .before .before .before .pre .0) (c .before .number-at .result) (c .before .number-at .ensures .0) (c .if1 .left)
 
--- src/lib.rt:65:18
 align-up-requires : tie.Need-align-up-requires
 align-up-requires c κs = search needs
 
--- src/lib.rt:65:18
 cast-offset : tie.Need-cast-offset
 cast-offset c = search needs
 
--- src/lib.rt:66:50
 sub-number-at-2 : tie.Need-sub-number-at-2
 sub-number-at-2 c = search needs
 
--- src/lib.rt:66:9
 number-at-requires-2 : tie.Need-number-at-requires-2
 number-at-requires-2 c κs = search needs
 
--- src/lib.rt:67:5
 put-names-requires : tie.Need-put-names-requires
 put-names-requires c κs = (c .before .before .before .before .before .before .before .before .before .pre .0, names-are (now (c .before .before .before .before .before .before .before .before .before .args .sheet)) (now (c .before .before .before .before .before .before .before .before .before .args .work)) (c .before .before .before .before .before .before .before .before .before .args .n) (c .before .before .before .before .before .before .before .before .before .args .r) (c .before .before .before .before .before .before .before .before .before .pre .0) (c .before .before .before .before .before .number-at .result) (c .before .before .before .before .before .number-at .ensures .0) (c .before .before .before .before .if1 .left) (c .before .number-at2 .result) (c .before .number-at2 .ensures .0), names-few (now (c .before .before .before .before .before .before .before .before .before .args .sheet)) (now (c .before .before .before .before .before .before .before .before .before .args .work)) (c .before .before .before .before .before .before .before .before .before .args .n) (c .before .before .before .before .before .before .before .before .before .args .r) (c .before .before .before .before .before .before .before .before .before .pre .0) (c .before .before .before .before .before .number-at .result) (c .before .before .before .before .before .number-at .ensures .0) (c .before .before .before .before .if1 .left) (c .before .number-at2 .result) (c .before .number-at2 .ensures .0), omega (arith, c .before .before .before .before .before .before .before .before .before .pre .1, c .before .before .align-up .ensures .1, c .before .before .before .type-size-align .ensures .low), c .before .before .before .type-size-align .ensures .small, c .before .before .before .before .before .before .before .before .before .pre .2)
 
--- src/lib.rt:48:1
 same-length : tie.Need-same-length
 same-length c = search needs
 
--- src/lib.rt:48:1
 returns-2 : tie.Need-returns-2
 returns-2 c = wrote-as (rows-typed (now (c .before .before .before .before .before .before .before .before .before .before .before .before .args .sheet)) (now (c .before .before .before .before .before .before .before .before .before .before .before .before .args .work)) (c .before .before .before .before .before .before .before .before .before .before .before .before .args .n) (c .before .before .before .before .before .before .before .before .before .before .before .before .args .r) (c .before .before .before .before .before .before .before .before .before .before .before .before .pre .0) (c .before .before .before .before .before .before .before .before .number-at .result) (c .before .before .before .before .before .before .before .before .number-at .ensures .0) (c .before .before .before .before .before .before .before .before .before .before .before .before .args .off) (c .before .before .before .before .before .before .before .if1 .left) (c .before .before .before .before .before .before .type-size-align .ensures) (c .before .before .before .before .before .align-up .ensures .0)) (c .before .before .put-names .ensures)
 

@@ -17,49 +17,38 @@ Inv-loop sheet work n r count offset size out₀ at p₀ off₀ j₀ out p off j
 abbrev μ-loop : tie.MeasureT-loop
 μ-loop sheet work n r count offset size out₀ at p₀ off₀ j₀ out p off j = count - j
 
--- src/lib.rt:38:5
 loop-holds : tie.Need-loop-holds Inv-loop μ-loop
 loop-holds c = naming-start (c .before .before .before .args .size) (c .before .before .before .args .offset) (fieldAt (now (c .before .before .before .args .sheet)) (c .before .before .before .args .r) .names) (now (c .before .before .before .args .out)) (c .before .before .before .args .at) (c .before .before .before .pre .5)
 
--- src/lib.rt:39:52
 sub-field-at : tie.Need-sub-field-at Inv-loop μ-loop
 sub-field-at c = c .before .before .before .before .before .pre .0 .first
 
--- src/lib.rt:39:59
 add-field-at : tie.Need-add-field-at Inv-loop μ-loop
 add-field-at c = record { fits = omega (arith, c .before .before .before .before .before .pre .2, c .loop-test .taken) }
 
--- src/lib.rt:39:13
 field-at-requires : tie.Need-field-at-requires Inv-loop μ-loop
 field-at-requires c κs = (c .before .before .before .before .before .pre .0 .checked .whole, omega (arith, c .before .before .before .before .before .pre .0 .first, c .before .before .before .before .before .pre .0 .last))
 
--- src/lib.rt:40:9
 put-row-requires : tie.Need-put-row-requires Inv-loop μ-loop
 put-row-requires c κs = search needs
 
--- src/lib.rt:41:9
 add-off : tie.Need-add-off Inv-loop μ-loop
 add-off c = record { fits = omega (arith, c .before .before .before .before .before .before .loop .inv .small, c .before .before .before .before .before .before .before .before .before .before .pre .3, c .before .before .before .before .before .before .before .before .before .before .pre .4, names-small {a = c .before .before .before .before .before .before .loop .j} {b = c .before .before .before .before .before .before .before .before .before .before .args .size} (omega (arith, c .before .before .before .before .before .before .before .before .before .before .pre .2, c .before .before .before .before .before .loop-test .taken)) (c .before .before .before .before .before .before .before .before .before .before .pre .4)) }
 
--- src/lib.rt:42:9
 add-j : tie.Need-add-j Inv-loop μ-loop
 add-j c = record { fits = omega (arith, c .before .before .before .before .before .before .before .before .before .before .pre .2, c .before .before .before .before .before .loop-test .taken) }
 
--- src/lib.rt:38:5
 loop-less : tie.Need-loop-less Inv-loop μ-loop
 loop-less c = omega (arith, c .before .before .before .before .before .loop-test .taken)
 
--- src/lib.rt:38:5
 loop-again : tie.Need-loop-again Inv-loop μ-loop
 loop-again c =
     let h : c .before .before .before .before .before .before .loop .j < length (fieldAt (now (c .before .before .before .before .before .before .before .before .before .before .args .sheet)) (c .before .before .before .before .before .before .before .before .before .before .args .r) .names) = omega (arith, c .before .before .before .before .before .before .before .before .before .before .pre .1, c .before .before .before .before .before .loop-test .taken) in
     naming-next (c .before .before .before .before .before .before .before .before .before .before .args .size) (c .before .before .before .before .before .before .before .before .before .before .args .offset) (fieldAt (now (c .before .before .before .before .before .before .before .before .before .before .args .sheet)) (c .before .before .before .before .before .before .before .before .before .before .args .r) .names) (now (c .before .before .before .before .before .before .before .before .before .before .args .out)) (c .before .before .before .before .before .before .before .before .before .before .args .at) _ _ _ _ (c .before .before .before .before .before .before .loop .inv) h _ _ (rw (c .before .before .before .before .field-at .ensures ∙ name-at (now (c .before .before .before .before .before .before .before .before .before .before .args .sheet)) (now (c .before .before .before .before .before .before .before .before .before .before .args .work)) (c .before .before .before .before .before .before .before .before .before .before .args .n) (c .before .before .before .before .before .before .before .before .before .before .args .r) (c .before .before .before .before .before .before .before .before .before .before .pre .0) (c .before .before .before .before .before .before .loop .j) h) at (c .before .before .put-row .ensures))
 
--- src/lib.rt:21:1
 same-length : tie.Need-same-length Inv-loop μ-loop
 same-length c = wrote-length (c .before .loop .inv .wrote)
 
--- src/lib.rt:21:1
 returns : tie.Need-returns Inv-loop μ-loop
 returns c = naming-end (c .before .before .before .before .before .args .size) (c .before .before .before .before .before .args .offset) (fieldAt (now (c .before .before .before .before .before .args .sheet)) (c .before .before .before .before .before .args .r) .names) (now (c .before .before .before .before .before .args .out)) (c .before .before .before .before .before .args .at) _ _ _ _ (c .before .loop .inv) (omega (arith, c .before .before .before .before .before .pre .1, c .loop-test .left))
 

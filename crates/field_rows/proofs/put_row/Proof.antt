@@ -5,35 +5,27 @@ use borrow.Author.Needs.{needs}
 use Rattle.field_rows.proofs.put_row.Statement.{statement}
 use Rattle.field_rows.proofs.put_row.Tie as tie
 
--- src/lib.rt:13:42
 slice-aggregate-put-part : tie.Need-slice-aggregate-put-part
 slice-aggregate-put-part c = search needs
 
--- src/lib.rt:13:9
 put-part-requires : tie.Need-put-part-requires
 put-part-requires c κs = search needs
 
--- src/lib.rt:14:5
 put-comma-part-requires : tie.Need-put-comma-part-requires
 put-comma-part-requires c κs = search needs
 
--- src/lib.rt:15:5
 put-comma-nat-requires : tie.Need-put-comma-nat-requires
 put-comma-nat-requires c κs = search needs
 
--- src/lib.rt:16:5
 put-comma-nat-requires-2 : tie.Need-put-comma-nat-requires-2
 put-comma-nat-requires-2 c κs = search needs
 
--- src/lib.rt:17:5
 put-lf-requires : tie.Need-put-lf-requires
 put-lf-requires c κs = search needs
 
--- src/lib.rt:10:1
 same-length : tie.Need-same-length
 same-length c = search needs
 
--- src/lib.rt:10:1
 returns : tie.Need-returns
 unfolding fieldText row
 returns c = then (c .before .before .before .before .before .before .before .before .before .before .before .before .before .before .before .before .before .before .put-part .ensures) (then (c .before .before .before .before .before .before .before .before .before .before .before .before .before .before .put-comma-part .ensures) (then (c .before .before .before .before .before .before .before .before .before .before .put-comma-nat .ensures) (then (c .before .before .before .before .before .before .put-comma-nat2 .ensures) (c .before .before .put-lf .ensures))))

@@ -5,31 +5,24 @@ use borrow.Author.Needs.{needs}
 use Rattle.record_rows.proofs.entry_size.Statement.{statement}
 use Rattle.record_rows.proofs.entry_size.Tie as tie
 
--- src/lib.rt:73:9
 line-of-requires : tie.Need-line-of-requires
 line-of-requires c κs = search needs
 
--- src/lib.rt:74:9
 case-of-requires : tie.Need-case-of-requires
 case-of-requires c κs = search needs
 
--- src/lib.rt:76:9
 record-size-requires : tie.Need-record-size-requires
 record-size-requires c κs = line-is (now (c .before .before .before .before .before .args .sheet)) (now (c .before .before .before .before .before .args .work)) (c .before .before .before .before .before .args .n) (c .before .before .before .before .before .args .i) (c .before .before .before .before .before .pre .log .entries _ (c .before .before .before .before .before .pre .low)) (c .before .before .line-of .ensures) (c .before .case-of .ensures .0)
 
--- src/lib.rt:76:9
 returns : tie.Need-returns
 returns c = sized (now (c .before .before .before .before .before .before .args .sheet)) (now (c .before .before .before .before .before .before .args .work)) (c .before .before .before .before .before .before .args .n) (c .before .before .before .before .before .before .args .m) (c .before .before .before .before .before .before .args .i) (c .before .before .before .before .before .before .pre) (c .record-size .ensures ∙ rw (shape-plain (now (c .before .before .before .before .before .before .args .sheet)) (now (c .before .before .before .before .before .before .args .work)) (c .before .before .before .before .before .before .args .n) (c .before .before .before .before .before .before .args .i) (c .before .before .before .before .before .before .pre .log .entries _ (c .before .before .before .before .before .before .pre .low)) (c .before .before .before .line-of .ensures) (c .before .before .case-of .ensures .0) (c .before .if1 .taken)))
 
--- src/lib.rt:78:45
 sub-variant-size : tie.Need-sub-variant-size
 sub-variant-size c = search needs
 
--- src/lib.rt:78:5
 variant-size-requires : tie.Need-variant-size-requires
 variant-size-requires c κs = variant-line (now (c .before .before .before .before .before .args .sheet)) (now (c .before .before .before .before .before .args .work)) (c .before .before .before .before .before .args .n) (c .before .before .before .before .before .args .i) (c .before .before .before .before .before .pre .log .entries _ (c .before .before .before .before .before .pre .low)) (c .before .before .line-of .ensures) (c .before .case-of .ensures .0) (c .if1 .left)
 
--- src/lib.rt:69:1
 returns-2 : tie.Need-returns-2
 returns-2 c = sized (now (c .before .before .before .before .before .before .args .sheet)) (now (c .before .before .before .before .before .before .args .work)) (c .before .before .before .before .before .before .args .n) (c .before .before .before .before .before .before .args .m) (c .before .before .before .before .before .before .args .i) (c .before .before .before .before .before .before .pre) (c .variant-size .ensures ∙ rw (shape-variant (now (c .before .before .before .before .before .before .args .sheet)) (now (c .before .before .before .before .before .before .args .work)) (c .before .before .before .before .before .before .args .n) (c .before .before .before .before .before .before .args .i) (c .before .before .before .before .before .before .pre .log .entries _ (c .before .before .before .before .before .before .pre .low)) (c .before .before .before .line-of .ensures) (c .before .before .case-of .ensures .0) (c .before .if1 .left)))
 

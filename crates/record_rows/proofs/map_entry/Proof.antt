@@ -4,39 +4,30 @@ use borrow.Author.Needs.{needs}
 use Rattle.record_rows.proofs.map_entry.Statement.{statement}
 use Rattle.record_rows.proofs.map_entry.Tie as tie
 
--- src/lib.rt:86:9
 line-of-requires : tie.Need-line-of-requires
 line-of-requires c κs = search needs
 
--- src/lib.rt:87:9
 case-of-requires : tie.Need-case-of-requires
 case-of-requires c κs = search needs
 
--- src/lib.rt:89:9
 map-record-requires : tie.Need-map-record-requires
 map-record-requires c κs = (line-is (now (c .before .before .before .before .before .before .before .before .args .sheet)) (now (c .before .before .before .before .before .before .before .before .args .work)) (c .before .before .before .before .before .before .before .before .args .n) (c .before .before .before .before .before .before .before .before .args .i) (c .before .before .before .before .before .before .before .before .pre .0) (c .before .before .before .before .line-of .ensures) (c .before .before .case-of .ensures .0), c .before .before .before .before .before .before .before .before .pre .1)
 
--- src/lib.rt:90:9
 same-length : tie.Need-same-length
 same-length c = search needs
 
--- src/lib.rt:90:9
 returns : tie.Need-returns
 returns c = rw (shape-plain (now (c .before .before .before .before .before .before .before .before .before .before .before .args .sheet)) (now (c .before .before .before .before .before .before .before .before .before .before .before .args .work)) (c .before .before .before .before .before .before .before .before .before .before .before .args .n) (c .before .before .before .before .before .before .before .before .before .before .before .args .i) (c .before .before .before .before .before .before .before .before .before .before .before .pre .0) (c .before .before .before .before .before .before .before .line-of .ensures) (c .before .before .before .before .before .case-of .ensures .0) (c .before .before .before .before .if1 .taken)) (c .before .before .map-record .ensures)
 
--- src/lib.rt:92:44
 sub-map-variant : tie.Need-sub-map-variant
 sub-map-variant c = search needs
 
--- src/lib.rt:92:5
 map-variant-requires : tie.Need-map-variant-requires
 map-variant-requires c κs = (variant-line (now (c .before .before .before .before .before .before .before .before .args .sheet)) (now (c .before .before .before .before .before .before .before .before .args .work)) (c .before .before .before .before .before .before .before .before .args .n) (c .before .before .before .before .before .before .before .before .args .i) (c .before .before .before .before .before .before .before .before .pre .0) (c .before .before .before .before .line-of .ensures) (c .before .before .case-of .ensures .0) (c .before .if1 .left), c .before .before .before .before .before .before .before .before .pre .1)
 
--- src/lib.rt:82:1
 same-length-2 : tie.Need-same-length-2
 same-length-2 c = search needs
 
--- src/lib.rt:82:1
 returns-2 : tie.Need-returns-2
 returns-2 c = rw (shape-variant (now (c .before .before .before .before .before .before .before .before .before .before .before .args .sheet)) (now (c .before .before .before .before .before .before .before .before .before .before .before .args .work)) (c .before .before .before .before .before .before .before .before .before .before .before .args .n) (c .before .before .before .before .before .before .before .before .before .before .before .args .i) (c .before .before .before .before .before .before .before .before .before .before .before .pre .0) (c .before .before .before .before .before .before .before .line-of .ensures) (c .before .before .before .before .before .case-of .ensures .0) (c .before .before .before .before .if1 .left)) (c .before .before .map-variant .ensures)
 

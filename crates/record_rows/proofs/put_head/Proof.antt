@@ -5,27 +5,21 @@ use borrow.Author.Needs.{needs}
 use Rattle.record_rows.proofs.put_head.Statement.{statement}
 use Rattle.record_rows.proofs.put_head.Tie as tie
 
--- src/lib.rt:63:38
 slice-aggregate-put-part : tie.Need-slice-aggregate-put-part
 slice-aggregate-put-part c = search needs
 
--- src/lib.rt:63:9
 put-part-requires : tie.Need-put-part-requires
 put-part-requires c κs = search needs
 
--- src/lib.rt:64:9
 put-key-requires : tie.Need-put-key-requires
 put-key-requires c κs = search needs
 
--- src/lib.rt:65:5
 put-tag-requires : tie.Need-put-tag-requires
 put-tag-requires c κs = search needs
 
--- src/lib.rt:59:1
 same-length : tie.Need-same-length
 same-length c = search needs
 
--- src/lib.rt:59:1
 returns : tie.Need-returns
 returns c = head-text (recordedAt (now (c .before .before .before .before .before .before .before .before .before .before .before .before .before .before .before .before .args .sheet)) (now (c .before .before .before .before .before .before .before .before .before .before .before .before .before .before .before .before .args .work)) (c .before .before .before .before .before .before .before .before .before .before .before .before .before .before .before .before .args .i)) (c .before .before .before .before .before .before .before .before .before .before .put-part .ensures) (c .before .before .before .before .before .before .put-key .ensures) (c .before .before .put-tag .ensures (now (c .before .before .before .before .before .before .before .before .before .before .before .before .before .before .before .before .args .sheet)))
 

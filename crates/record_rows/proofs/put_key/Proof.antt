@@ -5,43 +5,33 @@ use borrow.Author.Needs.{needs}
 use Rattle.record_rows.proofs.put_key.Statement.{statement}
 use Rattle.record_rows.proofs.put_key.Tie as tie
 
--- src/lib.rt:38:43
 name-of-requires : tie.Need-name-of-requires
 name-of-requires c κs = search needs
 
--- src/lib.rt:38:9
 put-comma-part-requires : tie.Need-put-comma-part-requires
 put-comma-part-requires c κs = search needs
 
--- src/lib.rt:39:8
 case-of-requires : tie.Need-case-of-requires
 case-of-requires c κs = search needs
 
--- src/lib.rt:40:9
 same-length : tie.Need-same-length
 same-length c = search needs
 
--- src/lib.rt:40:9
 returns : tie.Need-returns
 returns c = wrote-as (key-plain (now (c .before .before .before .before .before .before .before .before .before .before .args .sheet)) (now (c .before .before .before .before .before .before .before .before .before .before .args .work)) (c .before .before .before .before .before .before .before .before .before .before .args .i) (c .before .before .before .before .before .name-of .ensures) (c .before .case-of .ensures .0) (c .if1 .taken)) (c .before .before .before .before .put-comma-part .ensures)
 
--- src/lib.rt:42:9
 put-requires : tie.Need-put-requires
 put-requires c κs = search needs
 
--- src/lib.rt:43:29
 tag-of-requires : tie.Need-tag-of-requires
 tag-of-requires c κs = search needs
 
--- src/lib.rt:43:5
 put-part-requires : tie.Need-put-part-requires
 put-part-requires c κs = search needs
 
--- src/lib.rt:34:1
 same-length-2 : tie.Need-same-length-2
 same-length-2 c = search needs
 
--- src/lib.rt:34:1
 returns-2 : tie.Need-returns-2
 returns-2 c = wrote-as (key-variant (now (c .before .before .before .before .before .before .before .before .before .before .before .before .before .before .before .before .before .before .before .args .sheet)) (now (c .before .before .before .before .before .before .before .before .before .before .before .before .before .before .before .before .before .before .before .args .work)) (c .before .before .before .before .before .before .before .before .before .before .before .before .before .before .before .before .before .before .before .args .i) (c .before .before .before .before .before .before .before .before .before .before .before .before .before .before .name-of .ensures) (c .before .before .before .before .before .before .before .before .before .before .case-of .ensures .0) (c .before .before .before .before .before .before .before .before .before .if1 .left) (c .before .before .before .tag-of .ensures)) (then (then (c .before .before .before .before .before .before .before .before .before .before .before .before .before .put-comma-part .ensures) (c .before .before .before .before .before .before .before .put .ensures)) (c .before .before .put-part .ensures))
 

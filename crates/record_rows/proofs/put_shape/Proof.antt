@@ -10,59 +10,45 @@ use borrow.Author.Needs.{needs}
 use Rattle.record_rows.proofs.put_shape.Statement.{statement}
 use Rattle.record_rows.proofs.put_shape.Tie as tie
 
--- src/lib.rt:108:9
 entry-size-requires : tie.Need-entry-size-requires
 entry-size-requires c κs = search needs
 
--- src/lib.rt:109:5
 map-entry-requires : tie.Need-map-entry-requires
 map-entry-requires c κs = (c .before .before .before .before .before .before .pre .log .entries _ (c .before .before .before .before .before .before .pre .low), map-room (c .before .before .before .before .before .before .pre .log) (c .before .entry-size .ensures .1))
 
--- src/lib.rt:110:42
 cast-put-comma-nat : tie.Need-cast-put-comma-nat
 cast-put-comma-nat c = search needs
 
--- src/lib.rt:110:9
 put-comma-nat-requires : tie.Need-put-comma-nat-requires
 put-comma-nat-requires c κs = search needs
 
--- src/lib.rt:111:21
 map-bytes-requires : tie.Need-map-bytes-requires
 map-bytes-requires c κs = search needs
 
--- src/lib.rt:111:15
 add-end : tie.Need-add-end
 add-end c = search needs
 
--- src/lib.rt:112:41
 sub-put-comma-hex : tie.Need-sub-put-comma-hex
 sub-put-comma-hex c = search needs
 
--- src/lib.rt:112:41
 part-put-comma-hex-start : tie.Need-part-put-comma-hex-start
 part-put-comma-hex-start c = search needs
 
--- src/lib.rt:112:41
 part-put-comma-hex-end : tie.Need-part-put-comma-hex-end
 part-put-comma-hex-end c = omega (arith, map-fits (map-room (c .before .before .before .before .before .before .before .before .before .before .before .before .before .before .before .before .pre .log) (c .before .before .before .before .before .before .before .before .before .before .before .entry-size .ensures .1)), c .before .before .map-bytes .ensures .0 [], bytes-count (c .before .before .before .before .before .before .before .before .before .before .before .entry-size .result) [], c .before .before .before .before .before .before .before .before .before .map-entry .ensures .kept .long, c .before .before .before .before .before .before .before .before .before .before .before .before .before .before .before .before .pre .log .checked .whole .room)
 
--- src/lib.rt:112:9
 put-comma-hex-requires : tie.Need-put-comma-hex-requires
 put-comma-hex-requires c κs = search needs
 
--- src/lib.rt:113:5
 put-lf-requires : tie.Need-put-lf-requires
 put-lf-requires c κs = search needs
 
--- src/lib.rt:96:1
 same-length : tie.Need-same-length
 same-length c = search needs
 
--- src/lib.rt:96:1
 same-length-2 : tie.Need-same-length-2
 same-length-2 c = search needs
 
--- src/lib.rt:96:1
 returns : tie.Need-returns
 returns c = record { wrote = wrote-as (shape-text (recordedAt (now (c .before .before .before .before .before .before .before .before .before .before .before .before .before .before .before .before .before .before .before .before .before .before .before .before .args .sheet)) (now (c .before .before .before .before .before .before .before .before .before .before .before .before .before .before .before .before .before .before .before .before .before .before .before .before .args .work)) (c .before .before .before .before .before .before .before .before .before .before .before .before .before .before .before .before .before .before .before .before .before .before .before .before .args .i) .shape) _ (c .before .before .before .before .before .before .before .before .before .before .before .before .before .before .before .before .before .before .before .entry-size .result) (c .before .before .before .before .before .before .before .before .before .before .map-bytes .result) _ (c .before .before .before .before .before .before .before .before .before .before .before .before .before .before .before .before .before .before .before .entry-size .ensures .0) (c .before .before .before .before .before .before .before .before .before .before .before .before .before .before .before .before .before .map-entry .ensures .map) (c .before .before .before .before .before .before .before .before .before .before .map-bytes .ensures .0 [] ∙ bytes-count (c .before .before .before .before .before .before .before .before .before .before .before .before .before .before .before .before .before .before .before .entry-size .result) []) refl) (then (then (c .before .before .before .before .before .before .before .before .before .before .before .before .before .put-comma-nat .ensures) (c .before .before .before .before .before .before .put-comma-hex .ensures)) (c .before .before .put-lf .ensures)); kept = c .before .before .before .before .before .before .before .before .before .before .before .before .before .before .before .before .before .map-entry .ensures .kept }
 

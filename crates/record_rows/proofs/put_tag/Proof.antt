@@ -5,47 +5,36 @@ use borrow.Author.Needs.{needs}
 use Rattle.record_rows.proofs.put_tag.Statement.{statement}
 use Rattle.record_rows.proofs.put_tag.Tie as tie
 
--- src/lib.rt:51:9
 case-of-requires : tie.Need-case-of-requires
 case-of-requires c κs = search needs
 
--- src/lib.rt:53:41
 slice-aggregate-put-part : tie.Need-slice-aggregate-put-part
 slice-aggregate-put-part c = search needs
 
--- src/lib.rt:53:9
 put-part-requires : tie.Need-put-part-requires
 put-part-requires c κs = search needs
 
--- src/lib.rt:53:9
 same-length : tie.Need-same-length
 same-length c = search needs
 
--- src/lib.rt:53:9
 returns : tie.Need-returns
 returns c = λ s. wrote-as (tag-plain s (now (c .before .before .before .before .before .before .before .before .before .args .work)) (c .before .before .before .before .before .before .before .before .before .args .i) (c .before .before .before .before .before .before .case-of .ensures .0) (c .before .before .before .before .before .if1 .taken)) (c .before .before .put-part .ensures)
 
--- src/lib.rt:55:42
 number-of-requires : tie.Need-number-of-requires
 number-of-requires c κs = search needs
 
--- src/lib.rt:55:9
 put-comma-nat-requires : tie.Need-put-comma-nat-requires
 put-comma-nat-requires c κs = search needs
 
--- src/lib.rt:56:34
 sub-put-comma-nat : tie.Need-sub-put-comma-nat
 sub-put-comma-nat c = search needs
 
--- src/lib.rt:56:5
 put-comma-nat-requires-2 : tie.Need-put-comma-nat-requires-2
 put-comma-nat-requires-2 c κs = search needs
 
--- src/lib.rt:47:1
 same-length-2 : tie.Need-same-length-2
 same-length-2 c = search needs
 
--- src/lib.rt:47:1
 returns-2 : tie.Need-returns-2
 returns-2 c = λ s. wrote-as (tag-variant s (now (c .before .before .before .before .before .before .before .before .before .before .before .before .before .args .work)) (c .before .before .before .before .before .before .before .before .before .before .before .before .before .args .i) (c .before .before .before .before .before .before .before .before .before .before .case-of .ensures .0) (c .before .before .before .before .before .before .before .before .before .if1 .left) (c .before .before .before .before .before .before .before .number-of .ensures .0)) (then (c .before .before .before .before .before .before .put-comma-nat .ensures) (c .before .before .put-comma-nat2 .ensures))
 

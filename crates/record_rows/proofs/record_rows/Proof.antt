@@ -14,35 +14,27 @@ Inv-loop sheet work₀ n m out₀ at p₀ i₀ work out p i = Keying sheet m out
 abbrev μ-loop : tie.MeasureT-loop
 μ-loop sheet work₀ n m out₀ at p₀ i₀ work out p i = m - i
 
--- src/lib.rt:195:5
 loop-holds : tie.Need-loop-holds Inv-loop μ-loop
 loop-holds c = keying-start (now (c .before .before .before .args .sheet)) (now (c .before .before .before .args .work)) (c .before .before .before .args .n) (c .before .before .before .args .m) (c .before .before .before .pre .0) (now (c .before .before .before .args .out)) (c .before .before .before .args .at) (c .before .before .before .pre .1)
 
--- src/lib.rt:196:9
 put-newest-requires : tie.Need-put-newest-requires Inv-loop μ-loop
 put-newest-requires c κs = (entry-now (now (c .before .before .before .before .before .before .before .args .sheet)) (now (c .before .before .before .before .before .before .before .args .work)) (c .before .before .before .before .before .before .before .args .n) (c .before .before .before .before .before .before .before .args .m) (c .before .before .before .before .before .before .before .pre .0) (now (c .before .before .before .before .before .before .before .args .out)) (c .before .before .before .before .before .before .before .args .at) _ _ _ _ (c .before .before .before .loop .inv) (c .before .before .loop-test .taken), place-low (c .before .before .before .loop .inv .wrote))
 
--- src/lib.rt:197:9
 add-i : tie.Need-add-i Inv-loop μ-loop
 add-i c = record { fits = omega (arith, c .before .before .before .before .before .before .before .loop-test .taken, c .before .before .before .before .before .before .before .before .before .before .before .before .pre .0 .few) }
 
--- src/lib.rt:195:5
 loop-less : tie.Need-loop-less Inv-loop μ-loop
 loop-less c = omega (arith, c .before .before .before .before .before .before .before .loop-test .taken)
 
--- src/lib.rt:195:5
 loop-again : tie.Need-loop-again Inv-loop μ-loop
 loop-again c = keying-next (now (c .before .before .before .before .before .before .before .before .before .before .before .before .args .sheet)) (now (c .before .before .before .before .before .before .before .before .before .before .before .before .args .work)) (c .before .before .before .before .before .before .before .before .before .before .before .before .args .n) (c .before .before .before .before .before .before .before .before .before .before .before .before .args .m) (c .before .before .before .before .before .before .before .before .before .before .before .before .pre .0) (now (c .before .before .before .before .before .before .before .before .before .before .before .before .args .out)) (c .before .before .before .before .before .before .before .before .before .before .before .before .args .at) _ _ _ _ (c .before .before .before .before .before .before .before .before .loop .inv) (c .before .before .before .before .before .before .before .loop-test .taken) _ _ _ (c .before .before .before .before .put-newest .ensures)
 
--- src/lib.rt:182:1
 same-length : tie.Need-same-length Inv-loop μ-loop
 same-length c = c .before .loop .inv .kept .long
 
--- src/lib.rt:182:1
 same-length-2 : tie.Need-same-length-2 Inv-loop μ-loop
 same-length-2 c = wrote-length (c .before .loop .inv .wrote)
 
--- src/lib.rt:182:1
 returns : tie.Need-returns Inv-loop μ-loop
 returns c = keying-end (now (c .before .before .before .before .before .args .sheet)) (now (c .before .before .before .before .before .args .work)) (c .before .before .before .before .before .args .n) (c .before .before .before .before .before .args .m) (c .before .before .before .before .before .pre .0) (now (c .before .before .before .before .before .args .out)) (c .before .before .before .before .before .args .at) _ _ _ _ (c .before .loop .inv) (c .loop-test .left) refl
 

@@ -16,35 +16,27 @@ Inv-loop sheet work₀ n at₀ r₀ work at r = (r ≤ n) × (Wrote work₀ 9216
 abbrev μ-loop : tie.MeasureT-loop
 μ-loop sheet work₀ n at₀ r₀ work at r = n - r
 
--- src/lib.rt:108:5
 loop-holds : tie.Need-loop-holds Inv-loop μ-loop
 loop-holds c = (omega arith, entries-start (now (c .before .before .args .sheet)) (now (c .before .before .args .work)) (c .before .before .args .n) (c .before .before .pre))
 
--- src/lib.rt:109:9
 add-r : tie.Need-add-r Inv-loop μ-loop
 add-r c = record { fits = omega (arith, c .loop-test .taken, c .before .before .before .before .pre .whole .lined .few) }
 
--- src/lib.rt:110:9
 record-adt-requires : tie.Need-record-adt-requires Inv-loop μ-loop
 record-adt-requires c κs = (checked-wrote (c .before .before .loop .inv .1) (omega arith) (c .before .before .before .before .before .pre), omega arith, omega (arith, c .before .loop-test .taken), place-on (c .before .before .loop .inv .1) 9216 (omega arith) (omega (arith, c .before .before .before .before .before .pre .whole .room)), place-low (c .before .before .loop .inv .1))
 
--- src/lib.rt:108:5
 loop-less : tie.Need-loop-less Inv-loop μ-loop
 loop-less c = omega (arith, c .before .before .before .before .loop-test .taken)
 
--- src/lib.rt:108:5
 loop-again : tie.Need-loop-again Inv-loop μ-loop
 loop-again c = (omega (arith, c .before .before .before .before .loop-test .taken), entries-next (now (c .before .before .before .before .before .before .before .before .args .sheet)) (now (c .before .before .before .before .before .before .before .before .args .work)) _ _ _ _ _ (c .before .before .before .before .before .loop .inv .1) (c .before .before .record-adt .ensures))
 
--- src/lib.rt:112:6
 sub-result : tie.Need-sub-result Inv-loop μ-loop
 sub-result c = place-on (c .before .loop .inv .1) 9216 (omega arith) (omega (arith, c .before .before .before .before .pre .whole .room))
 
--- src/lib.rt:102:1
 same-length : tie.Need-same-length Inv-loop μ-loop
 same-length c = wrote-length (c .before .loop .inv .1)
 
--- src/lib.rt:102:1
 returns : tie.Need-returns Inv-loop μ-loop
 returns c = entries-end (now (c .before .before .before .before .args .sheet)) (now (c .before .before .before .before .args .work)) (c .before .before .before .before .args .n) (c .before .before .before .before .pre) _ (c .before .loop .inv .0) (c .loop-test .left) _ _ (c .before .loop .inv .1) _ refl
 

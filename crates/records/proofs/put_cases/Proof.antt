@@ -13,47 +13,36 @@ Inv-loop sheet work₀ n r at count p₀ number₀ c₀ work p number c = Casing
 abbrev μ-loop : tie.MeasureT-loop
 μ-loop sheet work₀ n r at count p₀ number₀ c₀ work p number c = count - c
 
--- src/lib.rt:71:9
 case-count-requires : tie.Need-case-count-requires Inv-loop μ-loop
 case-count-requires c κs = c .before .before .before .pre .0
 
--- src/lib.rt:75:5
 loop-holds : tie.Need-loop-holds Inv-loop μ-loop
 loop-holds c = casing-start (now (c .before .before .before .before .args .sheet)) (c .before .before .before .before .args .r) (now (c .before .before .before .before .args .work)) (c .before .before .before .before .args .at) (c .before .before .before .before .pre .2)
 
--- src/lib.rt:76:13
 case-line-requires : tie.Need-case-line-requires Inv-loop μ-loop
 case-line-requires c κs = variant-line (pick-wrote (c .before .before .loop .inv .wrote) (c .before .before .before .before .before .before .before .pre .1) (c .before .before .before .before .before .before .before .pre .0)) (omega (arith, cases-count (now (c .before .before .before .before .before .before .before .args .sheet)) (c .before .before .before .before .before .before .before .args .r) (c .before .before .before .case-count .ensures .0), c .before .loop-test .taken))
 
--- src/lib.rt:77:13
 tag-count-requires : tie.Need-tag-count-requires Inv-loop μ-loop
 tag-count-requires c κs = c .before .case-line .ensures .line
 
--- src/lib.rt:78:9
 add-c : tie.Need-add-c Inv-loop μ-loop
 add-c c = record { fits = omega (arith, c .before .before .before .before .before .before .case-count .ensures .1, c .before .before .before .before .loop-test .taken) }
 
--- src/lib.rt:79:9
 put-tags-requires : tie.Need-put-tags-requires Inv-loop μ-loop
 put-tags-requires c κs = (omega (arith, c .before .before .before .before .before .before .before .before .before .before .before .pre .0 .last, c .before .before .before .before .before .before .before .before .before .before .before .pre .0 .checked .whole .lined .few), omega (arith, c .before .before .before .before .before .before .before .case-count .ensures .1, c .before .before .before .before .before .loop-test .taken), c .before .tag-count .ensures .1, omega (arith, c .before .before .before .before .before .before .loop .inv .small, c .before .before .before .before .before .before .before .case-count .ensures .1, c .before .before .before .before .before .loop-test .taken), place-low (c .before .before .before .before .before .before .loop .inv .wrote))
 
--- src/lib.rt:80:9
 add-number : tie.Need-add-number Inv-loop μ-loop
 add-number c = record { fits = omega (arith, c .before .before .before .before .before .before .before .before .before .loop .inv .small, c .before .before .before .before .before .before .before .before .before .before .case-count .ensures .1, c .before .before .before .before .before .before .before .before .loop-test .taken, c .before .before .before .before .tag-count .ensures .1) }
 
--- src/lib.rt:75:5
 loop-less : tie.Need-loop-less Inv-loop μ-loop
 loop-less c = omega (arith, c .before .before .before .before .before .before .before .before .loop-test .taken)
 
--- src/lib.rt:75:5
 loop-again : tie.Need-loop-again Inv-loop μ-loop
 loop-again c = casing-next (now (c .before .before .before .before .before .before .before .before .before .before .before .before .before .before .args .sheet)) (c .before .before .before .before .before .before .before .before .before .before .before .before .before .before .args .r) (now (c .before .before .before .before .before .before .before .before .before .before .before .before .before .before .args .work)) (c .before .before .before .before .before .before .before .before .before .before .before .before .before .before .args .at) _ _ _ _ (c .before .before .before .before .before .before .before .before .before .loop .inv) (omega (arith, cases-count (now (c .before .before .before .before .before .before .before .before .before .before .before .before .before .before .args .sheet)) (c .before .before .before .before .before .before .before .before .before .before .before .before .before .before .args .r) (c .before .before .before .before .before .before .before .before .before .before .case-count .ensures .0), c .before .before .before .before .before .before .before .before .loop-test .taken)) _ _ _ (c .before .before .before .before .before .before .case-line .ensures) _ (c .before .before .before .before .tag-count .ensures .0) (c .before .before .before .before .tag-count .ensures .1) _ _ (c .before .before .put-tags .ensures)
 
--- src/lib.rt:67:1
 same-length : tie.Need-same-length Inv-loop μ-loop
 same-length c = wrote-length (c .before .loop .inv .wrote)
 
--- src/lib.rt:67:1
 returns : tie.Need-returns Inv-loop μ-loop
 returns c = casing-end (now (c .before .before .before .before .before .before .args .sheet)) (c .before .before .before .before .before .before .args .r) (now (c .before .before .before .before .before .before .args .work)) (c .before .before .before .before .before .before .args .at) _ _ _ _ (c .before .loop .inv) (omega (arith, cases-count (now (c .before .before .before .before .before .before .args .sheet)) (c .before .before .before .before .before .before .args .r) (c .before .before .case-count .ensures .0), c .loop-test .left))
 

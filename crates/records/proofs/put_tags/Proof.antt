@@ -12,35 +12,27 @@ Inv-loop work₀ at r case count number p₀ j₀ work p j = Tagging r case coun
 abbrev μ-loop : tie.MeasureT-loop
 μ-loop work₀ at r case count number p₀ j₀ work p j = count - j
 
--- src/lib.rt:52:5
 loop-holds : tie.Need-loop-holds Inv-loop μ-loop
 loop-holds c = tagging-start (c .before .args .r) (c .before .args .case) (c .before .args .count) (c .before .args .number) (now (c .before .args .work)) (c .before .args .at) (c .before .pre .4)
 
--- src/lib.rt:53:44
 add-put-entry : tie.Need-add-put-entry Inv-loop μ-loop
 add-put-entry c = record { fits = omega (arith, c .before .before .before .before .pre .3, c .before .before .before .before .pre .2, c .before .loop-test .taken) }
 
--- src/lib.rt:53:9
 put-entry-requires : tie.Need-put-entry-requires Inv-loop μ-loop
 put-entry-requires c κs = (c .before .before .before .before .pre .0, omega (arith, c .before .before .before .before .pre .1), omega (arith, c .before .before .before .before .pre .2, c .before .loop-test .taken), omega (arith, c .before .before .before .before .pre .3, c .before .before .before .before .pre .2, c .before .loop-test .taken))
 
--- src/lib.rt:54:9
 add-j : tie.Need-add-j Inv-loop μ-loop
 add-j c = record { fits = omega (arith, c .before .before .before .before .before .before .before .pre .2, c .before .before .before .before .loop-test .taken) }
 
--- src/lib.rt:52:5
 loop-less : tie.Need-loop-less Inv-loop μ-loop
 loop-less c = omega (arith, c .before .before .before .before .loop-test .taken)
 
--- src/lib.rt:52:5
 loop-again : tie.Need-loop-again Inv-loop μ-loop
 loop-again c = tagging-next (c .before .before .before .before .before .before .before .args .r) (c .before .before .before .before .before .before .before .args .case) (c .before .before .before .before .before .before .before .args .count) (c .before .before .before .before .before .before .before .args .number) (now (c .before .before .before .before .before .before .before .args .work)) (c .before .before .before .before .before .before .before .args .at) _ _ _ (c .before .before .before .before .before .loop .inv) (c .before .before .before .before .loop-test .taken) _ _ (c .before .before .put-entry .ensures)
 
--- src/lib.rt:39:1
 same-length : tie.Need-same-length Inv-loop μ-loop
 same-length c = wrote-length (c .before .loop .inv .wrote)
 
--- src/lib.rt:39:1
 returns : tie.Need-returns Inv-loop μ-loop
 returns c = tagging-end (c .before .before .before .args .r) (c .before .before .before .args .case) (c .before .before .before .args .count) (c .before .before .before .args .number) (now (c .before .before .before .args .work)) (c .before .before .before .args .at) _ _ _ (c .before .loop .inv) (c .loop-test .left)
 

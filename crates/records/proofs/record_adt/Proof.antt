@@ -5,47 +5,36 @@ use borrow.Author.Needs.{needs}
 use Rattle.records.proofs.record_adt.Statement.{statement}
 use Rattle.records.proofs.record_adt.Tie as tie
 
--- src/lib.rt:90:34
 sub-form-at : tie.Need-sub-form-at
 sub-form-at c = search needs
 
--- src/lib.rt:90:9
 form-at-requires : tie.Need-form-at-requires
 form-at-requires c κs = search needs
 
--- src/lib.rt:92:9
 put-entry-requires : tie.Need-put-entry-requires
 put-entry-requires c κs = search needs
 
--- src/lib.rt:92:9
 same-length : tie.Need-same-length
 same-length c = search needs
 
--- src/lib.rt:92:9
 returns : tie.Need-returns
 returns c = wrote-as (adt-entries (now (c .before .before .before .before .before .before .before .before .before .args .sheet)) (now (c .before .before .before .before .before .before .before .before .before .args .work)) (c .before .before .before .before .before .before .before .before .before .args .n) (c .before .before .before .before .before .before .before .before .before .pre .0) (c .before .before .before .before .before .before .before .before .before .args .r) (c .before .before .before .before .before .before .before .before .before .pre .1) (c .before .before .before .before .before .before .before .before .before .pre .2) (c .before .before .before .before .before .form-at .ensures) (c .before .before .before .before .if1 .taken)) (c .before .before .put-entry .ensures)
 
--- src/lib.rt:95:13
 put-entry-requires-2 : tie.Need-put-entry-requires-2
 put-entry-requires-2 c κs = search needs
 
--- src/lib.rt:96:9
 put-cases-requires : tie.Need-put-cases-requires
 put-cases-requires c κs = (pick-wrote (c .before .before .before .put-entry2 .ensures) (c .before .before .before .before .before .before .before .before .before .before .before .pre .3) (line-pick (now (c .before .before .before .before .before .before .before .before .before .before .before .args .sheet)) (now (c .before .before .before .before .before .before .before .before .before .before .before .args .work)) (c .before .before .before .before .before .before .before .before .before .before .before .args .n) (c .before .before .before .before .before .before .before .before .before .before .before .pre .0) (c .before .before .before .before .before .before .before .before .before .before .before .args .r) (c .before .before .before .before .before .before .before .before .before .before .before .pre .1) (c .before .before .before .before .before .before .before .before .before .before .before .pre .2) (c .before .before .before .before .before .before .before .form-at .ensures) (c .before .before .before .before .before .if2 .taken)), place-on (c .before .before .before .put-entry2 .ensures) 9216 (c .before .before .before .before .before .before .before .before .before .before .before .pre .3) (c .before .before .before .before .before .before .before .before .before .before .before .pre .4), place-low (c .before .before .before .put-entry2 .ensures))
 
--- src/lib.rt:96:9
 same-length-2 : tie.Need-same-length-2
 same-length-2 c = search needs
 
--- src/lib.rt:96:9
 returns-2 : tie.Need-returns-2
 returns-2 c = wrote-as (pick-entries (now (c .before .before .before .before .before .before .before .before .before .before .before .before .before .before .args .sheet)) (now (c .before .before .before .before .before .before .before .before .before .before .before .before .before .before .args .work)) (c .before .before .before .before .before .before .before .before .before .before .before .before .before .before .args .n) (c .before .before .before .before .before .before .before .before .before .before .before .before .before .before .pre .0) (c .before .before .before .before .before .before .before .before .before .before .before .before .before .before .args .r) (c .before .before .before .before .before .before .before .before .before .before .before .before .before .before .pre .1) (c .before .before .before .before .before .before .before .before .before .before .before .before .before .before .pre .2) (c .before .before .before .before .before .before .before .before .before .before .form-at .ensures) (c .before .before .before .before .before .before .before .before .if2 .taken)) (then (c .before .before .before .before .before .before .put-entry2 .ensures) (c .before .before .put-cases .ensures))
 
--- src/lib.rt:86:1
 same-length-3 : tie.Need-same-length-3
 same-length-3 c = search needs
 
--- src/lib.rt:86:1
 returns-3 : tie.Need-returns-3
 returns-3 c = wrote-as (no-entries (now (c .before .before .before .before .before .before .args .sheet)) (now (c .before .before .before .before .before .before .args .work)) (c .before .before .before .before .before .before .args .n) (c .before .before .before .before .before .before .pre .0) (c .before .before .before .before .before .before .args .r) (c .before .before .before .before .before .before .pre .1) (c .before .before .before .before .before .before .pre .2) (c .before .before .form-at .ensures) (c .before .if1 .left) (c .if2 .left)) (wrote-none (now (c .before .before .before .before .before .before .args .work)) (c .before .before .before .before .before .before .args .at) (c .before .before .before .before .before .before .pre .4))
 

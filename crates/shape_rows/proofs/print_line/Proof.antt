@@ -7,47 +7,36 @@ use borrow.Author.Needs.{needs}
 use Rattle.shape_rows.proofs.print_line.Statement.{statement}
 use Rattle.shape_rows.proofs.print_line.Tie as tie
 
--- src/main.rt:84:34
 sub-form-at : tie.Need-sub-form-at
 sub-form-at c = search needs
 
--- src/main.rt:84:9
 form-at-requires : tie.Need-form-at-requires
 form-at-requires c κs = search needs
 
--- src/main.rt:86:9
 print-record-requires : tie.Need-print-record-requires
 print-record-requires c κs = adt-line (now (c .before .before .before .before .before .before .args .sheet)) (now (c .before .before .before .before .before .before .args .work)) (c .before .before .before .before .before .before .args .n) (c .before .before .before .before .before .before .args .r) (c .before .before .before .before .before .before .pre .0) (c .before .before .before .before .before .before .pre .1) (c .before .before .before .before .before .before .pre .2) (sym (c .before .before .form-at .ensures) ∙ c .before .if1 .taken)
 
--- src/main.rt:87:9
 same-length : tie.Need-same-length
 same-length c = search needs
 
--- src/main.rt:87:9
 returns : tie.Need-returns
 returns c = search needs
 
--- src/main.rt:90:9
 print-record-requires-2 : tie.Need-print-record-requires-2
 print-record-requires-2 c κs = pick-record (now (c .before .before .before .before .before .before .before .args .sheet)) (now (c .before .before .before .before .before .before .before .args .work)) (c .before .before .before .before .before .before .before .args .n) (c .before .before .before .before .before .before .before .args .r) (pick-line (now (c .before .before .before .before .before .before .before .args .sheet)) (now (c .before .before .before .before .before .before .before .args .work)) (c .before .before .before .before .before .before .before .args .n) (c .before .before .before .before .before .before .before .args .r) (c .before .before .before .before .before .before .before .pre .0) (c .before .before .before .before .before .before .before .pre .1) (c .before .before .before .before .before .before .before .pre .2) (sym (c .before .before .before .form-at .ensures) ∙ c .before .if2 .taken))
 
--- src/main.rt:91:9
 print-variants-requires : tie.Need-print-variants-requires
 print-variants-requires c κs = pick-kept (c .before .before .before .print-record2 .ensures) (pick-line (now (c .before .before .before .before .before .before .before .before .before .before .before .args .sheet)) (now (c .before .before .before .before .before .before .before .before .before .before .before .args .work)) (c .before .before .before .before .before .before .before .before .before .before .before .args .n) (c .before .before .before .before .before .before .before .before .before .before .before .args .r) (c .before .before .before .before .before .before .before .before .before .before .before .pre .0) (c .before .before .before .before .before .before .before .before .before .before .before .pre .1) (c .before .before .before .before .before .before .before .before .before .before .before .pre .2) (sym (c .before .before .before .before .before .before .before .form-at .ensures) ∙ c .before .before .before .before .before .if2 .taken))
 
--- src/main.rt:92:9
 same-length-2 : tie.Need-same-length-2
 same-length-2 c = search needs
 
--- src/main.rt:92:9
 returns-2 : tie.Need-returns-2
 returns-2 c = kept-then (c .before .before .before .before .before .before .print-record2 .ensures) (c .before .before .print-variants .ensures)
 
--- src/main.rt:80:1
 same-length-3 : tie.Need-same-length-3
 same-length-3 c = search needs
 
--- src/main.rt:80:1
 returns-3 : tie.Need-returns-3
 returns-3 c = search needs
 

@@ -11,31 +11,24 @@ Inv-loop sheet work₀ n r₀ work r = Kept 49152 work₀ work
 abbrev μ-loop : tie.MeasureT-loop
 μ-loop sheet work₀ n r₀ work r = n - r
 
--- src/main.rt:100:5
 loop-holds : tie.Need-loop-holds Inv-loop μ-loop
 loop-holds c = kept-all
 
--- src/main.rt:101:9
 add-r : tie.Need-add-r Inv-loop μ-loop
 add-r c = record { fits = omega (arith, c .loop-test .taken, c .before .before .before .before .pre .whole .lined .few) }
 
--- src/main.rt:102:9
 print-line-requires : tie.Need-print-line-requires Inv-loop μ-loop
 print-line-requires c κs = (checked-kept (kept-less (omega arith) (c .before .before .loop .inv)) (c .before .before .before .before .before .pre), omega arith, omega (arith, c .before .loop-test .taken))
 
--- src/main.rt:100:5
 loop-less : tie.Need-loop-less Inv-loop μ-loop
 loop-less c = omega (arith, c .before .before .before .before .loop-test .taken)
 
--- src/main.rt:100:5
 loop-again : tie.Need-loop-again Inv-loop μ-loop
 loop-again c = kept-then (c .before .before .before .before .before .loop .inv) (c .before .before .print-line .ensures)
 
--- src/main.rt:96:1
 same-length : tie.Need-same-length Inv-loop μ-loop
 same-length c = c .before .loop .inv .long
 
--- src/main.rt:96:1
 returns : tie.Need-returns Inv-loop μ-loop
 returns c = tt
 

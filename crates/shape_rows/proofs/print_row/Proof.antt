@@ -5,119 +5,90 @@ use borrow.Author.Needs.{needs}
 use Rattle.shape_rows.proofs.print_row.Statement.{statement}
 use Rattle.shape_rows.proofs.print_row.Tie as tie
 
--- src/main.rt:30:32
 slice-aggregate-put-nat : tie.Need-slice-aggregate-put-nat
 slice-aggregate-put-nat c = search needs
 
--- src/main.rt:30:9
 put-nat-requires : tie.Need-put-nat-requires
 put-nat-requires c κs = search needs
 
--- src/main.rt:31:20
 slice-aggregate-put : tie.Need-slice-aggregate-put
 slice-aggregate-put c = search needs
 
--- src/main.rt:31:5
 put-requires : tie.Need-put-requires
 put-requires c κs = search needs
 
--- src/main.rt:32:24
 slice-aggregate-put-nat-2 : tie.Need-slice-aggregate-put-nat-2
 slice-aggregate-put-nat-2 c = search needs
 
--- src/main.rt:32:5
 put-nat-requires-2 : tie.Need-put-nat-requires-2
 put-nat-requires-2 c κs = search needs
 
--- src/main.rt:33:20
 slice-aggregate-put-2 : tie.Need-slice-aggregate-put-2
 slice-aggregate-put-2 c = search needs
 
--- src/main.rt:33:5
 put-requires-2 : tie.Need-put-requires-2
 put-requires-2 c κs = search needs
 
--- src/main.rt:34:24
 slice-aggregate-put-nat-3 : tie.Need-slice-aggregate-put-nat-3
 slice-aggregate-put-nat-3 c = search needs
 
--- src/main.rt:34:37
 map-ones-requires : tie.Need-map-ones-requires
 map-ones-requires c κs = search needs
 
--- src/main.rt:34:37
 cast-put-nat : tie.Need-cast-put-nat
 cast-put-nat c = search needs
 
--- src/main.rt:34:5
 put-nat-requires-3 : tie.Need-put-nat-requires-3
 put-nat-requires-3 c κs = search needs
 
--- src/main.rt:35:20
 slice-aggregate-put-3 : tie.Need-slice-aggregate-put-3
 slice-aggregate-put-3 c = search needs
 
--- src/main.rt:35:5
 put-requires-3 : tie.Need-put-requires-3
 put-requires-3 c κs = search needs
 
--- src/main.rt:36:21
 map-bytes-requires : tie.Need-map-bytes-requires
 map-bytes-requires c κs = search needs
 
--- src/main.rt:36:15
 add-end : tie.Need-add-end
 add-end c = search needs
 
--- src/main.rt:37:24
 slice-aggregate-put-hex : tie.Need-slice-aggregate-put-hex
 slice-aggregate-put-hex c = search needs
 
--- src/main.rt:37:37
 sub-put-hex : tie.Need-sub-put-hex
 sub-put-hex c = search needs
 
--- src/main.rt:37:37
 part-put-hex-start : tie.Need-part-put-hex-start
 part-put-hex-start c = search needs
 
--- src/main.rt:37:37
 part-put-hex-end : tie.Need-part-put-hex-end
 part-put-hex-end c = omega (arith, c .before .before .before .before .before .before .before .before .before .before .before .before .before .before .before .before .before .before .before .before .before .before .pre .room, map-fits (c .before .before .before .before .before .before .before .before .before .before .before .before .before .before .before .before .before .before .before .before .before .before .pre), c .before .map-bytes .ensures .0 [], bytes-count (c .before .before .before .before .before .before .before .before .before .before .before .before .before .before .before .before .before .before .before .before .before .before .args .size) [])
 
--- src/main.rt:37:5
 put-hex-requires : tie.Need-put-hex-requires
 put-hex-requires c κs = search needs
 
--- src/main.rt:38:20
 slice-aggregate-put-4 : tie.Need-slice-aggregate-put-4
 slice-aggregate-put-4 c = search needs
 
--- src/main.rt:38:5
 put-requires-4 : tie.Need-put-requires-4
 put-requires-4 c κs = search needs
 
--- src/main.rt:40:38
 sub-write-all : tie.Need-sub-write-all
 sub-write-all c = search needs
 
--- src/main.rt:40:38
 part-write-all-start : tie.Need-part-write-all-start
 part-write-all-start c = search needs
 
--- src/main.rt:40:38
 part-write-all-end : tie.Need-part-write-all-end
 part-write-all-end c = search needs
 
--- src/main.rt:40:9
 write-all-requires : tie.Need-write-all-requires
 write-all-requires c κs = search needs
 
--- src/main.rt:26:1
 returns : tie.Need-returns
 returns c = search needs
 
--- src/main.rt:26:1
 returns-2 : tie.Need-returns-2
 returns-2 c = search needs
 

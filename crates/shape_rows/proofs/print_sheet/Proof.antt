@@ -2,43 +2,33 @@ use borrow.Author.Needs.{needs}
 use Rattle.shape_rows.proofs.print_sheet.Statement.{statement}
 use Rattle.shape_rows.proofs.print_sheet.Tie as tie
 
--- src/main.rt:125:11
 check-requires : tie.Need-check-requires
 check-requires c κs = search needs
 
--- src/main.rt:127:42
 enum-told : tie.Need-enum-told
 enum-told c = search needs
 
--- src/main.rt:127:42
 slice-aggregate-write-all : tie.Need-slice-aggregate-write-all
 slice-aggregate-write-all c = search needs
 
--- src/main.rt:127:13
 write-all-requires : tie.Need-write-all-requires
 write-all-requires c κs = search needs
 
--- src/main.rt:129:23
 enum-known-n : tie.Need-enum-known-n
 enum-known-n c = search needs
 
--- src/main.rt:129:29
 print-lines-requires : tie.Need-print-lines-requires
 print-lines-requires c κs = rw (c .before .before .n .given .1) at (c .before .before .before .before .before .before .check .ensures .1)
 
--- src/main.rt:124:1
 same-length : tie.Need-same-length
 same-length c = search needs
 
--- src/main.rt:124:1
 returns : tie.Need-returns
 returns c = search needs
 
--- src/main.rt:124:1
 same-length-2 : tie.Need-same-length-2
 same-length-2 c = search needs
 
--- src/main.rt:124:1
 returns-2 : tie.Need-returns-2
 returns-2 c = search needs
 

@@ -12,35 +12,27 @@ Inv-loop sheet work₀ n r count c₀ work c = Kept 49152 work₀ work
 abbrev μ-loop : tie.MeasureT-loop
 μ-loop sheet work₀ n r count c₀ work c = count - c
 
--- src/main.rt:72:9
 case-count-requires : tie.Need-case-count-requires Inv-loop μ-loop
 case-count-requires c κs = c .before .before .before .pre
 
--- src/main.rt:74:5
 loop-holds : tie.Need-loop-holds Inv-loop μ-loop
 loop-holds c = kept-all
 
--- src/main.rt:75:9
 print-variant-requires : tie.Need-print-variant-requires Inv-loop μ-loop
 print-variant-requires c κs = record { line = pick-kept (c .before .before .loop .inv) (c .before .before .before .before .before .before .before .pre); case = omega (arith, c .before .loop-test .taken, c .before .before .before .case-count .ensures .0) }
 
--- src/main.rt:76:9
 add-c : tie.Need-add-c Inv-loop μ-loop
 add-c c = record { fits = omega (arith, c .before .before .before .before .loop-test .taken, c .before .before .before .before .before .before .case-count .ensures .1) }
 
--- src/main.rt:74:5
 loop-less : tie.Need-loop-less Inv-loop μ-loop
 loop-less c = omega (arith, c .before .before .before .before .loop-test .taken)
 
--- src/main.rt:74:5
 loop-again : tie.Need-loop-again Inv-loop μ-loop
 loop-again c = kept-then (c .before .before .before .before .before .loop .inv) (c .before .before .print-variant .ensures)
 
--- src/main.rt:68:1
 same-length : tie.Need-same-length Inv-loop μ-loop
 same-length c = c .before .loop .inv .long
 
--- src/main.rt:68:1
 returns : tie.Need-returns Inv-loop μ-loop
 returns c = c .before .loop .inv
 

@@ -6,11 +6,9 @@ use denote.Ref.{now}
 use Rattle.shapes.proofs.behind_common.Statement.{statement}
 use Rattle.shapes.proofs.behind_common.Tie as tie
 
--- src/lib.rt:43:5
 place-common-requires : tie.Need-place-common-requires
 place-common-requires c κs = (pick-record (now (c .before .before .args .sheet)) (now (c .before .before .args .work)) (c .before .before .args .n) (c .before .before .args .r) (c .before .before .pre), omega arith)
 
--- src/lib.rt:38:1
 returns : tie.Need-returns
 returns c = behind-common (now (c .before .before .before .args .sheet)) (c .before .before .before .args .r) _ (c .place-common .result) refl refl (c .place-common .ensures .0) (c .place-common .ensures .1)
 

@@ -4,27 +4,21 @@ use borrow.Author.Needs.{needs}
 use Rattle.shapes.proofs.case_count.Statement.{statement}
 use Rattle.shapes.proofs.case_count.Tie as tie
 
--- src/lib.rt:24:51
 sub-number-at : tie.Need-sub-number-at
 sub-number-at c = search needs
 
--- src/lib.rt:24:9
 number-at-requires : tie.Need-number-at-requires
 number-at-requires c κs = search needs
 
--- src/lib.rt:25:38
 sub-number-at-2 : tie.Need-sub-number-at-2
 sub-number-at-2 c = search needs
 
--- src/lib.rt:25:45
 add-number-at : tie.Need-add-number-at
 add-number-at c = search needs
 
--- src/lib.rt:25:5
 number-at-requires-2 : tie.Need-number-at-requires-2
 number-at-requires-2 c κs = search needs
 
--- src/lib.rt:20:1
 returns : tie.Need-returns
 returns c = case-count (now (c .before .before .before .before .args .sheet)) (now (c .before .before .before .before .args .work)) (c .before .before .before .before .args .n) (c .before .before .before .before .args .r) (c .before .before .before .before .pre) (c .before .number-at .result) (c .before .number-at .ensures .0) (c .number-at2 .result) (c .number-at2 .ensures .0)
 

@@ -5,31 +5,24 @@ use borrow.Author.Needs.{needs}
 use Rattle.shapes.proofs.case_line.Statement.{statement}
 use Rattle.shapes.proofs.case_line.Tie as tie
 
--- src/lib.rt:33:51
 sub-number-at : tie.Need-sub-number-at
 sub-number-at c = search needs
 
--- src/lib.rt:33:9
 number-at-requires : tie.Need-number-at-requires
 number-at-requires c κs = search needs
 
--- src/lib.rt:34:38
 sub-number-at-2 : tie.Need-sub-number-at-2
 sub-number-at-2 c = search needs
 
--- src/lib.rt:34:45
 add-number-at : tie.Need-add-number-at
 add-number-at c = search needs
 
--- src/lib.rt:34:45
 add-number-at-2 : tie.Need-add-number-at-2
 add-number-at-2 c = record { fits = omega (arith, c .before .before .before .pre .case, cases-few (now (c .before .before .before .args .sheet)) (now (c .before .before .before .args .work)) (c .before .before .before .args .n) (c .before .before .before .args .r) (c .before .before .before .pre .line), c .number-at .ensures .1) }
 
--- src/lib.rt:34:5
 number-at-requires-2 : tie.Need-number-at-requires-2
 number-at-requires-2 c κs = search needs
 
--- src/lib.rt:29:1
 returns : tie.Need-returns
 returns c = case-line (now (c .before .before .before .before .args .sheet)) (now (c .before .before .before .before .args .work)) (c .before .before .before .before .args .n) (c .before .before .before .before .args .r) (c .before .before .before .before .pre .line) (c .before .number-at .result) (c .before .number-at .ensures .0) (c .before .before .before .before .args .c) (c .number-at2 .result) (c .before .before .before .before .pre .case) (c .number-at2 .ensures .0)
 

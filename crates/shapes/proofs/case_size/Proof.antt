@@ -6,15 +6,12 @@ use borrow.Author.Needs.{needs}
 use Rattle.shapes.proofs.case_size.Statement.{statement}
 use Rattle.shapes.proofs.case_size.Tie as tie
 
--- src/lib.rt:51:9
 place-case-requires : tie.Need-place-case-requires
 place-case-requires c κs = search needs
 
--- src/lib.rt:52:5
 rounded-size-requires : tie.Need-rounded-size-requires
 rounded-size-requires c κs = omega (arith, furthest-low (caseAt (now (c .before .before .before .args .sheet)) (c .before .before .before .args .k)) (c .before .before .before .args .p) (c .place-case .result) (c .place-case .ensures .0) (c .before .before .before .pre .1), c .place-case .ensures .1)
 
--- src/lib.rt:47:1
 returns : tie.Need-returns
 returns c = search needs
 

@@ -9,39 +9,30 @@ use borrow.Author.Needs.{needs}
 use Rattle.shapes.proofs.map_record.Statement.{statement}
 use Rattle.shapes.proofs.map_record.Tie as tie
 
--- src/lib.rt:127:5
 clear-map-requires : tie.Need-clear-map-requires
 clear-map-requires c κs = search needs
 
--- src/lib.rt:128:29
 sub-form-at : tie.Need-sub-form-at
 sub-form-at c = search needs
 
--- src/lib.rt:128:8
 form-at-requires : tie.Need-form-at-requires
 form-at-requires c κs = search needs
 
--- src/lib.rt:129:9
 mark-common-requires : tie.Need-mark-common-requires
 mark-common-requires c κs = (record-kept (c .before .before .before .before .before .before .clear-map .ensures .kept) (c .before .before .before .before .before .before .before .before .before .before .pre .0), room-kept (c .before .before .before .before .before .before .clear-map .ensures .kept) (c .before .before .before .before .before .before .before .before .before .before .pre .1), omega arith)
 
--- src/lib.rt:130:9
 same-length : tie.Need-same-length
 same-length c = search needs
 
--- src/lib.rt:130:9
 returns : tie.Need-returns
 returns c = made-then (c .before .before .before .before .before .before .before .before .before .before .before .before .before .pre .1) (c .before .before .before .before .before .before .before .before .before .clear-map .ensures) (adt-marks (now (c .before .before .before .before .before .before .before .before .before .before .before .before .before .args .sheet)) _ (c .before .before .before .before .before .before .before .before .before .before .before .before .before .args .n) (c .before .before .before .before .before .before .before .before .before .before .before .before .before .args .r) (c .before .before .before .before .before .before .before .before .before .before .before .before .before .args .size) (record-kept (c .before .before .before .before .before .before .before .before .before .clear-map .ensures .kept) (c .before .before .before .before .before .before .before .before .before .before .before .before .before .pre .0)) (sym (c .before .before .before .before .before .form-at .ensures) ∙ c .before .before .before .before .if1 .taken) (c .before .before .mark-common .ensures .0))
 
--- src/lib.rt:132:5
 mark-pick-requires : tie.Need-mark-pick-requires
 mark-pick-requires c κs = (else-pick (now (c .before .before .before .before .before .before .before .before .before .before .args .sheet)) _ (c .before .before .before .before .before .before .before .before .before .before .args .n) (c .before .before .before .before .before .before .before .before .before .before .args .r) (record-kept (c .before .before .before .before .before .before .clear-map .ensures .kept) (c .before .before .before .before .before .before .before .before .before .before .pre .0)) (λ e. c .before .if1 .left (c .before .before .form-at .ensures ∙ e)), room-kept (c .before .before .before .before .before .before .clear-map .ensures .kept) (c .before .before .before .before .before .before .before .before .before .before .pre .1))
 
--- src/lib.rt:123:1
 same-length-2 : tie.Need-same-length-2
 same-length-2 c = search needs
 
--- src/lib.rt:123:1
 returns-2 : tie.Need-returns-2
 returns-2 c = made-then (c .before .before .before .before .before .before .before .before .before .before .before .before .before .pre .1) (c .before .before .before .before .before .before .before .before .before .clear-map .ensures) (c .before .before .mark-pick .ensures)
 

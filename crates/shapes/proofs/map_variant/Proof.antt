@@ -9,27 +9,21 @@ use borrow.Author.Needs.{needs}
 use Rattle.shapes.proofs.map_variant.Statement.{statement}
 use Rattle.shapes.proofs.map_variant.Tie as tie
 
--- src/lib.rt:140:5
 clear-map-requires : tie.Need-clear-map-requires
 clear-map-requires c κs = search needs
 
--- src/lib.rt:141:9
 mark-common-requires : tie.Need-mark-common-requires
 mark-common-requires c κs = (pick-record (now (c .before .before .before .before .before .before .before .args .sheet)) _ (c .before .before .before .before .before .before .before .args .n) (c .before .before .before .before .before .before .before .args .r) (pick-kept (c .before .before .before .clear-map .ensures .kept) (c .before .before .before .before .before .before .before .pre .0 .line)), record { room = room-kept (c .before .before .before .clear-map .ensures .kept) (c .before .before .before .before .before .before .before .pre .1) .room; small = omega (arith, c .before .before .before .before .before .before .before .pre .1 .small) }, omega arith)
 
--- src/lib.rt:142:9
 case-line-requires : tie.Need-case-line-requires
 case-line-requires c κs = variant-kept (kept-then (c .before .before .before .before .before .before .before .clear-map .ensures .kept) (c .before .before .before .mark-common .ensures .0 .marks .kept)) (c .before .before .before .before .before .before .before .before .before .before .before .pre .0)
 
--- src/lib.rt:143:5
 mark-case-requires : tie.Need-mark-case-requires
 mark-case-requires c κs = (c .before .case-line .ensures .line, room-kept (kept-then (c .before .before .before .before .before .before .before .before .before .clear-map .ensures .kept) (c .before .before .before .before .before .mark-common .ensures .0 .marks .kept)) (c .before .before .before .before .before .before .before .before .before .before .before .before .before .pre .1), c .before .before .before .before .before .mark-common .ensures .1)
 
--- src/lib.rt:136:1
 same-length : tie.Need-same-length
 same-length c = search needs
 
--- src/lib.rt:136:1
 returns : tie.Need-returns
 returns c = made-then (c .before .before .before .before .before .before .before .before .before .before .before .before .before .before .before .before .pre .1) (c .before .before .before .before .before .before .before .before .before .before .before .before .clear-map .ensures) (variant-marks (now (c .before .before .before .before .before .before .before .before .before .before .before .before .before .before .before .before .args .sheet)) _ (c .before .before .before .before .before .before .before .before .before .before .before .before .before .before .before .before .args .n) (c .before .before .before .before .before .before .before .before .before .before .before .before .before .before .before .before .args .r) (c .before .before .before .before .before .before .before .before .before .before .before .before .before .before .before .before .args .size) (c .before .before .before .before .before .before .before .before .mark-common .ensures .0) (c .before .before .before .before .case-line .ensures) (c .before .before .mark-case .ensures))
 

@@ -15,43 +15,33 @@ Inv-loop sheet work₀ n r size end count c₀ work c = CasesMarked sheet r size
 abbrev μ-loop : tie.MeasureT-loop
 μ-loop sheet work₀ n r size end count c₀ work c = count - c
 
--- src/lib.rt:112:9
 mark-common-requires : tie.Need-mark-common-requires Inv-loop μ-loop
 mark-common-requires c κs = (pick-record (now (c .before .before .before .args .sheet)) (now (c .before .before .before .args .work)) (c .before .before .before .args .n) (c .before .before .before .args .r) (c .before .before .before .pre .0), c .before .before .before .pre .1, omega arith)
 
--- src/lib.rt:113:9
 case-count-requires : tie.Need-case-count-requires Inv-loop μ-loop
 case-count-requires c κs = pick-kept (c .before .before .before .mark-common .ensures .0 .marks .kept) (c .before .before .before .before .before .before .before .pre .0)
 
--- src/lib.rt:115:5
 loop-holds : tie.Need-loop-holds Inv-loop μ-loop
 loop-holds c = cases-marked-start (now (c .before .before .before .before .before .before .before .before .args .sheet)) (c .before .before .before .before .before .before .before .before .args .r) (c .before .before .before .before .before .before .before .before .args .size)
 
--- src/lib.rt:116:13
 case-line-requires : tie.Need-case-line-requires Inv-loop μ-loop
 case-line-requires c κs = record { line = pick-kept (kept-then (c .before .before .before .before .before .before .before .mark-common .ensures .0 .marks .kept) (c .before .before .loop .inv .marks .kept)) (c .before .before .before .before .before .before .before .before .before .before .before .pre .0); case = omega (arith, c .before .loop-test .taken, c .before .before .before .case-count .ensures .0) }
 
--- src/lib.rt:117:9
 mark-case-requires : tie.Need-mark-case-requires Inv-loop μ-loop
 mark-case-requires c κs = (c .before .case-line .ensures .line, room-kept (kept-then (c .before .before .before .before .before .before .before .before .before .mark-common .ensures .0 .marks .kept) (c .before .before .before .before .loop .inv .marks .kept)) (c .before .before .before .before .before .before .before .before .before .before .before .before .before .pre .1), omega (arith, c .before .before .before .before .before .before .before .before .before .mark-common .ensures .1))
 
--- src/lib.rt:118:9
 add-c : tie.Need-add-c Inv-loop μ-loop
 add-c c = record { fits = omega (arith, c .before .before .before .before .before .before .loop-test .taken, c .before .before .before .before .before .before .before .before .case-count .ensures .1) }
 
--- src/lib.rt:115:5
 loop-less : tie.Need-loop-less Inv-loop μ-loop
 loop-less c = omega (arith, c .before .before .before .before .before .before .loop-test .taken)
 
--- src/lib.rt:115:5
 loop-again : tie.Need-loop-again Inv-loop μ-loop
 loop-again c = cases-marked-next (now (c .before .before .before .before .before .before .before .before .before .before .before .before .before .before .before .before .args .sheet)) (c .before .before .before .before .before .before .before .before .before .before .before .before .before .before .before .before .args .r) (c .before .before .before .before .before .before .before .before .before .before .before .before .before .before .before .before .args .size) (c .before .before .before .before .before .before .before .loop .inv) (omega (arith, c .before .before .before .before .before .before .loop-test .taken, c .before .before .before .before .before .before .before .before .case-count .ensures .0)) (c .before .before .before .before .case-line .ensures) (c .before .before .mark-case .ensures)
 
--- src/lib.rt:108:1
 same-length : tie.Need-same-length Inv-loop μ-loop
 same-length c = kept-then (c .before .before .before .before .before .before .mark-common .ensures .0 .marks .kept) (c .before .loop .inv .marks .kept) .long
 
--- src/lib.rt:108:1
 returns : tie.Need-returns Inv-loop μ-loop
 returns c = cases-marked-end (now (c .before .before .before .before .before .before .before .before .before .before .args .sheet)) (now (c .before .before .before .before .before .before .before .before .before .before .args .work)) (c .before .before .before .before .before .before .before .before .before .before .args .n) (c .before .before .before .before .before .before .before .before .before .before .args .r) (c .before .before .before .before .before .before .before .before .before .before .args .size) (c .before .before .before .before .before .before .before .before .before .before .pre .0) (c .before .before .before .before .before .before .mark-common .ensures .0) (c .before .loop .inv) (omega (arith, c .loop-test .left, c .before .before .case-count .ensures .0))
 

@@ -11,47 +11,36 @@ Inv-loop sheet work n r p count size₀ c₀ size c = Largest sheet r size c
 abbrev μ-loop : tie.MeasureT-loop
 μ-loop sheet work n r p count size₀ c₀ size c = count - c
 
--- src/lib.rt:73:9
 behind-common-requires : tie.Need-behind-common-requires Inv-loop μ-loop
 behind-common-requires c κs = c .before .before .pre
 
--- src/lib.rt:74:9
 case-count-requires : tie.Need-case-count-requires Inv-loop μ-loop
 case-count-requires c κs = c .before .before .before .pre
 
--- src/lib.rt:75:9
 rounded-size-requires : tie.Need-rounded-size-requires Inv-loop μ-loop
 rounded-size-requires c κs = omega (arith, c .before .behind-common .ensures .within, c .before .behind-common .ensures .small)
 
--- src/lib.rt:77:5
 loop-holds : tie.Need-loop-holds Inv-loop μ-loop
 loop-holds c = largest-start (now (c .before .before .before .before .before .args .sheet)) (now (c .before .before .before .before .before .args .work)) (c .before .before .before .before .before .args .n) (c .before .before .before .before .before .args .r) (c .before .before .before .before .before .pre) (c .rounded-size .result) (c .before .before .behind-common .result) (c .before .before .behind-common .ensures) (c .rounded-size .ensures)
 
--- src/lib.rt:78:13
 case-line-requires : tie.Need-case-line-requires Inv-loop μ-loop
 case-line-requires c κs = record { line = c .before .before .before .before .before .before .before .pre; case = omega (arith, c .loop-test .taken, c .before .before .before .case-count .ensures .0) }
 
--- src/lib.rt:79:36
 case-size-requires : tie.Need-case-size-requires Inv-loop μ-loop
 case-size-requires c κs = (c .case-line .ensures .line, c .before .before .before .before .before .behind-common .ensures .within, c .before .before .before .before .before .behind-common .ensures .small)
 
--- src/lib.rt:79:9
 larger-requires : tie.Need-larger-requires Inv-loop μ-loop
 larger-requires c κs = tt
 
--- src/lib.rt:80:9
 add-c : tie.Need-add-c Inv-loop μ-loop
 add-c c = record { fits = omega (arith, c .before .before .before .loop-test .taken, c .before .before .before .before .before .before .case-count .ensures .1) }
 
--- src/lib.rt:77:5
 loop-less : tie.Need-loop-less Inv-loop μ-loop
 loop-less c = omega (arith, c .before .before .before .loop-test .taken)
 
--- src/lib.rt:77:5
 loop-again : tie.Need-loop-again Inv-loop μ-loop
 loop-again c = largest-next (now (c .before .before .before .before .before .before .before .before .before .before .args .sheet)) (now (c .before .before .before .before .before .before .before .before .before .before .args .work)) (c .before .before .before .before .before .before .before .before .before .before .args .n) (c .before .before .before .before .before .before .before .before .before .before .args .r) (c .before .before .before .before .before .before .before .before .before .before .pre) (c .before .before .before .before .loop .size) (c .before .case-size .result) (c .larger .result) (c .before .before .before .before .loop .c) (c .before .before .before .before .loop .inv) (omega (arith, c .before .before .before .loop-test .taken, c .before .before .before .before .before .before .case-count .ensures .0)) (variant-size (now (c .before .before .before .before .before .before .before .before .before .before .args .sheet)) (now (c .before .before .before .before .before .before .before .before .before .before .args .work)) (c .before .before .before .before .before .before .before .before .before .before .args .n) (c .before .before .before .before .before .before .before .before .before .before .args .r) (c .before .before .before .before .loop .c) (c .before .before .case-line .result) (c .before .case-size .result) (c .before .before .before .before .before .before .before .behind-common .result) (c .before .before .before .before .before .before .before .behind-common .ensures) (c .before .before .case-line .ensures) (c .before .case-size .ensures)) (c .larger .ensures)
 
--- src/lib.rt:69:1
 returns : tie.Need-returns Inv-loop μ-loop
 returns c = largest-end (now (c .before .before .before .before .before .before .before .args .sheet)) (now (c .before .before .before .before .before .before .before .args .work)) (c .before .before .before .before .before .before .before .args .n) (c .before .before .before .before .before .before .before .args .r) (c .before .before .before .before .before .before .before .pre) (c .before .loop .size) (c .before .loop .c) (c .before .loop .inv) (omega (arith, c .loop-test .left, c .before .before .before .case-count .ensures .0))
 

@@ -5,27 +5,21 @@ use borrow.Author.Needs.{needs}
 use Rattle.shapes.proofs.record_size.Statement.{statement}
 use Rattle.shapes.proofs.record_size.Tie as tie
 
--- src/lib.rt:90:29
 sub-form-at : tie.Need-sub-form-at
 sub-form-at c = search needs
 
--- src/lib.rt:90:8
 form-at-requires : tie.Need-form-at-requires
 form-at-requires c κs = search needs
 
--- src/lib.rt:91:9
 adt-size-requires : tie.Need-adt-size-requires
 adt-size-requires c κs = (c .before .before .before .before .pre, sym (c .before .form-at .ensures) ∙ c .if1 .taken)
 
--- src/lib.rt:91:9
 returns : tie.Need-returns
 returns c = search needs
 
--- src/lib.rt:93:5
 pick-size-requires : tie.Need-pick-size-requires
 pick-size-requires c κs = else-pick (now (c .before .before .before .before .args .sheet)) (now (c .before .before .before .before .args .work)) (c .before .before .before .before .args .n) (c .before .before .before .before .args .r) (c .before .before .before .before .pre) (λ e. c .if1 .left (c .before .form-at .ensures ∙ e))
 
--- src/lib.rt:86:1
 returns-2 : tie.Need-returns-2
 returns-2 c = search needs
 

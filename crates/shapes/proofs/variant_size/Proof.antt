@@ -4,19 +4,15 @@ use borrow.Author.Needs.{needs}
 use Rattle.shapes.proofs.variant_size.Statement.{statement}
 use Rattle.shapes.proofs.variant_size.Tie as tie
 
--- src/lib.rt:101:9
 behind-common-requires : tie.Need-behind-common-requires
 behind-common-requires c κs = search needs
 
--- src/lib.rt:102:31
 case-line-requires : tie.Need-case-line-requires
 case-line-requires c κs = search needs
 
--- src/lib.rt:102:5
 case-size-requires : tie.Need-case-size-requires
 case-size-requires c κs = search needs
 
--- src/lib.rt:97:1
 returns : tie.Need-returns
 returns c = variant-size (now (c .before .before .before .before .before .args .sheet)) (now (c .before .before .before .before .before .args .work)) (c .before .before .before .before .before .args .n) (c .before .before .before .before .before .args .r) (c .before .before .before .before .before .args .c) (c .before .case-line .result) (c .case-size .result) (c .before .before .behind-common .result) (c .before .before .behind-common .ensures) (c .before .case-line .ensures) (c .case-size .ensures)
 

@@ -66,7 +66,6 @@ tuple-size-align-Inv-loop sheet work n r count t₀ j₀ t j = Measuring sheet r
 abbrev tuple-size-align-μ-loop : tuple-size-align-lts.MeasureT-loop
 tuple-size-align-μ-loop sheet work n r count t₀ j₀ t j = count - j
 
--- src/lib.rt:85:50
 tuple-size-align-sub-number-at : (t : ℕ) → tuple-size-align-lts.Need-sub-number-at (
   number-at-reads.Asked,
   number-at-reads.Learnt,
@@ -79,7 +78,6 @@ tuple-size-align-sub-number-at : (t : ℕ) → tuple-size-align-lts.Need-sub-num
 ) (tuple-size-align-at t) tuple-size-align.Post tuple-size-align-Inv-loop tuple-size-align-μ-loop
 tuple-size-align-sub-number-at t c = c .before .before .pre .1 .line .first
 
--- src/lib.rt:85:9
 tuple-size-align-number-at-requires : (t : ℕ) → tuple-size-align-lts.Need-number-at-requires (
   number-at-reads.Asked,
   number-at-reads.Learnt,
@@ -92,7 +90,6 @@ tuple-size-align-number-at-requires : (t : ℕ) → tuple-size-align-lts.Need-nu
 ) (tuple-size-align-at t) tuple-size-align.Post tuple-size-align-Inv-loop tuple-size-align-μ-loop
 tuple-size-align-number-at-requires t c κs = (c .before .before .pre .1 .line .checked .whole, in-sheet (now (c .before .before .args .sheet)) (now (c .before .before .args .work)) (c .before .before .args .n) (c .before .before .args .r) (c .before .before .pre .1 .line))
 
--- src/lib.rt:88:5
 tuple-size-align-loop-holds : (t : ℕ) → tuple-size-align-lts.Need-loop-holds (
   number-at-reads.Asked,
   number-at-reads.Learnt,
@@ -105,7 +102,6 @@ tuple-size-align-loop-holds : (t : ℕ) → tuple-size-align-lts.Need-loop-holds
 ) (tuple-size-align-at t) tuple-size-align.Post tuple-size-align-Inv-loop tuple-size-align-μ-loop
 tuple-size-align-loop-holds t c = measuring-start (now (c .before .before .before .args .sheet)) (now (c .before .before .before .args .work)) (c .before .before .before .args .n) (c .before .before .before .args .r) (c .before .before .before .pre .1) (c .number-at .result) (c .number-at .ensures .0)
 
--- src/lib.rt:89:9
 tuple-size-align-add-j : (t : ℕ) → tuple-size-align-lts.Need-add-j (
   number-at-reads.Asked,
   number-at-reads.Learnt,
@@ -118,7 +114,6 @@ tuple-size-align-add-j : (t : ℕ) → tuple-size-align-lts.Need-add-j (
 ) (tuple-size-align-at t) tuple-size-align.Post tuple-size-align-Inv-loop tuple-size-align-μ-loop
 tuple-size-align-add-j t c = record { fits = omega (arith, c .loop-test .taken, c .before .before .number-at .ensures .1) }
 
--- src/lib.rt:90:82
 tuple-size-align-sub-number-at-2 : (t : ℕ) → tuple-size-align-lts.Need-sub-number-at-2 (
   number-at-reads.Asked,
   number-at-reads.Learnt,
@@ -131,7 +126,6 @@ tuple-size-align-sub-number-at-2 : (t : ℕ) → tuple-size-align-lts.Need-sub-n
 ) (tuple-size-align-at t) tuple-size-align.Post tuple-size-align-Inv-loop tuple-size-align-μ-loop
 tuple-size-align-sub-number-at-2 t c = c .before .before .before .before .before .pre .1 .line .first
 
--- src/lib.rt:90:49
 tuple-size-align-number-at-requires-2 : (t : ℕ) → tuple-size-align-lts.Need-number-at-requires-2 (
   number-at-reads.Asked,
   number-at-reads.Learnt,
@@ -144,7 +138,6 @@ tuple-size-align-number-at-requires-2 : (t : ℕ) → tuple-size-align-lts.Need-
 ) (tuple-size-align-at t) tuple-size-align.Post tuple-size-align-Inv-loop tuple-size-align-μ-loop
 tuple-size-align-number-at-requires-2 t c κs = (c .before .before .before .before .before .pre .1 .line .checked .whole, in-sheet (now (c .before .before .before .before .before .args .sheet)) (now (c .before .before .before .before .before .args .work)) (c .before .before .before .before .before .args .n) (c .before .before .before .before .before .args .r) (c .before .before .before .before .before .pre .1 .line))
 
--- src/lib.rt:90:13
 tuple-size-align-type-size-align-requires :
     (t : ℕ) → tuple-size-align-lts.Need-type-size-align-requires (
       number-at-reads.Asked,
@@ -162,7 +155,6 @@ tuple-size-align-type-size-align-requires :
     tuple-size-align-μ-loop
 tuple-size-align-type-size-align-requires t c κs = (omega (arith, c .before .before .before .before .before .before .pre .0, field-before (now (c .before .before .before .before .before .before .args .sheet)) (now (c .before .before .before .before .before .before .args .work)) (c .before .before .before .before .before .before .args .n) (c .before .before .before .before .before .before .args .r) (c .before .before .before .before .before .before .pre .1) (c .before .before .before .number-at .result) (c .before .before .before .number-at .ensures .0) (c .before .before .loop .t .size) (c .before .before .loop .t .align) (c .before .before .loop .j) (c .before .before .loop .inv) (c .before .loop-test .taken) (c .number-at2 .result) (c .number-at2 .ensures .0)), field-line (now (c .before .before .before .before .before .before .args .sheet)) (now (c .before .before .before .before .before .before .args .work)) (c .before .before .before .before .before .before .args .n) (c .before .before .before .before .before .before .args .r) (c .before .before .before .before .before .before .pre .1) (c .before .before .before .number-at .result) (c .before .before .before .number-at .ensures .0) (c .before .before .loop .t .size) (c .before .before .loop .t .align) (c .before .before .loop .j) (c .before .before .loop .inv) (c .before .loop-test .taken) (c .number-at2 .result) (c .number-at2 .ensures .0))
 
--- src/lib.rt:91:9
 tuple-size-align-behind-requires : (t : ℕ) → tuple-size-align-lts.Need-behind-requires (
   number-at-reads.Asked,
   number-at-reads.Learnt,
@@ -175,7 +167,6 @@ tuple-size-align-behind-requires : (t : ℕ) → tuple-size-align-lts.Need-behin
 ) (tuple-size-align-at t) tuple-size-align.Post tuple-size-align-Inv-loop tuple-size-align-μ-loop
 tuple-size-align-behind-requires t c κs = (c .before .before .before .loop .inv .small, c .type-size-align .ensures .small, c .type-size-align .ensures .low)
 
--- src/lib.rt:88:5
 tuple-size-align-loop-less : (t : ℕ) → tuple-size-align-lts.Need-loop-less (
   number-at-reads.Asked,
   number-at-reads.Learnt,
@@ -188,7 +179,6 @@ tuple-size-align-loop-less : (t : ℕ) → tuple-size-align-lts.Need-loop-less (
 ) (tuple-size-align-at t) tuple-size-align.Post tuple-size-align-Inv-loop tuple-size-align-μ-loop
 tuple-size-align-loop-less t c = omega (arith, c .before .before .before .loop-test .taken)
 
--- src/lib.rt:88:5
 tuple-size-align-loop-again : (t : ℕ) → tuple-size-align-lts.Need-loop-again (
   number-at-reads.Asked,
   number-at-reads.Learnt,
@@ -201,7 +191,6 @@ tuple-size-align-loop-again : (t : ℕ) → tuple-size-align-lts.Need-loop-again
 ) (tuple-size-align-at t) tuple-size-align.Post tuple-size-align-Inv-loop tuple-size-align-μ-loop
 tuple-size-align-loop-again t c = measuring-next (now (c .before .before .before .before .before .before .before .before .args .sheet)) (now (c .before .before .before .before .before .before .before .before .args .work)) (c .before .before .before .before .before .before .before .before .args .n) (c .before .before .before .before .before .before .before .before .args .r) (c .before .before .before .before .before .before .before .before .pre .1) (c .before .before .before .before .before .number-at .result) (c .before .before .before .before .before .number-at .ensures .0) (c .before .before .before .before .loop .t .size) (c .before .before .before .before .loop .t .align) (c .before .before .before .before .loop .j) (c .before .before .before .before .loop .inv) (c .before .before .before .loop-test .taken) (c .before .before .number-at2 .result) (c .before .before .number-at2 .ensures .0) (c .before .type-size-align .result .size) (c .before .type-size-align .result .align) (c .behind .result .size) (c .behind .result .align) (c .before .type-size-align .ensures) (c .behind .ensures .0) (c .behind .ensures .1)
 
--- src/lib.rt:94:15
 tuple-size-align-rounded-size-requires : (t : ℕ) → tuple-size-align-lts.Need-rounded-size-requires (
   number-at-reads.Asked,
   number-at-reads.Learnt,
@@ -214,7 +203,6 @@ tuple-size-align-rounded-size-requires : (t : ℕ) → tuple-size-align-lts.Need
 ) (tuple-size-align-at t) tuple-size-align.Post tuple-size-align-Inv-loop tuple-size-align-μ-loop
 tuple-size-align-rounded-size-requires t c κs = omega (arith, c .before .loop .inv .small)
 
--- src/lib.rt:81:1
 tuple-size-align-returns : (t : ℕ) → tuple-size-align-lts.Need-returns (
   number-at-reads.Asked,
   number-at-reads.Learnt,
@@ -227,7 +215,6 @@ tuple-size-align-returns : (t : ℕ) → tuple-size-align-lts.Need-returns (
 ) (tuple-size-align-at t) tuple-size-align.Post tuple-size-align-Inv-loop tuple-size-align-μ-loop
 tuple-size-align-returns t c = measuring-end (now (c .before .before .before .before .before .before .args .sheet)) (now (c .before .before .before .before .before .before .args .work)) (c .before .before .before .before .before .before .args .n) (c .before .before .before .before .before .before .args .r) (c .before .before .before .before .before .before .pre .1) (c .before .before .before .number-at .result) (c .before .before .before .number-at .ensures .0) (c .before .before .loop .t .size) (c .before .before .loop .t .align) (c .before .before .loop .j) (c .before .before .loop .inv) (c .before .loop-test .left) (c .rounded-size .ensures) refl
 
--- src/lib.rt:69:34
 type-size-align-sub-form-at : (t : ℕ) → type-size-align-lts.Need-sub-form-at (
   form-at-reads.Asked,
   form-at-reads.Learnt,
@@ -238,7 +225,6 @@ type-size-align-sub-form-at : (t : ℕ) → type-size-align-lts.Need-sub-form-at
 ) (type-size-align-at t) type-size-align.Post
 type-size-align-sub-form-at t c = c .before .before .pre .1 .first
 
--- src/lib.rt:69:9
 type-size-align-form-at-requires : (t : ℕ) → type-size-align-lts.Need-form-at-requires (
   form-at-reads.Asked,
   form-at-reads.Learnt,
@@ -249,7 +235,6 @@ type-size-align-form-at-requires : (t : ℕ) → type-size-align-lts.Need-form-a
 ) (type-size-align-at t) type-size-align.Post
 type-size-align-form-at-requires t c κs = (omega (arith, c .before .before .pre .1 .last, c .before .before .pre .1 .first, c .before .before .pre .1 .checked .whole .lined .few), c .before .before .pre .1 .checked .whole .room)
 
--- src/lib.rt:71:9
 type-size-align-tuple-size-align-requires :
     (t : ℕ) → type-size-align-lts.Need-tuple-size-align-requires (
       form-at-reads.Asked,
@@ -261,7 +246,6 @@ type-size-align-tuple-size-align-requires :
     ) (type-size-align-at t) type-size-align.Post
 type-size-align-tuple-size-align-requires t c κs = (omega (arith, c .before .before .before .before .pre .0), record { line = c .before .before .before .before .pre .1; form = sym (c .before .form-at .ensures) ∙ c .if1 .taken })
 
--- src/lib.rt:71:9
 type-size-align-returns : (t : ℕ) → type-size-align-lts.Need-returns (
   form-at-reads.Asked,
   form-at-reads.Learnt,
@@ -272,7 +256,6 @@ type-size-align-returns : (t : ℕ) → type-size-align-lts.Need-returns (
 ) (type-size-align-at t) type-size-align.Post
 type-size-align-returns t c = c .tuple-size-align .ensures
 
--- src/lib.rt:73:8
 type-size-align-is-long-requires : (t : ℕ) → type-size-align-lts.Need-is-long-requires (
   form-at-reads.Asked,
   form-at-reads.Learnt,
@@ -283,7 +266,6 @@ type-size-align-is-long-requires : (t : ℕ) → type-size-align-lts.Need-is-lon
 ) (type-size-align-at t) type-size-align.Post
 type-size-align-is-long-requires t c κs = search needs
 
--- src/lib.rt:74:9
 type-size-align-returns-2 : (t : ℕ) → type-size-align-lts.Need-returns-2 (
   form-at-reads.Asked,
   form-at-reads.Learnt,
@@ -294,7 +276,6 @@ type-size-align-returns-2 : (t : ℕ) → type-size-align-lts.Need-returns-2 (
 ) (type-size-align-at t) type-size-align.Post
 type-size-align-returns-2 t c = measures-plain (now (c .before .before .before .before .before .before .args .sheet)) (now (c .before .before .before .before .before .before .args .work)) (c .before .before .before .before .before .before .args .n) (c .before .before .before .before .before .before .args .r) (c .before .before .before .before .before .before .pre .1) (c .before .before .before .form-at .result) (c .before .before .before .form-at .ensures) (c .before .before .if1 .left) true (sym (c .if2 .taken) ∙ c .before .is-long .ensures)
 
--- src/lib.rt:65:1
 type-size-align-returns-3 : (t : ℕ) → type-size-align-lts.Need-returns-3 (
   form-at-reads.Asked,
   form-at-reads.Learnt,

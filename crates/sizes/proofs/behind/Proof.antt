@@ -2,23 +2,18 @@ use borrow.Author.Needs.{needs}
 use Rattle.sizes.proofs.behind.Statement.{statement}
 use Rattle.sizes.proofs.behind.Tie as tie
 
--- src/lib.rt:41:14
 align-up-requires : tie.Need-align-up-requires
 align-up-requires c κs = search needs
 
--- src/lib.rt:41:14
 cast-at : tie.Need-cast-at
 cast-at c = search needs
 
--- src/lib.rt:43:15
 add-t5 : tie.Need-add-t5
 add-t5 c = search needs
 
--- src/lib.rt:44:16
 larger-requires : tie.Need-larger-requires
 larger-requires c κs = search needs
 
--- src/lib.rt:37:1
 returns : tie.Need-returns
 returns c = search needs
 

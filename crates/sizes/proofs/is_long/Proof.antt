@@ -2,11 +2,9 @@ use borrow.Author.Tests.{eq-eqb, ne-eqb}
 use Rattle.sizes.proofs.is_long.Statement.{statement}
 use Rattle.sizes.proofs.is_long.Tie as tie
 
--- src/lib.rt:51:9
 returns : tie.Need-returns
 returns c = simp (eq-eqb _ _ (c .if1 .taken))
 
--- src/lib.rt:47:1
 returns-2 : tie.Need-returns-2
 returns-2 c = simp (ne-eqb _ _ (c .if1 .left))
 

@@ -4,15 +4,12 @@ use borrow.Author.Needs.{needs}
 use Rattle.sizes.proofs.is_pointer.Statement.{statement}
 use Rattle.sizes.proofs.is_pointer.Tie as tie
 
--- src/lib.rt:51:33
 sub-form-at : tie.Need-sub-form-at
 sub-form-at c = search needs
 
--- src/lib.rt:51:12
 form-at-requires : tie.Need-form-at-requires
 form-at-requires c κs = search needs
 
--- src/lib.rt:47:1
 returns : tie.Need-returns
 returns c = marks-first (now (c .before .before .before .args .sheet)) (now (c .before .before .before .args .work)) (c .before .before .before .args .n) (c .before .before .before .args .r) (c .before .before .before .pre) (c .form-at .result) (c .form-at .ensures)
 

@@ -16,31 +16,24 @@ Inv-loop sheet work n m i j₀ j = (j ≤ i) × (seen (recordedAt sheet work i .
 abbrev μ-loop : tie.MeasureT-loop
 μ-loop sheet work n m i j₀ j = i - j
 
--- src/key.rt:175:5
 loop-holds : tie.Need-loop-holds Inv-loop μ-loop
 loop-holds c = (omega arith, refl)
 
--- src/key.rt:176:12
 same-key-requires : tie.Need-same-key-requires Inv-loop μ-loop
 same-key-requires c κs = (c .before .before .before .before .pre .0 .entries _ (c .before .before .before .before .pre .1), c .before .before .before .before .pre .0 .entries _ (omega (arith, c .before .before .before .before .pre .1, c .loop-test .taken)))
 
--- src/key.rt:177:13
 returns : tie.Need-returns Inv-loop μ-loop
 returns c = seen-found (now (c .before .before .before .before .before .before .args .sheet)) (now (c .before .before .before .before .before .before .args .work)) (c .before .before .before .before .before .before .args .n) (c .before .before .before .before .before .before .args .m) (c .before .before .before .before .before .before .pre .0) (recordedAt (now (c .before .before .before .before .before .before .args .sheet)) (now (c .before .before .before .before .before .before .args .work)) (c .before .before .before .before .before .before .args .i) .key) (c .before .before .before .before .before .before .args .i) (c .before .before .before .loop .j) (c .before .before .before .before .before .before .pre .1) (c .before .before .loop-test .taken) (c .before .before .before .loop .inv .1) (c .before .same-key .ensures) (c .if1 .taken)
 
--- src/key.rt:179:9
 add-j : tie.Need-add-j Inv-loop μ-loop
 add-j c = search needs
 
--- src/key.rt:175:5
 loop-less : tie.Need-loop-less Inv-loop μ-loop
 loop-less c = omega (arith, c .before .before .loop-test .taken)
 
--- src/key.rt:175:5
 loop-again : tie.Need-loop-again Inv-loop μ-loop
 loop-again c = (omega (arith, c .before .before .loop-test .taken), seen-next (now (c .before .before .before .before .before .before .args .sheet)) (now (c .before .before .before .before .before .before .args .work)) (c .before .before .before .before .before .before .args .n) (c .before .before .before .before .before .before .args .m) (c .before .before .before .before .before .before .pre .0) (recordedAt (now (c .before .before .before .before .before .before .args .sheet)) (now (c .before .before .before .before .before .before .args .work)) (c .before .before .before .before .before .before .args .i) .key) (c .before .before .before .before .before .before .args .i) (c .before .before .before .loop .j) (c .before .before .before .before .before .before .pre .1) (c .before .before .loop-test .taken) (c .before .before .before .loop .inv .1) (c .before .same-key .ensures) (c .if1 .left))
 
--- src/key.rt:170:1
 returns-2 : tie.Need-returns-2 Inv-loop μ-loop
 returns-2 c = seen-none (now (c .before .before .before .before .args .sheet)) (now (c .before .before .before .before .args .work)) (c .before .before .before .before .args .n) (c .before .before .before .before .args .m) (c .before .before .before .before .pre .0) (recordedAt (now (c .before .before .before .before .args .sheet)) (now (c .before .before .before .before .args .work)) (c .before .before .before .before .args .i) .key) (c .before .before .before .before .args .i) (c .before .loop .j) (c .before .before .before .before .pre .1) (c .loop-test .left) (c .before .loop .inv .1)
 

@@ -3,23 +3,18 @@ use borrow.Author.Needs.{needs}
 use Rattle.records.proofs.key.line_of.Statement.{statement}
 use Rattle.records.proofs.key.line_of.Tie as tie
 
--- src/key.rt:33:5
 byte-at-requires : tie.Need-byte-at-requires
 byte-at-requires c κs = search needs
 
--- src/key.rt:33:33
 byte-at-requires-2 : tie.Need-byte-at-requires-2
 byte-at-requires-2 c κs = search needs
 
--- src/key.rt:33:27
 mul-result : tie.Need-mul-result
 mul-result c = search needs
 
--- src/key.rt:33:5
 add-result : tie.Need-add-result
 add-result c = search needs
 
--- src/key.rt:29:1
 returns : tie.Need-returns
 unfolding entryAt
 returns c = rw (c .before .byte-at .ensures .0, c .byte-at2 .ensures .0)

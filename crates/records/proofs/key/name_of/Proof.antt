@@ -6,15 +6,12 @@ use borrow.Author.Needs.{needs}
 use Rattle.records.proofs.key.name_of.Statement.{statement}
 use Rattle.records.proofs.key.name_of.Tie as tie
 
--- src/key.rt:64:39
 line-of-requires : tie.Need-line-of-requires
 line-of-requires c κs = search needs
 
--- src/key.rt:64:5
 record-name-requires : tie.Need-record-name-requires
 record-name-requires c κs = rw (c .line-of .ensures) (entry-line (now (c .before .before .before .args .sheet)) (now (c .before .before .before .args .work)) (c .before .before .before .args .n) (c .before .before .before .args .i) (c .before .before .before .pre))
 
--- src/key.rt:60:1
 returns : tie.Need-returns
 unfolding nameOf
 returns c = c .record-name .ensures ∙ rw (c .before .line-of .ensures)

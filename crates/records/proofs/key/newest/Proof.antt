@@ -13,23 +13,18 @@ Inv-loop sheet work n m key i₀ i = (i ≤ m) × (Deciding sheet key i)
 abbrev μ-loop : tie.MeasureT-loop
 μ-loop sheet work n m key i₀ i = i
 
--- src/key.rt:145:5
 loop-holds : tie.Need-loop-holds Inv-loop μ-loop
 loop-holds c = (omega arith, deciding-start (now (c .before .before .before .args .sheet)) (now (c .before .before .before .args .work)) (c .before .before .before .args .n) (c .before .before .before .args .m) (c .before .before .before .pre) (now (c .before .before .before .args .key)))
 
--- src/key.rt:146:9
 sub-i : tie.Need-sub-i Inv-loop μ-loop
 sub-i c = search needs
 
--- src/key.rt:147:12
 key-is-requires : tie.Need-key-is-requires Inv-loop μ-loop
 key-is-requires c κs = c .before .before .before .before .before .pre .entries _ (omega (arith, c .before .loop .inv .0, c .loop-test .taken))
 
--- src/key.rt:148:20
 add-result : tie.Need-add-result Inv-loop μ-loop
 add-result c = record { fits = omega (arith, c .before .before .before .loop .inv .0, c .before .before .before .before .before .before .before .pre .few) }
 
--- src/key.rt:148:13
 returns : tie.Need-returns Inv-loop μ-loop
 returns c =
     let z : c .before .before .before .loop .i ≡ suc (c .before .before .before .loop .i - 1) = omega (arith, c .before .before .loop-test .taken) in
@@ -37,18 +32,15 @@ returns c =
     newest-found (now (c .before .before .before .before .before .before .before .args .sheet)) (now (c .before .before .before .before .before .before .before .args .work)) (c .before .before .before .before .before .before .before .args .n) (c .before .before .before .before .before .before .before .args .m) (c .before .before .before .before .before .before .before .pre) (now (c .before .before .before .before .before .before .before .args .key)) (c .before .before .before .loop .i - 1) _ h (omega arith)
     (deciding-found (now (c .before .before .before .before .before .before .before .args .sheet)) (now (c .before .before .before .before .before .before .before .args .work)) (c .before .before .before .before .before .before .before .args .n) (c .before .before .before .before .before .before .before .args .m) (c .before .before .before .before .before .before .before .pre) (now (c .before .before .before .before .before .before .before .args .key)) (c .before .before .before .loop .i - 1) h (rw z at (c .before .before .before .loop .inv .1)) (c .before .key-is .ensures) (c .if1 .taken))
 
--- src/key.rt:145:5
 loop-less : tie.Need-loop-less Inv-loop μ-loop
 loop-less c = omega (arith, c .before .before .loop-test .taken)
 
--- src/key.rt:145:5
 loop-again : tie.Need-loop-again Inv-loop μ-loop
 loop-again c =
     let z : c .before .before .before .loop .i ≡ suc (c .before .before .before .loop .i - 1) = omega (arith, c .before .before .loop-test .taken) in
     let h : c .before .before .before .loop .i - 1 < c .before .before .before .before .before .before .before .args .m = omega (arith, c .before .before .before .loop .inv .0, c .before .before .loop-test .taken) in
     (omega arith, deciding-next (now (c .before .before .before .before .before .before .before .args .sheet)) (now (c .before .before .before .before .before .before .before .args .work)) (c .before .before .before .before .before .before .before .args .n) (c .before .before .before .before .before .before .before .args .m) (c .before .before .before .before .before .before .before .pre) (now (c .before .before .before .before .before .before .before .args .key)) (c .before .before .before .loop .i - 1) h (rw z at (c .before .before .before .loop .inv .1)) (c .before .key-is .ensures) (c .if1 .left))
 
--- src/key.rt:140:1
 returns-2 : tie.Need-returns-2 Inv-loop μ-loop
 returns-2 c =
     let z : c .before .loop .i ≡ 0 = omega (arith, c .loop-test .left) in

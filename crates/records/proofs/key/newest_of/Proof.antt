@@ -13,41 +13,33 @@ Inv-loop sheet work n m i j₀ j = (i < j) × (j ≤ m) × (Deciding sheet (reco
 abbrev μ-loop : tie.MeasureT-loop
 μ-loop sheet work n m i j₀ j = j
 
--- src/key.rt:160:5
 loop-holds : tie.Need-loop-holds Inv-loop μ-loop
 loop-holds c = (c .before .before .pre .1, omega arith, deciding-start (now (c .before .before .args .sheet)) (now (c .before .before .args .work)) (c .before .before .args .n) (c .before .before .args .m) (c .before .before .pre .0) (recordedAt (now (c .before .before .args .sheet)) (now (c .before .before .args .work)) (c .before .before .args .i) .key))
 
--- src/key.rt:160:11
 add-loop : tie.Need-add-loop Inv-loop μ-loop
 add-loop c = record { fits = omega (arith, c .before .before .before .pre .1, c .before .before .before .pre .0 .few) }
 
--- src/key.rt:161:9
 sub-j : tie.Need-sub-j Inv-loop μ-loop
 sub-j c = omega (arith, c .loop-test .taken)
 
--- src/key.rt:162:12
 same-key-requires : tie.Need-same-key-requires Inv-loop μ-loop
 same-key-requires c κs = (c .before .before .before .before .pre .0 .entries _ (c .before .before .before .before .pre .1), c .before .before .before .before .pre .0 .entries _ (omega (arith, c .before .loop .inv .1, c .loop-test .taken)))
 
--- src/key.rt:163:13
 returns : tie.Need-returns Inv-loop μ-loop
 returns c =
     let z : c .before .before .before .loop .j ≡ suc (c .before .before .before .loop .j - 1) = omega (arith, c .before .before .loop-test .taken) in
     let h : c .before .before .before .loop .j - 1 < c .before .before .before .before .before .before .args .m = omega (arith, c .before .before .before .loop .inv .1, c .before .before .loop-test .taken) in
     record { low = h; last = deciding-found (now (c .before .before .before .before .before .before .args .sheet)) (now (c .before .before .before .before .before .before .args .work)) (c .before .before .before .before .before .before .args .n) (c .before .before .before .before .before .before .args .m) (c .before .before .before .before .before .before .pre .0) (recordedAt (now (c .before .before .before .before .before .before .args .sheet)) (now (c .before .before .before .before .before .before .args .work)) (c .before .before .before .before .before .before .args .i) .key) (c .before .before .before .loop .j - 1) h (rw z at (c .before .before .before .loop .inv .2)) (c .before .same-key .ensures) (c .if1 .taken) }
 
--- src/key.rt:160:5
 loop-less : tie.Need-loop-less Inv-loop μ-loop
 loop-less c = omega (arith, c .before .before .loop-test .taken)
 
--- src/key.rt:160:5
 loop-again : tie.Need-loop-again Inv-loop μ-loop
 loop-again c =
     let z : c .before .before .before .loop .j ≡ suc (c .before .before .before .loop .j - 1) = omega (arith, c .before .before .loop-test .taken) in
     let h : c .before .before .before .loop .j - 1 < c .before .before .before .before .before .before .args .m = omega (arith, c .before .before .before .loop .inv .1, c .before .before .loop-test .taken) in
     (omega (arith, c .before .before .loop-test .taken), omega arith, deciding-next (now (c .before .before .before .before .before .before .args .sheet)) (now (c .before .before .before .before .before .before .args .work)) (c .before .before .before .before .before .before .args .n) (c .before .before .before .before .before .before .args .m) (c .before .before .before .before .before .before .pre .0) (recordedAt (now (c .before .before .before .before .before .before .args .sheet)) (now (c .before .before .before .before .before .before .args .work)) (c .before .before .before .before .before .before .args .i) .key) (c .before .before .before .loop .j - 1) h (rw z at (c .before .before .before .loop .inv .2)) (c .before .same-key .ensures) (c .if1 .left))
 
--- src/key.rt:155:1
 returns-2 : tie.Need-returns-2 Inv-loop μ-loop
 returns-2 c =
     let z : c .before .loop .j ≡ suc (c .before .before .before .before .args .i) = omega (arith, c .loop-test .left, c .before .loop .inv .0) in

@@ -5,33 +5,26 @@ use borrow.Author.Needs.{needs}
 use Rattle.records.proofs.key.tag_of.Statement.{statement}
 use Rattle.records.proofs.key.tag_of.Tie as tie
 
--- src/key.rt:72:45
 line-of-requires : tie.Need-line-of-requires
 line-of-requires c κs = search needs
 
--- src/key.rt:72:63
 case-of-requires : tie.Need-case-of-requires
 case-of-requires c κs = search needs
 
--- src/key.rt:72:63
 sub-case-line : tie.Need-sub-case-line
 sub-case-line c = search needs
 
--- src/key.rt:72:9
 case-line-requires : tie.Need-case-line-requires
 case-line-requires c κs = rw (c .before .line-of .ensures, c .case-of .ensures .0) (entry-variant (now (c .before .before .before .before .args .sheet)) (now (c .before .before .before .before .args .work)) (c .before .before .before .before .args .n) (c .before .before .before .before .args .i) (c .before .before .before .before .pre .0) (c .before .before .before .before .pre .1))
 
--- src/key.rt:73:37
 position-of-requires : tie.Need-position-of-requires
 position-of-requires c κs = search needs
 
--- src/key.rt:73:5
 tag-at-requires : tie.Need-tag-at-requires
 tag-at-requires c κs =
     let x = rw (c .before .before .before .line-of .ensures, c .before .before .case-of .ensures .0) at (c .before .case-line .ensures) in
     (x .line, rw (c .position-of .ensures) (entry-tag (now (c .before .before .before .before .before .before .args .sheet)) (now (c .before .before .before .before .before .before .args .work)) (c .before .before .before .before .before .before .args .n) (c .before .before .before .before .before .before .args .i) (c .before .before .before .before .before .before .pre .0) (c .before .before .before .before .before .before .pre .1) (c .before .case-line .result) x))
 
--- src/key.rt:68:1
 returns : tie.Need-returns
 returns c =
     let x = rw (c .before .before .before .before .line-of .ensures, c .before .before .before .case-of .ensures .0) at (c .before .before .case-line .ensures) in

@@ -5,15 +5,12 @@ use borrow.Author.Needs.{needs}
 use Rattle.records.proofs.line.record_name.Statement.{statement}
 use Rattle.records.proofs.line.record_name.Tie as tie
 
--- src/line.rt:14:37
 sub-field-at : tie.Need-sub-field-at
 sub-field-at c = search needs
 
--- src/line.rt:14:5
 field-at-requires : tie.Need-field-at-requires
 field-at-requires c κs = search needs
 
--- src/line.rt:10:1
 returns : tie.Need-returns
 returns c = c .field-at .ensures ∙ sym (name-is (now (c .before .before .before .args .sheet)) (now (c .before .before .before .args .work)) (c .before .before .before .args .n) (c .before .before .before .args .r) (c .before .before .before .pre))
 

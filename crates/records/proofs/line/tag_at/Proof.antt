@@ -6,19 +6,15 @@ use borrow.Author.Needs.{needs}
 use Rattle.records.proofs.line.tag_at.Statement.{statement}
 use Rattle.records.proofs.line.tag_at.Tie as tie
 
--- src/line.rt:48:37
 sub-field-at : tie.Need-sub-field-at
 sub-field-at c = search needs
 
--- src/line.rt:48:44
 add-field-at : tie.Need-add-field-at
 add-field-at c = record { fits = omega (arith, c .before .before .pre .1, tags-few (now (c .before .before .args .sheet)) (now (c .before .before .args .work)) (c .before .before .args .n) (c .before .before .args .v) (c .before .before .pre .0)) }
 
--- src/line.rt:48:5
 field-at-requires : tie.Need-field-at-requires
 field-at-requires c κs = search needs
 
--- src/line.rt:44:1
 returns : tie.Need-returns
 returns c = c .field-at .ensures ∙ sym (tag-is (now (c .before .before .before .args .sheet)) (now (c .before .before .before .args .work)) (c .before .before .before .args .n) (c .before .before .before .args .v) (c .before .before .before .pre .0) (c .before .before .before .args .p) (c .before .before .before .pre .1))
 

@@ -4,15 +4,12 @@ use borrow.Author.Needs.{needs}
 use Rattle.records.proofs.line.tag_count.Statement.{statement}
 use Rattle.records.proofs.line.tag_count.Tie as tie
 
--- src/line.rt:40:38
 sub-number-at : tie.Need-sub-number-at
 sub-number-at c = search needs
 
--- src/line.rt:40:5
 number-at-requires : tie.Need-number-at-requires
 number-at-requires c κs = search needs
 
--- src/line.rt:36:1
 returns : tie.Need-returns
 returns c = tags-count (now (c .before .before .before .args .sheet)) (now (c .before .before .before .args .work)) (c .before .before .before .args .n) (c .before .before .before .args .v) (c .before .before .before .pre) (c .number-at .result) (c .number-at .ensures .0)
 

@@ -5,39 +5,30 @@ use borrow.Author.Needs.{needs}
 use Rattle.shapes.proofs.fields.mark_case.Statement.{statement}
 use Rattle.shapes.proofs.fields.mark_case.Tie as tie
 
--- src/fields.rt:100:47
 sub-number-at : tie.Need-sub-number-at
 sub-number-at c = search needs
 
--- src/fields.rt:100:14
 number-at-requires : tie.Need-number-at-requires
 number-at-requires c κs = search needs
 
--- src/fields.rt:100:14
 add-at : tie.Need-add-at
 add-at c = search needs
 
--- src/fields.rt:101:50
 sub-number-at-2 : tie.Need-sub-number-at-2
 sub-number-at-2 c = search needs
 
--- src/fields.rt:101:9
 number-at-requires-2 : tie.Need-number-at-requires-2
 number-at-requires-2 c κs = search needs
 
--- src/fields.rt:102:36
 add-mark-fields : tie.Need-add-mark-fields
 add-mark-fields c = search needs
 
--- src/fields.rt:102:5
 mark-fields-requires : tie.Need-mark-fields-requires
 mark-fields-requires c κs = (case-refs (now (c .before .before .before .before .before .before .before .args .sheet)) (now (c .before .before .before .before .before .before .before .args .work)) (c .before .before .before .before .before .before .before .args .n) (c .before .before .before .before .before .before .before .args .r) (c .before .before .before .before .before .before .before .pre .0) (c .before .before .before .number-at .result) (c .before .before .before .number-at .ensures .0) (c .before .number-at2 .result) (c .before .number-at2 .ensures .0), c .before .before .before .before .before .before .before .pre .1, omega (arith, c .before .before .before .before .before .before .before .pre .2))
 
--- src/fields.rt:96:1
 same-length : tie.Need-same-length
 same-length c = search needs
 
--- src/fields.rt:96:1
 returns : tie.Need-returns
 returns c = rw (case-is (now (c .before .before .before .before .before .before .before .before .before .before .args .sheet)) (now (c .before .before .before .before .before .before .before .before .before .before .args .work)) (c .before .before .before .before .before .before .before .before .before .before .args .n) (c .before .before .before .before .before .before .before .before .before .before .args .r) (c .before .before .before .before .before .before .before .before .before .before .pre .0) (c .before .before .before .before .before .before .number-at .result) (c .before .before .before .before .before .before .number-at .ensures .0) (c .before .before .before .before .number-at2 .result) (c .before .before .before .before .number-at2 .ensures .0)) (c .before .before .mark-fields .ensures .0)
 

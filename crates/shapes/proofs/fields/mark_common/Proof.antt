@@ -5,23 +5,18 @@ use borrow.Author.Needs.{needs}
 use Rattle.shapes.proofs.fields.mark_common.Statement.{statement}
 use Rattle.shapes.proofs.fields.mark_common.Tie as tie
 
--- src/fields.rt:91:50
 sub-number-at : tie.Need-sub-number-at
 sub-number-at c = search needs
 
--- src/fields.rt:91:9
 number-at-requires : tie.Need-number-at-requires
 number-at-requires c κs = search needs
 
--- src/fields.rt:92:5
 mark-fields-requires : tie.Need-mark-fields-requires
 mark-fields-requires c κs = (common-refs (now (c .before .before .before .before .before .args .sheet)) (now (c .before .before .before .before .before .args .work)) (c .before .before .before .before .before .args .n) (c .before .before .before .before .before .args .r) (c .before .before .before .before .before .pre .0) (c .before .number-at .result) (c .before .number-at .ensures .0), c .before .before .before .before .before .pre .1, omega (arith, c .before .before .before .before .before .pre .2))
 
--- src/fields.rt:87:1
 same-length : tie.Need-same-length
 same-length c = search needs
 
--- src/fields.rt:87:1
 returns : tie.Need-returns
 returns c = (rw (common-is (now (c .before .before .before .before .before .before .before .before .args .sheet)) (now (c .before .before .before .before .before .before .before .before .args .work)) (c .before .before .before .before .before .before .before .before .args .n) (c .before .before .before .before .before .before .before .before .args .r) (c .before .before .before .before .before .before .before .before .pre .0) (c .before .before .before .before .number-at .result) (c .before .before .before .before .number-at .ensures .0)) (c .before .before .mark-fields .ensures .0), omega (arith, c .before .before .mark-fields .ensures .1, c .before .before .before .before .before .before .before .before .pre .2))
 

@@ -5,15 +5,12 @@ use borrow.Author.Needs.{needs}
 use Rattle.shapes.proofs.map.bit_of.Statement.{statement}
 use Rattle.shapes.proofs.map.bit_of.Tie as tie
 
--- src/map.rt:29:13
 cast-result : tie.Need-cast-result
 cast-result c = search needs
 
--- src/map.rt:29:5
 shr-result : tie.Need-shr-result
 shr-result c = search needs
 
--- src/map.rt:26:1
 returns : tie.Need-returns
 returns c = halves (c .args .w % 8) (omega arith)
 

@@ -13,39 +13,30 @@ Inv-loop work₀ size end i₀ work i = (i ≤ end) × Clearing work₀ work i
 abbrev μ-loop : tie.MeasureT-loop
 μ-loop work₀ size end i₀ work i = end - i
 
--- src/map.rt:17:9
 map-bytes-requires : tie.Need-map-bytes-requires Inv-loop μ-loop
 map-bytes-requires c κs = tt
 
--- src/map.rt:19:5
 loop-holds : tie.Need-loop-holds Inv-loop μ-loop
 loop-holds c = (omega arith, clearing-start)
 
--- src/map.rt:20:14
 add-work : tie.Need-add-work Inv-loop μ-loop
 add-work c = omega (arith, map-fits (c .before .before .before .before .pre), c .before .before .map-bytes .ensures .0 [], bytes-count (c .before .before .before .before .args .size) [])
 
--- src/map.rt:20:9
 slice-write-work : tie.Need-slice-write-work Inv-loop μ-loop
 slice-write-work c = omega (arith, c .before .loop .inv .1 .kept .long, c .before .before .before .before .pre .room, map-fits (c .before .before .before .before .pre), c .before .before .map-bytes .ensures .0 [], bytes-count (c .before .before .before .before .args .size) [])
 
--- src/map.rt:21:9
 add-i : tie.Need-add-i Inv-loop μ-loop
 add-i c = omega arith
 
--- src/map.rt:19:5
 loop-less : tie.Need-loop-less Inv-loop μ-loop
 loop-less c = omega arith
 
--- src/map.rt:19:5
 loop-again : tie.Need-loop-again Inv-loop μ-loop
 loop-again c = (omega arith, clearing-next (c .before .loop .inv .1) (omega (arith, c .before .loop .inv .1 .kept .long, c .before .before .before .before .pre .room, map-fits (c .before .before .before .before .pre), c .before .before .map-bytes .ensures .0 [], bytes-count (c .before .before .before .before .args .size) [])))
 
--- src/map.rt:13:1
 same-length : tie.Need-same-length Inv-loop μ-loop
 same-length c = c .before .loop .inv .1 .kept .long
 
--- src/map.rt:13:1
 returns : tie.Need-returns Inv-loop μ-loop
 returns c = let e : c .before .loop .i ≡ mapLength (c .before .before .before .before .args .size) = omega (arith, c .before .before .map-bytes .ensures .0 [], bytes-count (c .before .before .before .before .args .size) []) in clearing-end (c .before .before .before .before .pre) e (c .before .loop .inv .1)
 

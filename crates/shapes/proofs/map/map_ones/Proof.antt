@@ -12,43 +12,33 @@ Inv-loop work size end count₀ i₀ count i = Counting work size count i
 abbrev μ-loop : tie.MeasureT-loop
 μ-loop work size end count₀ i₀ count i = end - i
 
--- src/map.rt:64:9
 map-bytes-requires : tie.Need-map-bytes-requires Inv-loop μ-loop
 map-bytes-requires c κs = tt
 
--- src/map.rt:67:5
 loop-holds : tie.Need-loop-holds Inv-loop μ-loop
 loop-holds c = counting-start (now (c .before .before .args .work)) (c .before .before .args .size) (c .before .before .pre)
 
--- src/map.rt:68:44
 add-ones-of : tie.Need-add-ones-of Inv-loop μ-loop
 add-ones-of c = omega (arith, map-fits (c .before .before .before .before .pre), c .before .before .map-bytes .ensures .0 [], bytes-count (c .before .before .before .before .args .size) [])
 
--- src/map.rt:68:39
 shared-slice-read-ones-of : tie.Need-shared-slice-read-ones-of Inv-loop μ-loop
 shared-slice-read-ones-of c = omega (arith, c .before .before .before .before .before .pre .room, map-fits (c .before .before .before .before .before .pre), c .before .before .before .map-bytes .ensures .0 [], bytes-count (c .before .before .before .before .before .args .size) [])
 
--- src/map.rt:68:18
 ones-of-requires : tie.Need-ones-of-requires Inv-loop μ-loop
 ones-of-requires c κs = tt
 
--- src/map.rt:68:9
 add-count : tie.Need-add-count Inv-loop μ-loop
 add-count c = omega (arith, c .before .before .before .loop .inv .few, c .before .before .before .loop .inv .within, map-fits (c .before .before .before .before .before .before .pre), c .ones-of .ensures .1)
 
--- src/map.rt:69:9
 add-i : tie.Need-add-i Inv-loop μ-loop
 add-i c = omega arith
 
--- src/map.rt:67:5
 loop-less : tie.Need-loop-less Inv-loop μ-loop
 loop-less c = omega arith
 
--- src/map.rt:67:5
 loop-again : tie.Need-loop-again Inv-loop μ-loop
 loop-again c = counting-next (now (c .before .before .before .before .before .before .args .work)) (c .before .before .before .before .before .before .args .size) (c .before .before .before .before .before .before .pre) (c .before .before .before .loop .count) (c .before .before .before .loop .i) (c .ones-of .result) (c .before .before .before .loop .inv) (omega (arith, c .before .before .before .before .map-bytes .ensures .0 [], bytes-count (c .before .before .before .before .before .before .args .size) [])) (c .ones-of .ensures .0) (c .ones-of .ensures .1)
 
--- src/map.rt:60:1
 returns : tie.Need-returns Inv-loop μ-loop
 returns c = counting-end (now (c .before .before .before .before .args .work)) (c .before .before .before .before .args .size) (c .before .before .before .before .pre) (c .before .loop .count) (c .before .loop .i) (c .before .loop .inv) (omega (arith, c .before .before .map-bytes .ensures .0 [], bytes-count (c .before .before .before .before .args .size) []))
 

@@ -5,23 +5,18 @@ use borrow.Author.Needs.{needs}
 use Rattle.shapes.proofs.map.mark.Statement.{statement}
 use Rattle.shapes.proofs.map.mark.Tie as tie
 
--- src/map.rt:54:9
 returns : tie.Need-returns
 returns c = marks-skip (c .before .before .args .off) (λ x. below-zero (c .before .before .args .size) x (c .before .before .args .off) (c .before .before .fits .off) (c .if1 .taken))
 
--- src/map.rt:56:25
 cast-mark-at : tie.Need-cast-mark-at
 cast-mark-at c = let p = plain (c .before .before .before .args .off) (c .before .before .before .fits .off) (c .before .if1 .left) in (p .sign, omega arith)
 
--- src/map.rt:56:5
 mark-at-requires : tie.Need-mark-at-requires
 mark-at-requires c κs = search needs
 
--- src/map.rt:49:1
 same-length : tie.Need-same-length
 same-length c = search needs
 
--- src/map.rt:49:1
 returns-2 : tie.Need-returns-2
 returns-2 c = rw (plain (c .before .before .before .before .before .before .args .off) (c .before .before .before .before .before .before .fits .off) (c .before .before .before .before .if1 .left) .same) (c .before .before .mark-at .ensures)
 

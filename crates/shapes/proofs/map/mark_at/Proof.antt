@@ -12,39 +12,30 @@ use borrow.Author.Needs.{needs}
 use Rattle.shapes.proofs.map.mark_at.Statement.{statement}
 use Rattle.shapes.proofs.map.mark_at.Tie as tie
 
--- src/map.rt:38:9
 returns : tie.Need-returns
 returns c = marks-skip (pos (c .before .before .args .off)) (λ x. past (c .before .before .args .size) x (c .before .before .args .off) refl (omega arith))
 
--- src/map.rt:41:9
 returns-2 : tie.Need-returns-2
 returns-2 c = marks-skip (pos (c .before .before .before .args .off)) (λ x. past (c .before .before .before .args .size) x (c .before .before .before .args .off) refl (omega arith))
 
--- src/map.rt:44:20
 cast-at : tie.Need-cast-at
 cast-at c = search needs
 
--- src/map.rt:44:14
 add-at : tie.Need-add-at
 add-at c = search needs
 
--- src/map.rt:45:16
 slice-read-work : tie.Need-slice-read-work
 slice-read-work c = search needs
 
--- src/map.rt:45:27
 bit-of-requires : tie.Need-bit-of-requires
 bit-of-requires c κs = search needs
 
--- src/map.rt:45:5
 slice-write-work : tie.Need-slice-write-work
 slice-write-work c = search needs
 
--- src/map.rt:33:1
 same-length : tie.Need-same-length
 same-length c = search needs
 
--- src/map.rt:33:1
 returns-3 : tie.Need-returns-3
 returns-3 c = marks-set (c .before .before .before .before .before .args .off) (c .before .before .before .before .before .pre) (omega arith) (ap (bitOr (getD (now (c .before .before .before .before .before .args .work)) (49152 + c .before .before .before .before .before .args .off / 4 / 8) 0)) (c .bit-of .ensures)) refl
 

@@ -5,19 +5,15 @@ use borrow.Author.Needs.{needs}
 use Rattle.sizes.proofs.place.place_common.Statement.{statement}
 use Rattle.sizes.proofs.place.place_common.Tie as tie
 
--- src/place.rt:68:50
 sub-number-at : tie.Need-sub-number-at
 sub-number-at c = search needs
 
--- src/place.rt:68:9
 number-at-requires : tie.Need-number-at-requires
 number-at-requires c κs = search needs
 
--- src/place.rt:69:5
 place-fields-requires : tie.Need-place-fields-requires
 place-fields-requires c κs = (common-refs (now (c .before .before .before .args .sheet)) (now (c .before .before .before .args .work)) (c .before .before .before .args .n) (c .before .before .before .args .r) (c .before .before .before .pre .0) (c .number-at .result) (c .number-at .ensures .0), omega (arith, c .before .before .before .pre .1))
 
--- src/place.rt:64:1
 returns : tie.Need-returns
 returns c = (rw (common-is (now (c .before .before .before .before .args .sheet)) (now (c .before .before .before .before .args .work)) (c .before .before .before .before .args .n) (c .before .before .before .before .args .r) (c .before .before .before .before .pre .0) (c .before .number-at .result) (c .before .number-at .ensures .0)) (c .place-fields .ensures .0), omega (arith, c .place-fields .ensures .1, c .before .before .before .before .pre .1))
 
