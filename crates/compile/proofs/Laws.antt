@@ -13,7 +13,7 @@ use Rattle.semantics.specs.Const.{namesOf}
 use Rattle.semantics.specs.Global.{laidVars, varsRefused, globals}
 use Rattle.semantics.specs.Types.{idOf, descriptors}
 use Rattle.semantics.specs.Listing.{constRows, globalRow, pendRow, itemRow, typeRows, useRow, listing}
-use Rattle.semantics.specs.Refusal.{Outcome, refused, zeros, worked, sourceGlobals, sourceListing}
+use Rattle.semantics.specs.Refusal.{Outcome, zeros, worked, sourceGlobals, sourceListing}
 use Rattle.write.specs.Wrote.{Wrote}
 use Rattle.write.proofs.Wrote.{wrote-as, then, on-zeros}
 use Rattle.checks.specs.Checks.{Checked}

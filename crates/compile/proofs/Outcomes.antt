@@ -6,7 +6,7 @@ use lib.ListN.{length, take}
 use lib.Seq.{take-at}
 use Rattle.semantics.specs.Text.{Bytes}
 use Rattle.semantics.specs.Sheet.{sheetSource}
-use Rattle.semantics.specs.Refusal.{Outcome, listed, refused, zeros, padded, listingBytes, worked, compiled, sourceListing}
+use Rattle.semantics.specs.Refusal.{Outcome, listed, zeros, padded, listingBytes, worked, compiled, sourceListing}
 use Rattle.checks.specs.Checks.{settled, tested, Checked, Tables}
 use Rattle.checks.specs.declared.Checks.{Checks}
 use Rattle.checks.specs.declared.Checks.the-variants as Answer

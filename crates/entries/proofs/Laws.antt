@@ -21,7 +21,6 @@ use Rattle.semantics.specs.Text.{Bytes, bigEndian, fromBigEndian}
 use Rattle.semantics.specs.Tree as Tree
 use Rattle.semantics.specs.Tree.ConstVal.{vInt, vReal, vStr}
 use Rattle.semantics.specs.Fold.{bits64, wrap}
-use Rattle.semantics.specs.Const.{entries}
 use Rattle.numbers.proofs.Widths.{held}
 use Rattle.numbers.proofs.Wrapping.{wrap-same}
 use Rattle.write.specs.Wrote.{over}

@@ -1,35 +1,25 @@
 -- Laws of the table of constants.
 use mathlib.Core.Path.{_≡_, refl, sym, ap, _∙_}
 use mathlib.Core.Bool.{Bool, true, false, cond, not, _&&_, _||_}
-use mathlib.Core.List.{List, [], _∷_, _++_, append-nil}
+use mathlib.Core.List.{List, [], _∷_, _++_}
 use mathlib.Core.Option.{Option, none, some}
 use Prim.Native.Nat.{ℕ, zero, suc, _+_, _-_, _*_, _/_, _%_, _≤_, _<_}
 use native.Mathlib.Omega.{arith}
-use native.Mathlib.Numerals.{add-one}
-use lib.Dec.{leb, ltb, eqb}
+use lib.Dec.{ltb, eqb}
 use lib.Ieee.{binary64, ofBits}
-use lib.ListN.{length, take, drop, getD, drop-of-length-le}
-use lib.Seq.{drop-cons, take-take}
+use lib.ListN.{take, drop}
+use lib.Seq.{take-take}
 use borrow.Author.Tests.{lt-ltb, eq-eqb, ne-eqb, eqb-true, not-true, not-false}
 use Rattle.semantics.specs.Text.{Bytes, same, fromBigEndian}
-use Rattle.semantics.specs.Tree.{ConstVal, Declares}
+use Rattle.semantics.specs.Tree.{ConstVal}
 use Rattle.semantics.specs.Tree.ConstVal.{vInt, vReal, vStr}
-use Rattle.semantics.specs.Form as Form
-use Rattle.semantics.specs.Sheet.{Source, sheetSource, firstOf}
+use Rattle.semantics.specs.Sheet.{sheetSource}
 use Rattle.semantics.specs.Fold.{Key, Const, signed64, plain, qualified, sameOption, lookUp, valueOf}
 use Rattle.semantics.specs.Const.{entries, implements}
-use Rattle.form.proofs.Table.{both}
-use Rattle.form.specs.Table.{kindAt}
-use Rattle.lines.specs.Lines.{textAt, readAt, nodesIn, formAt}
-use Rattle.lines.proofs.Line.{read-is, kind-is}
-use Rattle.refs.proofs.Nodes.{node-count}
 use Rattle.words.specs.Words.{wordAt, bitsAt}
 use Rattle.implement.specs.Modules.{moduleAt}
-use Rattle.checks.specs.Checks.{Checked, Kept}
+use Rattle.checks.specs.Checks.{Kept}
 use Rattle.checks.proofs.Kept.{kept-at, kept-less}
-use Rattle.source.specs.Walk.{declaresAt, declaredTo, byKind}
-use Rattle.source.proofs.Walk.{declared-all, source-of}
-use Rattle.source.proofs.Declares.{line-declares}
 use Rattle.names.specs.Table.{lineOf, moduleLineOf, valueBy, slotAt, kindOf, bitsOf, fieldAt, entriesAt, logIn, Entry, Logged, found, hasKey, answersPlain, answersQualified}
 
 -- ---- a slot by its kind and bits

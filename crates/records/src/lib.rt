@@ -2,7 +2,6 @@
 pub mod key;
 pub mod line;
 
-ghost use mathlib.Core.Path.{_≡_};
 ghost use Prim.Native.Nat.{_+_, _≤_, _<_};
 ghost use lib.ListN.{length};
 ghost use Rattle.write.specs.Wrote.{Wrote};

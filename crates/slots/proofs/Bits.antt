@@ -3,14 +3,14 @@ use mathlib.Core.Path.{_≡_, refl, sym, ap, _∙_, subst}
 use mathlib.Core.Bool.{true}
 use mathlib.Core.List.{[], _∷_, _++_, append-assoc}
 use mathlib.Core.Logic.{_⊎_, inl, inr}
-use Prim.Native.Nat.{ℕ, suc, _+_, _-_, _*_, _/_, _%_, _^_, _≤_, _<_}
+use Prim.Native.Nat.{ℕ, suc, _+_, _*_, _/_, _%_, _^_, _≤_, _<_}
 use native.Mathlib.Omega.{arith}
-use lib.Dec.{T, lit<}
+use lib.Dec.{T}
 use lib.IntN.{ℤ, pos, negsuc}
 use lib.Ieee.{Float, binary64, fits, ofBits, toBits}
 use lib.Ieee.Bits.{ofBits-toBits, toBits-lt}
 use lib.ListN.{length, take, drop, getD, set, length-append}
-use lib.Seq.{drop-cons, take-at, drop-at, getD-at, getD-set-other, length-take-le, sets-eq, length-sets}
+use lib.Seq.{take-at, drop-at, getD-at, getD-set-other, length-take-le, sets-eq, length-sets}
 use Rattle.semantics.specs.Text.{Bytes, bigEndian, fromBigEndian}
 use mir.Syntax.{w64}
 use mir.Val.{SFits}
@@ -18,7 +18,6 @@ use borrow.Author.Tests.{eq-eqb, ne-eqb}
 use Rattle.semantics.specs.Fold.{signed64, bits64, wrap}
 use Rattle.numbers.proofs.Widths.{held, from1}
 use Rattle.numbers.proofs.Wrapping.{wrap-same}
-use Rattle.text.proofs.Hexes.{bytes-grow, bytes-fit}
 use Rattle.write.specs.Wrote.{over}
 use Rattle.write.proofs.Hex.{big-length}
 use Rattle.write.proofs.Back.{word-back}

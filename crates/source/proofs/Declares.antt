@@ -1,10 +1,9 @@
 -- What a line declares, by its kind.
-use mathlib.Core.Path.{_≡_, refl, sym, ap, _∙_}
+use mathlib.Core.Path.{_≡_, refl, ap, _∙_}
 use mathlib.Core.List.{List, [], _∷_}
 use Prim.Native.Nat.{ℕ, _<_}
 use native.Mathlib.Omega.{arith}
-use lib.ListN.{getD}
-use Rattle.semantics.specs.Tree.{Node, Declares, noNode}
+use Rattle.semantics.specs.Tree.{Node}
 use Rattle.semantics.specs.Form.{Row, letter, forms, make}
 use Rattle.form.specs.Table.{rowAt}
 use Rattle.form.proofs.Table.{row-count, Each, done, _also_, each-at}

@@ -10,7 +10,6 @@ use Rattle.semantics.specs.Tree.{ConstDecl, VarDecl, Shape, Declares, Node, noN
 use Rattle.semantics.specs.Form.{nodeAt, perhapsAt, numberOf, values, exOf}
 use Rattle.semantics.specs.Form.Atom.{name, offset}
 use Rattle.semantics.specs.Sheet.{Module, Located, openAfter}
-use Rattle.lines.specs.Lines.{nodesIn}
 
 -- what line i of nodes declares, from 0
 abbrev pub declaresAt : List Node → ℕ → Declares

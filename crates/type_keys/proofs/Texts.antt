@@ -1,15 +1,8 @@
 -- When two texts are the same.
-use mathlib.Core.Path.{_≡_, refl, sym, ap, _∙_}
-use mathlib.Core.Bool.{Bool, true, false, _&&_}
+use mathlib.Core.Path.{_≡_, refl}
 use mathlib.Core.List.{List, [], _∷_, map}
-use Prim.Native.Nat.{ℕ, suc, _+_, _≤_, _<_}
-use native.Mathlib.Omega.{arith}
-use native.Mathlib.Numerals.{add-one}
-use lib.Dec.{eqb}
+use Prim.Native.Nat.{ℕ}
 use lib.IntN.{pos}
-use lib.ListN.{length, drop, getD, drop-of-length-le}
-use lib.Seq.{drop-cons}
-use borrow.Author.Tests.{ne-eqb, eq-eqb}
 use Rattle.semantics.specs.Text.{same}
 use Rattle.semantics.specs.Tree.TypeKey.{adtKey}
 use Rattle.semantics.specs.Types.{sameInts, sameTypeKey}

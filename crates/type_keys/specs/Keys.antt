@@ -5,7 +5,6 @@ use mathlib.Core.Bool.{true, _||_}
 use mathlib.Core.List.{List, [], _∷_}
 use lib.Dec.{eqb}
 use lib.IntN.{ℤ, pos, negsuc}
-use lib.ListN.{getD}
 use Rattle.semantics.specs.Text.{Bytes}
 use Rattle.semantics.specs.Tree.{Shape, TypeKey}
 use Rattle.semantics.specs.Tree.TypeKey.{opaqueKey}

@@ -6,20 +6,20 @@ pub mod used;
 
 ghost use mathlib.Core.Path.{_≡_};
 ghost use mathlib.Core.List.{List, [], _∷_, _++_};
-ghost use Prim.Native.Nat.{ℕ, _+_, _≤_, _<_};
-ghost use lib.ListN.{length, take};
+ghost use Prim.Native.Nat.{_+_, _≤_, _<_};
+ghost use lib.ListN.{length};
 ghost use Rattle.semantics.specs.Text.{Bytes};
 ghost use Rattle.semantics.specs.Sheet.{sheetSource, concatMap};
 ghost use Rattle.semantics.specs.Global.{Item};
-ghost use Rattle.semantics.specs.Types.{opaqueShape, keyShape, distinct, arrayKey, idOf, descriptors};
-ghost use Rattle.semantics.specs.Listing.{typeRows, useRow};
+ghost use Rattle.semantics.specs.Types.{opaqueShape, keyShape, distinct, arrayKey, descriptors};
+ghost use Rattle.semantics.specs.Listing.{typeRows};
 ghost use Rattle.write.specs.Wrote.{Wrote};
 ghost use Rattle.checks.specs.Checks.{Checked, Kept};
 ghost use Rattle.source.specs.Walk.{declaresAt};
 ghost use Rattle.lines.specs.Lines.{nodesIn};
 ghost use Rattle.records.specs.Log.{logOf, Logged};
 ghost use Rattle.type_keys.specs.Keys.{needAt, NeedLine};
-ghost use Rattle.type_keys.specs.Table.{Needs, Kinds};
+ghost use Rattle.type_keys.specs.Table.{Kinds};
 ghost use Rattle.type_rows.specs.declared.Next.{Next};
 ghost use Rattle.type_rows.specs.Rows.{Rowed, Wrotes, keysTo, shapesOf, Ready};
 

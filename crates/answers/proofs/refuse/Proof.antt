@@ -46,18 +46,5 @@ returns-13 c = let a = past-four 1 ((c .before .pre) .first) (c .match .rest .0 
 
 pub refuse-spec : {M : Type 1} → statement M
 refuse-spec =
-    tie.close
-    (tie.spec
-    returns
-    returns-2
-    returns-3
-    returns-4
-    returns-5
-    returns-6
-    returns-7
-    returns-8
-    returns-9
-    returns-10
-    returns-11
-    returns-12
+    tie.close (tie.spec returns returns-2 returns-3 returns-4 returns-5 returns-6 returns-7 returns-8 returns-9 returns-10 returns-11 returns-12
     returns-13)

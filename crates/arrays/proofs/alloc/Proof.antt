@@ -26,13 +26,4 @@ returns : tie.Need-returns
 returns c = alloc-answers (c .before .before .before .before .before .before .before .before .before .before .before .pre) (c .before .before .before .before .before .number-at .ensures .0) (c .before .before .before .before .before .before .before .alloc-kind .ensures) (c .before .before .before .fold-const .ensures) (c .allocated .result) (c .allocated .ensures _ .0) (c .allocated .ensures _ .1)
 
 pub alloc-spec : {M : Type 1} → statement M
-alloc-spec =
-    tie.close
-    (tie.spec
-    alloc-kind-requires
-    sub-number-at
-    number-at-requires
-    fold-const-requires
-    allocated-requires
-    same-length
-    returns)
+alloc-spec = tie.close (tie.spec alloc-kind-requires sub-number-at number-at-requires fold-const-requires allocated-requires same-length returns)

@@ -22,12 +22,4 @@ returns-2 : tie.Need-returns-2
 returns-2 c = own-kind (c .before .before .before .before .before .pre) (c .before .number-at .ensures .0) (c .before .before .if1 .left) (c .elem-kind2 .ensures .0)
 
 pub alloc-kind-spec : {M : Type 1} → statement M
-alloc-kind-spec =
-    tie.close
-    (tie.spec
-    elem-kind-requires
-    returns
-    sub-number-at
-    number-at-requires
-    elem-kind-requires-2
-    returns-2)
+alloc-kind-spec = tie.close (tie.spec elem-kind-requires returns sub-number-at number-at-requires elem-kind-requires-2 returns-2)

@@ -44,17 +44,5 @@ returns-5 c = λ t. (long-value t (Array.allocated (kindAt (c .before .before .a
 
 pub allocated-spec : {M : Type 1} → statement M
 allocated-spec =
-    tie.close
-    (tie.spec
-    enum-known-x
-    enum-known-v
-    allocated-int-requires
-    enum-told
-    enum-told-2
-    enum-told-3
-    enum-told-4
-    returns
-    returns-2
-    returns-3
-    returns-4
-    returns-5)
+    tie.close (tie.spec enum-known-x enum-known-v allocated-int-requires enum-told enum-told-2 enum-told-3 enum-told-4 returns returns-2 returns-3
+    returns-4 returns-5)

@@ -46,18 +46,5 @@ returns-6 c = λ t. long-value t asSize (c .enum-told4 .given .1)
 
 pub as-size-spec : {M : Type 1} → statement M
 as-size-spec =
-    tie.close
-    (tie.spec
-    enum-known-x
-    enum-known-v
-    returns
-    cast-t7
-    enum-told
-    enum-told-2
-    enum-told-3
-    enum-told-4
-    returns-2
-    returns-3
-    returns-4
-    returns-5
-    returns-6)
+    tie.close (tie.spec enum-known-x enum-known-v returns cast-t7 enum-told enum-told-2 enum-told-3 enum-told-4 returns-2 returns-3 returns-4
+    returns-5 returns-6)

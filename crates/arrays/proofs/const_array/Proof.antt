@@ -35,15 +35,5 @@ returns-3 c = other-line (c .before .before .before .before .before .before .pre
 
 pub const-array-spec : {M : Type 1} → statement M
 const-array-spec =
-    tie.close
-    (tie.spec
-    sub-form-at
-    form-at-requires
-    alloc-requires
-    same-length
-    returns
-    literal-requires
-    same-length-2
-    returns-2
-    same-length-3
+    tie.close (tie.spec sub-form-at form-at-requires alloc-requires same-length returns literal-requires same-length-2 returns-2 same-length-3
     returns-3)

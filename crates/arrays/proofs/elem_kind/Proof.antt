@@ -26,6 +26,4 @@ returns-4 : tie.Need-returns-4
 returns-4 c = (kind-pointer (c .before .before .before .before .before .before .pre) (c .before .before .before .form-at .ensures) (c .if3 .left), omega arith)
 
 pub elem-kind-spec : {M : Type 1} → statement M
-elem-kind-spec =
-    tie.close
-    (tie.spec sub-form-at form-at-requires returns returns-2 cast-result returns-3 returns-4)
+elem-kind-spec = tie.close (tie.spec sub-form-at form-at-requires returns returns-2 cast-result returns-3 returns-4)

@@ -26,13 +26,4 @@ returns-2 : tie.Need-returns-2
 returns-2 c = cast-is (c .before .before .before .before .before .before .pre) (c .before .before .before .form-at .ensures) (c .before .before .if1 .left) (c .before .number-at .ensures .0) (c .elem-kind .ensures .0)
 
 pub is-byte-cast-spec : {M : Type 1} → statement M
-is-byte-cast-spec =
-    tie.close
-    (tie.spec
-    sub-form-at
-    form-at-requires
-    returns
-    sub-number-at
-    number-at-requires
-    elem-kind-requires
-    returns-2)
+is-byte-cast-spec = tie.close (tie.spec sub-form-at form-at-requires returns sub-number-at number-at-requires elem-kind-requires returns-2)

@@ -59,21 +59,5 @@ returns-2 c = casting-end (c .before .before .before .before .before .pre) (c .b
 
 pub is-byte-literal-spec : {M : Type 1} → statement M
 is-byte-literal-spec =
-    tie.close
-    (tie.spec
-    Inv-loop
-    μ-loop
-    sub-number-at
-    number-at-requires
-    loop-holds
-    sub-number-at-2
-    add-number-at
-    number-at-requires-2
-    sub-number-at-3
-    number-at-requires-3
-    is-byte-cast-requires
-    returns
-    add-j
-    loop-less
-    loop-again
-    returns-2)
+    tie.close (tie.spec Inv-loop μ-loop sub-number-at number-at-requires loop-holds sub-number-at-2 add-number-at number-at-requires-2 sub-number-at-3
+    number-at-requires-3 is-byte-cast-requires returns add-j loop-less loop-again returns-2)

@@ -49,19 +49,5 @@ returns-4 c = literal-ended (c .before .before .before .before .before .before .
 
 pub literal-spec : {M : Type 1} → statement M
 literal-spec =
-    tie.close
-    (tie.spec
-    fill-requires
-    enum-known-reach
-    sized-requires
-    enum-told
-    enum-told-2
-    enum-told-3
-    same-length
-    returns
-    same-length-2
-    returns-2
-    same-length-3
-    returns-3
-    same-length-4
-    returns-4)
+    tie.close (tie.spec fill-requires enum-known-reach sized-requires enum-told enum-told-2 enum-told-3 same-length returns same-length-2 returns-2
+    same-length-3 returns-3 same-length-4 returns-4)

@@ -38,15 +38,5 @@ returns-4 c = kind-values (c .before .before .before .before .before .before .be
 
 pub literal-kind-spec : {M : Type 1} → statement M
 literal-kind-spec =
-    tie.close
-    (tie.spec
-    elem-kind-requires
-    returns
-    sub-number-at
-    number-at-requires
-    elem-kind-requires-2
-    returns-2
-    is-byte-literal-requires
-    returns-3
-    kind-of-values-requires
-    returns-4)
+    tie.close (tie.spec elem-kind-requires returns sub-number-at number-at-requires elem-kind-requires-2 returns-2 is-byte-literal-requires returns-3
+    kind-of-values-requires returns-4)

@@ -33,13 +33,4 @@ returns-2 c = (λ f e. size-given (c .before .before .before .before .before .be
 
 pub literal-size-spec : {M : Type 1} → statement M
 literal-size-spec =
-    tie.close
-    (tie.spec
-    sub-number-at
-    number-at-requires
-    same-length
-    returns
-    fold-const-requires
-    as-size-requires
-    same-length-2
-    returns-2)
+    tie.close (tie.spec sub-number-at number-at-requires same-length returns fold-const-requires as-size-requires same-length-2 returns-2)

@@ -38,16 +38,5 @@ returns-3 c = sized-long (c .before .before .before .before .before .before .bef
 
 pub sized-spec : {M : Type 1} → statement M
 sized-spec =
-    tie.close
-    (tie.spec
-    literal-size-requires
-    enum-known-size
-    measured-requires
-    enum-told
-    enum-told-2
-    same-length
-    returns
-    same-length-2
-    returns-2
-    same-length-3
-    returns-3)
+    tie.close (tie.spec literal-size-requires enum-known-size measured-requires enum-told enum-told-2 same-length returns same-length-2 returns-2
+    same-length-3 returns-3)

@@ -53,18 +53,5 @@ returns-4 c = (tested-well (now (c .before .before .before .before .before .befo
 
 pub check-spec : {M : Type 1} → statement M
 check-spec =
-    tie.close
-    (tie.spec
-    zero-requires
-    same-length
-    returns
-    same-length-2
-    returns-2
-    passes-requires
-    enum-known-n
-    enum-known-r
-    zero-requires-2
-    same-length-3
-    returns-3
-    same-length-4
-    returns-4)
+    tie.close (tie.spec zero-requires same-length returns same-length-2 returns-2 passes-requires enum-known-n enum-known-r zero-requires-2
+    same-length-3 returns-3 same-length-4 returns-4)

@@ -30,14 +30,4 @@ returns-2 : tie.Need-returns-2
 returns-2 c = let p = passed-lines (now (c .before .before .before .before .before .before .before .before .before .before .before .before .before .args .sheet)) (c .before .before .before .before .before .before .before .before .before .index .last .1 .0) (c .before .before .before .before .before .before .before .before .before .index .result) (c .before .before .before .before .before .n .given .0 .0) (c .before .before .before .before .before .n .given .1) (c .before .before .before .before .before .before .before .before .before .index .ensures .0) in (formed-well (now (c .before .before .before .before .before .before .before .before .before .before .before .before .before .args .sheet)) (c .before .before .rules .result) (p .1) (c .before .before .rules .ensures .0), c .before .before .rules .ensures .1)
 
 pub passes-spec : {M : Type 1} → statement M
-passes-spec =
-    tie.close
-    (tie.spec
-    index-requires
-    enum-known-k
-    enum-known-n
-    rules-requires
-    same-length
-    returns
-    same-length-2
-    returns-2)
+passes-spec = tie.close (tie.spec index-requires enum-known-k enum-known-n rules-requires same-length returns same-length-2 returns-2)

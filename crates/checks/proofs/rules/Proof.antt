@@ -49,19 +49,5 @@ returns-5 c = (ruled-well (now (c .before .before .before .before .before .befor
 
 pub rules-spec : {M : Type 1} → statement M
 rules-spec =
-    tie.close
-    (tie.spec
-    bad-ref-requires
-    same-length
-    returns
-    too-deep-requires
-    same-length-2
-    returns-2
-    bad-module-requires
-    same-length-3
-    returns-3
-    too-many-requires
-    same-length-4
-    returns-4
-    same-length-5
-    returns-5)
+    tie.close (tie.spec bad-ref-requires same-length returns too-deep-requires same-length-2 returns-2 bad-module-requires same-length-3 returns-3
+    too-many-requires same-length-4 returns-4 same-length-5 returns-5)

@@ -43,16 +43,5 @@ returns-2 c = compiles-refused (now (c .before .before .before .before .before .
 
 pub compile-spec : {M : Type 1} → statement M
 compile-spec =
-    tie.close
-    (tie.spec
-    list-requires
-    zero-requires
-    enum-known-r
-    enum-known-r-2
-    refuse-requires
-    same-length
-    same-length-2
-    returns
-    same-length-3
-    same-length-4
-    returns-2)
+    tie.close (tie.spec list-requires zero-requires enum-known-r enum-known-r-2 refuse-requires same-length same-length-2 returns same-length-3
+    same-length-4 returns-2)

@@ -42,16 +42,5 @@ returns-2 c = check-passed (now (c .before .before .before .before .before .befo
 
 pub list-spec : {M : Type 1} → statement M
 list-spec =
-    tie.close
-    (tie.spec
-    zero-requires
-    check-requires
-    enum-known-q
-    enum-known-n
-    list-checked-requires
-    same-length
-    same-length-2
-    returns
-    same-length-3
-    same-length-4
-    returns-2)
+    tie.close (tie.spec zero-requires check-requires enum-known-q enum-known-n list-checked-requires same-length same-length-2 returns same-length-3
+    same-length-4 returns-2)

@@ -1,4 +1,3 @@
-use native.Mathlib.Omega.{arith}
 use mathlib.Core.Path.{_∙_, ap}
 use denote.Ref.{now}
 use lib.ListN.{length}
@@ -8,10 +7,6 @@ use Rattle.compile.proofs.Outcomes.{tried-written, tried-refused}
 use borrow.Author.Needs.{needs}
 use Rattle.compile.proofs.list_checked.Statement.{statement}
 use Rattle.compile.proofs.list_checked.Tie as tie
-use Rattle.compile.proofs.list_checked.Reads as reads
-use Rattle.compile.proofs.list_checked.Lts as lts
-use Rattle.compile.proofs.list_sheet.Reads as list-sheet-reads
-use Rattle.write.proofs.zero.Reads as zero-reads
 
 list-sheet-requires : tie.Need-list-sheet-requires
 list-sheet-requires c κs = search needs
@@ -48,16 +43,5 @@ returns-2 c = tried-refused (now (c .before .before .before .before .before .bef
 
 pub list-checked-spec : {M : Type 1} → statement M
 list-checked-spec =
-    tie.close
-    (tie.spec
-    list-sheet-requires
-    enum-known-p
-    enum-known-q
-    zero-requires
-    zero-requires-2
-    same-length
-    same-length-2
-    returns
-    same-length-3
-    same-length-4
-    returns-2)
+    tie.close (tie.spec list-sheet-requires enum-known-p enum-known-q zero-requires zero-requires-2 same-length same-length-2 returns same-length-3
+    same-length-4 returns-2)

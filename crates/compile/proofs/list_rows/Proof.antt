@@ -54,19 +54,5 @@ returns-3 c = let k = c .before .before .before .before .before .before .before 
 
 pub list-rows-spec : {M : Type 1} → statement M
 list-rows-spec =
-    tie.close
-    (tie.spec
-    put-declared-requires
-    pend-rows-requires
-    enum-known-q
-    enum-known-q-2
-    put-types-requires
-    same-length
-    same-length-2
-    returns
-    same-length-3
-    same-length-4
-    returns-2
-    same-length-5
-    same-length-6
-    returns-3)
+    tie.close (tie.spec put-declared-requires pend-rows-requires enum-known-q enum-known-q-2 put-types-requires same-length same-length-2 returns
+    same-length-3 same-length-4 returns-2 same-length-5 same-length-6 returns-3)

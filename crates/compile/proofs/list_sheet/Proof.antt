@@ -37,14 +37,4 @@ returns-2 c = tries-as (now (c .before .before .before .before .before .before .
 
 pub list-sheet-spec : {M : Type 1} → statement M
 list-sheet-spec =
-    tie.close
-    (tie.spec
-    make-tables-requires
-    enum-known-k
-    enum-known-x
-    list-rows-requires
-    same-length
-    returns
-    same-length-2
-    same-length-3
-    returns-2)
+    tie.close (tie.spec make-tables-requires enum-known-k enum-known-x list-rows-requires same-length returns same-length-2 same-length-3 returns-2)

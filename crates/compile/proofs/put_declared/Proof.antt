@@ -24,12 +24,4 @@ returns : tie.Need-returns
 returns c = let k = known-kept (c .before .before .before .before .before .before .before .before .before .before .before .before .before .before .record-rows .ensures .kept) (c .before .before .before .before .before .before .before .before .before .before .before .before .before .before .before .before .before .before .before .before .pre) in (declared-rows k (c .before .before .before .before .before .before .before .before .before .before .before .before .before .before .record-rows .ensures .wrote) (c .before .before .before .before .before .before .before .const-rows .ensures) (c .before .before .global-rows .ensures), k)
 
 pub put-declared-spec : {M : Type 1} → statement M
-put-declared-spec =
-    tie.close
-    (tie.spec
-    record-rows-requires
-    const-rows-requires
-    global-rows-requires
-    same-length
-    same-length-2
-    returns)
+put-declared-spec = tie.close (tie.spec record-rows-requires const-rows-requires global-rows-requires same-length same-length-2 returns)

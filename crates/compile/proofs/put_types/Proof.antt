@@ -28,13 +28,4 @@ returns : tie.Need-returns
 returns c = let w = c .before .before .before .before .before .before .before .before .before .type-rows .ensures .0 (itemsIn (now (c .before .before .before .before .before .before .before .before .before .before .before .before .before .before .before .before .before .before .before .before .before .before .before .before .args .sheet)) (now (c .before .before .before .before .before .before .before .before .before .before .before .before .before .before .before .before .before .before .before .before .before .before .before .before .args .work)) (c .before .before .before .before .before .before .before .before .before .before .before .before .before .before .before .before .before .before .before .before .before .before .before .before .args .x .consts)) (c .before .before .before .before .before .before .before .before .before .before .before .before .before .before .before .before .data-rows .ensures .1) in (types-rows (c .before .before .before .before .before .before .before .before .before .before .before .before .before .before .before .before .before .before .before .before .before .before .before .before .pre) (c .before .before .before .before .before .before .before .before .before .before .before .before .before .before .before .before .data-rows .ensures .0) w (c .before .before .use-rows .ensures), uses-ready (c .before .before .before .before .before .before .before .before .before .before .before .before .before .before .before .before .before .before .before .before .before .before .before .before .pre) (c .before .before .before .before .before .before .before .before .before .before .before .before .before .before .before .before .before .before .before .frame-count .ensures) (c .before .before .before .before .before .before .before .before .before .before .before .before .before .before .before .before .data-rows .ensures .3) (c .before .before .before .before .before .before .before .before .before .type-rows .ensures .1) .checked)
 
 pub put-types-spec : {M : Type 1} → statement M
-put-types-spec =
-    tie.close
-    (tie.spec
-    frame-count-requires
-    data-rows-requires
-    type-rows-requires
-    use-rows-requires
-    same-length
-    same-length-2
-    returns)
+put-types-spec = tie.close (tie.spec frame-count-requires data-rows-requires type-rows-requires use-rows-requires same-length same-length-2 returns)

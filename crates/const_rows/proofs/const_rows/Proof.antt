@@ -24,12 +24,4 @@ returns : tie.Need-returns
 returns c = Laws.all-rows (now (c .before .before .before .before .before .before .before .before .before .before .before .before .before .before .before .before .args .sheet)) (now (c .before .before .before .before .before .before .before .before .before .before .before .before .before .before .before .before .args .work)) (c .before .before .before .before .before .before .before .before .before .before .before .before .before .before .before .before .args .m) (c .before .before .before .before .before .before .before .before .before .before .put-part .ensures) (c .before .before .before .before .before .before .rows .ensures) (c .before .before .rows2 .ensures)
 
 pub const-rows-spec : {M : Type 1} → statement M
-const-rows-spec =
-    tie.close
-    (tie.spec
-    slice-aggregate-put-part
-    put-part-requires
-    rows-requires
-    rows-requires-2
-    same-length
-    returns)
+const-rows-spec = tie.close (tie.spec slice-aggregate-put-part put-part-requires rows-requires rows-requires-2 same-length returns)

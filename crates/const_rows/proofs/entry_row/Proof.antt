@@ -24,12 +24,4 @@ returns-2 : tie.Need-returns-2
 returns-2 c = Laws.row-other (now (c .before .before .before .before .before .before .before .before .args .sheet)) (now (c .before .before .before .before .before .before .before .before .args .work)) (c .before .before .before .before .before .before .before .before .args .m) (c .before .before .before .before .if1 .left) (c .before .before .before .before .before .before .before .before .args .i) (c .before .before .qualified-row .ensures)
 
 pub entry-row-spec : {M : Type 1} → statement M
-entry-row-spec =
-    tie.close
-    (tie.spec
-    plain-row-requires
-    same-length
-    returns
-    qualified-row-requires
-    same-length-2
-    returns-2)
+entry-row-spec = tie.close (tie.spec plain-row-requires same-length returns qualified-row-requires same-length-2 returns-2)

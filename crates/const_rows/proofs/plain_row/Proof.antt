@@ -50,19 +50,5 @@ returns-3 c = Laws.plain-new (now (c .before .before .before .before .before .be
 
 pub plain-row-spec : {M : Type 1} → statement M
 plain-row-spec =
-    tie.close
-    (tie.spec
-    module-line-of-requires
-    is-own-requires
-    returns
-    line-of-requires
-    sub-field-at
-    field-at-requires
-    look-up-requires
-    returns-2
-    look-up-requires-2
-    slice-aggregate-put-part
-    put-part-requires
-    put-rest-requires
-    same-length
-    returns-3)
+    tie.close (tie.spec module-line-of-requires is-own-requires returns line-of-requires sub-field-at field-at-requires look-up-requires returns-2
+    look-up-requires-2 slice-aggregate-put-part put-part-requires put-rest-requires same-length returns-3)

@@ -23,5 +23,4 @@ returns : tie.Need-returns
 returns c = Laws.rest-row (now (c .before .before .before .before .before .before .before .before .before .before .before .before .before .before .before .args .name)) (row (valueFields (found (now (c .before .before .before .before .before .before .before .before .before .before .before .before .before .before .before .args .work)) (c .before .before .before .before .before .before .before .before .before .before .before .before .before .before .before .args .r)))) (c .before .before .before .before .before .before .before .before .before .before .put-part .ensures) (c .before .before .before .before .before .before .put .ensures) (c .before .before .put-value .ensures)
 
 pub put-rest-spec : {M : Type 1} → statement M
-put-rest-spec =
-    tie.close (tie.spec put-part-requires put-requires put-value-requires same-length returns)
+put-rest-spec = tie.close (tie.spec put-part-requires put-requires put-value-requires same-length returns)

@@ -121,42 +121,8 @@ returns-5 c = wrote-as (sym (Laws.shows-failed (now (c .before .before .before .
 
 pub put-value-spec : {M : Type 1} → statement M
 put-value-spec =
-    tie.close
-    (tie.spec
-    slice-aggregate-put-part
-    put-part-requires
-    same-length
-    returns
-    sub-slot-kind
-    slot-kind-requires
-    sub-slot-bits
-    slot-bits-requires
-    slice-aggregate-put-part-2
-    put-part-requires-2
-    of-bits-requires
-    put-int-requires
-    put-requires
-    same-length-2
-    returns-2
-    slice-aggregate-put-part-3
-    put-part-requires-3
-    of-bits-requires-2
-    bits-requires
-    put-word-requires
-    put-requires-2
-    same-length-3
-    returns-3
-    add-e
-    slice-aggregate-put-part-4
-    put-part-requires-4
-    sub-put-hex
-    part-put-hex-start
-    part-put-hex-end
-    put-hex-requires
-    put-requires-3
-    same-length-4
-    returns-4
-    slice-aggregate-put-part-5
-    put-part-requires-5
-    same-length-5
-    returns-5)
+    tie.close (tie.spec slice-aggregate-put-part put-part-requires same-length returns sub-slot-kind slot-kind-requires sub-slot-bits
+    slot-bits-requires slice-aggregate-put-part-2 put-part-requires-2 of-bits-requires put-int-requires put-requires same-length-2 returns-2
+    slice-aggregate-put-part-3 put-part-requires-3 of-bits-requires-2 bits-requires put-word-requires put-requires-2 same-length-3 returns-3 add-e
+    slice-aggregate-put-part-4 put-part-requires-4 sub-put-hex part-put-hex-start part-put-hex-end put-hex-requires put-requires-3 same-length-4
+    returns-4 slice-aggregate-put-part-5 put-part-requires-5 same-length-5 returns-5)

@@ -62,23 +62,6 @@ returns-3 c = Laws.qualified-new (now (c .before .before .before .before .before
 
 pub qualified-row-spec : {M : Type 1} → statement M
 qualified-row-spec =
-    tie.close
-    (tie.spec
-    module-line-of-requires
-    returns
-    sub-field-at
-    field-at-requires
-    line-of-requires
-    sub-field-at-2
-    field-at-requires-2
-    look-up-in-requires
-    returns-2
-    look-up-in-requires-2
-    slice-aggregate-put-part
-    put-part-requires
-    put-part-requires-2
-    slice-aggregate-put-part-2
-    put-part-requires-3
-    put-rest-requires
-    same-length
-    returns-3)
+    tie.close (tie.spec module-line-of-requires returns sub-field-at field-at-requires line-of-requires sub-field-at-2 field-at-requires-2
+    look-up-in-requires returns-2 look-up-in-requires-2 slice-aggregate-put-part put-part-requires put-part-requires-2 slice-aggregate-put-part-2
+    put-part-requires-3 put-rest-requires same-length returns-3)

@@ -38,15 +38,4 @@ returns : tie.Need-returns Inv-loop μ-loop
 returns c = Laws.rows-end (now (c .before .before .before .before .before .args .sheet)) (now (c .before .before .before .before .before .args .work)) (c .before .before .before .before .before .args .m) (c .before .before .before .before .before .args .plain) (c .before .loop .i) (omega arith) (omega arith) (c .before .loop .inv .1)
 
 pub rows-spec : {M : Type 1} → statement M
-rows-spec =
-    tie.close
-    (tie.spec
-    Inv-loop
-    μ-loop
-    loop-holds
-    entry-row-requires
-    add-i
-    loop-less
-    loop-again
-    same-length
-    returns)
+rows-spec = tie.close (tie.spec Inv-loop μ-loop loop-holds entry-row-requires add-i loop-less loop-again same-length returns)

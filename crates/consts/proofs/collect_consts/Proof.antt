@@ -57,19 +57,5 @@ returns-2 c = (kept-then (c .before .before .before .before .before .loop .inv .
 
 pub collect-consts-spec : {M : Type 1} → statement M
 collect-consts-spec =
-    tie.close
-    (tie.spec
-    Inv-loop
-    μ-loop
-    loop-holds
-    module-consts-requires
-    enum-known-r
-    enum-known-r-2
-    same-length
-    returns
-    add-i
-    loop-less
-    loop-again
-    pass-consts-requires
-    same-length-2
-    returns-2)
+    tie.close (tie.spec Inv-loop μ-loop loop-holds module-consts-requires enum-known-r enum-known-r-2 same-length returns add-i loop-less loop-again
+    pass-consts-requires same-length-2 returns-2)

@@ -33,13 +33,4 @@ returns-2 c = (c .before .before .pass-consts .ensures .0, Walk.past-module (now
 
 pub module-consts-spec : {M : Type 1} → statement M
 module-consts-spec =
-    tie.close
-    (tie.spec
-    form-at-requires
-    kind-requires
-    same-length
-    returns
-    add-pass-consts
-    pass-consts-requires
-    same-length-2
-    returns-2)
+    tie.close (tie.spec form-at-requires kind-requires same-length returns add-pass-consts pass-consts-requires same-length-2 returns-2)

@@ -59,20 +59,5 @@ returns-3 c = (c .before .before .loop .inv .1, Walk.pass-done (now (c .before .
 
 pub pass-consts-spec : {M : Type 1} → statement M
 pass-consts-spec =
-    tie.close
-    (tie.spec
-    Inv-loop
-    μ-loop
-    loop-holds
-    is-left-requires
-    same-length
-    returns
-    visit-requires
-    enum-known-r
-    loop-less
-    loop-again
-    enum-known-r-2
-    same-length-2
-    returns-2
-    same-length-3
-    returns-3)
+    tie.close (tie.spec Inv-loop μ-loop loop-holds is-left-requires same-length returns visit-requires enum-known-r loop-less loop-again
+    enum-known-r-2 same-length-2 returns-2 same-length-3 returns-3)

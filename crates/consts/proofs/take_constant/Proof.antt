@@ -53,20 +53,5 @@ returns-3 c = Steps.took-none (now (c .before .before .before .before .before .b
 
 pub take-constant-spec : {M : Type 1} → statement M
 take-constant-spec =
-    tie.close
-    (tie.spec
-    number-at-requires
-    fold-const-requires
-    enum-known-x
-    add-enter
-    enter-requires
-    enum-told
-    add-enter-failed
-    enter-failed-requires
-    enum-told-2
-    same-length
-    returns
-    same-length-2
-    returns-2
-    same-length-3
-    returns-3)
+    tie.close (tie.spec number-at-requires fold-const-requires enum-known-x add-enter enter-requires enum-told add-enter-failed enter-failed-requires
+    enum-told-2 same-length returns same-length-2 returns-2 same-length-3 returns-3)

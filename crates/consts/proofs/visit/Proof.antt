@@ -44,17 +44,5 @@ returns-3 c = (kept-all, Walk.moves-out (now (c .before .before .before .before 
 
 pub visit-spec : {M : Type 1} → statement M
 visit-spec =
-    tie.close
-    (tie.spec
-    form-at-requires
-    kind-requires
-    add-t14
-    open-after-requires
-    same-length
-    returns
-    visit-constant-requires
-    same-length-2
-    returns-2
-    add-t10
-    same-length-3
-    returns-3)
+    tie.close (tie.spec form-at-requires kind-requires add-t14 open-after-requires same-length returns visit-constant-requires same-length-2 returns-2
+    add-t10 same-length-3 returns-3)

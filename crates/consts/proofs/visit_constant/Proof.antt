@@ -41,16 +41,5 @@ returns-2 c = (c .before .before .before .take-constant .ensures .0, Walk.visit-
 
 pub visit-constant-spec : {M : Type 1} → statement M
 visit-constant-spec =
-    tie.close
-    (tie.spec
-    number-at-requires
-    number-at-requires-2
-    advance-requires
-    take-constant-requires
-    add-t22
-    same-length
-    returns
-    add-t23
-    add-t24
-    same-length-2
-    returns-2)
+    tie.close (tie.spec number-at-requires number-at-requires-2 advance-requires take-constant-requires add-t22 same-length returns add-t23 add-t24
+    same-length-2 returns-2)

@@ -51,18 +51,5 @@ returns c = counts-are (now (c .before .before .before .before .before .before .
 
 pub count-spec : {M : Type 1} → statement M
 count-spec =
-    tie.close
-    (tie.spec
-    form-at-requires
-    kind-requires
-    records-requires
-    names-requires
-    one-requires
-    add-t10
-    one-requires-2
-    add-t12
-    one-requires-3
-    add-t14
-    add-t15
-    add-t16
-    returns)
+    tie.close (tie.spec form-at-requires kind-requires records-requires names-requires one-requires add-t10 one-requires-2 add-t12 one-requires-3
+    add-t14 add-t15 add-t16 returns)

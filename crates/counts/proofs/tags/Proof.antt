@@ -47,17 +47,5 @@ returns c = tagging-end (now (c .before .before .before .before .before .before 
 
 pub tags-spec : {M : Type 1} → statement M
 tags-spec =
-    tie.close
-    (tie.spec
-    Inv-loop
-    μ-loop
-    line-at-requires
-    form-at-requires
-    begin-requires
-    loop-holds
-    next-requires
-    case-tags-requires
-    add-d
-    loop-less
-    loop-again
-    returns)
+    tie.close (tie.spec Inv-loop μ-loop line-at-requires form-at-requires begin-requires loop-holds next-requires case-tags-requires add-d loop-less
+    loop-again returns)

@@ -43,16 +43,4 @@ returns-2 c = counting-end (now (c .before .before .before .before .args .sheet)
 
 pub too-many-spec : {M : Type 1} → statement M
 too-many-spec =
-    tie.close
-    (tie.spec
-    Inv-loop
-    μ-loop
-    loop-holds
-    count-requires
-    is-over-requires
-    add-result
-    returns
-    add-i
-    loop-less
-    loop-again
-    returns-2)
+    tie.close (tie.spec Inv-loop μ-loop loop-holds count-requires is-over-requires add-result returns add-i loop-less loop-again returns-2)

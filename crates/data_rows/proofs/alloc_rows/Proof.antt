@@ -26,12 +26,4 @@ returns : tie.Need-returns
 returns c = (λ s hf. listed-array (c .before .before .before .before .before .before .before .before .before .before .before .args .off) (arrayBy (c .before .before .before .before .before .before .before .before .before .before .before .args .kind) (c .before .before .before .before .before .before .before .before .before .before .before .args .count) []) (c .before .before .before .before .before .before .number-elements .ensures .0) (c .before .before .before .before .before .before .before .kind-number .ensures .0) hf refl (λ f h. c .before .before .alloc-item .ensures f (arrayBy (c .before .before .before .before .before .before .before .before .before .before .before .args .kind) (c .before .before .before .before .before .before .before .before .before .before .before .args .count) []) h refl refl), c .before .before .before .before .before .before .number-elements .ensures .1)
 
 pub alloc-rows-spec : {M : Type 1} → statement M
-alloc-rows-spec =
-    tie.close
-    (tie.spec
-    kind-number-requires
-    number-elements-requires
-    alloc-item-requires
-    same-length
-    same-length-2
-    returns)
+alloc-rows-spec = tie.close (tie.spec kind-number-requires number-elements-requires alloc-item-requires same-length same-length-2 returns)

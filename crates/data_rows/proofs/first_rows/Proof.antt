@@ -91,32 +91,6 @@ returns-6 c = (first-refused (typeOn (now (c .before .before .before .before .be
 
 pub first-rows-spec : {M : Type 1} → statement M
 first-rows-spec =
-    tie.close
-    (tie.spec
-    enum-told
-    no-rows-requires
-    enum-known-x
-    value-rows-requires
-    enum-known-x-2
-    alloc-rows-requires
-    enum-known-x-3
-    literal-rows-requires
-    enum-told-2
-    no-rows-requires-2
-    enum-told-3
-    no-rows-requires-3
-    same-length
-    returns
-    same-length-2
-    same-length-3
-    returns-2
-    same-length-4
-    same-length-5
-    returns-3
-    same-length-6
-    same-length-7
-    returns-4
-    same-length-8
-    returns-5
-    same-length-9
-    returns-6)
+    tie.close (tie.spec enum-told no-rows-requires enum-known-x value-rows-requires enum-known-x-2 alloc-rows-requires enum-known-x-3
+    literal-rows-requires enum-told-2 no-rows-requires-2 enum-told-3 no-rows-requires-3 same-length returns same-length-2 same-length-3 returns-2
+    same-length-4 same-length-5 returns-3 same-length-6 same-length-7 returns-4 same-length-8 returns-5 same-length-9 returns-6)

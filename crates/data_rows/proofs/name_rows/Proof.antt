@@ -53,19 +53,5 @@ returns-2 c = (listed-as (name-items (typeOn (now (c .before .before .before .be
 
 pub name-rows-spec : {M : Type 1} → statement M
 name-rows-spec =
-    tie.close
-    (tie.spec
-    sub-field-at
-    add-field-at
-    field-at-requires
-    slice-aggregate-same
-    same-requires
-    no-rows-requires
-    same-length
-    same-length-2
-    returns
-    offset-in-requires
-    first-rows-requires
-    same-length-3
-    same-length-4
-    returns-2)
+    tie.close (tie.spec sub-field-at add-field-at field-at-requires slice-aggregate-same same-requires no-rows-requires same-length same-length-2
+    returns offset-in-requires first-rows-requires same-length-3 same-length-4 returns-2)

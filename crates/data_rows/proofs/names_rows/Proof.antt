@@ -50,18 +50,5 @@ returns c = naming-end (c .before .loop .inv) (c .loop-test .left) (c .before .b
 
 pub names-rows-spec : {M : Type 1} → statement M
 names-rows-spec =
-    tie.close
-    (tie.spec
-    Inv-loop
-    μ-loop
-    sub-number-at
-    number-at-requires
-    no-rows-requires
-    loop-holds
-    name-rows-requires
-    add-j
-    loop-less
-    loop-again
-    same-length
-    same-length-2
-    returns)
+    tie.close (tie.spec Inv-loop μ-loop sub-number-at number-at-requires no-rows-requires loop-holds name-rows-requires add-j loop-less loop-again
+    same-length same-length-2 returns)

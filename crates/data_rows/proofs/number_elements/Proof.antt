@@ -22,5 +22,4 @@ returns : tie.Need-returns
 returns c = (λ k ks hk x. (c .before .before .before .before .number-kind .ensures .0 k ks hk x, λ s is ms hf e. sym (c .kind-id .ensures .0 s is k (ks ++ (elemKey k ∷ [])) ms (c .before .before .before .before .number-kind .result) hk (c .before .before .before .before .number-kind .ensures .0 k ks hk x) hf e)), c .before .before .before .before .number-kind .ensures .1)
 
 pub number-elements-spec : {M : Type 1} → statement M
-number-elements-spec =
-    tie.close (tie.spec number-kind-requires kind-id-requires same-length returns)
+number-elements-spec = tie.close (tie.spec number-kind-requires kind-id-requires same-length returns)

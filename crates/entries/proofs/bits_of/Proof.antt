@@ -38,15 +38,4 @@ returns-3 c = Laws.says-text (c .before .before .before .args .place) (c .before
 
 pub bits-of-spec : {M : Type 1} → statement M
 bits-of-spec =
-    tie.close
-    (tie.spec
-    enum-known-v
-    bits-requires
-    enum-known-v-2
-    bits-requires-2
-    enum-known-v-3
-    mul-result
-    add-result
-    returns
-    returns-2
-    returns-3)
+    tie.close (tie.spec enum-known-v bits-requires enum-known-v-2 bits-requires-2 enum-known-v-3 mul-result add-result returns returns-2 returns-3)

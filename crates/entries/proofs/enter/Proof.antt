@@ -33,13 +33,4 @@ returns c = Laws.entered-value (now (c .before .before .before .before .before .
 
 pub enter-spec : {M : Type 1} → statement M
 enter-spec =
-    tie.close
-    (tie.spec
-    keep-string-requires
-    kind-of-requires
-    mul-bits-of
-    add-bits-of
-    bits-of-requires
-    put-entry-requires
-    same-length
-    returns)
+    tie.close (tie.spec keep-string-requires kind-of-requires mul-bits-of add-bits-of bits-of-requires put-entry-requires same-length returns)

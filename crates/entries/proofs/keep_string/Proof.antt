@@ -39,16 +39,4 @@ returns-3 : tie.Need-returns-3
 returns-3 c = Laws.string-some (now (c .before .before .before .before .before .before .before .before .args .work)) _ _ (c .before .before .before .before .before .v .given .1) (c .before .before .copy .ensures)
 
 pub keep-string-spec : {M : Type 1} → statement M
-keep-string-spec =
-    tie.close
-    (tie.spec
-    enum-told
-    enum-told-2
-    enum-known-v
-    mul-copy
-    add-copy
-    copy-requires
-    returns
-    returns-2
-    same-length
-    returns-3)
+keep-string-spec = tie.close (tie.spec enum-told enum-told-2 enum-known-v mul-copy add-copy copy-requires returns returns-2 same-length returns-3)

@@ -50,19 +50,5 @@ returns c = then (then (then (then (then (c .before .before .before .before .bef
 
 pub put-entry-spec : {M : Type 1} → statement M
 put-entry-spec =
-    tie.close
-    (tie.spec
-    mul-put
-    add-put
-    cast-put
-    put-requires
-    cast-put-2
-    put-requires-2
-    cast-put-3
-    put-requires-3
-    cast-put-4
-    put-requires-4
-    put-requires-5
-    put-bits-requires
-    same-length
-    returns)
+    tie.close (tie.spec mul-put add-put cast-put put-requires cast-put-2 put-requires-2 cast-put-3 put-requires-3 cast-put-4 put-requires-4
+    put-requires-5 put-bits-requires same-length returns)

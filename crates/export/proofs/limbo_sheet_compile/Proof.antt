@@ -46,16 +46,5 @@ returns-2 c =
 
 pub limbo-sheet-compile-spec : {M : Type 1} → statement M
 limbo-sheet-compile-spec =
-    tie.close
-    (tie.spec
-    compile-requires
-    enum-known-n
-    enum-known-r
-    number-of-requires
-    line-of-requires
-    same-length
-    same-length-2
-    returns
-    same-length-3
-    same-length-4
-    returns-2)
+    tie.close (tie.spec compile-requires enum-known-n enum-known-r number-of-requires line-of-requires same-length same-length-2 returns same-length-3
+    same-length-4 returns-2)

@@ -59,20 +59,5 @@ returns-2 c =
 
 pub limbo-sheet-image-spec : {M : Type 1} → statement M
 limbo-sheet-image-spec =
-    tie.close
-    (tie.spec
-    image-requires
-    enum-known-l
-    enum-known-r
-    number-of-requires
-    line-of-requires
-    same-length
-    same-length-2
-    same-length-3
-    same-length-4
-    returns
-    same-length-5
-    same-length-6
-    same-length-7
-    same-length-8
-    returns-2)
+    tie.close (tie.spec image-requires enum-known-l enum-known-r number-of-requires line-of-requires same-length same-length-2 same-length-3
+    same-length-4 returns same-length-5 same-length-6 same-length-7 same-length-8 returns-2)

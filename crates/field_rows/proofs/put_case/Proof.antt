@@ -34,14 +34,5 @@ returns c = rw (case-is (now (c .before .before .before .before .before .before 
 
 pub put-case-spec : {M : Type 1} → statement M
 put-case-spec =
-    tie.close
-    (tie.spec
-    sub-number-at
-    number-at-requires
-    add-from
-    sub-number-at-2
-    number-at-requires-2
-    add-put-fields
-    put-fields-requires
-    same-length
+    tie.close (tie.spec sub-number-at number-at-requires add-from sub-number-at-2 number-at-requires-2 add-put-fields put-fields-requires same-length
     returns)

@@ -49,18 +49,5 @@ returns c = fielding-end (now (c .before .before .before .before .before .args .
 
 pub put-fields-spec : {M : Type 1} → statement M
 put-fields-spec =
-    tie.close
-    (tie.spec
-    Inv-loop
-    μ-loop
-    loop-holds
-    sub-number-at
-    add-number-at
-    number-at-requires
-    put-line-requires
-    place-field-requires
-    add-j
-    loop-less
-    loop-again
-    same-length
-    returns)
+    tie.close (tie.spec Inv-loop μ-loop loop-holds sub-number-at add-number-at number-at-requires put-line-requires place-field-requires add-j
+    loop-less loop-again same-length returns)

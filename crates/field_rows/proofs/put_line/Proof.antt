@@ -42,16 +42,5 @@ returns-2 c = wrote-as (rows-typed (now (c .before .before .before .before .befo
 
 pub put-line-spec : {M : Type 1} → statement M
 put-line-spec =
-    tie.close
-    (tie.spec
-    sub-number-at
-    number-at-requires
-    returns
-    type-size-align-requires
-    align-up-requires
-    cast-offset
-    sub-number-at-2
-    number-at-requires-2
-    put-names-requires
-    same-length
-    returns-2)
+    tie.close (tie.spec sub-number-at number-at-requires returns type-size-align-requires align-up-requires cast-offset sub-number-at-2
+    number-at-requires-2 put-names-requires same-length returns-2)

@@ -54,18 +54,5 @@ returns c = naming-end (c .before .before .before .before .before .args .size) (
 
 pub put-names-spec : {M : Type 1} → statement M
 put-names-spec =
-    tie.close
-    (tie.spec
-    Inv-loop
-    μ-loop
-    loop-holds
-    sub-field-at
-    add-field-at
-    field-at-requires
-    put-row-requires
-    add-off
-    add-j
-    loop-less
-    loop-again
-    same-length
-    returns)
+    tie.close (tie.spec Inv-loop μ-loop loop-holds sub-field-at add-field-at field-at-requires put-row-requires add-off add-j loop-less loop-again
+    same-length returns)

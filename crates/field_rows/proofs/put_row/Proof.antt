@@ -32,13 +32,5 @@ returns c = then (c .before .before .before .before .before .before .before .bef
 
 pub put-row-spec : {M : Type 1} → statement M
 put-row-spec =
-    tie.close
-    (tie.spec
-    slice-aggregate-put-part
-    put-part-requires
-    put-comma-part-requires
-    put-comma-nat-requires
-    put-comma-nat-requires-2
-    put-lf-requires
-    same-length
-    returns)
+    tie.close (tie.spec slice-aggregate-put-part put-part-requires put-comma-part-requires put-comma-nat-requires put-comma-nat-requires-2
+    put-lf-requires same-length returns)

@@ -60,22 +60,5 @@ returns-3 c = applies-len (now (c .before .before .before .before .before .befor
 
 pub apply-spec : {M : Type 1} → statement M
 apply-spec =
-    tie.close
-    (tie.spec
-    sub-form-at
-    form-at-requires
-    sub-number-at
-    number-at-requires
-    fold-unary-requires
-    same-length
-    returns
-    sub-number-at-2
-    number-at-requires-2
-    sub-form-at-2
-    form-at-requires-2
-    fold-cast-requires
-    same-length-2
-    returns-2
-    fold-len-requires
-    same-length-3
-    returns-3)
+    tie.close (tie.spec sub-form-at form-at-requires sub-number-at number-at-requires fold-unary-requires same-length returns sub-number-at-2
+    number-at-requires-2 sub-form-at-2 form-at-requires-2 fold-cast-requires same-length-2 returns-2 fold-len-requires same-length-3 returns-3)

@@ -32,13 +32,4 @@ returns-2 c = operand-second (now (c .before .before .before .before .before .ar
 
 pub operand-spec : {M : Type 1} → statement M
 operand-spec =
-    tie.close
-    (tie.spec
-    sub-form-at
-    form-at-requires
-    sub-number-at
-    number-at-requires
-    returns
-    sub-number-at-2
-    number-at-requires-2
-    returns-2)
+    tie.close (tie.spec sub-form-at form-at-requires sub-number-at number-at-requires returns sub-number-at-2 number-at-requires-2 returns-2)

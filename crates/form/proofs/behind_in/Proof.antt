@@ -64,21 +64,5 @@ loop-again c =
 
 pub behind-in-spec : {M : Type 1} → statement M
 behind-in-spec =
-    tie.close
-    (tie.spec
-    Inv-loop
-    μ-loop
-    loop-holds
-    word-requires
-    add-result
-    returns
-    shared-slice-read-if3
-    add-result-2
-    returns-2
-    returns-3
-    returns-4
-    shared-slice-read-if5
-    returns-5
-    add-i
-    loop-less
-    loop-again)
+    tie.close (tie.spec Inv-loop μ-loop loop-holds word-requires add-result returns shared-slice-read-if3 add-result-2 returns-2 returns-3 returns-4
+    shared-slice-read-if5 returns-5 add-i loop-less loop-again)

@@ -68,23 +68,5 @@ returns-2 c = field-none (now (c .before .before .before .before .before .args .
 
 pub field-spec : {M : Type 1} → statement M
 field-spec =
-    tie.close
-    (tie.spec
-    Inv-loop
-    μ-loop
-    width-requires
-    add-at
-    loop-holds
-    find-requires
-    sub-result
-    part-result-start
-    part-result-end
-    returns
-    add-k
-    add-at-2
-    loop-less
-    loop-again
-    sub-result-2
-    part-result-start-2
-    part-result-end-2
-    returns-2)
+    tie.close (tie.spec Inv-loop μ-loop width-requires add-at loop-holds find-requires sub-result part-result-start part-result-end returns add-k
+    add-at-2 loop-less loop-again sub-result-2 part-result-start-2 part-result-end-2 returns-2)

@@ -68,22 +68,5 @@ returns-2 c = ap (λ (x : ℕ). eqb x 32) (c .letter2 .ensures) ∙ sym (c .befo
 
 pub fits-form-spec : {M : Type 1} → statement M
 fits-form-spec =
-    tie.close
-    (tie.spec
-    Inv-loop
-    μ-loop
-    loop-holds
-    letter-requires
-    find-requires
-    sub-s
-    part-s-start
-    part-s-end
-    is-good-requires
-    returns
-    number-requires
-    add-step
-    step-requires
-    loop-less
-    loop-again
-    letter-requires-2
-    returns-2)
+    tie.close (tie.spec Inv-loop μ-loop loop-holds letter-requires find-requires sub-s part-s-start part-s-end is-good-requires returns
+    number-requires add-step step-requires loop-less loop-again letter-requires-2 returns-2)

@@ -40,15 +40,4 @@ returns-6 c = (form-late (c .before .before .before .before .before .before .bef
 
 pub form-of-spec : {M : Type 1} → statement M
 form-of-spec =
-    tie.close
-    (tie.spec
-    returns
-    row-of-requires
-    returns-2
-    behind-requires
-    fits-form-requires
-    returns-3
-    kind-requires
-    returns-4
-    returns-5
-    returns-6)
+    tie.close (tie.spec returns row-of-requires returns-2 behind-requires fits-form-requires returns-3 kind-requires returns-4 returns-5 returns-6)

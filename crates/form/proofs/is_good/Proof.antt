@@ -59,20 +59,5 @@ returns-7 c = simp (ne-eqb _ _ (c .before .before .before .before .before .befor
 
 pub is-good-spec : {M : Type 1} → statement M
 is-good-spec =
-    tie.close
-    (tie.spec
-    is-name-requires
-    returns
-    is-key-requires
-    returns-2
-    is-i64-requires
-    returns-3
-    is-between-requires
-    returns-4
-    is-real-requires
-    returns-5
-    is-text-requires
-    returns-6
-    read-number-requires
-    limit-requires
-    returns-7)
+    tie.close (tie.spec is-name-requires returns is-key-requires returns-2 is-i64-requires returns-3 is-between-requires returns-4 is-real-requires
+    returns-5 is-text-requires returns-6 read-number-requires limit-requires returns-7)

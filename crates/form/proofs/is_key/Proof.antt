@@ -58,21 +58,5 @@ returns-4 c = c .is-name3 .ensures ∙ key-last (now (c .before .before .before 
 
 pub is-key-spec : {M : Type 1} → statement M
 is-key-spec =
-    tie.close
-    (tie.spec
-    find-requires
-    is-name-requires
-    returns
-    add-a
-    find-requires-2
-    returns-2
-    sub-is-name
-    part-is-name-start
-    part-is-name-end
-    is-name-requires-2
-    returns-3
-    sub-is-name-2
-    part-is-name-start-2
-    part-is-name-end-2
-    is-name-requires-3
-    returns-4)
+    tie.close (tie.spec find-requires is-name-requires returns add-a find-requires-2 returns-2 sub-is-name part-is-name-start part-is-name-end
+    is-name-requires-2 returns-3 sub-is-name-2 part-is-name-start-2 part-is-name-end-2 is-name-requires-3 returns-4)

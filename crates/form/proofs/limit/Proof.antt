@@ -33,5 +33,4 @@ unfolding limitOf
 returns-7 c = search (le-leb, lt-leb, eq-eqb, ne-eqb)
 
 pub limit-spec : {M : Type 1} → statement M
-limit-spec =
-    tie.close (tie.spec returns returns-2 returns-3 returns-4 returns-5 returns-6 returns-7)
+limit-spec = tie.close (tie.spec returns returns-2 returns-3 returns-4 returns-5 returns-6 returns-7)

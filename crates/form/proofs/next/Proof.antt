@@ -34,14 +34,4 @@ returns c = walk-stepped (c .before .before .before .before .before .before .arg
 
 pub next-spec : {M : Type 1} → statement M
 next-spec =
-    tie.close
-    (tie.spec
-    letter-requires
-    find-requires
-    sub-number
-    part-number-start
-    part-number-end
-    number-requires
-    add-step
-    step-requires
-    returns)
+    tie.close (tie.spec letter-requires find-requires sub-number part-number-start part-number-end number-requires add-step step-requires returns)

@@ -38,15 +38,4 @@ returns-2 : tie.Need-returns-2 Inv-loop μ-loop
 returns-2 c = (row-end (now (c .before .before .before .args .l)) (c .before .loop .f) (omega arith) (c .before .loop .inv .1), omega arith)
 
 pub row-in-spec : {M : Type 1} → statement M
-row-in-spec =
-    tie.close
-    (tie.spec
-    Inv-loop
-    μ-loop
-    loop-holds
-    behind-in-requires
-    returns
-    add-f
-    loop-less
-    loop-again
-    returns-2)
+row-in-spec = tie.close (tie.spec Inv-loop μ-loop loop-holds behind-in-requires returns add-f loop-less loop-again returns-2)

@@ -45,15 +45,4 @@ returns c =
 
 pub collect-globals-spec : {M : Type 1} → statement M
 collect-globals-spec =
-    tie.close
-    (tie.spec
-    Inv-loop
-    μ-loop
-    loop-holds
-    declare-line-requires
-    open-after-requires
-    add-i
-    loop-less
-    loop-again
-    same-length
-    returns)
+    tie.close (tie.spec Inv-loop μ-loop loop-holds declare-line-requires open-after-requires add-i loop-less loop-again same-length returns)

@@ -55,16 +55,5 @@ returns c =
 
 pub declare-global-spec : {M : Type 1} → statement M
 declare-global-spec =
-    tie.close
-    (tie.spec
-    Inv-loop
-    μ-loop
-    sub-number-at
-    number-at-requires
-    loop-holds
-    declare-name-requires
-    add-j
-    loop-less
-    loop-again
-    same-length
+    tie.close (tie.spec Inv-loop μ-loop sub-number-at number-at-requires loop-holds declare-name-requires add-j loop-less loop-again same-length
     returns)

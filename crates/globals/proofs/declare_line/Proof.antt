@@ -47,15 +47,5 @@ returns-3 c =
 
 pub declare-line-spec : {M : Type 1} → statement M
 declare-line-spec =
-    tie.close
-    (tie.spec
-    form-at-requires
-    same-length
-    returns
-    is-laid-requires
-    same-length-2
-    returns-2
-    add-declare-global
-    declare-global-requires
-    same-length-3
-    returns-3)
+    tie.close (tie.spec form-at-requires same-length returns is-laid-requires same-length-2 returns-2 add-declare-global declare-global-requires
+    same-length-3 returns-3)

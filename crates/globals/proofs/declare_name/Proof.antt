@@ -95,26 +95,6 @@ returns-3 c =
 
 pub declare-name-spec : {M : Type 1} → statement M
 declare-name-spec =
-    tie.close
-    (tie.spec
-    sub-field-at
-    add-field-at
-    field-at-requires
-    slice-aggregate-same
-    same-requires
-    same-length
-    returns
-    place-of-requires
-    same-length-2
-    returns-2
-    sub-number-at
-    number-at-requires
-    global-size-requires
-    align-up-requires
-    cast-offset
-    cast-enter
-    enter-requires
-    add-t15
-    add-t30
-    same-length-3
-    returns-3)
+    tie.close (tie.spec sub-field-at add-field-at field-at-requires slice-aggregate-same same-requires same-length returns place-of-requires
+    same-length-2 returns-2 sub-number-at number-at-requires global-size-requires align-up-requires cast-offset cast-enter enter-requires add-t15
+    add-t30 same-length-3 returns-3)

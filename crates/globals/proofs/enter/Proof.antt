@@ -65,23 +65,5 @@ returns c =
 
 pub enter-spec : {M : Type 1} → statement M
 enter-spec =
-    tie.close
-    (tie.spec
-    mul-a
-    add-a
-    cast-work
-    slice-write-work
-    cast-work-2
-    add-work
-    slice-write-work-2
-    cast-work-3
-    add-work-2
-    slice-write-work-3
-    cast-work-4
-    add-work-3
-    slice-write-work-4
-    cast-work-5
-    add-work-4
-    slice-write-work-5
-    same-length
-    returns)
+    tie.close (tie.spec mul-a add-a cast-work slice-write-work cast-work-2 add-work slice-write-work-2 cast-work-3 add-work-2 slice-write-work-3
+    cast-work-4 add-work-3 slice-write-work-4 cast-work-5 add-work-4 slice-write-work-5 same-length returns)

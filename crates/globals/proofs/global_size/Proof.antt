@@ -23,5 +23,4 @@ returns-2 c =
     (c .type-size-align .ensures .whole ∙ w .0, omega (arith, c .type-size-align .ensures .whole))
 
 pub global-size-spec : {M : Type 1} → statement M
-global-size-spec =
-    tie.close (tie.spec is-pointer-requires returns type-size-align-requires returns-2)
+global-size-spec = tie.close (tie.spec is-pointer-requires returns type-size-align-requires returns-2)

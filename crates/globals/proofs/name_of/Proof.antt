@@ -29,12 +29,4 @@ unfolding entryAt
 returns c = c .field-at .ensures ∙ rw (c .before .before .line-of .ensures, c .before .position-of .ensures .0)
 
 pub name-of-spec : {M : Type 1} → statement M
-name-of-spec =
-    tie.close
-    (tie.spec
-    line-of-requires
-    sub-field-at
-    position-of-requires
-    add-field-at
-    field-at-requires
-    returns)
+name-of-spec = tie.close (tie.spec line-of-requires sub-field-at position-of-requires add-field-at field-at-requires returns)

@@ -23,5 +23,4 @@ returns-2 : tie.Need-returns-2
 returns-2 c = (c .offset-of .ensures .0 ∙ offset-found (now (c .before .before .before .before .before .before .args .work)) _ _ (c .before .before .place-of .ensures .0) (c .before .if1 .left), c .offset-of .ensures .1)
 
 pub offset-in-spec : {M : Type 1} → statement M
-offset-in-spec =
-    tie.close (tie.spec place-of-requires returns sub-offset-of offset-of-requires returns-2)
+offset-in-spec = tie.close (tie.spec place-of-requires returns sub-offset-of offset-of-requires returns-2)

@@ -58,17 +58,4 @@ returns-2 c =
     (place-end (now (a .sheet)) (now (a .work)) (a .g) (now (a .name)) (c .before .loop .i) (c .loop-test .left) (c .before .loop .inv .1), omega arith)
 
 pub place-of-spec : {M : Type 1} → statement M
-place-of-spec =
-    tie.close
-    (tie.spec
-    Inv-loop
-    μ-loop
-    loop-holds
-    name-of-requires
-    same-requires
-    add-result
-    returns
-    add-i
-    loop-less
-    loop-again
-    returns-2)
+place-of-spec = tie.close (tie.spec Inv-loop μ-loop loop-holds name-of-requires same-requires add-result returns add-i loop-less loop-again returns-2)

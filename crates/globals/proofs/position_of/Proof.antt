@@ -24,5 +24,4 @@ unfolding positionOf
 returns c = (search needs, search needs)
 
 pub position-of-spec : {M : Type 1} → statement M
-position-of-spec =
-    tie.close (tie.spec add-wide mul-wide add-wide-2 shared-slice-read-wide wide-requires returns)
+position-of-spec = tie.close (tie.spec add-wide mul-wide add-wide-2 shared-slice-read-wide wide-requires returns)

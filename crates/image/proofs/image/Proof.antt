@@ -27,13 +27,4 @@ returns : tie.Need-returns
 returns c = (c .before .before .before .before .before .before .before .before .before .before .before .before .lay .ensures, c .before .before .zero .ensures ∙ ap zeros (c .before .before .before .before .before .before .before .before .before .before .before .before .lay .kept .1 .1 .1 .1 .0))
 
 pub image-spec : {M : Type 1} → statement M
-image-spec =
-    tie.close
-    (tie.spec
-    lay-requires
-    zero-requires
-    same-length
-    same-length-2
-    same-length-3
-    same-length-4
-    returns)
+image-spec = tie.close (tie.spec lay-requires zero-requires same-length same-length-2 same-length-3 same-length-4 returns)

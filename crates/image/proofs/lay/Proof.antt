@@ -113,35 +113,7 @@ returns-3 c =
 
 pub lay-spec : {M : Type 1} → statement M
 lay-spec =
-    tie.close
-    (tie.spec
-    list-requires
-    enum-known-number
-    zero-requires
-    zero-requires-2
-    refuse-requires
-    enum-known-l
-    sub-replay
-    part-replay-start
-    part-replay-end
-    cast-replay
-    replay-requires
-    enum-known-laid
-    enum-told
-    zero-requires-3
-    refuse-requires-2
-    same-length
-    same-length-2
-    same-length-3
-    same-length-4
-    returns
-    same-length-5
-    same-length-6
-    same-length-7
-    same-length-8
-    returns-2
-    same-length-9
-    same-length-10
-    same-length-11
-    same-length-12
+    tie.close (tie.spec list-requires enum-known-number zero-requires zero-requires-2 refuse-requires enum-known-l sub-replay part-replay-start
+    part-replay-end cast-replay replay-requires enum-known-laid enum-told zero-requires-3 refuse-requires-2 same-length same-length-2 same-length-3
+    same-length-4 returns same-length-5 same-length-6 same-length-7 same-length-8 returns-2 same-length-9 same-length-10 same-length-11 same-length-12
     returns-3)

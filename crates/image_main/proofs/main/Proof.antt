@@ -96,34 +96,8 @@ returns-2 c = search needs
 
 pub main-spec : {M : Type 1} → statement M
 main-spec =
-    tie.close
-    (tie.spec
-    large-buffer-requires
-    large-buffer-requires-2
-    large-buffer-requires-3
-    large-buffer-requires-4
-    large-buffer-requires-5
-    slice-aggregate-read-full
-    read-full-requires
-    array-share-prefix-sheet
-    slice-aggregate-image
-    slice-aggregate-image-2
-    slice-aggregate-image-3
-    slice-aggregate-image-4
-    slice-aggregate-image-5
-    image-requires
-    enum-known-r
-    refuse-requires
-    enum-known-i
-    slice-aggregate-print-row
-    sub-print-row
-    part-print-row-start
-    part-print-row-end
-    print-row-requires
-    slice-aggregate-print-row-2
-    sub-print-row-2
-    part-print-row-start-2
-    part-print-row-end-2
-    print-row-requires-2
-    returns
-    returns-2)
+    tie.close (tie.spec large-buffer-requires large-buffer-requires-2 large-buffer-requires-3 large-buffer-requires-4 large-buffer-requires-5
+    slice-aggregate-read-full read-full-requires array-share-prefix-sheet slice-aggregate-image slice-aggregate-image-2 slice-aggregate-image-3
+    slice-aggregate-image-4 slice-aggregate-image-5 image-requires enum-known-r refuse-requires enum-known-i slice-aggregate-print-row sub-print-row
+    part-print-row-start part-print-row-end print-row-requires slice-aggregate-print-row-2 sub-print-row-2 part-print-row-start-2 part-print-row-end-2
+    print-row-requires-2 returns returns-2)

@@ -41,16 +41,5 @@ returns c = search needs
 
 pub print-row-spec : {M : Type 1} → statement M
 print-row-spec =
-    tie.close
-    (tie.spec
-    slice-aggregate-put-part
-    put-part-requires
-    slice-aggregate-put-hex
-    put-hex-requires
-    slice-aggregate-put
-    put-requires
-    sub-write-all
-    part-write-all-start
-    part-write-all-end
-    write-all-requires
-    returns)
+    tie.close (tie.spec slice-aggregate-put-part put-part-requires slice-aggregate-put-hex put-hex-requires slice-aggregate-put put-requires
+    sub-write-all part-write-all-start part-write-all-end write-all-requires returns)

@@ -50,14 +50,4 @@ returns-3 c =
 
 pub implements-spec : {M : Type 1} → statement M
 implements-spec =
-    tie.close
-    (tie.spec
-    returns
-    form-at-requires
-    kind-requires
-    returns-2
-    field-at-requires
-    sub-field-at
-    field-at-requires-2
-    same-requires
-    returns-3)
+    tie.close (tie.spec returns form-at-requires kind-requires returns-2 field-at-requires sub-field-at field-at-requires-2 same-requires returns-3)

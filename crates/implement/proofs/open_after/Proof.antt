@@ -33,5 +33,4 @@ returns-3 c =
     open-other (now (a .sheet)) (now (a .work)) (a .n) (a .i) (a .k) (c .before .before .before .before .before .before .pre .0) (c .before .before .before .before .before .before .pre .1) _ _ (c .before .before .before .form-at .ensures) (c .before .before .kind .ensures) (c .before .if1 .left) (c .if2 .left)
 
 pub open-after-spec : {M : Type 1} → statement M
-open-after-spec =
-    tie.close (tie.spec form-at-requires kind-requires add-result returns returns-2 returns-3)
+open-after-spec = tie.close (tie.spec form-at-requires kind-requires add-result returns returns-2 returns-3)

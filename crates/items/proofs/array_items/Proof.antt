@@ -27,6 +27,4 @@ returns-2 : tie.Need-returns-2
 returns-2 c = λ f a h k n v. array-filled f (c .before .before .before .before .before .before .before .before .before .before .before .args .off) a n v (λ (q : length (valuesIn (now (c .before .before .before .before .before .before .before .before .before .before .before .args .work)) 0 (c .before .before .before .before .before .before .before .before .before .before .before .args .count)) ≡ 0). c .before .before .before .before .if1 .left (sym (values-length (now (c .before .before .before .before .before .before .before .before .before .before .before .args .work)) (c .before .before .before .before .before .before .before .before .before .before .before .args .count) 0) ∙ q)) (c .before .before .before .before .before .before .before .array-row .ensures f (a .kind) h) (c .before .before .contents .ensures f (a .kind) k)
 
 pub array-items-spec : {M : Type 1} → statement M
-array-items-spec =
-    tie.close
-    (tie.spec array-row-requires same-length returns contents-requires same-length-2 returns-2)
+array-items-spec = tie.close (tie.spec array-row-requires same-length returns contents-requires same-length-2 returns-2)

@@ -36,13 +36,5 @@ returns c = λ f k h. then (c .before .before .before .before .before .before .b
 
 pub array-row-spec : {M : Type 1} → statement M
 array-row-spec =
-    tie.close
-    (tie.spec
-    slice-aggregate-put-part
-    put-part-requires
-    put-comma-nat-requires
-    put-comma-nat-requires-2
-    put-comma-nat-requires-3
-    put-lf-requires
-    same-length
-    returns)
+    tie.close (tie.spec slice-aggregate-put-part put-part-requires put-comma-nat-requires put-comma-nat-requires-2 put-comma-nat-requires-3
+    put-lf-requires same-length returns)

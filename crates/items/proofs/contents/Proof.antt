@@ -27,12 +27,4 @@ unfolding itemRow row
 returns c = λ f k h. contents-rows f (c .before .before .before .before .before .before .before .before .before .before .before .before .before .before .before .args .off) k (valuesIn (now (c .before .before .before .before .before .before .before .before .before .before .before .before .before .before .before .args .work)) 0 (c .before .before .before .before .before .before .before .before .before .before .before .before .before .before .before .args .count)) (c .before .before .before .before .before .before .before .before .before .before .before .set-row .ensures f) (c .before .before .before .before .before .before .before .element-items .ensures f k h) (c .before .before .put-part .ensures)
 
 pub contents-spec : {M : Type 1} → statement M
-contents-spec =
-    tie.close
-    (tie.spec
-    set-row-requires
-    element-items-requires
-    slice-aggregate-put-part
-    put-part-requires
-    same-length
-    returns)
+contents-spec = tie.close (tie.spec set-row-requires element-items-requires slice-aggregate-put-part put-part-requires same-length returns)

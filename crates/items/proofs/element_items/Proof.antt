@@ -25,12 +25,4 @@ returns-2 : tie.Need-returns-2
 returns-2 c = λ id k h. string-items id (valuesIn (now (c .before .before .before .before .before .before .before .args .work)) 0 (c .before .before .before .before .before .before .before .args .count)) k h (c .before .before .before .before .if1 .left) (c .before .before .string-rows .ensures id)
 
 pub element-items-spec : {M : Type 1} → statement M
-element-items-spec =
-    tie.close
-    (tie.spec
-    elements-row-requires
-    same-length
-    returns
-    string-rows-requires
-    same-length-2
-    returns-2)
+element-items-spec = tie.close (tie.spec elements-row-requires same-length returns string-rows-requires same-length-2 returns-2)

@@ -26,6 +26,4 @@ returns : tie.Need-returns
 returns c = numbers-row (c .before .before .before .before .before .before .before .before .before .before .before .before .before .before .args .kind) 0 (valuesIn (now (c .before .before .before .before .before .before .before .before .before .before .before .before .before .before .args .work)) 0 (c .before .before .before .before .before .before .before .before .before .before .before .before .before .before .args .count)) (wrote-as (ap (headText (c .before .before .before .before .before .before .before .before .before .before .before .before .before .before .args .kind) 0) (sym (values-length (now (c .before .before .before .before .before .before .before .before .before .before .before .before .before .before .args .work)) (c .before .before .before .before .before .before .before .before .before .before .before .before .before .before .args .count) 0))) (c .before .before .before .before .before .before .before .before .before .before .put-head .ensures)) (c .before .before .before .before .before .before .put-elements .ensures) (c .before .before .put-lf .ensures)
 
 pub elements-row-spec : {M : Type 1} → statement M
-elements-row-spec =
-    tie.close
-    (tie.spec put-head-requires put-elements-requires put-lf-requires same-length returns)
+elements-row-spec = tie.close (tie.spec put-head-requires put-elements-requires put-lf-requires same-length returns)

@@ -22,5 +22,4 @@ returns : tie.Need-returns
 returns c = λ t. numbers-row (c .before .before .before .before .before .before .before .before .before .before .before .before .before .args .kind) (c .before .before .before .before .before .before .before .before .before .before .before .before .before .args .off) (valueIn t (c .before .before .before .before .before .before .before .before .before .before .before .before .before .args .v) ∷ []) (c .before .before .before .before .before .before .before .before .before .before .put-head .ensures) (one-field (c .before .before .before .before .before .before .put-element .ensures t)) (c .before .before .put-lf .ensures)
 
 pub number-row-spec : {M : Type 1} → statement M
-number-row-spec =
-    tie.close (tie.spec put-head-requires put-element-requires put-lf-requires same-length returns)
+number-row-spec = tie.close (tie.spec put-head-requires put-element-requires put-lf-requires same-length returns)

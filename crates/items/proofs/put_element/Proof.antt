@@ -42,17 +42,5 @@ returns-3 c = string-element _ (c .before .before .before .before .enum-told .gi
 
 pub put-element-spec : {M : Type 1} → statement M
 put-element-spec =
-    tie.close
-    (tie.spec
-    enum-known-v
-    put-int-element-requires
-    enum-known-v-2
-    put-real-element-requires
-    enum-told
-    put-zero-element-requires
-    same-length
-    returns
-    same-length-2
-    returns-2
-    same-length-3
-    returns-3)
+    tie.close (tie.spec enum-known-v put-int-element-requires enum-known-v-2 put-real-element-requires enum-told put-zero-element-requires same-length
+    returns same-length-2 returns-2 same-length-3 returns-3)

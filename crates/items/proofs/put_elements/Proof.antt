@@ -53,17 +53,5 @@ returns-2 c = up-to (λ (n : ℕ). commaed (elementTexts (c .before .before .bef
 
 pub put-elements-spec : {M : Type 1} → statement M
 put-elements-spec =
-    tie.close
-    (tie.spec
-    Inv-loop
-    μ-loop
-    add-result
-    returns
-    loop-holds
-    element-requires
-    put-element-requires
-    add-i
-    loop-less
-    loop-again
-    same-length
+    tie.close (tie.spec Inv-loop μ-loop add-result returns loop-holds element-requires put-element-requires add-i loop-less loop-again same-length
     returns-2)

@@ -29,12 +29,5 @@ returns c = then (c .before .before .before .before .before .before .before .bef
 
 pub put-head-spec : {M : Type 1} → statement M
 put-head-spec =
-    tie.close
-    (tie.spec
-    slice-aggregate-put-part
-    put-part-requires
-    put-kind-requires
-    put-comma-nat-requires
-    put-comma-nat-requires-2
-    same-length
+    tie.close (tie.spec slice-aggregate-put-part put-part-requires put-kind-requires put-comma-nat-requires put-comma-nat-requires-2 same-length
     returns)

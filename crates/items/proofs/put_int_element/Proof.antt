@@ -65,23 +65,6 @@ returns-4 c = as-real _ (vInt (c .before .before .before .before .before .before
 
 pub put-int-element-spec : {M : Type 1} → statement M
 put-int-element-spec =
-    tie.close
-    (tie.spec
-    byte-of-int-requires
-    cast-put-comma-nat
-    put-comma-nat-requires
-    same-length
-    returns
-    word-of-int-requires
-    cast-put-comma-int
-    put-comma-int-requires
-    same-length-2
-    returns-2
-    put-comma-int-requires-2
-    same-length-3
-    returns-3
-    real-of-int-requires
-    bits-requires
-    put-comma-word-requires
-    same-length-4
-    returns-4)
+    tie.close (tie.spec byte-of-int-requires cast-put-comma-nat put-comma-nat-requires same-length returns word-of-int-requires cast-put-comma-int
+    put-comma-int-requires same-length-2 returns-2 put-comma-int-requires-2 same-length-3 returns-3 real-of-int-requires bits-requires
+    put-comma-word-requires same-length-4 returns-4)

@@ -58,21 +58,6 @@ returns-4 c = kind-reals (c .before .before .before .before .before .before .bef
 
 pub put-kind-spec : {M : Type 1} → statement M
 put-kind-spec =
-    tie.close
-    (tie.spec
-    slice-aggregate-put-comma-part
-    put-comma-part-requires
-    same-length
-    returns
-    slice-aggregate-put-comma-part-2
-    put-comma-part-requires-2
-    same-length-2
-    returns-2
-    slice-aggregate-put-comma-part-3
-    put-comma-part-requires-3
-    same-length-3
-    returns-3
-    slice-aggregate-put-comma-part-4
-    put-comma-part-requires-4
-    same-length-4
-    returns-4)
+    tie.close (tie.spec slice-aggregate-put-comma-part put-comma-part-requires same-length returns slice-aggregate-put-comma-part-2
+    put-comma-part-requires-2 same-length-2 returns-2 slice-aggregate-put-comma-part-3 put-comma-part-requires-3 same-length-3 returns-3
+    slice-aggregate-put-comma-part-4 put-comma-part-requires-4 same-length-4 returns-4)

@@ -62,23 +62,6 @@ returns-4 c = as-real _ (vReal (c .before .before .before .before .before .befor
 
 pub put-real-element-spec : {M : Type 1} → statement M
 put-real-element-spec =
-    tie.close
-    (tie.spec
-    byte-of-real-requires
-    cast-put-comma-nat
-    put-comma-nat-requires
-    same-length
-    returns
-    word-of-real-requires
-    cast-put-comma-int
-    put-comma-int-requires
-    same-length-2
-    returns-2
-    big-of-real-requires
-    put-comma-int-requires-2
-    same-length-3
-    returns-3
-    bits-requires
-    put-comma-word-requires
-    same-length-4
-    returns-4)
+    tie.close (tie.spec byte-of-real-requires cast-put-comma-nat put-comma-nat-requires same-length returns word-of-real-requires cast-put-comma-int
+    put-comma-int-requires same-length-2 returns-2 big-of-real-requires put-comma-int-requires-2 same-length-3 returns-3 bits-requires
+    put-comma-word-requires same-length-4 returns-4)

@@ -23,12 +23,4 @@ returns-2 : tie.Need-returns-2
 returns-2 c = λ s. as-real-zero s (c .before .before .before .before .if1 .left) (c .before .before .put-comma-word .ensures)
 
 pub put-zero-element-spec : {M : Type 1} → statement M
-put-zero-element-spec =
-    tie.close
-    (tie.spec
-    put-comma-nat-requires
-    same-length
-    returns
-    put-comma-word-requires
-    same-length-2
-    returns-2)
+put-zero-element-spec = tie.close (tie.spec put-comma-nat-requires same-length returns put-comma-word-requires same-length-2 returns-2)

@@ -29,12 +29,5 @@ returns c = λ f. then (c .before .before .before .before .before .before .befor
 
 pub set-row-spec : {M : Type 1} → statement M
 set-row-spec =
-    tie.close
-    (tie.spec
-    slice-aggregate-put-part
-    put-part-requires
-    put-comma-nat-requires
-    slice-aggregate-put-part-2
-    put-part-requires-2
-    same-length
+    tie.close (tie.spec slice-aggregate-put-part put-part-requires put-comma-nat-requires slice-aggregate-put-part-2 put-part-requires-2 same-length
     returns)

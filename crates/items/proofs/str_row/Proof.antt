@@ -43,16 +43,5 @@ returns c = λ id. then (c .before .before .before .before .before .before .befo
 
 pub str-row-spec : {M : Type 1} → statement M
 str-row-spec =
-    tie.close
-    (tie.spec
-    slice-aggregate-put-part
-    put-part-requires
-    put-comma-nat-requires
-    add-put-comma-hex
-    sub-put-comma-hex
-    part-put-comma-hex-start
-    part-put-comma-hex-end
-    put-comma-hex-requires
-    put-lf-requires
-    same-length
-    returns)
+    tie.close (tie.spec slice-aggregate-put-part put-part-requires put-comma-nat-requires add-put-comma-hex sub-put-comma-hex part-put-comma-hex-start
+    part-put-comma-hex-end put-comma-hex-requires put-lf-requires same-length returns)

@@ -57,21 +57,5 @@ returns-3 c = λ id. one-row id (4 * c .before .before .before .before .before .
 
 pub string-row-spec : {M : Type 1} → statement M
 string-row-spec =
-    tie.close
-    (tie.spec
-    element-requires
-    enum-told
-    slice-aggregate-put-part
-    put-part-requires
-    enum-told-2
-    slice-aggregate-put-part-2
-    put-part-requires-2
-    enum-known-v
-    mul-str-row
-    str-row-requires
-    same-length
-    returns
-    same-length-2
-    returns-2
-    same-length-3
-    returns-3)
+    tie.close (tie.spec element-requires enum-told slice-aggregate-put-part put-part-requires enum-told-2 slice-aggregate-put-part-2
+    put-part-requires-2 enum-known-v mul-str-row str-row-requires same-length returns same-length-2 returns-2 same-length-3 returns-3)

@@ -51,16 +51,4 @@ returns-2 c = λ id. up-to (λ (n : ℕ). itemRows id (strItems 0 (valuesIn (now
 
 pub string-rows-spec : {M : Type 1} → statement M
 string-rows-spec =
-    tie.close
-    (tie.spec
-    Inv-loop
-    μ-loop
-    add-result
-    returns
-    loop-holds
-    string-row-requires
-    add-i
-    loop-less
-    loop-again
-    same-length
-    returns-2)
+    tie.close (tie.spec Inv-loop μ-loop add-result returns loop-holds string-row-requires add-i loop-less loop-again same-length returns-2)

@@ -46,18 +46,5 @@ returns-3 c = λ id ty h. string-item id (c .before .before .before .before .bef
 
 pub value-item-spec : {M : Type 1} → statement M
 value-item-spec =
-    tie.close
-    (tie.spec
-    enum-told
-    int-kind-requires
-    number-row-requires
-    enum-told-2
-    number-row-requires-2
-    enum-known-v
-    str-row-requires
-    same-length
-    returns
-    same-length-2
-    returns-2
-    same-length-3
-    returns-3)
+    tie.close (tie.spec enum-told int-kind-requires number-row-requires enum-told-2 number-row-requires-2 enum-known-v str-row-requires same-length
+    returns same-length-2 returns-2 same-length-3 returns-3)

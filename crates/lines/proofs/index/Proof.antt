@@ -91,30 +91,6 @@ loop-again c = (
 
 pub index-spec : {M : Type 1} → statement M
 index-spec =
-    tie.close
-    (tie.spec
-    Inv-loop
-    μ-loop
-    loop-holds
-    find-requires
-    same-length
-    returns
-    add-t10
-    same-length-2
-    returns-2
-    add-t11
-    same-length-3
-    returns-3
-    sub-form-of
-    part-form-of-start
-    part-form-of-end
-    add-form-of
-    form-of-requires
-    add-t16
-    same-length-4
-    returns-4
-    enter-requires
-    add-n
-    add-at
-    loop-less
+    tie.close (tie.spec Inv-loop μ-loop loop-holds find-requires same-length returns add-t10 same-length-2 returns-2 add-t11 same-length-3 returns-3
+    sub-form-of part-form-of-start part-form-of-end add-form-of form-of-requires add-t16 same-length-4 returns-4 enter-requires add-n add-at loop-less
     loop-again)

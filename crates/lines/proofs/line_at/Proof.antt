@@ -49,19 +49,5 @@ returns-2 c = line-text (now (c .before .before .before .before .before .before 
 
 pub line-at-spec : {M : Type 1} → statement M
 line-at-spec =
-    tie.close
-    (tie.spec
-    start-of-requires
-    add-if1
-    add-start-of
-    start-of-requires-2
-    sub-result
-    sub-result-2
-    part-result-start
-    part-result-end
-    returns
-    find-requires
-    sub-result-3
-    part-result-start-2
-    part-result-end-2
-    returns-2)
+    tie.close (tie.spec start-of-requires add-if1 add-start-of start-of-requires-2 sub-result sub-result-2 part-result-start part-result-end returns
+    find-requires sub-result-3 part-result-start-2 part-result-end-2 returns-2)

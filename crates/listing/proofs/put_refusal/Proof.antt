@@ -28,12 +28,5 @@ returns c = refusal-row (c .before .before .before .before .before .before .befo
 
 pub put-refusal-spec : {M : Type 1} → statement M
 put-refusal-spec =
-    tie.close
-    (tie.spec
-    slice-aggregate-put-part
-    put-part-requires
-    put-comma-nat-requires
-    put-comma-nat-requires-2
-    put-lf-requires
-    same-length
+    tie.close (tie.spec slice-aggregate-put-part put-part-requires put-comma-nat-requires put-comma-nat-requires-2 put-lf-requires same-length
     returns)

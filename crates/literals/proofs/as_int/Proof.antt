@@ -39,16 +39,4 @@ returns-5 c = λ t. long-value t asInt (c .enum-told4 .given .1)
 
 pub as-int-spec : {M : Type 1} → statement M
 as-int-spec =
-    tie.close
-    (tie.spec
-    enum-known-x
-    enum-known-v
-    enum-told
-    enum-told-2
-    enum-told-3
-    enum-told-4
-    returns
-    returns-2
-    returns-3
-    returns-4
-    returns-5)
+    tie.close (tie.spec enum-known-x enum-known-v enum-told enum-told-2 enum-told-3 enum-told-4 returns returns-2 returns-3 returns-4 returns-5)

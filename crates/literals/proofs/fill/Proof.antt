@@ -62,23 +62,5 @@ returns-2 c = turning-end (c .before .before .before .before .before .before .be
 
 pub fill-spec : {M : Type 1} → statement M
 fill-spec =
-    tie.close
-    (tie.spec
-    Inv-loop
-    μ-loop
-    empty-requires
-    sub-number-at
-    number-at-requires
-    loop-holds
-    sub-number-at-2
-    add-number-at
-    number-at-requires-2
-    fill-element-requires
-    enum-known-y
-    same-length
-    returns
-    add-j
-    loop-less
-    loop-again
-    same-length-2
-    returns-2)
+    tie.close (tie.spec Inv-loop μ-loop empty-requires sub-number-at number-at-requires loop-holds sub-number-at-2 add-number-at number-at-requires-2
+    fill-element-requires enum-known-y same-length returns add-j loop-less loop-again same-length-2 returns-2)

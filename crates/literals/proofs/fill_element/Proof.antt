@@ -1,5 +1,4 @@
 use Rattle.literals.proofs.Elements.{value-foldable, value-small, value-stored, turn-failed, turn-long, turn-placed}
-use Prim.Native.Nat.{_-_}
 use native.Mathlib.Omega.{arith}
 use borrow.Author.Needs.{needs}
 use Rattle.literals.proofs.fill_element.Statement.{statement}
@@ -61,23 +60,6 @@ returns-3 c = turn-long (c .before .before .before .before .before .before .befo
 
 pub fill-element-spec : {M : Type 1} → statement M
 fill-element-spec =
-    tie.close
-    (tie.spec
-    sub-number-at
-    number-at-requires
-    mul-fold-const
-    add-fold-const
-    fold-const-requires
-    enum-known-v
-    add-put-value
-    put-value-requires
-    add-place-element
-    place-element-requires
-    enum-told
-    enum-told-2
-    same-length
-    returns
-    same-length-2
-    returns-2
-    same-length-3
+    tie.close (tie.spec sub-number-at number-at-requires mul-fold-const add-fold-const fold-const-requires enum-known-v add-put-value
+    put-value-requires add-place-element place-element-requires enum-told enum-told-2 same-length returns same-length-2 returns-2 same-length-3
     returns-3)

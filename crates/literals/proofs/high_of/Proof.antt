@@ -28,13 +28,4 @@ returns-2 : tie.Need-returns-2
 returns-2 c = (high-some (c .before .before .before .before .before .before .before .before .before .pre) (c .before .before .before .before .before .number-at .ensures .0) (namesIn (now (c .before .before .before .before .before .before .before .before .before .args .sheet)) (now (c .before .before .before .before .before .before .before .before .before .args .work)) (c .before .before .before .before .before .before .before .before .before .args .m)) (c .before .before .before .before .before .before .before .before .before .args .low) (c .before .before .index-of .result) (c .before .before .before .before .if1 .left) (c .before .before .index-of .ensures .0), c .before .before .index-of .ensures .1)
 
 pub high-of-spec : {M : Type 1} → statement M
-high-of-spec =
-    tie.close
-    (tie.spec
-    sub-number-at
-    number-at-requires
-    same-length
-    returns
-    index-of-requires
-    same-length-2
-    returns-2)
+high-of-spec = tie.close (tie.spec sub-number-at number-at-requires same-length returns index-of-requires same-length-2 returns-2)

@@ -22,12 +22,4 @@ returns : tie.Need-returns
 returns c = (index-is (c .as-int .result) (c .before .before .before .fold-const .ensures) (c .as-int .ensures _), c .before .before .before .fold-const .ensures .kept)
 
 pub index-of-spec : {M : Type 1} → statement M
-index-of-spec =
-    tie.close
-    (tie.spec
-    mul-fold-const
-    add-fold-const
-    fold-const-requires
-    as-int-requires
-    same-length
-    returns)
+index-of-spec = tie.close (tie.spec mul-fold-const add-fold-const fold-const-requires as-int-requires same-length returns)

@@ -1,5 +1,4 @@
 use Rattle.literals.proofs.Elements.{element-small, element-next, element-star, element-at, element-spans}
-use Prim.Native.Nat.{_-_}
 use native.Mathlib.Omega.{arith}
 use borrow.Author.Needs.{needs}
 use Rattle.literals.proofs.place_element.Statement.{statement}
@@ -40,16 +39,5 @@ returns-3 c = element-spans (c .before .before .before .before .before .before .
 
 pub place-element-spec : {M : Type 1} → statement M
 place-element-spec =
-    tie.close
-    (tie.spec
-    sub-form-at
-    form-at-requires
-    place-next-requires
-    same-length
-    returns
-    put-value-requires
-    same-length-2
-    returns-2
-    place-selectors-requires
-    same-length-3
-    returns-3)
+    tie.close (tie.spec sub-form-at form-at-requires place-next-requires same-length returns put-value-requires same-length-2 returns-2
+    place-selectors-requires same-length-3 returns-3)

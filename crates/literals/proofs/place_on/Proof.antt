@@ -38,15 +38,4 @@ returns-4 c = moves-ended (now (c .before .before .before .args .work)) (c .befo
 
 pub place-on-spec : {M : Type 1} → statement M
 place-on-spec =
-    tie.close
-    (tie.spec
-    enum-known-x
-    place-indices-requires
-    enum-told
-    enum-told-2
-    enum-told-3
-    same-length
-    returns
-    returns-2
-    returns-3
-    returns-4)
+    tie.close (tie.spec enum-known-x place-indices-requires enum-told enum-told-2 enum-told-3 same-length returns returns-2 returns-3 returns-4)

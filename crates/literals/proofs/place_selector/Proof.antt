@@ -39,16 +39,5 @@ returns-3 c = selects-long (now (c .before .before .before .before .before .befo
 
 pub place-selector-spec : {M : Type 1} → statement M
 place-selector-spec =
-    tie.close
-    (tie.spec
-    span-of-requires
-    enum-known-low
-    place-on-requires
-    enum-told
-    enum-told-2
-    same-length
-    returns
-    same-length-2
-    returns-2
-    same-length-3
-    returns-3)
+    tie.close (tie.spec span-of-requires enum-known-low place-on-requires enum-told enum-told-2 same-length returns same-length-2 returns-2
+    same-length-3 returns-3)

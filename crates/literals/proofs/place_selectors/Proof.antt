@@ -60,22 +60,5 @@ returns-2 c = selecting-end (c .before .before .before .before .before .before .
 
 pub place-selectors-spec : {M : Type 1} → statement M
 place-selectors-spec =
-    tie.close
-    (tie.spec
-    Inv-loop
-    μ-loop
-    sub-number-at
-    number-at-requires
-    loop-holds
-    sub-number-at-2
-    add-number-at
-    number-at-requires-2
-    place-selector-requires
-    is-stopped-requires
-    same-length
-    returns
-    add-j
-    loop-less
-    loop-again
-    same-length-2
-    returns-2)
+    tie.close (tie.spec Inv-loop μ-loop sub-number-at number-at-requires loop-holds sub-number-at-2 add-number-at number-at-requires-2
+    place-selector-requires is-stopped-requires same-length returns add-j loop-less loop-again same-length-2 returns-2)

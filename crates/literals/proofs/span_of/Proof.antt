@@ -66,25 +66,5 @@ returns-5 c = (span-low-long (c .before .before .before .before .before .before 
 
 pub span-of-spec : {M : Type 1} → statement M
 span-of-spec =
-    tie.close
-    (tie.spec
-    sub-number-at
-    number-at-requires
-    index-of-requires
-    enum-known-low
-    high-of-requires
-    enum-known-high
-    enum-told
-    enum-told-2
-    enum-told-3
-    enum-told-4
-    same-length
-    returns
-    same-length-2
-    returns-2
-    same-length-3
-    returns-3
-    same-length-4
-    returns-4
-    same-length-5
-    returns-5)
+    tie.close (tie.spec sub-number-at number-at-requires index-of-requires enum-known-low high-of-requires enum-known-high enum-told enum-told-2
+    enum-told-3 enum-told-4 same-length returns same-length-2 returns-2 same-length-3 returns-3 same-length-4 returns-4 same-length-5 returns-5)

@@ -37,15 +37,4 @@ returns c = tt
 
 pub print-bytes-spec : {M : Type 1} → statement M
 print-bytes-spec =
-    tie.close
-    (tie.spec
-    Inv-loop
-    μ-loop
-    loop-holds
-    shared-slice-read-wide
-    wide-requires
-    print-hex-requires
-    add-i
-    loop-less
-    loop-again
-    returns)
+    tie.close (tie.spec Inv-loop μ-loop loop-holds shared-slice-read-wide wide-requires print-hex-requires add-i loop-less loop-again returns)

@@ -58,19 +58,5 @@ returns-3 c = module-closed (now (c .before .before .before .before .before .arg
 
 pub bad-module-spec : {M : Type 1} → statement M
 bad-module-spec =
-    tie.close
-    (tie.spec
-    Inv-loop
-    μ-loop
-    loop-holds
-    form-at-requires
-    kind-requires
-    is-wrong-requires
-    add-result
-    returns
-    is-open-requires
-    add-i
-    loop-less
-    loop-again
-    returns-2
-    returns-3)
+    tie.close (tie.spec Inv-loop μ-loop loop-holds form-at-requires kind-requires is-wrong-requires add-result returns is-open-requires add-i
+    loop-less loop-again returns-2 returns-3)

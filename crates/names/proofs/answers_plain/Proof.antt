@@ -28,13 +28,4 @@ returns-3 : tie.Need-returns-3
 returns-3 c = Laws.plain-in (now (c .before .before .before .before .before .before .before .before .before .args .sheet)) (now (c .before .before .before .before .before .before .before .before .before .args .work)) (c .before .before .before .before .before .before .before .before .before .args .i) (now (c .before .before .before .before .before .before .before .before .before .args .name)) (c .before .before .before .before .before .line-of .ensures) (c .before .before .before .before .is-named .ensures) (c .before .before .before .if1 .left) (c .before .before .module-line-of .ensures) (c .before .if2 .left) (c .implements .ensures)
 
 pub answers-plain-spec : {M : Type 1} → statement M
-answers-plain-spec =
-    tie.close
-    (tie.spec
-    line-of-requires
-    is-named-requires
-    returns
-    module-line-of-requires
-    returns-2
-    implements-requires
-    returns-3)
+answers-plain-spec = tie.close (tie.spec line-of-requires is-named-requires returns module-line-of-requires returns-2 implements-requires returns-3)

@@ -29,12 +29,4 @@ returns-3 c = Laws.qualified-in (now (c .before .before .before .before .before 
 
 pub answers-qualified-spec : {M : Type 1} → statement M
 answers-qualified-spec =
-    tie.close
-    (tie.spec
-    line-of-requires
-    is-named-requires
-    returns
-    module-line-of-requires
-    returns-2
-    is-named-requires-2
-    returns-3)
+    tie.close (tie.spec line-of-requires is-named-requires returns module-line-of-requires returns-2 is-named-requires-2 returns-3)

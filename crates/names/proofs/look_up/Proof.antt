@@ -41,16 +41,4 @@ returns-2 : tie.Need-returns-2 Inv-loop μ-loop
 returns-2 c = let w = Laws.look-end (now (c .before .before .before .before .before .args .sheet)) (now (c .before .before .before .before .before .args .work)) (plain (now (c .before .before .before .before .before .args .name))) (c .before .before .before .before .before .args .m) (c .before .loop .i) (c .before .loop .inv .1) (omega arith) in (w .value, omega arith, w .has)
 
 pub look-up-spec : {M : Type 1} → statement M
-look-up-spec =
-    tie.close
-    (tie.spec
-    Inv-loop
-    μ-loop
-    loop-holds
-    sub-answers-plain
-    answers-plain-requires
-    returns
-    sub-i
-    loop-less
-    loop-again
-    returns-2)
+look-up-spec = tie.close (tie.spec Inv-loop μ-loop loop-holds sub-answers-plain answers-plain-requires returns sub-i loop-less loop-again returns-2)

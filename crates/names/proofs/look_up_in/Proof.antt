@@ -42,15 +42,4 @@ returns-2 c = let w = Laws.look-end (now (c .before .before .before .before .bef
 
 pub look-up-in-spec : {M : Type 1} → statement M
 look-up-in-spec =
-    tie.close
-    (tie.spec
-    Inv-loop
-    μ-loop
-    loop-holds
-    sub-answers-qualified
-    answers-qualified-requires
-    returns
-    sub-i
-    loop-less
-    loop-again
-    returns-2)
+    tie.close (tie.spec Inv-loop μ-loop loop-holds sub-answers-qualified answers-qualified-requires returns sub-i loop-less loop-again returns-2)

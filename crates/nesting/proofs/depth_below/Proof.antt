@@ -47,17 +47,5 @@ returns c = (c .before .before .loop .inv .0, walking-end (now (c .before .befor
 
 pub depth-below-spec : {M : Type 1} → statement M
 depth-below-spec =
-    tie.close
-    (tie.spec
-    Inv-loop
-    μ-loop
-    line-at-requires
-    form-at-requires
-    begin-requires
-    loop-holds
-    next-requires
-    ref-depth-requires
-    larger-requires
-    loop-less
-    loop-again
-    returns)
+    tie.close (tie.spec Inv-loop μ-loop line-at-requires form-at-requires begin-requires loop-holds next-requires ref-depth-requires larger-requires
+    loop-less loop-again returns)

@@ -35,15 +35,4 @@ returns-5 : tie.Need-returns-5
 returns-5 c = (c .wide .ensures .0 ∙ depth-line (now (c .before .before .before .before .before .before .before .args .work)) (c .before .before .before .before .before .before .before .args .i) (c .before .before .before .before .before .before .before .args .x) (c .before .before .before .before .before .before .before .args .v) (c .before .before .before .before .before .if1 .left) (c .before .before .before .before .if2 .left) (c .before .before .before .if3 .left) (c .before .before .if4 .left), c .wide .ensures .1)
 
 pub ref-depth-spec : {M : Type 1} → statement M
-ref-depth-spec =
-    tie.close
-    (tie.spec
-    returns
-    returns-2
-    returns-3
-    returns-4
-    sub-wide
-    add-wide
-    shared-slice-read-wide
-    wide-requires
-    returns-5)
+ref-depth-spec = tie.close (tie.spec returns returns-2 returns-3 returns-4 sub-wide add-wide shared-slice-read-wide wide-requires returns-5)

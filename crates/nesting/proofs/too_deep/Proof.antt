@@ -59,21 +59,5 @@ returns-2 c = (c .before .loop .inv .2 .whole, descending-end (now (c .before .b
 
 pub too-deep-spec : {M : Type 1} → statement M
 too-deep-spec =
-    tie.close
-    (tie.spec
-    Inv-loop
-    μ-loop
-    loop-holds
-    depth-below-requires
-    add-d
-    add-result
-    same-length
-    returns
-    cast-work
-    add-work
-    slice-write-work
-    add-i
-    loop-less
-    loop-again
-    same-length-2
-    returns-2)
+    tie.close (tie.spec Inv-loop μ-loop loop-holds depth-below-requires add-d add-result same-length returns cast-work add-work slice-write-work add-i
+    loop-less loop-again same-length-2 returns-2)

@@ -36,16 +36,4 @@ returns-2 : tie.Need-returns-2 Inv-loop μ-loop
 returns-2 c = search needs
 
 pub number-spec : {M : Type 1} → statement M
-number-spec =
-    tie.close
-    (tie.spec
-    Inv-loop
-    μ-loop
-    loop-holds
-    shared-slice-read-digit
-    digit-requires
-    add-i
-    loop-less
-    loop-again
-    returns
-    returns-2)
+number-spec = tie.close (tie.spec Inv-loop μ-loop loop-holds shared-slice-read-digit digit-requires add-i loop-less loop-again returns returns-2)

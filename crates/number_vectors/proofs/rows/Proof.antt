@@ -59,22 +59,5 @@ returns c = search needs
 
 pub rows-spec : {M : Type 1} → statement M
 rows-spec =
-    tie.close
-    (tie.spec
-    Inv-loop
-    μ-loop
-    loop-holds
-    sub-loop
-    add-number
-    number-requires
-    add-number-2
-    add-number-3
-    number-requires-2
-    add-number-4
-    add-number-5
-    number-requires-3
-    row-requires
-    add-at
-    loop-less
-    loop-again
-    returns)
+    tie.close (tie.spec Inv-loop μ-loop loop-holds sub-loop add-number number-requires add-number-2 add-number-3 number-requires-2 add-number-4
+    add-number-5 number-requires-3 row-requires add-at loop-less loop-again returns)

@@ -44,17 +44,5 @@ returns-5 c = search needs
 
 pub unary-result-spec : {M : Type 1} → statement M
 unary-result-spec =
-    tie.close
-    (tie.spec
-    neg-requires
-    not-requires
-    bit-not-requires
-    word-of-int-requires
-    cast-result
-    byte-of-int-requires
-    cast-result-2
-    returns
-    returns-2
-    returns-3
-    returns-4
-    returns-5)
+    tie.close (tie.spec neg-requires not-requires bit-not-requires word-of-int-requires cast-result byte-of-int-requires cast-result-2 returns
+    returns-2 returns-3 returns-4 returns-5)

@@ -32,13 +32,4 @@ returns-3 c = search needs
 
 pub whole-result-spec : {M : Type 1} → statement M
 whole-result-spec =
-    tie.close
-    (tie.spec
-    big-of-real-requires
-    word-of-real-requires
-    cast-result
-    byte-of-real-requires
-    cast-result-2
-    returns
-    returns-2
-    returns-3)
+    tie.close (tie.spec big-of-real-requires word-of-real-requires cast-result byte-of-real-requires cast-result-2 returns returns-2 returns-3)

@@ -30,13 +30,4 @@ unfolding slotAt entryAt
 returns c = c .value-at .ensures ∙ ap (λ (b : ℕ). slotOf (now (c .before .before .before .before .args .work)) (12288 + 16 * b)) (c .before .wide .ensures .0)
 
 pub element-spec : {M : Type 1} → statement M
-element-spec =
-    tie.close
-    (tie.spec
-    add-wide
-    shared-slice-read-wide
-    wide-requires
-    mul-value-at
-    add-value-at
-    value-at-requires
-    returns)
+element-spec = tie.close (tie.spec add-wide shared-slice-read-wide wide-requires mul-value-at add-value-at value-at-requires returns)

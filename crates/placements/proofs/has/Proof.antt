@@ -37,16 +37,4 @@ returns-2 : tie.Need-returns-2 Inv-loop μ-loop
 returns-2 c = passing-end (c .before .loop .inv) (c .loop-test .left)
 
 pub has-spec : {M : Type 1} → statement M
-has-spec =
-    tie.close
-    (tie.spec
-    Inv-loop
-    μ-loop
-    loop-holds
-    element-requires
-    rank-requires
-    returns
-    add-i
-    loop-less
-    loop-again
-    returns-2)
+has-spec = tie.close (tie.spec Inv-loop μ-loop loop-holds element-requires rank-requires returns add-i loop-less loop-again returns-2)

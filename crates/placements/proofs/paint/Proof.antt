@@ -47,18 +47,5 @@ returns c = painting-end (c .before .loop .inv) (omega (arith, c .before .before
 
 pub paint-spec : {M : Type 1} → statement M
 paint-spec =
-    tie.close
-    (tie.spec
-    Inv-loop
-    μ-loop
-    clipped-requires
-    add-clipped
-    clipped-requires-2
-    loop-holds
-    add-work
-    slice-write-work
-    add-i
-    loop-less
-    loop-again
-    same-length
-    returns)
+    tie.close (tie.spec Inv-loop μ-loop clipped-requires add-clipped clipped-requires-2 loop-holds add-work slice-write-work add-i loop-less
+    loop-again same-length returns)

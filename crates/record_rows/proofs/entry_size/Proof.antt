@@ -27,13 +27,4 @@ returns-2 : tie.Need-returns-2
 returns-2 c = sized (now (c .before .before .before .before .before .before .args .sheet)) (now (c .before .before .before .before .before .before .args .work)) (c .before .before .before .before .before .before .args .n) (c .before .before .before .before .before .before .args .m) (c .before .before .before .before .before .before .args .i) (c .before .before .before .before .before .before .pre) (c .variant-size .ensures ∙ rw (shape-variant (now (c .before .before .before .before .before .before .args .sheet)) (now (c .before .before .before .before .before .before .args .work)) (c .before .before .before .before .before .before .args .n) (c .before .before .before .before .before .before .args .i) (c .before .before .before .before .before .before .pre .log .entries _ (c .before .before .before .before .before .before .pre .low)) (c .before .before .before .line-of .ensures) (c .before .before .case-of .ensures .0) (c .before .if1 .left)))
 
 pub entry-size-spec : {M : Type 1} → statement M
-entry-size-spec =
-    tie.close
-    (tie.spec
-    line-of-requires
-    case-of-requires
-    record-size-requires
-    returns
-    sub-variant-size
-    variant-size-requires
-    returns-2)
+entry-size-spec = tie.close (tie.spec line-of-requires case-of-requires record-size-requires returns sub-variant-size variant-size-requires returns-2)

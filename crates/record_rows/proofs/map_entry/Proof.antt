@@ -33,14 +33,5 @@ returns-2 c = rw (shape-variant (now (c .before .before .before .before .before 
 
 pub map-entry-spec : {M : Type 1} → statement M
 map-entry-spec =
-    tie.close
-    (tie.spec
-    line-of-requires
-    case-of-requires
-    map-record-requires
-    same-length
-    returns
-    sub-map-variant
-    map-variant-requires
-    same-length-2
+    tie.close (tie.spec line-of-requires case-of-requires map-record-requires same-length returns sub-map-variant map-variant-requires same-length-2
     returns-2)

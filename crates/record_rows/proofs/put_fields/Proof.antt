@@ -57,21 +57,5 @@ returns-3 c = wrote-as (fields-variant (now (c .before .before .before .before .
 
 pub put-fields-spec : {M : Type 1} → statement M
 put-fields-spec =
-    tie.close
-    (tie.spec
-    line-of-requires
-    sub-form-at
-    form-at-requires
-    put-common-requires
-    same-length
-    returns
-    put-common-requires-2
-    case-of-requires
-    same-length-2
-    returns-2
-    place-common-requires
-    sub-case-line
-    case-line-requires
-    put-case-requires
-    same-length-3
-    returns-3)
+    tie.close (tie.spec line-of-requires sub-form-at form-at-requires put-common-requires same-length returns put-common-requires-2 case-of-requires
+    same-length-2 returns-2 place-common-requires sub-case-line case-line-requires put-case-requires same-length-3 returns-3)

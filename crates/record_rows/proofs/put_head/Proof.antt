@@ -24,12 +24,4 @@ returns : tie.Need-returns
 returns c = head-text (recordedAt (now (c .before .before .before .before .before .before .before .before .before .before .before .before .before .before .before .before .args .sheet)) (now (c .before .before .before .before .before .before .before .before .before .before .before .before .before .before .before .before .args .work)) (c .before .before .before .before .before .before .before .before .before .before .before .before .before .before .before .before .args .i)) (c .before .before .before .before .before .before .before .before .before .before .put-part .ensures) (c .before .before .before .before .before .before .put-key .ensures) (c .before .before .put-tag .ensures (now (c .before .before .before .before .before .before .before .before .before .before .before .before .before .before .before .before .args .sheet)))
 
 pub put-head-spec : {M : Type 1} → statement M
-put-head-spec =
-    tie.close
-    (tie.spec
-    slice-aggregate-put-part
-    put-part-requires
-    put-key-requires
-    put-tag-requires
-    same-length
-    returns)
+put-head-spec = tie.close (tie.spec slice-aggregate-put-part put-part-requires put-key-requires put-tag-requires same-length returns)

@@ -37,15 +37,5 @@ returns-2 c = wrote-as (key-variant (now (c .before .before .before .before .bef
 
 pub put-key-spec : {M : Type 1} → statement M
 put-key-spec =
-    tie.close
-    (tie.spec
-    name-of-requires
-    put-comma-part-requires
-    case-of-requires
-    same-length
-    returns
-    put-requires
-    tag-of-requires
-    put-part-requires
-    same-length-2
-    returns-2)
+    tie.close (tie.spec name-of-requires put-comma-part-requires case-of-requires same-length returns put-requires tag-of-requires put-part-requires
+    same-length-2 returns-2)

@@ -32,13 +32,4 @@ returns-2 c = record { wrote = wrote-as (rows-later (now (c .before .before .bef
 
 pub put-newest-spec : {M : Type 1} → statement M
 put-newest-spec =
-    tie.close
-    (tie.spec
-    is-first-requires
-    newest-of-requires
-    put-record-requires
-    same-length
-    same-length-2
-    returns
-    same-length-3
-    returns-2)
+    tie.close (tie.spec is-first-requires newest-of-requires put-record-requires same-length same-length-2 returns same-length-3 returns-2)

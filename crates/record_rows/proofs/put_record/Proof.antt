@@ -29,12 +29,4 @@ returns : tie.Need-returns
 returns c = record { wrote = wrote-as (record-text (recordedAt (now (c .before .before .before .before .before .before .before .before .before .before .before .before .before .before .before .before .before .before .before .before .args .sheet)) (now (c .before .before .before .before .before .before .before .before .before .before .before .before .before .before .before .before .before .before .before .before .args .work)) (c .before .before .before .before .before .before .before .before .before .before .before .before .before .before .before .before .before .before .before .before .args .i))) (then (then (c .before .before .before .before .before .before .before .before .before .before .before .before .before .before .put-head .ensures) (c .before .before .before .before .before .before .before .before .before .put-shape .ensures .wrote)) (rw (recorded-kept (kept-less (omega arith) (c .before .before .before .before .before .before .before .before .before .put-shape .ensures .kept)) (now (c .before .before .before .before .before .before .before .before .before .before .before .before .before .before .before .before .before .before .before .before .args .sheet)) (c .before .before .before .before .before .before .before .before .before .before .before .before .before .before .before .before .before .before .before .before .args .i) (omega (arith, c .before .before .before .before .before .before .before .before .before .before .before .before .before .before .before .before .before .before .before .before .pre .low, c .before .before .before .before .before .before .before .before .before .before .before .before .before .before .before .before .before .before .before .before .pre .log .few))) at (c .before .before .put-fields .ensures))); kept = c .before .before .before .before .before .before .before .before .before .put-shape .ensures .kept }
 
 pub put-record-spec : {M : Type 1} → statement M
-put-record-spec =
-    tie.close
-    (tie.spec
-    put-head-requires
-    put-shape-requires
-    put-fields-requires
-    same-length
-    same-length-2
-    returns)
+put-record-spec = tie.close (tie.spec put-head-requires put-shape-requires put-fields-requires same-length same-length-2 returns)

@@ -54,19 +54,5 @@ returns c = record { wrote = wrote-as (shape-text (recordedAt (now (c .before .b
 
 pub put-shape-spec : {M : Type 1} → statement M
 put-shape-spec =
-    tie.close
-    (tie.spec
-    entry-size-requires
-    map-entry-requires
-    cast-put-comma-nat
-    put-comma-nat-requires
-    map-bytes-requires
-    add-end
-    sub-put-comma-hex
-    part-put-comma-hex-start
-    part-put-comma-hex-end
-    put-comma-hex-requires
-    put-lf-requires
-    same-length
-    same-length-2
-    returns)
+    tie.close (tie.spec entry-size-requires map-entry-requires cast-put-comma-nat put-comma-nat-requires map-bytes-requires add-end sub-put-comma-hex
+    part-put-comma-hex-start part-put-comma-hex-end put-comma-hex-requires put-lf-requires same-length same-length-2 returns)

@@ -40,16 +40,5 @@ returns-2 c = λ s. wrote-as (tag-variant s (now (c .before .before .before .bef
 
 pub put-tag-spec : {M : Type 1} → statement M
 put-tag-spec =
-    tie.close
-    (tie.spec
-    case-of-requires
-    slice-aggregate-put-part
-    put-part-requires
-    same-length
-    returns
-    number-of-requires
-    put-comma-nat-requires
-    sub-put-comma-nat
-    put-comma-nat-requires-2
-    same-length-2
-    returns-2)
+    tie.close (tie.spec case-of-requires slice-aggregate-put-part put-part-requires same-length returns number-of-requires put-comma-nat-requires
+    sub-put-comma-nat put-comma-nat-requires-2 same-length-2 returns-2)

@@ -39,16 +39,4 @@ returns : tie.Need-returns Inv-loop μ-loop
 returns c = keying-end (now (c .before .before .before .before .before .args .sheet)) (now (c .before .before .before .before .before .args .work)) (c .before .before .before .before .before .args .n) (c .before .before .before .before .before .args .m) (c .before .before .before .before .before .pre .0) (now (c .before .before .before .before .before .args .out)) (c .before .before .before .before .before .args .at) _ _ _ _ (c .before .loop .inv) (c .loop-test .left) refl
 
 pub record-rows-spec : {M : Type 1} → statement M
-record-rows-spec =
-    tie.close
-    (tie.spec
-    Inv-loop
-    μ-loop
-    loop-holds
-    put-newest-requires
-    add-i
-    loop-less
-    loop-again
-    same-length
-    same-length-2
-    returns)
+record-rows-spec = tie.close (tie.spec Inv-loop μ-loop loop-holds put-newest-requires add-i loop-less loop-again same-length same-length-2 returns)

@@ -41,16 +41,4 @@ returns : tie.Need-returns Inv-loop μ-loop
 returns c = entries-end (now (c .before .before .before .before .args .sheet)) (now (c .before .before .before .before .args .work)) (c .before .before .before .before .args .n) (c .before .before .before .before .pre) _ (c .before .loop .inv .0) (c .loop-test .left) _ _ (c .before .loop .inv .1) _ refl
 
 pub collect-adts-spec : {M : Type 1} → statement M
-collect-adts-spec =
-    tie.close
-    (tie.spec
-    Inv-loop
-    μ-loop
-    loop-holds
-    add-r
-    record-adt-requires
-    loop-less
-    loop-again
-    sub-result
-    same-length
-    returns)
+collect-adts-spec = tie.close (tie.spec Inv-loop μ-loop loop-holds add-r record-adt-requires loop-less loop-again sub-result same-length returns)

@@ -48,18 +48,5 @@ returns c = casing-end (now (c .before .before .before .before .before .before .
 
 pub put-cases-spec : {M : Type 1} → statement M
 put-cases-spec =
-    tie.close
-    (tie.spec
-    Inv-loop
-    μ-loop
-    case-count-requires
-    loop-holds
-    case-line-requires
-    tag-count-requires
-    add-c
-    put-tags-requires
-    add-number
-    loop-less
-    loop-again
-    same-length
-    returns)
+    tie.close (tie.spec Inv-loop μ-loop case-count-requires loop-holds case-line-requires tag-count-requires add-c put-tags-requires add-number
+    loop-less loop-again same-length returns)

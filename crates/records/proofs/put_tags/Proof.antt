@@ -37,16 +37,4 @@ returns : tie.Need-returns Inv-loop μ-loop
 returns c = tagging-end (c .before .before .before .args .r) (c .before .before .before .args .case) (c .before .before .before .args .count) (c .before .before .before .args .number) (now (c .before .before .before .args .work)) (c .before .before .before .args .at) _ _ _ (c .before .loop .inv) (c .loop-test .left)
 
 pub put-tags-spec : {M : Type 1} → statement M
-put-tags-spec =
-    tie.close
-    (tie.spec
-    Inv-loop
-    μ-loop
-    loop-holds
-    add-put-entry
-    put-entry-requires
-    add-j
-    loop-less
-    loop-again
-    same-length
-    returns)
+put-tags-spec = tie.close (tie.spec Inv-loop μ-loop loop-holds add-put-entry put-entry-requires add-j loop-less loop-again same-length returns)

@@ -40,16 +40,5 @@ returns-3 c = wrote-as (no-entries (now (c .before .before .before .before .befo
 
 pub record-adt-spec : {M : Type 1} → statement M
 record-adt-spec =
-    tie.close
-    (tie.spec
-    sub-form-at
-    form-at-requires
-    put-entry-requires
-    same-length
-    returns
-    put-entry-requires-2
-    put-cases-requires
-    same-length-2
-    returns-2
-    same-length-3
-    returns-3)
+    tie.close (tie.spec sub-form-at form-at-requires put-entry-requires same-length returns put-entry-requires-2 put-cases-requires same-length-2
+    returns-2 same-length-3 returns-3)

@@ -48,17 +48,5 @@ returns-2 c = (c .before .loop .inv .2 .whole, passing-end (now (c .before .befo
 
 pub bad-ref-spec : {M : Type 1} → statement M
 bad-ref-spec =
-    tie.close
-    (tie.spec
-    Inv-loop
-    μ-loop
-    loop-holds
-    use-refs-requires
-    add-result
-    same-length
-    returns
-    add-i
-    loop-less
-    loop-again
-    same-length-2
+    tie.close (tie.spec Inv-loop μ-loop loop-holds use-refs-requires add-result same-length returns add-i loop-less loop-again same-length-2
     returns-2)

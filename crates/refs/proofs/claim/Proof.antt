@@ -68,23 +68,5 @@ returns-7 c = claim-good (now (c .before .before .before .before .before .before
 
 pub claim-spec : {M : Type 1} → statement M
 claim-spec =
-    tie.close
-    (tie.spec
-    returns
-    returns-2
-    returns-3
-    returns-4
-    sub-i
-    form-at-requires
-    kind-requires
-    wanted-requires
-    same-length
-    returns-5
-    add-if6
-    slice-read-if6
-    same-length-2
-    returns-6
-    add-work
-    slice-write-work
-    same-length-3
-    returns-7)
+    tie.close (tie.spec returns returns-2 returns-3 returns-4 sub-i form-at-requires kind-requires wanted-requires same-length returns-5 add-if6
+    slice-read-if6 same-length-2 returns-6 add-work slice-write-work same-length-3 returns-7)

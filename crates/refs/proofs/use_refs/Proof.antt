@@ -58,20 +58,5 @@ returns-2 c = (c .before .before .loop .inv .1 .whole, going-end (now (c .before
 
 pub use-refs-spec : {M : Type 1} → statement M
 use-refs-spec =
-    tie.close
-    (tie.spec
-    Inv-loop
-    μ-loop
-    line-at-requires
-    form-at-requires
-    begin-requires
-    loop-holds
-    next-requires
-    add-claim
-    claim-requires
-    same-length
-    returns
-    loop-less
-    loop-again
-    same-length-2
-    returns-2)
+    tie.close (tie.spec Inv-loop μ-loop line-at-requires form-at-requires begin-requires loop-holds next-requires add-claim claim-requires same-length
+    returns loop-less loop-again same-length-2 returns-2)

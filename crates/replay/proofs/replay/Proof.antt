@@ -64,19 +64,5 @@ returns-2 c =
 
 pub replay-spec : {M : Type 1} → statement M
 replay-spec =
-    tie.close
-    (tie.spec
-    zero-requires
-    zero-requires-2
-    read-sizes-requires
-    lay-rows-requires
-    zero-requires-3
-    zero-requires-4
-    same-length
-    same-length-2
-    same-length-3
-    returns
-    same-length-4
-    same-length-5
-    same-length-6
-    returns-2)
+    tie.close (tie.spec zero-requires zero-requires-2 read-sizes-requires lay-rows-requires zero-requires-3 zero-requires-4 same-length same-length-2
+    same-length-3 returns same-length-4 same-length-5 same-length-6 returns-2)

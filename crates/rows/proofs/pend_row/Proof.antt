@@ -25,12 +25,4 @@ unfolding row
 returns c = then (c .before .before .before .before .before .before .before .before .before .before .put-part .ensures) (then (c .before .before .before .before .before .before .put-comma-part .ensures) (c .before .before .put-lf .ensures))
 
 pub pend-row-spec : {M : Type 1} → statement M
-pend-row-spec =
-    tie.close
-    (tie.spec
-    slice-aggregate-put-part
-    put-part-requires
-    put-comma-part-requires
-    put-lf-requires
-    same-length
-    returns)
+pend-row-spec = tie.close (tie.spec slice-aggregate-put-part put-part-requires put-comma-part-requires put-lf-requires same-length returns)

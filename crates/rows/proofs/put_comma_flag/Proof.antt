@@ -30,13 +30,4 @@ returns-2 : tie.Need-returns-2
 returns-2 c = wrote-as (ap (λ (t : Bool). 44 ∷ flag t) (sym (c .before .before .before .before .if1 .left))) (then (c .before .before .before .before .before .before .before .put .ensures) (c .before .before .put3 .ensures))
 
 pub put-comma-flag-spec : {M : Type 1} → statement M
-put-comma-flag-spec =
-    tie.close
-    (tie.spec
-    put-requires
-    put-requires-2
-    same-length
-    returns
-    put-requires-3
-    same-length-2
-    returns-2)
+put-comma-flag-spec = tie.close (tie.spec put-requires put-requires-2 same-length returns put-requires-3 same-length-2 returns-2)

@@ -42,16 +42,5 @@ returns-3 c = search needs
 
 pub print-line-spec : {M : Type 1} → statement M
 print-line-spec =
-    tie.close
-    (tie.spec
-    sub-form-at
-    form-at-requires
-    print-record-requires
-    same-length
-    returns
-    print-record-requires-2
-    print-variants-requires
-    same-length-2
-    returns-2
-    same-length-3
-    returns-3)
+    tie.close (tie.spec sub-form-at form-at-requires print-record-requires same-length returns print-record-requires-2 print-variants-requires
+    same-length-2 returns-2 same-length-3 returns-3)

@@ -33,15 +33,4 @@ returns : tie.Need-returns Inv-loop μ-loop
 returns c = tt
 
 pub print-lines-spec : {M : Type 1} → statement M
-print-lines-spec =
-    tie.close
-    (tie.spec
-    Inv-loop
-    μ-loop
-    loop-holds
-    add-r
-    print-line-requires
-    loop-less
-    loop-again
-    same-length
-    returns)
+print-lines-spec = tie.close (tie.spec Inv-loop μ-loop loop-holds add-r print-line-requires loop-less loop-again same-length returns)

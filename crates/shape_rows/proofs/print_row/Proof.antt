@@ -94,34 +94,7 @@ returns-2 c = search needs
 
 pub print-row-spec : {M : Type 1} → statement M
 print-row-spec =
-    tie.close
-    (tie.spec
-    slice-aggregate-put-nat
-    put-nat-requires
-    slice-aggregate-put
-    put-requires
-    slice-aggregate-put-nat-2
-    put-nat-requires-2
-    slice-aggregate-put-2
-    put-requires-2
-    slice-aggregate-put-nat-3
-    map-ones-requires
-    cast-put-nat
-    put-nat-requires-3
-    slice-aggregate-put-3
-    put-requires-3
-    map-bytes-requires
-    add-end
-    slice-aggregate-put-hex
-    sub-put-hex
-    part-put-hex-start
-    part-put-hex-end
-    put-hex-requires
-    slice-aggregate-put-4
-    put-requires-4
-    sub-write-all
-    part-write-all-start
-    part-write-all-end
-    write-all-requires
-    returns
-    returns-2)
+    tie.close (tie.spec slice-aggregate-put-nat put-nat-requires slice-aggregate-put put-requires slice-aggregate-put-nat-2 put-nat-requires-2
+    slice-aggregate-put-2 put-requires-2 slice-aggregate-put-nat-3 map-ones-requires cast-put-nat put-nat-requires-3 slice-aggregate-put-3
+    put-requires-3 map-bytes-requires add-end slice-aggregate-put-hex sub-put-hex part-put-hex-start part-put-hex-end put-hex-requires
+    slice-aggregate-put-4 put-requires-4 sub-write-all part-write-all-start part-write-all-end write-all-requires returns returns-2)

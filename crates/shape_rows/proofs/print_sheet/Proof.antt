@@ -34,15 +34,5 @@ returns-2 c = search needs
 
 pub print-sheet-spec : {M : Type 1} → statement M
 print-sheet-spec =
-    tie.close
-    (tie.spec
-    check-requires
-    enum-told
-    slice-aggregate-write-all
-    write-all-requires
-    enum-known-n
-    print-lines-requires
-    same-length
-    returns
-    same-length-2
-    returns-2)
+    tie.close (tie.spec check-requires enum-told slice-aggregate-write-all write-all-requires enum-known-n print-lines-requires same-length returns
+    same-length-2 returns-2)

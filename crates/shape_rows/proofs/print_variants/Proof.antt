@@ -38,15 +38,4 @@ returns c = c .before .loop .inv
 
 pub print-variants-spec : {M : Type 1} → statement M
 print-variants-spec =
-    tie.close
-    (tie.spec
-    Inv-loop
-    μ-loop
-    case-count-requires
-    loop-holds
-    print-variant-requires
-    add-c
-    loop-less
-    loop-again
-    same-length
-    returns)
+    tie.close (tie.spec Inv-loop μ-loop case-count-requires loop-holds print-variant-requires add-c loop-less loop-again same-length returns)

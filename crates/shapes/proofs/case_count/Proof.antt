@@ -23,12 +23,4 @@ returns : tie.Need-returns
 returns c = case-count (now (c .before .before .before .before .args .sheet)) (now (c .before .before .before .before .args .work)) (c .before .before .before .before .args .n) (c .before .before .before .before .args .r) (c .before .before .before .before .pre) (c .before .number-at .result) (c .before .number-at .ensures .0) (c .number-at2 .result) (c .number-at2 .ensures .0)
 
 pub case-count-spec : {M : Type 1} → statement M
-case-count-spec =
-    tie.close
-    (tie.spec
-    sub-number-at
-    number-at-requires
-    sub-number-at-2
-    add-number-at
-    number-at-requires-2
-    returns)
+case-count-spec = tie.close (tie.spec sub-number-at number-at-requires sub-number-at-2 add-number-at number-at-requires-2 returns)

@@ -27,13 +27,4 @@ returns : tie.Need-returns
 returns c = case-line (now (c .before .before .before .before .args .sheet)) (now (c .before .before .before .before .args .work)) (c .before .before .before .before .args .n) (c .before .before .before .before .args .r) (c .before .before .before .before .pre .line) (c .before .number-at .result) (c .before .number-at .ensures .0) (c .before .before .before .before .args .c) (c .number-at2 .result) (c .before .before .before .before .pre .case) (c .number-at2 .ensures .0)
 
 pub case-line-spec : {M : Type 1} → statement M
-case-line-spec =
-    tie.close
-    (tie.spec
-    sub-number-at
-    number-at-requires
-    sub-number-at-2
-    add-number-at
-    add-number-at-2
-    number-at-requires-2
-    returns)
+case-line-spec = tie.close (tie.spec sub-number-at number-at-requires sub-number-at-2 add-number-at add-number-at-2 number-at-requires-2 returns)

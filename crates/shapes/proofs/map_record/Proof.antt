@@ -38,14 +38,5 @@ returns-2 c = made-then (c .before .before .before .before .before .before .befo
 
 pub map-record-spec : {M : Type 1} → statement M
 map-record-spec =
-    tie.close
-    (tie.spec
-    clear-map-requires
-    sub-form-at
-    form-at-requires
-    mark-common-requires
-    same-length
-    returns
-    mark-pick-requires
-    same-length-2
+    tie.close (tie.spec clear-map-requires sub-form-at form-at-requires mark-common-requires same-length returns mark-pick-requires same-length-2
     returns-2)

@@ -28,12 +28,4 @@ returns : tie.Need-returns
 returns c = made-then (c .before .before .before .before .before .before .before .before .before .before .before .before .before .before .before .before .pre .1) (c .before .before .before .before .before .before .before .before .before .before .before .before .clear-map .ensures) (variant-marks (now (c .before .before .before .before .before .before .before .before .before .before .before .before .before .before .before .before .args .sheet)) _ (c .before .before .before .before .before .before .before .before .before .before .before .before .before .before .before .before .args .n) (c .before .before .before .before .before .before .before .before .before .before .before .before .before .before .before .before .args .r) (c .before .before .before .before .before .before .before .before .before .before .before .before .before .before .before .before .args .size) (c .before .before .before .before .before .before .before .before .mark-common .ensures .0) (c .before .before .before .before .case-line .ensures) (c .before .before .mark-case .ensures))
 
 pub map-variant-spec : {M : Type 1} → statement M
-map-variant-spec =
-    tie.close
-    (tie.spec
-    clear-map-requires
-    mark-common-requires
-    case-line-requires
-    mark-case-requires
-    same-length
-    returns)
+map-variant-spec = tie.close (tie.spec clear-map-requires mark-common-requires case-line-requires mark-case-requires same-length returns)

@@ -47,17 +47,5 @@ returns c = cases-marked-end (now (c .before .before .before .before .before .be
 
 pub mark-pick-spec : {M : Type 1} → statement M
 mark-pick-spec =
-    tie.close
-    (tie.spec
-    Inv-loop
-    μ-loop
-    mark-common-requires
-    case-count-requires
-    loop-holds
-    case-line-requires
-    mark-case-requires
-    add-c
-    loop-less
-    loop-again
-    same-length
-    returns)
+    tie.close (tie.spec Inv-loop μ-loop mark-common-requires case-count-requires loop-holds case-line-requires mark-case-requires add-c loop-less
+    loop-again same-length returns)

@@ -46,18 +46,5 @@ returns c = largest-end (now (c .before .before .before .before .before .before 
 
 pub pick-size-spec : {M : Type 1} → statement M
 pick-size-spec =
-    tie.close
-    (tie.spec
-    Inv-loop
-    μ-loop
-    behind-common-requires
-    case-count-requires
-    rounded-size-requires
-    loop-holds
-    case-line-requires
-    case-size-requires
-    larger-requires
-    add-c
-    loop-less
-    loop-again
-    returns)
+    tie.close (tie.spec Inv-loop μ-loop behind-common-requires case-count-requires rounded-size-requires loop-holds case-line-requires
+    case-size-requires larger-requires add-c loop-less loop-again returns)

@@ -24,6 +24,4 @@ returns-2 : tie.Need-returns-2
 returns-2 c = search needs
 
 pub record-size-spec : {M : Type 1} → statement M
-record-size-spec =
-    tie.close
-    (tie.spec sub-form-at form-at-requires adt-size-requires returns pick-size-requires returns-2)
+record-size-spec = tie.close (tie.spec sub-form-at form-at-requires adt-size-requires returns pick-size-requires returns-2)

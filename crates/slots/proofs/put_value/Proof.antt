@@ -58,21 +58,5 @@ returns-3 c = let s = subst (λ (x : ConstVal). Small x) (c .before .before .bef
 
 pub put-value-spec : {M : Type 1} → statement M
 put-value-spec =
-    tie.close
-    (tie.spec
-    enum-known-v
-    bits-requires
-    store-requires
-    enum-known-v-2
-    bits-requires-2
-    store-requires-2
-    enum-known-v-3
-    mul-store
-    add-store
-    store-requires-3
-    same-length
-    returns
-    same-length-2
-    returns-2
-    same-length-3
-    returns-3)
+    tie.close (tie.spec enum-known-v bits-requires store-requires enum-known-v-2 bits-requires-2 store-requires-2 enum-known-v-3 mul-store add-store
+    store-requires-3 same-length returns same-length-2 returns-2 same-length-3 returns-3)

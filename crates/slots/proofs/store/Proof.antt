@@ -16,10 +16,4 @@ returns : tie.Need-returns
 returns c = then (c .before .before .before .before .before .before .put .ensures) (c .before .before .put-bits .ensures) .bytes
 
 pub store-spec : {M : Type 1} → statement M
-store-spec =
-    tie.close
-    (tie.spec
-    put-requires
-    put-bits-requires
-    same-length
-    returns)
+store-spec = tie.close (tie.spec put-requires put-bits-requires same-length returns)

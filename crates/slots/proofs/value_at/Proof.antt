@@ -32,13 +32,4 @@ returns-3 c = int-slot (now (c .before .before .before .before .before .before .
 
 pub value-at-spec : {M : Type 1} → statement M
 value-at-spec =
-    tie.close
-    (tie.spec
-    add-bits-at
-    bits-at-requires
-    shared-slice-read-kind
-    of-bits-requires
-    returns
-    returns-2
-    of-bits-requires-2
-    returns-3)
+    tie.close (tie.spec add-bits-at bits-at-requires shared-slice-read-kind of-bits-requires returns returns-2 of-bits-requires-2 returns-3)

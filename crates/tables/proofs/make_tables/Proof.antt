@@ -33,13 +33,4 @@ returns-2 c = let w = constants-there (now (c .before .before .before .before .b
 
 pub make-tables-spec : {M : Type 1} → statement M
 make-tables-spec =
-    tie.close
-    (tie.spec
-    collect-consts-requires
-    enum-known-k
-    enum-known-m
-    make-others-requires
-    same-length
-    returns
-    same-length-2
-    returns-2)
+    tie.close (tie.spec collect-consts-requires enum-known-k enum-known-m make-others-requires same-length returns same-length-2 returns-2)

@@ -57,19 +57,5 @@ returns-4 c =
 
 pub field-place-spec : {M : Type 1} → statement M
 field-place-spec =
-    tie.close
-    (tie.spec
-    returns
-    sub-skip
-    skip-requires
-    returns-2
-    find-requires
-    sub-t
-    part-t-start
-    part-t-end
-    skip-requires-2
-    returns-3
-    find-requires-2
-    add-t10
-    add-t11
-    returns-4)
+    tie.close (tie.spec returns sub-skip skip-requires returns-2 find-requires sub-t part-t-start part-t-end skip-requires-2 returns-3 find-requires-2
+    add-t10 add-t11 returns-4)

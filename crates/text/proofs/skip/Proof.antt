@@ -53,17 +53,4 @@ returns-2 c =
     skip-end (a .b) (a .n) (l .k) (l .at) (now (a .s)) (l .inv .2) (l .inv .1) (c .loop-test .left)
 
 pub skip-spec : {M : Type 1} → statement M
-skip-spec =
-    tie.close
-    (tie.spec
-    Inv-loop
-    μ-loop
-    loop-holds
-    find-requires
-    add-result
-    returns
-    add-at
-    add-k
-    loop-less
-    loop-again
-    returns-2)
+skip-spec = tie.close (tie.spec Inv-loop μ-loop loop-holds find-requires add-result returns add-at add-k loop-less loop-again returns-2)

@@ -39,16 +39,4 @@ returns : tie.Need-returns Inv-loop μ-loop
 returns c = (c .before .loop .inv .1, λ k h. c .before .loop .inv .2 k (omega (arith, c .loop-test .left)))
 
 pub clear-kinds-spec : {M : Type 1} → statement M
-clear-kinds-spec =
-    tie.close
-    (tie.spec
-    Inv-loop
-    μ-loop
-    loop-holds
-    add-work
-    slice-write-work
-    add-k
-    loop-less
-    loop-again
-    same-length
-    returns)
+clear-kinds-spec = tie.close (tie.spec Inv-loop μ-loop loop-holds add-work slice-write-work add-k loop-less loop-again same-length returns)

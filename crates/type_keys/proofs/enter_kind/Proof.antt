@@ -28,6 +28,4 @@ unfolding kindEntered
 returns-2 c = rw (le-ltb (c .before .args .kind) 5 (c .if1 .left))
 
 pub enter-kind-spec : {M : Type 1} → statement M
-enter-kind-spec =
-    tie.close
-    (tie.spec add-work cast-work add-work-2 slice-write-work same-length returns returns-2)
+enter-kind-spec = tie.close (tie.spec add-work cast-work add-work-2 slice-write-work same-length returns returns-2)

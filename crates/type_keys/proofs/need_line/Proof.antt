@@ -33,14 +33,5 @@ returns c = rw (c .before .before .wide .ensures .0, c .wide2 .ensures .0)
 
 pub need-line-spec : {M : Type 1} → statement M
 need-line-spec =
-    tie.close
-    (tie.spec
-    add-wide
-    shared-slice-read-wide
-    wide-requires
-    add-wide-2
-    shared-slice-read-wide-2
-    wide-requires-2
-    mul-result
-    add-result
+    tie.close (tie.spec add-wide shared-slice-read-wide wide-requires add-wide-2 shared-slice-read-wide-2 wide-requires-2 mul-result add-result
     returns)

@@ -29,13 +29,4 @@ returns-2 : tie.Need-returns-2
 returns-2 c = (λ k ks hk x. kind-new (now (c .before .before .before .before .before .before .before .before .args .work)) (c .before .before .before .before .before .before .before .before .pre .2) k ks (c .before .before .before .before .before .before .before .before .args .keys) x (c .before .before .before .before .before .before .before .before .args .kind) hk (sym (c .before .before .before .before .before .kind-place .ensures .0) ∙ c .before .before .before .before .if1 .left) (c .before .before .enter-kind .last .0) (c .before .before .enter-kind .ensures), rw (c .before .before .enter-kind .ensures) (kind-outside (now (c .before .before .before .before .before .before .before .before .args .work)) (c .before .before .before .before .before .before .before .before .pre .2) (c .before .before .before .before .before .before .before .before .args .kind) (c .before .before .before .before .before .before .before .before .args .keys)))
 
 pub number-kind-spec : {M : Type 1} → statement M
-number-kind-spec =
-    tie.close
-    (tie.spec
-    kind-place-requires
-    same-length
-    returns
-    enter-kind-requires
-    add-result
-    same-length-2
-    returns-2)
+number-kind-spec = tie.close (tie.spec kind-place-requires same-length returns enter-kind-requires add-result same-length-2 returns-2)

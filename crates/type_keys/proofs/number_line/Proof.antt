@@ -31,13 +31,4 @@ returns-2 : tie.Need-returns-2
 returns-2 c = search needs
 
 pub number-line-spec : {M : Type 1} → statement M
-number-line-spec =
-    tie.close
-    (tie.spec
-    form-at-requires
-    kind-requires
-    same-length
-    returns
-    number-need-requires
-    same-length-2
-    returns-2)
+number-line-spec = tie.close (tie.spec form-at-requires kind-requires same-length returns number-need-requires same-length-2 returns-2)

@@ -40,14 +40,5 @@ returns c = let x = c .before .before .before .before .before .before .before .b
 
 pub number-need-spec : {M : Type 1} → statement M
 number-need-spec =
-    tie.close
-    (tie.spec
-    place-for-requires
-    form-at-requires
-    enter-requires
-    kind-needed-requires
-    enter-kind-requires
-    add-t17
-    with-key-requires
-    same-length
-    returns)
+    tie.close (tie.spec place-for-requires form-at-requires enter-requires kind-needed-requires enter-kind-requires add-t17 with-key-requires
+    same-length returns)

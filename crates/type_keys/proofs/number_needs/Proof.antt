@@ -41,15 +41,4 @@ returns c = let w = numbering-end (now (c .before .before .before .before .befor
 
 pub number-needs-spec : {M : Type 1} → statement M
 number-needs-spec =
-    tie.close
-    (tie.spec
-    Inv-loop
-    μ-loop
-    clear-kinds-requires
-    loop-holds
-    number-line-requires
-    add-i
-    loop-less
-    loop-again
-    same-length
-    returns)
+    tie.close (tie.spec Inv-loop μ-loop clear-kinds-requires loop-holds number-line-requires add-i loop-less loop-again same-length returns)

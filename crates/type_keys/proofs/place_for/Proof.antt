@@ -49,16 +49,5 @@ returns-2 c = place-new (now (c .before .before .before .before .before .args .s
 
 pub place-for-spec : {M : Type 1} → statement M
 place-for-spec =
-    tie.close
-    (tie.spec
-    Inv-loop
-    μ-loop
-    loop-holds
-    need-line-requires
-    same-need-requires
-    need-place-requires
-    returns
-    add-q
-    loop-less
-    loop-again
+    tie.close (tie.spec Inv-loop μ-loop loop-holds need-line-requires same-need-requires need-place-requires returns add-q loop-less loop-again
     returns-2)

@@ -45,16 +45,4 @@ returns : tie.Need-returns Inv-loop μ-loop
 returns c = let e : c .before .loop .i ≡ c .before .before .before .before .before .args .n = omega (arith, c .loop-test .left, c .before .loop .inv .0) in rw (← frames-all (now (c .before .before .before .before .before .args .sheet)) (now (c .before .before .before .before .before .args .work)) (c .before .before .before .before .before .args .n) (c .before .before .before .before .before .pre .0), ← e) (c .before .loop .inv .2)
 
 pub frame-rows-spec : {M : Type 1} → statement M
-frame-rows-spec =
-    tie.close
-    (tie.spec
-    Inv-loop
-    μ-loop
-    loop-holds
-    next-frame-requires
-    add-i
-    loop-less
-    loop-again
-    same-length
-    same-length-2
-    returns)
+frame-rows-spec = tie.close (tie.spec Inv-loop μ-loop loop-holds next-frame-requires add-i loop-less loop-again same-length same-length-2 returns)

@@ -41,16 +41,4 @@ returns : tie.Need-returns Inv-loop μ-loop
 returns c = rw (← keys-all (now (c .before .before .before .before .before .args .sheet)) (c .before .loop .q) (omega (arith, c .loop-test .left, c .before .before .before .before .before .pre .0 .count))) (c .before .loop .inv .3)
 
 pub need-rows-spec : {M : Type 1} → statement M
-need-rows-spec =
-    tie.close
-    (tie.spec
-    Inv-loop
-    μ-loop
-    loop-holds
-    next-need-requires
-    add-q
-    loop-less
-    loop-again
-    same-length
-    same-length-2
-    returns)
+need-rows-spec = tie.close (tie.spec Inv-loop μ-loop loop-holds next-need-requires add-q loop-less loop-again same-length same-length-2 returns)

@@ -33,14 +33,4 @@ returns-2 : tie.Need-returns-2
 returns-2 c = rw (frames-by (now (c .before .before .before .before .before .before .args .sheet)) (now (c .before .before .before .before .before .before .args .work)) (c .before .before .before .before .before .before .args .n) (c .before .before .before .before .before .before .pre .0) (c .before .before .before .before .before .before .args .i) (c .before .before .before .before .before .before .pre .1) false (sym (c .if1 .left) ∙ c .before .is-frame .ensures)) (wrotes-none (c .before .before .before .before .before .before .pre .3))
 
 pub next-frame-spec : {M : Type 1} → statement M
-next-frame-spec =
-    tie.close
-    (tie.spec
-    is-frame-requires
-    put-line-requires
-    add-t16
-    same-length
-    same-length-2
-    returns
-    same-length-3
-    returns-2)
+next-frame-spec = tie.close (tie.spec is-frame-requires put-line-requires add-t16 same-length same-length-2 returns same-length-3 returns-2)

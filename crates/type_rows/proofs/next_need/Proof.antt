@@ -49,15 +49,5 @@ returns-2 c = let e = keys-next (now (c .before .before .before .before .before 
 
 pub next-need-spec : {M : Type 1} → statement M
 next-need-spec =
-    tie.close
-    (tie.spec
-    need-place-requires
-    add-if1
-    same-length
-    returns
-    need-line-requires
-    put-need-requires
-    add-t13
-    same-length-2
-    same-length-3
+    tie.close (tie.spec need-place-requires add-if1 same-length returns need-line-requires put-need-requires add-t13 same-length-2 same-length-3
     returns-2)

@@ -22,6 +22,4 @@ returns : tie.Need-returns
 returns c = (two-rows opaqueShape opaqueShape (c .before .before .before .before .before .before .before .before .before .before .before .put-opaque .ensures) (c .before .before .before .before .put-opaque2 .ensures), kept-then (c .before .before .before .before .before .before .before .before .before .before .before .put-opaque .ensures .kept) (c .before .before .before .before .put-opaque2 .ensures .kept))
 
 pub opaque-rows-spec : {M : Type 1} → statement M
-opaque-rows-spec =
-    tie.close
-    (tie.spec put-opaque-requires put-opaque-requires-2 same-length same-length-2 returns)
+opaque-rows-spec = tie.close (tie.spec put-opaque-requires put-opaque-requires-2 same-length same-length-2 returns)

@@ -65,23 +65,5 @@ returns-4 c = rowed-as (elem-shape (now (c .before .before .before .before .befo
 
 pub put-need-spec : {M : Type 1} → statement M
 put-need-spec =
-    tie.close
-    (tie.spec
-    form-at-requires
-    put-record-requires
-    same-length
-    same-length-2
-    returns
-    put-line-requires
-    same-length-3
-    same-length-4
-    returns-2
-    put-opaque-requires
-    same-length-5
-    same-length-6
-    returns-3
-    kind-needed-requires
-    put-elem-requires
-    same-length-7
-    same-length-8
-    returns-4)
+    tie.close (tie.spec form-at-requires put-record-requires same-length same-length-2 returns put-line-requires same-length-3 same-length-4 returns-2
+    put-opaque-requires same-length-5 same-length-6 returns-3 kind-needed-requires put-elem-requires same-length-7 same-length-8 returns-4)

@@ -36,13 +36,4 @@ returns c = let k = kept-then (c .before .before .before .before .before .before
     (λ is x. all-rows (now (c .before .before .before .before .before .before .before .before .before .before .before .before .before .before .before .before .before .before .before .before .before .before .before .before .before .before .before .before .before .before .before .args .sheet)) is refl (c .before .before .before .before .before .before .before .before .before .before .before .before .before .before .before .before .before .before .before .before .before .before .before .before .before .opaque-rows .ensures .0) (c .before .before .before .before .before .before .before .before .before .before .before .before .before .before .before .before .before .before .frame-rows .ensures) (c .before .before .before .before .before .before .before .before .before .before .before .need-rows .ensures) (c .before .before .before .before .kind-rows .result) (c .before .before .before .before .kind-rows .ensures .0 (now (c .before .before .before .before .before .before .before .before .before .before .before .before .before .before .before .before .before .before .before .before .before .before .before .before .before .before .before .before .before .before .before .args .sheet)) (sheetSource (now (c .before .before .before .before .before .before .before .before .before .before .before .before .before .before .before .before .before .before .before .before .before .before .before .before .before .before .before .before .before .before .before .args .sheet)) .needs) is (c .before .before .before .before .before .before .before .before .before .before .before .need-rows .ensures .id ∙ ap (λ (y : ℕ). c .before .before .before .before .before .before .before .before .before .before .before .before .before .before .before .before .before .before .frame-rows .result .id + y) (shapes-length (now (c .before .before .before .before .before .before .before .before .before .before .before .before .before .before .before .before .before .before .before .before .before .before .before .before .before .before .before .before .before .before .before .args .sheet)) (distinct [] (sheetSource (now (c .before .before .before .before .before .before .before .before .before .before .before .before .before .before .before .before .before .before .before .before .before .before .before .before .before .before .before .before .before .before .before .args .sheet)) .needs)))) (kinds-kept k x)), kept-then k (c .before .before .before .before .kind-rows .ensures .1))
 
 pub type-rows-spec : {M : Type 1} → statement M
-type-rows-spec =
-    tie.close
-    (tie.spec
-    opaque-rows-requires
-    frame-rows-requires
-    need-rows-requires
-    kind-rows-requires
-    same-length
-    same-length-2
-    returns)
+type-rows-spec = tie.close (tie.spec opaque-rows-requires frame-rows-requires need-rows-requires kind-rows-requires same-length same-length-2 returns)

@@ -26,6 +26,4 @@ returns-3 : tie.Need-returns-3
 returns-3 c = int-same (c .before .before .before .fits .x) (c .before .if1 .left) (c .if2 .left)
 
 pub cast-int-spec : {M : Type 1} → statement M
-cast-int-spec =
-    tie.close
-    (tie.spec from-i64-requires returns put-int-requires sub-t10 same-length returns-2 returns-3)
+cast-int-spec = tie.close (tie.spec from-i64-requires returns put-int-requires sub-t10 same-length returns-2 returns-3)

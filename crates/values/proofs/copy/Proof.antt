@@ -47,17 +47,4 @@ returns c =
     c .before .loop .inv .2 .bytes ∙ ap (λ (j : ℕ). over (now (c .before .before .before .args .work)) (c .before .before .before .args .to) (take j (drop (c .before .before .before .args .from) (now (c .before .before .before .args .work))))) e
 
 pub copy-spec : {M : Type 1} → statement M
-copy-spec =
-    tie.close
-    (tie.spec
-    Inv-loop
-    μ-loop
-    loop-holds
-    add-b
-    slice-read-b
-    put-requires
-    add-k
-    loop-less
-    loop-again
-    same-length
-    returns)
+copy-spec = tie.close (tie.spec Inv-loop μ-loop loop-holds add-b slice-read-b put-requires add-k loop-less loop-again same-length returns)

@@ -96,33 +96,6 @@ returns-9 c = binds (c .before .before .before .before .before .before .before .
 
 pub fold-binary-spec : {M : Type 1} → statement M
 fold-binary-spec =
-    tie.close
-    (tie.spec
-    enum-known-x
-    enum-known-y
-    int-binary-requires
-    enum-known-y-2
-    from-i64-requires
-    real-binary-requires
-    enum-told
-    enum-known-x-2
-    enum-known-y-3
-    from-i64-requires-2
-    real-binary-requires-2
-    enum-known-y-4
-    real-binary-requires-3
-    enum-told-2
-    enum-known-x-3
-    enum-told-3
-    enum-told-4
-    enum-known-y-5
-    str-binary-requires
-    returns
-    returns-2
-    returns-3
-    returns-4
-    returns-5
-    returns-6
-    returns-7
-    returns-8
-    returns-9)
+    tie.close (tie.spec enum-known-x enum-known-y int-binary-requires enum-known-y-2 from-i64-requires real-binary-requires enum-told enum-known-x-2
+    enum-known-y-3 from-i64-requires-2 real-binary-requires-2 enum-known-y-4 real-binary-requires-3 enum-told-2 enum-known-x-3 enum-told-3 enum-told-4
+    enum-known-y-5 str-binary-requires returns returns-2 returns-3 returns-4 returns-5 returns-6 returns-7 returns-8 returns-9)

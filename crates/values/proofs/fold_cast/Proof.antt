@@ -34,14 +34,4 @@ returns-3 c = casts-string (c .before .before .before .args .code) (now (c .befo
 
 pub fold-cast-spec : {M : Type 1} → statement M
 fold-cast-spec =
-    tie.close
-    (tie.spec
-    enum-known-v
-    cast-int-requires
-    enum-known-v-2
-    cast-real-requires
-    enum-told
-    same-length
-    returns
-    returns-2
-    returns-3)
+    tie.close (tie.spec enum-known-v cast-int-requires enum-known-v-2 cast-real-requires enum-told same-length returns returns-2 returns-3)

@@ -61,17 +61,5 @@ returns-3 c =
 
 pub fold-len-spec : {M : Type 1} → statement M
 fold-len-spec =
-    tie.close
-    (tie.spec
-    enum-told
-    enum-told-2
-    enum-known-v
-    add-e
-    sub-count
-    part-count-start
-    part-count-end
-    count-requires
-    cast-t12
-    returns
-    returns-2
+    tie.close (tie.spec enum-told enum-told-2 enum-known-v add-e sub-count part-count-start part-count-end count-requires cast-t12 returns returns-2
     returns-3)

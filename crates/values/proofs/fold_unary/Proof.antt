@@ -33,14 +33,4 @@ unfolding valueIn
 returns-3 c = unary-of (c .before .before .args .op) (c .enum-told .given .1) (answers-failed refl)
 
 pub fold-unary-spec : {M : Type 1} → statement M
-fold-unary-spec =
-    tie.close
-    (tie.spec
-    enum-known-v
-    int-unary-requires
-    enum-known-v-2
-    real-unary-requires
-    enum-told
-    returns
-    returns-2
-    returns-3)
+fold-unary-spec = tie.close (tie.spec enum-known-v int-unary-requires enum-known-v-2 real-unary-requires enum-told returns returns-2 returns-3)

@@ -113,40 +113,7 @@ returns-17 c = answers-failed (fails-at (λ o. intBinary o (c .before .args .x) 
 
 pub int-binary-spec : {M : Type 1} → statement M
 int-binary-spec =
-    tie.close
-    (tie.spec
-    add-requires
-    sub-requires
-    mul-requires
-    div-requires
-    quotient-requires
-    rem-requires
-    quotient-requires-2
-    and-requires
-    or-requires
-    xor-requires
-    shl-requires
-    shr-requires
-    eq-requires
-    neq-requires
-    lt-requires
-    gt-requires
-    leq-requires
-    geq-requires
-    returns
-    returns-2
-    returns-3
-    returns-4
-    returns-5
-    returns-6
-    returns-7
-    returns-8
-    returns-9
-    returns-10
-    returns-11
-    returns-12
-    returns-13
-    returns-14
-    returns-15
-    returns-16
+    tie.close (tie.spec add-requires sub-requires mul-requires div-requires quotient-requires rem-requires quotient-requires-2 and-requires
+    or-requires xor-requires shl-requires shr-requires eq-requires neq-requires lt-requires gt-requires leq-requires geq-requires returns returns-2
+    returns-3 returns-4 returns-5 returns-6 returns-7 returns-8 returns-9 returns-10 returns-11 returns-12 returns-13 returns-14 returns-15 returns-16
     returns-17)

@@ -26,6 +26,4 @@ returns-4 : tie.Need-returns-4
 returns-4 c = answers-failed (no-unary (c .before .args .x) (c .before .args .op) (c .match .rest .0 .0 .1) (c .match .rest .0 .1) (c .match .rest .1))
 
 pub int-unary-spec : {M : Type 1} → statement M
-int-unary-spec =
-    tie.close
-    (tie.spec neg-requires not-requires bit-not-requires returns returns-2 returns-3 returns-4)
+int-unary-spec = tie.close (tie.spec neg-requires not-requires bit-not-requires returns returns-2 returns-3 returns-4)

@@ -36,15 +36,4 @@ returns-5 : tie.Need-returns-5
 returns-5 c = answers-failed (fails-at (λ o. realBinary o (c .before .args .x) (c .before .args .y)) refl (c .before .args .op) ((λ e. absurd (c .match .rest .0 .0 .0 .1 e)), ((λ e. absurd (c .match .rest .0 .0 .1 e)), ((λ e. absurd (c .match .rest .0 .1 e)), ((λ e. absurd (c .match .rest .1 e)), ((λ _. refl), ((λ _. refl), ((λ _. refl), ((λ _. refl), ((λ _. refl), ((λ _. refl), ((λ _. refl), ((λ _. refl), ((λ _. refl), ((λ _. refl), ((λ _. refl), ((λ _. refl), ((λ _. refl), ((λ _. refl), ((λ _. refl), tt))))))))))))))))))))
 
 pub real-binary-spec : {M : Type 1} → statement M
-real-binary-spec =
-    tie.close
-    (tie.spec
-    add-requires
-    sub-requires
-    mul-requires
-    div-requires
-    returns
-    returns-2
-    returns-3
-    returns-4
-    returns-5)
+real-binary-spec = tie.close (tie.spec add-requires sub-requires mul-requires div-requires returns returns-2 returns-3 returns-4 returns-5)

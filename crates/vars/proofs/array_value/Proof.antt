@@ -20,6 +20,4 @@ returns : tie.Need-returns
 returns c = array-is (c .before .before .before .before .before .before .before .before .before .pre) (c .before .before .before .before .before .element-type .ensures .0) (c .before .before .before .before .before .element-type .ensures .1) (c .before .before .before .const-array .ensures) (c .of-array .result) (c .of-array .ensures)
 
 pub array-value-spec : {M : Type 1} → statement M
-array-value-spec =
-    tie.close
-    (tie.spec element-type-requires const-array-requires of-array-requires same-length returns)
+array-value-spec = tie.close (tie.spec element-type-requires const-array-requires of-array-requires same-length returns)

@@ -33,13 +33,4 @@ returns-2 c = (element-some (c .before .before .before .before .before .before .
 
 pub element-type-spec : {M : Type 1} → statement M
 element-type-spec =
-    tie.close
-    (tie.spec
-    sub-number-at
-    number-at-requires
-    sub-form-at
-    form-at-requires
-    returns
-    sub-number-at-2
-    number-at-requires-2
-    returns-2)
+    tie.close (tie.spec sub-number-at number-at-requires sub-form-at form-at-requires returns sub-number-at-2 number-at-requires-2 returns-2)

@@ -56,20 +56,5 @@ returns-2 c = searched (c .before .loop .inv) (c .loop-test .left)
 
 pub has-names-spec : {M : Type 1} → statement M
 has-names-spec =
-    tie.close
-    (tie.spec
-    Inv-loop
-    μ-loop
-    sub-number-at
-    number-at-requires
-    loop-holds
-    sub-field-at
-    add-field-at
-    field-at-requires
-    slice-aggregate-same
-    same-requires
-    returns
-    add-j
-    loop-less
-    loop-again
-    returns-2)
+    tie.close (tie.spec Inv-loop μ-loop sub-number-at number-at-requires loop-holds sub-field-at add-field-at field-at-requires slice-aggregate-same
+    same-requires returns add-j loop-less loop-again returns-2)

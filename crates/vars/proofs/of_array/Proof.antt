@@ -29,14 +29,4 @@ returns-4 : tie.Need-returns-4
 returns-4 c = array-refused (c .before .x3 .given .1)
 
 pub of-array-spec : {M : Type 1} → statement M
-of-array-spec =
-    tie.close
-    (tie.spec
-    enum-known-x
-    enum-known-x-2
-    enum-told
-    enum-known-x-3
-    returns
-    returns-2
-    returns-3
-    returns-4)
+of-array-spec = tie.close (tie.spec enum-known-x enum-known-x-2 enum-told enum-known-x-3 returns returns-2 returns-3 returns-4)

@@ -49,19 +49,5 @@ returns-4 c = plain-long (c .before .before .before .before .before .before .bef
 
 pub plain-value-spec : {M : Type 1} → statement M
 plain-value-spec =
-    tie.close
-    (tie.spec
-    sub-number-at
-    number-at-requires
-    same-length
-    returns
-    fold-const-requires
-    enum-known-v
-    enum-told
-    enum-told-2
-    same-length-2
-    returns-2
-    same-length-3
-    returns-3
-    same-length-4
-    returns-4)
+    tie.close (tie.spec sub-number-at number-at-requires same-length returns fold-const-requires enum-known-v enum-told enum-told-2 same-length-2
+    returns-2 same-length-3 returns-3 same-length-4 returns-4)

@@ -27,13 +27,4 @@ returns-2 : tie.Need-returns-2
 returns-2 c = value-plain (now (c .before .before .before .before .before .before .before .before .before .args .sheet)) (c .before .before .before .before .before .before .before .before .before .args .r) _ (c .before .before .before .before .before .has-names .ensures) (c .before .before .before .before .if1 .left) (c .before .before .plain-value .ensures)
 
 pub var-value-spec : {M : Type 1} → statement M
-var-value-spec =
-    tie.close
-    (tie.spec
-    has-names-requires
-    first-value-requires
-    same-length
-    returns
-    plain-value-requires
-    same-length-2
-    returns-2)
+var-value-spec = tie.close (tie.spec has-names-requires first-value-requires same-length returns plain-value-requires same-length-2 returns-2)

@@ -48,19 +48,5 @@ returns c = search needs
 
 pub print-refusals-spec : {M : Type 1} → statement M
 print-refusals-spec =
-    tie.close
-    (tie.spec
-    Inv-loop
-    μ-loop
-    loop-holds
-    slice-aggregate-write-all
-    write-all-requires
-    print-decimal-requires
-    slice-aggregate-print-count
-    mul-print-count
-    element-copy-out-print-count
-    print-count-requires
-    add-k
-    loop-less
-    loop-again
-    returns)
+    tie.close (tie.spec Inv-loop μ-loop loop-holds slice-aggregate-write-all write-all-requires print-decimal-requires slice-aggregate-print-count
+    mul-print-count element-copy-out-print-count print-count-requires add-k loop-less loop-again returns)

@@ -85,30 +85,6 @@ returns-2 c = search needs
 
 pub run-cases-spec : {M : Type 1} → statement M
 run-cases-spec =
-    tie.close
-    (tie.spec
-    Inv-loop
-    μ-loop
-    loop-holds
-    read-header-requires
-    same-length
-    same-length-2
-    same-length-3
-    same-length-4
-    same-length-5
-    same-length-6
-    same-length-7
-    returns
-    add-k
-    run-case-requires
-    count-requires
-    loop-less
-    loop-again
-    same-length-8
-    same-length-9
-    same-length-10
-    same-length-11
-    same-length-12
-    same-length-13
-    same-length-14
-    returns-2)
+    tie.close (tie.spec Inv-loop μ-loop loop-holds read-header-requires same-length same-length-2 same-length-3 same-length-4 same-length-5
+    same-length-6 same-length-7 returns add-k run-case-requires count-requires loop-less loop-again same-length-8 same-length-9 same-length-10
+    same-length-11 same-length-12 same-length-13 same-length-14 returns-2)

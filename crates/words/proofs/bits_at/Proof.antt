@@ -52,17 +52,5 @@ returns c = Laws.bits-end (now (c .before .before .before .args .work)) (c .befo
 
 pub bits-at-spec : {M : Type 1} → statement M
 bits-at-spec =
-    tie.close
-    (tie.spec
-    Inv-loop
-    μ-loop
-    loop-holds
-    mul-acc
-    add-wide64
-    shared-slice-read-wide64
-    wide64-requires
-    add-acc
-    add-k
-    loop-less
-    loop-again
+    tie.close (tie.spec Inv-loop μ-loop loop-holds mul-acc add-wide64 shared-slice-read-wide64 wide64-requires add-acc add-k loop-less loop-again
     returns)

@@ -51,17 +51,4 @@ returns-2 c = wrote-as (take-all (c .before .loop .k) (bigEndian 8 (c .before .b
 
 pub put-bits-spec : {M : Type 1} → statement M
 put-bits-spec =
-    tie.close
-    (tie.spec
-    Inv-loop
-    μ-loop
-    add-result
-    returns
-    loop-holds
-    byte-of-requires
-    put-requires
-    add-k
-    loop-less
-    loop-again
-    same-length
-    returns-2)
+    tie.close (tie.spec Inv-loop μ-loop add-result returns loop-holds byte-of-requires put-requires add-k loop-less loop-again same-length returns-2)

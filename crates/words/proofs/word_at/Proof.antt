@@ -31,13 +31,4 @@ returns c = (search needs, search needs)
 
 pub word-at-spec : {M : Type 1} → statement M
 word-at-spec =
-    tie.close
-    (tie.spec
-    shared-slice-read-wide
-    wide-requires
-    add-wide
-    shared-slice-read-wide-2
-    wide-requires-2
-    mul-result
-    add-result
-    returns)
+    tie.close (tie.spec shared-slice-read-wide wide-requires add-wide shared-slice-read-wide-2 wide-requires-2 mul-result add-result returns)

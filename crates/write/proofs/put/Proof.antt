@@ -29,5 +29,4 @@ returns-2 c =
     wrote-past (now (a .out)) (a .at) _ (c .if1 .left) (omega arith)
 
 pub put-spec : {M : Type 1} → statement M
-put-spec =
-    tie.close (tie.spec slice-write-out add-result same-length returns add-result-2 returns-2)
+put-spec = tie.close (tie.spec slice-write-out add-result same-length returns add-result-2 returns-2)

@@ -60,17 +60,5 @@ returns-2 c =
 
 pub put-hex-spec : {M : Type 1} → statement M
 put-hex-spec =
-    tie.close
-    (tie.spec
-    Inv-loop
-    μ-loop
-    add-result
-    returns
-    loop-holds
-    shared-slice-read-put-hex-byte
-    put-hex-byte-requires
-    add-k
-    loop-less
-    loop-again
-    same-length
-    returns-2)
+    tie.close (tie.spec Inv-loop μ-loop add-result returns loop-holds shared-slice-read-put-hex-byte put-hex-byte-requires add-k loop-less loop-again
+    same-length returns-2)

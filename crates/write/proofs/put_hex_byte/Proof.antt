@@ -25,12 +25,4 @@ unfolding hexOf
 returns c = rw (← c .before .before .before .before .before .before .before .before .hex-digit .ensures, ← c .before .before .before .hex-digit2 .ensures) (then (c .before .before .before .before .before .before .before .put .ensures) (c .before .before .put2 .ensures))
 
 pub put-hex-byte-spec : {M : Type 1} → statement M
-put-hex-byte-spec =
-    tie.close
-    (tie.spec
-    hex-digit-requires
-    put-requires
-    hex-digit-requires-2
-    put-requires-2
-    same-length
-    returns)
+put-hex-byte-spec = tie.close (tie.spec hex-digit-requires put-requires hex-digit-requires-2 put-requires-2 same-length returns)

@@ -37,15 +37,5 @@ returns-2 c = wrote-as (minus (c .before .before .before .before .before .before
 
 pub put-int-spec : {M : Type 1} → statement M
 put-int-spec =
-    tie.close
-    (tie.spec
-    cast-put-nat
-    put-nat-requires
-    same-length
-    returns
-    put-requires
-    cast-put-nat-2
-    add-put-nat
-    put-nat-requires-2
-    same-length-2
+    tie.close (tie.spec cast-put-nat put-nat-requires same-length returns put-requires cast-put-nat-2 add-put-nat put-nat-requires-2 same-length-2
     returns-2)

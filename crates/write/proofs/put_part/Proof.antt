@@ -57,17 +57,5 @@ returns-2 c =
 
 pub put-part-spec : {M : Type 1} → statement M
 put-part-spec =
-    tie.close
-    (tie.spec
-    Inv-loop
-    μ-loop
-    add-result
-    returns
-    loop-holds
-    shared-slice-read-put
-    put-requires
-    add-k
-    loop-less
-    loop-again
-    same-length
+    tie.close (tie.spec Inv-loop μ-loop add-result returns loop-holds shared-slice-read-put put-requires add-k loop-less loop-again same-length
     returns-2)

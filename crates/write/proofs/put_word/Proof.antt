@@ -62,17 +62,5 @@ returns-2 c =
 
 pub put-word-spec : {M : Type 1} → statement M
 put-word-spec =
-    tie.close
-    (tie.spec
-    Inv-loop
-    μ-loop
-    add-result
-    returns
-    loop-holds
-    byte-of-requires
-    put-hex-byte-requires
-    add-k
-    loop-less
-    loop-again
-    same-length
+    tie.close (tie.spec Inv-loop μ-loop add-result returns loop-holds byte-of-requires put-hex-byte-requires add-k loop-less loop-again same-length
     returns-2)

@@ -40,15 +40,4 @@ returns c =
     zeroed-all (l .out) (l .i) _ (l .inv .2) (c .loop-test .left) (l .inv .0) (l .inv .1)
 
 pub zero-spec : {M : Type 1} → statement M
-zero-spec =
-    tie.close
-    (tie.spec
-    Inv-loop
-    μ-loop
-    loop-holds
-    slice-write-out
-    add-i
-    loop-less
-    loop-again
-    same-length
-    returns)
+zero-spec = tie.close (tie.spec Inv-loop μ-loop loop-holds slice-write-out add-i loop-less loop-again same-length returns)

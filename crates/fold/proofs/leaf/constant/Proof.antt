@@ -55,21 +55,5 @@ returns-5 c = found-failed (now (c .before .before .before .before .before .befo
 
 pub constant-spec : {M : Type 1} → statement M
 constant-spec =
-    tie.close
-    (tie.spec
-    returns
-    sub-slot-kind
-    slot-kind-requires
-    sub-slot-bits
-    slot-bits-requires
-    of-bits-requires
-    same-length
-    returns-2
-    of-bits-requires-2
-    same-length-2
-    returns-3
-    copy-requires
-    same-length-3
-    returns-4
-    same-length-4
-    returns-5)
+    tie.close (tie.spec returns sub-slot-kind slot-kind-requires sub-slot-bits slot-bits-requires of-bits-requires same-length returns-2
+    of-bits-requires-2 same-length-2 returns-3 copy-requires same-length-3 returns-4 same-length-4 returns-5)

@@ -41,16 +41,5 @@ returns-2 c = name-found (now (c .before .before .before .before .before .before
 
 pub ident-spec : {M : Type 1} → statement M
 ident-spec =
-    tie.close
-    (tie.spec
-    sub-field-at
-    field-at-requires
-    slice-aggregate-same
-    same-requires
-    cast-t17
-    same-length
-    returns
-    look-up-requires
-    constant-requires
-    same-length-2
-    returns-2)
+    tie.close (tie.spec sub-field-at field-at-requires slice-aggregate-same same-requires cast-t17 same-length returns look-up-requires
+    constant-requires same-length-2 returns-2)

@@ -40,16 +40,5 @@ returns-3 c = literal-folds (now (c .before .before .before .before .before .bef
 
 pub leaf-spec : {M : Type 1} → statement M
 leaf-spec =
-    tie.close
-    (tie.spec
-    sub-form-at
-    form-at-requires
-    ident-requires
-    same-length
-    returns
-    qualified-requires
-    same-length-2
-    returns-2
-    literal-requires
-    same-length-3
-    returns-3)
+    tie.close (tie.spec sub-form-at form-at-requires ident-requires same-length returns qualified-requires same-length-2 returns-2 literal-requires
+    same-length-3 returns-3)

@@ -56,18 +56,5 @@ returns-3 c =
 
 pub literal-spec : {M : Type 1} → statement M
 literal-spec =
-    tie.close
-    (tie.spec
-    sub-form-at
-    form-at-requires
-    sub-field-at
-    field-at-requires
-    integer-requires
-    same-length
-    returns
-    real-requires
-    same-length-2
-    returns-2
-    string-requires
-    same-length-3
-    returns-3)
+    tie.close (tie.spec sub-form-at form-at-requires sub-field-at field-at-requires integer-requires same-length returns real-requires same-length-2
+    returns-2 string-requires same-length-3 returns-3)

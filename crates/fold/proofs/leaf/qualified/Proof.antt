@@ -61,19 +61,5 @@ returns-2 c =
 
 pub qualified-spec : {M : Type 1} → statement M
 qualified-spec =
-    tie.close
-    (tie.spec
-    sub-number-at
-    number-at-requires
-    sub-form-at
-    form-at-requires
-    same-length
-    returns
-    sub-field-at
-    field-at-requires
-    sub-field-at-2
-    field-at-requires-2
-    look-up-in-requires
-    constant-requires
-    same-length-2
-    returns-2)
+    tie.close (tie.spec sub-number-at number-at-requires sub-form-at form-at-requires same-length returns sub-field-at field-at-requires
+    sub-field-at-2 field-at-requires-2 look-up-in-requires constant-requires same-length-2 returns-2)

@@ -24,6 +24,4 @@ returns-2 : tie.Need-returns-2
 returns-2 c = real-not (now (c .before .before .before .before .args .x)) (c .before .before .before .before .pre) (c .before .before .read-word .ensures) (c .enum-told .given .1)
 
 pub real-spec : {M : Type 1} → statement M
-real-spec =
-    tie.close
-    (tie.spec read-word-requires enum-known-b of-bits-requires enum-told returns returns-2)
+real-spec = tie.close (tie.spec read-word-requires enum-known-b of-bits-requires enum-told returns returns-2)

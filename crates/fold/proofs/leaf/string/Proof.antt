@@ -44,16 +44,4 @@ returns : tie.Need-returns Inv-loop μ-loop
 returns c = string-put (now (c .before .before .before .before .args .x)) (c .before .before .before .before .pre .0) (c .before .before .before .before .pre .1) (c .before .before .before .before .pre .2) (c .loop-test .left) (c .before .loop .inv .2)
 
 pub string-spec : {M : Type 1} → statement M
-string-spec =
-    tie.close
-    (tie.spec
-    Inv-loop
-    μ-loop
-    loop-holds
-    byte-requires
-    put-requires
-    add-i
-    loop-less
-    loop-again
-    same-length
-    returns)
+string-spec = tie.close (tie.spec Inv-loop μ-loop loop-holds byte-requires put-requires add-i loop-less loop-again same-length returns)

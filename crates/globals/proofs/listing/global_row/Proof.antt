@@ -76,22 +76,6 @@ returns c =
 
 pub global-row-spec : {M : Type 1} → statement M
 global-row-spec =
-    tie.close
-    (tie.spec
-    line-of-requires
-    sub-number-at
-    number-at-requires
-    slice-aggregate-put-part
-    put-part-requires
-    name-of-requires
-    put-comma-part-requires
-    offset-of-requires
-    put-comma-nat-requires
-    global-size-requires
-    cast-put-comma-nat
-    put-comma-nat-requires-2
-    is-pointer-requires
-    put-comma-flag-requires
-    put-lf-requires
-    same-length
-    returns)
+    tie.close (tie.spec line-of-requires sub-number-at number-at-requires slice-aggregate-put-part put-part-requires name-of-requires
+    put-comma-part-requires offset-of-requires put-comma-nat-requires global-size-requires cast-put-comma-nat put-comma-nat-requires-2
+    is-pointer-requires put-comma-flag-requires put-lf-requires same-length returns)

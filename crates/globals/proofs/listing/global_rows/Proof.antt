@@ -64,16 +64,4 @@ returns-2 c =
 
 pub global-rows-spec : {M : Type 1} → statement M
 global-rows-spec =
-    tie.close
-    (tie.spec
-    Inv-loop
-    μ-loop
-    add-result
-    returns
-    loop-holds
-    global-row-requires
-    add-i
-    loop-less
-    loop-again
-    same-length
-    returns-2)
+    tie.close (tie.spec Inv-loop μ-loop add-result returns loop-holds global-row-requires add-i loop-less loop-again same-length returns-2)

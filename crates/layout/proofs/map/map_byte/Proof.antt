@@ -54,18 +54,5 @@ returns c = let e : c .before .loop .k ≡ 8 = omega arith in rw e at (c .before
 
 pub map-byte-spec : {M : Type 1} → statement M
 map-byte-spec =
-    tie.close
-    (tie.spec
-    Inv-loop
-    μ-loop
-    loop-holds
-    cast-word-marked
-    add-word-marked
-    word-marked-requires
-    cast-bit
-    mul-byte
-    add-byte
-    add-k
-    loop-less
-    loop-again
-    returns)
+    tie.close (tie.spec Inv-loop μ-loop loop-holds cast-word-marked add-word-marked word-marked-requires cast-bit mul-byte add-byte add-k loop-less
+    loop-again returns)

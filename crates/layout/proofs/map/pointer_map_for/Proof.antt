@@ -68,20 +68,5 @@ returns c =
 
 pub pointer-map-for-spec : {M : Type 1} → statement M
 pointer-map-for-spec =
-    tie.close
-    (tie.spec
-    Inv-loop
-    μ-loop
-    map-bytes-requires
-    loop-holds
-    mul-map-byte
-    cast-map-byte
-    map-byte-requires
-    ones-of-requires
-    add-count
-    put-requires
-    add-n
-    loop-less
-    loop-again
-    same-length
-    returns)
+    tie.close (tie.spec Inv-loop μ-loop map-bytes-requires loop-holds mul-map-byte cast-map-byte map-byte-requires ones-of-requires add-count
+    put-requires add-n loop-less loop-again same-length returns)

@@ -53,16 +53,4 @@ returns-2 c = sym (c .before .loop .inv ∙ at-end _ _ (c .before .loop .i) _ (c
 
 pub word-marked-spec : {M : Type 1} → statement M
 word-marked-spec =
-    tie.close
-    (tie.spec
-    Inv-loop
-    μ-loop
-    loop-holds
-    mul-off
-    shared-slice-copy-out-off
-    marks-word-requires
-    returns
-    add-i
-    loop-less
-    loop-again
-    returns-2)
+    tie.close (tie.spec Inv-loop μ-loop loop-holds mul-off shared-slice-copy-out-off marks-word-requires returns add-i loop-less loop-again returns-2)

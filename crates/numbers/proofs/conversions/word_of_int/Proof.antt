@@ -30,5 +30,4 @@ returns-2 : tie.Need-returns-2
 returns-2 c = ap (toZ w32) (twice w32 (fits-mask (c .before .bits .result) 32 tt)) ∙ word-of-bits (c .before .before .fits .n) (c .before .bits .ensures)
 
 pub word-of-int-spec : {M : Type 1} → statement M
-word-of-int-spec =
-    tie.close (tie.spec bits-requires cast-result sub-result cast-result-2 returns returns-2)
+word-of-int-spec = tie.close (tie.spec bits-requires cast-result sub-result cast-result-2 returns returns-2)

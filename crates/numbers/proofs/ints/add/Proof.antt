@@ -22,6 +22,4 @@ returns c = let s = c .before .before .before .before in
     (sum-bits (s .fits .a) (s .fits .b) (c .before .before .before .bits .ensures) (c .before .before .bits2 .ensures) (c .before .wrapping-add-u64 .ensures))
 
 pub add-spec : {M : Type 1} → statement M
-add-spec =
-    tie.close
-    (tie.spec bits-requires bits-requires-2 wrapping-add-u64-requires of-bits-requires returns)
+add-spec = tie.close (tie.spec bits-requires bits-requires-2 wrapping-add-u64-requires of-bits-requires returns)

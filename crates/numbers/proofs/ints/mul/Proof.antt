@@ -22,5 +22,4 @@ returns c = let s = c .before .before .before .before in
     (product-bits (s .fits .a) (s .fits .b) (c .before .before .before .bits .ensures) (c .before .before .bits2 .ensures) (c .before .mul-bits .ensures))
 
 pub mul-spec : {M : Type 1} → statement M
-mul-spec =
-    tie.close (tie.spec bits-requires bits-requires-2 mul-bits-requires of-bits-requires returns)
+mul-spec = tie.close (tie.spec bits-requires bits-requires-2 mul-bits-requires of-bits-requires returns)

@@ -26,11 +26,5 @@ returns c = product-of-halves (c .before .before .args .a) (c .before .before .a
 
 pub mul-bits-spec : {M : Type 1} → statement M
 mul-bits-spec =
-    tie.close
-    (tie.spec
-    mul-wrapping-add-u64
-    mul-wrapping-add-u64-2
-    wrapping-add-u64-requires
-    mul-wrapping-add-u64-3
-    wrapping-add-u64-requires-2
+    tie.close (tie.spec mul-wrapping-add-u64 mul-wrapping-add-u64-2 wrapping-add-u64-requires mul-wrapping-add-u64-3 wrapping-add-u64-requires-2
     returns)

@@ -22,6 +22,4 @@ returns c = let s = c .before .before .before .before in
     (difference-bits (s .fits .a) (s .fits .b) (c .before .before .before .bits .ensures) (c .before .before .bits2 .ensures) (c .before .wrapping-sub-u64 .ok) (c .before .wrapping-sub-u64 .ensures))
 
 pub sub-spec : {M : Type 1} → statement M
-sub-spec =
-    tie.close
-    (tie.spec bits-requires bits-requires-2 wrapping-sub-u64-requires of-bits-requires returns)
+sub-spec = tie.close (tie.spec bits-requires bits-requires-2 wrapping-sub-u64-requires of-bits-requires returns)

@@ -28,13 +28,4 @@ returns-2 : tie.Need-returns-2
 returns-2 c = real-of-negative (c .before .before .fits .n) (c .before .if1 .left) (c .from-u642 .ensures)
 
 pub from-i64-spec : {M : Type 1} → statement M
-from-i64-spec =
-    tie.close
-    (tie.spec
-    cast-from-u64
-    from-u64-requires
-    cast-from-u64-2
-    add-from-u64
-    from-u64-requires-2
-    returns
-    returns-2)
+from-i64-spec = tie.close (tie.spec cast-from-u64 from-u64-requires cast-from-u64-2 add-from-u64 from-u64-requires-2 returns returns-2)

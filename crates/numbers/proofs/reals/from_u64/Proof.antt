@@ -33,15 +33,4 @@ returns-2 : tie.Need-returns-2
 returns-2 c = let s = c .before .before in real-of-pattern (s .args .n) (s .fits .n .fits) (c .before .if1 .left) (c .rounded .ensures)
 
 pub from-u64-spec : {M : Type 1} → statement M
-from-u64-spec =
-    tie.close
-    (tie.spec
-    returns
-    cast-z
-    shl-rounded
-    rounded-requires
-    sub-result
-    mul-result
-    add-result
-    float-from-bits-result
-    returns-2)
+from-u64-spec = tie.close (tie.spec returns cast-z shl-rounded rounded-requires sub-result mul-result add-result float-from-bits-result returns-2)

@@ -23,5 +23,4 @@ returns-3 : tie.Need-returns-3
 returns-3 c = rounded-down (c .before .before .args .m) (c .before .if1 .left) (c .if2 .left)
 
 pub rounded-spec : {M : Type 1} → statement M
-rounded-spec =
-    tie.close (tie.spec add-result returns last-digit-requires add-result-2 returns-2 returns-3)
+rounded-spec = tie.close (tie.spec add-result returns last-digit-requires add-result-2 returns-2 returns-3)

@@ -19,5 +19,4 @@ returns-4 : tie.Need-returns-4
 returns-4 c = whole-of-nan (c .before .before .before .args .x) (c .before .before .if1 .left) (c .before .if2 .left) (c .if3 .left)
 
 pub to-i64-spec : {M : Type 1} → statement M
-to-i64-spec =
-    tie.close (tie.spec returns truncating-f64-to-i64-requires returns-2 returns-3 returns-4)
+to-i64-spec = tie.close (tie.spec returns truncating-f64-to-i64-requires returns-2 returns-3 returns-4)

@@ -38,15 +38,4 @@ returns-2 : tie.Need-returns-2 Inv-loop μ-loop
 returns-2 c = seen-none (now (c .before .before .before .before .args .sheet)) (now (c .before .before .before .before .args .work)) (c .before .before .before .before .args .n) (c .before .before .before .before .args .m) (c .before .before .before .before .pre .0) (recordedAt (now (c .before .before .before .before .args .sheet)) (now (c .before .before .before .before .args .work)) (c .before .before .before .before .args .i) .key) (c .before .before .before .before .args .i) (c .before .loop .j) (c .before .before .before .before .pre .1) (c .loop-test .left) (c .before .loop .inv .1)
 
 pub is-first-spec : {M : Type 1} → statement M
-is-first-spec =
-    tie.close
-    (tie.spec
-    Inv-loop
-    μ-loop
-    loop-holds
-    same-key-requires
-    returns
-    add-j
-    loop-less
-    loop-again
-    returns-2)
+is-first-spec = tie.close (tie.spec Inv-loop μ-loop loop-holds same-key-requires returns add-j loop-less loop-again returns-2)

@@ -49,19 +49,5 @@ returns-4 c = joined-tag (now (c .before .before .before .before .before .before
 
 pub is-joined-spec : {M : Type 1} → statement M
 is-joined-spec =
-    tie.close
-    (tie.spec
-    returns
-    shared-slice-read-if2
-    returns-2
-    sub-same
-    part-same-start
-    part-same-end
-    same-requires
-    returns-3
-    add-same
-    sub-same-2
-    part-same-start-2
-    part-same-end-2
-    same-requires-2
-    returns-4)
+    tie.close (tie.spec returns shared-slice-read-if2 returns-2 sub-same part-same-start part-same-end same-requires returns-3 add-same sub-same-2
+    part-same-start-2 part-same-end-2 same-requires-2 returns-4)

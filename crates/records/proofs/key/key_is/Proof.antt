@@ -33,14 +33,4 @@ returns-3 : tie.Need-returns-3
 returns-3 c = c .is-joined .ensures ∙ rw (c .before .before .before .before .before .name-of .ensures, c .before .tag-of .ensures, variant-key (now (c .before .before .before .before .before .before .before .before .before .args .sheet)) (now (c .before .before .before .before .before .before .before .before .before .args .work)) (c .before .before .before .before .before .before .before .before .before .args .i) (λ e. c .before .before .before .if1 .left (c .before .before .before .before .case-of .ensures .0 ∙ e)))
 
 pub key-is-spec : {M : Type 1} → statement M
-key-is-spec =
-    tie.close
-    (tie.spec
-    name-of-requires
-    case-of-requires
-    same-requires
-    returns
-    returns-2
-    tag-of-requires
-    is-joined-requires
-    returns-3)
+key-is-spec = tie.close (tie.spec name-of-requires case-of-requires same-requires returns returns-2 tag-of-requires is-joined-requires returns-3)

@@ -20,5 +20,4 @@ unfolding entryAt
 returns c = rw (c .before .byte-at .ensures .0, c .byte-at2 .ensures .0)
 
 pub line-of-spec : {M : Type 1} → statement M
-line-of-spec =
-    tie.close (tie.spec byte-at-requires byte-at-requires-2 mul-result add-result returns)
+line-of-spec = tie.close (tie.spec byte-at-requires byte-at-requires-2 mul-result add-result returns)

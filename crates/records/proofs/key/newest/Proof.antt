@@ -47,16 +47,4 @@ returns-2 c =
     newest-none (now (c .before .before .before .before .before .args .sheet)) (now (c .before .before .before .before .before .args .work)) (c .before .before .before .before .before .args .n) (c .before .before .before .before .before .args .m) (c .before .before .before .before .before .pre) (now (c .before .before .before .before .before .args .key)) (rw z at (c .before .loop .inv .1))
 
 pub newest-spec : {M : Type 1} → statement M
-newest-spec =
-    tie.close
-    (tie.spec
-    Inv-loop
-    μ-loop
-    loop-holds
-    sub-i
-    key-is-requires
-    add-result
-    returns
-    loop-less
-    loop-again
-    returns-2)
+newest-spec = tie.close (tie.spec Inv-loop μ-loop loop-holds sub-i key-is-requires add-result returns loop-less loop-again returns-2)

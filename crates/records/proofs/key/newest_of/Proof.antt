@@ -46,16 +46,4 @@ returns-2 c =
     record { low = c .before .before .before .before .pre .1; last = deciding-found (now (c .before .before .before .before .args .sheet)) (now (c .before .before .before .before .args .work)) (c .before .before .before .before .args .n) (c .before .before .before .before .args .m) (c .before .before .before .before .pre .0) (recordedAt (now (c .before .before .before .before .args .sheet)) (now (c .before .before .before .before .args .work)) (c .before .before .before .before .args .i) .key) (c .before .before .before .before .args .i) (c .before .before .before .before .pre .1) (rw z at (c .before .loop .inv .2)) refl (same-refl (recordedAt (now (c .before .before .before .before .args .sheet)) (now (c .before .before .before .before .args .work)) (c .before .before .before .before .args .i) .key)) }
 
 pub newest-of-spec : {M : Type 1} → statement M
-newest-of-spec =
-    tie.close
-    (tie.spec
-    Inv-loop
-    μ-loop
-    loop-holds
-    add-loop
-    sub-j
-    same-key-requires
-    returns
-    loop-less
-    loop-again
-    returns-2)
+newest-of-spec = tie.close (tie.spec Inv-loop μ-loop loop-holds add-loop sub-j same-key-requires returns loop-less loop-again returns-2)

@@ -1,4 +1,3 @@
-use native.Mathlib.Omega.{arith}
 use lib.Dec.{eqb}
 use mathlib.Core.Path.{sym, ap, _∙_}
 use denote.Ref.{now}
@@ -46,17 +45,5 @@ returns-4 c = keys-tags (now (c .before .before .before .before .before .before 
 
 pub same-key-spec : {M : Type 1} → statement M
 same-key-spec =
-    tie.close
-    (tie.spec
-    name-of-requires
-    name-of-requires-2
-    same-requires
-    returns
-    case-of-requires
-    case-of-requires-2
-    returns-2
-    returns-3
-    tag-of-requires
-    tag-of-requires-2
-    same-requires-2
-    returns-4)
+    tie.close (tie.spec name-of-requires name-of-requires-2 same-requires returns case-of-requires case-of-requires-2 returns-2 returns-3
+    tag-of-requires tag-of-requires-2 same-requires-2 returns-4)

@@ -31,13 +31,4 @@ returns c =
     c .tag-at .ensures ∙ rw (c .before .position-of .ensures) (tag-read (now (c .before .before .before .before .before .before .before .args .sheet)) (now (c .before .before .before .before .before .before .before .args .work)) (c .before .before .before .before .before .before .before .args .n) (c .before .before .before .before .before .before .before .args .i) (c .before .before .before .before .before .before .before .pre .0) (c .before .before .before .before .before .before .before .pre .1) (c .before .before .case-line .result) x)
 
 pub tag-of-spec : {M : Type 1} → statement M
-tag-of-spec =
-    tie.close
-    (tie.spec
-    line-of-requires
-    case-of-requires
-    sub-case-line
-    case-line-requires
-    position-of-requires
-    tag-at-requires
-    returns)
+tag-of-spec = tie.close (tie.spec line-of-requires case-of-requires sub-case-line case-line-requires position-of-requires tag-at-requires returns)

@@ -46,15 +46,5 @@ returns-2 c =
 
 pub field-spec : {M : Type 1} → statement M
 field-spec =
-    tie.close
-    (tie.spec
-    skip-requires
-    sub-result
-    part-result-start
-    part-result-end
-    returns
-    find-requires
-    sub-result-2
-    part-result-start-2
-    part-result-end-2
-    returns-2)
+    tie.close (tie.spec skip-requires sub-result part-result-start part-result-end returns find-requires sub-result-2 part-result-start-2
+    part-result-end-2 returns-2)

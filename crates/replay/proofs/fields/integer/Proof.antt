@@ -31,6 +31,4 @@ returns-2 c =
     integer-bad (now (a .f)) (sym (read-integer .ensures) ∙ c .enum-told .given .1)
 
 pub integer-spec : {M : Type 1} → statement M
-integer-spec =
-    tie.close
-    (tie.spec read-integer-requires enum-known-n bits-requires enum-told returns returns-2)
+integer-spec = tie.close (tie.spec read-integer-requires enum-known-n bits-requires enum-told returns returns-2)

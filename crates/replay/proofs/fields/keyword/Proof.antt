@@ -172,30 +172,7 @@ returns-9 c =
 
 pub keyword-spec : {M : Type 1} → statement M
 keyword-spec =
-    tie.close
-    (tie.spec
-    slice-aggregate-is-word
-    is-word-requires
-    returns
-    slice-aggregate-is-word-2
-    is-word-requires-2
-    returns-2
-    slice-aggregate-is-word-3
-    is-word-requires-3
-    returns-3
-    slice-aggregate-is-word-4
-    is-word-requires-4
-    returns-4
-    slice-aggregate-is-word-5
-    is-word-requires-5
-    returns-5
-    slice-aggregate-is-word-6
-    is-word-requires-6
-    returns-6
-    slice-aggregate-is-word-7
-    is-word-requires-7
-    returns-7
-    slice-aggregate-is-word-8
-    is-word-requires-8
-    returns-8
-    returns-9)
+    tie.close (tie.spec slice-aggregate-is-word is-word-requires returns slice-aggregate-is-word-2 is-word-requires-2 returns-2
+    slice-aggregate-is-word-3 is-word-requires-3 returns-3 slice-aggregate-is-word-4 is-word-requires-4 returns-4 slice-aggregate-is-word-5
+    is-word-requires-5 returns-5 slice-aggregate-is-word-6 is-word-requires-6 returns-6 slice-aggregate-is-word-7 is-word-requires-7 returns-7
+    slice-aggregate-is-word-8 is-word-requires-8 returns-8 returns-9)

@@ -67,19 +67,5 @@ returns-3 c =
 
 pub lay-array-spec : {M : Type 1} → statement M
 lay-array-spec =
-    tie.close
-    (tie.spec
-    part-at-requires
-    outgrown-requires
-    returns
-    sub-room
-    part-bytes-requires
-    outgrown-requires-2
-    returns-2
-    add-went-on
-    add-put-value
-    put-value-requires
-    larger-requires
-    went-on-requires
-    same-length
-    returns-3)
+    tie.close (tie.spec part-at-requires outgrown-requires returns sub-room part-bytes-requires outgrown-requires-2 returns-2 add-went-on
+    add-put-value put-value-requires larger-requires went-on-requires same-length returns-3)

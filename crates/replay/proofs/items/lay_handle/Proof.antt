@@ -64,20 +64,5 @@ returns-2 c =
 
 pub lay-handle-spec : {M : Type 1} → statement M
 lay-handle-spec =
-    tie.close
-    (tie.spec
-    sub-put-value
-    part-put-value-start
-    part-put-value-end
-    add-put-value
-    put-value-requires
-    sub-went-on
-    went-on-requires
-    same-length
-    returns
-    add-put-value-2
-    put-value-requires-2
-    larger-requires
-    went-on-requires-2
-    same-length-2
-    returns-2)
+    tie.close (tie.spec sub-put-value part-put-value-start part-put-value-end add-put-value put-value-requires sub-went-on went-on-requires
+    same-length returns add-put-value-2 put-value-requires-2 larger-requires went-on-requires-2 same-length-2 returns-2)

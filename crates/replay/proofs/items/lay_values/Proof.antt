@@ -60,18 +60,5 @@ returns-2 c =
 
 pub lay-values-spec : {M : Type 1} → statement M
 lay-values-spec =
-    tie.close
-    (tie.spec
-    sub-put-values
-    part-put-values-start
-    part-put-values-end
-    put-values-requires
-    sub-went-on
-    went-on-requires
-    same-length
-    returns
-    put-values-requires-2
-    larger-requires
-    went-on-requires-2
-    same-length-2
-    returns-2)
+    tie.close (tie.spec sub-put-values part-put-values-start part-put-values-end put-values-requires sub-went-on went-on-requires same-length returns
+    put-values-requires-2 larger-requires went-on-requires-2 same-length-2 returns-2)

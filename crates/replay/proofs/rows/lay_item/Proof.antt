@@ -135,31 +135,6 @@ returns-5 c =
 
 pub lay-item-spec : {M : Type 1} → statement M
 lay-item-spec =
-    tie.close
-    (tie.spec
-    returns
-    field-requires
-    number-requires
-    skip-requires
-    width-of-requires
-    lay-values-requires
-    same-length
-    same-length-2
-    returns-2
-    lay-handle-requires
-    same-length-3
-    same-length-4
-    returns-3
-    field-requires-2
-    number-requires-2
-    field-requires-3
-    number-requires-3
-    size-of-requires
-    lay-array-requires
-    same-length-5
-    same-length-6
-    returns-4
-    moved-requires
-    same-length-7
-    same-length-8
-    returns-5)
+    tie.close (tie.spec returns field-requires number-requires skip-requires width-of-requires lay-values-requires same-length same-length-2 returns-2
+    lay-handle-requires same-length-3 same-length-4 returns-3 field-requires-2 number-requires-2 field-requires-3 number-requires-3 size-of-requires
+    lay-array-requires same-length-5 same-length-6 returns-4 moved-requires same-length-7 same-length-8 returns-5)

@@ -90,23 +90,5 @@ returns-2 c =
 
 pub lay-rows-spec : {M : Type 1} → statement M
 lay-rows-spec =
-    tie.close
-    (tie.spec
-    Inv-loop
-    μ-loop
-    first-requires
-    loop-holds
-    same-length
-    same-length-2
-    returns
-    find-requires
-    sub-step
-    part-step-start
-    part-step-end
-    step-requires
-    add-at
-    loop-less
-    loop-again
-    same-length-3
-    same-length-4
-    returns-2)
+    tie.close (tie.spec Inv-loop μ-loop first-requires loop-holds same-length same-length-2 returns find-requires sub-step part-step-start
+    part-step-end step-requires add-at loop-less loop-again same-length-3 same-length-4 returns-2)

@@ -78,22 +78,5 @@ returns c =
 
 pub read-sizes-spec : {M : Type 1} → statement M
 read-sizes-spec =
-    tie.close
-    (tie.spec
-    Inv-loop
-    μ-loop
-    sub-zero
-    part-zero-start
-    part-zero-end
-    zero-requires
-    loop-holds
-    find-requires
-    sub-note-size
-    part-note-size-start
-    part-note-size-end
-    note-size-requires
-    add-at
-    loop-less
-    loop-again
-    same-length
-    returns)
+    tie.close (tie.spec Inv-loop μ-loop sub-zero part-zero-start part-zero-end zero-requires loop-holds find-requires sub-note-size
+    part-note-size-start part-note-size-end note-size-requires add-at loop-less loop-again same-length returns)

@@ -26,5 +26,4 @@ returns-3 : tie.Need-returns-3
 returns-3 c = a-size (now (c .before .before .before .args .work)) (c .before .before .before .args .id) (omega arith)
 
 pub size-of-spec : {M : Type 1} → statement M
-size-of-spec =
-    tie.close (tie.spec returns add-i returns-2 shared-slice-read-result cast-result returns-3)
+size-of-spec = tie.close (tie.spec returns add-i returns-2 shared-slice-read-result cast-result returns-3)

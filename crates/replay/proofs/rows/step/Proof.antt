@@ -51,15 +51,5 @@ returns-2 c =
 
 pub step-spec : {M : Type 1} → statement M
 step-spec =
-    tie.close
-    (tie.spec
-    field-requires
-    slice-aggregate-is-word
-    is-word-requires
-    field-requires-2
-    keyword-requires
-    lay-item-requires
-    same-length
-    same-length-2
-    returns
-    returns-2)
+    tie.close (tie.spec field-requires slice-aggregate-is-word is-word-requires field-requires-2 keyword-requires lay-item-requires same-length
+    same-length-2 returns returns-2)

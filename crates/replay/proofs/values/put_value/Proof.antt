@@ -60,18 +60,5 @@ returns-2 c =
 
 pub put-value-spec : {M : Type 1} → statement M
 put-value-spec =
-    tie.close
-    (tie.spec
-    Inv-loop
-    μ-loop
-    add-result
-    returns
-    loop-holds
-    sub-byte
-    byte-requires
-    put-requires
-    sub-j
-    loop-less
-    loop-again
-    same-length
+    tie.close (tie.spec Inv-loop μ-loop add-result returns loop-holds sub-byte byte-requires put-requires sub-j loop-less loop-again same-length
     returns-2)

@@ -71,21 +71,5 @@ returns-2 c =
 
 pub put-values-spec : {M : Type 1} → statement M
 put-values-spec =
-    tie.close
-    (tie.spec
-    Inv-loop
-    μ-loop
-    add-result
-    returns
-    loop-holds
-    find-requires
-    sub-value
-    part-value-start
-    part-value-end
-    value-requires
-    put-value-requires
-    add-i
-    loop-less
-    loop-again
-    same-length
-    returns-2)
+    tie.close (tie.spec Inv-loop μ-loop add-result returns loop-holds find-requires sub-value part-value-start part-value-end value-requires
+    put-value-requires add-i loop-less loop-again same-length returns-2)

@@ -34,14 +34,5 @@ returns c = rw (case-is (now (c .before .before .before .before .before .before 
 
 pub mark-case-spec : {M : Type 1} → statement M
 mark-case-spec =
-    tie.close
-    (tie.spec
-    sub-number-at
-    number-at-requires
-    add-at
-    sub-number-at-2
-    number-at-requires-2
-    add-mark-fields
-    mark-fields-requires
-    same-length
+    tie.close (tie.spec sub-number-at number-at-requires add-at sub-number-at-2 number-at-requires-2 add-mark-fields mark-fields-requires same-length
     returns)

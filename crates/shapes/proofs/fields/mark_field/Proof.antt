@@ -45,17 +45,5 @@ returns-2 c = (line-typed (now (c .before .before .before .before .before .befor
 
 pub mark-field-spec : {M : Type 1} → statement M
 mark-field-spec =
-    tie.close
-    (tie.spec
-    sub-number-at
-    number-at-requires
-    same-length
-    returns
-    type-size-align-requires
-    sub-number-at-2
-    number-at-requires-2
-    align-up-requires
-    cast-at
-    mark-names-requires
-    same-length-2
-    returns-2)
+    tie.close (tie.spec sub-number-at number-at-requires same-length returns type-size-align-requires sub-number-at-2 number-at-requires-2
+    align-up-requires cast-at mark-names-requires same-length-2 returns-2)

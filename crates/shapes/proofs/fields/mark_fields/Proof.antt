@@ -46,17 +46,5 @@ returns c = (lines-marked-end (now (c .before .before .before .before .args .she
 
 pub mark-fields-spec : {M : Type 1} → statement M
 mark-fields-spec =
-    tie.close
-    (tie.spec
-    Inv-loop
-    μ-loop
-    loop-holds
-    sub-number-at
-    add-number-at
-    number-at-requires
-    mark-field-requires
-    add-j
-    loop-less
-    loop-again
-    same-length
-    returns)
+    tie.close (tie.spec Inv-loop μ-loop loop-holds sub-number-at add-number-at number-at-requires mark-field-requires add-j loop-less loop-again
+    same-length returns)

@@ -35,13 +35,4 @@ returns c = (refl, names-marked (c .before .before .before .before .before .befo
 
 pub mark-names-spec : {M : Type 1} → statement M
 mark-names-spec =
-    tie.close
-    (tie.spec
-    is-pointer-requires
-    line-fields-requires
-    mark-first-requires
-    cast-result
-    mul-result
-    add-result
-    same-length
-    returns)
+    tie.close (tie.spec is-pointer-requires line-fields-requires mark-first-requires cast-result mul-result add-result same-length returns)

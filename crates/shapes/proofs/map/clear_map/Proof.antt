@@ -42,16 +42,4 @@ returns c = let e : c .before .loop .i ≡ mapLength (c .before .before .before 
 
 pub clear-map-spec : {M : Type 1} → statement M
 clear-map-spec =
-    tie.close
-    (tie.spec
-    Inv-loop
-    μ-loop
-    map-bytes-requires
-    loop-holds
-    add-work
-    slice-write-work
-    add-i
-    loop-less
-    loop-again
-    same-length
-    returns)
+    tie.close (tie.spec Inv-loop μ-loop map-bytes-requires loop-holds add-work slice-write-work add-i loop-less loop-again same-length returns)

@@ -44,17 +44,5 @@ returns c = counting-end (now (c .before .before .before .before .args .work)) (
 
 pub map-ones-spec : {M : Type 1} → statement M
 map-ones-spec =
-    tie.close
-    (tie.spec
-    Inv-loop
-    μ-loop
-    map-bytes-requires
-    loop-holds
-    add-ones-of
-    shared-slice-read-ones-of
-    ones-of-requires
-    add-count
-    add-i
-    loop-less
-    loop-again
-    returns)
+    tie.close (tie.spec Inv-loop μ-loop map-bytes-requires loop-holds add-ones-of shared-slice-read-ones-of ones-of-requires add-count add-i loop-less
+    loop-again returns)

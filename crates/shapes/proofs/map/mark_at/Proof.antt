@@ -40,15 +40,4 @@ returns-3 : tie.Need-returns-3
 returns-3 c = marks-set (c .before .before .before .before .before .args .off) (c .before .before .before .before .before .pre) (omega arith) (ap (bitOr (getD (now (c .before .before .before .before .before .args .work)) (49152 + c .before .before .before .before .before .args .off / 4 / 8) 0)) (c .bit-of .ensures)) refl
 
 pub mark-at-spec : {M : Type 1} → statement M
-mark-at-spec =
-    tie.close
-    (tie.spec
-    returns
-    returns-2
-    cast-at
-    add-at
-    slice-read-work
-    bit-of-requires
-    slice-write-work
-    same-length
-    returns-3)
+mark-at-spec = tie.close (tie.spec returns returns-2 cast-at add-at slice-read-work bit-of-requires slice-write-work same-length returns-3)

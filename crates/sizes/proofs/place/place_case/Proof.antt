@@ -31,13 +31,4 @@ returns c = (rw (case-is (now (c .before .before .before .before .before .args .
 
 pub place-case-spec : {M : Type 1} → statement M
 place-case-spec =
-    tie.close
-    (tie.spec
-    sub-number-at
-    number-at-requires
-    add-at
-    sub-number-at-2
-    number-at-requires-2
-    add-place-fields
-    place-fields-requires
-    returns)
+    tie.close (tie.spec sub-number-at number-at-requires add-at sub-number-at-2 number-at-requires-2 add-place-fields place-fields-requires returns)

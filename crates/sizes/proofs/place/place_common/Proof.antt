@@ -18,5 +18,4 @@ returns : tie.Need-returns
 returns c = (rw (common-is (now (c .before .before .before .before .args .sheet)) (now (c .before .before .before .before .args .work)) (c .before .before .before .before .args .n) (c .before .before .before .before .args .r) (c .before .before .before .before .pre .0) (c .before .number-at .result) (c .before .number-at .ensures .0)) (c .place-fields .ensures .0), omega (arith, c .place-fields .ensures .1, c .before .before .before .before .pre .1))
 
 pub place-common-spec : {M : Type 1} → statement M
-place-common-spec =
-    tie.close (tie.spec sub-number-at number-at-requires place-fields-requires returns)
+place-common-spec = tie.close (tie.spec sub-number-at number-at-requires place-fields-requires returns)

@@ -35,14 +35,5 @@ returns-2 c = (placed-typed (now (c .before .before .before .before .before .bef
 
 pub place-field-spec : {M : Type 1} → statement M
 place-field-spec =
-    tie.close
-    (tie.spec
-    sub-number-at
-    number-at-requires
-    returns
-    type-size-align-requires
-    is-pointer-requires
-    sub-number-at-2
-    number-at-requires-2
-    place-line-requires
-    returns-2)
+    tie.close (tie.spec sub-number-at number-at-requires returns type-size-align-requires is-pointer-requires sub-number-at-2 number-at-requires-2
+    place-line-requires returns-2)

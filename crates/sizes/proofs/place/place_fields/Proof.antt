@@ -40,16 +40,5 @@ returns c = (passing-end (now (c .before .before .before .before .args .sheet)) 
 
 pub place-fields-spec : {M : Type 1} → statement M
 place-fields-spec =
-    tie.close
-    (tie.spec
-    Inv-loop
-    μ-loop
-    loop-holds
-    sub-number-at
-    add-number-at
-    number-at-requires
-    place-field-requires
-    add-j
-    loop-less
-    loop-again
+    tie.close (tie.spec Inv-loop μ-loop loop-holds sub-number-at add-number-at number-at-requires place-field-requires add-j loop-less loop-again
     returns)

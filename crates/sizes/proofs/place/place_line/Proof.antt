@@ -44,15 +44,4 @@ returns c = (line-placed (c .before .before .before .before .before .args .p) _ 
 
 pub place-line-spec : {M : Type 1} → statement M
 place-line-spec =
-    tie.close
-    (tie.spec
-    align-up-requires
-    cast-at
-    line-fields-requires
-    cast-furthest-of
-    furthest-of-requires
-    cast-t9
-    mul-t10
-    add-t11
-    cast-t12
-    returns)
+    tie.close (tie.spec align-up-requires cast-at line-fields-requires cast-furthest-of furthest-of-requires cast-t9 mul-t10 add-t11 cast-t12 returns)

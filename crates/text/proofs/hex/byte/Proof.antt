@@ -44,15 +44,5 @@ returns-3 c =
 
 pub byte-spec : {M : Type 1} → statement M
 byte-spec =
-    tie.close
-    (tie.spec
-    returns
-    mul-pair
-    shared-slice-read-pair
-    mul-pair-2
-    add-pair
-    shared-slice-read-pair-2
-    pair-requires
-    returns-2
-    cast-result
+    tie.close (tie.spec returns mul-pair shared-slice-read-pair mul-pair-2 add-pair shared-slice-read-pair-2 pair-requires returns-2 cast-result
     returns-3)

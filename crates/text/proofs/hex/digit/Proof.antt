@@ -36,14 +36,4 @@ returns-3 c = (digit-none (c .before .before .before .before .args .b) (sym (c .
 
 pub digit-spec : {M : Type 1} → statement M
 digit-spec =
-    tie.close
-    (tie.spec
-    is-within-requires
-    sub-wide
-    wide-requires
-    returns
-    is-within-requires-2
-    sub-wide-2
-    wide-requires-2
-    returns-2
-    returns-3)
+    tie.close (tie.spec is-within-requires sub-wide wide-requires returns is-within-requires-2 sub-wide-2 wide-requires-2 returns-2 returns-3)

@@ -57,18 +57,5 @@ returns-2 c =
 
 pub is-hex-spec : {M : Type 1} → statement M
 is-hex-spec =
-    tie.close
-    (tie.spec
-    Inv-loop
-    μ-loop
-    loop-holds
-    add-loop
-    shared-slice-read-pair
-    add-pair
-    shared-slice-read-pair-2
-    pair-requires
-    returns
-    add-i
-    loop-less
-    loop-again
-    returns-2)
+    tie.close (tie.spec Inv-loop μ-loop loop-holds add-loop shared-slice-read-pair add-pair shared-slice-read-pair-2 pair-requires returns add-i
+    loop-less loop-again returns-2)

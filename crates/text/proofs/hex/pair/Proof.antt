@@ -34,6 +34,4 @@ returns-3 c =
     (pair-both (a .h) (a .l) (c .before .before .before .digit .ensures .0) (c .before .digit2 .ensures .0) (c .before .before .if1 .left) (c .if2 .left), omega (arith, c .before .before .before .digit .ensures .1, c .before .digit2 .ensures .1, c .before .before .if1 .left, c .if2 .left))
 
 pub pair-spec : {M : Type 1} → statement M
-pair-spec =
-    tie.close
-    (tie.spec digit-requires returns digit-requires-2 returns-2 mul-result add-result returns-3)
+pair-spec = tie.close (tie.spec digit-requires returns digit-requires-2 returns-2 mul-result add-result returns-3)

@@ -75,22 +75,5 @@ returns-3 c =
 
 pub read-word-spec : {M : Type 1} → statement M
 read-word-spec =
-    tie.close
-    (tie.spec
-    Inv-loop
-    μ-loop
-    returns
-    loop-holds
-    mul-pair
-    shared-slice-read-pair
-    mul-pair-2
-    add-pair
-    shared-slice-read-pair-2
-    pair-requires
-    returns-2
-    mul-acc
-    add-acc
-    add-k
-    loop-less
-    loop-again
-    returns-3)
+    tie.close (tie.spec Inv-loop μ-loop returns loop-holds mul-pair shared-slice-read-pair mul-pair-2 add-pair shared-slice-read-pair-2 pair-requires
+    returns-2 mul-acc add-acc add-k loop-less loop-again returns-3)

@@ -24,5 +24,4 @@ unfolding letter
 returns-3 c = simp (sym (c .before .before .before .is-within .ensures) ∙ c .before .before .if1 .left, sym (c .before .is-within2 .ensures) ∙ c .if2 .left)
 
 pub is-letter-spec : {M : Type 1} → statement M
-is-letter-spec =
-    tie.close (tie.spec is-within-requires returns is-within-requires-2 returns-2 returns-3)
+is-letter-spec = tie.close (tie.spec is-within-requires returns is-within-requires-2 returns-2 returns-3)

@@ -65,20 +65,5 @@ returns-5 c =
 
 pub is-name-spec : {M : Type 1} → statement M
 is-name-spec =
-    tie.close
-    (tie.spec
-    Inv-loop
-    μ-loop
-    returns
-    returns-2
-    shared-slice-read-is-letter
-    is-letter-requires
-    returns-3
-    loop-holds
-    shared-slice-read-is-mark
-    is-mark-requires
-    returns-4
-    add-i
-    loop-less
-    loop-again
-    returns-5)
+    tie.close (tie.spec Inv-loop μ-loop returns returns-2 shared-slice-read-is-letter is-letter-requires returns-3 loop-holds
+    shared-slice-read-is-mark is-mark-requires returns-4 add-i loop-less loop-again returns-5)

@@ -63,19 +63,5 @@ returns-3 c =
 
 pub digits-spec : {M : Type 1} → statement M
 digits-spec =
-    tie.close
-    (tie.spec
-    Inv-loop
-    μ-loop
-    loop-holds
-    shared-slice-read-x
-    add-result
-    returns
-    add-result-2
-    returns-2
-    wide-requires
-    more-requires
-    add-i
-    loop-less
-    loop-again
-    returns-3)
+    tie.close (tie.spec Inv-loop μ-loop loop-holds shared-slice-read-x add-result returns add-result-2 returns-2 wide-requires more-requires add-i
+    loop-less loop-again returns-3)

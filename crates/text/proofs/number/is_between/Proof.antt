@@ -34,13 +34,4 @@ returns-3 c =
     none-within (now (a .s)) (c .before .before .read-signed .ensures) (a .lo) (a .hi) (c .enum-told .given .1)
 
 pub is-between-spec : {M : Type 1} → statement M
-is-between-spec =
-    tie.close
-    (tie.spec
-    read-signed-requires
-    enum-known-r
-    enum-known-r-2
-    enum-told
-    returns
-    returns-2
-    returns-3)
+is-between-spec = tie.close (tie.spec read-signed-requires enum-known-r enum-known-r-2 enum-told returns returns-2 returns-3)

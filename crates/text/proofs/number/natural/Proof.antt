@@ -44,15 +44,4 @@ returns-4 c =
     c .digits .ensures ∙ number-digits most (a .from) (now (a .s)) (c .before .if2 .left) (omega arith)
 
 pub natural-spec : {M : Type 1} → statement M
-natural-spec =
-    tie.close
-    (tie.spec
-    add-result
-    returns
-    shared-slice-read-if2
-    add-if3
-    add-result-2
-    returns-2
-    returns-3
-    digits-requires
-    returns-4)
+natural-spec = tie.close (tie.spec add-result returns shared-slice-read-if2 add-if3 add-result-2 returns-2 returns-3 digits-requires returns-4)

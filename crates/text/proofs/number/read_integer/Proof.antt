@@ -43,17 +43,5 @@ returns-5 c = integer-none (now (c .before .before .before .before .args .s)) (c
 
 pub read-integer-spec : {M : Type 1} → statement M
 read-integer-spec =
-    tie.close
-    (tie.spec
-    read-signed-requires
-    enum-known-r
-    returns
-    cast-t7
-    enum-known-r-2
-    returns-2
-    sub-t9
-    cast-t10
-    enum-told
-    returns-3
-    returns-4
+    tie.close (tie.spec read-signed-requires enum-known-r returns cast-t7 enum-known-r-2 returns-2 sub-t9 cast-t10 enum-told returns-3 returns-4
     returns-5)

@@ -35,14 +35,4 @@ returns-6 c = plus-some (now (c .before .before .before .before .before .before 
 
 pub read-signed-spec : {M : Type 1} → statement M
 read-signed-spec =
-    tie.close
-    (tie.spec
-    returns
-    shared-slice-read-if2
-    natural-requires
-    returns-2
-    returns-3
-    returns-4
-    natural-requires-2
-    returns-5
-    returns-6)
+    tie.close (tie.spec returns shared-slice-read-if2 natural-requires returns-2 returns-3 returns-4 natural-requires-2 returns-5 returns-6)

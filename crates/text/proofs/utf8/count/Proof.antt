@@ -41,16 +41,4 @@ returns : tie.Need-returns Inv-loop μ-loop
 returns c = omega (arith, count-end (now (c .before .before .before .args .s)) (c .before .loop .i) (c .loop-test .left))
 
 pub count-spec : {M : Type 1} → statement M
-count-spec =
-    tie.close
-    (tie.spec
-    Inv-loop
-    μ-loop
-    loop-holds
-    shared-slice-read-starts-one
-    starts-one-requires
-    add-n
-    add-i
-    loop-less
-    loop-again
-    returns)
+count-spec = tie.close (tie.spec Inv-loop μ-loop loop-holds shared-slice-read-starts-one starts-one-requires add-n add-i loop-less loop-again returns)

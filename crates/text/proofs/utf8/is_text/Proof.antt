@@ -74,23 +74,5 @@ returns-3 c =
 
 pub is-text-spec : {M : Type 1} → statement M
 is-text-spec =
-    tie.close
-    (tie.spec
-    Inv-loop
-    μ-loop
-    to-come-requires
-    loop-holds
-    add-loop
-    shared-slice-read-pair
-    add-pair
-    shared-slice-read-pair-2
-    pair-requires
-    returns
-    cast-next
-    next-requires
-    add-i
-    loop-less
-    loop-again
-    returns-2
-    may-end-requires
-    returns-3)
+    tie.close (tie.spec Inv-loop μ-loop to-come-requires loop-holds add-loop shared-slice-read-pair add-pair shared-slice-read-pair-2 pair-requires
+    returns cast-next next-requires add-i loop-less loop-again returns-2 may-end-requires returns-3)

@@ -49,16 +49,5 @@ returns c =
 
 pub is-utf8-spec : {M : Type 1} → statement M
 is-utf8-spec =
-    tie.close
-    (tie.spec
-    Inv-loop
-    μ-loop
-    to-come-requires
-    loop-holds
-    shared-slice-read-next
-    next-requires
-    add-i
-    loop-less
-    loop-again
-    may-end-requires
+    tie.close (tie.spec Inv-loop μ-loop to-come-requires loop-holds shared-slice-read-next next-requires add-i loop-less loop-again may-end-requires
     returns)

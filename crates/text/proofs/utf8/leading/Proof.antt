@@ -94,31 +94,7 @@ returns-9 c = c .fault .ensures ∙ simp (sym (c .before .before .before .before
 
 pub leading-spec : {M : Type 1} → statement M
 leading-spec =
-    tie.close
-    (tie.spec
-    is-within-requires
-    to-come-requires
-    returns
-    is-within-requires-2
-    to-come-requires-2
-    returns-2
-    is-within-requires-3
-    to-come-requires-3
-    returns-3
-    is-within-requires-4
-    to-come-requires-4
-    returns-4
-    is-within-requires-5
-    to-come-requires-5
-    returns-5
-    is-within-requires-6
-    to-come-requires-6
-    returns-6
-    is-within-requires-7
-    to-come-requires-7
-    returns-7
-    is-within-requires-8
-    to-come-requires-8
-    returns-8
-    fault-requires
-    returns-9)
+    tie.close (tie.spec is-within-requires to-come-requires returns is-within-requires-2 to-come-requires-2 returns-2 is-within-requires-3
+    to-come-requires-3 returns-3 is-within-requires-4 to-come-requires-4 returns-4 is-within-requires-5 to-come-requires-5 returns-5
+    is-within-requires-6 to-come-requires-6 returns-6 is-within-requires-7 to-come-requires-7 returns-7 is-within-requires-8 to-come-requires-8
+    returns-8 fault-requires returns-9)

@@ -44,15 +44,4 @@ returns-4 c =
     c .fault .ensures ∙ simp (not-false (a .a .good) (c .before .before .before .before .before .if1 .left), ne-eqb (a .a .more) 0 (c .before .before .before .if2 .left), sym (c .before .before .is-within .ensures) ∙ c .before .if3 .left)
 
 pub next-spec : {M : Type 1} → statement M
-next-spec =
-    tie.close
-    (tie.spec
-    returns
-    leading-requires
-    returns-2
-    is-within-requires
-    sub-to-come
-    to-come-requires
-    returns-3
-    fault-requires
-    returns-4)
+next-spec = tie.close (tie.spec returns leading-requires returns-2 is-within-requires sub-to-come to-come-requires returns-3 fault-requires returns-4)

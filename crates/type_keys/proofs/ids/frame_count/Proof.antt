@@ -39,15 +39,4 @@ returns : tie.Need-returns Inv-loop μ-loop
 returns c = let e : c .before .loop .i ≡ c .before .before .before .before .args .n = omega (arith, c .before .loop .inv .0, c .loop-test .left) in let g = c .before .loop .inv .1 ∙ ap (λ (j : ℕ). length (framesTo (now (c .before .before .before .before .args .sheet)) j)) e in (g ∙ ap length (frames-all (now (c .before .before .before .before .args .sheet)) (now (c .before .before .before .before .args .work)) (c .before .before .before .before .args .n) (c .before .before .before .before .pre)), omega (arith, g, frames-few (now (c .before .before .before .before .args .sheet)) (now (c .before .before .before .before .args .work)) (c .before .before .before .before .args .n) (c .before .before .before .before .pre) (c .before .before .before .before .args .n) (omega arith)))
 
 pub frame-count-spec : {M : Type 1} → statement M
-frame-count-spec =
-    tie.close
-    (tie.spec
-    Inv-loop
-    μ-loop
-    loop-holds
-    frames-of-requires
-    add-frames
-    add-i
-    loop-less
-    loop-again
-    returns)
+frame-count-spec = tie.close (tie.spec Inv-loop μ-loop loop-holds frames-of-requires add-frames add-i loop-less loop-again returns)

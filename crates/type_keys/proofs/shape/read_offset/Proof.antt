@@ -33,15 +33,4 @@ returns-3 : tie.Need-returns-3
 returns-3 c = (read-none (now (c .before .before .before .before .args .f)) (c .before .before .read-signed .result) (c .before .before .read-signed .ensures) (c .enum-told .given .1), omega arith)
 
 pub read-offset-spec : {M : Type 1} → statement M
-read-offset-spec =
-    tie.close
-    (tie.spec
-    read-signed-requires
-    enum-known-z
-    add-result
-    enum-known-z-2
-    sub-result
-    enum-told
-    returns
-    returns-2
-    returns-3)
+read-offset-spec = tie.close (tie.spec read-signed-requires enum-known-z add-result enum-known-z-2 sub-result enum-told returns returns-2 returns-3)

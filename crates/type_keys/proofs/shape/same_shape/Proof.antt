@@ -59,21 +59,5 @@ returns-4 c = sizes-same (shapeAt (now (c .before .before .before .before .befor
 
 pub same-shape-spec : {M : Type 1} → statement M
 same-shape-spec =
-    tie.close
-    (tie.spec
-    Inv-loop
-    μ-loop
-    size-at-requires
-    size-at-requires-2
-    returns
-    offset-count-requires
-    offset-count-requires-2
-    returns-2
-    loop-holds
-    offset-at-requires
-    offset-at-requires-2
-    returns-3
-    add-j
-    loop-less
-    loop-again
-    returns-4)
+    tie.close (tie.spec Inv-loop μ-loop size-at-requires size-at-requires-2 returns offset-count-requires offset-count-requires-2 returns-2 loop-holds
+    offset-at-requires offset-at-requires-2 returns-3 add-j loop-less loop-again returns-4)

@@ -36,15 +36,4 @@ returns-2 : tie.Need-returns-2 Inv-loop μ-loop
 returns-2 c = (λ h. absurd (omega (arith, h, c .loop-test .left)), λ j h e. not-below j (c .before .loop .k) (λ l. c .before .loop .inv .1 j l e))
 
 pub kind-at-spec : {M : Type 1} → statement M
-kind-at-spec =
-    tie.close
-    (tie.spec
-    Inv-loop
-    μ-loop
-    loop-holds
-    kind-place-requires
-    returns
-    add-k
-    loop-less
-    loop-again
-    returns-2)
+kind-at-spec = tie.close (tie.spec Inv-loop μ-loop loop-holds kind-place-requires returns add-k loop-less loop-again returns-2)

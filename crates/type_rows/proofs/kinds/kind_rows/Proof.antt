@@ -53,19 +53,5 @@ returns c = (kinds-end (c .before .before .before .before .args .base) (c .befor
 
 pub kind-rows-spec : {M : Type 1} → statement M
 kind-rows-spec =
-    tie.close
-    (tie.spec
-    Inv-loop
-    μ-loop
-    add-end
-    loop-holds
-    sub-kind-at
-    add-kind-at
-    kind-at-requires
-    put-elem-requires
-    add-id
-    loop-less
-    loop-again
-    same-length
-    same-length-2
-    returns)
+    tie.close (tie.spec Inv-loop μ-loop add-end loop-holds sub-kind-at add-kind-at kind-at-requires put-elem-requires add-id loop-less loop-again
+    same-length same-length-2 returns)

@@ -26,12 +26,4 @@ returns : tie.Need-returns
 returns c = rowed-as (shape-is (recordedAt (now (c .before .before .before .before .before .before .before .before .before .before .before .before .before .before .args .sheet)) (now (c .before .before .before .before .before .before .before .before .before .before .before .before .before .before .args .work)) (c .before .before .before .before .before .before .before .before .before .before .before .before .before .before .args .e) .shape) (c .before .before .before .before .before .before .before .before .before .entry-size .result) (recordedAt (now (c .before .before .before .before .before .before .before .before .before .before .before .before .before .before .args .sheet)) (now (c .before .before .before .before .before .before .before .before .before .before .before .before .before .before .args .work)) (c .before .before .before .before .before .before .before .before .before .before .before .before .before .before .args .e) .shape .pointers) (c .before .before .before .before .before .before .before .before .before .entry-size .ensures .0) refl) (record { wrote = c .before .before .put-type .ensures _ (c .before .before .before .before .before .before .before .map-entry .ensures .map); kept = c .before .before .before .before .before .before .before .map-entry .ensures .kept })
 
 pub put-entry-spec : {M : Type 1} → statement M
-put-entry-spec =
-    tie.close
-    (tie.spec
-    entry-size-requires
-    map-entry-requires
-    put-type-requires
-    same-length
-    same-length-2
-    returns)
+put-entry-spec = tie.close (tie.spec entry-size-requires map-entry-requires put-type-requires same-length same-length-2 returns)

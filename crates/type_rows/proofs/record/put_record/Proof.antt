@@ -45,16 +45,5 @@ returns-2 c = rowed-as (known-shape (now (c .before .before .before .before .bef
 
 pub put-record-spec : {M : Type 1} → statement M
 put-record-spec =
-    tie.close
-    (tie.spec
-    field-at-requires
-    newest-requires
-    put-words-requires
-    same-length
-    same-length-2
-    returns
-    sub-put-entry
-    put-entry-requires
-    same-length-3
-    same-length-4
-    returns-2)
+    tie.close (tie.spec field-at-requires newest-requires put-words-requires same-length same-length-2 returns sub-put-entry put-entry-requires
+    same-length-3 same-length-4 returns-2)

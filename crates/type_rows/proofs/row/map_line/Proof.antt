@@ -53,17 +53,5 @@ returns c = made-then (c .before .before .before .before .before .before .before
 
 pub map-line-spec : {M : Type 1} → statement M
 map-line-spec =
-    tie.close
-    (tie.spec
-    Inv-loop
-    μ-loop
-    clear-map-requires
-    offset-count-requires
-    loop-holds
-    offset-at-requires
-    mark-raised-requires
-    add-j
-    loop-less
-    loop-again
-    same-length
-    returns)
+    tie.close (tie.spec Inv-loop μ-loop clear-map-requires offset-count-requires loop-holds offset-at-requires mark-raised-requires add-j loop-less
+    loop-again same-length returns)

@@ -47,16 +47,4 @@ returns c = let e : c .before .loop .k ≡ c .before .before .before .before .be
 
 pub map-words-spec : {M : Type 1} → statement M
 map-words-spec =
-    tie.close
-    (tie.spec
-    Inv-loop
-    μ-loop
-    clear-map-requires
-    loop-holds
-    mul-mark-at
-    mark-at-requires
-    add-k
-    loop-less
-    loop-again
-    same-length
-    returns)
+    tie.close (tie.spec Inv-loop μ-loop clear-map-requires loop-holds mul-mark-at mark-at-requires add-k loop-less loop-again same-length returns)

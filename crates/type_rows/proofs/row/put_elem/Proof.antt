@@ -25,12 +25,4 @@ returns : tie.Need-returns
 returns c = (λ k e. rowed-as (shape-is (elemShape k) (c .before .before .before .before .before .before .before .elem-size .result) (words (c .before .before .before .before .before .before .elem-pointers .result)) (c .before .before .before .before .before .before .before .elem-size .ensures .0 k e) (c .before .before .before .before .before .before .elem-pointers .ensures .0 k e)) (c .before .before .before .before .put-words .ensures), c .before .before .before .before .put-words .ensures .kept)
 
 pub put-elem-spec : {M : Type 1} → statement M
-put-elem-spec =
-    tie.close
-    (tie.spec
-    elem-size-requires
-    elem-pointers-requires
-    put-words-requires
-    same-length
-    same-length-2
-    returns)
+put-elem-spec = tie.close (tie.spec elem-size-requires elem-pointers-requires put-words-requires same-length same-length-2 returns)

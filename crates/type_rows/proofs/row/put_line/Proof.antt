@@ -27,12 +27,4 @@ returns : tie.Need-returns
 returns c = rowed-as (shape-is (shapeAt (now (c .before .before .before .before .before .before .before .before .before .before .before .before .before .before .args .sheet)) (c .before .before .before .before .before .before .before .before .before .before .before .before .before .before .args .i)) (c .before .before .before .before .before .before .before .before .before .size-at .result) (shapeAt (now (c .before .before .before .before .before .before .before .before .before .before .before .before .before .before .args .sheet)) (c .before .before .before .before .before .before .before .before .before .before .before .before .before .before .args .i) .pointers) (c .before .before .before .before .before .before .before .before .before .size-at .ensures .0) refl) (record { wrote = c .before .before .put-type .ensures _ (c .before .before .before .before .before .before .before .map-line .ensures .map); kept = c .before .before .before .before .before .before .before .map-line .ensures .kept })
 
 pub put-line-spec : {M : Type 1} → statement M
-put-line-spec =
-    tie.close
-    (tie.spec
-    size-at-requires
-    map-line-requires
-    put-type-requires
-    same-length
-    same-length-2
-    returns)
+put-line-spec = tie.close (tie.spec size-at-requires map-line-requires put-type-requires same-length same-length-2 returns)

@@ -63,21 +63,6 @@ returns c = let e = map-end (c .before .before .before .before .before .before .
 
 pub put-type-spec : {M : Type 1} → statement M
 put-type-spec =
-    tie.close
-    (tie.spec
-    map-bytes-requires
-    add-end
-    slice-aggregate-put-part
-    put-part-requires
-    put-comma-nat-requires
-    put-comma-nat-requires-2
-    map-ones-requires
-    cast-put-comma-nat
-    put-comma-nat-requires-3
-    sub-put-comma-hex
-    part-put-comma-hex-start
-    part-put-comma-hex-end
-    put-comma-hex-requires
-    put-lf-requires
-    same-length
-    returns)
+    tie.close (tie.spec map-bytes-requires add-end slice-aggregate-put-part put-part-requires put-comma-nat-requires put-comma-nat-requires-2
+    map-ones-requires cast-put-comma-nat put-comma-nat-requires-3 sub-put-comma-hex part-put-comma-hex-start part-put-comma-hex-end
+    put-comma-hex-requires put-lf-requires same-length returns)

@@ -19,5 +19,4 @@ returns : tie.Need-returns
 returns c = record { wrote = c .before .before .put-type .ensures _ (c .before .before .before .before .before .before .before .map-words .ensures .map); kept = c .before .before .before .before .before .before .before .map-words .ensures .kept }
 
 pub put-words-spec : {M : Type 1} → statement M
-put-words-spec =
-    tie.close (tie.spec map-words-requires put-type-requires same-length same-length-2 returns)
+put-words-spec = tie.close (tie.spec map-words-requires put-type-requires same-length same-length-2 returns)

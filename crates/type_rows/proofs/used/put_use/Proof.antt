@@ -24,12 +24,4 @@ unfolding row
 returns c = then (c .before .before .before .before .before .before .before .before .before .before .put-part .ensures) (then (c .before .before .before .before .before .before .put-comma-nat .ensures) (c .before .before .put-lf .ensures))
 
 pub put-use-spec : {M : Type 1} → statement M
-put-use-spec =
-    tie.close
-    (tie.spec
-    slice-aggregate-put-part
-    put-part-requires
-    put-comma-nat-requires
-    put-lf-requires
-    same-length
-    returns)
+put-use-spec = tie.close (tie.spec slice-aggregate-put-part put-part-requires put-comma-nat-requires put-lf-requires same-length returns)

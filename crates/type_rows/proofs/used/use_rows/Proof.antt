@@ -47,16 +47,4 @@ returns : tie.Need-returns Inv-loop μ-loop
 returns c = λ is. uses-end (idOf (sheetSource (now (c .before .before .before .before .before .args .sheet))) is) (sheetSource (now (c .before .before .before .before .before .args .sheet)) .needs) (c .before .loop .q) (omega (arith, c .loop-test .left, c .before .before .before .before .before .pre .0 .count)) (c .before .loop .inv .2 is)
 
 pub use-rows-spec : {M : Type 1} → statement M
-use-rows-spec =
-    tie.close
-    (tie.spec
-    Inv-loop
-    μ-loop
-    loop-holds
-    need-id-requires
-    put-use-requires
-    add-q
-    loop-less
-    loop-again
-    same-length
-    returns)
+use-rows-spec = tie.close (tie.spec Inv-loop μ-loop loop-holds need-id-requires put-use-requires add-q loop-less loop-again same-length returns)

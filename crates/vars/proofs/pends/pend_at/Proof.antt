@@ -55,20 +55,5 @@ returns-3 c = (as-laid _ _ _ (c .before .before .before .before .pend-line .resu
 
 pub pend-at-spec : {M : Type 1} → statement M
 pend-at-spec =
-    tie.close
-    (tie.spec
-    form-at-requires
-    no-rows-requires
-    same-length
-    same-length-2
-    returns
-    is-laid-requires
-    no-rows-requires-2
-    same-length-3
-    same-length-4
-    returns-2
-    add-pend-line
-    pend-line-requires
-    same-length-5
-    same-length-6
-    returns-3)
+    tie.close (tie.spec form-at-requires no-rows-requires same-length same-length-2 returns is-laid-requires no-rows-requires-2 same-length-3
+    same-length-4 returns-2 add-pend-line pend-line-requires same-length-5 same-length-6 returns-3)

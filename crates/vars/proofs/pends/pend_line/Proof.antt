@@ -98,34 +98,6 @@ returns-6 c = (line-refused (now (c .before .before .before .before .before .bef
 
 pub pend-line-spec : {M : Type 1} → statement M
 pend-line-spec =
-    tie.close
-    (tie.spec
-    var-value-requires
-    enum-told
-    no-rows-requires
-    enum-told-2
-    no-rows-requires-2
-    enum-told-3
-    no-rows-requires-3
-    enum-told-4
-    no-rows-requires-4
-    enum-told-5
-    pend-names-requires
-    enum-known-q
-    same-length
-    same-length-2
-    returns
-    same-length-3
-    same-length-4
-    returns-2
-    same-length-5
-    same-length-6
-    returns-3
-    same-length-7
-    same-length-8
-    returns-4
-    same-length-9
-    same-length-10
-    returns-5
-    same-length-11
-    returns-6)
+    tie.close (tie.spec var-value-requires enum-told no-rows-requires enum-told-2 no-rows-requires-2 enum-told-3 no-rows-requires-3 enum-told-4
+    no-rows-requires-4 enum-told-5 pend-names-requires enum-known-q same-length same-length-2 returns same-length-3 same-length-4 returns-2
+    same-length-5 same-length-6 returns-3 same-length-7 same-length-8 returns-4 same-length-9 same-length-10 returns-5 same-length-11 returns-6)

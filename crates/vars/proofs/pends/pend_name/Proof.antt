@@ -39,16 +39,5 @@ returns-2 c = name-row (c .before .before .before .before .before .before .befor
 
 pub pend-name-spec : {M : Type 1} → statement M
 pend-name-spec =
-    tie.close
-    (tie.spec
-    sub-field-at
-    add-field-at
-    field-at-requires
-    slice-aggregate-same
-    same-requires
-    no-rows-requires
-    same-length
-    returns
-    pend-row-requires
-    same-length-2
-    returns-2)
+    tie.close (tie.spec sub-field-at add-field-at field-at-requires slice-aggregate-same same-requires no-rows-requires same-length returns
+    pend-row-requires same-length-2 returns-2)

@@ -47,17 +47,5 @@ returns c = naming-end (c .before .loop .inv) (c .loop-test .left)
 
 pub pend-names-spec : {M : Type 1} → statement M
 pend-names-spec =
-    tie.close
-    (tie.spec
-    Inv-loop
-    μ-loop
-    sub-number-at
-    number-at-requires
-    no-rows-requires
-    loop-holds
-    pend-name-requires
-    add-j
-    loop-less
-    loop-again
-    same-length
-    returns)
+    tie.close (tie.spec Inv-loop μ-loop sub-number-at number-at-requires no-rows-requires loop-holds pend-name-requires add-j loop-less loop-again
+    same-length returns)

@@ -59,22 +59,5 @@ returns-2 c = walk-end (c .before .before .before .before .before .before .befor
 
 pub pend-rows-spec : {M : Type 1} → statement M
 pend-rows-spec =
-    tie.close
-    (tie.spec
-    Inv-loop
-    μ-loop
-    no-rows-requires
-    loop-holds
-    pend-at-requires
-    enum-known-y
-    enum-told
-    same-length
-    same-length-2
-    returns
-    open-after-requires
-    add-i
-    loop-less
-    loop-again
-    same-length-3
-    same-length-4
-    returns-2)
+    tie.close (tie.spec Inv-loop μ-loop no-rows-requires loop-holds pend-at-requires enum-known-y enum-told same-length same-length-2 returns
+    open-after-requires add-i loop-less loop-again same-length-3 same-length-4 returns-2)

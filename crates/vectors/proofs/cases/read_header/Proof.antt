@@ -34,16 +34,4 @@ returns-2 : tie.Need-returns-2 Inv-loop μ-loop
 returns-2 c = tt
 
 pub read-header-spec : {M : Type 1} → statement M
-read-header-spec =
-    tie.close
-    (tie.spec
-    Inv-loop
-    μ-loop
-    loop-holds
-    next-byte-requires
-    returns
-    step-requires
-    sub-left
-    loop-less
-    loop-again
-    returns-2)
+read-header-spec = tie.close (tie.spec Inv-loop μ-loop loop-holds next-byte-requires returns step-requires sub-left loop-less loop-again returns-2)

@@ -50,19 +50,5 @@ returns c = tt
 
 pub skip-spec : {M : Type 1} → statement M
 skip-spec =
-    tie.close
-    (tie.spec
-    Inv-loop
-    μ-loop
-    buffer-requires
-    loop-holds
-    slice-aggregate-read-full
-    read-full-requires
-    sub-left
-    loop-less
-    loop-again
-    sub-read-full
-    part-space-start
-    part-space-end
-    read-full-requires-2
-    returns)
+    tie.close (tie.spec Inv-loop μ-loop buffer-requires loop-holds slice-aggregate-read-full read-full-requires sub-left loop-less loop-again
+    sub-read-full part-space-start part-space-end read-full-requires-2 returns)
