@@ -23,10 +23,11 @@ use Rattle.lines.specs.Lines.{readsIn, readAt, nodesIn, formAt}
 use Rattle.lines.proofs.Line.{form-low, kind-is}
 use Rattle.refs.proofs.Nodes.{node-at}
 use Rattle.sizes.specs.Sizes.{typeAt, TypeLine}
+use Rattle.sizes.proofs.Forms.{type-form, of-types}
 use Rattle.sizes.proofs.Types.{head-drop}
 use Rattle.fold.specs.Folds.{exAt}
 use Rattle.literals.specs.Literals.{elsAt, Line, LiteralLine}
-use Rattle.literals.proofs.Lines.{type-form, line-form, parts-at, makes, good-line, ref-head, el-value, value-ref}
+use Rattle.literals.proofs.Lines.{line-form, parts-at, makes, good-line, ref-head, el-value, value-ref}
 use Rattle.literals.proofs.Turns.{elsFrom, all-elements, element-line, elements-split}
 use Rattle.arrays.proofs.Allocs.{type-line}
 
@@ -35,15 +36,7 @@ use Rattle.arrays.proofs.Allocs.{type-line}
 -- the kind of a form: 1 for int, 0 for byte, 2 for big, 3 for real, else 4
 kind-of-form : (ns : List Node) (fs : List Bytes) (f : ℕ) → f < 8 → kindNumber (elemKind (rowNode ns f fs .ty)) ≡ getD (1 ∷ 0 ∷ 2 ∷ 3 ∷ []) f 4
 unfolding forms
-kind-of-form ns fs zero h = refl
-kind-of-form ns fs (suc zero) h = refl
-kind-of-form ns fs (suc (suc zero)) h = refl
-kind-of-form ns fs (suc (suc (suc zero))) h = refl
-kind-of-form ns fs (suc (suc (suc (suc zero)))) h = refl
-kind-of-form ns fs (suc (suc (suc (suc (suc zero))))) h = refl
-kind-of-form ns fs (suc (suc (suc (suc (suc (suc zero)))))) h = refl
-kind-of-form ns fs (suc (suc (suc (suc (suc (suc (suc zero))))))) h = refl
-kind-of-form ns fs (suc (suc (suc (suc (suc (suc (suc (suc f)))))))) h = absurd (omega arith)
+kind-of-form ns fs = of-types (λ f. kindNumber (elemKind (rowNode ns f fs .ty)) ≡ getD (1 ∷ 0 ∷ 2 ∷ 3 ∷ []) f 4) refl refl refl refl refl refl refl refl
 
 middle : (f : ℕ) → (f ≡ 0 → ⊥) → (f ≡ 1 → ⊥) → f < 4 → f ≡ getD (1 ∷ 0 ∷ 2 ∷ 3 ∷ []) f 4
 middle zero a b h = absurd (a refl)

@@ -22,7 +22,8 @@ use Rattle.sizes.specs.declared.place.Reached.{Reached}
 use Rattle.sizes.specs.Sizes.{typeAt, Measures}
 use Rattle.sizes.specs.Places.{fieldAt, fieldsAt, FieldLine, FieldRefs, LinePlaced}
 use Rattle.sizes.proofs.Rows.{values-length}
-use Rattle.sizes.proofs.Types.{field-form, head-drop, tail-drop}
+use Rattle.sizes.proofs.Forms.{field-form}
+use Rattle.sizes.proofs.Types.{head-drop, tail-drop}
 use Rattle.sizes.proofs.Places.{untyped, typed, fields-next}
 use Rattle.records.proofs.Picks.{names-at}
 use Rattle.records.proofs.Log.{concat-append}

@@ -1,6 +1,6 @@
 -- The lines of expressions: their fields, the lines that they refer to, and what they make.
 use mathlib.Core.Path.{_≡_, refl, sym, ap, _∙_, subst}
-use mathlib.Core.Bool.{Bool, true, false, cond, _&&_}
+use mathlib.Core.Bool.{Bool, true, false, cond}
 use mathlib.Core.List.{List, [], _∷_, _++_}
 use mathlib.Core.Option.{Option, none, some}
 use Prim.Native.Nat.{ℕ, zero, suc, _+_, _-_, _≤_, _<_}
@@ -9,20 +9,20 @@ use lib.Dec.{leb, ltb, eqb}
 use lib.IntN.{ℤ}
 use lib.ListN.{length, getD, length-append, List·getD-append}
 use lib.Seq.{getD-append-seam}
-use borrow.Author.Tests.{leb-true, ltb-true, eq-eqb, ne-eqb, eqb-true, eqb-false}
+use borrow.Author.Tests.{leb-true, ltb-true, ne-eqb, eqb-true, eqb-false}
 use Rattle.semantics.specs.Text as Text
 use Rattle.semantics.specs.Text.{Bytes, all}
 use Rattle.semantics.specs.Tree.{Ty, ArrayEx, Node, basicOf, byForm}
 use Rattle.semantics.specs.Tree.Ex.{constant, ident, modQual, unary, binary, cast, len}
 use Rattle.semantics.specs.Fold.{Names, fold}
 use Rattle.semantics.specs.Fold.Result.{failed}
-use Rattle.semantics.specs.Form.{Read, Row, Kind, Atom, Part, letter, forms, noRow, numberOf, fits, holds, isNumber, nodeAt}
+use Rattle.semantics.specs.Form.{Read, Kind, Atom, Part, letter, forms, numberOf, fits, holds, isNumber, nodeAt}
 use Rattle.semantics.specs.Form.Atom.{name, key, ref, maybe, unaryOp, binaryOp, lineOrCol, size, i64, offset, real, text}
 use Rattle.semantics.specs.Form.Part.{one, many}
 use Rattle.semantics.specs.Refusal.{Ref, refOf, refsIn, refsOf, deepest}
 use Rattle.text.specs.Number as Number
-use Rattle.form.specs.Table.{rowAt, kindAt, rowNode}
-use Rattle.form.proofs.Table.{never, both, row-count}
+use Rattle.form.specs.Table.{rowAt, rowNode}
+use Rattle.form.proofs.Table.{never, both}
 use Rattle.lines.specs.Lines.{readsIn, readAt, nodesIn, formAt}
 use Rattle.lines.proofs.Line.{line-count, form-low, form-is, kind-is, read-fits}
 use Rattle.refs.specs.Refs.{fineRef, fineRefs}
@@ -31,6 +31,7 @@ use Rattle.refs.proofs.Nodes.{node-at}
 use Rattle.nesting.specs.Nesting.{depthsFrom, depthOf, lowerRefs}
 use Rattle.checks.specs.Checks.{Checked}
 use Rattle.sizes.specs.Sizes.{typeAt}
+use Rattle.sizes.proofs.Forms.{type-form, ex-form, of-types}
 use Rattle.sizes.proofs.Types.{number-exact}
 use Rattle.values.specs.Values.{unaryAt, binaryAt, basicAt}
 use Rattle.fold.specs.Folds.{exAt, literalOf, ExLine}
@@ -78,32 +79,6 @@ module _ (P : Ref → Bool) where
       both (P (record { kind = letter k; optional = false; line = numberOf x })) (all P (refsIn ps fs)) q .0
   field-ref (one b ∷ ps) (x ∷ fs) (suc j) k f h a = field-ref ps fs j k f (both (holds b x) (fits ps fs) h .1) (later-refs b x (refsIn ps fs) a)
   field-ref (many b ∷ ps) fs j k f h a = absurd f
-
--- ---- the forms of a kind
-
--- whether the rows of kind k, counted from i, are among those from a up to b
-spans : ℕ → ℕ → ℕ → ℕ → List Row → Bool
-spans k a b i [] = true
-spans k a b i (r ∷ rs) = cond (eqb (letter (r .kind)) k) (leb a i && ltb i b) true && spans k a b (suc i) rs
-
-spans-at : (k a b : ℕ) (rs : List Row) (i j : ℕ) → spans k a b i rs ≡ true → j < length rs → letter (getD rs j noRow .kind) ≡ k → (a ≤ i + j) × (i + j < b)
-unfolding spans
-spans-at k a b [] i j h l e = absurd (omega arith)
-spans-at k a b (r ∷ rs) i zero h l e =
-    let p : leb a i && ltb i b ≡ true = rw (eq-eqb (letter (r .kind)) k e) at (both (cond (eqb (letter (r .kind)) k) (leb a i && ltb i b) true) (spans k a b (suc i) rs) h .0) in
-    let w = both (leb a i) (ltb i b) p in
-    (omega (arith, leb-true a i (w .0)), omega (arith, ltb-true i b (w .1)))
-spans-at k a b (r ∷ rs) i (suc j) h l e =
-    let q = spans-at k a b rs (suc i) j (both (cond (eqb (letter (r .kind)) k) (leb a i && ltb i b) true) (spans k a b (suc i) rs) h .1) (omega arith) e in
-    (omega (arith, q .0), omega (arith, q .1))
-
-type-form : (f : ℕ) → f < 42 → kindAt f ≡ 75 → f < 8
-unfolding spans forms
-type-form f h e = omega (arith, spans-at 75 0 8 forms 0 f refl (omega (arith, row-count)) e .1)
-
-ex-form : (f : ℕ) → f < 42 → kindAt f ≡ 69 → (8 ≤ f) × (f < 20)
-unfolding spans forms
-ex-form f h e = let w = spans-at 69 8 20 forms 0 f refl (omega (arith, row-count)) e in (omega (arith, w .0), omega (arith, w .1))
 
 -- ---- depths
 
@@ -190,15 +165,7 @@ module _ (s t : Bytes) (n r : ℕ) (l : ExLine s t n r) where
 
 basic-of : (ns : List Node) (fs : List Bytes) (f : ℕ) → f < 8 → basicOf (rowNode ns f fs .ty) ≡ basicAt f
 unfolding forms
-basic-of ns fs zero h = refl
-basic-of ns fs (suc zero) h = refl
-basic-of ns fs (suc (suc zero)) h = refl
-basic-of ns fs (suc (suc (suc zero))) h = refl
-basic-of ns fs (suc (suc (suc (suc zero)))) h = refl
-basic-of ns fs (suc (suc (suc (suc (suc zero))))) h = refl
-basic-of ns fs (suc (suc (suc (suc (suc (suc zero)))))) h = refl
-basic-of ns fs (suc (suc (suc (suc (suc (suc (suc zero))))))) h = refl
-basic-of ns fs (suc (suc (suc (suc (suc (suc (suc (suc f)))))))) h = absurd (omega arith)
+basic-of ns fs = of-types (λ f. basicOf (rowNode ns f fs .ty) ≡ basicAt f) refl refl refl refl refl refl refl refl
 
 pub basic-is : (s t : Bytes) (n : ℕ) → Checked s t n → (v : ℕ) → 0 < v → v ≤ n → letter (readAt s (v - 1) .form .kind) ≡ 75 → basicOf (typeAt s v) ≡ basicAt (formAt t (v - 1))
 basic-is s t n c v h l k =

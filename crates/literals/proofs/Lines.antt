@@ -4,63 +4,33 @@ use mathlib.Core.Bool.{Bool, true, false, cond, _&&_}
 use mathlib.Core.List.{List, [], _∷_}
 use Prim.Native.Nat.{ℕ, zero, suc, _+_, _-_, _≤_, _<_}
 use native.Mathlib.Omega.{arith}
-use lib.Dec.{leb, ltb, eqb}
-use lib.ListN.{length, drop, getD}
+use lib.Dec.{ltb, eqb}
+use lib.ListN.{drop, getD}
 use lib.Seq.{getD-drop}
-use borrow.Author.Tests.{leb-true, ltb-true, eq-eqb, eqb-true, eqb-false}
+use borrow.Author.Tests.{ltb-true, eqb-true, eqb-false}
 use Rattle.semantics.specs.Text.{Bytes}
 use Rattle.semantics.specs.Tree.{Ex, Node}
 use Rattle.semantics.specs.Tree.MaybeEx.{absent, given}
 use Rattle.semantics.specs.Tree.El.{next, star, at}
 use Rattle.semantics.specs.Array.{elValue}
-use Rattle.semantics.specs.Form.{Read, Row, Kind, Part, letter, forms, noRow, numberOf, fits, isCount, isNumber, nodeAt, perhapsAt, values, maybeEx, sesOf}
+use Rattle.semantics.specs.Form.{Read, Row, Kind, Part, letter, forms, numberOf, fits, isCount, isNumber, nodeAt, perhapsAt, values, maybeEx, sesOf}
 use Rattle.semantics.specs.Form.Kind.{kEx, kSe}
 use Rattle.semantics.specs.Form.Atom.{ref, maybe}
 use Rattle.semantics.specs.Form.Part.{one, many}
 use Rattle.semantics.specs.Refusal.{lineAt, refsIn}
 use Rattle.text.specs.Number as Number
 use Rattle.form.specs.Table.{rowAt, kindAt, rowNode}
-use Rattle.form.proofs.Table.{never, both, row-count}
+use Rattle.form.proofs.Table.{never, both}
 use Rattle.lines.specs.Lines.{readsIn, readAt, nodesIn, formAt}
 use Rattle.lines.proofs.Line.{form-low, form-is, kind-is, read-fits}
 use Rattle.refs.specs.Refs.{fineRef, fineRefs}
 use Rattle.refs.proofs.Fine.{needed-ref}
 use Rattle.refs.proofs.Nodes.{node-at}
 use Rattle.sizes.proofs.Rows.{count-number}
+use Rattle.sizes.proofs.Forms.{element-form, selector-form}
 use Rattle.sizes.proofs.Types.{Good, group-good, number-exact, head-drop, tail-drop}
 use Rattle.fold.specs.Folds.{exAt}
 use Rattle.literals.specs.Literals.{elAt, seAt, Line}
-
--- ---- the forms of a kind
-
--- whether the rows of kind k, counted from i, are among those from a up to b
-spans : ℕ → ℕ → ℕ → ℕ → List Row → Bool
-spans k a b i [] = true
-spans k a b i (r ∷ rs) = cond (eqb (letter (r .kind)) k) (leb a i && ltb i b) true && spans k a b (suc i) rs
-
-spans-at : (k a b : ℕ) (rs : List Row) (i j : ℕ) → spans k a b i rs ≡ true → j < length rs → letter (getD rs j noRow .kind) ≡ k → (a ≤ i + j) × (i + j < b)
-unfolding spans
-spans-at k a b [] i j h l e = absurd (omega arith)
-spans-at k a b (r ∷ rs) i zero h l e =
-    let p : leb a i && ltb i b ≡ true = rw (eq-eqb (letter (r .kind)) k e) at (both (cond (eqb (letter (r .kind)) k) (leb a i && ltb i b) true) (spans k a b (suc i) rs) h .0) in
-    let w = both (leb a i) (ltb i b) p in
-    (omega (arith, leb-true a i (w .0)), omega (arith, ltb-true i b (w .1)))
-spans-at k a b (r ∷ rs) i (suc j) h l e =
-    let q = spans-at k a b rs (suc i) j (both (cond (eqb (letter (r .kind)) k) (leb a i && ltb i b) true) (spans k a b (suc i) rs) h .1) (omega arith) e in
-    (omega (arith, q .0), omega (arith, q .1))
-
--- types are the first 8 forms, elements 20 to 22, selectors 23
-pub type-form : (f : ℕ) → f < 42 → kindAt f ≡ 75 → f < 8
-unfolding spans forms
-type-form f h e = omega (arith, spans-at 75 0 8 forms 0 f refl (omega (arith, row-count)) e .1)
-
-element-form : (f : ℕ) → f < 42 → kindAt f ≡ 76 → (20 ≤ f) × (f < 23)
-unfolding spans forms
-element-form f h e = let w = spans-at 76 20 23 forms 0 f refl (omega (arith, row-count)) e in (omega (arith, w .0), omega (arith, w .1))
-
-selector-form : (f : ℕ) → f < 42 → kindAt f ≡ 74 → (23 ≤ f) × (f < 24)
-unfolding spans forms
-selector-form f h e = let w = spans-at 74 23 24 forms 0 f refl (omega (arith, row-count)) e in (omega (arith, w .0), omega (arith, w .1))
 
 -- ---- references among fields
 
@@ -164,7 +134,7 @@ maybe-absent ns v e = rw e
 
 module _ {s t : Bytes} {n m r : ℕ} (l : Line 74 s t n m r) where
   se-form : formAt t (r - 1) ≡ 23
-  se-form = let w = line-form l in let x = selector-form (formAt t (r - 1)) (w .0) (w .1) in omega (arith, x .0, x .1)
+  se-form = let w = line-form l in selector-form (formAt t (r - 1)) (w .0) (w .1)
 
   pub se-refs : Good (readsIn s) (r - 1) 69 (getD (readAt s (r - 1) .fields) 0 []) × May (readsIn s) (r - 1) 69 (getD (readAt s (r - 1) .fields) 1 [])
   unfolding forms

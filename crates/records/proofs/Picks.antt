@@ -27,7 +27,8 @@ use Rattle.source.specs.Walk.{declaresAt, byKind}
 use Rattle.source.proofs.Declares.{line-declares}
 use Rattle.sizes.specs.Places.{RecordLine, CaseLine}
 use Rattle.sizes.proofs.Rows.{count-number, values-length}
-use Rattle.sizes.proofs.Types.{case-form, adt-form, pick-form, number-exact, head-drop, tail-drop}
+use Rattle.sizes.proofs.Forms.{case-form, adt-form, pick-form}
+use Rattle.sizes.proofs.Types.{number-exact, head-drop, tail-drop}
 use Rattle.records.specs.Log.{declAt, casesIn, caseIn}
 use Rattle.records.specs.Lines.{caseOf}
 use Rattle.shapes.specs.Shapes as Shapes

@@ -27,7 +27,8 @@ use Rattle.refs.proofs.Nodes.{node-at}
 use Rattle.checks.specs.Checks.{Checked}
 use Rattle.sizes.specs.Places.{ownFields, commonAt, RecordLine}
 use Rattle.sizes.proofs.Rows.{count-number}
-use Rattle.sizes.proofs.Types.{adt-form, pick-form, number-exact, Good, group-good, head-drop, tail-drop}
+use Rattle.sizes.proofs.Forms.{adt-form, pick-form}
+use Rattle.sizes.proofs.Types.{number-exact, Good, group-good, head-drop, tail-drop}
 use Rattle.sizes.proofs.Places.{name-first, common-is}
 use Rattle.shapes.specs.Shapes.{firstDecl, declAt, casesIn, casesAt, PickLine, CaseOf}
 

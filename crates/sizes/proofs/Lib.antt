@@ -1,5 +1,6 @@
 pub mod Rows
 pub mod Lines
 pub mod Records
+pub mod Forms
 pub mod Types
 pub mod Places

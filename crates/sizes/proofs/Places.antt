@@ -35,7 +35,8 @@ use Rattle.sizes.specs.declared.place.Reached.{Reached}
 use Rattle.sizes.specs.Sizes.{typeAt, TypeLine, Measures}
 use Rattle.sizes.specs.Places.{fieldAt, fieldsAt, ownFields, commonAt, caseAt, FieldLine, FieldRefs, RecordLine, CaseLine, LinePlaced, AllPlaced}
 use Rattle.sizes.proofs.Rows.{count-number, values-length}
-use Rattle.sizes.proofs.Types.{field-form, case-form, adt-form, pick-form, number-exact, Good, group-good, head-drop, tail-drop}
+use Rattle.sizes.proofs.Forms.{field-form, case-form, adt-form, pick-form}
+use Rattle.sizes.proofs.Types.{number-exact, Good, group-good, head-drop, tail-drop}
 
 -- 16 names of the largest type
 pub names-small : {a b : ℕ} → a ≤ 16 → b ≤ 8192 → a * b ≤ 131072

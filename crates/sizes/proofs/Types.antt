@@ -1,20 +1,19 @@
 -- What a `ty` line makes, by its form, and how a tuple is measured.
 use mathlib.Core.Path.{_≡_, refl, sym, ap, _∙_}
-use mathlib.Core.Bool.{Bool, true, false, cond, _&&_}
+use mathlib.Core.Bool.{Bool, true, false, cond}
 use mathlib.Core.List.{List, [], _∷_, _++_}
 use mathlib.Core.Option.{Option, none, some}
 use Prim.Native.Nat.{ℕ, zero, suc, _+_, _-_, _≤_, _<_, max}
 use native.Mathlib.Numerals.{add-one}
 use native.Mathlib.Omega.{arith}
-use lib.Dec.{leb, ltb, eqb}
-use lib.ListN.{length, drop, getD}
-use borrow.Author.Tests.{leb-true, ltb-true, eq-eqb}
+use lib.Dec.{ltb}
+use lib.ListN.{drop, getD}
 use Rattle.semantics.specs.Text as Text
 use Rattle.semantics.specs.Text.{headPart, tailParts}
 use Rattle.semantics.specs.Tree.{Tys, Node}
 use Rattle.semantics.specs.Tree.Ty.{tuple}
 use Rattle.semantics.specs.Tree.Tys.{noTys, andTy}
-use Rattle.semantics.specs.Form.{Read, Row, Kind, Part, letter, forms, noRow, values, numberOf, fits, holds, isCount, isNumber, ones, tysOf}
+use Rattle.semantics.specs.Form.{Read, Row, Kind, Part, letter, forms, values, numberOf, fits, holds, isCount, isNumber, ones, tysOf}
 use Rattle.semantics.specs.Form.Kind.{kTy}
 use Rattle.semantics.specs.Form.Atom.{ref}
 use Rattle.semantics.specs.Form.Part.{many}
@@ -23,8 +22,8 @@ use Rattle.semantics.specs.Layout.{alignUp, roundedSize, sizeOf, alignOf, align
 use Rattle.laws.proofs.Alignments.{four-or-eight, aligned}
 use Rattle.layout.proofs.Bounds.{size-bound}
 use Rattle.text.specs.Number as Number
-use Rattle.form.specs.Table.{rowAt, kindAt, rowNode}
-use Rattle.form.proofs.Table.{both, row-count}
+use Rattle.form.specs.Table.{rowAt, rowNode}
+use Rattle.form.proofs.Table.{both}
 use Rattle.lines.specs.Lines.{readsIn, readAt, nodesIn, formAt}
 use Rattle.lines.proofs.Line.{form-low, form-is, kind-is, read-fits}
 use Rattle.refs.specs.Refs.{fineRef, fineRefs}
@@ -33,71 +32,22 @@ use Rattle.refs.proofs.Nodes.{node-at}
 use Rattle.sizes.specs.Sizes.{isLong, typeAt, TypeLine, TupleLine, Measures}
 use Rattle.sizes.proofs.Rows.{count-number}
 use Rattle.sizes.proofs.Lines.{type-lines}
+use Rattle.sizes.proofs.Forms.{type-form, of-types}
 
--- ---- the forms of a kind
-
--- whether the rows of kind k, counted from i, are among those from a up to b
-spans : ℕ → ℕ → ℕ → ℕ → List Row → Bool
-spans k a b i [] = true
-spans k a b i (r ∷ rs) = cond (eqb (letter (r .kind)) k) (leb a i && ltb i b) true && spans k a b (suc i) rs
-
-spans-at : (k a b : ℕ) (rs : List Row) (i j : ℕ) → spans k a b i rs ≡ true → j < length rs → letter (getD rs j noRow .kind) ≡ k → (a ≤ i + j) × (i + j < b)
-unfolding spans
-spans-at k a b [] i j h l e = absurd (omega arith)
-spans-at k a b (r ∷ rs) i zero h l e =
-    let p : leb a i && ltb i b ≡ true = rw (eq-eqb (letter (r .kind)) k e) at (both (cond (eqb (letter (r .kind)) k) (leb a i && ltb i b) true) (spans k a b (suc i) rs) h .0) in
-    let w = both (leb a i) (ltb i b) p in
-    (omega (arith, leb-true a i (w .0)), omega (arith, ltb-true i b (w .1)))
-spans-at k a b (r ∷ rs) i (suc j) h l e =
-    let q = spans-at k a b rs (suc i) j (both (cond (eqb (letter (r .kind)) k) (leb a i && ltb i b) true) (spans k a b (suc i) rs) h .1) (omega arith) e in
-    (omega (arith, q .0), omega (arith, q .1))
-
--- types are the first 8 forms, and `fd`, `pc`, `adt` and `pick` are 24 to 27
-type-form : (f : ℕ) → f < 42 → kindAt f ≡ 75 → f < 8
-unfolding spans forms
-type-form f h e = omega (arith, spans-at 75 0 8 forms 0 f refl (omega (arith, row-count)) e .1)
-
-pub field-form : (f : ℕ) → f < 42 → kindAt f ≡ 70 → f ≡ 24
-unfolding spans forms
-field-form f h e = let w = spans-at 70 24 25 forms 0 f refl (omega (arith, row-count)) e in omega (arith, w .0, w .1)
-
-pub case-form : (f : ℕ) → f < 42 → kindAt f ≡ 67 → f ≡ 25
-unfolding spans forms
-case-form f h e = let w = spans-at 67 25 26 forms 0 f refl (omega (arith, row-count)) e in omega (arith, w .0, w .1)
-
-pub adt-form : (f : ℕ) → f < 42 → kindAt f ≡ 65 → f ≡ 26
-unfolding spans forms
-adt-form f h e = let w = spans-at 65 26 27 forms 0 f refl (omega (arith, row-count)) e in omega (arith, w .0, w .1)
-
-pub pick-form : (f : ℕ) → f < 42 → kindAt f ≡ 66 → f ≡ 27
-unfolding spans forms
-pick-form f h e = let w = spans-at 66 27 28 forms 0 f refl (omega (arith, row-count)) e in omega (arith, w .0, w .1)
+-- ---- types by their forms
 
 module _ (ns : List Node) (fs : List (List ℕ)) where
   -- all but big, real and tuples take a word
   plain-size : (f : ℕ) → f < 8 → (f ≡ 7 → ⊥) → (sizeOf (rowNode ns f fs .ty) ≡ cond (isLong f) 8 4) × (alignOf (rowNode ns f fs .ty) ≡ cond (isLong f) 8 4)
   unfolding forms
-  plain-size zero h a = (refl, refl)
-  plain-size (suc zero) h a = (refl, refl)
-  plain-size (suc (suc zero)) h a = (refl, refl)
-  plain-size (suc (suc (suc zero))) h a = (refl, refl)
-  plain-size (suc (suc (suc (suc zero)))) h a = (refl, refl)
-  plain-size (suc (suc (suc (suc (suc zero))))) h a = (refl, refl)
-  plain-size (suc (suc (suc (suc (suc (suc zero)))))) h a = (refl, refl)
-  plain-size (suc (suc (suc (suc (suc (suc (suc zero))))))) h a = absurd (a refl)
-  plain-size (suc (suc (suc (suc (suc (suc (suc (suc f)))))))) h a = absurd (omega arith)
+  plain-size =
+      of-types
+      (λ f. (f ≡ 7 → ⊥) → (sizeOf (rowNode ns f fs .ty) ≡ cond (isLong f) 8 4) × (alignOf (rowNode ns f fs .ty) ≡ cond (isLong f) 8 4))
+      (λ a. (refl, refl)) (λ a. (refl, refl)) (λ a. (refl, refl)) (λ a. (refl, refl)) (λ a. (refl, refl)) (λ a. (refl, refl)) (λ a. (refl, refl)) (λ a. absurd (a refl))
 
   marks-word : (f : ℕ) → f < 8 → ltb 3 f ≡ isPtr (rowNode ns f fs .ty)
   unfolding forms
-  marks-word zero h = refl
-  marks-word (suc zero) h = refl
-  marks-word (suc (suc zero)) h = refl
-  marks-word (suc (suc (suc zero))) h = refl
-  marks-word (suc (suc (suc (suc zero)))) h = refl
-  marks-word (suc (suc (suc (suc (suc zero))))) h = refl
-  marks-word (suc (suc (suc (suc (suc (suc zero)))))) h = refl
-  marks-word (suc (suc (suc (suc (suc (suc (suc zero))))))) h = refl
-  marks-word (suc (suc (suc (suc (suc (suc (suc (suc f)))))))) h = absurd (omega arith)
+  marks-word = of-types (λ f. ltb 3 f ≡ isPtr (rowNode ns f fs .ty)) refl refl refl refl refl refl refl refl
 
 -- ---- the type of a line
 

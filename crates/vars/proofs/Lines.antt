@@ -20,7 +20,8 @@ use Rattle.sizes.specs.Sizes.{typeAt, TypeLine}
 use Rattle.sizes.proofs.Types.{Good, head-drop}
 use Rattle.fold.specs.Folds.{exAt, Foldable}
 use Rattle.literals.specs.Literals.{Line}
-use Rattle.literals.proofs.Lines.{May, type-form, line-form, parts-at, makes, good-line, may-line, ref-head, maybe-head}
+use Rattle.sizes.proofs.Forms.{type-form}
+use Rattle.literals.proofs.Lines.{May, line-form, parts-at, makes, good-line, may-line, ref-head, maybe-head}
 use Rattle.literals.proofs.Selectors.{foldable}
 use Rattle.arrays.specs.Arrays.{typeOf}
 use Rattle.arrays.proofs.Allocs.{type-given}
