@@ -158,32 +158,32 @@ field-short n l j = go (ltb (length l) n)
     go true = omega arith
     go false = omega (arith, part-short 44 (drop n l) j, length-drop n l)
 
-module _ (s t : Bytes) (n r : ℕ) (l : ExLine s t n r) where
+module _ {s t : Bytes} {n r : ℕ} (l : ExLine s t n r) where
   pub field-within : (j : ℕ) → length (getD (readAt s (r - 1) .fields) j []) ≤ 255
   field-within j =
-      let h = in-sheet s t n r l in
+      let h = in-sheet l in
       rw (fields-are s t n (l .checked .whole) (r - 1) h)
       (omega (arith, field-short (length (rowAt (formAt t (r - 1)) .words) + 1) (textAt s (r - 1)) j, line-short (r - 1 + 1) (textAt s (r - 1)) (l .checked .whole .lined .good (r - 1) h)))
 
 -- ---- literals
 
-module _ (s t : Bytes) (n r : ℕ) (l : ExLine s t n r) where
+module _ {s t : Bytes} {n r : ℕ} (l : ExLine s t n r) where
   module _ {x : Bytes} (hx : x ≡ getD (readAt s (r - 1) .fields) 0 []) where
     pub int-field : formAt t (r - 1) ≡ 8 → holds Atom.i64 x ≡ true
     unfolding forms
-    int-field e = rw hx (field-good s t n r l 8 0 e Atom.i64 refl)
+    int-field e = rw hx (field-good l 8 0 e Atom.i64 refl)
 
     pub real-field : formAt t (r - 1) ≡ 9 → holds Atom.real x ≡ true
     unfolding forms
-    real-field e = rw hx (field-good s t n r l 9 0 e Atom.real refl)
+    real-field e = rw hx (field-good l 9 0 e Atom.real refl)
 
     pub text-field : formAt t (r - 1) ≡ 10 → (holds Atom.text x ≡ true) × (length x ≤ 255)
     unfolding forms
-    text-field e = rw hx (field-good s t n r l 10 0 e Atom.text refl, field-within s t n r l 0)
+    text-field e = rw hx (field-good l 10 0 e Atom.text refl, field-within l 0)
 
   pub literal-fold : (m iota : ℕ) → formAt t (r - 1) < 11 → foldAt s t m iota r ≡ ok (literalOf (formAt t (r - 1)) (getD (readAt s (r - 1) .fields) 0 []))
   unfolding foldAt fold
-  literal-fold m iota h = rw (ex-is s t n r l, made-literal (nodesIn s) (formAt t (r - 1)) (readAt s (r - 1) .fields) (form-span s t n r l .0) h)
+  literal-fold m iota h = rw (ex-is l, made-literal (nodesIn s) (formAt t (r - 1)) (readAt s (r - 1) .fields) (form-span l .0) h)
 
 module _ (x : Bytes) where
   pub literal-int : {f : ℕ} → f ≡ 8 → vInt (orElse (pos 0) (intOf x)) ≡ literalOf f x
@@ -199,15 +199,15 @@ module _ (x : Bytes) where
   literal-text e = rw e
 
 -- what is neither `ex,int` nor `ex,real`
-pub text-form : (s t : Bytes) (n r top : ℕ) → Literal s t n r top → {f : ℕ} → f ≡ formAt t (r - 1) → (f ≡ 8 → ⊥) → (f ≡ 9 → ⊥) → formAt t (r - 1) ≡ 10
-text-form s t n r top l e a b = omega (arith, l .form, form-span s t n r (l .line) .0, a, b, e)
+pub text-form : {s t : Bytes} {n r top : ℕ} → Literal s t n r top → {f : ℕ} → f ≡ formAt t (r - 1) → (f ≡ 8 → ⊥) → (f ≡ 9 → ⊥) → formAt t (r - 1) ≡ 10
+text-form l e a b = omega (arith, l .form, form-span (l .line) .0, a, b, e)
 
 pub literal-casts : (t : Bytes) (top : ℕ) {v : ConstVal} {e g : Tree.ConstVal} → e ≡ g → ((t : Bytes) (top : ℕ) → (valueIn t v ≡ e) × At top v) → Casts t top g t v
 literal-casts t top q h = let w = h t top in record { value = w .0 ∙ q; at = w .1; kept = kept-all }
 
 -- ---- the value of a constant that was found
 
-module _ (t : Bytes) (k top : ℕ) (w : Slot t k top) where
+module _ {t : Bytes} {k top : ℕ} (w : Slot t k top) where
   pub found-none : k ≡ 0 → Answers t top Failed (fromOption (found t k)) × Kept top t t
   unfolding found
   found-none e = (answers-failed (rw e) t top, kept-all)
@@ -254,10 +254,10 @@ module _ (t : Bytes) (k top : ℕ) (w : Slot t k top) where
 
 -- ---- names
 
-module _ (s t : Bytes) (n m r top : ℕ) (a : Foldable s t n m r top) where
+module _ {s t : Bytes} {n m r top : ℕ} (a : Foldable s t n m r top) where
   -- there is room for a string
   pub room-here : top + 256 ≤ length t
-  room-here = omega (arith, a .room, depth-some s t n r (a .line))
+  room-here = omega (arith, a .room, depth-some (a .line))
 
   pub slot-of : {k : ℕ} → k ≤ m → Slot t k top
   slot-of {k} h = record {
@@ -271,57 +271,57 @@ module _ (s t : Bytes) (n m r top : ℕ) (a : Foldable s t n m r top) where
   fold-name : (iota : ℕ) → formAt t (r - 1) ≡ 11
       → foldAt s t m iota r ≡ cond (same (getD (readAt s (r - 1) .fields) 0 []) (bytes "iota")) (ok (vInt (pos iota))) (fromOption (valueOf (lookUp (plain (getD (readAt s (r - 1) .fields) 0 [])) (logIn s t m))))
   unfolding foldAt fold
-  fold-name iota e = rw (ex-is s t n r (a .line), e, made-ident (nodesIn s) (readAt s (r - 1) .fields))
+  fold-name iota e = rw (ex-is (a .line), e, made-ident (nodesIn s) (readAt s (r - 1) .fields))
 
-  module _ (iota : ℕ) (e : formAt t (r - 1) ≡ 11) {x : Bytes} (hx : x ≡ getD (readAt s (r - 1) .fields) 0 []) where
-    pub name-iota : same x (bytes "iota") ≡ true → SFits w64 (pos iota) → Folds s t m iota r top t (Value (Int (held w64 (pos iota))))
-    name-iota q f = record { answer = answers-int f (sym (fold-name iota e ∙ rw (← hx, q))) t top; kept = kept-all }
+  module _ (e : formAt t (r - 1) ≡ 11) {x : Bytes} (hx : x ≡ getD (readAt s (r - 1) .fields) 0 []) where
+    pub name-iota : {iota : ℕ} → same x (bytes "iota") ≡ true → SFits w64 (pos iota) → Folds s t m iota r top t (Value (Int (held w64 (pos iota))))
+    name-iota {iota} q f = record { answer = answers-int f (sym (fold-name iota e ∙ rw (← hx, q))) t top; kept = kept-all }
 
-    pub name-found : same x (bytes "iota") ≡ false → (k : ℕ) → valueOf (lookUp (plain x) (logIn s t m)) ≡ found t k → {u : Bytes} {y : Folded}
+    pub name-found : {iota : ℕ} → same x (bytes "iota") ≡ false → (k : ℕ) → valueOf (lookUp (plain x) (logIn s t m)) ≡ found t k → {u : Bytes} {y : Folded}
         → Answers u top y (fromOption (found t k)) × Kept top t u → Folds s t m iota r top u y
-    name-found q k p b = record { answer = answers-as (sym (fold-name iota e ∙ rw (← hx, q, p))) (b .0); kept = b .1 }
+    name-found {iota} q k p b = record { answer = answers-as (sym (fold-name iota e ∙ rw (← hx, q, p))) (b .0); kept = b .1 }
 
-  -- the line of the module
-  pub module-line : formAt t (r - 1) ≡ 12 → RefTo s n r 69 (getD (readAt s (r - 1) .fields) 0 []) (numberOf (getD (readAt s (r - 1) .fields) 0 []))
+  -- the line of the module, and its name
+  abbrev q : ℕ
+  q = numberOf (getD (readAt s (r - 1) .fields) 0 [])
+
+  abbrev within : Bytes
+  within = getD (readAt s (q - 1) .fields) 0 []
+
+  pub module-line : formAt t (r - 1) ≡ 12 → RefTo s n r 69 (getD (readAt s (r - 1) .fields) 0 []) q
   unfolding forms
-  module-line e = ref-good s t n r (a .line) 12 0 e kEx refl
+  module-line e = ref-good (a .line) 12 0 e kEx refl
 
-  module _ (iota : ℕ) (e : formAt t (r - 1) ≡ 12) where
-    abbrev within : Bytes
-    within = getD (readAt s (numberOf (getD (readAt s (r - 1) .fields) 0 []) - 1) .fields) 0 []
-
-    named-line : ExLine s t n (numberOf (getD (readAt s (r - 1) .fields) 0 []))
+  module _ (e : formAt t (r - 1) ≡ 12) where
+    named-line : ExLine s t n q
     named-line = let w = module-line e in record { checked = a .line .checked; first = w .first; last = w .last; kind = w .kind }
 
-    abbrev q : ℕ
-    q = numberOf (getD (readAt s (r - 1) .fields) 0 [])
-
-    pub qualified-failed : (formAt t (q - 1) ≡ 11 → ⊥) → Folds s t m iota r top t Failed
+    pub qualified-failed : {iota : ℕ} → (formAt t (q - 1) ≡ 11 → ⊥) → Folds s t m iota r top t Failed
     unfolding foldAt fold
     qualified-failed z =
-        let w = form-span s t n q named-line in
+        let w = form-span named-line in
         let f : formAt t (q - 1) ≡ 8 + (formAt t (q - 1) - 8) = omega (arith, w .0) in
-        let d : exAt s q ≡ rowNode (nodesIn s) (8 + (formAt t (q - 1) - 8)) (readAt s (q - 1) .fields) .ex = ex-is s t n q named-line ∙ ap (λ (g : ℕ). rowNode (nodesIn s) g (readAt s (q - 1) .fields) .ex) f in
+        let d : exAt s q ≡ rowNode (nodesIn s) (8 + (formAt t (q - 1) - 8)) (readAt s (q - 1) .fields) .ex = ex-is named-line ∙ ap (λ (g : ℕ). rowNode (nodesIn s) g (readAt s (q - 1) .fields) .ex) f in
         record {
-          answer = answers-failed (sym (rw (ex-is s t n r (a .line), e, made-qualified (nodesIn s) (readAt s (r - 1) .fields), d) (made-nameless (nodesIn s) failed _ (readAt s (q - 1) .fields) (formAt t (q - 1) - 8) (omega (arith, w .1)) (λ h. z (omega (arith, h, w .0)))))) t top;
+          answer = answers-failed (sym (rw (ex-is (a .line), e, made-qualified (nodesIn s) (readAt s (r - 1) .fields), d) (made-nameless (nodesIn s) failed _ (readAt s (q - 1) .fields) (formAt t (q - 1) - 8) (omega (arith, w .1)) (λ h. z (omega (arith, h, w .0)))))) t top;
           kept = kept-all;
         }
 
-    pub qualified-found : formAt t (q - 1) ≡ 11 → {x y : Bytes} → x ≡ within → y ≡ getD (readAt s (r - 1) .fields) 1 [] → (k : ℕ) → valueOf (lookUp (qualified x y) (logIn s t m)) ≡ found t k
+    pub qualified-found : {iota : ℕ} → formAt t (q - 1) ≡ 11 → {x y : Bytes} → x ≡ within → y ≡ getD (readAt s (r - 1) .fields) 1 [] → (k : ℕ) → valueOf (lookUp (qualified x y) (logIn s t m)) ≡ found t k
         → {u : Bytes} {z : Folded} → Answers u top z (fromOption (found t k)) × Kept top t u → Folds s t m iota r top u z
     unfolding foldAt fold
     qualified-found f {x} {y} hx hy k p b =
-        let d = ex-is s t n q named-line in
+        let d = ex-is named-line in
         let g : valueOf (lookUp (qualified within (getD (readAt s (r - 1) .fields) 1 [])) (logIn s t m)) ≡ found t k = rw (hx, hy) at p in
         record {
-          answer = answers-as (sym (rw (ex-is s t n r (a .line), e, made-qualified (nodesIn s) (readAt s (r - 1) .fields), d, f, made-ident (nodesIn s) (readAt s (q - 1) .fields)) (ap fromOption g))) (b .0);
+          answer = answers-as (sym (rw (ex-is (a .line), e, made-qualified (nodesIn s) (readAt s (r - 1) .fields), d, f, made-ident (nodesIn s) (readAt s (q - 1) .fields)) (ap fromOption g))) (b .0);
           kept = b .1;
         }
 
-  pub literal-folds : (iota : ℕ) → formAt t (r - 1) < 11 → {u : Bytes} {v : ConstVal} → Casts t top (literalOf (formAt t (r - 1)) (getD (readAt s (r - 1) .fields) 0 [])) u v → Folds s t m iota r top u (Value v)
+  pub literal-folds : {iota : ℕ} → formAt t (r - 1) < 11 → {u : Bytes} {v : ConstVal} → Casts t top (literalOf (formAt t (r - 1)) (getD (readAt s (r - 1) .fields) 0 [])) u v → Folds s t m iota r top u (Value v)
   unfolding resultIn
-  literal-folds iota h b = record { answer = record { value = ap ok (b .value) ∙ sym (literal-fold s t n r (a .line) m iota h); at = b .at }; kept = b .kept }
+  literal-folds {iota} h b = record { answer = record { value = ap ok (b .value) ∙ sym (literal-fold (a .line) m iota h); at = b .at }; kept = b .kept }
 
 -- what is neither a name nor a module's name
-pub literal-form : (s t : Bytes) (n m r top : ℕ) → Leaf s t n m r top → {f : ℕ} → f ≡ formAt t (r - 1) → (f ≡ 11 → ⊥) → (f ≡ 12 → ⊥) → formAt t (r - 1) < 11
-literal-form s t n m r top l e a b = omega (arith, l .form, a, b, e)
+pub literal-form : {s t : Bytes} {n m r top : ℕ} → Leaf s t n m r top → {f : ℕ} → f ≡ formAt t (r - 1) → (f ≡ 11 → ⊥) → (f ≡ 12 → ⊥) → formAt t (r - 1) < 11
+literal-form l e a b = omega (arith, l .form, a, b, e)

@@ -123,7 +123,7 @@ pub record RefTo (s : Bytes) (n r k : ℕ) (x : Bytes) (v : ℕ) : Type 0 where
   pub lower : depthOf (readsIn s) (v - 1) < depthOf (readsIn s) (r - 1)
   pub exact : Number.numberOf 65536 x ≡ v
 
-module _ (s t : Bytes) (n r : ℕ) (l : ExLine s t n r) where
+module _ {s t : Bytes} {n r : ℕ} (l : ExLine s t n r) where
   pub in-sheet : r - 1 < n
   in-sheet = omega (arith, l .first, l .last)
 

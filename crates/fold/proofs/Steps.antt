@@ -70,7 +70,7 @@ module _ (names : Names) (iota : ℤ) where
 
 -- ---- operands
 
-module _ (s t : Bytes) (n r : ℕ) (l : OperatorLine s t n r) where
+module _ {s t : Bytes} {n r : ℕ} (l : OperatorLine s t n r) where
   abbrev fields : List Bytes
   fields = readAt s (r - 1) .fields
 
@@ -82,7 +82,7 @@ module _ (s t : Bytes) (n r : ℕ) (l : OperatorLine s t n r) where
   unfolding forms operandOf
   operand-line =
       by-form (λ f. form ≡ f → RefTo s n r 69 (getD fields (cond (eqb f 16) 0 1) []) (numberOf (getD fields (cond (eqb f 16) 0 1) [])))
-      (λ e. ref-good s t n r (l .line) 13 1 e kEx refl) (λ e. ref-good s t n r (l .line) 14 1 e kEx refl) (λ e. ref-good s t n r (l .line) 15 1 e kEx refl) (λ e. ref-good s t n r (l .line) 16 0 e kEx refl)
+      (λ e. ref-good (l .line) 13 1 e kEx refl) (λ e. ref-good (l .line) 14 1 e kEx refl) (λ e. ref-good (l .line) 15 1 e kEx refl) (λ e. ref-good (l .line) 16 0 e kEx refl)
       form (l .low) (l .high) refl
 
   pub fold-two : (names : Names) (iota : ℤ) → form ≡ 14
@@ -90,16 +90,16 @@ module _ (s t : Bytes) (n r : ℕ) (l : OperatorLine s t n r) where
   unfolding operandOf
   fold-two names iota e =
       let q : exAt s r ≡ binary (exAt s (numberOf (getD fields 1 []))) (binaryAt (numberOf (getD fields 0 []))) (exAt s (numberOf (getD fields 2 []))) =
-      ex-is s t n r (l .line) ∙ ap (λ (f : ℕ). rowNode (nodesIn s) f fields .ex) e ∙ made-binary (nodesIn s) fields in
+      ex-is (l .line) ∙ ap (λ (f : ℕ). rowNode (nodesIn s) f fields .ex) e ∙ made-binary (nodesIn s) fields in
       rw (q, e) (binary-steps names iota (exAt s (numberOf (getD fields 1 []))) (binaryAt (numberOf (getD fields 0 []))) (exAt s (numberOf (getD fields 2 []))))
 
   pub right-line : form ≡ 14 → RefTo s n r 69 (getD fields 2 []) (numberOf (getD fields 2 []))
   unfolding forms
-  right-line e = ref-good s t n r (l .line) 14 2 e kEx refl
+  right-line e = ref-good (l .line) 14 2 e kEx refl
 
   pub binary-number : form ≡ 14 → {o : ℕ} → o ≡ Number.numberOf 65536 (getD fields 0 []) → o ≡ numberOf (getD fields 0 [])
   unfolding forms
-  binary-number e h = h ∙ small-number 18 (getD fields 0 []) (omega arith) (field-good s t n r (l .line) 14 0 e Atom.binaryOp refl)
+  binary-number e h = h ∙ small-number 18 (getD fields 0 []) (omega arith) (field-good (l .line) 14 0 e Atom.binaryOp refl)
 
   pub operand-first : {v : ℕ} → form ≡ 16 → v ≡ Number.numberOf 65536 (getD fields 0 []) → v ≡ operandOf s t r
   operand-first e h = h ∙ (rw e at (operand-line .exact))
@@ -116,7 +116,7 @@ module _ (s t : Bytes) (n r : ℕ) (l : OperatorLine s t n r) where
       form (l .low) (l .high) refl
     where
       made : {f : ℕ} → form ≡ f → exAt s r ≡ rowNode (nodesIn s) f fields .ex
-      made e = ex-is s t n r (l .line) ∙ ap (λ (f : ℕ). rowNode (nodesIn s) f fields .ex) e
+      made e = ex-is (l .line) ∙ ap (λ (f : ℕ). rowNode (nodesIn s) f fields .ex) e
 
       one-step : {o : Tree.UnaryOp} {x : Ex} → exAt s r ≡ unary o x → fold names iota (exAt s r) ≡ bind (fold names iota x) (onOne (exAt s r))
       one-step q = rw q (unary-steps names iota _ _)
@@ -134,22 +134,22 @@ within-of t top (Int z) h k = tt
 within-of t top (Real x) h k = tt
 within-of t top (Str p l) h k = (omega (arith, h .0, h .1), h .1)
 
-module _ (s t : Bytes) (n r : ℕ) (v : ConstVal) (top : ℕ) (a : Applies s t n r v top) where
+module _ {s t : Bytes} {n r : ℕ} {v : ConstVal} {top : ℕ} (a : Applies s t n r v top) where
   made : {f : ℕ} → formAt t (r - 1) ≡ f → exAt s r ≡ rowNode (nodesIn s) f (readAt s (r - 1) .fields) .ex
-  made e = ex-is s t n r (a .line .line) ∙ ap (λ (f : ℕ). rowNode (nodesIn s) f (readAt s (r - 1) .fields) .ex) e
+  made e = ex-is (a .line .line) ∙ ap (λ (f : ℕ). rowNode (nodesIn s) f (readAt s (r - 1) .fields) .ex) e
 
   pub applies-unary : formAt t (r - 1) ≡ 13 → {o : ℕ} {x : Folded} → o ≡ Number.numberOf 65536 (getD (readAt s (r - 1) .fields) 0 []) → ((u : Bytes) (p : ℕ) → Answers u p x (foldUnary (unaryAt o) (valueIn u v)))
       → Answers t top x (onOne (exAt s r) (valueIn t v)) × Kept top t t
   unfolding forms
   applies-unary e {o} h b =
-      let q : o ≡ numberOf (getD (readAt s (r - 1) .fields) 0 []) = h ∙ small-number 3 (getD (readAt s (r - 1) .fields) 0 []) (omega arith) (field-good s t n r (a .line .line) 13 0 e Atom.unaryOp refl) in
+      let q : o ≡ numberOf (getD (readAt s (r - 1) .fields) 0 []) = h ∙ small-number 3 (getD (readAt s (r - 1) .fields) 0 []) (omega arith) (field-good (a .line .line) 13 0 e Atom.unaryOp refl) in
       let d : exAt s r ≡ unary (unaryAt o) (exAt s (numberOf (getD (readAt s (r - 1) .fields) 1 []))) = made e ∙ made-unary (nodesIn s) (readAt s (r - 1) .fields) ∙ rw q in
       (answers-as (sym (ap (λ (x : Ex). onOne x (valueIn t v)) d)) (b t top), kept-all)
 
   -- the line of the type
   pub cast-line : formAt t (r - 1) ≡ 15 → RefTo s n r 75 (getD (readAt s (r - 1) .fields) 0 []) (numberOf (getD (readAt s (r - 1) .fields) 0 []))
   unfolding forms
-  cast-line e = ref-good s t n r (a .line .line) 15 0 e kTy refl
+  cast-line e = ref-good (a .line .line) 15 0 e kTy refl
 
   pub applies-cast : formAt t (r - 1) ≡ 15 → {k code : ℕ} → k ≡ Number.numberOf 65536 (getD (readAt s (r - 1) .fields) 0 []) → code ≡ formAt t (k - 1) → {u : Bytes} {w : ConstVal}
       → Casts t top (foldCast (basicAt code) (valueIn t v)) u w → Answers u top (Value w) (onOne (exAt s r) (valueIn t v)) × Kept top t u
@@ -200,13 +200,13 @@ size-small top (Int z) h = omega arith
 size-small top (Real x) h = omega arith
 size-small top (Str p l) h = h .1
 
-module _ (s t : Bytes) (n m iota r top : ℕ) (a : Foldable s t n m r top) where
-  pub fails-behind : 16 < formAt t (r - 1) → Folds s t m iota r top t Failed
+module _ {s t : Bytes} {n m r top : ℕ} (a : Foldable s t n m r top) where
+  pub fails-behind : {iota : ℕ} → 16 < formAt t (r - 1) → Folds s t m iota r top t Failed
   unfolding foldAt
-  fails-behind h =
-      let w = form-span s t n r (a .line) in
+  fails-behind {iota} h =
+      let w = form-span (a .line) in
       let f : formAt t (r - 1) ≡ 17 + (formAt t (r - 1) - 17) = omega arith in
-      let d : exAt s r ≡ rowNode (nodesIn s) (17 + (formAt t (r - 1) - 17)) (readAt s (r - 1) .fields) .ex = ex-is s t n r (a .line) ∙ ap (λ (g : ℕ). rowNode (nodesIn s) g (readAt s (r - 1) .fields) .ex) f in
+      let d : exAt s r ≡ rowNode (nodesIn s) (17 + (formAt t (r - 1) - 17)) (readAt s (r - 1) .fields) .ex = ex-is (a .line) ∙ ap (λ (g : ℕ). rowNode (nodesIn s) g (readAt s (r - 1) .fields) .ex) f in
       record { answer = answers-failed (sym (rw d (made-failing (nodesIn s) (record { log = logIn s t m }) (pos iota) (readAt s (r - 1) .fields) (formAt t (r - 1) - 17) (omega (arith, w .1))))) t top; kept = kept-all }
 
   module _ (low : 13 ≤ formAt t (r - 1)) (high : formAt t (r - 1) ≤ 16) where
@@ -218,7 +218,7 @@ module _ (s t : Bytes) (n m iota r top : ℕ) (a : Foldable s t n m r top) where
     checked-behind w = checked-kept (kept-less (omega (arith, a .low)) w) (a .line .checked)
 
     pub readable-behind : {u : Bytes} → Kept top t u → Whole s u n × (r - 1 < n)
-    readable-behind w = (checked-behind w .whole, in-sheet s t n r (a .line))
+    readable-behind w = (checked-behind w .whole, in-sheet (a .line))
 
     -- a line that it refers to can be folded behind a string
     below : {u : Bytes} → Kept top t u → {x : Bytes} {k : ℕ} → RefTo s n r 69 x k → (p : ℕ) → top ≤ p → p ≤ top + 256 → Foldable s u n m k p
@@ -230,13 +230,13 @@ module _ (s t : Bytes) (n m iota r top : ℕ) (a : Foldable s t n m r top) where
     }
 
     pub operand-foldable : {k : ℕ} → k ≡ operandOf s t r → Foldable s t n m k top
-    operand-foldable e = rw e (below kept-all (operand-line s t n r operator-line) top (omega arith) (omega arith))
+    operand-foldable e = rw e (below kept-all (operand-line operator-line) top (omega arith) (omega arith))
 
     pub operand-before : {k : ℕ} → k ≡ operandOf s t r → k < r
-    operand-before e = omega (arith, e, operand-line s t n r operator-line .before)
+    operand-before e = omega (arith, e, operand-line operator-line .before)
 
     -- the fold of the operand gave x
-    module _ {k : ℕ} (hk : k ≡ operandOf s t r) {u : Bytes} {x : Folded} (f : Folds s t m iota k top u x) where
+    module _ {iota k : ℕ} (hk : k ≡ operandOf s t r) {u : Bytes} {x : Folded} (f : Folds s t m iota k top u x) where
       operand-result : fold (record { log = logIn s t m }) (pos iota) (exAt s (operandOf s t r)) ≡ resultIn u x
       unfolding foldAt
       operand-result = rw (← hk) (sym (f .answer .value))
@@ -256,8 +256,8 @@ module _ (s t : Bytes) (n m iota r top : ℕ) (a : Foldable s t n m r top) where
           ends K e = record { answer = record { value = sym (e ∙ stopped u x h K); at = f .answer .at }; kept = f .kept }
 
           go : (b : Bool) → eqb (formAt t (r - 1)) 14 ≡ b → Folds s t m iota r top u x
-          go true q = ends _ (goes-on _ (fold-two s t n r operator-line (record { log = logIn s t m }) (pos iota) (eqb-true (formAt t (r - 1)) 14 q)))
-          go false q = ends _ (goes-on _ (fold-one s t n r operator-line (record { log = logIn s t m }) (pos iota) (eqb-false (formAt t (r - 1)) 14 q)))
+          go true q = ends _ (goes-on _ (fold-two operator-line (record { log = logIn s t m }) (pos iota) (eqb-true (formAt t (r - 1)) 14 q)))
+          go false q = ends _ (goes-on _ (fold-one operator-line (record { log = logIn s t m }) (pos iota) (eqb-false (formAt t (r - 1)) 14 q)))
 
       module _ {v : ConstVal} (hv : x ≡ Value v) where
         value-at : At top v
@@ -268,28 +268,28 @@ module _ (s t : Bytes) (n m iota r top : ℕ) (a : Foldable s t n m r top) where
           line = record { line = record { checked = checked-behind (f .kept); first = a .line .first; last = a .line .last; kind = a .line .kind }; low = omega arith; high = omega arith };
           one = λ q. z (sym e ∙ q);
           at = value-at;
-          room = omega (arith, a .room, depth-some s t n r (a .line), f .kept .long);
+          room = omega (arith, a .room, depth-some (a .line), f .kept .long);
         }
 
         pub applied : (formAt t (r - 1) ≡ 14 → ⊥) → {w : Bytes} {y : Folded} → Answers w top y (onOne (exAt s r) (valueIn u v)) × Kept top u w → Folds s t m iota r top w y
         unfolding resultIn
         applied z b = record {
-          answer = answers-as (sym (goes-on (onOne (exAt s r)) (fold-one s t n r operator-line (record { log = logIn s t m }) (pos iota) z) ∙ rw hv)) (b .0);
+          answer = answers-as (sym (goes-on (onOne (exAt s r)) (fold-one operator-line (record { log = logIn s t m }) (pos iota) z) ∙ rw hv)) (b .0);
           kept = kept-then (f .kept) (b .1);
         }
 
         module _ (e : formAt t (r - 1) ≡ 14) {g p : ℕ} (hg : g ≡ Number.numberOf 65536 (getD (readAt s (r - 1) .fields) 2 [])) (hp : p ≡ sizeOf v) where
           right-is : g ≡ numberOf (getD (readAt s (r - 1) .fields) 2 [])
-          right-is = hg ∙ right-line s t n r operator-line e .exact
+          right-is = hg ∙ right-line operator-line e .exact
 
           pub right-foldable : Foldable s u n m g (top + p)
-          right-foldable = let z = size-small top v value-at in rw right-is (below (f .kept) (right-line s t n r operator-line e) (top + p) (omega arith) (omega (arith, hp)))
+          right-foldable = let z = size-small top v value-at in rw right-is (below (f .kept) (right-line operator-line e) (top + p) (omega arith) (omega (arith, hp)))
 
           pub right-before : g < r
-          right-before = omega (arith, right-is, right-line s t n r operator-line e .before)
+          right-before = omega (arith, right-is, right-line operator-line e .before)
 
           pub right-fits : top + p ≤ length t
-          right-fits = omega (arith, hp, size-small top v value-at, a .room, depth-some s t n r (a .line))
+          right-fits = omega (arith, hp, size-small top v value-at, a .room, depth-some (a .line))
 
           -- the fold of the right operand gave y
           module _ {w : Bytes} {y : Folded} (b : Folds s u m iota g (top + p) w y) where
@@ -302,7 +302,7 @@ module _ (s t : Bytes) (n m iota r top : ℕ) (a : Foldable s t n m r top) where
 
             both-results : foldAt s t m iota r ≡ bind (resultIn w y) (foldBinary (binaryAt (numberOf (getD (readAt s (r - 1) .fields) 0 []))) (valueIn u v))
             unfolding resultIn
-            both-results = goes-on _ (fold-two s t n r operator-line (record { log = logIn s t m }) (pos iota) e) ∙ rw (hv, right-result)
+            both-results = goes-on _ (fold-two operator-line (record { log = logIn s t m }) (pos iota) e) ∙ rw (hv, right-result)
 
             pub right-stops : Stops y → Folds s t m iota r top w y
             right-stops h = record { answer = record { value = sym (both-results ∙ stopped w y h _); at = stopped-at (top + p) top y h (b .answer .at) }; kept = right-kept }
@@ -312,11 +312,11 @@ module _ (s t : Bytes) (n m iota r top : ℕ) (a : Foldable s t n m r top) where
                 → Folds s t m iota r top w q
             unfolding resultIn
             binary-folds {z} hz {o} ho {q} c =
-                let i : o ≡ numberOf (getD (readAt s (r - 1) .fields) 0 []) = binary-number s t n r operator-line e ho in
+                let i : o ≡ numberOf (getD (readAt s (r - 1) .fields) 0 []) = binary-number operator-line e ho in
                 let k : Kept (top + sizeOf v) u w = rw (← hp) (b .kept) in
                 let x : At (top + sizeOf v) z = rw (← hp) (subst (ResultAt (top + p)) hz (b .answer .at)) in
-                let d = right-line s t n r operator-line e .lower in
-                let room : top + 512 ≤ length w = omega (arith, a .room, d, right-kept .long, rw right-is at (depth-some s u n g (right-foldable .line))) in
+                let d = right-line operator-line e .lower in
+                let room : top + 512 ≤ length w = omega (arith, a .room, d, right-kept .long, rw right-is at (depth-some (right-foldable .line))) in
                 record {
                   answer = answers-as (sym (both-results ∙ rw (hz, ← i, ← value-kept top u w v value-at k))) (c w top value-at x room);
                   kept = right-kept;
@@ -326,4 +326,4 @@ module _ (s t : Bytes) (n m iota r top : ℕ) (a : Foldable s t n m r top) where
 
 -- between the constants' strings and 32 strings below the end there is always room
 pub foldable : (s t : Bytes) (n m r top : ℕ) → ExLine s t n r → Logged s t n m → 49152 ≤ top → top ≤ 57344 → Foldable s t n m r top
-foldable s t n m r top l g h k = record { line = l; log = g; low = h; room = omega (arith, l .checked .low (r - 1) (in-sheet s t n r l), l .checked .whole .room) }
+foldable s t n m r top l g h k = record { line = l; log = g; low = h; room = omega (arith, l .checked .low (r - 1) (in-sheet l), l .checked .whole .room) }

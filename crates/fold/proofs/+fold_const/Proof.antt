@@ -53,13 +53,13 @@ fold-const-same-length-2 : (t : ℕ) → fold-const-lts.Need-same-length-2 (call
 fold-const-same-length-2 t c = search needs
 
 fold-const-returns-2 : (t : ℕ) → fold-const-lts.Need-returns-2 (callees t) (fold-const-at t) fold-const.Post
-fold-const-returns-2 t c = fails-behind (now (c .before .before .before .before .before .before .args .sheet)) (now (c .before .before .before .before .before .before .args .work)) (c .before .before .before .before .before .before .args .n) (c .before .before .before .before .before .before .args .m) (c .before .before .before .before .before .before .args .iota) (c .before .before .before .before .before .before .args .r) (c .before .before .before .before .before .before .args .top) (c .before .before .before .before .before .before .pre .1) (omega (arith, c .before .before .form-at .ensures, c .if2 .taken))
+fold-const-returns-2 t c = fails-behind (c .before .before .before .before .before .before .pre .1) (omega (arith, c .before .before .form-at .ensures, c .if2 .taken))
 
 fold-const-operand-requires : (t : ℕ) → fold-const-lts.Need-operand-requires (callees t) (fold-const-at t) fold-const.Post
-fold-const-operand-requires t c κs = operator-line (now (c .before .before .before .before .before .before .before .before .args .sheet)) (now (c .before .before .before .before .before .before .before .before .args .work)) (c .before .before .before .before .before .before .before .before .args .n) (c .before .before .before .before .before .before .before .before .args .m) (c .before .before .before .before .before .before .before .before .args .iota) (c .before .before .before .before .before .before .before .before .args .r) (c .before .before .before .before .before .before .before .before .args .top) (c .before .before .before .before .before .before .before .before .pre .1) (omega (arith, c .before .before .before .before .form-at .ensures, c .before .before .before .if1 .left)) (omega (arith, c .before .before .before .before .form-at .ensures, c .before .before .if2 .left))
+fold-const-operand-requires t c κs = operator-line (c .before .before .before .before .before .before .before .before .pre .1) (omega (arith, c .before .before .before .before .form-at .ensures, c .before .before .before .if1 .left)) (omega (arith, c .before .before .before .before .form-at .ensures, c .before .before .if2 .left))
 
 fold-const-fold-const-requires : (t : ℕ) → fold-const-lts.Need-fold-const-requires (callees t) (fold-const-at t) fold-const.Post
-fold-const-fold-const-requires t c κs = (omega (arith, c .before .before .before .before .before .before .before .before .before .pre .0, operand-before (now (c .before .before .before .before .before .before .before .before .before .args .sheet)) (now (c .before .before .before .before .before .before .before .before .before .args .work)) (c .before .before .before .before .before .before .before .before .before .args .n) (c .before .before .before .before .before .before .before .before .before .args .m) (c .before .before .before .before .before .before .before .before .before .args .iota) (c .before .before .before .before .before .before .before .before .before .args .r) (c .before .before .before .before .before .before .before .before .before .args .top) (c .before .before .before .before .before .before .before .before .before .pre .1) (omega (arith, c .before .before .before .before .before .form-at .ensures, c .before .before .before .before .if1 .left)) (omega (arith, c .before .before .before .before .before .form-at .ensures, c .before .before .before .if2 .left)) (c .operand .ensures)), operand-foldable (now (c .before .before .before .before .before .before .before .before .before .args .sheet)) (now (c .before .before .before .before .before .before .before .before .before .args .work)) (c .before .before .before .before .before .before .before .before .before .args .n) (c .before .before .before .before .before .before .before .before .before .args .m) (c .before .before .before .before .before .before .before .before .before .args .iota) (c .before .before .before .before .before .before .before .before .before .args .r) (c .before .before .before .before .before .before .before .before .before .args .top) (c .before .before .before .before .before .before .before .before .before .pre .1) (omega (arith, c .before .before .before .before .before .form-at .ensures, c .before .before .before .before .if1 .left)) (omega (arith, c .before .before .before .before .before .form-at .ensures, c .before .before .before .if2 .left)) (c .operand .ensures))
+fold-const-fold-const-requires t c κs = (omega (arith, c .before .before .before .before .before .before .before .before .before .pre .0, operand-before (c .before .before .before .before .before .before .before .before .before .pre .1) (omega (arith, c .before .before .before .before .before .form-at .ensures, c .before .before .before .before .if1 .left)) (omega (arith, c .before .before .before .before .before .form-at .ensures, c .before .before .before .if2 .left)) (c .operand .ensures)), operand-foldable (c .before .before .before .before .before .before .before .before .before .pre .1) (omega (arith, c .before .before .before .before .before .form-at .ensures, c .before .before .before .before .if1 .left)) (omega (arith, c .before .before .before .before .before .form-at .ensures, c .before .before .before .if2 .left)) (c .operand .ensures))
 
 fold-const-enum-known-x : (t : ℕ) → fold-const-lts.Need-enum-known-x (callees t) (fold-const-at t) fold-const.Post
 fold-const-enum-known-x t c = search needs
@@ -68,31 +68,31 @@ fold-const-same-length-3 : (t : ℕ) → fold-const-lts.Need-same-length-3 (call
 fold-const-same-length-3 t c = search needs
 
 fold-const-returns-3 : (t : ℕ) → fold-const-lts.Need-returns-3 (callees t) (fold-const-at t) fold-const.Post
-fold-const-returns-3 t c = left-stops (now (c .before .before .before .before .before .before .before .before .before .before .before .before .before .args .sheet)) (now (c .before .before .before .before .before .before .before .before .before .before .before .before .before .args .work)) (c .before .before .before .before .before .before .before .before .before .before .before .before .before .args .n) (c .before .before .before .before .before .before .before .before .before .before .before .before .before .args .m) (c .before .before .before .before .before .before .before .before .before .before .before .before .before .args .iota) (c .before .before .before .before .before .before .before .before .before .before .before .before .before .args .r) (c .before .before .before .before .before .before .before .before .before .before .before .before .before .args .top) (c .before .before .before .before .before .before .before .before .before .before .before .before .before .pre .1) (omega (arith, c .before .before .before .before .before .before .before .before .before .form-at .ensures, c .before .before .before .before .before .before .before .before .if1 .left)) (omega (arith, c .before .before .before .before .before .before .before .before .before .form-at .ensures, c .before .before .before .before .before .before .before .if2 .left)) (c .before .before .before .before .operand .ensures) (c .before .before .before .fold-const .ensures) (c .match .keys2)
+fold-const-returns-3 t c = left-stops (c .before .before .before .before .before .before .before .before .before .before .before .before .before .pre .1) (omega (arith, c .before .before .before .before .before .before .before .before .before .form-at .ensures, c .before .before .before .before .before .before .before .before .if1 .left)) (omega (arith, c .before .before .before .before .before .before .before .before .before .form-at .ensures, c .before .before .before .before .before .before .before .if2 .left)) (c .before .before .before .before .operand .ensures) (c .before .before .before .fold-const .ensures) (c .match .keys2)
 
 fold-const-apply-requires : (t : ℕ) → fold-const-lts.Need-apply-requires (callees t) (fold-const-at t) fold-const.Post
-fold-const-apply-requires t c κs = applies (now (c .before .before .before .before .before .before .before .before .before .before .before .before .before .before .before .before .before .args .sheet)) (now (c .before .before .before .before .before .before .before .before .before .before .before .before .before .before .before .before .before .args .work)) (c .before .before .before .before .before .before .before .before .before .before .before .before .before .before .before .before .before .args .n) (c .before .before .before .before .before .before .before .before .before .before .before .before .before .before .before .before .before .args .m) (c .before .before .before .before .before .before .before .before .before .before .before .before .before .before .before .before .before .args .iota) (c .before .before .before .before .before .before .before .before .before .before .before .before .before .before .before .before .before .args .r) (c .before .before .before .before .before .before .before .before .before .before .before .before .before .before .before .before .before .args .top) (c .before .before .before .before .before .before .before .before .before .before .before .before .before .before .before .before .before .pre .1) (omega (arith, c .before .before .before .before .before .before .before .before .before .before .before .before .before .form-at .ensures, c .before .before .before .before .before .before .before .before .before .before .before .before .if1 .left)) (omega (arith, c .before .before .before .before .before .before .before .before .before .before .before .before .before .form-at .ensures, c .before .before .before .before .before .before .before .before .before .before .before .if2 .left)) (c .before .before .before .before .before .before .before .before .operand .ensures) (c .before .before .before .before .before .before .before .fold-const .ensures) (c .before .before .before .x .given .1) (λ e. c .before .if3 .taken (c .before .before .before .before .before .before .before .before .before .before .before .before .before .form-at .ensures ∙ e))
+fold-const-apply-requires t c κs = applies (c .before .before .before .before .before .before .before .before .before .before .before .before .before .before .before .before .before .pre .1) (omega (arith, c .before .before .before .before .before .before .before .before .before .before .before .before .before .form-at .ensures, c .before .before .before .before .before .before .before .before .before .before .before .before .if1 .left)) (omega (arith, c .before .before .before .before .before .before .before .before .before .before .before .before .before .form-at .ensures, c .before .before .before .before .before .before .before .before .before .before .before .if2 .left)) (c .before .before .before .before .before .before .before .before .operand .ensures) (c .before .before .before .before .before .before .before .fold-const .ensures) (c .before .before .before .x .given .1) (λ e. c .before .if3 .taken (c .before .before .before .before .before .before .before .before .before .before .before .before .before .form-at .ensures ∙ e))
 
 fold-const-same-length-4 : (t : ℕ) → fold-const-lts.Need-same-length-4 (callees t) (fold-const-at t) fold-const.Post
 fold-const-same-length-4 t c = search needs
 
 fold-const-returns-4 : (t : ℕ) → fold-const-lts.Need-returns-4 (callees t) (fold-const-at t) fold-const.Post
-fold-const-returns-4 t c = applied (now (c .before .before .before .before .before .before .before .before .before .before .before .before .before .before .before .before .before .before .before .before .args .sheet)) (now (c .before .before .before .before .before .before .before .before .before .before .before .before .before .before .before .before .before .before .before .before .args .work)) (c .before .before .before .before .before .before .before .before .before .before .before .before .before .before .before .before .before .before .before .before .args .n) (c .before .before .before .before .before .before .before .before .before .before .before .before .before .before .before .before .before .before .before .before .args .m) (c .before .before .before .before .before .before .before .before .before .before .before .before .before .before .before .before .before .before .before .before .args .iota) (c .before .before .before .before .before .before .before .before .before .before .before .before .before .before .before .before .before .before .before .before .args .r) (c .before .before .before .before .before .before .before .before .before .before .before .before .before .before .before .before .before .before .before .before .args .top) (c .before .before .before .before .before .before .before .before .before .before .before .before .before .before .before .before .before .before .before .before .pre .1) (omega (arith, c .before .before .before .before .before .before .before .before .before .before .before .before .before .before .before .before .form-at .ensures, c .before .before .before .before .before .before .before .before .before .before .before .before .before .before .before .if1 .left)) (omega (arith, c .before .before .before .before .before .before .before .before .before .before .before .before .before .before .before .before .form-at .ensures, c .before .before .before .before .before .before .before .before .before .before .before .before .before .before .if2 .left)) (c .before .before .before .before .before .before .before .before .before .before .before .operand .ensures) (c .before .before .before .before .before .before .before .before .before .before .fold-const .ensures) (c .before .before .before .before .before .before .x .given .1) (λ e. c .before .before .before .before .if3 .taken (c .before .before .before .before .before .before .before .before .before .before .before .before .before .before .before .before .form-at .ensures ∙ e)) (c .before .before .apply .ensures)
+fold-const-returns-4 t c = applied (c .before .before .before .before .before .before .before .before .before .before .before .before .before .before .before .before .before .before .before .before .pre .1) (omega (arith, c .before .before .before .before .before .before .before .before .before .before .before .before .before .before .before .before .form-at .ensures, c .before .before .before .before .before .before .before .before .before .before .before .before .before .before .before .if1 .left)) (omega (arith, c .before .before .before .before .before .before .before .before .before .before .before .before .before .before .before .before .form-at .ensures, c .before .before .before .before .before .before .before .before .before .before .before .before .before .before .if2 .left)) (c .before .before .before .before .before .before .before .before .before .before .before .operand .ensures) (c .before .before .before .before .before .before .before .before .before .before .fold-const .ensures) (c .before .before .before .before .before .before .x .given .1) (λ e. c .before .before .before .before .if3 .taken (c .before .before .before .before .before .before .before .before .before .before .before .before .before .before .before .before .form-at .ensures ∙ e)) (c .before .before .apply .ensures)
 
 fold-const-sub-number-at : (t : ℕ) → fold-const-lts.Need-sub-number-at (callees t) (fold-const-at t) fold-const.Post
 fold-const-sub-number-at t c = c .before .before .before .before .before .before .before .before .before .before .before .before .before .before .before .before .before .pre .1 .line .first
 
 fold-const-number-at-requires : (t : ℕ) → fold-const-lts.Need-number-at-requires (callees t) (fold-const-at t) fold-const.Post
-fold-const-number-at-requires t c κs = readable-behind (now (c .before .before .before .before .before .before .before .before .before .before .before .before .before .before .before .before .before .args .sheet)) (now (c .before .before .before .before .before .before .before .before .before .before .before .before .before .before .before .before .before .args .work)) (c .before .before .before .before .before .before .before .before .before .before .before .before .before .before .before .before .before .args .n) (c .before .before .before .before .before .before .before .before .before .before .before .before .before .before .before .before .before .args .m) (c .before .before .before .before .before .before .before .before .before .before .before .before .before .before .before .before .before .args .iota) (c .before .before .before .before .before .before .before .before .before .before .before .before .before .before .before .before .before .args .r) (c .before .before .before .before .before .before .before .before .before .before .before .before .before .before .before .before .before .args .top) (c .before .before .before .before .before .before .before .before .before .before .before .before .before .before .before .before .before .pre .1) (omega (arith, c .before .before .before .before .before .before .before .before .before .before .before .before .before .form-at .ensures, c .before .before .before .before .before .before .before .before .before .before .before .before .if1 .left)) (omega (arith, c .before .before .before .before .before .before .before .before .before .before .before .before .before .form-at .ensures, c .before .before .before .before .before .before .before .before .before .before .before .if2 .left)) (c .before .before .before .before .before .before .before .fold-const .ensures .kept)
+fold-const-number-at-requires t c κs = readable-behind (c .before .before .before .before .before .before .before .before .before .before .before .before .before .before .before .before .before .pre .1) (omega (arith, c .before .before .before .before .before .before .before .before .before .before .before .before .before .form-at .ensures, c .before .before .before .before .before .before .before .before .before .before .before .before .if1 .left)) (omega (arith, c .before .before .before .before .before .before .before .before .before .before .before .before .before .form-at .ensures, c .before .before .before .before .before .before .before .before .before .before .before .if2 .left)) (c .before .before .before .before .before .before .before .fold-const .ensures .kept)
 
 fold-const-size-requires : (t : ℕ) → fold-const-lts.Need-size-requires (callees t) (fold-const-at t) fold-const.Post
 fold-const-size-requires t c κs = search needs
 
 fold-const-add-fold-const : (t : ℕ) → fold-const-lts.Need-add-fold-const (callees t) (fold-const-at t) fold-const.Post
-fold-const-add-fold-const t c = record { fits = omega (arith, right-fits (now (c .before .before .before .before .before .before .before .before .before .before .before .before .before .before .before .before .before .before .before .before .args .sheet)) (now (c .before .before .before .before .before .before .before .before .before .before .before .before .before .before .before .before .before .before .before .before .args .work)) (c .before .before .before .before .before .before .before .before .before .before .before .before .before .before .before .before .before .before .before .before .args .n) (c .before .before .before .before .before .before .before .before .before .before .before .before .before .before .before .before .before .before .before .before .args .m) (c .before .before .before .before .before .before .before .before .before .before .before .before .before .before .before .before .before .before .before .before .args .iota) (c .before .before .before .before .before .before .before .before .before .before .before .before .before .before .before .before .before .before .before .before .args .r) (c .before .before .before .before .before .before .before .before .before .before .before .before .before .before .before .before .before .before .before .before .args .top) (c .before .before .before .before .before .before .before .before .before .before .before .before .before .before .before .before .before .before .before .before .pre .1) (omega (arith, c .before .before .before .before .before .before .before .before .before .before .before .before .before .before .before .before .form-at .ensures, c .before .before .before .before .before .before .before .before .before .before .before .before .before .before .before .if1 .left)) (omega (arith, c .before .before .before .before .before .before .before .before .before .before .before .before .before .before .before .before .form-at .ensures, c .before .before .before .before .before .before .before .before .before .before .before .before .before .before .if2 .left)) (c .before .before .before .before .before .before .before .before .before .before .before .operand .ensures) (c .before .before .before .before .before .before .before .before .before .before .fold-const .ensures) (c .before .before .before .before .before .before .x .given .1) (sym (c .before .before .before .before .before .before .before .before .before .before .before .before .before .before .before .before .form-at .ensures) ∙ c .before .before .before .before .if3 .left) (c .before .before .number-at .ensures .0) (c .size .ensures)) }
+fold-const-add-fold-const t c = record { fits = omega (arith, right-fits (c .before .before .before .before .before .before .before .before .before .before .before .before .before .before .before .before .before .before .before .before .pre .1) (omega (arith, c .before .before .before .before .before .before .before .before .before .before .before .before .before .before .before .before .form-at .ensures, c .before .before .before .before .before .before .before .before .before .before .before .before .before .before .before .if1 .left)) (omega (arith, c .before .before .before .before .before .before .before .before .before .before .before .before .before .before .before .before .form-at .ensures, c .before .before .before .before .before .before .before .before .before .before .before .before .before .before .if2 .left)) (c .before .before .before .before .before .before .before .before .before .before .before .operand .ensures) (c .before .before .before .before .before .before .before .before .before .before .fold-const .ensures) (c .before .before .before .before .before .before .x .given .1) (sym (c .before .before .before .before .before .before .before .before .before .before .before .before .before .before .before .before .form-at .ensures) ∙ c .before .before .before .before .if3 .left) (c .before .before .number-at .ensures .0) (c .size .ensures)) }
 
 fold-const-fold-const-requires-2 : (t : ℕ) → fold-const-lts.Need-fold-const-requires-2 (callees t) (fold-const-at t) fold-const.Post
-fold-const-fold-const-requires-2 t c κs = (omega (arith, c .before .before .before .before .before .before .before .before .before .before .before .before .before .before .before .before .before .before .before .before .pre .0, right-before (now (c .before .before .before .before .before .before .before .before .before .before .before .before .before .before .before .before .before .before .before .before .args .sheet)) (now (c .before .before .before .before .before .before .before .before .before .before .before .before .before .before .before .before .before .before .before .before .args .work)) (c .before .before .before .before .before .before .before .before .before .before .before .before .before .before .before .before .before .before .before .before .args .n) (c .before .before .before .before .before .before .before .before .before .before .before .before .before .before .before .before .before .before .before .before .args .m) (c .before .before .before .before .before .before .before .before .before .before .before .before .before .before .before .before .before .before .before .before .args .iota) (c .before .before .before .before .before .before .before .before .before .before .before .before .before .before .before .before .before .before .before .before .args .r) (c .before .before .before .before .before .before .before .before .before .before .before .before .before .before .before .before .before .before .before .before .args .top) (c .before .before .before .before .before .before .before .before .before .before .before .before .before .before .before .before .before .before .before .before .pre .1) (omega (arith, c .before .before .before .before .before .before .before .before .before .before .before .before .before .before .before .before .form-at .ensures, c .before .before .before .before .before .before .before .before .before .before .before .before .before .before .before .if1 .left)) (omega (arith, c .before .before .before .before .before .before .before .before .before .before .before .before .before .before .before .before .form-at .ensures, c .before .before .before .before .before .before .before .before .before .before .before .before .before .before .if2 .left)) (c .before .before .before .before .before .before .before .before .before .before .before .operand .ensures) (c .before .before .before .before .before .before .before .before .before .before .fold-const .ensures) (c .before .before .before .before .before .before .x .given .1) (sym (c .before .before .before .before .before .before .before .before .before .before .before .before .before .before .before .before .form-at .ensures) ∙ c .before .before .before .before .if3 .left) (c .before .before .number-at .ensures .0) (c .size .ensures)), right-foldable (now (c .before .before .before .before .before .before .before .before .before .before .before .before .before .before .before .before .before .before .before .before .args .sheet)) (now (c .before .before .before .before .before .before .before .before .before .before .before .before .before .before .before .before .before .before .before .before .args .work)) (c .before .before .before .before .before .before .before .before .before .before .before .before .before .before .before .before .before .before .before .before .args .n) (c .before .before .before .before .before .before .before .before .before .before .before .before .before .before .before .before .before .before .before .before .args .m) (c .before .before .before .before .before .before .before .before .before .before .before .before .before .before .before .before .before .before .before .before .args .iota) (c .before .before .before .before .before .before .before .before .before .before .before .before .before .before .before .before .before .before .before .before .args .r) (c .before .before .before .before .before .before .before .before .before .before .before .before .before .before .before .before .before .before .before .before .args .top) (c .before .before .before .before .before .before .before .before .before .before .before .before .before .before .before .before .before .before .before .before .pre .1) (omega (arith, c .before .before .before .before .before .before .before .before .before .before .before .before .before .before .before .before .form-at .ensures, c .before .before .before .before .before .before .before .before .before .before .before .before .before .before .before .if1 .left)) (omega (arith, c .before .before .before .before .before .before .before .before .before .before .before .before .before .before .before .before .form-at .ensures, c .before .before .before .before .before .before .before .before .before .before .before .before .before .before .if2 .left)) (c .before .before .before .before .before .before .before .before .before .before .before .operand .ensures) (c .before .before .before .before .before .before .before .before .before .before .fold-const .ensures) (c .before .before .before .before .before .before .x .given .1) (sym (c .before .before .before .before .before .before .before .before .before .before .before .before .before .before .before .before .form-at .ensures) ∙ c .before .before .before .before .if3 .left) (c .before .before .number-at .ensures .0) (c .size .ensures))
+fold-const-fold-const-requires-2 t c κs = (omega (arith, c .before .before .before .before .before .before .before .before .before .before .before .before .before .before .before .before .before .before .before .before .pre .0, right-before (c .before .before .before .before .before .before .before .before .before .before .before .before .before .before .before .before .before .before .before .before .pre .1) (omega (arith, c .before .before .before .before .before .before .before .before .before .before .before .before .before .before .before .before .form-at .ensures, c .before .before .before .before .before .before .before .before .before .before .before .before .before .before .before .if1 .left)) (omega (arith, c .before .before .before .before .before .before .before .before .before .before .before .before .before .before .before .before .form-at .ensures, c .before .before .before .before .before .before .before .before .before .before .before .before .before .before .if2 .left)) (c .before .before .before .before .before .before .before .before .before .before .before .operand .ensures) (c .before .before .before .before .before .before .before .before .before .before .fold-const .ensures) (c .before .before .before .before .before .before .x .given .1) (sym (c .before .before .before .before .before .before .before .before .before .before .before .before .before .before .before .before .form-at .ensures) ∙ c .before .before .before .before .if3 .left) (c .before .before .number-at .ensures .0) (c .size .ensures)), right-foldable (c .before .before .before .before .before .before .before .before .before .before .before .before .before .before .before .before .before .before .before .before .pre .1) (omega (arith, c .before .before .before .before .before .before .before .before .before .before .before .before .before .before .before .before .form-at .ensures, c .before .before .before .before .before .before .before .before .before .before .before .before .before .before .before .if1 .left)) (omega (arith, c .before .before .before .before .before .before .before .before .before .before .before .before .before .before .before .before .form-at .ensures, c .before .before .before .before .before .before .before .before .before .before .before .before .before .before .if2 .left)) (c .before .before .before .before .before .before .before .before .before .before .before .operand .ensures) (c .before .before .before .before .before .before .before .before .before .before .fold-const .ensures) (c .before .before .before .before .before .before .x .given .1) (sym (c .before .before .before .before .before .before .before .before .before .before .before .before .before .before .before .before .form-at .ensures) ∙ c .before .before .before .before .if3 .left) (c .before .before .number-at .ensures .0) (c .size .ensures))
 
 fold-const-enum-known-y : (t : ℕ) → fold-const-lts.Need-enum-known-y (callees t) (fold-const-at t) fold-const.Post
 fold-const-enum-known-y t c = search needs
@@ -101,13 +101,13 @@ fold-const-same-length-5 : (t : ℕ) → fold-const-lts.Need-same-length-5 (call
 fold-const-same-length-5 t c = search needs
 
 fold-const-returns-5 : (t : ℕ) → fold-const-lts.Need-returns-5 (callees t) (fold-const-at t) fold-const.Post
-fold-const-returns-5 t c = right-stops (now (c .before .before .before .before .before .before .before .before .before .before .before .before .before .before .before .before .before .before .before .before .before .before .before .before .args .sheet)) (now (c .before .before .before .before .before .before .before .before .before .before .before .before .before .before .before .before .before .before .before .before .before .before .before .before .args .work)) (c .before .before .before .before .before .before .before .before .before .before .before .before .before .before .before .before .before .before .before .before .before .before .before .before .args .n) (c .before .before .before .before .before .before .before .before .before .before .before .before .before .before .before .before .before .before .before .before .before .before .before .before .args .m) (c .before .before .before .before .before .before .before .before .before .before .before .before .before .before .before .before .before .before .before .before .before .before .before .before .args .iota) (c .before .before .before .before .before .before .before .before .before .before .before .before .before .before .before .before .before .before .before .before .before .before .before .before .args .r) (c .before .before .before .before .before .before .before .before .before .before .before .before .before .before .before .before .before .before .before .before .before .before .before .before .args .top) (c .before .before .before .before .before .before .before .before .before .before .before .before .before .before .before .before .before .before .before .before .before .before .before .before .pre .1) (omega (arith, c .before .before .before .before .before .before .before .before .before .before .before .before .before .before .before .before .before .before .before .before .form-at .ensures, c .before .before .before .before .before .before .before .before .before .before .before .before .before .before .before .before .before .before .before .if1 .left)) (omega (arith, c .before .before .before .before .before .before .before .before .before .before .before .before .before .before .before .before .before .before .before .before .form-at .ensures, c .before .before .before .before .before .before .before .before .before .before .before .before .before .before .before .before .before .before .if2 .left)) (c .before .before .before .before .before .before .before .before .before .before .before .before .before .before .before .operand .ensures) (c .before .before .before .before .before .before .before .before .before .before .before .before .before .before .fold-const .ensures) (c .before .before .before .before .before .before .before .before .before .before .x .given .1) (sym (c .before .before .before .before .before .before .before .before .before .before .before .before .before .before .before .before .before .before .before .before .form-at .ensures) ∙ c .before .before .before .before .before .before .before .before .if3 .left) (c .before .before .before .before .before .before .number-at .ensures .0) (c .before .before .before .before .size .ensures) (c .before .before .before .fold-const2 .ensures) (c .match2 .keys2)
+fold-const-returns-5 t c = right-stops (c .before .before .before .before .before .before .before .before .before .before .before .before .before .before .before .before .before .before .before .before .before .before .before .before .pre .1) (omega (arith, c .before .before .before .before .before .before .before .before .before .before .before .before .before .before .before .before .before .before .before .before .form-at .ensures, c .before .before .before .before .before .before .before .before .before .before .before .before .before .before .before .before .before .before .before .if1 .left)) (omega (arith, c .before .before .before .before .before .before .before .before .before .before .before .before .before .before .before .before .before .before .before .before .form-at .ensures, c .before .before .before .before .before .before .before .before .before .before .before .before .before .before .before .before .before .before .if2 .left)) (c .before .before .before .before .before .before .before .before .before .before .before .before .before .before .before .operand .ensures) (c .before .before .before .before .before .before .before .before .before .before .before .before .before .before .fold-const .ensures) (c .before .before .before .before .before .before .before .before .before .before .x .given .1) (sym (c .before .before .before .before .before .before .before .before .before .before .before .before .before .before .before .before .before .before .before .before .form-at .ensures) ∙ c .before .before .before .before .before .before .before .before .if3 .left) (c .before .before .before .before .before .before .number-at .ensures .0) (c .before .before .before .before .size .ensures) (c .before .before .before .fold-const2 .ensures) (c .match2 .keys2)
 
 fold-const-sub-number-at-2 : (t : ℕ) → fold-const-lts.Need-sub-number-at-2 (callees t) (fold-const-at t) fold-const.Post
 fold-const-sub-number-at-2 t c = c .before .before .before .before .before .before .before .before .before .before .before .before .before .before .before .before .before .before .before .before .before .before .before .before .before .before .before .pre .1 .line .first
 
 fold-const-number-at-requires-2 : (t : ℕ) → fold-const-lts.Need-number-at-requires-2 (callees t) (fold-const-at t) fold-const.Post
-fold-const-number-at-requires-2 t c κs = readable-behind (now (c .before .before .before .before .before .before .before .before .before .before .before .before .before .before .before .before .before .before .before .before .before .before .before .before .before .before .before .args .sheet)) (now (c .before .before .before .before .before .before .before .before .before .before .before .before .before .before .before .before .before .before .before .before .before .before .before .before .before .before .before .args .work)) (c .before .before .before .before .before .before .before .before .before .before .before .before .before .before .before .before .before .before .before .before .before .before .before .before .before .before .before .args .n) (c .before .before .before .before .before .before .before .before .before .before .before .before .before .before .before .before .before .before .before .before .before .before .before .before .before .before .before .args .m) (c .before .before .before .before .before .before .before .before .before .before .before .before .before .before .before .before .before .before .before .before .before .before .before .before .before .before .before .args .iota) (c .before .before .before .before .before .before .before .before .before .before .before .before .before .before .before .before .before .before .before .before .before .before .before .before .before .before .before .args .r) (c .before .before .before .before .before .before .before .before .before .before .before .before .before .before .before .before .before .before .before .before .before .before .before .before .before .before .before .args .top) (c .before .before .before .before .before .before .before .before .before .before .before .before .before .before .before .before .before .before .before .before .before .before .before .before .before .before .before .pre .1) (omega (arith, c .before .before .before .before .before .before .before .before .before .before .before .before .before .before .before .before .before .before .before .before .before .before .before .form-at .ensures, c .before .before .before .before .before .before .before .before .before .before .before .before .before .before .before .before .before .before .before .before .before .before .if1 .left)) (omega (arith, c .before .before .before .before .before .before .before .before .before .before .before .before .before .before .before .before .before .before .before .before .before .before .before .form-at .ensures, c .before .before .before .before .before .before .before .before .before .before .before .before .before .before .before .before .before .before .before .before .before .if2 .left)) (right-kept (now (c .before .before .before .before .before .before .before .before .before .before .before .before .before .before .before .before .before .before .before .before .before .before .before .before .before .before .before .args .sheet)) (now (c .before .before .before .before .before .before .before .before .before .before .before .before .before .before .before .before .before .before .before .before .before .before .before .before .before .before .before .args .work)) (c .before .before .before .before .before .before .before .before .before .before .before .before .before .before .before .before .before .before .before .before .before .before .before .before .before .before .before .args .n) (c .before .before .before .before .before .before .before .before .before .before .before .before .before .before .before .before .before .before .before .before .before .before .before .before .before .before .before .args .m) (c .before .before .before .before .before .before .before .before .before .before .before .before .before .before .before .before .before .before .before .before .before .before .before .before .before .before .before .args .iota) (c .before .before .before .before .before .before .before .before .before .before .before .before .before .before .before .before .before .before .before .before .before .before .before .before .before .before .before .args .r) (c .before .before .before .before .before .before .before .before .before .before .before .before .before .before .before .before .before .before .before .before .before .before .before .before .before .before .before .args .top) (c .before .before .before .before .before .before .before .before .before .before .before .before .before .before .before .before .before .before .before .before .before .before .before .before .before .before .before .pre .1) (omega (arith, c .before .before .before .before .before .before .before .before .before .before .before .before .before .before .before .before .before .before .before .before .before .before .before .form-at .ensures, c .before .before .before .before .before .before .before .before .before .before .before .before .before .before .before .before .before .before .before .before .before .before .if1 .left)) (omega (arith, c .before .before .before .before .before .before .before .before .before .before .before .before .before .before .before .before .before .before .before .before .before .before .before .form-at .ensures, c .before .before .before .before .before .before .before .before .before .before .before .before .before .before .before .before .before .before .before .before .before .if2 .left)) (c .before .before .before .before .before .before .before .before .before .before .before .before .before .before .before .before .before .before .operand .ensures) (c .before .before .before .before .before .before .before .before .before .before .before .before .before .before .before .before .before .fold-const .ensures) (c .before .before .before .before .before .before .before .before .before .before .before .before .before .x .given .1) (sym (c .before .before .before .before .before .before .before .before .before .before .before .before .before .before .before .before .before .before .before .before .before .before .before .form-at .ensures) ∙ c .before .before .before .before .before .before .before .before .before .before .before .if3 .left) (c .before .before .before .before .before .before .before .before .before .number-at .ensures .0) (c .before .before .before .before .before .before .before .size .ensures) (c .before .before .before .before .before .before .fold-const2 .ensures))
+fold-const-number-at-requires-2 t c κs = readable-behind (c .before .before .before .before .before .before .before .before .before .before .before .before .before .before .before .before .before .before .before .before .before .before .before .before .before .before .before .pre .1) (omega (arith, c .before .before .before .before .before .before .before .before .before .before .before .before .before .before .before .before .before .before .before .before .before .before .before .form-at .ensures, c .before .before .before .before .before .before .before .before .before .before .before .before .before .before .before .before .before .before .before .before .before .before .if1 .left)) (omega (arith, c .before .before .before .before .before .before .before .before .before .before .before .before .before .before .before .before .before .before .before .before .before .before .before .form-at .ensures, c .before .before .before .before .before .before .before .before .before .before .before .before .before .before .before .before .before .before .before .before .before .if2 .left)) (right-kept (c .before .before .before .before .before .before .before .before .before .before .before .before .before .before .before .before .before .before .before .before .before .before .before .before .before .before .before .pre .1) (omega (arith, c .before .before .before .before .before .before .before .before .before .before .before .before .before .before .before .before .before .before .before .before .before .before .before .form-at .ensures, c .before .before .before .before .before .before .before .before .before .before .before .before .before .before .before .before .before .before .before .before .before .before .if1 .left)) (omega (arith, c .before .before .before .before .before .before .before .before .before .before .before .before .before .before .before .before .before .before .before .before .before .before .before .form-at .ensures, c .before .before .before .before .before .before .before .before .before .before .before .before .before .before .before .before .before .before .before .before .before .if2 .left)) (c .before .before .before .before .before .before .before .before .before .before .before .before .before .before .before .before .before .before .operand .ensures) (c .before .before .before .before .before .before .before .before .before .before .before .before .before .before .before .before .before .fold-const .ensures) (c .before .before .before .before .before .before .before .before .before .before .before .before .before .x .given .1) (sym (c .before .before .before .before .before .before .before .before .before .before .before .before .before .before .before .before .before .before .before .before .before .before .before .form-at .ensures) ∙ c .before .before .before .before .before .before .before .before .before .before .before .if3 .left) (c .before .before .before .before .before .before .before .before .before .number-at .ensures .0) (c .before .before .before .before .before .before .before .size .ensures) (c .before .before .before .before .before .before .fold-const2 .ensures))
 
 fold-const-fold-binary-requires : (t : ℕ) → fold-const-lts.Need-fold-binary-requires (callees t) (fold-const-at t) fold-const.Post
 fold-const-fold-binary-requires t c κs = search needs
@@ -116,7 +116,7 @@ fold-const-same-length-6 : (t : ℕ) → fold-const-lts.Need-same-length-6 (call
 fold-const-same-length-6 t c = search needs
 
 fold-const-returns-6 : (t : ℕ) → fold-const-lts.Need-returns-6 (callees t) (fold-const-at t) fold-const.Post
-fold-const-returns-6 t c = binary-folds (now (c .before .before .before .before .before .before .before .before .before .before .before .before .before .before .before .before .before .before .before .before .before .before .before .before .before .before .before .before .before .args .sheet)) (now (c .before .before .before .before .before .before .before .before .before .before .before .before .before .before .before .before .before .before .before .before .before .before .before .before .before .before .before .before .before .args .work)) (c .before .before .before .before .before .before .before .before .before .before .before .before .before .before .before .before .before .before .before .before .before .before .before .before .before .before .before .before .before .args .n) (c .before .before .before .before .before .before .before .before .before .before .before .before .before .before .before .before .before .before .before .before .before .before .before .before .before .before .before .before .before .args .m) (c .before .before .before .before .before .before .before .before .before .before .before .before .before .before .before .before .before .before .before .before .before .before .before .before .before .before .before .before .before .args .iota) (c .before .before .before .before .before .before .before .before .before .before .before .before .before .before .before .before .before .before .before .before .before .before .before .before .before .before .before .before .before .args .r) (c .before .before .before .before .before .before .before .before .before .before .before .before .before .before .before .before .before .before .before .before .before .before .before .before .before .before .before .before .before .args .top) (c .before .before .before .before .before .before .before .before .before .before .before .before .before .before .before .before .before .before .before .before .before .before .before .before .before .before .before .before .before .pre .1) (omega (arith, c .before .before .before .before .before .before .before .before .before .before .before .before .before .before .before .before .before .before .before .before .before .before .before .before .before .form-at .ensures, c .before .before .before .before .before .before .before .before .before .before .before .before .before .before .before .before .before .before .before .before .before .before .before .before .if1 .left)) (omega (arith, c .before .before .before .before .before .before .before .before .before .before .before .before .before .before .before .before .before .before .before .before .before .before .before .before .before .form-at .ensures, c .before .before .before .before .before .before .before .before .before .before .before .before .before .before .before .before .before .before .before .before .before .before .before .if2 .left)) (c .before .before .before .before .before .before .before .before .before .before .before .before .before .before .before .before .before .before .before .before .operand .ensures) (c .before .before .before .before .before .before .before .before .before .before .before .before .before .before .before .before .before .before .before .fold-const .ensures) (c .before .before .before .before .before .before .before .before .before .before .before .before .before .before .before .x .given .1) (sym (c .before .before .before .before .before .before .before .before .before .before .before .before .before .before .before .before .before .before .before .before .before .before .before .before .before .form-at .ensures) ∙ c .before .before .before .before .before .before .before .before .before .before .before .before .before .if3 .left) (c .before .before .before .before .before .before .before .before .before .before .before .number-at .ensures .0) (c .before .before .before .before .before .before .before .before .before .size .ensures) (c .before .before .before .before .before .before .before .before .fold-const2 .ensures) (c .before .before .before .before .y .given .1) (c .before .number-at2 .ensures .0) (c .fold-binary .ensures)
+fold-const-returns-6 t c = binary-folds (c .before .before .before .before .before .before .before .before .before .before .before .before .before .before .before .before .before .before .before .before .before .before .before .before .before .before .before .before .before .pre .1) (omega (arith, c .before .before .before .before .before .before .before .before .before .before .before .before .before .before .before .before .before .before .before .before .before .before .before .before .before .form-at .ensures, c .before .before .before .before .before .before .before .before .before .before .before .before .before .before .before .before .before .before .before .before .before .before .before .before .if1 .left)) (omega (arith, c .before .before .before .before .before .before .before .before .before .before .before .before .before .before .before .before .before .before .before .before .before .before .before .before .before .form-at .ensures, c .before .before .before .before .before .before .before .before .before .before .before .before .before .before .before .before .before .before .before .before .before .before .before .if2 .left)) (c .before .before .before .before .before .before .before .before .before .before .before .before .before .before .before .before .before .before .before .before .operand .ensures) (c .before .before .before .before .before .before .before .before .before .before .before .before .before .before .before .before .before .before .before .fold-const .ensures) (c .before .before .before .before .before .before .before .before .before .before .before .before .before .before .before .x .given .1) (sym (c .before .before .before .before .before .before .before .before .before .before .before .before .before .before .before .before .before .before .before .before .before .before .before .before .before .form-at .ensures) ∙ c .before .before .before .before .before .before .before .before .before .before .before .before .before .if3 .left) (c .before .before .before .before .before .before .before .before .before .before .before .number-at .ensures .0) (c .before .before .before .before .before .before .before .before .before .size .ensures) (c .before .before .before .before .before .before .before .before .fold-const2 .ensures) (c .before .before .before .before .y .given .1) (c .before .number-at2 .ensures .0) (c .fold-binary .ensures)
 
 pub +fold-const-spec : {M : Type 1} → statement M
 +fold-const-spec = close μ-fold-const λ t. fold-const-lts.spec (callees t)

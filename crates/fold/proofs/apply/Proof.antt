@@ -26,7 +26,7 @@ same-length : tie.Need-same-length
 same-length c = search needs
 
 returns : tie.Need-returns
-returns c = applies-unary (now (c .before .before .before .before .before .before .before .before .args .sheet)) (now (c .before .before .before .before .before .before .before .before .args .work)) (c .before .before .before .before .before .before .before .before .args .n) (c .before .before .before .before .before .before .before .before .args .r) (c .before .before .before .before .before .before .before .before .args .v) (c .before .before .before .before .before .before .before .before .args .top) (c .before .before .before .before .before .before .before .before .pre) (sym (c .before .before .before .before .form-at .ensures) ∙ c .before .before .before .if1 .taken) (c .before .number-at .ensures .0) (c .fold-unary .ensures)
+returns c = applies-unary (c .before .before .before .before .before .before .before .before .pre) (sym (c .before .before .before .before .form-at .ensures) ∙ c .before .before .before .if1 .taken) (c .before .number-at .ensures .0) (c .fold-unary .ensures)
 
 sub-number-at-2 : tie.Need-sub-number-at-2
 sub-number-at-2 c = search needs
@@ -35,10 +35,10 @@ number-at-requires-2 : tie.Need-number-at-requires-2
 number-at-requires-2 c κs = search needs
 
 sub-form-at-2 : tie.Need-sub-form-at-2
-sub-form-at-2 c = let w = cast-line (now (c .before .before .before .before .before .before .before .before .args .sheet)) (now (c .before .before .before .before .before .before .before .before .args .work)) (c .before .before .before .before .before .before .before .before .args .n) (c .before .before .before .before .before .before .before .before .args .r) (c .before .before .before .before .before .before .before .before .args .v) (c .before .before .before .before .before .before .before .before .args .top) (c .before .before .before .before .before .before .before .before .pre) (sym (c .before .before .before .before .form-at .ensures) ∙ c .before .before .if2 .taken) in omega (arith, c .number-at2 .ensures .0, w .exact, w .first)
+sub-form-at-2 c = let w = cast-line (c .before .before .before .before .before .before .before .before .pre) (sym (c .before .before .before .before .form-at .ensures) ∙ c .before .before .if2 .taken) in omega (arith, c .number-at2 .ensures .0, w .exact, w .first)
 
 form-at-requires-2 : tie.Need-form-at-requires-2
-form-at-requires-2 c κs = let w = cast-line (now (c .before .before .before .before .before .before .before .before .args .sheet)) (now (c .before .before .before .before .before .before .before .before .args .work)) (c .before .before .before .before .before .before .before .before .args .n) (c .before .before .before .before .before .before .before .before .args .r) (c .before .before .before .before .before .before .before .before .args .v) (c .before .before .before .before .before .before .before .before .args .top) (c .before .before .before .before .before .before .before .before .pre) (sym (c .before .before .before .before .form-at .ensures) ∙ c .before .before .if2 .taken) in (omega (arith, c .number-at2 .ensures .0, w .exact, w .last, w .first, c .before .before .before .before .before .before .before .before .pre .line .line .checked .whole .lined .few), c .before .before .before .before .before .before .before .before .pre .line .line .checked .whole .room)
+form-at-requires-2 c κs = let w = cast-line (c .before .before .before .before .before .before .before .before .pre) (sym (c .before .before .before .before .form-at .ensures) ∙ c .before .before .if2 .taken) in (omega (arith, c .number-at2 .ensures .0, w .exact, w .last, w .first, c .before .before .before .before .before .before .before .before .pre .line .line .checked .whole .lined .few), c .before .before .before .before .before .before .before .before .pre .line .line .checked .whole .room)
 
 fold-cast-requires : tie.Need-fold-cast-requires
 fold-cast-requires c κs = search needs
@@ -47,7 +47,7 @@ same-length-2 : tie.Need-same-length-2
 same-length-2 c = search needs
 
 returns-2 : tie.Need-returns-2
-returns-2 c = applies-cast (now (c .before .before .before .before .before .before .before .before .before .before .before .before .before .args .sheet)) (now (c .before .before .before .before .before .before .before .before .before .before .before .before .before .args .work)) (c .before .before .before .before .before .before .before .before .before .before .before .before .before .args .n) (c .before .before .before .before .before .before .before .before .before .before .before .before .before .args .r) (c .before .before .before .before .before .before .before .before .before .before .before .before .before .args .v) (c .before .before .before .before .before .before .before .before .before .before .before .before .before .args .top) (c .before .before .before .before .before .before .before .before .before .before .before .before .before .pre) (sym (c .before .before .before .before .before .before .before .before .before .form-at .ensures) ∙ c .before .before .before .before .before .before .before .if2 .taken) (c .before .before .before .before .before .number-at2 .ensures .0) (c .before .before .before .before .form-at2 .ensures) (c .before .before .fold-cast .ensures)
+returns-2 c = applies-cast (c .before .before .before .before .before .before .before .before .before .before .before .before .before .pre) (sym (c .before .before .before .before .before .before .before .before .before .form-at .ensures) ∙ c .before .before .before .before .before .before .before .if2 .taken) (c .before .before .before .before .before .number-at2 .ensures .0) (c .before .before .before .before .form-at2 .ensures) (c .before .before .fold-cast .ensures)
 
 fold-len-requires : tie.Need-fold-len-requires
 fold-len-requires c κs = within-of (now (c .before .before .before .before .before .before .before .args .work)) (c .before .before .before .before .before .before .before .args .top) (c .before .before .before .before .before .before .before .args .v) (c .before .before .before .before .before .before .before .pre .at) (c .before .before .before .before .before .before .before .pre .room)
@@ -56,7 +56,7 @@ same-length-3 : tie.Need-same-length-3
 same-length-3 c = search needs
 
 returns-3 : tie.Need-returns-3
-returns-3 c = applies-len (now (c .before .before .before .before .before .before .before .before .args .sheet)) (now (c .before .before .before .before .before .before .before .before .args .work)) (c .before .before .before .before .before .before .before .before .args .n) (c .before .before .before .before .before .before .before .before .args .r) (c .before .before .before .before .before .before .before .before .args .v) (c .before .before .before .before .before .before .before .before .args .top) (c .before .before .before .before .before .before .before .before .pre) (λ e. c .before .before .before .if1 .left (c .before .before .before .before .form-at .ensures ∙ e)) (λ e. c .before .before .if2 .left (c .before .before .before .before .form-at .ensures ∙ e)) (c .fold-len .ensures)
+returns-3 c = applies-len (c .before .before .before .before .before .before .before .before .pre) (λ e. c .before .before .before .if1 .left (c .before .before .before .before .form-at .ensures ∙ e)) (λ e. c .before .before .if2 .left (c .before .before .before .before .form-at .ensures ∙ e)) (c .fold-len .ensures)
 
 pub apply-spec : {M : Type 1} → statement M
 apply-spec =

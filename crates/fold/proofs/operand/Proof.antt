@@ -19,7 +19,7 @@ number-at-requires : tie.Need-number-at-requires
 number-at-requires c κs = search needs
 
 returns : tie.Need-returns
-returns c = operand-first (now (c .before .before .before .before .before .args .sheet)) (now (c .before .before .before .before .before .args .work)) (c .before .before .before .before .before .args .n) (c .before .before .before .before .before .args .r) (c .before .before .before .before .before .pre) (sym (c .before .before .form-at .ensures) ∙ c .before .if1 .taken) (c .number-at .ensures .0)
+returns c = operand-first (c .before .before .before .before .before .pre) (sym (c .before .before .form-at .ensures) ∙ c .before .if1 .taken) (c .number-at .ensures .0)
 
 sub-number-at-2 : tie.Need-sub-number-at-2
 sub-number-at-2 c = search needs
@@ -28,7 +28,7 @@ number-at-requires-2 : tie.Need-number-at-requires-2
 number-at-requires-2 c κs = search needs
 
 returns-2 : tie.Need-returns-2
-returns-2 c = operand-second (now (c .before .before .before .before .before .args .sheet)) (now (c .before .before .before .before .before .args .work)) (c .before .before .before .before .before .args .n) (c .before .before .before .before .before .args .r) (c .before .before .before .before .before .pre) (λ e. c .before .if1 .left (c .before .before .form-at .ensures ∙ e)) (c .number-at2 .ensures .0)
+returns-2 c = operand-second (c .before .before .before .before .before .pre) (λ e. c .before .if1 .left (c .before .before .form-at .ensures ∙ e)) (c .number-at2 .ensures .0)
 
 pub operand-spec : {M : Type 1} → statement M
 operand-spec =

@@ -6,7 +6,7 @@ use Rattle.fold.proofs.leaf.constant.Statement.{statement}
 use Rattle.fold.proofs.leaf.constant.Tie as tie
 
 returns : tie.Need-returns
-returns c = found-none (now (c .before .before .args .work)) (c .before .before .args .k) (c .before .before .args .top) (c .before .before .pre) (c .if1 .taken)
+returns c = found-none (c .before .before .pre) (c .if1 .taken)
 
 sub-slot-kind : tie.Need-sub-slot-kind
 sub-slot-kind c = search needs
@@ -27,7 +27,7 @@ same-length : tie.Need-same-length
 same-length c = search needs
 
 returns-2 : tie.Need-returns-2
-returns-2 c = found-int (now (c .before .before .before .before .before .before .before .before .args .work)) (c .before .before .before .before .before .before .before .before .args .k) (c .before .before .before .before .before .before .before .before .args .top) (c .before .before .before .before .before .before .before .before .pre) (c .before .before .before .before .before .before .if1 .left) (c .before .before .before .before .slot-kind .ensures) (c .before .before .slot-bits .ensures) (c .before .if2 .taken) (record { sfits = c .of-bits .ok }) (c .of-bits .ensures)
+returns-2 c = found-int (c .before .before .before .before .before .before .before .before .pre) (c .before .before .before .before .before .before .if1 .left) (c .before .before .before .before .slot-kind .ensures) (c .before .before .slot-bits .ensures) (c .before .if2 .taken) (record { sfits = c .of-bits .ok }) (c .of-bits .ensures)
 
 of-bits-requires-2 : tie.Need-of-bits-requires-2
 of-bits-requires-2 c κs = search needs
@@ -36,22 +36,22 @@ same-length-2 : tie.Need-same-length-2
 same-length-2 c = search needs
 
 returns-3 : tie.Need-returns-3
-returns-3 c = found-real (now (c .before .before .before .before .before .before .before .before .before .args .work)) (c .before .before .before .before .before .before .before .before .before .args .k) (c .before .before .before .before .before .before .before .before .before .args .top) (c .before .before .before .before .before .before .before .before .before .pre) (c .before .before .before .before .before .before .before .if1 .left) (c .before .before .before .before .before .slot-kind .ensures) (c .before .before .before .slot-bits .ensures) (c .before .if3 .taken) (c .of-bits2 .ensures)
+returns-3 c = found-real (c .before .before .before .before .before .before .before .before .before .pre) (c .before .before .before .before .before .before .before .if1 .left) (c .before .before .before .before .before .slot-kind .ensures) (c .before .before .before .slot-bits .ensures) (c .before .if3 .taken) (c .of-bits2 .ensures)
 
 copy-requires : tie.Need-copy-requires
-copy-requires c κs = found-apart (now (c .before .before .before .before .before .before .before .before .before .before .args .work)) (c .before .before .before .before .before .before .before .before .before .before .args .k) (c .before .before .before .before .before .before .before .before .before .before .args .top) (c .before .before .before .before .before .before .before .before .before .before .pre) (c .before .before .before .before .before .before .before .before .if1 .left) (c .before .before .before .before .before .before .slot-kind .ensures) (c .before .before .before .before .slot-bits .ensures) (c .before .if4 .taken)
+copy-requires c κs = found-apart (c .before .before .before .before .before .before .before .before .before .before .pre) (c .before .before .before .before .before .before .before .before .if1 .left) (c .before .before .before .before .before .before .slot-kind .ensures) (c .before .before .before .before .slot-bits .ensures) (c .before .if4 .taken)
 
 same-length-3 : tie.Need-same-length-3
 same-length-3 c = search needs
 
 returns-4 : tie.Need-returns-4
-returns-4 c = found-string (now (c .before .before .before .before .before .before .before .before .before .before .before .before .before .args .work)) (c .before .before .before .before .before .before .before .before .before .before .before .before .before .args .k) (c .before .before .before .before .before .before .before .before .before .before .before .before .before .args .top) (c .before .before .before .before .before .before .before .before .before .before .before .before .before .pre) (c .before .before .before .before .before .before .before .before .before .before .before .if1 .left) (c .before .before .before .before .before .before .before .before .before .slot-kind .ensures) (c .before .before .before .before .before .before .before .slot-bits .ensures) (c .before .before .before .before .if4 .taken) (c .before .before .copy .ensures)
+returns-4 c = found-string (c .before .before .before .before .before .before .before .before .before .before .before .before .before .pre) (c .before .before .before .before .before .before .before .before .before .before .before .if1 .left) (c .before .before .before .before .before .before .before .before .before .slot-kind .ensures) (c .before .before .before .before .before .before .before .slot-bits .ensures) (c .before .before .before .before .if4 .taken) (c .before .before .copy .ensures)
 
 same-length-4 : tie.Need-same-length-4
 same-length-4 c = search needs
 
 returns-5 : tie.Need-returns-5
-returns-5 c = found-failed (now (c .before .before .before .before .before .before .before .before .before .args .work)) (c .before .before .before .before .before .before .before .before .before .args .k) (c .before .before .before .before .before .before .before .before .before .args .top) (c .before .before .before .before .before .before .before .before .before .pre) (c .before .before .before .before .before .before .before .if1 .left) (c .before .before .before .before .before .slot-kind .ensures) (c .before .before .before .slot-bits .ensures) (c .before .before .if2 .left) (c .before .if3 .left) (c .if4 .left)
+returns-5 c = found-failed (c .before .before .before .before .before .before .before .before .before .pre) (c .before .before .before .before .before .before .before .if1 .left) (c .before .before .before .before .before .slot-kind .ensures) (c .before .before .before .slot-bits .ensures) (c .before .before .if2 .left) (c .before .if3 .left) (c .if4 .left)
 
 pub constant-spec : {M : Type 1} → statement M
 constant-spec =

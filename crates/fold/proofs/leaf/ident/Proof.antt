@@ -25,19 +25,19 @@ same-length : tie.Need-same-length
 same-length c = search needs
 
 returns : tie.Need-returns
-returns c = name-iota (now (c .before .before .before .before .before .before .before .args .sheet)) (now (c .before .before .before .before .before .before .before .args .work)) (c .before .before .before .before .before .before .before .args .n) (c .before .before .before .before .before .before .before .args .m) (c .before .before .before .before .before .before .before .args .r) (c .before .before .before .before .before .before .before .args .top) (c .before .before .before .before .before .before .before .pre .fold) (c .before .before .before .before .before .before .before .args .iota) (c .before .before .before .before .before .before .before .pre .form) (c .before .before .before .field-at .ensures) (sym (c .before .same .ensures) ∙ c .if1 .taken) (search needs)
+returns c = name-iota (c .before .before .before .before .before .before .before .pre .fold) (c .before .before .before .before .before .before .before .pre .form) (c .before .before .before .field-at .ensures) (sym (c .before .same .ensures) ∙ c .if1 .taken) (search needs)
 
 look-up-requires : tie.Need-look-up-requires
 look-up-requires c κs = search needs
 
 constant-requires : tie.Need-constant-requires
-constant-requires c κs = slot-of (now (c .before .before .before .before .before .before .before .before .before .before .args .sheet)) (now (c .before .before .before .before .before .before .before .before .before .before .args .work)) (c .before .before .before .before .before .before .before .before .before .before .args .n) (c .before .before .before .before .before .before .before .before .before .before .args .m) (c .before .before .before .before .before .before .before .before .before .before .args .r) (c .before .before .before .before .before .before .before .before .before .before .args .top) (c .before .before .before .before .before .before .before .before .before .before .pre .fold) (c .before .look-up .ensures .1)
+constant-requires c κs = slot-of (c .before .before .before .before .before .before .before .before .before .before .pre .fold) (c .before .look-up .ensures .1)
 
 same-length-2 : tie.Need-same-length-2
 same-length-2 c = search needs
 
 returns-2 : tie.Need-returns-2
-returns-2 c = name-found (now (c .before .before .before .before .before .before .before .before .before .before .before .before .before .args .sheet)) (now (c .before .before .before .before .before .before .before .before .before .before .before .before .before .args .work)) (c .before .before .before .before .before .before .before .before .before .before .before .before .before .args .n) (c .before .before .before .before .before .before .before .before .before .before .before .before .before .args .m) (c .before .before .before .before .before .before .before .before .before .before .before .before .before .args .r) (c .before .before .before .before .before .before .before .before .before .before .before .before .before .args .top) (c .before .before .before .before .before .before .before .before .before .before .before .before .before .pre .fold) (c .before .before .before .before .before .before .before .before .before .before .before .before .before .args .iota) (c .before .before .before .before .before .before .before .before .before .before .before .before .before .pre .form) (c .before .before .before .before .before .before .before .before .before .field-at .ensures) (sym (c .before .before .before .before .before .before .before .same .ensures) ∙ c .before .before .before .before .before .before .if1 .left) (c .before .before .before .before .look-up .result) (c .before .before .before .before .look-up .ensures .0) (c .before .before .constant .ensures)
+returns-2 c = name-found (c .before .before .before .before .before .before .before .before .before .before .before .before .before .pre .fold) (c .before .before .before .before .before .before .before .before .before .before .before .before .before .pre .form) (c .before .before .before .before .before .before .before .before .before .field-at .ensures) (sym (c .before .before .before .before .before .before .before .same .ensures) ∙ c .before .before .before .before .before .before .if1 .left) (c .before .before .before .before .look-up .result) (c .before .before .before .before .look-up .ensures .0) (c .before .before .constant .ensures)
 
 pub ident-spec : {M : Type 1} → statement M
 ident-spec =

@@ -30,13 +30,13 @@ returns-2 : tie.Need-returns-2
 returns-2 c = search needs
 
 literal-requires : tie.Need-literal-requires
-literal-requires c κs = record { line = c .before .before .before .before .before .before .before .pre .fold .line; form = literal-form (now (c .before .before .before .before .before .before .before .args .sheet)) (now (c .before .before .before .before .before .before .before .args .work)) (c .before .before .before .before .before .before .before .args .n) (c .before .before .before .before .before .before .before .args .m) (c .before .before .before .before .before .before .before .args .r) (c .before .before .before .before .before .before .before .args .top) (c .before .before .before .before .before .before .before .pre) (c .before .before .before .form-at .ensures) (c .before .before .if1 .left) (c .before .if2 .left); room = room-here (now (c .before .before .before .before .before .before .before .args .sheet)) (now (c .before .before .before .before .before .before .before .args .work)) (c .before .before .before .before .before .before .before .args .n) (c .before .before .before .before .before .before .before .args .m) (c .before .before .before .before .before .before .before .args .r) (c .before .before .before .before .before .before .before .args .top) (c .before .before .before .before .before .before .before .pre .fold) }
+literal-requires c κs = record { line = c .before .before .before .before .before .before .before .pre .fold .line; form = literal-form (c .before .before .before .before .before .before .before .pre) (c .before .before .before .form-at .ensures) (c .before .before .if1 .left) (c .before .if2 .left); room = room-here (c .before .before .before .before .before .before .before .pre .fold) }
 
 same-length-3 : tie.Need-same-length-3
 same-length-3 c = search needs
 
 returns-3 : tie.Need-returns-3
-returns-3 c = literal-folds (now (c .before .before .before .before .before .before .before .before .before .before .args .sheet)) (now (c .before .before .before .before .before .before .before .before .before .before .args .work)) (c .before .before .before .before .before .before .before .before .before .before .args .n) (c .before .before .before .before .before .before .before .before .before .before .args .m) (c .before .before .before .before .before .before .before .before .before .before .args .r) (c .before .before .before .before .before .before .before .before .before .before .args .top) (c .before .before .before .before .before .before .before .before .before .before .pre .fold) (c .before .before .before .before .before .before .before .before .before .before .args .iota) (literal-form (now (c .before .before .before .before .before .before .before .before .before .before .args .sheet)) (now (c .before .before .before .before .before .before .before .before .before .before .args .work)) (c .before .before .before .before .before .before .before .before .before .before .args .n) (c .before .before .before .before .before .before .before .before .before .before .args .m) (c .before .before .before .before .before .before .before .before .before .before .args .r) (c .before .before .before .before .before .before .before .before .before .before .args .top) (c .before .before .before .before .before .before .before .before .before .before .pre) (c .before .before .before .before .before .before .form-at .ensures) (c .before .before .before .before .before .if1 .left) (c .before .before .before .before .if2 .left)) (c .before .before .literal .ensures)
+returns-3 c = literal-folds (c .before .before .before .before .before .before .before .before .before .before .pre .fold) (literal-form (c .before .before .before .before .before .before .before .before .before .before .pre) (c .before .before .before .before .before .before .form-at .ensures) (c .before .before .before .before .before .if1 .left) (c .before .before .before .before .if2 .left)) (c .before .before .literal .ensures)
 
 pub leaf-spec : {M : Type 1} → statement M
 leaf-spec =

@@ -23,7 +23,7 @@ field-at-requires : tie.Need-field-at-requires
 field-at-requires c κs = search needs
 
 integer-requires : tie.Need-integer-requires
-integer-requires c κs = int-field (now (c .before .before .before .before .before .before .before .args .sheet)) (now (c .before .before .before .before .before .before .before .args .work)) (c .before .before .before .before .before .before .before .args .n) (c .before .before .before .before .before .before .before .args .r) (c .before .before .before .before .before .before .before .pre .line) (c .before .field-at .ensures) (sym (c .before .before .before .form-at .ensures) ∙ c .if1 .taken)
+integer-requires c κs = int-field (c .before .before .before .before .before .before .before .pre .line) (c .before .field-at .ensures) (sym (c .before .before .before .form-at .ensures) ∙ c .if1 .taken)
 
 same-length : tie.Need-same-length
 same-length c = search needs
@@ -32,7 +32,7 @@ returns : tie.Need-returns
 returns c = literal-casts (now (c .before .before .before .before .before .before .before .before .args .work)) (c .before .before .before .before .before .before .before .before .args .top) (literal-int (now (c .before .before .field-at .result)) (sym (c .before .before .before .before .form-at .ensures) ∙ c .before .if1 .taken) ∙ ap (literalOf (formAt (now (c .before .before .before .before .before .before .before .before .args .work)) (c .before .before .before .before .before .before .before .before .args .r - 1))) (c .before .before .field-at .ensures)) (c .integer .ensures)
 
 real-requires : tie.Need-real-requires
-real-requires c κs = real-field (now (c .before .before .before .before .before .before .before .before .args .sheet)) (now (c .before .before .before .before .before .before .before .before .args .work)) (c .before .before .before .before .before .before .before .before .args .n) (c .before .before .before .before .before .before .before .before .args .r) (c .before .before .before .before .before .before .before .before .pre .line) (c .before .before .field-at .ensures) (sym (c .before .before .before .before .form-at .ensures) ∙ c .if2 .taken)
+real-requires c κs = real-field (c .before .before .before .before .before .before .before .before .pre .line) (c .before .before .field-at .ensures) (sym (c .before .before .before .before .form-at .ensures) ∙ c .if2 .taken)
 
 same-length-2 : tie.Need-same-length-2
 same-length-2 c = search needs
@@ -42,8 +42,8 @@ returns-2 c = literal-casts (now (c .before .before .before .before .before .bef
 
 string-requires : tie.Need-string-requires
 string-requires c κs =
-    let e = text-form (now (c .before .before .before .before .before .before .before .before .before .args .sheet)) (now (c .before .before .before .before .before .before .before .before .before .args .work)) (c .before .before .before .before .before .before .before .before .before .args .n) (c .before .before .before .before .before .before .before .before .before .args .r) (c .before .before .before .before .before .before .before .before .before .args .top) (c .before .before .before .before .before .before .before .before .before .pre) (c .before .before .before .before .before .form-at .ensures) (c .before .before .if1 .left) (c .before .if2 .left) in
-    let w = text-field (now (c .before .before .before .before .before .before .before .before .before .args .sheet)) (now (c .before .before .before .before .before .before .before .before .before .args .work)) (c .before .before .before .before .before .before .before .before .before .args .n) (c .before .before .before .before .before .before .before .before .before .args .r) (c .before .before .before .before .before .before .before .before .before .pre .line) (c .before .before .before .field-at .ensures) e in
+    let e = text-form (c .before .before .before .before .before .before .before .before .before .pre) (c .before .before .before .before .before .form-at .ensures) (c .before .before .if1 .left) (c .before .if2 .left) in
+    let w = text-field (c .before .before .before .before .before .before .before .before .before .pre .line) (c .before .before .before .field-at .ensures) e in
     (w .0, w .1, c .before .before .before .before .before .before .before .before .before .pre .room)
 
 same-length-3 : tie.Need-same-length-3
@@ -51,7 +51,7 @@ same-length-3 c = search needs
 
 returns-3 : tie.Need-returns-3
 returns-3 c =
-    let e = text-form (now (c .before .before .before .before .before .before .before .before .before .before .before .before .args .sheet)) (now (c .before .before .before .before .before .before .before .before .before .before .before .before .args .work)) (c .before .before .before .before .before .before .before .before .before .before .before .before .args .n) (c .before .before .before .before .before .before .before .before .before .before .before .before .args .r) (c .before .before .before .before .before .before .before .before .before .before .before .before .args .top) (c .before .before .before .before .before .before .before .before .before .before .before .before .pre) (c .before .before .before .before .before .before .before .before .form-at .ensures) (c .before .before .before .before .before .if1 .left) (c .before .before .before .before .if2 .left) in
+    let e = text-form (c .before .before .before .before .before .before .before .before .before .before .before .before .pre) (c .before .before .before .before .before .before .before .before .form-at .ensures) (c .before .before .before .before .before .if1 .left) (c .before .before .before .before .if2 .left) in
     casts-as (literal-text (now (c .before .before .before .before .before .before .field-at .result)) e ∙ ap (literalOf (formAt (now (c .before .before .before .before .before .before .before .before .before .before .before .before .args .work)) (c .before .before .before .before .before .before .before .before .before .before .before .before .args .r - 1))) (c .before .before .before .before .before .before .field-at .ensures)) (c .before .before .string .ensures)
 
 pub literal-spec : {M : Type 1} → statement M
