@@ -16,12 +16,14 @@ use mir.Val.{SFits}
 use mir.Facts.{toZ-ofZ}
 use Rattle.semantics.specs.Text.{Bytes, bytes, same, holdsOf, orElse, intOf, hexValue, hexPair, unhex, isUtf8, fromBigEndian, fieldsOf, partsAt, headPart, tailParts, cut}
 use Rattle.semantics.specs.Tree as Tree
+use Rattle.semantics.specs.Tree.{Ty, ArrayEx, byForm}
 use Rattle.semantics.specs.Tree.ConstVal.{vInt, vReal, vStr}
 use Rattle.semantics.specs.Form.{Atom, forms, holds, between, notNaN, numberOf, fieldsFrom}
 use Rattle.semantics.specs.Form.Kind.{kEx}
 use Rattle.semantics.specs.Fold.{signed64, intOk, fold, fromOption, plain, qualified, lookUp, valueOf}
 use Rattle.semantics.specs.Fold.Result.{ok, failed}
 use Rattle.numbers.proofs.Widths.{held}
+use Rattle.text.specs.Number as Number
 use Rattle.text.specs.Number.{integerOf, whole}
 use Rattle.text.specs.declared.number.Integer.{Integer}
 use Rattle.text.specs.declared.number.Integer.the-variants.{Is, Bad as NoInteger}
@@ -281,40 +283,37 @@ module _ {s t : Bytes} {n m r top : ℕ} (a : Foldable s t n m r top) where
         → Answers u top y (fromOption (found t k)) × Kept top t u → Folds s t m iota r top u y
     name-found {iota} q k p b = record { answer = answers-as (sym (fold-name iota e ∙ rw (← hx, q, p))) (b .0); kept = b .1 }
 
-  -- the line of the module, and its name
-  abbrev q : ℕ
-  q = numberOf (getD (readAt s (r - 1) .fields) 0 [])
+  -- the line of the module
+  module _ (e : formAt t (r - 1) ≡ 12) {k : ℕ} (hk : k ≡ Number.numberOf 65536 (getD (readAt s (r - 1) .fields) 0 [])) where
+    module-ref : RefTo s n r 69 (getD (readAt s (r - 1) .fields) 0 []) (numberOf (getD (readAt s (r - 1) .fields) 0 []))
+    unfolding forms
+    module-ref = ref-good (a .line) 12 0 e kEx refl
 
-  abbrev within : Bytes
-  within = getD (readAt s (q - 1) .fields) 0 []
+    module-is : k ≡ numberOf (getD (readAt s (r - 1) .fields) 0 [])
+    module-is = hk ∙ module-ref .exact
 
-  pub module-line : formAt t (r - 1) ≡ 12 → RefTo s n r 69 (getD (readAt s (r - 1) .fields) 0 []) q
-  unfolding forms
-  module-line e = ref-good (a .line) 12 0 e kEx refl
+    pub module-line : ExLine s t n k
+    module-line = let w = module-ref in rw module-is (record { checked = a .line .checked; first = w .first; last = w .last; kind = w .kind })
 
-  module _ (e : formAt t (r - 1) ≡ 12) where
-    named-line : ExLine s t n q
-    named-line = let w = module-line e in record { checked = a .line .checked; first = w .first; last = w .last; kind = w .kind }
-
-    pub qualified-failed : {iota : ℕ} → (formAt t (q - 1) ≡ 11 → ⊥) → Folds s t m iota r top t Failed
+    fold-qualified : (iota : ℕ) → foldAt s t m iota r ≡ byForm (λ (x : Bytes). fromOption (valueOf (lookUp (qualified x (getD (readAt s (r - 1) .fields) 1 [])) (logIn s t m)))) (λ (y : Ty). failed) (λ (y : ArrayEx). failed) failed (exAt s k)
     unfolding foldAt fold
-    qualified-failed z =
-        let w = form-span named-line in
-        let f : formAt t (q - 1) ≡ 8 + (formAt t (q - 1) - 8) = omega (arith, w .0) in
-        let d : exAt s q ≡ rowNode (nodesIn s) (8 + (formAt t (q - 1) - 8)) (readAt s (q - 1) .fields) .ex = ex-is named-line ∙ ap (λ (g : ℕ). rowNode (nodesIn s) g (readAt s (q - 1) .fields) .ex) f in
+    fold-qualified iota = rw (ex-is (a .line), e, made-qualified (nodesIn s) (readAt s (r - 1) .fields), ← module-is)
+
+    pub qualified-failed : {iota : ℕ} → (formAt t (k - 1) ≡ 11 → ⊥) → Folds s t m iota r top t Failed
+    qualified-failed {iota} z =
+        let w = form-span module-line in
+        let f : formAt t (k - 1) ≡ 8 + (formAt t (k - 1) - 8) = omega (arith, w .0) in
+        let d : exAt s k ≡ rowNode (nodesIn s) (8 + (formAt t (k - 1) - 8)) (readAt s (k - 1) .fields) .ex = ex-is module-line ∙ ap (λ (g : ℕ). rowNode (nodesIn s) g (readAt s (k - 1) .fields) .ex) f in
         record {
-          answer = answers-failed (sym (rw (ex-is (a .line), e, made-qualified (nodesIn s) (readAt s (r - 1) .fields), d) (made-nameless (nodesIn s) failed _ (readAt s (q - 1) .fields) (formAt t (q - 1) - 8) (omega (arith, w .1)) (λ h. z (omega (arith, h, w .0)))))) t top;
+          answer = answers-failed (sym (fold-qualified iota ∙ rw d (made-nameless (nodesIn s) failed _ (readAt s (k - 1) .fields) (formAt t (k - 1) - 8) (omega (arith, w .1)) (λ h. z (omega (arith, h, w .0)))))) t top;
           kept = kept-all;
         }
 
-    pub qualified-found : {iota : ℕ} → formAt t (q - 1) ≡ 11 → {x y : Bytes} → x ≡ within → y ≡ getD (readAt s (r - 1) .fields) 1 [] → (k : ℕ) → valueOf (lookUp (qualified x y) (logIn s t m)) ≡ found t k
-        → {u : Bytes} {z : Folded} → Answers u top z (fromOption (found t k)) × Kept top t u → Folds s t m iota r top u z
-    unfolding foldAt fold
-    qualified-found f {x} {y} hx hy k p b =
-        let d = ex-is named-line in
-        let g : valueOf (lookUp (qualified within (getD (readAt s (r - 1) .fields) 1 [])) (logIn s t m)) ≡ found t k = rw (hx, hy) at p in
+    pub qualified-found : {iota : ℕ} → formAt t (k - 1) ≡ 11 → {x y : Bytes} → x ≡ getD (readAt s (k - 1) .fields) 0 [] → y ≡ getD (readAt s (r - 1) .fields) 1 [] → (i : ℕ) → valueOf (lookUp (qualified x y) (logIn s t m)) ≡ found t i
+        → {u : Bytes} {z : Folded} → Answers u top z (fromOption (found t i)) × Kept top t u → Folds s t m iota r top u z
+    qualified-found {iota} f {x} {y} hx hy i p b =
         record {
-          answer = answers-as (sym (rw (ex-is (a .line), e, made-qualified (nodesIn s) (readAt s (r - 1) .fields), d, f, made-ident (nodesIn s) (readAt s (q - 1) .fields)) (ap fromOption g))) (b .0);
+          answer = answers-as (sym (fold-qualified iota ∙ rw (ex-is module-line, f, made-ident (nodesIn s) (readAt s (k - 1) .fields), ← hx, ← hy, p))) (b .0);
           kept = b .1;
         }
 

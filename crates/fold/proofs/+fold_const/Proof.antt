@@ -2,7 +2,6 @@
 use native.Mathlib.Omega.{arith}
 use borrow.Author.Needs.{needs}
 use Rattle.fold.proofs.Steps.{fails-behind, operator-line, readable-behind, operand-foldable, operand-before, left-stops, applies, applied, right-foldable, right-before, right-fits, right-kept, right-stops, binary-folds}
-use denote.Ref.{now}
 use mathlib.Core.Path.{sym, _∙_}
 use Prim.Native.Nat.{ℕ, _<_}
 use borrow.Fn.Kinds.{In}

@@ -1,6 +1,5 @@
 -- `fold::operand` meets its contract.
 use Rattle.fold.proofs.Steps.{operand-first, operand-second}
-use denote.Ref.{now}
 use mathlib.Core.Path.{sym, _∙_}
 use borrow.Author.Needs.{needs}
 use Rattle.fold.proofs.operand.Statement.{statement}

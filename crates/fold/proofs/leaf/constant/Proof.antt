@@ -1,6 +1,5 @@
 -- `fold::leaf::constant` meets its contract.
 use Rattle.fold.proofs.Leaves.{found-none, found-int, found-real, found-apart, found-string, found-failed}
-use denote.Ref.{now}
 use borrow.Author.Needs.{needs}
 use Rattle.fold.proofs.leaf.constant.Statement.{statement}
 use Rattle.fold.proofs.leaf.constant.Tie as tie

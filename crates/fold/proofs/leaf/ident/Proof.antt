@@ -1,6 +1,5 @@
 -- `fold::leaf::ident` meets its contract.
 use Rattle.fold.proofs.Leaves.{slot-of, name-iota, name-found}
-use denote.Ref.{now}
 use mathlib.Core.Path.{sym, _∙_}
 use borrow.Author.Needs.{needs}
 use Rattle.fold.proofs.leaf.ident.Statement.{statement}

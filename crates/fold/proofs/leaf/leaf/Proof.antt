@@ -1,6 +1,5 @@
 -- `fold::leaf::leaf` meets its contract.
 use Rattle.fold.proofs.Leaves.{room-here, literal-folds, literal-form}
-use denote.Ref.{now}
 use borrow.Author.Needs.{needs}
 use Rattle.fold.proofs.leaf.leaf.Statement.{statement}
 use Rattle.fold.proofs.leaf.leaf.Tie as tie

@@ -1,12 +1,8 @@
 -- `fold::leaf::qualified` meets its contract.
 use native.Mathlib.Omega.{arith}
+use Rattle.fold.proofs.Lines.{in-sheet}
 use Rattle.fold.proofs.Leaves.{slot-of, module-line, qualified-failed, qualified-found}
-use Rattle.lines.specs.Lines.{readAt, formAt}
-use denote.Ref.{now}
-use lib.ListN.{getD}
-use Prim.Native.Nat.{_-_}
-use mathlib.Core.List.{[]}
-use mathlib.Core.Path.{sym, ap, _∙_}
+use mathlib.Core.Path.{sym, _∙_}
 use borrow.Author.Needs.{needs}
 use Rattle.fold.proofs.leaf.qualified.Statement.{statement}
 use Rattle.fold.proofs.leaf.qualified.Tie as tie
@@ -18,24 +14,22 @@ number-at-requires : tie.Need-number-at-requires
 number-at-requires c κs = search needs
 
 sub-form-at : tie.Need-sub-form-at
-sub-form-at c = let w = module-line (c .before .before .before .before .before .pre .fold) (c .before .before .before .before .before .pre .form) in omega (arith, c .before .number-at .ensures .0, w .exact, w .first)
+sub-form-at c = module-line (c .before .before .before .before .before .pre .fold) (c .before .before .before .before .before .pre .form) (c .before .number-at .ensures .0) .first
 
 form-at-requires : tie.Need-form-at-requires
-form-at-requires c κs = let w = module-line (c .before .before .before .before .before .pre .fold) (c .before .before .before .before .before .pre .form) in (omega (arith, c .before .number-at .ensures .0, w .exact, w .last, c .before .before .before .before .before .pre .fold .line .checked .whole .lined .few, w .first), c .before .before .before .before .before .pre .fold .line .checked .whole .room)
+form-at-requires c κs = let l = module-line (c .before .before .before .before .before .pre .fold) (c .before .before .before .before .before .pre .form) (c .before .number-at .ensures .0) in (omega (arith, l .last, l .first, l .checked .whole .lined .few), l .checked .whole .room)
 
 same-length : tie.Need-same-length
 same-length c = search needs
 
 returns : tie.Need-returns
-returns c =
-    let w = module-line (c .before .before .before .before .before .before .before .pre .fold) (c .before .before .before .before .before .before .before .pre .form) in
-    qualified-failed (c .before .before .before .before .before .before .before .pre .fold) (c .before .before .before .before .before .before .before .pre .form) (λ z. c .if1 .taken (c .before .form-at .ensures ∙ ap (λ j. formAt (now (c .before .before .before .before .before .before .before .args .work)) (j - 1)) (c .before .before .before .number-at .ensures .0 ∙ w .exact) ∙ z))
+returns c = qualified-failed (c .before .before .before .before .before .before .before .pre .fold) (c .before .before .before .before .before .before .before .pre .form) (c .before .before .before .number-at .ensures .0) (λ z. c .if1 .taken (c .before .form-at .ensures ∙ z))
 
 sub-field-at : tie.Need-sub-field-at
-sub-field-at c = let w = module-line (c .before .before .before .before .before .before .before .before .pre .fold) (c .before .before .before .before .before .before .before .before .pre .form) in omega (arith, c .before .before .before .before .number-at .ensures .0, w .exact, w .first)
+sub-field-at c = module-line (c .before .before .before .before .before .before .before .before .pre .fold) (c .before .before .before .before .before .before .before .before .pre .form) (c .before .before .before .before .number-at .ensures .0) .first
 
 field-at-requires : tie.Need-field-at-requires
-field-at-requires c κs = let w = module-line (c .before .before .before .before .before .before .before .before .pre .fold) (c .before .before .before .before .before .before .before .before .pre .form) in (c .before .before .before .before .before .before .before .before .pre .fold .line .checked .whole, omega (arith, c .before .before .before .before .number-at .ensures .0, w .exact, w .last, w .first))
+field-at-requires c κs = let l = module-line (c .before .before .before .before .before .before .before .before .pre .fold) (c .before .before .before .before .before .before .before .before .pre .form) (c .before .before .before .before .number-at .ensures .0) in (l .checked .whole, in-sheet l)
 
 sub-field-at-2 : tie.Need-sub-field-at-2
 sub-field-at-2 c = search needs
@@ -53,11 +47,7 @@ same-length-2 : tie.Need-same-length-2
 same-length-2 c = search needs
 
 returns-2 : tie.Need-returns-2
-returns-2 c =
-    let w = module-line (c .before .before .before .before .before .before .before .before .before .before .before .before .before .before .before .before .before .pre .fold) (c .before .before .before .before .before .before .before .before .before .before .before .before .before .before .before .before .before .pre .form) in
-    let e = c .before .before .before .before .before .before .before .before .before .before .before .before .before .number-at .ensures .0 ∙ w .exact in
-    qualified-found (c .before .before .before .before .before .before .before .before .before .before .before .before .before .before .before .before .before .pre .fold) (c .before .before .before .before .before .before .before .before .before .before .before .before .before .before .before .before .before .pre .form)
-    (ap (λ j. formAt (now (c .before .before .before .before .before .before .before .before .before .before .before .before .before .before .before .before .before .args .work)) (j - 1)) (sym e) ∙ sym (c .before .before .before .before .before .before .before .before .before .before .before .form-at .ensures) ∙ c .before .before .before .before .before .before .before .before .before .before .if1 .left) (c .before .before .before .before .before .before .before .before .field-at .ensures ∙ ap (λ j. getD (readAt (now (c .before .before .before .before .before .before .before .before .before .before .before .before .before .before .before .before .before .args .sheet)) (j - 1) .fields) 0 []) e) (c .before .before .before .before .before .before .field-at2 .ensures) (c .before .before .before .before .look-up-in .result) (c .before .before .before .before .look-up-in .ensures .0) (c .before .before .constant .ensures)
+returns-2 c = qualified-found (c .before .before .before .before .before .before .before .before .before .before .before .before .before .before .before .before .before .pre .fold) (c .before .before .before .before .before .before .before .before .before .before .before .before .before .before .before .before .before .pre .form) (c .before .before .before .before .before .before .before .before .before .before .before .before .before .number-at .ensures .0) (sym (c .before .before .before .before .before .before .before .before .before .before .before .form-at .ensures) ∙ c .before .before .before .before .before .before .before .before .before .before .if1 .left) (c .before .before .before .before .before .before .before .before .field-at .ensures) (c .before .before .before .before .before .before .field-at2 .ensures) (c .before .before .before .before .look-up-in .result) (c .before .before .before .before .look-up-in .ensures .0) (c .before .before .constant .ensures)
 
 pub qualified-spec : {M : Type 1} → statement M
 qualified-spec =
