@@ -16,11 +16,10 @@ use mir.Val.{SFits}
 use mir.Facts.{toZ-ofZ}
 use Rattle.semantics.specs.Text.{Bytes, bytes, same, holdsOf, orElse, intOf, hexValue, hexPair, unhex, isUtf8, fromBigEndian, fieldsOf, partsAt, headPart, tailParts, cut}
 use Rattle.semantics.specs.Tree as Tree
-use Rattle.semantics.specs.Tree.{Ty, ArrayEx, byForm}
 use Rattle.semantics.specs.Tree.ConstVal.{vInt, vReal, vStr}
 use Rattle.semantics.specs.Form.{Atom, forms, holds, between, notNaN, numberOf, fieldsFrom}
 use Rattle.semantics.specs.Form.Kind.{kEx}
-use Rattle.semantics.specs.Fold.{signed64, intOk, fold, fromOption, plain, qualified, lookUp, valueOf}
+use Rattle.semantics.specs.Fold.{signed64, intOk, fold, fromOption, plain, qualified, qualifiedValue, lookUp, valueOf}
 use Rattle.semantics.specs.Fold.Result.{ok, failed}
 use Rattle.numbers.proofs.Widths.{held}
 use Rattle.text.specs.Number as Number
@@ -295,7 +294,7 @@ module _ {s t : Bytes} {n m r top : ℕ} (a : Foldable s t n m r top) where
     pub module-line : ExLine s t n k
     module-line = let w = module-ref in rw module-is (record { checked = a .line .checked; first = w .first; last = w .last; kind = w .kind })
 
-    fold-qualified : (iota : ℕ) → foldAt s t m iota r ≡ byForm (λ (x : Bytes). fromOption (valueOf (lookUp (qualified x (getD (readAt s (r - 1) .fields) 1 [])) (logIn s t m)))) (λ (y : Ty). failed) (λ (y : ArrayEx). failed) failed (exAt s k)
+    fold-qualified : (iota : ℕ) → foldAt s t m iota r ≡ qualifiedValue (record { log = logIn s t m }) (exAt s k) (getD (readAt s (r - 1) .fields) 1 [])
     unfolding foldAt fold
     fold-qualified iota = rw (ex-is (a .line), e, made-qualified (nodesIn s) (readAt s (r - 1) .fields), ← module-is)
 
