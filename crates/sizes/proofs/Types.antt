@@ -51,7 +51,7 @@ module _ (ns : List Node) (fs : List (List ℕ)) where
 
 -- ---- the type of a line
 
-module _ (s t : List ℕ) (n r : ℕ) (l : TypeLine s t n r) where
+module _ {s t : List ℕ} {n r : ℕ} (l : TypeLine s t n r) where
   pub in-sheet : r - 1 < n
   in-sheet = omega (arith, l .first, l .last)
 
@@ -68,7 +68,7 @@ module _ (s t : List ℕ) (n r : ℕ) (l : TypeLine s t n r) where
   measured : {a b : ℕ} → a ≡ sizeOf (typeAt s r) → b ≡ alignOf (typeAt s r) → Measures (typeAt s r) a b
   measured e g = record { whole = e; step = g; small = omega (arith, size-small); low = omega (arith, four-or-eight (λ a. a ≤ 8) (omega arith) (omega arith) (typeAt s r)) }
 
-  module _ (f : ℕ) (hf : f ≡ formAt t (r - 1)) where
+  module _ {f : ℕ} (hf : f ≡ formAt t (r - 1)) where
     pub measures-plain : (f ≡ 7 → ⊥) → (b : Bool) → b ≡ isLong f → Measures (typeAt s r) (cond b 8 4) (cond b 8 4)
     measures-plain a b e =
         let w = plain-size (nodesIn s) (readAt s (r - 1) .fields) f (omega (arith, form-first)) a in
@@ -142,12 +142,12 @@ pub record Measuring (s : List ℕ) (r count size align j : ℕ) : Type 0 where
   pub small : size ≤ 8192
   pub word : 4 ≤ align
 
-module _ (s t : List ℕ) (n r : ℕ) (l : TupleLine s t n r) (count : ℕ) (hc : count ≡ Number.numberOf 65536 (getD (readAt s (r - 1) .fields) 0 [])) where
+module _ {s t : List ℕ} {n r : ℕ} (l : TupleLine s t n r) {count : ℕ} (hc : count ≡ Number.numberOf 65536 (getD (readAt s (r - 1) .fields) 0 [])) where
   fields-good : (isCount (getD (readAt s (r - 1) .fields) 0 []) ≡ true) × ((j : ℕ) → j < numberOf (getD (readAt s (r - 1) .fields) 0 []) → Good (readsIn s) (r - 1) 75 (getD (readAt s (r - 1) .fields) (suc j) []))
   unfolding forms
   fields-good =
       let w = l .line .checked .whole in
-      let h = in-sheet s t n r (l .line) in
+      let h = in-sheet (l .line) in
       let p : readAt s (r - 1) .form .parts ≡ many (ref kTy) ∷ [] = ap (λ (x : Row). x .parts) (form-is s t n w (r - 1) h) ∙ ap (λ (g : ℕ). rowAt g .parts) (l .form) in
       group-good (readsIn s) (r - 1) kTy [] (readAt s (r - 1) .fields) (rw (l .form) at (read-fits s t n w (r - 1) h)) (rw p at (l .line .checked .fine (r - 1) h))
 
@@ -160,26 +160,26 @@ module _ (s t : List ℕ) (n r : ℕ) (l : TupleLine s t n r) (count : ℕ) (hc 
   unfolding forms
   tuple-is =
       let z : count - 0 ≡ count = omega arith in
-      type-is s t n r (l .line) ∙ rw (l .form, head-drop 0 (readAt s (r - 1) .fields), tail-drop 0 (readAt s (r - 1) .fields), z, count-is)
+      type-is (l .line) ∙ rw (l .form, head-drop 0 (readAt s (r - 1) .fields), tail-drop 0 (readAt s (r - 1) .fields), z, count-is)
 
   ends-small : endOfAll (typesFrom s r count 0) 0 ≤ 8192
   ends-small =
       let e : sizeOf (typeAt s r) ≡ roundedSize (endOfAll (typesFrom s r count 0) 0) = ap sizeOf tuple-is in
-      omega (arith, size-small s t n r (l .line), e)
+      omega (arith, size-small (l .line), e)
 
   pub measuring-start : Measuring s r count 0 4 0
   measuring-start = record { within = omega arith; end = refl; most = four-or-eight (λ a. max 4 a ≡ a) refl refl (tuple (typesFrom s r count 0)); small = omega arith; word = omega arith }
 
-  module _ (size align j : ℕ) (m : Measuring s r count size align j) where
+  module _ {size align j : ℕ} (m : Measuring s r count size align j) where
     pub measuring-end : {a b : ℕ} → count ≤ j → a ≡ roundedSize size → b ≡ align → Measures (typeAt s r) a b
     measuring-end h ha hb =
         let z : count - j ≡ 0 = omega arith in
         let e : size ≡ endOfAll (typesFrom s r count 0) 0 = rw z at (m .end) in
         let g : max align 4 ≡ alignOfAll (typesFrom s r count 0) = rw z at (m .most) in
         let d : align ≡ max align 4 = omega (arith, m .word) in
-        measured s t n r (l .line) (ha ∙ rw (tuple-is, e)) (hb ∙ d ∙ g ∙ sym (ap alignOf tuple-is))
+        measured (l .line) (ha ∙ rw (tuple-is, e)) (hb ∙ d ∙ g ∙ sym (ap alignOf tuple-is))
 
-    module _ (h : j < count) (v : ℕ) (hv : v ≡ Number.numberOf 65536 (getD (readAt s (r - 1) .fields) (j + 1) [])) where
+    module _ (h : j < count) {v : ℕ} (hv : v ≡ Number.numberOf 65536 (getD (readAt s (r - 1) .fields) (j + 1) [])) where
       ref-good : Good (readsIn s) (r - 1) 75 (getD (readAt s (r - 1) .fields) (j + 1) [])
       ref-good = rw add-one (fields-good .1 j (omega (arith, count-is)))
 
@@ -209,8 +209,8 @@ module _ (s t : List ℕ) (n r : ℕ) (l : TupleLine s t n r) (count : ℕ) (hc 
           let z : count - j ≡ suc (count - (j + 1)) = omega arith in
           rw (z, head-drop (suc j) (readAt s (r - 1) .fields), tail-drop (suc j) (readAt s (r - 1) .fields), number-is, add-one j)
 
-      pub measuring-next : (a b c d : ℕ) → Measures (typeAt s v) a b → c ≡ alignUp b size + a → d ≡ max align b → Measuring s r count c d (j + 1)
-      measuring-next a b c d x hc hd =
+      pub measuring-next : {a b c d : ℕ} → Measures (typeAt s v) a b → c ≡ alignUp b size + a → d ≡ max align b → Measuring s r count c d (j + 1)
+      measuring-next {a} {b} {c} {d} x hc hd =
           let e : endOfAll (typesFrom s r count (j + 1)) c ≡ endOfAll (typesFrom s r count 0) 0 = rw (hc, x .whole, x .step) (rw types-next at (m .end)) in
           let g : max align (max (alignOf (typeAt s v)) (alignOfAll (typesFrom s r count (j + 1)))) ≡ alignOfAll (typesFrom s r count 0) = rw types-next at (m .most) in
           record {

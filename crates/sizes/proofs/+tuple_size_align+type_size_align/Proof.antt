@@ -1,6 +1,5 @@
 use Rattle.sizes.proofs.Types.{in-sheet, measures-plain, Measuring, measuring-start, measuring-end, measuring-next, field-line, field-before}
 use mathlib.Core.Bool.{true, false}
-use denote.Ref.{now}
 use mathlib.Core.Path.{refl, sym, _∙_}
 use borrow.Author.Needs.{needs}
 use native.Mathlib.Omega.{arith}
@@ -77,10 +76,10 @@ tuple-size-align-sub-number-at : (t : ℕ) → tuple-size-align-lts.Need-sub-num
 tuple-size-align-sub-number-at t c = c .before .before .pre .1 .line .first
 
 tuple-size-align-number-at-requires : (t : ℕ) → tuple-size-align-lts.Need-number-at-requires (tuple-callees t) (tuple-size-align-at t) tuple-size-align.Post tuple-size-align-Inv-loop tuple-size-align-μ-loop
-tuple-size-align-number-at-requires t c κs = (c .before .before .pre .1 .line .checked .whole, in-sheet (now (c .before .before .args .sheet)) (now (c .before .before .args .work)) (c .before .before .args .n) (c .before .before .args .r) (c .before .before .pre .1 .line))
+tuple-size-align-number-at-requires t c κs = (c .before .before .pre .1 .line .checked .whole, in-sheet (c .before .before .pre .1 .line))
 
 tuple-size-align-loop-holds : (t : ℕ) → tuple-size-align-lts.Need-loop-holds (tuple-callees t) (tuple-size-align-at t) tuple-size-align.Post tuple-size-align-Inv-loop tuple-size-align-μ-loop
-tuple-size-align-loop-holds t c = measuring-start (now (c .before .before .before .args .sheet)) (now (c .before .before .before .args .work)) (c .before .before .before .args .n) (c .before .before .before .args .r) (c .before .before .before .pre .1) (c .number-at .result) (c .number-at .ensures .0)
+tuple-size-align-loop-holds t c = measuring-start (c .before .before .before .pre .1) (c .number-at .ensures .0)
 
 tuple-size-align-add-j : (t : ℕ) → tuple-size-align-lts.Need-add-j (tuple-callees t) (tuple-size-align-at t) tuple-size-align.Post tuple-size-align-Inv-loop tuple-size-align-μ-loop
 tuple-size-align-add-j t c = record { fits = omega (arith, c .loop-test .taken, c .before .before .number-at .ensures .1) }
@@ -89,7 +88,7 @@ tuple-size-align-sub-number-at-2 : (t : ℕ) → tuple-size-align-lts.Need-sub-n
 tuple-size-align-sub-number-at-2 t c = c .before .before .before .before .before .pre .1 .line .first
 
 tuple-size-align-number-at-requires-2 : (t : ℕ) → tuple-size-align-lts.Need-number-at-requires-2 (tuple-callees t) (tuple-size-align-at t) tuple-size-align.Post tuple-size-align-Inv-loop tuple-size-align-μ-loop
-tuple-size-align-number-at-requires-2 t c κs = (c .before .before .before .before .before .pre .1 .line .checked .whole, in-sheet (now (c .before .before .before .before .before .args .sheet)) (now (c .before .before .before .before .before .args .work)) (c .before .before .before .before .before .args .n) (c .before .before .before .before .before .args .r) (c .before .before .before .before .before .pre .1 .line))
+tuple-size-align-number-at-requires-2 t c κs = (c .before .before .before .before .before .pre .1 .line .checked .whole, in-sheet (c .before .before .before .before .before .pre .1 .line))
 
 tuple-size-align-type-size-align-requires :
     (t : ℕ) → tuple-size-align-lts.Need-type-size-align-requires (tuple-callees t)
@@ -97,7 +96,7 @@ tuple-size-align-type-size-align-requires :
     tuple-size-align.Post
     tuple-size-align-Inv-loop
     tuple-size-align-μ-loop
-tuple-size-align-type-size-align-requires t c κs = (omega (arith, c .before .before .before .before .before .before .pre .0, field-before (now (c .before .before .before .before .before .before .args .sheet)) (now (c .before .before .before .before .before .before .args .work)) (c .before .before .before .before .before .before .args .n) (c .before .before .before .before .before .before .args .r) (c .before .before .before .before .before .before .pre .1) (c .before .before .before .number-at .result) (c .before .before .before .number-at .ensures .0) (c .before .before .loop .t .size) (c .before .before .loop .t .align) (c .before .before .loop .j) (c .before .before .loop .inv) (c .before .loop-test .taken) (c .number-at2 .result) (c .number-at2 .ensures .0)), field-line (now (c .before .before .before .before .before .before .args .sheet)) (now (c .before .before .before .before .before .before .args .work)) (c .before .before .before .before .before .before .args .n) (c .before .before .before .before .before .before .args .r) (c .before .before .before .before .before .before .pre .1) (c .before .before .before .number-at .result) (c .before .before .before .number-at .ensures .0) (c .before .before .loop .t .size) (c .before .before .loop .t .align) (c .before .before .loop .j) (c .before .before .loop .inv) (c .before .loop-test .taken) (c .number-at2 .result) (c .number-at2 .ensures .0))
+tuple-size-align-type-size-align-requires t c κs = (omega (arith, c .before .before .before .before .before .before .pre .0, field-before (c .before .before .before .before .before .before .pre .1) (c .before .before .before .number-at .ensures .0) (c .before .before .loop .inv) (c .before .loop-test .taken) (c .number-at2 .ensures .0)), field-line (c .before .before .before .before .before .before .pre .1) (c .before .before .before .number-at .ensures .0) (c .before .before .loop .inv) (c .before .loop-test .taken) (c .number-at2 .ensures .0))
 
 tuple-size-align-behind-requires : (t : ℕ) → tuple-size-align-lts.Need-behind-requires (tuple-callees t) (tuple-size-align-at t) tuple-size-align.Post tuple-size-align-Inv-loop tuple-size-align-μ-loop
 tuple-size-align-behind-requires t c κs = (c .before .before .before .loop .inv .small, c .type-size-align .ensures .small, c .type-size-align .ensures .low)
@@ -106,13 +105,13 @@ tuple-size-align-loop-less : (t : ℕ) → tuple-size-align-lts.Need-loop-less (
 tuple-size-align-loop-less t c = omega (arith, c .before .before .before .loop-test .taken)
 
 tuple-size-align-loop-again : (t : ℕ) → tuple-size-align-lts.Need-loop-again (tuple-callees t) (tuple-size-align-at t) tuple-size-align.Post tuple-size-align-Inv-loop tuple-size-align-μ-loop
-tuple-size-align-loop-again t c = measuring-next (now (c .before .before .before .before .before .before .before .before .args .sheet)) (now (c .before .before .before .before .before .before .before .before .args .work)) (c .before .before .before .before .before .before .before .before .args .n) (c .before .before .before .before .before .before .before .before .args .r) (c .before .before .before .before .before .before .before .before .pre .1) (c .before .before .before .before .before .number-at .result) (c .before .before .before .before .before .number-at .ensures .0) (c .before .before .before .before .loop .t .size) (c .before .before .before .before .loop .t .align) (c .before .before .before .before .loop .j) (c .before .before .before .before .loop .inv) (c .before .before .before .loop-test .taken) (c .before .before .number-at2 .result) (c .before .before .number-at2 .ensures .0) (c .before .type-size-align .result .size) (c .before .type-size-align .result .align) (c .behind .result .size) (c .behind .result .align) (c .before .type-size-align .ensures) (c .behind .ensures .0) (c .behind .ensures .1)
+tuple-size-align-loop-again t c = measuring-next (c .before .before .before .before .before .before .before .before .pre .1) (c .before .before .before .before .before .number-at .ensures .0) (c .before .before .before .before .loop .inv) (c .before .before .before .loop-test .taken) (c .before .before .number-at2 .ensures .0) (c .before .type-size-align .ensures) (c .behind .ensures .0) (c .behind .ensures .1)
 
 tuple-size-align-rounded-size-requires : (t : ℕ) → tuple-size-align-lts.Need-rounded-size-requires (tuple-callees t) (tuple-size-align-at t) tuple-size-align.Post tuple-size-align-Inv-loop tuple-size-align-μ-loop
 tuple-size-align-rounded-size-requires t c κs = omega (arith, c .before .loop .inv .small)
 
 tuple-size-align-returns : (t : ℕ) → tuple-size-align-lts.Need-returns (tuple-callees t) (tuple-size-align-at t) tuple-size-align.Post tuple-size-align-Inv-loop tuple-size-align-μ-loop
-tuple-size-align-returns t c = measuring-end (now (c .before .before .before .before .before .before .args .sheet)) (now (c .before .before .before .before .before .before .args .work)) (c .before .before .before .before .before .before .args .n) (c .before .before .before .before .before .before .args .r) (c .before .before .before .before .before .before .pre .1) (c .before .before .before .number-at .result) (c .before .before .before .number-at .ensures .0) (c .before .before .loop .t .size) (c .before .before .loop .t .align) (c .before .before .loop .j) (c .before .before .loop .inv) (c .before .loop-test .left) (c .rounded-size .ensures) refl
+tuple-size-align-returns t c = measuring-end (c .before .before .before .before .before .before .pre .1) (c .before .before .before .number-at .ensures .0) (c .before .before .loop .inv) (c .before .loop-test .left) (c .rounded-size .ensures) refl
 
 type-size-align-sub-form-at : (t : ℕ) → type-size-align-lts.Need-sub-form-at (type-callees t) (type-size-align-at t) type-size-align.Post
 type-size-align-sub-form-at t c = c .before .before .pre .1 .first
@@ -131,10 +130,10 @@ type-size-align-is-long-requires : (t : ℕ) → type-size-align-lts.Need-is-lon
 type-size-align-is-long-requires t c κs = search needs
 
 type-size-align-returns-2 : (t : ℕ) → type-size-align-lts.Need-returns-2 (type-callees t) (type-size-align-at t) type-size-align.Post
-type-size-align-returns-2 t c = measures-plain (now (c .before .before .before .before .before .before .args .sheet)) (now (c .before .before .before .before .before .before .args .work)) (c .before .before .before .before .before .before .args .n) (c .before .before .before .before .before .before .args .r) (c .before .before .before .before .before .before .pre .1) (c .before .before .before .form-at .result) (c .before .before .before .form-at .ensures) (c .before .before .if1 .left) true (sym (c .if2 .taken) ∙ c .before .is-long .ensures)
+type-size-align-returns-2 t c = measures-plain (c .before .before .before .before .before .before .pre .1) (c .before .before .before .form-at .ensures) (c .before .before .if1 .left) true (sym (c .if2 .taken) ∙ c .before .is-long .ensures)
 
 type-size-align-returns-3 : (t : ℕ) → type-size-align-lts.Need-returns-3 (type-callees t) (type-size-align-at t) type-size-align.Post
-type-size-align-returns-3 t c = measures-plain (now (c .before .before .before .before .before .before .args .sheet)) (now (c .before .before .before .before .before .before .args .work)) (c .before .before .before .before .before .before .args .n) (c .before .before .before .before .before .before .args .r) (c .before .before .before .before .before .before .pre .1) (c .before .before .before .form-at .result) (c .before .before .before .form-at .ensures) (c .before .before .if1 .left) false (sym (c .if2 .left) ∙ c .before .is-long .ensures)
+type-size-align-returns-3 t c = measures-plain (c .before .before .before .before .before .before .pre .1) (c .before .before .before .form-at .ensures) (c .before .before .if1 .left) false (sym (c .if2 .left) ∙ c .before .is-long .ensures)
 
 pub +tuple-size-align+type-size-align-spec : {M : Type 1} → statement M
 +tuple-size-align+type-size-align-spec =

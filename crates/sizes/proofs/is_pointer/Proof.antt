@@ -1,4 +1,3 @@
-use denote.Ref.{now}
 use Rattle.sizes.proofs.Types.{marks-first}
 use borrow.Author.Needs.{needs}
 use Rattle.sizes.proofs.is_pointer.Statement.{statement}
@@ -11,7 +10,7 @@ form-at-requires : tie.Need-form-at-requires
 form-at-requires c κs = search needs
 
 returns : tie.Need-returns
-returns c = marks-first (now (c .before .before .before .args .sheet)) (now (c .before .before .before .args .work)) (c .before .before .before .args .n) (c .before .before .before .args .r) (c .before .before .before .pre) (c .form-at .result) (c .form-at .ensures)
+returns c = marks-first (c .before .before .before .pre) (c .form-at .ensures)
 
 pub is-pointer-spec : {M : Type 1} → statement M
 is-pointer-spec = tie.close (tie.spec sub-form-at form-at-requires returns)
