@@ -112,7 +112,7 @@ digits-twice (h ∷ (l ∷ ds)) bs e = go (hexValue h) (hexValue l) (unhex ds) (
         rw (← w) (omega (arith, ih cs refl))
 
 module _ (x : Bytes) (h : holds Atom.text x ≡ true) where
-  pub string-length : length x / 2 ≡ length (orElse [] (unhex x))
+  string-length : length x / 2 ≡ length (orElse [] (unhex x))
   string-length = let e = digits-twice x (orElse [] (unhex x)) (text-read x h) in omega (arith, e)
 
   pub string-more : {d : Bytes} {top i v : ℕ} {e : Bytes} {p : ℕ} {f : Bytes} {q : ℕ} → i < length x / 2 → v ≡ byteAt x i
@@ -160,7 +160,7 @@ field-short n l j = go (ltb (length l) n)
     go false = omega (arith, part-short 44 (drop n l) j, length-drop n l)
 
 module _ {s t : Bytes} {n r : ℕ} (l : ExLine s t n r) where
-  pub field-within : (j : ℕ) → length (getD (readAt s (r - 1) .fields) j []) ≤ 255
+  field-within : (j : ℕ) → length (getD (readAt s (r - 1) .fields) j []) ≤ 255
   field-within j =
       let h = in-sheet l in
       rw (fields-are s t n (l .checked .whole) (r - 1) h)
@@ -182,7 +182,7 @@ module _ {s t : Bytes} {n r : ℕ} (l : ExLine s t n r) where
     unfolding forms
     text-field e = rw hx (field-good l 10 0 e Atom.text refl, field-within l 0)
 
-  pub literal-fold : (m iota : ℕ) → formAt t (r - 1) < 11 → foldAt s t m iota r ≡ ok (literalOf (formAt t (r - 1)) (getD (readAt s (r - 1) .fields) 0 []))
+  literal-fold : (m iota : ℕ) → formAt t (r - 1) < 11 → foldAt s t m iota r ≡ ok (literalOf (formAt t (r - 1)) (getD (readAt s (r - 1) .fields) 0 []))
   unfolding foldAt fold
   literal-fold m iota h = rw (ex-is l, made-literal (nodesIn s) (formAt t (r - 1)) (readAt s (r - 1) .fields) (form-span l .0) h)
 

@@ -78,14 +78,14 @@ module _ {s t : Bytes} {n r : ℕ} (l : OperatorLine s t n r) where
   form = formAt t (r - 1)
 
   -- the only or left operand is an earlier expression
-  pub operand-line : RefTo s n r 69 (getD fields (cond (eqb form 16) 0 1) []) (operandOf s t r)
+  operand-line : RefTo s n r 69 (getD fields (cond (eqb form 16) 0 1) []) (operandOf s t r)
   unfolding forms operandOf
   operand-line =
       by-form (λ f. form ≡ f → RefTo s n r 69 (getD fields (cond (eqb f 16) 0 1) []) (numberOf (getD fields (cond (eqb f 16) 0 1) [])))
       (λ e. ref-good (l .line) 13 1 e kEx refl) (λ e. ref-good (l .line) 14 1 e kEx refl) (λ e. ref-good (l .line) 15 1 e kEx refl) (λ e. ref-good (l .line) 16 0 e kEx refl)
       form (l .low) (l .high) refl
 
-  pub fold-two : (names : Names) (iota : ℤ) → form ≡ 14
+  fold-two : (names : Names) (iota : ℤ) → form ≡ 14
       → fold names iota (exAt s r) ≡ bind (fold names iota (exAt s (operandOf s t r))) (λ v. bind (fold names iota (exAt s (numberOf (getD fields 2 [])))) (foldBinary (binaryAt (numberOf (getD fields 0 []))) v))
   unfolding operandOf
   fold-two names iota e =
@@ -93,11 +93,11 @@ module _ {s t : Bytes} {n r : ℕ} (l : OperatorLine s t n r) where
       ex-is (l .line) ∙ ap (λ (f : ℕ). rowNode (nodesIn s) f fields .ex) e ∙ made-binary (nodesIn s) fields in
       rw (q, e) (binary-steps names iota (exAt s (numberOf (getD fields 1 []))) (binaryAt (numberOf (getD fields 0 []))) (exAt s (numberOf (getD fields 2 []))))
 
-  pub right-line : form ≡ 14 → RefTo s n r 69 (getD fields 2 []) (numberOf (getD fields 2 []))
+  right-line : form ≡ 14 → RefTo s n r 69 (getD fields 2 []) (numberOf (getD fields 2 []))
   unfolding forms
   right-line e = ref-good (l .line) 14 2 e kEx refl
 
-  pub binary-number : form ≡ 14 → {o : ℕ} → o ≡ Number.numberOf 65536 (getD fields 0 []) → o ≡ numberOf (getD fields 0 [])
+  binary-number : form ≡ 14 → {o : ℕ} → o ≡ Number.numberOf 65536 (getD fields 0 []) → o ≡ numberOf (getD fields 0 [])
   unfolding forms
   binary-number e h = h ∙ small-number 18 (getD fields 0 []) (omega arith) (field-good (l .line) 14 0 e Atom.binaryOp refl)
 
@@ -108,7 +108,7 @@ module _ {s t : Bytes} {n r : ℕ} (l : OperatorLine s t n r) where
   operand-second e h = h ∙ (rw (ne-eqb form 16 e) at (operand-line .exact))
 
   -- a fold of a line with one operand goes on from the operand's value
-  pub fold-one : (names : Names) (iota : ℤ) → (form ≡ 14 → ⊥) → fold names iota (exAt s r) ≡ bind (fold names iota (exAt s (operandOf s t r))) (onOne (exAt s r))
+  fold-one : (names : Names) (iota : ℤ) → (form ≡ 14 → ⊥) → fold names iota (exAt s r) ≡ bind (fold names iota (exAt s (operandOf s t r))) (onOne (exAt s r))
   unfolding operandOf
   fold-one names iota z =
       by-form (λ f. form ≡ f → fold names iota (exAt s r) ≡ bind (fold names iota (exAt s (numberOf (getD fields (cond (eqb f 16) 0 1) [])))) (onOne (exAt s r)))

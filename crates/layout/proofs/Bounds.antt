@@ -6,15 +6,13 @@ use native.Mathlib.Omega.{arith}
 use mathlib.Core.List.{List, [], _∷_, _++_, map}
 use mathlib.Core.Option.{Option, none, some}
 use lib.ListN.{length}
-use lib.IntN.{ℤ}
 use Rattle.semantics.specs.Text.{Bytes}
 use Rattle.semantics.specs.Tree.{Ty, Tys, Fd, Case, AdtDecl, Shape}
 use Rattle.semantics.specs.Tree.Ty.{basic, ptr, array, tuple}
 use Rattle.semantics.specs.Tree.Tys.{noTys, andTy}
-use Rattle.semantics.specs.Layout.{alignUp, alignOf, sizeOf, endOfAll, pointerMap, Placed, placeNames, placeLine, place, furthest, shapeOf, pickShape, Recorded, behindTag, variantFields, variantShape, variantsOf, casesFrom, recordsFor, recordsOf}
+use Rattle.semantics.specs.Layout.{alignUp, alignOf, sizeOf, endOfAll, Placed, placeNames, placeLine, place, furthest, shapeOf, pickShape, Recorded, behindTag, variantFields, variantShape, variantsOf, casesFrom, recordsFor, recordsOf}
 use Rattle.laws.proofs.Alignments.{four-or-eight, aligned}
 use Rattle.layout.specs.Lines.{linesOf, linesOfAll, typeLines, fieldLines, caseLines, pickLines, declLines, Every, FewNames, FewInPick}
-use Rattle.layout.proofs.Pass.{map-length}
 
 -- ---- types
 
@@ -40,7 +38,7 @@ line-end : (t : Option Ty) (off : ℕ) (ns : List Bytes) → length ns ≤ 16 �
 line-end none off ns h = omega arith
 line-end (some t) off ns h = omega (arith, aligned t off, names-end t (alignUp (alignOf t) off) ns, mul-le-mul-right (8 * linesOf t) h)
 
-pub place-bound : (fs : List Fd) (off : ℕ) → FewNames fs → place off fs .end ≤ alignUp 8 off + 128 * fieldLines fs
+place-bound : (fs : List Fd) (off : ℕ) → FewNames fs → place off fs .end ≤ alignUp 8 off + 128 * fieldLines fs
 place-bound [] off h = omega arith
 place-bound (f ∷ fs) off h = omega (arith, line-end (f .ty) off (f .names) (h .0), place-bound fs (placeLine (f .ty) (f .names) off .end) (h .1))
 
@@ -91,13 +89,13 @@ furthest-within e end [] h u = h
 furthest-within e end (p ∷ ps) h u = furthest-within (max e (p .offset + sizeOf (p .ty))) end ps (omega arith) (u .1)
 
 -- a record that begins at `base`, 0 or 4: at most 8 bytes more than 128 for each line
-pub shape-bound : (fs : List Fd) (base : ℕ) → FewNames fs → shapeOf base (place base fs .placed) .size ≤ alignUp 8 (max base 4) + 128 * fieldLines fs
+shape-bound : (fs : List Fd) (base : ℕ) → FewNames fs → shapeOf base (place base fs .placed) .size ≤ alignUp 8 (max base 4) + 128 * fieldLines fs
 unfolding shapeOf
 shape-bound fs base h =
     let end = place base fs .end in
     omega (arith, place-bound fs base h, furthest-within base end (place base fs .placed) (place-above fs base) (place-within fs base end (le-refl end)))
 
-pub variant-bound : (fs : List Fd) (k : Case) → FewNames fs → FewNames (k .fields)
+variant-bound : (fs : List Fd) (k : Case) → FewNames fs → FewNames (k .fields)
     → variantShape fs k .size ≤ 8 + 128 * (fieldLines fs + fieldLines (k .fields))
 unfolding shapeOf
 variant-bound fs k h l =
@@ -136,7 +134,7 @@ each-variant : (n : ℕ) (fs : List Fd) (ks : List Case) → FewNames fs → Few
 each-variant n fs [] h u b = tt
 each-variant n fs (k ∷ ks) h u b = (omega (arith, variant-bound fs k h (u .0)), each-variant n fs ks h (u .1) (omega arith))
 
-pub records-bound : (n : ℕ) (d : AdtDecl) → FewNames (d .fields) → FewInPick (d .pick) → 8 + 128 * declLines d ≤ n → Every (Sized n) (recordsOf d)
+records-bound : (n : ℕ) (d : AdtDecl) → FewNames (d .fields) → FewInPick (d .pick) → 8 + 128 * declLines d ≤ n → Every (Sized n) (recordsOf d)
 records-bound n d h u b = go (d .pick) u b
   where
     go : (p : Option (List Case)) → FewInPick p → 8 + 128 * suc (fieldLines (d .fields) + pickLines p) ≤ n → Every (Sized n) (recordsFor (d .name) (d .fields) p)
@@ -149,32 +147,9 @@ records-bound n d h u b = go (d .pick) u b
 
 -- ---- on a sheet of 1,024 lines
 
--- fields that begin at 0, or behind a tag at 4: where they end, and the size of a record that has them alone
-pub sheet-place-bound : (fs : List Fd) (base : ℕ) → base ≤ 4 → FewNames fs → fieldLines fs ≤ 1024 → place base fs .end ≤ 131080
-sheet-place-bound fs base b h l = omega (arith, place-bound fs base h)
-
-pub sheet-shape-bound : (fs : List Fd) (base : ℕ) → base ≤ 4 → FewNames fs → fieldLines fs ≤ 1024 → shapeOf base (place base fs .placed) .size ≤ 131080
-sheet-shape-bound fs base b h l = omega (arith, shape-bound fs base h)
-
 -- a declaration of few names that takes no more lines than a sheet has
 abbrev pub Small : AdtDecl → Type 0
 Small d = FewNames (d .fields) × FewInPick (d .pick) × (declLines d ≤ 1024)
 
 pub sheet-records-bound : (d : AdtDecl) → Small d → Every (Sized 131080) (recordsOf d)
 sheet-records-bound d h = records-bound 131080 d (h .0) (h .1) (omega (arith, h .2))
-
--- a case without tags makes no record, so cases are bounded by themselves too
-abbrev pub CasesSized : ℕ → List Fd → Option (List Case) → Type 0
-CasesSized n fs none = Unit {0}
-CasesSized n fs (some ks) = Every (λ (k : Case). variantShape fs k .size ≤ n) ks
-
-pub sheet-cases-bound : (d : AdtDecl) → Small d → CasesSized 131080 (d .fields) (d .pick)
-sheet-cases-bound d h = go (d .pick) (h .1) (h .2)
-  where
-    go : (p : Option (List Case)) → FewInPick p → suc (fieldLines (d .fields) + pickLines p) ≤ 1024 → CasesSized 131080 (d .fields) p
-    go none u l = tt
-    go (some ks) u l = each-variant 131080 (d .fields) ks (h .0) u (omega arith)
-
--- a buffer of 128 bytes holds the map of every frame and block, one of 4,097 that of every record
-pub map-bound : (n size : ℕ) (zs : List ℤ) → size ≤ 32 * n → length (pointerMap size zs) ≤ n
-map-bound n size zs h = omega (arith, map-length size zs)

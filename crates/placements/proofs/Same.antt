@@ -26,7 +26,7 @@ module _ (t u : Bytes) (long : length u ≡ length t) where
       let m : i < l = omega (arith, length-take l (drop p u)) in
       getD-take l (drop p u) i 0 m ∙ getD-drop p u i 0 ∙ h (p + i) (omega arith) (omega arith) ∙ sym (getD-take l (drop p t) i 0 m ∙ getD-drop p t i 0))
 
-  pub slot-same : (a : ℕ) → Alike a (a + 9) t u → slotOf u a ≡ slotOf t a
+  slot-same : (a : ℕ) → Alike a (a + 9) t u → slotOf u a ≡ slotOf t a
   unfolding slotOf bitsAt
   slot-same a h =
       let p : take 8 (drop (a + 1) u) ≡ take 8 (drop (a + 1) t) = part-same 8 (a + 1) (λ j x y. h j (omega arith) (omega arith)) in

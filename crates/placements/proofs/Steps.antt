@@ -66,11 +66,11 @@ module _ (t u w : Bytes) (room : 65536 ≤ length t) (p : Painted t 0 1023 0 u) 
 
 module _ (t : Bytes) (e next reach : ℕ) (act : Tree.ConstVal → Filled → Result Filled) where
   -- nothing changes
-  pub places-none : (r : Placed) → stopped r ≡ false → ((top k : ℕ) (f : Filled) → Filling t top k next reach f → Step t top k r (act (elementAt t e) f)) → Places t e next reach act r t
+  places-none : (r : Placed) → stopped r ≡ false → ((top k : ℕ) (f : Filled) → Filling t top k next reach f → Step t top k r (act (elementAt t e) f)) → Places t e next reach act r t
   places-none r o h = record { keeps = λ b. keeps-all; ongoing = o; step = λ top k f x y z p. h top k f p }
 
   module _ (u : Bytes) (l h : ℕ) (p : Painted t l h e u) (low : h < 2 ^ 63) where
-    pub places-span : (r : Placed) → r ≡ Into (h + 1) (max reach (h + 1)) → ((v : Tree.ConstVal) (f : Filled) → f .nextIndex ≡ next → act v f ≡ ok (placeSpan v l h f)) → Places t e next reach act r u
+    places-span : (r : Placed) → r ≡ Into (h + 1) (max reach (h + 1)) → ((v : Tree.ConstVal) (f : Filled) → f .nextIndex ≡ next → act v f ≡ ok (placeSpan v l h f)) → Places t e next reach act r u
     places-span r q g = record {
       keeps = λ b. record { long = p .long; below = λ j x. p .others j (inl x); above = λ j x y. p .others j (inr x) };
       ongoing = rw q;

@@ -78,7 +78,7 @@ module _ {size : ℕ} where
   room-kept k m = record { room = omega (arith, k .long, m .room); small = m .small }
 
   -- offsets marked in the map of others
-  pub mapped-then : {a b : List ℤ} {t u : List ℕ} → MapRoom t size → Mapped t size a → Marks size b t u → Mapped u size (a ++ b)
+  mapped-then : {a b : List ℤ} {t u : List ℕ} → MapRoom t size → Mapped t size a → Marks size b t u → Mapped u size (a ++ b)
   mapped-then {a} {b} {t} {u} m p q =
       mapped-from u size (room-kept (q .kept) m) (a ++ b) (λ j h. q .bytes j ∙ rw (mapped-at t size m a p j h) (sym (byte-append size a b j)))
 

@@ -222,7 +222,7 @@ module _ (s t : List ℕ) (n : ℕ) (c : Checked s t n) where
   few-at r = every-get FewOf noNode (nodesIn s) no-names (few-from (readsIn s) [] tt (every-of Keeps noRead (readsIn s) (λ i l. keeps-few i (in-sheet l)))) (r - 1)
 
   -- what line r makes takes at most r lines
-  pub node-lines : (r : ℕ) → 0 < r → r ≤ n → nodeLines (nodeAt (nodesIn s) r) ≤ r
+  node-lines : (r : ℕ) → 0 < r → r ≤ n → nodeLines (nodeAt (nodesIn s) r) ≤ r
   unfolding linesAt
   node-lines zero p h = absurd (omega arith)
   node-lines (suc r) p h =
