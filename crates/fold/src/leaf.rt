@@ -27,6 +27,13 @@ const IDENT: usize = 11;
 
 const QUALIFIED: usize = 12;
 
+// Kinds of constants in their table.
+const INT_KIND: u8 = 1;
+
+const REAL_KIND: u8 = 2;
+
+const STRING_KIND: u8 = 3;
+
 fn integer(x: &[u8]) -> ConstVal
     requires { ⌜ Form.holds Form.Atom.i64 (now x) ≡ true ⌝ }
     ensures { λ r. ⌜ ((t : Bytes) (top : ℕ) → (valueIn t r ≡ vInt (orElse (pos 0) (intOf (now (x .entry))))) × At top r) ⌝ }
@@ -89,13 +96,13 @@ fn constant(work: &mut [u8], k: usize, top: usize) -> Folded
     }
     let kind = names::slot_kind(work, k - 1);
     let b = names::slot_bits(work, k - 1);
-    if kind == 1 {
+    if kind == INT_KIND {
         return Folded::Value(ConstVal::Int(numbers::ints::of_bits(b)));
     }
-    if kind == 2 {
+    if kind == REAL_KIND {
         return Folded::Value(ConstVal::Real(numbers::reals::of_bits(b)));
     }
-    if kind == 3 {
+    if kind == STRING_KIND {
         let l = (b / 65536) as usize;
         values::copy(work, (b % 65536) as usize, top, l);
         return Folded::Value(ConstVal::Str(top, l));

@@ -19,10 +19,19 @@ const INDICES: u64 = 1024;
 // 2^63, the first index that counts as negative.
 const BEYOND: u64 = 9223372036854775808;
 
-// Values are an integer, a real or a string.
+// What a value is.
+const INTEGER: u8 = 1;
+
 const REAL: u8 = 2;
 
 const STRING: u8 = 3;
+
+// Kinds of elements.
+const WORDS: u8 = 1;
+
+const REALS: u8 = 3;
+
+const POINTERS: u8 = 4;
 
 // A literal so far, with the next plain index and the end of its indices; or how it ends.
 pub enum Placed {
@@ -138,7 +147,7 @@ fn rank(v: values::ConstVal) -> u8
     ensures { λ r. ⌜ ((t : Bytes) → r ≡ rankOf (valueIn t v)) ⌝ }
 {
     match v {
-        values::ConstVal::Int(_) => 1,
+        values::ConstVal::Int(_) => INTEGER,
         values::ConstVal::Real(_) => REAL,
         values::ConstVal::Str(_, _) => STRING,
     }
@@ -165,10 +174,10 @@ pub fn kind_of_values(work: &[u8], count: usize) -> u8
     ensures { λ r. ⌜ r ≡ kindNumber (kindOfValues (valuesIn (now (work .entry)) 0 count)) ⌝ }
 {
     if has(work, count, STRING) {
-        return 4;
+        return POINTERS;
     }
     if has(work, count, REAL) {
-        return 3;
+        return REALS;
     }
-    1
+    WORDS
 }

@@ -28,36 +28,16 @@ abbrev μ-type-size-align : Measures 2 type-size-align-kinds.ps ℕ
 μ-type-size-align κs a = 2 * a .1 .1 .1 .0 + 1
 
 abbrev tuple-size-align-at : ℕ → In 2 tuple-size-align-kinds.ps
-tuple-size-align-at t =
-    and
-    2
-    tuple-size-align-kinds.ps
-    (is 2 tuple-size-align-kinds.ps μ-tuple-size-align t)
-    tuple-size-align.Pre
+tuple-size-align-at t = and 2 tuple-size-align-kinds.ps (is 2 tuple-size-align-kinds.ps μ-tuple-size-align t) tuple-size-align.Pre
 
 abbrev tuple-size-align-below : ℕ → In 2 tuple-size-align-kinds.ps
-tuple-size-align-below t =
-    and
-    2
-    tuple-size-align-kinds.ps
-    (falls 2 tuple-size-align-kinds.ps _<_ μ-tuple-size-align t)
-    tuple-size-align.Pre
+tuple-size-align-below t = and 2 tuple-size-align-kinds.ps (falls 2 tuple-size-align-kinds.ps _<_ μ-tuple-size-align t) tuple-size-align.Pre
 
 abbrev type-size-align-at : ℕ → In 2 type-size-align-kinds.ps
-type-size-align-at t =
-    and
-    2
-    type-size-align-kinds.ps
-    (is 2 type-size-align-kinds.ps μ-type-size-align t)
-    type-size-align.Pre
+type-size-align-at t = and 2 type-size-align-kinds.ps (is 2 type-size-align-kinds.ps μ-type-size-align t) type-size-align.Pre
 
 abbrev type-size-align-below : ℕ → In 2 type-size-align-kinds.ps
-type-size-align-below t =
-    and
-    2
-    type-size-align-kinds.ps
-    (falls 2 type-size-align-kinds.ps _<_ μ-type-size-align t)
-    type-size-align.Pre
+type-size-align-below t = and 2 type-size-align-kinds.ps (falls 2 type-size-align-kinds.ps _<_ μ-type-size-align t) type-size-align.Pre
 
 -- what is known of the callees where the measure is t
 abbrev tuple-callees : ℕ → tuple-size-align-lts.Claims
