@@ -1,7 +1,10 @@
 -- What the walks over lists of fields share: places in a slice of fields, which take 12 bytes each, and the rest of a sequence of statements.
 use Prim.Native.Nat.{ℕ, _+_, _*_, _≤_, _<_, _^_}
 use native.Mathlib.Omega.{arith}
-use mir.Syntax.{Body, skip, seq, assign, block, loop, cond, switch, exit, return, call}
+use mir.Syntax.{Ty, w64, tyInt, Body, skip, seq, assign, block, loop, cond, switch, exit, return, call}
+
+abbrev pub word : Ty
+word = tyInt w64
 
 -- what follows the first statement of a sequence
 abbrev pub after : Body → Body

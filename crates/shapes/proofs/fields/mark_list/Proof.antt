@@ -53,7 +53,7 @@ use denote.Triple.Clauses.{ensured, lasts}
 use Rattle.field_list.specs.declared.Field.{Field}
 use Rattle.field_list.specs.Fields.{noField, pointersIn}
 use Rattle.field_list.proofs.Again.{LentAgain, lends-again, comes-back}
-use Rattle.field_list.proofs.Walk.{after, scaled, next-fits}
+use Rattle.field_list.proofs.Walk.{word, after, scaled, next-fits}
 use Rattle.field_list.proofs.Field as F
 use Rattle.field_list.proofs.Field.Laws as F′
 use Rattle.shapes.specs.Maps.{MapRoom, Marks}
@@ -153,9 +153,6 @@ module _ {M : Type 1} (𝓤 : URA M) (H : Heap 𝓤) (A : Atoms 𝓤) (W : Given
 
     abbrev Λ : Loops 𝓤 H
     Λ = 𝓣 .Λ
-
-    abbrev word : Ty
-    word = tyInt w64
 
     abbrev slice₂ : Ty
     slice₂ = sliceTy (tyRef (named 0) imm (pointee (R .written)))
