@@ -325,5 +325,5 @@ module _ {s t : Bytes} {n m r top : ℕ} (a : Foldable s t n m r top) where
 -- ---- where the fold of a checked sheet's line begins
 
 -- between the constants' strings and 32 strings below the end there is always room
-pub foldable : (s t : Bytes) (n m r top : ℕ) → ExLine s t n r → Logged s t n m → 49152 ≤ top → top ≤ 57344 → Foldable s t n m r top
-foldable s t n m r top l g h k = record { line = l; log = g; low = h; room = omega (arith, l .checked .low (r - 1) (in-sheet l), l .checked .whole .room) }
+pub foldable : {s t : Bytes} {n m r top : ℕ} → ExLine s t n r → Logged s t n m → 49152 ≤ top → top ≤ 57344 → Foldable s t n m r top
+foldable {r = r} l g h k = record { line = l; log = g; low = h; room = omega (arith, l .checked .low (r - 1) (in-sheet l), l .checked .whole .room) }

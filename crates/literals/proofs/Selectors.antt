@@ -26,6 +26,7 @@ use Rattle.values.specs.declared.Folded.the-variants as Folded
 use Rattle.values.specs.Values.{valueIn, resultIn}
 use Rattle.placements.proofs.Same.{keeps-less, keeps-kept}
 use Rattle.fold.specs.Folds.{exAt, foldAt, Foldable, Folds}
+use Rattle.fold.proofs.Steps as Steps
 use Rattle.literals.specs.declared.Index.{Index}
 use Rattle.literals.specs.declared.Index.the-variants as Index
 use Rattle.literals.specs.Literals.{seAt, namesIn, Task, above, indexResult}
@@ -60,14 +61,7 @@ module _ (t : Bytes) {x : Folded} where
 -- ---- folds
 
 pub foldable : {s t : Bytes} {n m r e : ℕ} → Task 69 s t n m r e → Foldable s t n m r (49152 + 256 * e)
-foldable {s} {t} {n} {m} {r} {e} k =
-    let l = k .line in
-    record {
-      line = record { checked = l .checked; first = l .first; last = l .last; kind = l .kind };
-      log = l .log;
-      low = omega arith;
-      room = omega (arith, l .checked .low (r - 1) (omega (arith, l .first, l .last)), k .few, l .checked .whole .room);
-    }
+foldable k = let l = k .line in Steps.foldable (record { checked = l .checked; first = l .first; last = l .last; kind = l .kind }) (l .log) (omega arith) (omega (arith, k .few))
 
 -- what a fold gives, where iota is 0
 pub folds-to : {s t : Bytes} {m r top : ℕ} {u : Bytes} {x : Folded} → Folds s t m 0 r top u x → resultIn u x ≡ fold (namesIn s t m) (pos 0) (exAt s r)
