@@ -1,23 +1,20 @@
 -- Laws of the fields of a row.
-use Prim.Native.Nat.{ℕ, suc, _+_, _-_, _^_, _≤_, _<_, min}
+use Prim.Native.Nat.{ℕ, _+_, _-_, _^_, _≤_, _<_, min}
 use mathlib.Core.Path.{_≡_, refl, sym, ap, _∙_}
-use mathlib.Core.Bool.{Bool, true, false, _&&_, cond}
+use mathlib.Core.Bool.{Bool, true, false, cond}
 use mathlib.Core.List.{[]}
 use mathlib.Core.Option.{Option, none, some}
-use native.Mathlib.Numerals.{add-one}
 use native.Mathlib.Omega.{arith}
 use lib.IntN.{ℤ, pos, negsuc}
 use mir.Syntax.{w64}
 use mir.Val.{SFits, toZ, ofZ}
 use mir.ValLaws.{toZ-ofZ}
 use lib.Dec.{eqb}
-use lib.ListN.{length, take, drop, getD, drop-of-length-le, List·getD-eq-default}
-use lib.Seq.{drop-cons}
-use borrow.Author.Tests.{eq-eqb, ne-eqb, leb-true, ltb-true, ltb-false}
+use lib.ListN.{length, take, drop, getD, List·getD-eq-default}
+use borrow.Author.Tests.{leb-true, ltb-true, ltb-false}
 use Rattle.semantics.specs.Text.{Bytes, bytes, same, orElse, natOf, intOf, unhex, fieldsOf, fromBigEndian}
 use Rattle.semantics.specs.Form.{between}
 use Rattle.semantics.specs.Fold.{bits64}
-use Rattle.laws.proofs.Tests.{same-eq}
 use Rattle.text.specs.Parts.{until, startOf}
 use Rattle.text.specs.Number.{most, capped, numberOf, whole, integerOf}
 use Rattle.text.specs.Hex.{word, wordOf}
@@ -25,37 +22,56 @@ use Rattle.text.specs.declared.number.Integer.the-variants.{Is, Bad}
 use Rattle.text.specs.declared.hex.Word.the-variants.{Bits, Bad as NoWord}
 use Rattle.text.proofs.Parts.{part-view, part-absent}
 use Rattle.stored.specs.Reading.{numberIn, keywordOf, integerBits, wordBits, bitsIn}
+use Rattle.replay.specs.Keywords.{whichOf}
 
--- ---- words
+-- ---- keywords
 
-pub words-apart : (s w : Bytes) → (length s ≡ length w → ⊥) → same s w ≡ false
-words-apart s w h = go (same s w) refl
-  where
-    go : (b : Bool) → same s w ≡ b → same s w ≡ false
-    go true e = absurd (h (ap length (same-eq s w e)))
-    go false e = e
+abbrev chosen : Bool → Bool → Bool → Bool → ℕ
+chosen a b c d = cond a 1 (cond b 2 (cond c 3 (cond d 4 0)))
 
-module _ (s w : Bytes) (i : ℕ) (hs : i < length s) (hw : i < length w) where
-  opened : same (drop i s) (drop i w) ≡ eqb (getD s i 0) (getD w i 0) && same (drop (suc i) s) (drop (suc i) w)
-  opened = rw (drop-cons s i 0 hs, drop-cons w i 0 hw)
+abbrev behind : Bool → Bool → Bool → Bool → ℕ
+behind a b c d = cond a 5 (cond b 6 (cond c 7 (cond d 8 0)))
 
-  pub word-differs : (getD s i 0 ≡ getD w i 0 → ⊥) → same (drop i s) (drop i w) ≡ false
-  word-differs h = opened ∙ rw (ne-eqb (getD s i 0) (getD w i 0) h)
+module _ (s w x y z : Bytes) where
+  pub which-is : {a b c d : Bool} → same s w ≡ a → same s x ≡ b → same s y ≡ c → same s z ≡ d → chosen a b c d ≡ whichOf s w x y z
+  unfolding whichOf
+  which-is a b c d = sym (λ i. chosen (a i) (b i) (c i) (d i))
 
-  pub word-turn : getD s i 0 ≡ getD w i 0 → same (drop i s) (drop i w) ≡ same (drop (i + 1) s) (drop (i + 1) w)
-  word-turn h = opened ∙ rw (eq-eqb (getD s i 0) (getD w i 0) h, add-one)
+-- the first four keywords, and those behind them
+module _ (k : Bytes) {v : ℕ} (is : v ≡ whichOf k (bytes "bytes") (bytes "words") (bytes "bigs") (bytes "reals")) where
+  abbrev tail : ℕ
+  tail = behind (same k (bytes "str")) (same k (bytes "array")) (same k (bytes "set")) (same k (bytes "back"))
 
-pub word-end : (s w : Bytes) (i : ℕ) → length s ≤ i → length w ≤ i → same (drop i s) (drop i w) ≡ true
-word-end s w i h k = rw (drop-of-length-le s h, drop-of-length-le w k)
+  by-first : (a b c d : Bool) (t : ℕ) → v ≡ chosen a b c d → (0 < v → v ≡ cond a 1 (cond b 2 (cond c 3 (cond d 4 t)))) × (v ≤ 0 → t ≡ cond a 1 (cond b 2 (cond c 3 (cond d 4 t))))
+  by-first true b c d t e = (λ h. e, λ h. absurd (omega arith))
+  by-first false true c d t e = (λ h. e, λ h. absurd (omega arith))
+  by-first false false true d t e = (λ h. e, λ h. absurd (omega arith))
+  by-first false false false true t e = (λ h. e, λ h. absurd (omega arith))
+  by-first false false false false t e = (λ h. absurd (omega arith), λ h. refl)
 
--- the number of a keyword by what it is compared with
-abbrev chosen : Bool → Bool → Bool → Bool → Bool → Bool → Bool → Bool → ℕ
-chosen a b c d e f g h = cond a 1 (cond b 2 (cond c 3 (cond d 4 (cond e 5 (cond f 6 (cond g 7 (cond h 8 0)))))))
+  pub keyword-first : 0 < v → v ≡ keywordOf k
+  unfolding keywordOf whichOf
+  keyword-first h = by-first (same k (bytes "bytes")) (same k (bytes "words")) (same k (bytes "bigs")) (same k (bytes "reals")) tail is .0 h
 
-pub keyword-is : (k : Bytes) {a b c d e f g h : Bool} → same k (bytes "bytes") ≡ a → same k (bytes "words") ≡ b → same k (bytes "bigs") ≡ c → same k (bytes "reals") ≡ d
-    → same k (bytes "str") ≡ e → same k (bytes "array") ≡ f → same k (bytes "set") ≡ g → same k (bytes "back") ≡ h → chosen a b c d e f g h ≡ keywordOf k
-unfolding keywordOf
-keyword-is k a b c d e f g h = sym (λ i. chosen (a i) (b i) (c i) (d i) (e i) (f i) (g i) (h i))
+  module _ (none : v ≤ 0) {u : ℕ} (later : u ≡ whichOf k (bytes "str") (bytes "array") (bytes "set") (bytes "back")) where
+    by-last : (a b c d : Bool) → u ≡ chosen a b c d → (u ≡ 0 → 0 ≡ behind a b c d) × ((u ≡ 0 → ⊥) → u + 4 ≡ behind a b c d)
+    by-last true b c d e = (λ h. absurd (omega arith), λ h. omega arith)
+    by-last false true c d e = (λ h. absurd (omega arith), λ h. omega arith)
+    by-last false false true d e = (λ h. absurd (omega arith), λ h. omega arith)
+    by-last false false false true e = (λ h. absurd (omega arith), λ h. omega arith)
+    by-last false false false false e = (λ h. refl, λ h. absurd (h e))
+
+    pub keyword-none : u ≡ 0 → 0 ≡ keywordOf k
+    unfolding keywordOf whichOf
+    keyword-none h =
+        by-last (same k (bytes "str")) (same k (bytes "array")) (same k (bytes "set")) (same k (bytes "back")) later .0 h
+        ∙ by-first (same k (bytes "bytes")) (same k (bytes "words")) (same k (bytes "bigs")) (same k (bytes "reals")) tail is .1 none
+
+    pub keyword-last : (u ≡ 0 → ⊥) → u + 4 ≡ keywordOf k
+    unfolding keywordOf whichOf
+    keyword-last h =
+        by-last (same k (bytes "str")) (same k (bytes "array")) (same k (bytes "set")) (same k (bytes "back")) later .1 h
+        ∙ by-first (same k (bytes "bytes")) (same k (bytes "words")) (same k (bytes "bigs")) (same k (bytes "reals")) tail is .1 none
 
 -- ---- fields
 

@@ -6,59 +6,47 @@ ghost use mathlib.Core.Bool.{true, false};
 ghost use mathlib.Core.List.{[]};
 ghost use Prim.Native.Nat.{_≤_, min};
 ghost use lib.ListN.{getD};
-ghost use Rattle.semantics.specs.Text.{same, fieldsOf};
+ghost use Rattle.semantics.specs.Text.{fieldsOf};
 ghost use Rattle.text.specs.Number.{most};
 ghost use Rattle.stored.specs.Reading.{numberIn, bitsIn, keywordOf};
+ghost use Rattle.replay.specs.Keywords.{whichOf};
 
 const COMMA: u8 = 44;
 
 const MOST: u64 = 9223372036854775809;
 
-pub fn is_word(s: &[u8], w: &[u8]) -> bool
-    ensures { λ r. ⌜ r ≡ same (now (s .entry)) (now (w .entry)) ⌝ }
+// Which of four words a field is, from 1 on, 0 where it is none.
+fn which(s: &[u8], a: &[u8], b: &[u8], c: &[u8], d: &[u8]) -> usize
+    ensures { λ r. ⌜ (r ≡ whichOf (now (s .entry)) (now (a .entry)) (now (b .entry)) (now (c .entry)) (now (d .entry))) × (r ≤ 4) ⌝ }
 {
-    if s.len() != w.len() {
-        return false;
+    if words::same(s, a) {
+        return 1;
     }
-    let mut i = 0;
-    while i < s.len() {
-        if s[i] != w[i] {
-            return false;
-        }
-        i += 1;
+    if words::same(s, b) {
+        return 2;
     }
-    true
+    if words::same(s, c) {
+        return 3;
+    }
+    if words::same(s, d) {
+        return 4;
+    }
+    0
 }
 
 // The number of a keyword behind `dat`, 0 where it is none.
 pub fn keyword(s: &[u8]) -> usize
     ensures { λ r. ⌜ r ≡ keywordOf (now (s .entry)) ⌝ }
 {
-    if is_word(s, b"bytes") {
-        return 1;
+    let v = which(s, b"bytes", b"words", b"bigs", b"reals");
+    if 0 < v {
+        return v;
     }
-    if is_word(s, b"words") {
-        return 2;
+    let k = which(s, b"str", b"array", b"set", b"back");
+    if k == 0 {
+        return 0;
     }
-    if is_word(s, b"bigs") {
-        return 3;
-    }
-    if is_word(s, b"reals") {
-        return 4;
-    }
-    if is_word(s, b"str") {
-        return 5;
-    }
-    if is_word(s, b"array") {
-        return 6;
-    }
-    if is_word(s, b"set") {
-        return 7;
-    }
-    if is_word(s, b"back") {
-        return 8;
-    }
-    0
+    k + 4
 }
 
 // Field i of a row, the empty part at its end where there is none.

@@ -76,7 +76,7 @@ fn step(s: State, row: &[u8], work: &[u8], image: &mut [u8], area: &mut [u8]) ->
     requires { ⌜ Ready s (length (now area)) ⌝ }
     ensures { λ r. ⌜ Lays (laidRow (sizeAt (now (work .entry))) (now (row .entry)) (layingOf s (now (image .entry)) (now (area .entry)))) s r (now (image .exit)) (now (area .exit)) ⌝ }
 {
-    if fields::is_word(fields::field(row, 0), b"dat") {
+    if words::same(fields::field(row, 0), b"dat") {
         return lay_item(
             s,
             fields::keyword(fields::field(row, 1)),
@@ -135,7 +135,7 @@ fn note_size(row: &[u8], work: &mut [u8])
     requires { ⌜ 65536 ≤ length (now work) ⌝ }
     ensures { λ _. ⌜ Noted (now (row .entry)) (now (work .entry)) (now (work .exit)) ⌝ }
 {
-    if fields::is_word(fields::field(row, 0), b"typ") {
+    if words::same(fields::field(row, 0), b"typ") {
         let id = fields::number(fields::field(row, 1));
         if id < TYPES {
             let i = TABLE + id as usize;

@@ -13,9 +13,8 @@ use lib.Signed.{mag, mag-rem, mag-shr, quotZ, remZ, shrZ, ltZ, leZ}
 use lib.Bits.{bitAnd, bitOr, bitXor}
 use lib.Ieee as F
 use lib.Ieee.{Float, binary64}
-use lib.Ieee.Casts.{toSigned-in}
 use lib.Ieee.Fits.{add-fits, sub-fits, mul-fits, div-fits, neg-fits, ofInt-fits}
-use borrow.Author.Tests.{le-leb, lt-ltb, leb-true, ltb-true, ltb-false}
+use borrow.Author.Tests.{lt-ltb, leb-true, ltb-true, ltb-false}
 use Rattle.semantics.specs.Text.{Bytes, bytes, same, characters, inRange}
 use Rattle.semantics.specs.Tree.{Basic, Ex, ConstVal, UnaryOp, Arith, IntOp, BinOp, basicOf}
 use Rattle.semantics.specs.Tree.Basic.{int, byte, big, real, string}
@@ -25,10 +24,11 @@ use Rattle.semantics.specs.Tree.UnaryOp.{neg, not, bitNot, ref}
 use Rattle.semantics.specs.Tree.Arith.{add, sub, mul, div}
 use Rattle.semantics.specs.Tree.IntOp.{rem, and, or, xor, lshift, rshift, eq, neq, lt, gt, leq, geq}
 use Rattle.semantics.specs.Tree.BinOp.{arith as arith-op, intOp, power, logAnd, logOr}
-use Rattle.semantics.specs.Fold.{Result, bind, bits64, shiftCount, eqZ, signed64, wrap, isZero, test, intArith, intOnly, intBinary, realBinary, toReal, toWhole, joinStr, strBinary, foldBinary, foldUnary, castInt, castReal, foldCast, foldLen, Key, Const, Names, sameKey, lookUp, valueOf, fromOption, qualifiedValue, plain, qualified, fold}
+use Rattle.semantics.specs.Fold.{Result, bind, bits64, shiftCount, eqZ, signed64, wrap, isZero, test, intArith, intOnly, intBinary, realBinary, toReal, joinStr, strBinary, foldBinary, foldUnary, castInt, castReal, foldCast, foldLen, Key, Const, Names, sameKey, lookUp, valueOf, fromOption, qualifiedValue, plain, qualified, fold}
 use Rattle.semantics.specs.Fold.Result.{ok, failed, refuse}
 use Rattle.values.proofs.Written.{integer-short}
 use Rattle.stored.proofs.Items.{Each, Fits64}
+use Rattle.stored.proofs.Ranges.{small, whole-fits}
 use Rattle.sound.proofs.Limits.{Limited, LimitedOption, LimitedEx}
 
 -- what holds of a result, where there is one
@@ -46,10 +46,6 @@ abbrev pub LimitedResult : Result ConstVal → Type 0
 LimitedResult r = Gives Limited r
 
 -- ---- integers of 64 bits
-
-small : (z : ℤ) → mag z < 9223372036854775808 → Fits64 z
-small (pos n) h = le-leb n 9223372036854775807 (omega arith)
-small (negsuc n) h = lt-ltb n 9223372036854775808 h
 
 magnitude : (z : ℤ) → Fits64 z → mag z < 9223372036854775808
 magnitude (pos n) h = omega (arith, leb-true n 9223372036854775807 h)
@@ -70,10 +66,6 @@ complement : (z : ℤ) → mag (negℤ (z +ℤ pos 1)) ≡ mag z
 complement (pos n) = rw (add-one n)
 complement (negsuc zero) = refl
 complement (negsuc (suc n)) = rw (lt-ltb 1 (suc (suc n)) (omega arith)) (omega arith)
-
-whole-fits : (x : Float) → Fits64 (toWhole 63 x)
-unfolding toWhole
-whole-fits x = small (toWhole 63 x) (toSigned-in 63 x)
 
 -- ---- operators
 

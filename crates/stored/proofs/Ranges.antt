@@ -40,7 +40,7 @@ SoundFirst pendingInit = Unit {0}
 
 -- ---- values after conversion
 
-small : (z : ℤ) → mag z < 2 ^ 63 → Fits64 z
+pub small : (z : ℤ) → mag z < 2 ^ 63 → Fits64 z
 small (pos n) h = le-leb n (2 ^ 63 - 1) (omega arith)
 small (negsuc n) h = lt-ltb n (2 ^ 63) h
 
@@ -60,7 +60,7 @@ whole-small : (x : Float) → Fits64 (toWhole 31 x)
 unfolding toWhole
 whole-small x = let h = toSigned-in 31 x in small (toWhole 31 x) (omega arith)
 
-whole-fits : (x : Float) → Fits64 (toWhole 63 x)
+pub whole-fits : (x : Float) → Fits64 (toWhole 63 x)
 unfolding toWhole
 whole-fits x = small (toWhole 63 x) (toSigned-in 63 x)
 

@@ -10,11 +10,11 @@ use Rattle.replay.proofs.rows.note_size.Tie as tie
 field-requires : tie.Need-field-requires
 field-requires c κs = search needs
 
-slice-aggregate-is-word : tie.Need-slice-aggregate-is-word
-slice-aggregate-is-word c = search needs
+slice-aggregate-same : tie.Need-slice-aggregate-same
+slice-aggregate-same c = search needs
 
-is-word-requires : tie.Need-is-word-requires
-is-word-requires c κs = search needs
+same-requires : tie.Need-same-requires
+same-requires c κs = search needs
 
 field-requires-2 : tie.Need-field-requires-2
 field-requires-2 c κs = search needs
@@ -45,28 +45,28 @@ returns c =
     let a = c .before .before .before .before .before .before .before .before .before .before .before .before .args in
     let h = c .before .before .before .before .before .before .before .before .before .before .before .before .pre in
     let f = c .before .before .before .before .before .before .before .before .before .field in
-    let is-word = c .before .before .before .before .before .before .before .is-word in
+    let same = c .before .before .before .before .before .before .before .same in
     let if1 = c .before .before .before .before .before .before .if1 in
     let field2 = c .before .before .before .before .before .field2 in
     let number = c .before .before .before .before .number in
     let if2 = c .before .before .before .if2 in
-    noted-at (now (a .row)) (now (a .work)) (f .ensures) (sym (is-word .ensures) ∙ if1 .taken) (number .ensures .0) (field2 .ensures) (if2 .taken) (omega (arith, h)) (c .small .ensures) (c .before .number2 .ensures .0) (c .before .before .field3 .ensures)
+    noted-at (now (a .row)) (now (a .work)) (f .ensures) (sym (same .ensures) ∙ if1 .taken) (number .ensures .0) (field2 .ensures) (if2 .taken) (omega (arith, h)) (c .small .ensures) (c .before .number2 .ensures .0) (c .before .before .field3 .ensures)
 
 returns-2 : tie.Need-returns-2
 returns-2 c =
     let a = c .before .before .before .before .before .before .before .before .before .args in
     let f = c .before .before .before .before .before .before .field in
-    let is-word = c .before .before .before .before .is-word in
+    let same = c .before .before .before .before .same in
     let if1 = c .before .before .before .if1 in
-    noted-far (now (a .row)) (now (a .work)) (f .ensures) (sym (is-word .ensures) ∙ if1 .taken) (c .before .number .ensures .0) (c .before .before .field2 .ensures) (c .if2 .left)
+    noted-far (now (a .row)) (now (a .work)) (f .ensures) (sym (same .ensures) ∙ if1 .taken) (c .before .number .ensures .0) (c .before .before .field2 .ensures) (c .if2 .left)
 
 returns-3 : tie.Need-returns-3
 returns-3 c =
     let a = c .before .before .before .before .before .before .args in
     let f = c .before .before .before .field in
-    noted-other (now (a .row)) (now (a .work)) (f .ensures) (sym (c .before .is-word .ensures) ∙ c .if1 .left)
+    noted-other (now (a .row)) (now (a .work)) (f .ensures) (sym (c .before .same .ensures) ∙ c .if1 .left)
 
 pub note-size-spec : {M : Type 1} → statement M
 note-size-spec =
-    tie.close (tie.spec field-requires slice-aggregate-is-word is-word-requires field-requires-2 number-requires add-i field-requires-3
+    tie.close (tie.spec field-requires slice-aggregate-same same-requires field-requires-2 number-requires add-i field-requires-3
     number-requires-2 small-requires slice-write-work same-length returns returns-2 returns-3)

@@ -10,11 +10,11 @@ use Rattle.replay.proofs.rows.step.Tie as tie
 field-requires : tie.Need-field-requires
 field-requires c κs = search needs
 
-slice-aggregate-is-word : tie.Need-slice-aggregate-is-word
-slice-aggregate-is-word c = search needs
+slice-aggregate-same : tie.Need-slice-aggregate-same
+slice-aggregate-same c = search needs
 
-is-word-requires : tie.Need-is-word-requires
-is-word-requires c κs = search needs
+same-requires : tie.Need-same-requires
+same-requires c κs = search needs
 
 field-requires-2 : tie.Need-field-requires-2
 field-requires-2 c κs = search needs
@@ -35,21 +35,21 @@ returns : tie.Need-returns
 returns c =
     let a = c .before .before .before .before .before .before .before .before .before .before .before .before .before .before .before .before .before .args in
     let f = c .before .before .before .before .before .before .before .before .before .before .before .before .field in
-    let is-word = c .before .before .before .before .before .before .before .before .before .before .is-word in
+    let same = c .before .before .before .before .before .before .before .before .before .before .same in
     let if1 = c .before .before .before .before .before .before .before .before .before .if1 in
     let field2 = c .before .before .before .before .before .before .before .before .field2 in
     let keyword = c .before .before .before .before .before .before .before .keyword in
     let lay-item = c .before .before .before .before .lay-item in
-    lays-as (row-item (sizeAt (now (a .work))) (now (a .row)) _ (f .ensures) (sym (is-word .ensures) ∙ if1 .taken) (keyword .ensures) (field2 .ensures)) (lay-item .ensures)
+    lays-as (row-item (sizeAt (now (a .work))) (now (a .row)) _ (f .ensures) (sym (same .ensures) ∙ if1 .taken) (keyword .ensures) (field2 .ensures)) (lay-item .ensures)
 
 returns-2 : tie.Need-returns-2
 returns-2 c =
     let a = c .before .before .before .before .before .before .before .before .args in
     let h = c .before .before .before .before .before .before .before .before .pre in
     let f = c .before .before .before .field in
-    lays-none (now (a .image)) (now (a .area)) (h) (row-other (sizeAt (now (a .work))) (now (a .row)) _ (f .ensures) (sym (c .before .is-word .ensures) ∙ c .if1 .left))
+    lays-none (now (a .image)) (now (a .area)) (h) (row-other (sizeAt (now (a .work))) (now (a .row)) _ (f .ensures) (sym (c .before .same .ensures) ∙ c .if1 .left))
 
 pub step-spec : {M : Type 1} → statement M
 step-spec =
-    tie.close (tie.spec field-requires slice-aggregate-is-word is-word-requires field-requires-2 keyword-requires lay-item-requires same-length
+    tie.close (tie.spec field-requires slice-aggregate-same same-requires field-requires-2 keyword-requires lay-item-requires same-length
     same-length-2 returns returns-2)
