@@ -1,3 +1,4 @@
 pub mod Table
 pub mod Fields
 pub mod Laws
+pub mod Compared

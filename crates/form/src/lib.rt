@@ -3,9 +3,11 @@ ghost use mathlib.Core.Path.{_≡_};
 ghost use mathlib.Core.Bool.{cond};
 ghost use mathlib.Core.List.{[]};
 ghost use Prim.Native.Nat.{_+_, _≤_, _<_};
-ghost use lib.ListN.{length, getD};
+ghost use lib.ListN.{length, drop, getD};
+ghost use Rattle.semantics.specs.Text.{same};
 ghost use Rattle.semantics.specs.Form.{forms, begins, rowOf, fieldsFrom};
 ghost use Rattle.text.specs.Number.{numberOf, isBetween};
+ghost use Rattle.text.specs.Parts.{until};
 ghost use Rattle.form.specs.Table.{table, rowCount, wordsAt, kindAt, codesAt, fieldsBehind, formOf};
 ghost use Rattle.form.specs.Letters.{isKeyField, isReal, limitOf, holds, after, fits, lettersFrom, Ready, Standing, Stepped, beginning};
 
@@ -412,6 +414,53 @@ pub fn field(l: &[u8], f: usize, i: usize) -> &[u8]
         at = e + 1;
     }
     &l[l.len()..]
+}
+
+fn ends_at(l: &[u8], e: usize) -> bool
+    requires { ⌜ e ≤ length (now l) ⌝ }
+    ensures { λ r. ⌜ r ≡ same [] (until 44 (drop e (now (l .entry)))) ⌝ }
+{
+    if e == l.len() {
+        return true;
+    }
+    l[e] == COMMA
+}
+
+// Whether the field that begins at `at` is this text: compared in place and from its end, as names often begin alike.
+fn stands_at(l: &[u8], at: usize, name: &[u8]) -> bool
+    requires { ⌜ at ≤ length (now l) ⌝ }
+    ensures { λ r. ⌜ r ≡ same (now (name .entry)) (until 44 (drop at (now (l .entry)))) ⌝ }
+{
+    if l.len() - at < name.len() {
+        return false;
+    }
+    if !ends_at(l, at + name.len()) {
+        return false;
+    }
+    let mut i = name.len();
+    while 0 < i {
+        i -= 1;
+        let x = l[at + i];
+        if x != name[i] {
+            return false;
+        }
+        if x == COMMA {
+            return false;
+        }
+    }
+    true
+}
+
+// Whether the first field behind the keywords of form f is this text; none counts as empty.
+pub fn first_is(l: &[u8], f: usize, name: &[u8]) -> bool
+    requires { ⌜ f < rowCount ⌝ }
+    ensures { λ r. ⌜ r ≡ same (now (name .entry)) (getD (fieldsBehind f (now (l .entry))) 0 []) ⌝ }
+{
+    let at = width(f) + 1;
+    if l.len() < at {
+        return name.len() == 0;
+    }
+    stands_at(l, at, name)
 }
 
 // A walk over the fields behind the keywords.

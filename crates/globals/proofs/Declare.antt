@@ -19,15 +19,16 @@ use Rattle.semantics.specs.Layout.{alignUp}
 use Rattle.semantics.specs.Const.{implements}
 use Rattle.semantics.specs.Global.{Global, globalSize, placeOf, newOffset}
 use Rattle.text.specs.Number as Number
+use Rattle.words.specs.Words.{digest}
 use Rattle.lines.specs.Lines.{readAt, nodesIn}
 use Rattle.sizes.specs.Sizes.{typeAt}
 use Rattle.implement.specs.Modules.{moduleAt}
 use Rattle.globals.specs.declared.Globals.{Globals}
 use Rattle.globals.specs.Laying.{Laying, lay, layNames, counts}
-use Rattle.globals.specs.Table.{VarLine, nameOn, typeOn, namesOn, lineOf, entered, entryAt, placesIn, layingIn, offsetBy, Around, Standing, Laid}
+use Rattle.globals.specs.Table.{VarLine, nameOn, typeOn, namesOn, lineOf, digestOf, entered, entryAt, placesIn, layingIn, offsetBy, Around, Standing, Laid}
 use Rattle.globals.proofs.Laying.{names-next}
 use Rattle.globals.proofs.Line.{type-on, count-on}
-use Rattle.globals.proofs.Table.{line-new, position-new, offset-new, line-old, around-entered, places-more, places-entered, around-all, around-then, checked-around, var-around}
+use Rattle.globals.proofs.Table.{line-new, position-new, offset-new, digest-new, line-old, digest-old, entry-old, around-entered, places-more, places-entered, around-all, around-then, checked-around, var-around}
 
 -- a global takes 4 bytes or 8
 four-or-eight : (P : ℕ → Type 0) → P 4 → P 8 → (t : Ty) → P (globalSize t)
@@ -65,7 +66,7 @@ lay-again t x l w (suc p) e h z = rw (e, ← h)
 -- ---- a new place
 
 module _ (s t : Bytes) (n r j : ℕ) (g : Globals) (st : Standing s t n g) (l : VarLine s t n r) (hj : j < 16) (full : g .count < 256)
-    (v : ℕ) (hv : v ≡ Number.numberOf 65536 (getD (readAt s (r - 1) .fields) 0 [])) (size : ℕ) (hs : size ≡ globalSize (typeAt s v)) (off : ℕ) (ho : off ≡ alignUp size (g .end)) where
+    (v : ℕ) (hv : v ≡ Number.numberOf 65536 (getD (readAt s (r - 1) .fields) 0 [])) (size : ℕ) (hs : size ≡ globalSize (typeAt s v)) (off : ℕ) (ho : off ≡ alignUp size (g .end)) (d : ℕ) (hd : d ≡ digest (nameOn s r j)) (small : d < 256) where
   size-is : size ≡ globalSize (typeOn s r)
   size-is = hs ∙ ap globalSize (type-on s t n r l v hv)
 
@@ -81,42 +82,56 @@ module _ (s t : Bytes) (n r j : ℕ) (g : Globals) (st : Standing s t n g) (l : 
   line-low : r < 65536
   line-low = omega (arith, l .last, l .checked .whole .lined .few)
 
-  pub enter-fits : (g .count < 256) × (r < 65536) × (j < 256) × (off < 65536) × (65536 ≤ length t)
-  enter-fits = (full, line-low, omega arith, omega (arith, off-low), l .checked .whole .room)
+  pub enter-fits : (g .count < 256) × (r < 65536) × (j < 256) × (off < 65536) × (d < 256) × (65536 ≤ length t)
+  enter-fits = (full, line-low, omega arith, omega (arith, off-low), small, l .checked .whole .room)
 
   pub end-fits : off + size < 4294967296
   end-fits = omega (arith, off-low, size-low)
 
   new : Bytes
-  new = entered t (g .count) r j off
+  new = entered t (g .count) r j off d
 
   around-new : Around t new
   unfolding new
-  around-new = around-entered t (g .count) r j off full line-low (omega (arith, off-low)) (l .checked .whole .room)
+  around-new = around-entered t (g .count) r j off d full line-low (omega (arith, off-low)) (l .checked .whole .room)
 
   each-new : (i : ℕ) → i < g .count + 1 → VarLine s new n (lineOf new i)
   unfolding new
   each-new i h = let w : i ≤ g .count = omega arith in ⊎-elim (λ (e : i ≡ g .count). subst (λ (k : ℕ). VarLine s new n (lineOf new k)) (sym e) last) (λ (q : i < g .count). old q) (eq-or-lt-of-le w)
     where
       last : VarLine s new n (lineOf new (g .count))
-      last = rw (line-new t (g .count) r j off full line-low (omega (arith, off-low)) (l .checked .whole .room)) (var-around around-new l)
+      last = rw (line-new t (g .count) r j off d full line-low (omega (arith, off-low)) (l .checked .whole .room)) (var-around around-new l)
 
       old : i < g .count → VarLine s new n (lineOf new i)
-      old q = rw (line-old t (g .count) r j off full line-low (omega (arith, off-low)) (l .checked .whole .room) i q) (var-around around-new (st .tabled .each i q))
+      old q = rw (line-old t (g .count) r j off d full line-low (omega (arith, off-low)) (l .checked .whole .room) i q) (var-around around-new (st .tabled .each i q))
 
   entry-new : entryAt s new (g .count) ≡ record { name = nameOn s r j; offset = newOffset (typeOn s r) (g .end); ty = typeOn s r }
   unfolding new entryAt
   entry-new =
       rw (
-        line-new t (g .count) r j off full line-low (omega (arith, off-low)) (l .checked .whole .room),
-        position-new t (g .count) r j off full line-low (omega (arith, off-low)) (l .checked .whole .room),
-        offset-new t (g .count) r j off full line-low (omega (arith, off-low)) (l .checked .whole .room),
+        line-new t (g .count) r j off d full line-low (omega (arith, off-low)) (l .checked .whole .room),
+        position-new t (g .count) r j off d full line-low (omega (arith, off-low)) (l .checked .whole .room),
+        offset-new t (g .count) r j off d full line-low (omega (arith, off-low)) (l .checked .whole .room),
         off-is,
       )
 
+  digests-new : (i : ℕ) → i < g .count + 1 → digestOf new i ≡ digest (entryAt s new i .name)
+  unfolding new
+  digests-new i h = let w : i ≤ g .count = omega arith in ⊎-elim (λ (e : i ≡ g .count). subst (λ (k : ℕ). digestOf new k ≡ digest (entryAt s new k .name)) (sym e) last) (λ (q : i < g .count). old q) (eq-or-lt-of-le w)
+    where
+      last : digestOf new (g .count) ≡ digest (entryAt s new (g .count) .name)
+      last = digest-new t (g .count) r j off d full line-low (omega (arith, off-low)) (l .checked .whole .room) ∙ hd ∙ ap (λ (e : Global). digest (e .name)) (sym entry-new)
+
+      old : i < g .count → digestOf new i ≡ digest (entryAt s new i .name)
+      old q =
+          rw (
+            digest-old t (g .count) r j off d full line-low (omega (arith, off-low)) (l .checked .whole .room) i q,
+            entry-old t (g .count) r j off d full line-low (omega (arith, off-low)) (l .checked .whole .room) i q s,
+          ) (st .tabled .digests i q)
+
   places-old : placesIn s new (g .count) ≡ placesIn s t (g .count)
   unfolding new
-  places-old = places-entered s t (g .count) r j off full line-low (omega (arith, off-low)) (l .checked .whole .room)
+  places-old = places-entered s t (g .count) r j off d full line-low (omega (arith, off-low)) (l .checked .whole .room)
 
   module _ (p : ℕ) (hn : same (nameOn s r j) (bytes "nil") ≡ false) (hp : offsetBy t p ≡ placeOf (nameOn s r j) (placesIn s t (g .count))) (hz : p ≡ 0) (h : Globals) (hc : h .count ≡ g .count + 1) (he : h .end ≡ off + size) where
     places-new : placesIn s new (h .count) ≡ placesIn s t (g .count) ++ (record { name = nameOn s r j; offset = newOffset (typeOn s r) (g .end); ty = typeOn s r } ∷ [])
@@ -134,7 +149,7 @@ module _ (s t : Bytes) (n r j : ℕ) (g : Globals) (st : Standing s t n g) (l : 
     laid-new : Laid s t new n (lay (typeOn s r) (nameOn s r j) (layingIn s t g)) h (g .count + 1)
     laid-new = record {
       standing = record {
-        tabled = record { checked = checked-around around-new (l .checked); few = omega arith; each = λ i q. each-new i (omega arith) };
+        tabled = record { checked = checked-around around-new (l .checked); few = omega arith; each = λ i q. each-new i (omega arith); digests = λ i q. digests-new i (omega arith) };
         low = omega (arith, off-low, size-low);
       };
       around = around-new;
@@ -142,7 +157,7 @@ module _ (s t : Bytes) (n r j : ℕ) (g : Globals) (st : Standing s t n g) (l : 
       most = omega arith;
     }
 
-    pub laid-entered : {u : Bytes} → u ≡ entered t (g .count) r j off → Laid s t u n (lay (typeOn s r) (nameOn s r j) (layingIn s t g)) h (g .count + 1)
+    pub laid-entered : {u : Bytes} → u ≡ entered t (g .count) r j off d → Laid s t u n (lay (typeOn s r) (nameOn s r j) (layingIn s t g)) h (g .count + 1)
     unfolding new
     laid-entered e = rw e laid-new
 

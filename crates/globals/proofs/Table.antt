@@ -10,10 +10,11 @@ use lib.ListN.{length, take, drop, getD, set, length-set}
 use lib.Seq.{sets, length-sets, getD-set-same, getD-set-other, take-set-le, drop-set-lt}
 use Rattle.semantics.specs.Text.{Bytes, same, orElse}
 use Rattle.semantics.specs.Global.{Global, placeOf}
-use Rattle.words.specs.Words.{wordAt}
+use Rattle.laws.proofs.Tests.{same-eq}
+use Rattle.words.specs.Words.{digest, wordAt}
 use Rattle.checks.specs.Checks.{Checked, Kept}
 use Rattle.checks.proofs.Kept.{kept-all, kept-then, kept-less, kept-at, checked-kept}
-use Rattle.globals.specs.Table.{VarLine, lineOf, positionOf, offsetOf, entered, entryAt, entriesFrom, placesIn, Tabled, offsetBy, Around}
+use Rattle.globals.specs.Table.{VarLine, lineOf, positionOf, offsetOf, digestOf, entered, entryAt, entriesFrom, placesIn, Tabled, offsetBy, Around}
 
 -- ---- a run of stores
 
@@ -42,60 +43,69 @@ sets-above t a (x ∷ xs) n h = sets-above (set t a x) (suc a) xs n (omega arith
 
 -- ---- an entry
 
-pub entered-by : (t : Bytes) (i line position offset : ℕ)
-    → set (set (set (set (set t (7168 + 8 * i) (line % 256)) (7168 + 8 * i + 1) (line / 256)) (7168 + 8 * i + 2) position) (7168 + 8 * i + 3) (offset % 256)) (7168 + 8 * i + 4) (offset / 256)
-    ≡ entered t i line position offset
+pub entered-by : (t : Bytes) (i line position offset d : ℕ)
+    → set (set (set (set (set (set t (7168 + 8 * i) (line % 256)) (7168 + 8 * i + 1) (line / 256)) (7168 + 8 * i + 2) position) (7168 + 8 * i + 3) (offset % 256)) (7168 + 8 * i + 4) (offset / 256)) (7168 + 8 * i + 5) d
+    ≡ entered t i line position offset d
 unfolding entered
-entered-by t i line position offset =
+entered-by t i line position offset d =
     let e1 : 7168 + 8 * i + 1 ≡ suc (7168 + 8 * i) = omega arith in
     let e2 : 7168 + 8 * i + 2 ≡ suc (suc (7168 + 8 * i)) = omega arith in
     let e3 : 7168 + 8 * i + 3 ≡ suc (suc (suc (7168 + 8 * i))) = omega arith in
     let e4 : 7168 + 8 * i + 4 ≡ suc (suc (suc (suc (7168 + 8 * i)))) = omega arith in
-    rw (e1, e2, e3, e4)
+    let e5 : 7168 + 8 * i + 5 ≡ suc (suc (suc (suc (suc (7168 + 8 * i))))) = omega arith in
+    rw (e1, e2, e3, e4, e5)
 
-module _ (t : Bytes) (i line position offset : ℕ) (hi : i < 256) (hl : line < 65536) (ho : offset < 65536) (room : 65536 ≤ length t) where
+module _ (t : Bytes) (i line position offset d : ℕ) (hi : i < 256) (hl : line < 65536) (ho : offset < 65536) (room : 65536 ≤ length t) where
   cells : Bytes
-  cells = line % 256 ∷ line / 256 ∷ position ∷ offset % 256 ∷ offset / 256 ∷ []
+  cells = line % 256 ∷ line / 256 ∷ position ∷ offset % 256 ∷ offset / 256 ∷ d ∷ []
 
-  cell-at : (k j : ℕ) → k < 5 → j ≡ 7168 + 8 * i + k → getD (entered t i line position offset) j 0 ≡ getD cells k 0
+  cell-at : (k j : ℕ) → k < 6 → j ≡ 7168 + 8 * i + k → getD (entered t i line position offset d) j 0 ≡ getD cells k 0
   unfolding entered cells
   cell-at k j h e = rw e (sets-at t (7168 + 8 * i) cells k h (omega arith))
 
-  pub line-new : lineOf (entered t i line position offset) i ≡ line
+  pub line-new : lineOf (entered t i line position offset d) i ≡ line
   unfolding wordAt cells
   line-new = rw (cell-at 0 (7168 + 8 * i) (omega arith) (omega arith), cell-at 1 (7168 + 8 * i + 1) (omega arith) refl) (omega arith)
 
-  pub position-new : positionOf (entered t i line position offset) i ≡ position
+  pub position-new : positionOf (entered t i line position offset d) i ≡ position
   unfolding positionOf cells
   position-new = cell-at 2 (7170 + 8 * i) (omega arith) (omega arith)
 
-  pub offset-new : offsetOf (entered t i line position offset) i ≡ offset
+  pub offset-new : offsetOf (entered t i line position offset d) i ≡ offset
   unfolding wordAt cells
   offset-new = rw (cell-at 3 (7171 + 8 * i) (omega arith) (omega arith), cell-at 4 (7171 + 8 * i + 1) (omega arith) (omega arith)) (omega arith)
 
+  pub digest-new : digestOf (entered t i line position offset d) i ≡ d
+  unfolding digestOf cells
+  digest-new = cell-at 5 (7173 + 8 * i) (omega arith) (omega arith)
+
   -- the entries before it
   module _ (j : ℕ) (hj : j < i) where
-    cell-old : (k : ℕ) → k < 5 → (m : ℕ) → m ≡ 7168 + 8 * j + k → getD (entered t i line position offset) m 0 ≡ getD t m 0
+    cell-old : (k : ℕ) → k < 6 → (m : ℕ) → m ≡ 7168 + 8 * j + k → getD (entered t i line position offset d) m 0 ≡ getD t m 0
     unfolding entered cells
     cell-old k h m e = sets-other t (7168 + 8 * i) cells m (λ x l q. omega arith)
 
-    pub line-old : lineOf (entered t i line position offset) j ≡ lineOf t j
+    pub line-old : lineOf (entered t i line position offset d) j ≡ lineOf t j
     unfolding wordAt
     line-old = rw (cell-old 0 (omega arith) (7168 + 8 * j) (omega arith), cell-old 1 (omega arith) (7168 + 8 * j + 1) refl)
 
-    position-old : positionOf (entered t i line position offset) j ≡ positionOf t j
+    position-old : positionOf (entered t i line position offset d) j ≡ positionOf t j
     unfolding positionOf
     position-old = cell-old 2 (omega arith) (7170 + 8 * j) (omega arith)
 
-    offset-old : offsetOf (entered t i line position offset) j ≡ offsetOf t j
+    offset-old : offsetOf (entered t i line position offset d) j ≡ offsetOf t j
     unfolding wordAt
     offset-old = rw (cell-old 3 (omega arith) (7171 + 8 * j) (omega arith), cell-old 4 (omega arith) (7171 + 8 * j + 1) (omega arith))
 
-    entry-old : (s : Bytes) → entryAt s (entered t i line position offset) j ≡ entryAt s t j
+    pub digest-old : digestOf (entered t i line position offset d) j ≡ digestOf t j
+    unfolding digestOf
+    digest-old = cell-old 5 (omega arith) (7173 + 8 * j) (omega arith)
+
+    pub entry-old : (s : Bytes) → entryAt s (entered t i line position offset d) j ≡ entryAt s t j
     unfolding entryAt
     entry-old s = rw (line-old, position-old, offset-old)
 
-  pub around-entered : Around t (entered t i line position offset)
+  pub around-entered : Around t (entered t i line position offset d)
   unfolding entered cells
   around-entered = record {
     below = record { below = sets-below t (7168 + 8 * i) cells 7168 (omega arith); long = length-sets t (7168 + 8 * i) cells };
@@ -122,11 +132,19 @@ unfolding entriesFrom
 places-count s t i zero = refl
 places-count s t i (suc g) = ap suc (places-count s t (suc i) g)
 
-pub places-entered : (s t : Bytes) (g line position offset : ℕ) → g < 256 → line < 65536 → offset < 65536 → 65536 ≤ length t
-    → placesIn s (entered t g line position offset) g ≡ placesIn s t g
-places-entered s t g line position offset hg hl ho room = entries-same s t (entered t g line position offset) 0 g (λ j l. entry-old t g line position offset hg hl ho room j (omega arith) s)
+pub places-entered : (s t : Bytes) (g line position offset d : ℕ) → g < 256 → line < 65536 → offset < 65536 → 65536 ≤ length t
+    → placesIn s (entered t g line position offset d) g ≡ placesIn s t g
+places-entered s t g line position offset d hg hl ho room = entries-same s t (entered t g line position offset d) 0 g (λ j l. entry-old t g line position offset d hg hl ho room j (omega arith) s)
 
 -- ---- search for a name
+
+-- names with different digests are different
+pub named-apart : {s t : Bytes} {n g i d : ℕ} (x : Bytes) → Tabled s t n g → i < g → d ≡ digest x → (digestOf t i ≡ d → ⊥) → false ≡ same x (entryAt s t i .name)
+named-apart {s} {t} {i = i} x b h e z = go (same x (entryAt s t i .name)) refl
+  where
+    go : (r : Bool) → same x (entryAt s t i .name) ≡ r → false ≡ r
+    go false q = refl
+    go true q = absurd (z (b .digests i h ∙ sym (e ∙ ap digest (same-eq x (entryAt s t i .name) q))))
 
 module _ (s t : Bytes) (g : ℕ) (x : Bytes) where
   pub place-start : placeOf x (placesIn s t g) ≡ placeOf x (entriesFrom s t 0 (g - 0))
@@ -188,6 +206,10 @@ module _ {t u : Bytes} (a : Kept 9216 t u) where
   pub offset-kept : (i : ℕ) → i < 256 → offsetOf u i ≡ offsetOf t i
   offset-kept i h = word-kept (7171 + 8 * i) (omega arith)
 
+  digest-kept : (i : ℕ) → i < 256 → digestOf u i ≡ digestOf t i
+  unfolding digestOf
+  digest-kept i h = kept-at a (7173 + 8 * i) (omega arith)
+
   entry-kept : (s : Bytes) (i : ℕ) → i < 256 → entryAt s u i ≡ entryAt s t i
   unfolding entryAt positionOf
   entry-kept s i h = rw (line-kept i h, offset-kept i h, kept-at a (7170 + 8 * i) (omega arith))
@@ -196,8 +218,9 @@ module _ {t u : Bytes} (a : Kept 9216 t u) where
   places-kept s g h = entries-same s t u 0 g (λ j l. entry-kept s j (omega arith))
 
   pub tabled-kept : {s : Bytes} {n g : ℕ} → Tabled s t n g → Tabled s u n g
-  tabled-kept d = record {
+  tabled-kept {s} d = record {
     checked = checked-kept (kept-less (omega arith) a) (d .checked);
     few = d .few;
+    digests = λ i h. rw (digest-kept i (omega (arith, d .few)), entry-kept s i (omega (arith, d .few))) (d .digests i h);
     each = λ i h. rw (line-kept i (omega (arith, d .few))) (var-kept (kept-less (omega arith) a) (d .each i h));
   }

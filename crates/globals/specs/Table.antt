@@ -1,6 +1,6 @@
 -- The table of globals in the working space, and the places that it holds.
 -- Entry i takes 8 bytes from 7168 + 8 i: the `var` line, from 1, in two bytes, the low one first; the position of the name among the line's
--- names, from 0; the offset in two bytes; three are free.
+-- names, from 0; the offset in two bytes; the name's digest; two are free.
 use Prim.Native.Nat.{ℕ, zero, suc, _+_, _-_, _*_, _/_, _%_, _≤_, _<_}
 use mathlib.Core.Path.{_≡_}
 use mathlib.Core.List.{List, [], _∷_}
@@ -17,7 +17,7 @@ use Rattle.semantics.specs.Refusal.{sumOf}
 use Rattle.semantics.specs.Fold.{Names}
 use Rattle.semantics.specs.Global.{Global, globals}
 use Rattle.lines.specs.Lines.{readAt, nodesIn}
-use Rattle.words.specs.Words.{wordAt}
+use Rattle.words.specs.Words.{digest, wordAt}
 use Rattle.checks.specs.Checks.{Checked, Kept}
 use Rattle.source.specs.Walk.{declaresAt, openAt, declaredTo, varOf}
 use Rattle.globals.specs.declared.Globals.{Globals}
@@ -52,8 +52,11 @@ positionOf t i = getD t (7170 + 8 * i) 0
 abbrev pub offsetOf : Bytes → ℕ → ℕ
 offsetOf t i = wordAt t (7171 + 8 * i)
 
-unfoldable pub entered : Bytes → ℕ → ℕ → ℕ → ℕ → Bytes
-entered t i line position offset = sets t (7168 + 8 * i) (line % 256 ∷ line / 256 ∷ position ∷ offset % 256 ∷ offset / 256 ∷ [])
+unfoldable pub digestOf : Bytes → ℕ → ℕ
+digestOf t i = getD t (7173 + 8 * i) 0
+
+unfoldable pub entered : Bytes → ℕ → ℕ → ℕ → ℕ → ℕ → Bytes
+entered t i line position offset d = sets t (7168 + 8 * i) (line % 256 ∷ line / 256 ∷ position ∷ offset % 256 ∷ offset / 256 ∷ d ∷ [])
 
 -- entry i
 unfoldable pub entryAt : Bytes → Bytes → ℕ → Global
@@ -75,6 +78,7 @@ pub record Tabled (s t : Bytes) (n g : ℕ) : Type 0 where
   pub checked : Checked s t n
   pub few : g ≤ 256
   pub each : (i : ℕ) → i < g → VarLine s t n (lineOf t i)
+  pub digests : (i : ℕ) → i < g → digestOf t i ≡ digest (entryAt s t i .name)
 
 -- what a number of an entry, from 1, says of a name: 0 is none
 unfoldable pub offsetBy : Bytes → ℕ → Option ℕ

@@ -5,14 +5,16 @@ use layout::align::align_up;
 ghost use mathlib.Core.Path.{_≡_};
 ghost use Prim.Native.Nat.{_+_, _*_, _≤_, _<_};
 ghost use lib.ListN.{length};
+ghost use Rattle.semantics.specs.Text.{same};
 ghost use Rattle.semantics.specs.Sheet.{sheetSource};
 ghost use Rattle.semantics.specs.Global.{globalSize, placeOf};
 ghost use Rattle.sizes.specs.Sizes.{typeAt, TypeLine};
 ghost use Rattle.checks.specs.Checks.{Checked};
+ghost use Rattle.words.specs.Words.{digest};
 ghost use Rattle.implement.specs.Modules.{moduleAt, Open};
 ghost use Rattle.globals.specs.Laying.{lay, layNames, counts};
 ghost use Rattle.globals.specs.Vars.{offsetIn};
-ghost use Rattle.globals.specs.Table.{VarLine, nameOn, typeOn, namesOn, lineOf, positionOf, offsetOf, entered, entryAt, placesIn, layingIn, Tabled, offsetBy, Around, Standing, Laid, namesAt, layLine, Collected};
+ghost use Rattle.globals.specs.Table.{VarLine, nameOn, typeOn, namesOn, lineOf, positionOf, offsetOf, digestOf, entered, entryAt, placesIn, layingIn, Tabled, offsetBy, Around, Standing, Laid, namesAt, layLine, Collected};
 
 const TABLE: usize = 7168;
 
@@ -48,9 +50,17 @@ pub fn offset_of(work: &[u8], i: usize) -> usize
     words::word_at(work, TABLE + 3 + 8 * i)
 }
 
-fn enter(work: &mut [u8], i: usize, line: usize, position: usize, offset: usize)
-    requires { ⌜ (i < 256) × (line < 65536) × (position < 256) × (offset < 65536) × (65536 ≤ length (now work)) ⌝ }
-    ensures { λ _. ⌜ now (work .exit) ≡ entered (now (work .entry)) i line position offset ⌝ }
+// Its name's digest.
+fn digest_of(work: &[u8], i: usize) -> usize
+    requires { ⌜ (i < 256) × (65536 ≤ length (now work)) ⌝ }
+    ensures { λ r. ⌜ r ≡ digestOf (now (work .entry)) i ⌝ }
+{
+    words::wide(work[TABLE + 5 + 8 * i])
+}
+
+fn enter(work: &mut [u8], i: usize, line: usize, position: usize, offset: usize, digest: usize)
+    requires { ⌜ (i < 256) × (line < 65536) × (position < 256) × (offset < 65536) × (digest < 256) × (65536 ≤ length (now work)) ⌝ }
+    ensures { λ _. ⌜ now (work .exit) ≡ entered (now (work .entry)) i line position offset digest ⌝ }
 {
     let a = TABLE + 8 * i;
     work[a] = (line % 256) as u8;
@@ -58,6 +68,7 @@ fn enter(work: &mut [u8], i: usize, line: usize, position: usize, offset: usize)
     work[a + 2] = position as u8;
     work[a + 3] = (offset % 256) as u8;
     work[a + 4] = (offset / 256) as u8;
+    work[a + 5] = digest as u8;
 }
 
 // The name of entry i of g, as that part of the sheet.
@@ -69,14 +80,34 @@ pub fn name_of<'a>(sheet: &'a [u8], work: &[u8], n: usize, g: usize, i: usize) -
     lines::field_at(sheet, work, n, r - 1, 3 + position_of(work, i))
 }
 
+// Whether entry i has this name, which has the digest d.
+fn is_named(
+    sheet: &[u8],
+    work: &[u8],
+    n: usize,
+    g: usize,
+    i: usize,
+    name: &[u8],
+    d: usize,
+) -> bool
+    requires { ⌜ (Tabled (now sheet) (now work) n g) × (i < g) × (d ≡ digest (now name)) ⌝ }
+    ensures { λ r. ⌜ r ≡ same (now (name .entry)) (entryAt (now (sheet .entry)) (now (work .entry)) i .name) ⌝ }
+{
+    if digest_of(work, i) != d {
+        return false; // before the name is looked for
+    }
+    words::same(name, name_of(sheet, work, n, g, i))
+}
+
 // The number of the entry with this name, from 1; 0 is none.
 pub fn place_of(sheet: &[u8], work: &[u8], n: usize, g: usize, name: &[u8]) -> usize
     requires { ⌜ Tabled (now sheet) (now work) n g ⌝ }
     ensures { λ r. ⌜ (offsetBy (now (work .entry)) r ≡ placeOf (now (name .entry)) (placesIn (now (sheet .entry)) (now (work .entry)) g)) × (r ≤ g) ⌝ }
 {
+    let d = words::digest(name);
     let mut i = 0;
     while i < g {
-        if words::same(name, name_of(sheet, work, n, g, i)) {
+        if is_named(sheet, work, n, g, i, name, d) {
             return i + 1;
         }
         i += 1;
@@ -123,7 +154,7 @@ fn declare_name(sheet: &[u8], work: &mut [u8], n: usize, r: usize, j: usize, g: 
     let ty = lines::number_at(sheet, work, n, r - 1, 0);
     let size = global_size(sheet, work, n, ty);
     let offset = align_up(g.end, size) as u32;
-    enter(work, g.count, r, j, offset as usize);
+    enter(work, g.count, r, j, offset as usize, words::digest(name));
     Globals {
         count: g.count + 1,
         end: offset + size,

@@ -24,10 +24,8 @@ pub fn implements(sheet: &[u8], work: &[u8], n: usize, k: usize) -> bool
     if form::kind(lines::form_at(work, 0)) != IMPL {
         return false;
     }
-    words::same(
-        lines::field_at(sheet, work, n, 0, 0),
-        lines::field_at(sheet, work, n, k - 1, 0),
-    )
+    let name = lines::field_at(sheet, work, n, 0, 0);
+    lines::first_is(sheet, work, n, k - 1, name)
 }
 
 // The line of the module that is open behind line i, from 0, where that of line k is open before it; 0 is none.

@@ -3,6 +3,7 @@ ghost use mathlib.Core.Path.{_≡_};
 ghost use Prim.Native.Nat.{_+_, _≤_, _<_};
 ghost use mathlib.Core.List.{[]};
 ghost use lib.ListN.{length, getD};
+ghost use Rattle.semantics.specs.Text.{same};
 ghost use Rattle.text.specs.Number.{numberOf};
 ghost use Rattle.lines.specs.Lines.{textAt, readAt, start, formAt, entered, Whole, Passed, Above};
 
@@ -69,7 +70,16 @@ pub fn field_at<'a>(sheet: &'a [u8], work: &[u8], n: usize, i: usize, j: usize) 
     form::field(l, form_at(work, i), j)
 }
 
-// The same as a number: 65536 where it is larger, 65537 where it is none.
+// Whether field 0 is this text, without looking for the field's end.
+pub fn first_is(sheet: &[u8], work: &[u8], n: usize, i: usize, name: &[u8]) -> bool
+    requires { ⌜ (Whole (now sheet) (now work) n) × (i < n) ⌝ }
+    ensures { λ r. ⌜ r ≡ same (now (name .entry)) (getD (readAt (now (sheet .entry)) i .fields) 0 []) ⌝ }
+{
+    let l = line_at(sheet, work, n, i);
+    form::first_is(l, form_at(work, i), name)
+}
+
+// The field as a number: 65536 where it is larger, 65537 where it is none.
 pub fn number_at(sheet: &[u8], work: &[u8], n: usize, i: usize, j: usize) -> usize
     requires { ⌜ (Whole (now sheet) (now work) n) × (i < n) ⌝ }
     ensures { λ r. ⌜ (r ≡ numberOf 65536 (getD (readAt (now (sheet .entry)) i .fields) j [])) × (r ≤ 65537) ⌝ }

@@ -45,7 +45,7 @@ fn is_named(sheet: &[u8], work: &[u8], n: usize, k: usize, name: &[u8]) -> bool
     requires { ⌜ (Checked (now sheet) (now work) n) × (0 < k) × (k ≤ n) ⌝ }
     ensures { λ r. ⌜ r ≡ Text.same (now (name .entry)) (fieldAt (now (sheet .entry)) k) ⌝ }
 {
-    words::same(name, lines::field_at(sheet, work, n, k - 1, 0))
+    lines::first_is(sheet, work, n, k - 1, name)
 }
 
 // Whether entry i enters a constant by the plain name.

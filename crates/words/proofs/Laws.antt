@@ -2,7 +2,7 @@
 use mathlib.Core.Path.{_≡_, refl, sym, ap, _∙_}
 use mathlib.Core.Bool.{Bool, true, false, _&&_}
 use mathlib.Core.List.{[], _∷_}
-use Prim.Native.Nat.{ℕ, suc, _+_, _-_, _*_, _≤_, _<_}
+use Prim.Native.Nat.{ℕ, suc, _+_, _-_, _*_, _%_, _≤_, _<_}
 use native.Mathlib.Omega.{arith}
 use native.Mathlib.Numerals.{add-one}
 use lib.Dec.{eqb}
@@ -10,6 +10,7 @@ use lib.ListN.{length, take, drop, getD, drop-of-length-le}
 use lib.Seq.{drop-cons}
 use borrow.Author.Tests.{eq-eqb, ne-eqb}
 use Rattle.semantics.specs.Text.{Bytes, same, fromBigEndian}
+use Rattle.words.specs.Words.{digestFrom}
 
 -- ---- two texts
 
@@ -35,6 +36,16 @@ module _ (a b : Bytes) (i : ℕ) (h : i < length a) (k : i < length b) where
 
 pub same-end : (a b : Bytes) (i : ℕ) → length a ≤ i → length b ≤ i → same (drop i a) (drop i b) ≡ true
 same-end a b i h k = rw (drop-of-length-le a {i = i} h, drop-of-length-le b {i = i} k)
+
+-- ---- the number of a text
+
+pub digest-next : (s : Bytes) (i h : ℕ) {b : ℕ} → i < length s → b ≡ getD s i 0 → digestFrom h (drop i s) ≡ digestFrom ((h * 185 + b) % 256) (drop (i + 1) s)
+unfolding digestFrom
+digest-next s i h l e = rw (add-one, drop-cons s i 0 l, e)
+
+pub digest-end : (s : Bytes) (i h : ℕ) {d : ℕ} → length s ≤ i → d ≡ digestFrom h (drop i s) → h ≡ d
+unfolding digestFrom
+digest-end s i h l e = sym (e ∙ rw (drop-of-length-le s {i = i} l))
 
 -- ---- 8 bytes as a number
 

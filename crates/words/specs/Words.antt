@@ -1,5 +1,6 @@
--- Numbers in bytes.
-use Prim.Native.Nat.{ℕ, _+_, _*_}
+-- Numbers in bytes, and numbers of texts.
+use Prim.Native.Nat.{ℕ, _+_, _*_, _%_}
+use mathlib.Core.List.{[], _∷_}
 use lib.ListN.{take, drop, getD}
 use Rattle.semantics.specs.Text.{Bytes, fromBigEndian}
 
@@ -10,3 +11,11 @@ wordAt t a = getD t a 0 + 256 * getD t (a + 1) 0
 -- 8 bytes, the highest first
 unfoldable pub bitsAt : Bytes → ℕ → ℕ
 bitsAt t a = fromBigEndian 0 (take 8 (drop a t))
+
+-- a number below 256 of a text: all its bytes count, since the factor is odd
+unfoldable pub digestFrom : ℕ → Bytes → ℕ
+digestFrom h [] = h
+digestFrom h (b ∷ bs) = digestFrom ((h * 185 + b) % 256) bs
+
+abbrev pub digest : Bytes → ℕ
+digest s = digestFrom 0 s

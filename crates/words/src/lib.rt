@@ -1,11 +1,11 @@
-// Bytes compared, and numbers that are stored in bytes.
+// Bytes compared and summed up, and numbers that are stored in bytes.
 ghost use mathlib.Core.Path.{_≡_};
 ghost use Prim.Native.Nat.{_+_, _≤_, _<_};
 ghost use lib.ListN.{length};
 ghost use Rattle.semantics.specs.Text as Text;
 ghost use Rattle.semantics.specs.Text.{bigEndian};
 ghost use Rattle.write.specs.Wrote.{Wrote};
-ghost use Rattle.words.specs.Words.{wordAt, bitsAt};
+ghost use Rattle.words.specs.Words.{digest, wordAt, bitsAt};
 
 pub fn same(a: &[u8], b: &[u8]) -> bool
     ensures { λ r. ⌜ r ≡ Text.same (now (a .entry)) (now (b .entry)) ⌝ }
@@ -27,6 +27,19 @@ pub fn wide(x: u8) -> usize
     ensures { λ r. ⌜ (r ≡ x) × (r < 256) ⌝ }
 {
     x as usize
+}
+
+// A number below 256 that tells most texts apart; equal texts have one.
+pub fn digest(s: &[u8]) -> usize
+    ensures { λ r. ⌜ (r ≡ digest (now (s .entry))) × (r < 256) ⌝ }
+{
+    let mut h = 0;
+    let mut i = 0;
+    while i < s.len() {
+        h = (h * 185 + wide(s[i])) % 256;
+        i += 1;
+    }
+    h
 }
 
 fn wide64(x: u8) -> u64

@@ -67,34 +67,37 @@ cast-offset c = search needs
 cast-enter : tie.Need-cast-enter
 cast-enter c = search needs
 
+digest-requires : tie.Need-digest-requires
+digest-requires c κs = search needs
+
 enter-requires : tie.Need-enter-requires
 enter-requires c κs =
-    let a = c .before .before .before .before .before .before .before .before .before .before .before .before .before .before .before .before .args in
-    let p = c .before .before .before .before .before .before .before .before .before .before .before .before .before .before .before .before .pre in
-    enter-fits (now (a .sheet)) (now (a .work)) (a .n) (a .r) (a .j) (a .g) (p .0) (p .1) (p .2) (p .3) _ (c .before .before .before .before .number-at .ensures .0) _ (c .before .before .global-size .ensures .0) _ (c .before .align-up .ensures .0)
+    let a = c .before .before .before .before .before .before .before .before .before .before .before .before .before .before .before .before .before .args in
+    let p = c .before .before .before .before .before .before .before .before .before .before .before .before .before .before .before .before .before .pre in
+    enter-fits (now (a .sheet)) (now (a .work)) (a .n) (a .r) (a .j) (a .g) (p .0) (p .1) (p .2) (p .3) _ (c .before .before .before .before .before .number-at .ensures .0) _ (c .before .before .before .global-size .ensures .0) _ (c .before .before .align-up .ensures .0) _ (c .digest .ensures .0 ∙ rw (c .before .before .before .before .before .before .before .before .before .before .before .before .before .field-at .ensures)) (c .digest .ensures .1)
 
-add-t15 : tie.Need-add-t15
-add-t15 c = search needs
+add-t14 : tie.Need-add-t14
+add-t14 c = record { fits = omega (arith, c .before .before .before .before .before .before .before .before .before .before .before .before .before .before .before .before .before .before .before .before .before .pre .3) }
 
 add-t30 : tie.Need-add-t30
 add-t30 c =
-    let a = c .before .before .before .before .before .before .before .before .before .before .before .before .before .before .before .before .before .before .before .before .args in
-    let p = c .before .before .before .before .before .before .before .before .before .before .before .before .before .before .before .before .before .before .before .before .pre in
-    record { fits = end-fits (now (a .sheet)) (now (a .work)) (a .n) (a .r) (a .j) (a .g) (p .0) (p .1) (p .2) (p .3) _ (c .before .before .before .before .before .before .before .before .number-at .ensures .0) _ (c .before .before .before .before .before .before .global-size .ensures .0) _ (c .before .before .before .before .before .align-up .ensures .0) }
+    let a = c .before .before .before .before .before .before .before .before .before .before .before .before .before .before .before .before .before .before .before .before .before .args in
+    let p = c .before .before .before .before .before .before .before .before .before .before .before .before .before .before .before .before .before .before .before .before .before .pre in
+    record { fits = end-fits (now (a .sheet)) (now (a .work)) (a .n) (a .r) (a .j) (a .g) (p .0) (p .1) (p .2) (p .3) _ (c .before .before .before .before .before .before .before .before .before .number-at .ensures .0) _ (c .before .before .before .before .before .before .before .global-size .ensures .0) _ (c .before .before .before .before .before .before .align-up .ensures .0) _ (c .before .before .before .before .digest .ensures .0 ∙ rw (c .before .before .before .before .before .before .before .before .before .before .before .before .before .before .before .before .before .field-at .ensures)) (c .before .before .before .before .digest .ensures .1) }
 
 same-length-3 : tie.Need-same-length-3
 same-length-3 c = search needs
 
 returns-3 : tie.Need-returns-3
 returns-3 c =
-    let a = c .before .before .before .before .before .before .before .before .before .before .before .before .before .before .before .before .before .before .before .before .args in
-    let p = c .before .before .before .before .before .before .before .before .before .before .before .before .before .before .before .before .before .before .before .before .pre in
-    let e = nil-test (c .before .before .before .before .before .before .before .before .before .before .before .before .before .before .before .before .field-at .ensures) (c .before .before .before .before .before .before .before .before .before .before .before .before .before .before .same .ensures) in
-    laid-entered (now (a .sheet)) (now (a .work)) (a .n) (a .r) (a .j) (a .g) (p .0) (p .1) (p .2) (p .3) _ (c .before .before .before .before .before .before .before .before .number-at .ensures .0) _ (c .before .before .before .before .before .before .global-size .ensures .0) _ (c .before .before .before .before .before .align-up .ensures .0)
-    _ (e ∙ c .before .before .before .before .before .before .before .before .before .before .before .before .before .if1 .left) (rw (← c .before .before .before .before .before .before .before .before .before .before .before .before .before .before .before .before .field-at .ensures) (c .before .before .before .before .before .before .before .before .before .before .before .place-of .ensures .0)) (c .before .before .before .before .before .before .before .before .before .before .if2 .left) _ refl refl (c .before .before .before .enter .ensures)
+    let a = c .before .before .before .before .before .before .before .before .before .before .before .before .before .before .before .before .before .before .before .before .before .args in
+    let p = c .before .before .before .before .before .before .before .before .before .before .before .before .before .before .before .before .before .before .before .before .before .pre in
+    let e = nil-test (c .before .before .before .before .before .before .before .before .before .before .before .before .before .before .before .before .before .field-at .ensures) (c .before .before .before .before .before .before .before .before .before .before .before .before .before .before .before .same .ensures) in
+    laid-entered (now (a .sheet)) (now (a .work)) (a .n) (a .r) (a .j) (a .g) (p .0) (p .1) (p .2) (p .3) _ (c .before .before .before .before .before .before .before .before .before .number-at .ensures .0) _ (c .before .before .before .before .before .before .before .global-size .ensures .0) _ (c .before .before .before .before .before .before .align-up .ensures .0) _ (c .before .before .before .before .digest .ensures .0 ∙ rw (c .before .before .before .before .before .before .before .before .before .before .before .before .before .before .before .before .before .field-at .ensures)) (c .before .before .before .before .digest .ensures .1)
+    _ (e ∙ c .before .before .before .before .before .before .before .before .before .before .before .before .before .before .if1 .left) (rw (← c .before .before .before .before .before .before .before .before .before .before .before .before .before .before .before .before .before .field-at .ensures) (c .before .before .before .before .before .before .before .before .before .before .before .before .place-of .ensures .0)) (c .before .before .before .before .before .before .before .before .before .before .before .if2 .left) _ refl refl (c .before .before .before .enter .ensures)
 
 pub declare-name-spec : {M : Type 1} → statement M
 declare-name-spec =
     tie.close (tie.spec sub-field-at add-field-at field-at-requires slice-aggregate-same same-requires same-length returns place-of-requires
-    same-length-2 returns-2 sub-number-at number-at-requires global-size-requires align-up-requires cast-offset cast-enter enter-requires add-t15
-    add-t30 same-length-3 returns-3)
+    same-length-2 returns-2 sub-number-at number-at-requires global-size-requires align-up-requires cast-offset cast-enter digest-requires
+    enter-requires add-t14 add-t30 same-length-3 returns-3)

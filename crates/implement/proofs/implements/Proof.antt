@@ -33,21 +33,18 @@ returns-2 c =
 field-at-requires : tie.Need-field-at-requires
 field-at-requires c κs = search needs
 
-sub-field-at : tie.Need-sub-field-at
-sub-field-at c = search needs
+sub-first-is : tie.Need-sub-first-is
+sub-first-is c = search needs
 
-field-at-requires-2 : tie.Need-field-at-requires-2
-field-at-requires-2 c κs = search needs
-
-same-requires : tie.Need-same-requires
-same-requires c κs = search needs
+first-is-requires : tie.Need-first-is-requires
+first-is-requires c κs = search needs
 
 returns-3 : tie.Need-returns-3
 returns-3 c =
-    let a = c .before .before .before .before .before .before .before .before .before .args in
-    c .same .ensures
-    ∙ rw (c .before .before .field-at .ensures, c .before .field-at2 .ensures) (sym (implements-by (now (a .sheet)) (now (a .work)) (a .n) (c .before .before .before .before .before .before .before .before .before .pre .0) (a .k) (omega arith) (c .before .before .before .before .before .before .before .before .before .pre .1) _ _ (c .before .before .before .before .before .form-at .ensures) (c .before .before .before .before .kind .ensures) (c .before .before .before .if2 .left)))
+    let a = c .before .before .before .before .before .before .before .before .args in
+    c .first-is .ensures
+    ∙ rw (c .before .field-at .ensures) (sym (implements-by (now (a .sheet)) (now (a .work)) (a .n) (c .before .before .before .before .before .before .before .before .pre .0) (a .k) (omega arith) (c .before .before .before .before .before .before .before .before .pre .1) _ _ (c .before .before .before .before .form-at .ensures) (c .before .before .before .kind .ensures) (c .before .before .if2 .left)))
 
 pub implements-spec : {M : Type 1} → statement M
 implements-spec =
-    tie.close (tie.spec returns form-at-requires kind-requires returns-2 field-at-requires sub-field-at field-at-requires-2 same-requires returns-3)
+    tie.close (tie.spec returns form-at-requires kind-requires returns-2 field-at-requires sub-first-is first-is-requires returns-3)
