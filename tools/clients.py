@@ -3,6 +3,8 @@
     clients(records)      -> a sheet of so many client records, with constants,
                              tables and needs
     largest()             -> such a sheet of 1,024 lines and 65,535 bytes
+    lookups(quarters)     -> look-ups at their worst: tables that are full at four
+                             quarters, and names that begin alike
     deep(depth)           -> a record of a tuple in a tuple, so many deep
 """
 from sheets import Build, hex_text
@@ -85,6 +87,30 @@ def largest():
     while len(build.lines) < 1024:
         left = 65535 - len(build.sheet()) - 8 * (1024 - len(build.lines))
         build.put("ex", "str", "5A" * min(124, left // 2))
+    return build.sheet()
+
+
+def lookups(quarters):
+    """Of a quarter: 32 constants, each of which names the first, 17 records and
+    15 variants of one of them, with a need each, and 64 globals with a value,
+    on 4 lines."""
+    build = Build()
+    build.put("impl", "Client")
+    for number in range(32 * quarters):
+        value = build.put("ex", "id", f"{'c' * 26}000") if number else build.put("ex", "int", 1)
+        build.put("con", f"{'c' * 26}{number:03}", 1, 1, value)
+    for number in range(quarters):
+        cases = [build.put("pc", 5, *(f"{'t' * 26}{5 * case + tag:02}" for tag in range(5)), 0) for case in range(3)]
+        build.put("pick", f"{'p' * 26}{number}", 0, len(cases), *cases)
+        build.put("need", "adt", f"{'p' * 26}{number}")
+        for tag in range(15):
+            build.put("need", "adt", f"{'p' * 26}{number}.{'t' * 26}{tag:02}")
+    for number in range(16 * quarters):
+        build.put("adt", f"{'r' * 26}{number:03}", 0)
+        build.put("need", "adt", f"{'r' * 26}{number:03}")
+    for line in range(4 * quarters):
+        names = [f"{'g' * 9}{16 * line + name:03}" for name in range(16)]
+        build.put("var", build.put("ty", "int"), build.put("ex", "int", 7), len(names), *names)
     return build.sheet()
 
 

@@ -1,11 +1,12 @@
-//! Times the Rust and the proved compiler on the same sheets, in one process.
+//! Times the Rust, the proved compiler and its image on the same sheets, in one
+//! process.
 //!
 //!   bench RUNS SHEET..
 //!
-//! Of each sheet it prints its path and the medians of so many runs of both,
+//! Of each sheet it prints its path and the medians of so many runs of each,
 //! in nanoseconds of the processor's time: sheet to syntax tree to listing in
-//! the Rust (driver.rs), sheet to listing in the other. Their listings must be
-//! the same.
+//! the Rust (driver.rs), sheet to listing, and sheet to listing, image and
+//! area. The listings of all three must be the same.
 #![allow(dead_code, unused)]
 
 mod ast;
@@ -38,6 +39,19 @@ unsafe extern "C" {
         work: *mut u8,
         work_bytes: usize,
     ) -> Compiled;
+
+    fn limbo_sheet_image(
+        sheet: *const u8,
+        sheet_bytes: usize,
+        listing: *mut u8,
+        listing_bytes: usize,
+        image: *mut u8,
+        image_bytes: usize,
+        area: *mut u8,
+        area_bytes: usize,
+        work: *mut u8,
+        work_bytes: usize,
+    ) -> Laid;
 }
 
 /// As bindings/c/limbo_sheet.h has it.
@@ -48,6 +62,15 @@ struct Compiled {
     listing: usize,
 }
 
+#[repr(C)]
+struct Laid {
+    number: u8,
+    line: usize,
+    listing: usize,
+    image: usize,
+    area: usize,
+}
+
 fn proved<'a>(sheet: &[u8], listing: &'a mut [u8], work: &mut [u8]) -> &'a [u8] {
     let answer = unsafe {
         limbo_sheet_compile(
@@ -55,6 +78,27 @@ fn proved<'a>(sheet: &[u8], listing: &'a mut [u8], work: &mut [u8]) -> &'a [u8] 
             sheet.len(),
             listing.as_mut_ptr(),
             listing.len(),
+            work.as_mut_ptr(),
+            work.len(),
+        )
+    };
+    assert_eq!(answer.number, 0, "refused at line {}", answer.line);
+    &listing[..answer.listing]
+}
+
+/// The listing, with the image and the area made too.
+fn laid<'a>(sheet: &[u8], listing: &'a mut [u8], data: &mut [[u8; ROOM]; 2], work: &mut [u8]) -> &'a [u8] {
+    let [image, area] = data;
+    let answer = unsafe {
+        limbo_sheet_image(
+            sheet.as_ptr(),
+            sheet.len(),
+            listing.as_mut_ptr(),
+            listing.len(),
+            image.as_mut_ptr(),
+            image.len(),
+            area.as_mut_ptr(),
+            area.len(),
             work.as_mut_ptr(),
             work.len(),
         )
@@ -81,17 +125,22 @@ fn main() {
     for path in args {
         let sheet = std::fs::read(&path).expect("a sheet");
         let (mut listing, mut work) = (vec![0; ROOM], vec![0; ROOM]);
+        let mut data = Box::new([[0; ROOM]; 2]);
         let rust = codegen::driver::answer(&sheet, "ref", false);
         assert_eq!(rust.as_bytes(), proved(&sheet, &mut listing, &mut work), "{path}");
-        let (mut of_rust, mut of_proved) = (Vec::new(), Vec::new());
+        assert_eq!(rust.as_bytes(), laid(&sheet, &mut listing, &mut data, &mut work), "{path}");
+        let (mut of_rust, mut of_proved, mut of_image) = (Vec::new(), Vec::new(), Vec::new());
         for _ in 0..runs {
             let start = now();
             black_box(codegen::driver::answer(black_box(&sheet), "ref", false));
             let middle = now();
             black_box(proved(black_box(&sheet), &mut listing, &mut work));
+            let end = now();
+            black_box(laid(black_box(&sheet), &mut listing, &mut data, &mut work));
+            of_image.push(now() - end);
             of_rust.push(middle - start);
-            of_proved.push(now() - middle);
+            of_proved.push(end - middle);
         }
-        println!("{path} {} {}", median(of_rust), median(of_proved));
+        println!("{path} {} {} {}", median(of_rust), median(of_proved), median(of_image));
     }
 }

@@ -402,13 +402,6 @@ module _ (k : ℕ) (l : List ℕ) where
 
 -- ---- readers
 
-pub width-end : (f i : ℕ) → f < 42 → i ≤ length (wordsAt f) → getD (wordsAt f) i 32 ≡ 32 → i ≡ length (wordsAt f)
-width-end f i h k e = go (ltb i (length (wordsAt f))) refl
-  where
-    go : (t : Bool) → ltb i (length (wordsAt f)) ≡ t → i ≡ length (wordsAt f)
-    go true q = absurd (words-plain f h i (ltb-true _ _ q) e)
-    go false q = let m = ltb-false i (length (wordsAt f)) q in omega arith
-
 module _ (l : List ℕ) (at e i k : ℕ) (h : at ≤ length l) (he : e ≡ at + length (until 44 (drop at l))) where
   pub field-here : k ≡ i → take (e - at) (drop at l) ≡ getD (Form.fieldsFrom at l) (i - k) []
   field-here q = let z : i - k ≡ 0 = omega arith in rw (z, fields-step l at e h he)

@@ -10,8 +10,8 @@ use lib.ListN.{length, take, drop, getD, set, length-set}
 use lib.Seq.{sets, length-sets, getD-set-same, getD-set-other, take-set-le, drop-set-lt}
 use Rattle.semantics.specs.Text.{Bytes, same, orElse}
 use Rattle.semantics.specs.Global.{Global, placeOf}
-use Rattle.laws.proofs.Tests.{same-eq}
 use Rattle.words.specs.Words.{digest, wordAt}
+use Rattle.words.proofs.Laws.{digest-apart}
 use Rattle.checks.specs.Checks.{Checked, Kept}
 use Rattle.checks.proofs.Kept.{kept-all, kept-then, kept-less, kept-at, checked-kept}
 use Rattle.globals.specs.Table.{VarLine, lineOf, positionOf, offsetOf, digestOf, entered, entryAt, entriesFrom, placesIn, Tabled, offsetBy, Around}
@@ -140,11 +140,7 @@ places-entered s t g line position offset d hg hl ho room = entries-same s t (en
 
 -- names with different digests are different
 pub named-apart : {s t : Bytes} {n g i d : ℕ} (x : Bytes) → Tabled s t n g → i < g → d ≡ digest x → (digestOf t i ≡ d → ⊥) → false ≡ same x (entryAt s t i .name)
-named-apart {s} {t} {i = i} x b h e z = go (same x (entryAt s t i .name)) refl
-  where
-    go : (r : Bool) → same x (entryAt s t i .name) ≡ r → false ≡ r
-    go false q = refl
-    go true q = absurd (z (b .digests i h ∙ sym (e ∙ ap digest (same-eq x (entryAt s t i .name) q))))
+named-apart {s} {t} {i = i} x b h e z = digest-apart x (entryAt s t i .name) (λ q. z (b .digests i h ∙ sym (e ∙ q)))
 
 module _ (s t : Bytes) (g : ℕ) (x : Bytes) where
   pub place-start : placeOf x (placesIn s t g) ≡ placeOf x (entriesFrom s t 0 (g - 0))

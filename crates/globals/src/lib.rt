@@ -81,15 +81,7 @@ pub fn name_of<'a>(sheet: &'a [u8], work: &[u8], n: usize, g: usize, i: usize) -
 }
 
 // Whether entry i has this name, which has the digest d.
-fn is_named(
-    sheet: &[u8],
-    work: &[u8],
-    n: usize,
-    g: usize,
-    i: usize,
-    name: &[u8],
-    d: usize,
-) -> bool
+fn is_named(sheet: &[u8], work: &[u8], n: usize, g: usize, i: usize, name: &[u8], d: usize) -> bool
     requires { ⌜ (Tabled (now sheet) (now work) n g) × (i < g) × (d ≡ digest (now name)) ⌝ }
     ensures { λ r. ⌜ r ≡ same (now (name .entry)) (entryAt (now (sheet .entry)) (now (work .entry)) i .name) ⌝ }
 {

@@ -160,9 +160,6 @@ module _ (s : List ℕ) (at n e : ℕ) (low : at ≤ length s) (here : Text.line
     ends-count = drop-length-is n (Text.lineParts s) [] (drop at s) rest-one
 
   module _ (more : e < length s) where
-    next : List (List ℕ)
-    next = Text.lineParts (drop (e + 1) s)
-
     rest-two : drop n (Text.lineParts s) ≡ take (e - at) (drop at s) ∷ Text.lineParts (drop (e + 1) s)
     rest-two =
         let k : length (until 10 (drop at s)) < length (drop at s) = omega (arith, length-drop at s) in

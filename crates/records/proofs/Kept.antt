@@ -8,12 +8,12 @@ use Rattle.checks.proofs.Kept.{kept-at, kept-less, checked-kept}
 use Rattle.records.specs.Log.{byteOf, entryAt, recordOf, recordedAt, Logged}
 
 module _ {t u : List ℕ} (k : Kept 10240 t u) where
+  byte-kept : (i : ℕ) → i < 128 → (j : ℕ) → j < 8 → byteOf u i j ≡ byteOf t i j
+  byte-kept i h j l = kept-at k (9216 + (8 * i + j)) (omega arith)
+
   entry-kept : (i : ℕ) → i < 128 → entryAt u i ≡ entryAt t i
   unfolding entryAt
-  entry-kept i h = rw (at 0 (omega arith), at 1 (omega arith), at 2 (omega arith), at 3 (omega arith), at 4 (omega arith))
-    where
-      at : (j : ℕ) → j < 8 → byteOf u i j ≡ byteOf t i j
-      at j l = kept-at k (9216 + (8 * i + j)) (omega arith)
+  entry-kept i h = rw (byte-kept i h 0 (omega arith), byte-kept i h 1 (omega arith), byte-kept i h 2 (omega arith), byte-kept i h 3 (omega arith), byte-kept i h 4 (omega arith))
 
   pub recorded-kept : (s : List ℕ) (i : ℕ) → i < 128 → recordedAt s u i ≡ recordedAt s t i
   unfolding recordedAt
@@ -27,5 +27,6 @@ module _ {t u : List ℕ} (k : Kept 10240 t u) where
         count = g .count;
         few = g .few;
         each = λ i h. recorded-kept s i (omega (arith, g .few)) ∙ g .each i h;
+        digests = λ i h. rw (byte-kept i (omega (arith, g .few)) 5 (omega arith), recorded-kept s i (omega (arith, g .few))) (g .digests i h);
         entries = λ i h. record { checked = c; low = g .entries i h .low; sound = rw (entry-kept i (g .entries i h .low)) (g .entries i h .sound) };
       }

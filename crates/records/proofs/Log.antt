@@ -23,7 +23,7 @@ use Rattle.checks.specs.Checks.{Checked}
 use Rattle.checks.proofs.Kept.{checked-kept}
 use Rattle.source.specs.Walk.{declaresAt, declaredTo}
 use Rattle.source.proofs.Walk.{located-all, located-its, declared-all, source-of}
-use Rattle.records.specs.Log.{declAt, casesIn, caseIn, Entry, recordOf, entryBytes, tagEntries, caseEntries, lineEntries, entryAt, recordedAt, entriesOf, entriesTo, logBytes, logOf, noRecord, Sound, Collected}
+use Rattle.records.specs.Log.{declAt, casesIn, caseIn, Entry, recordOf, entryBytes, tagEntries, caseEntries, lineEntries, entryAt, recordedAt, entriesOf, entriesTo, logBytes, logOf, noRecord, Sound, CollectedTo}
 use Rattle.records.specs.Lines.{caseOf}
 use Rattle.shapes.specs.Shapes.{firstDecl, PickLine, CaseOf}
 use Rattle.records.proofs.Lists.{map-append, default-same, line-log, log-length, AllOf, none-of, all-append, all-at, line-sound}
@@ -212,7 +212,7 @@ module _ (s d : Bytes) (n : ℕ) (c : Checked s d n) (e : Bytes) (b : ℕ) (w : 
   place-is : b ≡ 9216 + 8 * length (logOf s)
   place-is = omega (arith, w .place, log-bytes (entriesTo (nodesIn s) n), length-es .0, length-es .1, c .whole .room)
 
-  all-logged : (m : ℕ) → m ≡ (b - 9216) / 8 → Collected s d e n m
+  all-logged : (m : ℕ) → m ≡ (b - 9216) / 8 → CollectedTo s d e n m 0
   all-logged m h =
       let q : m ≡ length (logOf s) = omega (arith, place-is) in
       record {
@@ -221,11 +221,12 @@ module _ (s d : Bytes) (n : ℕ) (c : Checked s d n) (e : Bytes) (b : ℕ) (w : 
           count = q;
           few = omega (arith, length-es .1);
           each = λ i l. record-back i (omega arith);
+          digests = λ i l. absurd (omega arith);
           entries = λ i l. record { checked = checked-now; low = omega (arith, length-es .1); sound = rw (back i (omega arith)) (all-at (lines-sound s d n c n (omega arith)) noEntry i (omega (arith, length-es .0))) };
         };
         kept = wrote-kept w 9216 (omega arith);
         above = λ j l. wrote-above w j (omega (arith, log-bytes (entriesTo (nodesIn s) n), length-es .0, length-es .1));
       }
 
-pub entries-end : (s d : Bytes) (n : ℕ) → Checked s d n → (r : ℕ) → r ≤ n → n ≤ r → (e : Bytes) (b : ℕ) → Wrote d 9216 (logBytes (entriesTo (nodesIn s) r)) e b → (m : ℕ) → m ≡ (b - 9216) / 8 → Collected s d e n m
+pub entries-end : (s d : Bytes) (n : ℕ) → Checked s d n → (r : ℕ) → r ≤ n → n ≤ r → (e : Bytes) (b : ℕ) → Wrote d 9216 (logBytes (entriesTo (nodesIn s) r)) e b → (m : ℕ) → m ≡ (b - 9216) / 8 → CollectedTo s d e n m 0
 entries-end s d n c r h k e b w m q = let z : r ≡ n = omega arith in all-logged s d n c e b (rw z at w) m q

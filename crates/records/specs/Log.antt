@@ -12,6 +12,7 @@ use Rattle.semantics.specs.Form.{letter}
 use Rattle.semantics.specs.Sheet.{concatMap, sheetSource}
 use Rattle.semantics.specs.Layout.{Recorded, recordsOf, recordedAdts, recordLog, lastOf, variantShape, variantFields}
 use Rattle.semantics.specs.Types.{unknown}
+use Rattle.words.specs.Words.{digest}
 use Rattle.lines.specs.Lines.{readAt, nodesIn}
 use Rattle.checks.specs.Checks.{Checked, Kept}
 use Rattle.source.specs.Walk.{declaresAt}
@@ -70,7 +71,7 @@ nameOf s e = declAt s (e .line) .name
 unfoldable pub tagOf : Bytes → Entry → Bytes
 tagOf s e = getD (caseIn (declAt s (e .line)) (e .case - 1) .tags) (e .position) []
 
--- 8 bytes an entry, the line low byte first
+-- 8 bytes an entry, the line low byte first, with room for the digest of the key
 abbrev pub entryBytes : ℕ → ℕ → ℕ → ℕ → Bytes
 entryBytes r c p k = (r % 256) ∷ (r / 256) ∷ c ∷ p ∷ k ∷ 0 ∷ 0 ∷ 0 ∷ []
 
@@ -83,6 +84,10 @@ byteOf t i k = getD t (9216 + (8 * i + k)) 0
 
 unfoldable pub entryAt : Bytes → ℕ → Entry
 entryAt t i = record { line = byteOf t i 0 + 256 * byteOf t i 1; case = byteOf t i 2; position = byteOf t i 3; number = byteOf t i 4 }
+
+-- the digest of its key
+abbrev pub digestOf : Bytes → ℕ → ℕ
+digestOf t i = byteOf t i 5
 
 -- the record that entry i stands for
 unfoldable pub recordedAt : Bytes → Bytes → ℕ → Recorded
@@ -142,19 +147,26 @@ pub record EntryIn (s t : Bytes) (n i : ℕ) : Type 0 where
   pub low : i < 128
   pub sound : Sound s n (entryAt t i)
 
--- the log of all records, of which there are m
-pub record Logged (s t : Bytes) (n m : ℕ) : Type 0 where
+-- the log of all records, of which there are m: the first d entries hold the digests of their keys
+pub record Digested (s t : Bytes) (n m d : ℕ) : Type 0 where
   pub checked : Checked s t n
   pub count : m ≡ length (logOf s)
   pub few : m ≤ 128
   pub each : (i : ℕ) → i < m → recordedAt s t i ≡ getD (logOf s) i noRecord
   pub entries : (i : ℕ) → i < m → EntryIn s t n i
+  pub digests : (i : ℕ) → i < d → digestOf t i ≡ digest (recordedAt s t i .key)
+
+abbrev pub Logged : Bytes → Bytes → ℕ → ℕ → Type 0
+Logged s t n m = Digested s t n m m
 
 -- what making it leaves
-pub record Collected (s t u : Bytes) (n m : ℕ) : Type 0 where
-  pub log : Logged s u n m
+pub record CollectedTo (s t u : Bytes) (n m d : ℕ) : Type 0 where
+  pub log : Digested s u n m d
   pub kept : Kept 9216 t u
   pub above : (j : ℕ) → 10240 ≤ j → getD u j 0 ≡ getD t j 0
+
+abbrev pub Collected : Bytes → Bytes → Bytes → ℕ → ℕ → Type 0
+Collected s t u n m = CollectedTo s t u n m m
 
 -- ---- the entries of a key
 

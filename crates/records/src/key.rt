@@ -8,7 +8,8 @@ ghost use Prim.Native.Nat.{_+_, _≤_, _<_};
 ghost use lib.ListN.{length, take};
 ghost use Rattle.semantics.specs.Text.{same};
 ghost use Rattle.semantics.specs.Layout.{seen};
-ghost use Rattle.records.specs.Log.{byteOf, entryAt, recordedAt, nameOf, tagOf, logOf, EntryIn, Logged, Newest, NewestOf};
+ghost use Rattle.words.specs.Words.{digest};
+ghost use Rattle.records.specs.Log.{byteOf, entryAt, recordedAt, nameOf, tagOf, digestOf, logOf, EntryIn, Logged, Newest, NewestOf};
 
 const DOT: u8 = 46;
 
@@ -73,6 +74,27 @@ pub fn tag_of<'a>(sheet: &'a [u8], work: &[u8], n: usize, i: usize) -> &'a [u8]
     line::tag_at(sheet, work, n, v, position_of(work, i))
 }
 
+// The digest of its key, as the entry has it.
+fn digest_of(work: &[u8], i: usize) -> usize
+    requires { ⌜ (i < 128) × (65536 ≤ length (now work)) ⌝ }
+    ensures { λ r. ⌜ r ≡ digestOf (now (work .entry)) i ⌝ }
+{
+    byte_at(work, i, 5)
+}
+
+// The same from its name and tag.
+pub fn digest_for(sheet: &[u8], work: &[u8], n: usize, i: usize) -> usize
+    requires { ⌜ EntryIn (now sheet) (now work) n i ⌝ }
+    ensures { λ r. ⌜ (r ≡ digest (recordedAt (now (sheet .entry)) (now (work .entry)) i .key)) × (r < 256) ⌝ }
+{
+    let d = words::digest(name_of(sheet, work, n, i));
+    if case_of(work, i) == 0 {
+        return d;
+    }
+    let e = words::digest_on(d, b".");
+    words::digest_on(e, tag_of(sheet, work, n, i))
+}
+
 // Whether a key is a name and a tag, with a full stop between.
 fn is_joined(key: &[u8], name: &[u8], tag: &[u8]) -> bool
     ensures { λ r. ⌜ r ≡ same (now (key .entry)) (now (name .entry) ++ (46 ∷ now (tag .entry))) ⌝ }
@@ -90,11 +112,14 @@ fn is_joined(key: &[u8], name: &[u8], tag: &[u8]) -> bool
     words::same(&key[k + 1..], tag)
 }
 
-// Whether entry i has this key.
-pub fn key_is(sheet: &[u8], work: &[u8], n: usize, i: usize, key: &[u8]) -> bool
-    requires { ⌜ EntryIn (now sheet) (now work) n i ⌝ }
+// Whether entry i has this key, which has the digest d.
+fn key_is(sheet: &[u8], work: &[u8], n: usize, i: usize, key: &[u8], d: usize) -> bool
+    requires { ⌜ (EntryIn (now sheet) (now work) n i) × (digestOf (now work) i ≡ digest (recordedAt (now sheet) (now work) i .key)) × (d ≡ digest (now key)) ⌝ }
     ensures { λ r. ⌜ r ≡ same (now (key .entry)) (recordedAt (now (sheet .entry)) (now (work .entry)) i .key) ⌝ }
 {
+    if digest_of(work, i) != d {
+        return false; // before the name is looked for
+    }
     let name = name_of(sheet, work, n, i);
     if case_of(work, i) == 0 {
         return words::same(key, name);
@@ -106,10 +131,13 @@ pub fn key_is(sheet: &[u8], work: &[u8], n: usize, i: usize, key: &[u8]) -> bool
 }
 
 // Whether entries i and j have one key. No name holds a full stop, so T itself and a variant have none in common.
-pub fn same_key(sheet: &[u8], work: &[u8], n: usize, i: usize, j: usize) -> bool
-    requires { ⌜ (EntryIn (now sheet) (now work) n i) × (EntryIn (now sheet) (now work) n j) ⌝ }
+fn same_key(sheet: &[u8], work: &[u8], n: usize, i: usize, j: usize) -> bool
+    requires { ⌜ (EntryIn (now sheet) (now work) n i) × (EntryIn (now sheet) (now work) n j) × (digestOf (now work) i ≡ digest (recordedAt (now sheet) (now work) i .key)) × (digestOf (now work) j ≡ digest (recordedAt (now sheet) (now work) j .key)) ⌝ }
     ensures { λ r. ⌜ r ≡ same (recordedAt (now (sheet .entry)) (now (work .entry)) i .key) (recordedAt (now (sheet .entry)) (now (work .entry)) j .key) ⌝ }
 {
+    if digest_of(work, j) != digest_of(work, i) {
+        return false;
+    }
     if !words::same(name_of(sheet, work, n, i), name_of(sheet, work, n, j)) {
         return false;
     }
@@ -128,10 +156,11 @@ pub fn newest(sheet: &[u8], work: &[u8], n: usize, m: usize, key: &[u8]) -> usiz
     requires { ⌜ Logged (now sheet) (now work) n m ⌝ }
     ensures { λ r. ⌜ Newest (now (sheet .entry)) (now (key .entry)) r ⌝ }
 {
+    let d = words::digest(key);
     let mut i = m;
     while 0 < i {
         i -= 1;
-        if key_is(sheet, work, n, i, key) {
+        if key_is(sheet, work, n, i, key, d) {
             return i + 1;
         }
     }

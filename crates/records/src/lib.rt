@@ -2,11 +2,12 @@
 pub mod key;
 pub mod line;
 
-ghost use Prim.Native.Nat.{_+_, _≤_, _<_};
-ghost use lib.ListN.{length};
+ghost use mathlib.Core.Path.{_≡_};
+ghost use Prim.Native.Nat.{_+_, _*_, _≤_, _<_};
+ghost use lib.ListN.{length, set};
 ghost use Rattle.write.specs.Wrote.{Wrote};
 ghost use Rattle.checks.specs.Checks.{Checked};
-ghost use Rattle.records.specs.Log.{declAt, casesIn, entryBytes, tagEntries, caseEntries, entriesOf, logBytes, Collected};
+ghost use Rattle.records.specs.Log.{declAt, casesIn, entryBytes, tagEntries, caseEntries, entriesOf, logBytes, Digested, CollectedTo, Collected};
 ghost use Rattle.shapes.specs.Shapes.{PickLine};
 
 // Where the log begins: 8 bytes an entry.
@@ -92,9 +93,9 @@ fn record_adt(sheet: &[u8], work: &mut [u8], n: usize, r: usize, at: usize) -> u
 }
 
 // Logs the records of all lines, those in modules too, in the order of the sheet, and returns how many there are.
-pub fn collect_adts(sheet: &[u8], work: &mut [u8], n: usize) -> usize
+fn log_adts(sheet: &[u8], work: &mut [u8], n: usize) -> usize
     requires { ⌜ Checked (now sheet) (now work) n ⌝ }
-    ensures { λ m. ⌜ Collected (now (sheet .entry)) (now (work .entry)) (now (work .exit)) n m ⌝ }
+    ensures { λ m. ⌜ CollectedTo (now (sheet .entry)) (now (work .entry)) (now (work .exit)) n m 0 ⌝ }
 {
     let mut at = RECORDS;
     let mut r = 0;
@@ -103,4 +104,34 @@ pub fn collect_adts(sheet: &[u8], work: &mut [u8], n: usize) -> usize
         at = record_adt(sheet, work, n, r, at);
     }
     (at - RECORDS) / 8
+}
+
+fn enter_digest(work: &mut [u8], i: usize, d: usize)
+    requires { ⌜ (i < 128) × (d < 256) × (65536 ≤ length (now work)) ⌝ }
+    ensures { λ _. ⌜ now (work .exit) ≡ set (now (work .entry)) (9216 + (8 * i + 5)) d ⌝ }
+{
+    work[RECORDS + (8 * i + 5)] = d as u8;
+}
+
+// The digests of all keys, into their entries.
+fn enter_digests(sheet: &[u8], work: &mut [u8], n: usize, m: usize)
+    requires { ⌜ Digested (now sheet) (now work) n m 0 ⌝ }
+    ensures { λ _. ⌜ Collected (now (sheet .entry)) (now (work .entry)) (now (work .exit)) n m ⌝ }
+{
+    let mut i = 0;
+    while i < m {
+        let d = key::digest_for(sheet, work, n, i);
+        enter_digest(work, i, d);
+        i += 1;
+    }
+}
+
+// The log of all records, with the digests of their keys; returns how many there are.
+pub fn collect_adts(sheet: &[u8], work: &mut [u8], n: usize) -> usize
+    requires { ⌜ Checked (now sheet) (now work) n ⌝ }
+    ensures { λ m. ⌜ Collected (now (sheet .entry)) (now (work .entry)) (now (work .exit)) n m ⌝ }
+{
+    let m = log_adts(sheet, work, n);
+    enter_digests(sheet, work, n, m);
+    m
 }

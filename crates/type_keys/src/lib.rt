@@ -57,10 +57,8 @@ pub fn same_need(sheet: &[u8], work: &[u8], n: usize, a: usize, b: usize) -> boo
         return false;
     }
     if f == ADT {
-        return words::same(
-            lines::field_at(sheet, work, n, a, 0),
-            lines::field_at(sheet, work, n, b, 0),
-        );
+        let name = lines::field_at(sheet, work, n, a, 0);
+        return lines::first_is(sheet, work, n, b, name);
     }
     if f == BLOCK {
         return shape::same_shape(sheet, work, n, a, b);

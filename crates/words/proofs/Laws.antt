@@ -1,16 +1,16 @@
 -- Laws of comparing bytes, and of reading eight of them.
 use mathlib.Core.Path.{_≡_, refl, sym, ap, _∙_}
-use mathlib.Core.Bool.{Bool, true, false, _&&_}
-use mathlib.Core.List.{[], _∷_}
+use mathlib.Core.Bool.{Bool, true, false, _&&_, false≢true}
+use mathlib.Core.List.{[], _∷_, _++_}
 use Prim.Native.Nat.{ℕ, suc, _+_, _-_, _*_, _%_, _≤_, _<_}
 use native.Mathlib.Omega.{arith}
 use native.Mathlib.Numerals.{add-one}
 use lib.Dec.{eqb}
 use lib.ListN.{length, take, drop, getD, drop-of-length-le}
 use lib.Seq.{drop-cons}
-use borrow.Author.Tests.{eq-eqb, ne-eqb}
+use borrow.Author.Tests.{eq-eqb, ne-eqb, eqb-true}
 use Rattle.semantics.specs.Text.{Bytes, same, fromBigEndian}
-use Rattle.words.specs.Words.{digestFrom}
+use Rattle.words.specs.Words.{digestFrom, digest}
 
 -- ---- two texts
 
@@ -46,6 +46,30 @@ digest-next s i h l e = rw (add-one, drop-cons s i 0 l, e)
 pub digest-end : (s : Bytes) (i h : ℕ) {d : ℕ} → length s ≤ i → d ≡ digestFrom h (drop i s) → h ≡ d
 unfolding digestFrom
 digest-end s i h l e = sym (e ∙ rw (drop-of-length-le s {i = i} l))
+
+digest-same : (a b : Bytes) (h : ℕ) → same a b ≡ true → digestFrom h a ≡ digestFrom h b
+unfolding digestFrom
+digest-same [] [] h e = refl
+digest-same [] (y ∷ b) h e = absurd (false≢true e)
+digest-same (x ∷ a) [] h e = absurd (false≢true e)
+digest-same (x ∷ a) (y ∷ b) h e = go (eqb x y) refl e (λ k f. digest-same a b k f)
+  where
+    go : (t : Bool) → eqb x y ≡ t → t && same a b ≡ true → ((k : ℕ) → same a b ≡ true → digestFrom k a ≡ digestFrom k b) → digestFrom ((h * 185 + x) % 256) a ≡ digestFrom ((h * 185 + y) % 256) b
+    go true q f ih = rw (eqb-true x y q) (ih ((h * 185 + y) % 256) f)
+    go false q f ih = absurd (false≢true f)
+
+-- texts with different digests are different
+pub digest-apart : (a b : Bytes) → (digest a ≡ digest b → ⊥) → false ≡ same a b
+digest-apart a b n = go (same a b) refl
+  where
+    go : (t : Bool) → same a b ≡ t → false ≡ t
+    go true q = absurd (n (digest-same a b 0 q))
+    go false q = refl
+
+pub digest-append : (a b : Bytes) (h : ℕ) → digestFrom h (a ++ b) ≡ digestFrom (digestFrom h a) b
+unfolding digestFrom
+digest-append [] b h = refl
+digest-append (x ∷ a) b h = digest-append a b ((h * 185 + x) % 256)
 
 -- ---- 8 bytes as a number
 

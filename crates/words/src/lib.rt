@@ -5,7 +5,7 @@ ghost use lib.ListN.{length};
 ghost use Rattle.semantics.specs.Text as Text;
 ghost use Rattle.semantics.specs.Text.{bigEndian};
 ghost use Rattle.write.specs.Wrote.{Wrote};
-ghost use Rattle.words.specs.Words.{digest, wordAt, bitsAt};
+ghost use Rattle.words.specs.Words.{digestFrom, digest, wordAt, bitsAt};
 
 pub fn same(a: &[u8], b: &[u8]) -> bool
     ensures { λ r. ⌜ r ≡ Text.same (now (a .entry)) (now (b .entry)) ⌝ }
@@ -29,17 +29,25 @@ pub fn wide(x: u8) -> usize
     x as usize
 }
 
-// A number below 256 that tells most texts apart; equal texts have one.
-pub fn digest(s: &[u8]) -> usize
-    ensures { λ r. ⌜ (r ≡ digest (now (s .entry))) × (r < 256) ⌝ }
+// The digest of a text behind one that has the digest `before`.
+pub fn digest_on(before: usize, s: &[u8]) -> usize
+    requires { ⌜ before < 256 ⌝ }
+    ensures { λ r. ⌜ (r ≡ digestFrom before (now (s .entry))) × (r < 256) ⌝ }
 {
-    let mut h = 0;
+    let mut h = before;
     let mut i = 0;
     while i < s.len() {
         h = (h * 185 + wide(s[i])) % 256;
         i += 1;
     }
     h
+}
+
+// A number below 256 that tells most texts apart; equal texts have one.
+pub fn digest(s: &[u8]) -> usize
+    ensures { λ r. ⌜ (r ≡ digest (now (s .entry))) × (r < 256) ⌝ }
+{
+    digest_on(0, s)
 }
 
 fn wide64(x: u8) -> u64

@@ -4,18 +4,13 @@ use Rattle.form.proofs.Compared.{ends-hit, ends-end}
 use borrow.Author.Needs.{needs}
 use Rattle.form.proofs.ends_at.Statement.{statement}
 use Rattle.form.proofs.ends_at.Tie as tie
-use Rattle.form.proofs.ends_at.Reads as reads
-use Rattle.form.proofs.ends_at.Lts as lts
 
--- src/lib.rt:424:9
 returns : tie.Need-returns
 returns c = ends-end (now (c .before .args .l)) (c .before .args .e) (c .if1 .taken)
 
--- src/lib.rt:426:5
 shared-slice-read-result : tie.Need-shared-slice-read-result
 shared-slice-read-result c = search needs
 
--- src/lib.rt:419:1
 returns-2 : tie.Need-returns-2
 returns-2 c = ends-hit (now (c .before .before .args .l)) (c .before .before .args .e) (omega arith)
 

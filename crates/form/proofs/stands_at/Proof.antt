@@ -11,9 +11,6 @@ use borrow.Author.Tests.{not-true, not-false}
 use Rattle.form.proofs.Compared.{stands-short, stands-on, stands-end, stands-all, stands-comma, stands-next, stands-not}
 use Rattle.form.proofs.stands_at.Statement.{statement}
 use Rattle.form.proofs.stands_at.Tie as tie
-use Rattle.form.proofs.stands_at.Reads as reads
-use Rattle.form.proofs.stands_at.Lts as lts
-use Rattle.form.proofs.ends_at.Reads as ends-at-reads
 
 abbrev Inv-loop : tie.InvT-loop
 Inv-loop l at name i₀ i = (i ≤ length name) × (at + length name ≤ length l) × (same (drop i name) (until 44 (drop (at + i) l)) ≡ true)
@@ -21,63 +18,48 @@ Inv-loop l at name i₀ i = (i ≤ length name) × (at + length name ≤ length 
 abbrev μ-loop : tie.MeasureT-loop
 μ-loop l at name i₀ i = i
 
--- src/lib.rt:434:8
 sub-if1 : tie.Need-sub-if1 Inv-loop μ-loop
 sub-if1 c = search needs
 
--- src/lib.rt:435:9
 returns : tie.Need-returns Inv-loop μ-loop
 returns c = stands-short (now (c .before .before .before .args .name)) (now (c .before .before .before .args .l)) (c .before .before .before .args .at) (c .before .before .before .pre) (c .if1 .taken)
 
--- src/lib.rt:437:20
 add-ends-at : tie.Need-add-ends-at Inv-loop μ-loop
 add-ends-at c = search needs
 
--- src/lib.rt:437:9
 ends-at-requires : tie.Need-ends-at-requires Inv-loop μ-loop
 ends-at-requires c κs = search needs
 
--- src/lib.rt:438:9
 returns-2 : tie.Need-returns-2 Inv-loop μ-loop
 returns-2 c = stands-on (now (c .before .before .before .before .before .args .name)) (now (c .before .before .before .before .before .args .l)) (c .before .before .before .before .before .args .at) (omega (arith, c .before .before .if1 .left, c .before .before .before .before .before .pre)) (sym (c .before .ends-at .ensures) ∙ not-true _ (c .if2 .taken))
 
--- src/lib.rt:441:5
 loop-holds : tie.Need-loop-holds Inv-loop μ-loop
 loop-holds c = (omega arith, omega (arith, c .before .before .if1 .left, c .before .before .before .before .before .pre), stands-end (now (c .before .before .before .before .before .args .name)) (now (c .before .before .before .before .before .args .l)) (c .before .before .before .before .before .args .at) (sym (c .before .ends-at .ensures) ∙ not-false _ (c .if2 .left)))
 
--- src/lib.rt:442:9
 sub-i : tie.Need-sub-i Inv-loop μ-loop
 sub-i c = search needs
 
--- src/lib.rt:443:19
 add-x : tie.Need-add-x Inv-loop μ-loop
 add-x c = search needs
 
--- src/lib.rt:443:17
 shared-slice-read-x : tie.Need-shared-slice-read-x Inv-loop μ-loop
 shared-slice-read-x c = search needs
 
--- src/lib.rt:444:17
 shared-slice-read-if3 : tie.Need-shared-slice-read-if3 Inv-loop μ-loop
 shared-slice-read-if3 c = search needs
 
--- src/lib.rt:445:13
 returns-3 : tie.Need-returns-3 Inv-loop μ-loop
 returns-3 c = stands-not (now (c .before .before .before .before .before .before .before .before .before .before .args .name)) (now (c .before .before .before .before .before .before .before .before .before .before .args .l)) (c .before .before .before .before .before .before .before .before .before .before .args .at) _ (omega arith) (omega arith) (c .if3 .taken)
 
--- src/lib.rt:448:13
 returns-4 : tie.Need-returns-4 Inv-loop μ-loop
 returns-4 c = stands-comma (now (c .before .before .before .before .before .before .before .before .before .before .before .args .name)) (now (c .before .before .before .before .before .before .before .before .before .before .before .args .l)) (c .before .before .before .before .before .before .before .before .before .before .before .args .at) _ (omega arith) (omega arith) (c .if4 .taken)
 
--- src/lib.rt:441:5
 loop-less : tie.Need-loop-less Inv-loop μ-loop
 loop-less c = search needs
 
--- src/lib.rt:441:5
 loop-again : tie.Need-loop-again Inv-loop μ-loop
 loop-again c = (omega arith, c .before .before .before .before .before .loop .inv .1, stands-next (now (c .before .before .before .before .before .before .before .before .before .before .before .args .name)) (now (c .before .before .before .before .before .before .before .before .before .before .before .args .l)) (c .before .before .before .before .before .before .before .before .before .before .before .args .at) (c .before .before .before .before .before .loop .i - 1) (omega arith) (omega arith) (c .if4 .left) (c .before .before .before .before .before .loop .i) (omega arith) (c .before .if3 .left) (c .before .before .before .before .before .loop .inv .2))
 
--- src/lib.rt:430:1
 returns-5 : tie.Need-returns-5 Inv-loop μ-loop
 returns-5 c = let z : c .before .loop .i ≡ 0 = omega arith in stands-all (now (c .before .before .before .before .before .before .before .args .name)) (now (c .before .before .before .before .before .before .before .args .l)) (c .before .before .before .before .before .before .before .args .at) (rw z at (c .before .loop .inv .2))
 

@@ -1,33 +1,22 @@
 use denote.Ref.{now}
-use mathlib.Core.Path.{_∙_, sym}
-use native.Mathlib.Omega.{arith}
+use mathlib.Core.Path.{_∙_}
 use Rattle.globals.proofs.Table.{named-apart}
 use borrow.Author.Needs.{needs}
 use Rattle.globals.proofs.is_named.Statement.{statement}
 use Rattle.globals.proofs.is_named.Tie as tie
-use Rattle.globals.proofs.is_named.Reads as reads
-use Rattle.globals.proofs.is_named.Lts as lts
-use Rattle.globals.proofs.digest_of.Reads as digest-of-reads
-use Rattle.globals.proofs.name_of.Reads as name-of-reads
-use Rattle.words.proofs.same.Reads as same-reads
 
--- src/lib.rt:96:8
 digest-of-requires : tie.Need-digest-of-requires
 digest-of-requires c κs = search needs
 
--- src/lib.rt:97:9
 returns : tie.Need-returns
 returns c = named-apart (now (c .before .before .before .before .before .args .name)) (c .before .before .before .before .before .pre .0) (c .before .before .before .before .before .pre .1) (c .before .before .before .before .before .pre .2) (λ e. c .if1 .taken (c .before .digest-of .ensures ∙ e))
 
--- src/lib.rt:99:23
 name-of-requires : tie.Need-name-of-requires
 name-of-requires c κs = search needs
 
--- src/lib.rt:99:5
 same-requires : tie.Need-same-requires
 same-requires c κs = search needs
 
--- src/lib.rt:84:1
 returns-2 : tie.Need-returns-2
 returns-2 c = c .same .ensures ∙ rw (c .before .name-of .ensures)
 

@@ -1,5 +1,5 @@
 use denote.Ref.{now}
-use mathlib.Core.Path.{_∙_, sym}
+use mathlib.Core.Path.{_∙_, sym, refl}
 use Rattle.type_keys.proofs.Same.{block-line, names-are, blocks-are, others-are}
 use Rattle.type_keys.proofs.Forms.{forms-apart}
 use borrow.Author.Needs.{needs}
@@ -18,14 +18,11 @@ returns c = sym (forms-apart (now (c .before .before .before .before .before .ar
 field-at-requires : tie.Need-field-at-requires
 field-at-requires c κs = search needs
 
-field-at-requires-2 : tie.Need-field-at-requires-2
-field-at-requires-2 c κs = search needs
-
-same-requires : tie.Need-same-requires
-same-requires c κs = search needs
+first-is-requires : tie.Need-first-is-requires
+first-is-requires c κs = search needs
 
 returns-2 : tie.Need-returns-2
-returns-2 c = names-are (now (c .before .before .before .before .before .before .before .before .before .args .sheet)) (now (c .before .before .before .before .before .before .before .before .before .args .work)) (c .before .before .before .before .before .before .before .before .before .args .n) (c .before .before .before .before .before .before .before .before .before .args .a) (c .before .before .before .before .before .before .before .before .before .args .b) (c .before .before .before .before .before .before .before .before .before .pre .0) (c .before .before .before .before .before .before .before .before .before .pre .1) (c .before .before .before .before .before .before .form-at .result) (c .before .before .before .before .before .before .form-at .ensures) (c .before .before .before .before .if1 .left ∙ c .before .before .before .before .before .form-at2 .ensures) (c .before .before .before .if2 .taken) (c .before .before .field-at .ensures) (c .before .field-at2 .ensures) (c .same .ensures)
+returns-2 c = names-are (now (c .before .before .before .before .before .before .before .before .args .sheet)) (now (c .before .before .before .before .before .before .before .before .args .work)) (c .before .before .before .before .before .before .before .before .args .n) (c .before .before .before .before .before .before .before .before .args .a) (c .before .before .before .before .before .before .before .before .args .b) (c .before .before .before .before .before .before .before .before .pre .0) (c .before .before .before .before .before .before .before .before .pre .1) (c .before .before .before .before .before .form-at .result) (c .before .before .before .before .before .form-at .ensures) (c .before .before .before .if1 .left ∙ c .before .before .before .before .form-at2 .ensures) (c .before .before .if2 .taken) (c .before .field-at .ensures) refl (c .first-is .ensures)
 
 same-shape-requires : tie.Need-same-shape-requires
 same-shape-requires c κs = (block-line (now (c .before .before .before .before .before .before .before .args .sheet)) (now (c .before .before .before .before .before .before .before .args .work)) (c .before .before .before .before .before .before .before .args .n) (c .before .before .before .before .before .before .before .args .a) (c .before .before .before .before .before .before .before .pre .0) (sym (c .before .before .before .before .form-at .ensures) ∙ c .if3 .taken), block-line (now (c .before .before .before .before .before .before .before .args .sheet)) (now (c .before .before .before .before .before .before .before .args .work)) (c .before .before .before .before .before .before .before .args .n) (c .before .before .before .before .before .before .before .args .b) (c .before .before .before .before .before .before .before .pre .1) (sym (c .before .before .if1 .left ∙ c .before .before .before .form-at2 .ensures) ∙ c .if3 .taken))
@@ -38,5 +35,5 @@ returns-4 c = others-are (now (c .before .before .before .before .before .before
 
 pub same-need-spec : {M : Type 1} → statement M
 same-need-spec =
-    tie.close (tie.spec form-at-requires form-at-requires-2 returns field-at-requires field-at-requires-2 same-requires returns-2 same-shape-requires
+    tie.close (tie.spec form-at-requires form-at-requires-2 returns field-at-requires first-is-requires returns-2 same-shape-requires
     returns-3 returns-4)

@@ -1,71 +1,13 @@
-use borrow.Author.Needs.{needs}
-use denote.Ref.{now}
-use lib.ListN.{length, drop}
-use Prim.Native.Nat.{_-_, _≤_, _<_}
-use mathlib.Core.Path.{_≡_, refl, _∙_}
+-- `words::digest` meets its contract.
 use native.Mathlib.Omega.{arith}
-use Rattle.words.specs.Words.{digestFrom}
-use Rattle.words.proofs.Laws.{digest-next, digest-end}
 use Rattle.words.proofs.digest.Statement.{statement}
 use Rattle.words.proofs.digest.Tie as tie
-use Rattle.words.proofs.digest.Reads as reads
-use Rattle.words.proofs.digest.Lts as lts
-use Rattle.words.proofs.wide.Reads as wide-reads
 
-abbrev Inv-loop : tie.InvT-loop
-Inv-loop s h₀ i₀ h i = (i ≤ length s) × (h < 256) × (digestFrom 0 s ≡ digestFrom h (drop i s))
+digest-on-requires : tie.Need-digest-on-requires
+digest-on-requires c κs = omega arith
 
-abbrev μ-loop : tie.MeasureT-loop
-μ-loop s h₀ i₀ h i = length s - i
-
--- src/lib.rt:38:5
-loop-holds : tie.Need-loop-holds Inv-loop μ-loop
-loop-holds c = (omega arith, omega arith, refl)
-
--- src/lib.rt:39:14
-mul-h : tie.Need-mul-h Inv-loop μ-loop
-mul-h c = search needs
-
--- src/lib.rt:39:29
-shared-slice-read-wide : tie.Need-shared-slice-read-wide Inv-loop μ-loop
-shared-slice-read-wide c = search needs
-
--- src/lib.rt:39:24
-wide-requires : tie.Need-wide-requires Inv-loop μ-loop
-wide-requires c κs = search needs
-
--- src/lib.rt:39:14
-add-h : tie.Need-add-h Inv-loop μ-loop
-add-h c = search needs
-
--- src/lib.rt:40:9
-add-i : tie.Need-add-i Inv-loop μ-loop
-add-i c = search needs
-
--- src/lib.rt:38:5
-loop-less : tie.Need-loop-less Inv-loop μ-loop
-loop-less c = search needs
-
--- src/lib.rt:38:5
-loop-again : tie.Need-loop-again Inv-loop μ-loop
-loop-again c = (omega arith, omega arith, c .before .before .before .loop .inv .2 ∙ digest-next (now (c .before .before .before .before .before .args .s)) (c .before .before .before .loop .i) (c .before .before .before .loop .h) (omega arith) (c .wide .ensures .0))
-
--- src/lib.rt:33:1
-returns : tie.Need-returns Inv-loop μ-loop
-returns c = (digest-end (now (c .before .before .before .args .s)) (c .before .loop .i) (c .before .loop .h) (omega arith) (c .before .loop .inv .2), c .before .loop .inv .1)
+returns : tie.Need-returns
+returns c = c .digest-on .ensures
 
 pub digest-spec : {M : Type 1} → statement M
-digest-spec =
-    tie.close
-    (tie.spec
-    Inv-loop
-    μ-loop
-    loop-holds
-    mul-h
-    shared-slice-read-wide
-    wide-requires
-    add-h
-    add-i
-    loop-less
-    loop-again
-    returns)
+digest-spec = tie.close (tie.spec digest-on-requires returns)

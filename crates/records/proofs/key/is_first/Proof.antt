@@ -5,7 +5,7 @@ use borrow.Author.Needs.{needs}
 use Rattle.records.specs.Log.{recordedAt, logOf}
 use Rattle.semantics.specs.Layout.{seen}
 use denote.Ref.{now}
-use Prim.Native.Nat.{_≤_, _-_}
+use Prim.Native.Nat.{_≤_, _<_, _-_}
 use mathlib.Core.Path.{_≡_, refl}
 use Rattle.records.proofs.key.is_first.Statement.{statement}
 use Rattle.records.proofs.key.is_first.Tie as tie
@@ -20,7 +20,10 @@ loop-holds : tie.Need-loop-holds Inv-loop μ-loop
 loop-holds c = (omega arith, refl)
 
 same-key-requires : tie.Need-same-key-requires Inv-loop μ-loop
-same-key-requires c κs = (c .before .before .before .before .pre .0 .entries _ (c .before .before .before .before .pre .1), c .before .before .before .before .pre .0 .entries _ (omega (arith, c .before .before .before .before .pre .1, c .loop-test .taken)))
+same-key-requires c κs =
+    let g = c .before .before .before .before .pre .0 in
+    let h : c .before .loop .j < c .before .before .before .before .args .m = omega (arith, c .before .before .before .before .pre .1, c .loop-test .taken) in
+    (g .entries _ (c .before .before .before .before .pre .1), g .entries _ h, g .digests _ (c .before .before .before .before .pre .1), g .digests _ h)
 
 returns : tie.Need-returns Inv-loop μ-loop
 returns c = seen-found (now (c .before .before .before .before .before .before .args .sheet)) (now (c .before .before .before .before .before .before .args .work)) (c .before .before .before .before .before .before .args .n) (c .before .before .before .before .before .before .args .m) (c .before .before .before .before .before .before .pre .0) (recordedAt (now (c .before .before .before .before .before .before .args .sheet)) (now (c .before .before .before .before .before .before .args .work)) (c .before .before .before .before .before .before .args .i) .key) (c .before .before .before .before .before .before .args .i) (c .before .before .before .loop .j) (c .before .before .before .before .before .before .pre .1) (c .before .before .loop-test .taken) (c .before .before .before .loop .inv .1) (c .before .same-key .ensures) (c .if1 .taken)

@@ -23,7 +23,10 @@ sub-j : tie.Need-sub-j Inv-loop μ-loop
 sub-j c = omega (arith, c .loop-test .taken)
 
 same-key-requires : tie.Need-same-key-requires Inv-loop μ-loop
-same-key-requires c κs = (c .before .before .before .before .pre .0 .entries _ (c .before .before .before .before .pre .1), c .before .before .before .before .pre .0 .entries _ (omega (arith, c .before .loop .inv .1, c .loop-test .taken)))
+same-key-requires c κs =
+    let g = c .before .before .before .before .pre .0 in
+    let h : c .before .loop .j - 1 < c .before .before .before .before .args .m = omega (arith, c .before .loop .inv .1, c .loop-test .taken) in
+    (g .entries _ (c .before .before .before .before .pre .1), g .entries _ h, g .digests _ (c .before .before .before .before .pre .1), g .digests _ h)
 
 returns : tie.Need-returns Inv-loop μ-loop
 returns c =
