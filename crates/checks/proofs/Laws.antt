@@ -1,11 +1,10 @@
 -- Laws of the checks together.
 use mathlib.Core.Path.{_≡_, refl, sym, ap, _∙_, subst}
 use mathlib.Core.Bool.{false}
-use mathlib.Core.List.{List, [], _∷_, _++_}
+use mathlib.Core.List.{List, []}
 use Prim.Native.Nat.{ℕ, zero, suc, _+_, _≤_, _<_}
 use native.Mathlib.Omega.{arith}
-use lib.ListN.{length, take, getD, set, length-replicate, replicate-append-replicate}
-use lib.Seq.{take-all, take-suc-set}
+use lib.ListN.{length, getD, length-replicate}
 use borrow.Author.Tests.{lt-ltb, le-ltb, ne-eqb}
 use Rattle.semantics.specs.Text.{lineParts}
 use Rattle.semantics.specs.Refusal.{Outcome, refused, zeros, noCounts, badForm, badRefFrom, tooDeepFrom, badModuleFrom, tooManyFrom, checked, worked, compiled}
@@ -28,15 +27,6 @@ zero-at : (n j : ℕ) → getD (zeros n) j 0 ≡ 0
 zero-at zero j = refl
 zero-at (suc n) zero = refl
 zero-at (suc n) (suc j) = zero-at n j
-
--- the working space after one more zero
-pub cleared-more : (t : List ℕ) (i : ℕ) → i < length t → take i t ≡ zeros i → take (i + 1) (set t i 0) ≡ zeros (i + 1)
-cleared-more t i h e =
-    let z : i + 1 ≡ suc i = omega arith in
-    ap (λ (j : ℕ). take j (set t i 0)) z ∙ take-suc-set t i 0 h ∙ ap (λ (l : List ℕ). l ++ (0 ∷ [])) e ∙ replicate-append-replicate i 1 0
-
-pub cleared-all : (t : List ℕ) (i n : ℕ) → length t ≡ n → n ≤ i → i ≤ n → take i t ≡ zeros i → t ≡ zeros n
-cleared-all t i n l h k e = let z : i ≡ n = omega arith in sym (take-all i t (omega arith)) ∙ e ∙ ap zeros z
 
 pub zeros-of : (t : List ℕ) (n : ℕ) → t ≡ zeros n → t ≡ zeros (length t)
 zeros-of t n e = e ∙ ap zeros (sym (ap length e ∙ length-replicate n 0))

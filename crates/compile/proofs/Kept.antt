@@ -1,12 +1,11 @@
 -- The tables of a checked sheet stay while rows are written.
-use mathlib.Core.Path.{_≡_, sym, _∙_}
+use mathlib.Core.Path.{sym, _∙_}
 use mathlib.Core.List.{List}
-use Prim.Native.Nat.{ℕ, _+_, _<_}
+use Prim.Native.Nat.{ℕ}
 use native.Mathlib.Omega.{arith}
 use lib.ListN.{length, drop-of-length-le}
 use Rattle.semantics.specs.Text.{Bytes}
 use Rattle.semantics.specs.Tree.{TypeKey}
-use Rattle.semantics.specs.Array.{kindNumber}
 use Rattle.checks.specs.Checks.{Kept}
 use Rattle.checks.proofs.Kept.{kept-at, kept-less, checked-kept}
 use Rattle.names.specs.Table as Names
@@ -14,8 +13,8 @@ use Rattle.globals.proofs.Collect.{collected-kept}
 use Rattle.records.proofs.Kept as Records
 use Rattle.placements.specs.Placements.{Keeps}
 use Rattle.literals.proofs.Names.{kept-low, logged-kept, log-kept}
-use Rattle.type_keys.specs.Table.{kindOf, kindsUsed, Needs, Kinds}
-use Rattle.type_keys.proofs.Forms.{kind-low}
+use Rattle.type_keys.specs.Table.{Needs}
+use Rattle.type_keys.proofs.Table.{kinds-kept}
 use Rattle.type_keys.proofs.Numbers.{needs-kept}
 use Rattle.tables.specs.declared.Tables.{Tables}
 use Rattle.tables.specs.Tables.{Held}
@@ -25,18 +24,6 @@ use Rattle.compile.specs.Compile.{Known}
 pub needs-stay : {s t u : Bytes} {n : ℕ} {ks : List TypeKey} → Kept 10624 t u → Needs s t n ks → Needs s u n ks
 needs-stay {s} {t} {u} {n} {ks} k x =
     needs-kept s t n ks x u {b = length t} (record { kept = k; above = drop-of-length-le u {i = length t} (omega (arith, k .long)) ∙ sym (drop-of-length-le t {i = length t} (omega arith)) })
-
-kind-stays : {t u : Bytes} → Kept 11264 t u → (j : ℕ) → j < 5 → kindOf u j ≡ kindOf t j
-unfolding kindOf
-kind-stays k j h = kept-at k (10624 + j) (omega arith)
-
-kinds-stay : {t u : Bytes} {ks : List TypeKey} {count : ℕ} → Kept 11264 t u → Kinds t ks count → Kinds u ks count
-unfolding kindsUsed
-kinds-stay k x = record {
-  count = x .count;
-  place = λ e. kind-stays k (kindNumber e) (kind-low e) ∙ x .place e;
-  few = rw (kind-stays k 0 (omega arith), kind-stays k 1 (omega arith), kind-stays k 2 (omega arith), kind-stays k 3 (omega arith), kind-stays k 4 (omega arith)) (x .few);
-}
 
 module _ {s t u : Bytes} {n : ℕ} {x : Tables} where
   -- but for the constants' strings
@@ -48,7 +35,7 @@ module _ {s t u : Bytes} {n : ℕ} {x : Tables} where
     records = Records.logged-kept (kept-less (omega arith) k) (h .records);
     count = h .count;
     needs = needs-stay (kept-less (omega arith) k) (h .needs);
-    kinds = kinds-stay k (h .kinds);
+    kinds = kinds-kept (kept-less (omega arith) k) (h .kinds);
   }
 
   -- where values are folded

@@ -59,7 +59,7 @@ module _ {s t : Bytes} {n : ℕ} {x : Tables} (k : Known s t n x) where
     pends-written {b} q = subst (λ (ns : Names). AllPended ns s d a (Pends.Written b) e) names-are (subst (λ (z : Pends). AllPended (namesIn s t (x .consts)) s d a z e) q h)
 
     pub pends-refused : {q l : ℕ} → y ≡ Pends.Refused q l → varsRefused (namesOf (sheetSource s)) (laidVars (sheetSource s)) ≡ some (record { number = q; line = l })
-    pends-refused {q} {l} g = subst (λ (ns : Names). AllPended ns s d a (Pends.Refused q l) e) names-are (subst (λ (z : Pends). AllPended (namesIn s t (x .consts)) s d a z e) g h)
+    pends-refused {q} {l} g = subst (λ (ns : Names). AllPended ns s d a (Pends.Refused q l) e) names-are (subst (λ (z : Pends). AllPended (namesIn s t (x .consts)) s d a z e) g h) .0
 
   -- all rows
   listing-rows : {d e f g : Bytes} {p q r : ℕ}

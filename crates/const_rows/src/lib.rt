@@ -20,43 +20,43 @@ const REAL: u8 = 2;
 const STRING: u8 = 3;
 
 // The fields of the value that a look-up found, to the row's end.
-fn put_value(work: &[u8], listing: &mut [u8], at: usize, r: usize) -> usize
+fn put_value(work: &[u8], out: &mut [u8], at: usize, r: usize) -> usize
     requires { ⌜ Shown (now work) r ⌝ }
-    ensures { λ p. ⌜ Wrote (now (listing .entry)) at (row (valueFields (found (now (work .entry)) r))) (now (listing .exit)) p ⌝ }
+    ensures { λ p. ⌜ Wrote (now (out .entry)) at (row (valueFields (found (now (work .entry)) r))) (now (out .exit)) p ⌝ }
 {
     if r == 0 {
-        return write::put_part(listing, at, b"x\n");
+        return write::put_part(out, at, b"x\n");
     }
     let k = names::slot_kind(work, r - 1);
     let b = names::slot_bits(work, r - 1);
     if k == INT {
-        let p = write::put_part(listing, at, b"i,");
-        let q = write::put_int(listing, p, numbers::ints::of_bits(b));
-        return write::put(listing, q, LF);
+        let p = write::put_part(out, at, b"i,");
+        let q = write::put_int(out, p, numbers::ints::of_bits(b));
+        return write::put(out, q, LF);
     }
     if k == REAL {
-        let p = write::put_part(listing, at, b"r,");
-        let q = write::put_word(listing, p, numbers::reals::bits(numbers::reals::of_bits(b)));
-        return write::put(listing, q, LF);
+        let p = write::put_part(out, at, b"r,");
+        let q = write::put_word(out, p, numbers::reals::bits(numbers::reals::of_bits(b)));
+        return write::put(out, q, LF);
     }
     if k == STRING {
         let a = (b % 65536) as usize;
         let e = a + (b / 65536) as usize;
-        let p = write::put_part(listing, at, b"s,");
-        let q = write::put_hex(listing, p, &work[a..e]);
-        return write::put(listing, q, LF);
+        let p = write::put_part(out, at, b"s,");
+        let q = write::put_hex(out, p, &work[a..e]);
+        return write::put(out, q, LF);
     }
-    write::put_part(listing, at, b"x\n")
+    write::put_part(out, at, b"x\n")
 }
 
 // A name, and behind it the value.
-fn put_rest(work: &[u8], listing: &mut [u8], at: usize, name: &[u8], r: usize) -> usize
+fn put_rest(work: &[u8], out: &mut [u8], at: usize, name: &[u8], r: usize) -> usize
     requires { ⌜ Shown (now work) r ⌝ }
-    ensures { λ p. ⌜ Wrote (now (listing .entry)) at (now (name .entry) ++ (44 ∷ row (valueFields (found (now (work .entry)) r)))) (now (listing .exit)) p ⌝ }
+    ensures { λ p. ⌜ Wrote (now (out .entry)) at (now (name .entry) ++ (44 ∷ row (valueFields (found (now (work .entry)) r)))) (now (out .exit)) p ⌝ }
 {
-    let p = write::put_part(listing, at, name);
-    let q = write::put(listing, p, COMMA);
-    put_value(work, listing, q, r)
+    let p = write::put_part(out, at, name);
+    let q = write::put(out, p, COMMA);
+    put_value(work, out, q, r)
 }
 
 // The row of M->NAME that entry i adds, if it adds one.
@@ -65,12 +65,12 @@ fn qualified_row(
     work: &[u8],
     n: usize,
     m: usize,
-    listing: &mut [u8],
+    out: &mut [u8],
     at: usize,
     i: usize,
 ) -> usize
-    requires { ⌜ (Table (now sheet) (now work) n m) × (i < m) × (at ≤ length (now listing) + 1) ⌝ }
-    ensures { λ p. ⌜ Wrote (now (listing .entry)) at (qualifiedPart (now (sheet .entry)) (now (work .entry)) m i) (now (listing .exit)) p ⌝ }
+    requires { ⌜ (Table (now sheet) (now work) n m) × (i < m) × (at ≤ length (now out) + 1) ⌝ }
+    ensures { λ p. ⌜ Wrote (now (out .entry)) at (qualifiedPart (now (sheet .entry)) (now (work .entry)) m i) (now (out .exit)) p ⌝ }
 {
     let k = names::module_line_of(work, i);
     if k == 0 {
@@ -82,10 +82,10 @@ fn qualified_row(
         return at;
     }
     let r = names::look_up_in(sheet, work, n, m, within, name);
-    let p = write::put_part(listing, at, b"con,");
-    let q = write::put_part(listing, p, within);
-    let a = write::put_part(listing, q, b"->");
-    put_rest(work, listing, a, name, r)
+    let p = write::put_part(out, at, b"con,");
+    let q = write::put_part(out, p, within);
+    let a = write::put_part(out, q, b"->");
+    put_rest(work, out, a, name, r)
 }
 
 // Whether constants of the module of line k, or of none for 0, have plain names.
@@ -105,12 +105,12 @@ fn plain_row(
     work: &[u8],
     n: usize,
     m: usize,
-    listing: &mut [u8],
+    out: &mut [u8],
     at: usize,
     i: usize,
 ) -> usize
-    requires { ⌜ (Table (now sheet) (now work) n m) × (i < m) × (at ≤ length (now listing) + 1) ⌝ }
-    ensures { λ p. ⌜ Wrote (now (listing .entry)) at (plainPart (now (sheet .entry)) (now (work .entry)) m i) (now (listing .exit)) p ⌝ }
+    requires { ⌜ (Table (now sheet) (now work) n m) × (i < m) × (at ≤ length (now out) + 1) ⌝ }
+    ensures { λ p. ⌜ Wrote (now (out .entry)) at (plainPart (now (sheet .entry)) (now (work .entry)) m i) (now (out .exit)) p ⌝ }
 {
     if !is_own(sheet, work, n, m, names::module_line_of(work, i)) {
         return at;
@@ -120,8 +120,8 @@ fn plain_row(
         return at;
     }
     let r = names::look_up(sheet, work, n, m, name);
-    let p = write::put_part(listing, at, b"con,");
-    put_rest(work, listing, p, name, r)
+    let p = write::put_part(out, at, b"con,");
+    put_rest(work, out, p, name, r)
 }
 
 // The row that entry i adds among the plain names, or among M->NAME.
@@ -130,18 +130,18 @@ fn entry_row(
     work: &[u8],
     n: usize,
     m: usize,
-    listing: &mut [u8],
+    out: &mut [u8],
     at: usize,
     i: usize,
     plain: bool,
 ) -> usize
-    requires { ⌜ (Table (now sheet) (now work) n m) × (i < m) × (at ≤ length (now listing) + 1) ⌝ }
-    ensures { λ p. ⌜ Wrote (now (listing .entry)) at (partOf plain (now (sheet .entry)) (now (work .entry)) m i) (now (listing .exit)) p ⌝ }
+    requires { ⌜ (Table (now sheet) (now work) n m) × (i < m) × (at ≤ length (now out) + 1) ⌝ }
+    ensures { λ p. ⌜ Wrote (now (out .entry)) at (partOf plain (now (sheet .entry)) (now (work .entry)) m i) (now (out .exit)) p ⌝ }
 {
     if plain {
-        return plain_row(sheet, work, n, m, listing, at, i);
+        return plain_row(sheet, work, n, m, out, at, i);
     }
-    qualified_row(sheet, work, n, m, listing, at, i)
+    qualified_row(sheet, work, n, m, out, at, i)
 }
 
 // All of them.
@@ -150,34 +150,27 @@ fn rows(
     work: &[u8],
     n: usize,
     m: usize,
-    listing: &mut [u8],
+    out: &mut [u8],
     at: usize,
     plain: bool,
 ) -> usize
-    requires { ⌜ (Table (now sheet) (now work) n m) × (at ≤ length (now listing) + 1) ⌝ }
-    ensures { λ p. ⌜ Wrote (now (listing .entry)) at (rowsTo plain (now (sheet .entry)) (now (work .entry)) m m) (now (listing .exit)) p ⌝ }
+    requires { ⌜ (Table (now sheet) (now work) n m) × (at ≤ length (now out) + 1) ⌝ }
+    ensures { λ p. ⌜ Wrote (now (out .entry)) at (rowsTo plain (now (sheet .entry)) (now (work .entry)) m m) (now (out .exit)) p ⌝ }
 {
     let mut p = at;
     let mut i = 0;
     while i < m {
-        p = entry_row(sheet, work, n, m, listing, p, i, plain);
+        p = entry_row(sheet, work, n, m, out, p, i, plain);
         i += 1;
     }
     p
 }
 
-pub fn const_rows(
-    sheet: &[u8],
-    work: &[u8],
-    n: usize,
-    m: usize,
-    listing: &mut [u8],
-    at: usize,
-) -> usize
+pub fn const_rows(sheet: &[u8], work: &[u8], n: usize, m: usize, out: &mut [u8], at: usize) -> usize
     requires { ⌜ Table (now sheet) (now work) n m ⌝ }
-    ensures { λ p. ⌜ Wrote (now (listing .entry)) at (constRows (logIn (now (sheet .entry)) (now (work .entry)) m)) (now (listing .exit)) p ⌝ }
+    ensures { λ p. ⌜ Wrote (now (out .entry)) at (constRows (logIn (now (sheet .entry)) (now (work .entry)) m)) (now (out .exit)) p ⌝ }
 {
-    let p = write::put_part(listing, at, b""); // a place past the end is one past it from here on
-    let q = rows(sheet, work, n, m, listing, p, false);
-    rows(sheet, work, n, m, listing, q, true)
+    let p = write::put_part(out, at, b""); // a place past the end is one past it from here on
+    let q = rows(sheet, work, n, m, out, p, false);
+    rows(sheet, work, n, m, out, q, true)
 }

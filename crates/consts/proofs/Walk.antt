@@ -1,6 +1,6 @@
 -- Laws of a pass, line by line.
 use mathlib.Core.Path.{_≡_, refl, sym, ap, _∙_}
-use mathlib.Core.Bool.{Bool, true, false, cond, not}
+use mathlib.Core.Bool.{Bool, true, false, not}
 use mathlib.Core.List.{List, [], _∷_}
 use mathlib.Core.Option.{Option, none, some}
 use Prim.Native.Nat.{ℕ, suc, _+_, _≤_, _<_}
@@ -8,7 +8,7 @@ use native.Mathlib.Omega.{arith}
 use native.Mathlib.Numerals.{add-one}
 use lib.Dec.{eqb}
 use lib.ListN.{length, getD}
-use borrow.Author.Tests.{eqb-true, eqb-false, not-true}
+use borrow.Author.Tests.{eqb-false, not-true}
 use Rattle.form.proofs.Table.{both}
 use Rattle.semantics.specs.Text.{Bytes}
 use Rattle.semantics.specs.Tree.{ConstDecl}
@@ -20,7 +20,7 @@ use Rattle.text.specs.Number as Number
 use Rattle.form.specs.Table.{kindAt}
 use Rattle.lines.specs.Lines.{readAt, nodesIn, formAt}
 use Rattle.lines.proofs.Line.{kind-is, form-low}
-use Rattle.implement.specs.Modules.{moduleAt}
+use Rattle.implement.specs.Modules.{moduleAt, Open}
 use Rattle.checks.specs.Checks.{Checked, Kept}
 use Rattle.checks.proofs.Kept.{kept-less, checked-kept}
 use Rattle.source.specs.Walk.{openAt}
@@ -33,8 +33,8 @@ use Rattle.consts.specs.declared.Visited.{Visited}
 use Rattle.consts.specs.declared.Visited.the-variants as Visited
 use Rattle.consts.specs.declared.Collected.{Collected}
 use Rattle.consts.specs.declared.Collected.the-variants as Collected
-use Rattle.consts.specs.Passes.{groupFrom, passesAfter, openAfter, constAt, ConstLine, step, tooLong, Steps, AtConstant, Standing, goes, Moves, Visits, Group, Logs, Passes, Before, rest, Past, Collects, left}
-use Rattle.consts.proofs.Passes.{open-mod, open-end, open-other, group-other, group-in, group-out, group-end, passes-start, passes-mod, passes-other, passes-end, count-mod, count-top, few-consts}
+use Rattle.consts.specs.Passes.{groupFrom, passesAfter, constAt, ConstLine, step, tooLong, Steps, AtConstant, Standing, goes, Moves, Visits, Group, Logs, Passes, Before, rest, Past, Collects, left}
+use Rattle.consts.proofs.Passes.{open-mod, open-other, group-other, group-in, group-out, group-end, passes-start, passes-mod, passes-other, passes-end, count-mod, count-top, few-consts}
 use Rattle.consts.proofs.Group.{group-start, group-left}
 use Rattle.consts.proofs.Lines.{line-number, col-number}
 
@@ -47,15 +47,19 @@ module _ {s t : Bytes} {n : ℕ} (c : Checked s t n) {i : ℕ} (h : i < n) where
   kind-read e d = kind-is s t n (c .whole) i h ∙ ap kindAt (sym e) ∙ sym d
 
 module _ (s t : Bytes) (n k : ℕ) (p : Pass) (st : Standing s t n k p) (h : p .line < n) where
+  pub open-here : Open s t n (p .line) (p .within)
+  open-here = record { checked = st .checked; within = st .inside; low = st .low; here = sym (st .opened) }
+
   -- where the group goes on behind the line
-  moves-past : (w : ℕ) → openAt (nodesIn s) (suc (p .line)) ≡ moduleAt s w → groupFrom s k (p .line) ≡ groupFrom s k (suc (p .line))
+  moves-past : (w : ℕ) → w ≤ n → openAt (nodesIn s) (suc (p .line)) ≡ moduleAt s w → groupFrom s k (p .line) ≡ groupFrom s k (suc (p .line))
       → Moves s t t n k p (record { line = p .line + 1; within = w; count = p .count; iota = p .iota })
   unfolding goes
-  moves-past w o g = record {
+  moves-past w l o g = record {
     stands = record {
       checked = st .checked;
       logged = st .logged;
       inside = omega arith;
+      low = l;
       group = st .group;
       opened = rw add-one o;
       room = rw (add-one, ← g) (st .room);
@@ -67,24 +71,15 @@ module _ (s t : Bytes) (n k : ℕ) (p : Pass) (st : Standing s t n k p) (h : p .
   }
 
   module _ {x : ℕ} (kind : letter (readAt s (p .line) .form .kind) ≡ x) where
-    open-is : openAt (nodesIn s) (suc (p .line)) ≡ moduleAt s (openAfter x (p .line) (p .within))
-    unfolding openAfter
-    open-is = go (eqb x 77) refl (eqb x 79) refl
-      where
-        go : (a : Bool) → eqb x 77 ≡ a → (b : Bool) → eqb x 79 ≡ b → openAt (nodesIn s) (suc (p .line)) ≡ moduleAt s (cond a (p .line + 1) (cond b 0 (p .within)))
-        go true e b d = rw add-one (open-mod s t n (st .checked) (p .line) h (kind ∙ eqb-true x 77 e))
-        go false e true d = open-end s t n (st .checked) (p .line) h (kind ∙ eqb-true x 79 d)
-        go false e false d = open-other s t n (st .checked) (p .line) h (λ q. eqb-false x 77 e (sym kind ∙ q)) (λ q. eqb-false x 79 d (sym kind ∙ q)) ∙ st .opened
-
-    pub moves-other : (x ≡ 68 → ⊥) → {w : ℕ} → w ≡ openAfter x (p .line) (p .within) → Moves s t t n k p (record { line = p .line + 1; within = w; count = p .count; iota = p .iota })
-    moves-other z {w} e = moves-past w (open-is ∙ ap (moduleAt s) (sym e)) (group-other s t n (st .checked) (p .line) h k (λ q. z (sym kind ∙ q)))
+    pub moves-other : (x ≡ 68 → ⊥) → {w : ℕ} → Open s t n (p .line + 1) w → Moves s t t n k p (record { line = p .line + 1; within = w; count = p .count; iota = p .iota })
+    moves-other z {w} o = moves-past w (o .low) (sym (rw add-one at (o .here))) (group-other s t n (st .checked) (p .line) h k (λ q. z (sym kind ∙ q)))
 
     module _ (con : x ≡ 68) where
       still : openAt (nodesIn s) (suc (p .line)) ≡ moduleAt s (p .within)
       still = open-other s t n (st .checked) (p .line) h (λ q. omega (arith, kind)) (λ q. omega (arith, kind)) ∙ st .opened
 
       pub moves-out : (p .within ≡ k → ⊥) → Moves s t t n k p (record { line = p .line + 1; within = p .within; count = p .count; iota = p .iota })
-      moves-out z = moves-past (p .within) still (group-out s t n (st .checked) (p .line) h (p .within) (st .opened) k (kind ∙ con) z)
+      moves-out z = moves-past (p .within) (st .low) still (group-out s t n (st .checked) (p .line) h (p .within) (st .opened) k (kind ∙ con) z)
 
       pub at-constant : p .within ≡ k → AtConstant s n k p
       at-constant e = record { line = h; kind = kind ∙ con; own = e }
@@ -140,6 +135,7 @@ module _ (s t : Bytes) (n k : ℕ) (p : Pass) (st : Standing s t n k p) (a : AtC
           checked = checked-kept (kept-less (omega arith) kept) (st .checked);
           logged = f .0;
           inside = omega (arith, a .line);
+          low = st .low;
           group = st .group;
           opened = rw add-one (still s t n k p st (a .line) (a .kind) refl);
           room = rw (add-one (p .line)) (omega (arith, st .room, longer));
@@ -171,6 +167,7 @@ module _ (s t : Bytes) (n m k : ℕ) (g : Group s t n m k) where
     checked = g .checked;
     logged = g .logged;
     inside = g .group;
+    low = g .group;
     group = g .group;
     opened = g .opened;
     room = omega (arith, g .room, ap length start-is);

@@ -1,7 +1,7 @@
 -- The constants of a sheet pass by pass, as a walk over its lines meets them. Lines are counted from 0 here.
 use Prim.Native.Nat.{ℕ, zero, suc, _+_, _≤_, _<_}
 use mathlib.Core.Path.{_≡_}
-use mathlib.Core.Bool.{Bool, true, false, cond, not, _&&_}
+use mathlib.Core.Bool.{Bool, true, false, not, _&&_}
 use mathlib.Core.List.{List, [], _∷_, _++_, map}
 use mathlib.Core.Option.{none, some}
 use lib.Dec.{leb, eqb}
@@ -56,10 +56,6 @@ countBefore s i = length (filter (inEarlier i) (sheetSource s .consts))
 abbrev pub constAt : Bytes → ℕ → ℕ → Located ConstDecl
 constAt s o i = record { line = suc i; within = moduleAt s o; it = conOf (nodesIn s) (readAt s i .fields) }
 
--- the module that is open behind line i, of kind x: `mod` is 77 and `end` 79
-unfoldable pub openAfter : ℕ → ℕ → ℕ → ℕ
-openAfter x i within = cond (eqb x 77) (i + 1) (cond (eqb x 79) 0 within)
-
 -- whether a pass over the group k is done where the module of line `within` is open; the top level's goes on over modules
 unfoldable pub left : ℕ → ℕ → Bool
 left k within = not (eqb k 0) && not (eqb within k)
@@ -97,6 +93,7 @@ pub record Standing (s t : Bytes) (n k : ℕ) (p : Pass) : Type 0 where
   pub checked : Checked s t n
   pub logged : Logged s t n (p .count)
   pub inside : p .line ≤ n
+  pub low : p .within ≤ n
   pub group : k ≤ n
   pub opened : openAt (nodesIn s) (p .line) ≡ moduleAt s (p .within)
   pub room : p .count + length (groupFrom s k (p .line)) ≤ 128

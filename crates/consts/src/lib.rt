@@ -4,14 +4,12 @@ use values::Folded;
 ghost use mathlib.Core.Path.{_≡_};
 ghost use Prim.Native.Nat.{_+_, _<_};
 ghost use Rattle.checks.specs.Checks.{Checked, Kept};
-ghost use Rattle.consts.specs.Passes.{openAfter, ConstLine, Steps, AtConstant, Standing, Visits, Group, Passes, Before, Past, Collects, left};
+ghost use Rattle.consts.specs.Passes.{ConstLine, Steps, AtConstant, Standing, Visits, Group, Passes, Before, Past, Collects, left};
 
 // Letters of kinds.
 const CON: u8 = b'D';
 
 const MOD: u8 = b'M';
-
-const END: u8 = b'O';
 
 // Where the stack of folds begins.
 const STACK: usize = 49152;
@@ -33,20 +31,6 @@ pub struct Pass {
 pub enum Visited {
     On(Pass),
     Refused(usize),
-}
-
-// The line of the module that is open behind line i, from 0, which has kind x.
-fn open_after(x: u8, i: usize, within: usize) -> usize
-    requires { ⌜ i < 1024 ⌝ }
-    ensures { λ r. ⌜ r ≡ openAfter x i within ⌝ }
-{
-    if x == MOD {
-        return i + 1;
-    }
-    if x == END {
-        return 0;
-    }
-    within
 }
 
 // The constant of line i, from 0, in the module of line k: folded, and entered as entry m. False where its string grows too long.
@@ -109,11 +93,10 @@ fn visit(sheet: &[u8], work: &mut [u8], n: usize, k: usize, p: Pass) -> Visited
     let i = p.line;
     let within = p.within;
     let c = p.iota;
-    let x = form::kind(lines::form_at(work, i));
-    if x != CON {
+    if form::kind(lines::form_at(work, i)) != CON {
         return Visited::On(Pass {
             line: i + 1,
-            within: open_after(x, i, within),
+            within: implement::open_after(sheet, work, n, i, within),
             count: p.count,
             iota: c,
         });

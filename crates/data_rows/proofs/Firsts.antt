@@ -19,9 +19,9 @@ use Rattle.vars.specs.declared.First.the-variants.{NoValue, Value, Alloc, Liter
 use Rattle.vars.specs.First.{initIn, Stands}
 use Rattle.data_rows.specs.declared.Next.{Next}
 use Rattle.data_rows.specs.declared.Counts.{Counts}
-use Rattle.data_rows.specs.Data.{Listed, Keyed, Held, Filled, NameTask, firstItems}
+use Rattle.data_rows.specs.Data.{ItemsPrinted, Keyed, Held, Filled, NameTask, firstItems}
 use Rattle.data_rows.proofs.Kept.{within-at}
-use Rattle.data_rows.proofs.Listed.{listed-as}
+use Rattle.data_rows.proofs.Printed.{printed-as}
 
 pub big-is : (s : Bytes) (v : ℕ) {k : ℕ} {t : Ty} → typeAt s v ≡ t → k ≡ kindNumber (elemKind (typeAt s v)) → isOfKind kBig t ≡ eqb k 2
 big-is s v e h = rw (h, e)
@@ -40,20 +40,20 @@ module _ {s t : Bytes} {c : Counts} {r : ℕ} {x : First} {keys : ℕ} (k : Name
   first-filled e = let w = subst (Stands t) e (k .stands) in record { few = w .0; strings = w .1 }
 
 module _ {s t : Bytes} {x : First} (ty : Ty) (off : ℕ) {p q : Next} {u d e : Bytes} where
-  pub first-none : x ≡ NoValue → Listed s [] p q t u d e → Listed s (firstItems ty off (initIn t x)) p q t u d e
-  first-none h l = listed-as (rw h) l
+  pub first-none : x ≡ NoValue → ItemsPrinted s [] p q t u d e → ItemsPrinted s (firstItems ty off (initIn t x)) p q t u d e
+  first-none h l = printed-as (rw h) l
 
-  pub first-value : {v : ConstVal} → x ≡ Value v → Listed s (valueItem off ty (valueIn t v) ∷ []) p q t u d e → Listed s (firstItems ty off (initIn t x)) p q t u d e
-  first-value h l = listed-as (rw h) l
+  pub first-value : {v : ConstVal} → x ≡ Value v → ItemsPrinted s (valueItem off ty (valueIn t v) ∷ []) p q t u d e → ItemsPrinted s (firstItems ty off (initIn t x)) p q t u d e
+  first-value h l = printed-as (rw h) l
 
-  pub first-alloc : {kind n : ℕ} → x ≡ Alloc kind n → Listed s (arrayItems off (record { kind = kindAt kind; count = n; values = [] })) p q t u d e → Listed s (firstItems ty off (initIn t x)) p q t u d e
-  first-alloc h l = listed-as (rw h) l
+  pub first-alloc : {kind n : ℕ} → x ≡ Alloc kind n → ItemsPrinted s (arrayItems off (record { kind = kindAt kind; count = n; values = [] })) p q t u d e → ItemsPrinted s (firstItems ty off (initIn t x)) p q t u d e
+  first-alloc h l = printed-as (rw h) l
 
-  pub first-literal : {kind n : ℕ} → x ≡ Literal kind n → Listed s (arrayItems off (record { kind = kindAt kind; count = n; values = valuesIn t 0 n })) p q t u d e → Listed s (firstItems ty off (initIn t x)) p q t u d e
-  first-literal h l = listed-as (rw h) l
+  pub first-literal : {kind n : ℕ} → x ≡ Literal kind n → ItemsPrinted s (arrayItems off (record { kind = kindAt kind; count = n; values = valuesIn t 0 n })) p q t u d e → ItemsPrinted s (firstItems ty off (initIn t x)) p q t u d e
+  first-literal h l = printed-as (rw h) l
 
-  pub first-pending : x ≡ Pending → Listed s [] p q t u d e → Listed s (firstItems ty off (initIn t x)) p q t u d e
-  first-pending h l = listed-as (rw h) l
+  pub first-pending : x ≡ Pending → ItemsPrinted s [] p q t u d e → ItemsPrinted s (firstItems ty off (initIn t x)) p q t u d e
+  first-pending h l = printed-as (rw h) l
 
-  pub first-refused : {n : ℕ} → x ≡ Refused n → Listed s [] p q t u d e → Listed s (firstItems ty off (initIn t x)) p q t u d e
-  first-refused h l = listed-as (rw h) l
+  pub first-refused : {n : ℕ} → x ≡ Refused n → ItemsPrinted s [] p q t u d e → ItemsPrinted s (firstItems ty off (initIn t x)) p q t u d e
+  first-refused h l = printed-as (rw h) l

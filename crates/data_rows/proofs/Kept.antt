@@ -1,14 +1,11 @@
 -- What stays while items are printed: tables, constants' strings, and the first value of a line.
 use mathlib.Core.Path.{_≡_, refl, _∙_}
 use Prim.Native.Nat.{ℕ, zero, suc, _+_, _/_, _%_, _≤_, _<_}
-use mathlib.Core.List.{List}
 use native.Mathlib.Omega.{arith}
 use lib.ListN.{length}
 use Rattle.semantics.specs.Text.{Bytes}
-use Rattle.semantics.specs.Tree.{TypeKey}
-use Rattle.semantics.specs.Array.{kindNumber}
-use Rattle.checks.specs.Checks.{Kept, Checked}
-use Rattle.checks.proofs.Kept.{kept-all, kept-then, kept-less, kept-at, checked-kept}
+use Rattle.checks.specs.Checks.{Checked}
+use Rattle.checks.proofs.Kept.{kept-all, kept-then, kept-less, checked-kept}
 use Rattle.names.specs.Table.{bitsOf, logIn, Logged}
 use Rattle.names.proofs.Laws.{logged-same, log-same}
 use Rattle.values.specs.declared.ConstVal.{ConstVal}
@@ -21,9 +18,8 @@ use Rattle.literals.proofs.Names.{kept-low}
 use Rattle.globals.specs.Table.{VarLine, placesIn, Tabled}
 use Rattle.globals.proofs.Table.{places-kept, tabled-kept}
 use Rattle.items.specs.Items.{Literal}
-use Rattle.type_keys.specs.Table.{kindOf, kindsUsed, Kinds, Outside}
+use Rattle.type_keys.specs.Table.{Outside}
 use Rattle.type_keys.proofs.Table.{outside-above}
-use Rattle.type_keys.proofs.Forms.{kind-low}
 use Rattle.vars.specs.declared.First.{First}
 use Rattle.vars.specs.declared.First.the-variants as First
 use Rattle.vars.specs.First.{initIn, Stands}
@@ -64,22 +60,6 @@ module _ {t u : Bytes} (k : Keeping t u) where
     log-still =
         log-same (kept-less (omega (arith, l .few)) (k .below)) l
         (λ i h q. let x = l .each i h .text q in part-same t u (k .below .long) (bitsOf t i / 65536) (bitsOf t i % 65536) (λ j y z. k .strings j (omega (arith, x .low)) (omega (arith, x .high))))
-
-kind-same : {t u : Bytes} → Kept 10629 t u → (j : ℕ) → j < 5 → kindOf u j ≡ kindOf t j
-unfolding kindOf
-kind-same k j h = kept-at k (10624 + j) (omega arith)
-
--- the kinds of elements stay where a first value is worked out
-pub kinds-still : {t u : Bytes} {ks : List TypeKey} {keys : ℕ} → Kept 10629 t u → Kinds t ks keys → Kinds u ks keys
-unfolding kindsUsed
-kinds-still {t} {u} k x = record {
-  count = x .count;
-  place = λ e. same (kindNumber e) (kind-low e) ∙ x .place e;
-  few = rw (same 0 (omega arith), same 1 (omega arith), same 2 (omega arith), same 3 (omega arith), same 4 (omega arith)) (x .few);
-}
-  where
-    same : (j : ℕ) → j < 5 → kindOf u j ≡ kindOf t j
-    same j h = kind-same k j h
 
 -- ---- the first value of a line
 

@@ -1,6 +1,6 @@
 pub mod Kept
 pub mod Keys
-pub mod Listed
+pub mod Printed
 pub mod Firsts
 pub mod Names
 pub mod Walk

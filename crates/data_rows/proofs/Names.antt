@@ -19,22 +19,22 @@ use Rattle.literals.proofs.Names.{kept-low}
 use Rattle.globals.specs.Table.{placesIn, typeOn, nameOn, namesOn}
 use Rattle.globals.specs.Vars.{offsetIn}
 use Rattle.type_keys.specs.Table.{Outside}
-use Rattle.type_keys.proofs.Table.{outside-all, outside-then}
+use Rattle.type_keys.proofs.Table.{outside-all, outside-then, kinds-kept}
 use Rattle.vars.specs.declared.First.{First}
 use Rattle.vars.specs.First.{initIn}
 use Rattle.vars.proofs.Names.{namesFrom, names-step, names-over, names-all}
 use Rattle.data_rows.specs.declared.Next.{Next}
 use Rattle.data_rows.specs.declared.Counts.{Counts}
-use Rattle.data_rows.specs.Data.{Keeping, Listed, Held, NameTask, firstItems, nameItems}
-use Rattle.data_rows.proofs.Kept.{keeping-first, keeping-outside, var-still, tabled-still, places-still, logged-still, kinds-still, first-still}
-use Rattle.data_rows.proofs.Listed.{listed-as, listed-none, listed-then}
+use Rattle.data_rows.specs.Data.{Keeping, ItemsPrinted, Held, NameTask, firstItems, nameItems}
+use Rattle.data_rows.proofs.Kept.{keeping-first, keeping-outside, var-still, tabled-still, places-still, logged-still, first-still}
+use Rattle.data_rows.proofs.Printed.{printed-as, printed-none, printed-then}
 
 -- ---- tables stay
 
 module _ {s t u : Bytes} {c : Counts} where
   -- while items are printed
-  pub held-listed : {xs : List Item} {p q : Next} {d e : Bytes} → Held s t c (p .keys) → Keeping t u → Listed s xs p q t u d e → Held s u c (q .keys)
-  held-listed {xs} h k l = record {
+  pub held-printed : {xs : List Item} {p q : Next} {d e : Bytes} → Held s t c (p .keys) → Keeping t u → ItemsPrinted s xs p q t u d e → Held s u c (q .keys)
+  held-printed {xs} h k l = record {
     log = logged-still k (h .log);
     places = tabled-still k (h .places);
     framed = h .framed;
@@ -51,12 +51,12 @@ module _ {s t u : Bytes} {c : Counts} where
     framed = h .framed;
     few = h .few;
     printed = h .printed;
-    kinds = kinds-still (kept-low k 10629 (omega arith)) (h .kinds);
+    kinds = kinds-kept (kept-low k 10629 (omega arith)) (h .kinds);
   }
 
-  pub task-next : {r : ℕ} {x : First} {xs : List Item} {p q : Next} {d e : Bytes} → NameTask s t c r x (p .keys) → Outside 10624 10629 t u → Listed s xs p q t u d e → NameTask s u c r x (q .keys)
+  pub task-next : {r : ℕ} {x : First} {xs : List Item} {p q : Next} {d e : Bytes} → NameTask s t c r x (p .keys) → Outside 10624 10629 t u → ItemsPrinted s xs p q t u d e → NameTask s u c r x (q .keys)
   task-next {r} {x} k o l = record {
-    held = held-listed (k .held) (keeping-outside o) l;
+    held = held-printed (k .held) (keeping-outside o) l;
     line = var-still (keeping-outside o) (k .line);
     stands = first-still o x (k .stands) .1;
   }
@@ -93,7 +93,7 @@ pub record Naming (s t : Bytes) (c : Counts) (r : ℕ) (x : First) (count : ℕ)
   pub value : initIn u x ≡ initIn t x
   pub long : length e ≡ length d
   pub done : List Item
-  pub listed : Listed s done p q t u d e
+  pub printed : ItemsPrinted s done p q t u d e
   pub rest : done ++ nameItems (typeOn s r) (placesIn s t (c .globals)) (initIn t x) (namesFrom s r count j) ≡ nameItems (typeOn s r) (placesIn s t (c .globals)) (initIn t x) (namesOn s r)
 
 module _ {s t : Bytes} {c : Counts} {r : ℕ} {x : First} {p : Next} (k : NameTask s t c r x (p .keys)) {count : ℕ} (hc : count ≡ Number.numberOf 65536 (getD (readAt s (r - 1) .fields) 2 [])) where
@@ -105,13 +105,13 @@ module _ {s t : Bytes} {c : Counts} {r : ℕ} {x : First} {p : Next} (k : NameTa
     value = refl;
     long = refl;
     done = [];
-    listed = listed-none (wrote-none e (q .at) (omega (arith, w .place, wrote-length w))) refl;
+    printed = printed-none (wrote-none e (q .at) (omega (arith, w .place, wrote-length w))) refl;
     rest = ap (nameItems (typeOn s r) (placesIn s t (c .globals)) (initIn t x)) (names-all s t (c .lines) r (k .line) hc);
   }
 
 module _ {s t : Bytes} {c : Counts} {r : ℕ} {x : First} {count : ℕ} {p : Next} {d u e : Bytes} {q : Next} {j : ℕ} (m : Naming s t c r x count p d u e q j) where
   pub naming-next : {z : Next} {v f : Bytes} → j < count → length f ≡ length e
-      → Listed s (nameItems (typeOn s r) (placesIn s u (c .globals)) (initIn u x) (nameOn s r j ∷ [])) q z u v e f × Outside 10624 10629 u v → Naming s t c r x count p d v f z (j + 1)
+      → ItemsPrinted s (nameItems (typeOn s r) (placesIn s u (c .globals)) (initIn u x) (nameOn s r j ∷ [])) q z u v e f × Outside 10624 10629 u v → Naming s t c r x count p d v f z (j + 1)
   naming-next {z} {v} {f} h l a =
       let f1 = nameItems (typeOn s r) (placesIn s t (c .globals)) (initIn t x) in
       let is : nameItems (typeOn s r) (placesIn s u (c .globals)) (initIn u x) (nameOn s r j ∷ []) ≡ f1 (nameOn s r j ∷ []) = rw (m .places, m .value) in
@@ -122,14 +122,14 @@ module _ {s t : Bytes} {c : Counts} {r : ℕ} {x : First} {count : ℕ} {p : Nex
         value = first-still (a .1) x (m .task .stands) .0 ∙ m .value;
         long = l ∙ m .long;
         done = m .done ++ f1 (nameOn s r j ∷ []);
-        listed = listed-then (m .done) (f1 (nameOn s r j ∷ [])) (m .listed) (listed-as is (a .0));
+        printed = printed-then (m .done) (f1 (nameOn s r j ∷ [])) (m .printed) (printed-as is (a .0));
         rest = append-assoc (m .done) (f1 (nameOn s r j ∷ [])) (f1 (namesFrom s r count (j + 1)))
             ∙ ap (λ (is : List Item). m .done ++ is) (sym (ap f1 (names-step s r count j h) ∙ items-step (typeOn s r) (placesIn s t (c .globals)) (initIn t x) (nameOn s r j) (namesFrom s r count (j + 1)))) ∙ m .rest;
       }
 
   pub naming-end : {z : Next} {g : Bytes} → count ≤ j → Wrote g (z .at) [] d (p .at) → p .keys ≡ z .keys
-      → Listed s (nameItems (typeOn s r) (placesIn s t (c .globals)) (initIn t x) (namesOn s r)) z q t u g e × Outside 10624 10629 t u
+      → ItemsPrinted s (nameItems (typeOn s r) (placesIn s t (c .globals)) (initIn t x) (namesOn s r)) z q t u g e × Outside 10624 10629 t u
   naming-end {z} {g} h w k =
       let f1 = nameItems (typeOn s r) (placesIn s t (c .globals)) (initIn t x) in
       let is : m .done ≡ f1 (namesOn s r) = sym (append-nil (m .done)) ∙ ap (λ (xs : List Bytes). m .done ++ f1 xs) (sym (names-over s r count j h)) ∙ m .rest in
-      (listed-then [] (f1 (namesOn s r)) (listed-none w k) (listed-as is (m .listed)), m .outside)
+      (printed-then [] (f1 (namesOn s r)) (printed-none w k) (printed-as is (m .printed)), m .outside)

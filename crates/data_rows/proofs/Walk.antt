@@ -25,6 +25,7 @@ use Rattle.globals.specs.Vars.{laidVarsTo, varItems}
 use Rattle.globals.proofs.Vars.{concat-append}
 use Rattle.items.specs.Items.{itemRows}
 use Rattle.type_keys.specs.Table.{Kinds, Outside}
+use Rattle.type_keys.proofs.Table.{kinds-kept}
 use Rattle.vars.specs.declared.First.{First}
 use Rattle.vars.specs.First.{initIn, Inits, varOn}
 use Rattle.vars.specs.Pends.{locatedAt, laidAt, LineTask}
@@ -32,11 +33,11 @@ use Rattle.vars.proofs.Lines.{var-line}
 use Rattle.vars.proofs.Items.{items-all}
 use Rattle.data_rows.specs.declared.Next.{Next}
 use Rattle.data_rows.specs.declared.Counts.{Counts}
-use Rattle.data_rows.specs.Data.{itemsIn, keysOf, rowsOf, Ready, Keeping, Listed, Held, NameTask, nameItems, lineItems}
-use Rattle.data_rows.proofs.Kept.{keeping-all, keeping-then, keeping-first, keeping-outside, checked-still, places-still, log-still, kinds-still}
+use Rattle.data_rows.specs.Data.{itemsIn, keysOf, rowsOf, Ready, Keeping, ItemsPrinted, Held, NameTask, nameItems, lineItems}
+use Rattle.data_rows.proofs.Kept.{keeping-all, keeping-then, keeping-first, keeping-outside, checked-still, places-still, log-still}
 use Rattle.data_rows.proofs.Keys.{kinds-few}
-use Rattle.data_rows.proofs.Listed.{listed-as, listed-none, listed-then}
-use Rattle.data_rows.proofs.Names.{held-listed, held-first}
+use Rattle.data_rows.proofs.Printed.{printed-as, printed-none, printed-then}
+use Rattle.data_rows.proofs.Names.{held-printed, held-first}
 
 -- ---- the items of a `var` line
 
@@ -46,15 +47,15 @@ module _ {s t u : Bytes} {c : Counts} {r : ℕ} {x : First} {keys : ℕ} (h : He
     pub line-task : NameTask s u c r x keys
     line-task = record { held = held-first h (a .keeps); line = var-line (line-kept (a .keeps) l); stands = a .stands }
 
-    pub line-items : {p q : Next} {v d e : Bytes} → Listed s (nameItems (typeOn s r) (placesIn s u (c .globals)) (initIn u x) (namesOn s r)) p q u v d e × Outside 10624 10629 u v
-        → Listed s (varItems (namesIn s t (c .consts)) (placesIn s t (c .globals)) (varOn s r)) p q t v d e × Keeping t v
+    pub line-items : {p q : Next} {v d e : Bytes} → ItemsPrinted s (nameItems (typeOn s r) (placesIn s u (c .globals)) (initIn u x) (namesOn s r)) p q u v d e × Outside 10624 10629 u v
+        → ItemsPrinted s (varItems (namesIn s t (c .consts)) (placesIn s t (c .globals)) (varOn s r)) p q t v d e × Keeping t v
     line-items b =
         let i : nameItems (typeOn s r) (placesIn s u (c .globals)) (initIn u x) (namesOn s r) ≡ varItems (namesIn s t (c .consts)) (placesIn s t (c .globals)) (varOn s r) =
         ap (λ (ps : List Global). nameItems (typeOn s r) ps (initIn u x) (namesOn s r)) (places-still (keeping-first (a .keeps)) s (h .places))
         ∙ ap (λ (y : Result Init). nameItems (typeOn s r) (placesIn s t (c .globals)) y (namesOn s r)) (a .result) in
-        let w = listed-as i (b .0) in
+        let w = printed-as i (b .0) in
         let k = kept-low (a .keeps) 10629 (omega arith) in
-        (record { rows = λ bs cs y. w .rows bs cs (kinds-still k y); kinds = λ bs y. w .kinds bs (kinds-still k y) }, keeping-then (keeping-first (a .keeps)) (keeping-outside (b .1)))
+        (record { rows = λ bs cs y. w .rows bs cs (kinds-kept k y); kinds = λ bs y. w .kinds bs (kinds-kept k y) }, keeping-then (keeping-first (a .keeps)) (keeping-outside (b .1)))
 
 -- ---- any line
 
@@ -62,11 +63,11 @@ pub task-at : {s t : Bytes} {c : Counts} {keys i k : ℕ} → Held s t c keys �
 task-at h o l = record { ready = record { checked = o .checked; log = h .log }; here = o; low = l }
 
 module _ (s : Bytes) (i : ℕ) (ns : Names) (ps : List Global) {p q : Next} {t d e : Bytes} where
-  pub none-at : laidAt s i ≡ [] → Wrote d (p .at) [] e (q .at) → q .keys ≡ p .keys → Listed s (lineItems ns ps (laidAt s i)) p q t t d e × Keeping t t
-  none-at z w k = (listed-as (ap (lineItems ns ps) (sym z)) (listed-none w k), keeping-all)
+  pub none-at : laidAt s i ≡ [] → Wrote d (p .at) [] e (q .at) → q .keys ≡ p .keys → ItemsPrinted s (lineItems ns ps (laidAt s i)) p q t t d e × Keeping t t
+  none-at z w k = (printed-as (ap (lineItems ns ps) (sym z)) (printed-none w k), keeping-all)
 
-  pub laid-at : locatedAt s (i + 1 - 1) ∷ [] ≡ laidAt s i → {u : Bytes} → Listed s (varItems ns ps (varOn s (i + 1))) p q t u d e × Keeping t u → Listed s (lineItems ns ps (laidAt s i)) p q t u d e × Keeping t u
-  laid-at z a = (listed-as (sym (append-nil (varItems ns ps (varOn s (i + 1)))) ∙ ap (lineItems ns ps) z) (a .0), a .1)
+  pub laid-at : locatedAt s (i + 1 - 1) ∷ [] ≡ laidAt s i → {u : Bytes} → ItemsPrinted s (varItems ns ps (varOn s (i + 1))) p q t u d e × Keeping t u → ItemsPrinted s (lineItems ns ps (laidAt s i)) p q t u d e × Keeping t u
+  laid-at z a = (printed-as (sym (append-nil (varItems ns ps (varOn s (i + 1)))) ∙ ap (lineItems ns ps) z) (a .0), a .1)
 
 -- ---- all lines
 
@@ -78,7 +79,7 @@ pub record Walking (s t : Bytes) (c : Counts) (p : Next) (d u e : Bytes) (q : Ne
   pub names : logIn s u (c .consts) ≡ logIn s t (c .consts)
   pub places : placesIn s u (c .globals) ≡ placesIn s t (c .globals)
   pub long : length e ≡ length d
-  pub listed : Listed s (lineItems (namesIn s t (c .consts)) (placesIn s t (c .globals)) (laidVarsTo s i)) p q t u d e
+  pub printed : ItemsPrinted s (lineItems (namesIn s t (c .consts)) (placesIn s t (c .globals)) (laidVarsTo s i)) p q t u d e
 
 abbrev pub counted : ℕ → ℕ → ℕ → ℕ → Counts
 counted n m g frames = record { lines = n; consts = m; globals = g; frames = frames }
@@ -96,11 +97,11 @@ module _ {s t : Bytes} {n m g frames keys : ℕ} (r : Ready s t n m g frames key
     names = refl;
     places = refl;
     long = refl;
-    listed = listed-none (wrote-none e (q .at) (omega (arith, w .place, wrote-length w))) refl;
+    printed = printed-none (wrote-none e (q .at) (omega (arith, w .place, wrote-length w))) refl;
   }
 
   module _ {p q : Next} {d u e : Bytes} {k i : ℕ} (w : Walking s t (counted n m g frames) p d u e q k i) where
-    module _ {z : Next} {v f : Bytes} (a : Listed s (lineItems (namesIn s u m) (placesIn s u g) (laidAt s i)) q z u v e f × Keeping u v) where
+    module _ {z : Next} {v f : Bytes} (a : ItemsPrinted s (lineItems (namesIn s u m) (placesIn s u g) (laidAt s i)) q z u v e f × Keeping u v) where
       pub walk-open : Open s v n i k
       walk-open = record { checked = checked-still (a .1) (w .here .checked); within = w .here .within; low = w .here .low; here = w .here .here }
 
@@ -113,12 +114,12 @@ module _ {s t : Bytes} {n m g frames keys : ℕ} (r : Ready s t n m g frames key
           let y : lineItems ns ps (laidVarsTo s i) ++ lineItems ns ps (laidAt s i) ≡ lineItems ns ps (laidVarsTo s (i + 1)) = rw add-one (sym (concat-append (λ (j : Located VarDecl). varItems ns ps (j .it)) (laidVarsTo s i) (laidAt s i))) in
           record {
             here = o;
-            held = held-listed (w .held) (a .1) (a .0);
+            held = held-printed (w .held) (a .1) (a .0);
             keeping = keeping-then (w .keeping) (a .1);
             names = log-still (a .1) (w .held .log) ∙ w .names;
             places = places-still (a .1) s (w .held .places) ∙ w .places;
             long = l ∙ w .long;
-            listed = listed-as y (listed-then (lineItems ns ps (laidVarsTo s i)) (lineItems ns ps (laidAt s i)) (w .listed) (listed-as x (a .0)));
+            printed = printed-as y (printed-then (lineItems ns ps (laidVarsTo s i)) (lineItems ns ps (laidAt s i)) (w .printed) (printed-as x (a .0)));
           }
 
     pub walk-end : {at : ℕ} {b : Bytes} → n ≤ i → Wrote b at [] d (p .at) → p .keys ≡ keys
@@ -131,6 +132,6 @@ module _ {s t : Bytes} {n m g frames keys : ℕ} (r : Ready s t n m g frames key
         let y : lineItems ns (placesIn s t g) (laidVarsTo s i) ≡ is =
         ap (λ (j : ℕ). lineItems ns (placesIn s t g) (laidVarsTo s j)) z ∙ ap (λ (ps : List Global). lineItems ns ps (laidVarsTo s n)) (r .laid ns) ∙ items-all ns s (r .checked) in
         let o : Next = record { at = at; keys = keys } in
-        let a : Listed s is o q t u b e = listed-then [] is (listed-none {p = o} v k) (listed-as y (w .listed)) in
+        let a : ItemsPrinted s is o q t u b e = printed-then [] is (printed-none {p = o} v k) (printed-as y (w .printed)) in
         let x = a .kinds [] needs-kinds in
         (subst (λ (js : List Item). Wrote b at (concatMap (itemRow (idOf (sheetSource s) js)) is) e (q .at)) (append-nil is) (a .rows [] [] needs-kinds), x, omega (arith, kinds-few x), w .keeping .below)

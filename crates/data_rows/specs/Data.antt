@@ -58,7 +58,7 @@ Numbers t u frames kind count r = (k : ElemKind) (ks : List TypeKey) → kind �
     → Kinds u (ks ++ (elemKey k ∷ [])) (r .keys) × ((s : Source) (is : List Item) (ms : List TypeKey) → frames ≡ length (s .frames) → keys s is ≡ distinct [] ((ks ++ (elemKey k ∷ [])) ++ ms) → idOf s is (elemKey k) ≡ r .id)
 
 -- the items xs were printed, from p to q, and their keys have numbers, whatever items stand before them and behind
-pub record Listed (s : Bytes) (xs : List Item) (p q : Next) (t u d e : Bytes) : Type 0 where
+pub record ItemsPrinted (s : Bytes) (xs : List Item) (p q : Next) (t u d e : Bytes) : Type 0 where
   pub rows : (before behind : List Item) → Kinds t (keysOf s before) (p .keys) → Wrote d (p .at) (itemRows (idOf (sheetSource s) (before ++ (xs ++ behind))) xs) e (q .at)
   pub kinds : (before : List Item) → Kinds t (keysOf s before) (p .keys) → Kinds u (keysOf s (before ++ xs)) (q .keys)
 

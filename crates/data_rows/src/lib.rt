@@ -22,7 +22,7 @@ ghost use Rattle.globals.specs.Vars.{varItems};
 ghost use Rattle.type_keys.specs.Table.{Kinds, Outside};
 ghost use Rattle.vars.specs.First.{initIn, varOn};
 ghost use Rattle.vars.specs.Pends.{laidAt};
-ghost use Rattle.data_rows.specs.Data.{itemsIn, keysOf, rowsOf, Ready, Numbers, Keeping, Listed, Keyed, Held, Filled, NameTask, firstItems, nameItems, lineItems};
+ghost use Rattle.data_rows.specs.Data.{itemsIn, keysOf, rowsOf, Ready, Numbers, Keeping, ItemsPrinted, Keyed, Held, Filled, NameTask, firstItems, nameItems, lineItems};
 
 // The form of `var` lines.
 const VAR: usize = 29;
@@ -108,7 +108,7 @@ fn value_rows(
     p: Next,
 ) -> Next
     requires { ⌜ (VarLine (now sheet) (now work) n r) × (Within (length (now work)) v) ⌝ }
-    ensures { λ q. ⌜ Listed (now (sheet .entry)) (valueItem off (typeOn (now (sheet .entry)) r) (valueIn (now (work .entry)) v) ∷ []) p q (now (work .entry)) (now (work .entry)) (now (out .entry)) (now (out .exit)) ⌝ }
+    ensures { λ q. ⌜ ItemsPrinted (now (sheet .entry)) (valueItem off (typeOn (now (sheet .entry)) r) (valueIn (now (work .entry)) v) ∷ []) p q (now (work .entry)) (now (work .entry)) (now (out .entry)) (now (out .exit)) ⌝ }
 {
     let big = is_big(sheet, work, n, r);
     Next {
@@ -128,7 +128,7 @@ fn alloc_rows(
     p: Next,
 ) -> Next
     requires { ⌜ Keyed (now work) frames (p .keys) ⌝ }
-    ensures { λ q. ⌜ ((s : Bytes) → frames ≡ length (sheetSource s .frames) → Listed s (arrayItems off (record { kind = kindAt kind; count = count; values = [] })) p q (now (work .entry)) (now (work .exit)) (now (out .entry)) (now (out .exit))) × (Outside 10624 10629 (now (work .entry)) (now (work .exit))) ⌝ }
+    ensures { λ q. ⌜ ((s : Bytes) → frames ≡ length (sheetSource s .frames) → ItemsPrinted s (arrayItems off (record { kind = kindAt kind; count = count; values = [] })) p q (now (work .entry)) (now (work .exit)) (now (out .entry)) (now (out .exit))) × (Outside 10624 10629 (now (work .entry)) (now (work .exit))) ⌝ }
 {
     let e = number_elements(work, frames, kind_number(kind), p.keys);
     Next {
@@ -148,7 +148,7 @@ fn literal_rows(
     p: Next,
 ) -> Next
     requires { ⌜ (Keyed (now work) frames (p .keys)) × (Filled (now work) count) ⌝ }
-    ensures { λ q. ⌜ ((s : Bytes) → frames ≡ length (sheetSource s .frames) → Listed s (arrayItems off (record { kind = kindAt kind; count = count; values = valuesIn (now (work .entry)) 0 count })) p q (now (work .entry)) (now (work .exit)) (now (out .entry)) (now (out .exit))) × (Outside 10624 10629 (now (work .entry)) (now (work .exit))) ⌝ }
+    ensures { λ q. ⌜ ((s : Bytes) → frames ≡ length (sheetSource s .frames) → ItemsPrinted s (arrayItems off (record { kind = kindAt kind; count = count; values = valuesIn (now (work .entry)) 0 count })) p q (now (work .entry)) (now (work .exit)) (now (out .entry)) (now (out .exit))) × (Outside 10624 10629 (now (work .entry)) (now (work .exit))) ⌝ }
 {
     let k = kind_number(kind);
     let e = number_elements(work, frames, k, p.keys);
@@ -170,7 +170,7 @@ fn first_rows(
     p: Next,
 ) -> Next
     requires { ⌜ NameTask (now sheet) (now work) c r x (p .keys) ⌝ }
-    ensures { λ q. ⌜ (Listed (now (sheet .entry)) (firstItems (typeOn (now (sheet .entry)) r) off (initIn (now (work .entry)) x)) p q (now (work .entry)) (now (work .exit)) (now (out .entry)) (now (out .exit))) × (Outside 10624 10629 (now (work .entry)) (now (work .exit))) ⌝ }
+    ensures { λ q. ⌜ (ItemsPrinted (now (sheet .entry)) (firstItems (typeOn (now (sheet .entry)) r) off (initIn (now (work .entry)) x)) p q (now (work .entry)) (now (work .exit)) (now (out .entry)) (now (out .exit))) × (Outside 10624 10629 (now (work .entry)) (now (work .exit))) ⌝ }
 {
     match x {
         First::NoValue => no_rows(out, p),
@@ -196,7 +196,7 @@ fn name_rows(
     p: Next,
 ) -> Next
     requires { ⌜ (NameTask (now sheet) (now work) c r x (p .keys)) × (j < 16) ⌝ }
-    ensures { λ q. ⌜ (Listed (now (sheet .entry)) (nameItems (typeOn (now (sheet .entry)) r) (placesIn (now (sheet .entry)) (now (work .entry)) (c .globals)) (initIn (now (work .entry)) x) (nameOn (now (sheet .entry)) r j ∷ [])) p q (now (work .entry)) (now (work .exit)) (now (out .entry)) (now (out .exit))) × (Outside 10624 10629 (now (work .entry)) (now (work .exit))) ⌝ }
+    ensures { λ q. ⌜ (ItemsPrinted (now (sheet .entry)) (nameItems (typeOn (now (sheet .entry)) r) (placesIn (now (sheet .entry)) (now (work .entry)) (c .globals)) (initIn (now (work .entry)) x) (nameOn (now (sheet .entry)) r j ∷ [])) p q (now (work .entry)) (now (work .exit)) (now (out .entry)) (now (out .exit))) × (Outside 10624 10629 (now (work .entry)) (now (work .exit))) ⌝ }
 {
     let name = lines::field_at(sheet, work, c.lines, r - 1, 3 + j);
     if words::same(name, b"nil") {
@@ -217,7 +217,7 @@ fn names_rows(
     p: Next,
 ) -> Next
     requires { ⌜ NameTask (now sheet) (now work) c r x (p .keys) ⌝ }
-    ensures { λ q. ⌜ (Listed (now (sheet .entry)) (nameItems (typeOn (now (sheet .entry)) r) (placesIn (now (sheet .entry)) (now (work .entry)) (c .globals)) (initIn (now (work .entry)) x) (namesOn (now (sheet .entry)) r)) p q (now (work .entry)) (now (work .exit)) (now (out .entry)) (now (out .exit))) × (Outside 10624 10629 (now (work .entry)) (now (work .exit))) ⌝ }
+    ensures { λ q. ⌜ (ItemsPrinted (now (sheet .entry)) (nameItems (typeOn (now (sheet .entry)) r) (placesIn (now (sheet .entry)) (now (work .entry)) (c .globals)) (initIn (now (work .entry)) x) (namesOn (now (sheet .entry)) r)) p q (now (work .entry)) (now (work .exit)) (now (out .entry)) (now (out .exit))) × (Outside 10624 10629 (now (work .entry)) (now (work .exit))) ⌝ }
 {
     let count = lines::number_at(sheet, work, c.lines, r - 1, 2);
     let mut q = no_rows(out, p);
@@ -232,7 +232,7 @@ fn names_rows(
 // The rows of the `var` line r. Its first value stands in the working space while they are printed.
 fn line_rows(sheet: &[u8], work: &mut [u8], c: Counts, r: usize, out: &mut [u8], p: Next) -> Next
     requires { ⌜ (Held (now sheet) (now work) c (p .keys)) × (Line 72 (now sheet) (now work) (c .lines) (c .consts) r) ⌝ }
-    ensures { λ q. ⌜ (Listed (now (sheet .entry)) (varItems (namesIn (now (sheet .entry)) (now (work .entry)) (c .consts)) (placesIn (now (sheet .entry)) (now (work .entry)) (c .globals)) (varOn (now (sheet .entry)) r)) p q (now (work .entry)) (now (work .exit)) (now (out .entry)) (now (out .exit))) × (Keeping (now (work .entry)) (now (work .exit))) ⌝ }
+    ensures { λ q. ⌜ (ItemsPrinted (now (sheet .entry)) (varItems (namesIn (now (sheet .entry)) (now (work .entry)) (c .consts)) (placesIn (now (sheet .entry)) (now (work .entry)) (c .globals)) (varOn (now (sheet .entry)) r)) p q (now (work .entry)) (now (work .exit)) (now (out .entry)) (now (out .exit))) × (Keeping (now (work .entry)) (now (work .exit))) ⌝ }
 {
     let x = vars::first_value(sheet, work, c.lines, c.consts, r);
     names_rows(sheet, work, c, r, x, out, p)
@@ -249,7 +249,7 @@ fn rows_at(
     p: Next,
 ) -> Next
     requires { ⌜ (Held (now sheet) (now work) c (p .keys)) × (Open (now sheet) (now work) (c .lines) i k) × (i < c .lines) ⌝ }
-    ensures { λ q. ⌜ (Listed (now (sheet .entry)) (lineItems (namesIn (now (sheet .entry)) (now (work .entry)) (c .consts)) (placesIn (now (sheet .entry)) (now (work .entry)) (c .globals)) (laidAt (now (sheet .entry)) i)) p q (now (work .entry)) (now (work .exit)) (now (out .entry)) (now (out .exit))) × (Keeping (now (work .entry)) (now (work .exit))) ⌝ }
+    ensures { λ q. ⌜ (ItemsPrinted (now (sheet .entry)) (lineItems (namesIn (now (sheet .entry)) (now (work .entry)) (c .consts)) (placesIn (now (sheet .entry)) (now (work .entry)) (c .globals)) (laidAt (now (sheet .entry)) i)) p q (now (work .entry)) (now (work .exit)) (now (out .entry)) (now (out .exit))) × (Keeping (now (work .entry)) (now (work .exit))) ⌝ }
 {
     if lines::form_at(work, i) != VAR {
         return no_rows(out, p);

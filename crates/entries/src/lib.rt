@@ -49,7 +49,7 @@ fn bits_of(v: ConstVal, place: usize) -> u64
     }
 }
 
-// A value's string, copied from the stack of folds to `place`.
+// A value's string, copied from the stack of folds to where entry m keeps its own.
 fn keep_string(work: &mut [u8], v: ConstVal, m: usize)
     requires { ⌜ (m < 128) × (65536 ≤ length (now work)) × (At 49152 v) ⌝ }
     ensures { λ _. ⌜ now (work .exit) ≡ over (now (work .entry)) (16384 + 256 * m) (stringOf (now (work .entry)) v) ⌝ }

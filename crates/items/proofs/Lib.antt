@@ -1,4 +1,3 @@
 pub mod Elements
 pub mod Rows
 pub mod Arrays
-pub mod Literals

@@ -29,7 +29,7 @@ const BIG: u8 = 2;
 
 const REAL: u8 = 3;
 
-const STRING: u8 = 4;
+const POINTER: u8 = 4;
 
 fn put_int_element(out: &mut [u8], at: usize, kind: u8, n: i64) -> usize
     ensures { λ r. ⌜ Wrote (now (out .entry)) at (44 ∷ elementText kind (vInt n)) (now (out .exit)) r ⌝ }
@@ -221,7 +221,7 @@ pub fn element_items(work: &[u8], out: &mut [u8], at: usize, kind: u8, count: us
     requires { ⌜ Literal (now work) count ⌝ }
     ensures { λ r. ⌜ ((id : TypeKey → ℕ) (k : ElemKind) → kindNumber k ≡ kind → Wrote (now (out .entry)) at (itemRows id (elementItems k (valuesIn (now (work .entry)) 0 count))) (now (out .exit)) r) ⌝ }
 {
-    if kind < STRING {
+    if kind < POINTER {
         return elements_row(work, out, at, kind, count);
     }
     string_rows(work, out, at, count)

@@ -9,8 +9,12 @@ use lib.Dec.{ltb, eqb}
 use lib.ListN.{length, drop, getD, set, length-set}
 use lib.Seq.{getD-set-same, getD-set-other, take-set-le, drop-set-lt, getD-drop, drop-drop}
 use borrow.Author.Tests.{ltb-true, ltb-false, eqb-true, eqb-false}
+use Rattle.semantics.specs.Tree.{TypeKey}
+use Rattle.semantics.specs.Array.{kindNumber}
+use Rattle.checks.specs.Checks.{Kept}
 use Rattle.checks.proofs.Kept.{kept-all, kept-then, kept-less, kept-at}
-use Rattle.type_keys.specs.Table.{lineOf, placeOf, kindOf, entered, kindEntered, Outside}
+use Rattle.type_keys.specs.Table.{lineOf, placeOf, kindOf, kindsUsed, entered, kindEntered, Kinds, Outside}
+use Rattle.type_keys.proofs.Forms.{kind-low}
 
 -- ---- what is kept
 
@@ -49,6 +53,19 @@ module _ {t u : List ℕ} where
   pub kind-above : {a : ℕ} → Outside a 10624 t u → (k : ℕ) → kindOf u k ≡ kindOf t k
   unfolding kindOf
   kind-above x k = outside-above x (10624 + k) (omega arith)
+
+  -- one behind the table leaves all kinds
+  pub kind-kept : Kept 10629 t u → (k : ℕ) → k < 5 → kindOf u k ≡ kindOf t k
+  unfolding kindOf
+  kind-kept x k h = kept-at x (10624 + k) (omega arith)
+
+  pub kinds-kept : {l : List TypeKey} {keys : ℕ} → Kept 10629 t u → Kinds t l keys → Kinds u l keys
+  unfolding kindsUsed
+  kinds-kept k x = record {
+    count = x .count;
+    place = λ e. kind-kept k (kindNumber e) (kind-low e) ∙ x .place e;
+    few = rw (kind-kept k 0 (omega arith), kind-kept k 1 (omega arith), kind-kept k 2 (omega arith), kind-kept k 3 (omega arith), kind-kept k 4 (omega arith)) (x .few);
+  }
 
 -- ---- a need
 

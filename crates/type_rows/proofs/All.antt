@@ -8,23 +8,19 @@ use lib.Seq.{drop-at}
 use Rattle.semantics.specs.Tree.{TypeKey, Shape}
 use Rattle.semantics.specs.Sheet.{sheetSource, concatMap}
 use Rattle.semantics.specs.Global.{Item}
-use Rattle.semantics.specs.Array.{kindNumber}
 use Rattle.semantics.specs.Types.{distinct, arrayKey, keys, keyShape, opaqueShape, descriptors}
 use Rattle.semantics.specs.Listing.{typeRows}
 use Rattle.write.specs.Wrote.{Wrote}
 use Rattle.write.proofs.Wrote.{wrote-as}
-use Rattle.checks.specs.Checks.{Kept, Checked}
+use Rattle.checks.specs.Checks.{Checked}
 use Rattle.records.specs.Log.{logOf}
 use Rattle.records.proofs.Lists.{map-append}
-use Rattle.type_keys.specs.Table.{kindsUsed, Kinds}
 use Rattle.type_keys.proofs.Distinct.{newKey, distinct-more}
-use Rattle.type_keys.proofs.Forms.{kind-low}
 use Rattle.type_keys.proofs.Numbers.{frames-all, frames-few}
 use Rattle.type_rows.specs.declared.Next.{Next}
 use Rattle.type_rows.specs.Rows.{Wrotes, shapesOf}
 use Rattle.type_rows.proofs.Rows.{rows-then}
 use Rattle.type_rows.proofs.Wrotes.{wrotes-then}
-use Rattle.type_rows.proofs.Elements.{kind-kept}
 
 -- keys keep their places when more come
 record Longer (l k : List TypeKey) : Type 0 where
@@ -59,15 +55,6 @@ all-rows s is {p} h w0 w1 w2 z w3 =
     let b = shapesOf s (drop (length (distinct [] (sheetSource s .needs))) (distinct [] (sheetSource s .needs ++ concatMap arrayKey is))) in
     wrote-as (ap (typeRows 0) (sym (descriptors-are s is)))
     (rows-then 0 (opaqueShape ∷ opaqueShape ∷ []) (sheetSource s .frames ++ (a ++ b)) (p .id) h w0 (wrotes-then (sheetSource s .frames) (a ++ b) w1 (wrotes-then a b w2 w3) .wrote))
-
--- kinds stay where only the map is made anew
-pub kinds-kept : {t u : List ℕ} {l : List TypeKey} {count : ℕ} → Kept 49152 t u → Kinds t l count → Kinds u l count
-unfolding kindsUsed
-kinds-kept k x = record {
-  count = x .count;
-  place = λ e. kind-kept k (kindNumber e) (kind-low e) ∙ x .place e;
-  few = rw (kind-kept k 0 (omega arith), kind-kept k 1 (omega arith), kind-kept k 2 (omega arith), kind-kept k 3 (omega arith), kind-kept k 4 (omega arith)) (x .few);
-}
 
 pub frames-low : (s t : List ℕ) (n : ℕ) → Checked s t n → length (sheetSource s .frames) ≤ 128
 frames-low s t n c = rw (← frames-all s t n c) (frames-few s t n c n (omega arith))

@@ -18,11 +18,12 @@ use Rattle.semantics.specs.Global.{Item}
 use Rattle.semantics.specs.Global.Item.{valuesItem, strItem, arrayItem, setItem, backItem}
 use Rattle.semantics.specs.Types.{sameTypeKey, distinct, position, arrayKey, elemShape, keyShape}
 use Rattle.checks.specs.Checks.{Kept}
-use Rattle.checks.proofs.Kept.{kept-at}
+use Rattle.checks.proofs.Kept.{kept-less}
 use Rattle.records.specs.Log.{logOf}
 use Rattle.type_keys.specs.Table.{kindOf, placed, Kinds}
 use Rattle.type_keys.proofs.Distinct.{newKey, position-none, position-new, position-known, distinct-more, placed-some}
 use Rattle.type_keys.proofs.Forms.{kind-low}
+use Rattle.type_keys.proofs.Table.{kind-kept}
 use Rattle.type_keys.proofs.Same.{elems-are}
 use Rattle.laws.proofs.Tests.{never}
 use Rattle.type_rows.specs.declared.Next.{Next}
@@ -182,10 +183,6 @@ module _ (t : List ℕ) (ls : List TypeKey) (is : List Item) (keys : ℕ) (x : K
 
 -- ---- row by row
 
-pub kind-kept : {t u : List ℕ} → Kept 49152 t u → (j : ℕ) → j < 5 → kindOf u j ≡ kindOf t j
-unfolding kindOf
-kind-kept k j h = kept-at k (10624 + j) (omega arith)
-
 -- the first rows of keys behind those of ls, up to number `id`
 abbrev pub KindRows : ℕ → Next → ℕ → ℕ → List ℕ → List ℕ → List ℕ → List ℕ → ℕ → Type 0
 KindRows base p at id t u d e keys =
@@ -204,9 +201,10 @@ module _ (base keys : ℕ) (p : Next) (at id : ℕ) {t u d e : List ℕ} (lo : p
       let j = id - p .id in
       let z : id + 1 - p .id ≡ suc j = omega (arith, lo) in
       let y : l + j ≡ id - base = omega (arith, lo, g) in
+      let low-kept : Kept 10629 t u = kept-less (omega arith) kept in
       let low : j < length (drop l K) = omega (arith, length-drop l K, x .count, lo, g, hi) in
       let q : getD (drop l K) j opaqueKey ≡ getD K (id - base) opaqueKey = getD-drop l K j opaqueKey ∙ ap (λ (i : ℕ). getD K i opaqueKey) y in
-      let one = elem-row t ls is keys x (id - base) (omega (arith, lo, g)) (omega (arith, hi, b, lo)) r (λ h. sym (kind-kept kept r h) ∙ found h) (λ i h c. first i h (kind-kept kept i h ∙ c)) s row in
+      let one = elem-row t ls is keys x (id - base) (omega (arith, lo, g)) (omega (arith, hi, b, lo)) r (λ h. sym (kind-kept low-kept r h) ∙ found h) (λ i h c. first i h (kind-kept low-kept i h ∙ c)) s row in
       rw (z, take-suc (drop l K) j opaqueKey low, q) (keys-then s (take j (drop l K)) (getD K (id - base) opaqueKey) (w s ls is g x) (wrotes-one refl one))
 
 pub kinds-end : (base keys : ℕ) (p : Next) (at id : ℕ) {t u d e : List ℕ} → p .id ≤ id → base + keys ≤ id → KindRows base p at id t u d e keys

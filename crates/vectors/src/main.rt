@@ -2,15 +2,20 @@
 // image is held to `compile` alone. Prints the number of each case that differs, from 1, and then how many cases there are, how many listings, images
 // and refusals of each number are equal, and how many cases differ.
 use answers::Refusal;
-use cases::Header;
 use compile::Answer;
 use image::Imaged;
+use libc::STDIN_FILENO;
 use libc::STDOUT_FILENO;
 
-mod cases;
+mod parts;
 
 // More cases than a list has.
 const MOST: usize = 10000000;
+
+// Longer than any header, and larger than any length in one.
+const HEADER: usize = 255;
+
+const LARGE: usize = 1000000;
 
 const COMMA: u8 = 44;
 
@@ -139,6 +144,66 @@ fn case_outcome(
     image_outcome(sheet, wanted, text, o, listing, picture, area, work)
 }
 
+// The bytes of a case's sheet, answer and image. No answer is empty: 0 there says that the list has ended.
+struct Header {
+    sheet: usize,
+    answer: usize,
+    image: usize,
+}
+
+// The next byte, or LF where there is none.
+fn next_byte() -> u8 {
+    let mut b = [LF; 1];
+    io::read_full(STDIN_FILENO, &mut b);
+    b[0]
+}
+
+// A number with one byte more of its text: only digits count.
+fn more(n: usize, c: u8) -> usize {
+    if c < 48 || c > 57 {
+        return n;
+    }
+    if n > LARGE {
+        return n;
+    }
+    10 * n + (c - 48) as usize
+}
+
+// The last three fields of a header up to here, with one byte more.
+fn step(h: Header, c: u8) -> Header {
+    if c == COMMA {
+        return Header {
+            sheet: h.answer,
+            answer: h.image,
+            image: 0,
+        };
+    }
+    Header {
+        sheet: h.sheet,
+        answer: h.answer,
+        image: more(h.image, c),
+    }
+}
+
+// Reads a header, with its LF.
+fn read_header() -> Header {
+    let mut h = Header {
+        sheet: 0,
+        answer: 0,
+        image: 0,
+    };
+    let mut left = HEADER;
+    while left > 0 {
+        let c = next_byte();
+        if c == LF {
+            return h;
+        }
+        h = step(h, c);
+        left -= 1;
+    }
+    h
+}
+
 fn run_case(
     h: Header,
     sheet: &mut [u8],
@@ -149,9 +214,9 @@ fn run_case(
     area: &mut [u8],
     work: &mut [u8],
 ) -> usize {
-    let n = cases::read_part(sheet, h.sheet);
-    let m = cases::read_part(wanted, h.answer);
-    let k = cases::read_part(text, h.image);
+    let n = parts::read_part(sheet, h.sheet);
+    let m = parts::read_part(wanted, h.answer);
+    let k = parts::read_part(text, h.image);
     case_outcome(
         &sheet[0..n],
         &wanted[0..m],
@@ -191,7 +256,7 @@ fn run_cases(
 ) -> usize {
     let mut k = 0;
     while k < MOST {
-        let h = cases::read_header();
+        let h = read_header();
         if h.answer == 0 {
             return k;
         }

@@ -11,10 +11,10 @@ use Rattle.const_rows.proofs.rows.Statement.{statement}
 use Rattle.const_rows.proofs.rows.Tie as tie
 
 abbrev Inv-loop : tie.InvT-loop
-Inv-loop sheet work n m listing₀ at plain p₀ i₀ listing p i = (i ≤ m) × (Wrote listing₀ at (rowsTo plain sheet work m i) listing p)
+Inv-loop sheet work n m out₀ at plain p₀ i₀ out p i = (i ≤ m) × (Wrote out₀ at (rowsTo plain sheet work m i) out p)
 
 abbrev μ-loop : tie.MeasureT-loop
-μ-loop sheet work n m listing₀ at plain p₀ i₀ listing p i = m - i
+μ-loop sheet work n m out₀ at plain p₀ i₀ out p i = m - i
 
 loop-holds : tie.Need-loop-holds Inv-loop μ-loop
 loop-holds c = (omega arith, Laws.rows-start (now (c .before .before .before .args .sheet)) (now (c .before .before .before .args .work)) (c .before .before .before .args .m) (c .before .before .before .args .plain) (c .before .before .before .pre .1))

@@ -16,13 +16,13 @@ add-t14 : tie.Need-add-t14
 add-t14 c = search needs
 
 open-after-requires : tie.Need-open-after-requires
-open-after-requires c κs = search needs
+open-after-requires c κs = (Walk.open-here _ _ _ _ _ (c .before .before .before .before .before .before .before .before .pre .0) (c .before .before .before .before .before .before .before .before .pre .1), c .before .before .before .before .before .before .before .before .pre .1)
 
 same-length : tie.Need-same-length
 same-length c = search needs
 
 returns : tie.Need-returns
-returns c = (kept-all, Walk.moves-other (now (c .before .before .before .before .before .before .before .before .args .sheet)) (now (c .before .before .before .before .before .before .before .before .args .work)) (c .before .before .before .before .before .before .before .before .args .n) (c .before .before .before .before .before .before .before .before .args .k) (c .before .before .before .before .before .before .before .before .args .p) (c .before .before .before .before .before .before .before .before .pre .0) (c .before .before .before .before .before .before .before .before .pre .1) (Walk.kind-read (c .before .before .before .before .before .before .before .before .pre .0 .checked) (c .before .before .before .before .before .before .before .before .pre .1) (c .before .before .before .form-at .ensures) (c .before .before .kind .ensures)) (c .before .if1 .taken) (c .open-after .ensures))
+returns c = (kept-all, Walk.moves-other (now (c .before .before .before .before .before .before .before .before .before .args .sheet)) (now (c .before .before .before .before .before .before .before .before .before .args .work)) (c .before .before .before .before .before .before .before .before .before .args .n) (c .before .before .before .before .before .before .before .before .before .args .k) (c .before .before .before .before .before .before .before .before .before .args .p) (c .before .before .before .before .before .before .before .before .before .pre .0) (c .before .before .before .before .before .before .before .before .before .pre .1) (Walk.kind-read (c .before .before .before .before .before .before .before .before .before .pre .0 .checked) (c .before .before .before .before .before .before .before .before .before .pre .1) (c .before .before .before .before .form-at .ensures) (c .before .before .before .kind .ensures)) (c .before .before .if1 .taken) (c .open-after .ensures))
 
 visit-constant-requires : tie.Need-visit-constant-requires
 visit-constant-requires c κs = (c .before .before .before .before .before .before .before .before .before .pre .0, Walk.at-constant (now (c .before .before .before .before .before .before .before .before .before .args .sheet)) (now (c .before .before .before .before .before .before .before .before .before .args .work)) (c .before .before .before .before .before .before .before .before .before .args .n) (c .before .before .before .before .before .before .before .before .before .args .k) (c .before .before .before .before .before .before .before .before .before .args .p) (c .before .before .before .before .before .before .before .before .before .pre .0) (c .before .before .before .before .before .before .before .before .before .pre .1) (Walk.kind-read (c .before .before .before .before .before .before .before .before .before .pre .0 .checked) (c .before .before .before .before .before .before .before .before .before .pre .1) (c .before .before .before .before .form-at .ensures) (c .before .before .before .kind .ensures)) (c .before .before .if1 .left) (c .before .if2 .taken))

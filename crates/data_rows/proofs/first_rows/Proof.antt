@@ -1,6 +1,6 @@
 -- `data_rows::first_rows` meets its contract.
 use Rattle.data_rows.proofs.Firsts.{held-keyed, first-within, first-filled, first-none, first-value, first-alloc, first-literal, first-pending, first-refused}
-use Rattle.data_rows.proofs.Listed.{listed-none}
+use Rattle.data_rows.proofs.Printed.{printed-none}
 use Rattle.type_keys.proofs.Table.{outside-all}
 use Rattle.globals.specs.Table.{typeOn}
 use denote.Ref.{now}
@@ -48,7 +48,7 @@ same-length : tie.Need-same-length
 same-length c = search needs
 
 returns : tie.Need-returns
-returns c = (first-none (typeOn (now (c .before .before .before .before .before .before .before .before .before .args .sheet)) (c .before .before .before .before .before .before .before .before .before .args .r)) (c .before .before .before .before .before .before .before .before .before .args .off) (c .before .before .before .before .enum-told .given .1) (listed-none (c .before .before .no-rows .ensures .0) (c .before .before .no-rows .ensures .1)), outside-all)
+returns c = (first-none (typeOn (now (c .before .before .before .before .before .before .before .before .before .args .sheet)) (c .before .before .before .before .before .before .before .before .before .args .r)) (c .before .before .before .before .before .before .before .before .before .args .off) (c .before .before .before .before .enum-told .given .1) (printed-none (c .before .before .no-rows .ensures .0) (c .before .before .no-rows .ensures .1)), outside-all)
 
 same-length-2 : tie.Need-same-length-2
 same-length-2 c = search needs
@@ -81,13 +81,13 @@ same-length-8 : tie.Need-same-length-8
 same-length-8 c = search needs
 
 returns-5 : tie.Need-returns-5
-returns-5 c = (first-pending (typeOn (now (c .before .before .before .before .before .before .before .before .before .args .sheet)) (c .before .before .before .before .before .before .before .before .before .args .r)) (c .before .before .before .before .before .before .before .before .before .args .off) (c .before .before .before .before .enum-told2 .given .1) (listed-none (c .before .before .no-rows2 .ensures .0) (c .before .before .no-rows2 .ensures .1)), outside-all)
+returns-5 c = (first-pending (typeOn (now (c .before .before .before .before .before .before .before .before .before .args .sheet)) (c .before .before .before .before .before .before .before .before .before .args .r)) (c .before .before .before .before .before .before .before .before .before .args .off) (c .before .before .before .before .enum-told2 .given .1) (printed-none (c .before .before .no-rows2 .ensures .0) (c .before .before .no-rows2 .ensures .1)), outside-all)
 
 same-length-9 : tie.Need-same-length-9
 same-length-9 c = search needs
 
 returns-6 : tie.Need-returns-6
-returns-6 c = (first-refused (typeOn (now (c .before .before .before .before .before .before .before .before .before .args .sheet)) (c .before .before .before .before .before .before .before .before .before .args .r)) (c .before .before .before .before .before .before .before .before .before .args .off) (c .before .before .before .before .enum-told3 .given .1) (listed-none (c .before .before .no-rows3 .ensures .0) (c .before .before .no-rows3 .ensures .1)), outside-all)
+returns-6 c = (first-refused (typeOn (now (c .before .before .before .before .before .before .before .before .before .args .sheet)) (c .before .before .before .before .before .before .before .before .before .args .r)) (c .before .before .before .before .before .before .before .before .before .args .off) (c .before .before .before .before .enum-told3 .given .1) (printed-none (c .before .before .no-rows3 .ensures .0) (c .before .before .no-rows3 .ensures .1)), outside-all)
 
 pub first-rows-spec : {M : Type 1} → statement M
 first-rows-spec =

@@ -1,5 +1,5 @@
 -- `data_rows::literal_rows` meets its contract.
-use Rattle.data_rows.proofs.Listed.{listed-array}
+use Rattle.data_rows.proofs.Printed.{printed-array}
 use Rattle.data_rows.proofs.Keys.{arrayBy}
 use Rattle.data_rows.proofs.Kept.{literal-filled, filled-still, values-still}
 use Rattle.placements.specs.Placements.{valuesIn}
@@ -26,7 +26,7 @@ same-length-2 : tie.Need-same-length-2
 same-length-2 c = search needs
 
 returns : tie.Need-returns
-returns c = (λ s hf. listed-array (c .before .before .before .before .before .before .before .before .before .before .before .before .args .off) (arrayBy (c .before .before .before .before .before .before .before .before .before .before .before .before .args .kind) (c .before .before .before .before .before .before .before .before .before .before .before .before .args .count) (valuesIn (now (c .before .before .before .before .before .before .before .before .before .before .before .before .args .work)) 0 (c .before .before .before .before .before .before .before .before .before .before .before .before .args .count))) (c .before .before .before .before .before .before .before .number-elements .ensures .0) (c .before .before .before .before .before .before .before .before .before .kind-number .ensures .0) hf refl (λ f h. c .before .before .array-items .ensures f (arrayBy (c .before .before .before .before .before .before .before .before .before .before .before .before .args .kind) (c .before .before .before .before .before .before .before .before .before .before .before .before .args .count) (valuesIn (now (c .before .before .before .before .before .before .before .before .before .before .before .before .args .work)) 0 (c .before .before .before .before .before .before .before .before .before .before .before .before .args .count))) h (sym (c .before .before .before .before .before .before .before .before .before .kind-number .ensures .0)) refl (sym (values-still (c .before .before .before .before .before .before .before .number-elements .ensures .1) (c .before .before .before .before .before .before .before .before .before .before .before .before .args .count) ((c .before .before .before .before .before .before .before .before .before .before .before .before .pre) .1)))), c .before .before .before .before .before .before .before .number-elements .ensures .1)
+returns c = (λ s hf. printed-array (c .before .before .before .before .before .before .before .before .before .before .before .before .args .off) (arrayBy (c .before .before .before .before .before .before .before .before .before .before .before .before .args .kind) (c .before .before .before .before .before .before .before .before .before .before .before .before .args .count) (valuesIn (now (c .before .before .before .before .before .before .before .before .before .before .before .before .args .work)) 0 (c .before .before .before .before .before .before .before .before .before .before .before .before .args .count))) (c .before .before .before .before .before .before .before .number-elements .ensures .0) (c .before .before .before .before .before .before .before .before .before .kind-number .ensures .0) hf refl (λ f h. c .before .before .array-items .ensures f (arrayBy (c .before .before .before .before .before .before .before .before .before .before .before .before .args .kind) (c .before .before .before .before .before .before .before .before .before .before .before .before .args .count) (valuesIn (now (c .before .before .before .before .before .before .before .before .before .before .before .before .args .work)) 0 (c .before .before .before .before .before .before .before .before .before .before .before .before .args .count))) h (sym (c .before .before .before .before .before .before .before .before .before .kind-number .ensures .0)) refl (sym (values-still (c .before .before .before .before .before .before .before .number-elements .ensures .1) (c .before .before .before .before .before .before .before .before .before .before .before .before .args .count) ((c .before .before .before .before .before .before .before .before .before .before .before .before .pre) .1)))), c .before .before .before .before .before .before .before .number-elements .ensures .1)
 
 pub literal-rows-spec : {M : Type 1} → statement M
 literal-rows-spec = tie.close (tie.spec kind-number-requires number-elements-requires array-items-requires same-length same-length-2 returns)

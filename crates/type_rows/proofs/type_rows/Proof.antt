@@ -3,10 +3,11 @@ use denote.Ref.{now}
 use Prim.Native.Nat.{ℕ, _+_}
 use mathlib.Core.Path.{_∙_, ap, refl}
 use mathlib.Core.List.{[]}
-use Rattle.checks.proofs.Kept.{kept-then}
+use Rattle.checks.proofs.Kept.{kept-then, kept-less}
+use Rattle.type_keys.proofs.Table.{kinds-kept}
 use Rattle.semantics.specs.Types.{distinct}
 use Rattle.semantics.specs.Sheet.{sheetSource}
-use Rattle.type_rows.proofs.All.{all-rows, kinds-kept, frames-low}
+use Rattle.type_rows.proofs.All.{all-rows, frames-low}
 use Rattle.type_rows.proofs.Kept.{map-checked}
 use Rattle.type_rows.proofs.Wrotes.{within, ready-kept, shapes-length}
 use borrow.Author.Needs.{needs}
@@ -33,7 +34,7 @@ same-length-2 c = search needs
 
 returns : tie.Need-returns
 returns c = let k = kept-then (c .before .before .before .before .before .before .before .before .before .before .before .before .before .before .before .before .before .before .before .before .before .before .before .before .before .opaque-rows .ensures .1) (kept-then (c .before .before .before .before .before .before .before .before .before .before .before .before .before .before .before .before .before .before .frame-rows .ensures .kept) (c .before .before .before .before .before .before .before .before .before .before .before .need-rows .ensures .kept)) in
-    (λ is x. all-rows (now (c .before .before .before .before .before .before .before .before .before .before .before .before .before .before .before .before .before .before .before .before .before .before .before .before .before .before .before .before .before .before .before .args .sheet)) is refl (c .before .before .before .before .before .before .before .before .before .before .before .before .before .before .before .before .before .before .before .before .before .before .before .before .before .opaque-rows .ensures .0) (c .before .before .before .before .before .before .before .before .before .before .before .before .before .before .before .before .before .before .frame-rows .ensures) (c .before .before .before .before .before .before .before .before .before .before .before .need-rows .ensures) (c .before .before .before .before .kind-rows .result) (c .before .before .before .before .kind-rows .ensures .0 (now (c .before .before .before .before .before .before .before .before .before .before .before .before .before .before .before .before .before .before .before .before .before .before .before .before .before .before .before .before .before .before .before .args .sheet)) (sheetSource (now (c .before .before .before .before .before .before .before .before .before .before .before .before .before .before .before .before .before .before .before .before .before .before .before .before .before .before .before .before .before .before .before .args .sheet)) .needs) is (c .before .before .before .before .before .before .before .before .before .before .before .need-rows .ensures .id ∙ ap (λ (y : ℕ). c .before .before .before .before .before .before .before .before .before .before .before .before .before .before .before .before .before .before .frame-rows .result .id + y) (shapes-length (now (c .before .before .before .before .before .before .before .before .before .before .before .before .before .before .before .before .before .before .before .before .before .before .before .before .before .before .before .before .before .before .before .args .sheet)) (distinct [] (sheetSource (now (c .before .before .before .before .before .before .before .before .before .before .before .before .before .before .before .before .before .before .before .before .before .before .before .before .before .before .before .before .before .before .before .args .sheet)) .needs)))) (kinds-kept k x)), kept-then k (c .before .before .before .before .kind-rows .ensures .1))
+    (λ is x. all-rows (now (c .before .before .before .before .before .before .before .before .before .before .before .before .before .before .before .before .before .before .before .before .before .before .before .before .before .before .before .before .before .before .before .args .sheet)) is refl (c .before .before .before .before .before .before .before .before .before .before .before .before .before .before .before .before .before .before .before .before .before .before .before .before .before .opaque-rows .ensures .0) (c .before .before .before .before .before .before .before .before .before .before .before .before .before .before .before .before .before .before .frame-rows .ensures) (c .before .before .before .before .before .before .before .before .before .before .before .need-rows .ensures) (c .before .before .before .before .kind-rows .result) (c .before .before .before .before .kind-rows .ensures .0 (now (c .before .before .before .before .before .before .before .before .before .before .before .before .before .before .before .before .before .before .before .before .before .before .before .before .before .before .before .before .before .before .before .args .sheet)) (sheetSource (now (c .before .before .before .before .before .before .before .before .before .before .before .before .before .before .before .before .before .before .before .before .before .before .before .before .before .before .before .before .before .before .before .args .sheet)) .needs) is (c .before .before .before .before .before .before .before .before .before .before .before .need-rows .ensures .id ∙ ap (λ (y : ℕ). c .before .before .before .before .before .before .before .before .before .before .before .before .before .before .before .before .before .before .frame-rows .result .id + y) (shapes-length (now (c .before .before .before .before .before .before .before .before .before .before .before .before .before .before .before .before .before .before .before .before .before .before .before .before .before .before .before .before .before .before .before .args .sheet)) (distinct [] (sheetSource (now (c .before .before .before .before .before .before .before .before .before .before .before .before .before .before .before .before .before .before .before .before .before .before .before .before .before .before .before .before .before .before .before .args .sheet)) .needs)))) (kinds-kept (kept-less (omega arith) k) x)), kept-then k (c .before .before .before .before .kind-rows .ensures .1))
 
 pub type-rows-spec : {M : Type 1} → statement M
 type-rows-spec = tie.close (tie.spec opaque-rows-requires frame-rows-requires need-rows-requires kind-rows-requires same-length same-length-2 returns)

@@ -1,6 +1,6 @@
 -- `write::put_hex` meets its contract. The digits of the first k bytes are written.
 use Prim.Native.Nat.{_-_, _≤_}
-use mathlib.Core.Path.{_≡_, _∙_, refl, ap}
+use mathlib.Core.Path.{ap}
 use native.Mathlib.Omega.{arith}
 use lib.Seq.{take-all}
 use lib.ListN.{length, take}
@@ -8,13 +8,13 @@ use denote.Ref.{now}
 use borrow.Author.Needs.{needs}
 use Rattle.semantics.specs.Text.{hexOf}
 use Rattle.write.specs.Wrote.{Wrote}
-use Rattle.write.proofs.Wrote.{wrote-none, wrote-past, wrote-as}
+use Rattle.write.proofs.Wrote.{wrote-none, wrote-past, wrote-as, wrote-length}
 use Rattle.write.proofs.Hex.{hex-next}
 use Rattle.write.proofs.put_hex.Statement.{statement}
 use Rattle.write.proofs.put_hex.Tie as tie
 
 abbrev Inv-loop : tie.InvT-loop
-Inv-loop out₀ at part p₀ k₀ out p k = (k ≤ length part) × (length out ≡ length out₀) × Wrote out₀ at (hexOf (take k part)) out p
+Inv-loop out₀ at part p₀ k₀ out p k = (k ≤ length part) × Wrote out₀ at (hexOf (take k part)) out p
 
 abbrev μ-loop : tie.MeasureT-loop
 μ-loop out₀ at part p₀ k₀ out p k = length part - k
@@ -23,15 +23,11 @@ add-result : tie.Need-add-result Inv-loop μ-loop
 add-result c = search needs
 
 returns : tie.Need-returns Inv-loop μ-loop
-returns c =
-    let a = c .before .before .before .args in
-    wrote-past (now (a .out)) (a .at) _ (omega arith) (omega arith)
+returns c = wrote-past (now (c .before .before .before .args .out)) (c .before .before .before .args .at) _ (omega arith) (omega arith)
 
 loop-holds : tie.Need-loop-holds Inv-loop μ-loop
 unfolding hexOf
-loop-holds c =
-    let a = c .before .before .before .args in
-    (search needs, refl, wrote-none (now (a .out)) (a .at) (omega arith))
+loop-holds c = (search needs, wrote-none (now (c .before .before .before .args .out)) (c .before .before .before .args .at) (omega arith))
 
 shared-slice-read-put-hex-byte : tie.Need-shared-slice-read-put-hex-byte Inv-loop μ-loop
 shared-slice-read-put-hex-byte c = search needs
@@ -46,17 +42,13 @@ loop-less : tie.Need-loop-less Inv-loop μ-loop
 loop-less c = search needs
 
 loop-again : tie.Need-loop-again Inv-loop μ-loop
-loop-again c =
-    let l = c .before .before .before .before .before .before .loop in
-    (search needs, c .before .before .put-hex-byte .kept .0 ∙ l .inv .1, hex-next _ (l .k) (c .before .before .before .before .before .loop-test .taken) (l .inv .2) (c .before .before .put-hex-byte .ensures))
+loop-again c = (search needs, hex-next _ _ (c .before .before .before .before .before .loop-test .taken) (c .before .before .before .before .before .before .loop .inv .1) (c .before .before .put-hex-byte .ensures))
 
 same-length : tie.Need-same-length Inv-loop μ-loop
-same-length c = search needs
+same-length c = wrote-length (c .before .loop .inv .1)
 
 returns-2 : tie.Need-returns-2 Inv-loop μ-loop
-returns-2 c =
-    let l = c .before .loop in
-    wrote-as (ap hexOf (take-all (l .k) _ (c .loop-test .left))) (l .inv .2)
+returns-2 c = wrote-as (ap hexOf (take-all (c .before .loop .k) _ (c .loop-test .left))) (c .before .loop .inv .1)
 
 pub put-hex-spec : {M : Type 1} → statement M
 put-hex-spec =

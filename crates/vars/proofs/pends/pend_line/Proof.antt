@@ -3,7 +3,7 @@ use Rattle.vars.proofs.Rows.{line-pending, line-refused, quiet-none, qu
 use Rattle.vars.proofs.Lines.{var-line}
 use Rattle.vars.specs.First.{initIn}
 use Rattle.literals.proofs.Names.{line-kept}
-use mathlib.Core.Path.{ap}
+use mathlib.Core.Path.{ap, refl}
 use denote.Ref.{now}
 use borrow.Author.Needs.{needs}
 use Rattle.vars.proofs.pends.pend_line.Statement.{statement}
@@ -94,7 +94,7 @@ same-length-11 : tie.Need-same-length-11
 same-length-11 c = search needs
 
 returns-6 : tie.Need-returns-6
-returns-6 c = (line-refused (now (c .before .before .before .before .before .before .before .before .before .before .args .sheet)) (c .before .before .before .before .before .before .before .before .before .before .args .r) _ (c .before .before .before .before .before .before .before .before .before .before .pre .first) (c .before .before .before .before .before .var-value .ensures) (ap (initIn _) (c .before .q .given .1)), c .before .before .before .before .before .var-value .ensures .keeps)
+returns-6 c = ((line-refused (now (c .before .before .before .before .before .before .before .before .before .before .args .sheet)) (c .before .before .before .before .before .before .before .before .before .before .args .r) _ (c .before .before .before .before .before .before .before .before .before .before .pre .first) (c .before .before .before .before .before .var-value .ensures) (ap (initIn _) (c .before .q .given .1)), refl), c .before .before .before .before .before .var-value .ensures .keeps)
 
 pub pend-line-spec : {M : Type 1} → statement M
 pend-line-spec =

@@ -19,7 +19,7 @@ use Rattle.type_keys.specs.Table.{Kinds}
 use Rattle.type_keys.proofs.Numbers.{keys-are}
 use Rattle.data_rows.specs.declared.Next.{Next}
 use Rattle.data_rows.specs.declared.Numbered.{Numbered}
-use Rattle.data_rows.specs.Data.{keysOf, Numbers, Listed}
+use Rattle.data_rows.specs.Data.{keysOf, Numbers, ItemsPrinted}
 use Rattle.data_rows.proofs.Keys.{keys-append, value-keys, array-keys}
 
 keys-with : (s : Bytes) (off : ℕ) (a : ConstArray) (bs : List Item) → keysOf s (bs ++ arrayItems off a) ≡ keysOf s bs ++ (elemKey (a .kind) ∷ [])
@@ -32,35 +32,35 @@ keys-here s off a bs cs =
     ∙ ap (distinct []) (keys-append s (bs ++ arrayItems off a) cs ∙ ap (λ (ks : List TypeKey). ks ++ concatMap arrayKey cs) (keys-with s off a bs))
 
 module _ {s : Bytes} {p q : Next} where
-  pub listed-as : {xs ys : List Item} {t u d e : Bytes} → xs ≡ ys → Listed s xs p q t u d e → Listed s ys p q t u d e
-  listed-as {xs} {ys} {t} {u} {d} {e} h l = subst (λ (zs : List Item). Listed s zs p q t u d e) h l
+  pub printed-as : {xs ys : List Item} {t u d e : Bytes} → xs ≡ ys → ItemsPrinted s xs p q t u d e → ItemsPrinted s ys p q t u d e
+  printed-as {xs} {ys} {t} {u} {d} {e} h l = subst (λ (zs : List Item). ItemsPrinted s zs p q t u d e) h l
 
   -- items without arrays leave the keys
-  listed-plain : (xs : List Item) {t d e : Bytes} → concatMap arrayKey xs ≡ [] → q .keys ≡ p .keys → ((id : TypeKey → ℕ) → Wrote d (p .at) (itemRows id xs) e (q .at)) → Listed s xs p q t t d e
-  listed-plain xs {t} h k w = record {
+  printed-plain : (xs : List Item) {t d e : Bytes} → concatMap arrayKey xs ≡ [] → q .keys ≡ p .keys → ((id : TypeKey → ℕ) → Wrote d (p .at) (itemRows id xs) e (q .at)) → ItemsPrinted s xs p q t t d e
+  printed-plain xs {t} h k w = record {
     rows = λ bs cs x. w (idOf (sheetSource s) (bs ++ (xs ++ cs)));
     kinds = λ bs x. let z : keysOf s (bs ++ xs) ≡ keysOf s bs = keys-append s bs xs ∙ ap (λ (ks : List TypeKey). keysOf s bs ++ ks) h ∙ append-nil (keysOf s bs) in rw (z, k) x;
   }
 
-  pub listed-none : {t d e : Bytes} → Wrote d (p .at) [] e (q .at) → q .keys ≡ p .keys → Listed s [] p q t t d e
+  pub printed-none : {t d e : Bytes} → Wrote d (p .at) [] e (q .at) → q .keys ≡ p .keys → ItemsPrinted s [] p q t t d e
   unfolding itemRows
-  listed-none w k = listed-plain [] refl k (λ id. w)
+  printed-none w k = printed-plain [] refl k (λ id. w)
 
-  pub listed-value : (off : ℕ) (ty : Ty) (v : ConstVal) {t d e : Bytes} → ((id : TypeKey → ℕ) → Wrote d (p .at) (itemRow id (valueItem off ty v)) e (q .at)) → q .keys ≡ p .keys → Listed s (valueItem off ty v ∷ []) p q t t d e
+  pub printed-value : (off : ℕ) (ty : Ty) (v : ConstVal) {t d e : Bytes} → ((id : TypeKey → ℕ) → Wrote d (p .at) (itemRow id (valueItem off ty v)) e (q .at)) → q .keys ≡ p .keys → ItemsPrinted s (valueItem off ty v ∷ []) p q t t d e
   unfolding itemRows
-  listed-value off ty v w k = listed-plain (valueItem off ty v ∷ []) (value-keys off ty v) k (λ id. wrote-as (sym (append-nil (itemRow id (valueItem off ty v)))) (w id))
+  printed-value off ty v w k = printed-plain (valueItem off ty v ∷ []) (value-keys off ty v) k (λ id. wrote-as (sym (append-nil (itemRow id (valueItem off ty v)))) (w id))
 
   -- an array
   module _ (off : ℕ) (a : ConstArray) {t u d e : Bytes} {frames kind : ℕ} {r : Numbered} (n : Numbers t u frames kind (p .keys) r) (hk : kind ≡ kindNumber (a .kind)) (hf : frames ≡ length (sheetSource s .frames)) where
-    pub listed-array : q .keys ≡ r .keys → ((f : TypeKey → ℕ) → f (elemKey (a .kind)) ≡ r .id → Wrote d (p .at) (itemRows f (arrayItems off a)) e (q .at)) → Listed s (arrayItems off a) p q t u d e
-    listed-array k w = record {
+    pub printed-array : q .keys ≡ r .keys → ((f : TypeKey → ℕ) → f (elemKey (a .kind)) ≡ r .id → Wrote d (p .at) (itemRows f (arrayItems off a)) e (q .at)) → ItemsPrinted s (arrayItems off a) p q t u d e
+    printed-array k w = record {
       rows = λ bs cs x. w (idOf (sheetSource s) (bs ++ (arrayItems off a ++ cs))) (n (a .kind) (keysOf s bs) hk x .1 (sheetSource s) (bs ++ (arrayItems off a ++ cs)) (concatMap arrayKey cs) hf (keys-here s off a bs cs));
       kinds = λ bs x. rw (keys-with s off a bs, k) (n (a .kind) (keysOf s bs) hk x .0);
     }
 
 -- items and those behind them
-pub listed-then : {s : Bytes} (xs ys : List Item) {p q r : Next} {t u v d e f : Bytes} → Listed s xs p q t u d e → Listed s ys q r u v e f → Listed s (xs ++ ys) p r t v d f
-listed-then {s} xs ys {p} {q} {r} {t} {u} {v} {d} {e} {f} a b = record {
+pub printed-then : {s : Bytes} (xs ys : List Item) {p q r : Next} {t u v d e f : Bytes} → ItemsPrinted s xs p q t u d e → ItemsPrinted s ys q r u v e f → ItemsPrinted s (xs ++ ys) p r t v d f
+printed-then {s} xs ys {p} {q} {r} {t} {u} {v} {d} {e} {f} a b = record {
   rows = λ bs cs x.
       let g = idOf (sheetSource s) (bs ++ ((xs ++ ys) ++ cs)) in
       let h : bs ++ (xs ++ (ys ++ cs)) ≡ bs ++ ((xs ++ ys) ++ cs) = ap (λ (l : List Item). bs ++ l) (sym (append-assoc xs ys cs)) in

@@ -1,7 +1,7 @@
 -- `read_header` is safe and ends: a turn leaves a byte less that may be read. Assumes nothing.
 use native.Mathlib.Omega.{arith}
-use Rattle.vectors.proofs.cases.read_header.Statement.{statement}
-use Rattle.vectors.proofs.cases.read_header.Tie as tie
+use Rattle.vectors.proofs.read_header.Statement.{statement}
+use Rattle.vectors.proofs.read_header.Tie as tie
 
 abbrev Inv-loop : tie.InvT-loop
 Inv-loop h₀ left₀ h left = Unit {0}
