@@ -4,7 +4,6 @@
  * - A buffer is a pointer to its first byte and its length in bytes, all of which may be read, and written where the buffer is not
  *   const. No pointer is NULL, also where the length is 0. No length passes PTRDIFF_MAX.
  * - A buffer that is written (listing, image, area, work) overlaps no other buffer of the same call.
- *
  * - During a call nothing else writes its sheet, and nothing else reads or writes its written buffers.
  *
  * Any bytes are a sheet, any lengths will do, and buffers may hold anything before the call. The functions read and write the given

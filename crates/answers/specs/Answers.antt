@@ -4,35 +4,35 @@ use mathlib.Core.Path.{_≡_}
 use Rattle.answers.specs.declared.Refusal.{Refusal}
 use Rattle.answers.specs.declared.Refusal.the-variants.{LongSheet, SmallSpace, NoForm, BadReference, DeepNesting, BadModule, TooMany, LongString, LongAlloc, NegativeAlloc, OutsideLiteral, LongLiteral, Outgrown}
 
-abbrev pub numberOf : Refusal → ℕ
-numberOf LongSheet = 1
-numberOf SmallSpace = 2
-numberOf (NoForm k) = 3
-numberOf (BadReference k) = 4
-numberOf (DeepNesting k) = 5
-numberOf (BadModule k) = 6
-numberOf (TooMany k) = 7
-numberOf (LongString k) = 8
-numberOf (LongAlloc k) = 9
-numberOf (NegativeAlloc k) = 10
-numberOf (OutsideLiteral k) = 11
-numberOf (LongLiteral k) = 12
-numberOf Outgrown = 13
+abbrev pub refusalNumber : Refusal → ℕ
+refusalNumber LongSheet = 1
+refusalNumber SmallSpace = 2
+refusalNumber (NoForm k) = 3
+refusalNumber (BadReference k) = 4
+refusalNumber (DeepNesting k) = 5
+refusalNumber (BadModule k) = 6
+refusalNumber (TooMany k) = 7
+refusalNumber (LongString k) = 8
+refusalNumber (LongAlloc k) = 9
+refusalNumber (NegativeAlloc k) = 10
+refusalNumber (OutsideLiteral k) = 11
+refusalNumber (LongLiteral k) = 12
+refusalNumber Outgrown = 13
 
-abbrev pub lineOf : Refusal → ℕ
-lineOf LongSheet = 0
-lineOf SmallSpace = 0
-lineOf (NoForm k) = k
-lineOf (BadReference k) = k
-lineOf (DeepNesting k) = k
-lineOf (BadModule k) = k
-lineOf (TooMany k) = k
-lineOf (LongString k) = k
-lineOf (LongAlloc k) = k
-lineOf (NegativeAlloc k) = k
-lineOf (OutsideLiteral k) = k
-lineOf (LongLiteral k) = k
-lineOf Outgrown = 0
+abbrev pub refusalLine : Refusal → ℕ
+refusalLine LongSheet = 0
+refusalLine SmallSpace = 0
+refusalLine (NoForm k) = k
+refusalLine (BadReference k) = k
+refusalLine (DeepNesting k) = k
+refusalLine (BadModule k) = k
+refusalLine (TooMany k) = k
+refusalLine (LongString k) = k
+refusalLine (LongAlloc k) = k
+refusalLine (NegativeAlloc k) = k
+refusalLine (OutsideLiteral k) = k
+refusalLine (LongLiteral k) = k
+refusalLine Outgrown = 0
 
 -- q is the number of a refusal, and k its line: 1, 2 and 13 have none
 pub record Numbered (q k : ℕ) : Type 0 where

@@ -1,6 +1,10 @@
-// The refusals of 01, and their numbers and lines.
+// The refusals of 01, their numbers and lines, and the row that a program prints for one.
 ghost use mathlib.Core.Path.{_≡_};
-ghost use Rattle.answers.specs.Answers.{numberOf, lineOf, Numbered};
+ghost use Prim.Native.Nat.{_≤_};
+ghost use lib.ListN.{length};
+ghost use Rattle.semantics.specs.Refusal.{refused, printed};
+ghost use Rattle.write.specs.Wrote.{Wrote};
+ghost use Rattle.answers.specs.Answers.{refusalNumber, refusalLine, Numbered};
 
 // One case for each of the thirteen, in their order, with its line where it has one.
 pub enum Refusal {
@@ -20,7 +24,7 @@ pub enum Refusal {
 }
 
 pub fn number_of(r: Refusal) -> u8
-    ensures { λ q. ⌜ q ≡ numberOf r ⌝ }
+    ensures { λ q. ⌜ q ≡ refusalNumber r ⌝ }
 {
     match r {
         Refusal::LongSheet => 1,
@@ -41,7 +45,7 @@ pub fn number_of(r: Refusal) -> u8
 
 // Its line, from 1; 0 where it has none.
 pub fn line_of(r: Refusal) -> usize
-    ensures { λ k. ⌜ k ≡ lineOf r ⌝ }
+    ensures { λ k. ⌜ k ≡ refusalLine r ⌝ }
 {
     match r {
         Refusal::LongSheet => 0,
@@ -63,7 +67,7 @@ pub fn line_of(r: Refusal) -> usize
 // The refusal of this number at this line.
 pub fn refuse(number: u8, line: usize) -> Refusal
     requires { ⌜ Numbered number line ⌝ }
-    ensures { λ r. ⌜ (numberOf r ≡ number) × (lineOf r ≡ line) ⌝ }
+    ensures { λ r. ⌜ (refusalNumber r ≡ number) × (refusalLine r ≡ line) ⌝ }
 {
     match number {
         1 => Refusal::LongSheet,
@@ -80,4 +84,14 @@ pub fn refuse(number: u8, line: usize) -> Refusal
         12 => Refusal::LongLiteral(line),
         _ => Refusal::Outgrown,
     }
+}
+
+// `no`, the number and the line.
+pub fn put_refusal(out: &mut [u8], at: usize, r: Refusal) -> usize
+    ensures { λ q. ⌜ (Wrote (now (out .entry)) at (printed (refused (refusalNumber r) (refusalLine r))) (now (out .exit)) q) × (length (printed (refused (refusalNumber r) (refusalLine r))) ≤ 64) ⌝ }
+{
+    let p = write::put_part(out, at, b"no");
+    let q = rows::put_comma_nat(out, p, number_of(r) as u64);
+    let s = rows::put_comma_nat(out, q, line_of(r) as u64);
+    rows::put_lf(out, s)
 }

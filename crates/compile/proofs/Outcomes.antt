@@ -12,7 +12,7 @@ use Rattle.checks.specs.declared.Checks.{Checks}
 use Rattle.checks.specs.declared.Checks.the-variants as Answer
 use Rattle.checks.proofs.Laws.{compiled-by}
 use Rattle.answers.specs.declared.Refusal.{Refusal}
-use Rattle.answers.specs.Answers.{numberOf, lineOf, Numbered}
+use Rattle.answers.specs.Answers.{refusalNumber, refusalLine, Numbered}
 use Rattle.compile.specs.declared.Listed.{Listed}
 use Rattle.compile.specs.declared.Listed.the-variants.{Written, Refused}
 use Rattle.compile.specs.declared.Answer.the-variants as Answers
@@ -64,7 +64,7 @@ module _ (s : Bytes) (L W : ℕ) (d u : Bytes) {r : Listed} (h : Lists s L W r d
         x .long ∙ ap (λ (o : Outcome). length (listingBytes o)) (sym (x .outcome)),
       )
 
-  pub compiles-refused : {q k : ℕ} {t : Bytes} (a : Refusal) → r ≡ Refused q k → (numberOf a ≡ q) × (lineOf a ≡ k) → t ≡ zeros W → Compiles s L W (Answers.Refused a) d t
+  pub compiles-refused : {q k : ℕ} {t : Bytes} (a : Refusal) → r ≡ Refused q k → (refusalNumber a ≡ q) × (refusalLine a ≡ k) → t ≡ zeros W → Compiles s L W (Answers.Refused a) d t
   compiles-refused a e n z =
       let x = subst (λ (x : Listed). Lists s L W x d u) e h in
       let all : L ≡ L - 0 = omega arith in (

@@ -15,7 +15,7 @@ use Rattle.checks.specs.Checks.{Checked}
 use Rattle.names.specs.Table.{logIn}
 use Rattle.tables.specs.declared.Tables.{Tables}
 use Rattle.tables.specs.Tables.{Held}
-use Rattle.answers.specs.Answers.{numberOf, lineOf, Numbered}
+use Rattle.answers.specs.Answers.{refusalNumber, refusalLine, Numbered}
 use Rattle.compile.specs.declared.Listed.{Listed}
 use Rattle.compile.specs.declared.Listed.the-variants.{Written, Refused}
 use Rattle.compile.specs.declared.Answer.{Answer}
@@ -87,7 +87,7 @@ Lists s L W r d u = Settles s (compiled L W s) L W r d u
 
 abbrev pub answered : Answer → Bytes → Outcome
 answered (Answer.Listed n) d = listed (take n d)
-answered (Answer.Refused r) d = refused (numberOf r) (lineOf r)
+answered (Answer.Refused r) d = refused (refusalNumber r) (refusalLine r)
 
 abbrev pub lengthOf : Answer → ℕ
 lengthOf (Answer.Listed n) = n

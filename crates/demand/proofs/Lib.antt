@@ -1,6 +1,7 @@
 pub mod Bytes
 pub mod Records
 pub mod Elements
+pub mod Lines
 pub mod Places
 pub mod Replay
 pub mod Items

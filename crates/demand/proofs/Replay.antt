@@ -29,6 +29,7 @@ use Rattle.laws.proofs.Tests.{never, and-left, and-right}
 use Rattle.demand.proofs.Bytes.{shifted, shifted-below, shifted-at, shifted-past, shifted-nil, shifted-append, length-written, written-adds, layer, lies-below, getD-zeros, word-bytes}
 use Rattle.laws.proofs.Alignments.{four-or-eight}
 use Rattle.demand.proofs.Elements.{Sized}
+use Rattle.demand.proofs.Lines.{Each}
 use Rattle.demand.proofs.Places.{endAt, endFrom, itemsAt, itemsFrom}
 
 -- ---- any items: the number of the next one, and the end of the parts
@@ -336,8 +337,7 @@ init-items t pendingInit k im ar a ps off h s fits z room zr = nothing k im ar a
 -- ---- all globals
 
 abbrev pub AllSized : List Declared → Type 0
-AllSized [] = Unit {0}
-AllSized (d ∷ ds) = Sized (d .first) × AllSized ds
+AllSized ds = Each (λ (d : Declared). Sized (d .first)) ds
 
 -- where their parts of the area end
 abbrev pub partsFrom : ℕ → List Declared → ℕ

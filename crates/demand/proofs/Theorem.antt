@@ -4,7 +4,7 @@ use native.Mathlib.Nat.{zero-add, le-refl}
 use native.Mathlib.Omega.{arith}
 use mathlib.Core.Path.{_≡_, refl, ap, _∙_, subst}
 use mathlib.Core.Bool.{Bool, true, false, cond}
-use mathlib.Core.List.{List, [], _∷_, _++_, map}
+use mathlib.Core.List.{List, [], _∷_}
 use lib.ListN.{length, getD, replicate, length-replicate}
 use lib.Dec.{ltb}
 use Rattle.semantics.specs.Text.{Bytes}
@@ -13,28 +13,27 @@ use Rattle.semantics.specs.Sheet.{Source, Located, sheetSource, concatMap}
 use Rattle.semantics.specs.Layout.{recordedAdts}
 use Rattle.semantics.specs.Fold.{Names}
 use Rattle.semantics.specs.Const.{namesOf}
-use Rattle.semantics.specs.Global.{Item, Globals, Declared, declaredBy, laidVars, laidNames}
+use Rattle.semantics.specs.Global.{Item, Globals, Declared, declaredBy, laidVars}
 use Rattle.semantics.specs.Image.{Memory, memoryOf, areaAfter}
 use Rattle.semantics.specs.Refusal.{Buffers, Outcome, Imaged, sourceGlobals, laidIn, replayed, afterListing, compiled, imaged, imageBytes, areaBytes}
 use Rattle.semantics.specs.Refusal.Outcome.{listed, refused}
 use Rattle.semantics.specs.Refusal.Imaged.{laid, notLaid}
-use Rattle.semantics.specs.Demand.{namesDistinct, kindsFit, sourceDeclared, laidFrom, imageEnd, areaEnd, EveryByte, Demand}
+use Rattle.semantics.specs.Demand.{namesDistinct, kindsFit, sourceDeclared, laidFrom, laidOf, AllDeclared, imageEnd, areaEnd, EveryByte, Demand}
 use Rattle.demand.proofs.Bytes.{getD-zeros}
 use Rattle.demand.proofs.Records.{records-apart}
 use Rattle.demand.proofs.Elements.{Sized, array-given, init-sized}
+use Rattle.demand.proofs.Lines.{each-join, each-declared, all-declared}
 use Rattle.demand.proofs.Places.{endFrom, itemsFrom, made}
 use Rattle.demand.proofs.Replay.{AllSized, partsFrom, items-end, replayed as replay-adds}
 use Rattle.demand.proofs.Items.{all-items}
 
 -- ---- no array of a sheet has more values than its length
 
-names-sized : (d : Bytes → Declared) → ((n : Bytes) → Sized (d n .first)) → (ns : List Bytes) (ys : List Declared) → AllSized ys → AllSized (map d ns ++ ys)
-names-sized d h [] ys s = s
-names-sized d h (n ∷ ns) ys s = (h n, names-sized d h ns ys s)
-
 pub vars-sized : (ns : Names) (vs : List (Located VarDecl)) → AllSized (concatMap (declaredBy ns) vs)
 vars-sized ns [] = tt
-vars-sized ns (v ∷ vs) = names-sized _ (λ n. init-sized ns (v .it .ty) (v .it .init)) (laidNames (v .it .names)) _ (vars-sized ns vs)
+vars-sized ns (v ∷ vs) =
+    let sized : Declared → Type 0 = λ d. Sized (d .first) in
+    each-join sized (declaredBy ns v) (concatMap (declaredBy ns) vs) (each-declared sized ns v λ n i. init-sized ns (v .it .ty) (v .it .init)) (vars-sized ns vs)
 
 -- ---- the ends by the places
 
@@ -59,6 +58,11 @@ module _ (image area : Bytes) where
   listing-laid : (b : Buffers) (g : Globals) (o : Outcome) → afterListing b g o ≡ laid image area → replayed b g ≡ laid image area
   listing-laid b g (listed out) h = h
   listing-laid b g (refused n k) h = never-laid n k image area h
+
+  lines-laid : (b : Buffers) (s : Bytes) (g : Globals) (o : Outcome) → compiled (b .listing) (b .work) s ≡ o → afterListing b g o ≡ laid image area
+      → AllDeclared (namesOf (sheetSource s)) (laidVars (sheetSource s)) (laidOf (sheetSource s))
+  lines-laid b s g (listed out) e h = all-declared (b .listing) (b .work) s out e
+  lines-laid b s g (refused n k) e h = never-laid n k image area h
 
   memory-laid : (b : Buffers) (g : Globals) (o : Outcome) → afterListing b g o ≡ laid image area → laid (memoryOf g .image) (memoryOf g .area) ≡ laid image area
   memory-laid b g o h =
@@ -103,6 +107,7 @@ demand b s image area accepted =
     record {
       bytes = λ distinct kinds.
           subst (λ (x : Bytes). EveryByte src x area) (ap imageBytes l) (subst (EveryByte src (memoryOf (sourceGlobals src) .image)) (ap areaBytes l) (every-byte src distinct kinds));
+      lines = lines-laid image area b s (sourceGlobals src) (compiled (b .listing) (b .work) s) refl accepted;
       elements = array-given (namesOf src);
       records = records-apart (recordedAdts src);
     }

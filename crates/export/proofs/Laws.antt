@@ -10,12 +10,12 @@ use Rattle.semantics.specs.Refusal.{Buffers, compiled, zeros}
 use Rattle.text.specs.Parts.{StandsAt}
 use Rattle.answers.specs.declared.Refusal.{Refusal}
 use Rattle.answers.specs.declared.Refusal.the-variants.{LongSheet, SmallSpace, NoForm, BadReference, DeepNesting, BadModule, TooMany, LongString, LongAlloc, NegativeAlloc, OutsideLiteral, LongLiteral, Outgrown}
-use Rattle.answers.specs.Answers.{numberOf, lineOf}
+use Rattle.answers.specs.Answers.{refusalNumber, refusalLine}
 use Rattle.compile.specs.declared.Answer.{Answer}
 use Rattle.compile.specs.declared.Answer.the-variants as Answer
 use Rattle.compile.specs.Compile as of-compile
-use Rattle.image.specs.declared.Imaged.{Imaged}
-use Rattle.image.specs.declared.Imaged.the-variants as Imaged
+use Rattle.image.specs.declared.ImageAnswer.{ImageAnswer}
+use Rattle.image.specs.declared.ImageAnswer.the-variants as ImageAnswer
 use Rattle.image.specs.Image.{Pictures}
 use Rattle.export.specs.Export.{Compiles, Images, compiledNumbers, laidNumbers}
 
@@ -24,7 +24,7 @@ pub field-length : (s : Bytes) (n i a e : ℕ) → StandsAt s n i a e → e - a 
 field-length s n i a e h = sym (length-take-le (e - a) (drop a s) (omega (arith, h .ordered, h .within, length-drop a s))) ∙ ap length (h .view)
 
 -- no refusal has the number 0
-never-0 : (r : Refusal) → numberOf r ≡ 0 → ⊥
+never-0 : (r : Refusal) → refusalNumber r ≡ 0 → ⊥
 never-0 LongSheet e = omega arith
 never-0 SmallSpace e = omega arith
 never-0 (NoForm k) e = omega arith
@@ -56,12 +56,12 @@ module _ (s : Bytes) (L W : ℕ) (d u : Bytes) {x : Answer} where
         workIs = h .3;
       }
 
-  pub refused-as : {r : Refusal} {q k : ℕ} → x ≡ Answer.Refused r → q ≡ numberOf r → k ≡ lineOf r → of-compile.Compiles s L W x d u → Compiles s L W (record { number = q; line = k; listing = 0 }) d u
+  pub refused-as : {r : Refusal} {q k : ℕ} → x ≡ Answer.Refused r → q ≡ refusalNumber r → k ≡ refusalLine r → of-compile.Compiles s L W x d u → Compiles s L W (record { number = q; line = k; listing = 0 }) d u
   refused-as {r} e hq hk g =
       let h = told e g in
       rw (hq, hk) (record {
         answer = ap compiledNumbers (h .0);
-        outcome = rw (ne-eqb (numberOf r) 0 (never-0 r)) (h .0);
+        outcome = rw (ne-eqb (refusalNumber r) 0 (never-0 r)) (h .0);
         within = omega arith;
         listingIs = h .2;
         workIs = h .3;
@@ -69,11 +69,11 @@ module _ (s : Bytes) (L W : ℕ) (d u : Bytes) {x : Answer} where
 
 -- ---- the image
 
-module _ (s : Bytes) (b : Buffers) (listing image area work : Bytes) {x : Imaged} where
-  seen : {y : Imaged} → x ≡ y → Pictures s b x listing image area → Pictures s b y listing image area
-  seen e h = subst (λ (y : Imaged). Pictures s b y listing image area) e h
+module _ (s : Bytes) (b : Buffers) (listing image area work : Bytes) {x : ImageAnswer} where
+  seen : {y : ImageAnswer} → x ≡ y → Pictures s b x listing image area → Pictures s b y listing image area
+  seen e h = subst (λ (y : ImageAnswer). Pictures s b y listing image area) e h
 
-  pub laid-as : {l i a : ℕ} → length image ≡ b .image → length area ≡ b .area → x ≡ Imaged.Laid l i a → Pictures s b x listing image area → work ≡ zeros (b .work)
+  pub laid-as : {l i a : ℕ} → length image ≡ b .image → length area ≡ b .area → x ≡ ImageAnswer.Laid l i a → Pictures s b x listing image area → work ≡ zeros (b .work)
       → Images s b (record { number = 0; line = 0; listing = l; image = i; area = a }) listing image area work
   laid-as {l} {i} {a} hi ha e g z =
       let h = seen e g in
@@ -88,13 +88,13 @@ module _ (s : Bytes) (b : Buffers) (listing image area work : Bytes) {x : Imaged
         demand = λ _. h .demand;
       }
 
-  pub not-laid-as : {r : Refusal} {q k : ℕ} → x ≡ Imaged.Refused r → q ≡ numberOf r → k ≡ lineOf r → Pictures s b x listing image area → work ≡ zeros (b .work)
+  pub not-laid-as : {r : Refusal} {q k : ℕ} → x ≡ ImageAnswer.Refused r → q ≡ refusalNumber r → k ≡ refusalLine r → Pictures s b x listing image area → work ≡ zeros (b .work)
       → Images s b (record { number = q; line = k; listing = 0; image = 0; area = 0 }) listing image area work
   not-laid-as {r} e hq hk g z =
       let h = seen e g in
       rw (hq, hk) (record {
         answer = ap (laidNumbers (compiled (b .listing) (b .work) s)) (h .answer);
-        outcome = rw (ne-eqb (numberOf r) 0 (never-0 r)) (h .answer);
+        outcome = rw (ne-eqb (refusalNumber r) 0 (never-0 r)) (h .answer);
         within = (omega arith, omega arith, omega arith);
         listingIs = h .listingIs;
         imageIs = h .imageIs;

@@ -1,6 +1,6 @@
 // The entries for C and Rust. A slice is a pointer and a length there, and a struct is C's.
 use compile::Answer;
-use image::Imaged;
+use image::ImageAnswer;
 ghost use mathlib.Core.Path.{_≡_};
 ghost use lib.ListN.{length};
 ghost use Rattle.semantics.specs.Text.{fieldOf, fieldStart};
@@ -75,14 +75,14 @@ pub extern "C" fn limbo_sheet_image(
     ensures { λ r. ⌜ Images (now (sheet .entry)) (lentOf (now (listing .entry)) (now (image .entry)) (now (area .entry)) (now (work .entry))) r (now (listing .exit)) (now (image .exit)) (now (area .exit)) (now (work .exit)) ⌝ }
 {
     match image::image(sheet, listing, image, area, work) {
-        Imaged::Laid(l, i, a) => Laid {
+        ImageAnswer::Laid(l, i, a) => Laid {
             number: 0,
             line: 0,
             listing: l,
             image: i,
             area: a,
         },
-        Imaged::Refused(r) => Laid {
+        ImageAnswer::Refused(r) => Laid {
             number: answers::number_of(r),
             line: answers::line_of(r),
             listing: 0,

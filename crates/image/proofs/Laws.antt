@@ -12,8 +12,7 @@ use Rattle.semantics.specs.Text.{Bytes}
 use Rattle.semantics.specs.Sheet.{sheetSource}
 use Rattle.semantics.specs.Global.{Globals}
 use Rattle.semantics.specs.Image.{memoryOf, areaAfter}
-use Rattle.semantics.specs.Refusal.{Buffers, Outcome, compiled, imaged, zeros, padded, listingBytes, listingKept, imageBytes, areaBytes, replayed, afterListing, sourceGlobals, sourceListing}
-use Rattle.semantics.specs.Refusal.{Imaged as Image}
+use Rattle.semantics.specs.Refusal.{Buffers, Outcome, Imaged, compiled, imaged, zeros, padded, listingBytes, listingKept, imageBytes, areaBytes, replayed, afterListing, sourceGlobals, sourceListing}
 use Rattle.semantics.specs.Refusal.Outcome.{listed, refused}
 use Rattle.semantics.specs.Refusal.Imaged.{laid, notLaid}
 use Rattle.demand.proofs.Theorem.{demand}
@@ -23,12 +22,12 @@ use Rattle.replay.specs.Whole.{Replays}
 use Rattle.replay.proofs.Meets.{lengthsOf, Meets}
 use Rattle.sound.proofs.Replay.{sheet-replayed}
 use Rattle.answers.specs.declared.Refusal.{Refusal}
-use Rattle.answers.specs.Answers.{numberOf, lineOf}
+use Rattle.answers.specs.Answers.{refusalNumber, refusalLine}
 use Rattle.compile.specs.declared.Listed.{Listed}
 use Rattle.compile.specs.declared.Listed.the-variants as Listed
 use Rattle.compile.specs.Compile.{Lays, Refuses, Lists}
-use Rattle.image.specs.declared.Imaged.{Imaged}
-use Rattle.image.specs.declared.Imaged.the-variants.{Laid, Refused}
+use Rattle.image.specs.declared.ImageAnswer.{ImageAnswer}
+use Rattle.image.specs.declared.ImageAnswer.the-variants.{Laid, Refused}
 use Rattle.image.specs.Image.{Pictures}
 
 -- ---- bytes and zeros behind them
@@ -69,7 +68,7 @@ module _ (s : Bytes) (b : Buffers) where
         demand = demand b s (take i image) (take a area) (sym e);
       }
 
-  refused-pictures : {listing image area : Bytes} (r : Refusal) → imaged b s ≡ notLaid (numberOf r) (lineOf r)
+  refused-pictures : {listing image area : Bytes} (r : Refusal) → imaged b s ≡ notLaid (refusalNumber r) (refusalLine r)
       → listing ≡ padded (b .listing) [] → image ≡ padded (b .image) [] → area ≡ padded (b .area) []
       → Pictures s b (Refused r) listing image area
   refused-pictures r q listing-is image-is area-is = record {
@@ -88,7 +87,7 @@ module _ (s : Bytes) (b : Buffers) where
   not-listed c = ap (afterListing b (sourceGlobals (sheetSource s))) c
 
   pub list-refused : {q k : ℕ} {listing image area work : Bytes} (r : Refusal) → Refuses (compiled (b .listing) (b .work) s) (b .listing) (b .work) q k listing work
-      → numberOf r ≡ q → lineOf r ≡ k → image ≡ zeros (b .image) → area ≡ zeros (b .area)
+      → refusalNumber r ≡ q → refusalLine r ≡ k → image ≡ zeros (b .image) → area ≡ zeros (b .area)
       → Pictures s b (Refused r) listing image area
   list-refused r h number line image-is area-is =
       refused-pictures r (not-listed (h .outcome) ∙ (λ j. notLaid (sym number j) (sym line j))) (blank (b .listing) (h .bytes)) (blank (b .image) image-is) (blank (b .area) area-is)
@@ -111,7 +110,7 @@ module _ (s : Bytes) (b : Buffers) where
   met {l} {end} {listing} {u} {t} {t′} {image} {image′} {area} {area′} {r} h image-long area-long e =
       let out = front (b .listing) (sourceListing (sheetSource s)) (h .bytes) (sub-zero l ∙ h .long) in
       let at : Replays (sourceListing (sheetSource s)) (items .end) t t′ image image′ area area′ r = subst (λ (n : ℕ). Replays (sourceListing (sheetSource s)) n t t′ image image′ area area′ r) (h .ends) (subst (λ (x : Bytes). Replays x end t t′ image image′ area area′ r) out e) in
-      subst (λ (q : Image). Meets q (b .image) (b .area) r image′ area′) (sym (replays (h .outcome))) (sheet-replayed s u (h .lines) (h .checked) b image-long area-long at)
+      subst (λ (q : Imaged). Meets q (b .image) (b .area) r image′ area′) (sym (replays (h .outcome))) (sheet-replayed s u (h .lines) (h .checked) b image-long area-long at)
 
   -- replay refuses by 13 alone
   outgrown : (t u : Bool) (x y : Bytes) → Replayed.Outgrown ≡ lengthsOf (cond t (notLaid 13 0) (cond u (notLaid 13 0) (laid x y))) → cond t (notLaid 13 0) (cond u (notLaid 13 0) (laid x y)) ≡ notLaid 13 0
@@ -122,7 +121,7 @@ module _ (s : Bytes) (b : Buffers) where
   never-fits : Replayed.Outgrown ≡ lengthsOf (replayed b items) → replayed b items ≡ notLaid 13 0
   never-fits h = let m = memoryOf items in outgrown (ltb (b .area) (areaAfter 0 (items .items))) (ltb (b .image) (length (m .image))) (m .image) (m .area) h
 
-  by-image : {l i a end : ℕ} {listing u image area : Bytes} {r : Replayed} (q : Image) → imaged b s ≡ q → Listing l end listing u
+  by-image : {l i a end : ℕ} {listing u image area : Bytes} {r : Replayed} (q : Imaged) → imaged b s ≡ q → Listing l end listing u
       → length image ≡ b .image → length area ≡ b .area → r ≡ Replayed.Laid i a → Meets q (b .image) (b .area) r image area
       → Pictures s b (Laid l i a) listing image area
   by-image {l} {i} {a} (laid x y) q h image-long area-long e m =
@@ -138,7 +137,7 @@ module _ (s : Bytes) (b : Buffers) where
     replay-laid image-kept area-kept given = by-image (imaged b s) refl h (image-kept ∙ image-long) (area-kept ∙ area-long) given (met h image-long area-long e)
 
     pub replay-outgrown : {listing′ : Bytes} (x : Refusal) → r ≡ Replayed.Outgrown → length listing ≡ b .listing → listing′ ≡ zeros (length listing)
-        → numberOf x ≡ 13 → lineOf x ≡ 0 → Pictures s b (Refused x) listing′ image′ area′
+        → refusalNumber x ≡ 13 → refusalLine x ≡ 0 → Pictures s b (Refused x) listing′ image′ area′
     replay-outgrown x given listing-long listing-is number line =
         let m = met h image-long area-long e in
         let is = replays (h .outcome) in
@@ -148,5 +147,5 @@ module _ (s : Bytes) (b : Buffers) where
 
 -- ---- for callers: the parts of the buffers that the answer counts
 
-pub laid-within : {s : Bytes} {b : Buffers} {r : Imaged} {listing image area : Bytes} {l i a : ℕ} → r ≡ Laid l i a → Pictures s b r listing image area → (l ≤ b .listing) × (i ≤ b .image) × (a ≤ b .area)
-laid-within {s} {b} {r} {listing} {image} {area} e h = let x = subst (λ (r : Imaged). Pictures s b r listing image area) e h .lengths in (x .1, x .2, x .3)
+pub laid-within : {s : Bytes} {b : Buffers} {r : ImageAnswer} {listing image area : Bytes} {l i a : ℕ} → r ≡ Laid l i a → Pictures s b r listing image area → (l ≤ b .listing) × (i ≤ b .image) × (a ≤ b .area)
+laid-within {s} {b} {r} {listing} {image} {area} e h = let x = subst (λ (r : ImageAnswer). Pictures s b r listing image area) e h .lengths in (x .1, x .2, x .3)

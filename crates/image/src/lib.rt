@@ -8,7 +8,7 @@ ghost use Rattle.semantics.specs.Refusal.{zeros};
 ghost use Rattle.image.specs.Image.{lentOf, Pictures};
 
 // The lengths of listing, image and area, or a refusal.
-pub enum Imaged {
+pub enum ImageAnswer {
     Laid(usize, usize, usize),
     Refused(Refusal),
 }
@@ -20,22 +20,22 @@ fn lay(
     image: &mut [u8],
     area: &mut [u8],
     work: &mut [u8],
-) -> Imaged
+) -> ImageAnswer
     ensures { λ r. ⌜ Pictures (now (sheet .entry)) (lentOf (now (listing .entry)) (now (image .entry)) (now (area .entry)) (now (work .entry))) r (now (listing .exit)) (now (image .exit)) (now (area .exit)) ⌝ }
 {
     match compile::list(sheet, listing, work) {
         Listed::Refused(number, line) => {
             write::zero(image);
             write::zero(area);
-            Imaged::Refused(answers::refuse(number, line))
+            ImageAnswer::Refused(answers::refuse(number, line))
         }
         Listed::Written(l, end) => {
             let laid = replay::replay(&listing[0..l], work, image, area, end as usize);
             match laid {
-                Replayed::Laid(i, a) => Imaged::Laid(l, i, a),
+                Replayed::Laid(i, a) => ImageAnswer::Laid(l, i, a),
                 Replayed::Outgrown => {
                     write::zero(listing);
-                    Imaged::Refused(answers::refuse(13, 0))
+                    ImageAnswer::Refused(answers::refuse(13, 0))
                 }
             }
         }
@@ -49,7 +49,7 @@ pub fn image(
     image: &mut [u8],
     area: &mut [u8],
     work: &mut [u8],
-) -> Imaged
+) -> ImageAnswer
     ensures { λ r. ⌜ (Pictures (now (sheet .entry)) (lentOf (now (listing .entry)) (now (image .entry)) (now (area .entry)) (now (work .entry))) r (now (listing .exit)) (now (image .exit)) (now (area .exit))) × (now (work .exit) ≡ zeros (length (now (work .entry)))) ⌝ }
 {
     let r = lay(sheet, listing, image, area, work);

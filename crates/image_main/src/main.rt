@@ -1,29 +1,47 @@
 // Reads a sheet from standard input and prints the image of its data and the area of its arrays, a row each, in hexadecimal digits; or
 // `no`, the refusal's number and its line.
-use answers::Refusal;
-use image::Imaged;
+use image::ImageAnswer;
 use libc::STDIN_FILENO;
 use libc::STDOUT_FILENO;
-ghost use Prim.Native.Nat.{_≤_};
-ghost use lib.ListN.{length};
-
-fn refuse(r: Refusal) {
-    io::write_all(STDOUT_FILENO, b"no,");
-    io::print_decimal(STDOUT_FILENO, answers::number_of(r) as u64);
-    io::write_all(STDOUT_FILENO, b",");
-    io::print_decimal(STDOUT_FILENO, answers::line_of(r) as u64);
-    io::write_all(STDOUT_FILENO, b"\n");
-}
+ghost use mathlib.Core.Path.{_≡_};
+ghost use mathlib.Core.List.{_∷_, []};
+ghost use Prim.Native.Nat.{_+_, _*_, _≤_};
+ghost use lib.ListN.{length, take};
+ghost use Rattle.io.specs.Counts.{Counts};
+ghost use Rattle.semantics.specs.Text.{hexOf};
+ghost use Rattle.semantics.specs.Listing.{row};
+ghost use Rattle.semantics.specs.Refusal.{imaged, printedImage};
+ghost use Rattle.write.specs.Wrote.{Wrote};
+ghost use Rattle.image.specs.Image.{lentOf};
 
 // A row of a name and bytes.
-fn print_row(name: &[u8], bytes: &[u8])
-    requires { ⌜ (length (now name) ≤ 6) × (length (now bytes) ≤ 65536) ⌝ }
+fn put_row(out: &mut [u8], at: usize, name: &[u8], bytes: &[u8]) -> usize
+    ensures { λ r. ⌜ Wrote (now (out .entry)) at (row (now (name .entry) ∷ hexOf (now (bytes .entry)) ∷ [])) (now (out .exit)) r ⌝ }
 {
-    let mut row = [0u8; 131079];
-    let p = write::put_part(&mut row, 0, name);
-    let q = write::put_hex(&mut row, p, bytes);
-    let n = write::put(&mut row, q, 10);
-    io::write_all(STDOUT_FILENO, &row[0..n]);
+    let p = write::put_part(out, at, name);
+    let q = rows::put_comma_hex(out, p, bytes);
+    rows::put_lf(out, q)
+}
+
+// Puts what is to be printed at the start of `out`, and answers its length.
+fn put_answer(
+    sheet: &[u8],
+    listing: &mut [u8],
+    image: &mut [u8],
+    area: &mut [u8],
+    work: &mut [u8],
+    out: &mut [u8],
+) -> usize
+    requires { ⌜ 64 + 2 * (length (now image) + length (now area)) ≤ length (now out) ⌝ }
+    ensures { λ r. ⌜ (Counts r (now (out .exit))) × (take r (now (out .exit)) ≡ printedImage (imaged (lentOf (now (listing .entry)) (now (image .entry)) (now (area .entry)) (now (work .entry))) (now (sheet .entry)))) ⌝ }
+{
+    match image::image(sheet, listing, image, area, work) {
+        ImageAnswer::Refused(r) => answers::put_refusal(out, 0, r),
+        ImageAnswer::Laid(_, i, a) => {
+            let p = put_row(out, 0, b"image", &image[0..i]);
+            put_row(out, p, b"area", &area[0..a])
+        }
+    }
 }
 
 fn main() {
@@ -32,18 +50,15 @@ fn main() {
     let mut picture = io::large_buffer();
     let mut area = io::large_buffer();
     let mut work = io::large_buffer();
+    let mut out = [0u8; 262208];
     let n = io::read_full(STDIN_FILENO, &mut sheet);
-    match image::image(
+    let k = put_answer(
         &sheet[..n],
         &mut listing,
         &mut picture,
         &mut area,
         &mut work,
-    ) {
-        Imaged::Refused(r) => refuse(r),
-        Imaged::Laid(_, i, a) => {
-            print_row(b"image,", &picture[0..i]);
-            print_row(b"area,", &area[0..a]);
-        }
-    }
+        &mut out,
+    );
+    io::write_all(STDOUT_FILENO, &out[..k]);
 }

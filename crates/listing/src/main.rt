@@ -7,17 +7,7 @@ ghost use mathlib.Core.Path.{_≡_};
 ghost use Prim.Native.Nat.{_≤_};
 ghost use lib.ListN.{length, take};
 ghost use Rattle.io.specs.Counts.{Counts};
-ghost use Rattle.semantics.specs.Refusal.{refused, compiled, printed};
-ghost use Rattle.write.specs.Wrote.{Wrote};
-
-fn put_refusal(out: &mut [u8], number: u8, line: usize) -> usize
-    ensures { λ r. ⌜ (Wrote (now (out .entry)) 0 (printed (refused number line)) (now (out .exit)) r) × (length (printed (refused number line)) ≤ 64) ⌝ }
-{
-    let p = write::put_part(out, 0, b"no");
-    let q = rows::put_comma_nat(out, p, number as u64);
-    let r = rows::put_comma_nat(out, q, line as u64);
-    rows::put_lf(out, r)
-}
+ghost use Rattle.semantics.specs.Refusal.{compiled, printed};
 
 // Puts what is to be printed at the start of `out`, and answers its length.
 fn put_answer(sheet: &[u8], out: &mut [u8], work: &mut [u8]) -> usize
@@ -26,7 +16,7 @@ fn put_answer(sheet: &[u8], out: &mut [u8], work: &mut [u8]) -> usize
 {
     match compile::compile(sheet, out, work) {
         Answer::Listed(n) => n,
-        Answer::Refused(r) => put_refusal(out, answers::number_of(r), answers::line_of(r)),
+        Answer::Refused(r) => answers::put_refusal(out, 0, r),
     }
 }
 

@@ -18,7 +18,8 @@ use Rattle.semantics.specs.Const.{constants, namesOf}
 use Rattle.stored.specs.Stored.{Stored, storedOf}
 use Rattle.stored.specs.Reading.{sizeIn}
 use Rattle.stored.specs.Laying.{Laying, layAll, beginning, InPlace}
-use Rattle.stored.proofs.Items.{Each, Readable}
+use Rattle.demand.proofs.Lines.{Each}
+use Rattle.stored.proofs.Items.{Readable}
 use Rattle.stored.proofs.Others.{PlainNames, listing-read}
 use Rattle.stored.proofs.Laying.{Answer, replayed-by}
 use Rattle.stored.proofs.Names.{PlainSource, plain-listing}

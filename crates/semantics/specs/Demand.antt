@@ -10,7 +10,7 @@ use lib.IntN.{ℤ, pos, negsuc}
 use lib.Signed.{leZ}
 use lib.Dec.{leb, ltb, eqb}
 use Rattle.semantics.specs.Text.{Bytes, same, any, all, bigEndian}
-use Rattle.semantics.specs.Tree.{Basic, Ty, Ex, ArrayEx, Els, Fd, Case, AdtDecl, ConstVal, ElemKind, MaybeEx, byForm, elemOf}
+use Rattle.semantics.specs.Tree.{Basic, Ty, Ex, ArrayEx, Els, Fd, Case, AdtDecl, VarDecl, ConstVal, ElemKind, MaybeEx, byForm, elemOf}
 use Rattle.semantics.specs.Tree.Basic.{int, byte, big, real, string}
 use Rattle.semantics.specs.Tree.Ty.{basic, ptr, array, tuple}
 use Rattle.semantics.specs.Tree.ConstVal.{vInt, vReal, vStr}
@@ -19,13 +19,13 @@ use Rattle.semantics.specs.Tree.MaybeEx.{absent, given}
 use Rattle.semantics.specs.Tree.El.{next, star, at}
 use Rattle.semantics.specs.Tree.Els.{noEls, andEl}
 use Rattle.semantics.specs.Tree.ElemKind.{kByte, kWord, kBig, kReal, kPtr}
-use Rattle.semantics.specs.Sheet.{Source, sheetSource, concatMap}
+use Rattle.semantics.specs.Sheet.{Located, Source, sheetSource, concatMap}
 use Rattle.semantics.specs.Layout.{sizeOf, isPtr, mapOf, Placed, Recorded, recordedAdts, records, recordsOf, seen}
 use Rattle.semantics.specs.Fold.{Result, Names, foldAt0, bits64}
 use Rattle.semantics.specs.Fold.Result.{ok, failed, refuse}
 use Rattle.semantics.specs.Const.{namesOf}
 use Rattle.semantics.specs.Array.{ConstArray, elemKind, spansOf, isReal, isStr, constByte, constWord, constBig, constReal}
-use Rattle.semantics.specs.Global.{Item, Init, Declared, declaredIn, initOf, initItems, globalSize, newOffset, Global}
+use Rattle.semantics.specs.Global.{Item, Init, Declared, declaredIn, laidVars, laidNames, initOf, initItems, globalSize, newOffset, Global}
 use Rattle.semantics.specs.Global.Item.{valuesItem, strItem, arrayItem, setItem, backItem}
 use Rattle.semantics.specs.Global.Init.{noInit, constInit, arrayInit, pendingInit}
 use Rattle.semantics.specs.Image.{wordBytes, bigBytes, realBytes, handle, elemSize, partAt, areaAfter}
@@ -312,6 +312,25 @@ abbrev pub ItemsAt : List Item → List Laid → Type 0
 ItemsAt is [] = Unit {0}
 ItemsAt is (l ∷ ls) = ItemAt is (l .offset) (l .item) (l .start) (l .global .first) × ItemsAt is ls
 
+-- ---- globals and their `var` lines
+
+-- x stands in a list
+pub record In {A : Type 0} (x : A) (xs : List A) : Type 0 where
+  pub index : ℕ
+  pub there : getElem? xs index ≡ some x
+
+-- a global is one of the names of a `var` line among vs, has that line's type, and its first value is that of the line's own expression
+pub record DeclaredAt (ns : Names) (vs : List (Located VarDecl)) (d : Declared) : Type 0 where
+  pub line : Located VarDecl
+  pub counts : In line vs
+  pub named : In (d .name) (laidNames (line .it .names))
+  pub sameType : d .ty ≡ line .it .ty
+  pub value : initOf ns (line .it .ty) (line .it .init) ≡ ok (d .first)
+
+abbrev pub AllDeclared : Names → List (Located VarDecl) → List Laid → Type 0
+AllDeclared ns vs [] = Unit {0}
+AllDeclared ns vs (l ∷ ls) = DeclaredAt ns vs (l .global) × AllDeclared ns vs ls
+
 abbrev pub globalOf : Laid → Global
 globalOf l = record { name = l .global .name; offset = l .offset; ty = l .global .ty }
 
@@ -393,6 +412,8 @@ pub record EveryByte (s : Source) (image area : Bytes) : Type 0 where
 pub record WholeImage (s : Source) (image area : Bytes) : Type 0 where
   -- where no global's name stands twice and each first value is of its type's kind
   pub bytes : namesDistinct (sourceDeclared s) ≡ true → kindsFit (sourceDeclared s) ≡ true → EveryByte s image area
+  -- each place is of a name of a `var` line that counts, with the first value of that line's own expression
+  pub lines : AllDeclared (namesOf s) (laidVars s) (laidOf s)
   -- of any first value that is an array: its values are, index by index, those last given, or else the filler
   pub elements : (t : Ty) (e : Ex) (a : ConstArray) → initOf (namesOf s) t (some e) ≡ ok (arrayInit a) → GivenBy (namesOf s) (elemOf t) e a
   -- each record that an `adt` line fills

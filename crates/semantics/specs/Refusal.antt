@@ -5,7 +5,7 @@ use mathlib.Core.List.{List, [], _∷_, _++_}
 use mathlib.Core.Option.{Option, none, some}
 use lib.ListN.{length, getD, replicate}
 use lib.Dec.{leb, ltb, eqb}
-use Rattle.semantics.specs.Text.{Bytes, bytes, any, lineParts, decimal}
+use Rattle.semantics.specs.Text.{Bytes, bytes, any, lineParts, decimal, hexOf}
 use Rattle.semantics.specs.Tree.{Case, AdtDecl, VarDecl, Declares, Node}
 use Rattle.semantics.specs.Form.{Kind, Atom, Part, Read, noRow, letter, sameKind, ones, numberOf, formed}
 use Rattle.semantics.specs.Form.Kind.{kMod, kEnd}
@@ -289,3 +289,8 @@ imageOf s = imaged programBuffers s
 abbrev pub printed : Outcome → Bytes
 printed (listed out) = out
 printed (refused n k) = row (bytes "no" ∷ decimal n ∷ decimal k ∷ [])
+
+-- what the image program prints: a row of hexadecimal digits each for image and area, or the row of the refusal
+abbrev pub printedImage : Imaged → Bytes
+printedImage (laid image area) = row (bytes "image" ∷ hexOf image ∷ []) ++ row (bytes "area" ∷ hexOf area ∷ [])
+printedImage (notLaid n k) = printed (refused n k)

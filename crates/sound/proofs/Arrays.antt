@@ -18,7 +18,7 @@ use Rattle.semantics.specs.Fold.{Result, Names, bind, foldAt0}
 use Rattle.semantics.specs.Fold.Result.{ok, failed, refuse}
 use Rattle.semantics.specs.Array.{ConstArray, Placement, Filled, allocated, placeSpan, placeIndices, placeNext, placeSpans, setWildcard, spansOf, fillElement, fill, noneFilled, valueAt, valuesFrom, filler, literalSize, outside, built, measured, arrayOf, constArray, longestAlloc, longestLiteral}
 use Rattle.semantics.specs.Global.{Init, Declared, firstValue, initOf, laidVars, laidNames, orNoInit, declaredBy, declaredIn}
-use Rattle.stored.proofs.Items.{Each, each-join}
+use Rattle.demand.proofs.Lines.{Each, each-join}
 use Rattle.stored.proofs.Others.{each-filter}
 use Rattle.stored.proofs.Ranges.{Sound, SoundFirst}
 use Rattle.sound.proofs.Limits.{Limited, LimitedOption, LimitedEx, LimitedArray, LimitedEl, LimitedEls, LimitedInit}

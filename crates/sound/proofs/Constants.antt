@@ -13,7 +13,8 @@ use Rattle.semantics.specs.Sheet.{Module, Located, Source}
 use Rattle.semantics.specs.Fold.{Result, Const, plain, qualified, fold}
 use Rattle.semantics.specs.Fold.Result.{ok, failed, refuse}
 use Rattle.semantics.specs.Const.{IotaCounter, newCounter, sameGroup, iotaAt, iotaNext, Folding, implements, entries, entered, pass, standsIn, modulePasses, topLevel, passesOf, passesFrom, constants}
-use Rattle.stored.proofs.Items.{Each, each-join, Fits64}
+use Rattle.demand.proofs.Lines.{Each, each-join}
+use Rattle.stored.proofs.Items.{Fits64}
 use Rattle.stored.proofs.Others.{each-filter}
 use Rattle.sound.proofs.Limits.{LimitedOption, LimitedEx}
 use Rattle.sound.proofs.Folds.{LimitedResult, LimitedConst, fold-limited}

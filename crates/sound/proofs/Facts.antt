@@ -14,7 +14,7 @@ use Rattle.semantics.specs.Global.{Declared, declaredIn}
 use Rattle.lines.specs.Lines.{nodesIn}
 use Rattle.checks.specs.Checks.{Checked}
 use Rattle.stored.proofs.Rows.{Plain}
-use Rattle.stored.proofs.Items.{Each, each-join}
+use Rattle.demand.proofs.Lines.{Each, each-join}
 use Rattle.stored.proofs.Names.{PlainAdt, PlainWithin, PlainConst, PlainSource}
 use Rattle.stored.proofs.Ranges.{SoundFirst}
 use Rattle.sound.proofs.Limits.{LimitedInit, LimitedDecl, LimitedVar, LimitedNode}

@@ -17,7 +17,8 @@ use Rattle.semantics.specs.Form.Atom.{name, key, ref, maybe, unaryOp, binaryOp,
 use Rattle.semantics.specs.Form.Part.{one, many}
 use Rattle.form.proofs.Table.{never, both}
 use Rattle.write.specs.Plain.{isPlain}
-use Rattle.stored.proofs.Items.{Each, Fits64}
+use Rattle.demand.proofs.Lines.{Each}
+use Rattle.stored.proofs.Items.{Fits64}
 use Rattle.stored.proofs.Names.{name-plain}
 use Rattle.sound.proofs.Limits.{LimitedNode}
 

@@ -27,7 +27,8 @@ use Rattle.semantics.specs.Tree.BinOp.{arith as arith-op, intOp, power, logAnd,
 use Rattle.semantics.specs.Fold.{Result, bind, bits64, shiftCount, eqZ, signed64, wrap, isZero, test, intArith, intOnly, intBinary, realBinary, toReal, joinStr, strBinary, foldBinary, foldUnary, castInt, castReal, foldCast, foldLen, Key, Const, Names, sameKey, lookUp, valueOf, fromOption, qualifiedValue, plain, qualified, fold}
 use Rattle.semantics.specs.Fold.Result.{ok, failed, refuse}
 use Rattle.values.proofs.Written.{integer-short}
-use Rattle.stored.proofs.Items.{Each, Fits64}
+use Rattle.demand.proofs.Lines.{Each}
+use Rattle.stored.proofs.Items.{Fits64}
 use Rattle.stored.proofs.Ranges.{small, whole-fits}
 use Rattle.sound.proofs.Limits.{Limited, LimitedOption, LimitedEx}
 

@@ -14,7 +14,8 @@ use Rattle.semantics.specs.Tree.El.{next, star, at}
 use Rattle.semantics.specs.Tree.Els.{noEls, andEl}
 use Rattle.write.specs.Plain.{isPlain}
 use Rattle.stored.proofs.Rows.{Plain}
-use Rattle.stored.proofs.Items.{Each, Fits64}
+use Rattle.demand.proofs.Lines.{Each}
+use Rattle.stored.proofs.Items.{Fits64}
 use Rattle.stored.proofs.Names.{PlainFields, PlainAdt}
 
 -- an integer of 64 bits, a real that binary64 holds, or a string of at most 256 bytes

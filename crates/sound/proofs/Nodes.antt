@@ -20,7 +20,7 @@ use Rattle.form.proofs.Table.{row-count, each-at, done, _also_}
 use Rattle.lines.specs.Lines.{readsIn, readAt, nodesIn, formAt, textAt, Whole}
 use Rattle.lines.proofs.Line.{line-count, line-short, form-low, form-is, fields-are, read-fits}
 use Rattle.stored.proofs.Rows.{Plain}
-use Rattle.stored.proofs.Items.{Each, each-join}
+use Rattle.demand.proofs.Lines.{Each, each-join}
 use Rattle.stored.proofs.Names.{PlainFields, PlainPick, PlainAdt}
 use Rattle.sound.proofs.Limits.{LimitedEx, LimitedEl, LimitedEls, LimitedInit, LimitedDecl, LimitedVar, LimitedNode}
 use Rattle.sound.proofs.Fields.{Short, fields-short, LimitedPerhaps, LimitedField, Keeps, make-limited}

@@ -22,6 +22,7 @@ use Rattle.semantics.specs.Image.{realBytes, elemSize, Replay, replayItem, repl
 use Rattle.write.specs.Plain.{isPlain}
 use Rattle.write.proofs.Back.{nat-back, int-back, hex-back, word-back}
 use Rattle.write.proofs.Uncut.{decimal-plain, integer-plain, hex-plain}
+use Rattle.demand.proofs.Lines.{Each}
 use Rattle.stored.specs.Stored.{Stored, storedOf, bytesAt, replayOne, replayStored}
 use Rattle.stored.specs.Reading.{numberIn, integerBits, wordBits, bitsIn, valuesIn, keywordOf, readRow, readAll}
 use Rattle.stored.proofs.Rows.{Plain, read-row}
@@ -68,14 +69,6 @@ unfolding bitsIn bigEndian
 real-bits n h = ap wordBits (hex-back (bigEndian 8 n) (byte-below 8 n)) ∙ word-back n h
 
 -- ---- values
-
-abbrev pub Each : {A : Type 0} → (A → Type 0) → List A → Type 0
-Each P [] = Unit {0}
-Each P (x ∷ xs) = P x × Each P xs
-
-pub each-join : {A : Type 0} (P : A → Type 0) (xs ys : List A) → Each P xs → Each P ys → Each P (xs ++ ys)
-each-join P [] ys a b = b
-each-join P (x ∷ xs) ys a b = (a .0, each-join P xs ys (a .1) b)
 
 -- values in the range of their kind
 abbrev pub InRange : Values → Type 0

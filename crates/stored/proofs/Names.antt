@@ -23,7 +23,7 @@ use Rattle.semantics.specs.Listing.{keyText, keysIn}
 use Rattle.write.specs.Plain.{isPlain}
 use Rattle.write.proofs.Uncut.{plain-append}
 use Rattle.stored.proofs.Rows.{Plain}
-use Rattle.stored.proofs.Items.{Each, each-join}
+use Rattle.demand.proofs.Lines.{Each, each-join}
 use Rattle.stored.proofs.Others.{each-filter, PlainRecord, PlainNames}
 
 -- ---- a NAME holds no separator

@@ -23,7 +23,8 @@ use Rattle.write.proofs.Uncut.{decimal-plain, integer-plain, hex-plain}
 use Rattle.stored.specs.Stored.{Stored, storedOf}
 use Rattle.stored.specs.Reading.{readRow, readRows, readAll, largestSize, sizeBy, sizeRows, mostTypes, sizeIn}
 use Rattle.stored.proofs.Rows.{Plain, read-row, size-row}
-use Rattle.stored.proofs.Items.{Each, Readable, number-back, items-read, item-plain}
+use Rattle.demand.proofs.Lines.{Each}
+use Rattle.stored.proofs.Items.{Readable, number-back, items-read, item-plain}
 
 -- a text of rows of plain fields, each with a first word that differs from w
 pub data Rows (w : Bytes) : Bytes → Type 0 where

@@ -23,7 +23,8 @@ use Rattle.semantics.specs.Global.{Init, Declared, Globals, strItems, elementIt
 use Rattle.semantics.specs.Global.Values.{bigValues, wordValues}
 use Rattle.semantics.specs.Global.Item.{backItem}
 use Rattle.semantics.specs.Global.Init.{noInit, constInit, arrayInit, pendingInit}
-use Rattle.stored.proofs.Items.{Each, each-join, Fits64, InRange}
+use Rattle.demand.proofs.Lines.{Each, each-join}
+use Rattle.stored.proofs.Items.{Fits64, InRange}
 use Rattle.stored.proofs.Sizes.{Ranged}
 
 -- an integer of 64 bits, and a real that binary64 holds

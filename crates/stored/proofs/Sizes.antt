@@ -20,7 +20,8 @@ use Rattle.semantics.specs.Image.{elemSize}
 use Rattle.semantics.specs.Listing.{listing}
 use Rattle.laws.proofs.Tests.{never}
 use Rattle.stored.specs.Reading.{largestSize, mostTypes, sizeIn}
-use Rattle.stored.proofs.Items.{Each, InRange, Readable}
+use Rattle.demand.proofs.Lines.{Each}
+use Rattle.stored.proofs.Items.{InRange, Readable}
 use Rattle.stored.proofs.Others.{PlainNames, no-shape, listing-size}
 
 -- ---- an element's key equals no other

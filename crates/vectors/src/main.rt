@@ -3,7 +3,7 @@
 // and refusals of each number are equal, and how many cases differ.
 use answers::Refusal;
 use compile::Answer;
-use image::Imaged;
+use image::ImageAnswer;
 use libc::STDIN_FILENO;
 use libc::STDOUT_FILENO;
 
@@ -53,15 +53,10 @@ fn listed(listing: &[u8], n: usize, wanted: &[u8]) -> usize {
 }
 
 fn refused(r: Refusal, wanted: &[u8]) -> usize {
-    let mut text = [0u8; 32];
-    let number = answers::number_of(r);
-    let mut p = write::put_part(&mut text, 0, b"no,");
-    p = write::put_nat(&mut text, p, number as u64);
-    p = write::put(&mut text, p, COMMA);
-    p = write::put_nat(&mut text, p, answers::line_of(r) as u64);
-    p = write::put(&mut text, p, LF);
+    let mut text = [0u8; 64];
+    let p = answers::put_refusal(&mut text, 0, r);
     if are_first(wanted, &text, p) {
-        return number as usize;
+        return answers::number_of(r) as usize;
     }
     DIFFERS
 }
@@ -105,7 +100,7 @@ fn image_outcome(
     work: &mut [u8],
 ) -> usize {
     match image::image(sheet, listing, picture, area, work) {
-        Imaged::Laid(n, i, a) => {
+        ImageAnswer::Laid(n, i, a) => {
             if laid(text, picture, i, area, a) {
                 if listed(listing, n, wanted) == LISTED {
                     return IMAGED;
@@ -113,7 +108,7 @@ fn image_outcome(
             }
             DIFFERS
         }
-        Imaged::Refused(r) => {
+        ImageAnswer::Refused(r) => {
             if o == LISTED {
                 if refused(r, text) == DIFFERS {
                     return DIFFERS;

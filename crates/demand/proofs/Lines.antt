@@ -1,0 +1,148 @@
+-- Each global's first value is that of its own `var` line, where no line is refused.
+use Prim.Native.Nat.{ℕ, suc}
+use native.Mathlib.Omega.{arith}
+use mathlib.Core.Path.{_≡_, refl}
+use mathlib.Core.Bool.{Bool, true, false, cond}
+use mathlib.Core.List.{List, [], _∷_, _++_, map}
+use mathlib.Core.Option.{Option, none, some}
+use lib.ListN.{length}
+use lib.Dec.{ltb, eqb}
+use Rattle.semantics.specs.Text.{Bytes, lineParts}
+use Rattle.semantics.specs.Tree.{Ty, Ex, VarDecl, ConstVal, elemOf}
+use Rattle.semantics.specs.Sheet.{Located, readsOf, nodesFrom, sheetSource, concatMap}
+use Rattle.semantics.specs.Fold.{Result, Names, foldAt0}
+use Rattle.semantics.specs.Fold.Result.{ok, failed, refuse}
+use Rattle.semantics.specs.Const.{Refusal, constants, namesOf}
+use Rattle.semantics.specs.Array.{ConstArray, constArray}
+use Rattle.semantics.specs.Global.{Declared, firstValue, initOf, orNoInit, declaredBy, laidVars, laidNames, noneOf, varValue, refusedBy, varsRefused}
+use Rattle.semantics.specs.Refusal.{Outcome, badForm, badRefFrom, tooDeepFrom, badModuleFrom, tooManyFrom, noCounts, refuseAt, listedIn, orRefused, refuseWork, checked, longestSheet, leastWork, workRefused, sourceListing, worked, compiled}
+use Rattle.semantics.specs.Refusal.Outcome.{listed, refused}
+use Rattle.semantics.specs.Demand.{In, DeclaredAt, AllDeclared, sourceDeclared, laidFrom, laidOf}
+
+-- ---- what holds of each of a list
+
+abbrev pub Each : {A : Type 0} → (A → Type 0) → List A → Type 0
+Each P [] = Unit {0}
+Each P (x ∷ xs) = P x × Each P xs
+
+pub each-join : {A : Type 0} (P : A → Type 0) (xs ys : List A) → Each P xs → Each P ys → Each P (xs ++ ys)
+each-join P [] ys a b = b
+each-join P (x ∷ xs) ys a b = (a .0, each-join P xs ys (a .1) b)
+
+each-more : {A : Type 0} (P Q : A → Type 0) → ((x : A) → P x → Q x) → (xs : List A) → Each P xs → Each Q xs
+each-more P Q f [] h = tt
+each-more P Q f (x ∷ xs) h = (f x (h .0), each-more P Q f xs (h .1))
+
+later : {A : Type 0} {x y : A} {xs : List A} → In x xs → In x (y ∷ xs)
+later i = record { index = suc (i .index); there = i .there }
+
+each-name : (P : Declared → Type 0) (d : Bytes → Declared) (ns : List Bytes) → ((n : Bytes) → In n ns → P (d n)) → Each P (map d ns)
+each-name P d [] h = tt
+each-name P d (n ∷ ns) h = (h n (record { index = 0; there = refl }), each-name P d ns (λ m i. h m (later i)))
+
+-- the global of a name of a line
+abbrev namedOn : Names → VarDecl → Bytes → Declared
+namedOn ns d n = record { name = n; ty = d .ty; first = orNoInit (initOf ns (d .ty) (d .init)) }
+
+pub each-declared : (P : Declared → Type 0) (ns : Names) (v : Located VarDecl) → ((n : Bytes) → In n (laidNames (v .it .names)) → P (namedOn ns (v .it) n)) → Each P (declaredBy ns v)
+each-declared P ns v h = each-name P (namedOn ns (v .it)) (laidNames (v .it .names)) h
+
+-- ---- a sheet that is listed has no refused line
+
+some-none : {A B : Type 0} {x : A} → some x ≡ none → B
+some-none h = let z : _≡_ {A = ℕ} 0 1 = cc in absurd (omega arith)
+
+module _ (out : Bytes) where
+  never-listed : {A : Type 0} (n k : ℕ) → refused n k ≡ listed out → A
+  never-listed n k h = let z : _≡_ {A = ℕ} 0 1 = cc in absurd (omega arith)
+
+  unless : (t : Bool) (n k : ℕ) (x : Outcome) → cond t (refused n k) x ≡ listed out → x ≡ listed out
+  unless true n k x h = never-listed n k h
+  unless false n k x h = h
+
+  no-line : (n k : ℕ) (x : Outcome) → refuseAt n k x ≡ listed out → x ≡ listed out
+  no-line n k x h = go (eqb k 0) h
+    where
+      go : (t : Bool) → cond t x (refused n k) ≡ listed out → x ≡ listed out
+      go true h = h
+      go false h = never-listed n k h
+
+  checks-done : (ls : List Bytes) (x : Outcome) → checked ls x ≡ listed out → x ≡ listed out
+  checks-done ls x h =
+      let rs = readsOf ls in
+      let a = badForm 1 ls in
+      let b = badRefFrom rs 1 [] rs in
+      let c = tooDeepFrom 1 [] rs in
+      let d = badModuleFrom 1 false rs in
+      let e = tooManyFrom 1 noCounts (nodesFrom [] rs) in
+      no-line 7 e _ (no-line 6 d _ (no-line 5 c _ (no-line 4 b _ (no-line 3 a _ h))))
+
+  work-done : (o : Option Refusal) (x : Outcome) → refuseWork o x ≡ listed out → o ≡ none
+  work-done none x h = refl
+  work-done (some r) x h = never-listed (r .number) (r .line) h
+
+vars-done : (a b : Option Refusal) → orRefused a b ≡ none → b ≡ none
+vars-done none b h = h
+vars-done (some r) b h = some-none h
+
+listed-done : (L W : ℕ) (s out : Bytes) → compiled L W s ≡ listed out → varsRefused (namesOf (sheetSource s)) (laidVars (sheetSource s)) ≡ none
+unfolding compiled
+listed-done L W s out h =
+    let src = sheetSource s in
+    let w = worked L src in
+    let c = checked (lineParts s) w in
+    let g = checks-done out (lineParts s) w (unless out (ltb W leastWork) 2 0 c (unless out (ltb longestSheet (length s)) 1 0 _ h)) in
+    vars-done (constants src .refused) _ (work-done out (workRefused src) (listedIn L (sourceListing src)) g)
+
+-- ---- the lines
+
+rest-done : {A : Type 0} (k : ℕ) (r : Result A) (o : Option Refusal) → refusedBy k r o ≡ none → o ≡ none
+rest-done k (ok a) o h = h
+rest-done k failed o h = h
+rest-done k (refuse r) o h = some-none h
+
+-- no first value fails
+first-there : (k : ℕ) (v : Result ConstVal) (x : Result ConstArray) (o : Option Refusal) → refusedBy k (firstValue v x) o ≡ none → firstValue v x ≡ ok (orNoInit (firstValue v x))
+first-there k (ok v) x o h = refl
+first-there k failed (ok a) o h = refl
+first-there k failed failed o h = refl
+first-there k failed (refuse r) o h = some-none h
+first-there k (refuse r) x o h = some-none h
+
+init-there : (ns : Names) (t : Ty) (i : Option Ex) (k : ℕ) (o : Option Refusal) → refusedBy k (initOf ns t i) o ≡ none → initOf ns t i ≡ ok (orNoInit (initOf ns t i))
+init-there ns t none k o h = refl
+init-there ns t (some e) k o h = first-there k (foldAt0 ns e) (constArray ns (elemOf t) e) o h
+
+some-name : {n : Bytes} (ns : List Bytes) → In n ns → noneOf ns ≡ false
+some-name [] i = let h = i .there in let z : _≡_ {A = ℕ} 0 1 = cc in absurd (omega arith)
+some-name (m ∷ ms) i = refl
+
+pub vars-declared : (ns : Names) (vs : List (Located VarDecl)) → varsRefused ns vs ≡ none → Each (DeclaredAt ns vs) (concatMap (declaredBy ns) vs)
+vars-declared ns [] h = tt
+vars-declared ns (v ∷ vs) h =
+    let o = varsRefused ns vs in
+    let d = v .it in
+    let names = laidNames (d .names) in
+    let here = DeclaredAt ns (v ∷ vs) in
+    let rest = concatMap (declaredBy ns) vs in
+    each-join here (declaredBy ns v) rest
+    (each-declared here ns v λ n i. record {
+      line = v;
+      counts = record { index = 0; there = refl };
+      named = i;
+      sameType = refl;
+      value = init-there ns (d .ty) (d .init) (v .line) o (rw (some-name names i) at h);
+    })
+    (each-more (DeclaredAt ns vs) here
+    (λ x p. record { line = p .line; counts = later (p .counts); named = p .named; sameType = p .sameType; value = p .value })
+    rest (vars-declared ns vs (rest-done (v .line) (varValue ns d) o h)))
+
+laid-declared : (ns : Names) (vs : List (Located VarDecl)) (ds : List Declared) (e k a : ℕ) → Each (DeclaredAt ns vs) ds → AllDeclared ns vs (laidFrom e k a ds)
+laid-declared ns vs [] e k a h = tt
+laid-declared ns vs (d ∷ ds) e k a h = (h .0, laid-declared ns vs ds _ _ _ (h .1))
+
+pub all-declared : (L W : ℕ) (s out : Bytes) → compiled L W s ≡ listed out → AllDeclared (namesOf (sheetSource s)) (laidVars (sheetSource s)) (laidOf (sheetSource s))
+all-declared L W s out h =
+    let src = sheetSource s in
+    let ns = namesOf src in
+    laid-declared ns (laidVars src) (sourceDeclared src) 0 0 0 (vars-declared ns (laidVars src) (listed-done L W s out h))
