@@ -17,7 +17,7 @@ use Rattle.semantics.specs.Form.Atom.{ref}
 use Rattle.semantics.specs.Form.Part.{one}
 use Rattle.semantics.specs.Fold.{bind}
 use Rattle.semantics.specs.Array.{kindNumber, elemKind, allocated, constArray}
-use Rattle.text.specs.Number as Number
+use Rattle.decimal.specs.Number as Number
 use Rattle.lines.specs.Lines.{readsIn, readAt}
 use Rattle.sizes.specs.Sizes.{typeAt, TypeLine}
 use Rattle.sizes.proofs.Types.{Good, head-drop, tail-drop}

@@ -16,7 +16,7 @@ use Rattle.semantics.specs.Form.Kind.{kTy, kEx}
 use Rattle.semantics.specs.Form.Atom.{ref}
 use Rattle.semantics.specs.Form.Part.{one}
 use Rattle.semantics.specs.Array.{kindNumber, elemKind, isByteCast, allByteCasts, isByteLiteral}
-use Rattle.text.specs.Number as Number
+use Rattle.decimal.specs.Number as Number
 use Rattle.form.specs.Table.{rowAt, rowNode}
 use Rattle.form.proofs.Table.{row-count, Each, done, _also_, each-at}
 use Rattle.lines.specs.Lines.{readsIn, readAt, nodesIn, formAt}

@@ -18,7 +18,7 @@ use Rattle.semantics.specs.Tree.ConstVal.{vInt}
 use Rattle.semantics.specs.Fold.{bind}
 use Rattle.semantics.specs.Fold.Result.{ok, failed, refuse}
 use Rattle.semantics.specs.Array.{allocated, asSize}
-use Rattle.numbers.proofs.Widths.{held}
+use Rattle.ints.proofs.Widths.{held}
 use Rattle.values.specs.declared.ConstVal.{ConstVal}
 use Rattle.values.specs.declared.ConstVal.the-variants.{Int, Real, Str}
 use Rattle.values.specs.declared.Folded.{Folded}

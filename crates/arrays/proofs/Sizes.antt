@@ -9,7 +9,7 @@ use Rattle.semantics.specs.Form.{numberOf}
 use Rattle.semantics.specs.Fold.{bind, Names}
 use Rattle.semantics.specs.Fold.Result.{ok}
 use Rattle.semantics.specs.Array.{Filled, asSize, literalSize}
-use Rattle.text.specs.Number as Number
+use Rattle.decimal.specs.Number as Number
 use Rattle.lines.specs.Lines.{readAt, nodesIn}
 use Rattle.values.specs.declared.Folded.{Folded}
 use Rattle.values.specs.Values.{resultIn}

@@ -17,7 +17,7 @@ use Rattle.semantics.specs.Fold.{Result, bind, Names}
 use Rattle.semantics.specs.Fold.Result.{ok, failed, refuse}
 use Rattle.semantics.specs.Array as Array
 use Rattle.semantics.specs.Array.{Filled, noneFilled, kindNumber, elemKind, isByteLiteral, kindOfValues, literalKind, literalSize, fill, constArray}
-use Rattle.text.specs.Number as Number
+use Rattle.decimal.specs.Number as Number
 use Rattle.form.specs.Table.{rowNode}
 use Rattle.form.proofs.Table.{never, done, _also_}
 use Rattle.lines.specs.Lines.{readAt, nodesIn, formAt}

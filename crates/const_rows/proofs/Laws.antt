@@ -21,7 +21,7 @@ use Rattle.semantics.specs.Fold.{signed64, plain, qualified, lookUp, valueOf}
 use Rattle.semantics.specs.Sheet.{sheetSource}
 use Rattle.semantics.specs.Const.{implements}
 use Rattle.semantics.specs.Listing.{row, valueFields, constRow, constRows}
-use Rattle.numbers.proofs.Widths.{held}
+use Rattle.ints.proofs.Widths.{held}
 use Rattle.write.specs.Wrote.{Wrote}
 use Rattle.write.proofs.Wrote.{wrote-length, wrote-none, wrote-as, then}
 use Rattle.implement.specs.Modules.{moduleAt}

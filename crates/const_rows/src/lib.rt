@@ -31,12 +31,12 @@ fn put_value(work: &[u8], out: &mut [u8], at: usize, r: usize) -> usize
     let b = names::slot_bits(work, r - 1);
     if k == INT {
         let p = write::put_part(out, at, b"i,");
-        let q = write::put_int(out, p, numbers::ints::of_bits(b));
+        let q = write::put_int(out, p, ints::of_bits(b));
         return write::put(out, q, LF);
     }
     if k == REAL {
         let p = write::put_part(out, at, b"r,");
-        let q = write::put_word(out, p, numbers::reals::bits(numbers::reals::of_bits(b)));
+        let q = write::put_word(out, p, reals::bits(reals::of_bits(b)));
         return write::put(out, q, LF);
     }
     if k == STRING {

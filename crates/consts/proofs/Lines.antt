@@ -14,7 +14,7 @@ use Rattle.semantics.specs.Form.Kind.{kEx}
 use Rattle.semantics.specs.Form.Atom.{name, lineOrCol, ref}
 use Rattle.semantics.specs.Form.Part.{one}
 use Rattle.semantics.specs.Refusal.{refsIn}
-use Rattle.text.specs.Number as Number
+use Rattle.decimal.specs.Number as Number
 use Rattle.form.specs.Table.{rowAt}
 use Rattle.form.proofs.Table.{never, both, only-con, form-of-kind}
 use Rattle.lines.specs.Lines.{readsIn, readAt, formAt}

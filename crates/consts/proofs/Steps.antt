@@ -13,7 +13,7 @@ use Rattle.semantics.specs.Form.{nodeAt, numberOf}
 use Rattle.semantics.specs.Sheet.{sheetSource}
 use Rattle.semantics.specs.Fold.{fold}
 use Rattle.semantics.specs.Const.{entries}
-use Rattle.text.specs.Number as Number
+use Rattle.decimal.specs.Number as Number
 use Rattle.lines.specs.Lines.{readAt, nodesIn}
 use Rattle.implement.specs.Modules.{moduleAt}
 use Rattle.checks.specs.Checks.{Kept}

@@ -16,7 +16,7 @@ use Rattle.semantics.specs.Form.{letter, numberOf}
 use Rattle.semantics.specs.Sheet.{Located, sheetSource}
 use Rattle.semantics.specs.Fold.{Const}
 use Rattle.semantics.specs.Const.{Refusal, Folding, iotaAt, iotaNext, newCounter, pass, passesFrom, constants}
-use Rattle.text.specs.Number as Number
+use Rattle.decimal.specs.Number as Number
 use Rattle.form.specs.Table.{kindAt}
 use Rattle.lines.specs.Lines.{readAt, nodesIn, formAt}
 use Rattle.lines.proofs.Line.{kind-is, form-low}

@@ -19,7 +19,7 @@ use Rattle.semantics.specs.Form.Kind.{kFd, kPc}
 use Rattle.semantics.specs.Form.Atom.{ref}
 use Rattle.semantics.specs.Form.Part.{one, many}
 use Rattle.semantics.specs.Refusal.{Ref, Counts, noCounts, lineAt, refsIn, refsOf, counted, over, badRefFrom, tooManyFrom}
-use Rattle.text.specs.Number as Number
+use Rattle.decimal.specs.Number as Number
 use Rattle.text.proofs.Tests.{and-false}
 use Rattle.form.specs.declared.Walk.{Walk}
 use Rattle.form.specs.Table.{rowAt, rowNode}

@@ -10,7 +10,7 @@ use Rattle.semantics.specs.Tree.{Ty}
 use Rattle.semantics.specs.Sheet.{concatMap}
 use Rattle.semantics.specs.Fold.{Result}
 use Rattle.semantics.specs.Global.{Item, Init, Global, laidNames}
-use Rattle.text.specs.Number as Number
+use Rattle.decimal.specs.Number as Number
 use Rattle.write.specs.Wrote.{Wrote}
 use Rattle.write.proofs.Wrote.{wrote-none, wrote-length}
 use Rattle.lines.specs.Lines.{readAt}

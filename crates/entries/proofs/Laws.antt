@@ -21,8 +21,8 @@ use Rattle.semantics.specs.Text.{Bytes, bigEndian, fromBigEndian}
 use Rattle.semantics.specs.Tree as Tree
 use Rattle.semantics.specs.Tree.ConstVal.{vInt, vReal, vStr}
 use Rattle.semantics.specs.Fold.{bits64, wrap}
-use Rattle.numbers.proofs.Widths.{held}
-use Rattle.numbers.proofs.Wrapping.{wrap-same}
+use Rattle.ints.proofs.Widths.{held}
+use Rattle.ints.proofs.Wrapping.{wrap-same}
 use Rattle.write.specs.Wrote.{over}
 use Rattle.write.proofs.Hex.{big-length}
 use Rattle.write.proofs.Back.{word-back}

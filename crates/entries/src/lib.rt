@@ -43,8 +43,8 @@ fn bits_of(v: ConstVal, place: usize) -> u64
     ensures { λ b. ⌜ Says v place b ⌝ }
 {
     match v {
-        ConstVal::Int(z) => numbers::ints::bits(z),
-        ConstVal::Real(x) => numbers::reals::bits(x),
+        ConstVal::Int(z) => ints::bits(z),
+        ConstVal::Real(x) => reals::bits(x),
         ConstVal::Str(_, l) => (place + 65536 * l) as u64,
     }
 }

@@ -12,7 +12,7 @@ use Rattle.semantics.specs.Form.{forms, values, numberOf}
 use Rattle.semantics.specs.Form.Atom.{name}
 use Rattle.semantics.specs.Layout.{Placed, alignUp, sizeOf, alignOf, placeNames, placeLine, place}
 use Rattle.semantics.specs.Listing.{fieldRow}
-use Rattle.text.specs.Number as Number
+use Rattle.decimal.specs.Number as Number
 use Rattle.write.specs.Wrote.{Wrote}
 use Rattle.write.proofs.Wrote.{wrote-none, wrote-as, then}
 use Rattle.lines.specs.Lines.{readAt, nodesIn, formAt}

@@ -21,15 +21,15 @@ use Rattle.semantics.specs.Form.{Atom, forms, holds, between, notNaN, numberOf,
 use Rattle.semantics.specs.Form.Kind.{kEx}
 use Rattle.semantics.specs.Fold.{signed64, intOk, fold, fromOption, plain, qualified, qualifiedValue, lookUp, valueOf}
 use Rattle.semantics.specs.Fold.Result.{ok, failed}
-use Rattle.numbers.proofs.Widths.{held}
-use Rattle.text.specs.Number as Number
-use Rattle.text.specs.Number.{integerOf, whole}
-use Rattle.text.specs.declared.number.Integer.{Integer}
-use Rattle.text.specs.declared.number.Integer.the-variants.{Is, Bad as NoInteger}
-use Rattle.text.specs.Hex.{byteAt, word, wordOf}
-use Rattle.text.specs.declared.hex.Word.{Word}
-use Rattle.text.specs.declared.hex.Word.the-variants.{Bits, Bad}
-use Rattle.text.proofs.Hexes.{byte-of}
+use Rattle.ints.proofs.Widths.{held}
+use Rattle.decimal.specs.Number as Number
+use Rattle.decimal.specs.Number.{integerOf, whole}
+use Rattle.decimal.specs.declared.Integer.{Integer}
+use Rattle.decimal.specs.declared.Integer.the-variants.{Is, Bad as NoInteger}
+use Rattle.hex.specs.Hex.{byteAt, word, wordOf}
+use Rattle.hex.specs.declared.Word.{Word}
+use Rattle.hex.specs.declared.Word.the-variants.{Bits, Bad}
+use Rattle.hex.proofs.Hexes.{byte-of}
 use Rattle.write.specs.Wrote.{over, Wrote}
 use Rattle.write.proofs.Wrote.{wrote-as, wrote-next}
 use Rattle.form.specs.Table.{rowAt, rowNode}

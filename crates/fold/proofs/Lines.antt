@@ -20,7 +20,7 @@ use Rattle.semantics.specs.Form.{Read, Kind, Atom, Part, letter, forms, numberO
 use Rattle.semantics.specs.Form.Atom.{name, key, ref, maybe, unaryOp, binaryOp, lineOrCol, size, i64, offset, real, text}
 use Rattle.semantics.specs.Form.Part.{one, many}
 use Rattle.semantics.specs.Refusal.{Ref, refOf, refsIn, refsOf, deepest}
-use Rattle.text.specs.Number as Number
+use Rattle.decimal.specs.Number as Number
 use Rattle.form.specs.Table.{rowAt, rowNode}
 use Rattle.form.proofs.Table.{never, both}
 use Rattle.lines.specs.Lines.{readsIn, readAt, nodesIn, formAt}

@@ -18,7 +18,7 @@ use Rattle.semantics.specs.Form.{Atom, forms, numberOf, nodeAt}
 use Rattle.semantics.specs.Form.Kind.{kTy, kEx}
 use Rattle.semantics.specs.Fold.{Result, Names, bind, fold, foldUnary, foldBinary, foldCast, foldLen}
 use Rattle.semantics.specs.Fold.Result.{ok}
-use Rattle.text.specs.Number as Number
+use Rattle.decimal.specs.Number as Number
 use Rattle.form.specs.Table.{rowNode}
 use Rattle.lines.specs.Lines.{readAt, nodesIn, formAt, Whole}
 use Rattle.checks.specs.Checks.{Checked, Kept}

@@ -38,10 +38,10 @@ fn integer(x: &[u8]) -> ConstVal
     requires { ⌜ Form.holds Form.Atom.i64 (now x) ≡ true ⌝ }
     ensures { λ r. ⌜ ((t : Bytes) (top : ℕ) → (valueIn t r ≡ vInt (orElse (pos 0) (intOf (now (x .entry))))) × At top r) ⌝ }
 {
-    let z = text::number::read_integer(x);
+    let z = decimal::read_integer(x);
     match z {
-        text::number::Integer::Is(n) => ConstVal::Int(n),
-        text::number::Integer::Bad => ConstVal::Int(0),
+        decimal::Integer::Is(n) => ConstVal::Int(n),
+        decimal::Integer::Bad => ConstVal::Int(0),
     }
 }
 
@@ -49,10 +49,10 @@ fn real(x: &[u8]) -> ConstVal
     requires { ⌜ Form.holds Form.Atom.real (now x) ≡ true ⌝ }
     ensures { λ r. ⌜ ((t : Bytes) (top : ℕ) → (valueIn t r ≡ vReal (ofBits binary64 (fromBigEndian 0 (orElse [] (unhex (now (x .entry))))))) × At top r) ⌝ }
 {
-    let b = text::hex::read_word(x);
+    let b = hex::read_word(x);
     match b {
-        text::hex::Word::Bits(n) => ConstVal::Real(numbers::reals::of_bits(n)),
-        text::hex::Word::Bad => ConstVal::Real(0.0),
+        hex::Word::Bits(n) => ConstVal::Real(reals::of_bits(n)),
+        hex::Word::Bad => ConstVal::Real(0.0),
     }
 }
 
@@ -65,7 +65,7 @@ fn string(x: &[u8], work: &mut [u8], top: usize) -> ConstVal
     let mut p = top;
     let mut i = 0;
     while i < l {
-        p = write::put(work, p, text::hex::byte(x, i));
+        p = write::put(work, p, hex::byte(x, i));
         i += 1;
     }
     ConstVal::Str(top, l)
@@ -97,10 +97,10 @@ fn constant(work: &mut [u8], k: usize, top: usize) -> Folded
     let kind = names::slot_kind(work, k - 1);
     let b = names::slot_bits(work, k - 1);
     if kind == INT_KIND {
-        return Folded::Value(ConstVal::Int(numbers::ints::of_bits(b)));
+        return Folded::Value(ConstVal::Int(ints::of_bits(b)));
     }
     if kind == REAL_KIND {
-        return Folded::Value(ConstVal::Real(numbers::reals::of_bits(b)));
+        return Folded::Value(ConstVal::Real(reals::of_bits(b)));
     }
     if kind == STRING_KIND {
         let l = (b / 65536) as usize;

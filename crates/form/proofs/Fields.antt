@@ -13,12 +13,12 @@ use borrow.Author.Tests.{ltb-true, ltb-false}
 use Rattle.semantics.specs.Text.{partsAt, holdsOf, fromBigEndian, intOf, unhex, isName}
 use Rattle.semantics.specs.Form as Form
 use Rattle.text.specs.Parts.{until}
-use Rattle.text.specs.Number.{whole, integerOf, isBetween}
-use Rattle.text.specs.Hex.{word, wordOf}
-use Rattle.text.specs.declared.number.Integer.{Integer}
-use Rattle.text.specs.declared.number.Integer.the-variants as Integer
-use Rattle.text.specs.declared.hex.Word.{Word}
-use Rattle.text.specs.declared.hex.Word.the-variants as Word
+use Rattle.decimal.specs.Number.{whole, integerOf, isBetween}
+use Rattle.hex.specs.Hex.{word, wordOf}
+use Rattle.decimal.specs.declared.Integer.{Integer}
+use Rattle.decimal.specs.declared.Integer.the-variants as Integer
+use Rattle.hex.specs.declared.Word.{Word}
+use Rattle.hex.specs.declared.Word.the-variants as Word
 use Rattle.text.proofs.Parts.{until-take, parts-step, parts-one}
 use Rattle.form.specs.Letters.{isKeyField, isReal}
 

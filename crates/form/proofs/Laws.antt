@@ -16,8 +16,8 @@ use Rattle.semantics.specs.Form as Form
 use Rattle.semantics.specs.Form.Kind.{kTy, kEx, kEl, kSe, kFd, kPc, kAdt, kPick, kCon, kVar, kMod, kEnd, kImpl, kFrame, kNeed}
 use Rattle.semantics.specs.Form.Atom.{name, key, ref, maybe, unaryOp, binaryOp, lineOrCol, size, i64, offset, real, text}
 use Rattle.semantics.specs.Form.Part.{one, many}
-use Rattle.text.specs.Number as Number
-use Rattle.text.specs.Utf8 as Utf8
+use Rattle.decimal.specs.Number as Number
+use Rattle.utf8.specs.Utf8 as Utf8
 use Rattle.text.proofs.Parts.{until-take, parts-step, parts-one}
 use Rattle.form.specs.Table.{code, codes, rowAt, wordsAt, kindAt, codesAt, fieldsBehind, formOf}
 use Rattle.form.specs.declared.Walk.{Walk}

@@ -7,8 +7,8 @@ use lib.ListN.{length, drop, getD, replicate}
 use lib.Dec.{leb, ltb, eqb}
 use Rattle.semantics.specs.Text.{Bytes, holdsOf, partsAt, unhex, isName}
 use Rattle.semantics.specs.Form as Form
-use Rattle.text.specs.Number as Number
-use Rattle.text.specs.Utf8 as Utf8
+use Rattle.decimal.specs.Number as Number
+use Rattle.utf8.specs.Utf8 as Utf8
 use Rattle.form.specs.declared.Walk.{Walk}
 use Rattle.form.specs.Table.{rowCount, wordsAt, codesAt}
 

@@ -6,7 +6,7 @@ ghost use Prim.Native.Nat.{_+_, _≤_, _<_};
 ghost use lib.ListN.{length, drop, getD};
 ghost use Rattle.semantics.specs.Text.{same};
 ghost use Rattle.semantics.specs.Form.{forms, begins, rowOf, fieldsFrom};
-ghost use Rattle.text.specs.Number.{numberOf, isBetween};
+ghost use Rattle.decimal.specs.Number.{numberOf, isBetween};
 ghost use Rattle.text.specs.Parts.{until};
 ghost use Rattle.form.specs.Table.{table, rowCount, wordsAt, kindAt, codesAt, fieldsBehind, formOf};
 ghost use Rattle.form.specs.Letters.{isKeyField, isReal, limitOf, holds, after, fits, lettersFrom, Ready, Standing, Stepped, beginning};
@@ -217,26 +217,26 @@ fn is_key(s: &[u8]) -> bool
 {
     let p = text::find(s, 0, DOT);
     if p == s.len() {
-        return text::name::is_name(s);
+        return name::is_name(s);
     }
     let a = p + 1;
     let q = text::find(s, a, DOT);
     if q < s.len() {
         return false;
     }
-    if !text::name::is_name(&s[0..p]) {
+    if !name::is_name(&s[0..p]) {
         return false;
     }
-    text::name::is_name(&s[a..q])
+    name::is_name(&s[a..q])
 }
 
 fn is_i64(s: &[u8]) -> bool
     ensures { λ r. ⌜ r ≡ isBetween 9223372036854775808 9223372036854775807 (now (s .entry)) ⌝ }
 {
-    let r = text::number::read_integer(s);
+    let r = decimal::read_integer(s);
     match r {
-        text::number::Integer::Is(_) => true,
-        text::number::Integer::Bad => false,
+        decimal::Integer::Is(_) => true,
+        decimal::Integer::Bad => false,
     }
 }
 
@@ -244,10 +244,10 @@ fn is_i64(s: &[u8]) -> bool
 fn is_real(s: &[u8]) -> bool
     ensures { λ r. ⌜ r ≡ isReal (now (s .entry)) ⌝ }
 {
-    let w = text::hex::read_word(s);
+    let w = hex::read_word(s);
     match w {
-        text::hex::Word::Bits(b) => b % SIGN <= INFINITY,
-        text::hex::Word::Bad => false,
+        hex::Word::Bits(b) => b % SIGN <= INFINITY,
+        hex::Word::Bad => false,
     }
 }
 
@@ -256,7 +256,7 @@ fn is_good(s: &[u8], x: u8) -> bool
     ensures { λ r. ⌜ r ≡ holds x (now (s .entry)) ⌝ }
 {
     if x == NAME {
-        return text::name::is_name(s);
+        return name::is_name(s);
     }
     if x == KEY {
         return is_key(s);
@@ -265,15 +265,15 @@ fn is_good(s: &[u8], x: u8) -> bool
         return is_i64(s);
     }
     if x == OFFSET {
-        return text::number::is_between(s, 4096, 4096);
+        return decimal::is_between(s, 4096, 4096);
     }
     if x == REAL {
         return is_real(s);
     }
     if x == TEXT {
-        return text::utf8::is_text(s);
+        return utf8::is_text(s);
     }
-    text::number::read_number(s, 65536) < limit(x)
+    decimal::read_number(s, 65536) < limit(x)
 }
 
 // ---- the walk
@@ -337,7 +337,7 @@ fn step(f: usize, w: Walk, x: u8, n: usize, at: usize) -> Walk
 pub fn number(s: &[u8]) -> usize
     ensures { λ r. ⌜ (r ≡ numberOf 65536 (now (s .entry))) × (r ≤ 65537) ⌝ }
 {
-    text::number::read_number(s, 65536) as usize
+    decimal::read_number(s, 65536) as usize
 }
 
 // Whether the fields from `from` on are those of form f.

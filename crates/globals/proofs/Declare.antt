@@ -18,7 +18,7 @@ use Rattle.semantics.specs.Form.Atom.{name}
 use Rattle.semantics.specs.Layout.{alignUp}
 use Rattle.semantics.specs.Const.{implements}
 use Rattle.semantics.specs.Global.{Global, globalSize, placeOf, newOffset}
-use Rattle.text.specs.Number as Number
+use Rattle.decimal.specs.Number as Number
 use Rattle.words.specs.Words.{digest}
 use Rattle.lines.specs.Lines.{readAt, nodesIn}
 use Rattle.sizes.specs.Sizes.{typeAt}

@@ -16,7 +16,7 @@ use Rattle.semantics.specs.Form.Part.{one, many}
 use Rattle.semantics.specs.Refusal.{refsIn}
 use Rattle.semantics.specs.Layout.{sizeOf, isPtr}
 use Rattle.semantics.specs.Global.{globalSize}
-use Rattle.text.specs.Number as Number
+use Rattle.decimal.specs.Number as Number
 use Rattle.form.specs.Table.{rowAt}
 use Rattle.form.proofs.Table.{never, both, only-var, form-of-kind}
 use Rattle.lines.specs.Lines.{readsIn, readAt, nodesIn, formAt}

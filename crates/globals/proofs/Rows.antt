@@ -9,7 +9,7 @@ use Rattle.semantics.specs.Layout.{isPtr}
 use Rattle.semantics.specs.Sheet.{concatMap}
 use Rattle.semantics.specs.Global.{Global, globalSize}
 use Rattle.semantics.specs.Listing.{row, flag, globalRow}
-use Rattle.text.specs.Number as Number
+use Rattle.decimal.specs.Number as Number
 use Rattle.lines.specs.Lines.{readAt}
 use Rattle.write.specs.Wrote.{Wrote}
 use Rattle.write.proofs.Wrote.{then, wrote-as}

@@ -13,7 +13,7 @@ use Rattle.semantics.specs.Text.{Bytes, decimal, decimalℤ, hexOf, bigEndian}
 use Rattle.semantics.specs.Tree as Tree
 use Rattle.semantics.specs.Tree.ConstVal.{vInt, vReal, vStr}
 use Rattle.semantics.specs.Array.{constByte, constWord, constBig, constReal}
-use Rattle.numbers.proofs.Widths.{held}
+use Rattle.ints.proofs.Widths.{held}
 use Rattle.write.specs.Wrote.{Wrote}
 use Rattle.write.proofs.Wrote.{wrote-as}
 use Rattle.values.specs.declared.ConstVal.{ConstVal}

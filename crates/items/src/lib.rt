@@ -35,34 +35,30 @@ fn put_int_element(out: &mut [u8], at: usize, kind: u8, n: i64) -> usize
     ensures { λ r. ⌜ Wrote (now (out .entry)) at (44 ∷ elementText kind (vInt n)) (now (out .exit)) r ⌝ }
 {
     if kind == BYTE {
-        return rows::put_comma_nat(out, at, numbers::conversions::byte_of_int(n) as u64);
+        return rows::put_comma_nat(out, at, conversions::byte_of_int(n) as u64);
     }
     if kind == WORD {
-        return rows::put_comma_int(out, at, numbers::conversions::word_of_int(n) as i64);
+        return rows::put_comma_int(out, at, conversions::word_of_int(n) as i64);
     }
     if kind == BIG {
         return rows::put_comma_int(out, at, n);
     }
-    rows::put_comma_word(
-        out,
-        at,
-        numbers::reals::bits(numbers::conversions::real_of_int(n)),
-    )
+    rows::put_comma_word(out, at, reals::bits(conversions::real_of_int(n)))
 }
 
 fn put_real_element(out: &mut [u8], at: usize, kind: u8, x: f64) -> usize
     ensures { λ r. ⌜ Wrote (now (out .entry)) at (44 ∷ elementText kind (vReal x)) (now (out .exit)) r ⌝ }
 {
     if kind == BYTE {
-        return rows::put_comma_nat(out, at, numbers::conversions::byte_of_real(x) as u64);
+        return rows::put_comma_nat(out, at, conversions::byte_of_real(x) as u64);
     }
     if kind == WORD {
-        return rows::put_comma_int(out, at, numbers::conversions::word_of_real(x) as i64);
+        return rows::put_comma_int(out, at, conversions::word_of_real(x) as i64);
     }
     if kind == BIG {
-        return rows::put_comma_int(out, at, numbers::conversions::big_of_real(x));
+        return rows::put_comma_int(out, at, conversions::big_of_real(x));
     }
-    rows::put_comma_word(out, at, numbers::reals::bits(x))
+    rows::put_comma_word(out, at, reals::bits(x))
 }
 
 // A string among numbers.

@@ -4,7 +4,7 @@ ghost use Prim.Native.Nat.{_+_, _≤_, _<_};
 ghost use mathlib.Core.List.{[]};
 ghost use lib.ListN.{length, getD};
 ghost use Rattle.semantics.specs.Text.{same};
-ghost use Rattle.text.specs.Number.{numberOf};
+ghost use Rattle.decimal.specs.Number.{numberOf};
 ghost use Rattle.lines.specs.Lines.{textAt, readAt, start, formAt, entered, Whole, Passed, Above};
 
 const LF: u8 = 10;

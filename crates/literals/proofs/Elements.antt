@@ -13,7 +13,7 @@ use Rattle.semantics.specs.Form.{numberOf}
 use Rattle.semantics.specs.Form.Part.{one}
 use Rattle.semantics.specs.Fold.{Result, bind, Names, foldAt0}
 use Rattle.semantics.specs.Array.{Filled, placeNext, setWildcard, fillElement, elValue}
-use Rattle.text.specs.Number as Number
+use Rattle.decimal.specs.Number as Number
 use Rattle.lines.specs.Lines.{readAt, formAt}
 use Rattle.values.specs.declared.ConstVal.{ConstVal}
 use Rattle.values.specs.declared.ConstVal.the-variants.{Int, Real, Str}

@@ -18,7 +18,7 @@ use Rattle.semantics.specs.Form.Kind.{kEx, kSe}
 use Rattle.semantics.specs.Form.Atom.{ref, maybe}
 use Rattle.semantics.specs.Form.Part.{one, many}
 use Rattle.semantics.specs.Refusal.{lineAt, refsIn}
-use Rattle.text.specs.Number as Number
+use Rattle.decimal.specs.Number as Number
 use Rattle.form.specs.Table.{rowAt, kindAt, rowNode}
 use Rattle.form.proofs.Table.{never, both}
 use Rattle.lines.specs.Lines.{readsIn, readAt, nodesIn, formAt}

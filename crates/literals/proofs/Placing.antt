@@ -11,7 +11,7 @@ use Rattle.semantics.specs.Text.{Bytes}
 use Rattle.semantics.specs.Tree as Tree
 use Rattle.semantics.specs.Fold.{Result, bind}
 use Rattle.semantics.specs.Array.{Filled, placeIndices}
-use Rattle.numbers.proofs.Widths.{held}
+use Rattle.ints.proofs.Widths.{held}
 use Rattle.form.proofs.Table.{never}
 use Rattle.checks.specs.Checks.{Kept}
 use Rattle.placements.specs.declared.Placed.{Placed}

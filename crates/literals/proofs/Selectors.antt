@@ -15,8 +15,8 @@ use Rattle.semantics.specs.Form.{numberOf}
 use Rattle.semantics.specs.Fold.{Result, bind, Names, fold}
 use Rattle.semantics.specs.Fold.Result.{ok, failed, refuse}
 use Rattle.semantics.specs.Array.{asInt, indexOf, highOf, spanOf}
-use Rattle.numbers.proofs.Widths.{held}
-use Rattle.text.specs.Number as Number
+use Rattle.ints.proofs.Widths.{held}
+use Rattle.decimal.specs.Number as Number
 use Rattle.lines.specs.Lines.{readAt, nodesIn}
 use Rattle.checks.specs.Checks.{Kept}
 use Rattle.values.specs.declared.ConstVal.{ConstVal}

@@ -16,7 +16,7 @@ use Rattle.semantics.specs.Form.Atom.{ref}
 use Rattle.semantics.specs.Fold.{Result, bind, Names}
 use Rattle.semantics.specs.Fold.Result.{ok, failed, refuse}
 use Rattle.semantics.specs.Array.{Filled, placeIndices, placeSpans, spanOf, spansOf}
-use Rattle.text.specs.Number as Number
+use Rattle.decimal.specs.Number as Number
 use Rattle.form.proofs.Table.{never}
 use Rattle.lines.specs.Lines.{readAt, nodesIn}
 use Rattle.sizes.proofs.Types.{head-drop, tail-drop}

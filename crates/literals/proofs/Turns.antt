@@ -20,7 +20,7 @@ use Rattle.semantics.specs.Form.Atom.{ref, maybe}
 use Rattle.semantics.specs.Form.Part.{one, many}
 use Rattle.semantics.specs.Fold.{Result, bind}
 use Rattle.semantics.specs.Array.{Filled, noneFilled, fillElement, fill}
-use Rattle.text.specs.Number as Number
+use Rattle.decimal.specs.Number as Number
 use Rattle.lines.specs.Lines.{readsIn, readAt, nodesIn}
 use Rattle.sizes.proofs.Types.{head-drop, tail-drop}
 use Rattle.placements.specs.declared.Placed.{Placed}

@@ -13,7 +13,7 @@ use lib.Seq.{drop-cons, getD-set-same, getD-set-other, getD-append-seam}
 use borrow.Author.Tests.{le-leb, lt-leb, lt-ltb, le-ltb, eq-eqb, ne-eqb, ltb-true, ltb-false, eqb-true, eqb-false}
 use Rattle.semantics.specs.Form as Form
 use Rattle.semantics.specs.Refusal.{Ref, noRead, refsOf, deepest, tooDeepFrom}
-use Rattle.text.specs.Number as Number
+use Rattle.decimal.specs.Number as Number
 use Rattle.form.specs.declared.Walk.{Walk}
 use Rattle.form.specs.Letters.{holds, lettersFrom, fieldsLeft, beginning, Standing, Stepped}
 use Rattle.lines.specs.Lines.{textAt, readsIn, readAt, formAt, Whole}

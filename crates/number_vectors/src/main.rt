@@ -1,14 +1,11 @@
-// Runs the vectors of `stdin` through crate numbers: published floating-point cases (exact sums, ties, subnormals, overflow to
-// infinity, infinities and zeros of both signs, NaNs of several patterns) and document 01's numeric rows. A vector is a line of
-// 37 bytes: an operation's number as below, in 2 hexadecimal digits, and two operands' bits, in 16 each. A line is written for
-// each: the operation, its operands and what it gives, reals by their bits and integers in decimal.
+// Runs the vectors of `stdin` through ints, reals and conversions: published floating-point cases (exact sums, ties, subnormals,
+// overflow to infinity, infinities and zeros of both signs, NaNs of several patterns) and document 01's numeric rows. A vector
+// is a line of 37 bytes: an operation's number as below, in 2 hexadecimal digits, and two operands' bits, in 16 each. A line is
+// written for each: the operation, its operands and what it gives, reals by their bits and integers in decimal.
 // `stdout` is what expected.py works out from `stdin` with Python's own integers and the machine's floats.
+use ints::Quotient;
 use libc::STDIN_FILENO;
 use libc::STDOUT_FILENO;
-use numbers::conversions;
-use numbers::ints;
-use numbers::ints::Quotient;
-use numbers::reals;
 ghost use mathlib.Core.Bool.{cond};
 ghost use mathlib.Core.Path.{_≡_};
 ghost use lib.Ieee.{binary64, nanBits};

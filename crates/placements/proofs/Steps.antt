@@ -18,7 +18,7 @@ use Rattle.semantics.specs.Tree as Tree
 use Rattle.semantics.specs.Fold.{Result}
 use Rattle.semantics.specs.Fold.Result.{ok, failed}
 use Rattle.semantics.specs.Array.{Filled, noneFilled, placeSpan, placeIndices, placeNext}
-use Rattle.numbers.proofs.Widths.{held}
+use Rattle.ints.proofs.Widths.{held}
 use Rattle.values.specs.declared.ConstVal.the-variants.{Int}
 use Rattle.values.specs.Values.{valueIn}
 use Rattle.slots.specs.Slots.{Stored}

@@ -14,7 +14,7 @@ use Rattle.semantics.specs.Text.{any}
 use Rattle.semantics.specs.Form as Form
 use Rattle.semantics.specs.Refusal as Refusal
 use Rattle.semantics.specs.Refusal.{useAll, refsOf, badRefFrom}
-use Rattle.text.specs.Number as Number
+use Rattle.decimal.specs.Number as Number
 use Rattle.form.specs.declared.Walk.{Walk}
 use Rattle.form.specs.Table.{kindAt}
 use Rattle.form.proofs.Table.{never}

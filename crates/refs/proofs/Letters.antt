@@ -14,7 +14,7 @@ use Rattle.semantics.specs.Form as Form
 use Rattle.semantics.specs.Form.Atom.{name, key, ref, maybe, unaryOp, binaryOp, lineOrCol, size, i64, offset, real, text}
 use Rattle.semantics.specs.Form.Part.{one, many}
 use Rattle.semantics.specs.Refusal as Refusal
-use Rattle.text.specs.Number as Number
+use Rattle.decimal.specs.Number as Number
 use Rattle.form.specs.declared.Walk.{Walk}
 use Rattle.form.specs.Table.{code, codes, rowAt}
 use Rattle.form.specs.Letters.{after, pending, holds, lettersFrom, fieldsLeft, beginning, Standing, Stepped}

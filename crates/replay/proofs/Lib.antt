@@ -1,6 +1,3 @@
-pub mod Parts
-pub mod Writes
-pub mod Steps
 pub mod Texts
 pub mod Loops
 pub mod Wholes

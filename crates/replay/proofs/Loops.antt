@@ -13,7 +13,7 @@ use borrow.Rule.Slice.PartMut.{midOf, putMid, mid-len, same-len-mid}
 use Rattle.semantics.specs.Text.{Bytes, bytes, same, lineParts, fieldsOf}
 use Rattle.semantics.specs.Sheet.{concatMap}
 use Rattle.text.specs.Parts.{until}
-use Rattle.text.specs.Number.{most}
+use Rattle.decimal.specs.Number.{most}
 use Rattle.text.proofs.Parts.{parts-step, parts-one, until-take}
 use Rattle.stored.specs.Stored.{Stored}
 use Rattle.stored.specs.Reading.{numberIn, readRow, readRows, readAll, largestSize, sizeBy, sizeRows, mostTypes, sizeIn}
@@ -21,8 +21,8 @@ use Rattle.stored.specs.Laying.{Laying, layOne, andThen, layAll}
 use Rattle.stored.proofs.Laying.{lay-none, zeros-at}
 use Rattle.stored.proofs.Others.{items-end, sizes-end}
 use Rattle.stored.proofs.Written.{laid-below, laid-in, laid-past, mid-at}
-use Rattle.replay.specs.declared.items.State.{State}
-use Rattle.replay.specs.Steps.{layingOf, seen, Lays}
+use Rattle.laying.specs.declared.State.{State}
+use Rattle.laying.specs.Steps.{layingOf, seen, Lays}
 use Rattle.replay.specs.Rows.{tableAt, sizeAt, laidRow, laidText, OutOfTable, Noted, Sizes}
 
 -- ---- the next line of a text: it ends at e

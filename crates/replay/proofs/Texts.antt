@@ -12,15 +12,15 @@ use borrow.Author.Tests.{lt-ltb, le-ltb, eq-eqb, ne-eqb, leb-true, leb-false}
 use Rattle.semantics.specs.Text.{Bytes, bytes, same, fieldsOf}
 use Rattle.semantics.specs.Image.{handle, partAt}
 use Rattle.text.specs.Parts.{startOf}
-use Rattle.text.specs.Number.{most}
+use Rattle.decimal.specs.Number.{most}
 use Rattle.stored.specs.Stored.{Stored}
 use Rattle.stored.specs.Reading.{numberIn, keywordOf, widthOf, valuesIn, readRow, mostTypes}
 use Rattle.stored.specs.Laying.{Laying, layImage, layPart, layBytes, layArray, moveTo, layAll}
-use Rattle.replay.specs.declared.items.State.{State}
-use Rattle.replay.specs.Rest.{fieldsAt}
-use Rattle.replay.specs.Steps.{layingOf, seen, Ready, Lays}
+use Rattle.laying.specs.declared.State.{State}
+use Rattle.row_fields.specs.Rest.{fieldsAt}
+use Rattle.laying.specs.Steps.{layingOf, seen, Ready, Lays}
 use Rattle.replay.specs.Rows.{tableAt, sizeAt, width, laidItem, laidRow}
-use Rattle.replay.proofs.Writes.{fields-from}
+use Rattle.row_fields.proofs.Writes.{fields-from}
 
 -- ---- the same step said otherwise
 

@@ -8,9 +8,9 @@ use lib.Dec.{ltb}
 use Rattle.semantics.specs.Text.{Bytes}
 use Rattle.stored.specs.Reading.{readAll}
 use Rattle.stored.specs.Laying.{Laying, layAll, beginning}
-use Rattle.replay.specs.declared.items.State.{State}
+use Rattle.laying.specs.declared.State.{State}
 use Rattle.replay.specs.declared.Replayed.the-variants.{Laid, Outgrown}
-use Rattle.replay.specs.Steps.{layingOf, seen}
+use Rattle.laying.specs.Steps.{layingOf, seen}
 use Rattle.replay.specs.Rows.{sizeAt, begun, laidText, Sizes}
 use Rattle.replay.specs.Whole.{laidListing, answerOf, imageOf, areaOf, Replays}
 

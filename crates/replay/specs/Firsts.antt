@@ -3,8 +3,8 @@ use Prim.Native.Nat.{ℕ}
 use mathlib.Core.Path.{_≡_}
 use lib.ListN.{length}
 use Rattle.semantics.specs.Text.{Bytes}
-use Rattle.replay.specs.declared.items.State.{State}
-use Rattle.replay.specs.Steps.{seen}
+use Rattle.laying.specs.declared.State.{State}
+use Rattle.laying.specs.Steps.{seen}
 use Rattle.replay.specs.Rows.{begun}
 
 -- for every image of n bytes and every area

@@ -1,8 +1,5 @@
 // Replay of a listing's data items, from its text to image and area.
-mod fields;
-mod items;
 mod rows;
-mod values;
 
 ghost use Prim.Native.Nat.{_≤_};
 ghost use lib.ListN.{length};

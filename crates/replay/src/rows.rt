@@ -1,12 +1,10 @@
 // The rows of a listing, one after the other.
-use crate::fields;
-use crate::items;
-use crate::items::State;
+use laying::State;
 ghost use mathlib.Core.Path.{_≡_};
 ghost use Prim.Native.Nat.{_+_, _≤_, min};
 ghost use lib.ListN.{length};
 ghost use Rattle.stored.specs.Reading.{largestSize};
-ghost use Rattle.replay.specs.Steps.{layingOf, seen, Ready, Lays};
+ghost use Rattle.laying.specs.Steps.{layingOf, seen, Ready, Lays};
 ghost use Rattle.replay.specs.Rows.{sizeAt, width, laidItem, laidRow, begun, laidText, Noted, Sizes};
 ghost use Rattle.replay.specs.Firsts.{First};
 
@@ -55,20 +53,20 @@ fn lay_item(s: State, k: usize, row: &[u8], work: &[u8], image: &mut [u8], area:
     if k == 0 {
         return s;
     }
-    let off = fields::number(fields::field(row, 2)) as usize;
+    let off = row_fields::number(row_fields::field(row, 2)) as usize;
     if k < 5 {
         let from = text::skip(row, 4, COMMA);
-        return items::lay_values(s, image, area, off, row, from, width_of(k), k == 4);
+        return laying::lay_values(s, image, area, off, row, from, width_of(k), k == 4);
     }
     if k == 5 {
-        return items::lay_handle(s, image, area, off);
+        return laying::lay_handle(s, image, area, off);
     }
     if k == 6 {
-        let id = fields::number(fields::field(row, 3));
-        let n = fields::number(fields::field(row, 4));
-        return items::lay_array(s, image, area, off, size_of(work, id), n);
+        let id = row_fields::number(row_fields::field(row, 3));
+        let n = row_fields::number(row_fields::field(row, 4));
+        return laying::lay_array(s, image, area, off, size_of(work, id), n);
     }
-    items::moved(s, image, area, k == 7)
+    laying::moved(s, image, area, k == 7)
 }
 
 // A row: its item where it is a `dat` row.
@@ -76,10 +74,10 @@ fn step(s: State, row: &[u8], work: &[u8], image: &mut [u8], area: &mut [u8]) ->
     requires { ⌜ Ready s (length (now area)) ⌝ }
     ensures { λ r. ⌜ Lays (laidRow (sizeAt (now (work .entry))) (now (row .entry)) (layingOf s (now (image .entry)) (now (area .entry)))) s r (now (image .exit)) (now (area .exit)) ⌝ }
 {
-    if words::same(fields::field(row, 0), b"dat") {
+    if words::same(row_fields::field(row, 0), b"dat") {
         return lay_item(
             s,
-            fields::keyword(fields::field(row, 1)),
+            row_fields::keyword(row_fields::field(row, 1)),
             row,
             work,
             image,
@@ -135,11 +133,11 @@ fn note_size(row: &[u8], work: &mut [u8])
     requires { ⌜ 65536 ≤ length (now work) ⌝ }
     ensures { λ _. ⌜ Noted (now (row .entry)) (now (work .entry)) (now (work .exit)) ⌝ }
 {
-    if words::same(fields::field(row, 0), b"typ") {
-        let id = fields::number(fields::field(row, 1));
+    if words::same(row_fields::field(row, 0), b"typ") {
+        let id = row_fields::number(row_fields::field(row, 1));
         if id < TYPES {
             let i = TABLE + id as usize;
-            work[i] = small(fields::number(fields::field(row, 2)));
+            work[i] = small(row_fields::number(row_fields::field(row, 2)));
         }
     }
 }

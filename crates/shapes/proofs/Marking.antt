@@ -12,7 +12,7 @@ use Rattle.semantics.specs.Layout.{alignUp, sizeOf, alignOf, isPtr, marksOf, Pl
 use Rattle.field_list.specs.declared.Field.{Field}
 use Rattle.field_list.specs.Fields.{fieldsFrom, lineFields, pointersIn}
 use Rattle.field_list.proofs.Laws.{line-take}
-use Rattle.text.specs.Number as Number
+use Rattle.decimal.specs.Number as Number
 use Rattle.lines.specs.Lines.{readAt}
 use Rattle.sizes.specs.Sizes.{typeAt, Measures}
 use Rattle.sizes.specs.Places.{fieldAt, fieldsAt, FieldLine, FieldRefs}

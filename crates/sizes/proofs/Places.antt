@@ -22,7 +22,7 @@ use Rattle.semantics.specs.Layout.{alignUp, sizeOf, alignOf, Placed, placeNames
 use Rattle.field_list.specs.declared.Field.{Field}
 use Rattle.field_list.specs.Fields.{fieldsFrom, lineFields, furthestIn}
 use Rattle.field_list.proofs.Laws.{line-take}
-use Rattle.text.specs.Number as Number
+use Rattle.decimal.specs.Number as Number
 use Rattle.form.specs.Table.{rowAt, kindAt, rowNode}
 use Rattle.form.proofs.Table.{both}
 use Rattle.lines.specs.Lines.{readsIn, readAt, nodesIn, formAt}

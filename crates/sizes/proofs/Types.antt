@@ -21,7 +21,7 @@ use Rattle.semantics.specs.Refusal.{refsIn}
 use Rattle.semantics.specs.Layout.{alignUp, roundedSize, sizeOf, alignOf, alignOfAll, endOfAll, isPtr}
 use Rattle.laws.proofs.Alignments.{four-or-eight, aligned}
 use Rattle.layout.proofs.Bounds.{size-bound}
-use Rattle.text.specs.Number as Number
+use Rattle.decimal.specs.Number as Number
 use Rattle.form.specs.Table.{rowAt, rowNode}
 use Rattle.form.proofs.Table.{both}
 use Rattle.lines.specs.Lines.{readsIn, readAt, nodesIn, formAt}

@@ -16,8 +16,8 @@ use mir.Syntax.{w64}
 use mir.Val.{SFits}
 use borrow.Author.Tests.{eq-eqb, ne-eqb}
 use Rattle.semantics.specs.Fold.{signed64, bits64, wrap}
-use Rattle.numbers.proofs.Widths.{held, from1}
-use Rattle.numbers.proofs.Wrapping.{wrap-same}
+use Rattle.ints.proofs.Widths.{held, from1}
+use Rattle.ints.proofs.Wrapping.{wrap-same}
 use Rattle.write.specs.Wrote.{over}
 use Rattle.write.proofs.Hex.{big-length}
 use Rattle.write.proofs.Back.{word-back}

@@ -25,8 +25,8 @@ pub fn put_value(work: &mut [u8], a: usize, v: values::ConstVal)
     ensures { λ _. ⌜ Stored (now (work .entry)) a v (now (work .exit)) ⌝ }
 {
     match v {
-        values::ConstVal::Int(n) => store(work, a, INTEGER, numbers::ints::bits(n)),
-        values::ConstVal::Real(x) => store(work, a, REAL, numbers::reals::bits(x)),
+        values::ConstVal::Int(n) => store(work, a, INTEGER, ints::bits(n)),
+        values::ConstVal::Real(x) => store(work, a, REAL, reals::bits(x)),
         values::ConstVal::Str(p, l) => store(work, a, STRING, p as u64 + 65536 * l as u64),
     }
 }
@@ -38,10 +38,10 @@ pub fn value_at(work: &[u8], a: usize) -> values::ConstVal
     let b = words::bits_at(work, a + 1);
     let kind = work[a];
     if kind == REAL {
-        return values::ConstVal::Real(numbers::reals::of_bits(b));
+        return values::ConstVal::Real(reals::of_bits(b));
     }
     if kind == STRING {
         return values::ConstVal::Str((b % 65536) as usize, (b / 65536) as usize);
     }
-    values::ConstVal::Int(numbers::ints::of_bits(b))
+    values::ConstVal::Int(ints::of_bits(b))
 }

@@ -1,9 +1,4 @@
-// Text: the parts of a sheet, whose lines end in LF and whose fields are parted by commas, and readers of one field.
-pub mod hex;
-pub mod name;
-pub mod number;
-pub mod utf8;
-
+// Text: the parts of a sheet, whose lines end in LF and whose fields are parted by commas; and what readers of one field share.
 ghost use mathlib.Core.Path.{_≡_};
 ghost use Prim.Native.Nat.{_+_, _≤_};
 ghost use lib.ListN.{length, drop};
@@ -90,7 +85,7 @@ pub fn field(sheet: &[u8], line: usize, i: usize) -> &[u8]
     &sheet[a..e]
 }
 
-fn is_within(b: u8, lo: u8, hi: u8) -> bool
+pub fn is_within(b: u8, lo: u8, hi: u8) -> bool
     ensures { λ r. ⌜ r ≡ inRange lo hi b ⌝ }
 {
     if b < lo {
@@ -99,7 +94,7 @@ fn is_within(b: u8, lo: u8, hi: u8) -> bool
     b <= hi
 }
 
-fn wide(x: u8) -> u64
+pub fn wide(x: u8) -> u64
     ensures { λ r. ⌜ r ≡ x ⌝ }
 {
     x as u64

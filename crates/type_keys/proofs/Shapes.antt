@@ -19,9 +19,9 @@ use Rattle.semantics.specs.Form.Atom.{size, offset}
 use Rattle.semantics.specs.Form.Part.{one, many}
 use Rattle.semantics.specs.Fold.{eqZ}
 use Rattle.semantics.specs.Types.{sameInts, sameTypeKey}
-use Rattle.text.specs.Number as Number
-use Rattle.text.specs.declared.number.Signed.{Signed}
-use Rattle.text.specs.declared.number.Signed.the-variants as Signed
+use Rattle.decimal.specs.Number as Number
+use Rattle.decimal.specs.declared.Signed.{Signed}
+use Rattle.decimal.specs.declared.Signed.the-variants as Signed
 use Rattle.form.specs.Table.{rowAt}
 use Rattle.form.proofs.Table.{both}
 use Rattle.lines.specs.Lines.{readAt, nodesIn, formAt}

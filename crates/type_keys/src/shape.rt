@@ -1,5 +1,5 @@
 // The size and the offsets that a `frame` or `need,block` line writes out.
-use text::number::Signed;
+use decimal::Signed;
 ghost use mathlib.Core.Path.{_≡_};
 ghost use mathlib.Core.Bool.{true};
 ghost use Prim.Native.Nat.{_≤_, _<_};
@@ -17,7 +17,7 @@ fn read_offset(f: &[u8]) -> usize
     requires { ⌜ holds offset (now f) ≡ true ⌝ }
     ensures { λ r. ⌜ (r ≡ raised (orElse (pos 0) (intOf (now (f .entry))))) × (r ≤ 8192) ⌝ }
 {
-    let z = text::number::read_signed(f);
+    let z = decimal::read_signed(f);
     match z {
         Signed::Plus(m) => 4096 + m as usize,
         Signed::Minus(m) => 4096 - m as usize,

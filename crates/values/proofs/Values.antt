@@ -16,8 +16,8 @@ use Rattle.semantics.specs.Tree.{BinOp, binOps}
 use Rattle.semantics.specs.Tree.ConstVal.{vInt, vReal, vStr}
 use Rattle.semantics.specs.Fold.{Result, intOk, toReal, toWhole, intUnary, realUnary, intBinary, realBinary, strBinary, foldUnary, foldBinary, foldCast, foldLen}
 use Rattle.semantics.specs.Fold.Result.{ok, failed}
-use Rattle.numbers.proofs.Widths.{held, from1, from2}
-use Rattle.numbers.proofs.Wrapping.{outcome}
+use Rattle.ints.proofs.Widths.{held, from1, from2}
+use Rattle.ints.proofs.Wrapping.{outcome}
 use Rattle.write.specs.Wrote.{Wrote}
 use Rattle.checks.proofs.Kept.{kept-all}
 use Rattle.values.specs.declared.ConstVal.{ConstVal}

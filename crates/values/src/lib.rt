@@ -5,7 +5,7 @@ ghost use lib.ListN.{length, take, drop};
 ghost use Rattle.semantics.specs.Text.{Bytes};
 ghost use Rattle.semantics.specs.Tree.ConstVal.{vInt, vReal};
 ghost use Rattle.semantics.specs.Fold.{intUnary, realUnary, foldUnary, intBinary, realBinary, strBinary, foldBinary, foldCast, foldLen};
-ghost use Rattle.numbers.specs.Quotients.{folded};
+ghost use Rattle.ints.specs.Quotients.{folded};
 ghost use Rattle.write.specs.Wrote.{over};
 ghost use Rattle.values.specs.Values.{valueIn, stringIn, unaryAt, binaryAt, basicAt, sizeOf, At, Within, Answers, Casts, Apart};
 
@@ -60,9 +60,9 @@ fn int_unary(op: usize, x: i64) -> Folded
     ensures { λ r. ⌜ ((t : Bytes) (top : ℕ) → Answers t top r (intUnary (unaryAt op) x)) ⌝ }
 {
     match op {
-        0 => Folded::Value(ConstVal::Int(numbers::ints::neg(x))),
-        1 => Folded::Value(ConstVal::Int(numbers::ints::not(x))),
-        2 => Folded::Value(ConstVal::Int(numbers::ints::bit_not(x))),
+        0 => Folded::Value(ConstVal::Int(ints::neg(x))),
+        1 => Folded::Value(ConstVal::Int(ints::not(x))),
+        2 => Folded::Value(ConstVal::Int(ints::bit_not(x))),
         _ => Folded::Failed,
     }
 }
@@ -71,7 +71,7 @@ fn real_unary(op: usize, x: f64) -> Folded
     ensures { λ r. ⌜ ((t : Bytes) (top : ℕ) → Answers t top r (realUnary (unaryAt op) x)) ⌝ }
 {
     if op == 0 {
-        return Folded::Value(ConstVal::Real(numbers::reals::neg(x)));
+        return Folded::Value(ConstVal::Real(reals::neg(x)));
     }
     Folded::Failed
 }
@@ -87,12 +87,12 @@ pub fn fold_unary(op: usize, v: ConstVal) -> Folded
 }
 
 // A quotient or remainder of integers.
-fn quotient(q: numbers::ints::Quotient) -> Folded
+fn quotient(q: ints::Quotient) -> Folded
     ensures { λ r. ⌜ ((t : Bytes) (top : ℕ) → Answers t top r (folded q)) ⌝ }
 {
     match q {
-        numbers::ints::Quotient::Value(n) => Folded::Value(ConstVal::Int(n)),
-        numbers::ints::Quotient::ByZero => Folded::Failed,
+        ints::Quotient::Value(n) => Folded::Value(ConstVal::Int(n)),
+        ints::Quotient::ByZero => Folded::Failed,
     }
 }
 
@@ -101,22 +101,22 @@ fn int_binary(op: usize, x: i64, y: i64) -> Folded
     ensures { λ r. ⌜ ((t : Bytes) (top : ℕ) → Answers t top r (intBinary (binaryAt op) x y)) ⌝ }
 {
     match op {
-        0 => Folded::Value(ConstVal::Int(numbers::ints::add(x, y))),
-        1 => Folded::Value(ConstVal::Int(numbers::ints::sub(x, y))),
-        2 => Folded::Value(ConstVal::Int(numbers::ints::mul(x, y))),
-        3 => quotient(numbers::ints::div(x, y)),
-        4 => quotient(numbers::ints::rem(x, y)),
-        6 => Folded::Value(ConstVal::Int(numbers::ints::and(x, y))),
-        7 => Folded::Value(ConstVal::Int(numbers::ints::or(x, y))),
-        8 => Folded::Value(ConstVal::Int(numbers::ints::xor(x, y))),
-        9 => Folded::Value(ConstVal::Int(numbers::ints::shl(x, y))),
-        10 => Folded::Value(ConstVal::Int(numbers::ints::shr(x, y))),
-        11 => Folded::Value(ConstVal::Int(numbers::ints::eq(x, y))),
-        12 => Folded::Value(ConstVal::Int(numbers::ints::neq(x, y))),
-        13 => Folded::Value(ConstVal::Int(numbers::ints::lt(x, y))),
-        14 => Folded::Value(ConstVal::Int(numbers::ints::gt(x, y))),
-        15 => Folded::Value(ConstVal::Int(numbers::ints::leq(x, y))),
-        16 => Folded::Value(ConstVal::Int(numbers::ints::geq(x, y))),
+        0 => Folded::Value(ConstVal::Int(ints::add(x, y))),
+        1 => Folded::Value(ConstVal::Int(ints::sub(x, y))),
+        2 => Folded::Value(ConstVal::Int(ints::mul(x, y))),
+        3 => quotient(ints::div(x, y)),
+        4 => quotient(ints::rem(x, y)),
+        6 => Folded::Value(ConstVal::Int(ints::and(x, y))),
+        7 => Folded::Value(ConstVal::Int(ints::or(x, y))),
+        8 => Folded::Value(ConstVal::Int(ints::xor(x, y))),
+        9 => Folded::Value(ConstVal::Int(ints::shl(x, y))),
+        10 => Folded::Value(ConstVal::Int(ints::shr(x, y))),
+        11 => Folded::Value(ConstVal::Int(ints::eq(x, y))),
+        12 => Folded::Value(ConstVal::Int(ints::neq(x, y))),
+        13 => Folded::Value(ConstVal::Int(ints::lt(x, y))),
+        14 => Folded::Value(ConstVal::Int(ints::gt(x, y))),
+        15 => Folded::Value(ConstVal::Int(ints::leq(x, y))),
+        16 => Folded::Value(ConstVal::Int(ints::geq(x, y))),
         _ => Folded::Failed,
     }
 }
@@ -125,10 +125,10 @@ fn real_binary(op: usize, x: f64, y: f64) -> Folded
     ensures { λ r. ⌜ ((t : Bytes) (top : ℕ) → Answers t top r (realBinary (binaryAt op) x y)) ⌝ }
 {
     match op {
-        0 => Folded::Value(ConstVal::Real(numbers::reals::add(x, y))),
-        1 => Folded::Value(ConstVal::Real(numbers::reals::sub(x, y))),
-        2 => Folded::Value(ConstVal::Real(numbers::reals::mul(x, y))),
-        3 => Folded::Value(ConstVal::Real(numbers::reals::div(x, y))),
+        0 => Folded::Value(ConstVal::Real(reals::add(x, y))),
+        1 => Folded::Value(ConstVal::Real(reals::sub(x, y))),
+        2 => Folded::Value(ConstVal::Real(reals::mul(x, y))),
+        3 => Folded::Value(ConstVal::Real(reals::div(x, y))),
         _ => Folded::Failed,
     }
 }
@@ -156,11 +156,11 @@ pub fn fold_binary(op: usize, x: ConstVal, y: ConstVal) -> Folded
     match x {
         ConstVal::Int(a) => match y {
             ConstVal::Int(b) => int_binary(op, a, b),
-            ConstVal::Real(b) => real_binary(op, numbers::reals::from_i64(a), b),
+            ConstVal::Real(b) => real_binary(op, reals::from_i64(a), b),
             ConstVal::Str(_, _) => Folded::Failed,
         },
         ConstVal::Real(a) => match y {
-            ConstVal::Int(b) => real_binary(op, a, numbers::reals::from_i64(b)),
+            ConstVal::Int(b) => real_binary(op, a, reals::from_i64(b)),
             ConstVal::Real(b) => real_binary(op, a, b),
             ConstVal::Str(_, _) => Folded::Failed,
         },
@@ -177,7 +177,7 @@ fn cast_int(work: &mut [u8], code: usize, x: i64, top: usize) -> ConstVal
     ensures { λ r. ⌜ Casts (now (work .entry)) top (foldCast (basicAt code) (vInt x)) (now (work .exit)) r ⌝ }
 {
     if code == REAL {
-        return ConstVal::Real(numbers::reals::from_i64(x));
+        return ConstVal::Real(reals::from_i64(x));
     }
     if code == STRING {
         let p = write::put_int(work, top, x);
@@ -190,7 +190,7 @@ fn cast_real(code: usize, x: f64) -> ConstVal
     ensures { λ r. ⌜ ((t : Bytes) (top : ℕ) → (valueIn t r ≡ foldCast (basicAt code) (vReal x)) × At top r) ⌝ }
 {
     if code < REAL {
-        return ConstVal::Int(numbers::reals::to_i64(x));
+        return ConstVal::Int(reals::to_i64(x));
     }
     ConstVal::Real(x)
 }
@@ -217,7 +217,7 @@ pub fn fold_len(work: &[u8], v: ConstVal) -> Folded
         ConstVal::Real(_) => Folded::Failed,
         ConstVal::Str(p, l) => {
             let e = p + l;
-            Folded::Value(ConstVal::Int(text::utf8::count(&work[p..e]) as i64))
+            Folded::Value(ConstVal::Int(utf8::count(&work[p..e]) as i64))
         }
     }
 }

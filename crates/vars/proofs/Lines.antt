@@ -12,7 +12,7 @@ use Rattle.semantics.specs.Form.{forms, numberOf, nodeAt, perhapsAt, exOf}
 use Rattle.semantics.specs.Form.Kind.{kTy, kEx}
 use Rattle.semantics.specs.Form.Atom.{name, maybe}
 use Rattle.semantics.specs.Form.Part.{one, many}
-use Rattle.text.specs.Number as Number
+use Rattle.decimal.specs.Number as Number
 use Rattle.form.specs.Table.{rowNode}
 use Rattle.form.proofs.Table.{only-var, form-of-kind}
 use Rattle.lines.specs.Lines.{readsIn, readAt, nodesIn, formAt}

@@ -9,7 +9,7 @@ use Rattle.semantics.specs.Text.{Bytes, bytes, same}
 use Rattle.semantics.specs.Form.{values, numberOf}
 use Rattle.semantics.specs.Form.Atom.{name}
 use Rattle.semantics.specs.Global.{laidNames, noneOf}
-use Rattle.text.specs.Number as Number
+use Rattle.decimal.specs.Number as Number
 use Rattle.lines.specs.Lines.{readAt, nodesIn}
 use Rattle.sizes.proofs.Types.{head-drop, tail-drop}
 use Rattle.globals.specs.Table.{VarLine, nameOn, namesOn}

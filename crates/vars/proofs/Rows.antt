@@ -15,7 +15,7 @@ use Rattle.semantics.specs.Const.{Refusal}
 use Rattle.semantics.specs.Global.{Init, initOf, laidNames, noneOf, varValue, refusedBy, varsRefused, pendOf}
 use Rattle.semantics.specs.Global.Init.{noInit, constInit, arrayInit, pendingInit}
 use Rattle.semantics.specs.Listing.{pendRow}
-use Rattle.text.specs.Number as Number
+use Rattle.decimal.specs.Number as Number
 use Rattle.write.specs.Wrote.{Wrote}
 use Rattle.write.proofs.Wrote.{then, wrote-as}
 use Rattle.lines.specs.Lines.{readAt}

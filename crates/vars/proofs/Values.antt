@@ -13,7 +13,7 @@ use Rattle.semantics.specs.Fold.{Result, bind, Names, foldAt0}
 use Rattle.semantics.specs.Fold.Result.{ok, failed, refuse}
 use Rattle.semantics.specs.Array.{ConstArray, constArray}
 use Rattle.semantics.specs.Global.{Init, arrayValue, firstValue, initOf, laidNames, noneOf, varValue}
-use Rattle.text.specs.Number as Number
+use Rattle.decimal.specs.Number as Number
 use Rattle.lines.specs.Lines.{readAt}
 use Rattle.values.specs.declared.ConstVal.{ConstVal}
 use Rattle.values.specs.declared.Folded.{Folded}

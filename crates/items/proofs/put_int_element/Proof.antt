@@ -1,6 +1,6 @@
 -- `items::put_int_element` meets its contract.
 use Rattle.items.proofs.Elements.{widened, as-byte, as-word, as-big, as-real}
-use Rattle.numbers.proofs.Widths.{from1}
+use Rattle.ints.proofs.Widths.{from1}
 use Rattle.semantics.specs.Fold.{toReal}
 use Rattle.semantics.specs.Array.{lowest, lowByte}
 use Rattle.semantics.specs.Tree.ConstVal.{vInt}

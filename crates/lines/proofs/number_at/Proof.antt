@@ -1,6 +1,6 @@
 -- `lines::number_at` meets its contract.
 use mathlib.Core.Path.{_∙_, ap}
-use Rattle.text.specs.Number.{numberOf}
+use Rattle.decimal.specs.Number.{numberOf}
 use borrow.Author.Needs.{needs}
 use Rattle.lines.proofs.number_at.Statement.{statement}
 use Rattle.lines.proofs.number_at.Tie as tie

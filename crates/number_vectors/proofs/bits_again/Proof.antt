@@ -1,7 +1,7 @@
 -- `bits_again` meets its contract: a NaN has one pattern, and all other bits come back.
 use mathlib.Core.Path.{ap, _∙_}
 use lib.Ieee.{binary64, toBits}
-use Rattle.numbers.proofs.Patterns.{bits-back}
+use Rattle.reals.proofs.Patterns.{bits-back}
 use borrow.Author.Needs.{needs}
 use Rattle.number_vectors.proofs.bits_again.Statement.{statement}
 use Rattle.number_vectors.proofs.bits_again.Tie as tie

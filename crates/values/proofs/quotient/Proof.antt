@@ -1,6 +1,6 @@
 -- `values::quotient` meets its contract.
 use Rattle.values.proofs.Values.{answers-int, answers-failed}
-use Rattle.numbers.specs.Quotients.{folded}
+use Rattle.ints.specs.Quotients.{folded}
 use mathlib.Core.Path.{sym, ap}
 use borrow.Author.Needs.{needs}
 use Rattle.values.proofs.quotient.Statement.{statement}

@@ -1,7 +1,7 @@
 -- `words::bits_at` meets its contract.
 use Rattle.words.proofs.Laws as Laws
 use Rattle.words.specs.Words.{bitsAt}
-use Rattle.text.proofs.Hexes.{bytes-grow, bytes-fit}
+use Rattle.hex.proofs.Hexes.{bytes-grow, bytes-fit}
 use Rattle.semantics.specs.Text.{fromBigEndian}
 use borrow.Author.Needs.{needs}
 use denote.Ref.{now}

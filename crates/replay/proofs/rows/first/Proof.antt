@@ -1,6 +1,6 @@
 -- `replay::rows::first` meets its contract.
 use Rattle.replay.specs.Rows.{begun}
-use Rattle.replay.specs.Steps.{seen, layingOf}
+use Rattle.laying.specs.Steps.{seen, layingOf}
 use mathlib.Core.Path.{refl}
 use Rattle.replay.proofs.rows.first.Statement.{statement}
 use Rattle.replay.proofs.rows.first.Tie as tie

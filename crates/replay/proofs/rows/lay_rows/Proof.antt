@@ -6,7 +6,7 @@ use native.Mathlib.Omega.{arith}
 use borrow.Author.Needs.{needs}
 use Rattle.replay.proofs.Loops.{text-turn, text-full, text-end}
 use Rattle.replay.specs.Rows.{sizeAt, begun, laidText}
-use Rattle.replay.specs.Steps.{seen}
+use Rattle.laying.specs.Steps.{seen}
 use denote.Ref.{now}
 use lib.ListN.{length, drop}
 use mathlib.Core.Path.{_≡_, _∙_, sym, refl}

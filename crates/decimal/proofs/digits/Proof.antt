@@ -1,0 +1,67 @@
+-- `decimal::digits` meets its contract. The digits that are left, behind the number read so far, write what all of them write.
+use Prim.Native.Nat.{_≤_, _-_}
+use mathlib.Core.Path.{_≡_, _∙_, sym}
+use native.Mathlib.Omega.{arith}
+use lib.ListN.{length, drop}
+use denote.Ref.{now}
+use borrow.Author.Needs.{needs}
+use Rattle.decimal.specs.Number.{most, digitsOf}
+use Rattle.decimal.proofs.Numbers.{digit-low, digit-high, digit-turn, digit-end}
+use Rattle.decimal.proofs.digits.Statement.{statement}
+use Rattle.decimal.proofs.digits.Tie as tie
+
+abbrev Inv-loop : tie.InvT-loop
+Inv-loop s from acc₀ i₀ acc i = (acc ≤ most) × (digitsOf most 0 (drop from s) ≡ digitsOf most acc (drop i s))
+
+abbrev μ-loop : tie.MeasureT-loop
+μ-loop s from acc₀ i₀ acc i = length s - i
+
+loop-holds : tie.Need-loop-holds Inv-loop μ-loop
+loop-holds c = search needs
+
+shared-slice-read-x : tie.Need-shared-slice-read-x Inv-loop μ-loop
+shared-slice-read-x c = search needs
+
+add-result : tie.Need-add-result Inv-loop μ-loop
+add-result c = search needs
+
+returns : tie.Need-returns Inv-loop μ-loop
+returns c =
+    let l = c .before .before .before .loop in
+    digit-low most (l .acc) (l .i) (now (c .before .before .before .before .before .args .s)) (c .before .before .loop-test .taken) (c .if1 .taken) ∙ sym (l .inv .1)
+
+add-result-2 : tie.Need-add-result-2 Inv-loop μ-loop
+add-result-2 c = search needs
+
+returns-2 : tie.Need-returns-2 Inv-loop μ-loop
+returns-2 c =
+    let l = c .before .before .before .before .loop in
+    digit-high most (l .acc) (l .i) (now (c .before .before .before .before .before .before .args .s)) (c .before .before .before .loop-test .taken) (c .if2 .taken) ∙ sym (l .inv .1)
+
+wide-requires : tie.Need-wide-requires Inv-loop μ-loop
+wide-requires c κs = search needs
+
+more-requires : tie.Need-more-requires Inv-loop μ-loop
+more-requires c κs = search needs
+
+add-i : tie.Need-add-i Inv-loop μ-loop
+add-i c = search needs
+
+loop-less : tie.Need-loop-less Inv-loop μ-loop
+loop-less c = search needs
+
+loop-again : tie.Need-loop-again Inv-loop μ-loop
+loop-again c =
+    let l = c .before .before .before .before .before .before .loop in
+    let e = c .before .wide .ensures in
+    (search needs, l .inv .1 ∙ digit-turn most (l .acc) (l .i) (now (c .before .before .before .before .before .before .before .before .args .s)) (c .before .before .before .before .before .loop-test .taken) (c .before .before .before .if1 .left) (c .before .before .if2 .left) (omega (arith, c .more .ensures, e)))
+
+returns-3 : tie.Need-returns-3 Inv-loop μ-loop
+returns-3 c =
+    let l = c .before .loop in
+    digit-end most (l .acc) (l .i) (now (c .before .before .before .args .s)) (l .inv .0) (c .loop-test .left) ∙ sym (l .inv .1)
+
+pub digits-spec : {M : Type 1} → statement M
+digits-spec =
+    tie.close (tie.spec Inv-loop μ-loop loop-holds shared-slice-read-x add-result returns add-result-2 returns-2 wide-requires more-requires add-i
+    loop-less loop-again returns-3)

@@ -1,0 +1,79 @@
+-- `hex::read_word` meets its contract. k bytes are read, so their number is below 256 ^ k, and those that are left complete it.
+use Prim.Native.Nat.{_≤_, _<_, _-_, _*_, _^_}
+use mathlib.Core.Path.{_≡_, _∙_, sym}
+use native.Mathlib.Omega.{arith}
+use lib.Dec.{lit<}
+use lib.ListN.{length, drop}
+use denote.Ref.{now}
+use borrow.Author.Needs.{needs}
+use Rattle.semantics.specs.Text.{unhex}
+use Rattle.hex.specs.Hex.{wordOf, wordFrom}
+use Rattle.hex.proofs.Hexes.{word-short, word-start, word-bad, word-next, word-end, bytes-grow, bytes-fit}
+use Rattle.hex.proofs.read_word.Statement.{statement}
+use Rattle.hex.proofs.read_word.Tie as tie
+
+abbrev Inv-loop : tie.InvT-loop
+Inv-loop s acc₀ k₀ acc k = (k ≤ 8) × (length s ≡ 16) × (acc < 256 ^ k) × (wordOf s ≡ wordFrom acc (unhex (drop (2 * k) s)))
+
+abbrev μ-loop : tie.MeasureT-loop
+μ-loop s acc₀ k₀ acc k = 8 - k
+
+returns : tie.Need-returns Inv-loop μ-loop
+returns c = word-short (now (c .before .before .args .s)) (c .if1 .taken)
+
+loop-holds : tie.Need-loop-holds Inv-loop μ-loop
+loop-holds c = (omega arith, c .if1 .left, lit< tt, word-start (now (c .before .before .args .s)) (c .if1 .left))
+
+mul-pair : tie.Need-mul-pair Inv-loop μ-loop
+mul-pair c = search needs
+
+shared-slice-read-pair : tie.Need-shared-slice-read-pair Inv-loop μ-loop
+shared-slice-read-pair c = search needs
+
+mul-pair-2 : tie.Need-mul-pair-2 Inv-loop μ-loop
+mul-pair-2 c = search needs
+
+add-pair : tie.Need-add-pair Inv-loop μ-loop
+add-pair c = search needs
+
+shared-slice-read-pair-2 : tie.Need-shared-slice-read-pair-2 Inv-loop μ-loop
+shared-slice-read-pair-2 c = search needs
+
+pair-requires : tie.Need-pair-requires Inv-loop μ-loop
+pair-requires c κs = search needs
+
+returns-2 : tie.Need-returns-2 Inv-loop μ-loop
+returns-2 c =
+    let l = c .before .before .before .before .before .loop in
+    sym (l .inv .3 ∙ word-bad (now (c .before .before .before .before .before .before .before .before .args .s)) (l .k) (l .acc) (omega arith) (c .before .pair .ensures .0) (c .if2 .taken))
+
+mul-acc : tie.Need-mul-acc Inv-loop μ-loop
+mul-acc c =
+    let l = c .before .before .before .before .before .loop in
+    record { fits = let h = bytes-fit (l .acc) (l .k) (c .before .pair .result) (l .inv .2) (c .before .before .before .before .loop-test .taken) (omega arith) in omega arith }
+
+add-acc : tie.Need-add-acc Inv-loop μ-loop
+add-acc c =
+    let l = c .before .before .before .before .before .loop in
+    record { fits = bytes-fit (l .acc) (l .k) (c .before .pair .result) (l .inv .2) (c .before .before .before .before .loop-test .taken) (omega arith) }
+
+add-k : tie.Need-add-k Inv-loop μ-loop
+add-k c = search needs
+
+loop-less : tie.Need-loop-less Inv-loop μ-loop
+loop-less c = search needs
+
+loop-again : tie.Need-loop-again Inv-loop μ-loop
+loop-again c =
+    let l = c .before .before .before .before .before .loop in
+    (omega arith, l .inv .1, bytes-grow (l .acc) (l .k) (c .before .pair .result) (l .inv .2) (omega arith), l .inv .3 ∙ word-next (now (c .before .before .before .before .before .before .before .before .args .s)) (l .k) (l .acc) (omega arith) (c .before .pair .ensures .0) (c .if2 .left))
+
+returns-3 : tie.Need-returns-3 Inv-loop μ-loop
+returns-3 c =
+    let l = c .before .loop in
+    word-end (now (c .before .before .before .before .args .s)) (2 * l .k) (l .acc) (omega arith) ∙ sym (l .inv .3)
+
+pub read-word-spec : {M : Type 1} → statement M
+read-word-spec =
+    tie.close (tie.spec Inv-loop μ-loop returns loop-holds mul-pair shared-slice-read-pair mul-pair-2 add-pair shared-slice-read-pair-2 pair-requires
+    returns-2 mul-acc add-acc add-k loop-less loop-again returns-3)

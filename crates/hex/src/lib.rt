@@ -1,0 +1,88 @@
+// Hexadecimal digits, upper case.
+use text::is_within;
+use text::wide;
+ghost use mathlib.Core.Path.{_≡_};
+ghost use Prim.Native.Nat.{_≤_};
+ghost use Rattle.hex.specs.Hex.{digitOf, pairOf, isHex, byteAt, wordOf};
+
+// 64 bits.
+pub enum Word {
+    Bits(u64),
+    Bad,
+}
+
+// The digit that a byte writes, 16 where there is none.
+fn digit(b: u8) -> u64
+    ensures { λ r. ⌜ (r ≡ digitOf b) × (r ≤ 16) ⌝ }
+{
+    if is_within(b, 48, 57) {
+        return wide(b - 48);
+    }
+    if is_within(b, 65, 70) {
+        return wide(b - 55);
+    }
+    16
+}
+
+// The byte that two digits write, 256 where one of them is none.
+pub fn pair(h: u8, l: u8) -> u64
+    ensures { λ r. ⌜ (r ≡ pairOf h l) × (r ≤ 256) ⌝ }
+{
+    let x = digit(h);
+    if x == 16 {
+        return 256;
+    }
+    let y = digit(l);
+    if y == 16 {
+        return 256;
+    }
+    x * 16 + y
+}
+
+// Whether the field is pairs of digits.
+pub fn is_hex(s: &[u8]) -> bool
+    ensures { λ r. ⌜ r ≡ isHex (now (s .entry)) ⌝ }
+{
+    let mut i: usize = 0;
+    while i + 1 < s.len() {
+        if pair(s[i], s[i + 1]) == 256 {
+            return false;
+        }
+        i += 2;
+    }
+    i == s.len()
+}
+
+// Byte i of those that a field of pairs of digits writes, 0 where there is none.
+pub fn byte(s: &[u8], i: usize) -> u8
+    ensures { λ r. ⌜ r ≡ byteAt (now (s .entry)) i ⌝ }
+{
+    if s.len() / 2 <= i {
+        return 0;
+    }
+    let v = pair(s[2 * i], s[2 * i + 1]);
+    if v == 256 {
+        return 0;
+    }
+    v as u8
+}
+
+// The 64 bits that 16 digits write.
+pub fn read_word(s: &[u8]) -> Word
+    ensures { λ r. ⌜ r ≡ wordOf (now (s .entry)) ⌝ }
+{
+    if s.len() != 16 {
+        return Word::Bad;
+    }
+    let mut acc: u64 = 0;
+    let mut k: usize = 0;
+    while k < 8 {
+        let v = pair(s[2 * k], s[2 * k + 1]);
+        if v == 256 {
+            return Word::Bad;
+        }
+        acc = acc * 256 + v;
+        k += 1;
+    }
+    Word::Bits(acc)
+}

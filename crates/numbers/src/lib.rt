@@ -1,3 +1,0 @@
-pub mod conversions;
-pub mod ints;
-pub mod reals;

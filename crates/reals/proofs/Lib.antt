@@ -1,0 +1,3 @@
+pub mod Leading
+pub mod Whole
+pub mod Patterns

@@ -1,0 +1,34 @@
+-- `row_fields::integer` meets its contract.
+use Rattle.row_fields.proofs.Parts.{integer-is, integer-bad}
+use denote.Ref.{now}
+use mathlib.Core.Path.{_∙_, sym}
+use borrow.Author.Needs.{needs}
+use Rattle.row_fields.proofs.integer.Statement.{statement}
+use Rattle.row_fields.proofs.integer.Tie as tie
+
+read-integer-requires : tie.Need-read-integer-requires
+read-integer-requires c κs = search needs
+
+enum-known-n : tie.Need-enum-known-n
+enum-known-n c = search needs
+
+bits-requires : tie.Need-bits-requires
+bits-requires c κs = search needs
+
+enum-told : tie.Need-enum-told
+enum-told c = search needs
+
+returns : tie.Need-returns
+returns c =
+    let a = c .before .before .before .before .before .before .args in
+    let read-integer = c .before .before .before .before .read-integer in
+    c .bits .ensures ∙ integer-is (now (a .f)) (sym (read-integer .ensures) ∙ c .before .before .n .given .1)
+
+returns-2 : tie.Need-returns-2
+returns-2 c =
+    let a = c .before .before .before .before .args in
+    let read-integer = c .before .before .read-integer in
+    integer-bad (now (a .f)) (sym (read-integer .ensures) ∙ c .enum-told .given .1)
+
+pub integer-spec : {M : Type 1} → statement M
+integer-spec = tie.close (tie.spec read-integer-requires enum-known-n bits-requires enum-told returns returns-2)

@@ -1,0 +1,28 @@
+-- `row_fields::real` meets its contract.
+use Rattle.row_fields.proofs.Parts.{real-is, real-bad}
+use denote.Ref.{now}
+use mathlib.Core.Path.{_∙_, sym}
+use borrow.Author.Needs.{needs}
+use Rattle.row_fields.proofs.real.Statement.{statement}
+use Rattle.row_fields.proofs.real.Tie as tie
+
+read-word-requires : tie.Need-read-word-requires
+read-word-requires c κs = search needs
+
+enum-known-w : tie.Need-enum-known-w
+enum-known-w c = search needs
+
+enum-told : tie.Need-enum-told
+enum-told c = search needs
+
+returns : tie.Need-returns
+returns c =
+    let a = c .before .before .before .before .before .args in
+    let read-word = c .before .before .before .read-word in
+    real-is (now (a .f)) (sym (read-word .ensures) ∙ c .before .w .given .1)
+
+returns-2 : tie.Need-returns-2
+returns-2 c = real-bad (now (c .before .before .before .before .args .f)) (sym (c .before .before .read-word .ensures) ∙ c .enum-told .given .1)
+
+pub real-spec : {M : Type 1} → statement M
+real-spec = tie.close (tie.spec read-word-requires enum-known-w enum-told returns returns-2)
