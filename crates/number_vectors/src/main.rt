@@ -73,10 +73,14 @@ fn real_result(op: u64, a: f64, b: f64) -> f64 {
     }
 }
 
+fn wide(w: i32) -> i64 {
+    w as i64
+}
+
 fn whole_result(op: u64, x: f64) -> i64 {
     match op {
         5 => conversions::big_of_real(x),
-        6 => conversions::word_of_real(x) as i64,
+        6 => wide(conversions::word_of_real(x)),
         _ => conversions::byte_of_real(x) as i64,
     }
 }
@@ -149,7 +153,7 @@ fn unary_result(op: u64, a: i64) -> i64 {
         16 => ints::neg(a),
         17 => ints::not(a),
         18 => ints::bit_not(a),
-        19 => conversions::word_of_int(a) as i64,
+        19 => wide(conversions::word_of_int(a)),
         _ => conversions::byte_of_int(a) as i64,
     }
 }
