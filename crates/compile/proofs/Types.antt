@@ -1,7 +1,7 @@
 -- Items, types and uses together.
 use mathlib.Core.Path.{_≡_, ap}
 use mathlib.Core.List.{List, _++_}
-use Prim.Native.Nat.{ℕ, _+_, _≤_}
+use Prim.Native.Nat.{ℕ, _≤_}
 use native.Mathlib.Omega.{arith}
 use lib.ListN.{length}
 use Rattle.semantics.specs.Text.{Bytes}
@@ -11,7 +11,7 @@ use Rattle.semantics.specs.Global.{Item, globals}
 use Rattle.semantics.specs.Types.{idOf, descriptors}
 use Rattle.semantics.specs.Listing.{typeRows, useRow}
 use Rattle.write.specs.Wrote.{Wrote}
-use Rattle.write.proofs.Wrote.{wrote-as, wrote-length, then}
+use Rattle.write.proofs.Wrote.{wrote-as, then}
 use Rattle.checks.specs.Checks.{Kept}
 use Rattle.checks.proofs.Kept.{kept-less, checked-kept}
 use Rattle.records.proofs.Kept.{logged-kept}
@@ -24,9 +24,6 @@ use Rattle.compile.proofs.Kept.{needs-stay}
 use Rattle.compile.proofs.Laws.{names-are}
 
 -- the next place is no further than one past the end
-pub place-low : {d : Bytes} {a : ℕ} {t e : Bytes} {b : ℕ} → Wrote d a t e b → b ≤ length e + 1
-place-low w = omega (arith, w .place, wrote-length w)
-
 module _ {s t : Bytes} {n frames : ℕ} {x : Tables} (k : Known s t n x) (fr : (frames ≡ length (sheetSource s .frames)) × (frames ≤ 128)) where
   module _ {u : Bytes} (h : Kept 10624 t u) where
     pub types-ready : Types.Ready s u n (x .records) (x .needs)

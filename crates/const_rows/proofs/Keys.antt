@@ -1,7 +1,7 @@
 -- The keys of a log, entry by entry.
 use mathlib.Core.Path.{_≡_, refl, sym, ap, _∙_}
 use mathlib.Core.Bool.{Bool, true, false, cond, not, _||_}
-use mathlib.Core.List.{List, [], _∷_, _++_, append-assoc, append-nil}
+use mathlib.Core.List.{List, [], _∷_, _++_, append-nil}
 use mathlib.Core.Option.{Option, none, some}
 use Prim.Native.Nat.{ℕ, zero, suc, _+_, _*_}
 use native.Mathlib.Omega.{arith}
@@ -13,32 +13,13 @@ use Rattle.semantics.specs.Sheet.{sheetSource, concatMap}
 use Rattle.semantics.specs.Fold.{Key, Const, plain, qualified, sameOption, sameKey}
 use Rattle.semantics.specs.Const.{entries, implements}
 use Rattle.semantics.specs.Listing.{keysIn, isPlain, constRow}
+use Rattle.laws.proofs.Lists.{concat-append, filter-append, any-append}
 use Rattle.form.proofs.Table.{never, both}
 use Rattle.implement.specs.Modules.{moduleAt}
 use Rattle.names.specs.Table.{lineOf, moduleLineOf, slotAt, fieldAt, entriesAt, logIn, hasKey}
 use Rattle.const_rows.specs.Rows.{plainKey, qualifiedKey, isOwn, qualifiedTo, plainTo, qualifiedPart, plainPart}
 
 -- ---- lists
-
-concat-append : {A B : Type 0} (f : A → List B) (xs ys : List A) → concatMap f (xs ++ ys) ≡ concatMap f xs ++ concatMap f ys
-concat-append f [] ys = refl
-concat-append f (x ∷ xs) ys = rw (concat-append f xs ys) (sym (append-assoc (f x) (concatMap f xs) (concatMap f ys)))
-
-filter-append : {A : Type 0} (p : A → Bool) (xs ys : List A) → filter p (xs ++ ys) ≡ filter p xs ++ filter p ys
-filter-append p [] ys = refl
-filter-append p (x ∷ xs) ys = go (p x) (filter-append p xs ys)
-  where
-    go : (b : Bool) → filter p (xs ++ ys) ≡ filter p xs ++ filter p ys → cond b (x ∷ filter p (xs ++ ys)) (filter p (xs ++ ys)) ≡ cond b (x ∷ filter p xs) (filter p xs) ++ filter p ys
-    go true e = rw e
-    go false e = e
-
-any-append : {A : Type 0} (p : A → Bool) (xs ys : List A) → any p (xs ++ ys) ≡ any p xs || any p ys
-any-append p [] ys = refl
-any-append p (x ∷ xs) ys = go (p x) (any-append p xs ys)
-  where
-    go : (b : Bool) → any p (xs ++ ys) ≡ any p xs || any p ys → b || any p (xs ++ ys) ≡ (b || any p xs) || any p ys
-    go true e = refl
-    go false e = e
 
 -- ---- equal keys
 

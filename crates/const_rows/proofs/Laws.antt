@@ -23,7 +23,7 @@ use Rattle.semantics.specs.Const.{implements}
 use Rattle.semantics.specs.Listing.{row, valueFields, constRow, constRows}
 use Rattle.ints.proofs.Widths.{held}
 use Rattle.write.specs.Wrote.{Wrote}
-use Rattle.write.proofs.Wrote.{wrote-length, wrote-none, wrote-as, then}
+use Rattle.write.proofs.Wrote.{wrote-none, wrote-as, then}
 use Rattle.implement.specs.Modules.{moduleAt}
 use Rattle.names.specs.Table.{lineOf, moduleLineOf, valueBy, kindOf, bitsOf, fieldAt, logIn, Logged, found, hasKey}
 use Rattle.names.proofs.Laws.{slot-is, value-failed, value-int, value-real, value-text}
@@ -205,9 +205,6 @@ module _ (s t : Bytes) (m : ℕ) {d : Bytes} {at : ℕ} where
   pub all-rows : {e f g : Bytes} {p q o : ℕ} → Wrote d at [] e p → Wrote e p (qualifiedTo s t m m) f q → Wrote f q (plainTo s t m m) g o → Wrote d at (constRows (logIn s t m)) g o
   unfolding constRows qualifiedTo plainTo
   all-rows u v w = then (then u v) w
-
-pub place-low : {d : Bytes} {a : ℕ} {t e : Bytes} {b : ℕ} → Wrote d a t e b → b ≤ length e + 1
-place-low {d} {a} {t} w = omega (arith, w .place, wrote-length w)
 
 -- a name, a comma and the value
 pub rest-row : (x y : Bytes) {d e f g : Bytes} {at a b c : ℕ} → Wrote d at x e a → Wrote e a (44 ∷ []) f b → Wrote f b y g c → Wrote d at (x ++ (44 ∷ y)) g c

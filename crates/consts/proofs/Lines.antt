@@ -3,7 +3,7 @@ use mathlib.Core.Path.{_≡_, sym, ap, _∙_}
 use mathlib.Core.Bool.{true, false}
 use mathlib.Core.List.{List, [], _∷_}
 use mathlib.Core.Option.{Option, none, some}
-use Prim.Native.Nat.{ℕ, _+_, _-_, _≤_, _<_}
+use Prim.Native.Nat.{ℕ, _+_, _-_, _<_}
 use native.Mathlib.Omega.{arith}
 use lib.Dec.{leb}
 use lib.ListN.{getD}
@@ -14,6 +14,7 @@ use Rattle.semantics.specs.Form.Kind.{kEx}
 use Rattle.semantics.specs.Form.Atom.{name, lineOrCol, ref}
 use Rattle.semantics.specs.Form.Part.{one}
 use Rattle.semantics.specs.Refusal.{refsIn}
+use Rattle.sizes.proofs.Types.{number-exact}
 use Rattle.decimal.specs.Number as Number
 use Rattle.form.specs.Table.{rowAt}
 use Rattle.form.proofs.Table.{never, both, only-con, form-of-kind}
@@ -63,14 +64,6 @@ place-exact f = go (Text.natOf f)
     go none h = never h
     go (some m) h = omega (arith, leb-true m 65535 h)
 
-line-exact : (f : List ℕ) → isNumber f ≡ true → numberOf f ≤ 65536 → Number.numberOf 65536 f ≡ numberOf f
-unfolding Number.numberOf
-line-exact f = go (Text.natOf f)
-  where
-    go : (o : Option ℕ) → Text.holdsOf (λ (m : ℕ). true) o ≡ true → Text.orElse 0 o ≤ 65536 → Number.capped 65536 o ≡ Text.orElse 0 o
-    go none h k = never h
-    go (some m) h k = omega arith
-
 module _ (s t : List ℕ) (n i : ℕ) (c : Checked s t n) (h : i < n) (con : letter (readAt s i .form .kind) ≡ 68) where
   form-con : formAt t i ≡ 28
   form-con = form-of-kind only-con (formAt t i) (form-low s t n (c .whole) i h) (sym (kind-is s t n (c .whole) i h) ∙ con)
@@ -93,7 +86,7 @@ module _ (s t : List ℕ) (n i : ℕ) (c : Checked s t n) (h : i < n) (con : let
     ex-ref = needed-ref (readsIn s) (i + 1) 69 (numberOf (getD (readAt s i .fields) 3 [])) (fields-are .fine)
 
     pub ex-number : r ≡ numberOf (getD (readAt s i .fields) 3 [])
-    ex-number = is ∙ line-exact (getD (readAt s i .fields) 3 []) (fields-are .number) (omega (arith, ex-ref .1, c .whole .lined .few))
+    ex-number = is ∙ number-exact (getD (readAt s i .fields) 3 []) (fields-are .number) (omega (arith, ex-ref .1, c .whole .lined .few))
 
     pub ex-line : ExLine s t n r
     ex-line = record {

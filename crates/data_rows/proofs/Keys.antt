@@ -15,7 +15,7 @@ use Rattle.semantics.specs.Array.{ConstArray, kindNumber}
 use Rattle.semantics.specs.Global.{Item, strItems, elementItems, contents, arrayItems, valueItem}
 use Rattle.semantics.specs.Global.Item.{backItem}
 use Rattle.semantics.specs.Types.{arrayKey, distinct, position}
-use Rattle.globals.proofs.Vars.{concat-append}
+use Rattle.laws.proofs.Lists.{concat-append}
 use Rattle.arrays.specs.Arrays.{kindAt}
 use Rattle.type_keys.specs.Table.{kindOf, isUsed, kindsUsed, Kinds}
 use Rattle.type_keys.proofs.Distinct.{same-self, distinct-more, placed-more}

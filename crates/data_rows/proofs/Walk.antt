@@ -12,6 +12,7 @@ use Rattle.semantics.specs.Fold.{Result, Names}
 use Rattle.semantics.specs.Global.{Item, Init, Global, initOf, globals}
 use Rattle.semantics.specs.Types.{idOf}
 use Rattle.semantics.specs.Listing.{itemRow}
+use Rattle.laws.proofs.Lists.{concat-append}
 use Rattle.write.specs.Wrote.{Wrote}
 use Rattle.write.proofs.Wrote.{wrote-none, wrote-length}
 use Rattle.checks.specs.Checks.{Kept}
@@ -22,7 +23,6 @@ use Rattle.literals.specs.Literals.{namesIn, Line}
 use Rattle.literals.proofs.Names.{kept-low, line-kept}
 use Rattle.globals.specs.Table.{placesIn, typeOn, namesOn}
 use Rattle.globals.specs.Vars.{laidVarsTo, varItems}
-use Rattle.globals.proofs.Vars.{concat-append}
 use Rattle.items.specs.Items.{itemRows}
 use Rattle.type_keys.specs.Table.{Kinds, Outside}
 use Rattle.type_keys.proofs.Table.{kinds-kept}

@@ -29,7 +29,7 @@ pub each-join : {A : Type 0} (P : A → Type 0) (xs ys : List A) → Each P xs �
 each-join P [] ys a b = b
 each-join P (x ∷ xs) ys a b = (a .0, each-join P xs ys (a .1) b)
 
-each-more : {A : Type 0} (P Q : A → Type 0) → ((x : A) → P x → Q x) → (xs : List A) → Each P xs → Each Q xs
+pub each-more : {A : Type 0} (P Q : A → Type 0) → ((x : A) → P x → Q x) → (xs : List A) → Each P xs → Each Q xs
 each-more P Q f [] h = tt
 each-more P Q f (x ∷ xs) h = (f x (h .0), each-more P Q f xs (h .1))
 

@@ -127,7 +127,7 @@ byte-elements : (vs : List ConstVal) (k : ℕ) → map constByte vs ≡ elements
 byte-elements [] k = refl
 byte-elements (v ∷ vs) k = ap (λ (r : Bytes). constByte v ∷ r) (byte-elements vs (afterString k v))
 
-real-long : (x : Float) → length (realBytes x) ≡ 8
+pub real-long : (x : Float) → length (realBytes x) ≡ 8
 unfolding toBits bigEndian
 real-long x = refl
 

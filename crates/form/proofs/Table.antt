@@ -54,12 +54,6 @@ module _ (f : ℕ) (h : f < 42) where
       rw e (row-bytes (suc i) (omega arith)
       ∙ List·getD-append (fill 17 (rowAt f .words)) _ 0 i (omega (arith, fill-length 17 (rowAt f .words))) ∙ fill-at 17 (rowAt f .words) i k)
 
-  behind-words : (n : ℕ) → getD (fill 17 (rowAt f .words) ++ (Form.letter (rowAt f .kind) ∷ fill 5 (codes (rowAt f .parts)))) (17 + n) 0 ≡ getD (Form.letter (rowAt f .kind) ∷ fill 5 (codes (rowAt f .parts))) n 0
-  behind-words n =
-      let e : 17 + n ≡ length (fill 17 (rowAt f .words)) + n = omega (arith, fill-length 17 (rowAt f .words)) in
-      ap (λ (j : ℕ). getD (fill 17 (rowAt f .words) ++ (Form.letter (rowAt f .kind) ∷ fill 5 (codes (rowAt f .parts)))) j 0) e
-      ∙ getD-append-add (fill 17 (rowAt f .words)) (Form.letter (rowAt f .kind) ∷ fill 5 (codes (rowAt f .parts))) n 0
-
 -- a byte for each row
 unfoldable pub column : (Form.Row → ℕ) → List Form.Row → Text.Bytes
 column g [] = []

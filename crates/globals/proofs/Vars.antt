@@ -12,6 +12,7 @@ use Rattle.semantics.specs.Form.{letter}
 use Rattle.semantics.specs.Sheet.{Located, Source, concatMap, sheetSource}
 use Rattle.semantics.specs.Fold.{Names}
 use Rattle.semantics.specs.Global.{Item, Global, Declared, Globals, initItems, laidVars, laidNames, declaredBy, declaredIn, placeOf, pendOf, newOffset, declareAt, globalsFrom, noGlobals, globals}
+use Rattle.laws.proofs.Lists.{concat-append, filter-append}
 use Rattle.laws.proofs.Tests.{same-refl}
 use Rattle.lines.specs.Lines.{readAt, nodesIn}
 use Rattle.checks.specs.Checks.{Checked}
@@ -78,10 +79,6 @@ pends-from (d ∷ ds) g =
 
 -- ---- by lines
 
-pub concat-append : {A B : Type 0} (f : A → List B) (xs ys : List A) → concatMap f (xs ++ ys) ≡ concatMap f xs ++ concatMap f ys
-concat-append f [] ys = refl
-concat-append f (x ∷ xs) ys = rw (concat-append f xs ys) (sym (append-assoc (f x) (concatMap f xs) (concatMap f ys)))
-
 concat-map : {A B C : Type 0} (f : B → List C) (g : A → B) (xs : List A) → concatMap f (map g xs) ≡ concatMap (λ (x : A). f (g x)) xs
 concat-map f g [] = refl
 concat-map f g (x ∷ xs) = rw (concat-map f g xs)
@@ -111,14 +108,6 @@ module _ (ns : Names) (s : Source) where
       (λ v. concat-map f (λ (x : Bytes). record { name = x; ty = v .it .ty; first = firstOf ns (v .it) }) (laidNames (v .it .names))) (laidVars s)
 
 -- ---- the lines that count, line by line
-
-filter-append : {A : Type 0} (p : A → Bool) (xs ys : List A) → filter p (xs ++ ys) ≡ filter p xs ++ filter p ys
-filter-append p [] ys = refl
-filter-append p (x ∷ xs) ys = go (p x) (filter-append p xs ys)
-  where
-    go : (b : Bool) → filter p (xs ++ ys) ≡ filter p xs ++ filter p ys → cond b (x ∷ filter p (xs ++ ys)) (filter p (xs ++ ys)) ≡ cond b (x ∷ filter p xs) (filter p xs) ++ filter p ys
-    go true ih = rw ih
-    go false ih = ih
 
 module _ (s t : Bytes) (n : ℕ) (c : Checked s t n) where
   lines-to : (i : ℕ) → i ≤ n → filter (λ (v : Located VarDecl). counts (sheetSource s .implement) (v .within)) (locatedTo (λ (d : Declares). d .vars) (nodesIn s) i) ≡ laidVarsTo s i

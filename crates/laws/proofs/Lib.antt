@@ -1,3 +1,4 @@
 pub mod Tests
 pub mod Maps
 pub mod Alignments
+pub mod Lists

@@ -8,10 +8,11 @@ use native.Mathlib.Omega.{arith}
 use lib.ListN.{length, drop, take, getD, drop-of-length-le}
 use lib.Seq.{drop-cons, take-suc, split-at}
 use borrow.Author.Tests.{not-true, not-false}
-use Rattle.semantics.specs.Text.{Bytes, same, any}
+use Rattle.semantics.specs.Text.{Bytes, same}
 use Rattle.semantics.specs.Sheet.{concatMap}
 use Rattle.semantics.specs.Layout.{Recorded, lastOf, seen, recordsByKey, records}
 use Rattle.semantics.specs.Listing.{recordRows}
+use Rattle.laws.proofs.Lists.{any-append}
 use Rattle.write.specs.Wrote.{Wrote}
 use Rattle.write.proofs.Wrote.{wrote-none, wrote-as, then}
 use Rattle.checks.specs.Checks.{Kept}
@@ -49,14 +50,6 @@ module _ (s t : Bytes) (n m i : ℕ) (l : LogEntry s t n m i) where
       rw z
 
 -- ---- all entries
-
-any-append : {A : Type 0} (p : A → Bool) (xs ys : List A) → any p (xs ++ ys) ≡ any p xs || any p ys
-any-append p [] ys = refl
-any-append p (x ∷ xs) ys = rw (any-append p xs ys) (or-assoc (p x) (any p xs) (any p ys))
-  where
-    or-assoc : (a b c : Bool) → a || (b || c) ≡ a || b || c
-    or-assoc true b c = refl
-    or-assoc false b c = refl
 
 or-turn : (a b : Bool) → a || b ≡ b || (a || false)
 or-turn true true = refl

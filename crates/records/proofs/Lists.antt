@@ -13,16 +13,13 @@ use Rattle.semantics.specs.Tree.{AdtDecl, Case, noCase, Fd, Shape}
 use Rattle.semantics.specs.Form.{letter}
 use Rattle.semantics.specs.Refusal.{sumOf, recordCount}
 use Rattle.semantics.specs.Layout.{Placed, variantsOf, casesFrom, recordsFor, recordsOf, recordLog, variantShape, variantFields}
+use Rattle.laws.proofs.Lists.{map-append}
 use Rattle.lines.specs.Lines.{readAt}
 use Rattle.shapes.specs.Shapes as Shapes
 use Rattle.shapes.specs.Shapes.{firstDecl}
 use Rattle.records.specs.Log.{declAt, firstRecord, ownRecord, casesIn, caseIn, variantRecord, Entry, recordOf, tagEntries, caseEntries, declEntries, lineEntries, Sound}
 
 -- ---- lists
-
-pub map-append : {A B : Type 0} (g : A → B) (l m : List A) → map g (l ++ m) ≡ map g l ++ map g m
-map-append g [] m = refl
-map-append g (x ∷ l) m = rw (map-append g l m)
 
 head-of : {A : Type 0} (d : A) (p : ℕ) (l : List A) (x : A) (xs : List A) → drop p l ≡ x ∷ xs → getD l p d ≡ x
 head-of d p l x xs h = let z : p + 0 ≡ p = omega arith in sym (getD-drop p l 0 d ∙ ap (λ (j : ℕ). getD l j d) z) ∙ ap (λ (m : List _). getD m 0 d) h

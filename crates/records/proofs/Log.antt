@@ -13,8 +13,9 @@ use Rattle.semantics.specs.Tree.{AdtDecl, Case, Declares, noCase}
 use Rattle.semantics.specs.Form.{forms, letter}
 use Rattle.semantics.specs.Sheet.{Source, concatMap}
 use Rattle.semantics.specs.Layout.{Recorded, recordsOf, recordedAdts, recordLog}
+use Rattle.laws.proofs.Lists.{map-append}
 use Rattle.write.specs.Wrote.{Wrote}
-use Rattle.write.proofs.Wrote.{wrote-length, wrote-none, then, wrote-as}
+use Rattle.write.proofs.Wrote.{wrote-none, then, wrote-as}
 use Rattle.form.specs.Table.{kindAt}
 use Rattle.lines.specs.Lines.{readAt, nodesIn, formAt}
 use Rattle.lines.proofs.Line.{kind-is}
@@ -26,14 +27,11 @@ use Rattle.source.proofs.Walk.{located-all, located-its, declared-all, source-o
 use Rattle.records.specs.Log.{declAt, casesIn, caseIn, Entry, recordOf, entryBytes, tagEntries, caseEntries, lineEntries, entryAt, recordedAt, entriesOf, entriesTo, logBytes, logOf, noRecord, Sound, CollectedTo}
 use Rattle.records.specs.Lines.{caseOf}
 use Rattle.shapes.specs.Shapes.{firstDecl, PickLine, CaseOf}
-use Rattle.records.proofs.Lists.{map-append, default-same, line-log, log-length, AllOf, none-of, all-append, all-at, line-sound}
+use Rattle.records.proofs.Lists.{default-same, line-log, log-length, AllOf, none-of, all-append, all-at, line-sound}
 use Rattle.records.proofs.Table.{wrote-kept, wrote-above, log-append, log-bytes, entry-back}
 use Rattle.records.proofs.Picks.{adt-decl, pick-decl, no-decl, case-is}
 
 -- ---- a place stays within one past the end
-
-pub place-low : {d : Bytes} {a : ℕ} {t e : Bytes} {b : ℕ} → Wrote d a t e b → b ≤ length e + 1
-place-low w = omega (arith, w .place, wrote-length w)
 
 pub place-on : {d : Bytes} {a : ℕ} {t e : Bytes} {b : ℕ} → Wrote d a t e b → (k : ℕ) → k ≤ a → a ≤ length d + 1 → k ≤ b
 place-on w k h l = omega (arith, w .place)

@@ -14,7 +14,7 @@ use Rattle.semantics.specs.Global.{Declared, declaredIn}
 use Rattle.lines.specs.Lines.{nodesIn}
 use Rattle.checks.specs.Checks.{Checked}
 use Rattle.stored.proofs.Rows.{Plain}
-use Rattle.demand.proofs.Lines.{Each, each-join}
+use Rattle.demand.proofs.Lines.{Each, each-join, each-more}
 use Rattle.stored.proofs.Names.{PlainAdt, PlainWithin, PlainConst, PlainSource}
 use Rattle.stored.proofs.Ranges.{SoundFirst}
 use Rattle.sound.proofs.Limits.{LimitedInit, LimitedDecl, LimitedVar, LimitedNode}
@@ -60,10 +60,6 @@ module _ {A : Type 0} (f : Declares → List A) where
         each-join LocatedAs (map (at k o) (f (n .declares))) (locatedFrom f (suc k) (openAfter k (n .declares) o) ns) (each-located k o (f (n .declares)) w (g n (h .0)))
         (all-located g (suc k) (openAfter k (n .declares) o) ns (after-plain k (n .declares) o (h .0 .opens) w) (h .1))
 
-each-as : {A : Type 0} (P Q : A → Type 0) → ((x : A) → P x → Q x) → (xs : List A) → Each P xs → Each Q xs
-each-as P Q f [] h = tt
-each-as P Q f (x ∷ xs) h = (f x (h .0), each-as P Q f xs (h .1))
-
 -- ---- the facts
 
 module _ (s t : Bytes) (n : ℕ) (c : Checked s t n) where
@@ -85,9 +81,9 @@ module _ (s t : Bytes) (n : ℕ) (c : Checked s t n) where
   -- names hold no separators
   pub plain-source : PlainSource (sheetSource s)
   plain-source = record {
-    adts = each-as _ (λ (a : Located AdtDecl). PlainAdt (a .it)) (λ a h. h .0) (sheetSource s .adts) adts-plain;
-    consts = each-as _ PlainConst (λ a h. (h .0 .0, h .1)) (sheetSource s .consts) consts-limited;
-    vars = each-as _ (λ (v : Located VarDecl). Plain (v .it .names)) (λ v h. h .0 .0) (sheetSource s .vars) vars-limited;
+    adts = each-more _ (λ (a : Located AdtDecl). PlainAdt (a .it)) (λ a h. h .0) (sheetSource s .adts) adts-plain;
+    consts = each-more _ PlainConst (λ a h. (h .0 .0, h .1)) (sheetSource s .consts) consts-limited;
+    vars = each-more _ (λ (v : Located VarDecl). Plain (v .it .names)) (λ v h. h .0 .0) (sheetSource s .vars) vars-limited;
   }
 
   pub few-frames : length (sheetSource s .frames) ≤ 128
@@ -106,5 +102,5 @@ module _ (s t : Bytes) (n : ℕ) (c : Checked s t n) where
   pub sound-firsts : Each (λ (d : Declared). SoundFirst (d .first)) (declaredIn (namesOf (sheetSource s)) (sheetSource s))
   sound-firsts =
       firsts-sound (namesOf (sheetSource s))
-      (constants-limited (sheetSource s) few-constants (each-as _ LimitedValue (λ a h. h .0 .1) (sheetSource s .consts) consts-limited)) (sheetSource s)
-      (each-as _ (λ (v : Located VarDecl). LimitedInit (v .it .init)) (λ v h. h .0 .1) (sheetSource s .vars) vars-limited)
+      (constants-limited (sheetSource s) few-constants (each-more _ LimitedValue (λ a h. h .0 .1) (sheetSource s .consts) consts-limited)) (sheetSource s)
+      (each-more _ (λ (v : Located VarDecl). LimitedInit (v .it .init)) (λ v h. h .0 .1) (sheetSource s .vars) vars-limited)

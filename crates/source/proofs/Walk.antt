@@ -1,22 +1,15 @@
 -- The declarations of all lines are those of the first lines, up to the last.
 use mathlib.Core.Path.{_≡_, refl, sym, ap, _∙_}
-use mathlib.Core.List.{List, [], _∷_, _++_, map, append-assoc}
+use mathlib.Core.List.{List, [], _∷_, _++_, map, append-assoc, append-nil}
 use Prim.Native.Nat.{ℕ, zero, suc, _+_, _<_}
 use native.Mathlib.Omega.{arith}
 use lib.ListN.{length, drop, drop-of-length-le}
 use lib.Seq.{drop-cons}
 use Rattle.semantics.specs.Tree.{Declares, Node, noNode}
 use Rattle.semantics.specs.Sheet.{Located, locatedFrom, located, declared, sourceOf, sheetSource}
+use Rattle.laws.proofs.Lists.{map-append}
 use Rattle.lines.specs.Lines.{nodesIn}
 use Rattle.source.specs.Walk.{declaresAt, openAt, declaredTo, locatedTo}
-
-append-nil : {A : Type 0} (l : List A) → l ++ [] ≡ l
-append-nil [] = refl
-append-nil (x ∷ l) = rw (append-nil l)
-
-map-append : {A B : Type 0} (g : A → B) (l m : List A) → map g (l ++ m) ≡ map g l ++ map g m
-map-append g [] m = refl
-map-append g (x ∷ l) m = rw (map-append g l m)
 
 map-same : {A B C : Type 0} (g : B → C) (h : A → B) (k : A → C) (l : List A) → ((x : A) → g (h x) ≡ k x) → map g (map h l) ≡ map k l
 map-same g h k [] e = refl

@@ -16,13 +16,14 @@ use Rattle.semantics.specs.Global.Item.{valuesItem, strItem, arrayItem, setItem
 use Rattle.semantics.specs.Image.{handle, partAt, endAfter, areaAfter, Replay, replay, memoryOf, startOf, lay, moved, withPart as withReplayPart}
 use Rattle.semantics.specs.Demand.{liesIn}
 use Rattle.semantics.specs.Refusal.{Buffers, Imaged, laid, notLaid, zeros, padded, imageBytes, areaBytes, replayed}
+use Rattle.write.proofs.Wrote.{length-over}
 use Rattle.laws.proofs.Tests.{never}
 use Rattle.demand.proofs.Bytes.{getD-zeros}
 use Rattle.write.specs.Wrote.{over}
 use Rattle.stored.specs.Stored.{Stored, bytesAt, stringAt, arrayAt, setAt, goBack, storedOf, replayOne, replayStored}
 use Rattle.stored.specs.Laying.{Laying, layImage, layPart, layBytes, newPart, layArray, moveTo, layAll, InPlace, beginning}
 use Rattle.stored.proofs.Items.{replay-stored}
-use Rattle.stored.proofs.Written.{laidByte, written-long, written-at, over-long, over-at, part-at}
+use Rattle.stored.proofs.Written.{laidByte, written-long, written-at, over-at, part-at}
 
 -- where the area ends
 abbrev areaEnd : ℕ → List Stored → ℕ
@@ -164,7 +165,7 @@ module _ (o : ℕ) (ys : Bytes) (xs : List Stored) (r : Replay) (m : Laying) (p 
 
       same₁ : o + length ys ≤ length (m .image) → Same r₁ m₁ p n
       same₁ h =
-          let a = over-long (m .image) o ys in
+          let a = length-over (m .image) o ys in
           let b = s .fits in
           let l = written-long (r .image) o ys in
           let k = s .long in
@@ -187,7 +188,7 @@ module _ (o : ℕ) (ys : Bytes) (xs : List Stored) (r : Replay) (m : Laying) (p 
           let l = written-long (r .image) o ys in
           image-short xs r₁ (areaEnd (r .end) xs) (length (m .image)) (length (m .area)) (omega arith)
       go false e =
-          subst (λ (i : ℕ). Ending (replayStored xs r₁) (areaEnd (r .end) xs) i (length (m .area)) (layAll xs (some m₁))) (over-long (m .image) o ys)
+          subst (λ (i : ℕ). Ending (replayStored xs r₁) (areaEnd (r .end) xs) i (length (m .area)) (layAll xs (some m₁))) (length-over (m .image) o ys)
           (next r₁ m₁ p n (same₁ (ltb-false (length (m .image)) (o + length ys) e)) room place)
 
   in-part : m .inside ≡ true → o + length ys ≤ n → Ending (replayStored xs (lay o ys (r .inside) r)) (areaEnd (r .end) xs) (length (m .image)) (length (m .area)) (layAll xs (layPart o ys m))
@@ -215,7 +216,7 @@ module _ (o : ℕ) (ys : Bytes) (xs : List Stored) (r : Replay) (m : Laying) (p 
       m₁ = record { item = suc (m .item); image = m .image; area = area₁; start = m .start; end = m .end; inside = m .inside; long = m .long }
 
       area-long : length area₁ ≡ length (m .area)
-      area-long = same-len-mid (m .start) bytesIn (m .area) (over (midOf (m .start) bytesIn (m .area)) o ys) (over-long (midOf (m .start) bytesIn (m .area)) o ys)
+      area-long = same-len-mid (m .start) bytesIn (m .area) (over (midOf (m .start) bytesIn (m .area)) o ys) (length-over (midOf (m .start) bytesIn (m .area)) o ys)
 
       room₁ : length (r₁ .area) ≡ areaEnd (r .end) xs
       room₁ =

@@ -8,7 +8,6 @@ use mathlib.Core.List.{List, [], _∷_, _++_, map, append-assoc, append-nil}
 use mathlib.Core.Option.{Option, none, some}
 use lib.ListN.{length, length-append, length-map}
 use lib.IntN.{ℤ}
-use lib.Ieee.{Float, toBits}
 use Rattle.semantics.specs.Text.{Bytes, bigEndian}
 use Rattle.semantics.specs.Tree.{Ty, ConstVal, ElemKind}
 use Rattle.semantics.specs.Tree.ConstVal.{vInt, vReal, vStr}
@@ -22,7 +21,7 @@ use Rattle.semantics.specs.Global.Init.{noInit, constInit, arrayInit, pendingIn
 use Rattle.semantics.specs.Image.{wordBytes, bigBytes, realBytes, elemSize}
 use Rattle.laws.proofs.Tests.{never}
 use Rattle.demand.proofs.Elements.{Sized}
-use Rattle.demand.proofs.Replay.{AllSized}
+use Rattle.demand.proofs.Replay.{AllSized, real-long}
 use Rattle.demand.proofs.Theorem.{vars-sized}
 use Rattle.stored.specs.Stored.{storedOf}
 use Rattle.stored.specs.Laying.{InPlace}
@@ -54,10 +53,6 @@ word-long z = refl
 big-long : (z : ℤ) → length (bigBytes z) ≡ 8
 unfolding bigEndian
 big-long z = refl
-
-real-long : (x : Float) → length (realBytes x) ≡ 8
-unfolding toBits bigEndian
-real-long x = refl
 
 module _ (js : List Item) (out : Outside js) (p n : ℕ) where
   strings-in : (o : ℕ) (vs : List ConstVal) → o + 4 * length vs ≤ n → InPlace p n true (map storedOf (strItems o vs ++ (backItem ∷ js)))

@@ -5,13 +5,14 @@ use mathlib.Core.Path.{_≡_, refl, sym, ap, _∙_}
 use mathlib.Core.Bool.{Bool, true, false, cond}
 use mathlib.Core.List.{_++_, append-assoc}
 use lib.ListN.{length, take, drop, getD, replicate, length-append, length-drop, length-replicate}
-use lib.Seq.{length-take-le, getD-take, getD-drop, sets-eq, length-sets, drop-drop}
+use lib.Seq.{length-take-le, getD-take, getD-drop, sets-eq, drop-drop}
 use lib.Dec.{leb, ltb}
 use borrow.Author.Tests.{leb-true, leb-false, ltb-true, ltb-false, le-leb, lt-leb, lt-ltb, le-ltb}
 use borrow.Rule.Slice.PartMut.{midOf, putMid}
 use Rattle.semantics.specs.Text.{Bytes}
 use Rattle.semantics.specs.Image.{written}
 use Rattle.semantics.specs.Demand.{liesIn}
+use Rattle.write.proofs.Wrote.{length-over}
 use Rattle.write.specs.Wrote.{over}
 use Rattle.demand.proofs.Bytes.{getD-first, getD-second, getD-zeros, written-is}
 
@@ -77,10 +78,6 @@ module _ (xs : Bytes) (p : ℕ) (ys : Bytes) where
 
 -- ---- what is stored over a buffer, where it fits
 
-pub over-long : (d : Bytes) (a : ℕ) (t : Bytes) → length (over d a t) ≡ length d
-unfolding over
-over-long d a t = length-sets d a t
-
 pub over-at : (d : Bytes) (a : ℕ) (t : Bytes) → a + length t ≤ length d → (j : ℕ) → getD (over d a t) j 0 ≡ laidByte a t d j
 unfolding over
 over-at d a t h j =
@@ -102,7 +99,7 @@ part-at d s n o t fits room j =
     let mid = midOf s n d in
     let ys = over mid o t in
     let l : length mid ≡ n = length-take-le n (drop s d) (omega (arith, length-drop s d)) in
-    let m : length ys ≡ n = over-long mid o t ∙ l in
+    let m : length ys ≡ n = length-over mid o t ∙ l in
     mid-at d s n ys fits m j
     ∙ by-place s ys d j (laidByte s ys d j ≡ laidByte (s + o) t d j)
     (λ h. laid-below s ys d j h ∙ sym (laid-below (s + o) t d j (omega arith)))

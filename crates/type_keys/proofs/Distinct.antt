@@ -1,7 +1,7 @@
 -- Distinct keys: one more key, and positions that stay.
 use mathlib.Core.Path.{_≡_, refl, sym, ap, _∙_}
 use mathlib.Core.Bool.{Bool, true, false, cond, _||_}
-use mathlib.Core.List.{List, [], _∷_, _++_, append-assoc}
+use mathlib.Core.List.{List, [], _∷_, _++_, append-assoc, append-nil}
 use Prim.Native.Nat.{ℕ, zero, suc, _≤_, _<_}
 use native.Mathlib.Omega.{arith}
 use lib.Dec.{leb, eqb}
@@ -134,10 +134,6 @@ module _ (k : TypeKey) where
 
   pub distinct-more : (l : List TypeKey) → distinct [] (l ++ (k ∷ [])) ≡ distinct [] l ++ newKey k (distinct [] l)
   distinct-more l = more-from [] l
-
-append-nil : (l : List TypeKey) → l ++ [] ≡ l
-append-nil [] = refl
-append-nil (x ∷ l) = rw (append-nil l)
 
 module _ (k : TypeKey) (l : List TypeKey) where
   -- its position is the next where it is new, and its own before else

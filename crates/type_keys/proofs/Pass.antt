@@ -1,7 +1,7 @@
 -- The pass over the lines that numbers what they need.
 use mathlib.Core.Path.{_≡_, refl, sym, ap, _∙_}
 use mathlib.Core.Bool.{Bool, true, false, cond}
-use mathlib.Core.List.{List, [], _∷_, _++_}
+use mathlib.Core.List.{List, [], _∷_, _++_, append-nil}
 use Prim.Native.Nat.{ℕ, zero, suc, _+_, _-_, _≤_, _<_}
 use native.Mathlib.Omega.{arith}
 use native.Mathlib.Numerals.{add-one}
@@ -61,17 +61,10 @@ module _ (s t : List ℕ) (n : ℕ) (c : Checked s t n) where
     pub needs-stay : (letter (readAt s i .form .kind) ≡ 78 → ⊥) → needsTo s (i + 1) ≡ needsTo s i
     unfolding declaredTo
     needs-stay e = rw (add-one i, needs-line s t n c i h, ne-eqb (letter (readAt s i .form .kind)) 78 e) (append-nil (needsTo s i))
-      where
-        append-nil : (l : List TypeKey) → l ++ [] ≡ l
-        append-nil [] = refl
-        append-nil (x ∷ l) = rw (append-nil l)
 
 -- ---- the position of a need's key
 
 module _ (s t : List ℕ) (n i needs keys : ℕ) (x : NeedNext s t n i needs keys) where
-  ks : List TypeKey
-  ks = needsTo s i
-
   pub known-line : (q : ℕ) → q < needs → NeedLine s t n (lineOf t q)
   known-line q h = let z : q < length (needsTo s i) = omega (arith, x .numbering .count) in record { checked = x .numbering .checked; within = x .numbering .table .within q z; kind = x .numbering .table .kind q z }
 

@@ -10,11 +10,11 @@ use Rattle.semantics.specs.Sheet.{sheetSource, concatMap}
 use Rattle.semantics.specs.Global.{Item}
 use Rattle.semantics.specs.Types.{distinct, arrayKey, keys, keyShape, opaqueShape, descriptors}
 use Rattle.semantics.specs.Listing.{typeRows}
+use Rattle.laws.proofs.Lists.{map-append}
 use Rattle.write.specs.Wrote.{Wrote}
 use Rattle.write.proofs.Wrote.{wrote-as}
 use Rattle.checks.specs.Checks.{Checked}
 use Rattle.records.specs.Log.{logOf}
-use Rattle.records.proofs.Lists.{map-append}
 use Rattle.type_keys.proofs.Distinct.{newKey, distinct-more}
 use Rattle.type_keys.proofs.Numbers.{frames-all, frames-few}
 use Rattle.type_rows.specs.declared.Next.{Next}

@@ -1,6 +1,6 @@
 -- Rows of types one behind the other, and one row field by field.
-use mathlib.Core.Path.{_≡_, refl, sym, _∙_}
-use mathlib.Core.List.{List, [], _∷_, _++_, append-assoc}
+use mathlib.Core.Path.{_≡_, sym, _∙_}
+use mathlib.Core.List.{List, [], _∷_, _++_, append-assoc, append-nil}
 use Prim.Native.Nat.{ℕ, suc, _+_, _≤_}
 use native.Mathlib.Omega.{arith}
 use lib.IntN.{ℤ}
@@ -13,10 +13,6 @@ use Rattle.write.specs.Wrote.{Wrote}
 use Rattle.write.proofs.Wrote.{wrote-as, then}
 use Rattle.shapes.specs.Maps.{mapLength, mapIn, MapRoom}
 use Rattle.shapes.proofs.Maps.{map-fits, bytes-count}
-
-append-nil : (l : Bytes) → l ++ [] ≡ l
-append-nil [] = refl
-append-nil (x ∷ l) = rw (append-nil l)
 
 pub rows-append : (id : ℕ) (xs ys : List Shape) → typeRows id (xs ++ ys) ≡ typeRows id xs ++ typeRows (id + length xs) ys
 unfolding typeRows

@@ -13,16 +13,16 @@ use Rattle.semantics.specs.Tree.TypeKey.{opaqueKey}
 use Rattle.semantics.specs.Sheet.{sheetSource}
 use Rattle.semantics.specs.Types.{sameTypeKey, distinct, position, keyShape}
 use Rattle.semantics.specs.Listing.{typeRows}
+use Rattle.laws.proofs.Lists.{map-append}
 use Rattle.write.specs.Wrote.{Wrote}
 use Rattle.write.proofs.Wrote.{wrote-length, wrote-none}
 use Rattle.checks.specs.Checks.{Kept}
 use Rattle.checks.proofs.Kept.{kept-all, kept-then, kept-less, kept-at}
 use Rattle.records.specs.Log.{logOf}
-use Rattle.records.proofs.Lists.{map-append}
 use Rattle.records.proofs.Kept.{logged-kept}
 use Rattle.type_keys.specs.Keys.{needAt, NeedLine}
 use Rattle.type_keys.specs.Table.{lineOf, placeOf}
-use Rattle.type_keys.proofs.Distinct.{newKey, position-none, position-low, position-more, distinct-more, distinct-few, key-member, known-more}
+use Rattle.type_keys.proofs.Distinct.{newKey, position-none, position-low, position-more, distinct-more, key-member, known-more}
 use Rattle.type_rows.specs.declared.Next.{Next}
 use Rattle.type_rows.specs.Rows.{Rowed, Wrotes, keysTo, shapesOf, Ready}
 use Rattle.type_rows.proofs.Rows.{rows-then}
@@ -69,9 +69,6 @@ ready-kept {s} {t} {u} {n} {m} k x =
     }
 
 module _ (s t : List ℕ) (n m needs : ℕ) (x : Ready s t n m needs) (q : ℕ) (h : q < needs) where
-  ks : List TypeKey
-  ks = sheetSource s .needs
-
   k : TypeKey
   k = getD (sheetSource s .needs) q opaqueKey
 
@@ -115,9 +112,6 @@ module _ (s t : List ℕ) (n m needs : ℕ) (x : Ready s t n m needs) (q : ℕ) 
         go : (b : Bool) → any (sameTypeKey (getD (sheetSource s .needs) q opaqueKey)) (keysTo s q) ≡ b → keysTo s q ++ cond b [] (getD (sheetSource s .needs) q opaqueKey ∷ []) ≡ keysTo s q ++ (getD (sheetSource s .needs) q opaqueKey ∷ [])
         go true e = absurd (omega (arith, place-is, hid, position-low (getD (sheetSource s .needs) q opaqueKey) (keysTo s q) e))
         go false e = refl
-
-  pub keys-low : length (keysTo s q) ≤ 128
-  keys-low = omega (arith, distinct-few [] (take q (sheetSource s .needs)), length-take-le q (sheetSource s .needs) (omega (arith, low)), low, x .table .few)
 
 -- one more key's row
 pub keys-then : (s : List ℕ) (l : List TypeKey) (y : TypeKey) {p q r : Next} {t u v d e f : List ℕ} → Wrotes (shapesOf s l) p q t u d e → Wrotes (keyShape (logOf s) y ∷ []) q r u v e f → Wrotes (shapesOf s (l ++ (y ∷ []))) p r t v d f

@@ -1,6 +1,6 @@
 -- Items line by line, and the rows that they make.
 use mathlib.Core.Path.{_≡_, refl, sym, ap, _∙_, subst}
-use mathlib.Core.List.{List, _++_}
+use mathlib.Core.List.{List}
 use mathlib.Core.Logic.{⊎-elim}
 use mathlib.Core.Option.{Option, none, some}
 use Prim.Native.Nat.{ℕ, zero, suc, _≤_, _<_}
@@ -15,7 +15,7 @@ use Rattle.semantics.specs.Global.{Item, Global, varsRefused, globals}
 use Rattle.semantics.specs.Refusal.{orRefused}
 use Rattle.checks.specs.Checks.{Checked}
 use Rattle.globals.specs.Vars.{laidVarsTo, varItems}
-use Rattle.globals.proofs.Vars.{concat-append, items-by, laid-lines}
+use Rattle.globals.proofs.Vars.{items-by, laid-lines}
 use Rattle.vars.specs.Pends.{laidAt}
 use Rattle.vars.proofs.Walk.{refused-append}
 
@@ -27,13 +27,6 @@ module _ (ns : Names) (s : Bytes) where
   -- those of all lines are the sheet's
   pub items-all : {t : Bytes} {n : ℕ} → Checked s t n → itemsOf ns (globals ns (sheetSource s) .places) (laidVarsTo s n) ≡ globals ns (sheetSource s) .items
   items-all {t} {n} c = sym (items-by ns (sheetSource s) ∙ ap (itemsOf ns (globals ns (sheetSource s) .places)) (laid-lines s t n c))
-
-  -- the rows of one more line
-  pub item-rows-next : (ps : List Global) (row : Item → Bytes) (i : ℕ) → concatMap row (itemsOf ns ps (laidVarsTo s (suc i))) ≡ concatMap row (itemsOf ns ps (laidVarsTo s i)) ++ concatMap row (itemsOf ns ps (laidAt s i))
-  unfolding laidVarsTo
-  item-rows-next ps row i =
-      ap (concatMap row) (concat-append (λ (v : Located VarDecl). varItems ns ps (v .it)) (laidVarsTo s i) (laidAt s i))
-      ∙ concat-append row (itemsOf ns ps (laidVarsTo s i)) (itemsOf ns ps (laidAt s i))
 
 -- ---- no line is refused where the sheet is not
 

@@ -20,6 +20,7 @@ use Rattle.semantics.specs.Const.{Refusal}
 use Rattle.semantics.specs.Global.{varValue, refusedBy, varsRefused}
 use Rattle.semantics.specs.Refusal.{orRefused}
 use Rattle.semantics.specs.Listing.{pendRow}
+use Rattle.laws.proofs.Lists.{concat-append}
 use Rattle.write.specs.Wrote.{over, Wrote}
 use Rattle.write.proofs.Wrote.{then, wrote-as}
 use Rattle.lines.specs.Lines.{readAt, nodesIn}
@@ -33,7 +34,7 @@ use Rattle.literals.specs.Literals.{namesIn}
 use Rattle.literals.proofs.Names.{kept-low, log-kept, logged-kept}
 use Rattle.globals.specs.Laying.{counts}
 use Rattle.globals.specs.Vars.{laidVarsTo, varPends}
-use Rattle.globals.proofs.Vars.{concat-append, pends-by, laid-lines}
+use Rattle.globals.proofs.Vars.{pends-by, laid-lines}
 use Rattle.vars.specs.declared.pends.Pends.{Pends}
 use Rattle.vars.specs.declared.pends.Pends.the-variants.{Written, Refused}
 use Rattle.vars.specs.Pends.{locatedAt, laidAt, Ready, LineTask, pendsOf, Pended, AllPended}

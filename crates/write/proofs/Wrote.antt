@@ -15,7 +15,7 @@ use Rattle.write.specs.Wrote.{over, Wrote}
 
 -- ---- bytes stored over others
 
-length-over : (d : Bytes) (a : ℕ) (t : Bytes) → length (over d a t) ≡ length d
+pub length-over : (d : Bytes) (a : ℕ) (t : Bytes) → length (over d a t) ≡ length d
 unfolding over
 length-over d a t = length-sets d a t
 
@@ -100,3 +100,7 @@ on-zeros {n} {t} w =
       λ h. (omega (arith, w .place), w .bytes ∙ sets-eq t (replicate n 0) 0 (omega (arith, w .place)) ∙ rw (zero-add, drop-zeros (length t) n)),
       λ h. omega (arith, w .place),
     )
+
+-- the next place is at most one past the end
+pub place-low : {d : Bytes} {a : ℕ} {t e : Bytes} {b : ℕ} → Wrote d a t e b → b ≤ length e + 1
+place-low w = omega (arith, w .place, wrote-length w)

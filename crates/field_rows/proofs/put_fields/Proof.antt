@@ -1,7 +1,6 @@
-use Rattle.records.proofs.Log.{place-low}
 use Rattle.field_rows.proofs.Fields.{Fielding, fielding-start, fielding-next, fielding-end}
 use Rattle.sizes.proofs.Places.{refs-in, passing-line}
-use Rattle.write.proofs.Wrote.{wrote-length}
+use Rattle.write.proofs.Wrote.{wrote-length, place-low}
 use denote.Ref.{now}
 use Prim.Native.Nat.{_-_}
 use native.Mathlib.Omega.{arith}

@@ -1,10 +1,9 @@
 use native.Mathlib.Omega.{arith}
 use Rattle.record_rows.proofs.Entries.{record-text}
-use Rattle.records.proofs.Log.{place-low}
 use Rattle.records.proofs.Kept.{recorded-kept, logged-kept}
 use Rattle.records.specs.Log.{recordedAt}
 use Rattle.checks.proofs.Kept.{kept-less}
-use Rattle.write.proofs.Wrote.{wrote-as, then}
+use Rattle.write.proofs.Wrote.{wrote-as, then, place-low}
 use denote.Ref.{now}
 use borrow.Author.Needs.{needs}
 use Rattle.record_rows.proofs.put_record.Statement.{statement}

@@ -1,7 +1,6 @@
 use native.Mathlib.Omega.{arith}
 use Rattle.record_rows.proofs.Keys.{Keying, keying-start, keying-next, keying-end, entry-now}
-use Rattle.records.proofs.Log.{place-low}
-use Rattle.write.proofs.Wrote.{wrote-length}
+use Rattle.write.proofs.Wrote.{wrote-length, place-low}
 use denote.Ref.{now}
 use Prim.Native.Nat.{_-_}
 use mathlib.Core.Path.{refl}

@@ -1,7 +1,7 @@
-use Rattle.records.proofs.Log.{entries-start, entries-next, entries-end, checked-wrote, place-low, place-on}
+use Rattle.records.proofs.Log.{entries-start, entries-next, entries-end, checked-wrote, place-on}
 use Rattle.records.specs.Log.{entriesTo, logBytes}
 use Rattle.lines.specs.Lines.{nodesIn}
-use Rattle.write.proofs.Wrote.{wrote-length}
+use Rattle.write.proofs.Wrote.{wrote-length, place-low}
 use Rattle.write.specs.Wrote.{Wrote}
 use denote.Ref.{now}
 use Prim.Native.Nat.{_-_, _≤_}

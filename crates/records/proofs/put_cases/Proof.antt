@@ -1,6 +1,6 @@
 use Rattle.records.proofs.Picks.{cases-count, variant-line}
-use Rattle.records.proofs.Log.{Casing, casing-start, casing-next, casing-end, pick-wrote, place-low}
-use Rattle.write.proofs.Wrote.{wrote-length}
+use Rattle.records.proofs.Log.{Casing, casing-start, casing-next, casing-end, pick-wrote}
+use Rattle.write.proofs.Wrote.{wrote-length, place-low}
 use denote.Ref.{now}
 use Prim.Native.Nat.{_-_}
 use native.Mathlib.Omega.{arith}

@@ -1,5 +1,5 @@
-use Rattle.records.proofs.Log.{adt-entries, pick-entries, no-entries, line-pick, pick-wrote, place-low, place-on}
-use Rattle.write.proofs.Wrote.{wrote-none, then, wrote-as}
+use Rattle.records.proofs.Log.{adt-entries, pick-entries, no-entries, line-pick, pick-wrote, place-on}
+use Rattle.write.proofs.Wrote.{wrote-none, then, wrote-as, place-low}
 use denote.Ref.{now}
 use borrow.Author.Needs.{needs}
 use Rattle.records.proofs.record_adt.Statement.{statement}
