@@ -38,15 +38,5 @@ returns c = refusal-row (refusalNumber (c .before .before .before .before .befor
 
 pub put-refusal-spec : {M : Type 1} → statement M
 put-refusal-spec =
-    tie.close
-    (tie.spec
-    slice-aggregate-put-part
-    put-part-requires
-    number-of-requires
-    cast-put-comma-nat
-    put-comma-nat-requires
-    line-of-requires
-    put-comma-nat-requires-2
-    put-lf-requires
-    same-length
-    returns)
+    tie.close (tie.spec slice-aggregate-put-part put-part-requires number-of-requires cast-put-comma-nat put-comma-nat-requires line-of-requires
+    put-comma-nat-requires-2 put-lf-requires same-length returns)

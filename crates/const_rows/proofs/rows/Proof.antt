@@ -1,7 +1,7 @@
 -- `const_rows::rows` meets its contract.
 use Rattle.const_rows.proofs.Laws as Laws
 use Rattle.const_rows.specs.Rows.{rowsTo}
-use Rattle.write.proofs.Wrote.{wrote-length}
+use Rattle.write.proofs.Wrote.{place-low, wrote-length}
 use Rattle.write.specs.Wrote.{Wrote}
 use borrow.Author.Needs.{needs}
 use denote.Ref.{now}
@@ -20,7 +20,7 @@ loop-holds : tie.Need-loop-holds Inv-loop μ-loop
 loop-holds c = (omega arith, Laws.rows-start (now (c .before .before .before .args .sheet)) (now (c .before .before .before .args .work)) (c .before .before .before .args .m) (c .before .before .before .args .plain) (c .before .before .before .pre .1))
 
 entry-row-requires : tie.Need-entry-row-requires Inv-loop μ-loop
-entry-row-requires c κs = (c .before .before .before .before .before .before .pre .0, c .before .loop-test .taken, Laws.place-low (c .before .before .loop .inv .1))
+entry-row-requires c κs = (c .before .before .before .before .before .before .pre .0, c .before .loop-test .taken, place-low (c .before .before .loop .inv .1))
 
 add-i : tie.Need-add-i Inv-loop μ-loop
 add-i c = search needs

@@ -65,22 +65,5 @@ returns-5 c = let z : c .before .loop .i ≡ 0 = omega arith in stands-all (now 
 
 pub stands-at-spec : {M : Type 1} → statement M
 stands-at-spec =
-    tie.close
-    (tie.spec
-    Inv-loop
-    μ-loop
-    sub-if1
-    returns
-    add-ends-at
-    ends-at-requires
-    returns-2
-    loop-holds
-    sub-i
-    add-x
-    shared-slice-read-x
-    shared-slice-read-if3
-    returns-3
-    returns-4
-    loop-less
-    loop-again
-    returns-5)
+    tie.close (tie.spec Inv-loop μ-loop sub-if1 returns add-ends-at ends-at-requires returns-2 loop-holds sub-i add-x shared-slice-read-x
+    shared-slice-read-if3 returns-3 returns-4 loop-less loop-again returns-5)

@@ -21,5 +21,4 @@ returns-2 : tie.Need-returns-2
 returns-2 c = c .same .ensures ∙ rw (c .before .name-of .ensures)
 
 pub is-named-spec : {M : Type 1} → statement M
-is-named-spec =
-    tie.close (tie.spec digest-of-requires returns name-of-requires same-requires returns-2)
+is-named-spec = tie.close (tie.spec digest-of-requires returns name-of-requires same-requires returns-2)

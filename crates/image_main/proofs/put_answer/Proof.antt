@@ -88,31 +88,6 @@ returns-2 c = image-printed (now (c .before .before .before .before .before .bef
 
 pub put-answer-spec : {M : Type 1} → statement M
 put-answer-spec =
-    tie.close
-    (tie.spec
-    image-requires
-    enum-known-r
-    put-refusal-requires
-    enum-known-i
-    slice-aggregate-put-row
-    sub-put-row
-    part-put-row-start
-    part-put-row-end
-    put-row-requires
-    slice-aggregate-put-row-2
-    sub-put-row-2
-    part-put-row-start-2
-    part-put-row-end-2
-    put-row-requires-2
-    same-length
-    same-length-2
-    same-length-3
-    same-length-4
-    same-length-5
-    returns
-    same-length-6
-    same-length-7
-    same-length-8
-    same-length-9
-    same-length-10
-    returns-2)
+    tie.close (tie.spec image-requires enum-known-r put-refusal-requires enum-known-i slice-aggregate-put-row sub-put-row part-put-row-start
+    part-put-row-end put-row-requires slice-aggregate-put-row-2 sub-put-row-2 part-put-row-start-2 part-put-row-end-2 put-row-requires-2 same-length
+    same-length-2 same-length-3 same-length-4 same-length-5 returns same-length-6 same-length-7 same-length-8 same-length-9 same-length-10 returns-2)

@@ -21,6 +21,4 @@ returns : tie.Need-returns
 returns c = row-put (now (c .before .before .before .before .before .before .before .before .before .before .before .before .before .before .before .args .name)) (now (c .before .before .before .before .before .before .before .before .before .before .before .before .before .before .before .args .bytes)) (c .before .before .before .before .before .before .before .before .before .before .put-part .ensures) (c .before .before .before .before .before .before .put-comma-hex .ensures) (c .before .before .put-lf .ensures)
 
 pub put-row-spec : {M : Type 1} → statement M
-put-row-spec =
-    tie.close
-    (tie.spec put-part-requires put-comma-hex-requires put-lf-requires same-length returns)
+put-row-spec = tie.close (tie.spec put-part-requires put-comma-hex-requires put-lf-requires same-length returns)

@@ -46,5 +46,4 @@ returns-3 c =
     ∙ rw (c .before .field-at .ensures) (sym (implements-by (now (a .sheet)) (now (a .work)) (a .n) (c .before .before .before .before .before .before .before .before .pre .0) (a .k) (omega arith) (c .before .before .before .before .before .before .before .before .pre .1) _ _ (c .before .before .before .before .form-at .ensures) (c .before .before .before .kind .ensures) (c .before .before .if2 .left)))
 
 pub implements-spec : {M : Type 1} → statement M
-implements-spec =
-    tie.close (tie.spec returns form-at-requires kind-requires returns-2 field-at-requires sub-first-is first-is-requires returns-3)
+implements-spec = tie.close (tie.spec returns form-at-requires kind-requires returns-2 field-at-requires sub-first-is first-is-requires returns-3)

@@ -38,15 +38,5 @@ returns-2 c = refusal-printed (now (c .before .before .before .before .before .b
 
 pub put-answer-spec : {M : Type 1} → statement M
 put-answer-spec =
-    tie.close
-    (tie.spec
-    compile-requires
-    enum-known-n
-    enum-known-r
-    put-refusal-requires
-    same-length
-    same-length-2
-    returns
-    same-length-3
-    same-length-4
+    tie.close (tie.spec compile-requires enum-known-n enum-known-r put-refusal-requires same-length same-length-2 returns same-length-3 same-length-4
     returns-2)

@@ -16,5 +16,4 @@ returns : tie.Need-returns
 returns c = collected-then (c .before .before .before .before .before .before .log-adts .ensures) (c .before .before .enter-digests .ensures)
 
 pub collect-adts-spec : {M : Type 1} → statement M
-collect-adts-spec =
-    tie.close (tie.spec log-adts-requires enter-digests-requires same-length returns)
+collect-adts-spec = tie.close (tie.spec log-adts-requires enter-digests-requires same-length returns)

@@ -37,15 +37,4 @@ returns c = digests-end (c .before .loop .inv .1) (c .before .loop .inv .0) (c .
 
 pub enter-digests-spec : {M : Type 1} → statement M
 enter-digests-spec =
-    tie.close
-    (tie.spec
-    Inv-loop
-    μ-loop
-    loop-holds
-    digest-for-requires
-    enter-digest-requires
-    add-i
-    loop-less
-    loop-again
-    same-length
-    returns)
+    tie.close (tie.spec Inv-loop μ-loop loop-holds digest-for-requires enter-digest-requires add-i loop-less loop-again same-length returns)

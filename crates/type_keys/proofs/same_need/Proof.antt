@@ -35,5 +35,5 @@ returns-4 c = others-are (now (c .before .before .before .before .before .before
 
 pub same-need-spec : {M : Type 1} → statement M
 same-need-spec =
-    tie.close (tie.spec form-at-requires form-at-requires-2 returns field-at-requires first-is-requires returns-2 same-shape-requires
-    returns-3 returns-4)
+    tie.close (tie.spec form-at-requires form-at-requires-2 returns field-at-requires first-is-requires returns-2 same-shape-requires returns-3
+    returns-4)

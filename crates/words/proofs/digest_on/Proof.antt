@@ -43,17 +43,4 @@ returns : tie.Need-returns Inv-loop μ-loop
 returns c = (digest-end (now (c .before .before .before .args .s)) (c .before .loop .i) (c .before .loop .h) (omega arith) (c .before .loop .inv .2), c .before .loop .inv .1)
 
 pub digest-on-spec : {M : Type 1} → statement M
-digest-on-spec =
-    tie.close
-    (tie.spec
-    Inv-loop
-    μ-loop
-    loop-holds
-    mul-h
-    shared-slice-read-wide
-    wide-requires
-    add-h
-    add-i
-    loop-less
-    loop-again
-    returns)
+digest-on-spec = tie.close (tie.spec Inv-loop μ-loop loop-holds mul-h shared-slice-read-wide wide-requires add-h add-i loop-less loop-again returns)

@@ -34,14 +34,5 @@ returns-2 c = (digest-variant (now (c .before .before .before .before .before .b
 
 pub digest-for-spec : {M : Type 1} → statement M
 digest-for-spec =
-    tie.close
-    (tie.spec
-    name-of-requires
-    digest-requires
-    case-of-requires
-    returns
-    slice-aggregate-digest-on
-    digest-on-requires
-    tag-of-requires
-    digest-on-requires-2
-    returns-2)
+    tie.close (tie.spec name-of-requires digest-requires case-of-requires returns slice-aggregate-digest-on digest-on-requires tag-of-requires
+    digest-on-requires-2 returns-2)

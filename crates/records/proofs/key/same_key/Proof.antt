@@ -56,5 +56,5 @@ returns-5 c = keys-tags (now (c .before .before .before .before .before .before 
 
 pub same-key-spec : {M : Type 1} → statement M
 same-key-spec =
-    tie.close (tie.spec digest-of-requires digest-of-requires-2 returns name-of-requires name-of-requires-2 same-requires returns-2 case-of-requires case-of-requires-2 returns-3 returns-4
-    tag-of-requires tag-of-requires-2 same-requires-2 returns-5)
+    tie.close (tie.spec digest-of-requires digest-of-requires-2 returns name-of-requires name-of-requires-2 same-requires returns-2 case-of-requires
+    case-of-requires-2 returns-3 returns-4 tag-of-requires tag-of-requires-2 same-requires-2 returns-5)

@@ -68,5 +68,5 @@ returns-3 c =
 
 pub note-size-spec : {M : Type 1} → statement M
 note-size-spec =
-    tie.close (tie.spec field-requires slice-aggregate-same same-requires field-requires-2 number-requires add-i field-requires-3
-    number-requires-2 small-requires slice-write-work same-length returns returns-2 returns-3)
+    tie.close (tie.spec field-requires slice-aggregate-same same-requires field-requires-2 number-requires add-i field-requires-3 number-requires-2
+    small-requires slice-write-work same-length returns returns-2 returns-3)
