@@ -1,19 +1,19 @@
 -- Laws of hexadecimal digits.
 use Prim.Native.Nat.{ℕ, zero, suc, _+_, _-_, _*_, _^_, _≤_, _<_}
 use mathlib.Core.Path.{_≡_, refl, sym, ap, _∙_}
-use mathlib.Core.Bool.{Bool, true, false, cond, not}
+use mathlib.Core.Bool.{Bool, true, false, cond}
 use mathlib.Core.List.{[], _∷_}
 use mathlib.Core.Option.{Option, none, some}
 use native.Mathlib.Numerals.{add-one, add-one-le}
 use native.Mathlib.Nat.{pow-suc, lt-of-lt-of-le, pow-le-pow-right}
 use native.Mathlib.Omega.{arith}
-use lib.Dec.{eqb, lit<}
+use lib.Dec.{lit<}
 use lib.ListN.{length, drop, getD, drop-of-length-le, List·getD-eq-default}
 use lib.Seq.{drop-cons}
-use borrow.Author.Tests.{eq-eqb, ne-eqb, eqb-true, eqb-false}
-use Rattle.semantics.specs.Text.{Bytes, isNone, orElse, mapOption, inRange, hexValue, hexPair, unhex}
+use borrow.Author.Tests.{eq-eqb, ne-eqb}
+use Rattle.semantics.specs.Text.{Bytes, orElse, mapOption, inRange, hexValue, hexPair, unhex}
 use Rattle.hex.specs.declared.Word.the-variants.{Bits, Bad}
-use Rattle.hex.specs.Hex.{digitOf, pairByte, pairOf, isHex, byteAt, word, wordOf, wordFrom}
+use Rattle.hex.specs.Hex.{digitOf, pairByte, pairOf, byteAt, word, wordOf, wordFrom}
 use Rattle.text.proofs.Tests.{within-yes}
 
 Below : ℕ → Option ℕ → Type 0
@@ -115,18 +115,6 @@ module _ (s : Bytes) (i : ℕ) (h : i + 1 < length s) {v : ℕ} (is : v ≡ pair
   unhex-next z =
       rw two (pair-opens (hexValue (getD s i 0)) (hexValue (getD s (i + 1) 0)) (unhex (drop (i + 2) s)) .1 v (a-byte (getD s i 0) (getD s (i + 1) 0) is z))
 
-  pub hex-bad : v ≡ 256 → isHex (drop i s) ≡ false
-  unfolding isHex
-  hex-bad z = rw (unhex-bad z)
-
-  pub hex-next : (v ≡ 256 → ⊥) → isHex (drop i s) ≡ isHex (drop (i + 2) s)
-  unfolding isHex
-  hex-next z = rw (unhex-next z) (go (unhex (drop (i + 2) s)))
-    where
-      go : (o : Option Bytes) → not (isNone (mapOption (λ (bs : Bytes). v ∷ bs) o)) ≡ not (isNone o)
-      go none = refl
-      go (some bs) = refl
-
 module _ (s : Bytes) (i : ℕ) where
   pub unhex-end : length s ≤ i → unhex (drop i s) ≡ some []
   unfolding unhex
@@ -137,14 +125,6 @@ module _ (s : Bytes) (i : ℕ) where
   unhex-odd h k =
       let e : drop i s ≡ getD s i 0 ∷ [] = drop-cons s i 0 h ∙ ap (λ (l : Bytes). getD s i 0 ∷ l) (drop-of-length-le s {i = suc i} (omega arith)) in
       rw e
-
-  pub hex-end : i ≤ length s → length s ≤ i + 1 → eqb i (length s) ≡ isHex (drop i s)
-  unfolding isHex
-  hex-end h k = go (eqb i (length s)) refl
-    where
-      go : (t : Bool) → eqb i (length s) ≡ t → t ≡ not (isNone (unhex (drop i s)))
-      go true e = let q = eqb-true i (length s) e in rw (unhex-end (omega arith))
-      go false e = let q = eqb-false i (length s) e in rw (unhex-odd (omega arith) k)
 
 -- ---- byte i
 

@@ -1,10 +1,10 @@
 -- What the readers of hexadecimal digits return.
 use Prim.Native.Nat.{ℕ, _+_, _*_}
-use mathlib.Core.Bool.{Bool, not, cond}
+use mathlib.Core.Bool.{cond}
 use mathlib.Core.Option.{Option, none, some}
 use lib.ListN.{length, getD}
 use lib.Dec.{eqb}
-use Rattle.semantics.specs.Text.{Bytes, isNone, orElse, hexValue, unhex, fromBigEndian}
+use Rattle.semantics.specs.Text.{Bytes, orElse, hexValue, unhex, fromBigEndian}
 use Rattle.hex.specs.declared.Word.{Word}
 use Rattle.hex.specs.declared.Word.the-variants.{Bits, Bad}
 
@@ -21,9 +21,6 @@ pairByte (some h) (some l) = some (h * 16 + l)
 -- the same, and 256 where there is none
 unfoldable pub pairOf : ℕ → ℕ → ℕ
 pairOf h l = orElse 256 (pairByte (hexValue h) (hexValue l))
-
-unfoldable pub isHex : Bytes → Bool
-isHex s = not (isNone (unhex s))
 
 -- byte i of those that pairs of digits write, 0 where there is none: of a good field, it is the byte at i (the law `byte-of`)
 unfoldable pub byteAt : Bytes → ℕ → ℕ

@@ -3,7 +3,7 @@ use text::is_within;
 use text::wide;
 ghost use mathlib.Core.Path.{_≡_};
 ghost use Prim.Native.Nat.{_≤_};
-ghost use Rattle.hex.specs.Hex.{digitOf, pairOf, isHex, byteAt, wordOf};
+ghost use Rattle.hex.specs.Hex.{digitOf, pairOf, byteAt, wordOf};
 
 // 64 bits.
 pub enum Word {
@@ -37,20 +37,6 @@ pub fn pair(h: u8, l: u8) -> u64
         return 256;
     }
     x * 16 + y
-}
-
-// Whether the field is pairs of digits.
-pub fn is_hex(s: &[u8]) -> bool
-    ensures { λ r. ⌜ r ≡ isHex (now (s .entry)) ⌝ }
-{
-    let mut i: usize = 0;
-    while i + 1 < s.len() {
-        if pair(s[i], s[i + 1]) == 256 {
-            return false;
-        }
-        i += 2;
-    }
-    i == s.len()
 }
 
 // Byte i of those that a field of pairs of digits writes, 0 where there is none.

@@ -1,5 +1,5 @@
 -- Laws of UTF-8.
-use Prim.Native.Nat.{ℕ, suc, _+_, _≤_, _<_}
+use Prim.Native.Nat.{ℕ, _+_, _≤_, _<_}
 use mathlib.Core.Path.{_≡_, refl, sym, ap, _∙_}
 use mathlib.Core.Bool.{false}
 use mathlib.Core.List.{_∷_}
@@ -9,22 +9,10 @@ use lib.ListN.{length, drop, getD, drop-of-length-le}
 use lib.Seq.{drop-cons}
 use Rattle.semantics.specs.Text.{Bytes, Lead, follows, goesOn, holdsOf, mapOption, unhex, isUtf8, characters}
 use Rattle.hex.specs.Hex.{pairOf}
-use Rattle.utf8.specs.Utf8.{followed, ends, startsOne, isText, goes, textFrom}
+use Rattle.utf8.specs.Utf8.{followed, ends, startsOne, isText, textFrom}
 use Rattle.hex.proofs.Hexes.{unhex-bad, unhex-next, unhex-odd, unhex-end}
 
 -- ---- plain bytes
-
-pub goes-start : (s : Bytes) → isUtf8 s ≡ goes (some (0, 0, 0)) (drop 0 s)
-unfolding isUtf8 goes
-goes-start s = refl
-
-pub goes-next : (s : Bytes) (i : ℕ) (o p : Option Lead) → i < length s → p ≡ followed (getD s i 0) o → goes o (drop i s) ≡ goes p (drop (i + 1) s)
-unfolding goes followed
-goes-next s i o p h e = rw (drop-cons s i 0 h, add-one) (ap (λ (q : Option Lead). goesOn q (drop (suc i) s)) (sym e))
-
-pub goes-end : (s : Bytes) (i : ℕ) (o : Option Lead) → length s ≤ i → ends o ≡ goes o (drop i s)
-unfolding goes ends
-goes-end s i o h = rw (drop-of-length-le s h)
 
 -- ---- hexadecimal digits
 

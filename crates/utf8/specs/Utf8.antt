@@ -35,8 +35,5 @@ unfoldable pub isText : Bytes → Bool
 isText s = holdsOf isUtf8 (unhex s)
 
 -- the same from a state on
-unfoldable pub goes : Option Lead → Bytes → Bool
-goes o s = goesOn o s
-
 unfoldable pub textFrom : Option Lead → Bytes → Bool
 textFrom o s = holdsOf (goesOn o) (unhex s)

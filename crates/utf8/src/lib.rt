@@ -3,7 +3,7 @@ use text::is_within;
 ghost use mathlib.Core.Path.{_≡_};
 ghost use Prim.Native.Nat.{_≤_};
 ghost use lib.ListN.{length};
-ghost use Rattle.semantics.specs.Text.{isUtf8, characters};
+ghost use Rattle.semantics.specs.Text.{characters};
 ghost use Rattle.utf8.specs.Utf8.{stateOf, toCome, noState, leadAt, followed, ends, startsOne, isText};
 
 // Within a text: whether it is good so far, how many bytes of a character are to come, and the bounds of the first of them.
@@ -92,18 +92,6 @@ fn may_end(a: State) -> bool
         return false;
     }
     a.more == 0
-}
-
-pub fn is_utf8(s: &[u8]) -> bool
-    ensures { λ r. ⌜ r ≡ isUtf8 (now (s .entry)) ⌝ }
-{
-    let mut a = to_come(0, 0, 0);
-    let mut i: usize = 0;
-    while i < s.len() {
-        a = next(a, s[i]);
-        i += 1;
-    }
-    may_end(a)
 }
 
 // Whether a field is pairs of hexadecimal digits that write UTF-8.
