@@ -34,43 +34,45 @@ pub tables-lines : (s t : Bytes) {r : Checks} {n : ℕ} → r ≡ Answer.Lines n
 tables-lines s t e h = subst (Tables s t) e h
 
 module _ (s : Bytes) (W : ℕ) {r : Checks} (h : (o : Outcome) → tested W s o ≡ settled r o) where
-  pub check-refused : (L : ℕ) {q k : ℕ} {d u : Bytes} → r ≡ Answer.Refused q k → d ≡ zeros L → length u ≡ W → Tables s u r → Refuses (compiled L W s) L W q k d u
-  check-refused L {q} {k} {d} {u} e z l x = record {
+  pub check-refused : (L : ℕ) {q k : ℕ} {d u : Bytes} → r ≡ Answer.Refused q k → d ≡ zeros L → length u ≡ W → Tables s u r → Lists s L W (Refused q k) d u
+  check-refused L {q} {k} {d} {u} e z l x = record { settles = record {
     outcome = compiled-by s W r h L ∙ ap (λ (x : Checks). settled x (worked L (sheetSource s))) e;
     numbered = tested-numbered W s (λ o. h o ∙ ap (λ (x : Checks). settled x o) e);
     bytes = z;
     work = subst (Tables s u) e x ∙ ap zeros l;
-  }
+  } }
 
   pub check-passed : (L l w : ℕ) {n : ℕ} (y : Listed) (d u : Bytes) → r ≡ Answer.Lines n → l ≡ L → w ≡ W → Works s l w y d u → Lists s L W y d u
   check-passed L l w y d u e a b g =
       let o : compiled L W s ≡ worked L (sheetSource s) = compiled-by s W r h L ∙ ap (λ (x : Checks). settled x (worked L (sheetSource s))) e in
-      subst (λ (x : Outcome). Settles s x L W y d u) (sym o) (subst (λ (j : ℕ). Works s j W y d u) a (subst (λ (j : ℕ). Works s l j y d u) b g))
+      record { settles = subst (λ (x : Outcome). Settles s x L W y d u) (sym o) (subst (λ (j : ℕ). Works s j W y d u) a (subst (λ (j : ℕ). Works s l j y d u) b g)) }
 
 -- ---- the working space is zeroed
 
 module _ (s : Bytes) (L W : ℕ) (d u : Bytes) {r : Listed} (h : Lists s L W r d u) where
   pub listed-numbered : {q k : ℕ} → r ≡ Refused q k → Numbered q k
-  listed-numbered e = subst (λ (x : Listed). Lists s L W x d u) e h .numbered
+  listed-numbered e = subst (λ (x : Listed). Lists s L W x d u) e h .settles .numbered
 
   pub compiles-listed : {p end : ℕ} {t : Bytes} → r ≡ Written p end → t ≡ zeros W → Compiles s L W (Answers.Listed p) d t
   compiles-listed {p} e z =
-      let x = subst (λ (x : Listed). Lists s L W x d u) e h in
-      let text = sourceListing (sheetSource s) in (
-        ap listed (ap (take p) (x .bytes) ∙ take-at text (zeros (L - length text)) p (sym (x .long))) ∙ sym (x .outcome),
-        x .room,
-        x .bytes ∙ ap (λ (o : Outcome). padded L (listingBytes o)) (sym (x .outcome)),
-        z,
-        x .long ∙ ap (λ (o : Outcome). length (listingBytes o)) (sym (x .outcome)),
-      )
+      let x = subst (λ (x : Listed). Lists s L W x d u) e h .settles in
+      let text = sourceListing (sheetSource s) in
+      record {
+        answer = ap listed (ap (take p) (x .bytes) ∙ take-at text (zeros (L - length text)) p (sym (x .long))) ∙ sym (x .outcome);
+        within = x .room;
+        listingIs = x .bytes ∙ ap (λ (o : Outcome). padded L (listingBytes o)) (sym (x .outcome));
+        workIs = z;
+        long = x .long ∙ ap (λ (o : Outcome). length (listingBytes o)) (sym (x .outcome));
+      }
 
   pub compiles-refused : {q k : ℕ} {t : Bytes} (a : Refusal) → r ≡ Refused q k → (refusalNumber a ≡ q) × (refusalLine a ≡ k) → t ≡ zeros W → Compiles s L W (Answers.Refused a) d t
   compiles-refused a e n z =
-      let x = subst (λ (x : Listed). Lists s L W x d u) e h in
-      let all : L ≡ L - 0 = omega arith in (
-        rw (n .0, n .1) (sym (x .outcome)),
-        omega arith,
-        x .bytes ∙ ap zeros all ∙ ap (λ (o : Outcome). padded L (listingBytes o)) (sym (x .outcome)),
-        z,
-        ap (λ (o : Outcome). length (listingBytes o)) (sym (x .outcome)),
-      )
+      let x = subst (λ (x : Listed). Lists s L W x d u) e h .settles in
+      let all : L ≡ L - 0 = omega arith in
+      record {
+        answer = rw (n .0, n .1) (sym (x .outcome));
+        within = omega arith;
+        listingIs = x .bytes ∙ ap zeros all ∙ ap (λ (o : Outcome). padded L (listingBytes o)) (sym (x .outcome));
+        workIs = z;
+        long = ap (λ (o : Outcome). length (listingBytes o)) (sym (x .outcome));
+      }

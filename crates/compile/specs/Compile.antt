@@ -82,8 +82,8 @@ Settles s o L W (Refused q k) d u = Refuses o L W q k d u
 abbrev pub Works : Bytes → ℕ → ℕ → Listed → Bytes → Bytes → Type 0
 Works s L W r d u = Settles s (worked L (sheetSource s)) L W r d u
 
-abbrev pub Lists : Bytes → ℕ → ℕ → Listed → Bytes → Bytes → Type 0
-Lists s L W r d u = Settles s (compiled L W s) L W r d u
+pub record Lists (s : Bytes) (L W : ℕ) (r : Listed) (d u : Bytes) : Type 0 where
+  pub settles : Settles s (compiled L W s) L W r d u
 
 abbrev pub answered : Answer → Bytes → Outcome
 answered (Answer.Listed n) d = listed (take n d)
@@ -93,11 +93,10 @@ abbrev pub lengthOf : Answer → ℕ
 lengthOf (Answer.Listed n) = n
 lengthOf (Answer.Refused r) = 0
 
--- what the answer says, and what stands on the listing and in the working space
-abbrev pub Compiles : Bytes → ℕ → ℕ → Answer → Bytes → Bytes → Type 0
-Compiles s L W a d u =
-    (answered a d ≡ compiled L W s)
-    × (lengthOf a ≤ L)
-    × (d ≡ padded L (listingBytes (compiled L W s)))
-    × (u ≡ zeros W)
-    × (lengthOf a ≡ length (listingBytes (compiled L W s)))
+-- of the sheet s, with L and W bytes lent: the answer a, the listing's bytes d and those of the working space u
+pub record Compiles (s : Bytes) (L W : ℕ) (a : Answer) (d u : Bytes) : Type 0 where
+  pub answer : answered a d ≡ compiled L W s
+  pub within : lengthOf a ≤ L
+  pub listingIs : d ≡ padded L (listingBytes (compiled L W s))
+  pub workIs : u ≡ zeros W
+  pub long : lengthOf a ≡ length (listingBytes (compiled L W s))

@@ -49,22 +49,22 @@ module _ (s : Bytes) (L W : ℕ) (d u : Bytes) {x : Answer} where
   listed-as {n} len e g =
       let h = told e g in
       record {
-        answer = ap (λ (m : ℕ). record { number = 0; line = 0; listing = m }) (sym (length-take-le n d (omega (arith, h .1)))) ∙ ap compiledNumbers (h .0);
-        outcome = h .0;
-        within = h .1;
-        listingIs = h .2;
-        workIs = h .3;
+        answer = ap (λ (m : ℕ). record { number = 0; line = 0; listing = m }) (sym (length-take-le n d (omega (arith, h .within)))) ∙ ap compiledNumbers (h .answer);
+        outcome = h .answer;
+        within = h .within;
+        listingIs = h .listingIs;
+        workIs = h .workIs;
       }
 
   pub refused-as : {r : Refusal} {q k : ℕ} → x ≡ Answer.Refused r → q ≡ refusalNumber r → k ≡ refusalLine r → of-compile.Compiles s L W x d u → Compiles s L W (record { number = q; line = k; listing = 0 }) d u
   refused-as {r} e hq hk g =
       let h = told e g in
       rw (hq, hk) (record {
-        answer = ap compiledNumbers (h .0);
-        outcome = rw (ne-eqb (refusalNumber r) 0 (never-0 r)) (h .0);
+        answer = ap compiledNumbers (h .answer);
+        outcome = rw (ne-eqb (refusalNumber r) 0 (never-0 r)) (h .answer);
         within = omega arith;
-        listingIs = h .2;
-        workIs = h .3;
+        listingIs = h .listingIs;
+        workIs = h .workIs;
       })
 
 -- ---- the image

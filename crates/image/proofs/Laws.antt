@@ -44,10 +44,10 @@ blank n h = h ∙ ap zeros (sym (sub-zero n))
 -- ---- what compiling has answered
 
 pub has-listed : (s : Bytes) (L W : ℕ) {l end : ℕ} {listing u : Bytes} {r : Listed} → r ≡ Listed.Written l end → Lists s L W r listing u → Lays s (compiled L W s) L W l end listing u
-has-listed s L W {l} {end} {listing} {u} e h = subst (λ (r : Listed). Lists s L W r listing u) e h
+has-listed s L W {l} {end} {listing} {u} e h = subst (λ (r : Listed). Lists s L W r listing u) e h .settles
 
 pub has-refused : (s : Bytes) (L W : ℕ) (u : Bytes) {q k : ℕ} {listing : Bytes} {r : Listed} → r ≡ Listed.Refused q k → Lists s L W r listing u → Refuses (compiled L W s) L W q k listing u
-has-refused s L W u {q} {k} {listing} e h = subst (λ (r : Listed). Lists s L W r listing u) e h
+has-refused s L W u {q} {k} {listing} e h = subst (λ (r : Listed). Lists s L W r listing u) e h .settles
 
 -- ---- the answers
 

@@ -19,8 +19,8 @@ module _ (s : Bytes) (L W : ℕ) (d u : Bytes) {a : Answer} (h : Compiles s L W 
   pub listing-printed : {n : ℕ} → a ≡ Listed n → Counts n d × (take n d ≡ printed (compiled L W s))
   listing-printed {n} given =
       let x = subst (λ (y : Answer). Compiles s L W y d u) given h in
-      let fits : n ≤ length d = omega (arith, x .1) in
-      ((fits, sym (length-take-le n d fits)), ap printed (x .0))
+      let fits : n ≤ length d = omega (arith, x .within) in
+      ((fits, sym (length-take-le n d fits)), ap printed (x .answer))
 
   pub refusal-printed : {x : Refusal} → a ≡ Refused x → 64 ≤ L → {e : Bytes} {r : ℕ}
       → Wrote d 0 (printed (refused (refusalNumber x) (refusalLine x))) e r × (length (printed (refused (refusalNumber x) (refusalLine x))) ≤ 64)
@@ -28,4 +28,4 @@ module _ (s : Bytes) (L W : ℕ) (d u : Bytes) {a : Answer} (h : Compiles s L W 
   refusal-printed given m w =
       let y = subst (λ (z : Answer). Compiles s L W z d u) given h in
       let p = at-start (w .0) (omega (arith, w .1)) in
-      (p .0, p .1 ∙ ap printed (y .0))
+      (p .0, p .1 ∙ ap printed (y .answer))
