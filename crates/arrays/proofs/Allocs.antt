@@ -24,7 +24,7 @@ use Rattle.sizes.proofs.Types.{Good, head-drop, tail-drop}
 use Rattle.values.specs.declared.Folded.{Folded}
 use Rattle.values.specs.Values.{resultIn}
 use Rattle.placements.proofs.Same.{keeps-less, keeps-kept}
-use Rattle.fold.specs.Folds.{exAt, Foldable, Folds}
+use Rattle.leaf.specs.Folds.{exAt, Foldable, Folds}
 use Rattle.literals.specs.Literals.{namesIn, Line}
 use Rattle.literals.proofs.Lines.{parts-at, makes, good-line, ref-head}
 use Rattle.literals.proofs.Selectors.{foldable, folds-to}

@@ -13,7 +13,7 @@ use Rattle.decimal.specs.Number as Number
 use Rattle.lines.specs.Lines.{readAt, nodesIn}
 use Rattle.values.specs.declared.Folded.{Folded}
 use Rattle.values.specs.Values.{resultIn}
-use Rattle.fold.specs.Folds.{Foldable, Folds}
+use Rattle.leaf.specs.Folds.{Foldable, Folds}
 use Rattle.literals.specs.Literals.{namesIn, Line, LiteralLine, above}
 use Rattle.literals.proofs.Lines.{may-line, maybe-given, maybe-absent}
 use Rattle.literals.proofs.Selectors.{foldable, folds-to}

@@ -30,7 +30,7 @@ use Rattle.placements.specs.Placements.{valuesIn, Keeps, Filling, Goes, Step}
 use Rattle.placements.proofs.Same.{keeps-all, keeps-then, keeps-less, keeps-kept}
 use Rattle.placements.proofs.Fillings.{filling-kept}
 use Rattle.placements.proofs.Values.{values-are, value-stands}
-use Rattle.fold.specs.Folds.{exAt}
+use Rattle.leaf.specs.Folds.{exAt}
 use Rattle.literals.specs.Literals.{namesIn, elsAt, Line, above, AllFilled}
 use Rattle.literals.proofs.Names.{kept-low, log-kept, line-kept}
 use Rattle.literals.proofs.Placing.{isInto}

@@ -13,7 +13,7 @@ ghost use Rattle.checks.specs.Checks.{Kept};
 ghost use Rattle.sizes.specs.Sizes.{typeAt, TypeLine};
 ghost use Rattle.values.specs.Values.{resultIn};
 ghost use Rattle.placements.specs.Placements.{valuesIn, Filling};
-ghost use Rattle.fold.specs.Folds.{exAt};
+ghost use Rattle.leaf.specs.Folds.{exAt};
 ghost use Rattle.literals.specs.Literals.{namesIn, elsAt, Line, LiteralLine, above};
 ghost use Rattle.arrays.specs.Arrays.{kindAt, arrayedIn, sizeResult, Stands, Measured, Answers, typeOf, sizeAt, ownType, allocType, ArrayLine, AllocLine, LitLine, Counted, Sized};
 

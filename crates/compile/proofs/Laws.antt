@@ -22,9 +22,9 @@ use Rattle.literals.specs.Literals.{namesIn}
 use Rattle.globals.specs.Table.{placesIn}
 use Rattle.record_rows.specs.Rows.{allRows}
 use Rattle.const_rows.specs.Rows.{Table}
-use Rattle.vars.specs.declared.pends.Pends.{Pends}
-use Rattle.vars.specs.declared.pends.Pends.the-variants as Pends
-use Rattle.vars.specs.Pends.{AllPended}
+use Rattle.pends.specs.declared.Pends.{Pends}
+use Rattle.pends.specs.declared.Pends.the-variants as Pends
+use Rattle.pends.specs.Pends.{AllPended}
 use Rattle.tables.specs.declared.Tables.{Tables}
 use Rattle.tables.specs.declared.Made.{Made}
 use Rattle.tables.specs.declared.Made.the-variants as Made

@@ -35,12 +35,14 @@ tables-lines s t e h = subst (Tables s t) e h
 
 module _ (s : Bytes) (W : ℕ) {r : Checks} (h : (o : Outcome) → tested W s o ≡ settled r o) where
   pub check-refused : (L : ℕ) {q k : ℕ} {d u : Bytes} → r ≡ Answer.Refused q k → d ≡ zeros L → length u ≡ W → Tables s u r → Lists s L W (Refused q k) d u
-  check-refused L {q} {k} {d} {u} e z l x = record { settles = record {
-    outcome = compiled-by s W r h L ∙ ap (λ (x : Checks). settled x (worked L (sheetSource s))) e;
-    numbered = tested-numbered W s (λ o. h o ∙ ap (λ (x : Checks). settled x o) e);
-    bytes = z;
-    work = subst (Tables s u) e x ∙ ap zeros l;
-  } }
+  check-refused L {q} {k} {d} {u} e z l x = record {
+    settles = record {
+      outcome = compiled-by s W r h L ∙ ap (λ (x : Checks). settled x (worked L (sheetSource s))) e;
+      numbered = tested-numbered W s (λ o. h o ∙ ap (λ (x : Checks). settled x o) e);
+      bytes = z;
+      work = subst (Tables s u) e x ∙ ap zeros l;
+    };
+  }
 
   pub check-passed : (L l w : ℕ) {n : ℕ} (y : Listed) (d u : Bytes) → r ≡ Answer.Lines n → l ≡ L → w ≡ W → Works s l w y d u → Lists s L W y d u
   check-passed L l w y d u e a b g =

@@ -16,7 +16,7 @@ use Rattle.checks.specs.Checks.{Kept}
 use Rattle.checks.proofs.Kept.{kept-less, checked-kept}
 use Rattle.records.proofs.Kept.{logged-kept}
 use Rattle.type_rows.specs.Rows as Types
-use Rattle.type_rows.specs.Rows.{Numbers}
+use Rattle.uses.specs.Uses.{Numbers}
 use Rattle.data_rows.specs.Data.{itemsIn, rowsOf}
 use Rattle.tables.specs.declared.Tables.{Tables}
 use Rattle.compile.specs.Compile.{Known, typesText}

@@ -1,9 +1,9 @@
 // Compiling: a sheet to its listing, or a refusal.
 use answers::Refusal;
 use checks::Checks;
+use pends::Pends;
 use tables::Made;
 use tables::Tables;
-use vars::pends::Pends;
 ghost use mathlib.Core.Path.{_≡_};
 ghost use lib.ListN.{length};
 ghost use Rattle.semantics.specs.Sheet.{sheetSource};
@@ -42,7 +42,7 @@ fn put_types(sheet: &[u8], work: &mut [u8], n: usize, x: Tables, out: &mut [u8],
     let frames = type_keys::ids::frame_count(sheet, work, n);
     let d = data_rows::data_rows(sheet, work, n, x.consts, x.globals, frames, x.keys, out, at);
     let p = type_rows::type_rows(sheet, work, n, x.records, x.needs, d.keys, out, d.at);
-    type_rows::used::use_rows(sheet, work, n, x.needs, frames, out, p)
+    uses::use_rows(sheet, work, n, x.needs, frames, out, p)
 }
 
 // All rows, where the constants are not refused. A first value is refused before the listing outgrows its buffer.
@@ -51,7 +51,7 @@ fn list_rows(sheet: &[u8], listing: &mut [u8], work: &mut [u8], n: usize, x: Tab
     ensures { λ r. ⌜ Tries (now (sheet .entry)) (worked (length (now (listing .entry))) (sheetSource (now (sheet .entry)))) (length (now (listing .entry))) (length (now (work .entry))) r (now (listing .exit)) (now (work .exit)) ⌝ }
 {
     let p = put_declared(sheet, work, n, x, listing);
-    match vars::pends::pend_rows(sheet, work, n, x.consts, listing, p) {
+    match pends::pend_rows(sheet, work, n, x.consts, listing, p) {
         Pends::Refused(q, k) => Listed::Refused(q, k),
         Pends::Written(q) => {
             let end = put_types(sheet, work, n, x, listing, q);

@@ -23,7 +23,7 @@ use Rattle.lines.proofs.Line.{form-low, form-is, kind-is, read-fits}
 use Rattle.refs.specs.Refs.{fineRef, fineRefs}
 use Rattle.refs.proofs.Fine.{needed-ref}
 use Rattle.checks.specs.Checks.{Checked}
-use Rattle.fold.specs.Folds.{ExLine}
+use Rattle.leaf.specs.Folds.{ExLine}
 
 abbrev constParts : List Part
 constParts = one name ∷ (one lineOrCol ∷ (one lineOrCol ∷ (one (ref kEx) ∷ [])))

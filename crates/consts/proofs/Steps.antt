@@ -25,7 +25,7 @@ use Rattle.values.specs.declared.Folded.{Folded}
 use Rattle.values.specs.declared.Folded.the-variants.{Value, Failed, TooLong}
 use Rattle.values.specs.Values.{valueIn, resultIn, At}
 use Rattle.entries.specs.Entering.{Free, Entered}
-use Rattle.fold.specs.Folds.{foldAt, Foldable, Folds}
+use Rattle.leaf.specs.Folds.{foldAt, Foldable, Folds}
 use Rattle.consts.specs.Passes.{constAt, ConstLine, Steps}
 use Rattle.consts.proofs.Lines.{ex-number, ex-line}
 

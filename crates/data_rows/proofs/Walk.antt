@@ -28,7 +28,7 @@ use Rattle.type_keys.specs.Table.{Kinds, Outside}
 use Rattle.type_keys.proofs.Table.{kinds-kept}
 use Rattle.vars.specs.declared.First.{First}
 use Rattle.vars.specs.First.{initIn, Inits, varOn}
-use Rattle.vars.specs.Pends.{locatedAt, laidAt, LineTask}
+use Rattle.vars.specs.Lines.{locatedAt, laidAt, LineTask}
 use Rattle.vars.proofs.Lines.{var-line}
 use Rattle.vars.proofs.Items.{items-all}
 use Rattle.data_rows.specs.declared.Next.{Next}

@@ -21,7 +21,7 @@ ghost use Rattle.globals.specs.Table.{VarLine, typeOn, nameOn, namesOn, placesI
 ghost use Rattle.globals.specs.Vars.{varItems};
 ghost use Rattle.type_keys.specs.Table.{Kinds, Outside};
 ghost use Rattle.vars.specs.First.{initIn, varOn};
-ghost use Rattle.vars.specs.Pends.{laidAt};
+ghost use Rattle.vars.specs.Lines.{laidAt};
 ghost use Rattle.data_rows.specs.Data.{itemsIn, keysOf, rowsOf, Ready, Numbers, Keeping, ItemsPrinted, Keyed, Held, Filled, NameTask, firstItems, nameItems, lineItems};
 
 // The form of `var` lines.

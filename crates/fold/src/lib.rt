@@ -1,11 +1,9 @@
 // Expressions folded: the value of an `ex` line of a checked sheet, left first. Strings stand in the working space as on a stack.
-mod leaf;
-
 ghost use mathlib.Core.Path.{_≡_};
 ghost use Prim.Native.Nat.{_-_};
 ghost use Rattle.values.specs.Values.{valueIn, Answers};
 ghost use Rattle.checks.specs.Checks.{Kept};
-ghost use Rattle.fold.specs.Folds.{exAt, onOne, operandOf, Foldable, Folds, OperatorLine, Applies};
+ghost use Rattle.leaf.specs.Folds.{exAt, onOne, operandOf, Foldable, Folds, OperatorLine, Applies};
 use values::ConstVal;
 use values::Folded;
 

@@ -26,7 +26,7 @@ use Rattle.placements.specs.declared.Placed.the-variants.{Into, Failed, TooLong
 use Rattle.placements.specs.Placements.{slotAt, elementAt, Keeps, Standing, Filling, Step, Places}
 use Rattle.placements.proofs.Same.{keeps-then, keeps-less, keeps-kept}
 use Rattle.placements.proofs.Fillings.{filling-kept, filling-value, filling-star, stored-element}
-use Rattle.fold.specs.Folds.{exAt, Foldable, Folds}
+use Rattle.leaf.specs.Folds.{exAt, Foldable, Folds}
 use Rattle.literals.specs.Literals.{elAt, sesAt, namesIn, Line, AtTask, ValuedTask, Turn, above, Fills, placed, Turns}
 use Rattle.literals.proofs.Names.{log-kept, line-kept}
 use Rattle.literals.proofs.Lines.{good-line, last-form, el-next, el-star, el-at, el-value, value-ref}

@@ -29,7 +29,7 @@ use Rattle.refs.proofs.Nodes.{node-at}
 use Rattle.sizes.proofs.Rows.{count-number}
 use Rattle.sizes.proofs.Forms.{element-form, selector-form}
 use Rattle.sizes.proofs.Types.{Good, group-good, number-exact, head-drop, tail-drop}
-use Rattle.fold.specs.Folds.{exAt}
+use Rattle.leaf.specs.Folds.{exAt}
 use Rattle.literals.specs.Literals.{elAt, seAt, Line}
 
 -- ---- references among fields

@@ -25,7 +25,7 @@ use Rattle.values.specs.declared.Folded.{Folded}
 use Rattle.values.specs.declared.Folded.the-variants as Folded
 use Rattle.values.specs.Values.{valueIn, resultIn}
 use Rattle.placements.proofs.Same.{keeps-less, keeps-kept}
-use Rattle.fold.specs.Folds.{exAt, foldAt, Foldable, Folds}
+use Rattle.leaf.specs.Folds.{exAt, foldAt, Foldable, Folds}
 use Rattle.fold.proofs.Steps as Steps
 use Rattle.literals.specs.declared.Index.{Index}
 use Rattle.literals.specs.declared.Index.the-variants as Index

@@ -29,7 +29,7 @@ use Rattle.placements.specs.Placements.{Keeps, Filling, Goes, Step}
 use Rattle.placements.proofs.Placed.{the-type}
 use Rattle.placements.proofs.Same.{keeps-all, keeps-then}
 use Rattle.placements.proofs.Fillings.{filling-wider}
-use Rattle.fold.specs.Folds.{exAt}
+use Rattle.leaf.specs.Folds.{exAt}
 use Rattle.literals.specs.Literals.{elAt, elsAt, namesIn, Line, Turn, LiteralLine, above, Turns, AllFilled}
 use Rattle.literals.proofs.Names.{log-kept, line-kept}
 use Rattle.literals.proofs.Placing.{isInto, step-ends}

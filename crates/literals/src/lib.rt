@@ -14,7 +14,7 @@ ghost use Rattle.semantics.specs.Array.{Filled, fill, asInt, indexOf, highOf, s
 ghost use Rattle.checks.specs.Checks.{Kept};
 ghost use Rattle.placements.specs.Placements.{stopped};
 ghost use Rattle.values.specs.Values.{resultIn};
-ghost use Rattle.fold.specs.Folds.{exAt};
+ghost use Rattle.leaf.specs.Folds.{exAt};
 ghost use Rattle.literals.specs.Literals.{seAt, namesIn, Task, above, indexResult, spanResult, sesAt, AtTask, elAt, elsAt, ValuedTask, Turn, LiteralLine, placed, Moves, Selects, Fills, Turns, AllFilled};
 
 const STACK: usize = 49152;

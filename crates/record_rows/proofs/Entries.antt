@@ -21,7 +21,7 @@ use Rattle.lines.specs.Lines.{nodesIn, formAt}
 use Rattle.sizes.specs.Places.{ownFields, commonAt, caseAt, RecordLine, AllPlaced}
 use Rattle.sizes.specs.declared.place.Reached.{Reached}
 use Rattle.sizes.proofs.Records.{checked-records-bound}
-use Rattle.shapes.specs.Maps.{mapIn, mapLength, Mapped, MapRoom}
+use Rattle.maps.specs.Maps.{mapIn, mapLength, Mapped, MapRoom}
 use Rattle.shapes.specs.Shapes as Shapes
 use Rattle.shapes.specs.Shapes.{firstDecl, VariantLine, CaseOf}
 use Rattle.records.specs.Log.{declAt, firstRecord, ownRecord, casesIn, caseIn, variantRecord, recordIn, entryAt, recordedAt, nameOf, tagOf, logOf, noRecord, EntryIn, Logged}

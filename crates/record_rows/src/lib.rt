@@ -14,7 +14,7 @@ ghost use Prim.Native.Nat.{_+_, _≤_, _<_};
 ghost use lib.ListN.{length};
 ghost use Rattle.semantics.specs.Listing.{recordRows};
 ghost use Rattle.write.specs.Wrote.{Wrote};
-ghost use Rattle.shapes.specs.Maps.{MapRoom, Made};
+ghost use Rattle.maps.specs.Maps.{MapRoom, Made};
 ghost use Rattle.records.specs.Log.{recordedAt, EntryIn, Logged};
 ghost use Rattle.field_rows.specs.Rows.{placedRows};
 ghost use Rattle.record_rows.specs.Rows.{TagWrote, headText, shapeText, keyRows, allRows, LogEntry, Printed};

@@ -8,7 +8,7 @@ ghost use Prim.Native.Nat.{_≤_, _<_};
 ghost use Rattle.checks.specs.Checks.{Checked, Kept};
 ghost use Rattle.sizes.specs.Places.{RecordLine};
 ghost use Rattle.shapes.specs.Shapes.{PickLine, VariantLine};
-ghost use Rattle.shapes.specs.Maps.{MapRoom};
+ghost use Rattle.maps.specs.Maps.{MapRoom};
 
 const ADT: usize = 26;
 
@@ -31,7 +31,7 @@ fn print_row(work: &[u8], number: usize, size: u32)
     p = write::put(&mut out, p, COMMA);
     p = write::put_nat(&mut out, p, size as u64);
     p = write::put(&mut out, p, COMMA);
-    p = write::put_nat(&mut out, p, shapes::map::map_ones(work, size) as u64);
+    p = write::put_nat(&mut out, p, maps::map_ones(work, size) as u64);
     p = write::put(&mut out, p, COMMA);
     let end = MAP + layout::map::map_bytes(size);
     p = write::put_hex(&mut out, p, &work[MAP..end]);
@@ -107,8 +107,8 @@ fn print_block(work: &mut [u8], number: usize, size: u32, off: i32)
     requires { ⌜ MapRoom (now work) size ⌝ }
     ensures { λ _. ⌜ MapRoom (now (work .exit)) size ⌝ }
 {
-    shapes::map::clear_map(work, size);
-    shapes::map::mark(work, size, off);
+    maps::clear_map(work, size);
+    maps::mark(work, size, off);
     print_row(work, number, size);
 }
 

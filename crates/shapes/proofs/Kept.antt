@@ -1,32 +1,17 @@
 -- What holds of a line of a checked sheet holds while a map is made.
 use Prim.Native.Nat.{ℕ}
-use native.Mathlib.Omega.{arith}
 use mathlib.Core.List.{List}
-use Rattle.checks.specs.Checks.{Kept, Checked}
-use Rattle.checks.proofs.Kept.{kept-less, checked-kept}
-use Rattle.sizes.specs.Places.{FieldRefs, RecordLine}
+use Rattle.checks.specs.Checks.{Kept}
+use Rattle.sizes.specs.Places.{RecordLine}
+use Rattle.marks.proofs.Kept.{still}
 use Rattle.shapes.specs.Shapes.{PickLine, VariantLine}
 
 module _ {t u : List ℕ} (k : Kept 49152 t u) where
-  still : {s : List ℕ} {n : ℕ} → Checked s t n → Checked s u n
-  still c = checked-kept (kept-less (omega arith) k) c
-
-  pub refs-kept : {s : List ℕ} {n r from count : ℕ} → FieldRefs s t n r from count → FieldRefs s u n r from count
-  refs-kept l = record {
-    checked = still (l .checked);
-    first = l .first;
-    last = l .last;
-    near = l .near;
-    few = l .few;
-    number = l .number;
-    each = λ j h. let e = l .each j h in record { checked = still (e .checked); first = e .first; last = e .last; kind = e .kind };
-  }
-
   pub record-kept : {s : List ℕ} {n r : ℕ} → RecordLine s t n r → RecordLine s u n r
-  record-kept l = record { checked = still (l .checked); first = l .first; last = l .last; kind = l .kind }
+  record-kept l = record { checked = still k (l .checked); first = l .first; last = l .last; kind = l .kind }
 
   pub pick-kept : {s : List ℕ} {n r : ℕ} → PickLine s t n r → PickLine s u n r
-  pick-kept l = record { checked = still (l .checked); first = l .first; last = l .last; kind = l .kind }
+  pick-kept l = record { checked = still k (l .checked); first = l .first; last = l .last; kind = l .kind }
 
   pub variant-kept : {s : List ℕ} {n r c : ℕ} → VariantLine s t n r c → VariantLine s u n r c
   variant-kept l = record { line = pick-kept (l .line); case = l .case }

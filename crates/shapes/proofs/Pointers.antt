@@ -12,14 +12,14 @@ use Rattle.semantics.specs.Sheet.{concatMap}
 use Rattle.semantics.specs.Layout.{marked, pointerMap, place, pointersOf, shapeOf, pickShape, behindTag, variantShape}
 use Rattle.lines.specs.Lines.{formAt}
 use Rattle.sizes.specs.Places.{commonAt, caseAt, RecordLine}
-use Rattle.shapes.specs.Maps.{Marks}
+use Rattle.maps.specs.Maps.{Marks}
 use Rattle.shapes.specs.Shapes.{declAt, shapeAt, casesAt, variantAt, PickLine, CaseOf}
-use Rattle.shapes.specs.Fields.{AllMarked}
-use Rattle.shapes.proofs.Bits.{marked-append, map-same}
-use Rattle.shapes.proofs.Maps.{marks-none, marks-then, marks-same}
+use Rattle.marks.specs.Fields.{AllMarked}
+use Rattle.maps.proofs.Bits.{marked-append, map-same}
+use Rattle.maps.proofs.Maps.{marks-none, marks-then, marks-same}
 use Rattle.shapes.proofs.Cases.{fields-are}
 use Rattle.shapes.proofs.Sizes.{adt-shape, pick-shape}
-use Rattle.shapes.proofs.Marking.{append-none, pointers-append}
+use Rattle.marks.proofs.Marking.{append-none, pointers-append}
 
 -- ---- all variants together
 

@@ -1,3 +1,1 @@
-pub mod Maps
 pub mod Shapes
-pub mod Fields

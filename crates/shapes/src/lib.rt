@@ -1,7 +1,4 @@
 // Sizes and pointer maps of records, over the lines of a checked sheet.
-pub mod fields;
-pub mod map;
-
 use sizes::place::Reached;
 ghost use mathlib.Core.Path.{_≡_};
 ghost use Prim.Native.Nat.{_-_, _≤_};
@@ -9,7 +6,7 @@ ghost use lib.ListN.{length};
 ghost use Rattle.semantics.specs.Layout.{roundedSize, furthest, place};
 ghost use Rattle.lines.specs.Lines.{formAt};
 ghost use Rattle.sizes.specs.Places.{caseAt, CaseLine, RecordLine};
-ghost use Rattle.shapes.specs.Maps.{MapRoom, Marks, Made};
+ghost use Rattle.maps.specs.Maps.{MapRoom, Marks, Made};
 ghost use Rattle.shapes.specs.Shapes.{shapeAt, casesAt, variantAt, PickLine, VariantLine, CaseOf, BehindCommon};
 
 // The form of `adt` lines.
@@ -112,12 +109,12 @@ fn mark_pick(sheet: &[u8], work: &mut [u8], n: usize, r: usize, size: u32)
     requires { ⌜ (PickLine (now sheet) (now work) n r) × (MapRoom (now work) size) ⌝ }
     ensures { λ _. ⌜ Marks size (shapeAt (now (sheet .entry)) r .pointers) (now (work .entry)) (now (work .exit)) ⌝ }
 {
-    let end = fields::mark_common(sheet, work, n, r, size, TAG);
+    let end = marks::mark_common(sheet, work, n, r, size, TAG);
     let count = case_count(sheet, work, n, r);
     let mut c = 0;
     while c < count {
         let k = case_line(sheet, work, n, r, c);
-        fields::mark_case(sheet, work, n, k, size, end);
+        marks::mark_case(sheet, work, n, k, size, end);
         c += 1;
     }
 }
@@ -127,9 +124,9 @@ pub fn map_record(sheet: &[u8], work: &mut [u8], n: usize, r: usize, size: u32)
     requires { ⌜ (RecordLine (now sheet) (now work) n r) × (MapRoom (now work) size) ⌝ }
     ensures { λ _. ⌜ Made size (shapeAt (now (sheet .entry)) r .pointers) (now (work .entry)) (now (work .exit)) ⌝ }
 {
-    map::clear_map(work, size);
+    maps::clear_map(work, size);
     if lines::form_at(work, r - 1) == ADT {
-        fields::mark_common(sheet, work, n, r, size, 0);
+        marks::mark_common(sheet, work, n, r, size, 0);
         return;
     }
     mark_pick(sheet, work, n, r, size);
@@ -140,8 +137,8 @@ pub fn map_variant(sheet: &[u8], work: &mut [u8], n: usize, r: usize, c: usize, 
     requires { ⌜ (VariantLine (now sheet) (now work) n r c) × (MapRoom (now work) size) ⌝ }
     ensures { λ _. ⌜ Made size (variantAt (now (sheet .entry)) r c .pointers) (now (work .entry)) (now (work .exit)) ⌝ }
 {
-    map::clear_map(work, size);
-    let behind = fields::mark_common(sheet, work, n, r, size, TAG);
+    maps::clear_map(work, size);
+    let behind = marks::mark_common(sheet, work, n, r, size, TAG);
     let k = case_line(sheet, work, n, r, c);
-    fields::mark_case(sheet, work, n, k, size, behind);
+    marks::mark_case(sheet, work, n, k, size, behind);
 }

@@ -19,7 +19,7 @@ use Rattle.type_keys.proofs.Distinct.{newKey, distinct-more}
 use Rattle.type_keys.proofs.Numbers.{frames-all, frames-few}
 use Rattle.type_rows.specs.declared.Next.{Next}
 use Rattle.type_rows.specs.Rows.{Wrotes, shapesOf}
-use Rattle.type_rows.proofs.Rows.{rows-then}
+use Rattle.type_row.proofs.Rows.{rows-then}
 use Rattle.type_rows.proofs.Wrotes.{wrotes-then}
 
 -- keys keep their places when more come

@@ -17,7 +17,7 @@ use Rattle.type_keys.specs.Keys.{needAt, NeedLine, shapeAt}
 use Rattle.type_keys.specs.Table.{kindBy}
 use Rattle.type_keys.proofs.Forms.{elemBy, form-from}
 use Rattle.type_keys.proofs.Same.{name-key, block-key, opaque-key, plain-key}
-use Rattle.type_rows.specs.Rows.{words}
+use Rattle.type_row.specs.Row.{words}
 
 elem-kind : (d : ℕ) → d < 5 → kindBy (35 + d) ≡ kindNumber (elemBy (35 + d))
 elem-kind zero h = refl

@@ -24,8 +24,9 @@ use Rattle.type_keys.specs.Keys.{needAt, NeedLine}
 use Rattle.type_keys.specs.Table.{lineOf, placeOf}
 use Rattle.type_keys.proofs.Distinct.{newKey, position-none, position-low, position-more, distinct-more, key-member, known-more}
 use Rattle.type_rows.specs.declared.Next.{Next}
-use Rattle.type_rows.specs.Rows.{Rowed, Wrotes, keysTo, shapesOf, Ready}
-use Rattle.type_rows.proofs.Rows.{rows-then}
+use Rattle.type_row.specs.Row.{Rowed}
+use Rattle.type_rows.specs.Rows.{Wrotes, keysTo, shapesOf, Ready}
+use Rattle.type_row.proofs.Rows.{rows-then}
 
 pub within : {d : List ℕ} {a : ℕ} {t e : List ℕ} {b : ℕ} → Wrote d a t e b → b ≤ length e + 1
 within w = omega (arith, w .place, wrote-length w)

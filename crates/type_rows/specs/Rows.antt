@@ -1,8 +1,7 @@
 -- Rows of types, and the maps that they print.
-use Prim.Native.Nat.{ℕ, zero, suc, _+_, _*_, _≤_}
+use Prim.Native.Nat.{ℕ, _+_}
 use mathlib.Core.Path.{_≡_}
-use mathlib.Core.List.{List, [], _∷_, _++_, map}
-use lib.IntN.{ℤ, pos}
+use mathlib.Core.List.{List, [], map}
 use lib.ListN.{length, take}
 use Rattle.semantics.specs.Text.{Bytes}
 use Rattle.semantics.specs.Tree.{Shape, TypeKey}
@@ -12,18 +11,8 @@ use Rattle.semantics.specs.Listing.{typeRows}
 use Rattle.records.specs.Log.{logOf, Logged}
 use Rattle.type_keys.specs.Table.{Needs}
 use Rattle.type_rows.specs.declared.Next.{Next}
-use Rattle.checks.specs.Checks.{Kept, Checked}
+use Rattle.checks.specs.Checks.{Kept}
 use Rattle.write.specs.Wrote.{Wrote}
-
--- the offsets of the first k words
-unfoldable pub words : ℕ → List ℤ
-words zero = []
-words (suc k) = words k ++ (pos (4 * k) ∷ [])
-
--- one row, of a shape whose map was made in the working space, was written
-pub record Rowed (id : ℕ) (x : Shape) (t u d : Bytes) (a : ℕ) (e : Bytes) (b : ℕ) : Type 0 where
-  pub wrote : Wrote d a (typeRows id (x ∷ [])) e b
-  pub kept : Kept 49152 t u
 
 -- rows of these shapes were written, from p to q
 pub record Wrotes (xs : List Shape) (p q : Next) (t u d e : Bytes) : Type 0 where
@@ -44,11 +33,3 @@ pub record Ready (s t : Bytes) (n m needs : ℕ) : Type 0 where
   pub log : Logged s t n m
   pub table : Needs s t n (sheetSource s .needs)
   pub count : needs ≡ length (sheetSource s .needs)
-
--- the needs, and how many frames there are
-pub record Numbers (s t : Bytes) (n needs frames : ℕ) : Type 0 where
-  pub checked : Checked s t n
-  pub table : Needs s t n (sheetSource s .needs)
-  pub count : needs ≡ length (sheetSource s .needs)
-  pub framed : frames ≡ length (sheetSource s .frames)
-  pub few : frames ≤ 128

@@ -1,7 +1,7 @@
 // The rows of array elements that no need asked for.
 use crate::Next;
-use crate::row::put_elem;
 use type_keys::kind_place;
+use type_row::put_elem;
 ghost use mathlib.Core.Path.{_≡_};
 ghost use mathlib.Core.List.{List, [], _++_};
 ghost use Prim.Native.Nat.{ℕ, _+_, _≤_, _<_};

@@ -1,8 +1,6 @@
-// `typ` and `use` rows.
+// `typ` rows.
 pub mod kinds;
 pub mod record;
-pub mod row;
-pub mod used;
 
 ghost use mathlib.Core.Path.{_≡_};
 ghost use mathlib.Core.List.{List, [], _∷_, _++_};
@@ -21,7 +19,8 @@ ghost use Rattle.records.specs.Log.{logOf, Logged};
 ghost use Rattle.type_keys.specs.Keys.{needAt, NeedLine};
 ghost use Rattle.type_keys.specs.Table.{Kinds};
 ghost use Rattle.type_rows.specs.declared.Next.{Next};
-ghost use Rattle.type_rows.specs.Rows.{Rowed, Wrotes, keysTo, shapesOf, Ready};
+ghost use Rattle.type_row.specs.Row.{Rowed};
+ghost use Rattle.type_rows.specs.Rows.{Wrotes, keysTo, shapesOf, Ready};
 
 // Forms of `need` lines.
 const ADT: usize = 34;
@@ -41,8 +40,8 @@ fn opaque_rows(work: &mut [u8], out: &mut [u8], at: usize) -> usize
     requires { ⌜ 65536 ≤ length (now work) ⌝ }
     ensures { λ r. ⌜ (Wrote (now (out .entry)) at (typeRows 0 (opaqueShape ∷ opaqueShape ∷ [])) (now (out .exit)) r) × (Kept 49152 (now (work .entry)) (now (work .exit))) ⌝ }
 {
-    let p = row::put_opaque(work, 0, out, at);
-    row::put_opaque(work, 1, out, p)
+    let p = type_row::put_opaque(work, 0, out, at);
+    type_row::put_opaque(work, 1, out, p)
 }
 
 // ---- frames
@@ -54,7 +53,7 @@ fn next_frame(sheet: &[u8], work: &mut [u8], n: usize, i: usize, out: &mut [u8],
 {
     if type_keys::ids::is_frame(sheet, work, n, i) {
         let id = r.id;
-        let at = row::put_line(sheet, work, n, i, id, out, r.at);
+        let at = type_row::put_line(sheet, work, n, i, id, out, r.at);
         return Next { at: at, id: id + 1 };
     }
     r
@@ -95,12 +94,12 @@ fn put_need(
         return record::put_record(sheet, work, n, m, i, id, out, at);
     }
     if f == BLOCK {
-        return row::put_line(sheet, work, n, i, id, out, at);
+        return type_row::put_line(sheet, work, n, i, id, out, at);
     }
     if f == OPAQUE {
-        return row::put_opaque(work, id, out, at);
+        return type_row::put_opaque(work, id, out, at);
     }
-    row::put_elem(work, id, type_keys::kind_needed(f), out, at)
+    type_row::put_elem(work, id, type_keys::kind_needed(f), out, at)
 }
 
 // The row of need q, where its key is new. The keys' rows begin at `base`.

@@ -1,13 +1,13 @@
 // The row of a record that a need names.
-use crate::row::put_type;
-use crate::row::put_words;
+use type_row::put_type;
+use type_row::put_words;
 ghost use mathlib.Core.Path.{_≡_};
 ghost use Rattle.semantics.specs.Types.{keyShape};
 ghost use Rattle.lines.specs.Lines.{formAt};
 ghost use Rattle.records.specs.Log.{recordedAt, logOf, Logged};
 ghost use Rattle.type_keys.specs.Keys.{needAt, NeedLine};
 ghost use Rattle.record_rows.specs.Rows.{LogEntry};
-ghost use Rattle.type_rows.specs.Rows.{Rowed};
+ghost use Rattle.type_row.specs.Row.{Rowed};
 
 // The record of entry e of the log.
 fn put_entry(

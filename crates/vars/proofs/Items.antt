@@ -1,6 +1,6 @@
--- Items line by line, and the rows that they make.
+-- Items and refusals line by line.
 use mathlib.Core.Path.{_≡_, refl, sym, ap, _∙_, subst}
-use mathlib.Core.List.{List}
+use mathlib.Core.List.{List, [], _∷_, _++_}
 use mathlib.Core.Logic.{⊎-elim}
 use mathlib.Core.Option.{Option, none, some}
 use Prim.Native.Nat.{ℕ, zero, suc, _≤_, _<_}
@@ -9,15 +9,15 @@ use native.Mathlib.Omega.{arith}
 use Rattle.semantics.specs.Text.{Bytes}
 use Rattle.semantics.specs.Tree.{VarDecl}
 use Rattle.semantics.specs.Sheet.{Located, concatMap, sheetSource}
-use Rattle.semantics.specs.Fold.{Names}
+use Rattle.semantics.specs.Fold.{Result, Names}
+use Rattle.semantics.specs.Fold.Result.{ok, failed, refuse}
 use Rattle.semantics.specs.Const.{Refusal}
-use Rattle.semantics.specs.Global.{Item, Global, varsRefused, globals}
+use Rattle.semantics.specs.Global.{Item, Global, varValue, refusedBy, varsRefused, globals}
 use Rattle.semantics.specs.Refusal.{orRefused}
 use Rattle.checks.specs.Checks.{Checked}
 use Rattle.globals.specs.Vars.{laidVarsTo, varItems}
 use Rattle.globals.proofs.Vars.{items-by, laid-lines}
-use Rattle.vars.specs.Pends.{laidAt}
-use Rattle.vars.proofs.Walk.{refused-append}
+use Rattle.vars.specs.Lines.{laidAt}
 
 -- the items of lines, with names at these places
 abbrev pub itemsOf : Names → List Global → List (Located VarDecl) → List Item
@@ -28,7 +28,16 @@ module _ (ns : Names) (s : Bytes) where
   pub items-all : {t : Bytes} {n : ℕ} → Checked s t n → itemsOf ns (globals ns (sheetSource s) .places) (laidVarsTo s n) ≡ globals ns (sheetSource s) .items
   items-all {t} {n} c = sym (items-by ns (sheetSource s) ∙ ap (itemsOf ns (globals ns (sheetSource s) .places)) (laid-lines s t n c))
 
--- ---- no line is refused where the sheet is not
+-- ---- the first line that is refused, and none where the sheet is not
+
+refused-then : {A : Type 0} (k : ℕ) (x : Result A) (o w : Option Refusal) → refusedBy k x (orRefused o w) ≡ orRefused (refusedBy k x o) w
+refused-then k (ok a) o w = refl
+refused-then k failed o w = refl
+refused-then k (refuse r) o w = refl
+
+pub refused-append : (ns : Names) (vs ws : List (Located VarDecl)) → varsRefused ns (vs ++ ws) ≡ orRefused (varsRefused ns vs) (varsRefused ns ws)
+refused-append ns [] ws = refl
+refused-append ns (v ∷ vs) ws = rw (refused-append ns vs ws) (refused-then (v .line) (varValue ns (v .it)) (varsRefused ns vs) (varsRefused ns ws))
 
 none-both : (a b : Option Refusal) → orRefused a b ≡ none → (a ≡ none) × (b ≡ none)
 none-both none b h = (refl, h)

@@ -16,7 +16,7 @@ use Rattle.source.specs.Walk.{openAt}
 use Rattle.implement.specs.Modules.{moduleAt}
 use Rattle.literals.specs.Literals.{Line}
 use Rattle.globals.specs.Laying.{counts}
-use Rattle.vars.specs.Pends.{locatedAt, laidAt, LineTask}
+use Rattle.vars.specs.Lines.{locatedAt, laidAt, LineTask}
 
 var-kind : kindAt 29 ≡ 72
 unfolding forms

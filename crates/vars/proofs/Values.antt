@@ -21,7 +21,7 @@ use Rattle.values.specs.declared.Folded.the-variants as Folded
 use Rattle.values.specs.Values.{resultIn, ResultAt}
 use Rattle.placements.specs.Placements.{Keeps}
 use Rattle.placements.proofs.Same.{keeps-all, keeps-then, keeps-less, keeps-kept}
-use Rattle.fold.specs.Folds.{exAt, Folds}
+use Rattle.leaf.specs.Folds.{exAt, Folds}
 use Rattle.literals.specs.Literals.{namesIn, Line}
 use Rattle.literals.proofs.Names.{log-kept, line-kept}
 use Rattle.literals.proofs.Selectors.{folds-to}

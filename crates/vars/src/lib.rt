@@ -1,6 +1,4 @@
 // First values of globals.
-pub mod pends;
-
 use arrays::Arrayed;
 use values::ConstVal;
 use values::Folded;
@@ -10,7 +8,7 @@ ghost use Rattle.semantics.specs.Text.{Bytes};
 ghost use Rattle.semantics.specs.Tree.{elemOf};
 ghost use Rattle.semantics.specs.Array.{constArray};
 ghost use Rattle.semantics.specs.Global.{arrayValue, initOf, laidNames, noneOf, varValue};
-ghost use Rattle.fold.specs.Folds.{exAt};
+ghost use Rattle.leaf.specs.Folds.{exAt};
 ghost use Rattle.literals.specs.Literals.{namesIn, Line};
 ghost use Rattle.arrays.specs.Arrays as Arrays;
 ghost use Rattle.arrays.specs.Arrays.{arrayedIn, typeOf, Declared};

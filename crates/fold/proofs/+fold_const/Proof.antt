@@ -10,7 +10,7 @@ use Rattle.fold.proofs.fold_const.Reads as fold-const
 use Rattle.fold.proofs.fold_const.Kinds as fold-const-kinds
 use Rattle.fold.proofs.+fold_const.Lts-fold_const as fold-const-lts
 use Rattle.fold.proofs.apply.Reads as apply-reads
-use Rattle.fold.proofs.leaf.leaf.Reads as leaf-reads
+use Rattle.leaf.proofs.leaf.Reads as leaf-reads
 use Rattle.fold.proofs.operand.Reads as operand-reads
 use Rattle.lines.proofs.form_at.Reads as form-at-reads
 use Rattle.lines.proofs.number_at.Reads as number-at-reads

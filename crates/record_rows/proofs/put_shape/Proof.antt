@@ -1,7 +1,7 @@
 use native.Mathlib.Omega.{arith}
 use Rattle.record_rows.proofs.Entries.{shape-text, map-room}
 use Rattle.records.specs.Log.{recordedAt}
-use Rattle.shapes.proofs.Maps.{map-fits, bytes-count}
+use Rattle.maps.proofs.Maps.{map-fits, bytes-count}
 use Rattle.write.proofs.Wrote.{wrote-as, then}
 use denote.Ref.{now}
 use mathlib.Core.Path.{refl, _∙_}

@@ -1,4 +1,4 @@
-use Rattle.shapes.proofs.Maps.{map-fits, bytes-count}
+use Rattle.maps.proofs.Maps.{map-fits, bytes-count}
 use mathlib.Core.List.{[]}
 use native.Mathlib.Omega.{arith}
 use borrow.Author.Needs.{needs}

@@ -1,7 +1,7 @@
 use Rattle.shapes.proofs.Pointers.{adt-marks}
 use Rattle.shapes.proofs.Cases.{else-pick}
 use Rattle.shapes.proofs.Kept.{record-kept}
-use Rattle.shapes.proofs.Maps.{room-kept, made-then}
+use Rattle.maps.proofs.Maps.{room-kept, made-then}
 use mathlib.Core.Path.{_∙_, sym}
 use native.Mathlib.Omega.{arith}
 use denote.Ref.{now}

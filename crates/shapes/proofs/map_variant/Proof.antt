@@ -1,7 +1,7 @@
 use Rattle.shapes.proofs.Pointers.{variant-marks}
 use Rattle.shapes.proofs.Cases.{pick-record}
 use Rattle.shapes.proofs.Kept.{pick-kept, variant-kept}
-use Rattle.shapes.proofs.Maps.{room-kept, made-then}
+use Rattle.maps.proofs.Maps.{room-kept, made-then}
 use Rattle.checks.proofs.Kept.{kept-then}
 use native.Mathlib.Omega.{arith}
 use denote.Ref.{now}

@@ -1,7 +1,7 @@
 use Rattle.shapes.proofs.Pointers.{CasesMarked, cases-marked-start, cases-marked-next, cases-marked-end}
 use Rattle.shapes.proofs.Cases.{pick-record}
 use Rattle.shapes.proofs.Kept.{pick-kept}
-use Rattle.shapes.proofs.Maps.{room-kept}
+use Rattle.maps.proofs.Maps.{room-kept}
 use Rattle.checks.proofs.Kept.{kept-then}
 use Prim.Native.Nat.{_-_}
 use native.Mathlib.Omega.{arith}

@@ -8,7 +8,7 @@ use Rattle.lines.specs.Lines.{nodesIn}
 use Rattle.source.specs.Walk.{declaredTo, declaresAt}
 use Rattle.type_keys.proofs.Numbers.{framesTo, frames-more, frames-few, frames-all}
 use Rattle.type_rows.specs.Rows.{Wrotes}
-use Rattle.type_rows.proofs.Kept.{map-checked}
+use Rattle.type_row.proofs.Kept.{map-checked}
 use Rattle.type_rows.proofs.Wrotes.{within, wrotes-none, wrotes-then}
 use Rattle.type_rows.proofs.frame_rows.Statement.{statement}
 use Rattle.type_rows.proofs.frame_rows.Tie as tie

@@ -10,7 +10,7 @@ use Rattle.type_keys.specs.Keys.{needAt}
 use Rattle.type_keys.specs.Table.{lineOf}
 use Rattle.type_rows.specs.Rows.{keysTo}
 use Rattle.type_rows.proofs.Wrotes.{need-at, need-low, keys-stay, keys-next, keys-then, wrotes-one}
-use Rattle.type_rows.proofs.Maps.{rowed-as}
+use Rattle.type_row.proofs.Maps.{rowed-as}
 use borrow.Author.Needs.{needs}
 use Rattle.type_rows.proofs.next_need.Statement.{statement}
 use Rattle.type_rows.proofs.next_need.Tie as tie

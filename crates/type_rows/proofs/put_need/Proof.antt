@@ -4,7 +4,7 @@ use Rattle.records.specs.Log.{logOf}
 use Rattle.type_keys.proofs.Forms.{elemBy}
 use Rattle.type_keys.proofs.Same.{block-line}
 use Rattle.type_rows.proofs.Needs.{block-shape, opaque-shape, elem-shape, elem-number}
-use Rattle.type_rows.proofs.Maps.{rowed-as}
+use Rattle.type_row.proofs.Maps.{rowed-as}
 use borrow.Author.Needs.{needs}
 use Rattle.type_rows.proofs.put_need.Statement.{statement}
 use Rattle.type_rows.proofs.put_need.Tie as tie

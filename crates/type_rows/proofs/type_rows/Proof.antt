@@ -8,7 +8,7 @@ use Rattle.type_keys.proofs.Table.{kinds-kept}
 use Rattle.semantics.specs.Types.{distinct}
 use Rattle.semantics.specs.Sheet.{sheetSource}
 use Rattle.type_rows.proofs.All.{all-rows, frames-low}
-use Rattle.type_rows.proofs.Kept.{map-checked}
+use Rattle.type_row.proofs.Kept.{map-checked}
 use Rattle.type_rows.proofs.Wrotes.{within, ready-kept, shapes-length}
 use borrow.Author.Needs.{needs}
 use Rattle.type_rows.proofs.type_rows.Statement.{statement}

@@ -1,8 +1,8 @@
 use denote.Ref.{now}
 use mathlib.Core.Path.{refl}
-use Rattle.shapes.proofs.Maps.{room-kept}
+use Rattle.maps.proofs.Maps.{room-kept}
 use Rattle.records.specs.Log.{recordedAt}
-use Rattle.type_rows.proofs.Maps.{shape-is, rowed-as}
+use Rattle.type_row.proofs.Maps.{shape-is, rowed-as}
 use borrow.Author.Needs.{needs}
 use Rattle.type_rows.proofs.record.put_entry.Statement.{statement}
 use Rattle.type_rows.proofs.record.put_entry.Tie as tie

@@ -3,9 +3,9 @@ use denote.Ref.{now}
 use Rattle.type_keys.specs.Keys.{needAt}
 use Rattle.semantics.specs.Types.{keyShape}
 use Rattle.records.specs.Log.{logOf}
-use Rattle.type_rows.specs.Rows.{words}
+use Rattle.type_row.specs.Row.{words}
 use Rattle.type_rows.proofs.Needs.{unknown-size, unknown-words, known-low, known-shape}
-use Rattle.type_rows.proofs.Maps.{shape-is, rowed-as}
+use Rattle.type_row.proofs.Maps.{shape-is, rowed-as}
 use borrow.Author.Needs.{needs}
 use Rattle.type_rows.proofs.record.put_record.Statement.{statement}
 use Rattle.type_rows.proofs.record.put_record.Tie as tie

@@ -1,0 +1,48 @@
+use Rattle.maps.proofs.Maps.{map-fits, bytes-count, Counting, counting-start, counting-next, counting-end}
+use denote.Ref.{now}
+use mathlib.Core.List.{[]}
+use native.Mathlib.Omega.{arith}
+use Prim.Native.Nat.{_-_}
+use Rattle.maps.proofs.map_ones.Statement.{statement}
+use Rattle.maps.proofs.map_ones.Tie as tie
+
+abbrev Inv-loop : tie.InvT-loop
+Inv-loop work size end count₀ i₀ count i = Counting work size count i
+
+abbrev μ-loop : tie.MeasureT-loop
+μ-loop work size end count₀ i₀ count i = end - i
+
+map-bytes-requires : tie.Need-map-bytes-requires Inv-loop μ-loop
+map-bytes-requires c κs = tt
+
+loop-holds : tie.Need-loop-holds Inv-loop μ-loop
+loop-holds c = counting-start (now (c .before .before .args .work)) (c .before .before .args .size) (c .before .before .pre)
+
+add-ones-of : tie.Need-add-ones-of Inv-loop μ-loop
+add-ones-of c = omega (arith, map-fits (c .before .before .before .before .pre), c .before .before .map-bytes .ensures .0 [], bytes-count (c .before .before .before .before .args .size) [])
+
+shared-slice-read-ones-of : tie.Need-shared-slice-read-ones-of Inv-loop μ-loop
+shared-slice-read-ones-of c = omega (arith, c .before .before .before .before .before .pre .room, map-fits (c .before .before .before .before .before .pre), c .before .before .before .map-bytes .ensures .0 [], bytes-count (c .before .before .before .before .before .args .size) [])
+
+ones-of-requires : tie.Need-ones-of-requires Inv-loop μ-loop
+ones-of-requires c κs = tt
+
+add-count : tie.Need-add-count Inv-loop μ-loop
+add-count c = omega (arith, c .before .before .before .loop .inv .few, c .before .before .before .loop .inv .within, map-fits (c .before .before .before .before .before .before .pre), c .ones-of .ensures .1)
+
+add-i : tie.Need-add-i Inv-loop μ-loop
+add-i c = omega arith
+
+loop-less : tie.Need-loop-less Inv-loop μ-loop
+loop-less c = omega arith
+
+loop-again : tie.Need-loop-again Inv-loop μ-loop
+loop-again c = counting-next (now (c .before .before .before .before .before .before .args .work)) (c .before .before .before .before .before .before .args .size) (c .before .before .before .before .before .before .pre) (c .before .before .before .loop .count) (c .before .before .before .loop .i) (c .ones-of .result) (c .before .before .before .loop .inv) (omega (arith, c .before .before .before .before .map-bytes .ensures .0 [], bytes-count (c .before .before .before .before .before .before .args .size) [])) (c .ones-of .ensures .0) (c .ones-of .ensures .1)
+
+returns : tie.Need-returns Inv-loop μ-loop
+returns c = counting-end (now (c .before .before .before .before .args .work)) (c .before .before .before .before .args .size) (c .before .before .before .before .pre) (c .before .loop .count) (c .before .loop .i) (c .before .loop .inv) (omega (arith, c .before .before .map-bytes .ensures .0 [], bytes-count (c .before .before .before .before .args .size) []))
+
+pub map-ones-spec : {M : Type 1} → statement M
+map-ones-spec =
+    tie.close (tie.spec Inv-loop μ-loop map-bytes-requires loop-holds add-ones-of shared-slice-read-ones-of ones-of-requires add-count add-i loop-less
+    loop-again returns)

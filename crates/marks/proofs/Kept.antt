@@ -1,0 +1,22 @@
+-- What holds of a line of a checked sheet holds while a map is made.
+use Prim.Native.Nat.{ℕ}
+use native.Mathlib.Omega.{arith}
+use mathlib.Core.List.{List}
+use Rattle.checks.specs.Checks.{Kept, Checked}
+use Rattle.checks.proofs.Kept.{kept-less, checked-kept}
+use Rattle.sizes.specs.Places.{FieldRefs}
+
+module _ {t u : List ℕ} (k : Kept 49152 t u) where
+  pub still : {s : List ℕ} {n : ℕ} → Checked s t n → Checked s u n
+  still c = checked-kept (kept-less (omega arith) k) c
+
+  pub refs-kept : {s : List ℕ} {n r from count : ℕ} → FieldRefs s t n r from count → FieldRefs s u n r from count
+  refs-kept l = record {
+    checked = still (l .checked);
+    first = l .first;
+    last = l .last;
+    near = l .near;
+    few = l .few;
+    number = l .number;
+    each = λ j h. let e = l .each j h in record { checked = still (e .checked); first = e .first; last = e .last; kind = e .kind };
+  }

@@ -1,0 +1,111 @@
+// Marks the pointers of fields in the map that stands in the working space. The fields of an `fd` line are gathered in a list, and the list is lent.
+use field_list::Field;
+use layout::align::align_up;
+ghost use Prim.Native.Nat.{_+_, _*_, _≤_};
+ghost use mathlib.Core.Path.{_≡_};
+ghost use lib.ListN.{take};
+ghost use Rattle.semantics.specs.Layout.{isPtr};
+ghost use Rattle.sizes.specs.Sizes.{typeAt, TypeLine};
+ghost use Rattle.sizes.specs.Places.{fieldAt, fieldsAt, commonAt, caseAt, FieldLine, FieldRefs, RecordLine, CaseLine};
+ghost use Rattle.field_list.specs.Fields.{fieldsFrom, pointersIn};
+ghost use Rattle.maps.specs.Maps.{MapRoom, Marks};
+ghost use Rattle.marks.specs.Fields.{LineMarked, AllMarked};
+
+// Marks the pointers of a lent list of fields.
+pub fn mark_list(size: u32, fields: &[Field], work: &mut [u8])
+    requires { ⌜ MapRoom (now work) size ⌝ }
+    ensures { λ _. ⌜ Marks size (pointersIn (now (fields .entry))) (now (work .entry)) (now (work .exit)) ⌝ }
+{
+    let mut i: usize = 0;
+    while i < fields.len() {
+        let f = fields[i];
+        maps::mark_if(&mut *work, size, f.offset, f.pointer);
+        i += 1;
+    }
+}
+
+// The same of the first fields of an array, which are lent here.
+fn mark_first(size: u32, a: [Field; 16], count: usize, work: &mut [u8])
+    requires { ⌜ (count ≤ 16) × (MapRoom (now work) size) ⌝ }
+    ensures { λ _. ⌜ Marks size (pointersIn (take count a)) (now (work .entry)) (now (work .exit)) ⌝ }
+{
+    mark_list(size, &a[..count], work)
+}
+
+// So many fields of the type of line t, of size `step`, one behind the other. Returns where they end.
+fn mark_names(
+    sheet: &[u8],
+    work: &mut [u8],
+    n: usize,
+    t: usize,
+    size: u32,
+    off: u32,
+    step: u32,
+    names: usize,
+) -> u32
+    requires { ⌜ (TypeLine (now sheet) (now work) n t) × (MapRoom (now work) size) × (step ≤ 8192) × (names ≤ 16) × (off ≤ 4600000) ⌝ }
+    ensures { λ q. ⌜ (q ≡ off + names * step) × (Marks size (pointersIn (fieldsFrom off step (isPtr (typeAt (now (sheet .entry)) t)) names)) (now (work .entry)) (now (work .exit))) ⌝ }
+{
+    let pointer = sizes::is_pointer(sheet, work, n, t);
+    let a = field_list::line_fields(off, step, pointer, names);
+    mark_first(size, a, names, work);
+    off + (names as u32) * step
+}
+
+// The fields of the `fd` line r, from `off` on. An untyped line has none.
+fn mark_field(sheet: &[u8], work: &mut [u8], n: usize, r: usize, size: u32, off: u32) -> u32
+    requires { ⌜ (FieldLine (now sheet) (now work) n r) × (MapRoom (now work) size) × (off ≤ 4500000) ⌝ }
+    ensures { λ q. ⌜ (LineMarked (fieldAt (now (sheet .entry)) r .ty) (fieldAt (now (sheet .entry)) r .names) size off q (now (work .entry)) (now (work .exit))) × (q ≤ off + 131080) ⌝ }
+{
+    let t = lines::number_at(sheet, work, n, r - 1, 0);
+    if t == 0 {
+        return off;
+    }
+    let x = sizes::type_size_align(sheet, work, n, t);
+    let names = lines::number_at(sheet, work, n, r - 1, 1);
+    let at = align_up(off, x.align) as u32;
+    mark_names(sheet, work, n, t, size, at, x.size, names)
+}
+
+// The fields of the `fd` lines to which `count` fields of line r refer, from field `from` on.
+fn mark_fields(
+    sheet: &[u8],
+    work: &mut [u8],
+    n: usize,
+    r: usize,
+    from: usize,
+    count: usize,
+    size: u32,
+    off: u32,
+) -> u32
+    requires { ⌜ (FieldRefs (now sheet) (now work) n r from count) × (MapRoom (now work) size) × (off ≤ 2200000) ⌝ }
+    ensures { λ q. ⌜ (AllMarked (fieldsAt (now (sheet .entry)) r from count) size off q (now (work .entry)) (now (work .exit))) × (q ≤ off + 2097280) ⌝ }
+{
+    let mut q = off;
+    let mut j = 0;
+    while j < count {
+        let k = lines::number_at(sheet, work, n, r - 1, from + j);
+        q = mark_field(sheet, work, n, k, size, q);
+        j += 1;
+    }
+    q
+}
+
+// The fields of the `adt` or `pick` line r that are no case's.
+pub fn mark_common(sheet: &[u8], work: &mut [u8], n: usize, r: usize, size: u32, off: u32) -> u32
+    requires { ⌜ (RecordLine (now sheet) (now work) n r) × (MapRoom (now work) size) × (off ≤ 4) ⌝ }
+    ensures { λ q. ⌜ (AllMarked (commonAt (now (sheet .entry)) r) size off q (now (work .entry)) (now (work .exit))) × (q ≤ 2097284) ⌝ }
+{
+    let count = lines::number_at(sheet, work, n, r - 1, 1);
+    mark_fields(sheet, work, n, r, 2, count, size, off)
+}
+
+// The fields of the `pc` line r, which follow its tags.
+pub fn mark_case(sheet: &[u8], work: &mut [u8], n: usize, r: usize, size: u32, off: u32) -> u32
+    requires { ⌜ (CaseLine (now sheet) (now work) n r) × (MapRoom (now work) size) × (off ≤ 2097284) ⌝ }
+    ensures { λ q. ⌜ AllMarked (caseAt (now (sheet .entry)) r) size off q (now (work .entry)) (now (work .exit)) ⌝ }
+{
+    let at = lines::number_at(sheet, work, n, r - 1, 0) + 1;
+    let count = lines::number_at(sheet, work, n, r - 1, at);
+    mark_fields(sheet, work, n, r, at + 1, count, size, off)
+}

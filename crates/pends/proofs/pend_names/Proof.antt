@@ -1,0 +1,51 @@
+-- `pends::pend_names` meets its contract.
+use native.Mathlib.Omega.{arith}
+use borrow.Author.Needs.{needs}
+use denote.Ref.{now}
+use Prim.Native.Nat.{_-_}
+use Rattle.write.proofs.Wrote.{wrote-length}
+use Rattle.vars.proofs.Names.{few-names}
+use Rattle.pends.proofs.Rows.{Naming, naming-start, naming-next, naming-end}
+use Rattle.pends.proofs.pend_names.Statement.{statement}
+use Rattle.pends.proofs.pend_names.Tie as tie
+
+abbrev Inv-loop : tie.InvT-loop
+Inv-loop sheet work n r out₀ at count p₀ j₀ out p j = Naming sheet r count out₀ at j out p
+
+abbrev μ-loop : tie.MeasureT-loop
+μ-loop sheet work n r out₀ at count p₀ j₀ out p j = count - j
+
+sub-number-at : tie.Need-sub-number-at Inv-loop μ-loop
+sub-number-at c = search needs
+
+number-at-requires : tie.Need-number-at-requires Inv-loop μ-loop
+number-at-requires c κs = search needs
+
+no-rows-requires : tie.Need-no-rows-requires Inv-loop μ-loop
+no-rows-requires c κs = search needs
+
+loop-holds : tie.Need-loop-holds Inv-loop μ-loop
+loop-holds c = naming-start (now (c .before .before .before .before .before .before .args .sheet)) (now (c .before .before .before .before .before .before .args .work)) (c .before .before .before .before .before .before .args .n) (c .before .before .before .before .before .before .args .r) (c .before .before .before .before .before .before .pre) (c .before .before .number-at .ensures .0) (c .no-rows .ensures)
+
+pend-name-requires : tie.Need-pend-name-requires Inv-loop μ-loop
+pend-name-requires c κs = (c .before .before .before .before .before .before .before .before .before .pre, omega (arith, few-names (now (c .before .before .before .before .before .before .before .before .before .args .sheet)) (now (c .before .before .before .before .before .before .before .before .before .args .work)) (c .before .before .before .before .before .before .before .before .before .args .n) (c .before .before .before .before .before .before .before .before .before .args .r) (c .before .before .before .before .before .before .before .before .before .pre) (c .before .before .before .before .before .number-at .ensures .0), c .before .loop-test .taken))
+
+add-j : tie.Need-add-j Inv-loop μ-loop
+add-j c = search needs
+
+loop-less : tie.Need-loop-less Inv-loop μ-loop
+loop-less c = search needs
+
+loop-again : tie.Need-loop-again Inv-loop μ-loop
+loop-again c = naming-next (c .before .before .before .before .before .loop .inv) (c .before .before .before .before .loop-test .taken) (wrote-length (c .before .before .pend-name .ensures)) (c .before .before .pend-name .ensures)
+
+same-length : tie.Need-same-length Inv-loop μ-loop
+same-length c = c .before .loop .inv .long
+
+returns : tie.Need-returns Inv-loop μ-loop
+returns c = naming-end (c .before .loop .inv) (c .loop-test .left)
+
+pub pend-names-spec : {M : Type 1} → statement M
+pend-names-spec =
+    tie.close (tie.spec Inv-loop μ-loop sub-number-at number-at-requires no-rows-requires loop-holds pend-name-requires add-j loop-less loop-again
+    same-length returns)

@@ -1,0 +1,63 @@
+-- `pends::pend_rows` meets its contract.
+use borrow.Author.Needs.{needs}
+use Rattle.pends.proofs.Walk.{Walking, not-written, walk-start, walk-task, walk-open, walk-next, walk-stop, walk-end}
+use mathlib.Core.Path.{_∙_}
+use Prim.Native.Nat.{_-_}
+use Rattle.pends.proofs.pend_rows.Statement.{statement}
+use Rattle.pends.proofs.pend_rows.Tie as tie
+
+abbrev Inv-loop : tie.InvT-loop
+Inv-loop sheet work₀ n m out₀ at p₀ k₀ i₀ work out p k i = Walking sheet work₀ n m out₀ at work k i out p
+
+abbrev μ-loop : tie.MeasureT-loop
+μ-loop sheet work₀ n m out₀ at p₀ k₀ i₀ work out p k i = n - i
+
+no-rows-requires : tie.Need-no-rows-requires Inv-loop μ-loop
+no-rows-requires c κs = search needs
+
+loop-holds : tie.Need-loop-holds Inv-loop μ-loop
+loop-holds c = walk-start (c .before .before .before .before .before .pre) (c .no-rows .ensures)
+
+pend-at-requires : tie.Need-pend-at-requires Inv-loop μ-loop
+pend-at-requires c κs = walk-task (c .before .before .before .before .before .before .before .before .before .pre) (c .before .before .before .loop .inv) (c .before .before .loop-test .taken)
+
+enum-known-y : tie.Need-enum-known-y Inv-loop μ-loop
+enum-known-y c = search needs
+
+enum-told : tie.Need-enum-told Inv-loop μ-loop
+enum-told c = search needs
+
+same-length : tie.Need-same-length Inv-loop μ-loop
+same-length c = c .before .before .before .before .before .before .pend-at .ensures .1 .long ∙ c .before .before .before .before .before .before .before .before .before .before .loop .inv .keeps .long
+
+same-length-2 : tie.Need-same-length-2 Inv-loop μ-loop
+same-length-2 c = c .before .before .before .out .given ∙ c .before .before .before .before .before .before .before .before .before .before .loop .inv .long
+
+returns : tie.Need-returns Inv-loop μ-loop
+returns c = walk-stop (c .before .before .before .before .before .before .before .before .before .before .before .before .before .before .before .before .pre) (c .before .before .before .before .before .before .before .before .before .before .loop .inv) (c .before .before .before .before .before .before .pend-at .result) _ (c .before .before .before .before .before .before .pend-at .ensures) (c .before .before .before .before .before .before .before .before .before .loop-test .taken) (not-written (c .before .before .before .before .before .before .pend-at .result) (c .before .match .keys2))
+
+open-after-requires : tie.Need-open-after-requires Inv-loop μ-loop
+open-after-requires c κs = (walk-open (c .before .before .before .before .before .before .before .before .before .before .before .before .before .before .before .before .before .before .pre) (c .before .before .before .before .before .before .before .before .before .before .before .before .loop .inv) (c .before .before .before .before .before .before .before .before .pend-at .result) _ (c .before .before .before .before .before .before .before .before .pend-at .ensures), c .before .before .before .before .before .before .before .before .before .before .before .loop-test .taken)
+
+add-i : tie.Need-add-i Inv-loop μ-loop
+add-i c = search needs
+
+loop-less : tie.Need-loop-less Inv-loop μ-loop
+loop-less c = search needs
+
+loop-again : tie.Need-loop-again Inv-loop μ-loop
+loop-again c = walk-next (c .before .before .before .before .before .before .before .before .before .before .before .before .before .before .before .before .before .before .before .pre) (c .before .before .before .before .before .before .before .before .before .before .before .before .before .loop .inv) (c .before .before .before .before .before .before .before .before .before .pend-at .result) _ (c .before .before .before .before .before .before .before .before .before .pend-at .ensures) (c .before .before .before .y .given .1) (c .before .before .before .before .before .before .out .given) (c .open-after .ensures)
+
+same-length-3 : tie.Need-same-length-3 Inv-loop μ-loop
+same-length-3 c = c .before .loop .inv .keeps .long
+
+same-length-4 : tie.Need-same-length-4 Inv-loop μ-loop
+same-length-4 c = c .before .loop .inv .long
+
+returns-2 : tie.Need-returns-2 Inv-loop μ-loop
+returns-2 c = walk-end (c .before .before .before .before .before .before .before .pre) (c .before .loop .inv) (c .loop-test .left)
+
+pub pend-rows-spec : {M : Type 1} → statement M
+pend-rows-spec =
+    tie.close (tie.spec Inv-loop μ-loop no-rows-requires loop-holds pend-at-requires enum-known-y enum-told same-length same-length-2 returns
+    open-after-requires add-i loop-less loop-again same-length-3 same-length-4 returns-2)

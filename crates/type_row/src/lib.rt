@@ -1,0 +1,150 @@
+// One `typ` row: the map is made in the working space, and what is printed is that map and its ones.
+ghost use mathlib.Core.Path.{_≡_};
+ghost use mathlib.Core.Bool.{true};
+ghost use mathlib.Core.List.{List, [], _∷_};
+ghost use Prim.Native.Nat.{_≤_};
+ghost use lib.IntN.{ℤ};
+ghost use lib.ListN.{length};
+ghost use Rattle.semantics.specs.Tree.{ElemKind};
+ghost use Rattle.semantics.specs.Form.{between};
+ghost use Rattle.semantics.specs.Array.{kindNumber};
+ghost use Rattle.semantics.specs.Types.{opaqueShape, elemShape};
+ghost use Rattle.semantics.specs.Listing.{typeRows};
+ghost use Rattle.write.specs.Wrote.{Wrote};
+ghost use Rattle.checks.specs.Checks.{Kept};
+ghost use Rattle.maps.specs.Maps.{MapRoom, Mapped, Marks, Made};
+ghost use Rattle.type_keys.specs.Keys.{shapeAt, ShapeLine, raised};
+ghost use Rattle.type_row.specs.Row.{words, Rowed};
+
+const MAP: usize = 49152;
+
+// The row of a block of this size whose map stands in the working space.
+pub fn put_type(work: &[u8], id: usize, size: u32, out: &mut [u8], at: usize) -> usize
+    requires { ⌜ MapRoom (now work) size ⌝ }
+    ensures { λ r. ⌜ ((offs : List ℤ) → Mapped (now (work .entry)) size offs → Wrote (now (out .entry)) at (typeRows id (record { size = size; pointers = offs } ∷ [])) (now (out .exit)) r) ⌝ }
+{
+    let end = MAP + layout::map::map_bytes(size);
+    let mut p = write::put_part(out, at, b"typ");
+    p = rows::put_comma_nat(out, p, id as u64);
+    p = rows::put_comma_nat(out, p, size as u64);
+    p = rows::put_comma_nat(out, p, maps::map_ones(work, size) as u64);
+    p = rows::put_comma_hex(out, p, &work[MAP..end]);
+    rows::put_lf(out, p)
+}
+
+// ---- blocks that begin with pointers
+
+// Makes the map of a block whose first `count` words are pointers.
+fn map_words(work: &mut [u8], size: u32, count: u32)
+    requires { ⌜ (MapRoom (now work) size) × (count ≤ 12) ⌝ }
+    ensures { λ _. ⌜ Made size (words count) (now (work .entry)) (now (work .exit)) ⌝ }
+{
+    maps::clear_map(work, size);
+    let mut k = 0;
+    while k < count {
+        maps::mark_at(work, size, 4 * k);
+        k += 1;
+    }
+}
+
+pub fn put_words(
+    work: &mut [u8],
+    id: usize,
+    size: u32,
+    count: u32,
+    out: &mut [u8],
+    at: usize,
+) -> usize
+    requires { ⌜ (MapRoom (now work) size) × (count ≤ 12) ⌝ }
+    ensures { λ r. ⌜ Rowed id (record { size = size; pointers = words count }) (now (work .entry)) (now (work .exit)) (now (out .entry)) at (now (out .exit)) r ⌝ }
+{
+    map_words(work, size, count);
+    put_type(work, id, size, out, at)
+}
+
+// An opaque record: 12 words, all pointers.
+pub fn put_opaque(work: &mut [u8], id: usize, out: &mut [u8], at: usize) -> usize
+    requires { ⌜ 65536 ≤ length (now work) ⌝ }
+    ensures { λ r. ⌜ Rowed id opaqueShape (now (work .entry)) (now (work .exit)) (now (out .entry)) at (now (out .exit)) r ⌝ }
+{
+    put_words(work, id, 48, 12, out, at)
+}
+
+fn elem_size(kind: usize) -> u32
+    ensures { λ r. ⌜ ((k : ElemKind) → kind ≡ kindNumber k → r ≡ elemShape k .size) × (r ≤ 8) ⌝ }
+{
+    if kind == 0 {
+        return 1;
+    }
+    if kind == 2 {
+        return 8;
+    }
+    if kind == 3 {
+        return 8;
+    }
+    4
+}
+
+// Whether elements of this kind are pointers.
+fn elem_pointers(kind: usize) -> u32
+    ensures { λ r. ⌜ ((k : ElemKind) → kind ≡ kindNumber k → words r ≡ elemShape k .pointers) × (r ≤ 1) ⌝ }
+{
+    if kind == 4 {
+        return 1;
+    }
+    0
+}
+
+// An array's elements.
+pub fn put_elem(work: &mut [u8], id: usize, kind: usize, out: &mut [u8], at: usize) -> usize
+    requires { ⌜ 65536 ≤ length (now work) ⌝ }
+    ensures { λ r. ⌜ ((k : ElemKind) → kind ≡ kindNumber k → Rowed id (elemShape k) (now (work .entry)) (now (work .exit)) (now (out .entry)) at (now (out .exit)) r) × (Kept 49152 (now (work .entry)) (now (work .exit))) ⌝ }
+{
+    put_words(work, id, elem_size(kind), elem_pointers(kind), out, at)
+}
+
+// ---- what a line writes out
+
+// Marks an offset that is raised by 4096; one below 0 marks nothing.
+fn mark_raised(work: &mut [u8], size: u32, z: usize)
+    requires { ⌜ (MapRoom (now work) size) × (z ≤ 8192) ⌝ }
+    ensures { λ _. ⌜ ((y : ℤ) → between 4096 4096 y ≡ true → z ≡ raised y → Marks size (y ∷ []) (now (work .entry)) (now (work .exit))) ⌝ }
+{
+    if z < 4096 {
+        return;
+    }
+    maps::mark_at(work, size, (z - 4096) as u32);
+}
+
+// Makes the map of the offsets of line i, for a block of this size.
+fn map_line(sheet: &[u8], work: &mut [u8], n: usize, i: usize, size: u32)
+    requires { ⌜ (ShapeLine (now sheet) (now work) n i) × (MapRoom (now work) size) ⌝ }
+    ensures { λ _. ⌜ Made size (shapeAt (now (sheet .entry)) i .pointers) (now (work .entry)) (now (work .exit)) ⌝ }
+{
+    maps::clear_map(work, size);
+    let count = type_keys::shape::offset_count(sheet, work, n, i);
+    let mut j = 0;
+    while j < count {
+        let z = type_keys::shape::offset_at(sheet, work, n, i, j);
+        mark_raised(work, size, z);
+        j += 1;
+    }
+}
+
+// A frame, or a block that a need writes out.
+pub fn put_line(
+    sheet: &[u8],
+    work: &mut [u8],
+    n: usize,
+    i: usize,
+    id: usize,
+    out: &mut [u8],
+    at: usize,
+) -> usize
+    requires { ⌜ ShapeLine (now sheet) (now work) n i ⌝ }
+    ensures { λ r. ⌜ Rowed id (shapeAt (now (sheet .entry)) i) (now (work .entry)) (now (work .exit)) (now (out .entry)) at (now (out .exit)) r ⌝ }
+{
+    let size = type_keys::shape::size_at(sheet, work, n, i);
+    map_line(sheet, work, n, i, size);
+    put_type(work, id, size, out, at)
+}

@@ -1,0 +1,16 @@
+-- What the rows of uses are made from.
+use Prim.Native.Nat.{ℕ, _≤_}
+use mathlib.Core.Path.{_≡_}
+use lib.ListN.{length}
+use Rattle.semantics.specs.Text.{Bytes}
+use Rattle.semantics.specs.Sheet.{sheetSource}
+use Rattle.checks.specs.Checks.{Checked}
+use Rattle.type_keys.specs.Table.{Needs}
+
+-- the needs, and how many frames there are
+pub record Numbers (s t : Bytes) (n needs frames : ℕ) : Type 0 where
+  pub checked : Checked s t n
+  pub table : Needs s t n (sheetSource s .needs)
+  pub count : needs ≡ length (sheetSource s .needs)
+  pub framed : frames ≡ length (sheetSource s .frames)
+  pub few : frames ≤ 128
