@@ -19,8 +19,6 @@ ghost use Rattle.type_keys.specs.Table.{lineOf, placeOf, kindOf, kindBy,
 const NEED: u8 = b'N';
 
 // Forms of `need` lines.
-const ADT: usize = 34;
-
 const INT: usize = 35;
 
 const BYTE: usize = 36;
@@ -28,8 +26,6 @@ const BYTE: usize = 36;
 const BIG: usize = 37;
 
 const STRING: usize = 39;
-
-const BLOCK: usize = 40;
 
 // The table in the working space: for each need its line, low and high byte, and the position of its key among the distinct
 // keys; for each kind of element 0 where it is not used, or its position plus 1.
@@ -47,23 +43,13 @@ pub struct Numbered {
     pub keys: usize,
 }
 
-// Whether the `need` lines a and b, from 0, have the same key.
+// Whether the `need` lines a and b, from 0, have the same key: a key is spelled in one way only, so their texts tell.
 pub fn same_need(sheet: &[u8], work: &[u8], n: usize, a: usize, b: usize) -> bool
     requires { ⌜ (NeedLine (now sheet) (now work) n a) × (NeedLine (now sheet) (now work) n b) ⌝ }
     ensures { λ r. ⌜ r ≡ sameTypeKey (needAt (now (sheet .entry)) a) (needAt (now (sheet .entry)) b) ⌝ }
 {
-    let f = lines::form_at(work, a);
-    if f != lines::form_at(work, b) {
-        return false;
-    }
-    if f == ADT {
-        let name = lines::field_at(sheet, work, n, a, 0);
-        return lines::first_is(sheet, work, n, b, name);
-    }
-    if f == BLOCK {
-        return shape::same_shape(sheet, work, n, a, b);
-    }
-    true
+    let l = lines::line_at(sheet, work, n, a);
+    words::same(l, lines::line_at(sheet, work, n, b))
 }
 
 // ---- the table
