@@ -21,6 +21,8 @@ use Rattle.form.proofs.Table.{both, row-count}
 use Rattle.form.proofs.Laws.{begins-chosen}
 use Rattle.lines.specs.Lines.{textAt, readAt, nodesIn, formAt}
 use Rattle.lines.proofs.Line.{read-is, fields-are, read-fits, form-low}
+use Rattle.words.specs.Words.{digest}
+use Rattle.words.proofs.Laws.{digest-apart}
 use Rattle.laws.proofs.Tests.{never, tests-agree, same-refl, same-eq}
 use Rattle.source.specs.Walk.{fieldAt, frameOf}
 use Rattle.sizes.proofs.Rows.{values-length}
@@ -232,7 +234,7 @@ line-back (w ∷ ws) (b ∷ l) h =
 
 -- ---- two lines
 
-module _ (s t : Bytes) (n i : ℕ) (l : NeedLine s t n i) where
+module _ {s t : Bytes} {n i : ℕ} (l : NeedLine s t n i) where
   text-begins : begins (wordsAt (formAt t i)) (textAt s i) ≡ true
   text-begins =
       let e = l .checked .whole .lined .row i (l .within) in
@@ -241,7 +243,7 @@ module _ (s t : Bytes) (n i : ℕ) (l : NeedLine s t n i) where
   text-is : textAt s i ≡ wordsAt (formAt t i) ++ behind 44 (readAt s i .fields)
   text-is = line-back (wordsAt (formAt t i)) (textAt s i) text-begins ∙ rw (fields-are s t n (l .checked .whole) i (l .within), add-one)
 
-module _ (s t : Bytes) (n i j : ℕ) (a : NeedLine s t n i) (b : NeedLine s t n j) where
+module _ {s t : Bytes} {n i j : ℕ} (a : NeedLine s t n i) (b : NeedLine s t n j) where
   key-same : textAt s i ≡ textAt s j → needAt s i ≡ needAt s j
   key-same e =
       let f : formAt t i ≡ formAt t j = a .checked .whole .lined .row i (a .within) ∙ ap (rowOf forms) e ∙ sym (b .checked .whole .lined .row j (b .within)) in
@@ -263,9 +265,12 @@ module _ (s t : Bytes) (n i j : ℕ) (a : NeedLine s t n i) (b : NeedLine s t n 
       let g : needAt s j ≡ keyBy (formAt t i) (nodesIn s) (readAt s j .fields) = key-is s t n j b ∙ rw f in
       let c = ints-eq (keyCode (needAt s i)) (keyCode (needAt s j)) e in
       let k = one (read-fits s t n (a .checked .whole) i (a .within)) (rw f (read-fits s t n (b .checked .whole) j (b .within))) (ap keyCode (sym (key-is s t n i a)) ∙ c ∙ ap keyCode g) in
-      text-is s t n i a ∙ rw (f, k) (sym (text-is s t n j b))
+      text-is a ∙ rw (f, k) (sym (text-is b))
 
   pub texts-are : same (textAt s i) (textAt s j) ≡ sameTypeKey (needAt s i) (needAt s j)
   texts-are =
       tests-agree (same (textAt s i) (textAt s j)) (sameTypeKey (needAt s i) (needAt s j))
       (λ e. ap (sameTypeKey (needAt s i)) (sym (key-same (same-eq (textAt s i) (textAt s j) e))) ∙ same-self (needAt s i)) (λ e. rw (text-same e) (same-refl (textAt s j)))
+
+  pub digests-apart : (digest (textAt s i) ≡ digest (textAt s j) → ⊥) → false ≡ sameTypeKey (needAt s i) (needAt s j)
+  digests-apart h = digest-apart (textAt s i) (textAt s j) h ∙ texts-are

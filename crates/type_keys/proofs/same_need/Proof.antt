@@ -1,4 +1,3 @@
-use denote.Ref.{now}
 use mathlib.Core.Path.{_∙_}
 use Rattle.type_keys.proofs.Spelling.{texts-are}
 use borrow.Author.Needs.{needs}
@@ -15,7 +14,7 @@ same-requires : tie.Need-same-requires
 same-requires c κs = search needs
 
 returns : tie.Need-returns
-returns c = c .same .ensures ∙ rw (c .before .before .line-at .ensures, c .before .line-at2 .ensures) (texts-are (now (c .before .before .before .before .before .args .sheet)) (now (c .before .before .before .before .before .args .work)) (c .before .before .before .before .before .args .n) (c .before .before .before .before .before .args .a) (c .before .before .before .before .before .args .b) (c .before .before .before .before .before .pre .0) (c .before .before .before .before .before .pre .1))
+returns c = c .same .ensures ∙ rw (c .before .before .line-at .ensures, c .before .line-at2 .ensures) (texts-are (c .before .before .before .before .before .pre .0) (c .before .before .before .before .before .pre .1))
 
 pub same-need-spec : {M : Type 1} → statement M
 same-need-spec = tie.close (tie.spec line-at-requires line-at-requires-2 same-requires returns)
