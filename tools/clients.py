@@ -5,6 +5,7 @@
     largest()             -> such a sheet of 1,024 lines and 65,535 bytes
     lookups(quarters)     -> look-ups at their worst: tables that are full at four
                              quarters, and names that begin alike
+    blocks(count)         -> so many needs of blocks that differ in the last offset
     deep(depth)           -> a record of a tuple in a tuple, so many deep
 """
 from sheets import Build, hex_text
@@ -111,6 +112,14 @@ def lookups(quarters):
     for line in range(4 * quarters):
         names = [f"{'g' * 9}{16 * line + name:03}" for name in range(16)]
         build.put("var", build.put("ty", "int"), build.put("ex", "int", 7), len(names), *names)
+    return build.sheet()
+
+
+def blocks(count):
+    """`need,block` lines of one size, one count and one length, at most 128."""
+    build = Build()
+    for number in range(count):
+        build.put("need", "block", 4096, 16, *range(1000, 1060, 4), 1060 + 4 * number)
     return build.sheet()
 
 

@@ -352,7 +352,7 @@ or-true : (t : Bool) → t || true ≡ true
 or-true true = refl
 or-true false = refl
 
-begins-chosen : (rs : List Form.Row) (l : List ℕ) → Form.rowOf rs l < length rs → Form.begins (getD rs (Form.rowOf rs l) Form.noRow .words) l ≡ true
+pub begins-chosen : (rs : List Form.Row) (l : List ℕ) → Form.rowOf rs l < length rs → Form.begins (getD rs (Form.rowOf rs l) Form.noRow .words) l ≡ true
 begins-chosen [] l h = absurd (omega arith)
 begins-chosen (r ∷ rs) l h = go (Form.begins (r .words) l) refl (λ k. begins-chosen rs l k)
   where

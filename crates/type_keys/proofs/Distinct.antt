@@ -57,7 +57,7 @@ ints-refl : (l : List ℤ) → sameInts l l ≡ true
 ints-refl [] = refl
 ints-refl (z ∷ l) = rw (eqZ-refl z) (ints-refl l)
 
-ints-eq : (l m : List ℤ) → sameInts l m ≡ true → l ≡ m
+pub ints-eq : (l m : List ℤ) → sameInts l m ≡ true → l ≡ m
 ints-eq [] [] h = refl
 ints-eq [] (y ∷ ys) h = never h
 ints-eq (x ∷ xs) [] h = never h

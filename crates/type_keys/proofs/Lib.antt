@@ -1,7 +1,7 @@
 pub mod Distinct
 pub mod Forms
 pub mod Shapes
-pub mod Texts
+pub mod Spelling
 pub mod Same
 pub mod Table
 pub mod Pass

@@ -6,9 +6,9 @@ use Prim.Native.Nat.{ℕ, zero, suc, _+_, _-_, _≤_, _<_}
 use native.Mathlib.Omega.{arith}
 use native.Mathlib.Numerals.{add-one}
 use lib.Dec.{eqb}
-use lib.ListN.{length, take, getD, length-append}
+use lib.ListN.{length, take, getD, set, length-append}
 use lib.Seq.{take-suc, take-all}
-use borrow.Author.Tests.{eq-eqb, ne-eqb}
+use borrow.Author.Tests.{eq-eqb, ne-eqb, eqb-true, eqb-false}
 use Rattle.semantics.specs.Text.{any}
 use Rattle.semantics.specs.Tree.{Declares, Node, ElemKind, TypeKey}
 use Rattle.semantics.specs.Tree.TypeKey.{elemKey, opaqueKey}
@@ -16,18 +16,19 @@ use Rattle.semantics.specs.Form.{letter}
 use Rattle.semantics.specs.Sheet.{sheetSource}
 use Rattle.semantics.specs.Array.{kindNumber}
 use Rattle.semantics.specs.Types.{sameTypeKey, distinct, position}
-use Rattle.lines.specs.Lines.{readAt, nodesIn, formAt}
+use Rattle.lines.specs.Lines.{textAt, readAt, nodesIn, formAt}
 use Rattle.refs.proofs.Nodes.{node-count}
 use Rattle.checks.specs.Checks.{Checked}
 use Rattle.checks.proofs.Kept.{kept-less, checked-kept}
+use Rattle.words.specs.Words.{digest}
 use Rattle.source.specs.Walk.{declaresAt, declaredTo}
 use Rattle.source.proofs.Walk.{declared-all, source-of}
-use Rattle.type_keys.specs.Keys.{needAt, NeedLine}
-use Rattle.type_keys.specs.Table.{lineOf, placeOf, kindOf, kindsUsed, kindBy, needsTo, entered, kindEntered, Needs, Kinds, Outside, Numbering, NeedNext}
+use Rattle.type_keys.specs.Keys.{needAt}
+use Rattle.type_keys.specs.Table.{lineOf, placeOf, kindOf, digestOf, kindsUsed, kindBy, needsTo, entered, kindEntered, Needs, Kinds, Outside, NeedEntry, Numbering, NeedNext}
 use Rattle.type_keys.proofs.Distinct.{any-append, position-same, position-within, position-none, position-more, length-more, placed-more, known-same, known-length, placed-some, placed-none, distinct-more, distinct-few, key-member, none-distinct, known-more}
 use Rattle.type_keys.proofs.Forms.{needs-line, kind-low}
 use Rattle.type_keys.proofs.Same.{elems-are, elem-is}
-use Rattle.type_keys.proofs.Table.{outside-then, outside-less, line-below, place-below, kind-above, entered-outside, entered-line, entered-place, other-line, other-place, kind-outside, kind-entered}
+use Rattle.type_keys.proofs.Table.{outside-then, outside-less, outside-set, line-below, place-below, kind-above, kind-kept, entered-outside, entered-line, entered-place, other-line, other-place, kind-outside, kind-entered, digest-above, digest-same, digest-other}
 
 -- ---- how many needs there are
 
@@ -64,9 +65,21 @@ module _ (s t : List ℕ) (n : ℕ) (c : Checked s t n) where
 
 -- ---- the position of a need's key
 
-module _ (s t : List ℕ) (n i needs keys : ℕ) (x : NeedNext s t n i needs keys) where
-  pub known-line : (q : ℕ) → q < needs → NeedLine s t n (lineOf t q)
-  known-line q h = let z : q < length (needsTo s i) = omega (arith, x .numbering .count) in record { checked = x .numbering .checked; within = x .numbering .table .within q z; kind = x .numbering .table .kind q z }
+module _ {s t : List ℕ} {n i needs keys : ℕ} (x : NeedNext s t n i needs keys) where
+  pub needs-room : (needs < 128) × (position (needAt s i) (distinct [] (needsTo s i)) ≤ 127) × (keys ≤ 127)
+  needs-room =
+      let e = needs-few s t n (x .line .checked) (i + 1) (omega (arith, x .line .within)) in
+      let g = ap length (needs-next s t n (x .line .checked) i (x .line .within) (x .line .kind)) ∙ length-append (needsTo s i) (needAt s i ∷ []) in
+      (omega (arith, e, g, x .numbering .count), omega (arith, e, g, position-within (needAt s i) (distinct [] (needsTo s i)), distinct-few [] (needsTo s i)), omega (arith, e, g, x .numbering .kinds .count, distinct-few [] (needsTo s i)))
+
+  pub known-entry : (q : ℕ) → q < needs → NeedEntry s t n q
+  known-entry q h =
+      let z : q < length (needsTo s i) = omega (arith, x .numbering .count) in
+      record {
+        low = omega (arith, needs-room .0);
+        line = record { checked = x .numbering .checked; within = x .numbering .table .within q z; kind = x .numbering .table .kind q z };
+        digest = x .numbering .digests q h;
+      }
 
   module _ (q : ℕ) (h : q < needs) (b : Bool) (e : b ≡ sameTypeKey (needAt s i) (needAt s (lineOf t q))) where
     low : q < length (needsTo s i)
@@ -85,12 +98,6 @@ module _ (s t : List ℕ) (n i needs keys : ℕ) (x : NeedNext s t n i needs key
   place-new q h k =
       let z = rw (take-all q (needsTo s i) (omega (arith, x .numbering .count))) at k in
       x .numbering .kinds .count ∙ sym (position-none (needAt s i) (distinct [] (needsTo s i)) (none-distinct (needAt s i) (needsTo s i) z))
-
-  pub needs-room : (needs < 128) × (position (needAt s i) (distinct [] (needsTo s i)) ≤ 127) × (keys ≤ 127)
-  needs-room =
-      let e = needs-few s t n (x .line .checked) (i + 1) (omega (arith, x .line .within)) in
-      let g = ap length (needs-next s t n (x .line .checked) i (x .line .within) (x .line .kind)) ∙ length-append (needsTo s i) (needAt s i ∷ []) in
-      (omega (arith, e, g, x .numbering .count), omega (arith, e, g, position-within (needAt s i) (distinct [] (needsTo s i)), distinct-few [] (needsTo s i)), omega (arith, e, g, x .numbering .kinds .count, distinct-few [] (needsTo s i)))
 
 -- ---- one key more
 
@@ -114,74 +121,102 @@ kinds-more {t} {u} {l} {keys} k more x h g w = record {
   few = w;
 }
 
-module _ (s t : List ℕ) (n i needs keys : ℕ) (x : NeedNext s t n i needs keys) (f p : ℕ) (hf : f ≡ formAt t i) (hp : p ≡ position (needAt s i) (distinct [] (needsTo s i)))
-    (u v : List ℕ) (hu : u ≡ entered t needs i p) (hv : v ≡ kindEntered u (kindBy f) p) where
+module _ {s t : List ℕ} {n i needs keys : ℕ} (x : NeedNext s t n i needs keys) {f p d : ℕ} (hf : f ≡ formAt t i) (hp : p ≡ position (needAt s i) (distinct [] (needsTo s i))) (hd : d ≡ digest (textAt s i))
+    {u v w : List ℕ} (hu : u ≡ entered t needs i p) (hv : v ≡ kindEntered u (kindBy f) p) (hw : w ≡ set v (10752 + needs) d) where
   room : 65536 ≤ length t
   room = x .numbering .checked .whole .room
 
   first : Outside 10240 10624 t u
-  first = rw hu (entered-outside t room needs i p (needs-room s t n i needs keys x .0))
+  first = rw hu (entered-outside t room needs i p (needs-room x .0))
 
   second : Outside 10624 10629 u v
   second = rw hv (kind-outside u (omega (arith, room, first .kept .long)) (kindBy f) p)
 
-  pub numbered-outside : Outside 10240 11264 t v
-  numbered-outside = outside-then (outside-less 10240 11264 (omega arith) (omega arith) first) (outside-less 10240 11264 (omega arith) (omega arith) second)
+  third : Outside 10752 10880 v w
+  third = rw hw (outside-set 10752 10880 v (10752 + needs) d (omega arith) (omega (arith, needs-room x .0)))
 
-  line-at : (q : ℕ) → q < 128 → lineOf v q ≡ lineOf (entered t needs i p) q
-  line-at q h = line-below second q h ∙ ap (λ (l : List ℕ). lineOf l q) hu
+  later : Outside 10624 11264 u w
+  later = outside-then (outside-less 10624 11264 (omega arith) (omega arith) second) (outside-less 10624 11264 (omega arith) (omega arith) third)
 
-  place-at : (q : ℕ) → q < 128 → placeOf v q ≡ placeOf (entered t needs i p) q
-  place-at q h = place-below second q h ∙ ap (λ (l : List ℕ). placeOf l q) hu
+  pub numbered-outside : Outside 10240 11264 t w
+  numbered-outside = outside-then (outside-less 10240 11264 (omega arith) (omega arith) first) (outside-less 10240 11264 (omega arith) (omega arith) later)
+
+  line-at : (q : ℕ) → q < 128 → lineOf w q ≡ lineOf (entered t needs i p) q
+  line-at q h = line-below later q h ∙ ap (λ (l : List ℕ). lineOf l q) hu
+
+  place-at : (q : ℕ) → q < 128 → placeOf w q ≡ placeOf (entered t needs i p) q
+  place-at q h = place-below later q h ∙ ap (λ (l : List ℕ). placeOf l q) hu
 
   module _ (q : ℕ) (h : q < length (needsTo s i)) where
     few : q < 128
-    few = omega (arith, needs-room s t n i needs keys x .0, x .numbering .count)
+    few = omega (arith, needs-room x .0, x .numbering .count)
 
     apart : q ≡ needs → ⊥
     apart e = omega (arith, x .numbering .count)
 
-    old-line : lineOf v q ≡ lineOf t q
-    old-line = line-at q few ∙ other-line t room needs i p (needs-room s t n i needs keys x .0) q few apart
+    old-line : lineOf w q ≡ lineOf t q
+    old-line = line-at q few ∙ other-line t room needs i p (needs-room x .0) q few apart
 
-    old-place : placeOf v q ≡ placeOf t q
-    old-place = place-at q few ∙ other-place t room needs i p (needs-room s t n i needs keys x .0) q few apart
+    old-place : placeOf w q ≡ placeOf t q
+    old-place = place-at q few ∙ other-place t room needs i p (needs-room x .0) q few apart
 
-  new-line : lineOf v (length (needsTo s i)) ≡ i
-  new-line = rw (← x .numbering .count) (line-at needs (needs-room s t n i needs keys x .0) ∙ entered-line t room needs i p (needs-room s t n i needs keys x .0))
+  new-line : lineOf w (length (needsTo s i)) ≡ i
+  new-line = rw (← x .numbering .count) (line-at needs (needs-room x .0) ∙ entered-line t room needs i p (needs-room x .0))
 
-  new-place : placeOf v (length (needsTo s i)) ≡ p
-  new-place = rw (← x .numbering .count) (place-at needs (needs-room s t n i needs keys x .0) ∙ entered-place t room needs i p (needs-room s t n i needs keys x .0))
+  new-place : placeOf w (length (needsTo s i)) ≡ p
+  new-place = rw (← x .numbering .count) (place-at needs (needs-room x .0) ∙ entered-place t room needs i p (needs-room x .0))
 
-  places-stay : (q : ℕ) → q < length (needsTo s i) → placeOf v q ≡ position (getD (needsTo s i) q opaqueKey) (distinct [] (needsTo s i ++ (needAt s i ∷ [])))
+  places-stay : (q : ℕ) → q < length (needsTo s i) → placeOf w q ≡ position (getD (needsTo s i) q opaqueKey) (distinct [] (needsTo s i ++ (needAt s i ∷ [])))
   places-stay q h =
       old-place q h ∙ x .numbering .table .place q h
       ∙ sym (known-more (getD (needsTo s i) q opaqueKey) (needsTo s i) (needAt s i ∷ []) (key-member opaqueKey (needsTo s i) q h) .1)
 
-  needs-more : Needs s v n (needsTo s i ++ (needAt s i ∷ []))
+  needs-more : Needs s w n (needsTo s i ++ (needAt s i ∷ []))
   needs-more =
       let old = x .numbering .table in
       record {
-        few = omega (arith, length-append (needsTo s i) (needAt s i ∷ []), needs-room s t n i needs keys x .0, x .numbering .count);
-        within = λ q h. each (needsTo s i) (needAt s i) (λ q k. lineOf v q < n) (λ q h. rw (old-line q h) (old .within q h)) (rw new-line (x .line .within)) q h;
-        kind = λ q h. each (needsTo s i) (needAt s i) (λ q k. letter (readAt s (lineOf v q) .form .kind) ≡ 78) (λ q h. rw (old-line q h) (old .kind q h)) (rw new-line (x .line .kind)) q h;
-        key = λ q h. each (needsTo s i) (needAt s i) (λ q k. needAt s (lineOf v q) ≡ k) (λ q h. rw (old-line q h) (old .key q h)) (ap (needAt s) new-line) q h;
-        place = λ q h. each (needsTo s i) (needAt s i) (λ q k. placeOf v q ≡ position k (distinct [] (needsTo s i ++ (needAt s i ∷ [])))) places-stay (new-place ∙ hp ∙ rw (distinct-more (needAt s i) (needsTo s i)) (sym (position-more (needAt s i) (distinct [] (needsTo s i))))) q h;
+        few = omega (arith, length-append (needsTo s i) (needAt s i ∷ []), needs-room x .0, x .numbering .count);
+        within = λ q h. each (needsTo s i) (needAt s i) (λ q k. lineOf w q < n) (λ q h. rw (old-line q h) (old .within q h)) (rw new-line (x .line .within)) q h;
+        kind = λ q h. each (needsTo s i) (needAt s i) (λ q k. letter (readAt s (lineOf w q) .form .kind) ≡ 78) (λ q h. rw (old-line q h) (old .kind q h)) (rw new-line (x .line .kind)) q h;
+        key = λ q h. each (needsTo s i) (needAt s i) (λ q k. needAt s (lineOf w q) ≡ k) (λ q h. rw (old-line q h) (old .key q h)) (ap (needAt s) new-line) q h;
+        place = λ q h. each (needsTo s i) (needAt s i) (λ q k. placeOf w q ≡ position k (distinct [] (needsTo s i ++ (needAt s i ∷ [])))) places-stay (new-place ∙ hp ∙ rw (distinct-more (needAt s i) (needsTo s i)) (sym (position-more (needAt s i) (distinct [] (needsTo s i))))) q h;
       }
 
-  kinds-are : (e : ElemKind) → kindOf v (kindNumber e) ≡ cond (sameTypeKey (elemKey e) (needAt s i)) (suc (position (needAt s i) (distinct [] (needsTo s i)))) (kindOf t (kindNumber e))
+  kinds-are : (e : ElemKind) → kindOf w (kindNumber e) ≡ cond (sameTypeKey (elemKey e) (needAt s i)) (suc (position (needAt s i) (distinct [] (needsTo s i)))) (kindOf t (kindNumber e))
   kinds-are e =
-      ap (λ (l : List ℕ). kindOf l (kindNumber e)) hv
+      kind-kept (kept-less (omega arith) (third .kept)) (kindNumber e) (kind-low e)
+      ∙ ap (λ (l : List ℕ). kindOf l (kindNumber e)) hv
       ∙ kind-entered u (omega (arith, room, first .kept .long)) (kindBy f) p (kindNumber e) (kind-low e)
       ∙ rw (elem-is s t n i (x .line) e, ← hf, ← hp, kind-above first (kindNumber e))
 
-  pub numbered : (more : ℕ) → more ≡ length (distinct [] (needsTo s i ++ (needAt s i ∷ []))) → Numbering s v n (i + 1) (needs + 1) more
+  digests-are : (q : ℕ) → q < needs + 1 → digestOf w q ≡ digest (textAt s (lineOf w q))
+  digests-are q h = go (eqb q needs) refl
+    where
+      low : needs < 128
+      low = needs-room x .0
+
+      long : 65536 ≤ length v
+      long = omega (arith, room, first .kept .long, second .kept .long)
+
+      go : (b : Bool) → eqb q needs ≡ b → digestOf w q ≡ digest (textAt s (lineOf w q))
+      go true e =
+          let z : q ≡ needs = eqb-true q needs e in
+          ap (digestOf w) z ∙ ap (λ (l : List ℕ). digestOf l needs) hw ∙ digest-same v long needs d low ∙ hd
+          ∙ ap (λ (l : ℕ). digest (textAt s l)) (sym new-line ∙ ap (lineOf w) (sym (x .numbering .count) ∙ sym z))
+      go false e =
+          let ne = eqb-false q needs e in
+          let k : q < length (needsTo s i) = omega (arith, x .numbering .count) in
+          ap (λ (l : List ℕ). digestOf l q) hw ∙ digest-other v long needs d low q ne ∙ digest-above (omega arith) second q ∙ digest-above (omega arith) first q
+          ∙ x .numbering .digests q (omega (arith, x .numbering .count)) ∙ ap (λ (l : ℕ). digest (textAt s l)) (sym (old-line q k))
+
+  pub numbered : (more : ℕ) → more ≡ length (distinct [] (needsTo s i ++ (needAt s i ∷ []))) → Numbering s w n (i + 1) (needs + 1) more
   numbered m hm =
       let c = x .numbering .checked in
       let e = needs-next s t n c i (x .line .within) (x .line .kind) in
       let few = needs-few s t n c (i + 1) (omega (arith, x .line .within)) in
       record {
         checked = checked-kept (kept-less (omega arith) (numbered-outside .kept)) c;
+        digests = digests-are;
         within = omega (arith, x .line .within);
         count = rw e (sym (length-append (needsTo s i) (needAt s i ∷ []) ∙ omega (arith, x .numbering .count)));
         table = rw e needs-more;
@@ -194,7 +229,7 @@ module _ (s t : List ℕ) (n i needs keys : ℕ) (x : Numbering s t n i needs ke
   pub numbering-stay : i < n → (letter (readAt s i .form .kind) ≡ 78 → ⊥) → Numbering s t n (i + 1) needs keys
   numbering-stay h e =
       let z = needs-stay s t n (x .checked) i h e in
-      record { checked = x .checked; within = omega arith; count = rw z (x .count); table = rw z (x .table); kinds = rw z (x .kinds) }
+      record { checked = x .checked; within = omega arith; count = rw z (x .count); table = rw z (x .table); kinds = rw z (x .kinds); digests = x .digests }
 
   pub numbering-need : i < n → letter (readAt s i .form .kind) ≡ 78 → NeedNext s t n i needs keys
   numbering-need h e = record { numbering = x; line = record { checked = x .checked; within = h; kind = e } }
@@ -219,6 +254,7 @@ numbering-start s t n c z = record {
     place = λ q h. absurd (omega arith);
   };
   kinds = record { count = refl; place = λ k. z (kindNumber k) (kind-low k); few = omega arith };
+  digests = λ q h. absurd (omega arith);
 }
 
 -- ---- an element

@@ -1,12 +1,11 @@
--- When two `need` lines have one key, by their forms.
-use mathlib.Core.Path.{_≡_, refl, sym, ap, _∙_}
+-- The keys of `need` lines, by their forms.
+use mathlib.Core.Path.{_≡_, refl, sym, _∙_}
 use mathlib.Core.Bool.{Bool, true, false, cond, _&&_}
 use mathlib.Core.List.{List}
 use Prim.Native.Nat.{ℕ, zero, suc, _+_, _-_, _<_}
 use native.Mathlib.Omega.{arith}
 use lib.Dec.{eqb}
 use borrow.Author.Tests.{ne-eqb}
-use Rattle.semantics.specs.Text.{same}
 use Rattle.semantics.specs.Tree.{Node, ElemKind}
 use Rattle.semantics.specs.Tree.TypeKey.{adtKey, elemKey, blockKey, opaqueKey}
 use Rattle.semantics.specs.Array.{kindNumber}
@@ -15,9 +14,7 @@ use Rattle.lines.specs.Lines.{readAt, nodesIn, formAt}
 use Rattle.source.specs.Walk.{fieldAt}
 use Rattle.type_keys.specs.Keys.{needAt, NeedLine, shapeAt, ShapeLine}
 use Rattle.type_keys.specs.Table.{kindBy}
-use Rattle.type_keys.proofs.Distinct.{same-self}
 use Rattle.type_keys.proofs.Forms.{elemBy, keyBy, key-is, form-from, kind-low, eqZ-pos}
-use Rattle.type_keys.proofs.Texts.{names-same}
 
 module _ (s t : List ℕ) (n i : ℕ) (l : NeedLine s t n i) where
   pub name-key : formAt t i ≡ 34 → needAt s i ≡ adtKey (fieldAt (readAt s i .fields) 0)
@@ -35,18 +32,6 @@ module _ (s t : List ℕ) (n i : ℕ) (l : NeedLine s t n i) where
 
   pub block-line : formAt t i ≡ 40 → ShapeLine s t n i
   block-line e = record { checked = l .checked; within = l .within; form = rw e }
-
-module _ (s t : List ℕ) (n i j : ℕ) (a : NeedLine s t n i) (b : NeedLine s t n j) (f : ℕ) (ha : f ≡ formAt t i) (hb : f ≡ formAt t j) where
-  pub names-are : f ≡ 34 → {x y : List ℕ} {r : Bool} → x ≡ fieldAt (readAt s i .fields) 0 → y ≡ fieldAt (readAt s j .fields) 0 → r ≡ same x y → r ≡ sameTypeKey (needAt s i) (needAt s j)
-  names-are e {x} {y} p q h = h ∙ sym (rw (name-key s t n i a (sym ha ∙ e), name-key s t n j b (sym hb ∙ e), ← p, ← q) (names-same x y))
-
-  pub blocks-are : f ≡ 40 → {r : Bool} → r ≡ sameTypeKey (blockKey (shapeAt s i)) (blockKey (shapeAt s j)) → r ≡ sameTypeKey (needAt s i) (needAt s j)
-  blocks-are e h = h ∙ sym (rw (block-key s t n i a (sym ha ∙ e), block-key s t n j b (sym hb ∙ e)))
-
-  pub others-are : (f ≡ 34 → ⊥) → (f ≡ 40 → ⊥) → true ≡ sameTypeKey (needAt s i) (needAt s j)
-  others-are p q =
-      let e : needAt s i ≡ needAt s j = plain-key s t n i a (λ z. p (ha ∙ z)) (λ z. q (ha ∙ z)) ∙ rw (← ha, hb) (sym (plain-key s t n j b (λ z. p (hb ∙ z)) (λ z. q (hb ∙ z)))) in
-      sym (ap (sameTypeKey (needAt s i)) (sym e) ∙ same-self (needAt s i))
 
 -- ---- which kind of element a `need` line asks for
 

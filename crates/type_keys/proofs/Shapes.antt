@@ -1,24 +1,20 @@
--- The fields of the lines that write out a shape, and when two shapes are one key.
+-- The fields of the lines that write out a shape.
 use mathlib.Core.Path.{_≡_, refl, sym, ap, _∙_}
 use mathlib.Core.Bool.{Bool, true, false, _&&_, _||_}
 use mathlib.Core.List.{List, [], _∷_, _++_}
 use mathlib.Core.Option.{Option, none, some}
 use Prim.Native.Nat.{ℕ, zero, suc, _+_, _-_, _≤_, _<_, min}
 use native.Mathlib.Omega.{arith}
-use native.Mathlib.Numerals.{add-one}
 use lib.Dec.{leb, eqb}
 use lib.IntN.{ℤ, pos, negsuc}
-use lib.ListN.{length, drop, getD, drop-of-length-le}
-use lib.Seq.{drop-cons, getD-drop}
-use borrow.Author.Tests.{eqb-true, leb-true, ltb-true, ne-eqb, eq-eqb}
+use lib.ListN.{length, drop, getD}
+use lib.Seq.{getD-drop}
+use borrow.Author.Tests.{eqb-true, leb-true, ltb-true}
 use Rattle.semantics.specs.Text as Text
-use Rattle.semantics.specs.Tree.{Node, Shape}
-use Rattle.semantics.specs.Tree.TypeKey.{blockKey}
+use Rattle.semantics.specs.Tree.{Node}
 use Rattle.semantics.specs.Form.{forms, value, values, numberOf, isNumber, isCount, upTo, between, holds, fits, ones}
 use Rattle.semantics.specs.Form.Atom.{size, offset}
 use Rattle.semantics.specs.Form.Part.{one, many}
-use Rattle.semantics.specs.Fold.{eqZ}
-use Rattle.semantics.specs.Types.{sameInts, sameTypeKey}
 use Rattle.decimal.specs.Number as Number
 use Rattle.decimal.specs.declared.Signed.{Signed}
 use Rattle.decimal.specs.declared.Signed.the-variants as Signed
@@ -28,9 +24,8 @@ use Rattle.lines.specs.Lines.{readAt, nodesIn, formAt}
 use Rattle.lines.proofs.Line.{read-fits}
 use Rattle.laws.proofs.Tests.{never}
 use Rattle.sizes.proofs.Types.{number-exact}
-use Rattle.sizes.proofs.Rows.{count-number}
+use Rattle.sizes.proofs.Rows.{count-number, values-length}
 use Rattle.type_keys.specs.Keys.{shapeAt, ShapeLine, raised}
-use Rattle.type_keys.proofs.Forms.{eqZ-pos}
 
 -- ---- fields
 
@@ -64,10 +59,6 @@ shape-fields (f ∷ (g ∷ fs)) h =
     let a = both (upTo 4096 f) (isCount g && fits (ones (numberOf g) offset ++ []) fs) h in
     let b = both (isCount g) (fits (ones (numberOf g) offset ++ []) fs) (a .1) in
     record { size = a .0; count = b .0; each = λ j l. rw (← getD-drop 2 (f ∷ (g ∷ fs)) j []) (offsets-hold (numberOf g) fs (b .1) j l) }
-
-values-length : (ns : List Node) (m : ℕ) (fs : List (List ℕ)) → length (values offset ns m fs) ≡ m
-values-length ns zero fs = refl
-values-length ns (suc m) fs = ap suc (values-length ns m (Text.tailParts fs))
 
 values-at : (ns : List Node) (m : ℕ) (fs : List (List ℕ)) (j : ℕ) → j < m → getD (values offset ns m fs) j (pos 0) ≡ value offset ns (getD fs j [])
 values-at ns zero fs j h = absurd (omega arith)
@@ -104,16 +95,16 @@ module _ (s t : List ℕ) (n i : ℕ) (l : ShapeLine s t n i) where
   unfolding shapeAt
   count-is =
       let q = count-number (getD (readAt s i .fields) 1 []) (shape-fit .count) in
-      number-exact (getD (readAt s i .fields) 1 []) (q .0) (omega (arith, q .1)) ∙ sym (values-length (nodesIn s) (numberOf (getD (readAt s i .fields) 1 [])) (drop 2 (readAt s i .fields)))
+      number-exact (getD (readAt s i .fields) 1 []) (q .0) (omega (arith, q .1)) ∙ sym (values-length offset (nodesIn s) (numberOf (getD (readAt s i .fields) 1 [])) (drop 2 (readAt s i .fields)))
 
   pub count-low : length (shapeAt s i .pointers) ≤ 16
   unfolding shapeAt
-  count-low = omega (arith, values-length (nodesIn s) (numberOf (getD (readAt s i .fields) 1 [])) (drop 2 (readAt s i .fields)), count-number (getD (readAt s i .fields) 1 []) (shape-fit .count) .1)
+  count-low = omega (arith, values-length offset (nodesIn s) (numberOf (getD (readAt s i .fields) 1 [])) (drop 2 (readAt s i .fields)), count-number (getD (readAt s i .fields) 1 []) (shape-fit .count) .1)
 
   module _ (j : ℕ) (h : j < length (shapeAt s i .pointers)) where
     low : j < numberOf (getD (readAt s i .fields) 1 [])
     unfolding shapeAt
-    low = omega (arith, values-length (nodesIn s) (numberOf (getD (readAt s i .fields) 1 [])) (drop 2 (readAt s i .fields)))
+    low = omega (arith, values-length offset (nodesIn s) (numberOf (getD (readAt s i .fields) 1 [])) (drop 2 (readAt s i .fields)))
 
     pub offset-holds : holds offset (getD (readAt s i .fields) (2 + j) []) ≡ true
     offset-holds = shape-fit .each j low
@@ -159,71 +150,3 @@ read-none f r e q = go (Text.intOf f) (sym e ∙ q)
     go none x = refl
     go (some (pos a)) x = let z : _≡_ {A = ℕ} 0 1 = cc in absurd (omega arith)
     go (some (negsuc a)) x = let z : _≡_ {A = ℕ} 0 1 = cc in absurd (omega arith)
-
--- ---- offsets are equal where what is read of them is
-
-raised-same : (y z : ℤ) → between 4096 4096 y ≡ true → between 4096 4096 z ≡ true → eqZ y z ≡ eqb (raised y) (raised z)
-raised-same (pos a) (pos b) h k = eqZ-pos a b ∙ go (eqb a b) refl
-  where
-    go : (x : Bool) → eqb a b ≡ x → x ≡ eqb (4096 + a) (4096 + b)
-    go true e = sym (eq-eqb (4096 + a) (4096 + b) (omega (arith, eqb-true a b e)))
-    go false e = sym (ne-eqb (4096 + a) (4096 + b) (λ q. never (sym e ∙ eq-eqb a b (omega arith))))
-raised-same (pos a) (negsuc b) h k = sym (ne-eqb (4096 + a) (4095 - b) (λ q. absurd (omega arith)))
-raised-same (negsuc a) (pos b) h k = sym (ne-eqb (4095 - a) (4096 + b) (λ q. absurd (omega arith)))
-raised-same (negsuc a) (negsuc b) h k =
-    let p = ltb-true a 4096 h in
-    let q = ltb-true b 4096 k in
-    eqZ-pos b a ∙ go (eqb b a) refl
-  where
-    go : (x : Bool) → eqb b a ≡ x → x ≡ eqb (4095 - a) (4095 - b)
-    go true e = sym (eq-eqb (4095 - a) (4095 - b) (omega (arith, eqb-true b a e)))
-    go false e = sym (ne-eqb (4095 - a) (4095 - b) (λ q. never (sym e ∙ eq-eqb b a (omega (arith, ltb-true a 4096 h, ltb-true b 4096 k)))))
-
--- lists of other lengths are not the same
-lengths-apart : (l m : List ℤ) → (length l ≡ length m → ⊥) → sameInts l m ≡ false
-lengths-apart [] [] h = absurd (h refl)
-lengths-apart [] (y ∷ m) h = refl
-lengths-apart (x ∷ l) [] h = refl
-lengths-apart (x ∷ l) (y ∷ m) h = go (eqZ x y) (lengths-apart l m (λ e. h (ap suc e)))
-  where
-    go : (b : Bool) → sameInts l m ≡ false → b && sameInts l m ≡ false
-    go true e = e
-    go false e = refl
-
--- the first j offsets of both are equal
-pub record SameTo (l m : List ℤ) (j : ℕ) : Type 0 where
-  pub rest : sameInts l m ≡ sameInts (drop j l) (drop j m)
-
-module _ (l m : List ℤ) (h : length l ≡ length m) where
-  pub same-start : SameTo l m 0
-  same-start = record { rest = refl }
-
-  pub same-end : (j : ℕ) → length l ≤ j → SameTo l m j → true ≡ sameInts l m
-  same-end j k x = sym (x .rest ∙ rw (drop-of-length-le l {i = j} k, drop-of-length-le m {i = j} (omega arith)))
-
-  module _ (j : ℕ) (k : j < length l) (x : SameTo l m j) (p : between 4096 4096 (getD l j (pos 0)) ≡ true) (q : between 4096 4096 (getD m j (pos 0)) ≡ true) where
-    step : sameInts l m ≡ eqb (raised (getD l j (pos 0))) (raised (getD m j (pos 0))) && sameInts (drop (j + 1) l) (drop (j + 1) m)
-    step =
-        let i : j < length m = omega arith in
-        x .rest ∙ rw (drop-cons l j (pos 0) k, drop-cons m j (pos 0) i, raised-same (getD l j (pos 0)) (getD m j (pos 0)) p q, add-one j)
-
-    pub same-next : raised (getD l j (pos 0)) ≡ raised (getD m j (pos 0)) → SameTo l m (j + 1)
-    same-next e = record { rest = step ∙ rw (eq-eqb (raised (getD l j (pos 0))) (raised (getD m j (pos 0))) e) }
-
-    pub same-not : (raised (getD l j (pos 0)) ≡ raised (getD m j (pos 0)) → ⊥) → false ≡ sameInts l m
-    same-not e = sym (step ∙ rw (ne-eqb (raised (getD l j (pos 0))) (raised (getD m j (pos 0))) e))
-
--- two shapes are one key where sizes and offsets are equal
-module _ (x y : Shape) where
-  blocks : sameTypeKey (blockKey x) (blockKey y) ≡ eqb (x .size) (y .size) && sameInts (x .pointers) (y .pointers)
-  blocks = rw (eqZ-pos (x .size) (y .size))
-
-  pub sizes-apart : (x .size ≡ y .size → ⊥) → false ≡ sameTypeKey (blockKey x) (blockKey y)
-  sizes-apart h = sym (blocks ∙ rw (ne-eqb (x .size) (y .size) h))
-
-  module _ (h : x .size ≡ y .size) where
-    pub sizes-same : {r : Bool} → r ≡ sameInts (x .pointers) (y .pointers) → r ≡ sameTypeKey (blockKey x) (blockKey y)
-    sizes-same e = sym (blocks ∙ rw (eq-eqb (x .size) (y .size) h) (sym e))
-
-    pub counts-apart : (length (x .pointers) ≡ length (y .pointers) → ⊥) → false ≡ sameTypeKey (blockKey x) (blockKey y)
-    counts-apart k = sizes-same (sym (lengths-apart (x .pointers) (y .pointers) k))

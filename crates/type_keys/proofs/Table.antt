@@ -13,7 +13,7 @@ use Rattle.semantics.specs.Tree.{TypeKey}
 use Rattle.semantics.specs.Array.{kindNumber}
 use Rattle.checks.specs.Checks.{Kept}
 use Rattle.checks.proofs.Kept.{kept-all, kept-then, kept-less, kept-at}
-use Rattle.type_keys.specs.Table.{lineOf, placeOf, kindOf, kindsUsed, entered, kindEntered, Kinds, Outside}
+use Rattle.type_keys.specs.Table.{lineOf, placeOf, kindOf, digestOf, kindsUsed, entered, kindEntered, Kinds, Outside}
 use Rattle.type_keys.proofs.Forms.{kind-low}
 
 -- ---- what is kept
@@ -54,7 +54,12 @@ module _ {t u : List ℕ} where
   unfolding kindOf
   kind-above x k = outside-above x (10624 + k) (omega arith)
 
-  -- one behind the table leaves all kinds
+  -- both leave the digests
+  pub digest-above : {a b : ℕ} → b ≤ 10752 → Outside a b t u → (q : ℕ) → digestOf u q ≡ digestOf t q
+  unfolding digestOf
+  digest-above h x q = outside-above x (10752 + q) (omega arith)
+
+  -- a store behind the kinds leaves them
   pub kind-kept : Kept 10629 t u → (k : ℕ) → k < 5 → kindOf u k ≡ kindOf t k
   unfolding kindOf
   kind-kept x k h = kept-at x (10624 + k) (omega arith)
@@ -147,6 +152,17 @@ module _ (t : List ℕ) (room : 65536 ≤ length t) (k p : ℕ) where
       go true b false e = getD-set-other t (10624 + k) (10624 + j) (p + 1) 0 (λ z. eqb-false j k e (omega arith))
       go false b true e = absurd (omega (arith, eqb-true j k e, ltb-false k 5 b))
       go false b false e = refl
+
+-- ---- a digest
+
+module _ (t : List ℕ) (room : 65536 ≤ length t) (q d : ℕ) (hq : q < 128) where
+  pub digest-same : digestOf (set t (10752 + q) d) q ≡ d
+  unfolding digestOf
+  digest-same = getD-set-same t (10752 + q) d 0 (omega arith)
+
+  pub digest-other : (j : ℕ) → (j ≡ q → ⊥) → digestOf (set t (10752 + q) d) j ≡ digestOf t j
+  unfolding digestOf
+  digest-other j ne = getD-set-other t (10752 + q) (10752 + j) d 0 (λ e. ne (omega arith))
 
 -- one more kind cleared
 pub cleared-next : (t : List ℕ) (k : ℕ) → k < 5 → 65536 ≤ length t → ((j : ℕ) → j < k → kindOf t j ≡ 0) → (j : ℕ) → j < k + 1 → kindOf (set t (10624 + k) 0) j ≡ 0

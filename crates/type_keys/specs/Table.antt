@@ -11,8 +11,9 @@ use Rattle.semantics.specs.Tree.TypeKey.{elemKey, opaqueKey}
 use Rattle.semantics.specs.Form.{letter}
 use Rattle.semantics.specs.Array.{kindNumber}
 use Rattle.semantics.specs.Types.{sameTypeKey, distinct, position}
-use Rattle.lines.specs.Lines.{readAt, nodesIn}
+use Rattle.lines.specs.Lines.{textAt, readAt, nodesIn}
 use Rattle.checks.specs.Checks.{Checked, Kept}
+use Rattle.words.specs.Words.{digest}
 use Rattle.source.specs.Walk.{declaredTo}
 use Rattle.type_keys.specs.Keys.{needAt, NeedLine}
 
@@ -26,6 +27,10 @@ placeOf t q = getD t (10496 + q) 0
 -- for each kind of element 0 where its key is not used, or its position plus 1
 unfoldable pub kindOf : Bytes → ℕ → ℕ
 kindOf t k = getD t (10624 + k) 0
+
+-- 128 bytes: the digest of the text of need q
+unfoldable pub digestOf : Bytes → ℕ → ℕ
+digestOf t q = getD t (10752 + q) 0
 
 abbrev pub placed : TypeKey → List TypeKey → ℕ
 placed k js = cond (any (sameTypeKey k) js) (suc (position k js)) 0
@@ -62,6 +67,12 @@ pub record Outside (a b : ℕ) (t u : Bytes) : Type 0 where
 abbrev pub needsTo : Bytes → ℕ → List TypeKey
 needsTo s i = declaredTo (λ (d : Declares). d .needs) (nodesIn s) i
 
+-- need q is in the table, with its digest
+pub record NeedEntry (s t : Bytes) (n q : ℕ) : Type 0 where
+  pub low : q < 128
+  pub line : NeedLine s t n (lineOf t q)
+  pub digest : digestOf t q ≡ digest (textAt s (lineOf t q))
+
 -- the table has what the first i lines need
 pub record Numbering (s t : Bytes) (n i needs keys : ℕ) : Type 0 where
   pub checked : Checked s t n
@@ -69,6 +80,7 @@ pub record Numbering (s t : Bytes) (n i needs keys : ℕ) : Type 0 where
   pub count : needs ≡ length (needsTo s i)
   pub table : Needs s t n (needsTo s i)
   pub kinds : Kinds t (needsTo s i) keys
+  pub digests : (q : ℕ) → q < needs → digestOf t q ≡ digest (textAt s (lineOf t q))
 
 -- and what line i needs too, which is a `need` line
 pub record NeedNext (s t : Bytes) (n i needs keys : ℕ) : Type 0 where

@@ -5,22 +5,22 @@ pub mod shape;
 ghost use mathlib.Core.Path.{_≡_};
 ghost use mathlib.Core.List.{[], _∷_, _++_};
 ghost use Prim.Native.Nat.{ℕ, _+_, _≤_, _<_};
-ghost use lib.ListN.{length};
+ghost use lib.ListN.{length, set};
 ghost use mathlib.Core.List.{List};
 ghost use Rattle.semantics.specs.Tree.{ElemKind, TypeKey};
 ghost use Rattle.semantics.specs.Tree.TypeKey.{elemKey};
 ghost use Rattle.semantics.specs.Sheet.{sheetSource};
 ghost use Rattle.semantics.specs.Array.{kindNumber};
 ghost use Rattle.semantics.specs.Types.{sameTypeKey, distinct, position};
+ghost use Rattle.lines.specs.Lines.{textAt};
 ghost use Rattle.checks.specs.Checks.{Checked};
+ghost use Rattle.words.specs.Words.{digest};
 ghost use Rattle.type_keys.specs.Keys.{needAt, NeedLine};
-ghost use Rattle.type_keys.specs.Table.{lineOf, placeOf, kindOf, kindBy, needsTo, entered, kindEntered, Needs, Kinds, Outside, Numbering, NeedNext};
+ghost use Rattle.type_keys.specs.Table.{lineOf, placeOf, kindOf, digestOf, kindBy, needsTo, entered, kindEntered, Needs, Kinds, Outside, NeedEntry, Numbering, NeedNext};
 
 const NEED: u8 = b'N';
 
 // Forms of `need` lines.
-const ADT: usize = 34;
-
 const INT: usize = 35;
 
 const BYTE: usize = 36;
@@ -29,10 +29,8 @@ const BIG: usize = 37;
 
 const STRING: usize = 39;
 
-const BLOCK: usize = 40;
-
 // The table in the working space: for each need its line, low and high byte, and the position of its key among the distinct
-// keys; for each kind of element 0 where it is not used, or its position plus 1.
+// keys; for each kind of element 0 where it is not used, or its position plus 1; for each need the digest of its line's text.
 const LOW: usize = 10240;
 
 const HIGH: usize = 10368;
@@ -41,29 +39,21 @@ const PLACES: usize = 10496;
 
 const KINDS: usize = 10624;
 
+const DIGESTS: usize = 10752;
+
 // How many needs there are, and how many of their keys are distinct.
 pub struct Numbered {
     pub needs: usize,
     pub keys: usize,
 }
 
-// Whether the `need` lines a and b, from 0, have the same key.
+// Whether the `need` lines a and b, from 0, have the same key: a key is spelled in one way only, so their texts tell.
 pub fn same_need(sheet: &[u8], work: &[u8], n: usize, a: usize, b: usize) -> bool
     requires { ⌜ (NeedLine (now sheet) (now work) n a) × (NeedLine (now sheet) (now work) n b) ⌝ }
     ensures { λ r. ⌜ r ≡ sameTypeKey (needAt (now (sheet .entry)) a) (needAt (now (sheet .entry)) b) ⌝ }
 {
-    let f = lines::form_at(work, a);
-    if f != lines::form_at(work, b) {
-        return false;
-    }
-    if f == ADT {
-        let name = lines::field_at(sheet, work, n, a, 0);
-        return lines::first_is(sheet, work, n, b, name);
-    }
-    if f == BLOCK {
-        return shape::same_shape(sheet, work, n, a, b);
-    }
-    true
+    let l = lines::line_at(sheet, work, n, a);
+    words::same(l, lines::line_at(sheet, work, n, b))
 }
 
 // ---- the table
@@ -84,6 +74,14 @@ pub fn need_place(work: &[u8], q: usize) -> usize
     words::wide(work[PLACES + q])
 }
 
+// The digest of its line's text.
+fn need_digest(work: &[u8], q: usize) -> usize
+    requires { ⌜ (q < 128) × (65536 ≤ length (now work)) ⌝ }
+    ensures { λ r. ⌜ r ≡ digestOf (now (work .entry)) q ⌝ }
+{
+    words::wide(work[DIGESTS + q])
+}
+
 // The position of the key of a kind of element plus 1, 0 where it is not used.
 pub fn kind_place(work: &[u8], kind: usize) -> usize
     requires { ⌜ (kind < 5) × (65536 ≤ length (now work)) ⌝ }
@@ -100,6 +98,14 @@ fn enter(work: &mut [u8], q: usize, i: usize, p: usize)
     work[LOW + q] = (i % 256) as u8;
     work[HIGH + q] = (i / 256) as u8;
     work[PLACES + q] = p as u8;
+}
+
+// The text of need q has the digest h.
+fn enter_digest(work: &mut [u8], q: usize, h: usize)
+    requires { ⌜ (q < 128) × (h < 256) × (65536 ≤ length (now work)) ⌝ }
+    ensures { λ _. ⌜ now (work .exit) ≡ set (now (work .entry)) (10752 + q) h ⌝ }
+{
+    work[DIGESTS + q] = h as u8;
 }
 
 // The key of a kind of element has position p; 5 is no kind.
@@ -145,14 +151,26 @@ pub fn kind_needed(f: usize) -> usize
     f - 35
 }
 
-// The position of the key of the `need` line i among those of the lines before; the next position, where it is new.
-fn place_for(sheet: &[u8], work: &[u8], n: usize, i: usize, d: Numbered) -> usize
-    requires { ⌜ NeedNext (now sheet) (now work) n i (d .needs) (d .keys) ⌝ }
+// Whether need q has the key of the `need` line i, whose text has the digest h.
+fn is_need(sheet: &[u8], work: &[u8], n: usize, i: usize, h: usize, q: usize) -> bool
+    requires { ⌜ (NeedLine (now sheet) (now work) n i) × (h ≡ digest (textAt (now sheet) i)) × (NeedEntry (now sheet) (now work) n q) ⌝ }
+    ensures { λ r. ⌜ r ≡ sameTypeKey (needAt (now (sheet .entry)) i) (needAt (now (sheet .entry)) (lineOf (now (work .entry)) q)) ⌝ }
+{
+    if need_digest(work, q) != h {
+        return false; // before its line is looked at
+    }
+    same_need(sheet, work, n, i, need_line(work, q))
+}
+
+// The position of the key of the `need` line i, whose text has the digest h, among those of the lines before; the next position,
+// where it is new.
+fn place_for(sheet: &[u8], work: &[u8], n: usize, i: usize, h: usize, d: Numbered) -> usize
+    requires { ⌜ (NeedNext (now sheet) (now work) n i (d .needs) (d .keys)) × (h ≡ digest (textAt (now sheet) i)) ⌝ }
     ensures { λ r. ⌜ r ≡ position (needAt (now (sheet .entry)) i) (distinct [] (needsTo (now (sheet .entry)) i)) ⌝ }
 {
     let mut q = 0;
     while q < d.needs {
-        if same_need(sheet, work, n, i, need_line(work, q)) {
+        if is_need(sheet, work, n, i, h, q) {
             return need_place(work, q);
         }
         q += 1;
@@ -176,10 +194,12 @@ fn number_need(sheet: &[u8], work: &mut [u8], n: usize, i: usize, d: Numbered) -
     requires { ⌜ NeedNext (now sheet) (now work) n i (d .needs) (d .keys) ⌝ }
     ensures { λ r. ⌜ (Numbering (now (sheet .entry)) (now (work .exit)) n (i + 1) (r .needs) (r .keys)) × (Outside 10240 11264 (now (work .entry)) (now (work .exit))) ⌝ }
 {
-    let p = place_for(sheet, work, n, i, d);
+    let h = words::digest(lines::line_at(sheet, work, n, i));
+    let p = place_for(sheet, work, n, i, h, d);
     let f = lines::form_at(work, i);
     enter(work, d.needs, i, p);
     enter_kind(work, kind_needed(f), p);
+    enter_digest(work, d.needs, h);
     Numbered {
         needs: d.needs + 1,
         keys: with_key(p, d.keys),

@@ -6,10 +6,8 @@ ghost use Prim.Native.Nat.{_≤_, _<_};
 ghost use lib.IntN.{pos};
 ghost use lib.ListN.{length, getD};
 ghost use Rattle.semantics.specs.Text.{orElse, intOf};
-ghost use Rattle.semantics.specs.Tree.TypeKey.{blockKey};
 ghost use Rattle.semantics.specs.Form.{holds};
 ghost use Rattle.semantics.specs.Form.Atom.{offset};
-ghost use Rattle.semantics.specs.Types.{sameTypeKey};
 ghost use Rattle.type_keys.specs.Keys.{shapeAt, ShapeLine, raised};
 
 // An offset, from -4096 on, plus 4096.
@@ -47,26 +45,4 @@ pub fn offset_at(sheet: &[u8], work: &[u8], n: usize, i: usize, j: usize) -> usi
     ensures { λ r. ⌜ (r ≡ raised (getD (shapeAt (now (sheet .entry)) i .pointers) j (pos 0))) × (r ≤ 8192) ⌝ }
 {
     read_offset(lines::field_at(sheet, work, n, i, 2 + j))
-}
-
-// Whether lines a and b write out the same size, and the same offsets in the same order.
-pub fn same_shape(sheet: &[u8], work: &[u8], n: usize, a: usize, b: usize) -> bool
-    requires { ⌜ (ShapeLine (now sheet) (now work) n a) × (ShapeLine (now sheet) (now work) n b) ⌝ }
-    ensures { λ r. ⌜ r ≡ sameTypeKey (blockKey (shapeAt (now (sheet .entry)) a)) (blockKey (shapeAt (now (sheet .entry)) b)) ⌝ }
-{
-    if size_at(sheet, work, n, a) != size_at(sheet, work, n, b) {
-        return false;
-    }
-    let count = offset_count(sheet, work, n, a);
-    if count != offset_count(sheet, work, n, b) {
-        return false;
-    }
-    let mut j = 0;
-    while j < count {
-        if offset_at(sheet, work, n, a, j) != offset_at(sheet, work, n, b, j) {
-            return false;
-        }
-        j += 1;
-    }
-    true
 }

@@ -1,44 +1,56 @@
 use native.Mathlib.Omega.{arith}
 use Prim.Native.Nat.{ℕ}
 use denote.Ref.{now}
+use mathlib.Core.List.{List}
 use mathlib.Core.Path.{_∙_, ap}
-use Rattle.type_keys.specs.Table.{needsTo, kindEntered}
+use Rattle.words.specs.Words.{digest}
 use Rattle.type_keys.specs.Keys.{needAt}
+use Rattle.type_keys.specs.Table.{needsTo, kindEntered}
 use Rattle.type_keys.proofs.Pass.{needs-room, numbered, numbered-outside}
 use borrow.Author.Needs.{needs}
 use Rattle.type_keys.proofs.number_need.Statement.{statement}
 use Rattle.type_keys.proofs.number_need.Tie as tie
 
+line-at-requires : tie.Need-line-at-requires
+line-at-requires c κs = search needs
+
+digest-requires : tie.Need-digest-requires
+digest-requires c κs = search needs
+
 place-for-requires : tie.Need-place-for-requires
-place-for-requires c κs = search needs
+place-for-requires c κs = (c .before .before .before .before .before .before .pre, c .before .digest .ensures .0 ∙ ap (λ (l : List ℕ). digest l) (c .before .before .line-at .ensures))
 
 form-at-requires : tie.Need-form-at-requires
 form-at-requires c κs = search needs
 
 enter-requires : tie.Need-enter-requires
-enter-requires c κs = let w = needs-room (now (c .before .before .before .before .before .before .before .args .sheet)) (now (c .before .before .before .before .before .before .before .args .work)) (c .before .before .before .before .before .before .before .args .n) (c .before .before .before .before .before .before .before .args .i) (c .before .before .before .before .before .before .before .args .d .needs) (c .before .before .before .before .before .before .before .args .d .keys) (c .before .before .before .before .before .before .before .pre) in (w .0, omega (arith, c .before .before .before .before .before .before .before .pre .line .within, c .before .before .before .before .before .before .before .pre .line .checked .whole .lined .few), omega (arith, w .1, c .before .before .before .place-for .ensures), c .before .before .before .before .before .before .before .pre .line .checked .whole .room)
+enter-requires c κs = let x = c .before .before .before .before .before .before .before .before .before .before .pre in (needs-room x .0, omega (arith, x .line .within, x .line .checked .whole .lined .few), omega (arith, needs-room x .1, c .before .before .before .place-for .ensures), x .line .checked .whole .room)
 
 kind-needed-requires : tie.Need-kind-needed-requires
 kind-needed-requires c κs = search needs
 
 enter-kind-requires : tie.Need-enter-kind-requires
-enter-kind-requires c κs = let w = needs-room (now (c .before .before .before .before .before .before .before .before .before .before .before .before .args .sheet)) (now (c .before .before .before .before .before .before .before .before .before .before .before .before .args .work)) (c .before .before .before .before .before .before .before .before .before .before .before .before .args .n) (c .before .before .before .before .before .before .before .before .before .before .before .before .args .i) (c .before .before .before .before .before .before .before .before .before .before .before .before .args .d .needs) (c .before .before .before .before .before .before .before .before .before .before .before .before .args .d .keys) (c .before .before .before .before .before .before .before .before .before .before .before .before .pre) in (omega (arith, w .1, c .before .before .before .before .before .before .before .before .place-for .ensures), omega (arith, c .before .before .before .before .enter .kept .0, c .before .before .before .before .before .before .before .before .before .before .before .before .pre .line .checked .whole .room))
+enter-kind-requires c κs = let x = c .before .before .before .before .before .before .before .before .before .before .before .before .before .before .before .pre in (omega (arith, needs-room x .1, c .before .before .before .before .before .before .before .before .place-for .ensures), omega (arith, c .before .before .before .before .enter .kept .0, x .line .checked .whole .room))
 
-add-t17 : tie.Need-add-t17
-add-t17 c = search needs
+enter-digest-requires : tie.Need-enter-digest-requires
+enter-digest-requires c κs = let x = c .before .before .before .before .before .before .before .before .before .before .before .before .before .before .before .before .before .before .before .pre in (needs-room x .0, c .before .before .before .before .before .before .before .before .before .before .before .before .before .before .digest .ensures .1, omega (arith, c .before .before .before .enter-kind .kept .0, c .before .before .before .before .before .before .before .before .enter .kept .0, x .line .checked .whole .room))
+
+add-t21 : tie.Need-add-t21
+add-t21 c = record { fits = omega (arith, needs-room (c .before .before .before .before .before .before .before .before .before .before .before .before .before .before .before .before .before .before .before .before .before .before .before .pre) .0) }
 
 with-key-requires : tie.Need-with-key-requires
-with-key-requires c κs = omega (arith, needs-room (now (c .before .before .before .before .before .before .before .before .before .before .before .before .before .before .before .before .args .sheet)) (now (c .before .before .before .before .before .before .before .before .before .before .before .before .before .before .before .before .args .work)) (c .before .before .before .before .before .before .before .before .before .before .before .before .before .before .before .before .args .n) (c .before .before .before .before .before .before .before .before .before .before .before .before .before .before .before .before .args .i) (c .before .before .before .before .before .before .before .before .before .before .before .before .before .before .before .before .args .d .needs) (c .before .before .before .before .before .before .before .before .before .before .before .before .before .before .before .before .args .d .keys) (c .before .before .before .before .before .before .before .before .before .before .before .before .before .before .before .before .pre) .2)
+with-key-requires c κs = omega (arith, needs-room (c .before .before .before .before .before .before .before .before .before .before .before .before .before .before .before .before .before .before .before .before .before .before .before .pre) .2)
 
 same-length : tie.Need-same-length
 same-length c = search needs
 
 returns : tie.Need-returns
-returns c = let x = c .before .before .before .before .before .before .before .before .before .before .before .before .before .before .before .before .before .pre in
-    let hv = c .before .before .before .before .enter-kind .ensures ∙ ap (λ (k : ℕ). kindEntered (c .before .before .before .before .before .before .before .before .before .enter .last .0) k (c .before .before .before .before .before .before .before .before .before .before .before .before .before .place-for .result)) (c .before .before .before .before .before .kind-needed .ensures) in
-    (numbered (now (c .before .before .before .before .before .before .before .before .before .before .before .before .before .before .before .before .before .args .sheet)) (now (c .before .before .before .before .before .before .before .before .before .before .before .before .before .before .before .before .before .args .work)) (c .before .before .before .before .before .before .before .before .before .before .before .before .before .before .before .before .before .args .n) (c .before .before .before .before .before .before .before .before .before .before .before .before .before .before .before .before .before .args .i) (c .before .before .before .before .before .before .before .before .before .before .before .before .before .before .before .before .before .args .d .needs) (c .before .before .before .before .before .before .before .before .before .before .before .before .before .before .before .before .before .args .d .keys) x (c .before .before .before .before .before .before .before .before .before .before .before .form-at .result) (c .before .before .before .before .before .before .before .before .before .before .before .before .before .place-for .result) (c .before .before .before .before .before .before .before .before .before .before .before .form-at .ensures) (c .before .before .before .before .before .before .before .before .before .before .before .before .before .place-for .ensures) (c .before .before .before .before .before .before .before .before .before .enter .last .0) (c .before .before .before .before .enter-kind .last .0) (c .before .before .before .before .before .before .before .before .before .enter .ensures) hv (c .with-key .result) (c .with-key .ensures (needAt (now (c .before .before .before .before .before .before .before .before .before .before .before .before .before .before .before .before .before .args .sheet)) (c .before .before .before .before .before .before .before .before .before .before .before .before .before .before .before .before .before .args .i)) (needsTo (now (c .before .before .before .before .before .before .before .before .before .before .before .before .before .before .before .before .before .args .sheet)) (c .before .before .before .before .before .before .before .before .before .before .before .before .before .before .before .before .before .args .i)) (c .before .before .before .before .before .before .before .before .before .before .before .before .before .place-for .ensures) (x .numbering .kinds .count)), numbered-outside (now (c .before .before .before .before .before .before .before .before .before .before .before .before .before .before .before .before .before .args .sheet)) (now (c .before .before .before .before .before .before .before .before .before .before .before .before .before .before .before .before .before .args .work)) (c .before .before .before .before .before .before .before .before .before .before .before .before .before .before .before .before .before .args .n) (c .before .before .before .before .before .before .before .before .before .before .before .before .before .before .before .before .before .args .i) (c .before .before .before .before .before .before .before .before .before .before .before .before .before .before .before .before .before .args .d .needs) (c .before .before .before .before .before .before .before .before .before .before .before .before .before .before .before .before .before .args .d .keys) x (c .before .before .before .before .before .before .before .before .before .before .before .form-at .result) (c .before .before .before .before .before .before .before .before .before .before .before .before .before .place-for .result) (c .before .before .before .before .before .before .before .before .before .before .before .form-at .ensures) (c .before .before .before .before .before .before .before .before .before .before .before .before .before .place-for .ensures) (c .before .before .before .before .before .before .before .before .before .enter .last .0) (c .before .before .before .before .enter-kind .last .0) (c .before .before .before .before .before .before .before .before .before .enter .ensures) hv)
+returns c = let x = c .before .before .before .before .before .before .before .before .before .before .before .before .before .before .before .before .before .before .before .before .before .before .before .before .pre in
+    let hd = c .before .before .before .before .before .before .before .before .before .before .before .before .before .before .before .before .before .before .before .digest .ensures .0 ∙ ap (λ (l : List ℕ). digest l) (c .before .before .before .before .before .before .before .before .before .before .before .before .before .before .before .before .before .before .before .before .line-at .ensures) in
+    let hv = c .before .before .before .before .before .before .before .before .enter-kind .ensures ∙ ap (λ (k : ℕ). kindEntered (c .before .before .before .before .before .before .before .before .before .before .before .before .before .enter .last .0) k (c .before .before .before .before .before .before .before .before .before .before .before .before .before .before .before .before .before .place-for .result)) (c .before .before .before .before .before .before .before .before .before .kind-needed .ensures) in
+    (numbered x (c .before .before .before .before .before .before .before .before .before .before .before .before .before .before .before .form-at .ensures) (c .before .before .before .before .before .before .before .before .before .before .before .before .before .before .before .before .before .place-for .ensures) hd (c .before .before .before .before .before .before .before .before .before .before .before .before .before .enter .ensures) hv (c .before .before .before .before .enter-digest .ensures) (c .with-key .result) (c .with-key .ensures (needAt (now (c .before .before .before .before .before .before .before .before .before .before .before .before .before .before .before .before .before .before .before .before .before .before .before .before .args .sheet)) (c .before .before .before .before .before .before .before .before .before .before .before .before .before .before .before .before .before .before .before .before .before .before .before .before .args .i)) (needsTo (now (c .before .before .before .before .before .before .before .before .before .before .before .before .before .before .before .before .before .before .before .before .before .before .before .before .args .sheet)) (c .before .before .before .before .before .before .before .before .before .before .before .before .before .before .before .before .before .before .before .before .before .before .before .before .args .i)) (c .before .before .before .before .before .before .before .before .before .before .before .before .before .before .before .before .before .place-for .ensures) (x .numbering .kinds .count)), numbered-outside x (c .before .before .before .before .before .before .before .before .before .before .before .before .before .before .before .form-at .ensures) (c .before .before .before .before .before .before .before .before .before .before .before .before .before .before .before .before .before .place-for .ensures) hd (c .before .before .before .before .before .before .before .before .before .before .before .before .before .enter .ensures) hv (c .before .before .before .before .enter-digest .ensures))
 
 pub number-need-spec : {M : Type 1} → statement M
 number-need-spec =
-    tie.close (tie.spec place-for-requires form-at-requires enter-requires kind-needed-requires enter-kind-requires add-t17 with-key-requires
-    same-length returns)
+    tie.close (tie.spec line-at-requires digest-requires place-for-requires form-at-requires enter-requires kind-needed-requires enter-kind-requires
+    enter-digest-requires add-t21 with-key-requires same-length returns)
