@@ -20,13 +20,13 @@ use Rattle.semantics.specs.Array.{kindNumber, elemKind, allocated, constArray}
 use Rattle.decimal.specs.Number as Number
 use Rattle.lines.specs.Lines.{readsIn, readAt}
 use Rattle.sizes.specs.Sizes.{typeAt, TypeLine}
-use Rattle.sizes.proofs.Types.{Good, head-drop, tail-drop}
+use Rattle.sizes.proofs.Types.{Good, ref-head, head-drop, tail-drop}
 use Rattle.values.specs.declared.Folded.{Folded}
 use Rattle.values.specs.Values.{resultIn}
 use Rattle.placements.proofs.Same.{keeps-less, keeps-kept}
 use Rattle.leaf.specs.Folds.{exAt, Foldable, Folds}
 use Rattle.literals.specs.Literals.{namesIn, Line}
-use Rattle.literals.proofs.Lines.{parts-at, makes, good-line, ref-head}
+use Rattle.literals.proofs.Lines.{parts-at, makes, good-line}
 use Rattle.literals.proofs.Selectors.{foldable, folds-to}
 use Rattle.arrays.specs.declared.Arrayed.{Arrayed}
 use Rattle.arrays.specs.Arrays.{kindAt, arrayedIn, Stands, Answers, typeOf, allocType, AllocLine}

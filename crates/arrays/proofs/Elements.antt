@@ -24,10 +24,10 @@ use Rattle.lines.proofs.Line.{form-low, kind-is}
 use Rattle.refs.proofs.Nodes.{node-at}
 use Rattle.sizes.specs.Sizes.{typeAt, TypeLine}
 use Rattle.sizes.proofs.Forms.{type-form, of-types}
-use Rattle.sizes.proofs.Types.{head-drop}
+use Rattle.sizes.proofs.Types.{ref-head, head-drop}
 use Rattle.leaf.specs.Folds.{exAt}
 use Rattle.literals.specs.Literals.{elsAt, Line, LiteralLine}
-use Rattle.literals.proofs.Lines.{line-form, parts-at, makes, good-line, ref-head, el-value, value-ref}
+use Rattle.literals.proofs.Lines.{line-form, parts-at, makes, good-line, el-value, value-ref}
 use Rattle.literals.proofs.Turns.{elsFrom, all-elements, element-line, elements-split}
 use Rattle.arrays.proofs.Allocs.{type-line}
 

@@ -1,14 +1,17 @@
 -- Laws of the checks together.
 use mathlib.Core.Path.{_≡_, refl, sym, ap, _∙_, subst}
 use mathlib.Core.Bool.{false}
-use mathlib.Core.List.{List, []}
-use Prim.Native.Nat.{ℕ, zero, suc, _+_, _≤_, _<_}
+use mathlib.Core.List.{List, [], _∷_, map}
+use mathlib.Core.Option.{Option, none}
+use Prim.Native.Nat.{ℕ, suc, _+_, _≤_, _<_}
 use native.Mathlib.Omega.{arith}
-use lib.ListN.{length, getD, length-replicate}
+use lib.ListN.{length, getD, length-append, length-map, length-replicate}
 use borrow.Author.Tests.{lt-ltb, le-ltb, ne-eqb}
 use Rattle.semantics.specs.Text.{lineParts}
 use Rattle.semantics.specs.Refusal.{Outcome, refused, zeros, noCounts, badForm, badRefFrom, tooDeepFrom, badModuleFrom, tooManyFrom, checked, worked, compiled}
-use Rattle.semantics.specs.Sheet.{sheetSource}
+use Rattle.semantics.specs.Tree.{Declares, Node}
+use Rattle.semantics.specs.Sheet.{Module, Located, openAfter, locatedFrom, declared, sheetSource}
+use Rattle.semantics.proofs.Common.{zeros-at}
 use Rattle.lines.specs.Lines.{readsIn, nodesIn, Whole, Above, Passed}
 use Rattle.lines.specs.declared.Formed.{Formed}
 use Rattle.lines.specs.declared.Formed.the-variants as Formed
@@ -23,18 +26,13 @@ use Rattle.checks.specs.Checks.{settled, ruled, tested, Checked, Passes}
 
 -- ---- zeros
 
-zero-at : (n j : ℕ) → getD (zeros n) j 0 ≡ 0
-zero-at zero j = refl
-zero-at (suc n) zero = refl
-zero-at (suc n) (suc j) = zero-at n j
-
 pub zeros-of : (t : List ℕ) (n : ℕ) → t ≡ zeros n → t ≡ zeros (length t)
 zeros-of t n e = e ∙ ap zeros (sym (ap length e ∙ length-replicate n 0))
 
 -- no line is used where the table is zero
 pub unused : (t u : List ℕ) → t ≡ zeros (length t) → Above t u → Used u []
 unfolding usedAt
-unused t u z a i h = a (3072 + i) (omega arith) ∙ ap (λ (l : List ℕ). getD l (3072 + i) 0) z ∙ zero-at (length t) (3072 + i)
+unused t u z a i h = a (3072 + i) (omega arith) ∙ ap (λ (l : List ℕ). getD l (3072 + i) 0) z ∙ zeros-at (length t) (3072 + i)
 
 -- ---- refusals 4 to 7
 
@@ -106,3 +104,16 @@ compiled-by s work r h listing = h (worked listing (sheetSource s))
 
 pub passes-lines : (s t : List ℕ) (r : Checks) (n : ℕ) → r ≡ Lines n → Passes s t r → Checked s t n
 passes-lines s t r n e p = subst (λ (x : Checks). Passes s t x) e p
+
+-- ---- what a sheet that passes declares
+
+located-length : {A : Type 0} (f : Declares → List A) (k : ℕ) (o : Option Module) (ns : List Node) → length (locatedFrom f k o ns) ≡ length (declared f ns)
+located-length f k o [] = refl
+located-length {A} f k o (n ∷ ns) =
+    let at : A → Located A = λ a. record { line = k; within = o; it = a } in
+    let rest = openAfter k (n .declares) o in
+    omega (arith, length-append (map at (f (n .declares))) (locatedFrom f (suc k) rest ns), length-map (f (n .declares)) at, located-length f (suc k) rest ns, length-append (f (n .declares)) (declared f ns))
+
+pub few-consts : {s t : List ℕ} {n : ℕ} → Checked s t n → length (sheetSource s .consts) ≤ 128
+unfolding sheetSource
+few-consts {s} c = omega (arith, located-length (λ (d : Declares). d .consts) 1 none (nodesIn s), c .bounds .consts)

@@ -15,9 +15,9 @@ use Rattle.semantics.specs.Const.{entries, implements}
 use Rattle.semantics.specs.Listing.{keysIn, isPlain, constRow}
 use Rattle.laws.proofs.Lists.{concat-append, filter-append, any-append}
 use Rattle.form.proofs.Table.{never, both}
-use Rattle.implement.specs.Modules.{moduleAt}
+use Rattle.implement.specs.Modules.{moduleAt, isOwn}
 use Rattle.names.specs.Table.{lineOf, moduleLineOf, slotAt, fieldAt, entriesAt, logIn, hasKey}
-use Rattle.const_rows.specs.Rows.{plainKey, qualifiedKey, isOwn, qualifiedTo, plainTo, qualifiedPart, plainPart}
+use Rattle.const_rows.specs.Rows.{plainKey, qualifiedKey, qualifiedTo, plainTo, qualifiedPart, plainPart}
 
 -- ---- lists
 

@@ -13,21 +13,19 @@ use lib.ListN.{length, take, drop}
 use mir.Syntax.{w64}
 use mir.Val.{SFits}
 use mir.ValLaws.{toZ-ofZ}
-use borrow.Author.Tests.{eq-eqb, ne-eqb, lt-ltb}
+use borrow.Author.Tests.{ne-eqb, lt-ltb}
 use Rattle.semantics.specs.Text.{Bytes, bytes, decimalℤ, hexOf, bigEndian}
 use Rattle.semantics.specs.Tree.{ConstVal}
 use Rattle.semantics.specs.Tree.ConstVal.{vInt, vReal, vStr}
 use Rattle.semantics.specs.Fold.{signed64, plain, qualified, lookUp, valueOf}
-use Rattle.semantics.specs.Sheet.{sheetSource}
-use Rattle.semantics.specs.Const.{implements}
 use Rattle.semantics.specs.Listing.{row, valueFields, constRow, constRows}
 use Rattle.ints.proofs.Widths.{held}
 use Rattle.write.specs.Wrote.{Wrote}
 use Rattle.write.proofs.Wrote.{wrote-none, wrote-as, then}
-use Rattle.implement.specs.Modules.{moduleAt}
+use Rattle.implement.specs.Modules.{isOwn}
 use Rattle.names.specs.Table.{lineOf, moduleLineOf, valueBy, kindOf, bitsOf, fieldAt, logIn, Logged, found, hasKey}
 use Rattle.names.proofs.Laws.{slot-is, value-failed, value-int, value-real, value-text}
-use Rattle.const_rows.specs.Rows.{plainKey, qualifiedKey, isOwn, qualifiedTo, plainTo, qualifiedPart, plainPart, rowsTo, partOf, Shown, Table}
+use Rattle.const_rows.specs.Rows.{plainKey, qualifiedKey, qualifiedTo, plainTo, qualifiedPart, plainPart, rowsTo, partOf, Shown, Table}
 use Rattle.const_rows.proofs.Keys.{qualified-none, plain-none, qualified-more, plain-more}
 
 -- ---- values
@@ -175,12 +173,6 @@ module _ {s t : Bytes} {n m : ℕ} (b : Table s t n m) where
 
   pub module-in : {i k : ℕ} → i < m → k ≡ moduleLineOf t i → k ≤ n
   module-in {i} h e = omega (arith, b .logged .each i h .within)
-
-pub own-top : (s : Bytes) {k : ℕ} → k ≡ 0 → true ≡ isOwn s k
-own-top s {k} z = rw (eq-eqb k 0 z)
-
-pub own-module : (s : Bytes) {k : ℕ} {r : Bool} → (k ≡ 0 → ⊥) → r ≡ implements (sheetSource s .implement) (moduleAt s k) → r ≡ isOwn s k
-own-module s {k} z e = rw (ne-eqb k 0 z) e
 
 -- ---- all rows
 

@@ -6,11 +6,10 @@ use mathlib.Core.List.{[]}
 use lib.Dec.{eqb}
 use lib.ListN.{length}
 use Rattle.semantics.specs.Text.{Bytes, filter}
-use Rattle.semantics.specs.Sheet.{sheetSource, concatMap}
+use Rattle.semantics.specs.Sheet.{concatMap}
 use Rattle.semantics.specs.Fold.{Key, plain, qualified}
-use Rattle.semantics.specs.Const.{implements}
 use Rattle.semantics.specs.Listing.{keysIn, isPlain, constRow}
-use Rattle.implement.specs.Modules.{moduleAt}
+use Rattle.implement.specs.Modules.{isOwn}
 use Rattle.checks.specs.Checks.{Checked}
 use Rattle.names.specs.Table.{lineOf, moduleLineOf, kindOf, bitsOf, fieldAt, logIn, Text, Logged, hasKey}
 
@@ -20,10 +19,6 @@ plainKey s t i = plain (fieldAt s (lineOf t i))
 
 abbrev pub qualifiedKey : Bytes → Bytes → ℕ → Key
 qualifiedKey s t i = qualified (fieldAt s (moduleLineOf t i)) (fieldAt s (lineOf t i))
-
--- whether constants of the module of line k have plain names
-abbrev pub isOwn : Bytes → ℕ → Bool
-isOwn s k = eqb k 0 || implements (sheetSource s .implement) (moduleAt s k)
 
 -- the rows of M->NAME that the first i entries add, and the plain ones, where m entries have values
 unfoldable pub qualifiedTo : Bytes → Bytes → ℕ → ℕ → Bytes

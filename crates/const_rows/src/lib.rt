@@ -1,12 +1,11 @@
 // Rows of the listing for constants: all M->NAME, then all plain names, each in the order of first insertion with its last value.
-ghost use mathlib.Core.Path.{_≡_};
 ghost use mathlib.Core.List.{_∷_, _++_};
 ghost use Prim.Native.Nat.{_+_, _≤_, _<_};
 ghost use lib.ListN.{length};
 ghost use Rattle.semantics.specs.Listing.{row, valueFields, constRows};
 ghost use Rattle.write.specs.Wrote.{Wrote};
 ghost use Rattle.names.specs.Table.{found, logIn};
-ghost use Rattle.const_rows.specs.Rows.{isOwn, qualifiedPart, plainPart, rowsTo, partOf, Shown, Table};
+ghost use Rattle.const_rows.specs.Rows.{qualifiedPart, plainPart, rowsTo, partOf, Shown, Table};
 
 const LF: u8 = 10;
 
@@ -88,17 +87,6 @@ fn qualified_row(
     put_rest(work, out, a, name, r)
 }
 
-// Whether constants of the module of line k, or of none for 0, have plain names.
-fn is_own(sheet: &[u8], work: &[u8], n: usize, m: usize, k: usize) -> bool
-    requires { ⌜ (Table (now sheet) (now work) n m) × (k ≤ n) ⌝ }
-    ensures { λ b. ⌜ b ≡ isOwn (now (sheet .entry)) k ⌝ }
-{
-    if k == 0 {
-        return true;
-    }
-    implement::implements(sheet, work, n, k)
-}
-
 // The row of a plain name that entry i adds, if it adds one.
 fn plain_row(
     sheet: &[u8],
@@ -112,7 +100,7 @@ fn plain_row(
     requires { ⌜ (Table (now sheet) (now work) n m) × (i < m) × (at ≤ length (now out) + 1) ⌝ }
     ensures { λ p. ⌜ Wrote (now (out .entry)) at (plainPart (now (sheet .entry)) (now (work .entry)) m i) (now (out .exit)) p ⌝ }
 {
-    if !is_own(sheet, work, n, m, names::module_line_of(work, i)) {
+    if !implement::is_own(sheet, work, n, names::module_line_of(work, i)) {
         return at;
     }
     let name = lines::field_at(sheet, work, n, names::line_of(work, i) - 1, 0);

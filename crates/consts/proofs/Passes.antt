@@ -6,20 +6,20 @@ use mathlib.Core.Option.{Option, none, some}
 use Prim.Native.Nat.{ℕ, zero, suc, _+_, _-_, _≤_, _<_}
 use native.Mathlib.Omega.{arith}
 use lib.Dec.{leb, eqb}
-use lib.ListN.{length, getD, drop-of-length-le, length-map}
+use lib.ListN.{length, getD, drop-of-length-le}
 use lib.Seq.{drop-cons}
 use borrow.Author.Tests.{eq-eqb, ne-eqb, leb-true, leb-false, eqb-true}
 use Rattle.semantics.specs.Text.{Bytes, filter, isNone, holdsOf}
 use Rattle.semantics.specs.Tree.{ConstDecl, Declares, Node, noNode}
 use Rattle.semantics.specs.Form.{letter}
-use Rattle.semantics.specs.Sheet.{Module, Located, Source, locatedFrom, located, declared, sheetSource}
+use Rattle.semantics.specs.Sheet.{Module, Located, Source, locatedFrom, sheetSource}
 use Rattle.semantics.specs.Const.{passesFrom, standsIn, topLevel, constants}
 use Rattle.lines.specs.Lines.{readAt, nodesIn}
 use Rattle.refs.proofs.Nodes.{node-count}
 use Rattle.implement.specs.Modules.{moduleAt}
 use Rattle.checks.specs.Checks.{Checked}
-use Rattle.source.specs.Walk.{declaresAt, openAt, locatedTo, conOf, byKind}
-use Rattle.source.proofs.Walk.{source-of, located-all, located-its, declared-all}
+use Rattle.source.specs.Walk.{declaresAt, openAt, conOf, byKind}
+use Rattle.source.proofs.Walk.{source-of}
 use Rattle.source.proofs.Declares.{line-declares}
 use Rattle.consts.specs.Passes.{restFrom, inGroup, groupFrom, passesAfter, inEarlier, countBefore, constAt}
 
@@ -187,12 +187,3 @@ module _ (s t : Bytes) (n : ℕ) (c : Checked s t n) where
   count-top i =
       rw (group-all s t n c 0)
       (omega (arith, filter-add (inEarlier i) (inGroup 0) (λ x. true) (λ x. earlier-or-top i (x .within)) (sheetSource s .consts), filter-less (λ (x : Located ConstDecl). true) (sheetSource s .consts)))
-
-  pub few-consts : length (sheetSource s .consts) ≤ 128
-  few-consts =
-      let f : Declares → List ConstDecl = λ (d : Declares). d .consts in
-      let ns = nodesIn s in
-      let e : length (located f ns) ≡ length (declared f ns) =
-      ap length (located-all f ns) ∙ sym (length-map (locatedTo f ns (length ns)) (λ (l : Located ConstDecl). l .it)) ∙ ap length (located-its f ns (length ns) ∙ sym (declared-all f ns)) in
-      let g : length (sheetSource s .consts) ≡ length (located f ns) = ap (λ (o : Source). length (o .consts)) (source-of s) in
-      omega (arith, e, g, c .bounds .consts)

@@ -26,19 +26,13 @@ use Rattle.values.specs.declared.Folded.the-variants.{Value, Failed, TooLong}
 use Rattle.values.specs.Values.{valueIn, resultIn, At}
 use Rattle.entries.specs.Entering.{Free, Entered}
 use Rattle.leaf.specs.Folds.{foldAt, Foldable, Folds}
+use Rattle.fold.proofs.Steps.{foldable}
 use Rattle.consts.specs.Passes.{constAt, ConstLine, Steps}
 use Rattle.consts.proofs.Lines.{ex-number, ex-line}
 
 module _ (s t : Bytes) (n m k i : ℕ) (l : ConstLine s t n m k i) (r : ℕ) (is : r ≡ Number.numberOf 65536 (getD (readAt s i .fields) 3 [])) where
-  pub foldable : Foldable s t n m r 49152
-  foldable =
-      let e = ex-line s t n i (l .checked) (l .line) (l .kind) r is in
-      record {
-        line = e;
-        log = l .logged;
-        low = omega arith;
-        room = omega (arith, l .checked .low (r - 1) (omega (arith, e .first, e .last)), l .checked .whole .room);
-      }
+  pub value-foldable : Foldable s t n m r 49152
+  value-foldable = foldable (ex-line s t n i (l .checked) (l .line) (l .kind) r is) (l .logged) (omega arith) (omega arith)
 
   pub free : {u : Bytes} → Kept 49152 t u → Free u m (i + 1) k
   free w = record { few = l .few; first = omega arith; last = omega (arith, l .line, l .checked .whole .lined .few); owner = omega (arith, l .group, l .checked .whole .lined .few); long = omega (arith, w .long, l .checked .whole .room) }

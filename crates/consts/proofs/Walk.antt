@@ -23,6 +23,7 @@ use Rattle.lines.proofs.Line.{kind-is, form-low}
 use Rattle.implement.specs.Modules.{moduleAt, Open}
 use Rattle.checks.specs.Checks.{Checked, Kept}
 use Rattle.checks.proofs.Kept.{kept-less, checked-kept}
+use Rattle.checks.proofs.Laws.{few-consts}
 use Rattle.source.specs.Walk.{openAt}
 use Rattle.names.specs.Table.{logIn}
 use Rattle.iota.specs.declared.Stepped.{Stepped}
@@ -34,7 +35,7 @@ use Rattle.consts.specs.declared.Visited.the-variants as Visited
 use Rattle.consts.specs.declared.Collected.{Collected}
 use Rattle.consts.specs.declared.Collected.the-variants as Collected
 use Rattle.consts.specs.Passes.{groupFrom, passesAfter, constAt, ConstLine, step, tooLong, Steps, AtConstant, Standing, goes, Moves, Visits, Group, Logs, Passes, Before, rest, Past, Collects, left}
-use Rattle.consts.proofs.Passes.{open-mod, open-other, group-other, group-in, group-out, group-end, passes-start, passes-mod, passes-other, passes-end, count-mod, count-top, few-consts}
+use Rattle.consts.proofs.Passes.{open-mod, open-other, group-other, group-in, group-out, group-end, passes-start, passes-mod, passes-other, passes-end, count-mod, count-top}
 use Rattle.consts.proofs.Group.{group-start, group-left}
 use Rattle.consts.proofs.Lines.{line-number, col-number}
 
@@ -223,7 +224,7 @@ module _ (s t : Bytes) (n m i : ℕ) (b : Before s t n m i) where
     logged = b .logged;
     group = omega arith;
     opened = rw (add-one i) (open-mod s t n (b .checked) i h e);
-    room = rw add-one (omega (arith, b .few, count-mod s t n (b .checked) i, count-top s t n (b .checked) (suc i), few-consts s t n (b .checked)));
+    room = rw add-one (omega (arith, b .few, count-mod s t n (b .checked) i, count-top s t n (b .checked) (suc i), few-consts (b .checked)));
   }
 
   pub past-module : i < n → letter (readAt s i .form .kind) ≡ 77 → (u : Bytes) → Kept 5120 t u → (r : Collected) → Passes s t u n m (i + 1) r → Past s t u n m i r
@@ -246,7 +247,7 @@ module _ (s t : Bytes) (n m i : ℕ) (b : Before s t n m i) where
     logged = b .logged;
     group = omega arith;
     opened = refl;
-    room = omega (arith, b .few, count-top s t n (b .checked) i, few-consts s t n (b .checked));
+    room = omega (arith, b .few, count-top s t n (b .checked) i, few-consts (b .checked));
   }
 
   pub past-all : n ≤ i → rest s t m i ≡ constants (sheetSource s) → (u : Bytes) → (r : Collected) → Passes s t u n m 0 r → Collects s u n r

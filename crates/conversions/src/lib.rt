@@ -22,7 +22,7 @@ pub fn word_of_real(x: f64) -> i32
 }
 
 // The low 8 bits of w.
-pub fn byte_of_word(w: i32) -> u8
+fn byte_of_word(w: i32) -> u8
     ensures { λ r. ⌜ r ≡ lowByte w ⌝ }
 {
     (ints::bits(w as i64) & 0xff) as u8

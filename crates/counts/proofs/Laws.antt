@@ -2,15 +2,13 @@
 use mathlib.Core.Path.{_≡_, refl, sym, ap, _∙_}
 use mathlib.Core.Bool.{Bool, true, false, cond, not, _&&_, _||_}
 use mathlib.Core.List.{List, [], _∷_, _++_}
-use mathlib.Core.Option.{Option, none, some}
 use Prim.Native.Nat.{ℕ, zero, suc, _+_, _-_, _*_, _≤_, _<_, min}
 use native.Mathlib.Omega.{arith}
 use native.Mathlib.Numerals.{add-one}
-use lib.Dec.{leb, ltb, eqb}
+use lib.Dec.{ltb, eqb}
 use lib.ListN.{length, drop, getD, drop-of-length-le}
 use lib.Seq.{drop-cons}
-use borrow.Author.Tests.{eq-eqb, ne-eqb, leb-true, ltb-false, eqb-true, eqb-false}
-use Rattle.semantics.specs.Text as Text
+use borrow.Author.Tests.{eq-eqb, ne-eqb, ltb-false, eqb-true, eqb-false}
 use Rattle.semantics.specs.Text.{headPart, tailParts}
 use Rattle.semantics.specs.Tree.{Node, noNode}
 use Rattle.semantics.specs.Form as Form
@@ -32,46 +30,9 @@ use Rattle.refs.specs.Refs.{isRef, wantedBy, fineRef, fineRefs}
 use Rattle.refs.proofs.Letters.{ref-number, refs-begin, stands, refs-step, refs-end}
 use Rattle.refs.proofs.Fine.{needed-ref, refs-fine}
 use Rattle.refs.proofs.Nodes.{node-count, node-at}
+use Rattle.refs.proofs.Fields.{count-exact, first-count, third-count, head-drop, tail-drop, values-length}
 use Rattle.counts.specs.Counts.{fieldNumber, oneOf, tagsIn, recordsOf, varNames, added}
 use Rattle.counts.proofs.Forms.{fromCases, caseTags, CountsAs, all-count}
-
--- ---- fields that are counts
-
-module _ (a b c : Form.Atom) (ps : List Form.Part) where
-  first-count : (fs : List (List ℕ)) → fits (many c ∷ ps) fs ≡ true → isCount (getD fs 0 []) ≡ true
-  first-count [] h = never h
-  first-count (x ∷ fs) h = both (isCount x) (fits (ones (numberOf x) c ++ ps) fs) h .0
-
-  third-count : (fs : List (List ℕ)) → fits (one a ∷ (one b ∷ (many c ∷ ps))) fs ≡ true → isCount (getD fs 2 []) ≡ true
-  third-count [] h = never h
-  third-count (x ∷ fs) h = second fs (both (holds a x) (fits (one b ∷ (many c ∷ ps)) fs) h .1)
-    where
-      second : (gs : List (List ℕ)) → fits (one b ∷ (many c ∷ ps)) gs ≡ true → isCount (getD gs 1 []) ≡ true
-      second [] k = never k
-      second (y ∷ gs) k = first-count gs (both (holds b y) (fits (many c ∷ ps) gs) k .1)
-
--- a count is read as it is
-exact : (f : List ℕ) → isCount f ≡ true → Number.numberOf 65536 f ≡ numberOf f
-unfolding Number.numberOf
-exact f = go (Text.natOf f)
-  where
-    go : (o : Option ℕ) → Text.holdsOf (λ (n : ℕ). leb n 16) o ≡ true → Number.capped 65536 o ≡ Text.orElse 0 o
-    go none h = never h
-    go (some m) h = let k = leb-true m 16 h in omega arith
-
-third-part : (fs : List (List ℕ)) → headPart (tailParts (tailParts fs)) ≡ getD fs 2 []
-third-part [] = refl
-third-part (x ∷ []) = refl
-third-part (x ∷ (y ∷ [])) = refl
-third-part (x ∷ (y ∷ (z ∷ fs))) = refl
-
-first-part : (fs : List (List ℕ)) → headPart fs ≡ getD fs 0 []
-first-part [] = refl
-first-part (x ∷ fs) = refl
-
-values-length : (a : Form.Atom) (ns : List Node) (n : ℕ) (fs : List (List ℕ)) → length (values a ns n fs) ≡ n
-values-length a ns zero fs = refl
-values-length a ns (suc n) fs = ap suc (values-length a ns n (tailParts fs))
 
 -- ---- the lines of a sheet by their kinds
 
@@ -83,13 +44,13 @@ module _ (s t : List ℕ) (n : ℕ) (w : Whole s t n) where
   unfolding forms
   tags-exact i h e =
       let f : formAt t i ≡ 25 = form-for only-pc i h e in
-      exact (getD (readAt s i .fields) 0 []) (first-count Form.Atom.name Form.Atom.name Form.Atom.name (many (ref kFd) ∷ []) (readAt s i .fields) (rw f at (read-fits s t n w i h)))
+      count-exact (getD (readAt s i .fields) 0 []) (first-count Form.Atom.name (many (ref kFd) ∷ []) (readAt s i .fields) (rw f at (read-fits s t n w i h))) refl .0
 
   pub names-exact : (i : ℕ) → i < n → letter (readAt s i .form .kind) ≡ 72 → Number.numberOf 65536 (getD (readAt s i .fields) 2 []) ≡ fieldNumber (readAt s i) 2
   unfolding forms
   names-exact i h e =
       let f : formAt t i ≡ 29 = form-for only-var i h e in
-      exact (getD (readAt s i .fields) 2 []) (third-count _ _ Form.Atom.name [] (readAt s i .fields) (rw f at (read-fits s t n w i h)))
+      count-exact (getD (readAt s i .fields) 2 []) (third-count _ _ Form.Atom.name [] (readAt s i .fields) (rw f at (read-fits s t n w i h))) refl .0
 
   module _ (good : badRefFrom (readsIn s) 1 [] (readsIn s) ≡ 0) where
     -- the tags of a `pc` line
@@ -99,7 +60,7 @@ module _ (s t : List ℕ) (n : ℕ) (w : Whole s t n) where
         let f : formAt t j ≡ 25 = form-for only-pc j h e in
         ap (λ (m : Node). length (m .case .tags)) (node-at s t n w good j h)
         ∙ ap (λ (g : ℕ). length (rowNode (nodesIn s) g (readAt s j .fields) .case .tags)) f
-        ∙ values-length Form.Atom.name (nodesIn s) _ _ ∙ ap numberOf (first-part (readAt s j .fields))
+        ∙ values-length Form.Atom.name (nodesIn s) _ _ ∙ ap numberOf (head-drop 0 (readAt s j .fields))
 
     module _ (i : ℕ) (hi : i < n) where
       case-tags : (m : ℕ) → fineRef (readsIn s) (i + 1) (record { kind = 67; optional = false; line = m }) ≡ true → fieldNumber (lineAt (readsIn s) m) 0 ≡ length (nodeAt (nodesIn s) m .case .tags)
@@ -169,7 +130,7 @@ module _ (s t : List ℕ) (n : ℕ) (w : Whole s t n) where
 
       names-are : cond (eqb (letter (readAt s i .form .kind)) 72) (length (values Form.Atom.name (nodesIn s) (numberOf (headPart (tailParts (tailParts (readAt s i .fields))))) (tailParts (tailParts (tailParts (readAt s i .fields))))) + 0) 0 ≡ varNames (readAt s i)
       unfolding varNames
-      names-are = rw (values-length, third-part (readAt s i .fields)) (ap (λ (x : ℕ). cond (eqb (letter (readAt s i .form .kind)) 72) x 0) (none-more (fieldNumber (readAt s i) 2)))
+      names-are = rw (values-length, tail-drop 0 (readAt s i .fields), tail-drop 1 (readAt s i .fields), head-drop 2 (readAt s i .fields)) (ap (λ (x : ℕ). cond (eqb (letter (readAt s i .form .kind)) 72) x 0) (none-more (fieldNumber (readAt s i) 2)))
         where
           none-more : (x : ℕ) → x + 0 ≡ x
           none-more x = omega arith

@@ -18,8 +18,8 @@ use Rattle.semantics.specs.Image.{Memory, memoryOf, areaAfter}
 use Rattle.semantics.specs.Refusal.{Buffers, Outcome, Imaged, sourceGlobals, laidIn, replayed, afterListing, compiled, imaged, imageBytes, areaBytes}
 use Rattle.semantics.specs.Refusal.Outcome.{listed, refused}
 use Rattle.semantics.specs.Refusal.Imaged.{laid, notLaid}
+use Rattle.semantics.proofs.Common.{zeros-at}
 use Rattle.semantics.specs.Demand.{namesDistinct, kindsFit, sourceDeclared, laidFrom, laidOf, AllDeclared, imageEnd, areaEnd, EveryByte, Demand}
-use Rattle.demand.proofs.Bytes.{getD-zeros}
 use Rattle.demand.proofs.Records.{records-apart}
 use Rattle.demand.proofs.Elements.{Sized, array-given, init-sized}
 use Rattle.demand.proofs.Lines.{each-join, each-declared, all-declared}
@@ -69,9 +69,6 @@ module _ (image area : Bytes) where
       let m = memoryOf g in
       if-laid (ltb (b .image) (length (m .image))) (laid (m .image) (m .area)) (if-laid (ltb (b .area) (areaAfter 0 (g .items))) (laidIn b m) (listing-laid b g o h))
 
-zeros : (n p : ℕ) → getD {A = ℕ} (replicate n 0) p 0 ≡ 0
-zeros n p = getD-zeros [] n p
-
 -- ---- the claim
 
 abbrev ofItems : ℕ → List Item → Memory
@@ -89,12 +86,12 @@ every-byte s distinct kinds =
     let is : memoryOf (sourceGlobals s) ≡ ofItems end (itemsFrom 0 ds) = λ i. ofItems (m .end i) (m .items i) in
     let room : partsFrom 0 ds ≤ length (replicate {A = ℕ} parts 0) = rw (length-replicate {A = ℕ} parts 0, items-end ds 0 0) (le-refl (partsFrom 0 ds)) in
     let r = replay-adds ds 0 0 (replicate end 0) (replicate parts 0) 0 [] kinds (vars-sized (namesOf s) (laidVars s))
-    (rw (length-replicate {A = ℕ} end 0) (le-refl end)) (λ p q. zeros end p) room (λ p q. zeros parts p) in
+    (rw (length-replicate {A = ℕ} end 0) (le-refl end)) (λ p q. zeros-at end p) room (λ p q. zeros-at parts p) in
     record {
       imageLong = ap (λ (x : Memory). length (x .image)) is ∙ r .imageLong ∙ length-replicate {A = ℕ} end 0 ∙ end-laid ds 0 0 0;
       areaLong = ap (λ (x : Memory). length (x .area)) is ∙ r .areaLong ∙ length-replicate {A = ℕ} parts 0 ∙ items-end ds 0 0 ∙ parts-laid ds 0 0 0;
-      imageBytes = λ p. ap (λ (x : Memory). getD (x .image) p 0) is ∙ r .image p ∙ rw (zeros end p, zero-add);
-      areaBytes = λ p. ap (λ (x : Memory). getD (x .area) p 0) is ∙ r .area p ∙ rw (zeros parts p, zero-add);
+      imageBytes = λ p. ap (λ (x : Memory). getD (x .image) p 0) is ∙ r .image p ∙ rw (zeros-at end p, zero-add);
+      areaBytes = λ p. ap (λ (x : Memory). getD (x .area) p 0) is ∙ r .area p ∙ rw (zeros-at parts p, zero-add);
       places = m .places;
       items = all-items ds (sourceGlobals s .items) (m .items);
     }

@@ -1,16 +1,17 @@
 -- The table's bytes are those of its Form.forms; facts of all Form.forms, by one test.
 use mathlib.Core.Path.{_≡_, refl, ap, _∙_}
-use mathlib.Core.Bool.{Bool, true, false, cond, not, _&&_}
+use mathlib.Core.Bool.{Bool, true, cond, not, _&&_}
 use mathlib.Core.List.{List, [], _∷_, _++_}
 use Prim.Native.Nat.{ℕ, zero, suc, _+_, _*_, _≤_, _<_}
 use native.Mathlib.Omega.{arith}
 use lib.Dec.{leb, ltb, eqb}
 use lib.ListN.{length, getD, length-append, List·getD-append}
 use lib.Seq.{getD-append-add}
-use borrow.Author.Tests.{eq-eqb, ltb-true, leb-true, eqb-true, eqb-false, not-true}
+use borrow.Author.Tests.{eq-eqb, ltb-true, leb-true, eqb-false, not-true}
 use Rattle.semantics.specs.Text as Text
 use Rattle.semantics.specs.Form as Form
 use Rattle.semantics.specs.Form.Part.{one, many}
+pub use Rattle.semantics.proofs.Common.{never, both}
 use Rattle.form.specs.Table.{code, codes, fill, encode, table, rowAt, wordsAt, kindAt, codesAt}
 
 fill-length : (n : ℕ) (xs : List ℕ) → length (fill n xs) ≡ n
@@ -106,13 +107,6 @@ all-tidy : Text.all tidy Form.forms ≡ true
 unfolding Form.forms tidy plain fine
 all-tidy = refl
 
-pub never : {A : Type 0} → false ≡ true → A
-never h = let z : _≡_ {A = ℕ} 0 1 = cc in absurd (omega arith)
-
-pub both : (a b : Bool) → a && b ≡ true → (a ≡ true) × (b ≡ true)
-both true b h = (refl, h)
-both false b h = never h
-
 all-at : {A : Type 0} (p : A → Bool) (d : A) (xs : List A) (i : ℕ) → Text.all p xs ≡ true → i < length xs → p (getD xs i d) ≡ true
 all-at p d [] i h k = absurd (omega arith)
 all-at p d (x ∷ xs) zero h k = both (p x) (Text.all p xs) h .0
@@ -153,49 +147,83 @@ module _ (f : ℕ) (h : f < 42) where
   pub parts-fine : Text.all fine (rowAt f .parts) ≡ true
   parts-fine = both (leb (length (codesAt f)) 4) (Text.all fine (rowAt f .parts)) (t2 .1) .1
 
--- ---- the form of a kind that has but one, and what holds of each form
+-- ---- the forms of a kind, and what holds of each form
 
-sole : ℕ → ℕ → ℕ → List Form.Row → Bool
-sole k f i [] = true
-sole k f i (r ∷ rs) = cond (eqb (Form.letter (r .kind)) k) (eqb i f) true && sole k f (suc i) rs
+-- whether the rows of kind k, counted from i, are among those from a up to b
+spans : ℕ → ℕ → ℕ → ℕ → List Form.Row → Bool
+spans k a b i [] = true
+spans k a b i (r ∷ rs) = cond (eqb (Form.letter (r .kind)) k) (leb a i && ltb i b) true && spans k a b (suc i) rs
 
-sole-at : (k f : ℕ) (rs : List Form.Row) (i j : ℕ) → sole k f i rs ≡ true → j < length rs → Form.letter (getD rs j Form.noRow .kind) ≡ k → i + j ≡ f
-unfolding sole
-sole-at k f [] i j h l e = absurd (omega arith)
-sole-at k f (r ∷ rs) i zero h l e =
-    let p : eqb i f ≡ true = rw (eq-eqb (Form.letter (r .kind)) k e) at (both (cond (eqb (Form.letter (r .kind)) k) (eqb i f) true) (sole k f (suc i) rs) h .0) in
-    omega (arith, eqb-true i f p)
-sole-at k f (r ∷ rs) i (suc j) h l e =
-    let q = sole-at k f rs (suc i) j (both (cond (eqb (Form.letter (r .kind)) k) (eqb i f) true) (sole k f (suc i) rs) h .1) (omega arith) e in
-    omega arith
+spans-at : (k a b : ℕ) (rs : List Form.Row) (i j : ℕ) → spans k a b i rs ≡ true → j < length rs → Form.letter (getD rs j Form.noRow .kind) ≡ k → (a ≤ i + j) × (i + j < b)
+unfolding spans
+spans-at k a b [] i j h l e = absurd (omega arith)
+spans-at k a b (r ∷ rs) i zero h l e =
+    let p : leb a i && ltb i b ≡ true = rw (eq-eqb (Form.letter (r .kind)) k e) at (both (cond (eqb (Form.letter (r .kind)) k) (leb a i && ltb i b) true) (spans k a b (suc i) rs) h .0) in
+    let w = both (leb a i) (ltb i b) p in
+    (omega (arith, leb-true a i (w .0)), omega (arith, ltb-true i b (w .1)))
+spans-at k a b (r ∷ rs) i (suc j) h l e =
+    let q = spans-at k a b rs (suc i) j (both (cond (eqb (Form.letter (r .kind)) k) (leb a i && ltb i b) true) (spans k a b (suc i) rs) h .1) (omega arith) e in
+    (omega (arith, q .0), omega (arith, q .1))
+
+-- the forms of kind k are among those from a up to b
+pub Among : ℕ → ℕ → ℕ → Type 0
+Among k a b = spans k a b 0 Form.forms ≡ true
+
+pub forms-of-kind : {k a b : ℕ} → Among k a b → (g : ℕ) → g < 42 → kindAt g ≡ k → (a ≤ g) × (g < b)
+unfolding Among
+forms-of-kind {k} {a} {b} o g h e = let w = spans-at k a b Form.forms 0 g o (omega (arith, row-count)) e in (omega (arith, w .0), omega (arith, w .1))
 
 -- form f alone has the kind k
 pub Only : ℕ → ℕ → Type 0
-Only k f = sole k f 0 Form.forms ≡ true
-
-pub only-frame : Only 71 33
-unfolding Only sole Form.forms
-only-frame = refl
-
-pub only-pc : Only 67 25
-unfolding Only sole Form.forms
-only-pc = refl
-
-pub only-pick : Only 66 27
-unfolding Only sole Form.forms
-only-pick = refl
-
-pub only-var : Only 72 29
-unfolding Only sole Form.forms
-only-var = refl
-
-pub only-con : Only 68 28
-unfolding Only sole Form.forms
-only-con = refl
+Only k f = Among k f (suc f)
 
 pub form-of-kind : {k f : ℕ} → Only k f → (g : ℕ) → g < 42 → kindAt g ≡ k → g ≡ f
 unfolding Only
-form-of-kind {k} {f} o g h e = omega (arith, sole-at k f Form.forms 0 g o (omega (arith, row-count)) e)
+form-of-kind o g h e = let w = forms-of-kind o g h e in omega (arith, w .0, w .1)
+
+pub among-ty : Among 75 0 8
+unfolding Among spans Form.forms
+among-ty = refl
+
+pub among-ex : Among 69 8 20
+unfolding Among spans Form.forms
+among-ex = refl
+
+pub among-el : Among 76 20 23
+unfolding Among spans Form.forms
+among-el = refl
+
+pub only-se : Only 74 23
+unfolding Only Among spans Form.forms
+only-se = refl
+
+pub only-fd : Only 70 24
+unfolding Only Among spans Form.forms
+only-fd = refl
+
+pub only-pc : Only 67 25
+unfolding Only Among spans Form.forms
+only-pc = refl
+
+pub only-adt : Only 65 26
+unfolding Only Among spans Form.forms
+only-adt = refl
+
+pub only-pick : Only 66 27
+unfolding Only Among spans Form.forms
+only-pick = refl
+
+pub only-con : Only 68 28
+unfolding Only Among spans Form.forms
+only-con = refl
+
+pub only-var : Only 72 29
+unfolding Only Among spans Form.forms
+only-var = refl
+
+pub only-frame : Only 71 33
+unfolding Only Among spans Form.forms
+only-frame = refl
 
 infixr 5 _also_
 pub data Each (P : Form.Row → Type 0) : List Form.Row → Type 0 where

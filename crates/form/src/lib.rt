@@ -391,7 +391,7 @@ pub fn form_of(l: &[u8], k: usize) -> usize
 // ---- readers of a line that has form f
 
 // How long the keywords of form f are.
-pub fn width(f: usize) -> usize
+fn width(f: usize) -> usize
     requires { ⌜ f < rowCount ⌝ }
     ensures { λ r. ⌜ (r ≡ length (wordsAt f)) × (r ≤ 16) ⌝ }
 {

@@ -3,12 +3,13 @@ use mathlib.Core.Path.{_≡_, refl, sym, ap, _∙_, subst}
 use mathlib.Core.Logic.{⊎-elim}
 use mathlib.Core.Bool.{Bool, true, false}
 use mathlib.Core.List.{List, [], _∷_, _++_}
-use mathlib.Core.Option.{Option, none}
+use mathlib.Core.Option.{none}
 use Prim.Native.Nat.{ℕ, zero, suc, _+_, _-_, _*_, _≤_, _<_}
 use native.Mathlib.Nat.{eq-or-lt-of-le}
 use native.Mathlib.Omega.{arith}
 use lib.ListN.{length, drop, getD}
 use lib.Seq.{getD-drop}
+use borrow.Author.Tests.{ne-eqb}
 use Rattle.semantics.specs.Text.{Bytes, bytes, same}
 use Rattle.semantics.specs.Tree.{Ty}
 use Rattle.semantics.specs.Tree.Basic.{int, byte, big, real, string}
@@ -16,13 +17,13 @@ use Rattle.semantics.specs.Tree.Ty.{basic, ptr, array, tuple}
 use Rattle.semantics.specs.Form.{values, numberOf}
 use Rattle.semantics.specs.Form.Atom.{name}
 use Rattle.semantics.specs.Layout.{alignUp}
-use Rattle.semantics.specs.Const.{implements}
+use Rattle.semantics.specs.Sheet.{sheetSource}
 use Rattle.semantics.specs.Global.{Global, globalSize, placeOf, newOffset}
 use Rattle.decimal.specs.Number as Number
 use Rattle.words.specs.Words.{digest}
 use Rattle.lines.specs.Lines.{readAt, nodesIn}
 use Rattle.sizes.specs.Sizes.{typeAt}
-use Rattle.implement.specs.Modules.{moduleAt}
+use Rattle.implement.specs.Modules.{moduleAt, isOwn}
 use Rattle.globals.specs.declared.Globals.{Globals}
 use Rattle.globals.specs.Laying.{Laying, lay, layNames, counts}
 use Rattle.globals.specs.Table.{VarLine, nameOn, typeOn, namesOn, lineOf, digestOf, entered, entryAt, placesIn, layingIn, offsetBy, Around, Standing, Laid}
@@ -205,11 +206,7 @@ module _ (s t : Bytes) (n r : ℕ) (g : Globals) (count : ℕ) where
 
 -- ---- lines that count
 
-pub counts-outside : (impl : Option Bytes) (s : Bytes) (k : ℕ) → k ≡ 0 → true ≡ counts impl (moduleAt s k)
+pub counts-own : (s : Bytes) (k : ℕ) → isOwn s k ≡ counts (sheetSource s .implement) (moduleAt s k)
 unfolding moduleAt
-counts-outside impl s k e = rw e
-
-pub counts-inside : (impl : Option Bytes) (s : Bytes) (k : ℕ) → (k ≡ 0 → ⊥) → implements impl (moduleAt s k) ≡ counts impl (moduleAt s k)
-unfolding moduleAt
-counts-inside impl s zero z = absurd (z refl)
-counts-inside impl s (suc k) z = refl
+counts-own s zero = refl
+counts-own s (suc k) = rw (ne-eqb (suc k) 0 (λ e. omega arith))

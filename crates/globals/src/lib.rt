@@ -35,7 +35,7 @@ pub fn line_of(work: &[u8], i: usize) -> usize
 }
 
 // The position of its name among the line's names, from 0.
-pub fn position_of(work: &[u8], i: usize) -> usize
+fn position_of(work: &[u8], i: usize) -> usize
     requires { ⌜ (i < 256) × (65536 ≤ length (now work)) ⌝ }
     ensures { λ r. ⌜ (r ≡ positionOf (now (work .entry)) i) × (r < 256) ⌝ }
 {
@@ -92,7 +92,7 @@ fn is_named(sheet: &[u8], work: &[u8], n: usize, g: usize, i: usize, name: &[u8]
 }
 
 // The number of the entry with this name, from 1; 0 is none.
-pub fn place_of(sheet: &[u8], work: &[u8], n: usize, g: usize, name: &[u8]) -> usize
+fn place_of(sheet: &[u8], work: &[u8], n: usize, g: usize, name: &[u8]) -> usize
     requires { ⌜ Tabled (now sheet) (now work) n g ⌝ }
     ensures { λ r. ⌜ (offsetBy (now (work .entry)) r ≡ placeOf (now (name .entry)) (placesIn (now (sheet .entry)) (now (work .entry)) g)) × (r ≤ g) ⌝ }
 {
@@ -173,10 +173,7 @@ pub fn is_laid(sheet: &[u8], work: &[u8], n: usize, k: usize) -> bool
     requires { ⌜ (Checked (now sheet) (now work) n) × (k ≤ n) ⌝ }
     ensures { λ b. ⌜ b ≡ counts (sheetSource (now (sheet .entry)) .implement) (moduleAt (now (sheet .entry)) k) ⌝ }
 {
-    if k == 0 {
-        return true;
-    }
-    implement::implements(sheet, work, n, k)
+    implement::is_own(sheet, work, n, k)
 }
 
 // What line i declares, from 0, where the module of line k is open before it; 0 is none.

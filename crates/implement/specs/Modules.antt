@@ -1,11 +1,14 @@
 -- Modules by the numbers of their lines.
 use Prim.Native.Nat.{ℕ, zero, suc, _-_, _≤_}
 use mathlib.Core.Path.{_≡_}
+use mathlib.Core.Bool.{Bool, _||_}
 use mathlib.Core.List.{[]}
 use mathlib.Core.Option.{Option, none, some}
+use lib.Dec.{eqb}
 use lib.ListN.{getD}
 use Rattle.semantics.specs.Text.{Bytes}
-use Rattle.semantics.specs.Sheet.{Module}
+use Rattle.semantics.specs.Sheet.{Module, sheetSource}
+use Rattle.semantics.specs.Const.{implements}
 use Rattle.lines.specs.Lines.{readAt, nodesIn}
 use Rattle.checks.specs.Checks.{Checked}
 use Rattle.source.specs.Walk.{openAt}
@@ -18,6 +21,10 @@ firstField s k = getD (readAt s (k - 1) .fields) 0 []
 unfoldable pub moduleAt : Bytes → ℕ → Option Module
 moduleAt s zero = none
 moduleAt s (suc k) = some (record { name = firstField s (suc k); line = suc k })
+
+-- whether names of the module of line k, none for 0, are the sheet's own
+abbrev pub isOwn : Bytes → ℕ → Bool
+isOwn s k = eqb k 0 || implements (sheetSource s .implement) (moduleAt s k)
 
 -- the module of line k, none for 0, is open before line i, from 0
 pub record Open (s t : Bytes) (n i k : ℕ) : Type 0 where

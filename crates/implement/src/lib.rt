@@ -4,7 +4,7 @@ ghost use Prim.Native.Nat.{_+_, _≤_, _<_};
 ghost use Rattle.semantics.specs.Sheet.{sheetSource};
 ghost use Rattle.semantics.specs.Const as Const;
 ghost use Rattle.checks.specs.Checks.{Checked};
-ghost use Rattle.implement.specs.Modules.{moduleAt, Open};
+ghost use Rattle.implement.specs.Modules.{moduleAt, isOwn, Open};
 
 // Letters of kinds.
 const MOD: u8 = b'M';
@@ -26,6 +26,17 @@ pub fn implements(sheet: &[u8], work: &[u8], n: usize, k: usize) -> bool
     }
     let name = lines::field_at(sheet, work, n, 0, 0);
     lines::first_is(sheet, work, n, k - 1, name)
+}
+
+// Whether names of the module of line k are the sheet's own: those outside modules, where k is 0, and those of the implemented one.
+pub fn is_own(sheet: &[u8], work: &[u8], n: usize, k: usize) -> bool
+    requires { ⌜ (Checked (now sheet) (now work) n) × (k ≤ n) ⌝ }
+    ensures { λ r. ⌜ r ≡ isOwn (now (sheet .entry)) k ⌝ }
+{
+    if k == 0 {
+        return true;
+    }
+    implements(sheet, work, n, k)
 }
 
 // The line of the module that is open behind line i, from 0, where that of line k is open before it; 0 is none.

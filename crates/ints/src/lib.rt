@@ -24,7 +24,7 @@ pub fn of_bits(b: u64) -> i64
 }
 
 // a times b, modulo 2^64, by halves of 32 bits: the product of the upper halves is a multiple of 2^64.
-pub fn mul_bits(a: u64, b: u64) -> u64
+fn mul_bits(a: u64, b: u64) -> u64
     ensures { λ r. ⌜ r ≡ (a * b) % 2 ^ 64 ⌝ }
 {
     let ah = a >> 32;

@@ -213,7 +213,7 @@ fn string_rows(work: &[u8], out: &mut [u8], at: usize, count: usize) -> usize
 }
 
 // The rows of a literal's elements: one for all numbers, or one for each string.
-pub fn element_items(work: &[u8], out: &mut [u8], at: usize, kind: u8, count: usize) -> usize
+fn element_items(work: &[u8], out: &mut [u8], at: usize, kind: u8, count: usize) -> usize
     requires { ⌜ Literal (now work) count ⌝ }
     ensures { λ r. ⌜ ((id : TypeKey → ℕ) (k : ElemKind) → kindNumber k ≡ kind → Wrote (now (out .entry)) at (itemRows id (elementItems k (valuesIn (now (work .entry)) 0 count))) (now (out .exit)) r) ⌝ }
 {

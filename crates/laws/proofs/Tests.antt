@@ -1,21 +1,18 @@
 -- Laws about tests and byte lists.
 use mathlib.Core.Path.{_≡_, refl, sym}
-use mathlib.Core.Bool.{Bool, true, false, _&&_, _||_, false≢true}
+use mathlib.Core.Bool.{Bool, true, false, _&&_, _||_}
 use mathlib.Core.List.{[], _∷_}
 use lib.Dec.{eqb}
 use borrow.Author.Tests.{eqb-true, eq-eqb}
 use Rattle.semantics.specs.Text.{Bytes, same}
-
-pub never : {A : Type 0} → false ≡ true → A
-never h = absurd (false≢true h)
+use Rattle.semantics.proofs.Common.{both}
+pub use Rattle.semantics.proofs.Common.{never}
 
 pub and-left : (a b : Bool) → a && b ≡ true → a ≡ true
-and-left true b h = refl
-and-left false b h = h
+and-left a b h = both a b h .0
 
 pub and-right : (a b : Bool) → a && b ≡ true → b ≡ true
-and-right true b h = h
-and-right false b h = never h
+and-right a b h = both a b h .1
 
 pub and-unless : (a b : Bool) → (a ≡ true → b ≡ false) → a && b ≡ false
 and-unless true b f = f refl

@@ -46,7 +46,7 @@ fn word_marked(size: u32, offsets: &[i32], w: u64) -> bool
 }
 
 // The map's byte of the 8 words from `w` on, the first in bit 7.
-pub fn map_byte(size: u32, offsets: &[i32], w: u32) -> u8
+fn map_byte(size: u32, offsets: &[i32], w: u32) -> u8
     ensures { λ r. ⌜ r ≡ mapBits size (now (offsets .entry)) 8 w ⌝ }
 {
     let mut byte: u8 = 0;

@@ -1,79 +1,35 @@
 -- The fields of a literal's lines, the lines that they refer to, and what the lines make.
 use mathlib.Core.Path.{_≡_, refl, sym, ap, _∙_}
-use mathlib.Core.Bool.{Bool, true, false, cond, _&&_}
+use mathlib.Core.Bool.{Bool, true, false}
 use mathlib.Core.List.{List, [], _∷_}
 use Prim.Native.Nat.{ℕ, zero, suc, _+_, _-_, _≤_, _<_}
 use native.Mathlib.Omega.{arith}
-use lib.Dec.{ltb, eqb}
+use lib.Dec.{eqb}
 use lib.ListN.{drop, getD}
 use lib.Seq.{getD-drop}
-use borrow.Author.Tests.{ltb-true, eqb-true, eqb-false}
+use borrow.Author.Tests.{eqb-true, eqb-false}
 use Rattle.semantics.specs.Text.{Bytes}
 use Rattle.semantics.specs.Tree.{Ex, Node}
 use Rattle.semantics.specs.Tree.MaybeEx.{absent, given}
 use Rattle.semantics.specs.Tree.El.{next, star, at}
 use Rattle.semantics.specs.Array.{elValue}
-use Rattle.semantics.specs.Form.{Read, Row, Kind, Part, letter, forms, numberOf, fits, isCount, isNumber, nodeAt, perhapsAt, values, maybeEx, sesOf}
+use Rattle.semantics.specs.Form.{Row, forms, numberOf, fits, nodeAt, perhapsAt, values, maybeEx, sesOf}
 use Rattle.semantics.specs.Form.Kind.{kEx, kSe}
 use Rattle.semantics.specs.Form.Atom.{ref, maybe}
 use Rattle.semantics.specs.Form.Part.{one, many}
-use Rattle.semantics.specs.Refusal.{lineAt, refsIn}
+use Rattle.semantics.specs.Refusal.{refsIn}
 use Rattle.decimal.specs.Number as Number
 use Rattle.form.specs.Table.{rowAt, kindAt, rowNode}
-use Rattle.form.proofs.Table.{never, both}
 use Rattle.lines.specs.Lines.{readsIn, readAt, nodesIn, formAt}
 use Rattle.lines.proofs.Line.{form-low, form-is, kind-is, read-fits}
-use Rattle.refs.specs.Refs.{fineRef, fineRefs}
+use Rattle.refs.specs.Refs.{fineRefs}
 use Rattle.refs.proofs.Fine.{needed-ref}
 use Rattle.refs.proofs.Nodes.{node-at}
-use Rattle.sizes.proofs.Rows.{count-number}
+use Rattle.refs.proofs.Fields.{number-exact, count-exact, head-drop, tail-drop}
 use Rattle.sizes.proofs.Forms.{element-form, selector-form}
-use Rattle.sizes.proofs.Types.{Good, group-good, number-exact, head-drop, tail-drop}
+use Rattle.sizes.proofs.Types.{given-ref, Good, May, ref-head, maybe-head, Group, group-at}
 use Rattle.leaf.specs.Folds.{exAt}
 use Rattle.literals.specs.Literals.{elAt, seAt, Line}
-
--- ---- references among fields
-
--- a reference that may be 0
-pub record May (ls : List Read) (i : ℕ) (k : ℕ) (f : Bytes) : Type 0 where
-  pub fine : fineRef ls (i + 1) (record { kind = k; optional = true; line = numberOf f }) ≡ true
-  pub number : isNumber f ≡ true
-
-module _ (ls : List Read) (i : ℕ) (a : Kind) (ps : List Part) where
-  pub ref-head : (fs : List Bytes) → fits (one (ref a) ∷ ps) fs ≡ true → fineRefs ls i (refsIn (one (ref a) ∷ ps) fs) ≡ true
-      → Good ls i (letter a) (getD fs 0 []) × (fits ps (drop 1 fs) ≡ true) × (fineRefs ls i (refsIn ps (drop 1 fs)) ≡ true)
-  unfolding fineRefs
-  ref-head [] h k = never h
-  ref-head (f ∷ fs) h k =
-      let v = both (isNumber f) (fits ps fs) h in
-      let w = both (fineRef ls (i + 1) (record { kind = letter a; optional = false; line = numberOf f })) (fineRefs ls i (refsIn ps fs)) k in
-      (record { fine = w .0; number = v .0 }, v .1, w .1)
-
-  pub maybe-head : (fs : List Bytes) → fits (one (maybe a) ∷ ps) fs ≡ true → fineRefs ls i (refsIn (one (maybe a) ∷ ps) fs) ≡ true
-      → May ls i (letter a) (getD fs 0 []) × (fits ps (drop 1 fs) ≡ true) × (fineRefs ls i (refsIn ps (drop 1 fs)) ≡ true)
-  unfolding fineRefs
-  maybe-head [] h k = never h
-  maybe-head (f ∷ fs) h k =
-      let v = both (isNumber f) (fits ps fs) h in
-      let w = both (fineRef ls (i + 1) (record { kind = letter a; optional = true; line = numberOf f })) (fineRefs ls i (refsIn ps fs)) k in
-      (record { fine = w .0; number = v .0 }, v .1, w .1)
-
--- a count at field j, and as many references behind it
-pub record Group (ls : List Read) (i k j : ℕ) (fs : List Bytes) : Type 0 where
-  pub count : isCount (getD fs j []) ≡ true
-  pub each : (q : ℕ) → q < numberOf (getD fs j []) → Good ls i k (getD fs (suc j + q) [])
-
-pub group-at : (ls : List Read) (i j : ℕ) (a : Kind) (ps : List Part) (fs : List Bytes) → fits (many (ref a) ∷ ps) (drop j fs) ≡ true → fineRefs ls i (refsIn (many (ref a) ∷ ps) (drop j fs)) ≡ true → Group ls i (letter a) j fs
-group-at ls i j a ps fs h k =
-    let w = group-good ls i a ps (drop j fs) h k in
-    let z : j + 0 ≡ j = omega arith in
-    let e : getD (drop j fs) 0 [] ≡ getD fs j [] = getD-drop j fs 0 [] ∙ ap (λ (x : ℕ). getD fs x []) z in
-    record {
-      count = rw e at (w .0);
-      each = λ q l.
-          let y : j + suc q ≡ suc j + q = omega arith in
-          rw (← (getD-drop j fs (suc q) [] ∙ ap (λ (x : ℕ). getD fs x []) y)) (w .1 q (rw e l));
-    }
 
 -- ---- the lines that are referred to
 
@@ -110,17 +66,12 @@ module _ {k : ℕ} {s t : Bytes} {n m r : ℕ} (l : Line k s t n m r) where
             (e, λ y. absurd (y (e ∙ z)))
         go false d =
             let z = eqb-false (numberOf f) 0 d in
-            let c : cond (eqb (numberOf f) 0) true (ltb (numberOf f) (r - 1 + 1) && eqb (letter (lineAt (readsIn s) (numberOf f) .form .kind)) q) ≡ true = g .fine in
-            let w = both (ltb (numberOf f) (r - 1 + 1)) (eqb (letter (lineAt (readsIn s) (numberOf f) .form .kind)) q) (rw d at c) in
-            let x : numberOf f < r - 1 + 1 = ltb-true (numberOf f) (r - 1 + 1) (w .0) in
-            let e : v ≡ numberOf f = hv ∙ number-exact f (g .number) (omega (arith, l .last, l .checked .whole .lined .few)) in
-            (e, λ y. rw e (record { checked = l .checked; log = l .log; first = omega (arith, z); last = omega (arith, l .first, l .last); kind = eqb-true (letter (lineAt (readsIn s) (numberOf f) .form .kind)) q (w .1) }))
+            let w = given-ref (readsIn s) (r - 1 + 1) q (numberOf f) (g .fine) z in
+            let e : v ≡ numberOf f = hv ∙ number-exact f (g .number) (omega (arith, w .0, l .last, l .checked .whole .lined .few)) in
+            (e, λ y. rw e (record { checked = l .checked; log = l .log; first = omega (arith, z); last = omega (arith, w .0, l .first, l .last); kind = w .1 }))
 
   pub count-is : {j q : ℕ} {v : ℕ} → Group (readsIn s) (r - 1) q j (readAt s (r - 1) .fields) → v ≡ Number.numberOf 65536 (getD (readAt s (r - 1) .fields) j []) → (v ≡ numberOf (getD (readAt s (r - 1) .fields) j [])) × (v ≤ 16)
-  count-is {j} {q} {v} g hv =
-      let w = count-number (getD (readAt s (r - 1) .fields) j []) (g .count) in
-      let e : v ≡ numberOf (getD (readAt s (r - 1) .fields) j []) = hv ∙ number-exact (getD (readAt s (r - 1) .fields) j []) (w .0) (omega (arith, w .1)) in
-      (e, omega (arith, w .1))
+  count-is {j} g = count-exact (getD (readAt s (r - 1) .fields) j []) (g .count)
 
 -- an optional expression
 pub maybe-given : (ns : List Node) (v : ℕ) → (v ≡ 0 → ⊥) → maybeEx (perhapsAt ns v) ≡ given (nodeAt ns v .ex)

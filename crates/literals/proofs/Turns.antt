@@ -22,7 +22,7 @@ use Rattle.semantics.specs.Fold.{Result, bind}
 use Rattle.semantics.specs.Array.{Filled, noneFilled, fillElement, fill}
 use Rattle.decimal.specs.Number as Number
 use Rattle.lines.specs.Lines.{readsIn, readAt, nodesIn}
-use Rattle.sizes.proofs.Types.{head-drop, tail-drop}
+use Rattle.sizes.proofs.Types.{May, maybe-head, Group, group-at, head-drop, tail-drop}
 use Rattle.placements.specs.declared.Placed.{Placed}
 use Rattle.placements.specs.declared.Placed.the-variants.{Into, Negative, Failed, TooLong}
 use Rattle.placements.specs.Placements.{Keeps, Filling, Goes, Step}
@@ -33,7 +33,7 @@ use Rattle.leaf.specs.Folds.{exAt}
 use Rattle.literals.specs.Literals.{elAt, elsAt, namesIn, Line, Turn, LiteralLine, above, Turns, AllFilled}
 use Rattle.literals.proofs.Names.{log-kept, line-kept}
 use Rattle.literals.proofs.Placing.{isInto, step-ends}
-use Rattle.literals.proofs.Lines.{Group, May, parts-at, makes, good-line, count-is, maybe-head, group-at}
+use Rattle.literals.proofs.Lines.{parts-at, makes, good-line, count-is}
 
 -- ---- the line of a literal
 

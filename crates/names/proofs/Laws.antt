@@ -17,7 +17,7 @@ use Rattle.semantics.specs.Sheet.{sheetSource}
 use Rattle.semantics.specs.Fold.{Key, Const, signed64, plain, qualified, sameOption, lookUp, valueOf}
 use Rattle.semantics.specs.Const.{entries, implements}
 use Rattle.words.specs.Words.{wordAt, bitsAt}
-use Rattle.implement.specs.Modules.{moduleAt}
+use Rattle.implement.specs.Modules.{moduleAt, isOwn}
 use Rattle.checks.specs.Checks.{Kept}
 use Rattle.checks.proofs.Kept.{kept-at, kept-less}
 use Rattle.names.specs.Table.{lineOf, moduleLineOf, valueBy, slotAt, kindOf, bitsOf, fieldAt, entriesAt, logIn, Entry, Logged, found, hasKey, answersPlain, answersQualified}
@@ -190,13 +190,9 @@ module _ (s t : Bytes) (i : ℕ) (x : Bytes) {b : Bool} {k : ℕ} (line : k ≡ 
   qualified-other q f = rw (named, not-true b f)
 
   module _ (f : not b ≡ false) {j : ℕ} (within : j ≡ moduleLineOf t i) where
-    pub plain-top : j ≡ 0 → true ≡ answersPlain s t i x
+    pub plain-own : {r : Bool} → r ≡ isOwn s j → r ≡ answersPlain s t i x
     unfolding answersPlain
-    plain-top z = rw (named, not-false b f, ← within, eq-eqb j 0 z)
-
-    pub plain-in : (j ≡ 0 → ⊥) → {r : Bool} → r ≡ implements (sheetSource s .implement) (moduleAt s j) → r ≡ answersPlain s t i x
-    unfolding answersPlain
-    plain-in z {r} e = rw (named, not-false b f, ← within, ne-eqb j 0 z) e
+    plain-own e = rw (named, not-false b f, ← within) e
 
     pub qualified-top : (q : Bytes) → j ≡ 0 → false ≡ answersQualified s t i q x
     unfolding answersQualified

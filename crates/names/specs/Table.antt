@@ -3,7 +3,7 @@
 -- A slot is a kind and 8 bytes, the highest first: 0 failed, 1 an integer's bits, 2 a real's, 3 a string's place + 65536 times its length.
 use Prim.Native.Nat.{ℕ, zero, suc, _+_, _*_, _/_, _%_, _≤_, _<_}
 use mathlib.Core.Path.{_≡_}
-use mathlib.Core.Bool.{Bool, cond, not, _&&_, _||_}
+use mathlib.Core.Bool.{Bool, cond, not, _&&_}
 use mathlib.Core.List.{List, [], _++_}
 use mathlib.Core.Option.{Option, none, some}
 use lib.Dec.{eqb}
@@ -14,9 +14,9 @@ use Rattle.semantics.specs.Tree.{ConstVal}
 use Rattle.semantics.specs.Tree.ConstVal.{vInt, vReal, vStr}
 use Rattle.semantics.specs.Sheet.{sheetSource}
 use Rattle.semantics.specs.Fold.{Key, Const, signed64, sameKey}
-use Rattle.semantics.specs.Const.{entries, implements}
+use Rattle.semantics.specs.Const.{entries}
 use Rattle.words.specs.Words.{wordAt, bitsAt}
-use Rattle.implement.specs.Modules.{firstField, moduleAt}
+use Rattle.implement.specs.Modules.{firstField, moduleAt, isOwn}
 
 abbrev pub lineOf : Bytes → ℕ → ℕ
 lineOf t i = wordAt t (5120 + 16 * i)
@@ -89,7 +89,7 @@ hasKey k cs = any (λ (c : Const). sameKey k (c .key)) cs
 
 -- the name alone, outside modules and in the implemented module
 unfoldable pub answersPlain : Bytes → Bytes → ℕ → Bytes → Bool
-answersPlain s t i x = same x (fieldAt s (lineOf t i)) && (eqb (moduleLineOf t i) 0 || implements (sheetSource s .implement) (moduleAt s (moduleLineOf t i)))
+answersPlain s t i x = same x (fieldAt s (lineOf t i)) && isOwn s (moduleLineOf t i)
 
 -- the module's name and the name
 unfoldable pub answersQualified : Bytes → Bytes → ℕ → Bytes → Bytes → Bool

@@ -56,11 +56,7 @@ fn answers_plain(sheet: &[u8], work: &[u8], n: usize, m: usize, i: usize, name: 
     if !is_named(sheet, work, n, line_of(work, i), name) {
         return false;
     }
-    let k = module_line_of(work, i);
-    if k == 0 {
-        return true;
-    }
-    implement::implements(sheet, work, n, k)
+    implement::is_own(sheet, work, n, module_line_of(work, i))
 }
 
 // Whether it enters one by module and name.

@@ -1,7 +1,7 @@
 -- What an `adt` or `pick` line declares, and the lines of a pick's cases.
 use mathlib.Core.Path.{_≡_, refl, sym, ap, _∙_}
 use mathlib.Core.Bool.{Bool, true, false}
-use mathlib.Core.List.{List, [], _∷_, _++_}
+use mathlib.Core.List.{List, [], _∷_}
 use mathlib.Core.Option.{none, some}
 use mathlib.Core.Logic.{_⊎_, inl, inr, ⊎-elim}
 use Prim.Native.Nat.{ℕ, zero, suc, _+_, _-_, _≤_, _<_}
@@ -12,7 +12,7 @@ use lib.Seq.{getD-drop, drop-drop}
 use borrow.Author.Tests.{eqb-true, ne-eqb}
 use Rattle.semantics.specs.Text.{isName}
 use Rattle.semantics.specs.Tree.{AdtDecl, Case, Node, Declares, noCase}
-use Rattle.semantics.specs.Form.{Part, letter, forms, values, numberOf, fits, isCount, ones, fdsOf, casesOf}
+use Rattle.semantics.specs.Form.{Part, letter, forms, values, numberOf, fits, isCount, fdsOf, casesOf}
 use Rattle.semantics.specs.Form.Kind.{kFd, kPc}
 use Rattle.semantics.specs.Form.Atom.{name, ref}
 use Rattle.semantics.specs.Form.Part.{one, many}
@@ -22,13 +22,12 @@ use Rattle.form.proofs.Table.{never, both}
 use Rattle.lines.specs.Lines.{readAt, nodesIn, formAt}
 use Rattle.lines.proofs.Line.{form-low, kind-is, read-fits}
 use Rattle.refs.proofs.Nodes.{node-at}
+use Rattle.refs.proofs.Fields.{count-exact, first-count, head-drop, tail-drop, values-length}
 use Rattle.checks.specs.Checks.{Checked}
 use Rattle.source.specs.Walk.{declaresAt, byKind}
 use Rattle.source.proofs.Declares.{line-declares}
 use Rattle.sizes.specs.Places.{RecordLine, CaseLine}
-use Rattle.sizes.proofs.Rows.{count-number, values-length}
 use Rattle.sizes.proofs.Forms.{case-form, adt-form, pick-form}
-use Rattle.sizes.proofs.Types.{number-exact, head-drop, tail-drop}
 use Rattle.records.specs.Log.{declAt, casesIn, caseIn}
 use Rattle.records.specs.Lines.{caseOf}
 use Rattle.shapes.specs.Shapes as Shapes
@@ -83,10 +82,6 @@ names-at ns (suc m) (f ∷ fs) (suc p) h = names-at ns m fs p (omega arith)
 name-first : (ps : List Part) (fs : List (List ℕ)) → fits (one name ∷ ps) fs ≡ true → isName (getD fs 0 []) ≡ true
 name-first ps [] h = never h
 name-first ps (f ∷ fs) h = both (isName f) (fits ps fs) h .0
-
-count-first : (ps : List Part) (fs : List (List ℕ)) → fits (many name ∷ ps) fs ≡ true → isCount (getD fs 0 []) ≡ true
-count-first ps [] h = never h
-count-first ps (f ∷ fs) h = both (isCount f) (fits (ones (numberOf f) name ++ ps) fs) h .0
 
 -- ---- the name of a record
 
@@ -158,7 +153,7 @@ module _ (s t : List ℕ) (n v : ℕ) (l : CaseLine s t n v) where
 
   tags-fit : isCount (getD (readAt s (v - 1) .fields) 0 []) ≡ true
   unfolding forms
-  tags-fit = count-first (many (ref kFd) ∷ []) (readAt s (v - 1) .fields) (rw form-pc at (read-fits s t n (l .checked .whole) (v - 1) case-in))
+  tags-fit = first-count name (many (ref kFd) ∷ []) (readAt s (v - 1) .fields) (rw form-pc at (read-fits s t n (l .checked .whole) (v - 1) case-in))
 
   tags-are : caseOf s v .tags ≡ values name (nodesIn s) (numberOf (getD (readAt s (v - 1) .fields) 0 [])) (drop 1 (readAt s (v - 1) .fields))
   unfolding forms caseOf
@@ -171,9 +166,8 @@ module _ (s t : List ℕ) (n v : ℕ) (l : CaseLine s t n v) where
 
   pub tags-count : (k : ℕ) → k ≡ Number.numberOf 65536 (getD (readAt s (v - 1) .fields) 0 []) → (k ≡ length (caseOf s v .tags)) × (k ≤ 16)
   tags-count k h =
-      let q = count-number (getD (readAt s (v - 1) .fields) 0 []) tags-fit in
-      let e = h ∙ number-exact (getD (readAt s (v - 1) .fields) 0 []) (q .0) (omega (arith, q .1)) in
-      (omega (arith, e, tags-number), omega (arith, e, q .1))
+      let q = count-exact (getD (readAt s (v - 1) .fields) 0 []) tags-fit h in
+      (omega (arith, q .0, tags-number), q .1)
 
   pub tags-few : length (caseOf s v .tags) ≤ 16
   tags-few = let q = tags-count (Number.numberOf 65536 (getD (readAt s (v - 1) .fields) 0 [])) refl in omega (arith, q .0, q .1)

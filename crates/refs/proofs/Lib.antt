@@ -3,3 +3,4 @@ pub mod Laws
 pub mod Fine
 pub mod Once
 pub mod Nodes
+pub mod Fields

@@ -18,7 +18,8 @@ use Rattle.text.proofs.Parts.{parts-step, parts-one, until-take}
 use Rattle.stored.specs.Stored.{Stored}
 use Rattle.stored.specs.Reading.{numberIn, readRow, readRows, readAll, largestSize, sizeBy, sizeRows, mostTypes, sizeIn}
 use Rattle.stored.specs.Laying.{Laying, layOne, andThen, layAll}
-use Rattle.stored.proofs.Laying.{lay-none, zeros-at}
+use Rattle.semantics.proofs.Common.{zeros-at}
+use Rattle.stored.proofs.Laying.{lay-none}
 use Rattle.stored.proofs.Others.{items-end, sizes-end}
 use Rattle.stored.proofs.Written.{laid-below, laid-in, laid-past, mid-at}
 use Rattle.laying.specs.declared.State.{State}

@@ -1,60 +1,30 @@
 -- The forms of a kind, by their places in the table.
-use mathlib.Core.Path.{_≡_, refl}
-use mathlib.Core.Bool.{Bool, true, cond, _&&_}
-use mathlib.Core.List.{List, [], _∷_}
-use Prim.Native.Nat.{ℕ, zero, suc, _+_, _≤_, _<_}
+use mathlib.Core.Path.{_≡_}
+use Prim.Native.Nat.{ℕ, zero, suc, _≤_, _<_}
 use native.Mathlib.Omega.{arith}
-use lib.Dec.{leb, ltb, eqb}
-use lib.ListN.{length, getD}
-use borrow.Author.Tests.{leb-true, ltb-true, eq-eqb}
-use Rattle.semantics.specs.Form.{Row, letter, forms, noRow}
 use Rattle.form.specs.Table.{kindAt}
-use Rattle.form.proofs.Table.{both, row-count, only-pc, only-pick, form-of-kind}
-
--- whether the rows of kind k, counted from i, are among those from a up to b
-spans : ℕ → ℕ → ℕ → ℕ → List Row → Bool
-spans k a b i [] = true
-spans k a b i (r ∷ rs) = cond (eqb (letter (r .kind)) k) (leb a i && ltb i b) true && spans k a b (suc i) rs
-
-spans-at : (k a b : ℕ) (rs : List Row) (i j : ℕ) → spans k a b i rs ≡ true → j < length rs → letter (getD rs j noRow .kind) ≡ k → (a ≤ i + j) × (i + j < b)
-unfolding spans
-spans-at k a b [] i j h l e = absurd (omega arith)
-spans-at k a b (r ∷ rs) i zero h l e =
-    let p : leb a i && ltb i b ≡ true = rw (eq-eqb (letter (r .kind)) k e) at (both (cond (eqb (letter (r .kind)) k) (leb a i && ltb i b) true) (spans k a b (suc i) rs) h .0) in
-    let w = both (leb a i) (ltb i b) p in
-    (omega (arith, leb-true a i (w .0)), omega (arith, ltb-true i b (w .1)))
-spans-at k a b (r ∷ rs) i (suc j) h l e =
-    let q = spans-at k a b rs (suc i) j (both (cond (eqb (letter (r .kind)) k) (leb a i && ltb i b) true) (spans k a b (suc i) rs) h .1) (omega arith) e in
-    (omega (arith, q .0), omega (arith, q .1))
+use Rattle.form.proofs.Table.{among-ty, among-ex, among-el, only-se, only-fd, only-pc, only-adt, only-pick, forms-of-kind, form-of-kind}
 
 module _ (f : ℕ) (h : f < 42) where
-  among : (k a b : ℕ) → spans k a b 0 forms ≡ true → kindAt f ≡ k → (a ≤ f) × (f < b)
-  among k a b q e = let w = spans-at k a b forms 0 f q (omega (arith, row-count)) e in (omega (arith, w .0), omega (arith, w .1))
-
   -- `ty`
   pub type-form : kindAt f ≡ 75 → f < 8
-  unfolding spans forms
-  type-form e = among 75 0 8 refl e .1
+  type-form e = forms-of-kind among-ty f h e .1
 
   -- `ex`
   pub ex-form : kindAt f ≡ 69 → (8 ≤ f) × (f < 20)
-  unfolding spans forms
-  ex-form = among 69 8 20 refl
+  ex-form = forms-of-kind among-ex f h
 
   -- `el`
   pub element-form : kindAt f ≡ 76 → (20 ≤ f) × (f < 23)
-  unfolding spans forms
-  element-form = among 76 20 23 refl
+  element-form = forms-of-kind among-el f h
 
   -- `se`
   pub selector-form : kindAt f ≡ 74 → f ≡ 23
-  unfolding spans forms
-  selector-form e = let w = among 74 23 24 refl e in omega (arith, w .0, w .1)
+  selector-form = form-of-kind only-se f h
 
   -- `fd`
   pub field-form : kindAt f ≡ 70 → f ≡ 24
-  unfolding spans forms
-  field-form e = let w = among 70 24 25 refl e in omega (arith, w .0, w .1)
+  field-form = form-of-kind only-fd f h
 
   -- `pc`
   pub case-form : kindAt f ≡ 67 → f ≡ 25
@@ -62,8 +32,7 @@ module _ (f : ℕ) (h : f < 42) where
 
   -- `adt`
   pub adt-form : kindAt f ≡ 65 → f ≡ 26
-  unfolding spans forms
-  adt-form e = let w = among 65 26 27 refl e in omega (arith, w .0, w .1)
+  adt-form = form-of-kind only-adt f h
 
   -- `pick`
   pub pick-form : kindAt f ≡ 66 → f ≡ 27

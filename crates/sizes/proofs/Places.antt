@@ -7,36 +7,36 @@ use Prim.Native.Nat.{ℕ, zero, suc, _+_, _-_, _*_, _≤_, _<_, max}
 use native.Mathlib.Nat.{mul-le-mul-left, mul-le-mul-right, suc-mul}
 use native.Mathlib.Numerals.{add-one}
 use native.Mathlib.Omega.{arith}
-use lib.Dec.{ltb, eqb}
+use lib.Dec.{eqb}
 use lib.ListN.{length, take, drop, getD}
 use lib.Seq.{getD-drop}
-use borrow.Author.Tests.{ltb-true, eqb-true, eqb-false, ne-eqb}
+use borrow.Author.Tests.{eqb-true, eqb-false}
 use Rattle.semantics.specs.Text.{Bytes, headPart, tailParts}
 use Rattle.semantics.specs.Tree.{Ty, Node}
-use Rattle.semantics.specs.Form.{Read, Row, Part, letter, forms, nodeAt, perhapsAt, values, numberOf, fits, holds, isCount, isNumber, ones, tyOf, fdsOf}
+use Rattle.semantics.specs.Form.{Read, Row, Part, letter, forms, nodeAt, perhapsAt, values, numberOf, fits, holds, isCount, ones, tyOf, fdsOf}
 use Rattle.semantics.specs.Form.Kind.{kTy, kFd, kPc}
 use Rattle.semantics.specs.Form.Atom.{name, ref, maybe}
 use Rattle.semantics.specs.Form.Part.{one, many}
-use Rattle.semantics.specs.Refusal.{lineAt, refsIn}
+use Rattle.semantics.specs.Refusal.{refsIn}
 use Rattle.semantics.specs.Layout.{alignUp, sizeOf, alignOf, Placed, placeNames, place, furthest}
 use Rattle.field_list.specs.declared.Field.{Field}
 use Rattle.field_list.specs.Fields.{fieldsFrom, lineFields, furthestIn}
 use Rattle.field_list.proofs.Laws.{line-take}
 use Rattle.decimal.specs.Number as Number
 use Rattle.form.specs.Table.{rowAt, kindAt, rowNode}
-use Rattle.form.proofs.Table.{both}
+use Rattle.form.proofs.Table.{never, both}
 use Rattle.lines.specs.Lines.{readsIn, readAt, nodesIn, formAt}
 use Rattle.lines.proofs.Line.{form-low, form-is, kind-is, read-fits}
-use Rattle.refs.specs.Refs.{fineRef, fineRefs}
+use Rattle.refs.specs.Refs.{fineRefs}
 use Rattle.refs.proofs.Fine.{needed-ref}
 use Rattle.refs.proofs.Nodes.{node-at}
+use Rattle.refs.proofs.Fields.{number-exact, count-exact, first-count, head-drop, tail-drop, values-length}
 use Rattle.checks.specs.Checks.{Checked}
 use Rattle.sizes.specs.declared.place.Reached.{Reached}
 use Rattle.sizes.specs.Sizes.{typeAt, TypeLine, Measures}
 use Rattle.sizes.specs.Places.{fieldAt, fieldsAt, ownFields, commonAt, caseAt, FieldLine, FieldRefs, RecordLine, CaseLine, LinePlaced, AllPlaced}
-use Rattle.sizes.proofs.Rows.{count-number, values-length}
 use Rattle.sizes.proofs.Forms.{field-form, case-form, adt-form, pick-form}
-use Rattle.sizes.proofs.Types.{number-exact, Good, group-good, head-drop, tail-drop}
+use Rattle.sizes.proofs.Types.{given-ref, May, maybe-head, Group, group-at}
 
 -- 16 names of the largest type
 pub names-small : {a b : ℕ} → a ≤ 16 → b ≤ 8192 → a * b ≤ 131072
@@ -68,27 +68,6 @@ line-placed p q size align names at pointer ha he hf t ns m hn = record {
 abbrev fieldParts : List Part
 fieldParts = one (maybe kTy) ∷ (many name ∷ [])
 
-first-ref : (ls : List Read) (i : ℕ) (fs : List (List ℕ)) → fits fieldParts fs ≡ true → fineRefs ls i (refsIn fieldParts fs) ≡ true
-    → (isNumber (getD fs 0 []) ≡ true) × (isCount (getD fs 1 []) ≡ true) × (fineRef ls (i + 1) (record { kind = 75; optional = true; line = numberOf (getD fs 0 []) }) ≡ true)
-unfolding fineRefs
-first-ref ls i [] h k = let z : _≡_ {A = ℕ} 0 1 = cc in absurd (omega arith)
-first-ref ls i (f ∷ []) h k = let p : false ≡ true = both (isNumber f) false h .1 in let z : _≡_ {A = ℕ} 0 1 = cc in absurd (omega arith)
-first-ref ls i (f ∷ (g ∷ fs)) h k =
-    let v = both (isNumber f) (fits (many name ∷ []) (g ∷ fs)) h in
-    let w = both (isCount g) (fits (ones (numberOf g) name ++ []) fs) (v .1) in
-    (v .0, w .0, both (fineRef ls (i + 1) (record { kind = 75; optional = true; line = numberOf f })) (fineRefs ls i (refsIn (many name ∷ []) (g ∷ fs))) k .0)
-
--- a reference that is not 0
-given-ref : (ls : List Read) (k q m : ℕ) → fineRef ls k (record { kind = q; optional = true; line = m }) ≡ true → (m ≡ 0 → ⊥) → (m < k) × (letter (lineAt ls m .form .kind) ≡ q)
-given-ref ls k q m h z =
-    let w = both (ltb m k) (eqb (letter (lineAt ls m .form .kind)) q) (rw (ne-eqb m 0 z) at h) in
-    (ltb-true m k (w .0), eqb-true (letter (lineAt ls m .form .kind)) q (w .1))
-
-second-part : (fs : List (List ℕ)) → headPart (tailParts fs) ≡ getD fs 1 []
-second-part [] = refl
-second-part (f ∷ []) = refl
-second-part (f ∷ (g ∷ fs)) = refl
-
 module _ (s t : List ℕ) (n r : ℕ) (l : FieldLine s t n r) where
   field-in : r - 1 < n
   field-in = omega (arith, l .first, l .last)
@@ -96,28 +75,28 @@ module _ (s t : List ℕ) (n r : ℕ) (l : FieldLine s t n r) where
   form-fd : formAt t (r - 1) ≡ 24
   form-fd = field-form (formAt t (r - 1)) (form-low s t n (l .checked .whole) (r - 1) field-in) (sym (kind-is s t n (l .checked .whole) (r - 1) field-in) ∙ l .kind)
 
-  parts-good : (isNumber (getD (readAt s (r - 1) .fields) 0 []) ≡ true) × (isCount (getD (readAt s (r - 1) .fields) 1 []) ≡ true)
-      × (fineRef (readsIn s) (r - 1 + 1) (record { kind = 75; optional = true; line = numberOf (getD (readAt s (r - 1) .fields) 0 []) }) ≡ true)
+  parts-good : May (readsIn s) (r - 1) 75 (getD (readAt s (r - 1) .fields) 0 []) × (isCount (getD (readAt s (r - 1) .fields) 1 []) ≡ true)
   unfolding forms
   parts-good =
       let w = l .checked .whole in
       let p : readAt s (r - 1) .form .parts ≡ fieldParts = ap (λ (x : Row). x .parts) (form-is s t n w (r - 1) field-in) ∙ ap (λ (g : ℕ). rowAt g .parts) form-fd in
-      first-ref (readsIn s) (r - 1) (readAt s (r - 1) .fields) (rw form-fd at (read-fits s t n w (r - 1) field-in)) (rw p at (l .checked .fine (r - 1) field-in))
+      let v = maybe-head (readsIn s) (r - 1) kTy (many name ∷ []) (readAt s (r - 1) .fields) (rw form-fd at (read-fits s t n w (r - 1) field-in)) (rw p at (l .checked .fine (r - 1) field-in)) in
+      (v .0, rw (getD-drop 1 (readAt s (r - 1) .fields) 0 []) at (first-count name [] (drop 1 (readAt s (r - 1) .fields)) (v .1)))
 
   fd-is : fieldAt s r ≡ record { ty = tyOf (perhapsAt (nodesIn s) (numberOf (getD (readAt s (r - 1) .fields) 0 []))); names = values name (nodesIn s) (numberOf (getD (readAt s (r - 1) .fields) 1 [])) (tailParts (tailParts (readAt s (r - 1) .fields))) }
   unfolding forms
   fd-is =
       ap (λ (m : Node). m .fd) (node-at s t n (l .checked .whole) (l .checked .good) (r - 1) field-in)
-      ∙ rw (form-fd, head-drop 0 (readAt s (r - 1) .fields), second-part (readAt s (r - 1) .fields))
+      ∙ rw (form-fd, tail-drop 0 (readAt s (r - 1) .fields), head-drop 0 (readAt s (r - 1) .fields), head-drop 1 (readAt s (r - 1) .fields))
 
   module _ (v : ℕ) (hv : v ≡ Number.numberOf 65536 (getD (readAt s (r - 1) .fields) 0 [])) where
     type-number : v ≡ numberOf (getD (readAt s (r - 1) .fields) 0 [])
-    type-number = hv ∙ number-exact (getD (readAt s (r - 1) .fields) 0 []) (parts-good .0) (go (eqb (numberOf (getD (readAt s (r - 1) .fields) 0 [])) 0) refl)
+    type-number = hv ∙ number-exact (getD (readAt s (r - 1) .fields) 0 []) (parts-good .0 .number) (go (eqb (numberOf (getD (readAt s (r - 1) .fields) 0 [])) 0) refl)
       where
         go : (b : Bool) → eqb (numberOf (getD (readAt s (r - 1) .fields) 0 [])) 0 ≡ b → numberOf (getD (readAt s (r - 1) .fields) 0 []) ≤ 65536
         go true e = omega (arith, eqb-true (numberOf (getD (readAt s (r - 1) .fields) 0 [])) 0 e)
         go false e =
-            let w = given-ref (readsIn s) (r - 1 + 1) 75 (numberOf (getD (readAt s (r - 1) .fields) 0 [])) (parts-good .2) (eqb-false (numberOf (getD (readAt s (r - 1) .fields) 0 [])) 0 e) in
+            let w = given-ref (readsIn s) (r - 1 + 1) 75 (numberOf (getD (readAt s (r - 1) .fields) 0 [])) (parts-good .0 .fine) (eqb-false (numberOf (getD (readAt s (r - 1) .fields) 0 [])) 0 e) in
             omega (arith, w .0, l .last, l .checked .whole .lined .few)
 
     pub untyped : v ≡ 0 → fieldAt s r .ty ≡ none
@@ -129,7 +108,7 @@ module _ (s t : List ℕ) (n r : ℕ) (l : FieldLine s t n r) where
     module _ (z : v ≡ 0 → ⊥) where
       pub type-line : TypeLine s t n v
       type-line =
-          let w = given-ref (readsIn s) (r - 1 + 1) 75 v (rw (← type-number) at (parts-good .2)) z in
+          let w = given-ref (readsIn s) (r - 1 + 1) 75 v (rw (← type-number) at (parts-good .0 .fine)) z in
           record { checked = l .checked; first = omega (arith, z); last = omega (arith, w .0, l .first, l .last); kind = w .1 }
 
       pub typed : fieldAt s r .ty ≡ some (typeAt s v)
@@ -141,12 +120,10 @@ module _ (s t : List ℕ) (n r : ℕ) (l : FieldLine s t n r) where
 
       module _ (w : ℕ) (hw : w ≡ Number.numberOf 65536 (getD (readAt s (r - 1) .fields) 1 [])) where
         pub names-few : w ≤ 16
-        names-few = let q = count-number (getD (readAt s (r - 1) .fields) 1 []) (parts-good .1) in omega (arith, q .1, hw, number-exact (getD (readAt s (r - 1) .fields) 1 []) (q .0) (omega (arith, q .1)))
+        names-few = count-exact (getD (readAt s (r - 1) .fields) 1 []) (parts-good .1) hw .1
 
         pub names-are : w ≡ length (fieldAt s r .names)
-        names-are =
-            let q = count-number (getD (readAt s (r - 1) .fields) 1 []) (parts-good .1) in
-            rw fd-is (hw ∙ number-exact (getD (readAt s (r - 1) .fields) 1 []) (q .0) (omega (arith, q .1)) ∙ sym (values-length name (nodesIn s) _ _))
+        names-are = rw fd-is (count-exact (getD (readAt s (r - 1) .fields) 1 []) (parts-good .1) hw .0 ∙ sym (values-length name (nodesIn s) _ _))
 
         pub placed-typed : (p q : Reached) → ((ns : List Bytes) → w ≡ length ns → LinePlaced (some (typeAt s v)) ns p q) → LinePlaced (fieldAt s r .ty) (fieldAt s r .names) p q
         placed-typed p q h = rw typed (h (fieldAt s r .names) names-are)
@@ -207,18 +184,11 @@ module _ (s t : List ℕ) (n r : ℕ) (c : Checked s t n) (first : 0 < r) (last 
     (hf : fits (many (ref kFd) ∷ ps) (drop at (readAt s (r - 1) .fields)) ≡ true)
     (hr : fineRefs (readsIn s) (r - 1) (refsIn (many (ref kFd) ∷ ps) (drop at (readAt s (r - 1) .fields))) ≡ true)
     (count : ℕ) (hc : count ≡ Number.numberOf 65536 (getD (readAt s (r - 1) .fields) at [])) where
-  group : (isCount (getD (readAt s (r - 1) .fields) at []) ≡ true) × ((j : ℕ) → j < numberOf (getD (readAt s (r - 1) .fields) at []) → Good (readsIn s) (r - 1) 70 (getD (readAt s (r - 1) .fields) (at + 1 + j) []))
-  group =
-      let g = group-good (readsIn s) (r - 1) kFd ps (drop at (readAt s (r - 1) .fields)) hf hr in
-      let z : at + 0 ≡ at = omega arith in
-      let e : getD (drop at (readAt s (r - 1) .fields)) 0 [] ≡ getD (readAt s (r - 1) .fields) at [] = getD-drop at (readAt s (r - 1) .fields) 0 [] ∙ rw z in
-      (rw e at (g .0), λ j l. let y : at + 1 + j ≡ at + suc j = omega arith in rw (y, ← getD-drop at (readAt s (r - 1) .fields) (suc j) []) (g .1 j (rw e l)))
+  group : Group (readsIn s) (r - 1) 70 at (readAt s (r - 1) .fields)
+  group = group-at (readsIn s) (r - 1) at kFd ps (readAt s (r - 1) .fields) hf hr
 
-  count-exact : (count ≡ numberOf (getD (readAt s (r - 1) .fields) at [])) × (count ≤ 16)
-  count-exact =
-      let q = count-number (getD (readAt s (r - 1) .fields) at []) (group .0) in
-      let e = hc ∙ number-exact (getD (readAt s (r - 1) .fields) at []) (q .0) (omega (arith, q .1)) in
-      (e, omega (arith, e, q .1))
+  group-count : (count ≡ numberOf (getD (readAt s (r - 1) .fields) at [])) × (count ≤ 16)
+  group-count = count-exact (getD (readAt s (r - 1) .fields) at []) (group .count) hc
 
   group-refs : FieldRefs s t n r (at + 1) count
   group-refs = record {
@@ -226,21 +196,21 @@ module _ (s t : List ℕ) (n r : ℕ) (c : Checked s t n) (first : 0 < r) (last 
     first = first;
     last = last;
     near = omega (arith, near);
-    few = count-exact .1;
-    number = λ j h. group .1 j (omega (arith, count-exact .0)) .number;
+    few = group-count .1;
+    number = λ j h. group .each j (omega (arith, group-count .0)) .number;
     each = λ j h.
-        let k = needed-ref (readsIn s) (r - 1 + 1) 70 (numberOf (getD (readAt s (r - 1) .fields) (at + 1 + j) [])) (group .1 j (omega (arith, count-exact .0)) .fine) in
+        let k = needed-ref (readsIn s) (r - 1 + 1) 70 (numberOf (getD (readAt s (r - 1) .fields) (at + 1 + j) [])) (group .each j (omega (arith, group-count .0)) .fine) in
         record { checked = c; first = omega (arith, k .0); last = omega (arith, k .1, last, first); kind = k .2 };
   }
 
   group-fields : fdsOf (values (ref kFd) (nodesIn s) (numberOf (headPart (drop at (readAt s (r - 1) .fields)))) (tailParts (drop at (readAt s (r - 1) .fields)))) ≡ fieldsAt s r (at + 1) count
-  group-fields = rw (head-drop at (readAt s (r - 1) .fields), tail-drop at (readAt s (r - 1) .fields), ← count-exact .0, ← add-one at)
+  group-fields = rw (head-drop at (readAt s (r - 1) .fields), tail-drop at (readAt s (r - 1) .fields), ← group-count .0, ← add-one at)
 
 -- ---- an `adt` or `pick` line: a name, the group of its fields, and what a pick has behind it
 
 pub name-first : (ls : List Read) (i : ℕ) (ps : List Part) (fs : List (List ℕ)) → fits (one name ∷ ps) fs ≡ true → fineRefs ls i (refsIn (one name ∷ ps) fs) ≡ true
     → (fits ps (drop 1 fs) ≡ true) × (fineRefs ls i (refsIn ps (drop 1 fs)) ≡ true)
-name-first ls i ps [] h k = let z : _≡_ {A = ℕ} 0 1 = cc in absurd (omega arith)
+name-first ls i ps [] h k = never h
 name-first ls i ps (f ∷ fs) h k = (both (holds name f) (fits ps fs) h .1, k)
 
 record RecordRow (s : List ℕ) (r : ℕ) : Type 0 where
@@ -298,12 +268,12 @@ module _ (ls : List Read) (i : ℕ) (ps : List Part) where
   names-first : (m : ℕ) (fs : List (List ℕ)) → fits (ones m name ++ ps) fs ≡ true → fineRefs ls i (refsIn (ones m name ++ ps) fs) ≡ true
       → (fits ps (drop m fs) ≡ true) × (fineRefs ls i (refsIn ps (drop m fs)) ≡ true)
   names-first zero fs h k = (h, k)
-  names-first (suc m) [] h k = let z : _≡_ {A = ℕ} 0 1 = cc in absurd (omega arith)
+  names-first (suc m) [] h k = never h
   names-first (suc m) (f ∷ fs) h k = names-first m fs (both (holds name f) (fits (ones m name ++ ps) fs) h .1) k
 
   tags-first : (fs : List (List ℕ)) → fits (many name ∷ ps) fs ≡ true → fineRefs ls i (refsIn (many name ∷ ps) fs) ≡ true
       → (isCount (getD fs 0 []) ≡ true) × (fits ps (drop (suc (numberOf (getD fs 0 []))) fs) ≡ true) × (fineRefs ls i (refsIn ps (drop (suc (numberOf (getD fs 0 []))) fs)) ≡ true)
-  tags-first [] h k = let z : _≡_ {A = ℕ} 0 1 = cc in absurd (omega arith)
+  tags-first [] h k = never h
   tags-first (f ∷ fs) h k =
       let w = both (isCount f) (fits (ones (numberOf f) name ++ ps) fs) h in
       let v = names-first (numberOf f) fs (w .1) k in
@@ -326,10 +296,7 @@ module _ (s t : List ℕ) (n r : ℕ) (l : CaseLine s t n r) where
 
   module _ (tags : ℕ) (ht : tags ≡ Number.numberOf 65536 (getD (readAt s (r - 1) .fields) 0 [])) where
     tags-exact : (suc (numberOf (getD (readAt s (r - 1) .fields) 0 [])) ≡ tags + 1) × (tags ≤ 16)
-    tags-exact =
-        let q = count-number (getD (readAt s (r - 1) .fields) 0 []) (case-good .0) in
-        let e = ht ∙ number-exact (getD (readAt s (r - 1) .fields) 0 []) (q .0) (omega (arith, q .1)) in
-        (omega (arith, e), omega (arith, e, q .1))
+    tags-exact = let q = count-exact (getD (readAt s (r - 1) .fields) 0 []) (case-good .0) ht in (omega (arith, q .0), q .1)
 
     tags-few : tags ≤ 16
     tags-few = tags-exact .1

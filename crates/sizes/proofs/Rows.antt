@@ -1,14 +1,11 @@
 -- What the lines of each form take: one line more than what they refer to; and no `fd` line has more than 16 names. One table of laws for all forms.
-use mathlib.Core.Path.{_≡_, refl, ap}
+use mathlib.Core.Path.{_≡_}
 use mathlib.Core.Bool.{true, false}
 use mathlib.Core.List.{List, [], _∷_, _++_}
 use mathlib.Core.Option.{Option, none, some}
 use Prim.Native.Nat.{ℕ, zero, suc, _+_, _≤_, max}
 use native.Mathlib.Omega.{arith}
-use lib.Dec.{leb}
 use lib.ListN.{length, drop}
-use borrow.Author.Tests.{leb-true}
-use Rattle.semantics.specs.Text as Text
 use Rattle.semantics.specs.Text.{Bytes, headPart, tailParts}
 use Rattle.semantics.specs.Tree.{AdtDecl, Node}
 use Rattle.semantics.specs.Form.{Kind, Row, Atom, Part, Value, forms, nodeAt, perhapsAt, value, values, make, numberOf, fits, isCount, isNumber, ones, tyOf, tysOf, fdsOf, casesOf}
@@ -18,6 +15,7 @@ use Rattle.semantics.specs.Form.Part.{one, many}
 use Rattle.semantics.specs.Refusal.{sumOf}
 use Rattle.form.specs.Table.{rowAt}
 use Rattle.form.proofs.Table.{never, both, Each, done, _also_}
+pub use Rattle.refs.proofs.Fields.{count-number, values-length}
 use Rattle.layout.specs.Lines.{linesOf, linesOfAll, typeLines, fieldLines, caseLines, declLines, Every, FewNames, FewInPick}
 
 -- ---- what a node takes
@@ -74,17 +72,6 @@ cases-lines (m ∷ ms) = omega (arith, cases-lines ms)
 type-lines-of : (o : Option Node) → typeLines (tyOf o) ≤ perhapsLines o
 type-lines-of none = omega arith
 type-lines-of (some m) = omega arith
-
-pub count-number : (f : List ℕ) → isCount f ≡ true → (isNumber f ≡ true) × (numberOf f ≤ 16)
-count-number f = go (Text.natOf f)
-  where
-    go : (o : Option ℕ) → Text.holdsOf (λ (m : ℕ). leb m 16) o ≡ true → (Text.holdsOf (λ (m : ℕ). true) o ≡ true) × (Text.orElse 0 o ≤ 16)
-    go none h = let z : _≡_ {A = ℕ} 0 1 = cc in absurd (omega arith)
-    go (some m) h = (refl, leb-true m 16 h)
-
-pub values-length : (a : Atom) (ns : List Node) (n : ℕ) (fs : List (List ℕ)) → length (values a ns n fs) ≡ n
-values-length a ns zero fs = refl
-values-length a ns (suc n) fs = ap suc (values-length a ns n (tailParts fs))
 
 -- ---- by forms
 

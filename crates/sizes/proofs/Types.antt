@@ -2,35 +2,34 @@
 use mathlib.Core.Path.{_≡_, refl, sym, ap, _∙_}
 use mathlib.Core.Bool.{Bool, true, false, cond}
 use mathlib.Core.List.{List, [], _∷_, _++_}
-use mathlib.Core.Option.{Option, none, some}
 use Prim.Native.Nat.{ℕ, zero, suc, _+_, _-_, _≤_, _<_, max}
 use native.Mathlib.Numerals.{add-one}
 use native.Mathlib.Omega.{arith}
-use lib.Dec.{ltb}
+use lib.Dec.{ltb, eqb}
 use lib.ListN.{drop, getD}
-use Rattle.semantics.specs.Text as Text
-use Rattle.semantics.specs.Text.{headPart, tailParts}
+use lib.Seq.{getD-drop}
+use borrow.Author.Tests.{ltb-true, eqb-true, ne-eqb}
 use Rattle.semantics.specs.Tree.{Tys, Node}
 use Rattle.semantics.specs.Tree.Ty.{tuple}
 use Rattle.semantics.specs.Tree.Tys.{noTys, andTy}
 use Rattle.semantics.specs.Form.{Read, Row, Kind, Part, letter, forms, values, numberOf, fits, holds, isCount, isNumber, ones, tysOf}
 use Rattle.semantics.specs.Form.Kind.{kTy}
-use Rattle.semantics.specs.Form.Atom.{ref}
-use Rattle.semantics.specs.Form.Part.{many}
-use Rattle.semantics.specs.Refusal.{refsIn}
+use Rattle.semantics.specs.Form.Atom.{ref, maybe}
+use Rattle.semantics.specs.Form.Part.{one, many}
+use Rattle.semantics.specs.Refusal.{lineAt, refsIn}
 use Rattle.semantics.specs.Layout.{alignUp, roundedSize, sizeOf, alignOf, alignOfAll, endOfAll, isPtr}
 use Rattle.laws.proofs.Alignments.{four-or-eight, aligned}
 use Rattle.layout.proofs.Bounds.{size-bound}
 use Rattle.decimal.specs.Number as Number
 use Rattle.form.specs.Table.{rowAt, rowNode}
-use Rattle.form.proofs.Table.{both}
+use Rattle.form.proofs.Table.{never, both}
 use Rattle.lines.specs.Lines.{readsIn, readAt, nodesIn, formAt}
 use Rattle.lines.proofs.Line.{form-low, form-is, kind-is, read-fits}
 use Rattle.refs.specs.Refs.{fineRef, fineRefs}
 use Rattle.refs.proofs.Fine.{needed-ref}
 use Rattle.refs.proofs.Nodes.{node-at}
+pub use Rattle.refs.proofs.Fields.{number-exact, count-exact, head-drop, tail-drop}
 use Rattle.sizes.specs.Sizes.{isLong, typeAt, TypeLine, TupleLine, Measures}
-use Rattle.sizes.proofs.Rows.{count-number}
 use Rattle.sizes.proofs.Lines.{type-lines}
 use Rattle.sizes.proofs.Forms.{type-form, of-types}
 
@@ -77,28 +76,47 @@ module _ {s t : List ℕ} {n r : ℕ} (l : TypeLine s t n r) where
     pub marks-first : ltb 3 f ≡ isPtr (typeAt s r)
     marks-first = rw (type-is, ← hf) (marks-word (nodesIn s) (readAt s (r - 1) .fields) f (omega (arith, form-first)))
 
--- ---- numbers as they are read
+-- ---- references among fields
 
-pub number-exact : (f : List ℕ) → isNumber f ≡ true → numberOf f ≤ 65536 → Number.numberOf 65536 f ≡ numberOf f
-unfolding Number.numberOf
-number-exact f = go (Text.natOf f)
-  where
-    go : (o : Option ℕ) → Text.holdsOf (λ (m : ℕ). true) o ≡ true → Text.orElse 0 o ≤ 65536 → Number.capped 65536 o ≡ Text.orElse 0 o
-    go none h k = let z : _≡_ {A = ℕ} 0 1 = cc in absurd (omega arith)
-    go (some m) h k = omega arith
-
--- ---- the fields of a tuple, and other groups of references
+-- one that may be 0, and is not
+pub given-ref : (ls : List Read) (k q m : ℕ) → fineRef ls k (record { kind = q; optional = true; line = m }) ≡ true → (m ≡ 0 → ⊥) → (m < k) × (letter (lineAt ls m .form .kind) ≡ q)
+given-ref ls k q m h z =
+    let w = both (ltb m k) (eqb (letter (lineAt ls m .form .kind)) q) (rw (ne-eqb m 0 z) at h) in
+    (ltb-true m k (w .0), eqb-true (letter (lineAt ls m .form .kind)) q (w .1))
 
 -- a reference to an earlier line of kind k
 pub record Good (ls : List Read) (i : ℕ) (k : ℕ) (f : List ℕ) : Type 0 where
   pub fine : fineRef ls (i + 1) (record { kind = k; optional = false; line = numberOf f }) ≡ true
   pub number : isNumber f ≡ true
 
+-- one that may be 0
+pub record May (ls : List Read) (i : ℕ) (k : ℕ) (f : List ℕ) : Type 0 where
+  pub fine : fineRef ls (i + 1) (record { kind = k; optional = true; line = numberOf f }) ≡ true
+  pub number : isNumber f ≡ true
+
 module _ (ls : List Read) (i : ℕ) (a : Kind) (ps : List Part) where
+  pub ref-head : (fs : List (List ℕ)) → fits (one (ref a) ∷ ps) fs ≡ true → fineRefs ls i (refsIn (one (ref a) ∷ ps) fs) ≡ true
+      → Good ls i (letter a) (getD fs 0 []) × (fits ps (drop 1 fs) ≡ true) × (fineRefs ls i (refsIn ps (drop 1 fs)) ≡ true)
+  unfolding fineRefs
+  ref-head [] h k = never h
+  ref-head (f ∷ fs) h k =
+      let v = both (isNumber f) (fits ps fs) h in
+      let w = both (fineRef ls (i + 1) (record { kind = letter a; optional = false; line = numberOf f })) (fineRefs ls i (refsIn ps fs)) k in
+      (record { fine = w .0; number = v .0 }, v .1, w .1)
+
+  pub maybe-head : (fs : List (List ℕ)) → fits (one (maybe a) ∷ ps) fs ≡ true → fineRefs ls i (refsIn (one (maybe a) ∷ ps) fs) ≡ true
+      → May ls i (letter a) (getD fs 0 []) × (fits ps (drop 1 fs) ≡ true) × (fineRefs ls i (refsIn ps (drop 1 fs)) ≡ true)
+  unfolding fineRefs
+  maybe-head [] h k = never h
+  maybe-head (f ∷ fs) h k =
+      let v = both (isNumber f) (fits ps fs) h in
+      let w = both (fineRef ls (i + 1) (record { kind = letter a; optional = true; line = numberOf f })) (fineRefs ls i (refsIn ps fs)) k in
+      (record { fine = w .0; number = v .0 }, v .1, w .1)
+
   good-field : (m : ℕ) (fs : List (List ℕ)) → fits (ones m (ref a) ++ ps) fs ≡ true → fineRefs ls i (refsIn (ones m (ref a) ++ ps) fs) ≡ true → (j : ℕ) → j < m → Good ls i (letter a) (getD fs j [])
   unfolding fineRefs
   good-field zero fs h k j l = absurd (omega arith)
-  good-field (suc m) [] h k j l = let z : _≡_ {A = ℕ} 0 1 = cc in absurd (omega arith)
+  good-field (suc m) [] h k j l = never h
   good-field (suc m) (f ∷ fs) h k j l =
       let v = both (holds (ref a) f) (fits (ones m (ref a) ++ ps) fs) h in
       let w = both (fineRef ls (i + 1) (record { kind = letter a; optional = false; line = numberOf f })) (fineRefs ls i (refsIn (ones m (ref a) ++ ps) fs)) k in
@@ -111,20 +129,23 @@ module _ (ls : List Read) (i : ℕ) (a : Kind) (ps : List Part) where
   -- a count, and as many references
   pub group-good : (fs : List (List ℕ)) → fits (many (ref a) ∷ ps) fs ≡ true → fineRefs ls i (refsIn (many (ref a) ∷ ps) fs) ≡ true
       → (isCount (getD fs 0 []) ≡ true) × ((j : ℕ) → j < numberOf (getD fs 0 []) → Good ls i (letter a) (getD fs (suc j) []))
-  group-good [] h k = let z : _≡_ {A = ℕ} 0 1 = cc in absurd (omega arith)
+  group-good [] h k = never h
   group-good (f ∷ fs) h k = let w = both (isCount f) (fits (ones (numberOf f) (ref a) ++ ps) fs) h in (w .0, λ j l. good-field (numberOf f) fs (w .1) k j l)
 
-pub head-drop : (j : ℕ) (fs : List (List ℕ)) → headPart (drop j fs) ≡ getD fs j []
-head-drop zero [] = refl
-head-drop zero (f ∷ fs) = refl
-head-drop (suc j) [] = refl
-head-drop (suc j) (f ∷ fs) = head-drop j fs
+-- a count at field j, and as many references behind it
+pub record Group (ls : List Read) (i k j : ℕ) (fs : List (List ℕ)) : Type 0 where
+  pub count : isCount (getD fs j []) ≡ true
+  pub each : (q : ℕ) → q < numberOf (getD fs j []) → Good ls i k (getD fs (j + 1 + q) [])
 
-pub tail-drop : (j : ℕ) (fs : List (List ℕ)) → tailParts (drop j fs) ≡ drop (suc j) fs
-tail-drop zero [] = refl
-tail-drop zero (f ∷ fs) = refl
-tail-drop (suc j) [] = refl
-tail-drop (suc j) (f ∷ fs) = tail-drop j fs
+pub group-at : (ls : List Read) (i j : ℕ) (a : Kind) (ps : List Part) (fs : List (List ℕ)) → fits (many (ref a) ∷ ps) (drop j fs) ≡ true → fineRefs ls i (refsIn (many (ref a) ∷ ps) (drop j fs)) ≡ true → Group ls i (letter a) j fs
+group-at ls i j a ps fs h k =
+    let w = group-good ls i a ps (drop j fs) h k in
+    let z : j + 0 ≡ j = omega arith in
+    let e : getD (drop j fs) 0 [] ≡ getD fs j [] = getD-drop j fs 0 [] ∙ rw z in
+    record {
+      count = rw e at (w .0);
+      each = λ q l. let y : j + 1 + q ≡ j + suc q = omega arith in rw (y, ← getD-drop j fs (suc q) []) (w .1 q (rw e l));
+    }
 
 -- the types of a tuple of line r from field j on, where it has so many
 abbrev pub typesFrom : List ℕ → ℕ → ℕ → ℕ → Tys
@@ -152,9 +173,7 @@ module _ {s t : List ℕ} {n r : ℕ} (l : TupleLine s t n r) {count : ℕ} (hc 
       group-good (readsIn s) (r - 1) kTy [] (readAt s (r - 1) .fields) (rw (l .form) at (read-fits s t n w (r - 1) h)) (rw p at (l .line .checked .fine (r - 1) h))
 
   count-is : count ≡ numberOf (getD (readAt s (r - 1) .fields) 0 [])
-  count-is =
-      let q = count-number (getD (readAt s (r - 1) .fields) 0 []) (fields-good .0) in
-      hc ∙ number-exact (getD (readAt s (r - 1) .fields) 0 []) (q .0) (omega (arith, q .1))
+  count-is = count-exact (getD (readAt s (r - 1) .fields) 0 []) (fields-good .0) hc .0
 
   tuple-is : typeAt s r ≡ tuple (typesFrom s r count 0)
   unfolding forms

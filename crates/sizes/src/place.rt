@@ -20,7 +20,7 @@ pub struct Reached {
 }
 
 // Behind one more `fd` line, with so many names of a type of size and alignment x. Its fields are gathered in a list, and the list is lent.
-pub fn place_line(p: Reached, x: SizeAlign, pointer: bool, names: usize) -> Reached
+fn place_line(p: Reached, x: SizeAlign, pointer: bool, names: usize) -> Reached
     requires { ⌜ (p .end ≤ 4500000) × (x .size ≤ 8192) × (x .align ≤ 8) × (names ≤ 16) ⌝ }
     ensures { λ q. ⌜ ((t : Ty) (ns : List Bytes) → Measures t (x .size) (x .align) → names ≡ length ns → LinePlaced (some t) ns p q) × (q .end ≤ p .end + 131080) ⌝ }
 {
@@ -48,7 +48,7 @@ pub fn place_field(sheet: &[u8], work: &[u8], n: usize, r: usize, p: Reached) ->
 }
 
 // Behind the `fd` lines to which `count` fields of line r refer, from field `from` on.
-pub fn place_fields(
+fn place_fields(
     sheet: &[u8],
     work: &[u8],
     n: usize,

@@ -1,18 +1,17 @@
 -- What holds of the declarations of a checked sheet: plain names, few frames and needs, first values of 64 bits.
 use Prim.Native.Nat.{ℕ, suc, _≤_}
-use native.Mathlib.Omega.{arith}
-use mathlib.Core.Path.{_≡_, refl}
 use mathlib.Core.Bool.{Bool, true, false, cond}
 use mathlib.Core.List.{List, [], _∷_, map}
 use mathlib.Core.Option.{Option, none}
-use lib.ListN.{length, length-append, length-map}
+use lib.ListN.{length}
 use Rattle.semantics.specs.Text.{Bytes}
 use Rattle.semantics.specs.Tree.{AdtDecl, ConstDecl, VarDecl, Declares, Node}
-use Rattle.semantics.specs.Sheet.{Module, Located, opened, openAfter, locatedFrom, declared, sheetSource}
+use Rattle.semantics.specs.Sheet.{Module, Located, opened, openAfter, locatedFrom, sheetSource}
 use Rattle.semantics.specs.Const.{namesOf}
 use Rattle.semantics.specs.Global.{Declared, declaredIn}
 use Rattle.lines.specs.Lines.{nodesIn}
 use Rattle.checks.specs.Checks.{Checked}
+use Rattle.checks.proofs.Laws.{few-consts}
 use Rattle.stored.proofs.Rows.{Plain}
 use Rattle.demand.proofs.Lines.{Each, each-join, each-more}
 use Rattle.stored.proofs.Names.{PlainAdt, PlainWithin, PlainConst, PlainSource}
@@ -39,12 +38,6 @@ after-plain k d o h w = go (d .closes)
 module _ {A : Type 0} (f : Declares → List A) where
   abbrev at : ℕ → Option Module → A → Located A
   at k o a = record { line = k; within = o; it = a }
-
-  located-length : (k : ℕ) (o : Option Module) (ns : List Node) → length (locatedFrom f k o ns) ≡ length (declared f ns)
-  located-length k o [] = refl
-  located-length k o (n ∷ ns) =
-      let rest = openAfter k (n .declares) o in
-      omega (arith, length-append (map (at k o) (f (n .declares))) (locatedFrom f (suc k) rest ns), length-map (f (n .declares)) (at k o), located-length (suc k) rest ns, length-append (f (n .declares)) (declared f ns))
 
   module _ (P : A → Type 0) where
     abbrev LocatedAs : Located A → Type 0
@@ -94,13 +87,9 @@ module _ (s t : Bytes) (n : ℕ) (c : Checked s t n) where
   unfolding sheetSource
   few-needs = c .bounds .needs
 
-  few-constants : length (sheetSource s .consts) ≤ 128
-  unfolding sheetSource
-  few-constants = omega (arith, located-length (λ (d : Declares). d .consts) 1 none (nodesIn s), c .bounds .consts)
-
   -- first values have 64 bits
   pub sound-firsts : Each (λ (d : Declared). SoundFirst (d .first)) (declaredIn (namesOf (sheetSource s)) (sheetSource s))
   sound-firsts =
       firsts-sound (namesOf (sheetSource s))
-      (constants-limited (sheetSource s) few-constants (each-more _ LimitedValue (λ a h. h .0 .1) (sheetSource s .consts) consts-limited)) (sheetSource s)
+      (constants-limited (sheetSource s) (few-consts c) (each-more _ LimitedValue (λ a h. h .0 .1) (sheetSource s .consts) consts-limited)) (sheetSource s)
       (each-more _ (λ (v : Located VarDecl). LimitedInit (v .it .init)) (λ v h. h .0 .1) (sheetSource s .vars) vars-limited)

@@ -1,5 +1,5 @@
 -- A replay in lent buffers leaves in them what a replay gives, with zeros behind it, and outgrows them exactly when that does not fit.
-use Prim.Native.Nat.{ℕ, zero, suc, _+_, _-_, _*_, _≤_, _<_, max}
+use Prim.Native.Nat.{ℕ, suc, _+_, _-_, _*_, _≤_, _<_, max}
 use native.Mathlib.Omega.{arith}
 use mathlib.Core.Path.{_≡_, refl, sym, ap, _∙_, subst}
 use mathlib.Core.Bool.{Bool, true, false, _||_, cond}
@@ -16,6 +16,7 @@ use Rattle.semantics.specs.Global.Item.{valuesItem, strItem, arrayItem, setItem
 use Rattle.semantics.specs.Image.{handle, partAt, endAfter, areaAfter, Replay, replay, memoryOf, startOf, lay, moved, withPart as withReplayPart}
 use Rattle.semantics.specs.Demand.{liesIn}
 use Rattle.semantics.specs.Refusal.{Buffers, Imaged, laid, notLaid, zeros, padded, imageBytes, areaBytes, replayed}
+use Rattle.semantics.proofs.Common.{zeros-at}
 use Rattle.write.proofs.Wrote.{length-over}
 use Rattle.laws.proofs.Tests.{never}
 use Rattle.demand.proofs.Bytes.{getD-zeros}
@@ -327,13 +328,6 @@ laid-all (setAt o ∷ xs) r m p n s room place = laid-all xs _ (moveTo true m) p
 laid-all (goBack ∷ xs) r m p n s room place = laid-all xs _ (moveTo false m) p n (moved-same s none false refl) room place
 
 -- ---- from the beginning, over zeros
-
-pub zeros-at : (n j : ℕ) → getD (zeros n) j 0 ≡ 0
-zeros-at n j = getD-zeros [] n j ∙ nothing j
-  where
-    nothing : (j : ℕ) → getD {A = ℕ} [] j 0 ≡ 0
-    nothing zero = refl
-    nothing (suc j) = refl
 
 -- what replaying items in buffers of so many bytes says of their replay
 pub record Answered (q : Imaged) (image area : ℕ) (m : Laying) : Type 0 where

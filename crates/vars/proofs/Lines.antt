@@ -17,11 +17,11 @@ use Rattle.form.specs.Table.{rowNode}
 use Rattle.form.proofs.Table.{only-var, form-of-kind}
 use Rattle.lines.specs.Lines.{readsIn, readAt, nodesIn, formAt}
 use Rattle.sizes.specs.Sizes.{typeAt, TypeLine}
-use Rattle.sizes.proofs.Types.{Good, head-drop}
+use Rattle.sizes.proofs.Types.{Good, May, ref-head, maybe-head, head-drop}
 use Rattle.leaf.specs.Folds.{exAt, Foldable}
 use Rattle.literals.specs.Literals.{Line}
 use Rattle.sizes.proofs.Forms.{type-form}
-use Rattle.literals.proofs.Lines.{May, line-form, parts-at, makes, good-line, may-line, ref-head, maybe-head}
+use Rattle.literals.proofs.Lines.{line-form, parts-at, makes, good-line, may-line}
 use Rattle.literals.proofs.Selectors.{foldable}
 use Rattle.arrays.specs.Arrays.{typeOf}
 use Rattle.arrays.proofs.Allocs.{type-given}

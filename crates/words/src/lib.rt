@@ -82,14 +82,6 @@ pub fn bits_at(work: &[u8], a: usize) -> u64
 pub fn put_bits(out: &mut [u8], at: usize, n: u64) -> usize
     ensures { λ r. ⌜ Wrote (now (out .entry)) at (bigEndian 8 n) (now (out .exit)) r ⌝ }
 {
-    if out.len() < at {
-        return out.len() + 1;
-    }
-    let mut p = at;
-    let mut k = 0;
-    while k < 8 {
-        p = write::put(out, p, write::byte_of(n, k));
-        k += 1;
-    }
-    p
+    let bytes = write::bytes_of(n);
+    write::put_part(out, at, &bytes)
 }

@@ -5,8 +5,8 @@ use mathlib.Core.List.{[], _∷_, _++_}
 use native.Mathlib.Nat.{pow-suc}
 use native.Mathlib.Numerals.{add-one}
 use native.Mathlib.Omega.{arith}
-use lib.ListN.{length, take, getD}
-use lib.Seq.{take-suc}
+use lib.ListN.{length, take, getD, set}
+use lib.Seq.{take-suc, take-suc-set}
 use lib.Pow.{pow-add}
 use lib.Bits.{bitAnd, and-mask}
 use Rattle.semantics.specs.Text.{Bytes, hexOf, bigEndian}
@@ -46,3 +46,7 @@ pub byte-at : (n k : ℕ) → k < 8 → bitAnd (n / 2 ^ (56 - 8 * k)) 255 ≡ ge
 byte-at n k h =
     let q : 56 - 8 * k ≡ 8 * (8 - suc k) = omega arith in
     and-mask (n / 2 ^ (56 - 8 * k)) 8 ∙ sym (big-at 8 k n h ∙ rw (power (8 - suc k), q))
+
+-- a turn of `bytes_of`
+pub byte-stored : (s b : Bytes) (k : ℕ) → k < length s → length b ≡ length s → take k b ≡ take k s → take (k + 1) (set b k (getD s k 0)) ≡ take (k + 1) s
+byte-stored s b k h e q = rw (add-one, take-suc-set b k (getD s k 0) (omega arith), take-suc s k 0 h, q)

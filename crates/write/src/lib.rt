@@ -78,7 +78,7 @@ fn hex_digit(d: u8) -> u8
 }
 
 // A byte as two hexadecimal digits.
-pub fn put_hex_byte(out: &mut [u8], at: usize, b: u8) -> usize
+fn put_hex_byte(out: &mut [u8], at: usize, b: u8) -> usize
     ensures { λ r. ⌜ Wrote (now (out .entry)) at (hexOf (b ∷ [])) (now (out .exit)) r ⌝ }
 {
     let p = put(out, at, hex_digit(b / 16));
@@ -101,25 +101,30 @@ pub fn put_hex(out: &mut [u8], at: usize, part: &[u8]) -> usize
 }
 
 // Byte k of the eight of n, the highest first.
-pub fn byte_of(n: u64, k: usize) -> u8
+fn byte_of(n: u64, k: usize) -> u8
     requires { ⌜ k < 8 ⌝ }
     ensures { λ r. ⌜ r ≡ getD (bigEndian 8 n) k 0 ⌝ }
 {
     ((n >> (56 - 8 * k)) & 255) as u8
 }
 
+// The eight bytes of n, the highest first.
+pub fn bytes_of(n: u64) -> [u8; 8]
+    ensures { λ r. ⌜ r ≡ bigEndian 8 n ⌝ }
+{
+    let mut bytes = [0; 8];
+    let mut k = 0;
+    while k < 8 {
+        bytes[k] = byte_of(n, k);
+        k += 1;
+    }
+    bytes
+}
+
 // 64 bits as 16 hexadecimal digits.
 pub fn put_word(out: &mut [u8], at: usize, n: u64) -> usize
     ensures { λ r. ⌜ Wrote (now (out .entry)) at (hexOf (bigEndian 8 n)) (now (out .exit)) r ⌝ }
 {
-    if out.len() < at {
-        return out.len() + 1;
-    }
-    let mut p = at;
-    let mut k = 0;
-    while k < 8 {
-        p = put_hex_byte(out, p, byte_of(n, k));
-        k += 1;
-    }
-    p
+    let bytes = bytes_of(n);
+    put_hex(out, at, &bytes)
 }

@@ -10,7 +10,7 @@ module-line-of-requires : tie.Need-module-line-of-requires
 module-line-of-requires c κs = search needs
 
 is-own-requires : tie.Need-is-own-requires
-is-own-requires c κs = (c .before .before .before .before .pre .0, Laws.module-in (c .before .before .before .before .pre .0) (c .before .before .before .before .pre .1) (c .module-line-of .ensures))
+is-own-requires c κs = (c .before .before .before .before .pre .0 .checked, Laws.module-in (c .before .before .before .before .pre .0) (c .before .before .before .before .pre .1) (c .module-line-of .ensures))
 
 returns : tie.Need-returns
 returns c = Laws.not-own (now (c .before .before .before .before .before .before .args .sheet)) (now (c .before .before .before .before .before .before .args .work)) (c .before .before .before .before .before .before .args .m) (c .before .before .before .before .before .before .args .i) (c .before .before .module-line-of .ensures) (c .before .is-own .ensures) (c .if1 .taken) (c .before .before .before .before .before .before .pre .2)

@@ -10,7 +10,7 @@ number-at-requires : tie.Need-number-at-requires
 number-at-requires c κs = search needs
 
 fold-const-requires : tie.Need-fold-const-requires
-fold-const-requires c κs = Steps.foldable (now (c .before .before .before .before .before .args .sheet)) (now (c .before .before .before .before .before .args .work)) (c .before .before .before .before .before .args .n) (c .before .before .before .before .before .args .m) (c .before .before .before .before .before .args .k) (c .before .before .before .before .before .args .i) (c .before .before .before .before .before .pre) (c .before .number-at .result) (c .before .number-at .ensures .0)
+fold-const-requires c κs = Steps.value-foldable (now (c .before .before .before .before .before .args .sheet)) (now (c .before .before .before .before .before .args .work)) (c .before .before .before .before .before .args .n) (c .before .before .before .before .before .args .m) (c .before .before .before .before .before .args .k) (c .before .before .before .before .before .args .i) (c .before .before .before .before .before .pre) (c .before .number-at .result) (c .before .number-at .ensures .0)
 
 enum-known-x : tie.Need-enum-known-x
 enum-known-x c = search needs

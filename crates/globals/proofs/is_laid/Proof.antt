@@ -2,23 +2,15 @@
 use mathlib.Core.Path.{_∙_}
 use denote.Ref.{now}
 use borrow.Author.Needs.{needs}
-use Rattle.semantics.specs.Sheet.{sheetSource}
-use Rattle.globals.proofs.Declare.{counts-outside, counts-inside}
+use Rattle.globals.proofs.Declare.{counts-own}
 use Rattle.globals.proofs.is_laid.Statement.{statement}
 use Rattle.globals.proofs.is_laid.Tie as tie
 
+is-own-requires : tie.Need-is-own-requires
+is-own-requires c κs = search needs
+
 returns : tie.Need-returns
-returns c =
-    let a = c .before .before .before .args in
-    counts-outside (sheetSource (now (a .sheet)) .implement) (now (a .sheet)) (a .k) (c .if1 .taken)
-
-implements-requires : tie.Need-implements-requires
-implements-requires c κs = search needs
-
-returns-2 : tie.Need-returns-2
-returns-2 c =
-    let a = c .before .before .before .before .args in
-    c .implements .ensures ∙ counts-inside (sheetSource (now (a .sheet)) .implement) (now (a .sheet)) (a .k) (c .before .if1 .left)
+returns c = let a = c .before .before .before .args in c .is-own .ensures ∙ counts-own (now (a .sheet)) (a .k)
 
 pub is-laid-spec : {M : Type 1} → statement M
-is-laid-spec = tie.close (tie.spec returns implements-requires returns-2)
+is-laid-spec = tie.close (tie.spec is-own-requires returns)

@@ -18,14 +18,11 @@ returns c = Laws.plain-other (now (c .before .before .before .before .before .be
 module-line-of-requires : tie.Need-module-line-of-requires
 module-line-of-requires c κs = search needs
 
+is-own-requires : tie.Need-is-own-requires
+is-own-requires c κs = let e = c .before .before .before .before .before .before .before .pre .1 .each (c .before .before .before .before .before .before .before .args .i) (c .before .before .before .before .before .before .before .pre .2) in (c .before .before .before .before .before .before .before .pre .0, omega (arith, c .module-line-of .ensures, e .within))
+
 returns-2 : tie.Need-returns-2
-returns-2 c = Laws.plain-top (now (c .before .before .before .before .before .before .before .before .args .sheet)) (now (c .before .before .before .before .before .before .before .before .args .work)) (c .before .before .before .before .before .before .before .before .args .i) (now (c .before .before .before .before .before .before .before .before .args .name)) (c .before .before .before .before .line-of .ensures) (c .before .before .before .is-named .ensures) (c .before .before .if1 .left) (c .before .module-line-of .ensures) (c .if2 .taken)
-
-implements-requires : tie.Need-implements-requires
-implements-requires c κs = let e = c .before .before .before .before .before .before .before .before .pre .1 .each (c .before .before .before .before .before .before .before .before .args .i) (c .before .before .before .before .before .before .before .before .pre .2) in (c .before .before .before .before .before .before .before .before .pre .0, omega (arith, c .before .module-line-of .ensures, e .within))
-
-returns-3 : tie.Need-returns-3
-returns-3 c = Laws.plain-in (now (c .before .before .before .before .before .before .before .before .before .args .sheet)) (now (c .before .before .before .before .before .before .before .before .before .args .work)) (c .before .before .before .before .before .before .before .before .before .args .i) (now (c .before .before .before .before .before .before .before .before .before .args .name)) (c .before .before .before .before .before .line-of .ensures) (c .before .before .before .before .is-named .ensures) (c .before .before .before .if1 .left) (c .before .before .module-line-of .ensures) (c .before .if2 .left) (c .implements .ensures)
+returns-2 c = Laws.plain-own (now (c .before .before .before .before .before .before .before .before .args .sheet)) (now (c .before .before .before .before .before .before .before .before .args .work)) (c .before .before .before .before .before .before .before .before .args .i) (now (c .before .before .before .before .before .before .before .before .args .name)) (c .before .before .before .before .line-of .ensures) (c .before .before .before .is-named .ensures) (c .before .before .if1 .left) (c .before .module-line-of .ensures) (c .is-own .ensures)
 
 pub answers-plain-spec : {M : Type 1} → statement M
-answers-plain-spec = tie.close (tie.spec line-of-requires is-named-requires returns module-line-of-requires returns-2 implements-requires returns-3)
+answers-plain-spec = tie.close (tie.spec line-of-requires is-named-requires returns module-line-of-requires is-own-requires returns-2)
