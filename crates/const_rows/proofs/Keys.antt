@@ -1,45 +1,38 @@
 -- The keys of a log, entry by entry.
 use mathlib.Core.Path.{_≡_, refl, sym, ap, _∙_}
-use mathlib.Core.Bool.{Bool, true, false, cond, not, _||_}
+use mathlib.Core.Bool.{Bool, true, false, cond, not, _||_, or-true, or-false}
 use mathlib.Core.List.{List, [], _∷_, _++_, append-nil}
 use mathlib.Core.Option.{Option, none, some}
 use Prim.Native.Nat.{ℕ, zero, suc, _+_, _*_}
 use native.Mathlib.Omega.{arith}
 use lib.Dec.{eqb}
-use borrow.Author.Tests.{ne-eqb, eqb-true}
+use borrow.Author.Tests.{ne-eqb}
 use Rattle.semantics.specs.Text.{Bytes, same, any, filter}
 use Rattle.semantics.specs.Tree.{ConstVal}
 use Rattle.semantics.specs.Sheet.{sheetSource, concatMap}
 use Rattle.semantics.specs.Fold.{Key, Const, plain, qualified, sameOption, sameKey}
 use Rattle.semantics.specs.Const.{entries, implements}
 use Rattle.semantics.specs.Listing.{keysIn, isPlain, constRow}
+use Rattle.laws.proofs.Tests.{same-eq}
 use Rattle.laws.proofs.Lists.{concat-append, filter-append, any-append}
 use Rattle.form.proofs.Table.{never, both}
 use Rattle.implement.specs.Modules.{moduleAt, isOwn}
 use Rattle.names.specs.Table.{lineOf, moduleLineOf, slotAt, fieldAt, entriesAt, logIn, hasKey}
 use Rattle.const_rows.specs.Rows.{plainKey, qualifiedKey, qualifiedTo, plainTo, qualifiedPart, plainPart}
 
--- ---- lists
-
 -- ---- equal keys
-
-same-equal : (x y : Bytes) → same x y ≡ true → x ≡ y
-same-equal [] [] h = refl
-same-equal [] (b ∷ y) h = never h
-same-equal (a ∷ x) [] h = never h
-same-equal (a ∷ x) (b ∷ y) h = let w = both (eqb a b) (same x y) h in rw (eqb-true a b (w .0), same-equal x y (w .1))
 
 option-equal : (x y : Option Bytes) → sameOption x y ≡ true → x ≡ y
 option-equal none none h = refl
 option-equal none (some y) h = never h
 option-equal (some x) none h = never h
-option-equal (some x) (some y) h = rw (same-equal x y h)
+option-equal (some x) (some y) h = rw (same-eq x y h)
 
 key-equal : (j k : Key) → sameKey j k ≡ true → j ≡ k
 key-equal j k h =
     let w = both (sameOption (j .within) (k .within)) (same (j .name) (k .name)) h in
     let p = option-equal (j .within) (k .within) (w .0) in
-    let q = same-equal (j .name) (k .name) (w .1) in
+    let q = same-eq (j .name) (k .name) (w .1) in
     λ i. record { within = p i; name = q i }
 
 -- the keys of a log are those that it has
@@ -52,16 +45,8 @@ keys-has k (c ∷ cs) = go (any (sameKey (c .key)) (keysIn cs)) refl (sameKey k 
         → any (sameKey k) (cond b (keysIn cs) (keysIn cs ++ (c .key ∷ []))) ≡ a || any (λ (d : Const). sameKey k (d .key)) cs
     go true e true q ih = ap (λ (j : Key). any (sameKey j) (keysIn cs)) (key-equal k (c .key) q) ∙ e
     go true e false q ih = ih
-    go false e true q ih = any-append (sameKey k) (keysIn cs) (c .key ∷ []) ∙ rw q (last (any (sameKey k) (keysIn cs)))
-      where
-        last : (x : Bool) → x || (true || false) ≡ true
-        last true = refl
-        last false = refl
-    go false e false q ih = any-append (sameKey k) (keysIn cs) (c .key ∷ []) ∙ rw q (last (any (sameKey k) (keysIn cs)) ∙ ih)
-      where
-        last : (x : Bool) → x || (false || false) ≡ x
-        last true = refl
-        last false = refl
+    go false e true q ih = any-append (sameKey k) (keysIn cs) (c .key ∷ []) ∙ rw q (or-true (any (sameKey k) (keysIn cs)))
+    go false e false q ih = any-append (sameKey k) (keysIn cs) (c .key ∷ []) ∙ rw q (or-false (any (sameKey k) (keysIn cs)) ∙ ih)
 
 -- ---- one more key
 
@@ -87,11 +72,7 @@ module _ (p : Key → Bool) (b : Bool) (ks : List Key) (k : Key) where
 -- a plain key is not among those of modules
 plain-apart : (b : Bool) (y m : Bytes) (ks : List Key) → any (sameKey (plain y)) (cond b ks (ks ++ (qualified m y ∷ []))) ≡ any (sameKey (plain y)) ks
 plain-apart true y m ks = refl
-plain-apart false y m ks = any-append (sameKey (plain y)) ks (qualified m y ∷ []) ∙ last (any (sameKey (plain y)) ks)
-  where
-    last : (x : Bool) → x || false ≡ x
-    last true = refl
-    last false = refl
+plain-apart false y m ks = any-append (sameKey (plain y)) ks (qualified m y ∷ []) ∙ or-false (any (sameKey (plain y)) ks)
 
 -- ---- the keys of an entry
 

@@ -14,6 +14,7 @@ use Rattle.semantics.specs.Tree.{ConstDecl, Declares, Node, noNode}
 use Rattle.semantics.specs.Form.{letter}
 use Rattle.semantics.specs.Sheet.{Module, Located, Source, locatedFrom, sheetSource}
 use Rattle.semantics.specs.Const.{passesFrom, standsIn, topLevel, constants}
+use Rattle.semantics.proofs.Common.{filter-less}
 use Rattle.lines.specs.Lines.{readAt, nodesIn}
 use Rattle.refs.proofs.Nodes.{node-count}
 use Rattle.implement.specs.Modules.{moduleAt}
@@ -145,14 +146,6 @@ filter-step p x xs = go (p x)
 filter-add : {A : Type 0} (p q r : A → Bool) → ((x : A) → flag (p x) + flag (q x) ≤ flag (r x)) → (xs : List A) → length (filter p xs) + length (filter q xs) ≤ length (filter r xs)
 filter-add p q r h [] = omega arith
 filter-add p q r h (x ∷ xs) = omega (arith, filter-step p x xs, filter-step q x xs, filter-step r x xs, h x, filter-add p q r h xs)
-
-filter-less : {A : Type 0} (p : A → Bool) (xs : List A) → length (filter p xs) ≤ length xs
-filter-less p [] = omega arith
-filter-less p (x ∷ xs) = omega (arith, filter-step p x xs, at-most (p x), filter-less p xs)
-  where
-    at-most : (b : Bool) → flag b ≤ 1
-    at-most true = omega arith
-    at-most false = omega arith
 
 earlier-or-here : (i : ℕ) (o : Option Module)
     → flag (holdsOf (λ (m : Module). leb (m .line) i) o) + flag (holdsOf (λ (m : Module). eqb (m .line) (suc i)) o) ≤ flag (holdsOf (λ (m : Module). leb (m .line) (suc i)) o)

@@ -1,6 +1,6 @@
 -- Laws of counts: what a line's node declares is what its kind and its fields say.
 use mathlib.Core.Path.{_≡_, refl, sym, ap, _∙_}
-use mathlib.Core.Bool.{Bool, true, false, cond, not, _&&_, _||_}
+use mathlib.Core.Bool.{Bool, true, false, cond, not, _&&_, _||_, and-false}
 use mathlib.Core.List.{List, [], _∷_, _++_}
 use Prim.Native.Nat.{ℕ, zero, suc, _+_, _-_, _*_, _≤_, _<_, min}
 use native.Mathlib.Omega.{arith}
@@ -18,7 +18,6 @@ use Rattle.semantics.specs.Form.Atom.{ref}
 use Rattle.semantics.specs.Form.Part.{one, many}
 use Rattle.semantics.specs.Refusal.{Ref, Counts, noCounts, lineAt, refsIn, refsOf, counted, over, badRefFrom, tooManyFrom}
 use Rattle.decimal.specs.Number as Number
-use Rattle.text.proofs.Tests.{and-false}
 use Rattle.form.specs.declared.Walk.{Walk}
 use Rattle.form.specs.Table.{rowAt, rowNode}
 use Rattle.form.specs.Letters.{lettersFrom, fieldsLeft, beginning, Standing, Stepped}

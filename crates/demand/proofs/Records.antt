@@ -15,6 +15,7 @@ use Rattle.semantics.specs.Tree.Ty.{basic, ptr, array, tuple}
 use Rattle.semantics.specs.Layout.{alignUp, roundedSize, alignOf, sizeOf, isPtr, marks, marked, Placed, placeNames, placeLine, place, furthest, pointersOf, shapeOf, Recorded, withoutPick, withPick, recordsFor, recordsOf, recordLog, lastOf, seen, recordsByKey, records}
 use Rattle.semantics.specs.Demand.{filledBy, filling, typedNames, typedFields, typedOf, InOrder, pointerAt, Apart, AllApart}
 use Rattle.laws.proofs.Tests.{or-left, or-right, tests-agree, same-refl, same-eq}
+use Rattle.laws.proofs.Lists.{last-append}
 use Rattle.laws.proofs.Alignments.{four-or-eight, aligned}
 use Rattle.laws.proofs.Maps.{map-bits}
 
@@ -118,10 +119,6 @@ adt-apart t fs =
 abbrev ApartBy : Option (List Fd) → Recorded → Type 0
 ApartBy none r = Unit {0}
 ApartBy (some fs) r = Apart fs r
-
-last-append : (k : Bytes) (r : Recorded) (xs ys : List Recorded) → lastOf k r (xs ++ ys) ≡ lastOf k (lastOf k r xs) ys
-last-append k r [] ys = refl
-last-append k r (x ∷ xs) ys = last-append k (cond (same k (x .key)) x r) xs ys
 
 last-unseen : (k : Bytes) (r : Recorded) (xs : List Recorded) → seen k xs ≡ false → lastOf k r xs ≡ r
 last-unseen k r [] h = refl

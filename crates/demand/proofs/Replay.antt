@@ -27,7 +27,7 @@ use Rattle.semantics.specs.Image.{written, wordBytes, bigBytes, realBytes, hand
 use Rattle.semantics.specs.Demand.{isOf, ofKind, kindsFit, Laid, afterPart, laidFrom, valueBytes, firstBytes, imageByte, stringBytes, elementBytes, afterString, elementsBytes, partByte, areaByte}
 use Rattle.laws.proofs.Tests.{never, and-left, and-right}
 use Rattle.demand.proofs.Bytes.{shifted, shifted-below, shifted-at, shifted-past, shifted-nil, shifted-append, length-written, written-adds, layer, lies-below, getD-zeros, word-bytes}
-use Rattle.laws.proofs.Alignments.{four-or-eight}
+use Rattle.laws.proofs.Alignments.{global-size}
 use Rattle.demand.proofs.Elements.{Sized}
 use Rattle.demand.proofs.Lines.{Each}
 use Rattle.demand.proofs.Places.{endAt, endFrom, itemsAt, itemsFrom}
@@ -204,7 +204,7 @@ value k im ar a ps off ys bs e h z = record {
   areaAdds = λ p. sym (add-zero (getD ar p 0));
 }
 
-size-le : (e : ElemKind) (m n : ℕ) → m ≤ n → elemSize e * m ≤ elemSize e * n
+pub size-le : (e : ElemKind) (m n : ℕ) → m ≤ n → elemSize e * m ≤ elemSize e * n
 size-le kByte m n h = omega arith
 size-le kWord m n h = omega arith
 size-le kBig m n h = omega arith
@@ -242,13 +242,6 @@ array-items k im ar a ps off e n (v ∷ vs) fits z room zr l =
     })
 
 -- ---- a first value
-
--- what holds of 4 and of 8 holds of each global's size
-global-size : (P : ℕ → Type 0) → P 4 → P 8 → (t : Ty) → P (globalSize t)
-global-size P four eight (basic b) = four-or-eight P four eight (basic b)
-global-size P four eight ptr = four
-global-size P four eight (array t) = four
-global-size P four eight (tuple ts) = four
 
 size-4 : (t : Ty) → 4 ≤ globalSize t
 size-4 t = global-size (λ n. 4 ≤ n) (omega arith) (omega arith) t

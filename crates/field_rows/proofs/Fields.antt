@@ -7,26 +7,22 @@ use native.Mathlib.Omega.{arith}
 use lib.ListN.{length, drop, getD, drop-of-length-le}
 use lib.Seq.{drop-cons, getD-drop}
 use Rattle.semantics.specs.Text.{Bytes}
-use Rattle.semantics.specs.Tree.{Ty, Fd, Node}
-use Rattle.semantics.specs.Form.{forms, values, numberOf}
+use Rattle.semantics.specs.Tree.{Ty, Fd}
+use Rattle.semantics.specs.Form.{values, numberOf}
 use Rattle.semantics.specs.Form.Atom.{name}
 use Rattle.semantics.specs.Layout.{Placed, alignUp, sizeOf, alignOf, placeNames, placeLine, place}
 use Rattle.semantics.specs.Listing.{fieldRow}
 use Rattle.decimal.specs.Number as Number
 use Rattle.write.specs.Wrote.{Wrote}
 use Rattle.write.proofs.Wrote.{wrote-none, wrote-as, then}
-use Rattle.lines.specs.Lines.{readAt, nodesIn, formAt}
-use Rattle.lines.proofs.Line.{form-low, kind-is}
-use Rattle.refs.proofs.Nodes.{node-at}
+use Rattle.lines.specs.Lines.{readAt, nodesIn}
 use Rattle.sizes.specs.declared.place.Reached.{Reached}
 use Rattle.sizes.specs.Sizes.{typeAt, Measures}
 use Rattle.sizes.specs.Places.{fieldAt, fieldsAt, FieldLine, FieldRefs, LinePlaced}
 use Rattle.sizes.proofs.Rows.{values-length}
-use Rattle.sizes.proofs.Forms.{field-form}
-use Rattle.sizes.proofs.Types.{head-drop, tail-drop}
-use Rattle.sizes.proofs.Places.{untyped, typed, fields-next}
+use Rattle.sizes.proofs.Places.{fd-is, untyped, typed, fields-next}
 use Rattle.records.proofs.Picks.{names-at}
-use Rattle.records.proofs.Log.{concat-append}
+use Rattle.laws.proofs.Lists.{concat-append}
 use Rattle.field_rows.specs.Rows.{fieldText, nameRows, placedRows, lineRows, fieldRows}
 
 pub placed-append : (ps qs : List Placed) → placedRows (ps ++ qs) ≡ placedRows ps ++ placedRows qs
@@ -41,17 +37,8 @@ names-rows t off [] = refl
 names-rows t off (n ∷ ns) = ap (λ (x : Bytes). fieldRow (record { name = n; ty = t; offset = off }) ++ x) (names-rows t (off + sizeOf t) ns)
 
 module _ (s t : List ℕ) (n r : ℕ) (l : FieldLine s t n r) where
-  field-in : r - 1 < n
-  field-in = omega (arith, l .first, l .last)
-
-  form-fd : formAt t (r - 1) ≡ 24
-  form-fd = field-form (formAt t (r - 1)) (form-low s t n (l .checked .whole) (r - 1) field-in) (sym (kind-is s t n (l .checked .whole) (r - 1) field-in) ∙ l .kind)
-
   names-values : fieldAt s r .names ≡ values name (nodesIn s) (numberOf (getD (readAt s (r - 1) .fields) 1 [])) (drop 2 (readAt s (r - 1) .fields))
-  unfolding forms
-  names-values =
-      ap (λ (m : Node). m .fd .names) (node-at s t n (l .checked .whole) (l .checked .good) (r - 1) field-in)
-      ∙ rw (form-fd, tail-drop 0 (readAt s (r - 1) .fields), head-drop 1 (readAt s (r - 1) .fields), tail-drop 1 (readAt s (r - 1) .fields))
+  names-values = ap (λ (f : Fd). f .names) (fd-is s t n r l)
 
   -- name j is field 2 + j
   pub name-at : (j : ℕ) → j < length (fieldAt s r .names) → getD (readAt s (r - 1) .fields) (2 + j) [] ≡ getD (fieldAt s r .names) j []

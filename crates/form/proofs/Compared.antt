@@ -1,6 +1,6 @@
 -- Laws of comparing a text with a field in place.
 use mathlib.Core.Path.{_≡_, refl, sym, _∙_}
-use mathlib.Core.Bool.{Bool, true, false, _&&_}
+use mathlib.Core.Bool.{Bool, true, false, _&&_, and-false}
 use mathlib.Core.List.{[], _∷_}
 use Prim.Native.Nat.{ℕ, zero, suc, _+_, _-_, _≤_, _<_}
 use native.Mathlib.Omega.{arith}
@@ -38,10 +38,6 @@ later [] d (suc i) h k e = absurd (omega arith)
 later (x ∷ name) [] (suc i) h k e = refl
 later (x ∷ name) (y ∷ d) (suc i) h k e = go (eqb y 44) refl (later name d i (omega arith) (omega arith) e)
   where
-    and-false : (b : Bool) → b && false ≡ false
-    and-false true = refl
-    and-false false = refl
-
     go : (t : Bool) → eqb y 44 ≡ t → same name (until 44 d) ≡ false → same (x ∷ name) (until 44 (y ∷ d)) ≡ false
     go true q f = simp q
     go false q f = simp (q, f) (and-false (eqb x y))

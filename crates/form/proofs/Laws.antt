@@ -1,6 +1,6 @@
 -- Laws of keywords, letters and the walk over a line's fields.
 use mathlib.Core.Path.{_≡_, refl, sym, ap, _∙_}
-use mathlib.Core.Bool.{Bool, true, false, cond, not, _&&_, _||_}
+use mathlib.Core.Bool.{Bool, true, false, cond, not, _&&_, _||_, or-true}
 use mathlib.Core.List.{List, [], _∷_, _++_}
 use mathlib.Core.Option.{Option, none, some}
 use Prim.Native.Nat.{ℕ, zero, suc, _+_, _-_, _≤_, _<_, min}
@@ -347,10 +347,6 @@ fits-codes (f ∷ fs) (many a ∷ ps) h =
     rw (many-holds a f (w .0), many-after (Form.numberOf f) a ps (w .0), fits-codes fs (Form.ones (Form.numberOf f) a ++ ps) (ones-fine (Form.numberOf f) a ps (w .1)))
 
 -- ---- the form of a line
-
-or-true : (t : Bool) → t || true ≡ true
-or-true true = refl
-or-true false = refl
 
 pub begins-chosen : (rs : List Form.Row) (l : List ℕ) → Form.rowOf rs l < length rs → Form.begins (getD rs (Form.rowOf rs l) Form.noRow .words) l ≡ true
 begins-chosen [] l h = absurd (omega arith)

@@ -12,13 +12,12 @@ use lib.Seq.{getD-drop}
 use borrow.Author.Tests.{ne-eqb}
 use Rattle.semantics.specs.Text.{Bytes, bytes, same}
 use Rattle.semantics.specs.Tree.{Ty}
-use Rattle.semantics.specs.Tree.Basic.{int, byte, big, real, string}
-use Rattle.semantics.specs.Tree.Ty.{basic, ptr, array, tuple}
 use Rattle.semantics.specs.Form.{values, numberOf}
 use Rattle.semantics.specs.Form.Atom.{name}
 use Rattle.semantics.specs.Layout.{alignUp}
 use Rattle.semantics.specs.Sheet.{sheetSource}
 use Rattle.semantics.specs.Global.{Global, globalSize, placeOf, newOffset}
+use Rattle.laws.proofs.Alignments.{global-size}
 use Rattle.decimal.specs.Number as Number
 use Rattle.words.specs.Words.{digest}
 use Rattle.lines.specs.Lines.{readAt, nodesIn}
@@ -31,20 +30,9 @@ use Rattle.globals.proofs.Laying.{names-next}
 use Rattle.globals.proofs.Line.{type-on, count-on}
 use Rattle.globals.proofs.Table.{line-new, position-new, offset-new, digest-new, line-old, digest-old, entry-old, around-entered, places-more, places-entered, around-all, around-then, checked-around, var-around}
 
--- a global takes 4 bytes or 8
-four-or-eight : (P : ℕ → Type 0) → P 4 → P 8 → (t : Ty) → P (globalSize t)
-four-or-eight P a b (basic int) = a
-four-or-eight P a b (basic byte) = a
-four-or-eight P a b (basic big) = b
-four-or-eight P a b (basic real) = b
-four-or-eight P a b (basic string) = a
-four-or-eight P a b ptr = a
-four-or-eight P a b (array t) = a
-four-or-eight P a b (tuple ts) = a
-
 -- 8 bytes each are enough
 place-low : (t : Ty) (end count : ℕ) → end ≤ 8 * count → alignUp (globalSize t) end ≤ 8 * count
-place-low t end count h = four-or-eight (λ a. alignUp a end ≤ 8 * count) (omega arith) (omega arith) t
+place-low t end count h = global-size (λ a. alignUp a end ≤ 8 * count) (omega arith) (omega arith) t
 
 -- ---- places as they were
 
@@ -78,7 +66,7 @@ module _ (s t : Bytes) (n r j : ℕ) (g : Globals) (st : Standing s t n g) (l : 
   off-low = rw off-is (place-low (typeOn s r) (g .end) (g .count) (st .low))
 
   size-low : size ≤ 8
-  size-low = rw size-is (four-or-eight (λ a. a ≤ 8) (omega arith) (omega arith) (typeOn s r))
+  size-low = rw size-is (global-size (λ a. a ≤ 8) (omega arith) (omega arith) (typeOn s r))
 
   line-low : r < 65536
   line-low = omega (arith, l .last, l .checked .whole .lined .few)

@@ -2,8 +2,9 @@
 use mathlib.Core.Path.{_≡_, refl, sym}
 use mathlib.Core.Bool.{Bool, true, false, _||_, cond}
 use mathlib.Core.List.{List, [], _∷_, _++_, map, append-assoc}
-use Rattle.semantics.specs.Text.{any, filter}
+use Rattle.semantics.specs.Text.{Bytes, same, any, filter}
 use Rattle.semantics.specs.Sheet.{concatMap}
+use Rattle.semantics.specs.Layout.{Recorded, lastOf}
 
 pub map-append : {A B : Type 0} (g : A → B) (l m : List A) → map g (l ++ m) ≡ map g l ++ map g m
 map-append g [] m = refl
@@ -28,3 +29,7 @@ any-append p (x ∷ xs) ys = go (p x) (any-append p xs ys)
     go : (b : Bool) → any p (xs ++ ys) ≡ any p xs || any p ys → b || any p (xs ++ ys) ≡ (b || any p xs) || any p ys
     go true e = refl
     go false e = e
+
+pub last-append : (k : Bytes) (r : Recorded) (xs ys : List Recorded) → lastOf k r (xs ++ ys) ≡ lastOf k (lastOf k r xs) ys
+last-append k r [] ys = refl
+last-append k r (x ∷ xs) ys = last-append k (cond (same k (x .key)) x r) xs ys

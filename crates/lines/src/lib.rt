@@ -16,7 +16,8 @@ pub enum Formed {
     NoForm(usize),
 }
 
-fn wide(x: u8) -> usize
+// A byte as a number.
+pub fn wide(x: u8) -> usize
     ensures { λ r. ⌜ (r ≡ x) × (r < 256) ⌝ }
 {
     x as usize

@@ -1,6 +1,6 @@
 -- Laws of modules.
 use mathlib.Core.Path.{_≡_, refl, sym, ap, _∙_}
-use mathlib.Core.Bool.{Bool, true, false, cond, not, _||_}
+use mathlib.Core.Bool.{Bool, true, false, cond, not, or-false}
 use mathlib.Core.List.{List, [], _∷_}
 use Prim.Native.Nat.{ℕ, suc, _+_, _-_, _<_}
 use native.Mathlib.Omega.{arith}
@@ -19,10 +19,6 @@ module _ (k : ℕ) (b : Bool) where
   pub wrong-mod : k ≡ 77 → b ≡ wrong k b
   unfolding wrong
   wrong-mod e = simp (eq-eqb k 77 e, ne-eqb k 79 (λ q. omega arith)) (sym (or-false b))
-    where
-      or-false : (t : Bool) → t || false ≡ t
-      or-false true = refl
-      or-false false = refl
 
   pub wrong-end : (k ≡ 77 → ⊥) → k ≡ 79 → not b ≡ wrong k b
   unfolding wrong

@@ -1,7 +1,7 @@
 -- Laws of names.
 use Prim.Native.Nat.{ℕ, _+_, _≤_, _<_}
 use mathlib.Core.Path.{_≡_, refl, sym, _∙_}
-use mathlib.Core.Bool.{true, false, _&&_}
+use mathlib.Core.Bool.{true, false, _&&_, and-false, and-true}
 use mathlib.Core.List.{[], _∷_}
 use native.Mathlib.Numerals.{add-one}
 use native.Mathlib.Omega.{arith}
@@ -11,7 +11,6 @@ use lib.Seq.{drop-cons}
 use borrow.Author.Tests.{le-leb, lt-leb}
 use Rattle.semantics.specs.Text.{Bytes, isName}
 use Rattle.name.specs.Name.{letter, mark, marks}
-use Rattle.text.proofs.Tests.{and-false, and-true}
 
 name-parts : (s : Bytes) → 0 < length s → isName s ≡ letter (getD s 0 0) && marks (drop 1 s) && leb (length s) 32
 unfolding isName letter marks

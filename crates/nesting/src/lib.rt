@@ -1,4 +1,5 @@
 // Refusal 5: nesting.
+use lines::wide;
 ghost use mathlib.Core.Path.{_≡_};
 ghost use mathlib.Core.List.{List, []};
 ghost use Prim.Native.Nat.{ℕ, _≤_, _<_, max};
@@ -10,12 +11,6 @@ ghost use Rattle.nesting.specs.Nesting.{refDepth, Depths};
 const DEPTHS: usize = 4096;
 
 const DEEPEST: usize = 32;
-
-fn wide(x: u8) -> usize
-    ensures { λ r. ⌜ (r ≡ x) × (r < 256) ⌝ }
-{
-    x as usize
-}
 
 fn larger(a: usize, b: usize) -> usize
     ensures { λ r. ⌜ r ≡ max a b ⌝ }

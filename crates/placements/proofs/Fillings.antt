@@ -1,6 +1,6 @@
 -- Steps of filling a literal.
 use mathlib.Core.Path.{_≡_, refl, sym, _∙_}
-use mathlib.Core.Bool.{Bool, true, false, cond, _&&_, _||_}
+use mathlib.Core.Bool.{Bool, true, false, cond, _&&_, _||_, or-false, or-assoc}
 use mathlib.Core.List.{List, [], _∷_, _++_}
 use mathlib.Core.Logic.{_⊎_, inl, inr}
 use Prim.Native.Nat.{ℕ, zero, suc, _+_, _*_, _^_, _≤_, _<_, max}
@@ -28,15 +28,7 @@ value-last (q ∷ ps) p v i = value-last ps p (cond (leb (q .low) i && leb i (q 
 
 any-last : (n : ℕ) (ps : List Placement) (p : Placement) → any (outside n) (ps ++ (p ∷ [])) ≡ any (outside n) ps || leb n (p .high)
 any-last n [] p = or-false (leb n (p .high))
-  where
-    or-false : (b : Bool) → b || false ≡ b
-    or-false true = refl
-    or-false false = refl
 any-last n (q ∷ ps) p = rw (any-last n ps p) (sym (or-assoc (leb n (q .high)) (any (outside n) ps) (leb n (p .high))))
-  where
-    or-assoc : (a b c : Bool) → (a || b) || c ≡ a || (b || c)
-    or-assoc true b c = refl
-    or-assoc false b c = refl
 
 -- an end is reached where the furthest is
 either-end : (n a b : ℕ) → ltb n a || leb n b ≡ ltb n (max a (suc b))

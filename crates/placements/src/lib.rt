@@ -1,4 +1,5 @@
 // Where the elements of a literal fall: a table of its first 1,024 indices, and slots for the elements' values.
+use words::wide;
 ghost use mathlib.Core.Path.{_≡_};
 ghost use Prim.Native.Nat.{ℕ, _+_, _*_, _^_, _≤_, _<_, min, max};
 ghost use lib.ListN.{length};
@@ -39,12 +40,6 @@ pub enum Placed {
     Negative,
     Failed,
     TooLong,
-}
-
-fn wide(x: u8) -> usize
-    ensures { λ r. ⌜ (r ≡ x) × (r < 256) ⌝ }
-{
-    x as usize
 }
 
 fn larger(a: u64, b: u64) -> u64

@@ -12,13 +12,13 @@ use Rattle.semantics.specs.Text.{Bytes, same}
 use Rattle.semantics.specs.Sheet.{concatMap}
 use Rattle.semantics.specs.Layout.{Recorded, lastOf, seen, recordsByKey, records}
 use Rattle.semantics.specs.Listing.{recordRows}
-use Rattle.laws.proofs.Lists.{any-append}
+use Rattle.laws.proofs.Tests.{same-refl}
+use Rattle.laws.proofs.Lists.{any-append, last-append}
 use Rattle.write.specs.Wrote.{Wrote}
 use Rattle.write.proofs.Wrote.{wrote-none, wrote-as, then}
 use Rattle.checks.specs.Checks.{Kept}
 use Rattle.checks.proofs.Kept.{kept-all, kept-then, kept-less}
 use Rattle.records.specs.Log.{recordedAt, logOf, noRecord, Logged, NewestOf}
-use Rattle.records.proofs.Keys.{last-append, same-refl}
 use Rattle.records.proofs.Kept.{logged-kept}
 use Rattle.record_rows.specs.Rows.{keyRows, allRows, LogEntry, Printed}
 

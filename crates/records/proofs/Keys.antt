@@ -1,6 +1,6 @@
 -- Keys: how they compare, and the last record of one.
 use mathlib.Core.Path.{_≡_, refl, sym, ap, _∙_}
-use mathlib.Core.Bool.{Bool, true, false, not, cond, _&&_, _||_}
+use mathlib.Core.Bool.{Bool, true, false, not, cond, _&&_, _||_, and-false, and-assoc}
 use mathlib.Core.List.{List, [], _∷_, _++_}
 use mathlib.Core.Option.{Option, none, some}
 use Prim.Native.Nat.{ℕ, zero, suc, _+_, _-_, _≤_, _<_}
@@ -14,7 +14,7 @@ use Rattle.semantics.specs.Text.{Bytes, same, all, isName, isLetter, isDigit}
 use Rattle.semantics.specs.Tree.{AdtDecl, Case}
 use Rattle.semantics.specs.Layout.{Recorded, recordsFor, lastOf, seen}
 use Rattle.form.proofs.Table.{never, both}
-use Rattle.text.proofs.Tests.{and-false}
+use Rattle.laws.proofs.Lists.{last-append}
 use Rattle.words.proofs.Laws.{same-length}
 use Rattle.sizes.specs.Places.{RecordLine}
 use Rattle.records.specs.Log.{declAt, firstRecord, ownRecord, casesIn, caseIn, variantRecord, recordIn, entryAt, recordedAt, nameOf, tagOf, logOf, noRecord, EntryIn, Logged, Newest}
@@ -22,16 +22,6 @@ use Rattle.records.specs.Lines.{caseOf}
 use Rattle.shapes.specs.Shapes.{VariantLine, CaseOf}
 use Rattle.records.proofs.Lists.{default-same}
 use Rattle.records.proofs.Picks.{name-good, pick-line, variant-line, case-is}
-
-and-assoc : (p q r : Bool) → p && (q && r) ≡ p && q && r
-and-assoc true q r = refl
-and-assoc false q r = refl
-
--- ---- bytes that are the same
-
-pub same-refl : (a : Bytes) → same a a ≡ true
-same-refl [] = refl
-same-refl (x ∷ a) = rw (eq-eqb x x refl, same-refl a)
 
 -- ---- a name and a tag
 
@@ -41,7 +31,7 @@ joined-short k a b h = sym (same-length k (a ++ (46 ∷ b)) (λ e. omega (arith,
 joined-parts : (k a b : Bytes) → length a < length k → same k (a ++ (46 ∷ b)) ≡ same (take (length a) k) a && (eqb (getD k (length a) 0) 46 && same (drop (suc (length a)) k) b)
 joined-parts [] a b h = absurd (omega arith)
 joined-parts (x ∷ k) [] b h = refl
-joined-parts (x ∷ k) (y ∷ a) b h = rw (joined-parts k a b (omega arith)) (and-assoc (eqb x y) (same (take (length a) k) a) _)
+joined-parts (x ∷ k) (y ∷ a) b h = rw (joined-parts k a b (omega arith)) (sym (and-assoc (eqb x y) (same (take (length a) k) a) _))
 
 module _ (k a b : Bytes) (h : length a < length k) where
   pub joined-undotted : (getD k (length a) 0 ≡ 46 → ⊥) → false ≡ same k (a ++ (46 ∷ b))
@@ -116,7 +106,7 @@ tagged-both [] b [] d h k = refl
 tagged-both [] b (x ∷ c) d h k = rw (undotted-first x c k .0)
 tagged-both (y ∷ a) b [] d h k = rw (undotted-first y a h .1)
 tagged-both (y ∷ a) b (x ∷ c) d h k =
-    rw (tagged-both a b c d (undotted-first y a h .2) (undotted-first x c k .2)) (and-assoc (eqb y x) (same a c) (same b d))
+    rw (tagged-both a b c d (undotted-first y a h .2) (undotted-first x c k .2)) (sym (and-assoc (eqb y x) (same a c) (same b d)))
 
 -- ---- the key of an entry
 
@@ -233,10 +223,6 @@ module _ (s t : Bytes) (n i j : ℕ) (k : EntryIn s t n i) (l : EntryIn s t n j)
             go (suc c) (suc d) b x y = refl
 
 -- ---- the last record of a key
-
-pub last-append : (k : Bytes) (d : Recorded) (xs ys : List Recorded) → lastOf k d (xs ++ ys) ≡ lastOf k (lastOf k d xs) ys
-last-append k d [] ys = refl
-last-append k d (x ∷ xs) ys = last-append k (cond (same k (x .key)) x d) xs ys
 
 -- the first i records hold the last of key k
 abbrev pub Deciding : Bytes → Bytes → ℕ → Type 0

@@ -11,9 +11,9 @@ use borrow.Author.Tests.{eqb-true, eqb-false}
 use Rattle.semantics.specs.Text.{Bytes}
 use Rattle.semantics.specs.Tree.{AdtDecl, Case, Declares, noCase}
 use Rattle.semantics.specs.Form.{forms, letter}
-use Rattle.semantics.specs.Sheet.{Source, concatMap}
+use Rattle.semantics.specs.Sheet.{Source}
 use Rattle.semantics.specs.Layout.{Recorded, recordsOf, recordedAdts, recordLog}
-use Rattle.laws.proofs.Lists.{map-append}
+use Rattle.laws.proofs.Lists.{map-append, concat-append}
 use Rattle.write.specs.Wrote.{Wrote}
 use Rattle.write.proofs.Wrote.{wrote-none, then, wrote-as}
 use Rattle.form.specs.Table.{kindAt}
@@ -126,10 +126,6 @@ entries-next s d r e b f q v w =
     let z : r + 1 ≡ suc r = omega arith in
     let y : suc r - 1 ≡ r = omega arith in
     rw z (wrote-as (rw (z, y) (sym (log-append (entriesTo (nodesIn s) r) (lineEntries (suc r) (declaresAt (nodesIn s) r .adts))))) (then v w))
-
-pub concat-append : {A B : Type 0} (g : A → List B) (l m : List A) → concatMap g (l ++ m) ≡ concatMap g l ++ concatMap g m
-concat-append g [] m = refl
-concat-append g (x ∷ l) m = rw (concat-append g l m) (sym (append-assoc (g x) (concatMap g l) (concatMap g m)))
 
 module _ (s t : Bytes) (n : ℕ) (c : Checked s t n) where
   -- by the form of line i, from 0

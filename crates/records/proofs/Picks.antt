@@ -12,22 +12,23 @@ use lib.Seq.{getD-drop, drop-drop}
 use borrow.Author.Tests.{eqb-true, ne-eqb}
 use Rattle.semantics.specs.Text.{isName}
 use Rattle.semantics.specs.Tree.{AdtDecl, Case, Node, Declares, noCase}
-use Rattle.semantics.specs.Form.{Part, letter, forms, values, numberOf, fits, isCount, fdsOf, casesOf}
+use Rattle.semantics.specs.Form.{Part, letter, forms, values, numberOf, fits, fdsOf, casesOf}
 use Rattle.semantics.specs.Form.Kind.{kFd, kPc}
 use Rattle.semantics.specs.Form.Atom.{name, ref}
-use Rattle.semantics.specs.Form.Part.{one, many}
+use Rattle.semantics.specs.Form.Part.{one}
 use Rattle.decimal.specs.Number as Number
 use Rattle.form.specs.Table.{kindAt, rowNode}
 use Rattle.form.proofs.Table.{never, both}
 use Rattle.lines.specs.Lines.{readAt, nodesIn, formAt}
 use Rattle.lines.proofs.Line.{form-low, kind-is, read-fits}
 use Rattle.refs.proofs.Nodes.{node-at}
-use Rattle.refs.proofs.Fields.{count-exact, first-count, head-drop, tail-drop, values-length}
+use Rattle.refs.proofs.Fields.{count-exact, head-drop, tail-drop, values-length}
 use Rattle.checks.specs.Checks.{Checked}
 use Rattle.source.specs.Walk.{declaresAt, byKind}
 use Rattle.source.proofs.Declares.{line-declares}
 use Rattle.sizes.specs.Places.{RecordLine, CaseLine}
-use Rattle.sizes.proofs.Forms.{case-form, adt-form, pick-form}
+use Rattle.sizes.proofs.Forms.{adt-form, pick-form}
+use Rattle.sizes.proofs.Places.{case-in, form-pc, case-good}
 use Rattle.records.specs.Log.{declAt, casesIn, caseIn}
 use Rattle.records.specs.Lines.{caseOf}
 use Rattle.shapes.specs.Shapes as Shapes
@@ -145,28 +146,18 @@ case-is {s} {t} {n} {r} {c} x = x .case ∙ ap (λ (ks : List Case). getD ks c n
 -- ---- the tags of a case
 
 module _ (s t : List ℕ) (n v : ℕ) (l : CaseLine s t n v) where
-  pub case-in : v - 1 < n
-  case-in = omega (arith, l .first, l .last)
-
-  form-pc : formAt t (v - 1) ≡ 25
-  form-pc = case-form (formAt t (v - 1)) (form-low s t n (l .checked .whole) (v - 1) case-in) (sym (kind-is s t n (l .checked .whole) (v - 1) case-in) ∙ l .kind)
-
-  tags-fit : isCount (getD (readAt s (v - 1) .fields) 0 []) ≡ true
-  unfolding forms
-  tags-fit = first-count name (many (ref kFd) ∷ []) (readAt s (v - 1) .fields) (rw form-pc at (read-fits s t n (l .checked .whole) (v - 1) case-in))
-
   tags-are : caseOf s v .tags ≡ values name (nodesIn s) (numberOf (getD (readAt s (v - 1) .fields) 0 [])) (drop 1 (readAt s (v - 1) .fields))
   unfolding forms caseOf
   tags-are =
-      ap (λ (m : Node). m .case .tags) (node-at s t n (l .checked .whole) (l .checked .good) (v - 1) case-in)
-      ∙ rw (form-pc, head-drop 0 (readAt s (v - 1) .fields), tail-drop 0 (readAt s (v - 1) .fields))
+      ap (λ (m : Node). m .case .tags) (node-at s t n (l .checked .whole) (l .checked .good) (v - 1) (case-in s t n v l))
+      ∙ rw (form-pc s t n v l, head-drop 0 (readAt s (v - 1) .fields), tail-drop 0 (readAt s (v - 1) .fields))
 
   tags-number : length (caseOf s v .tags) ≡ numberOf (getD (readAt s (v - 1) .fields) 0 [])
   tags-number = ap length tags-are ∙ values-length name (nodesIn s) _ _
 
   pub tags-count : (k : ℕ) → k ≡ Number.numberOf 65536 (getD (readAt s (v - 1) .fields) 0 []) → (k ≡ length (caseOf s v .tags)) × (k ≤ 16)
   tags-count k h =
-      let q = count-exact (getD (readAt s (v - 1) .fields) 0 []) tags-fit h in
+      let q = count-exact (getD (readAt s (v - 1) .fields) 0 []) (case-good s t n v l .0) h in
       (omega (arith, q .0, tags-number), q .1)
 
   pub tags-few : length (caseOf s v .tags) ≤ 16

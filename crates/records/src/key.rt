@@ -1,6 +1,7 @@
 // The entries of the log, and their keys: T, or T.tag.
 use crate::RECORDS;
 use crate::line;
+use words::wide;
 ghost use mathlib.Core.Path.{_≡_};
 ghost use mathlib.Core.Bool.{not};
 ghost use mathlib.Core.List.{_++_, _∷_};
@@ -12,12 +13,6 @@ ghost use Rattle.words.specs.Words.{digest};
 ghost use Rattle.records.specs.Log.{byteOf, entryAt, recordedAt, nameOf, tagOf, digestOf, logOf, EntryIn, Logged, Newest, NewestOf};
 
 const DOT: u8 = 46;
-
-fn wide(x: u8) -> usize
-    ensures { λ r. ⌜ (r ≡ x) × (r < 256) ⌝ }
-{
-    x as usize
-}
 
 fn byte_at(work: &[u8], i: usize, k: usize) -> usize
     requires { ⌜ (i < 128) × (k < 8) × (65536 ≤ length (now work)) ⌝ }

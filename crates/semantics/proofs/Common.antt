@@ -1,8 +1,11 @@
 -- Laws for crates that have no other crate in common.
-use Prim.Native.Nat.{ℕ, zero, suc}
+use Prim.Native.Nat.{ℕ, zero, suc, _≤_}
 use mathlib.Core.Path.{_≡_, refl}
-use mathlib.Core.Bool.{Bool, true, false, _&&_, false≢true}
-use lib.ListN.{getD, replicate}
+use mathlib.Core.Bool.{Bool, true, false, cond, _&&_, false≢true}
+use mathlib.Core.List.{List, [], _∷_}
+use native.Mathlib.Omega.{arith}
+use lib.ListN.{length, getD, replicate}
+use Rattle.semantics.specs.Text.{filter}
 
 pub never : {A : Type 0} → false ≡ true → A
 never h = absurd (false≢true h)
@@ -16,3 +19,11 @@ pub zeros-at : (n j : ℕ) → getD {A = ℕ} (replicate n 0) j 0 ≡ 0
 zeros-at zero j = refl
 zeros-at (suc n) zero = refl
 zeros-at (suc n) (suc j) = zeros-at n j
+
+pub filter-less : {A : Type 0} (p : A → Bool) (xs : List A) → length (filter p xs) ≤ length xs
+filter-less p [] = omega arith
+filter-less p (x ∷ xs) = go (p x) (filter-less p xs)
+  where
+    go : (b : Bool) → length (filter p xs) ≤ length xs → length (cond b (x ∷ filter p xs) (filter p xs)) ≤ suc (length xs)
+    go true h = omega arith
+    go false h = omega arith

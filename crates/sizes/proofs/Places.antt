@@ -83,11 +83,11 @@ module _ (s t : List ℕ) (n r : ℕ) (l : FieldLine s t n r) where
       let v = maybe-head (readsIn s) (r - 1) kTy (many name ∷ []) (readAt s (r - 1) .fields) (rw form-fd at (read-fits s t n w (r - 1) field-in)) (rw p at (l .checked .fine (r - 1) field-in)) in
       (v .0, rw (getD-drop 1 (readAt s (r - 1) .fields) 0 []) at (first-count name [] (drop 1 (readAt s (r - 1) .fields)) (v .1)))
 
-  fd-is : fieldAt s r ≡ record { ty = tyOf (perhapsAt (nodesIn s) (numberOf (getD (readAt s (r - 1) .fields) 0 []))); names = values name (nodesIn s) (numberOf (getD (readAt s (r - 1) .fields) 1 [])) (tailParts (tailParts (readAt s (r - 1) .fields))) }
+  pub fd-is : fieldAt s r ≡ record { ty = tyOf (perhapsAt (nodesIn s) (numberOf (getD (readAt s (r - 1) .fields) 0 []))); names = values name (nodesIn s) (numberOf (getD (readAt s (r - 1) .fields) 1 [])) (drop 2 (readAt s (r - 1) .fields)) }
   unfolding forms
   fd-is =
       ap (λ (m : Node). m .fd) (node-at s t n (l .checked .whole) (l .checked .good) (r - 1) field-in)
-      ∙ rw (form-fd, tail-drop 0 (readAt s (r - 1) .fields), head-drop 0 (readAt s (r - 1) .fields), head-drop 1 (readAt s (r - 1) .fields))
+      ∙ rw (form-fd, tail-drop 0 (readAt s (r - 1) .fields), tail-drop 1 (readAt s (r - 1) .fields), head-drop 0 (readAt s (r - 1) .fields), head-drop 1 (readAt s (r - 1) .fields))
 
   module _ (v : ℕ) (hv : v ≡ Number.numberOf 65536 (getD (readAt s (r - 1) .fields) 0 [])) where
     type-number : v ≡ numberOf (getD (readAt s (r - 1) .fields) 0 [])
@@ -280,13 +280,13 @@ module _ (ls : List Read) (i : ℕ) (ps : List Part) where
       (w .0, v .0, v .1)
 
 module _ (s t : List ℕ) (n r : ℕ) (l : CaseLine s t n r) where
-  case-in : r - 1 < n
+  pub case-in : r - 1 < n
   case-in = omega (arith, l .first, l .last)
 
-  form-pc : formAt t (r - 1) ≡ 25
+  pub form-pc : formAt t (r - 1) ≡ 25
   form-pc = case-form (formAt t (r - 1)) (form-low s t n (l .checked .whole) (r - 1) case-in) (sym (kind-is s t n (l .checked .whole) (r - 1) case-in) ∙ l .kind)
 
-  case-good : (isCount (getD (readAt s (r - 1) .fields) 0 []) ≡ true) × (fits (many (ref kFd) ∷ []) (drop (suc (numberOf (getD (readAt s (r - 1) .fields) 0 []))) (readAt s (r - 1) .fields)) ≡ true)
+  pub case-good : (isCount (getD (readAt s (r - 1) .fields) 0 []) ≡ true) × (fits (many (ref kFd) ∷ []) (drop (suc (numberOf (getD (readAt s (r - 1) .fields) 0 []))) (readAt s (r - 1) .fields)) ≡ true)
       × (fineRefs (readsIn s) (r - 1) (refsIn (many (ref kFd) ∷ []) (drop (suc (numberOf (getD (readAt s (r - 1) .fields) 0 []))) (readAt s (r - 1) .fields))) ≡ true)
   unfolding forms
   case-good =

@@ -13,6 +13,7 @@ use Rattle.semantics.specs.Sheet.{Module, Located, Source}
 use Rattle.semantics.specs.Fold.{Result, Const, plain, qualified, fold}
 use Rattle.semantics.specs.Fold.Result.{ok, failed, refuse}
 use Rattle.semantics.specs.Const.{IotaCounter, newCounter, sameGroup, iotaAt, iotaNext, Folding, implements, entries, entered, pass, standsIn, modulePasses, topLevel, passesOf, passesFrom, constants}
+use Rattle.semantics.proofs.Common.{filter-less}
 use Rattle.demand.proofs.Lines.{Each, each-join}
 use Rattle.stored.proofs.Items.{Fits64}
 use Rattle.stored.proofs.Others.{each-filter}
@@ -87,16 +88,8 @@ passes-limited impl (p ∷ ps) log h e =
     go true g k = k
     go false g k = g
 
-filter-few : {A : Type 0} (f : A → Bool) (xs : List A) → length (filter f xs) ≤ length xs
-filter-few f [] = omega arith
-filter-few f (x ∷ xs) = go (f x) (filter-few f xs)
-  where
-    go : (b : Bool) → length (filter f xs) ≤ length xs → length (cond b (x ∷ filter f xs) (filter f xs)) ≤ suc (length xs)
-    go true h = omega arith
-    go false h = omega arith
-
 filtered : (f : Located ConstDecl → Bool) (cs : List (Located ConstDecl)) → FewLimited cs → FewLimited (filter f cs)
-filtered f cs h = (omega (arith, filter-few f cs, h .0), each-filter LimitedValue f cs (h .1))
+filtered f cs h = (omega (arith, filter-less f cs, h .0), each-filter LimitedValue f cs (h .1))
 
 modules-limited : (cs : List (Located ConstDecl)) (ms : List Module) → FewLimited cs → Each FewLimited (map (λ (m : Module). filter (standsIn m) cs) ms)
 modules-limited cs [] h = tt

@@ -2,7 +2,7 @@
 use Prim.Native.Nat.{ℕ, suc, _+_, _-_, _*_, _≤_, _<_, max}
 use native.Mathlib.Omega.{arith}
 use mathlib.Core.Path.{_≡_, refl, sym, ap, _∙_, subst}
-use mathlib.Core.Bool.{Bool, true, false, _||_, cond}
+use mathlib.Core.Bool.{Bool, true, false, _||_, cond, or-true}
 use mathlib.Core.List.{List, [], _∷_, map}
 use mathlib.Core.Option.{Option, none, some}
 use lib.ListN.{length, getD, replicate, length-append, length-replicate}
@@ -107,14 +107,10 @@ pub lay-none : (xs : List Stored) → layAll xs none ≡ none
 lay-none [] = refl
 lay-none (x ∷ xs) = lay-none xs
 
-or-right : (a : Bool) → a || true ≡ true
-or-right true = refl
-or-right false = refl
-
 image-short : (xs : List Stored) (r : Replay) (e image area : ℕ) → image < length (r .image) → Ending (replayStored xs r) e image area (layAll xs none)
 image-short xs r e image area h =
     let g = image-grows xs r in
-    rw (lay-none xs) (rw (lt-ltb image (length (replayStored xs r .image)) (omega arith)) (or-right (ltb area e)))
+    rw (lay-none xs) (rw (lt-ltb image (length (replayStored xs r .image)) (omega arith)) (or-true (ltb area e)))
 
 area-short : (xs : List Stored) (r : Replay) (e e₁ image area : ℕ) → area < e → e ≤ e₁ → Ending (replayStored xs r) e₁ image area (layAll xs none)
 area-short xs r e e₁ image area h g = rw (lay-none xs) (rw (lt-ltb area e₁ (omega arith)))

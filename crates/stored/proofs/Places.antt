@@ -21,7 +21,7 @@ use Rattle.semantics.specs.Global.Init.{noInit, constInit, arrayInit, pendingIn
 use Rattle.semantics.specs.Image.{wordBytes, bigBytes, realBytes, elemSize}
 use Rattle.laws.proofs.Tests.{never}
 use Rattle.demand.proofs.Elements.{Sized}
-use Rattle.demand.proofs.Replay.{AllSized, real-long}
+use Rattle.demand.proofs.Replay.{AllSized, real-long, size-le}
 use Rattle.demand.proofs.Theorem.{vars-sized}
 use Rattle.stored.specs.Stored.{storedOf}
 use Rattle.stored.specs.Laying.{InPlace}
@@ -67,13 +67,6 @@ module _ (js : List Item) (out : Outside js) (p n : ℕ) where
   elements-in kBig vs h = (λ e. omega (arith, length-map vs constBig, concat-long bigBytes 8 big-long (map constBig vs)), out p n)
   elements-in kReal vs h = (λ e. omega (arith, length-map vs constReal, concat-long realBytes 8 real-long (map constReal vs)), out p n)
   elements-in kPtr vs h = strings-in 0 vs (omega arith)
-
-size-le : (k : ElemKind) (m n : ℕ) → m ≤ n → elemSize k * m ≤ elemSize k * n
-size-le kByte m n h = omega arith
-size-le kWord m n h = omega arith
-size-le kBig m n h = omega arith
-size-le kReal m n h = omega arith
-size-le kPtr m n h = omega arith
 
 -- ---- first values
 

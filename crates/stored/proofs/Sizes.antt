@@ -2,7 +2,7 @@
 use Prim.Native.Nat.{ℕ, suc, _+_, _≤_, _<_, min}
 use native.Mathlib.Omega.{arith}
 use mathlib.Core.Path.{_≡_, refl, ap, _∙_}
-use mathlib.Core.Bool.{Bool, true, false, _||_, cond}
+use mathlib.Core.Bool.{Bool, true, false, _||_, cond, or-true}
 use mathlib.Core.List.{List, [], _∷_, _++_, map}
 use lib.ListN.{length, getD, length-append, length-map}
 use lib.Seq.{getD-append-add}
@@ -70,10 +70,6 @@ module _ (k : ElemKind) where
   -- whether it is among keys
   abbrev among : List TypeKey → Bool
   among ks = any (sameTypeKey (elemKey k)) ks
-
-  or-true : (a : Bool) → a || true ≡ true
-  or-true true = refl
-  or-true false = refl
 
   among-behind : (js ks : List TypeKey) → among ks ≡ true → among (js ++ ks) ≡ true
   among-behind [] ks h = h
@@ -228,7 +224,7 @@ module _ (s : Source) (cs : List Const) (g : Globals) (plain : PlainNames s cs g
   readable-from (valuesItem o vs ∷ is) f h = (h .0, readable-from is f (h .1))
   readable-from (strItem o t ∷ is) f h = (tt, readable-from is f (h .1))
   readable-from (arrayItem o k n ∷ is) f h =
-      (size-known k (f k (rw (itself k))), readable-from is (λ l e. f l (rw e (or-true l (sameTypeKey (elemKey l) (elemKey k))))) (h .1))
+      (size-known k (f k (rw (itself k))), readable-from is (λ l e. f l (rw e (or-true (sameTypeKey (elemKey l) (elemKey k))))) (h .1))
   readable-from (setItem o ∷ is) f h = (tt, readable-from is f (h .1))
   readable-from (backItem ∷ is) f h = (tt, readable-from is f (h .1))
 

@@ -1,6 +1,7 @@
 use Prim.Native.Nat.{suc, _-_, _≤_, _<_}
 use native.Mathlib.Omega.{arith}
-use Rattle.records.proofs.Keys.{Deciding, deciding-start, deciding-next, deciding-found, same-refl}
+use Rattle.records.proofs.Keys.{Deciding, deciding-start, deciding-next, deciding-found}
+use Rattle.laws.proofs.Tests.{same-refl}
 use Rattle.records.specs.Log.{recordedAt}
 use denote.Ref.{now}
 use mathlib.Core.Path.{_≡_, refl}
