@@ -38,9 +38,12 @@ sizeResult Size.Failed = failed
 sizeResult Size.TooLong = refuse 8
 
 -- a literal has at most 1,024 values, and their strings stand on the stack
+abbrev pub ValuesStand : Bytes → ℕ → Type 0
+ValuesStand t n = (n ≤ 1024) × ((i : ℕ) → i < n → Standing (above 16) (slotAt t (entryAt t i)))
+
 abbrev pub Stands : Bytes → Arrayed → Type 0
 Stands t (Alloc k n) = Unit {0}
-Stands t (Literal k n) = (n ≤ 1024) × ((i : ℕ) → i < n → Standing (above 16) (slotAt t (entryAt t i)))
+Stands t (Literal k n) = ValuesStand t n
 Stands t Pending = Unit {0}
 Stands t (Refused r) = Unit {0}
 

@@ -1,5 +1,5 @@
 -- First values of `var` lines, as the code answers them.
-use Prim.Native.Nat.{ℕ, _-_, _≤_, _<_}
+use Prim.Native.Nat.{ℕ, _-_}
 use mathlib.Core.Path.{_≡_}
 use mathlib.Core.List.{[]}
 use mathlib.Core.Option.{Option, none, some}
@@ -13,9 +13,9 @@ use Rattle.lines.specs.Lines.{readAt, nodesIn}
 use Rattle.source.specs.Walk.{varOf}
 use Rattle.values.specs.declared.ConstVal.{ConstVal}
 use Rattle.values.specs.Values.{valueIn, At}
-use Rattle.placements.specs.Placements.{entryAt, slotAt, valuesIn, Keeps, Standing}
-use Rattle.literals.specs.Literals.{Line, above}
-use Rattle.arrays.specs.Arrays.{kindAt}
+use Rattle.placements.specs.Placements.{valuesIn, Keeps}
+use Rattle.literals.specs.Literals.{Line}
+use Rattle.arrays.specs.Arrays.{kindAt, ValuesStand}
 use Rattle.vars.specs.declared.First.{First}
 use Rattle.vars.specs.declared.First.the-variants.{NoValue, Value, Alloc, Literal, Pending, Refused}
 
@@ -30,12 +30,12 @@ initIn t (Literal k n) = ok (arrayInit (record { kind = kindAt k; count = n; val
 initIn t Pending = ok pendingInit
 initIn t (Refused r) = refuse r
 
--- where the strings of a value stand; a literal has at most 1,024 values
+-- where the strings of a value stand
 abbrev pub Stands : Bytes → First → Type 0
 Stands t NoValue = Unit {0}
 Stands t (Value v) = At 49152 v
 Stands t (Alloc k n) = Unit {0}
-Stands t (Literal k n) = (n ≤ 1024) × ((i : ℕ) → i < n → Standing (above 16) (slotAt t (entryAt t i)))
+Stands t (Literal k n) = ValuesStand t n
 Stands t Pending = Unit {0}
 Stands t (Refused r) = Unit {0}
 
