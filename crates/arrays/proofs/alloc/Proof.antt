@@ -4,9 +4,6 @@ use borrow.Author.Needs.{needs}
 use Rattle.arrays.proofs.alloc.Statement.{statement}
 use Rattle.arrays.proofs.alloc.Tie as tie
 
-alloc-kind-requires : tie.Need-alloc-kind-requires
-alloc-kind-requires c κs = search needs
-
 sub-number-at : tie.Need-sub-number-at
 sub-number-at c = c .before .before .before .before .before .pre .array .line .first
 
@@ -16,14 +13,10 @@ number-at-requires c κs = (c .before .before .before .before .before .pre .arra
 fold-const-requires : tie.Need-fold-const-requires
 fold-const-requires c κs = length-foldable (c .before .before .before .before .before .before .before .pre) (c .before .number-at .ensures .0)
 
-allocated-requires : tie.Need-allocated-requires
-allocated-requires c κs = search needs
-
-same-length : tie.Need-same-length
-same-length c = search needs
-
 returns : tie.Need-returns
 returns c = alloc-answers (c .before .before .before .before .before .before .before .before .before .before .before .pre) (c .before .before .before .before .before .number-at .ensures .0) (c .before .before .before .before .before .before .before .alloc-kind .ensures) (c .before .before .before .fold-const .ensures) (c .allocated .result) (c .allocated .ensures _ .0) (c .allocated .ensures _ .1)
 
 pub alloc-spec : {M : Type 1} → statement M
-alloc-spec = tie.close (tie.spec alloc-kind-requires sub-number-at number-at-requires fold-const-requires allocated-requires same-length returns)
+alloc-spec =
+    tie.close (tie.spec (λ c κs. search needs) sub-number-at number-at-requires fold-const-requires (λ c κs. search needs) (λ c. search needs)
+    returns)

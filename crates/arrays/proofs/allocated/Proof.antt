@@ -6,26 +6,8 @@ use borrow.Author.Needs.{needs}
 use Rattle.arrays.proofs.allocated.Statement.{statement}
 use Rattle.arrays.proofs.allocated.Tie as tie
 
-enum-known-x : tie.Need-enum-known-x
-enum-known-x c = search needs
-
-enum-known-v : tie.Need-enum-known-v
-enum-known-v c = search needs
-
-allocated-int-requires : tie.Need-allocated-int-requires
-allocated-int-requires c κs = search needs
-
 enum-told : tie.Need-enum-told
 enum-told c = search needs
-
-enum-told-2 : tie.Need-enum-told-2
-enum-told-2 c = search needs
-
-enum-told-3 : tie.Need-enum-told-3
-enum-told-3 c = search needs
-
-enum-told-4 : tie.Need-enum-told-4
-enum-told-4 c = search needs
 
 returns : tie.Need-returns
 returns c = λ t. (alloc-int t (kindAt (c .before .before .before .before .before .before .before .args .kind)) (c .before .before .before .before .before .x .given .1) (c .before .before .v .given .1) (record { sfits = c .before .known-told2 .given .0 .1 }) (c .allocated-int .result) (c .allocated-int .ensures t .0), c .allocated-int .ensures t .1)
@@ -44,5 +26,5 @@ returns-5 c = λ t. (long-value t (Array.allocated (kindAt (c .before .before .a
 
 pub allocated-spec : {M : Type 1} → statement M
 allocated-spec =
-    tie.close (tie.spec enum-known-x enum-known-v allocated-int-requires enum-told enum-told-2 enum-told-3 enum-told-4 returns returns-2 returns-3
-    returns-4 returns-5)
+    tie.close (tie.spec (λ c. search needs) (λ c. search needs) (λ c κs. search needs) enum-told (λ c. search needs) (λ c. search needs)
+    (λ c. search needs) returns returns-2 returns-3 returns-4 returns-5)

@@ -5,12 +5,6 @@ use borrow.Author.Needs.{needs}
 use Rattle.arrays.proofs.as_size.Statement.{statement}
 use Rattle.arrays.proofs.as_size.Tie as tie
 
-enum-known-x : tie.Need-enum-known-x
-enum-known-x c = search needs
-
-enum-known-v : tie.Need-enum-known-v
-enum-known-v c = search needs
-
 returns : tie.Need-returns
 returns c = λ t. size-negative t (c .before .before .before .before .before .x .given .1) (c .before .before .v .given .1) (record { sfits = c .before .known-told2 .given .0 .1 }) (c .if1 .taken)
 
@@ -19,15 +13,6 @@ cast-t7 c = size-fits {z = c .before .before .v .given .0 .0} (record { sfits = 
 
 enum-told : tie.Need-enum-told
 enum-told c = search needs
-
-enum-told-2 : tie.Need-enum-told-2
-enum-told-2 c = search needs
-
-enum-told-3 : tie.Need-enum-told-3
-enum-told-3 c = search needs
-
-enum-told-4 : tie.Need-enum-told-4
-enum-told-4 c = search needs
 
 returns-2 : tie.Need-returns-2
 returns-2 c = λ t. size-whole t (c .before .before .before .before .before .x .given .1) (c .before .before .v .given .1) (record { sfits = c .before .known-told2 .given .0 .1 }) (c .if1 .left)
@@ -46,5 +31,5 @@ returns-6 c = λ t. long-value t asSize (c .enum-told4 .given .1)
 
 pub as-size-spec : {M : Type 1} → statement M
 as-size-spec =
-    tie.close (tie.spec enum-known-x enum-known-v returns cast-t7 enum-told enum-told-2 enum-told-3 enum-told-4 returns-2 returns-3 returns-4
-    returns-5 returns-6)
+    tie.close (tie.spec (λ c. search needs) (λ c. search needs) returns cast-t7 enum-told (λ c. search needs) (λ c. search needs) (λ c. search needs)
+    returns-2 returns-3 returns-4 returns-5 returns-6)

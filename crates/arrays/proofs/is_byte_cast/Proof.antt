@@ -4,12 +4,6 @@ use borrow.Author.Needs.{needs}
 use Rattle.arrays.proofs.is_byte_cast.Statement.{statement}
 use Rattle.arrays.proofs.is_byte_cast.Tie as tie
 
-sub-form-at : tie.Need-sub-form-at
-sub-form-at c = search needs
-
-form-at-requires : tie.Need-form-at-requires
-form-at-requires c κs = search needs
-
 returns : tie.Need-returns
 returns c = cast-not (c .before .before .before .before .pre) (c .before .form-at .ensures) (c .if1 .taken)
 
@@ -26,4 +20,5 @@ returns-2 : tie.Need-returns-2
 returns-2 c = cast-is (c .before .before .before .before .before .before .pre) (c .before .before .before .form-at .ensures) (c .before .before .if1 .left) (c .before .number-at .ensures .0) (c .elem-kind .ensures .0)
 
 pub is-byte-cast-spec : {M : Type 1} → statement M
-is-byte-cast-spec = tie.close (tie.spec sub-form-at form-at-requires returns sub-number-at number-at-requires elem-kind-requires returns-2)
+is-byte-cast-spec =
+    tie.close (tie.spec (λ c. search needs) (λ c κs. search needs) returns sub-number-at number-at-requires elem-kind-requires returns-2)

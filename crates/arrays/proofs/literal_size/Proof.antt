@@ -13,24 +13,16 @@ sub-number-at c = c .before .before .before .pre .line .first
 number-at-requires : tie.Need-number-at-requires
 number-at-requires c κs = (c .before .before .before .pre .line .checked .whole, line-in (c .before .before .before .pre .line))
 
-same-length : tie.Need-same-length
-same-length c = search needs
-
 returns : tie.Need-returns
 returns c = (size-none (c .before .before .before .before .before .pre) (c .before .number-at .ensures .0) (namesIn (now (c .before .before .before .before .before .args .sheet)) (now (c .before .before .before .before .before .args .work)) (c .before .before .before .before .before .args .m)) (c .if1 .taken), kept-all)
 
 fold-const-requires : tie.Need-fold-const-requires
 fold-const-requires c κs = size-foldable (c .before .before .before .before .before .before .pre) (c .before .before .number-at .ensures .0) (c .before .if1 .left)
 
-as-size-requires : tie.Need-as-size-requires
-as-size-requires c κs = search needs
-
-same-length-2 : tie.Need-same-length-2
-same-length-2 c = search needs
-
 returns-2 : tie.Need-returns-2
 returns-2 c = (λ f e. size-given (c .before .before .before .before .before .before .before .before .before .before .pre) (c .before .before .before .before .before .before .number-at .ensures .0) (c .before .before .before .before .before .if1 .left) (c .before .before .before .fold-const .ensures) (c .as-size .result) (c .as-size .ensures _) f, c .before .before .before .fold-const .ensures .kept)
 
 pub literal-size-spec : {M : Type 1} → statement M
 literal-size-spec =
-    tie.close (tie.spec sub-number-at number-at-requires same-length returns fold-const-requires as-size-requires same-length-2 returns-2)
+    tie.close (tie.spec sub-number-at number-at-requires (λ c. search needs) returns fold-const-requires (λ c κs. search needs) (λ c. search needs)
+    returns-2)

@@ -6,37 +6,22 @@ use Rattle.arrays.proofs.sized.Tie as tie
 literal-size-requires : tie.Need-literal-size-requires
 literal-size-requires c κs = c .before .before .before .pre .literal
 
-enum-known-size : tie.Need-enum-known-size
-enum-known-size c = search needs
-
 measured-requires : tie.Need-measured-requires
 measured-requires c κs = lit-kept (size-keeps (c .before .before .before .before .before .before .literal-size .ensures .1)) (c .before .before .before .before .before .before .before .before .before .before .pre)
 
 enum-told : tie.Need-enum-told
 enum-told c = search needs
 
-enum-told-2 : tie.Need-enum-told-2
-enum-told-2 c = search needs
-
-same-length : tie.Need-same-length
-same-length c = search needs
-
 returns : tie.Need-returns
 returns c = sized-well (c .before .before .before .before .before .before .before .before .before .before .before .pre) (c .before .before .before .before .before .before .before .literal-size .ensures .1) (c .before .before .before .before .before .before .before .literal-size .result) (c .before .before .before .before .before .before .before .literal-size .ensures .0) (c .before .before .before .size .given .1) (c .measured .result) (c .measured .ensures)
 
-same-length-2 : tie.Need-same-length-2
-same-length-2 c = search needs
-
 returns-2 : tie.Need-returns-2
 returns-2 c = sized-failed (c .before .before .before .before .before .before .before .before .pre) (c .before .before .before .before .literal-size .ensures .1) (c .before .before .before .before .literal-size .result) (c .before .before .before .before .literal-size .ensures .0) (c .enum-told .given .1)
-
-same-length-3 : tie.Need-same-length-3
-same-length-3 c = search needs
 
 returns-3 : tie.Need-returns-3
 returns-3 c = sized-long (c .before .before .before .before .before .before .before .before .pre) (c .before .before .before .before .literal-size .ensures .1) (c .before .before .before .before .literal-size .result) (c .before .before .before .before .literal-size .ensures .0) (c .enum-told2 .given .1)
 
 pub sized-spec : {M : Type 1} → statement M
 sized-spec =
-    tie.close (tie.spec literal-size-requires enum-known-size measured-requires enum-told enum-told-2 same-length returns same-length-2 returns-2
-    same-length-3 returns-3)
+    tie.close (tie.spec literal-size-requires (λ c. search needs) measured-requires enum-told (λ c. search needs) (λ c. search needs) returns
+    (λ c. search needs) returns-2 (λ c. search needs) returns-3)

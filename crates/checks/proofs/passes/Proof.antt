@@ -5,29 +5,16 @@ use borrow.Author.Needs.{needs}
 use Rattle.checks.proofs.passes.Statement.{statement}
 use Rattle.checks.proofs.passes.Tie as tie
 
-index-requires : tie.Need-index-requires
-index-requires c κs = search needs
-
-enum-known-k : tie.Need-enum-known-k
-enum-known-k c = search needs
-
-enum-known-n : tie.Need-enum-known-n
-enum-known-n c = search needs
-
 rules-requires : tie.Need-rules-requires
 rules-requires c κs = let p = passed-lines (now (c .before .before .before .before .before .before .before .before .before .before .args .sheet)) (c .before .before .before .before .before .before .index .last .1 .0) (c .before .before .before .before .before .before .index .result) (c .before .before .n .given .0 .0) (c .before .before .n .given .1) (c .before .before .before .before .before .before .index .ensures .0) in (p .0, unused (now (c .before .before .before .before .before .before .before .before .before .before .args .work)) (c .before .before .before .before .before .before .index .last .1 .0) (c .before .before .before .before .before .before .before .before .before .before .pre .2) (c .before .before .before .before .before .before .index .ensures .1))
 
-same-length : tie.Need-same-length
-same-length c = search needs
-
 returns : tie.Need-returns
 returns c = (formless (now (c .before .before .before .before .before .before .before .before .before .args .sheet)) (c .before .k .given .0 .0) (passed-none (now (c .before .before .before .before .before .before .before .before .before .args .sheet)) (c .before .before .before .before .before .index .last .1 .0) (c .before .before .before .before .before .index .result) (c .before .k .given .0 .0) (c .before .k .given .1) (c .before .before .before .before .before .index .ensures .0)), tt)
-
-same-length-2 : tie.Need-same-length-2
-same-length-2 c = search needs
 
 returns-2 : tie.Need-returns-2
 returns-2 c = let p = passed-lines (now (c .before .before .before .before .before .before .before .before .before .before .before .before .before .args .sheet)) (c .before .before .before .before .before .before .before .before .before .index .last .1 .0) (c .before .before .before .before .before .before .before .before .before .index .result) (c .before .before .before .before .before .n .given .0 .0) (c .before .before .before .before .before .n .given .1) (c .before .before .before .before .before .before .before .before .before .index .ensures .0) in (formed-well (now (c .before .before .before .before .before .before .before .before .before .before .before .before .before .args .sheet)) (c .before .before .rules .result) (p .1) (c .before .before .rules .ensures .0), c .before .before .rules .ensures .1)
 
 pub passes-spec : {M : Type 1} → statement M
-passes-spec = tie.close (tie.spec index-requires enum-known-k enum-known-n rules-requires same-length returns same-length-2 returns-2)
+passes-spec =
+    tie.close (tie.spec (λ c κs. search needs) (λ c. search needs) (λ c. search needs) rules-requires (λ c. search needs) returns (λ c. search needs)
+    returns-2)

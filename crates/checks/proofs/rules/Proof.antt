@@ -5,49 +5,22 @@ use borrow.Author.Needs.{needs}
 use Rattle.checks.proofs.rules.Statement.{statement}
 use Rattle.checks.proofs.rules.Tie as tie
 
-bad-ref-requires : tie.Need-bad-ref-requires
-bad-ref-requires c κs = search needs
-
-same-length : tie.Need-same-length
-same-length c = search needs
-
 returns : tie.Need-returns
 returns c = (ruled-4 (now (c .before .before .before .before .before .before .before .args .sheet)) (c .before .before .before .bad-ref .ensures .1) (c .if1 .taken), tt)
-
-too-deep-requires : tie.Need-too-deep-requires
-too-deep-requires c κs = search needs
-
-same-length-2 : tie.Need-same-length-2
-same-length-2 c = search needs
 
 returns-2 : tie.Need-returns-2
 returns-2 c = (ruled-5 (now (c .before .before .before .before .before .before .before .before .before .before .before .before .args .sheet)) (c .before .before .before .before .before .before .before .before .bad-ref .ensures .1) (c .before .before .before .before .before .if1 .left) (c .before .before .before .too-deep .ensures .1) (c .if2 .taken), tt)
 
-bad-module-requires : tie.Need-bad-module-requires
-bad-module-requires c κs = search needs
-
-same-length-3 : tie.Need-same-length-3
-same-length-3 c = search needs
-
 returns-3 : tie.Need-returns-3
 returns-3 c = (ruled-6 (now (c .before .before .before .before .before .before .before .before .before .before .before .before .before .before .before .args .sheet)) (c .before .before .before .before .before .before .before .before .before .before .before .bad-ref .ensures .1) (c .before .before .before .before .before .before .before .before .if1 .left) (c .before .before .before .before .before .before .too-deep .ensures .1) (c .before .before .before .if2 .left) (c .before .bad-module .ensures) (c .if3 .taken), tt)
 
-too-many-requires : tie.Need-too-many-requires
-too-many-requires c κs = search needs
-
-same-length-4 : tie.Need-same-length-4
-same-length-4 c = search needs
-
 returns-4 : tie.Need-returns-4
 returns-4 c = (ruled-7 (now (c .before .before .before .before .before .before .before .before .before .before .before .before .before .before .before .before .before .before .args .sheet)) (c .before .before .before .before .before .before .before .before .before .before .before .before .before .before .bad-ref .ensures .1) (c .before .before .before .before .before .before .before .before .before .before .before .if1 .left) (c .before .before .before .before .before .before .before .before .before .too-deep .ensures .1) (c .before .before .before .before .before .before .if2 .left) (c .before .before .before .before .bad-module .ensures) (c .before .before .before .if3 .left) (c .before .too-many .ensures) (c .if4 .taken), tt)
-
-same-length-5 : tie.Need-same-length-5
-same-length-5 c = search needs
 
 returns-5 : tie.Need-returns-5
 returns-5 c = (ruled-well (now (c .before .before .before .before .before .before .before .before .before .before .before .before .before .before .before .before .before .before .args .sheet)) (c .before .before .before .before .before .before .before .before .before .before .before .before .before .before .bad-ref .ensures .1) (c .before .before .before .before .before .before .before .before .before .before .before .if1 .left) (c .before .before .before .before .before .before .before .before .before .too-deep .ensures .1) (c .before .before .before .before .before .before .if2 .left) (c .before .before .before .before .bad-module .ensures) (c .before .before .before .if3 .left) (c .before .too-many .ensures) (c .if4 .left), all-checked (now (c .before .before .before .before .before .before .before .before .before .before .before .before .before .before .before .before .before .before .args .sheet)) (c .before .before .before .before .before .before .before .before .before .before .before .before .before .before .bad-ref .ensures .1) (c .before .before .before .before .before .before .before .before .before .before .before .if1 .left) (c .before .before .before .before .before .before .before .before .before .too-deep .ensures .1) (c .before .before .before .before .before .before .if2 .left) (c .before .before .before .before .bad-module .ensures) (c .before .before .before .if3 .left) (c .before .too-many .ensures) (c .if4 .left) (c .before .before .before .before .before .before .before .before .before .too-deep .last .1 .0) (c .before .before .before .before .before .before .before .before .before .before .before .before .before .before .before .before .before .before .args .n) (c .before .before .before .before .before .before .before .before .before .too-deep .ensures .0))
 
 pub rules-spec : {M : Type 1} → statement M
 rules-spec =
-    tie.close (tie.spec bad-ref-requires same-length returns too-deep-requires same-length-2 returns-2 bad-module-requires same-length-3 returns-3
-    too-many-requires same-length-4 returns-4 same-length-5 returns-5)
+    tie.close (tie.spec (λ c κs. search needs) (λ c. search needs) returns (λ c κs. search needs) (λ c. search needs) returns-2 (λ c κs. search needs)
+    (λ c. search needs) returns-3 (λ c κs. search needs) (λ c. search needs) returns-4 (λ c. search needs) returns-5)

@@ -7,40 +7,16 @@ use borrow.Author.Needs.{needs}
 use Rattle.compile.proofs.list.Statement.{statement}
 use Rattle.compile.proofs.list.Tie as tie
 
-zero-requires : tie.Need-zero-requires
-zero-requires c κs = search needs
-
-check-requires : tie.Need-check-requires
-check-requires c κs = search needs
-
-enum-known-q : tie.Need-enum-known-q
-enum-known-q c = search needs
-
-enum-known-n : tie.Need-enum-known-n
-enum-known-n c = search needs
-
 list-checked-requires : tie.Need-list-checked-requires
 list-checked-requires c κs = (tables-lines (now (c .before .before .before .before .before .before .before .before .before .before .before .before .before .before .before .before .args .sheet)) _ (c .before .before .before .n .given .1) (c .before .before .before .before .before .before .before .check .ensures .1), zeros-of (c .before .before .before .before .before .before .before .before .before .before .before .zero .last .0) (length (now (c .before .before .before .before .before .before .before .before .before .before .before .before .before .before .before .before .args .listing))) (c .before .before .before .before .before .before .before .before .before .before .before .zero .ensures))
 
-same-length : tie.Need-same-length
-same-length c = search needs
-
-same-length-2 : tie.Need-same-length-2
-same-length-2 c = search needs
-
 returns : tie.Need-returns
 returns c = check-refused (now (c .before .before .before .before .before .before .before .before .before .before .before .before .before .before .args .sheet)) (length (now (c .before .before .before .before .before .before .before .before .before .before .before .before .before .before .args .work))) (c .before .before .before .before .before .check .ensures .0) (length (now (c .before .before .before .before .before .before .before .before .before .before .before .before .before .before .args .listing))) (c .before .q .given .1) (c .before .before .before .before .before .before .before .before .before .zero .ensures) (c .before .before .before .before .before .check .kept .1 .0) (c .before .before .before .before .before .check .ensures .1)
-
-same-length-3 : tie.Need-same-length-3
-same-length-3 c = search needs
-
-same-length-4 : tie.Need-same-length-4
-same-length-4 c = search needs
 
 returns-2 : tie.Need-returns-2
 returns-2 c = check-passed (now (c .before .before .before .before .before .before .before .before .before .before .before .before .before .before .before .before .before .before .before .before .before .args .sheet)) (length (now (c .before .before .before .before .before .before .before .before .before .before .before .before .before .before .before .before .before .before .before .before .before .args .work))) (c .before .before .before .before .before .before .before .before .before .before .before .before .check .ensures .0) (length (now (c .before .before .before .before .before .before .before .before .before .before .before .before .before .before .before .before .before .before .before .before .before .args .listing))) _ _ (c .before .before .before .before .list-checked .result) _ _ (c .before .before .before .before .before .before .before .before .n .given .1) (c .before .before .before .before .before .before .before .before .before .before .before .before .before .before .before .before .zero .kept .0) (c .before .before .before .before .before .before .before .before .before .before .before .before .check .kept .1 .0) (c .before .before .before .before .list-checked .ensures)
 
 pub list-spec : {M : Type 1} → statement M
 list-spec =
-    tie.close (tie.spec zero-requires check-requires enum-known-q enum-known-n list-checked-requires same-length same-length-2 returns same-length-3
-    same-length-4 returns-2)
+    tie.close (tie.spec (λ c κs. search needs) (λ c κs. search needs) (λ c. search needs) (λ c. search needs) list-checked-requires
+    (λ c. search needs) (λ c. search needs) returns (λ c. search needs) (λ c. search needs) returns-2)

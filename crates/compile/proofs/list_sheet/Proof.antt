@@ -8,33 +8,16 @@ use borrow.Author.Needs.{needs}
 use Rattle.compile.proofs.list_sheet.Statement.{statement}
 use Rattle.compile.proofs.list_sheet.Tie as tie
 
-make-tables-requires : tie.Need-make-tables-requires
-make-tables-requires c κs = search needs
-
-enum-known-k : tie.Need-enum-known-k
-enum-known-k c = search needs
-
-enum-known-x : tie.Need-enum-known-x
-enum-known-x c = search needs
-
 list-rows-requires : tie.Need-list-rows-requires
 list-rows-requires c κs = (tables-known (now (c .before .before .before .before .before .before .before .before .before .before .before .before .args .sheet)) _ (c .before .before .before .before .before .before .before .before .before .before .before .before .args .n) (c .before .before .before .before .before .before .before .make-tables .ensures .0) (c .before .before .before .x .given .1), c .before .before .before .before .before .before .before .before .before .before .before .before .pre .1)
 
-same-length : tie.Need-same-length
-same-length c = search needs
-
 returns : tie.Need-returns
 returns c = constant-refused (now (c .before .before .before .before .before .before .before .before .before .before .args .sheet)) _ (c .before .before .before .before .before .before .before .before .before .before .args .n) (c .before .before .before .before .before .make-tables .ensures .0) (length (now (c .before .before .before .before .before .before .before .before .before .before .args .listing))) (c .before .k .given .1)
-
-same-length-2 : tie.Need-same-length-2
-same-length-2 c = search needs
-
-same-length-3 : tie.Need-same-length-3
-same-length-3 c = search needs
 
 returns-2 : tie.Need-returns-2
 returns-2 c = tries-as (now (c .before .before .before .before .before .before .before .before .before .before .before .before .before .before .before .before .before .args .sheet)) (worked (length (now (c .before .before .before .before .before .before .before .before .before .before .before .before .before .before .before .before .before .args .listing))) (sheetSource (now (c .before .before .before .before .before .before .before .before .before .before .before .before .before .before .before .before .before .args .sheet)))) (length (now (c .before .before .before .before .before .before .before .before .before .before .before .before .before .before .before .before .before .args .listing))) (c .before .before .before .before .list-rows .result) _ _ (c .before .before .before .before .before .before .before .before .before .before .before .before .make-tables .ensures .1 .long) (c .before .before .before .before .list-rows .ensures)
 
 pub list-sheet-spec : {M : Type 1} → statement M
 list-sheet-spec =
-    tie.close (tie.spec make-tables-requires enum-known-k enum-known-x list-rows-requires same-length returns same-length-2 same-length-3 returns-2)
+    tie.close (tie.spec (λ c κs. search needs) (λ c. search needs) (λ c. search needs) list-rows-requires (λ c. search needs) returns
+    (λ c. search needs) (λ c. search needs) returns-2)

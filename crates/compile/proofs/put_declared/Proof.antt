@@ -5,23 +5,15 @@ use borrow.Author.Needs.{needs}
 use Rattle.compile.proofs.put_declared.Statement.{statement}
 use Rattle.compile.proofs.put_declared.Tie as tie
 
-record-rows-requires : tie.Need-record-rows-requires
-record-rows-requires c κs = search needs
-
 const-rows-requires : tie.Need-const-rows-requires
 const-rows-requires c κs = constants-table (known-kept (c .before .before .before .before .before .before .record-rows .ensures .kept) (c .before .before .before .before .before .before .before .before .before .before .before .before .pre))
 
 global-rows-requires : tie.Need-global-rows-requires
 global-rows-requires c κs = known-kept (c .before .before .before .before .before .before .before .before .before .before .before .record-rows .ensures .kept) (c .before .before .before .before .before .before .before .before .before .before .before .before .before .before .before .before .before .pre) .held .globals .tabled
 
-same-length : tie.Need-same-length
-same-length c = search needs
-
-same-length-2 : tie.Need-same-length-2
-same-length-2 c = search needs
-
 returns : tie.Need-returns
 returns c = let k = known-kept (c .before .before .before .before .before .before .before .before .before .before .before .before .before .before .record-rows .ensures .kept) (c .before .before .before .before .before .before .before .before .before .before .before .before .before .before .before .before .before .before .before .before .pre) in (declared-rows k (c .before .before .before .before .before .before .before .before .before .before .before .before .before .before .record-rows .ensures .wrote) (c .before .before .before .before .before .before .before .const-rows .ensures) (c .before .before .global-rows .ensures), k)
 
 pub put-declared-spec : {M : Type 1} → statement M
-put-declared-spec = tie.close (tie.spec record-rows-requires const-rows-requires global-rows-requires same-length same-length-2 returns)
+put-declared-spec =
+    tie.close (tie.spec (λ c κs. search needs) const-rows-requires global-rows-requires (λ c. search needs) (λ c. search needs) returns)

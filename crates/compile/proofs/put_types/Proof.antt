@@ -7,26 +7,16 @@ use Rattle.compile.proofs.put_types.Statement.{statement}
 use Rattle.compile.proofs.put_types.Tie as tie
 use Rattle.write.proofs.Wrote.{place-low}
 
-frame-count-requires : tie.Need-frame-count-requires
-frame-count-requires c κs = search needs
-
-data-rows-requires : tie.Need-data-rows-requires
-data-rows-requires c κs = search needs
-
 type-rows-requires : tie.Need-type-rows-requires
 type-rows-requires c κs = (types-ready (c .before .before .before .before .before .before .before .before .before .before .before .before .before .before .pre) (c .before .before .before .before .before .before .before .before .before .frame-count .ensures) (c .before .before .before .before .before .before .data-rows .ensures .3), c .before .before .before .before .before .before .data-rows .ensures .2, place-low (c .before .before .before .before .before .before .data-rows .ensures .0))
 
 use-rows-requires : tie.Need-use-rows-requires
 use-rows-requires c κs = let w = c .before .before .before .before .before .before .type-rows .ensures .0 (itemsIn (now (c .before .before .before .before .before .before .before .before .before .before .before .before .before .before .before .before .before .before .before .before .before .args .sheet)) (now (c .before .before .before .before .before .before .before .before .before .before .before .before .before .before .before .before .before .before .before .before .before .args .work)) (c .before .before .before .before .before .before .before .before .before .before .before .before .before .before .before .before .before .before .before .before .before .args .x .consts)) (c .before .before .before .before .before .before .before .before .before .before .before .before .before .data-rows .ensures .1) in (uses-ready (c .before .before .before .before .before .before .before .before .before .before .before .before .before .before .before .before .before .before .before .before .before .pre) (c .before .before .before .before .before .before .before .before .before .before .before .before .before .before .before .before .frame-count .ensures) (c .before .before .before .before .before .before .before .before .before .before .before .before .before .data-rows .ensures .3) (c .before .before .before .before .before .before .type-rows .ensures .1), place-low w)
 
-same-length : tie.Need-same-length
-same-length c = search needs
-
-same-length-2 : tie.Need-same-length-2
-same-length-2 c = search needs
-
 returns : tie.Need-returns
 returns c = let w = c .before .before .before .before .before .before .before .before .before .type-rows .ensures .0 (itemsIn (now (c .before .before .before .before .before .before .before .before .before .before .before .before .before .before .before .before .before .before .before .before .before .before .before .before .args .sheet)) (now (c .before .before .before .before .before .before .before .before .before .before .before .before .before .before .before .before .before .before .before .before .before .before .before .before .args .work)) (c .before .before .before .before .before .before .before .before .before .before .before .before .before .before .before .before .before .before .before .before .before .before .before .before .args .x .consts)) (c .before .before .before .before .before .before .before .before .before .before .before .before .before .before .before .before .data-rows .ensures .1) in (types-rows (c .before .before .before .before .before .before .before .before .before .before .before .before .before .before .before .before .before .before .before .before .before .before .before .before .pre) (c .before .before .before .before .before .before .before .before .before .before .before .before .before .before .before .before .data-rows .ensures .0) w (c .before .before .use-rows .ensures), uses-ready (c .before .before .before .before .before .before .before .before .before .before .before .before .before .before .before .before .before .before .before .before .before .before .before .before .pre) (c .before .before .before .before .before .before .before .before .before .before .before .before .before .before .before .before .before .before .before .frame-count .ensures) (c .before .before .before .before .before .before .before .before .before .before .before .before .before .before .before .before .data-rows .ensures .3) (c .before .before .before .before .before .before .before .before .before .type-rows .ensures .1) .checked)
 
 pub put-types-spec : {M : Type 1} → statement M
-put-types-spec = tie.close (tie.spec frame-count-requires data-rows-requires type-rows-requires use-rows-requires same-length same-length-2 returns)
+put-types-spec =
+    tie.close (tie.spec (λ c κs. search needs) (λ c κs. search needs) type-rows-requires use-rows-requires (λ c. search needs) (λ c. search needs)
+    returns)

@@ -5,23 +5,12 @@ use borrow.Author.Needs.{needs}
 use Rattle.const_rows.proofs.entry_row.Statement.{statement}
 use Rattle.const_rows.proofs.entry_row.Tie as tie
 
-plain-row-requires : tie.Need-plain-row-requires
-plain-row-requires c κs = search needs
-
-same-length : tie.Need-same-length
-same-length c = search needs
-
 returns : tie.Need-returns
 returns c = Laws.row-plain (now (c .before .before .before .before .before .before .before .before .args .sheet)) (now (c .before .before .before .before .before .before .before .before .args .work)) (c .before .before .before .before .before .before .before .before .args .m) (c .before .before .before .before .if1 .taken) (c .before .before .before .before .before .before .before .before .args .i) (c .before .before .plain-row .ensures)
-
-qualified-row-requires : tie.Need-qualified-row-requires
-qualified-row-requires c κs = search needs
-
-same-length-2 : tie.Need-same-length-2
-same-length-2 c = search needs
 
 returns-2 : tie.Need-returns-2
 returns-2 c = Laws.row-other (now (c .before .before .before .before .before .before .before .before .args .sheet)) (now (c .before .before .before .before .before .before .before .before .args .work)) (c .before .before .before .before .before .before .before .before .args .m) (c .before .before .before .before .if1 .left) (c .before .before .before .before .before .before .before .before .args .i) (c .before .before .qualified-row .ensures)
 
 pub entry-row-spec : {M : Type 1} → statement M
-entry-row-spec = tie.close (tie.spec plain-row-requires same-length returns qualified-row-requires same-length-2 returns-2)
+entry-row-spec =
+    tie.close (tie.spec (λ c κs. search needs) (λ c. search needs) returns (λ c κs. search needs) (λ c. search needs) returns-2)

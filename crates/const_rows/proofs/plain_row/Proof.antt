@@ -6,17 +6,11 @@ use borrow.Author.Needs.{needs}
 use Rattle.const_rows.proofs.plain_row.Statement.{statement}
 use Rattle.const_rows.proofs.plain_row.Tie as tie
 
-module-line-of-requires : tie.Need-module-line-of-requires
-module-line-of-requires c κs = search needs
-
 is-own-requires : tie.Need-is-own-requires
 is-own-requires c κs = (c .before .before .before .before .pre .0 .checked, Laws.module-in (c .before .before .before .before .pre .0) (c .before .before .before .before .pre .1) (c .module-line-of .ensures))
 
 returns : tie.Need-returns
 returns c = Laws.not-own (now (c .before .before .before .before .before .before .args .sheet)) (now (c .before .before .before .before .before .before .args .work)) (c .before .before .before .before .before .before .args .m) (c .before .before .before .before .before .before .args .i) (c .before .before .module-line-of .ensures) (c .before .is-own .ensures) (c .if1 .taken) (c .before .before .before .before .before .before .pre .2)
-
-line-of-requires : tie.Need-line-of-requires
-line-of-requires c κs = search needs
 
 sub-field-at : tie.Need-sub-field-at
 sub-field-at c = let h = Laws.line-in (c .before .before .before .before .before .before .before .pre .0) (c .before .before .before .before .before .before .before .pre .1) (c .line-of .ensures) in omega arith
@@ -30,25 +24,13 @@ look-up-requires c κs = (c .before .before .before .before .before .before .bef
 returns-2 : tie.Need-returns-2
 returns-2 c = Laws.plain-old (now (c .before .before .before .before .before .before .before .before .before .before .args .sheet)) (now (c .before .before .before .before .before .before .before .before .before .before .args .work)) (c .before .before .before .before .before .before .before .before .before .before .args .m) (c .before .before .before .before .before .before .before .before .before .before .args .i) (c .before .before .before .before .before .before .module-line-of .ensures) (c .before .before .before .before .before .is-own .ensures) (c .before .before .before .before .if1 .left) (c .before .before .before .line-of .ensures) (c .before .before .field-at .ensures) (c .before .look-up .result) (c .before .look-up .ensures .2) (c .if2 .taken) (c .before .before .before .before .before .before .before .before .before .before .pre .2)
 
-look-up-requires-2 : tie.Need-look-up-requires-2
-look-up-requires-2 c κs = search needs
-
-slice-aggregate-put-part : tie.Need-slice-aggregate-put-part
-slice-aggregate-put-part c = search needs
-
-put-part-requires : tie.Need-put-part-requires
-put-part-requires c κs = search needs
-
 put-rest-requires : tie.Need-put-rest-requires
 put-rest-requires c κs = Laws.shown (c .before .before .before .before .before .before .before .before .before .before .before .before .before .before .before .before .before .pre .0) (c .before .before .before .before .before .before .look-up2 .ensures .1)
-
-same-length : tie.Need-same-length
-same-length c = search needs
 
 returns-3 : tie.Need-returns-3
 returns-3 c = Laws.plain-new (now (c .before .before .before .before .before .before .before .before .before .before .before .before .before .before .before .before .before .before .before .before .args .sheet)) (now (c .before .before .before .before .before .before .before .before .before .before .before .before .before .before .before .before .before .before .before .before .args .work)) (c .before .before .before .before .before .before .before .before .before .before .before .before .before .before .before .before .before .before .before .before .args .m) (c .before .before .before .before .before .before .before .before .before .before .before .before .before .before .before .before .before .before .before .before .args .i) (c .before .before .before .before .before .before .before .before .before .before .before .before .before .before .before .before .module-line-of .ensures) (c .before .before .before .before .before .before .before .before .before .before .before .before .before .before .before .is-own .ensures) (c .before .before .before .before .before .before .before .before .before .before .before .before .before .before .if1 .left) (c .before .before .before .before .before .before .before .before .before .before .before .before .before .line-of .ensures) (c .before .before .before .before .before .before .before .before .before .before .before .before .field-at .ensures) (c .before .before .before .before .before .before .before .before .before .before .before .look-up .result) (c .before .before .before .before .before .before .before .before .before .look-up2 .result) (c .before .before .before .before .before .before .before .before .before .before .before .look-up .ensures .2) (c .before .before .before .before .before .before .before .before .before .before .if2 .left) (c .before .before .before .before .before .before .before .before .before .look-up2 .ensures .0) (c .before .before .before .before .before .before .put-part .ensures) (c .before .before .put-rest .ensures)
 
 pub plain-row-spec : {M : Type 1} → statement M
 plain-row-spec =
-    tie.close (tie.spec module-line-of-requires is-own-requires returns line-of-requires sub-field-at field-at-requires look-up-requires returns-2
-    look-up-requires-2 slice-aggregate-put-part put-part-requires put-rest-requires same-length returns-3)
+    tie.close (tie.spec (λ c κs. search needs) is-own-requires returns (λ c κs. search needs) sub-field-at field-at-requires look-up-requires
+    returns-2 (λ c κs. search needs) (λ c. search needs) (λ c κs. search needs) put-rest-requires (λ c. search needs) returns-3)

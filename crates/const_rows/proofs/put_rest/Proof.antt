@@ -7,20 +7,9 @@ use borrow.Author.Needs.{needs}
 use Rattle.const_rows.proofs.put_rest.Statement.{statement}
 use Rattle.const_rows.proofs.put_rest.Tie as tie
 
-put-part-requires : tie.Need-put-part-requires
-put-part-requires c κs = search needs
-
-put-requires : tie.Need-put-requires
-put-requires c κs = search needs
-
-put-value-requires : tie.Need-put-value-requires
-put-value-requires c κs = search needs
-
-same-length : tie.Need-same-length
-same-length c = search needs
-
 returns : tie.Need-returns
 returns c = Laws.rest-row (now (c .before .before .before .before .before .before .before .before .before .before .before .before .before .before .before .args .name)) (row (valueFields (found (now (c .before .before .before .before .before .before .before .before .before .before .before .before .before .before .before .args .work)) (c .before .before .before .before .before .before .before .before .before .before .before .before .before .before .before .args .r)))) (c .before .before .before .before .before .before .before .before .before .before .put-part .ensures) (c .before .before .before .before .before .before .put .ensures) (c .before .before .put-value .ensures)
 
 pub put-rest-spec : {M : Type 1} → statement M
-put-rest-spec = tie.close (tie.spec put-part-requires put-requires put-value-requires same-length returns)
+put-rest-spec =
+    tie.close (tie.spec (λ c κs. search needs) (λ c κs. search needs) (λ c κs. search needs) (λ c. search needs) returns)

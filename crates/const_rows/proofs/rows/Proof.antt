@@ -22,12 +22,6 @@ loop-holds c = (omega arith, Laws.rows-start (now (c .before .before .before .ar
 entry-row-requires : tie.Need-entry-row-requires Inv-loop μ-loop
 entry-row-requires c κs = (c .before .before .before .before .before .before .pre .0, c .before .loop-test .taken, place-low (c .before .before .loop .inv .1))
 
-add-i : tie.Need-add-i Inv-loop μ-loop
-add-i c = search needs
-
-loop-less : tie.Need-loop-less Inv-loop μ-loop
-loop-less c = search needs
-
 loop-again : tie.Need-loop-again Inv-loop μ-loop
 loop-again c = (omega arith, Laws.rows-next (now (c .before .before .before .before .before .before .before .before .before .args .sheet)) (now (c .before .before .before .before .before .before .before .before .before .args .work)) (c .before .before .before .before .before .before .before .before .before .args .m) (c .before .before .before .before .before .before .before .before .before .args .plain) (c .before .before .before .before .before .loop .i) (c .before .before .before .before .before .loop .inv .1) (c .before .before .entry-row .ensures))
 
@@ -38,4 +32,5 @@ returns : tie.Need-returns Inv-loop μ-loop
 returns c = Laws.rows-end (now (c .before .before .before .before .before .args .sheet)) (now (c .before .before .before .before .before .args .work)) (c .before .before .before .before .before .args .m) (c .before .before .before .before .before .args .plain) (c .before .loop .i) (omega arith) (omega arith) (c .before .loop .inv .1)
 
 pub rows-spec : {M : Type 1} → statement M
-rows-spec = tie.close (tie.spec Inv-loop μ-loop loop-holds entry-row-requires add-i loop-less loop-again same-length returns)
+rows-spec =
+    tie.close (tie.spec Inv-loop μ-loop loop-holds entry-row-requires (λ c. search needs) (λ c. search needs) loop-again same-length returns)

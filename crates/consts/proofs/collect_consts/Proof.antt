@@ -25,23 +25,8 @@ loop-holds c = (Walk.start-before (now (c .before .before .args .sheet)) (now (c
 module-consts-requires : tie.Need-module-consts-requires Inv-loop μ-loop
 module-consts-requires c κs = (c .before .before .loop .inv .0, c .before .loop-test .taken)
 
-enum-known-r : tie.Need-enum-known-r Inv-loop μ-loop
-enum-known-r c = search needs
-
-enum-known-r-2 : tie.Need-enum-known-r-2 Inv-loop μ-loop
-enum-known-r-2 c = search needs
-
-same-length : tie.Need-same-length Inv-loop μ-loop
-same-length c = search needs
-
 returns : tie.Need-returns Inv-loop μ-loop
 returns c = (kept-then (c .before .before .before .before .before .before .before .before .loop .inv .1) (c .before .before .before .before .before .module-consts .ensures .0), Walk.refused-at (now (c .before .before .before .before .before .before .before .before .before .before .before .args .sheet)) (c .before .before .before .before .before .before .before .before .loop .work) _ (c .before .before .before .before .before .before .before .before .before .before .before .args .n) (c .before .before .before .before .before .before .before .before .loop .m) (c .before .before .before .before .before .before .before .before .loop .i) (c .before .r2 .given .1) (c .before .before .before .before .before .module-consts .ensures .1) (c .before .before .before .before .before .before .before .before .loop .inv .2))
-
-add-i : tie.Need-add-i Inv-loop μ-loop
-add-i c = search needs
-
-loop-less : tie.Need-loop-less Inv-loop μ-loop
-loop-less c = search needs
 
 loop-again : tie.Need-loop-again Inv-loop μ-loop
 loop-again c = let w = Walk.went-past (now (c .before .before .before .before .before .before .before .before .before .before .before .args .sheet)) (c .before .before .before .before .before .before .before .before .loop .work) _ (c .before .before .before .before .before .before .before .before .before .before .before .args .n) (c .before .before .before .before .before .before .before .before .loop .m) (c .before .before .before .before .before .before .before .before .loop .i) (c .before .r .given .1) (c .before .before .before .before .before .module-consts .ensures .1) in (w .0, kept-then (c .before .before .before .before .before .before .before .before .loop .inv .1) (c .before .before .before .before .before .module-consts .ensures .0), w .1 ∙ c .before .before .before .before .before .before .before .before .loop .inv .2, omega arith)
@@ -49,13 +34,10 @@ loop-again c = let w = Walk.went-past (now (c .before .before .before .before .b
 pass-consts-requires : tie.Need-pass-consts-requires Inv-loop μ-loop
 pass-consts-requires c κs = Walk.top-group (now (c .before .before .before .before .before .args .sheet)) (c .before .before .loop .work) (c .before .before .before .before .before .args .n) (c .before .before .loop .m) (c .before .before .loop .i) (c .before .before .loop .inv .0)
 
-same-length-2 : tie.Need-same-length-2 Inv-loop μ-loop
-same-length-2 c = search needs
-
 returns-2 : tie.Need-returns-2 Inv-loop μ-loop
 returns-2 c = (kept-then (c .before .before .before .before .before .loop .inv .1) (c .before .before .pass-consts .ensures .0), Walk.past-all (now (c .before .before .before .before .before .before .before .before .args .sheet)) (c .before .before .before .before .before .loop .work) (c .before .before .before .before .before .before .before .before .args .n) (c .before .before .before .before .before .loop .m) (c .before .before .before .before .before .loop .i) (c .before .before .before .before .before .loop .inv .0) (omega arith) (c .before .before .before .before .before .loop .inv .2) _ (c .before .before .pass-consts .result) (c .before .before .pass-consts .ensures .1))
 
 pub collect-consts-spec : {M : Type 1} → statement M
 collect-consts-spec =
-    tie.close (tie.spec Inv-loop μ-loop loop-holds module-consts-requires enum-known-r enum-known-r-2 same-length returns add-i loop-less loop-again
-    pass-consts-requires same-length-2 returns-2)
+    tie.close (tie.spec Inv-loop μ-loop loop-holds module-consts-requires (λ c. search needs) (λ c. search needs) (λ c. search needs) returns
+    (λ c. search needs) (λ c. search needs) loop-again pass-consts-requires (λ c. search needs) returns-2)

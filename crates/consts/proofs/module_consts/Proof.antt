@@ -7,30 +7,19 @@ use borrow.Author.Needs.{needs}
 use Rattle.consts.proofs.module_consts.Statement.{statement}
 use Rattle.consts.proofs.module_consts.Tie as tie
 
-form-at-requires : tie.Need-form-at-requires
-form-at-requires c κs = search needs
-
 kind-requires : tie.Need-kind-requires
 kind-requires c κs = Walk.form-small (c .before .before .before .before .pre .0 .checked) (c .before .before .before .before .pre .1) (c .form-at .ensures)
-
-same-length : tie.Need-same-length
-same-length c = search needs
 
 returns : tie.Need-returns
 returns c = (kept-all, Walk.past-other (now (c .before .before .before .before .before .before .args .sheet)) (now (c .before .before .before .before .before .before .args .work)) (c .before .before .before .before .before .before .args .n) (c .before .before .before .before .before .before .args .m) (c .before .before .before .before .before .before .args .i) (c .before .before .before .before .before .before .pre .0) (c .before .before .before .before .before .before .pre .1) (λ q. c .if1 .taken (sym (Walk.kind-read (c .before .before .before .before .before .before .pre .0 .checked) (c .before .before .before .before .before .before .pre .1) (c .before .before .form-at .ensures) (c .before .kind .ensures)) ∙ q)))
 
-add-pass-consts : tie.Need-add-pass-consts
-add-pass-consts c = search needs
-
 pass-consts-requires : tie.Need-pass-consts-requires
 pass-consts-requires c κs = Walk.module-group (now (c .before .before .before .before .before .before .before .args .sheet)) (now (c .before .before .before .before .before .before .before .args .work)) (c .before .before .before .before .before .before .before .args .n) (c .before .before .before .before .before .before .before .args .m) (c .before .before .before .before .before .before .before .args .i) (c .before .before .before .before .before .before .before .pre .0) (c .before .before .before .before .before .before .before .pre .1) (Walk.kind-read (c .before .before .before .before .before .before .before .pre .0 .checked) (c .before .before .before .before .before .before .before .pre .1) (c .before .before .before .form-at .ensures) (c .before .before .kind .ensures) ∙ c .before .if1 .left)
-
-same-length-2 : tie.Need-same-length-2
-same-length-2 c = search needs
 
 returns-2 : tie.Need-returns-2
 returns-2 c = (c .before .before .pass-consts .ensures .0, Walk.past-module (now (c .before .before .before .before .before .before .before .before .before .before .args .sheet)) (now (c .before .before .before .before .before .before .before .before .before .before .args .work)) (c .before .before .before .before .before .before .before .before .before .before .args .n) (c .before .before .before .before .before .before .before .before .before .before .args .m) (c .before .before .before .before .before .before .before .before .before .before .args .i) (c .before .before .before .before .before .before .before .before .before .before .pre .0) (c .before .before .before .before .before .before .before .before .before .before .pre .1) (Walk.kind-read (c .before .before .before .before .before .before .before .before .before .before .pre .0 .checked) (c .before .before .before .before .before .before .before .before .before .before .pre .1) (c .before .before .before .before .before .before .form-at .ensures) (c .before .before .before .before .before .kind .ensures) ∙ c .before .before .before .before .if1 .left) _ (c .before .before .pass-consts .ensures .0) (c .before .before .pass-consts .result) (c .before .before .pass-consts .ensures .1))
 
 pub module-consts-spec : {M : Type 1} → statement M
 module-consts-spec =
-    tie.close (tie.spec form-at-requires kind-requires same-length returns add-pass-consts pass-consts-requires same-length-2 returns-2)
+    tie.close (tie.spec (λ c κs. search needs) kind-requires (λ c. search needs) returns (λ c. search needs) pass-consts-requires (λ c. search needs)
+    returns-2)

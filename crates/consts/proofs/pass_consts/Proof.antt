@@ -21,20 +21,11 @@ abbrev μ-loop : tie.MeasureT-loop
 loop-holds : tie.Need-loop-holds Inv-loop μ-loop
 loop-holds c = (Walk.begins (now (c .before .before .args .sheet)) (now (c .before .before .args .work)) (c .before .before .args .n) (c .before .before .args .m) (c .before .before .args .k) (c .before .before .pre), kept-all, refl, Walk.begin-count (now (c .before .before .args .sheet)) (now (c .before .before .args .work)) (c .before .before .args .n) (c .before .before .args .m) (c .before .before .args .k) (c .before .before .pre), omega arith)
 
-is-left-requires : tie.Need-is-left-requires Inv-loop μ-loop
-is-left-requires c κs = search needs
-
-same-length : tie.Need-same-length Inv-loop μ-loop
-same-length c = search needs
-
 returns : tie.Need-returns Inv-loop μ-loop
 returns c = (c .before .before .before .before .loop .inv .1, Walk.pass-done (now (c .before .before .before .before .before .before .before .args .sheet)) (now (c .before .before .before .before .before .before .before .args .work)) (c .before .before .before .before .before .before .before .args .n) (c .before .before .before .before .before .before .before .args .m) (c .before .before .before .before .before .before .before .args .k) (c .before .before .before .before .before .before .before .pre) _ (c .before .before .before .before .loop .p) (c .before .before .before .before .loop .inv .0) (c .before .before .before .before .loop .inv .2) (Walk.at-left (now (c .before .before .before .before .before .before .before .args .sheet)) (now (c .before .before .before .before .before .before .before .args .work)) (c .before .before .before .before .before .before .before .args .n) (c .before .before .before .before .before .before .before .args .m) (c .before .before .before .before .before .before .before .args .k) (c .before .before .before .before .before .before .before .pre) _ (c .before .before .before .before .loop .p) (c .before .before .before .before .loop .inv .0) (c .before .before .before .before .loop .inv .2) (c .before .is-left .ensures) (c .if2 .taken) (c .before .before .before .before .loop .inv .4)) (c .before .before .before .before .loop .inv .3))
 
 visit-requires : tie.Need-visit-requires Inv-loop μ-loop
 visit-requires c κs = (c .before .before .before .before .before .loop .inv .0, c .before .before .before .if1 .taken)
-
-enum-known-r : tie.Need-enum-known-r Inv-loop μ-loop
-enum-known-r c = search needs
 
 loop-less : tie.Need-loop-less Inv-loop μ-loop
 loop-less c = let w = Walk.went-on (now (c .before .before .before .before .before .before .before .before .before .before .before .before .before .before .args .sheet)) (c .before .before .before .before .before .before .before .before .before .before .before .loop .work) _ (c .before .before .before .before .before .before .before .before .before .before .before .before .before .before .args .n) (c .before .before .before .before .before .before .before .before .before .before .before .before .before .before .args .k) (c .before .before .before .before .before .before .before .before .before .before .before .loop .p) (c .before .r .given .1) (c .before .before .before .before .before .visit .ensures .1) in omega (arith, w .next, c .before .before .before .before .before .before .before .before .before .if1 .taken)
@@ -42,22 +33,13 @@ loop-less c = let w = Walk.went-on (now (c .before .before .before .before .befo
 loop-again : tie.Need-loop-again Inv-loop μ-loop
 loop-again c = let w = Walk.went-on (now (c .before .before .before .before .before .before .before .before .before .before .before .before .before .before .args .sheet)) (c .before .before .before .before .before .before .before .before .before .before .before .loop .work) _ (c .before .before .before .before .before .before .before .before .before .before .before .before .before .before .args .n) (c .before .before .before .before .before .before .before .before .before .before .before .before .before .before .args .k) (c .before .before .before .before .before .before .before .before .before .before .before .loop .p) (c .before .r .given .1) (c .before .before .before .before .before .visit .ensures .1) in (w .stands, kept-then (c .before .before .before .before .before .before .before .before .before .before .before .loop .inv .1) (c .before .before .before .before .before .visit .ensures .0), w .same ∙ c .before .before .before .before .before .before .before .before .before .before .before .loop .inv .2, w .count ∙ c .before .before .before .before .before .before .before .before .before .before .before .loop .inv .3, omega (arith, w .next, c .before .before .before .before .before .before .before .before .before .before .before .loop .inv .4))
 
-enum-known-r-2 : tie.Need-enum-known-r-2 Inv-loop μ-loop
-enum-known-r-2 c = search needs
-
-same-length-2 : tie.Need-same-length-2 Inv-loop μ-loop
-same-length-2 c = search needs
-
 returns-2 : tie.Need-returns-2 Inv-loop μ-loop
 returns-2 c = (kept-then (c .before .before .before .before .before .before .before .before .before .before .before .loop .inv .1) (c .before .before .before .before .before .visit .ensures .0), Walk.pass-refused (now (c .before .before .before .before .before .before .before .before .before .before .before .before .before .before .args .sheet)) (now (c .before .before .before .before .before .before .before .before .before .before .before .before .before .before .args .work)) (c .before .before .before .before .before .before .before .before .before .before .before .before .before .before .args .n) (c .before .before .before .before .before .before .before .before .before .before .before .before .before .before .args .m) (c .before .before .before .before .before .before .before .before .before .before .before .before .before .before .args .k) (c .before .before .before .before .before .before .before .before .before .before .before .before .before .before .pre) _ (c .before .before .before .before .before .before .before .before .before .before .before .loop .p) (c .before .before .before .before .before .before .before .before .before .before .before .loop .inv .0) (c .before .before .before .before .before .before .before .before .before .before .before .loop .inv .2) (Walk.stopped (now (c .before .before .before .before .before .before .before .before .before .before .before .before .before .before .args .sheet)) (c .before .before .before .before .before .before .before .before .before .before .before .loop .work) _ (c .before .before .before .before .before .before .before .before .before .before .before .before .before .before .args .n) (c .before .before .before .before .before .before .before .before .before .before .before .before .before .before .args .k) (c .before .before .before .before .before .before .before .before .before .before .before .loop .p) (c .before .r2 .given .1) (c .before .before .before .before .before .visit .ensures .1)))
-
-same-length-3 : tie.Need-same-length-3 Inv-loop μ-loop
-same-length-3 c = search needs
 
 returns-3 : tie.Need-returns-3 Inv-loop μ-loop
 returns-3 c = (c .before .before .loop .inv .1, Walk.pass-done (now (c .before .before .before .before .before .args .sheet)) (now (c .before .before .before .before .before .args .work)) (c .before .before .before .before .before .args .n) (c .before .before .before .before .before .args .m) (c .before .before .before .before .before .args .k) (c .before .before .before .before .before .pre) _ (c .before .before .loop .p) (c .before .before .loop .inv .0) (c .before .before .loop .inv .2) (Walk.at-end (now (c .before .before .before .before .before .args .sheet)) (now (c .before .before .before .before .before .args .work)) (c .before .before .before .before .before .args .n) (c .before .before .before .before .before .args .m) (c .before .before .before .before .before .args .k) (c .before .before .before .before .before .pre) _ (c .before .before .loop .p) (c .before .before .loop .inv .0) (c .before .before .loop .inv .2) (omega arith)) (c .before .before .loop .inv .3))
 
 pub pass-consts-spec : {M : Type 1} → statement M
 pass-consts-spec =
-    tie.close (tie.spec Inv-loop μ-loop loop-holds is-left-requires same-length returns visit-requires enum-known-r loop-less loop-again
-    enum-known-r-2 same-length-2 returns-2 same-length-3 returns-3)
+    tie.close (tie.spec Inv-loop μ-loop loop-holds (λ c κs. search needs) (λ c. search needs) returns visit-requires (λ c. search needs) loop-less
+    loop-again (λ c. search needs) (λ c. search needs) returns-2 (λ c. search needs) returns-3)

@@ -8,15 +8,10 @@ use Rattle.ints.proofs.Widths.{from1}
 use Rattle.conversions.proofs.byte_of_int.Statement.{statement}
 use Rattle.conversions.proofs.byte_of_int.Tie as tie
 
-word-of-int-requires : tie.Need-word-of-int-requires
-word-of-int-requires c κs = search needs
-
-byte-of-word-requires : tie.Need-byte-of-word-requires
-byte-of-word-requires c κs = search needs
-
 returns : tie.Need-returns
 returns c = let f : SFits w32 (c .before .word-of-int .result) = record { sfits = c .before .word-of-int .ok } in
     from1 lowByte f (c .byte-of-word .ensures) ∙ ap lowByte (from1 (lowest 31) (c .before .before .fits .n) (c .before .word-of-int .ensures))
 
 pub byte-of-int-spec : {M : Type 1} → statement M
-byte-of-int-spec = tie.close (tie.spec word-of-int-requires byte-of-word-requires returns)
+byte-of-int-spec =
+    tie.close (tie.spec (λ c κs. search needs) (λ c κs. search needs) returns)

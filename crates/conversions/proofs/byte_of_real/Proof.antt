@@ -8,15 +8,10 @@ use Rattle.ints.proofs.Widths.{from1}
 use Rattle.conversions.proofs.byte_of_real.Statement.{statement}
 use Rattle.conversions.proofs.byte_of_real.Tie as tie
 
-word-of-real-requires : tie.Need-word-of-real-requires
-word-of-real-requires c κs = search needs
-
-byte-of-word-requires : tie.Need-byte-of-word-requires
-byte-of-word-requires c κs = search needs
-
 returns : tie.Need-returns
 returns c = let f : SFits w32 (c .before .word-of-real .result) = record { sfits = c .before .word-of-real .ok } in
     from1 lowByte f (c .byte-of-word .ensures) ∙ ap lowByte (c .before .word-of-real .ensures)
 
 pub byte-of-real-spec : {M : Type 1} → statement M
-byte-of-real-spec = tie.close (tie.spec word-of-real-requires byte-of-word-requires returns)
+byte-of-real-spec =
+    tie.close (tie.spec (λ c κs. search needs) (λ c κs. search needs) returns)

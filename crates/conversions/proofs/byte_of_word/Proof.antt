@@ -10,9 +10,6 @@ use Rattle.conversions.proofs.byte_of_word.Tie as tie
 cast-bits : tie.Need-cast-bits
 cast-bits c = sfits-widen tt (sfits-toZ (fits-ofZ (c .fits .w)))
 
-bits-requires : tie.Need-bits-requires
-bits-requires c κs = search needs
-
 cast-result : tie.Need-cast-result
 cast-result c = fits-mask (c .bits .result) 8 tt
 
@@ -20,4 +17,5 @@ returns : tie.Need-returns
 returns c = let f = c .before .fits .w in byte-of-bits (sfits-widen tt (sfits-toZ (fits-ofZ f))) (c .bits .ensures) ∙ ap lowByte (toZ-ofZ f)
 
 pub byte-of-word-spec : {M : Type 1} → statement M
-byte-of-word-spec = tie.close (tie.spec cast-bits bits-requires cast-result returns)
+byte-of-word-spec =
+    tie.close (tie.spec cast-bits (λ c κs. search needs) cast-result returns)

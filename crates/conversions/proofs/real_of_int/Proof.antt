@@ -5,11 +5,9 @@ use Rattle.ints.proofs.Widths.{from1}
 use Rattle.conversions.proofs.real_of_int.Statement.{statement}
 use Rattle.conversions.proofs.real_of_int.Tie as tie
 
-from-i64-requires : tie.Need-from-i64-requires
-from-i64-requires c κs = search needs
-
 returns : tie.Need-returns
 returns c = from1 toReal (c .before .fits .n) (c .from-i64 .ensures)
 
 pub real-of-int-spec : {M : Type 1} → statement M
-real-of-int-spec = tie.close (tie.spec from-i64-requires returns)
+real-of-int-spec =
+    tie.close (tie.spec (λ c κs. search needs) returns)

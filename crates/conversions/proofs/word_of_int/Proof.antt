@@ -11,17 +11,8 @@ use Rattle.ints.proofs.Wrapping.{word-of-bits}
 use Rattle.conversions.proofs.word_of_int.Statement.{statement}
 use Rattle.conversions.proofs.word_of_int.Tie as tie
 
-bits-requires : tie.Need-bits-requires
-bits-requires c κs = search needs
-
-cast-result : tie.Need-cast-result
-cast-result c = search needs
-
 sub-result : tie.Need-sub-result
 sub-result c = omega (arith, mask-lt (c .before .bits .result) 32)
-
-cast-result-2 : tie.Need-cast-result-2
-cast-result-2 c = search needs
 
 returns : tie.Need-returns
 returns c = word-of-bits (c .before .before .fits .n) (c .before .bits .ensures)
@@ -30,4 +21,5 @@ returns-2 : tie.Need-returns-2
 returns-2 c = ap (toZ w32) (twice w32 (fits-mask (c .before .bits .result) 32 tt)) ∙ word-of-bits (c .before .before .fits .n) (c .before .bits .ensures)
 
 pub word-of-int-spec : {M : Type 1} → statement M
-word-of-int-spec = tie.close (tie.spec bits-requires cast-result sub-result cast-result-2 returns returns-2)
+word-of-int-spec =
+    tie.close (tie.spec (λ c κs. search needs) (λ c. search needs) sub-result (λ c. search needs) returns returns-2)

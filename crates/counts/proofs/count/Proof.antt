@@ -22,20 +22,11 @@ records-requires c κs = (c .before .before .before .before .pre .0, c .before .
 names-requires : tie.Need-names-requires
 names-requires c κs = (c .before .before .before .before .before .pre .0, c .before .before .before .before .before .pre .2, c .before .kind .ensures ∙ ap kindAt (c .before .before .form-at .ensures) ∙ sym (kind-is (now (c .before .before .before .before .before .args .sheet)) (now (c .before .before .before .before .before .args .work)) (c .before .before .before .before .before .args .n) (c .before .before .before .before .before .pre .0) (c .before .before .before .before .before .args .i) (c .before .before .before .before .before .pre .2)))
 
-one-requires : tie.Need-one-requires
-one-requires c κs = search needs
-
 add-t10 : tie.Need-add-t10
 add-t10 c = record { fits = omega (arith, bounded (countsOf (c .before .before .before .before .before .before .before .before .args .t)) (c .before .before .before .before .before .before .before .before .pre .3) .0, c .before .one .ensures .1) }
 
-one-requires-2 : tie.Need-one-requires-2
-one-requires-2 c κs = search needs
-
 add-t12 : tie.Need-add-t12
 add-t12 c = record { fits = omega (arith, bounded (countsOf (c .before .before .before .before .before .before .before .before .before .before .args .t)) (c .before .before .before .before .before .before .before .before .before .before .pre .3) .1, c .before .one2 .ensures .1) }
-
-one-requires-3 : tie.Need-one-requires-3
-one-requires-3 c κs = search needs
 
 add-t14 : tie.Need-add-t14
 add-t14 c = record { fits = omega (arith, bounded (countsOf (c .before .before .before .before .before .before .before .before .before .before .before .before .args .t)) (c .before .before .before .before .before .before .before .before .before .before .before .before .pre .3) .2, c .before .one3 .ensures .1) }
@@ -51,5 +42,5 @@ returns c = counts-are (now (c .before .before .before .before .before .before .
 
 pub count-spec : {M : Type 1} → statement M
 count-spec =
-    tie.close (tie.spec form-at-requires kind-requires records-requires names-requires one-requires add-t10 one-requires-2 add-t12 one-requires-3
-    add-t14 add-t15 add-t16 returns)
+    tie.close (tie.spec form-at-requires kind-requires records-requires names-requires (λ c κs. search needs) add-t10 (λ c κs. search needs) add-t12
+    (λ c κs. search needs) add-t14 add-t15 add-t16 returns)

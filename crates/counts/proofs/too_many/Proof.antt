@@ -20,20 +20,8 @@ loop-holds c = (omega arith, counting-start (now (c .before .before .args .sheet
 count-requires : tie.Need-count-requires Inv-loop μ-loop
 count-requires c κs = (c .before .before .before .before .pre .0, c .before .before .before .before .pre .1, c .loop-test .taken, c .before .loop .inv .1 .small)
 
-is-over-requires : tie.Need-is-over-requires Inv-loop μ-loop
-is-over-requires c κs = search needs
-
-add-result : tie.Need-add-result Inv-loop μ-loop
-add-result c = search needs
-
 returns : tie.Need-returns Inv-loop μ-loop
 returns c = counting-over (now (c .before .before .before .before .before .before .before .args .sheet)) (now (c .before .before .before .before .before .before .before .args .work)) (c .before .before .before .before .before .before .before .args .n) (c .before .before .before .before .before .before .before .pre .0) (c .before .before .before .before .before .before .before .pre .1) (c .before .before .before .before .loop .i) (countsOf (c .before .before .before .before .loop .t)) (c .before .before .before .before .loop .inv .1) (c .before .before .before .loop-test .taken) (countsOf (c .before .before .count .result)) (c .before .before .count .ensures) (c .before .is-over .ensures) (c .if1 .taken)
-
-add-i : tie.Need-add-i Inv-loop μ-loop
-add-i c = search needs
-
-loop-less : tie.Need-loop-less Inv-loop μ-loop
-loop-less c = search needs
 
 loop-again : tie.Need-loop-again Inv-loop μ-loop
 loop-again c = (omega (arith, c .before .before .before .loop-test .taken), counting-next (now (c .before .before .before .before .before .before .before .args .sheet)) (now (c .before .before .before .before .before .before .before .args .work)) (c .before .before .before .before .before .before .before .args .n) (c .before .before .before .before .before .before .before .pre .0) (c .before .before .before .before .before .before .before .pre .1) (c .before .before .before .before .loop .i) (countsOf (c .before .before .before .before .loop .t)) (c .before .before .before .before .loop .inv .1) (c .before .before .before .loop-test .taken) (countsOf (c .before .before .count .result)) (c .before .before .count .ensures) (c .before .is-over .ensures) (c .if1 .left))
@@ -43,4 +31,5 @@ returns-2 c = counting-end (now (c .before .before .before .before .args .sheet)
 
 pub too-many-spec : {M : Type 1} → statement M
 too-many-spec =
-    tie.close (tie.spec Inv-loop μ-loop loop-holds count-requires is-over-requires add-result returns add-i loop-less loop-again returns-2)
+    tie.close (tie.spec Inv-loop μ-loop loop-holds count-requires (λ c κs. search needs) (λ c. search needs) returns (λ c. search needs)
+    (λ c. search needs) loop-again returns-2)

@@ -12,9 +12,6 @@ Inv-loop sheet work₀ n m g frames keys out₀ at c p₀ k₀ i₀ work out p k
 abbrev μ-loop : tie.MeasureT-loop
 μ-loop sheet work₀ n m g frames keys out₀ at c p₀ k₀ i₀ work out p k i = n - i
 
-no-rows-requires : tie.Need-no-rows-requires Inv-loop μ-loop
-no-rows-requires c κs = search needs
-
 loop-holds : tie.Need-loop-holds Inv-loop μ-loop
 loop-holds c = walk-start (c .before .before .before .before .before .before .before .pre) (c .before .before .no-rows .ensures .0) (c .before .before .no-rows .ensures .1)
 
@@ -23,12 +20,6 @@ rows-at-requires c κs = (c .before .before .before .loop .inv .held, c .before 
 
 open-after-requires : tie.Need-open-after-requires Inv-loop μ-loop
 open-after-requires c κs = (walk-open (c .before .before .before .before .before .before .before .before .before .before .before .before .before .before .before .before .before .pre) (c .before .before .before .before .before .before .before .before .before .loop .inv) (c .before .before .before .before .before .rows-at .ensures), c .before .before .before .before .before .before .before .before .loop-test .taken)
-
-add-i : tie.Need-add-i Inv-loop μ-loop
-add-i c = search needs
-
-loop-less : tie.Need-loop-less Inv-loop μ-loop
-loop-less c = search needs
 
 loop-again : tie.Need-loop-again Inv-loop μ-loop
 loop-again c = walk-next (c .before .before .before .before .before .before .before .before .before .before .before .before .before .before .before .before .before .before .pre) (c .before .before .before .before .before .before .before .before .before .before .loop .inv) (c .before .before .before .before .before .before .rows-at .ensures) (c .before .before .before .out2 .given) (c .open-after .ensures)
@@ -43,4 +34,6 @@ returns : tie.Need-returns Inv-loop μ-loop
 returns c = walk-end (c .before .before .before .before .before .before .before .before .before .pre) (c .before .loop .inv) (c .loop-test .left) (c .before .before .before .before .no-rows .ensures .0) (c .before .before .before .before .no-rows .ensures .1)
 
 pub data-rows-spec : {M : Type 1} → statement M
-data-rows-spec = tie.close (tie.spec Inv-loop μ-loop no-rows-requires loop-holds rows-at-requires open-after-requires add-i loop-less loop-again same-length same-length-2 returns)
+data-rows-spec =
+    tie.close (tie.spec Inv-loop μ-loop (λ c κs. search needs) loop-holds rows-at-requires open-after-requires (λ c. search needs) (λ c. search needs)
+    loop-again same-length same-length-2 returns)

@@ -11,86 +11,36 @@ use Rattle.data_rows.proofs.first_rows.Tie as tie
 enum-told : tie.Need-enum-told
 enum-told c = search needs
 
-no-rows-requires : tie.Need-no-rows-requires
-no-rows-requires c κs = search needs
-
-enum-known-x : tie.Need-enum-known-x
-enum-known-x c = search needs
-
 value-rows-requires : tie.Need-value-rows-requires
 value-rows-requires c κs = ((c .before .before .before .before .before .before .before .before .pre) .line, first-within (c .before .before .before .before .before .before .before .before .pre) (c .before .before .before .x .given .1))
-
-enum-known-x-2 : tie.Need-enum-known-x-2
-enum-known-x-2 c = search needs
 
 alloc-rows-requires : tie.Need-alloc-rows-requires
 alloc-rows-requires c κs = held-keyed ((c .before .before .before .before .before .before .before .before .pre) .held)
 
-enum-known-x-3 : tie.Need-enum-known-x-3
-enum-known-x-3 c = search needs
-
 literal-rows-requires : tie.Need-literal-rows-requires
 literal-rows-requires c κs = (held-keyed ((c .before .before .before .before .before .before .before .before .pre) .held), first-filled (c .before .before .before .before .before .before .before .before .pre) (c .before .before .before .x3 .given .1))
-
-enum-told-2 : tie.Need-enum-told-2
-enum-told-2 c = search needs
-
-no-rows-requires-2 : tie.Need-no-rows-requires-2
-no-rows-requires-2 c κs = search needs
-
-enum-told-3 : tie.Need-enum-told-3
-enum-told-3 c = search needs
-
-no-rows-requires-3 : tie.Need-no-rows-requires-3
-no-rows-requires-3 c κs = search needs
-
-same-length : tie.Need-same-length
-same-length c = search needs
 
 returns : tie.Need-returns
 returns c = (first-none (typeOn (now (c .before .before .before .before .before .before .before .before .before .args .sheet)) (c .before .before .before .before .before .before .before .before .before .args .r)) (c .before .before .before .before .before .before .before .before .before .args .off) (c .before .before .before .before .enum-told .given .1) (printed-none (c .before .before .no-rows .ensures .0) (c .before .before .no-rows .ensures .1)), outside-all)
 
-same-length-2 : tie.Need-same-length-2
-same-length-2 c = search needs
-
-same-length-3 : tie.Need-same-length-3
-same-length-3 c = search needs
-
 returns-2 : tie.Need-returns-2
 returns-2 c = (first-value (typeOn (now (c .before .before .before .before .before .before .before .before .before .before .before .args .sheet)) (c .before .before .before .before .before .before .before .before .before .before .before .args .r)) (c .before .before .before .before .before .before .before .before .before .before .before .args .off) (c .before .before .before .before .before .before .x .given .1) (c .before .before .value-rows .ensures), outside-all)
-
-same-length-4 : tie.Need-same-length-4
-same-length-4 c = search needs
-
-same-length-5 : tie.Need-same-length-5
-same-length-5 c = search needs
 
 returns-3 : tie.Need-returns-3
 returns-3 c = (first-alloc (typeOn (now (c .before .before .before .before .before .before .before .before .before .before .before .before .before .args .sheet)) (c .before .before .before .before .before .before .before .before .before .before .before .before .before .args .r)) (c .before .before .before .before .before .before .before .before .before .before .before .before .before .args .off) (c .before .before .before .before .before .before .before .before .x2 .given .1) (c .before .before .before .before .alloc-rows .ensures .0 (now (c .before .before .before .before .before .before .before .before .before .before .before .before .before .args .sheet)) ((c .before .before .before .before .before .before .before .before .before .before .before .before .before .pre) .held .framed)), c .before .before .before .before .alloc-rows .ensures .1)
 
-same-length-6 : tie.Need-same-length-6
-same-length-6 c = search needs
-
-same-length-7 : tie.Need-same-length-7
-same-length-7 c = search needs
-
 returns-4 : tie.Need-returns-4
 returns-4 c = (first-literal (typeOn (now (c .before .before .before .before .before .before .before .before .before .before .before .before .before .args .sheet)) (c .before .before .before .before .before .before .before .before .before .before .before .before .before .args .r)) (c .before .before .before .before .before .before .before .before .before .before .before .before .before .args .off) (c .before .before .before .before .before .before .before .before .x3 .given .1) (c .before .before .before .before .literal-rows .ensures .0 (now (c .before .before .before .before .before .before .before .before .before .before .before .before .before .args .sheet)) ((c .before .before .before .before .before .before .before .before .before .before .before .before .before .pre) .held .framed)), c .before .before .before .before .literal-rows .ensures .1)
 
-same-length-8 : tie.Need-same-length-8
-same-length-8 c = search needs
-
 returns-5 : tie.Need-returns-5
 returns-5 c = (first-pending (typeOn (now (c .before .before .before .before .before .before .before .before .before .args .sheet)) (c .before .before .before .before .before .before .before .before .before .args .r)) (c .before .before .before .before .before .before .before .before .before .args .off) (c .before .before .before .before .enum-told2 .given .1) (printed-none (c .before .before .no-rows2 .ensures .0) (c .before .before .no-rows2 .ensures .1)), outside-all)
-
-same-length-9 : tie.Need-same-length-9
-same-length-9 c = search needs
 
 returns-6 : tie.Need-returns-6
 returns-6 c = (first-refused (typeOn (now (c .before .before .before .before .before .before .before .before .before .args .sheet)) (c .before .before .before .before .before .before .before .before .before .args .r)) (c .before .before .before .before .before .before .before .before .before .args .off) (c .before .before .before .before .enum-told3 .given .1) (printed-none (c .before .before .no-rows3 .ensures .0) (c .before .before .no-rows3 .ensures .1)), outside-all)
 
 pub first-rows-spec : {M : Type 1} → statement M
 first-rows-spec =
-    tie.close (tie.spec enum-told no-rows-requires enum-known-x value-rows-requires enum-known-x-2 alloc-rows-requires enum-known-x-3
-    literal-rows-requires enum-told-2 no-rows-requires-2 enum-told-3 no-rows-requires-3 same-length returns same-length-2 same-length-3 returns-2
-    same-length-4 same-length-5 returns-3 same-length-6 same-length-7 returns-4 same-length-8 returns-5 same-length-9 returns-6)
+    tie.close (tie.spec enum-told (λ c κs. search needs) (λ c. search needs) value-rows-requires (λ c. search needs) alloc-rows-requires
+    (λ c. search needs) literal-rows-requires (λ c. search needs) (λ c κs. search needs) (λ c. search needs) (λ c κs. search needs)
+    (λ c. search needs) returns (λ c. search needs) (λ c. search needs) returns-2 (λ c. search needs) (λ c. search needs) returns-3
+    (λ c. search needs) (λ c. search needs) returns-4 (λ c. search needs) returns-5 (λ c. search needs) returns-6)

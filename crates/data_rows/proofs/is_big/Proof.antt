@@ -6,12 +6,6 @@ use borrow.Author.Needs.{needs}
 use Rattle.data_rows.proofs.is_big.Statement.{statement}
 use Rattle.data_rows.proofs.is_big.Tie as tie
 
-sub-number-at : tie.Need-sub-number-at
-sub-number-at c = search needs
-
-number-at-requires : tie.Need-number-at-requires
-number-at-requires c κs = search needs
-
 elem-kind-requires : tie.Need-elem-kind-requires
 elem-kind-requires c κs = type-line (now (c .before .before .before .args .sheet)) (now (c .before .before .before .args .work)) (c .before .before .before .args .n) (c .before .before .before .args .r) (c .before .before .before .pre) (c .number-at .result) (c .number-at .ensures .0)
 
@@ -19,4 +13,5 @@ returns : tie.Need-returns
 returns c = big-is (now (c .before .before .before .before .args .sheet)) (c .before .number-at .result) (type-on (now (c .before .before .before .before .args .sheet)) (now (c .before .before .before .before .args .work)) (c .before .before .before .before .args .n) (c .before .before .before .before .args .r) (c .before .before .before .before .pre) (c .before .number-at .result) (c .before .number-at .ensures .0)) (c .elem-kind .ensures .0)
 
 pub is-big-spec : {M : Type 1} → statement M
-is-big-spec = tie.close (tie.spec sub-number-at number-at-requires elem-kind-requires returns)
+is-big-spec =
+    tie.close (tie.spec (λ c. search needs) (λ c κs. search needs) elem-kind-requires returns)

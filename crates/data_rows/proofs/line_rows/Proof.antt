@@ -10,14 +10,9 @@ first-value-requires c κs = (c .before .before .before .before .pre) .1
 names-rows-requires : tie.Need-names-rows-requires
 names-rows-requires c κs = line-task ((c .before .before .before .before .before .before .before .before .before .pre) .0) ((c .before .before .before .before .before .before .before .before .before .pre) .1) (c .before .before .before .before .first-value .ensures)
 
-same-length : tie.Need-same-length
-same-length c = search needs
-
-same-length-2 : tie.Need-same-length-2
-same-length-2 c = search needs
-
 returns : tie.Need-returns
 returns c = line-items ((c .before .before .before .before .before .before .before .before .before .before .before .before .before .before .pre) .0) ((c .before .before .before .before .before .before .before .before .before .before .before .before .before .before .pre) .1) (c .before .before .before .before .before .before .before .before .before .first-value .ensures) (c .before .before .before .before .names-rows .ensures)
 
 pub line-rows-spec : {M : Type 1} → statement M
-line-rows-spec = tie.close (tie.spec first-value-requires names-rows-requires same-length same-length-2 returns)
+line-rows-spec =
+    tie.close (tie.spec first-value-requires names-rows-requires (λ c. search needs) (λ c. search needs) returns)

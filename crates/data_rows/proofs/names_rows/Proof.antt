@@ -15,26 +15,11 @@ Inv-loop sheet work₀ c r x out₀ count q₀ j₀ work out q j = Naming sheet 
 abbrev μ-loop : tie.MeasureT-loop
 μ-loop sheet work₀ c r x out₀ count q₀ j₀ work out q j = count - j
 
-sub-number-at : tie.Need-sub-number-at Inv-loop μ-loop
-sub-number-at c = search needs
-
-number-at-requires : tie.Need-number-at-requires Inv-loop μ-loop
-number-at-requires c κs = search needs
-
-no-rows-requires : tie.Need-no-rows-requires Inv-loop μ-loop
-no-rows-requires c κs = search needs
-
 loop-holds : tie.Need-loop-holds Inv-loop μ-loop
 loop-holds c = naming-start (c .before .before .before .before .before .before .before .before .before .pre) (c .before .before .before .before .number-at .ensures .0) (c .before .before .no-rows .ensures .0) (c .before .before .no-rows .ensures .1)
 
 name-rows-requires : tie.Need-name-rows-requires Inv-loop μ-loop
 name-rows-requires c κs = (c .before .before .before .loop .inv .task, omega (arith, few-names (now (c .before .before .before .before .before .before .before .before .before .before .before .before .before .args .sheet)) (now (c .before .before .before .before .before .before .before .before .before .before .before .before .before .args .work)) (c .before .before .before .before .before .before .before .before .before .before .before .before .before .args .c .lines) (c .before .before .before .before .before .before .before .before .before .before .before .before .before .args .r) ((c .before .before .before .before .before .before .before .before .before .before .before .before .before .pre) .line) (c .before .before .before .before .before .before .before .before .number-at .ensures .0), c .before .before .loop-test .taken))
-
-add-j : tie.Need-add-j Inv-loop μ-loop
-add-j c = search needs
-
-loop-less : tie.Need-loop-less Inv-loop μ-loop
-loop-less c = search needs
 
 loop-again : tie.Need-loop-again Inv-loop μ-loop
 loop-again c = naming-next (c .before .before .before .before .before .before .before .before .loop .inv) (c .before .before .before .before .before .before .before .loop-test .taken) (c .before .out2 .given) (c .before .before .before .before .name-rows .ensures)
@@ -50,5 +35,5 @@ returns c = naming-end (c .before .loop .inv) (c .loop-test .left) (c .before .b
 
 pub names-rows-spec : {M : Type 1} → statement M
 names-rows-spec =
-    tie.close (tie.spec Inv-loop μ-loop sub-number-at number-at-requires no-rows-requires loop-holds name-rows-requires add-j loop-less loop-again
-    same-length same-length-2 returns)
+    tie.close (tie.spec Inv-loop μ-loop (λ c. search needs) (λ c κs. search needs) (λ c κs. search needs) loop-holds name-rows-requires
+    (λ c. search needs) (λ c. search needs) loop-again same-length same-length-2 returns)

@@ -15,11 +15,9 @@ number-kind-requires c κs = ((c .before .before .pre) .0, omega (arith, kinds-f
 kind-id-requires : tie.Need-kind-id-requires
 kind-id-requires c κs = ((c .before .before .before .before .before .before .pre) .1 .few, (c .before .before .before .before .before .before .pre) .0, kind-placed ((c .before .before .before .before .before .before .pre) .1 .known) (kindAt (c .before .before .before .before .before .before .args .kind)) (c .before .before .before .number-kind .ensures .0 (kindAt (c .before .before .before .before .before .before .args .kind)) ((c .before .before .before .before .before .before .pre) .1 .known) (kind-own (c .before .before .before .before .before .before .args .kind) ((c .before .before .before .before .before .before .pre) .0)) ((c .before .before .before .before .before .before .pre) .1 .kinds)) (kind-own (c .before .before .before .before .before .before .args .kind) ((c .before .before .before .before .before .before .pre) .0)), omega (arith, c .before .before .before .number-kind .ensures .1 .kept .long, (c .before .before .before .before .before .before .pre) .1 .long))
 
-same-length : tie.Need-same-length
-same-length c = search needs
-
 returns : tie.Need-returns
 returns c = (λ k ks hk x. (c .before .before .before .before .number-kind .ensures .0 k ks hk x, λ s is ms hf e. sym (c .kind-id .ensures .0 s is k (ks ++ (elemKey k ∷ [])) ms (c .before .before .before .before .number-kind .result) hk (c .before .before .before .before .number-kind .ensures .0 k ks hk x) hf e)), c .before .before .before .before .number-kind .ensures .1)
 
 pub number-elements-spec : {M : Type 1} → statement M
-number-elements-spec = tie.close (tie.spec number-kind-requires kind-id-requires same-length returns)
+number-elements-spec =
+    tie.close (tie.spec number-kind-requires kind-id-requires (λ c. search needs) returns)

@@ -9,50 +9,20 @@ use borrow.Author.Needs.{needs}
 use Rattle.data_rows.proofs.rows_at.Statement.{statement}
 use Rattle.data_rows.proofs.rows_at.Tie as tie
 
-form-at-requires : tie.Need-form-at-requires
-form-at-requires c κs = search needs
-
-no-rows-requires : tie.Need-no-rows-requires
-no-rows-requires c κs = search needs
-
-same-length : tie.Need-same-length
-same-length c = search needs
-
-same-length-2 : tie.Need-same-length-2
-same-length-2 c = search needs
-
 returns : tie.Need-returns
 returns c = none-at (now (c .before .before .before .before .before .before .before .before .before .before .args .sheet)) (c .before .before .before .before .before .before .before .before .before .before .args .i) (namesIn (now (c .before .before .before .before .before .before .before .before .before .before .args .sheet)) (now (c .before .before .before .before .before .before .before .before .before .before .args .work)) (c .before .before .before .before .before .before .before .before .before .before .args .c .consts)) (placesIn (now (c .before .before .before .before .before .before .before .before .before .before .args .sheet)) (now (c .before .before .before .before .before .before .before .before .before .before .args .work)) (c .before .before .before .before .before .before .before .before .before .before .args .c .globals)) (laid-other (task-at ((c .before .before .before .before .before .before .before .before .before .before .pre) .0) ((c .before .before .before .before .before .before .before .before .before .before .pre) .1) ((c .before .before .before .before .before .before .before .before .before .before .pre) .2)) (c .before .before .before .before .before .form-at .ensures) (c .before .before .before .before .if1 .taken)) (c .before .before .no-rows .ensures .0) (c .before .before .no-rows .ensures .1)
-
-is-laid-requires : tie.Need-is-laid-requires
-is-laid-requires c κs = search needs
-
-no-rows-requires-2 : tie.Need-no-rows-requires-2
-no-rows-requires-2 c κs = search needs
-
-same-length-3 : tie.Need-same-length-3
-same-length-3 c = search needs
-
-same-length-4 : tie.Need-same-length-4
-same-length-4 c = search needs
 
 returns-2 : tie.Need-returns-2
 returns-2 c = none-at (now (c .before .before .before .before .before .before .before .before .before .before .before .before .before .args .sheet)) (c .before .before .before .before .before .before .before .before .before .before .before .before .before .args .i) (namesIn (now (c .before .before .before .before .before .before .before .before .before .before .before .before .before .args .sheet)) (now (c .before .before .before .before .before .before .before .before .before .before .before .before .before .args .work)) (c .before .before .before .before .before .before .before .before .before .before .before .before .before .args .c .consts)) (placesIn (now (c .before .before .before .before .before .before .before .before .before .before .before .before .before .args .sheet)) (now (c .before .before .before .before .before .before .before .before .before .before .before .before .before .args .work)) (c .before .before .before .before .before .before .before .before .before .before .before .before .before .args .c .globals)) (laid-skipped (task-at ((c .before .before .before .before .before .before .before .before .before .before .before .before .before .pre) .0) ((c .before .before .before .before .before .before .before .before .before .before .before .before .before .pre) .1) ((c .before .before .before .before .before .before .before .before .before .before .before .before .before .pre) .2)) (c .before .before .before .before .before .before .before .before .form-at .ensures) (c .before .before .before .before .before .before .before .if1 .left) (c .before .before .before .before .before .is-laid .ensures) (not-true _ (c .before .before .before .before .if2 .taken))) (c .before .before .no-rows2 .ensures .0) (c .before .before .no-rows2 .ensures .1)
 
-add-line-rows : tie.Need-add-line-rows
-add-line-rows c = search needs
-
 line-rows-requires : tie.Need-line-rows-requires
 line-rows-requires c κs = ((c .before .before .before .before .before .before .before .before .before .before .before .pre) .0, laid-line (task-at ((c .before .before .before .before .before .before .before .before .before .before .before .pre) .0) ((c .before .before .before .before .before .before .before .before .before .before .before .pre) .1) ((c .before .before .before .before .before .before .before .before .before .before .before .pre) .2)) (c .before .before .before .before .before .before .form-at .ensures) (c .before .before .before .before .before .if1 .left))
-
-same-length-5 : tie.Need-same-length-5
-same-length-5 c = search needs
-
-same-length-6 : tie.Need-same-length-6
-same-length-6 c = search needs
 
 returns-3 : tie.Need-returns-3
 returns-3 c = laid-at (now (c .before .before .before .before .before .before .before .before .before .before .before .before .before .before .before .before .args .sheet)) (c .before .before .before .before .before .before .before .before .before .before .before .before .before .before .before .before .args .i) (namesIn (now (c .before .before .before .before .before .before .before .before .before .before .before .before .before .before .before .before .args .sheet)) (now (c .before .before .before .before .before .before .before .before .before .before .before .before .before .before .before .before .args .work)) (c .before .before .before .before .before .before .before .before .before .before .before .before .before .before .before .before .args .c .consts)) (placesIn (now (c .before .before .before .before .before .before .before .before .before .before .before .before .before .before .before .before .args .sheet)) (now (c .before .before .before .before .before .before .before .before .before .before .before .before .before .before .before .before .args .work)) (c .before .before .before .before .before .before .before .before .before .before .before .before .before .before .before .before .args .c .globals)) (laid-here (task-at ((c .before .before .before .before .before .before .before .before .before .before .before .before .before .before .before .before .pre) .0) ((c .before .before .before .before .before .before .before .before .before .before .before .before .before .before .before .before .pre) .1) ((c .before .before .before .before .before .before .before .before .before .before .before .before .before .before .before .before .pre) .2)) (c .before .before .before .before .before .before .before .before .before .before .before .form-at .ensures) (c .before .before .before .before .before .before .before .before .before .before .if1 .left) (c .before .before .before .before .before .before .before .before .is-laid .ensures) (not-false _ (c .before .before .before .before .before .before .before .if2 .left))) (c .before .before .before .before .line-rows .ensures)
 
 pub rows-at-spec : {M : Type 1} → statement M
-rows-at-spec = tie.close (tie.spec form-at-requires no-rows-requires same-length same-length-2 returns is-laid-requires no-rows-requires-2 same-length-3 same-length-4 returns-2 add-line-rows line-rows-requires same-length-5 same-length-6 returns-3)
+rows-at-spec =
+    tie.close (tie.spec (λ c κs. search needs) (λ c κs. search needs) (λ c. search needs) (λ c. search needs) returns (λ c κs. search needs)
+    (λ c κs. search needs) (λ c. search needs) (λ c. search needs) returns-2 (λ c. search needs) line-rows-requires (λ c. search needs)
+    (λ c. search needs) returns-3)

@@ -16,39 +16,15 @@ Inv-loop s from acc₀ i₀ acc i = (acc ≤ most) × (digitsOf most 0 (drop fro
 abbrev μ-loop : tie.MeasureT-loop
 μ-loop s from acc₀ i₀ acc i = length s - i
 
-loop-holds : tie.Need-loop-holds Inv-loop μ-loop
-loop-holds c = search needs
-
-shared-slice-read-x : tie.Need-shared-slice-read-x Inv-loop μ-loop
-shared-slice-read-x c = search needs
-
-add-result : tie.Need-add-result Inv-loop μ-loop
-add-result c = search needs
-
 returns : tie.Need-returns Inv-loop μ-loop
 returns c =
     let l = c .before .before .before .loop in
     digit-low most (l .acc) (l .i) (now (c .before .before .before .before .before .args .s)) (c .before .before .loop-test .taken) (c .if1 .taken) ∙ sym (l .inv .1)
 
-add-result-2 : tie.Need-add-result-2 Inv-loop μ-loop
-add-result-2 c = search needs
-
 returns-2 : tie.Need-returns-2 Inv-loop μ-loop
 returns-2 c =
     let l = c .before .before .before .before .loop in
     digit-high most (l .acc) (l .i) (now (c .before .before .before .before .before .before .args .s)) (c .before .before .before .loop-test .taken) (c .if2 .taken) ∙ sym (l .inv .1)
-
-wide-requires : tie.Need-wide-requires Inv-loop μ-loop
-wide-requires c κs = search needs
-
-more-requires : tie.Need-more-requires Inv-loop μ-loop
-more-requires c κs = search needs
-
-add-i : tie.Need-add-i Inv-loop μ-loop
-add-i c = search needs
-
-loop-less : tie.Need-loop-less Inv-loop μ-loop
-loop-less c = search needs
 
 loop-again : tie.Need-loop-again Inv-loop μ-loop
 loop-again c =
@@ -63,5 +39,5 @@ returns-3 c =
 
 pub digits-spec : {M : Type 1} → statement M
 digits-spec =
-    tie.close (tie.spec Inv-loop μ-loop loop-holds shared-slice-read-x add-result returns add-result-2 returns-2 wide-requires more-requires add-i
-    loop-less loop-again returns-3)
+    tie.close (tie.spec Inv-loop μ-loop (λ c. search needs) (λ c. search needs) (λ c. search needs) returns (λ c. search needs) returns-2
+    (λ c κs. search needs) (λ c κs. search needs) (λ c. search needs) (λ c. search needs) loop-again returns-3)

@@ -6,15 +6,6 @@ use Rattle.decimal.proofs.Numbers.{plus-within, minus-within, none-with
 use Rattle.decimal.proofs.is_between.Statement.{statement}
 use Rattle.decimal.proofs.is_between.Tie as tie
 
-read-signed-requires : tie.Need-read-signed-requires
-read-signed-requires c κs = search needs
-
-enum-known-r : tie.Need-enum-known-r
-enum-known-r c = search needs
-
-enum-known-r-2 : tie.Need-enum-known-r-2
-enum-known-r-2 c = search needs
-
 enum-told : tie.Need-enum-told
 enum-told c = search needs
 
@@ -34,4 +25,5 @@ returns-3 c =
     none-within (now (a .s)) (c .before .before .read-signed .ensures) (a .lo) (a .hi) (c .enum-told .given .1)
 
 pub is-between-spec : {M : Type 1} → statement M
-is-between-spec = tie.close (tie.spec read-signed-requires enum-known-r enum-known-r-2 enum-told returns returns-2 returns-3)
+is-between-spec =
+    tie.close (tie.spec (λ c κs. search needs) (λ c. search needs) (λ c. search needs) enum-told returns returns-2 returns-3)

@@ -5,29 +5,14 @@ use Rattle.decimal.proofs.Numbers.{integer-none, plus-large, plus-is, m
 use Rattle.decimal.proofs.read_integer.Statement.{statement}
 use Rattle.decimal.proofs.read_integer.Tie as tie
 
-read-signed-requires : tie.Need-read-signed-requires
-read-signed-requires c κs = search needs
-
-enum-known-r : tie.Need-enum-known-r
-enum-known-r c = search needs
-
 returns : tie.Need-returns
 returns c = plus-large (now (c .before .before .before .before .before .before .args .s)) (c .before .before .before .before .read-signed .ensures) (c .before .before .r .given .1) (c .if1 .taken)
-
-cast-t7 : tie.Need-cast-t7
-cast-t7 c = search needs
-
-enum-known-r-2 : tie.Need-enum-known-r-2
-enum-known-r-2 c = search needs
 
 returns-2 : tie.Need-returns-2
 returns-2 c = minus-large (now (c .before .before .before .before .before .before .args .s)) (c .before .before .before .before .read-signed .ensures) (c .before .before .r2 .given .1) (c .if2 .taken)
 
 sub-t9 : tie.Need-sub-t9
 sub-t9 c = minus-size (now (c .before .before .before .before .before .before .args .s)) (c .before .before .before .before .read-signed .ensures) (c .before .before .r2 .given .1)
-
-cast-t10 : tie.Need-cast-t10
-cast-t10 c = search needs
 
 enum-told : tie.Need-enum-told
 enum-told c = search needs
@@ -43,5 +28,5 @@ returns-5 c = integer-none (now (c .before .before .before .before .args .s)) (c
 
 pub read-integer-spec : {M : Type 1} → statement M
 read-integer-spec =
-    tie.close (tie.spec read-signed-requires enum-known-r returns cast-t7 enum-known-r-2 returns-2 sub-t9 cast-t10 enum-told returns-3 returns-4
-    returns-5)
+    tie.close (tie.spec (λ c κs. search needs) (λ c. search needs) returns (λ c. search needs) (λ c. search needs) returns-2 sub-t9
+    (λ c. search needs) enum-told returns-3 returns-4 returns-5)

@@ -6,12 +6,6 @@ use Rattle.decimal.proofs.Numbers.{cap-none, cap-large, cap-small}
 use Rattle.decimal.proofs.read_number.Statement.{statement}
 use Rattle.decimal.proofs.read_number.Tie as tie
 
-natural-requires : tie.Need-natural-requires
-natural-requires c κs = search needs
-
-add-result : tie.Need-add-result
-add-result c = search needs
-
 returns : tie.Need-returns
 returns c =
     let a = c .before .before .before .args in
@@ -28,4 +22,5 @@ returns-3 c =
     (cap-small (a .cap) (now (a .s)) (omega arith) (c .before .before .natural .ensures) (c .if2 .left), omega arith)
 
 pub read-number-spec : {M : Type 1} → statement M
-read-number-spec = tie.close (tie.spec natural-requires add-result returns returns-2 returns-3)
+read-number-spec =
+    tie.close (tie.spec (λ c κs. search needs) (λ c. search needs) returns returns-2 returns-3)

@@ -9,12 +9,6 @@ use Rattle.decimal.proofs.read_signed.Tie as tie
 returns : tie.Need-returns
 returns c = signed-nil (now (c .before .before .args .s)) (c .if1 .taken)
 
-shared-slice-read-if2 : tie.Need-shared-slice-read-if2
-shared-slice-read-if2 c = search needs
-
-natural-requires : tie.Need-natural-requires
-natural-requires c κs = search needs
-
 returns-2 : tie.Need-returns-2
 returns-2 c = minus-zero (now (c .before .before .before .before .before .before .args .s)) (omega arith) (c .before .before .if2 .taken) (c .before .natural .ensures) (c .if3 .taken)
 
@@ -24,9 +18,6 @@ returns-3 c = minus-none (now (c .before .before .before .before .before .before
 returns-4 : tie.Need-returns-4
 returns-4 c = minus-some (now (c .before .before .before .before .before .before .before .args .s)) (omega arith) (c .before .before .before .if2 .taken) (c .before .before .natural .ensures) (c .before .if3 .left) (c .if4 .left)
 
-natural-requires-2 : tie.Need-natural-requires-2
-natural-requires-2 c κs = search needs
-
 returns-5 : tie.Need-returns-5
 returns-5 c = plus-none (now (c .before .before .before .before .before .before .args .s)) (omega arith) (c .before .before .if2 .left) (c .before .natural2 .ensures) (c .if5 .taken)
 
@@ -35,4 +26,4 @@ returns-6 c = plus-some (now (c .before .before .before .before .before .before 
 
 pub read-signed-spec : {M : Type 1} → statement M
 read-signed-spec =
-    tie.close (tie.spec returns shared-slice-read-if2 natural-requires returns-2 returns-3 returns-4 natural-requires-2 returns-5 returns-6)
+    tie.close (tie.spec returns (λ c. search needs) (λ c κs. search needs) returns-2 returns-3 returns-4 (λ c κs. search needs) returns-5 returns-6)

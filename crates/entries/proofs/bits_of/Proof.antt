@@ -6,21 +6,6 @@ use borrow.Author.Needs.{needs}
 use Rattle.entries.proofs.bits_of.Statement.{statement}
 use Rattle.entries.proofs.bits_of.Tie as tie
 
-enum-known-v : tie.Need-enum-known-v
-enum-known-v c = search needs
-
-bits-requires : tie.Need-bits-requires
-bits-requires c κs = search needs
-
-enum-known-v-2 : tie.Need-enum-known-v-2
-enum-known-v-2 c = search needs
-
-bits-requires-2 : tie.Need-bits-requires-2
-bits-requires-2 c κs = search needs
-
-enum-known-v-3 : tie.Need-enum-known-v-3
-enum-known-v-3 c = search needs
-
 mul-result : tie.Need-mul-result
 mul-result c = record { fits = let h = Laws.text-short (c .before .v3 .given .1) (c .before .before .before .pre .1) in omega arith }
 
@@ -38,4 +23,5 @@ returns-3 c = Laws.says-text (c .before .before .before .args .place) (c .before
 
 pub bits-of-spec : {M : Type 1} → statement M
 bits-of-spec =
-    tie.close (tie.spec enum-known-v bits-requires enum-known-v-2 bits-requires-2 enum-known-v-3 mul-result add-result returns returns-2 returns-3)
+    tie.close (tie.spec (λ c. search needs) (λ c κs. search needs) (λ c. search needs) (λ c κs. search needs) (λ c. search needs) mul-result
+    add-result returns returns-2 returns-3)

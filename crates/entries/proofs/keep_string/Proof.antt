@@ -11,18 +11,6 @@ use Rattle.entries.proofs.keep_string.Tie as tie
 enum-told : tie.Need-enum-told
 enum-told c = search needs
 
-enum-told-2 : tie.Need-enum-told-2
-enum-told-2 c = search needs
-
-enum-known-v : tie.Need-enum-known-v
-enum-known-v c = search needs
-
-mul-copy : tie.Need-mul-copy
-mul-copy c = search needs
-
-add-copy : tie.Need-add-copy
-add-copy c = search needs
-
 copy-requires : tie.Need-copy-requires
 copy-requires c κs = let h = Laws.text-short (c .before .before .v .given .1) (c .before .before .before .before .before .pre .2) in record { source = omega arith; target = omega arith; apart = inr (omega arith) }
 
@@ -32,11 +20,10 @@ returns c = Laws.string-none (now (c .before .before .before .args .work)) _ (c 
 returns-2 : tie.Need-returns-2
 returns-2 c = Laws.string-none (now (c .before .before .before .args .work)) _ (c .enum-told2 .given .1) refl
 
-same-length : tie.Need-same-length
-same-length c = search needs
-
 returns-3 : tie.Need-returns-3
 returns-3 c = Laws.string-some (now (c .before .before .before .before .before .before .before .before .args .work)) _ _ (c .before .before .before .before .before .v .given .1) (c .before .before .copy .ensures)
 
 pub keep-string-spec : {M : Type 1} → statement M
-keep-string-spec = tie.close (tie.spec enum-told enum-told-2 enum-known-v mul-copy add-copy copy-requires returns returns-2 same-length returns-3)
+keep-string-spec =
+    tie.close (tie.spec enum-told (λ c. search needs) (λ c. search needs) (λ c. search needs) (λ c. search needs) copy-requires returns returns-2
+    (λ c. search needs) returns-3)

@@ -5,34 +5,13 @@ use borrow.Author.Needs.{needs}
 use Rattle.field_rows.proofs.put_case.Statement.{statement}
 use Rattle.field_rows.proofs.put_case.Tie as tie
 
-sub-number-at : tie.Need-sub-number-at
-sub-number-at c = search needs
-
-number-at-requires : tie.Need-number-at-requires
-number-at-requires c κs = search needs
-
-add-from : tie.Need-add-from
-add-from c = search needs
-
-sub-number-at-2 : tie.Need-sub-number-at-2
-sub-number-at-2 c = search needs
-
-number-at-requires-2 : tie.Need-number-at-requires-2
-number-at-requires-2 c κs = search needs
-
-add-put-fields : tie.Need-add-put-fields
-add-put-fields c = search needs
-
 put-fields-requires : tie.Need-put-fields-requires
 put-fields-requires c κs = (case-refs (now (c .before .before .before .before .before .before .args .sheet)) (now (c .before .before .before .before .before .before .args .work)) (c .before .before .before .before .before .before .args .n) (c .before .before .before .before .before .before .args .r) (c .before .before .before .before .before .before .pre .0) (c .before .before .number-at .result) (c .before .before .number-at .ensures .0) (c .before .number-at2 .result) (c .before .number-at2 .ensures .0), omega (arith, c .before .before .before .before .before .before .pre .1), c .before .before .before .before .before .before .pre .2)
-
-same-length : tie.Need-same-length
-same-length c = search needs
 
 returns : tie.Need-returns
 returns c = rw (case-is (now (c .before .before .before .before .before .before .before .before .before .args .sheet)) (now (c .before .before .before .before .before .before .before .before .before .args .work)) (c .before .before .before .before .before .before .before .before .before .args .n) (c .before .before .before .before .before .before .before .before .before .args .r) (c .before .before .before .before .before .before .before .before .before .pre .0) (c .before .before .before .before .before .number-at .result) (c .before .before .before .before .before .number-at .ensures .0) (c .before .before .before .before .number-at2 .result) (c .before .before .before .before .number-at2 .ensures .0)) (c .before .before .put-fields .ensures)
 
 pub put-case-spec : {M : Type 1} → statement M
 put-case-spec =
-    tie.close (tie.spec sub-number-at number-at-requires add-from sub-number-at-2 number-at-requires-2 add-put-fields put-fields-requires same-length
-    returns)
+    tie.close (tie.spec (λ c. search needs) (λ c κs. search needs) (λ c. search needs) (λ c. search needs) (λ c κs. search needs) (λ c. search needs)
+    put-fields-requires (λ c. search needs) returns)

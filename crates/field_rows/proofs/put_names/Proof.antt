@@ -29,9 +29,6 @@ add-field-at c = record { fits = omega (arith, c .before .before .before .before
 field-at-requires : tie.Need-field-at-requires Inv-loop μ-loop
 field-at-requires c κs = (c .before .before .before .before .before .pre .0 .checked .whole, omega (arith, c .before .before .before .before .before .pre .0 .first, c .before .before .before .before .before .pre .0 .last))
 
-put-row-requires : tie.Need-put-row-requires Inv-loop μ-loop
-put-row-requires c κs = search needs
-
 add-off : tie.Need-add-off Inv-loop μ-loop
 add-off c = record { fits = omega (arith, c .before .before .before .before .before .before .loop .inv .small, c .before .before .before .before .before .before .before .before .before .before .pre .3, c .before .before .before .before .before .before .before .before .before .before .pre .4, names-small {a = c .before .before .before .before .before .before .loop .j} {b = c .before .before .before .before .before .before .before .before .before .before .args .size} (omega (arith, c .before .before .before .before .before .before .before .before .before .before .pre .2, c .before .before .before .before .before .loop-test .taken)) (c .before .before .before .before .before .before .before .before .before .before .pre .4)) }
 
@@ -54,5 +51,5 @@ returns c = naming-end (c .before .before .before .before .before .args .size) (
 
 pub put-names-spec : {M : Type 1} → statement M
 put-names-spec =
-    tie.close (tie.spec Inv-loop μ-loop loop-holds sub-field-at add-field-at field-at-requires put-row-requires add-off add-j loop-less loop-again
-    same-length returns)
+    tie.close (tie.spec Inv-loop μ-loop loop-holds sub-field-at add-field-at field-at-requires (λ c κs. search needs) add-off add-j loop-less
+    loop-again same-length returns)

@@ -5,14 +5,9 @@ use borrow.Author.Needs.{needs}
 use Rattle.form.proofs.begin.Statement.{statement}
 use Rattle.form.proofs.begin.Tie as tie
 
-width-requires : tie.Need-width-requires
-width-requires c κs = search needs
-
-add-t3 : tie.Need-add-t3
-add-t3 c = search needs
-
 returns : tie.Need-returns
 returns c = ap (λ (k : ℕ). record { at = k + 1; j = 0; c = 0; e = 65 }) (c .width .ensures .0)
 
 pub begin-spec : {M : Type 1} → statement M
-begin-spec = tie.close (tie.spec width-requires add-t3 returns)
+begin-spec =
+    tie.close (tie.spec (λ c κs. search needs) (λ c. search needs) returns)

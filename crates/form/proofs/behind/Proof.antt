@@ -9,8 +9,6 @@ behind-in-requires : tie.Need-behind-in-requires
 unfolding forms
 behind-in-requires c κs = (c .before .before .pre .0, c .before .before .pre .1, refl)
 
-returns : tie.Need-returns
-returns c = search needs
-
 pub behind-spec : {M : Type 1} → statement M
-behind-spec = tie.close (tie.spec behind-in-requires returns)
+behind-spec =
+    tie.close (tie.spec behind-in-requires (λ c. search needs))

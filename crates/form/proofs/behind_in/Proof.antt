@@ -24,17 +24,8 @@ loop-holds c = (omega arith, omega arith, begins-start (c .before .args .f) (now
 word-requires : tie.Need-word-requires Inv-loop μ-loop
 word-requires c κs = (c .before .before .pre .2, c .before .before .pre .0, omega (arith, words-short (c .before .before .args .f) (c .before .before .pre .0)))
 
-add-result : tie.Need-add-result Inv-loop μ-loop
-add-result c = search needs
-
 returns : tie.Need-returns Inv-loop μ-loop
 returns c = begins-all (c .before .before .before .before .before .args .f) (now (c .before .before .before .before .before .args .l)) (c .before .before .before .loop .i) (c .before .before .before .before .before .pre .0) (c .before .before .before .loop .inv .0) (c .before .before .before .loop .inv .2) (sym (c .before .before .word .ensures) ∙ c .before .if1 .taken) (omega arith)
-
-shared-slice-read-if3 : tie.Need-shared-slice-read-if3 Inv-loop μ-loop
-shared-slice-read-if3 c = search needs
-
-add-result-2 : tie.Need-add-result-2 Inv-loop μ-loop
-add-result-2 c = search needs
 
 returns-2 : tie.Need-returns-2 Inv-loop μ-loop
 returns-2 c = begins-comma (c .before .before .before .before .before .before .before .args .f) (now (c .before .before .before .before .before .before .before .args .l)) (c .before .before .before .before .before .loop .i) (c .before .before .before .before .before .before .before .pre .0) (c .before .before .before .before .before .loop .inv .0) (c .before .before .before .before .before .loop .inv .2) (sym (c .before .before .before .before .word .ensures) ∙ c .before .before .before .if1 .taken) (omega arith) (c .if3 .taken)
@@ -45,14 +36,8 @@ returns-3 c = begins-other (c .before .before .before .before .before .before .b
 returns-4 : tie.Need-returns-4 Inv-loop μ-loop
 returns-4 c = begins-short (c .before .before .before .before .before .args .f) (now (c .before .before .before .before .before .args .l)) (c .before .before .before .loop .i) (c .before .before .before .before .before .pre .0) (c .before .before .before .loop .inv .0) (c .before .before .before .loop .inv .2) (λ q. c .before .if1 .left (c .before .before .word .ensures ∙ q)) (omega arith)
 
-shared-slice-read-if5 : tie.Need-shared-slice-read-if5 Inv-loop μ-loop
-shared-slice-read-if5 c = search needs
-
 returns-5 : tie.Need-returns-5 Inv-loop μ-loop
 returns-5 c = begins-differ (c .before .before .before .before .before .before .before .args .f) (now (c .before .before .before .before .before .before .before .args .l)) (c .before .before .before .before .before .loop .i) (c .before .before .before .before .before .before .before .pre .0) (c .before .before .before .before .before .loop .inv .0) (c .before .before .before .before .before .loop .inv .2) (λ q. c .before .before .before .if1 .left (c .before .before .before .before .word .ensures ∙ q)) (omega arith) (λ q. c .if5 .taken (q ∙ sym (c .before .before .before .before .word .ensures)))
-
-add-i : tie.Need-add-i Inv-loop μ-loop
-add-i c = search needs
 
 loop-less : tie.Need-loop-less Inv-loop μ-loop
 loop-less c = let h = inside (wordsAt (c .before .before .before .before .before .before .before .args .f)) (c .before .before .before .before .before .loop .i) (λ q. c .before .before .before .if1 .left (c .before .before .before .before .word .ensures ∙ q)) in omega (arith, words-short (c .before .before .before .before .before .before .before .args .f) (c .before .before .before .before .before .before .before .pre .0))
@@ -64,5 +49,5 @@ loop-again c =
 
 pub behind-in-spec : {M : Type 1} → statement M
 behind-in-spec =
-    tie.close (tie.spec Inv-loop μ-loop loop-holds word-requires add-result returns shared-slice-read-if3 add-result-2 returns-2 returns-3 returns-4
-    shared-slice-read-if5 returns-5 add-i loop-less loop-again)
+    tie.close (tie.spec Inv-loop μ-loop loop-holds word-requires (λ c. search needs) returns (λ c. search needs) (λ c. search needs) returns-2
+    returns-3 returns-4 (λ c. search needs) returns-5 (λ c. search needs) loop-less loop-again)

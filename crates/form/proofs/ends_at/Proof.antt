@@ -8,11 +8,9 @@ use Rattle.form.proofs.ends_at.Tie as tie
 returns : tie.Need-returns
 returns c = ends-end (now (c .before .args .l)) (c .before .args .e) (c .if1 .taken)
 
-shared-slice-read-result : tie.Need-shared-slice-read-result
-shared-slice-read-result c = search needs
-
 returns-2 : tie.Need-returns-2
 returns-2 c = ends-hit (now (c .before .before .args .l)) (c .before .before .args .e) (omega arith)
 
 pub ends-at-spec : {M : Type 1} → statement M
-ends-at-spec = tie.close (tie.spec returns shared-slice-read-result returns-2)
+ends-at-spec =
+    tie.close (tie.spec returns (λ c. search needs) returns-2)

@@ -27,29 +27,8 @@ loop-holds c = (ready-start (c .before .args .f) (c .before .pre .0), ap (λ (xs
 letter-requires : tie.Need-letter-requires Inv-loop μ-loop
 letter-requires c κs = c .before .before .loop .inv .0
 
-find-requires : tie.Need-find-requires Inv-loop μ-loop
-find-requires c κs = search needs
-
-sub-s : tie.Need-sub-s Inv-loop μ-loop
-sub-s c = search needs
-
-part-s-start : tie.Need-part-s-start Inv-loop μ-loop
-part-s-start c = search needs
-
-part-s-end : tie.Need-part-s-end Inv-loop μ-loop
-part-s-end c = search needs
-
-is-good-requires : tie.Need-is-good-requires Inv-loop μ-loop
-is-good-requires c κs = search needs
-
 returns : tie.Need-returns Inv-loop μ-loop
 returns c = sym (c .before .before .before .before .before .before .before .loop .inv .1 ∙ fits-bad (now (c .before .before .before .before .before .before .before .before .before .args .l)) (c .before .before .before .before .before .before .before .loop .w .at) (c .before .before .before .find .result) (c .before .before .before .before .before .if1 .taken) (c .before .before .before .find .ensures .0) (c .before .before .before .before .letter .result) _ (c .before .before .before .before .letter .ensures) (sym (c .before .is-good .ensures) ∙ not-true (c .before .is-good .result) (c .if2 .taken)))
-
-number-requires : tie.Need-number-requires Inv-loop μ-loop
-number-requires c κs = search needs
-
-add-step : tie.Need-add-step Inv-loop μ-loop
-add-step c = search needs
 
 step-requires : tie.Need-step-requires Inv-loop μ-loop
 step-requires c κs = (c .before .before .before .before .before .before .before .before .loop .inv .0, c .before .before .before .before .before .letter .ensures, not-blank (c .before .before .before .before .before .letter .result) _ (sym (c .before .before .is-good .ensures) ∙ not-false (c .before .before .is-good .result) (c .before .if2 .left)))
@@ -68,5 +47,5 @@ returns-2 c = ap (λ (x : ℕ). eqb x 32) (c .letter2 .ensures) ∙ sym (c .befo
 
 pub fits-form-spec : {M : Type 1} → statement M
 fits-form-spec =
-    tie.close (tie.spec Inv-loop μ-loop loop-holds letter-requires find-requires sub-s part-s-start part-s-end is-good-requires returns
-    number-requires add-step step-requires loop-less loop-again letter-requires-2 returns-2)
+    tie.close (tie.spec Inv-loop μ-loop loop-holds letter-requires (λ c κs. search needs) (λ c. search needs) (λ c. search needs) (λ c. search needs)
+    (λ c κs. search needs) returns (λ c κs. search needs) (λ c. search needs) step-requires loop-less loop-again letter-requires-2 returns-2)

@@ -11,23 +11,11 @@ use Rattle.form.proofs.form_of.Tie as tie
 returns : tie.Need-returns
 returns c = (form-long (c .before .before .args .k) (now (c .before .before .args .l)) (c .if1 .taken), omega arith)
 
-row-of-requires : tie.Need-row-of-requires
-row-of-requires c κs = search needs
-
 returns-2 : tie.Need-returns-2
 returns-2 c = (form-none (c .before .before .before .before .args .k) (now (c .before .before .before .before .args .l)) (c .before .row-of .result) (c .before .before .if1 .left) (c .before .row-of .ensures .0) (c .if2 .taken), omega arith)
 
-behind-requires : tie.Need-behind-requires
-behind-requires c κs = search needs
-
-fits-form-requires : tie.Need-fits-form-requires
-fits-form-requires c κs = search needs
-
 returns-3 : tie.Need-returns-3
 returns-3 c = (form-unfit (c .before .before .before .before .before .before .before .args .k) (now (c .before .before .before .before .before .before .before .args .l)) (c .before .before .before .before .row-of .result) (c .before .before .before .before .before .if1 .left) (c .before .before .before .before .row-of .ensures .0) (c .before .before .behind .result) (omega arith) (c .before .before .behind .ensures) (sym (c .before .fits-form .ensures) ∙ not-true (c .before .fits-form .result) (c .if3 .taken)), omega arith)
-
-kind-requires : tie.Need-kind-requires
-kind-requires c κs = search needs
 
 returns-4 : tie.Need-returns-4
 returns-4 c = (form-other (c .before .before .before .before .before .before .before .before .before .args .k) (now (c .before .before .before .before .before .before .before .before .before .args .l)) (c .before .before .before .before .before .before .row-of .result) (c .before .before .before .before .before .before .before .if1 .left) (c .before .before .before .before .before .before .row-of .ensures .0) (c .before .before .before .before .behind .result) (omega arith) (c .before .before .before .before .behind .ensures) (sym (c .before .before .before .fits-form .ensures) ∙ not-false (c .before .before .before .fits-form .result) (c .before .before .if3 .left)) (λ q. c .if4 .taken (c .before .kind .ensures ∙ q)), omega arith)
@@ -40,4 +28,5 @@ returns-6 c = (form-late (c .before .before .before .before .before .before .bef
 
 pub form-of-spec : {M : Type 1} → statement M
 form-of-spec =
-    tie.close (tie.spec returns row-of-requires returns-2 behind-requires fits-form-requires returns-3 kind-requires returns-4 returns-5 returns-6)
+    tie.close (tie.spec returns (λ c κs. search needs) returns-2 (λ c κs. search needs) (λ c κs. search needs) returns-3 (λ c κs. search needs)
+    returns-4 returns-5 returns-6)

@@ -19,17 +19,8 @@ abbrev μ-loop : tie.MeasureT-loop
 loop-holds : tie.Need-loop-holds Inv-loop μ-loop
 loop-holds c = (omega arith, row-start (now (c .before .args .l)))
 
-behind-in-requires : tie.Need-behind-in-requires Inv-loop μ-loop
-behind-in-requires c κs = search needs
-
 returns : tie.Need-returns Inv-loop μ-loop
 returns c = (row-here (now (c .before .before .before .before .before .args .l)) (c .before .before .before .loop .f) (c .before .before .loop-test .taken) (c .before .before .before .loop .inv .1) (c .before .behind-in .ensures) (c .if1 .taken), omega arith)
-
-add-f : tie.Need-add-f Inv-loop μ-loop
-add-f c = search needs
-
-loop-less : tie.Need-loop-less Inv-loop μ-loop
-loop-less c = search needs
 
 loop-again : tie.Need-loop-again Inv-loop μ-loop
 loop-again c = (omega arith, row-next (now (c .before .before .before .before .before .args .l)) (c .before .before .before .loop .f) (c .before .before .loop-test .taken) (c .before .before .before .loop .inv .1) (c .before .behind-in .ensures) (c .if1 .left))
@@ -38,4 +29,5 @@ returns-2 : tie.Need-returns-2 Inv-loop μ-loop
 returns-2 c = (row-end (now (c .before .before .before .args .l)) (c .before .loop .f) (omega arith) (c .before .loop .inv .1), omega arith)
 
 pub row-in-spec : {M : Type 1} → statement M
-row-in-spec = tie.close (tie.spec Inv-loop μ-loop loop-holds behind-in-requires returns add-f loop-less loop-again returns-2)
+row-in-spec =
+    tie.close (tie.spec Inv-loop μ-loop loop-holds (λ c κs. search needs) returns (λ c. search needs) (λ c. search needs) loop-again returns-2)

@@ -9,8 +9,6 @@ row-in-requires : tie.Need-row-in-requires
 unfolding forms
 row-in-requires c κs = (c .before .before .pre, refl)
 
-returns : tie.Need-returns
-returns c = search needs
-
 pub row-of-spec : {M : Type 1} → statement M
-row-of-spec = tie.close (tie.spec row-in-requires returns)
+row-of-spec =
+    tie.close (tie.spec row-in-requires (λ c. search needs))

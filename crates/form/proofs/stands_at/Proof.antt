@@ -18,17 +18,8 @@ Inv-loop l at name i₀ i = (i ≤ length name) × (at + length name ≤ length 
 abbrev μ-loop : tie.MeasureT-loop
 μ-loop l at name i₀ i = i
 
-sub-if1 : tie.Need-sub-if1 Inv-loop μ-loop
-sub-if1 c = search needs
-
 returns : tie.Need-returns Inv-loop μ-loop
 returns c = stands-short (now (c .before .before .before .args .name)) (now (c .before .before .before .args .l)) (c .before .before .before .args .at) (c .before .before .before .pre) (c .if1 .taken)
-
-add-ends-at : tie.Need-add-ends-at Inv-loop μ-loop
-add-ends-at c = search needs
-
-ends-at-requires : tie.Need-ends-at-requires Inv-loop μ-loop
-ends-at-requires c κs = search needs
 
 returns-2 : tie.Need-returns-2 Inv-loop μ-loop
 returns-2 c = stands-on (now (c .before .before .before .before .before .args .name)) (now (c .before .before .before .before .before .args .l)) (c .before .before .before .before .before .args .at) (omega (arith, c .before .before .if1 .left, c .before .before .before .before .before .pre)) (sym (c .before .ends-at .ensures) ∙ not-true _ (c .if2 .taken))
@@ -36,26 +27,11 @@ returns-2 c = stands-on (now (c .before .before .before .before .before .args .n
 loop-holds : tie.Need-loop-holds Inv-loop μ-loop
 loop-holds c = (omega arith, omega (arith, c .before .before .if1 .left, c .before .before .before .before .before .pre), stands-end (now (c .before .before .before .before .before .args .name)) (now (c .before .before .before .before .before .args .l)) (c .before .before .before .before .before .args .at) (sym (c .before .ends-at .ensures) ∙ not-false _ (c .if2 .left)))
 
-sub-i : tie.Need-sub-i Inv-loop μ-loop
-sub-i c = search needs
-
-add-x : tie.Need-add-x Inv-loop μ-loop
-add-x c = search needs
-
-shared-slice-read-x : tie.Need-shared-slice-read-x Inv-loop μ-loop
-shared-slice-read-x c = search needs
-
-shared-slice-read-if3 : tie.Need-shared-slice-read-if3 Inv-loop μ-loop
-shared-slice-read-if3 c = search needs
-
 returns-3 : tie.Need-returns-3 Inv-loop μ-loop
 returns-3 c = stands-not (now (c .before .before .before .before .before .before .before .before .before .before .args .name)) (now (c .before .before .before .before .before .before .before .before .before .before .args .l)) (c .before .before .before .before .before .before .before .before .before .before .args .at) _ (omega arith) (omega arith) (c .if3 .taken)
 
 returns-4 : tie.Need-returns-4 Inv-loop μ-loop
 returns-4 c = stands-comma (now (c .before .before .before .before .before .before .before .before .before .before .before .args .name)) (now (c .before .before .before .before .before .before .before .before .before .before .before .args .l)) (c .before .before .before .before .before .before .before .before .before .before .before .args .at) _ (omega arith) (omega arith) (c .if4 .taken)
-
-loop-less : tie.Need-loop-less Inv-loop μ-loop
-loop-less c = search needs
 
 loop-again : tie.Need-loop-again Inv-loop μ-loop
 loop-again c = (omega arith, c .before .before .before .before .before .loop .inv .1, stands-next (now (c .before .before .before .before .before .before .before .before .before .before .before .args .name)) (now (c .before .before .before .before .before .before .before .before .before .before .before .args .l)) (c .before .before .before .before .before .before .before .before .before .before .before .args .at) (c .before .before .before .before .before .loop .i - 1) (omega arith) (omega arith) (c .if4 .left) (c .before .before .before .before .before .loop .i) (omega arith) (c .before .if3 .left) (c .before .before .before .before .before .loop .inv .2))
@@ -65,5 +41,5 @@ returns-5 c = let z : c .before .loop .i ≡ 0 = omega arith in stands-all (now 
 
 pub stands-at-spec : {M : Type 1} → statement M
 stands-at-spec =
-    tie.close (tie.spec Inv-loop μ-loop sub-if1 returns add-ends-at ends-at-requires returns-2 loop-holds sub-i add-x shared-slice-read-x
-    shared-slice-read-if3 returns-3 returns-4 loop-less loop-again returns-5)
+    tie.close (tie.spec Inv-loop μ-loop (λ c. search needs) returns (λ c. search needs) (λ c κs. search needs) returns-2 loop-holds
+    (λ c. search needs) (λ c. search needs) (λ c. search needs) (λ c. search needs) returns-3 returns-4 (λ c. search needs) loop-again returns-5)

@@ -6,9 +6,6 @@ use borrow.Author.Needs.{needs}
 use Rattle.form.proofs.width.Statement.{statement}
 use Rattle.form.proofs.width.Tie as tie
 
-array-read-result : tie.Need-array-read-result
-array-read-result c = search needs
-
 sub-result : tie.Need-sub-result
 unfolding forms column
 sub-result c = omega (arith, width-cell (c .args .f) (c .pre), words-short (c .args .f) (c .pre))
@@ -22,4 +19,5 @@ unfolding forms column
 returns c = (omega (arith, width-cell (c .args .f) (c .pre)), omega (arith, width-cell (c .args .f) (c .pre), words-short (c .args .f) (c .pre)))
 
 pub width-spec : {M : Type 1} → statement M
-width-spec = tie.close (tie.spec array-read-result sub-result cast-result returns)
+width-spec =
+    tie.close (tie.spec (λ c. search needs) sub-result cast-result returns)

@@ -8,22 +8,11 @@ use borrow.Author.Needs.{needs}
 use Rattle.form.proofs.word.Statement.{statement}
 use Rattle.form.proofs.word.Tie as tie
 
-mul-result : tie.Need-mul-result
-mul-result c = search needs
-
-add-result : tie.Need-add-result
-add-result c = search needs
-
-add-result-2 : tie.Need-add-result-2
-add-result-2 c = search needs
-
-element-copy-out-result : tie.Need-element-copy-out-result
-element-copy-out-result c = search needs
-
 returns : tie.Need-returns
 returns c =
     ap (λ (xs : List ℕ). getD xs (24 * c .before .args .f + 1 + c .before .args .i) 0) (c .before .pre .0)
     ∙ word-cell (c .before .args .f) (c .before .pre .1) (c .before .args .i) (c .before .pre .2)
 
 pub word-spec : {M : Type 1} → statement M
-word-spec = tie.close (tie.spec mul-result add-result add-result-2 element-copy-out-result returns)
+word-spec =
+    tie.close (tie.spec (λ c. search needs) (λ c. search needs) (λ c. search needs) (λ c. search needs) returns)

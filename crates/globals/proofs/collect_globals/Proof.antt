@@ -24,12 +24,6 @@ declare-line-requires c κs =
 open-after-requires : tie.Need-open-after-requires Inv-loop μ-loop
 open-after-requires c κs = (open-around (c .before .before .before .declare-line .ensures .around) (c .before .before .before .before .before .before .loop .inv .here), c .before .before .before .before .before .loop-test .taken)
 
-add-i : tie.Need-add-i Inv-loop μ-loop
-add-i c = search needs
-
-loop-less : tie.Need-loop-less Inv-loop μ-loop
-loop-less c = search needs
-
 loop-again : tie.Need-loop-again Inv-loop μ-loop
 loop-again c =
     let l = c .before .before .before .before .before .before .before .loop in
@@ -45,4 +39,5 @@ returns c =
 
 pub collect-globals-spec : {M : Type 1} → statement M
 collect-globals-spec =
-    tie.close (tie.spec Inv-loop μ-loop loop-holds declare-line-requires open-after-requires add-i loop-less loop-again same-length returns)
+    tie.close (tie.spec Inv-loop μ-loop loop-holds declare-line-requires open-after-requires (λ c. search needs) (λ c. search needs) loop-again
+    same-length returns)

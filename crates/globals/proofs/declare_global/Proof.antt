@@ -13,9 +13,6 @@ Inv-loop sheet work₀ n r count h₀ j₀ work h j = Naming sheet work₀ work 
 abbrev μ-loop : tie.MeasureT-loop
 μ-loop sheet work₀ n r count h₀ j₀ work h j = count - j
 
-sub-number-at : tie.Need-sub-number-at Inv-loop μ-loop
-sub-number-at c = search needs
-
 number-at-requires : tie.Need-number-at-requires Inv-loop μ-loop
 number-at-requires c κs =
     let a = c .before .before .before .args in
@@ -31,12 +28,6 @@ declare-name-requires c κs =
     let a = c .before .before .before .before .before .before .before .args in
     let l = c .before .before .loop in
     naming-here (now (a .sheet)) (now (a .work)) (a .n) (a .r) (a .g) (c .before .before .before .number-at .result) (c .before .before .before .before .before .before .before .pre .1) (c .before .before .before .number-at .ensures .0) (l .work) (l .h) (l .j) (l .inv) (c .before .loop-test .taken) (c .before .before .before .before .before .before .before .pre .2)
-
-add-j : tie.Need-add-j Inv-loop μ-loop
-add-j c = search needs
-
-loop-less : tie.Need-loop-less Inv-loop μ-loop
-loop-less c = search needs
 
 loop-again : tie.Need-loop-again Inv-loop μ-loop
 loop-again c =
@@ -55,5 +46,5 @@ returns c =
 
 pub declare-global-spec : {M : Type 1} → statement M
 declare-global-spec =
-    tie.close (tie.spec Inv-loop μ-loop sub-number-at number-at-requires loop-holds declare-name-requires add-j loop-less loop-again same-length
-    returns)
+    tie.close (tie.spec Inv-loop μ-loop (λ c. search needs) number-at-requires loop-holds declare-name-requires (λ c. search needs)
+    (λ c. search needs) loop-again same-length returns)

@@ -6,39 +6,21 @@ use Rattle.globals.proofs.Collect.{line-other, line-var, line-room, lin
 use Rattle.globals.proofs.declare_line.Statement.{statement}
 use Rattle.globals.proofs.declare_line.Tie as tie
 
-form-at-requires : tie.Need-form-at-requires
-form-at-requires c κs = search needs
-
-same-length : tie.Need-same-length
-same-length c = search needs
-
 returns : tie.Need-returns
 returns c =
     let a = c .before .before .before .before .before .args in let p = c .before .before .before .before .before .pre in
     line-other (now (a .sheet)) (now (a .work)) (a .n) (a .i) (a .k) (a .g) (p .0) (p .1) (p .2) _ (c .before .form-at .ensures) (c .if1 .taken)
-
-is-laid-requires : tie.Need-is-laid-requires
-is-laid-requires c κs = search needs
-
-same-length-2 : tie.Need-same-length-2
-same-length-2 c = search needs
 
 returns-2 : tie.Need-returns-2
 returns-2 c =
     let a = c .before .before .before .before .before .before .before .before .args in let p = c .before .before .before .before .before .before .before .before .pre in
     line-skipped (now (a .sheet)) (now (a .work)) (a .n) (a .i) (a .k) (a .g) (p .0) (p .1) (p .2) _ (c .before .before .before .before .form-at .ensures) (c .before .before .before .if1 .left) (c .before .is-laid .ensures) (not-true _ (c .if2 .taken))
 
-add-declare-global : tie.Need-add-declare-global
-add-declare-global c = search needs
-
 declare-global-requires : tie.Need-declare-global-requires
 declare-global-requires c κs =
     let a = c .before .before .before .before .before .before .before .before .before .args in let p = c .before .before .before .before .before .before .before .before .before .pre in
     let e = c .before .before .before .before .before .form-at .ensures in let q = c .before .before .before .before .if1 .left in
     (p .0, line-var (now (a .sheet)) (now (a .work)) (a .n) (a .i) (a .k) (a .g) (p .0) (p .1) (p .2) _ e q, line-room (now (a .sheet)) (now (a .work)) (a .n) (a .i) (a .k) (a .g) (p .0) (p .1) (p .2) _ e q (p .3))
-
-same-length-3 : tie.Need-same-length-3
-same-length-3 c = search needs
 
 returns-3 : tie.Need-returns-3
 returns-3 c =
@@ -47,5 +29,5 @@ returns-3 c =
 
 pub declare-line-spec : {M : Type 1} → statement M
 declare-line-spec =
-    tie.close (tie.spec form-at-requires same-length returns is-laid-requires same-length-2 returns-2 add-declare-global declare-global-requires
-    same-length-3 returns-3)
+    tie.close (tie.spec (λ c κs. search needs) (λ c. search needs) returns (λ c κs. search needs) (λ c. search needs) returns-2 (λ c. search needs)
+    declare-global-requires (λ c. search needs) returns-3)

@@ -9,35 +9,11 @@ use Rattle.globals.specs.Table.{nameOn, typeOn, layingIn}
 use Rattle.globals.proofs.declare_name.Statement.{statement}
 use Rattle.globals.proofs.declare_name.Tie as tie
 
-sub-field-at : tie.Need-sub-field-at
-sub-field-at c = search needs
-
-add-field-at : tie.Need-add-field-at
-add-field-at c = search needs
-
-field-at-requires : tie.Need-field-at-requires
-field-at-requires c κs = search needs
-
-slice-aggregate-same : tie.Need-slice-aggregate-same
-slice-aggregate-same c = search needs
-
-same-requires : tie.Need-same-requires
-same-requires c κs = search needs
-
-same-length : tie.Need-same-length
-same-length c = search needs
-
 returns : tie.Need-returns
 returns c =
     let a = c .before .before .before .before .before .before .before .args in
     let e = nil-test (c .before .before .before .field-at .ensures) (c .before .same .ensures) in
     laid-same (c .before .before .before .before .before .before .before .pre .0) (lay-nil (typeOn (now (a .sheet)) (a .r)) (nameOn (now (a .sheet)) (a .r) (a .j)) (layingIn (now (a .sheet)) (now (a .work)) (a .g)) (e ∙ c .if1 .taken)) (omega arith)
-
-place-of-requires : tie.Need-place-of-requires
-place-of-requires c κs = search needs
-
-same-length-2 : tie.Need-same-length-2
-same-length-2 c = search needs
 
 returns-2 : tie.Need-returns-2
 returns-2 c =
@@ -47,28 +23,10 @@ returns-2 c =
     (lay-again (typeOn (now (a .sheet)) (a .r)) (nameOn (now (a .sheet)) (a .r) (a .j)) (layingIn (now (a .sheet)) (now (a .work)) (a .g)) (now (a .work)) _ (e ∙ c .before .before .before .if1 .left) (rw (← c .before .before .before .before .before .before .field-at .ensures) (c .before .place-of .ensures .0)) (c .if2 .taken))
     (omega arith)
 
-sub-number-at : tie.Need-sub-number-at
-sub-number-at c = search needs
-
-number-at-requires : tie.Need-number-at-requires
-number-at-requires c κs = search needs
-
 global-size-requires : tie.Need-global-size-requires
 global-size-requires c κs =
     let a = c .before .before .before .before .before .before .before .before .before .before .before .before .before .args in
     type-line (now (a .sheet)) (now (a .work)) (a .n) (a .r) (c .before .before .before .before .before .before .before .before .before .before .before .before .before .pre .1) _ (c .before .number-at .ensures .0)
-
-align-up-requires : tie.Need-align-up-requires
-align-up-requires c κs = search needs
-
-cast-offset : tie.Need-cast-offset
-cast-offset c = search needs
-
-cast-enter : tie.Need-cast-enter
-cast-enter c = search needs
-
-digest-requires : tie.Need-digest-requires
-digest-requires c κs = search needs
 
 enter-requires : tie.Need-enter-requires
 enter-requires c κs =
@@ -85,9 +43,6 @@ add-t30 c =
     let p = c .before .before .before .before .before .before .before .before .before .before .before .before .before .before .before .before .before .before .before .before .before .pre in
     record { fits = end-fits (now (a .sheet)) (now (a .work)) (a .n) (a .r) (a .j) (a .g) (p .0) (p .1) (p .2) (p .3) _ (c .before .before .before .before .before .before .before .before .before .number-at .ensures .0) _ (c .before .before .before .before .before .before .before .global-size .ensures .0) _ (c .before .before .before .before .before .before .align-up .ensures .0) _ (c .before .before .before .before .digest .ensures .0 ∙ rw (c .before .before .before .before .before .before .before .before .before .before .before .before .before .before .before .before .before .field-at .ensures)) (c .before .before .before .before .digest .ensures .1) }
 
-same-length-3 : tie.Need-same-length-3
-same-length-3 c = search needs
-
 returns-3 : tie.Need-returns-3
 returns-3 c =
     let a = c .before .before .before .before .before .before .before .before .before .before .before .before .before .before .before .before .before .before .before .before .before .args in
@@ -98,6 +53,7 @@ returns-3 c =
 
 pub declare-name-spec : {M : Type 1} → statement M
 declare-name-spec =
-    tie.close (tie.spec sub-field-at add-field-at field-at-requires slice-aggregate-same same-requires same-length returns place-of-requires
-    same-length-2 returns-2 sub-number-at number-at-requires global-size-requires align-up-requires cast-offset cast-enter digest-requires
-    enter-requires add-t14 add-t30 same-length-3 returns-3)
+    tie.close (tie.spec (λ c. search needs) (λ c. search needs) (λ c κs. search needs) (λ c. search needs) (λ c κs. search needs) (λ c. search needs)
+    returns (λ c κs. search needs) (λ c. search needs) returns-2 (λ c. search needs) (λ c κs. search needs) global-size-requires
+    (λ c κs. search needs) (λ c. search needs) (λ c. search needs) (λ c κs. search needs) enter-requires add-t14 add-t30 (λ c. search needs)
+    returns-3)

@@ -8,14 +8,8 @@ use Rattle.globals.proofs.Line.{size-word, size-plain}
 use Rattle.globals.proofs.global_size.Statement.{statement}
 use Rattle.globals.proofs.global_size.Tie as tie
 
-is-pointer-requires : tie.Need-is-pointer-requires
-is-pointer-requires c κs = search needs
-
 returns : tie.Need-returns
 returns c = (size-word (typeAt (now (c .before .before .before .before .args .sheet)) (c .before .before .before .before .args .r)) (sym (c .before .is-pointer .ensures) ∙ c .if1 .taken), omega arith)
-
-type-size-align-requires : tie.Need-type-size-align-requires
-type-size-align-requires c κs = search needs
 
 returns-2 : tie.Need-returns-2
 returns-2 c =
@@ -23,4 +17,5 @@ returns-2 c =
     (c .type-size-align .ensures .whole ∙ w .0, omega (arith, c .type-size-align .ensures .whole))
 
 pub global-size-spec : {M : Type 1} → statement M
-global-size-spec = tie.close (tie.spec is-pointer-requires returns type-size-align-requires returns-2)
+global-size-spec =
+    tie.close (tie.spec (λ c κs. search needs) returns (λ c κs. search needs) returns-2)

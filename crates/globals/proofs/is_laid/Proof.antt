@@ -6,11 +6,9 @@ use Rattle.globals.proofs.Declare.{counts-own}
 use Rattle.globals.proofs.is_laid.Statement.{statement}
 use Rattle.globals.proofs.is_laid.Tie as tie
 
-is-own-requires : tie.Need-is-own-requires
-is-own-requires c κs = search needs
-
 returns : tie.Need-returns
 returns c = let a = c .before .before .before .args in c .is-own .ensures ∙ counts-own (now (a .sheet)) (a .k)
 
 pub is-laid-spec : {M : Type 1} → statement M
-is-laid-spec = tie.close (tie.spec is-own-requires returns)
+is-laid-spec =
+    tie.close (tie.spec (λ c κs. search needs) returns)

@@ -7,17 +7,8 @@ use Rattle.globals.specs.Table.{entryAt}
 use Rattle.globals.proofs.name_of.Statement.{statement}
 use Rattle.globals.proofs.name_of.Tie as tie
 
-line-of-requires : tie.Need-line-of-requires
-line-of-requires c κs = search needs
-
 sub-field-at : tie.Need-sub-field-at
 sub-field-at c = rw (c .line-of .ensures) (c .before .before .before .pre .0 .each (c .before .before .before .args .i) (c .before .before .before .pre .1) .first)
-
-position-of-requires : tie.Need-position-of-requires
-position-of-requires c κs = search needs
-
-add-field-at : tie.Need-add-field-at
-add-field-at c = search needs
 
 field-at-requires : tie.Need-field-at-requires
 field-at-requires c κs =
@@ -29,4 +20,5 @@ unfolding entryAt
 returns c = c .field-at .ensures ∙ rw (c .before .before .line-of .ensures, c .before .position-of .ensures .0)
 
 pub name-of-spec : {M : Type 1} → statement M
-name-of-spec = tie.close (tie.spec line-of-requires sub-field-at position-of-requires add-field-at field-at-requires returns)
+name-of-spec =
+    tie.close (tie.spec (λ c κs. search needs) sub-field-at (λ c κs. search needs) (λ c. search needs) field-at-requires returns)

@@ -16,9 +16,6 @@ Inv-loop sheet work n g name d i₀ i = (i ≤ g) × (placeOf name (placesIn she
 abbrev μ-loop : tie.MeasureT-loop
 μ-loop sheet work n g name d i₀ i = g - i
 
-digest-requires : tie.Need-digest-requires Inv-loop μ-loop
-digest-requires c κs = search needs
-
 loop-holds : tie.Need-loop-holds Inv-loop μ-loop
 loop-holds c =
     let a = c .before .before .before .before .args in
@@ -27,19 +24,10 @@ loop-holds c =
 is-named-requires : tie.Need-is-named-requires Inv-loop μ-loop
 is-named-requires c κs = (c .before .before .before .before .before .before .pre, c .loop-test .taken, c .before .before .digest .ensures .0)
 
-add-result : tie.Need-add-result Inv-loop μ-loop
-add-result c = search needs
-
 returns : tie.Need-returns Inv-loop μ-loop
 returns c =
     let a = c .before .before .before .before .before .before .before .before .args in
     (place-found (now (a .sheet)) (now (a .work)) (a .g) (now (a .name)) (c .before .before .before .loop .i) (c .before .before .loop-test .taken) _ (c .before .is-named .ensures) (c .before .before .before .loop .inv .1) (c .if1 .taken), omega arith)
-
-add-i : tie.Need-add-i Inv-loop μ-loop
-add-i c = search needs
-
-loop-less : tie.Need-loop-less Inv-loop μ-loop
-loop-less c = search needs
 
 loop-again : tie.Need-loop-again Inv-loop μ-loop
 loop-again c =
@@ -52,4 +40,6 @@ returns-2 c =
     (place-end (now (a .sheet)) (now (a .work)) (a .g) (now (a .name)) (c .before .loop .i) (c .loop-test .left) (c .before .loop .inv .1), omega arith)
 
 pub place-of-spec : {M : Type 1} → statement M
-place-of-spec = tie.close (tie.spec Inv-loop μ-loop digest-requires loop-holds is-named-requires add-result returns add-i loop-less loop-again returns-2)
+place-of-spec =
+    tie.close (tie.spec Inv-loop μ-loop (λ c κs. search needs) loop-holds is-named-requires (λ c. search needs) returns (λ c. search needs)
+    (λ c. search needs) loop-again returns-2)

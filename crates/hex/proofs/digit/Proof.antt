@@ -7,26 +7,14 @@ use Rattle.text.proofs.Tests.{within-yes}
 use Rattle.hex.proofs.digit.Statement.{statement}
 use Rattle.hex.proofs.digit.Tie as tie
 
-is-within-requires : tie.Need-is-within-requires
-is-within-requires c κs = search needs
-
 sub-wide : tie.Need-sub-wide
 sub-wide c = within-yes 48 57 (c .before .before .args .b) (sym (c .before .is-within .ensures) ∙ c .if1 .taken) .0
-
-wide-requires : tie.Need-wide-requires
-wide-requires c κs = search needs
 
 returns : tie.Need-returns
 returns c = let q = digit-low (c .before .before .before .args .b) (sym (c .before .before .is-within .ensures) ∙ c .before .if1 .taken) in (c .wide .ensures ∙ q .0, omega (arith, c .wide .ensures, q .1))
 
-is-within-requires-2 : tie.Need-is-within-requires-2
-is-within-requires-2 c κs = search needs
-
 sub-wide-2 : tie.Need-sub-wide-2
 sub-wide-2 c = omega (arith, within-yes 65 70 (c .before .before .before .before .args .b) (sym (c .before .is-within2 .ensures) ∙ c .if2 .taken) .0)
-
-wide-requires-2 : tie.Need-wide-requires-2
-wide-requires-2 c κs = search needs
 
 returns-2 : tie.Need-returns-2
 returns-2 c = let q = digit-high (c .before .before .before .before .before .args .b) (sym (c .before .before .before .before .is-within .ensures) ∙ c .before .before .before .if1 .left) (sym (c .before .before .is-within2 .ensures) ∙ c .before .if2 .taken) in (c .wide2 .ensures ∙ q .0, omega (arith, c .wide2 .ensures, q .1))
@@ -36,4 +24,5 @@ returns-3 c = (digit-none (c .before .before .before .before .args .b) (sym (c .
 
 pub digit-spec : {M : Type 1} → statement M
 digit-spec =
-    tie.close (tie.spec is-within-requires sub-wide wide-requires returns is-within-requires-2 sub-wide-2 wide-requires-2 returns-2 returns-3)
+    tie.close (tie.spec (λ c κs. search needs) sub-wide (λ c κs. search needs) returns (λ c κs. search needs) sub-wide-2 (λ c κs. search needs)
+    returns-2 returns-3)

@@ -6,27 +6,15 @@ use Rattle.hex.proofs.Hexes.{pair-first, pair-second, pair-both}
 use Rattle.hex.proofs.pair.Statement.{statement}
 use Rattle.hex.proofs.pair.Tie as tie
 
-digit-requires : tie.Need-digit-requires
-digit-requires c κs = search needs
-
 returns : tie.Need-returns
 returns c =
     let a = c .before .before .args in
     (pair-first (a .h) (a .l) (sym (c .before .digit .ensures .0) ∙ c .if1 .taken), omega arith)
 
-digit-requires-2 : tie.Need-digit-requires-2
-digit-requires-2 c κs = search needs
-
 returns-2 : tie.Need-returns-2
 returns-2 c =
     let a = c .before .before .before .before .args in
     (pair-second (a .h) (a .l) (sym (c .before .digit2 .ensures .0) ∙ c .if2 .taken), omega arith)
-
-mul-result : tie.Need-mul-result
-mul-result c = search needs
-
-add-result : tie.Need-add-result
-add-result c = search needs
 
 returns-3 : tie.Need-returns-3
 returns-3 c =
@@ -34,4 +22,5 @@ returns-3 c =
     (pair-both (a .h) (a .l) (c .before .before .before .digit .ensures .0) (c .before .digit2 .ensures .0) (c .before .before .if1 .left) (c .if2 .left), omega (arith, c .before .before .before .digit .ensures .1, c .before .digit2 .ensures .1, c .before .before .if1 .left, c .if2 .left))
 
 pub pair-spec : {M : Type 1} → statement M
-pair-spec = tie.close (tie.spec digit-requires returns digit-requires-2 returns-2 mul-result add-result returns-3)
+pair-spec =
+    tie.close (tie.spec (λ c κs. search needs) returns (λ c κs. search needs) returns-2 (λ c. search needs) (λ c. search needs) returns-3)

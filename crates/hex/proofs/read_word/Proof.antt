@@ -24,24 +24,6 @@ returns c = word-short (now (c .before .before .args .s)) (c .if1 .taken)
 loop-holds : tie.Need-loop-holds Inv-loop μ-loop
 loop-holds c = (omega arith, c .if1 .left, lit< tt, word-start (now (c .before .before .args .s)) (c .if1 .left))
 
-mul-pair : tie.Need-mul-pair Inv-loop μ-loop
-mul-pair c = search needs
-
-shared-slice-read-pair : tie.Need-shared-slice-read-pair Inv-loop μ-loop
-shared-slice-read-pair c = search needs
-
-mul-pair-2 : tie.Need-mul-pair-2 Inv-loop μ-loop
-mul-pair-2 c = search needs
-
-add-pair : tie.Need-add-pair Inv-loop μ-loop
-add-pair c = search needs
-
-shared-slice-read-pair-2 : tie.Need-shared-slice-read-pair-2 Inv-loop μ-loop
-shared-slice-read-pair-2 c = search needs
-
-pair-requires : tie.Need-pair-requires Inv-loop μ-loop
-pair-requires c κs = search needs
-
 returns-2 : tie.Need-returns-2 Inv-loop μ-loop
 returns-2 c =
     let l = c .before .before .before .before .before .loop in
@@ -57,12 +39,6 @@ add-acc c =
     let l = c .before .before .before .before .before .loop in
     record { fits = bytes-fit (l .acc) (l .k) (c .before .pair .result) (l .inv .2) (c .before .before .before .before .loop-test .taken) (omega arith) }
 
-add-k : tie.Need-add-k Inv-loop μ-loop
-add-k c = search needs
-
-loop-less : tie.Need-loop-less Inv-loop μ-loop
-loop-less c = search needs
-
 loop-again : tie.Need-loop-again Inv-loop μ-loop
 loop-again c =
     let l = c .before .before .before .before .before .loop in
@@ -75,5 +51,5 @@ returns-3 c =
 
 pub read-word-spec : {M : Type 1} → statement M
 read-word-spec =
-    tie.close (tie.spec Inv-loop μ-loop returns loop-holds mul-pair shared-slice-read-pair mul-pair-2 add-pair shared-slice-read-pair-2 pair-requires
-    returns-2 mul-acc add-acc add-k loop-less loop-again returns-3)
+    tie.close (tie.spec Inv-loop μ-loop returns loop-holds (λ c. search needs) (λ c. search needs) (λ c. search needs) (λ c. search needs)
+    (λ c. search needs) (λ c κs. search needs) returns-2 mul-acc add-acc (λ c. search needs) (λ c. search needs) loop-again returns-3)

@@ -5,20 +5,9 @@ use borrow.Author.Needs.{needs}
 use Rattle.image_main.proofs.put_row.Statement.{statement}
 use Rattle.image_main.proofs.put_row.Tie as tie
 
-put-part-requires : tie.Need-put-part-requires
-put-part-requires c κs = search needs
-
-put-comma-hex-requires : tie.Need-put-comma-hex-requires
-put-comma-hex-requires c κs = search needs
-
-put-lf-requires : tie.Need-put-lf-requires
-put-lf-requires c κs = search needs
-
-same-length : tie.Need-same-length
-same-length c = search needs
-
 returns : tie.Need-returns
 returns c = row-put (now (c .before .before .before .before .before .before .before .before .before .before .before .before .before .before .before .args .name)) (now (c .before .before .before .before .before .before .before .before .before .before .before .before .before .before .before .args .bytes)) (c .before .before .before .before .before .before .before .before .before .before .put-part .ensures) (c .before .before .before .before .before .before .put-comma-hex .ensures) (c .before .before .put-lf .ensures)
 
 pub put-row-spec : {M : Type 1} → statement M
-put-row-spec = tie.close (tie.spec put-part-requires put-comma-hex-requires put-lf-requires same-length returns)
+put-row-spec =
+    tie.close (tie.spec (λ c κs. search needs) (λ c κs. search needs) (λ c κs. search needs) (λ c. search needs) returns)

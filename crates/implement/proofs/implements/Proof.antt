@@ -17,9 +17,6 @@ returns c =
     let s = now (c .before .before .before .args .sheet) in
     sym (ap (λ (j : ℕ). Const.implements (sheetSource s .implement) (moduleAt s j)) (c .if1 .taken) ∙ implements-none (sheetSource s .implement) s)
 
-form-at-requires : tie.Need-form-at-requires
-form-at-requires c κs = search needs
-
 kind-requires : tie.Need-kind-requires
 kind-requires c κs =
     let a = c .before .before .before .before .args in
@@ -30,15 +27,6 @@ returns-2 c =
     let a = c .before .before .before .before .before .before .args in
     sym (implements-not (now (a .sheet)) (now (a .work)) (a .n) (c .before .before .before .before .before .before .pre .0) (a .k) (omega arith) (c .before .before .before .before .before .before .pre .1) _ _ (c .before .before .form-at .ensures) (c .before .kind .ensures) (c .if2 .taken))
 
-field-at-requires : tie.Need-field-at-requires
-field-at-requires c κs = search needs
-
-sub-first-is : tie.Need-sub-first-is
-sub-first-is c = search needs
-
-first-is-requires : tie.Need-first-is-requires
-first-is-requires c κs = search needs
-
 returns-3 : tie.Need-returns-3
 returns-3 c =
     let a = c .before .before .before .before .before .before .before .before .args in
@@ -46,4 +34,6 @@ returns-3 c =
     ∙ rw (c .before .field-at .ensures) (sym (implements-by (now (a .sheet)) (now (a .work)) (a .n) (c .before .before .before .before .before .before .before .before .pre .0) (a .k) (omega arith) (c .before .before .before .before .before .before .before .before .pre .1) _ _ (c .before .before .before .before .form-at .ensures) (c .before .before .before .kind .ensures) (c .before .before .if2 .left)))
 
 pub implements-spec : {M : Type 1} → statement M
-implements-spec = tie.close (tie.spec returns form-at-requires kind-requires returns-2 field-at-requires sub-first-is first-is-requires returns-3)
+implements-spec =
+    tie.close (tie.spec returns (λ c κs. search needs) kind-requires returns-2 (λ c κs. search needs) (λ c. search needs) (λ c κs. search needs)
+    returns-3)

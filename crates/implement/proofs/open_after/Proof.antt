@@ -6,16 +6,10 @@ use Rattle.implement.proofs.Modules.{open-mod, open-end, open-other}
 use Rattle.implement.proofs.open_after.Statement.{statement}
 use Rattle.implement.proofs.open_after.Tie as tie
 
-form-at-requires : tie.Need-form-at-requires
-form-at-requires c κs = search needs
-
 kind-requires : tie.Need-kind-requires
 kind-requires c κs =
     let a = c .before .before .before .args in
     rw (c .form-at .ensures) (form-low (now (a .sheet)) (now (a .work)) (a .n) (c .before .before .before .pre .0 .checked .whole) (a .i) (c .before .before .before .pre .1))
-
-add-result : tie.Need-add-result
-add-result c = search needs
 
 returns : tie.Need-returns
 returns c =
@@ -33,4 +27,5 @@ returns-3 c =
     open-other (now (a .sheet)) (now (a .work)) (a .n) (a .i) (a .k) (c .before .before .before .before .before .before .pre .0) (c .before .before .before .before .before .before .pre .1) _ _ (c .before .before .before .form-at .ensures) (c .before .before .kind .ensures) (c .before .if1 .left) (c .if2 .left)
 
 pub open-after-spec : {M : Type 1} → statement M
-open-after-spec = tie.close (tie.spec form-at-requires kind-requires add-result returns returns-2 returns-3)
+open-after-spec =
+    tie.close (tie.spec (λ c κs. search needs) kind-requires (λ c. search needs) returns returns-2 returns-3)

@@ -8,11 +8,9 @@ use Rattle.ints.proofs.Widths.{from1}
 use Rattle.ints.proofs.count.Statement.{statement}
 use Rattle.ints.proofs.count.Tie as tie
 
-bits-requires : tie.Need-bits-requires
-bits-requires c κs = search needs
-
 returns : tie.Need-returns
 returns c = and-mask (c .bits .result) 6 ∙ ap (λ (k : ℕ). k % 64) (from1 bits64 (c .before .fits .n) (c .bits .ensures))
 
 pub count-spec : {M : Type 1} → statement M
-count-spec = tie.close (tie.spec bits-requires returns)
+count-spec =
+    tie.close (tie.spec (λ c κs. search needs) returns)

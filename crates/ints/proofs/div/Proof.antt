@@ -10,9 +10,6 @@ use Rattle.ints.proofs.div.Tie as tie
 returns : tie.Need-returns
 returns c = by-zero (c .before .fits .b) _ (c .if1 .taken)
 
-neg-requires : tie.Need-neg-requires
-neg-requires c κs = search needs
-
 returns-2 : tie.Need-returns-2
 returns-2 c = let s = c .before .before .before in
     quotient-by-minus-one (s .fits .b) (s .args .a) (c .before .before .if1 .left) (c .before .if2 .taken)
@@ -25,4 +22,5 @@ returns-3 : tie.Need-returns-3
 returns-3 c = let s = c .before .before in quotient (s .fits .b) (s .fits .a) (c .before .if1 .left) (c .if2 .left)
 
 pub div-spec : {M : Type 1} → statement M
-div-spec = tie.close (tie.spec returns neg-requires returns-2 div-q returns-3)
+div-spec =
+    tie.close (tie.spec returns (λ c κs. search needs) returns-2 div-q returns-3)

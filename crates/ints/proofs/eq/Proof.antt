@@ -8,11 +8,9 @@ use Rattle.ints.proofs.Wrapping.{outcome}
 use Rattle.ints.proofs.eq.Statement.{statement}
 use Rattle.ints.proofs.eq.Tie as tie
 
-flag-requires : tie.Need-flag-requires
-flag-requires c κs = search needs
-
 returns : tie.Need-returns
 returns c = let s = c .before in outcome (record { sfits = c .flag .ok }) (c .flag .ensures ∙ ap test (equal-test w64 (s .fits .a) (s .fits .b)))
 
 pub eq-spec : {M : Type 1} → statement M
-eq-spec = tie.close (tie.spec flag-requires returns)
+eq-spec =
+    tie.close (tie.spec (λ c κs. search needs) returns)

@@ -7,11 +7,9 @@ use Rattle.ints.proofs.Wrapping.{outcome}
 use Rattle.ints.proofs.gt.Statement.{statement}
 use Rattle.ints.proofs.gt.Tie as tie
 
-flag-requires : tie.Need-flag-requires
-flag-requires c κs = search needs
-
 returns : tie.Need-returns
 returns c = let s = c .before in outcome (record { sfits = c .flag .ok }) (from2 (intOnly IntOp.gt) (s .fits .a) (s .fits .b) (c .flag .ensures))
 
 pub gt-spec : {M : Type 1} → statement M
-gt-spec = tie.close (tie.spec flag-requires returns)
+gt-spec =
+    tie.close (tie.spec (λ c κs. search needs) returns)

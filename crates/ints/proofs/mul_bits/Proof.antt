@@ -12,19 +12,12 @@ mul-wrapping-add-u64 c = half-product _ _ (omega arith) (mask-lt (c .args .b) 32
 mul-wrapping-add-u64-2 : tie.Need-mul-wrapping-add-u64-2
 mul-wrapping-add-u64-2 c = half-product _ _ (mask-lt (c .args .a) 32) (omega arith)
 
-wrapping-add-u64-requires : tie.Need-wrapping-add-u64-requires
-wrapping-add-u64-requires c κs = search needs
-
 mul-wrapping-add-u64-3 : tie.Need-mul-wrapping-add-u64-3
 mul-wrapping-add-u64-3 c = half-product _ _ (mask-lt (c .before .args .a) 32) (mask-lt (c .before .args .b) 32)
-
-wrapping-add-u64-requires-2 : tie.Need-wrapping-add-u64-requires-2
-wrapping-add-u64-requires-2 c κs = search needs
 
 returns : tie.Need-returns
 returns c = product-of-halves (c .before .before .args .a) (c .before .before .args .b) (c .before .wrapping-add-u64 .ensures) (c .wrapping-add-u642 .ensures)
 
 pub mul-bits-spec : {M : Type 1} → statement M
 mul-bits-spec =
-    tie.close (tie.spec mul-wrapping-add-u64 mul-wrapping-add-u64-2 wrapping-add-u64-requires mul-wrapping-add-u64-3 wrapping-add-u64-requires-2
-    returns)
+    tie.close (tie.spec mul-wrapping-add-u64 mul-wrapping-add-u64-2 (λ c κs. search needs) mul-wrapping-add-u64-3 (λ c κs. search needs) returns)

@@ -9,12 +9,10 @@ use Rattle.ints.proofs.Wrapping.{outcome}
 use Rattle.ints.proofs.neg.Statement.{statement}
 use Rattle.ints.proofs.neg.Tie as tie
 
-sub-requires : tie.Need-sub-requires
-sub-requires c κs = search needs
-
 returns : tie.Need-returns
 returns c = outcome (record { sfits = c .sub .ok })
     (from1 (intArith Arith.sub (pos 0)) (c .before .fits .a) (c .sub .ensures) ∙ ap (λ (z : ℤ). intOk (wrap z)) (+ℤ-idl (negℤ (c .before .args .a))))
 
 pub neg-spec : {M : Type 1} → statement M
-neg-spec = tie.close (tie.spec sub-requires returns)
+neg-spec =
+    tie.close (tie.spec (λ c κs. search needs) returns)

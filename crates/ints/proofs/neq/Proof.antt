@@ -9,11 +9,9 @@ use Rattle.ints.proofs.Wrapping.{outcome}
 use Rattle.ints.proofs.neq.Statement.{statement}
 use Rattle.ints.proofs.neq.Tie as tie
 
-flag-requires : tie.Need-flag-requires
-flag-requires c κs = search needs
-
 returns : tie.Need-returns
 returns c = let s = c .before in outcome (record { sfits = c .flag .ok }) (c .flag .ensures ∙ ap (λ (t : Bool). test (not t)) (equal-test w64 (s .fits .a) (s .fits .b)))
 
 pub neq-spec : {M : Type 1} → statement M
-neq-spec = tie.close (tie.spec flag-requires returns)
+neq-spec =
+    tie.close (tie.spec (λ c κs. search needs) returns)

@@ -8,11 +8,9 @@ use Rattle.ints.proofs.Wrapping.{outcome}
 use Rattle.ints.proofs.not.Statement.{statement}
 use Rattle.ints.proofs.not.Tie as tie
 
-flag-requires : tie.Need-flag-requires
-flag-requires c κs = search needs
-
 returns : tie.Need-returns
 returns c = outcome (record { sfits = c .flag .ok }) (c .flag .ensures ∙ ap test (zero-test w64 (c .before .fits .a)))
 
 pub not-spec : {M : Type 1} → statement M
-not-spec = tie.close (tie.spec flag-requires returns)
+not-spec =
+    tie.close (tie.spec (λ c κs. search needs) returns)

@@ -7,12 +7,6 @@ use Rattle.ints.proofs.Widths.{toZ-is, twice}
 use Rattle.ints.proofs.of_bits.Statement.{statement}
 use Rattle.ints.proofs.of_bits.Tie as tie
 
-cast-result : tie.Need-cast-result
-cast-result c = search needs
-
-cast-result-2 : tie.Need-cast-result-2
-cast-result-2 c = search needs
-
 returns : tie.Need-returns
 returns c = toZ-is w64 (c .before .args .b)
 
@@ -20,4 +14,5 @@ returns-2 : tie.Need-returns-2
 returns-2 c = ap (toZ w64) (twice w64 (c .before .fits .b)) ∙ toZ-is w64 (c .before .args .b)
 
 pub of-bits-spec : {M : Type 1} → statement M
-of-bits-spec = tie.close (tie.spec cast-result cast-result-2 returns returns-2)
+of-bits-spec =
+    tie.close (tie.spec (λ c. search needs) (λ c. search needs) returns returns-2)

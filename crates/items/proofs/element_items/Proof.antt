@@ -6,23 +6,12 @@ use borrow.Author.Needs.{needs}
 use Rattle.items.proofs.element_items.Statement.{statement}
 use Rattle.items.proofs.element_items.Tie as tie
 
-elements-row-requires : tie.Need-elements-row-requires
-elements-row-requires c κs = search needs
-
-same-length : tie.Need-same-length
-same-length c = search needs
-
 returns : tie.Need-returns
 returns c = λ id k h. number-items id (valuesIn (now (c .before .before .before .before .before .before .before .args .work)) 0 (c .before .before .before .before .before .before .before .args .count)) k h (c .before .before .before .before .if1 .taken) (c .before .before .elements-row .ensures)
-
-string-rows-requires : tie.Need-string-rows-requires
-string-rows-requires c κs = search needs
-
-same-length-2 : tie.Need-same-length-2
-same-length-2 c = search needs
 
 returns-2 : tie.Need-returns-2
 returns-2 c = λ id k h. string-items id (valuesIn (now (c .before .before .before .before .before .before .before .args .work)) 0 (c .before .before .before .before .before .before .before .args .count)) k h (c .before .before .before .before .if1 .left) (c .before .before .string-rows .ensures id)
 
 pub element-items-spec : {M : Type 1} → statement M
-element-items-spec = tie.close (tie.spec elements-row-requires same-length returns string-rows-requires same-length-2 returns-2)
+element-items-spec =
+    tie.close (tie.spec (λ c κs. search needs) (λ c. search needs) returns (λ c κs. search needs) (λ c. search needs) returns-2)

@@ -10,20 +10,9 @@ use borrow.Author.Needs.{needs}
 use Rattle.items.proofs.elements_row.Statement.{statement}
 use Rattle.items.proofs.elements_row.Tie as tie
 
-put-head-requires : tie.Need-put-head-requires
-put-head-requires c κs = search needs
-
-put-elements-requires : tie.Need-put-elements-requires
-put-elements-requires c κs = search needs
-
-put-lf-requires : tie.Need-put-lf-requires
-put-lf-requires c κs = search needs
-
-same-length : tie.Need-same-length
-same-length c = search needs
-
 returns : tie.Need-returns
 returns c = numbers-row (c .before .before .before .before .before .before .before .before .before .before .before .before .before .before .args .kind) 0 (valuesIn (now (c .before .before .before .before .before .before .before .before .before .before .before .before .before .before .args .work)) 0 (c .before .before .before .before .before .before .before .before .before .before .before .before .before .before .args .count)) (wrote-as (ap (headText (c .before .before .before .before .before .before .before .before .before .before .before .before .before .before .args .kind) 0) (sym (values-length (now (c .before .before .before .before .before .before .before .before .before .before .before .before .before .before .args .work)) (c .before .before .before .before .before .before .before .before .before .before .before .before .before .before .args .count) 0))) (c .before .before .before .before .before .before .before .before .before .before .put-head .ensures)) (c .before .before .before .before .before .before .put-elements .ensures) (c .before .before .put-lf .ensures)
 
 pub elements-row-spec : {M : Type 1} → statement M
-elements-row-spec = tie.close (tie.spec put-head-requires put-elements-requires put-lf-requires same-length returns)
+elements-row-spec =
+    tie.close (tie.spec (λ c κs. search needs) (λ c κs. search needs) (λ c κs. search needs) (λ c. search needs) returns)

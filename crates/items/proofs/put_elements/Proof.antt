@@ -20,9 +20,6 @@ Inv-loop work out₀ at kind count p₀ i₀ out p i = (i ≤ count) × (length 
 abbrev μ-loop : tie.MeasureT-loop
 μ-loop work out₀ at kind count p₀ i₀ out p i = count - i
 
-add-result : tie.Need-add-result Inv-loop μ-loop
-add-result c = search needs
-
 returns : tie.Need-returns Inv-loop μ-loop
 returns c = wrote-past (now (c .before .before .before .args .out)) (c .before .before .before .args .at) _ (omega arith) (omega arith)
 
@@ -33,25 +30,13 @@ loop-holds c = (search needs, refl, wrote-none (now (c .before .before .before .
 element-requires : tie.Need-element-requires Inv-loop μ-loop
 element-requires c κs = (omega (arith, c .before .loop-test .taken, c .before .before .before .before .before .before .pre .few), c .before .before .before .before .before .before .pre .long)
 
-put-element-requires : tie.Need-put-element-requires Inv-loop μ-loop
-put-element-requires c κs = search needs
-
-add-i : tie.Need-add-i Inv-loop μ-loop
-add-i c = search needs
-
-loop-less : tie.Need-loop-less Inv-loop μ-loop
-loop-less c = search needs
-
 loop-again : tie.Need-loop-again Inv-loop μ-loop
 loop-again c = (search needs, c .before .before .put-element .kept .0 ∙ c .before .before .before .before .before .before .loop .inv .1, elements-next (now (c .before .before .before .before .before .before .before .before .before .before .args .work)) (c .before .before .before .before .before .before .loop .i) (c .before .before .before .before .before .before .before .before .before .before .args .kind) (c .before .before .before .element .ensures) (c .before .before .before .before .before .before .loop .inv .2) (c .before .before .put-element .ensures))
-
-same-length : tie.Need-same-length Inv-loop μ-loop
-same-length c = search needs
 
 returns-2 : tie.Need-returns-2 Inv-loop μ-loop
 returns-2 c = up-to (λ (n : ℕ). commaed (elementTexts (c .before .before .before .before .before .args .kind) (valuesIn (now (c .before .before .before .before .before .args .work)) 0 n))) (c .before .loop .inv .0) (c .loop-test .left) (c .before .loop .inv .2)
 
 pub put-elements-spec : {M : Type 1} → statement M
 put-elements-spec =
-    tie.close (tie.spec Inv-loop μ-loop add-result returns loop-holds element-requires put-element-requires add-i loop-less loop-again same-length
-    returns-2)
+    tie.close (tie.spec Inv-loop μ-loop (λ c. search needs) returns loop-holds element-requires (λ c κs. search needs) (λ c. search needs)
+    (λ c. search needs) loop-again (λ c. search needs) returns-2)

@@ -21,9 +21,6 @@ Inv-loop work out₀ at count p₀ i₀ out p i = (i ≤ count) × (length out �
 abbrev μ-loop : tie.MeasureT-loop
 μ-loop work out₀ at count p₀ i₀ out p i = count - i
 
-add-result : tie.Need-add-result Inv-loop μ-loop
-add-result c = search needs
-
 returns : tie.Need-returns Inv-loop μ-loop
 returns c = λ id. wrote-past (now (c .before .before .before .args .out)) (c .before .before .before .args .at) _ (omega arith) (omega arith)
 
@@ -34,21 +31,13 @@ loop-holds c = (search needs, refl, λ id. wrote-none (now (c .before .before .b
 string-row-requires : tie.Need-string-row-requires Inv-loop μ-loop
 string-row-requires c κs = (omega (arith, c .before .loop-test .taken, c .before .before .before .before .before .before .pre .few), c .before .before .before .before .before .before .pre .long, c .before .before .before .before .before .before .pre .strings (c .before .before .loop .i) (c .before .loop-test .taken))
 
-add-i : tie.Need-add-i Inv-loop μ-loop
-add-i c = search needs
-
-loop-less : tie.Need-loop-less Inv-loop μ-loop
-loop-less c = search needs
-
 loop-again : tie.Need-loop-again Inv-loop μ-loop
 loop-again c = (search needs, c .before .before .string-row .kept .1 .0 ∙ c .before .before .before .before .before .loop .inv .1, λ id. strings-next (now (c .before .before .before .before .before .before .before .before .before .args .work)) (c .before .before .before .before .before .loop .i) id (c .before .before .before .before .before .loop .inv .2 id) (c .before .before .string-row .ensures id))
-
-same-length : tie.Need-same-length Inv-loop μ-loop
-same-length c = search needs
 
 returns-2 : tie.Need-returns-2 Inv-loop μ-loop
 returns-2 c = λ id. up-to (λ (n : ℕ). itemRows id (strItems 0 (valuesIn (now (c .before .before .before .before .before .args .work)) 0 n))) (c .before .loop .inv .0) (c .loop-test .left) (c .before .loop .inv .2 id)
 
 pub string-rows-spec : {M : Type 1} → statement M
 string-rows-spec =
-    tie.close (tie.spec Inv-loop μ-loop add-result returns loop-holds string-row-requires add-i loop-less loop-again same-length returns-2)
+    tie.close (tie.spec Inv-loop μ-loop (λ c. search needs) returns loop-holds string-row-requires (λ c. search needs) (λ c. search needs) loop-again
+    (λ c. search needs) returns-2)

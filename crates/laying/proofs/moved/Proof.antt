@@ -6,12 +6,10 @@ use borrow.Author.Needs.{needs}
 use Rattle.laying.proofs.moved.Statement.{statement}
 use Rattle.laying.proofs.moved.Tie as tie
 
-add-t5 : tie.Need-add-t5
-add-t5 c = search needs
-
 returns : tie.Need-returns
 unfolding seen layingOf
 returns c = record { is = rw add-one; low = c .before .pre .low; high = c .before .pre .high; item = omega arith }
 
 pub moved-spec : {M : Type 1} → statement M
-moved-spec = tie.close (tie.spec add-t5 returns)
+moved-spec =
+    tie.close (tie.spec (λ c. search needs) returns)

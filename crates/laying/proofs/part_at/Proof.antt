@@ -4,14 +4,9 @@ use borrow.Author.Needs.{needs}
 use Rattle.laying.proofs.part_at.Statement.{statement}
 use Rattle.laying.proofs.part_at.Tie as tie
 
-add-result : tie.Need-add-result
-add-result c = search needs
-
-mul-result : tie.Need-mul-result
-mul-result c = search needs
-
 returns : tie.Need-returns
 returns c = refl
 
 pub part-at-spec : {M : Type 1} → statement M
-part-at-spec = tie.close (tie.spec add-result mul-result returns)
+part-at-spec =
+    tie.close (tie.spec (λ c. search needs) (λ c. search needs) returns)

@@ -8,12 +8,6 @@ use Rattle.laying.proofs.part_bytes.Tie as tie
 returns : tie.Need-returns
 returns c = no-bytes (c .before .args .size) (c .before .args .n) (c .before .args .room) (c .if1 .taken)
 
-div-if2 : tie.Need-div-if2
-div-if2 c = search needs
-
-add-result : tie.Need-add-result
-add-result c = search needs
-
 returns-2 : tie.Need-returns-2
 returns-2 c =
     let a = c .before .before .args in
@@ -30,4 +24,5 @@ returns-3 c =
     omega (arith, not-many (a .size) (a .n) (a .room) (c .before .if1 .left) (omega arith))
 
 pub part-bytes-spec : {M : Type 1} → statement M
-part-bytes-spec = tie.close (tie.spec returns div-if2 add-result returns-2 mul-result returns-3)
+part-bytes-spec =
+    tie.close (tie.spec returns (λ c. search needs) (λ c. search needs) returns-2 mul-result returns-3)

@@ -9,14 +9,8 @@ use borrow.Author.Needs.{needs}
 use Rattle.laying.proofs.went_on.Statement.{statement}
 use Rattle.laying.proofs.went_on.Tie as tie
 
-outgrown-requires : tie.Need-outgrown-requires
-outgrown-requires c κs = search needs
-
 returns : tie.Need-returns
 returns c = went-out (c .before .if1 .taken) (c .outgrown .ensures)
-
-add-t6 : tie.Need-add-t6
-add-t6 c = search needs
 
 returns-2 : tie.Need-returns-2
 unfolding seen layingOf
@@ -25,4 +19,5 @@ returns-2 c =
     record { is = λ im ar. rw (le-ltb (a .n) (a .p) (omega arith), add-one); start = refl; end = refl; item = omega arith }
 
 pub went-on-spec : {M : Type 1} → statement M
-went-on-spec = tie.close (tie.spec outgrown-requires returns add-t6 returns-2)
+went-on-spec =
+    tie.close (tie.spec (λ c κs. search needs) returns (λ c. search needs) returns-2)

@@ -7,32 +7,8 @@ use Rattle.leaf.proofs.constant.Tie as tie
 returns : tie.Need-returns
 returns c = found-none (c .before .before .pre) (c .if1 .taken)
 
-sub-slot-kind : tie.Need-sub-slot-kind
-sub-slot-kind c = search needs
-
-slot-kind-requires : tie.Need-slot-kind-requires
-slot-kind-requires c κs = search needs
-
-sub-slot-bits : tie.Need-sub-slot-bits
-sub-slot-bits c = search needs
-
-slot-bits-requires : tie.Need-slot-bits-requires
-slot-bits-requires c κs = search needs
-
-of-bits-requires : tie.Need-of-bits-requires
-of-bits-requires c κs = search needs
-
-same-length : tie.Need-same-length
-same-length c = search needs
-
 returns-2 : tie.Need-returns-2
 returns-2 c = found-int (c .before .before .before .before .before .before .before .before .pre) (c .before .before .before .before .before .before .if1 .left) (c .before .before .before .before .slot-kind .ensures) (c .before .before .slot-bits .ensures) (c .before .if2 .taken) (record { sfits = c .of-bits .ok }) (c .of-bits .ensures)
-
-of-bits-requires-2 : tie.Need-of-bits-requires-2
-of-bits-requires-2 c κs = search needs
-
-same-length-2 : tie.Need-same-length-2
-same-length-2 c = search needs
 
 returns-3 : tie.Need-returns-3
 returns-3 c = found-real (c .before .before .before .before .before .before .before .before .before .pre) (c .before .before .before .before .before .before .before .if1 .left) (c .before .before .before .before .before .slot-kind .ensures) (c .before .before .before .slot-bits .ensures) (c .before .if3 .taken) (c .of-bits2 .ensures)
@@ -40,19 +16,14 @@ returns-3 c = found-real (c .before .before .before .before .before .before .bef
 copy-requires : tie.Need-copy-requires
 copy-requires c κs = found-apart (c .before .before .before .before .before .before .before .before .before .before .pre) (c .before .before .before .before .before .before .before .before .if1 .left) (c .before .before .before .before .before .before .slot-kind .ensures) (c .before .before .before .before .slot-bits .ensures) (c .before .if4 .taken)
 
-same-length-3 : tie.Need-same-length-3
-same-length-3 c = search needs
-
 returns-4 : tie.Need-returns-4
 returns-4 c = found-string (c .before .before .before .before .before .before .before .before .before .before .before .before .before .pre) (c .before .before .before .before .before .before .before .before .before .before .before .if1 .left) (c .before .before .before .before .before .before .before .before .before .slot-kind .ensures) (c .before .before .before .before .before .before .before .slot-bits .ensures) (c .before .before .before .before .if4 .taken) (c .before .before .copy .ensures)
-
-same-length-4 : tie.Need-same-length-4
-same-length-4 c = search needs
 
 returns-5 : tie.Need-returns-5
 returns-5 c = found-failed (c .before .before .before .before .before .before .before .before .before .pre) (c .before .before .before .before .before .before .before .if1 .left) (c .before .before .before .before .before .slot-kind .ensures) (c .before .before .before .slot-bits .ensures) (c .before .before .if2 .left) (c .before .if3 .left) (c .if4 .left)
 
 pub constant-spec : {M : Type 1} → statement M
 constant-spec =
-    tie.close (tie.spec returns sub-slot-kind slot-kind-requires sub-slot-bits slot-bits-requires of-bits-requires same-length returns-2
-    of-bits-requires-2 same-length-2 returns-3 copy-requires same-length-3 returns-4 same-length-4 returns-5)
+    tie.close (tie.spec returns (λ c. search needs) (λ c κs. search needs) (λ c. search needs) (λ c κs. search needs) (λ c κs. search needs)
+    (λ c. search needs) returns-2 (λ c κs. search needs) (λ c. search needs) returns-3 copy-requires (λ c. search needs) returns-4 (λ c. search needs)
+    returns-5)

@@ -5,12 +5,6 @@ use borrow.Author.Needs.{needs}
 use Rattle.leaf.proofs.integer.Statement.{statement}
 use Rattle.leaf.proofs.integer.Tie as tie
 
-read-integer-requires : tie.Need-read-integer-requires
-read-integer-requires c κs = search needs
-
-enum-known-z : tie.Need-enum-known-z
-enum-known-z c = search needs
-
 enum-told : tie.Need-enum-told
 enum-told c = search needs
 
@@ -21,4 +15,5 @@ returns-2 : tie.Need-returns-2
 returns-2 c = integer-not (now (c .before .before .before .before .args .x)) (c .before .before .before .before .pre) (c .before .before .read-integer .ensures) (c .enum-told .given .1)
 
 pub integer-spec : {M : Type 1} → statement M
-integer-spec = tie.close (tie.spec read-integer-requires enum-known-z enum-told returns returns-2)
+integer-spec =
+    tie.close (tie.spec (λ c κs. search needs) (λ c. search needs) enum-told returns returns-2)

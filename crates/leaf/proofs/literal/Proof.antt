@@ -10,32 +10,14 @@ use borrow.Author.Needs.{needs}
 use Rattle.leaf.proofs.literal.Statement.{statement}
 use Rattle.leaf.proofs.literal.Tie as tie
 
-sub-form-at : tie.Need-sub-form-at
-sub-form-at c = search needs
-
-form-at-requires : tie.Need-form-at-requires
-form-at-requires c κs = search needs
-
-sub-field-at : tie.Need-sub-field-at
-sub-field-at c = search needs
-
-field-at-requires : tie.Need-field-at-requires
-field-at-requires c κs = search needs
-
 integer-requires : tie.Need-integer-requires
 integer-requires c κs = int-field (c .before .before .before .before .before .before .before .pre .line) (c .before .field-at .ensures) (sym (c .before .before .before .form-at .ensures) ∙ c .if1 .taken)
-
-same-length : tie.Need-same-length
-same-length c = search needs
 
 returns : tie.Need-returns
 returns c = literal-casts (now (c .before .before .before .before .before .before .before .before .args .work)) (c .before .before .before .before .before .before .before .before .args .top) (literal-int (now (c .before .before .field-at .result)) (sym (c .before .before .before .before .form-at .ensures) ∙ c .before .if1 .taken) ∙ ap (literalOf (formAt (now (c .before .before .before .before .before .before .before .before .args .work)) (c .before .before .before .before .before .before .before .before .args .r - 1))) (c .before .before .field-at .ensures)) (c .integer .ensures)
 
 real-requires : tie.Need-real-requires
 real-requires c κs = real-field (c .before .before .before .before .before .before .before .before .pre .line) (c .before .before .field-at .ensures) (sym (c .before .before .before .before .form-at .ensures) ∙ c .if2 .taken)
-
-same-length-2 : tie.Need-same-length-2
-same-length-2 c = search needs
 
 returns-2 : tie.Need-returns-2
 returns-2 c = literal-casts (now (c .before .before .before .before .before .before .before .before .before .args .work)) (c .before .before .before .before .before .before .before .before .before .args .top) (literal-real (now (c .before .before .before .field-at .result)) (sym (c .before .before .before .before .before .form-at .ensures) ∙ c .before .if2 .taken) ∙ ap (literalOf (formAt (now (c .before .before .before .before .before .before .before .before .before .args .work)) (c .before .before .before .before .before .before .before .before .before .args .r - 1))) (c .before .before .before .field-at .ensures)) (c .real .ensures)
@@ -46,9 +28,6 @@ string-requires c κs =
     let w = text-field (c .before .before .before .before .before .before .before .before .before .pre .line) (c .before .before .before .field-at .ensures) e in
     (w .0, w .1, c .before .before .before .before .before .before .before .before .before .pre .room)
 
-same-length-3 : tie.Need-same-length-3
-same-length-3 c = search needs
-
 returns-3 : tie.Need-returns-3
 returns-3 c =
     let e = text-form (c .before .before .before .before .before .before .before .before .before .before .before .before .pre) (c .before .before .before .before .before .before .before .before .form-at .ensures) (c .before .before .before .before .before .if1 .left) (c .before .before .before .before .if2 .left) in
@@ -56,5 +35,5 @@ returns-3 c =
 
 pub literal-spec : {M : Type 1} → statement M
 literal-spec =
-    tie.close (tie.spec sub-form-at form-at-requires sub-field-at field-at-requires integer-requires same-length returns real-requires same-length-2
-    returns-2 string-requires same-length-3 returns-3)
+    tie.close (tie.spec (λ c. search needs) (λ c κs. search needs) (λ c. search needs) (λ c κs. search needs) integer-requires (λ c. search needs)
+    returns real-requires (λ c. search needs) returns-2 string-requires (λ c. search needs) returns-3)

@@ -7,20 +7,11 @@ use borrow.Author.Needs.{needs}
 use Rattle.leaf.proofs.qualified.Statement.{statement}
 use Rattle.leaf.proofs.qualified.Tie as tie
 
-sub-number-at : tie.Need-sub-number-at
-sub-number-at c = search needs
-
-number-at-requires : tie.Need-number-at-requires
-number-at-requires c κs = search needs
-
 sub-form-at : tie.Need-sub-form-at
 sub-form-at c = module-line (c .before .before .before .before .before .pre .fold) (c .before .before .before .before .before .pre .form) (c .before .number-at .ensures .0) .first
 
 form-at-requires : tie.Need-form-at-requires
 form-at-requires c κs = let l = module-line (c .before .before .before .before .before .pre .fold) (c .before .before .before .before .before .pre .form) (c .before .number-at .ensures .0) in (omega (arith, l .last, l .first, l .checked .whole .lined .few), l .checked .whole .room)
-
-same-length : tie.Need-same-length
-same-length c = search needs
 
 returns : tie.Need-returns
 returns c = qualified-failed (c .before .before .before .before .before .before .before .pre .fold) (c .before .before .before .before .before .before .before .pre .form) (c .before .before .before .number-at .ensures .0) (λ z. c .if1 .taken (c .before .form-at .ensures ∙ z))
@@ -31,25 +22,13 @@ sub-field-at c = module-line (c .before .before .before .before .before .before 
 field-at-requires : tie.Need-field-at-requires
 field-at-requires c κs = let l = module-line (c .before .before .before .before .before .before .before .before .pre .fold) (c .before .before .before .before .before .before .before .before .pre .form) (c .before .before .before .before .number-at .ensures .0) in (l .checked .whole, in-sheet l)
 
-sub-field-at-2 : tie.Need-sub-field-at-2
-sub-field-at-2 c = search needs
-
-field-at-requires-2 : tie.Need-field-at-requires-2
-field-at-requires-2 c κs = search needs
-
-look-up-in-requires : tie.Need-look-up-in-requires
-look-up-in-requires c κs = search needs
-
 constant-requires : tie.Need-constant-requires
 constant-requires c κs = slot-of (c .before .before .before .before .before .before .before .before .before .before .before .before .before .before .pre .fold) (c .before .look-up-in .ensures .1)
-
-same-length-2 : tie.Need-same-length-2
-same-length-2 c = search needs
 
 returns-2 : tie.Need-returns-2
 returns-2 c = qualified-found (c .before .before .before .before .before .before .before .before .before .before .before .before .before .before .before .before .before .pre .fold) (c .before .before .before .before .before .before .before .before .before .before .before .before .before .before .before .before .before .pre .form) (c .before .before .before .before .before .before .before .before .before .before .before .before .before .number-at .ensures .0) (sym (c .before .before .before .before .before .before .before .before .before .before .before .form-at .ensures) ∙ c .before .before .before .before .before .before .before .before .before .before .if1 .left) (c .before .before .before .before .before .before .before .before .field-at .ensures) (c .before .before .before .before .before .before .field-at2 .ensures) (c .before .before .before .before .look-up-in .result) (c .before .before .before .before .look-up-in .ensures .0) (c .before .before .constant .ensures)
 
 pub qualified-spec : {M : Type 1} → statement M
 qualified-spec =
-    tie.close (tie.spec sub-number-at number-at-requires sub-form-at form-at-requires same-length returns sub-field-at field-at-requires
-    sub-field-at-2 field-at-requires-2 look-up-in-requires constant-requires same-length-2 returns-2)
+    tie.close (tie.spec (λ c. search needs) (λ c κs. search needs) sub-form-at form-at-requires (λ c. search needs) returns sub-field-at
+    field-at-requires (λ c. search needs) (λ c κs. search needs) (λ c κs. search needs) constant-requires (λ c. search needs) returns-2)

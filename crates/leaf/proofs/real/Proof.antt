@@ -5,15 +5,6 @@ use borrow.Author.Needs.{needs}
 use Rattle.leaf.proofs.real.Statement.{statement}
 use Rattle.leaf.proofs.real.Tie as tie
 
-read-word-requires : tie.Need-read-word-requires
-read-word-requires c κs = search needs
-
-enum-known-b : tie.Need-enum-known-b
-enum-known-b c = search needs
-
-of-bits-requires : tie.Need-of-bits-requires
-of-bits-requires c κs = search needs
-
 enum-told : tie.Need-enum-told
 enum-told c = search needs
 
@@ -24,4 +15,5 @@ returns-2 : tie.Need-returns-2
 returns-2 c = real-not (now (c .before .before .before .before .args .x)) (c .before .before .before .before .pre) (c .before .before .read-word .ensures) (c .enum-told .given .1)
 
 pub real-spec : {M : Type 1} → statement M
-real-spec = tie.close (tie.spec read-word-requires enum-known-b of-bits-requires enum-told returns returns-2)
+real-spec =
+    tie.close (tie.spec (λ c κs. search needs) (λ c. search needs) (λ c κs. search needs) enum-told returns returns-2)

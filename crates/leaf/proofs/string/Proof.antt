@@ -22,18 +22,6 @@ abbrev μ-loop : tie.MeasureT-loop
 loop-holds : tie.Need-loop-holds Inv-loop μ-loop
 loop-holds c = (omega arith, refl, wrote-none (now (c .before .before .args .work)) (c .before .before .args .top) (omega (arith, c .before .before .pre .2)))
 
-byte-requires : tie.Need-byte-requires Inv-loop μ-loop
-byte-requires c κs = search needs
-
-put-requires : tie.Need-put-requires Inv-loop μ-loop
-put-requires c κs = search needs
-
-add-i : tie.Need-add-i Inv-loop μ-loop
-add-i c = search needs
-
-loop-less : tie.Need-loop-less Inv-loop μ-loop
-loop-less c = search needs
-
 loop-again : tie.Need-loop-again Inv-loop μ-loop
 loop-again c = (omega arith, wrote-length (c .before .before .put .ensures) ∙ c .before .before .before .before .before .before .loop .inv .1, string-more (now (c .before .before .before .before .before .before .before .before .before .args .x)) (c .before .before .before .before .before .before .before .before .before .pre .0) (c .before .before .before .before .before .loop-test .taken) (c .before .before .before .byte .ensures) (c .before .before .before .before .before .before .loop .inv .2) (c .before .before .put .ensures))
 
@@ -44,4 +32,6 @@ returns : tie.Need-returns Inv-loop μ-loop
 returns c = string-put (now (c .before .before .before .before .args .x)) (c .before .before .before .before .pre .0) (c .before .before .before .before .pre .1) (c .before .before .before .before .pre .2) (c .loop-test .left) (c .before .loop .inv .2)
 
 pub string-spec : {M : Type 1} → statement M
-string-spec = tie.close (tie.spec Inv-loop μ-loop loop-holds byte-requires put-requires add-i loop-less loop-again same-length returns)
+string-spec =
+    tie.close (tie.spec Inv-loop μ-loop loop-holds (λ c κs. search needs) (λ c κs. search needs) (λ c. search needs) (λ c. search needs) loop-again
+    same-length returns)

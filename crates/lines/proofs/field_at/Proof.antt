@@ -7,12 +7,6 @@ use borrow.Author.Needs.{needs}
 use Rattle.lines.proofs.field_at.Statement.{statement}
 use Rattle.lines.proofs.field_at.Tie as tie
 
-line-at-requires : tie.Need-line-at-requires
-line-at-requires c κs = search needs
-
-form-at-requires : tie.Need-form-at-requires
-form-at-requires c κs = search needs
-
 field-requires : tie.Need-field-requires
 field-requires c κs = omega (arith, c .form-at .ensures, form-low (now (c .before .before .before .before .args .sheet)) (now (c .before .before .before .before .args .work)) (c .before .before .before .before .args .n) (c .before .before .before .before .pre .0) (c .before .before .before .before .args .i) (c .before .before .before .before .pre .1))
 
@@ -20,4 +14,5 @@ returns : tie.Need-returns
 returns c = c .field .ensures ∙ rw (c .before .form-at .ensures, c .before .before .line-at .ensures, fields-are (now (c .before .before .before .before .before .args .sheet)) (now (c .before .before .before .before .before .args .work)) (c .before .before .before .before .before .args .n) (c .before .before .before .before .before .pre .0) (c .before .before .before .before .before .args .i) (c .before .before .before .before .before .pre .1))
 
 pub field-at-spec : {M : Type 1} → statement M
-field-at-spec = tie.close (tie.spec line-at-requires form-at-requires field-requires returns)
+field-at-spec =
+    tie.close (tie.spec (λ c κs. search needs) (λ c κs. search needs) field-requires returns)

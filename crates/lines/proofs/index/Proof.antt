@@ -22,17 +22,11 @@ loop-holds c = (search needs, going-start (now (c .before .before .args .sheet))
 find-requires : tie.Need-find-requires Inv-loop μ-loop
 find-requires c κs = c .loop .inv .1 .low
 
-same-length : tie.Need-same-length Inv-loop μ-loop
-same-length c = search needs
-
 returns : tie.Need-returns Inv-loop μ-loop
 returns c = (going-done (now (c .before .before .before .before .before .before .args .sheet)) (c .before .before .before .loop .work) (c .before .before .before .loop .at) (c .before .before .before .loop .n) (c .before .before .find .result) (c .before .before .before .loop .inv .1) (c .before .before .find .ensures .0) (omega (arith, c .before .before .before .loop .inv .0)) (c .before .if1 .taken) (c .if2 .taken), c .before .before .before .loop .inv .2)
 
 add-t10 : tie.Need-add-t10 Inv-loop μ-loop
 add-t10 c = record { fits = omega (arith, c .before .before .before .loop .inv .1 .lined .few) }
-
-same-length-2 : tie.Need-same-length-2 Inv-loop μ-loop
-same-length-2 c = search needs
 
 returns-2 : tie.Need-returns-2 Inv-loop μ-loop
 returns-2 c = (going-unended (now (c .before .before .before .before .before .before .args .sheet)) (c .before .before .before .loop .work) (c .before .before .before .loop .at) (c .before .before .before .loop .n) (c .before .before .find .result) (c .before .before .before .loop .inv .1) (c .before .before .find .ensures .0) (c .before .if1 .taken) (c .if2 .left), c .before .before .before .loop .inv .2)
@@ -40,47 +34,20 @@ returns-2 c = (going-unended (now (c .before .before .before .before .before .be
 add-t11 : tie.Need-add-t11 Inv-loop μ-loop
 add-t11 c = record { fits = omega (arith, c .before .before .before .loop .inv .1 .lined .few) }
 
-same-length-3 : tie.Need-same-length-3 Inv-loop μ-loop
-same-length-3 c = search needs
-
 returns-3 : tie.Need-returns-3 Inv-loop μ-loop
 returns-3 c = (going-full (now (c .before .before .before .before .before .before .args .sheet)) (c .before .before .before .loop .work) (c .before .before .before .loop .at) (c .before .before .before .loop .n) (c .before .before .find .result) (c .before .before .before .loop .inv .1) (c .before .before .find .ensures .0) (omega (arith, c .before .if1 .left)) (c .if3 .taken), c .before .before .before .loop .inv .2)
-
-sub-form-of : tie.Need-sub-form-of Inv-loop μ-loop
-sub-form-of c = search needs
-
-part-form-of-start : tie.Need-part-form-of-start Inv-loop μ-loop
-part-form-of-start c = search needs
-
-part-form-of-end : tie.Need-part-form-of-end Inv-loop μ-loop
-part-form-of-end c = search needs
 
 add-form-of : tie.Need-add-form-of Inv-loop μ-loop
 add-form-of c = record { fits = omega (arith, c .before .before .before .before .loop .inv .1 .lined .few) }
 
-form-of-requires : tie.Need-form-of-requires Inv-loop μ-loop
-form-of-requires c κs = search needs
-
 add-t16 : tie.Need-add-t16 Inv-loop μ-loop
 add-t16 c = record { fits = omega (arith, c .before .before .before .before .before .before .loop .inv .1 .lined .few) }
-
-same-length-4 : tie.Need-same-length-4 Inv-loop μ-loop
-same-length-4 c = search needs
 
 returns-4 : tie.Need-returns-4 Inv-loop μ-loop
 returns-4 c = (going-none (now (c .before .before .before .before .before .before .before .before .before .args .sheet)) (c .before .before .before .before .before .before .loop .work) (c .before .before .before .before .before .before .loop .at) (c .before .before .before .before .before .before .loop .n) (c .before .before .before .before .before .find .result) (c .before .before .before .before .before .before .loop .inv .1) (c .before .before .before .before .before .find .ensures .0) (omega (arith, c .before .before .before .before .if1 .left)) (c .before .form-of .result) (c .before .before .before .if3 .left) (c .before .form-of .ensures .0) (c .if4 .taken), c .before .before .before .before .before .before .loop .inv .2)
 
 enter-requires : tie.Need-enter-requires Inv-loop μ-loop
 enter-requires c κs = (omega (arith, c .before .before .before .before .if3 .left, c .before .before .before .before .before .before .before .loop .inv .1 .lined .few), omega (arith, c .before .before .before .before .before .before .before .loop .inv .1 .low), omega (arith, c .before .before .form-of .ensures .1), omega (arith, c .before .before .before .before .before .before .before .loop .inv .0))
-
-add-n : tie.Need-add-n Inv-loop μ-loop
-add-n c = search needs
-
-add-at : tie.Need-add-at Inv-loop μ-loop
-add-at c = search needs
-
-loop-less : tie.Need-loop-less Inv-loop μ-loop
-loop-less c = search needs
 
 loop-again : tie.Need-loop-again Inv-loop μ-loop
 loop-again c = (
@@ -91,6 +58,6 @@ loop-again c = (
 
 pub index-spec : {M : Type 1} → statement M
 index-spec =
-    tie.close (tie.spec Inv-loop μ-loop loop-holds find-requires same-length returns add-t10 same-length-2 returns-2 add-t11 same-length-3 returns-3
-    sub-form-of part-form-of-start part-form-of-end add-form-of form-of-requires add-t16 same-length-4 returns-4 enter-requires add-n add-at loop-less
-    loop-again)
+    tie.close (tie.spec Inv-loop μ-loop loop-holds find-requires (λ c. search needs) returns add-t10 (λ c. search needs) returns-2 add-t11
+    (λ c. search needs) returns-3 (λ c. search needs) (λ c. search needs) (λ c. search needs) add-form-of (λ c κs. search needs) add-t16
+    (λ c. search needs) returns-4 enter-requires (λ c. search needs) (λ c. search needs) (λ c. search needs) loop-again)

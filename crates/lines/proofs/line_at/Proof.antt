@@ -8,12 +8,6 @@ use Rattle.lines.proofs.line_at.Tie as tie
 start-of-requires : tie.Need-start-of-requires
 start-of-requires c κs = (omega (arith, (c .before .before .pre) .0 .lined .few), (c .before .before .pre) .0 .room)
 
-add-if1 : tie.Need-add-if1
-add-if1 c = search needs
-
-add-start-of : tie.Need-add-start-of
-add-start-of c = search needs
-
 start-of-requires-2 : tie.Need-start-of-requires-2
 start-of-requires-2 c κs = (omega (arith, (c .before .before .before .before .pre) .0 .lined .few), (c .before .before .before .before .pre) .0 .room)
 
@@ -35,19 +29,10 @@ returns c = line-text (now (c .before .before .before .before .before .before .a
 find-requires : tie.Need-find-requires
 find-requires c κs = omega (arith, c .before .start-of .ensures, (c .before .before .before .before .pre) .0 .lined .within (c .before .before .before .before .args .i) ((c .before .before .before .before .pre) .1))
 
-sub-result-3 : tie.Need-sub-result-3
-sub-result-3 c = search needs
-
-part-result-start-2 : tie.Need-part-result-start-2
-part-result-start-2 c = search needs
-
-part-result-end-2 : tie.Need-part-result-end-2
-part-result-end-2 c = search needs
-
 returns-2 : tie.Need-returns-2
 returns-2 c = line-text (now (c .before .before .before .before .before .before .args .sheet)) (now (c .before .before .before .before .before .before .args .work)) (c .before .before .before .before .before .before .args .n) (c .before .before .before .before .before .before .args .i) (c .before .before .before .start-of .result) (c .before .find .result) ((c .before .before .before .before .before .before .pre) .0) ((c .before .before .before .before .before .before .pre) .1) (c .before .before .before .start-of .ensures) (c .before .find .ensures .0)
 
 pub line-at-spec : {M : Type 1} → statement M
 line-at-spec =
-    tie.close (tie.spec start-of-requires add-if1 add-start-of start-of-requires-2 sub-result sub-result-2 part-result-start part-result-end returns
-    find-requires sub-result-3 part-result-start-2 part-result-end-2 returns-2)
+    tie.close (tie.spec start-of-requires (λ c. search needs) (λ c. search needs) start-of-requires-2 sub-result sub-result-2 part-result-start
+    part-result-end returns find-requires (λ c. search needs) (λ c. search needs) (λ c. search needs) returns-2)

@@ -5,14 +5,9 @@ use borrow.Author.Needs.{needs}
 use Rattle.lines.proofs.number_at.Statement.{statement}
 use Rattle.lines.proofs.number_at.Tie as tie
 
-field-at-requires : tie.Need-field-at-requires
-field-at-requires c κs = search needs
-
-number-requires : tie.Need-number-requires
-number-requires c κs = search needs
-
 returns : tie.Need-returns
 returns c = (c .number .ensures .0 ∙ ap (numberOf 65536) (c .before .field-at .ensures), c .number .ensures .1)
 
 pub number-at-spec : {M : Type 1} → statement M
-number-at-spec = tie.close (tie.spec field-at-requires number-requires returns)
+number-at-spec =
+    tie.close (tie.spec (λ c κs. search needs) (λ c κs. search needs) returns)

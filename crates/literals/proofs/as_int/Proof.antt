@@ -4,23 +4,8 @@ use borrow.Author.Needs.{needs}
 use Rattle.literals.proofs.as_int.Statement.{statement}
 use Rattle.literals.proofs.as_int.Tie as tie
 
-enum-known-x : tie.Need-enum-known-x
-enum-known-x c = search needs
-
-enum-known-v : tie.Need-enum-known-v
-enum-known-v c = search needs
-
 enum-told : tie.Need-enum-told
 enum-told c = search needs
-
-enum-told-2 : tie.Need-enum-told-2
-enum-told-2 c = search needs
-
-enum-told-3 : tie.Need-enum-told-3
-enum-told-3 c = search needs
-
-enum-told-4 : tie.Need-enum-told-4
-enum-told-4 c = search needs
 
 returns : tie.Need-returns
 returns c = λ t. int-value t (c .before .before .before .before .x .given .1) (c .before .v .given .1) (record { sfits = c .known-told2 .given .0 .1 })
@@ -39,4 +24,5 @@ returns-5 c = λ t. long-value t asInt (c .enum-told4 .given .1)
 
 pub as-int-spec : {M : Type 1} → statement M
 as-int-spec =
-    tie.close (tie.spec enum-known-x enum-known-v enum-told enum-told-2 enum-told-3 enum-told-4 returns returns-2 returns-3 returns-4 returns-5)
+    tie.close (tie.spec (λ c. search needs) (λ c. search needs) enum-told (λ c. search needs) (λ c. search needs) (λ c. search needs) returns
+    returns-2 returns-3 returns-4 returns-5)

@@ -36,12 +36,6 @@ number-at-requires-2 c κs = let l = turning-line (c .before .before .before .be
 fill-element-requires : tie.Need-fill-element-requires Inv-loop μ-loop
 fill-element-requires c κs = turn-line (c .before .before .before .before .before .before .before .before .before .before .before .before .before .pre) (c .before .before .before .before .before .before .before .before .before .empty .ensures) (c .before .before .before .before .before .number-at .ensures .0) (c .before .before .before .before .loop .inv) (c .before .before .before .loop-test .taken) (c .before .number-at2 .ensures .0)
 
-enum-known-y : tie.Need-enum-known-y Inv-loop μ-loop
-enum-known-y c = search needs
-
-same-length : tie.Need-same-length Inv-loop μ-loop
-same-length c = search needs
-
 returns : tie.Need-returns Inv-loop μ-loop
 returns c = turning-stop (c .before .before .before .before .before .before .before .before .before .before .before .before .before .before .before .before .before .pre) (c .before .before .before .before .before .before .before .before .before .before .before .before .before .empty .ensures) (c .before .before .before .before .before .before .before .before .before .number-at .ensures .0) (c .before .before .before .before .before .before .before .before .loop .inv) (c .before .before .before .before .before .before .before .loop-test .taken) (c .before .before .before .before .before .number-at2 .ensures .0) (c .before .before .before .fill-element .result) (c .before .before .before .fill-element .ensures) (into-not (c .before .before .before .fill-element .result) (c .match .keys2))
 
@@ -54,13 +48,10 @@ loop-less c = omega (arith, c .before .before .before .before .before .before .b
 loop-again : tie.Need-loop-again Inv-loop μ-loop
 loop-again c = turning-next (c .before .before .before .before .before .before .before .before .before .before .before .before .before .before .before .before .before .before .before .pre) (c .before .before .before .before .before .before .before .before .before .before .before .before .before .before .before .empty .ensures) (c .before .before .before .before .before .before .before .before .before .before .before .number-at .ensures .0) (c .before .before .before .before .before .before .before .before .before .before .loop .inv) (c .before .before .before .before .before .before .before .before .before .loop-test .taken) (c .before .before .before .before .before .before .before .number-at2 .ensures .0) (c .before .before .before .before .before .fill-element .result) (c .before .before .before .before .before .fill-element .ensures) (c .before .y .given .1)
 
-same-length-2 : tie.Need-same-length-2 Inv-loop μ-loop
-same-length-2 c = search needs
-
 returns-2 : tie.Need-returns-2 Inv-loop μ-loop
 returns-2 c = turning-end (c .before .before .before .before .before .before .before .before .before .before .pre) (c .before .before .before .before .before .before .empty .ensures) (c .before .before .number-at .ensures .0) (c .before .loop .inv) (c .loop-test .left)
 
 pub fill-spec : {M : Type 1} → statement M
 fill-spec =
     tie.close (tie.spec Inv-loop μ-loop empty-requires sub-number-at number-at-requires loop-holds sub-number-at-2 add-number-at number-at-requires-2
-    fill-element-requires enum-known-y same-length returns add-j loop-less loop-again same-length-2 returns-2)
+    fill-element-requires (λ c. search needs) (λ c. search needs) returns add-j loop-less loop-again (λ c. search needs) returns-2)

@@ -4,26 +4,11 @@ use borrow.Author.Needs.{needs}
 use Rattle.literals.proofs.place_element.Statement.{statement}
 use Rattle.literals.proofs.place_element.Tie as tie
 
-sub-form-at : tie.Need-sub-form-at
-sub-form-at c = search needs
-
-form-at-requires : tie.Need-form-at-requires
-form-at-requires c κs = search needs
-
-place-next-requires : tie.Need-place-next-requires
-place-next-requires c κs = search needs
-
-same-length : tie.Need-same-length
-same-length c = search needs
-
 returns : tie.Need-returns
 returns c = element-next (c .before .before .before .before .before .before .before .before .before .pre) (c .before .before .before .before .before .before .before .before .before .args .next) (c .before .before .before .before .before .before .before .before .before .args .reach) (c .before .before .before .before .before .form-at .ensures) (c .before .before .before .before .if1 .taken) (c .before .before .place-next .ensures)
 
 put-value-requires : tie.Need-put-value-requires
 put-value-requires c κs = (omega arith, c .before .before .before .before .before .before .before .pre .task .line .checked .whole .room, element-small (c .before .before .before .before .before .before .before .pre) (c .before .before .before .before .before .before .before .args .next) (c .before .before .before .before .before .before .before .args .reach))
-
-same-length-2 : tie.Need-same-length-2
-same-length-2 c = search needs
 
 returns-2 : tie.Need-returns-2
 returns-2 c = element-star (c .before .before .before .before .before .before .before .before .before .before .pre) (c .before .before .before .before .before .before .before .before .before .before .args .next) (c .before .before .before .before .before .before .before .before .before .before .args .reach) (c .before .before .before .before .before .before .form-at .ensures) (c .before .before .before .before .if2 .taken) (c .before .before .put-value .ensures)
@@ -31,13 +16,10 @@ returns-2 c = element-star (c .before .before .before .before .before .before .b
 place-selectors-requires : tie.Need-place-selectors-requires
 place-selectors-requires c κs = element-at (c .before .before .before .before .before .before .before .pre) (c .before .before .before .before .before .before .before .args .next) (c .before .before .before .before .before .before .before .args .reach) (c .before .before .before .form-at .ensures) (c .before .before .if1 .left) (c .before .if2 .left)
 
-same-length-3 : tie.Need-same-length-3
-same-length-3 c = search needs
-
 returns-3 : tie.Need-returns-3
 returns-3 c = element-spans (c .before .before .before .before .before .before .before .before .before .before .pre) (c .before .before .before .before .before .before .before .before .before .before .args .next) (c .before .before .before .before .before .before .before .before .before .before .args .reach) (c .before .before .before .before .before .before .form-at .ensures) (c .before .before .before .before .before .if1 .left) (c .before .before .before .before .if2 .left) (c .before .before .place-selectors .ensures)
 
 pub place-element-spec : {M : Type 1} → statement M
 place-element-spec =
-    tie.close (tie.spec sub-form-at form-at-requires place-next-requires same-length returns put-value-requires same-length-2 returns-2
-    place-selectors-requires same-length-3 returns-3)
+    tie.close (tie.spec (λ c. search needs) (λ c κs. search needs) (λ c κs. search needs) (λ c. search needs) returns put-value-requires
+    (λ c. search needs) returns-2 place-selectors-requires (λ c. search needs) returns-3)

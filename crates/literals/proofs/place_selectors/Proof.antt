@@ -34,12 +34,6 @@ number-at-requires-2 c κs = let l = selecting-line (c .before .before .before .
 place-selector-requires : tie.Need-place-selector-requires Inv-loop μ-loop
 place-selector-requires c κs = selector-task (c .before .before .before .before .before .before .before .before .before .pre) (c .before .before .before .before .before .before .before .before .before .args .next) (c .before .before .before .before .before .before .before .before .before .args .reach) (c .before .before .before .before .before .number-at .ensures .0) (c .before .before .before .before .loop .inv) (c .before .before .before .loop-test .taken) (c .before .number-at2 .ensures .0)
 
-is-stopped-requires : tie.Need-is-stopped-requires Inv-loop μ-loop
-is-stopped-requires c κs = search needs
-
-same-length : tie.Need-same-length Inv-loop μ-loop
-same-length c = search needs
-
 returns : tie.Need-returns Inv-loop μ-loop
 returns c = selecting-stop (c .before .before .before .before .before .before .before .before .before .before .before .before .before .before .pre) (c .before .before .before .before .before .before .before .before .before .before .before .before .before .before .args .next) (c .before .before .before .before .before .before .before .before .before .before .before .before .before .before .args .reach) (c .before .before .before .before .before .before .before .before .before .before .number-at .ensures .0) (c .before .before .before .before .before .before .before .before .before .loop .inv) (c .before .before .before .before .before .before .before .before .loop-test .taken) (c .before .before .before .before .before .before .number-at2 .ensures .0) (c .before .before .before .before .place-selector .result) (c .before .before .before .before .place-selector .ensures) (sym (c .before .is-stopped .ensures) ∙ c .if1 .taken)
 
@@ -52,13 +46,10 @@ loop-less c = omega (arith, c .before .before .before .before .before .before .b
 loop-again : tie.Need-loop-again Inv-loop μ-loop
 loop-again c = selecting-next (c .before .before .before .before .before .before .before .before .before .before .before .before .before .before .pre) (c .before .before .before .before .before .before .before .before .before .before .before .before .before .before .args .next) (c .before .before .before .before .before .before .before .before .before .before .before .before .before .before .args .reach) (c .before .before .before .before .before .before .before .before .before .before .number-at .ensures .0) (c .before .before .before .before .before .before .before .before .before .loop .inv) (c .before .before .before .before .before .before .before .before .loop-test .taken) (c .before .before .before .before .before .before .number-at2 .ensures .0) (c .before .before .before .before .place-selector .result) (c .before .before .before .before .place-selector .ensures) (sym (c .before .is-stopped .ensures) ∙ c .if1 .left)
 
-same-length-2 : tie.Need-same-length-2 Inv-loop μ-loop
-same-length-2 c = search needs
-
 returns-2 : tie.Need-returns-2 Inv-loop μ-loop
 returns-2 c = selecting-end (c .before .before .before .before .before .before .pre) (c .before .before .before .before .before .before .args .next) (c .before .before .before .before .before .before .args .reach) (c .before .before .number-at .ensures .0) (c .before .loop .inv) (c .loop-test .left)
 
 pub place-selectors-spec : {M : Type 1} → statement M
 place-selectors-spec =
     tie.close (tie.spec Inv-loop μ-loop sub-number-at number-at-requires loop-holds sub-number-at-2 add-number-at number-at-requires-2
-    place-selector-requires is-stopped-requires same-length returns add-j loop-less loop-again same-length-2 returns-2)
+    place-selector-requires (λ c κs. search needs) (λ c. search needs) returns add-j loop-less loop-again (λ c. search needs) returns-2)

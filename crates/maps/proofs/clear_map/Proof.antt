@@ -25,12 +25,6 @@ add-work c = omega (arith, map-fits (c .before .before .before .before .pre), c 
 slice-write-work : tie.Need-slice-write-work Inv-loop μ-loop
 slice-write-work c = omega (arith, c .before .loop .inv .1 .kept .long, c .before .before .before .before .pre .room, map-fits (c .before .before .before .before .pre), c .before .before .map-bytes .ensures .0 [], bytes-count (c .before .before .before .before .args .size) [])
 
-add-i : tie.Need-add-i Inv-loop μ-loop
-add-i c = omega arith
-
-loop-less : tie.Need-loop-less Inv-loop μ-loop
-loop-less c = omega arith
-
 loop-again : tie.Need-loop-again Inv-loop μ-loop
 loop-again c = (omega arith, clearing-next (c .before .loop .inv .1) (omega (arith, c .before .loop .inv .1 .kept .long, c .before .before .before .before .pre .room, map-fits (c .before .before .before .before .pre), c .before .before .map-bytes .ensures .0 [], bytes-count (c .before .before .before .before .args .size) [])))
 
@@ -42,4 +36,5 @@ returns c = let e : c .before .loop .i ≡ mapLength (c .before .before .before 
 
 pub clear-map-spec : {M : Type 1} → statement M
 clear-map-spec =
-    tie.close (tie.spec Inv-loop μ-loop map-bytes-requires loop-holds add-work slice-write-work add-i loop-less loop-again same-length returns)
+    tie.close (tie.spec Inv-loop μ-loop map-bytes-requires loop-holds add-work slice-write-work (λ c. omega arith) (λ c. omega arith) loop-again
+    same-length returns)

@@ -30,12 +30,6 @@ ones-of-requires c κs = tt
 add-count : tie.Need-add-count Inv-loop μ-loop
 add-count c = omega (arith, c .before .before .before .loop .inv .few, c .before .before .before .loop .inv .within, map-fits (c .before .before .before .before .before .before .pre), c .ones-of .ensures .1)
 
-add-i : tie.Need-add-i Inv-loop μ-loop
-add-i c = omega arith
-
-loop-less : tie.Need-loop-less Inv-loop μ-loop
-loop-less c = omega arith
-
 loop-again : tie.Need-loop-again Inv-loop μ-loop
 loop-again c = counting-next (now (c .before .before .before .before .before .before .args .work)) (c .before .before .before .before .before .before .args .size) (c .before .before .before .before .before .before .pre) (c .before .before .before .loop .count) (c .before .before .before .loop .i) (c .ones-of .result) (c .before .before .before .loop .inv) (omega (arith, c .before .before .before .before .map-bytes .ensures .0 [], bytes-count (c .before .before .before .before .before .before .args .size) [])) (c .ones-of .ensures .0) (c .ones-of .ensures .1)
 
@@ -44,5 +38,5 @@ returns c = counting-end (now (c .before .before .before .before .args .work)) (
 
 pub map-ones-spec : {M : Type 1} → statement M
 map-ones-spec =
-    tie.close (tie.spec Inv-loop μ-loop map-bytes-requires loop-holds add-ones-of shared-slice-read-ones-of ones-of-requires add-count add-i loop-less
-    loop-again returns)
+    tie.close (tie.spec Inv-loop μ-loop map-bytes-requires loop-holds add-ones-of shared-slice-read-ones-of ones-of-requires add-count
+    (λ c. omega arith) (λ c. omega arith) loop-again returns)

@@ -11,14 +11,9 @@ returns c = marks-skip (c .before .before .args .off) (λ x. below-zero (c .befo
 cast-mark-at : tie.Need-cast-mark-at
 cast-mark-at c = let p = plain (c .before .before .before .args .off) (c .before .before .before .fits .off) (c .before .if1 .left) in (p .sign, omega arith)
 
-mark-at-requires : tie.Need-mark-at-requires
-mark-at-requires c κs = search needs
-
-same-length : tie.Need-same-length
-same-length c = search needs
-
 returns-2 : tie.Need-returns-2
 returns-2 c = rw (plain (c .before .before .before .before .before .before .args .off) (c .before .before .before .before .before .before .fits .off) (c .before .before .before .before .if1 .left) .same) (c .before .before .mark-at .ensures)
 
 pub mark-spec : {M : Type 1} → statement M
-mark-spec = tie.close (tie.spec returns cast-mark-at mark-at-requires same-length returns-2)
+mark-spec =
+    tie.close (tie.spec returns cast-mark-at (λ c κs. search needs) (λ c. search needs) returns-2)

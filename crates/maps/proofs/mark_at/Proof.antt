@@ -18,26 +18,10 @@ returns c = marks-skip (pos (c .before .before .args .off)) (λ x. past (c .befo
 returns-2 : tie.Need-returns-2
 returns-2 c = marks-skip (pos (c .before .before .before .args .off)) (λ x. past (c .before .before .before .args .size) x (c .before .before .before .args .off) refl (omega arith))
 
-cast-at : tie.Need-cast-at
-cast-at c = search needs
-
-add-at : tie.Need-add-at
-add-at c = search needs
-
-slice-read-work : tie.Need-slice-read-work
-slice-read-work c = search needs
-
-bit-of-requires : tie.Need-bit-of-requires
-bit-of-requires c κs = search needs
-
-slice-write-work : tie.Need-slice-write-work
-slice-write-work c = search needs
-
-same-length : tie.Need-same-length
-same-length c = search needs
-
 returns-3 : tie.Need-returns-3
 returns-3 c = marks-set (c .before .before .before .before .before .args .off) (c .before .before .before .before .before .pre) (omega arith) (ap (bitOr (getD (now (c .before .before .before .before .before .args .work)) (49152 + c .before .before .before .before .before .args .off / 4 / 8) 0)) (c .bit-of .ensures)) refl
 
 pub mark-at-spec : {M : Type 1} → statement M
-mark-at-spec = tie.close (tie.spec returns returns-2 cast-at add-at slice-read-work bit-of-requires slice-write-work same-length returns-3)
+mark-at-spec =
+    tie.close (tie.spec returns returns-2 (λ c. search needs) (λ c. search needs) (λ c. search needs) (λ c κs. search needs) (λ c. search needs)
+    (λ c. search needs) returns-3)

@@ -7,43 +7,19 @@ use borrow.Author.Needs.{needs}
 use Rattle.marks.proofs.mark_field.Statement.{statement}
 use Rattle.marks.proofs.mark_field.Tie as tie
 
-sub-number-at : tie.Need-sub-number-at
-sub-number-at c = search needs
-
-number-at-requires : tie.Need-number-at-requires
-number-at-requires c κs = search needs
-
-same-length : tie.Need-same-length
-same-length c = search needs
-
 returns : tie.Need-returns
 returns c = (line-untyped (now (c .before .before .before .before .before .args .sheet)) (now (c .before .before .before .before .before .args .work)) (c .before .before .before .before .before .args .n) (c .before .before .before .before .before .args .r) ((c .before .before .before .before .before .pre) .0) (c .before .number-at .result) (c .before .number-at .ensures .0) (c .before .before .before .before .before .args .size) (c .before .before .before .before .before .args .off) (c .if1 .taken), omega arith)
 
 type-size-align-requires : tie.Need-type-size-align-requires
 type-size-align-requires c κs = type-line (now (c .before .before .before .before .before .before .args .sheet)) (now (c .before .before .before .before .before .before .args .work)) (c .before .before .before .before .before .before .args .n) (c .before .before .before .before .before .before .args .r) ((c .before .before .before .before .before .before .pre) .0) (c .before .before .number-at .result) (c .before .before .number-at .ensures .0) (c .before .if1 .left)
 
-sub-number-at-2 : tie.Need-sub-number-at-2
-sub-number-at-2 c = search needs
-
-number-at-requires-2 : tie.Need-number-at-requires-2
-number-at-requires-2 c κs = search needs
-
-align-up-requires : tie.Need-align-up-requires
-align-up-requires c κs = search needs
-
-cast-at : tie.Need-cast-at
-cast-at c = search needs
-
 mark-names-requires : tie.Need-mark-names-requires
 mark-names-requires c κs = (type-line (now (c .before .before .before .before .before .before .before .before .before .before .before .args .sheet)) (now (c .before .before .before .before .before .before .before .before .before .before .before .args .work)) (c .before .before .before .before .before .before .before .before .before .before .before .args .n) (c .before .before .before .before .before .before .before .before .before .before .before .args .r) ((c .before .before .before .before .before .before .before .before .before .before .before .pre) .0) (c .before .before .before .before .before .before .before .number-at .result) (c .before .before .before .before .before .before .before .number-at .ensures .0) (c .before .before .before .before .before .before .if1 .left), (c .before .before .before .before .before .before .before .before .before .before .before .pre) .1, c .before .before .before .before .type-size-align .ensures .small, names-few (now (c .before .before .before .before .before .before .before .before .before .before .before .args .sheet)) (now (c .before .before .before .before .before .before .before .before .before .before .before .args .work)) (c .before .before .before .before .before .before .before .before .before .before .before .args .n) (c .before .before .before .before .before .before .before .before .before .before .before .args .r) ((c .before .before .before .before .before .before .before .before .before .before .before .pre) .0) (c .before .before .before .before .before .before .before .number-at .result) (c .before .before .before .before .before .before .before .number-at .ensures .0) (c .before .before .before .before .before .before .if1 .left) (c .before .before .number-at2 .result) (c .before .before .number-at2 .ensures .0), omega (arith, c .before .align-up .ensures .1, c .before .before .before .before .type-size-align .ensures .low, (c .before .before .before .before .before .before .before .before .before .before .before .pre) .2))
-
-same-length-2 : tie.Need-same-length-2
-same-length-2 c = search needs
 
 returns-2 : tie.Need-returns-2
 returns-2 c = (line-typed (now (c .before .before .before .before .before .before .before .before .before .before .before .before .before .before .args .sheet)) (now (c .before .before .before .before .before .before .before .before .before .before .before .before .before .before .args .work)) (c .before .before .before .before .before .before .before .before .before .before .before .before .before .before .args .n) (c .before .before .before .before .before .before .before .before .before .before .before .before .before .before .args .r) ((c .before .before .before .before .before .before .before .before .before .before .before .before .before .before .pre) .0) (c .before .before .before .before .before .before .before .before .before .before .number-at .result) (c .before .before .before .before .before .before .before .before .before .before .number-at .ensures .0) (c .before .before .before .before .before .before .before .before .before .before .before .before .before .before .args .size) (c .before .before .before .before .before .before .before .before .before .before .before .before .before .before .args .off) (c .before .before .before .before .before .before .before .before .before .if1 .left) (c .before .before .before .before .before .number-at2 .result) (c .before .before .before .before .before .number-at2 .ensures .0) (c .before .before .before .before .before .before .before .type-size-align .result .size) (c .before .before .before .before .before .before .before .type-size-align .result .align) (c .before .before .before .before .align-up .result) (c .before .before .mark-names .result) _ (c .before .before .before .before .before .before .before .type-size-align .ensures) (c .before .before .before .before .align-up .ensures .0) (c .before .before .mark-names .ensures .0) (c .before .before .mark-names .ensures .1), omega (arith, c .before .before .before .before .align-up .ensures .1, c .before .before .before .before .before .before .before .type-size-align .ensures .low, c .before .before .mark-names .ensures .0, names-small (names-few (now (c .before .before .before .before .before .before .before .before .before .before .before .before .before .before .args .sheet)) (now (c .before .before .before .before .before .before .before .before .before .before .before .before .before .before .args .work)) (c .before .before .before .before .before .before .before .before .before .before .before .before .before .before .args .n) (c .before .before .before .before .before .before .before .before .before .before .before .before .before .before .args .r) ((c .before .before .before .before .before .before .before .before .before .before .before .before .before .before .pre) .0) (c .before .before .before .before .before .before .before .before .before .before .number-at .result) (c .before .before .before .before .before .before .before .before .before .before .number-at .ensures .0) (c .before .before .before .before .before .before .before .before .before .if1 .left) (c .before .before .before .before .before .number-at2 .result) (c .before .before .before .before .before .number-at2 .ensures .0)) (c .before .before .before .before .before .before .before .type-size-align .ensures .small)))
 
 pub mark-field-spec : {M : Type 1} → statement M
 mark-field-spec =
-    tie.close (tie.spec sub-number-at number-at-requires same-length returns type-size-align-requires sub-number-at-2 number-at-requires-2
-    align-up-requires cast-at mark-names-requires same-length-2 returns-2)
+    tie.close (tie.spec (λ c. search needs) (λ c κs. search needs) (λ c. search needs) returns type-size-align-requires (λ c. search needs)
+    (λ c κs. search needs) (λ c κs. search needs) (λ c. search needs) mark-names-requires (λ c. search needs) returns-2)

@@ -29,23 +29,8 @@ form-at-requires c κs = (omega (arith, c .before .before .before .before .pre .
 kind-requires : tie.Need-kind-requires Inv-loop μ-loop
 kind-requires c κs = omega (arith, c .form-at .ensures, form-low (now (c .before .before .before .before .before .args .sheet)) (now (c .before .before .before .before .before .args .work)) (c .before .before .before .before .before .args .n) (c .before .before .before .before .before .pre) (c .before .before .loop .i) (c .before .loop-test .taken))
 
-is-wrong-requires : tie.Need-is-wrong-requires Inv-loop μ-loop
-is-wrong-requires c κs = search needs
-
-add-result : tie.Need-add-result Inv-loop μ-loop
-add-result c = search needs
-
 returns : tie.Need-returns Inv-loop μ-loop
 returns c = module-bad (now (c .before .before .before .before .before .before .before .before .args .sheet)) (now (c .before .before .before .before .before .before .before .before .args .work)) (c .before .before .before .before .before .before .before .before .args .n) (c .before .before .before .before .before .loop .i) (c .before .before .before .before .before .before .before .before .pre) (c .before .before .before .before .before .loop .inside) (c .before .before .before .before .before .loop .inv .1) (c .before .before .before .before .loop-test .taken) (c .before .before .kind .result) (c .before .before .kind .ensures ∙ ap kindAt (c .before .before .before .form-at .ensures)) (c .before .is-wrong .ensures) (c .if1 .taken)
-
-is-open-requires : tie.Need-is-open-requires Inv-loop μ-loop
-is-open-requires c κs = search needs
-
-add-i : tie.Need-add-i Inv-loop μ-loop
-add-i c = search needs
-
-loop-less : tie.Need-loop-less Inv-loop μ-loop
-loop-less c = search needs
 
 loop-again : tie.Need-loop-again Inv-loop μ-loop
 loop-again c = (omega arith, module-next (now (c .before .before .before .before .before .before .before .before .before .args .sheet)) (now (c .before .before .before .before .before .before .before .before .before .args .work)) (c .before .before .before .before .before .before .before .before .before .args .n) (c .before .before .before .before .before .before .loop .i) (c .before .before .before .before .before .before .before .before .before .pre) (c .before .before .before .before .before .before .loop .inside) (c .before .before .before .before .before .before .loop .inv .1) (c .before .before .before .before .before .loop-test .taken) (c .before .before .before .kind .result) (c .before .before .before .kind .ensures ∙ ap kindAt (c .before .before .before .before .form-at .ensures)) (c .before .before .is-wrong .ensures) (c .before .if1 .left) (c .is-open .ensures))
@@ -58,5 +43,5 @@ returns-3 c = module-closed (now (c .before .before .before .before .before .arg
 
 pub bad-module-spec : {M : Type 1} → statement M
 bad-module-spec =
-    tie.close (tie.spec Inv-loop μ-loop loop-holds form-at-requires kind-requires is-wrong-requires add-result returns is-open-requires add-i
-    loop-less loop-again returns-2 returns-3)
+    tie.close (tie.spec Inv-loop μ-loop loop-holds form-at-requires kind-requires (λ c κs. search needs) (λ c. search needs) returns
+    (λ c κs. search needs) (λ c. search needs) (λ c. search needs) loop-again returns-2 returns-3)

@@ -5,15 +5,9 @@ use Rattle.name.specs.Name.{letter}
 use Rattle.name.proofs.is_letter.Statement.{statement}
 use Rattle.name.proofs.is_letter.Tie as tie
 
-is-within-requires : tie.Need-is-within-requires
-is-within-requires c κs = search needs
-
 returns : tie.Need-returns
 unfolding letter
 returns c = simp (sym (c .before .is-within .ensures) ∙ c .if1 .taken)
-
-is-within-requires-2 : tie.Need-is-within-requires-2
-is-within-requires-2 c κs = search needs
 
 returns-2 : tie.Need-returns-2
 unfolding letter
@@ -24,4 +18,5 @@ unfolding letter
 returns-3 c = simp (sym (c .before .before .before .is-within .ensures) ∙ c .before .before .if1 .left, sym (c .before .is-within2 .ensures) ∙ c .if2 .left)
 
 pub is-letter-spec : {M : Type 1} → statement M
-is-letter-spec = tie.close (tie.spec is-within-requires returns is-within-requires-2 returns-2 returns-3)
+is-letter-spec =
+    tie.close (tie.spec (λ c κs. search needs) returns (λ c κs. search needs) returns-2 returns-3)

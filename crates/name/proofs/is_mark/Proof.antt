@@ -5,19 +5,14 @@ use Rattle.name.specs.Name.{letter, mark}
 use Rattle.name.proofs.is_mark.Statement.{statement}
 use Rattle.name.proofs.is_mark.Tie as tie
 
-is-letter-requires : tie.Need-is-letter-requires
-is-letter-requires c κs = search needs
-
 returns : tie.Need-returns
 unfolding letter mark
 returns c = simp (sym (c .before .is-letter .ensures) ∙ c .if1 .taken)
-
-is-within-requires : tie.Need-is-within-requires
-is-within-requires c κs = search needs
 
 returns-2 : tie.Need-returns-2
 unfolding letter mark
 returns-2 c = simp (sym (c .before .before .is-letter .ensures) ∙ c .before .if1 .left) (c .is-within .ensures)
 
 pub is-mark-spec : {M : Type 1} → statement M
-is-mark-spec = tie.close (tie.spec is-letter-requires returns is-within-requires returns-2)
+is-mark-spec =
+    tie.close (tie.spec (λ c κs. search needs) returns (λ c κs. search needs) returns-2)

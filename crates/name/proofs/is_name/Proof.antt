@@ -24,34 +24,16 @@ returns c = name-nil (now (c .before .before .args .s)) (c .if1 .taken)
 returns-2 : tie.Need-returns-2 Inv-loop μ-loop
 returns-2 c = name-long (now (c .before .before .before .args .s)) (omega arith) (c .if2 .taken)
 
-shared-slice-read-is-letter : tie.Need-shared-slice-read-is-letter Inv-loop μ-loop
-shared-slice-read-is-letter c = search needs
-
-is-letter-requires : tie.Need-is-letter-requires Inv-loop μ-loop
-is-letter-requires c κs = search needs
-
 returns-3 : tie.Need-returns-3 Inv-loop μ-loop
 returns-3 c = name-first (now (c .before .before .before .before .before .before .args .s)) (omega arith) (sym (c .before .is-letter .ensures) ∙ not-true (c .before .is-letter .result) (c .if3 .taken))
 
 loop-holds : tie.Need-loop-holds Inv-loop μ-loop
 loop-holds c = name-rest (now (c .before .before .before .before .before .before .args .s)) (omega arith) (c .before .before .before .if2 .left) (sym (c .before .is-letter .ensures) ∙ not-false (c .before .is-letter .result) (c .if3 .left))
 
-shared-slice-read-is-mark : tie.Need-shared-slice-read-is-mark Inv-loop μ-loop
-shared-slice-read-is-mark c = search needs
-
-is-mark-requires : tie.Need-is-mark-requires Inv-loop μ-loop
-is-mark-requires c κs = search needs
-
 returns-4 : tie.Need-returns-4 Inv-loop μ-loop
 returns-4 c =
     let l = c .before .before .before .before .loop in
     sym (l .inv ∙ mark-bad (now (c .before .before .before .before .before .before .before .before .before .before .before .args .s)) (l .i) (c .before .before .before .loop-test .taken) (sym (c .before .is-mark .ensures) ∙ not-true (c .before .is-mark .result) (c .if4 .taken)))
-
-add-i : tie.Need-add-i Inv-loop μ-loop
-add-i c = search needs
-
-loop-less : tie.Need-loop-less Inv-loop μ-loop
-loop-less c = search needs
 
 loop-again : tie.Need-loop-again Inv-loop μ-loop
 loop-again c =
@@ -65,5 +47,5 @@ returns-5 c =
 
 pub is-name-spec : {M : Type 1} → statement M
 is-name-spec =
-    tie.close (tie.spec Inv-loop μ-loop returns returns-2 shared-slice-read-is-letter is-letter-requires returns-3 loop-holds
-    shared-slice-read-is-mark is-mark-requires returns-4 add-i loop-less loop-again returns-5)
+    tie.close (tie.spec Inv-loop μ-loop returns returns-2 (λ c. search needs) (λ c κs. search needs) returns-3 loop-holds (λ c. search needs)
+    (λ c κs. search needs) returns-4 (λ c. search needs) (λ c. search needs) loop-again returns-5)

@@ -19,20 +19,8 @@ abbrev μ-loop : tie.MeasureT-loop
 loop-holds : tie.Need-loop-holds Inv-loop μ-loop
 loop-holds c = (omega arith, Laws.looking (now (c .before .before .before .args .sheet)) (now (c .before .before .before .args .work)) (plain (now (c .before .before .before .args .name))) (c .before .before .before .args .m))
 
-sub-answers-plain : tie.Need-sub-answers-plain Inv-loop μ-loop
-sub-answers-plain c = search needs
-
-answers-plain-requires : tie.Need-answers-plain-requires Inv-loop μ-loop
-answers-plain-requires c κs = search needs
-
 returns : tie.Need-returns Inv-loop μ-loop
 returns c = let w = Laws.look-hit (now (c .before .before .before .before .before .before .before .args .sheet)) (now (c .before .before .before .before .before .before .before .args .work)) (plain (now (c .before .before .before .before .before .before .before .args .name))) (λ (j : ℕ). answersPlain (now (c .before .before .before .before .before .before .before .args .sheet)) (now (c .before .before .before .before .before .before .before .args .work)) j (now (c .before .before .before .before .before .before .before .args .name))) (Laws.answers-plain (now (c .before .before .before .before .before .before .before .args .sheet)) (now (c .before .before .before .before .before .before .before .args .work)) (now (c .before .before .before .before .before .before .before .args .name))) (c .before .before .before .before .before .before .before .args .m) (c .before .before .before .loop .i) (c .before .before .before .loop .inv .1) (omega arith) (sym (c .if1 .taken) ∙ c .before .answers-plain .ensures) in (w .value, c .before .before .before .loop .inv .0, w .has)
-
-sub-i : tie.Need-sub-i Inv-loop μ-loop
-sub-i c = search needs
-
-loop-less : tie.Need-loop-less Inv-loop μ-loop
-loop-less c = search needs
 
 loop-again : tie.Need-loop-again Inv-loop μ-loop
 loop-again c = (omega arith, Laws.look-on (now (c .before .before .before .before .before .before .before .args .sheet)) (now (c .before .before .before .before .before .before .before .args .work)) (plain (now (c .before .before .before .before .before .before .before .args .name))) (λ (j : ℕ). answersPlain (now (c .before .before .before .before .before .before .before .args .sheet)) (now (c .before .before .before .before .before .before .before .args .work)) j (now (c .before .before .before .before .before .before .before .args .name))) (Laws.answers-plain (now (c .before .before .before .before .before .before .before .args .sheet)) (now (c .before .before .before .before .before .before .before .args .work)) (now (c .before .before .before .before .before .before .before .args .name))) (c .before .before .before .before .before .before .before .args .m) (c .before .before .before .loop .i) (c .before .before .before .loop .inv .1) (omega arith) (sym (c .if1 .left) ∙ c .before .answers-plain .ensures))
@@ -41,4 +29,6 @@ returns-2 : tie.Need-returns-2 Inv-loop μ-loop
 returns-2 c = let w = Laws.look-end (now (c .before .before .before .before .before .args .sheet)) (now (c .before .before .before .before .before .args .work)) (plain (now (c .before .before .before .before .before .args .name))) (c .before .before .before .before .before .args .m) (c .before .loop .i) (c .before .loop .inv .1) (omega arith) in (w .value, omega arith, w .has)
 
 pub look-up-spec : {M : Type 1} → statement M
-look-up-spec = tie.close (tie.spec Inv-loop μ-loop loop-holds sub-answers-plain answers-plain-requires returns sub-i loop-less loop-again returns-2)
+look-up-spec =
+    tie.close (tie.spec Inv-loop μ-loop loop-holds (λ c. search needs) (λ c κs. search needs) returns (λ c. search needs) (λ c. search needs)
+    loop-again returns-2)

@@ -19,20 +19,8 @@ abbrev μ-loop : tie.MeasureT-loop
 loop-holds : tie.Need-loop-holds Inv-loop μ-loop
 loop-holds c = (omega arith, Laws.looking (now (c .before .before .before .before .args .sheet)) (now (c .before .before .before .before .args .work)) (qualified (now (c .before .before .before .before .args .within)) (now (c .before .before .before .before .args .name))) (c .before .before .before .before .args .m))
 
-sub-answers-qualified : tie.Need-sub-answers-qualified Inv-loop μ-loop
-sub-answers-qualified c = search needs
-
-answers-qualified-requires : tie.Need-answers-qualified-requires Inv-loop μ-loop
-answers-qualified-requires c κs = search needs
-
 returns : tie.Need-returns Inv-loop μ-loop
 returns c = let w = Laws.look-hit (now (c .before .before .before .before .before .before .before .before .args .sheet)) (now (c .before .before .before .before .before .before .before .before .args .work)) (qualified (now (c .before .before .before .before .before .before .before .before .args .within)) (now (c .before .before .before .before .before .before .before .before .args .name))) (λ (j : ℕ). answersQualified (now (c .before .before .before .before .before .before .before .before .args .sheet)) (now (c .before .before .before .before .before .before .before .before .args .work)) j (now (c .before .before .before .before .before .before .before .before .args .within)) (now (c .before .before .before .before .before .before .before .before .args .name))) (Laws.answers-qualified (now (c .before .before .before .before .before .before .before .before .args .sheet)) (now (c .before .before .before .before .before .before .before .before .args .work)) (now (c .before .before .before .before .before .before .before .before .args .within)) (now (c .before .before .before .before .before .before .before .before .args .name))) (c .before .before .before .before .before .before .before .before .args .m) (c .before .before .before .loop .i) (c .before .before .before .loop .inv .1) (omega arith) (sym (c .if1 .taken) ∙ c .before .answers-qualified .ensures) in (w .value, c .before .before .before .loop .inv .0, w .has)
-
-sub-i : tie.Need-sub-i Inv-loop μ-loop
-sub-i c = search needs
-
-loop-less : tie.Need-loop-less Inv-loop μ-loop
-loop-less c = search needs
 
 loop-again : tie.Need-loop-again Inv-loop μ-loop
 loop-again c = (omega arith, Laws.look-on (now (c .before .before .before .before .before .before .before .before .args .sheet)) (now (c .before .before .before .before .before .before .before .before .args .work)) (qualified (now (c .before .before .before .before .before .before .before .before .args .within)) (now (c .before .before .before .before .before .before .before .before .args .name))) (λ (j : ℕ). answersQualified (now (c .before .before .before .before .before .before .before .before .args .sheet)) (now (c .before .before .before .before .before .before .before .before .args .work)) j (now (c .before .before .before .before .before .before .before .before .args .within)) (now (c .before .before .before .before .before .before .before .before .args .name))) (Laws.answers-qualified (now (c .before .before .before .before .before .before .before .before .args .sheet)) (now (c .before .before .before .before .before .before .before .before .args .work)) (now (c .before .before .before .before .before .before .before .before .args .within)) (now (c .before .before .before .before .before .before .before .before .args .name))) (c .before .before .before .before .before .before .before .before .args .m) (c .before .before .before .loop .i) (c .before .before .before .loop .inv .1) (omega arith) (sym (c .if1 .left) ∙ c .before .answers-qualified .ensures))
@@ -42,4 +30,5 @@ returns-2 c = let w = Laws.look-end (now (c .before .before .before .before .bef
 
 pub look-up-in-spec : {M : Type 1} → statement M
 look-up-in-spec =
-    tie.close (tie.spec Inv-loop μ-loop loop-holds sub-answers-qualified answers-qualified-requires returns sub-i loop-less loop-again returns-2)
+    tie.close (tie.spec Inv-loop μ-loop loop-holds (λ c. search needs) (λ c κs. search needs) returns (λ c. search needs) (λ c. search needs)
+    loop-again returns-2)

@@ -33,9 +33,6 @@ next-requires c κs = (c .before .before .loop .inv .1 .standing, c .if1 .taken)
 ref-depth-requires : tie.Need-ref-depth-requires Inv-loop μ-loop
 ref-depth-requires c κs = (omega (arith, c .before .before .before .before .before .before .before .before .before .pre .0 .lined .few, c .before .before .before .before .before .before .before .before .before .pre .1), c .before .before .before .before .before .before .before .before .before .pre .0 .room)
 
-larger-requires : tie.Need-larger-requires Inv-loop μ-loop
-larger-requires c κs = search needs
-
 loop-less : tie.Need-loop-less Inv-loop μ-loop
 loop-less c = omega (arith, c .before .before .before .next .ensures .further, c .before .before .before .before .if1 .taken)
 
@@ -47,5 +44,5 @@ returns c = (c .before .before .loop .inv .0, walking-end (now (c .before .befor
 
 pub depth-below-spec : {M : Type 1} → statement M
 depth-below-spec =
-    tie.close (tie.spec Inv-loop μ-loop line-at-requires form-at-requires begin-requires loop-holds next-requires ref-depth-requires larger-requires
-    loop-less loop-again returns)
+    tie.close (tie.spec Inv-loop μ-loop line-at-requires form-at-requires begin-requires loop-holds next-requires ref-depth-requires
+    (λ c κs. search needs) loop-less loop-again returns)

@@ -19,20 +19,10 @@ returns-3 c = (depth-zero (now (c .before .before .before .before .args .work)) 
 returns-4 : tie.Need-returns-4
 returns-4 c = (depth-late (now (c .before .before .before .before .before .args .work)) (c .before .before .before .before .before .args .i) (c .before .before .before .before .before .args .x) (c .before .before .before .before .before .args .v) (c .before .before .before .if1 .left) (c .before .before .if2 .left) (c .before .if3 .left) (c .if4 .taken), omega arith)
 
-sub-wide : tie.Need-sub-wide
-sub-wide c = search needs
-
-add-wide : tie.Need-add-wide
-add-wide c = search needs
-
-shared-slice-read-wide : tie.Need-shared-slice-read-wide
-shared-slice-read-wide c = search needs
-
-wide-requires : tie.Need-wide-requires
-wide-requires c κs = search needs
-
 returns-5 : tie.Need-returns-5
 returns-5 c = (c .wide .ensures .0 ∙ depth-line (now (c .before .before .before .before .before .before .before .args .work)) (c .before .before .before .before .before .before .before .args .i) (c .before .before .before .before .before .before .before .args .x) (c .before .before .before .before .before .before .before .args .v) (c .before .before .before .before .before .if1 .left) (c .before .before .before .before .if2 .left) (c .before .before .before .if3 .left) (c .before .before .if4 .left), c .wide .ensures .1)
 
 pub ref-depth-spec : {M : Type 1} → statement M
-ref-depth-spec = tie.close (tie.spec returns returns-2 returns-3 returns-4 sub-wide add-wide shared-slice-read-wide wide-requires returns-5)
+ref-depth-spec =
+    tie.close (tie.spec returns returns-2 returns-3 returns-4 (λ c. search needs) (λ c. search needs) (λ c. search needs) (λ c κs. search needs)
+    returns-5)

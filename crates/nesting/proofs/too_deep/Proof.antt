@@ -21,43 +21,19 @@ loop-holds c = (search needs, omega arith, descending-start (now (c .before .bef
 depth-below-requires : tie.Need-depth-below-requires Inv-loop μ-loop
 depth-below-requires c κs = (c .before .before .loop .inv .2 .whole, c .before .loop-test .taken)
 
-add-d : tie.Need-add-d Inv-loop μ-loop
-add-d c = search needs
-
-add-result : tie.Need-add-result Inv-loop μ-loop
-add-result c = search needs
-
-same-length : tie.Need-same-length Inv-loop μ-loop
-same-length c = search needs
-
 returns : tie.Need-returns Inv-loop μ-loop
 returns c = (c .before .before .before .before .loop .inv .2 .whole, descending-bad (now (c .before .before .before .before .before .before .before .args .sheet)) (c .before .before .before .before .loop .work) (c .before .before .before .before .before .before .before .args .n) (c .before .before .before .before .loop .i) (c .before .before .before .before .loop .inv .2) (c .before .before .before .loop-test .taken) (c .before .depth-below .result) (c .before .depth-below .ensures .1) (c .if1 .taken))
-
-cast-work : tie.Need-cast-work Inv-loop μ-loop
-cast-work c = search needs
-
-add-work : tie.Need-add-work Inv-loop μ-loop
-add-work c = search needs
 
 slice-write-work : tie.Need-slice-write-work Inv-loop μ-loop
 slice-write-work c = omega (arith, c .before .before .before .before .loop .inv .2 .whole .room, c .before .before .before .before .loop .inv .2 .whole .lined .few, c .before .before .before .loop-test .taken)
 
-add-i : tie.Need-add-i Inv-loop μ-loop
-add-i c = search needs
-
-loop-less : tie.Need-loop-less Inv-loop μ-loop
-loop-less c = search needs
-
 loop-again : tie.Need-loop-again Inv-loop μ-loop
 loop-again c = (simp length-set (c .before .before .before .before .loop .inv .0), omega (arith, c .before .before .before .loop-test .taken), descending-next (now (c .before .before .before .before .before .before .before .args .sheet)) (c .before .before .before .before .loop .work) (c .before .before .before .before .before .before .before .args .n) (c .before .before .before .before .loop .i) (c .before .before .before .before .loop .inv .2) (c .before .before .before .loop-test .taken) (c .before .depth-below .result) (c .before .depth-below .ensures .1) _ (c .if1 .left) refl)
-
-same-length-2 : tie.Need-same-length-2 Inv-loop μ-loop
-same-length-2 c = search needs
 
 returns-2 : tie.Need-returns-2 Inv-loop μ-loop
 returns-2 c = (c .before .loop .inv .2 .whole, descending-end (now (c .before .before .before .before .args .sheet)) (c .before .loop .work) (c .before .before .before .before .args .n) (c .before .loop .i) (c .before .loop .inv .2) (c .loop-test .left))
 
 pub too-deep-spec : {M : Type 1} → statement M
 too-deep-spec =
-    tie.close (tie.spec Inv-loop μ-loop loop-holds depth-below-requires add-d add-result same-length returns cast-work add-work slice-write-work add-i
-    loop-less loop-again same-length-2 returns-2)
+    tie.close (tie.spec Inv-loop μ-loop loop-holds depth-below-requires (λ c. search needs) (λ c. search needs) (λ c. search needs) returns
+    (λ c. search needs) (λ c. search needs) slice-write-work (λ c. search needs) (λ c. search needs) loop-again (λ c. search needs) returns-2)

@@ -7,15 +7,10 @@ use borrow.Author.Needs.{needs}
 use Rattle.number_vectors.proofs.again.Statement.{statement}
 use Rattle.number_vectors.proofs.again.Tie as tie
 
-bits-requires : tie.Need-bits-requires
-bits-requires c κs = search needs
-
-of-bits-requires : tie.Need-of-bits-requires
-of-bits-requires c κs = search needs
-
 returns : tie.Need-returns
 returns c = let s = c .before .before in
     c .of-bits .ensures ∙ ap (ofBits binary64) (c .before .bits .ensures) ∙ ofBits-toBits binary64 (s .args .x) (subst T (sym (s .good .0 .1)) tt)
 
 pub again-spec : {M : Type 1} → statement M
-again-spec = tie.close (tie.spec bits-requires of-bits-requires returns)
+again-spec =
+    tie.close (tie.spec (λ c κs. search needs) (λ c κs. search needs) returns)

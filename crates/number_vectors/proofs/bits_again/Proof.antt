@@ -6,15 +6,10 @@ use borrow.Author.Needs.{needs}
 use Rattle.number_vectors.proofs.bits_again.Statement.{statement}
 use Rattle.number_vectors.proofs.bits_again.Tie as tie
 
-of-bits-requires : tie.Need-of-bits-requires
-of-bits-requires c κs = search needs
-
-bits-requires : tie.Need-bits-requires
-bits-requires c κs = search needs
-
 returns : tie.Need-returns
 returns c = let s = c .before .before in
     c .bits .ensures ∙ ap (toBits binary64) (c .before .of-bits .ensures) ∙ bits-back (s .args .b) (s .fits .b .fits)
 
 pub bits-again-spec : {M : Type 1} → statement M
-bits-again-spec = tie.close (tie.spec of-bits-requires bits-requires returns)
+bits-again-spec =
+    tie.close (tie.spec (λ c κs. search needs) (λ c κs. search needs) returns)

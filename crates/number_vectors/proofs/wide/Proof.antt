@@ -7,8 +7,6 @@ use Rattle.number_vectors.proofs.wide.Tie as tie
 cast-result : tie.Need-cast-result
 cast-result c = sfits-widen tt (sfits-toZ (fits-ofZ (c .fits .w)))
 
-returns : tie.Need-returns
-returns c = search needs
-
 pub wide-spec : {M : Type 1} → statement M
-wide-spec = tie.close (tie.spec cast-result returns)
+wide-spec =
+    tie.close (tie.spec cast-result (λ c. search needs))

@@ -6,9 +6,6 @@ use borrow.Author.Needs.{needs}
 use Rattle.pends.proofs.no_rows.Statement.{statement}
 use Rattle.pends.proofs.no_rows.Tie as tie
 
-add-result : tie.Need-add-result
-add-result c = search needs
-
 returns : tie.Need-returns
 returns c = wrote-past (now (c .before .args .out)) (c .before .args .at) _ (omega arith) (omega arith)
 
@@ -16,4 +13,5 @@ returns-2 : tie.Need-returns-2
 returns-2 c = wrote-none (now (c .before .args .out)) (c .before .args .at) (omega arith)
 
 pub no-rows-spec : {M : Type 1} → statement M
-no-rows-spec = tie.close (tie.spec add-result returns returns-2)
+no-rows-spec =
+    tie.close (tie.spec (λ c. search needs) returns returns-2)

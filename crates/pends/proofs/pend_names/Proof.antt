@@ -15,26 +15,11 @@ Inv-loop sheet work n r out₀ at count p₀ j₀ out p j = Naming sheet r count
 abbrev μ-loop : tie.MeasureT-loop
 μ-loop sheet work n r out₀ at count p₀ j₀ out p j = count - j
 
-sub-number-at : tie.Need-sub-number-at Inv-loop μ-loop
-sub-number-at c = search needs
-
-number-at-requires : tie.Need-number-at-requires Inv-loop μ-loop
-number-at-requires c κs = search needs
-
-no-rows-requires : tie.Need-no-rows-requires Inv-loop μ-loop
-no-rows-requires c κs = search needs
-
 loop-holds : tie.Need-loop-holds Inv-loop μ-loop
 loop-holds c = naming-start (now (c .before .before .before .before .before .before .args .sheet)) (now (c .before .before .before .before .before .before .args .work)) (c .before .before .before .before .before .before .args .n) (c .before .before .before .before .before .before .args .r) (c .before .before .before .before .before .before .pre) (c .before .before .number-at .ensures .0) (c .no-rows .ensures)
 
 pend-name-requires : tie.Need-pend-name-requires Inv-loop μ-loop
 pend-name-requires c κs = (c .before .before .before .before .before .before .before .before .before .pre, omega (arith, few-names (now (c .before .before .before .before .before .before .before .before .before .args .sheet)) (now (c .before .before .before .before .before .before .before .before .before .args .work)) (c .before .before .before .before .before .before .before .before .before .args .n) (c .before .before .before .before .before .before .before .before .before .args .r) (c .before .before .before .before .before .before .before .before .before .pre) (c .before .before .before .before .before .number-at .ensures .0), c .before .loop-test .taken))
-
-add-j : tie.Need-add-j Inv-loop μ-loop
-add-j c = search needs
-
-loop-less : tie.Need-loop-less Inv-loop μ-loop
-loop-less c = search needs
 
 loop-again : tie.Need-loop-again Inv-loop μ-loop
 loop-again c = naming-next (c .before .before .before .before .before .loop .inv) (c .before .before .before .before .loop-test .taken) (wrote-length (c .before .before .pend-name .ensures)) (c .before .before .pend-name .ensures)
@@ -47,5 +32,5 @@ returns c = naming-end (c .before .loop .inv) (c .loop-test .left)
 
 pub pend-names-spec : {M : Type 1} → statement M
 pend-names-spec =
-    tie.close (tie.spec Inv-loop μ-loop sub-number-at number-at-requires no-rows-requires loop-holds pend-name-requires add-j loop-less loop-again
-    same-length returns)
+    tie.close (tie.spec Inv-loop μ-loop (λ c. search needs) (λ c κs. search needs) (λ c κs. search needs) loop-holds pend-name-requires
+    (λ c. search needs) (λ c. search needs) loop-again same-length returns)

@@ -12,20 +12,11 @@ Inv-loop sheet work₀ n m out₀ at p₀ k₀ i₀ work out p k i = Walking she
 abbrev μ-loop : tie.MeasureT-loop
 μ-loop sheet work₀ n m out₀ at p₀ k₀ i₀ work out p k i = n - i
 
-no-rows-requires : tie.Need-no-rows-requires Inv-loop μ-loop
-no-rows-requires c κs = search needs
-
 loop-holds : tie.Need-loop-holds Inv-loop μ-loop
 loop-holds c = walk-start (c .before .before .before .before .before .pre) (c .no-rows .ensures)
 
 pend-at-requires : tie.Need-pend-at-requires Inv-loop μ-loop
 pend-at-requires c κs = walk-task (c .before .before .before .before .before .before .before .before .before .pre) (c .before .before .before .loop .inv) (c .before .before .loop-test .taken)
-
-enum-known-y : tie.Need-enum-known-y Inv-loop μ-loop
-enum-known-y c = search needs
-
-enum-told : tie.Need-enum-told Inv-loop μ-loop
-enum-told c = search needs
 
 same-length : tie.Need-same-length Inv-loop μ-loop
 same-length c = c .before .before .before .before .before .before .pend-at .ensures .1 .long ∙ c .before .before .before .before .before .before .before .before .before .before .loop .inv .keeps .long
@@ -38,12 +29,6 @@ returns c = walk-stop (c .before .before .before .before .before .before .before
 
 open-after-requires : tie.Need-open-after-requires Inv-loop μ-loop
 open-after-requires c κs = (walk-open (c .before .before .before .before .before .before .before .before .before .before .before .before .before .before .before .before .before .before .pre) (c .before .before .before .before .before .before .before .before .before .before .before .before .loop .inv) (c .before .before .before .before .before .before .before .before .pend-at .result) _ (c .before .before .before .before .before .before .before .before .pend-at .ensures), c .before .before .before .before .before .before .before .before .before .before .before .loop-test .taken)
-
-add-i : tie.Need-add-i Inv-loop μ-loop
-add-i c = search needs
-
-loop-less : tie.Need-loop-less Inv-loop μ-loop
-loop-less c = search needs
 
 loop-again : tie.Need-loop-again Inv-loop μ-loop
 loop-again c = walk-next (c .before .before .before .before .before .before .before .before .before .before .before .before .before .before .before .before .before .before .before .pre) (c .before .before .before .before .before .before .before .before .before .before .before .before .before .loop .inv) (c .before .before .before .before .before .before .before .before .before .pend-at .result) _ (c .before .before .before .before .before .before .before .before .before .pend-at .ensures) (c .before .before .before .y .given .1) (c .before .before .before .before .before .before .out .given) (c .open-after .ensures)
@@ -59,5 +44,5 @@ returns-2 c = walk-end (c .before .before .before .before .before .before .befor
 
 pub pend-rows-spec : {M : Type 1} → statement M
 pend-rows-spec =
-    tie.close (tie.spec Inv-loop μ-loop no-rows-requires loop-holds pend-at-requires enum-known-y enum-told same-length same-length-2 returns
-    open-after-requires add-i loop-less loop-again same-length-3 same-length-4 returns-2)
+    tie.close (tie.spec Inv-loop μ-loop (λ c κs. search needs) loop-holds pend-at-requires (λ c. search needs) (λ c. search needs) same-length
+    same-length-2 returns open-after-requires (λ c. search needs) (λ c. search needs) loop-again same-length-3 same-length-4 returns-2)

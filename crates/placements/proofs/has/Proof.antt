@@ -18,17 +18,8 @@ loop-holds c = passing-start (now (c .before .args .work)) (c .before .args .cou
 element-requires : tie.Need-element-requires Inv-loop μ-loop
 element-requires c κs = (omega (arith, c .loop-test .taken, c .before .before .before .pre .0), c .before .before .before .pre .1)
 
-rank-requires : tie.Need-rank-requires Inv-loop μ-loop
-rank-requires c κs = search needs
-
 returns : tie.Need-returns Inv-loop μ-loop
 returns c = passing-found (c .before .before .before .before .loop .inv) (c .before .before .before .loop-test .taken) (c .before .before .element .result) (c .before .before .element .ensures) (c .before .rank .ensures (now (c .before .before .before .before .before .before .args .work))) (c .if1 .taken)
-
-add-i : tie.Need-add-i Inv-loop μ-loop
-add-i c = search needs
-
-loop-less : tie.Need-loop-less Inv-loop μ-loop
-loop-less c = search needs
 
 loop-again : tie.Need-loop-again Inv-loop μ-loop
 loop-again c = passing-next (c .before .before .before .before .loop .inv) (c .before .before .before .loop-test .taken) (c .before .before .element .result) (c .before .before .element .ensures) (c .before .rank .ensures (now (c .before .before .before .before .before .before .args .work))) (c .if1 .left)
@@ -37,4 +28,6 @@ returns-2 : tie.Need-returns-2 Inv-loop μ-loop
 returns-2 c = passing-end (c .before .loop .inv) (c .loop-test .left)
 
 pub has-spec : {M : Type 1} → statement M
-has-spec = tie.close (tie.spec Inv-loop μ-loop loop-holds element-requires rank-requires returns add-i loop-less loop-again returns-2)
+has-spec =
+    tie.close (tie.spec Inv-loop μ-loop loop-holds element-requires (λ c κs. search needs) returns (λ c. search needs) (λ c. search needs) loop-again
+    returns-2)

@@ -6,14 +6,8 @@ use borrow.Author.Needs.{needs}
 use Rattle.placements.proofs.kind_of_values.Statement.{statement}
 use Rattle.placements.proofs.kind_of_values.Tie as tie
 
-has-requires : tie.Need-has-requires
-has-requires c κs = search needs
-
 returns : tie.Need-returns
 returns c = kind-strings (valuesIn (now (c .before .before .before .args .work)) 0 (c .before .before .before .args .count)) (sym (c .if1 .taken) ∙ c .before .has .ensures)
-
-has-requires-2 : tie.Need-has-requires-2
-has-requires-2 c κs = search needs
 
 returns-2 : tie.Need-returns-2
 returns-2 c = kind-reals (valuesIn (now (c .before .before .before .before .before .args .work)) 0 (c .before .before .before .before .before .args .count)) (sym (c .before .before .if1 .left) ∙ c .before .before .before .has .ensures) (sym (c .if2 .taken) ∙ c .before .has2 .ensures)
@@ -22,4 +16,5 @@ returns-3 : tie.Need-returns-3
 returns-3 c = kind-words (valuesIn (now (c .before .before .before .before .before .args .work)) 0 (c .before .before .before .before .before .args .count)) (sym (c .before .before .if1 .left) ∙ c .before .before .before .has .ensures) (sym (c .if2 .left) ∙ c .before .has2 .ensures)
 
 pub kind-of-values-spec : {M : Type 1} → statement M
-kind-of-values-spec = tie.close (tie.spec has-requires returns has-requires-2 returns-2 returns-3)
+kind-of-values-spec =
+    tie.close (tie.spec (λ c κs. search needs) returns (λ c κs. search needs) returns-2 returns-3)

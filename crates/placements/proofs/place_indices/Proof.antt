@@ -19,11 +19,9 @@ cast-place-span-2 c = let w = high-fits (now (c .before .before .before .before 
 place-span-requires : tie.Need-place-span-requires
 place-span-requires c κs = (high-fits (now (c .before .before .before .before .args .work)) (c .before .before .before .before .args .e) (c .before .before .before .before .args .next) (c .before .before .before .before .args .reach) (c .before .before .before .before .fits .low) (c .before .before .before .before .fits .high) (c .before .before .if1 .left) (c .before .if2 .left) .2, c .before .before .before .before .pre .0, c .before .before .before .before .pre .1)
 
-same-length : tie.Need-same-length
-same-length c = search needs
-
 returns-3 : tie.Need-returns-3
 returns-3 c = indices-placed (now (c .before .before .before .before .before .before .before .args .work)) (c .before .before .before .before .before .before .before .args .e) (c .before .before .before .before .before .before .before .args .next) (c .before .before .before .before .before .before .before .args .reach) (c .before .before .before .before .before .before .before .fits .low) (c .before .before .before .before .before .before .before .fits .high) (c .before .before .before .before .before .if1 .left) (c .before .before .before .before .if2 .left) _ _ (c .before .before .place-span .ensures .1) (c .before .before .place-span .ensures .0)
 
 pub place-indices-spec : {M : Type 1} → statement M
-place-indices-spec = tie.close (tie.spec returns returns-2 cast-place-span cast-place-span-2 place-span-requires same-length returns-3)
+place-indices-spec =
+    tie.close (tie.spec returns returns-2 cast-place-span cast-place-span-2 place-span-requires (λ c. search needs) returns-3)

@@ -4,12 +4,6 @@ use borrow.Author.Needs.{needs}
 use Rattle.placements.proofs.place_next.Statement.{statement}
 use Rattle.placements.proofs.place_next.Tie as tie
 
-place-span-requires : tie.Need-place-span-requires
-place-span-requires c κs = search needs
-
-same-length : tie.Need-same-length
-same-length c = search needs
-
 returns : tie.Need-returns
 returns c = next-placed (now (c .before .before .before .before .before .before .args .work)) (c .before .before .before .before .before .before .args .e) (c .before .before .before .before .before .before .args .next) (c .before .before .before .before .before .before .args .reach) _ _ (c .before .before .before .before .if1 .taken) (c .before .before .place-span .ensures .1) (c .before .before .place-span .ensures .0)
 
@@ -17,4 +11,5 @@ returns-2 : tie.Need-returns-2
 returns-2 c = next-beyond (now (c .before .before .args .work)) (c .before .before .args .e) (c .before .before .args .next) (c .before .before .args .reach) (c .if1 .left)
 
 pub place-next-spec : {M : Type 1} → statement M
-place-next-spec = tie.close (tie.spec place-span-requires same-length returns returns-2)
+place-next-spec =
+    tie.close (tie.spec (λ c κs. search needs) (λ c. search needs) returns returns-2)

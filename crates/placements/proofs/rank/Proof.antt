@@ -6,12 +6,6 @@ use Rattle.placements.proofs.rank.Tie as tie
 enum-told : tie.Need-enum-told
 enum-told c = search needs
 
-enum-told-2 : tie.Need-enum-told-2
-enum-told-2 c = search needs
-
-enum-told-3 : tie.Need-enum-told-3
-enum-told-3 c = search needs
-
 returns : tie.Need-returns
 returns c = λ t. rank-int t (c .before .before .args .v) (c .enum-told .given .1)
 
@@ -22,4 +16,5 @@ returns-3 : tie.Need-returns-3
 returns-3 c = λ t. rank-string t (c .before .before .args .v) (c .enum-told3 .given .1)
 
 pub rank-spec : {M : Type 1} → statement M
-rank-spec = tie.close (tie.spec enum-told enum-told-2 enum-told-3 returns returns-2 returns-3)
+rank-spec =
+    tie.close (tie.spec enum-told (λ c. search needs) (λ c. search needs) returns returns-2 returns-3)

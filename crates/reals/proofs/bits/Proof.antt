@@ -10,8 +10,6 @@ float-to-bits-result c = equals-itself (c .before .args .x) (c .if1 .left)
 returns : tie.Need-returns
 returns c = one-pattern (c .before .args .x) (c .if1 .taken)
 
-returns-2 : tie.Need-returns-2
-returns-2 c = search needs
-
 pub bits-spec : {M : Type 1} → statement M
-bits-spec = tie.close (tie.spec float-to-bits-result returns returns-2)
+bits-spec =
+    tie.close (tie.spec float-to-bits-result returns (λ c. search needs))

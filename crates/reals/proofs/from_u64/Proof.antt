@@ -14,14 +14,8 @@ cast-z c = omega (arith, zeros-lt (c .before .args .n) (c .before .fits .n .fits
 shl-rounded : tie.Need-shl-rounded
 shl-rounded c = zeros-lt (c .before .args .n) (c .before .fits .n .fits) (c .if1 .left)
 
-rounded-requires : tie.Need-rounded-requires
-rounded-requires c κs = search needs
-
 sub-result : tie.Need-sub-result
 sub-result c = let s = c .before .before in omega (arith, zeros-lt (s .args .n) (s .fits .n .fits) (c .before .if1 .left))
-
-mul-result : tie.Need-mul-result
-mul-result c = search needs
 
 add-result : tie.Need-add-result
 add-result c = let s = c .before .before in omega (arith, rounded-le (s .args .n) (s .fits .n .fits) (c .before .if1 .left) (c .rounded .ensures))
@@ -33,4 +27,5 @@ returns-2 : tie.Need-returns-2
 returns-2 c = let s = c .before .before in real-of-pattern (s .args .n) (s .fits .n .fits) (c .before .if1 .left) (c .rounded .ensures)
 
 pub from-u64-spec : {M : Type 1} → statement M
-from-u64-spec = tie.close (tie.spec returns cast-z shl-rounded rounded-requires sub-result mul-result add-result float-from-bits-result returns-2)
+from-u64-spec =
+    tie.close (tie.spec returns cast-z shl-rounded (λ c κs. search needs) sub-result (λ c. search needs) add-result float-from-bits-result returns-2)

@@ -11,8 +11,6 @@ float-from-bits-result c = no-nan (c .before .args .b) (omega arith)
 returns : tie.Need-returns
 returns c = some-nan (c .before .args .b) (omega arith)
 
-returns-2 : tie.Need-returns-2
-returns-2 c = search needs
-
 pub of-bits-spec : {M : Type 1} → statement M
-of-bits-spec = tie.close (tie.spec float-from-bits-result returns returns-2)
+of-bits-spec =
+    tie.close (tie.spec float-from-bits-result returns (λ c. search needs))

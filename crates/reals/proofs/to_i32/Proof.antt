@@ -4,9 +4,6 @@ use Rattle.reals.proofs.Whole.{narrow-above, narrow-below, narrow-insid
 use Rattle.reals.proofs.to_i32.Statement.{statement}
 use Rattle.reals.proofs.to_i32.Tie as tie
 
-to-i64-requires : tie.Need-to-i64-requires
-to-i64-requires c κs = search needs
-
 returns : tie.Need-returns
 returns c = narrow-above (c .before .before .args .x) (record { sfits = c .before .to-i64 .ok }) (c .before .to-i64 .ensures) (c .if1 .taken)
 
@@ -23,4 +20,5 @@ returns-3 c = let t = c .before .before in
     narrow-inside (t .before .args .x) (record { sfits = t .to-i64 .ok }) (t .to-i64 .ensures) (c .before .if1 .left) (c .if2 .left) .1
 
 pub to-i32-spec : {M : Type 1} → statement M
-to-i32-spec = tie.close (tie.spec to-i64-requires returns returns-2 cast-result returns-3)
+to-i32-spec =
+    tie.close (tie.spec (λ c κs. search needs) returns returns-2 cast-result returns-3)

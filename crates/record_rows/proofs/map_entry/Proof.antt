@@ -4,34 +4,19 @@ use borrow.Author.Needs.{needs}
 use Rattle.record_rows.proofs.map_entry.Statement.{statement}
 use Rattle.record_rows.proofs.map_entry.Tie as tie
 
-line-of-requires : tie.Need-line-of-requires
-line-of-requires c κs = search needs
-
-case-of-requires : tie.Need-case-of-requires
-case-of-requires c κs = search needs
-
 map-record-requires : tie.Need-map-record-requires
 map-record-requires c κs = (line-is (now (c .before .before .before .before .before .before .before .before .args .sheet)) (now (c .before .before .before .before .before .before .before .before .args .work)) (c .before .before .before .before .before .before .before .before .args .n) (c .before .before .before .before .before .before .before .before .args .i) (c .before .before .before .before .before .before .before .before .pre .0) (c .before .before .before .before .line-of .ensures) (c .before .before .case-of .ensures .0), c .before .before .before .before .before .before .before .before .pre .1)
-
-same-length : tie.Need-same-length
-same-length c = search needs
 
 returns : tie.Need-returns
 returns c = rw (shape-plain (now (c .before .before .before .before .before .before .before .before .before .before .before .args .sheet)) (now (c .before .before .before .before .before .before .before .before .before .before .before .args .work)) (c .before .before .before .before .before .before .before .before .before .before .before .args .n) (c .before .before .before .before .before .before .before .before .before .before .before .args .i) (c .before .before .before .before .before .before .before .before .before .before .before .pre .0) (c .before .before .before .before .before .before .before .line-of .ensures) (c .before .before .before .before .before .case-of .ensures .0) (c .before .before .before .before .if1 .taken)) (c .before .before .map-record .ensures)
 
-sub-map-variant : tie.Need-sub-map-variant
-sub-map-variant c = search needs
-
 map-variant-requires : tie.Need-map-variant-requires
 map-variant-requires c κs = (variant-line (now (c .before .before .before .before .before .before .before .before .args .sheet)) (now (c .before .before .before .before .before .before .before .before .args .work)) (c .before .before .before .before .before .before .before .before .args .n) (c .before .before .before .before .before .before .before .before .args .i) (c .before .before .before .before .before .before .before .before .pre .0) (c .before .before .before .before .line-of .ensures) (c .before .before .case-of .ensures .0) (c .before .if1 .left), c .before .before .before .before .before .before .before .before .pre .1)
-
-same-length-2 : tie.Need-same-length-2
-same-length-2 c = search needs
 
 returns-2 : tie.Need-returns-2
 returns-2 c = rw (shape-variant (now (c .before .before .before .before .before .before .before .before .before .before .before .args .sheet)) (now (c .before .before .before .before .before .before .before .before .before .before .before .args .work)) (c .before .before .before .before .before .before .before .before .before .before .before .args .n) (c .before .before .before .before .before .before .before .before .before .before .before .args .i) (c .before .before .before .before .before .before .before .before .before .before .before .pre .0) (c .before .before .before .before .before .before .before .line-of .ensures) (c .before .before .before .before .before .case-of .ensures .0) (c .before .before .before .before .if1 .left)) (c .before .before .map-variant .ensures)
 
 pub map-entry-spec : {M : Type 1} → statement M
 map-entry-spec =
-    tie.close (tie.spec line-of-requires case-of-requires map-record-requires same-length returns sub-map-variant map-variant-requires same-length-2
-    returns-2)
+    tie.close (tie.spec (λ c κs. search needs) (λ c κs. search needs) map-record-requires (λ c. search needs) returns (λ c. search needs)
+    map-variant-requires (λ c. search needs) returns-2)

@@ -22,31 +22,16 @@ loop-holds c = (search needs, omega arith, passing-start (now (c .before .before
 use-refs-requires : tie.Need-use-refs-requires Inv-loop μ-loop
 use-refs-requires c κs = (c .before .before .loop .inv .2 .whole, c .before .loop-test .taken)
 
-add-result : tie.Need-add-result Inv-loop μ-loop
-add-result c = search needs
-
-same-length : tie.Need-same-length Inv-loop μ-loop
-same-length c = search needs
-
 returns : tie.Need-returns Inv-loop μ-loop
 returns c = (c .before .before .before .use-refs .ensures .0, passing-bad (now (c .before .before .before .before .before .before .before .before .before .args .sheet)) (c .before .before .before .before .before .before .loop .work) (c .before .before .before .before .before .before .before .before .before .args .n) (c .before .before .before .before .before .before .loop .i) (c .before .before .before .before .before .before .loop .inv .2) (c .before .before .before .before .before .loop-test .taken) (outcome-bad _ _ (c .before .before .before .use-refs .result) (not-true (c .before .before .before .use-refs .result) (c .if1 .taken)) (c .before .before .before .use-refs .ensures .1 (c .before .before .before .before .before .before .loop .inv .2 .us) (c .before .before .before .before .before .before .loop .inv .2 .table))))
 
-add-i : tie.Need-add-i Inv-loop μ-loop
-add-i c = search needs
-
-loop-less : tie.Need-loop-less Inv-loop μ-loop
-loop-less c = search needs
-
 loop-again : tie.Need-loop-again Inv-loop μ-loop
 loop-again c = (c .before .before .before .use-refs .kept .1 .0 ∙ c .before .before .before .before .before .before .loop .inv .0, omega (arith, c .before .before .before .before .before .loop-test .taken), passing-next (now (c .before .before .before .before .before .before .before .before .before .args .sheet)) (c .before .before .before .before .before .before .loop .work) (c .before .before .before .before .before .before .before .before .before .args .n) (c .before .before .before .before .before .before .loop .i) (c .before .before .before .before .before .before .loop .inv .2) (c .before .before .before .before .before .loop-test .taken) (c .before .before .before .use-refs .last .1 .0) (c .before .before .before .use-refs .ensures .0) (outcome-good _ _ (c .before .before .before .use-refs .result) (not-false (c .before .before .before .use-refs .result) (c .if1 .left)) (c .before .before .before .use-refs .ensures .1 (c .before .before .before .before .before .before .loop .inv .2 .us) (c .before .before .before .before .before .before .loop .inv .2 .table))))
-
-same-length-2 : tie.Need-same-length-2 Inv-loop μ-loop
-same-length-2 c = search needs
 
 returns-2 : tie.Need-returns-2 Inv-loop μ-loop
 returns-2 c = (c .before .loop .inv .2 .whole, passing-end (now (c .before .before .before .before .args .sheet)) (c .before .loop .work) (c .before .before .before .before .args .n) (c .before .loop .i) (c .before .loop .inv .2) (c .loop-test .left))
 
 pub bad-ref-spec : {M : Type 1} → statement M
 bad-ref-spec =
-    tie.close (tie.spec Inv-loop μ-loop loop-holds use-refs-requires add-result same-length returns add-i loop-less loop-again same-length-2
-    returns-2)
+    tie.close (tie.spec Inv-loop μ-loop loop-holds use-refs-requires (λ c. search needs) (λ c. search needs) returns (λ c. search needs)
+    (λ c. search needs) loop-again (λ c. search needs) returns-2)

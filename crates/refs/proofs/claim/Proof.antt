@@ -22,45 +22,15 @@ returns-3 c = claim-zero (now (c .before .before .before .before .args .work)) (
 returns-4 : tie.Need-returns-4
 returns-4 c = claim-late (now (c .before .before .before .before .before .args .work)) (c .before .before .before .before .before .args .k) (c .before .before .before .before .before .args .x) (c .before .before .before .before .before .args .r) (c .before .before .before .if1 .left) (c .before .before .if2 .left) (c .before .if3 .left) (c .if4 .taken)
 
-sub-i : tie.Need-sub-i
-sub-i c = search needs
-
-form-at-requires : tie.Need-form-at-requires
-form-at-requires c κs = search needs
-
 kind-requires : tie.Need-kind-requires
 kind-requires c κs = omega (arith, c .form-at .ensures, c .before .before .before .before .before .before .before .pre .2 (c .before .before .before .before .before .before .before .args .r - 1) (omega (arith, c .before .before .before .if3 .left, c .before .before .if4 .left)))
-
-wanted-requires : tie.Need-wanted-requires
-wanted-requires c κs = search needs
-
-same-length : tie.Need-same-length
-same-length c = search needs
 
 returns-5 : tie.Need-returns-5
 returns-5 c = claim-kind (now (c .before .before .before .before .before .before .before .before .before .before .args .work)) (c .before .before .before .before .before .before .before .before .before .before .args .k) (c .before .before .before .before .before .before .before .before .before .before .args .x) (c .before .before .before .before .before .before .before .before .before .before .args .r) (c .before .before .before .before .before .before .before .before .if1 .left) (c .before .before .before .before .before .before .before .if2 .left) (c .before .before .before .before .before .before .if3 .left) (c .before .before .before .before .before .if4 .left) (λ q. c .if5 .taken (c .before .before .kind .ensures ∙ ap kindAt (c .before .before .before .form-at .ensures) ∙ q ∙ sym (c .before .wanted .ensures)))
 
-add-if6 : tie.Need-add-if6
-add-if6 c = search needs
-
-slice-read-if6 : tie.Need-slice-read-if6
-slice-read-if6 c = search needs
-
-same-length-2 : tie.Need-same-length-2
-same-length-2 c = search needs
-
 returns-6 : tie.Need-returns-6
 unfolding usedAt
 returns-6 c = claim-used (now (c .before .before .before .before .before .before .before .before .before .before .before .before .args .work)) (c .before .before .before .before .before .before .before .before .before .before .before .before .args .k) (c .before .before .before .before .before .before .before .before .before .before .before .before .args .x) (c .before .before .before .before .before .before .before .before .before .before .before .before .args .r) (c .before .before .before .before .before .before .before .before .before .before .if1 .left) (c .before .before .before .before .before .before .before .before .before .if2 .left) (c .before .before .before .before .before .before .before .before .if3 .left) (c .before .before .before .before .before .before .before .if4 .left) (ap kindAt (sym (c .before .before .before .before .before .form-at .ensures)) ∙ sym (c .before .before .before .before .kind .ensures) ∙ c .before .before .if5 .left ∙ c .before .before .before .wanted .ensures) (c .if6 .taken)
-
-add-work : tie.Need-add-work
-add-work c = search needs
-
-slice-write-work : tie.Need-slice-write-work
-slice-write-work c = search needs
-
-same-length-3 : tie.Need-same-length-3
-same-length-3 c = search needs
 
 returns-7 : tie.Need-returns-7
 unfolding usedAt
@@ -68,5 +38,6 @@ returns-7 c = claim-good (now (c .before .before .before .before .before .before
 
 pub claim-spec : {M : Type 1} → statement M
 claim-spec =
-    tie.close (tie.spec returns returns-2 returns-3 returns-4 sub-i form-at-requires kind-requires wanted-requires same-length returns-5 add-if6
-    slice-read-if6 same-length-2 returns-6 add-work slice-write-work same-length-3 returns-7)
+    tie.close (tie.spec returns returns-2 returns-3 returns-4 (λ c. search needs) (λ c κs. search needs) kind-requires (λ c κs. search needs)
+    (λ c. search needs) returns-5 (λ c. search needs) (λ c. search needs) (λ c. search needs) returns-6 (λ c. search needs) (λ c. search needs)
+    (λ c. search needs) returns-7)

@@ -32,14 +32,8 @@ loop-holds c = (search needs, going-start (now (c .before .before .before .befor
 next-requires : tie.Need-next-requires Inv-loop μ-loop
 next-requires c κs = (c .before .before .loop .inv .1 .standing, c .if1 .taken)
 
-add-claim : tie.Need-add-claim Inv-loop μ-loop
-add-claim c = search needs
-
 claim-requires : tie.Need-claim-requires Inv-loop μ-loop
 claim-requires c κs = (omega (arith, c .before .before .before .before .loop .inv .1 .whole .lined .few, c .before .before .before .before .before .before .before .before .before .before .before .before .pre .1), c .before .before .before .before .loop .inv .1 .whole .room, forms-low (now (c .before .before .before .before .before .before .before .before .before .before .before .before .args .sheet)) (c .before .before .before .before .loop .work) (c .before .before .before .before .before .before .before .before .before .before .before .before .args .n) (c .before .before .before .before .before .before .before .before .before .before .before .before .args .i + 1) (c .before .before .before .before .loop .inv .1 .whole) (omega (arith, c .before .before .before .before .before .before .before .before .before .before .before .before .pre .1)))
-
-same-length : tie.Need-same-length Inv-loop μ-loop
-same-length c = search needs
 
 returns : tie.Need-returns Inv-loop μ-loop
 returns c = going-stop (now (c .before .before .before .before .before .before .before .before .before .before .before .before .before .before .before .before .args .sheet)) (c .before .before .before .before .before .before .before .before .loop .work) (now (c .before .before .before .before .before .before .before .before .before .before .before .before .before .before .before .before .args .work)) (c .before .before .before .before .before .before .before .before .before .before .before .before .before .before .before .before .args .n) (c .before .before .before .before .before .before .before .before .before .before .before .before .before .before .before .before .args .i) (c .before .before .before .before .before .before .before .before .before .before .before .before .before .before .before .before .pre .1) (c .before .before .before .before .before .before .before .before .before .before .form-at .result) (now (c .before .before .before .before .before .before .before .before .before .before .before .before .line-at .result)) (c .before .before .before .before .before .before .before .before .loop .w) (c .before .before .before .before .before .next .result .next) (c .before .before .before .before .before .next .result .letter) (c .before .before .before .before .before .next .result .number) (c .before .before .before .before .before .next .ensures) (c .before .before .before .before .before .before .before .before .loop .inv .1) (c .before .before .before .claim .last .0) (c .before .before .before .claim .ensures .0) (not-true (c .before .before .before .claim .result) (c .if2 .taken)) (c .before .before .before .claim .ensures .1)
@@ -50,13 +44,10 @@ loop-less c = omega (arith, c .before .before .before .before .before .before .n
 loop-again : tie.Need-loop-again Inv-loop μ-loop
 loop-again c = (c .before .before .before .before .claim .kept .0 ∙ c .before .before .before .before .before .before .before .before .before .loop .inv .0, going-on (now (c .before .before .before .before .before .before .before .before .before .before .before .before .before .before .before .before .before .args .sheet)) (c .before .before .before .before .before .before .before .before .before .loop .work) (now (c .before .before .before .before .before .before .before .before .before .before .before .before .before .before .before .before .before .args .work)) (c .before .before .before .before .before .before .before .before .before .before .before .before .before .before .before .before .before .args .n) (c .before .before .before .before .before .before .before .before .before .before .before .before .before .before .before .before .before .args .i) (c .before .before .before .before .before .before .before .before .before .before .before .before .before .before .before .before .before .pre .1) (c .before .before .before .before .before .before .before .before .before .before .before .form-at .result) (now (c .before .before .before .before .before .before .before .before .before .before .before .before .before .line-at .result)) (c .before .before .before .before .before .before .before .before .before .loop .w) (c .before .before .before .before .before .before .next .result .next) (c .before .before .before .before .before .before .next .result .letter) (c .before .before .before .before .before .before .next .result .number) (c .before .before .before .before .before .before .next .ensures) (c .before .before .before .before .before .before .before .before .before .loop .inv .1) (c .before .before .before .before .claim .last .0) (c .before .before .before .before .claim .ensures .0) (not-false (c .before .before .before .before .claim .result) (c .before .if2 .left)) (c .before .before .before .before .claim .ensures .1))
 
-same-length-2 : tie.Need-same-length-2 Inv-loop μ-loop
-same-length-2 c = search needs
-
 returns-2 : tie.Need-returns-2 Inv-loop μ-loop
 returns-2 c = (c .before .before .loop .inv .1 .whole, going-end (now (c .before .before .before .before .before .before .before .before .before .before .args .sheet)) (c .before .before .loop .work) (now (c .before .before .before .before .before .before .before .before .before .before .args .work)) (c .before .before .before .before .before .before .before .before .before .before .args .n) (c .before .before .before .before .before .before .before .before .before .before .args .i) (c .before .before .before .before .form-at .result) (now (c .before .before .before .before .before .before .line-at .result)) (c .before .before .loop .w) (c .if1 .left) (c .before .before .loop .inv .1))
 
 pub use-refs-spec : {M : Type 1} → statement M
 use-refs-spec =
-    tie.close (tie.spec Inv-loop μ-loop line-at-requires form-at-requires begin-requires loop-holds next-requires add-claim claim-requires same-length
-    returns loop-less loop-again same-length-2 returns-2)
+    tie.close (tie.spec Inv-loop μ-loop line-at-requires form-at-requires begin-requires loop-holds next-requires (λ c. search needs) claim-requires
+    (λ c. search needs) returns loop-less loop-again (λ c. search needs) returns-2)

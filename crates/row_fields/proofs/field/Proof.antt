@@ -7,35 +7,11 @@ use borrow.Author.Needs.{needs}
 use Rattle.row_fields.proofs.field.Statement.{statement}
 use Rattle.row_fields.proofs.field.Tie as tie
 
-skip-requires : tie.Need-skip-requires
-skip-requires c κs = search needs
-
-sub-result : tie.Need-sub-result
-sub-result c = search needs
-
-part-result-start : tie.Need-part-result-start
-part-result-start c = search needs
-
-part-result-end : tie.Need-part-result-end
-part-result-end c = search needs
-
 returns : tie.Need-returns
 returns c =
     let a = c .before .before .before .before .args in
     let skip = c .before .before .skip in
     simp (drop-length, take-nil) (no-field (now (a .row)) (a .i) (skip .result) (skip .ensures) (c .before .if1 .taken))
-
-find-requires : tie.Need-find-requires
-find-requires c κs = search needs
-
-sub-result-2 : tie.Need-sub-result-2
-sub-result-2 c = search needs
-
-part-result-start-2 : tie.Need-part-result-start-2
-part-result-start-2 c = search needs
-
-part-result-end-2 : tie.Need-part-result-end-2
-part-result-end-2 c = search needs
 
 returns-2 : tie.Need-returns-2
 returns-2 c =
@@ -46,5 +22,5 @@ returns-2 c =
 
 pub field-spec : {M : Type 1} → statement M
 field-spec =
-    tie.close (tie.spec skip-requires sub-result part-result-start part-result-end returns find-requires sub-result-2 part-result-start-2
-    part-result-end-2 returns-2)
+    tie.close (tie.spec (λ c κs. search needs) (λ c. search needs) (λ c. search needs) (λ c. search needs) returns (λ c κs. search needs)
+    (λ c. search needs) (λ c. search needs) (λ c. search needs) returns-2)

@@ -6,15 +6,6 @@ use borrow.Author.Needs.{needs}
 use Rattle.row_fields.proofs.integer.Statement.{statement}
 use Rattle.row_fields.proofs.integer.Tie as tie
 
-read-integer-requires : tie.Need-read-integer-requires
-read-integer-requires c κs = search needs
-
-enum-known-n : tie.Need-enum-known-n
-enum-known-n c = search needs
-
-bits-requires : tie.Need-bits-requires
-bits-requires c κs = search needs
-
 enum-told : tie.Need-enum-told
 enum-told c = search needs
 
@@ -31,4 +22,5 @@ returns-2 c =
     integer-bad (now (a .f)) (sym (read-integer .ensures) ∙ c .enum-told .given .1)
 
 pub integer-spec : {M : Type 1} → statement M
-integer-spec = tie.close (tie.spec read-integer-requires enum-known-n bits-requires enum-told returns returns-2)
+integer-spec =
+    tie.close (tie.spec (λ c κs. search needs) (λ c. search needs) (λ c κs. search needs) enum-told returns returns-2)

@@ -7,32 +7,20 @@ use Rattle.row_fields.proofs.Parts.{which-is}
 use Rattle.row_fields.proofs.which.Statement.{statement}
 use Rattle.row_fields.proofs.which.Tie as tie
 
-same-requires : tie.Need-same-requires
-same-requires c κs = search needs
-
 returns : tie.Need-returns
 returns c =
     let a = c .before .before .before .before .before .before .before .args in
     (which-is (now (a .s)) (now (a .a)) (now (a .b)) (now (a .c)) (now (a .d)) (sym (c .before .same .ensures) ∙ c .if1 .taken) refl refl refl, omega arith)
-
-same-requires-2 : tie.Need-same-requires-2
-same-requires-2 c κs = search needs
 
 returns-2 : tie.Need-returns-2
 returns-2 c =
     let a = c .before .before .before .before .before .before .before .before .before .args in
     (which-is (now (a .s)) (now (a .a)) (now (a .b)) (now (a .c)) (now (a .d)) (sym (c .before .before .before .same .ensures) ∙ c .before .before .if1 .left) (sym (c .before .same2 .ensures) ∙ c .if2 .taken) refl refl, omega arith)
 
-same-requires-3 : tie.Need-same-requires-3
-same-requires-3 c κs = search needs
-
 returns-3 : tie.Need-returns-3
 returns-3 c =
     let a = c .before .before .before .before .before .before .before .before .before .before .before .args in
     (which-is (now (a .s)) (now (a .a)) (now (a .b)) (now (a .c)) (now (a .d)) (sym (c .before .before .before .before .before .same .ensures) ∙ c .before .before .before .before .if1 .left) (sym (c .before .before .before .same2 .ensures) ∙ c .before .before .if2 .left) (sym (c .before .same3 .ensures) ∙ c .if3 .taken) refl, omega arith)
-
-same-requires-4 : tie.Need-same-requires-4
-same-requires-4 c κs = search needs
 
 returns-4 : tie.Need-returns-4
 returns-4 c =
@@ -47,4 +35,6 @@ returns-5 c =
     (which-is (now (a .s)) (now (a .a)) (now (a .b)) (now (a .c)) (now (a .d)) (sym (b .before .same .ensures) ∙ b .if1 .left) (sym (c .before .before .before .before .before .same2 .ensures) ∙ c .before .before .before .before .if2 .left) (sym (c .before .before .before .same3 .ensures) ∙ c .before .before .if3 .left) (sym (c .before .same4 .ensures) ∙ c .if4 .left), omega arith)
 
 pub which-spec : {M : Type 1} → statement M
-which-spec = tie.close (tie.spec same-requires returns same-requires-2 returns-2 same-requires-3 returns-3 same-requires-4 returns-4 returns-5)
+which-spec =
+    tie.close (tie.spec (λ c κs. search needs) returns (λ c κs. search needs) returns-2 (λ c κs. search needs) returns-3 (λ c κs. search needs)
+    returns-4 returns-5)

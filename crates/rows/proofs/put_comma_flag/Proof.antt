@@ -8,26 +8,13 @@ use Rattle.write.proofs.Wrote.{then, wrote-as}
 use Rattle.rows.proofs.put_comma_flag.Statement.{statement}
 use Rattle.rows.proofs.put_comma_flag.Tie as tie
 
-put-requires : tie.Need-put-requires
-put-requires c κs = search needs
-
-put-requires-2 : tie.Need-put-requires-2
-put-requires-2 c κs = search needs
-
-same-length : tie.Need-same-length
-same-length c = search needs
-
 returns : tie.Need-returns
 returns c = wrote-as (ap (λ (t : Bool). 44 ∷ flag t) (sym (c .before .before .before .before .if1 .taken))) (then (c .before .before .before .before .before .before .before .put .ensures) (c .before .before .put2 .ensures))
-
-put-requires-3 : tie.Need-put-requires-3
-put-requires-3 c κs = search needs
-
-same-length-2 : tie.Need-same-length-2
-same-length-2 c = search needs
 
 returns-2 : tie.Need-returns-2
 returns-2 c = wrote-as (ap (λ (t : Bool). 44 ∷ flag t) (sym (c .before .before .before .before .if1 .left))) (then (c .before .before .before .before .before .before .before .put .ensures) (c .before .before .put3 .ensures))
 
 pub put-comma-flag-spec : {M : Type 1} → statement M
-put-comma-flag-spec = tie.close (tie.spec put-requires put-requires-2 same-length returns put-requires-3 same-length-2 returns-2)
+put-comma-flag-spec =
+    tie.close (tie.spec (λ c κs. search needs) (λ c κs. search needs) (λ c. search needs) returns (λ c κs. search needs) (λ c. search needs)
+    returns-2)

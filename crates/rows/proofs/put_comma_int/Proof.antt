@@ -10,17 +10,9 @@ use Rattle.write.proofs.Wrote.{then, wrote-as}
 use Rattle.rows.proofs.put_comma_int.Tie as tie
 use Rattle.rows.proofs.put_comma_int.Statement.{statement}
 
-put-requires : tie.Need-put-requires
-put-requires c κs = search needs
-
-put-int-requires : tie.Need-put-int-requires
-put-int-requires c κs = search needs
-
-same-length : tie.Need-same-length
-same-length c = search needs
-
 returns : tie.Need-returns
 returns c = wrote-as (ap (λ (z : ℤ). 44 ∷ decimalℤ z) (toZ-ofZ w64 (c .before .before .before .before .before .before .before .before .before .args .n) (c .before .before .before .before .before .before .before .before .before .fits .n))) (then (c .before .before .before .before .before .before .put .ensures) (c .before .before .put-int .ensures))
 
 pub put-comma-int-spec : {M : Type 1} → statement M
-put-comma-int-spec = tie.close (tie.spec put-requires put-int-requires same-length returns)
+put-comma-int-spec =
+    tie.close (tie.spec (λ c κs. search needs) (λ c κs. search needs) (λ c. search needs) returns)

@@ -9,20 +9,8 @@ use borrow.Author.Needs.{needs}
 use Rattle.shapes.proofs.map_record.Statement.{statement}
 use Rattle.shapes.proofs.map_record.Tie as tie
 
-clear-map-requires : tie.Need-clear-map-requires
-clear-map-requires c κs = search needs
-
-sub-form-at : tie.Need-sub-form-at
-sub-form-at c = search needs
-
-form-at-requires : tie.Need-form-at-requires
-form-at-requires c κs = search needs
-
 mark-common-requires : tie.Need-mark-common-requires
 mark-common-requires c κs = (record-kept (c .before .before .before .before .before .before .clear-map .ensures .kept) (c .before .before .before .before .before .before .before .before .before .before .pre .0), room-kept (c .before .before .before .before .before .before .clear-map .ensures .kept) (c .before .before .before .before .before .before .before .before .before .before .pre .1), omega arith)
-
-same-length : tie.Need-same-length
-same-length c = search needs
 
 returns : tie.Need-returns
 returns c = made-then (c .before .before .before .before .before .before .before .before .before .before .before .before .before .pre .1) (c .before .before .before .before .before .before .before .before .before .clear-map .ensures) (adt-marks (now (c .before .before .before .before .before .before .before .before .before .before .before .before .before .args .sheet)) _ (c .before .before .before .before .before .before .before .before .before .before .before .before .before .args .n) (c .before .before .before .before .before .before .before .before .before .before .before .before .before .args .r) (c .before .before .before .before .before .before .before .before .before .before .before .before .before .args .size) (record-kept (c .before .before .before .before .before .before .before .before .before .clear-map .ensures .kept) (c .before .before .before .before .before .before .before .before .before .before .before .before .before .pre .0)) (sym (c .before .before .before .before .before .form-at .ensures) ∙ c .before .before .before .before .if1 .taken) (c .before .before .mark-common .ensures .0))
@@ -30,13 +18,10 @@ returns c = made-then (c .before .before .before .before .before .before .before
 mark-pick-requires : tie.Need-mark-pick-requires
 mark-pick-requires c κs = (else-pick (now (c .before .before .before .before .before .before .before .before .before .before .args .sheet)) _ (c .before .before .before .before .before .before .before .before .before .before .args .n) (c .before .before .before .before .before .before .before .before .before .before .args .r) (record-kept (c .before .before .before .before .before .before .clear-map .ensures .kept) (c .before .before .before .before .before .before .before .before .before .before .pre .0)) (λ e. c .before .if1 .left (c .before .before .form-at .ensures ∙ e)), room-kept (c .before .before .before .before .before .before .clear-map .ensures .kept) (c .before .before .before .before .before .before .before .before .before .before .pre .1))
 
-same-length-2 : tie.Need-same-length-2
-same-length-2 c = search needs
-
 returns-2 : tie.Need-returns-2
 returns-2 c = made-then (c .before .before .before .before .before .before .before .before .before .before .before .before .before .pre .1) (c .before .before .before .before .before .before .before .before .before .clear-map .ensures) (c .before .before .mark-pick .ensures)
 
 pub map-record-spec : {M : Type 1} → statement M
 map-record-spec =
-    tie.close (tie.spec clear-map-requires sub-form-at form-at-requires mark-common-requires same-length returns mark-pick-requires same-length-2
-    returns-2)
+    tie.close (tie.spec (λ c κs. search needs) (λ c. search needs) (λ c κs. search needs) mark-common-requires (λ c. search needs) returns
+    mark-pick-requires (λ c. search needs) returns-2)

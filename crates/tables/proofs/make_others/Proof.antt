@@ -5,20 +5,9 @@ use borrow.Author.Needs.{needs}
 use Rattle.tables.proofs.make_others.Statement.{statement}
 use Rattle.tables.proofs.make_others.Tie as tie
 
-collect-globals-requires : tie.Need-collect-globals-requires
-collect-globals-requires c κs = search needs
-
-collect-adts-requires : tie.Need-collect-adts-requires
-collect-adts-requires c κs = search needs
-
-number-needs-requires : tie.Need-number-needs-requires
-number-needs-requires c κs = search needs
-
-same-length : tie.Need-same-length
-same-length c = search needs
-
 returns : tie.Need-returns
 returns c = let l = c .before .before .before .before .before .before .before .before .before .before .before .before .before .before .pre .1 in let a = c .before .before .before .before .before .before .before .before .before .before .collect-globals .ensures .1 in let p = c .before .before .before .before .before .before .before .before .before .before .collect-globals .ensures .0 in let r = c .before .before .before .before .before .before .collect-adts .ensures in let d = c .before .before .number-needs .ensures in (tables-held l a p r (d .3) (d .1) (d .2) (d .0), refl, tables-log l a p r (d .3) (d .1) (d .2) (d .0), tables-kept l a p r (d .3) (d .1) (d .2) (d .0))
 
 pub make-others-spec : {M : Type 1} → statement M
-make-others-spec = tie.close (tie.spec collect-globals-requires collect-adts-requires number-needs-requires same-length returns)
+make-others-spec =
+    tie.close (tie.spec (λ c κs. search needs) (λ c κs. search needs) (λ c κs. search needs) (λ c. search needs) returns)

@@ -7,30 +7,16 @@ use borrow.Author.Needs.{needs}
 use Rattle.tables.proofs.make_tables.Statement.{statement}
 use Rattle.tables.proofs.make_tables.Tie as tie
 
-collect-consts-requires : tie.Need-collect-consts-requires
-collect-consts-requires c κs = search needs
-
-enum-known-k : tie.Need-enum-known-k
-enum-known-k c = search needs
-
-enum-known-m : tie.Need-enum-known-m
-enum-known-m c = search needs
-
 make-others-requires : tie.Need-make-others-requires
 make-others-requires c κs = (still-checked (c .before .before .before .before .before .before .before .before .before .before .pre) (c .before .before .before .before .before .before .collect-consts .ensures .0), constants-there (now (c .before .before .before .before .before .before .before .before .before .before .args .sheet)) _ (c .before .before .before .before .before .before .before .before .before .before .args .n) (c .before .before .m .given .1) (c .before .before .before .before .before .before .collect-consts .ensures .1) .2)
 
-same-length : tie.Need-same-length
-same-length c = search needs
-
 returns : tie.Need-returns
 returns c = (constants-refused (now (c .before .before .before .before .before .before .before .before .before .args .sheet)) _ (c .before .before .before .before .before .before .before .before .before .args .n) (c .before .k .given .1) (c .before .before .before .before .before .collect-consts .ensures .1), c .before .before .before .before .before .collect-consts .ensures .0)
-
-same-length-2 : tie.Need-same-length-2
-same-length-2 c = search needs
 
 returns-2 : tie.Need-returns-2
 returns-2 c = let w = constants-there (now (c .before .before .before .before .before .before .before .before .before .before .before .before .before .args .sheet)) _ (c .before .before .before .before .before .before .before .before .before .before .before .before .before .args .n) (c .before .before .before .before .before .m .given .1) (c .before .before .before .before .before .before .before .before .before .collect-consts .ensures .1) in let h = c .before .before .make-others .ensures in ((h .0, w .0, w .1 ∙ sym (h .2) ∙ log-as (now (c .before .before .before .before .before .before .before .before .before .before .before .before .before .args .sheet)) _ (h .1)), kept-then (c .before .before .before .before .before .before .before .before .before .collect-consts .ensures .0) (h .3))
 
 pub make-tables-spec : {M : Type 1} → statement M
 make-tables-spec =
-    tie.close (tie.spec collect-consts-requires enum-known-k enum-known-m make-others-requires same-length returns same-length-2 returns-2)
+    tie.close (tie.spec (λ c κs. search needs) (λ c. search needs) (λ c. search needs) make-others-requires (λ c. search needs) returns
+    (λ c. search needs) returns-2)

@@ -10,45 +10,15 @@ returns c =
     let a = c .before .before .args in
     no-line-zero (now (a .sheet)) (a .line) (a .i) (c .if1 .taken)
 
-sub-skip : tie.Need-sub-skip
-sub-skip c = search needs
-
-skip-requires : tie.Need-skip-requires
-skip-requires c κs = search needs
-
 returns-2 : tie.Need-returns-2
 returns-2 c =
     let a = c .before .before .before .before .args in
     no-line (now (a .sheet)) (a .line) (a .i) (c .before .before .if1 .left) (c .before .skip .ensures) (c .if2 .taken)
 
-find-requires : tie.Need-find-requires
-find-requires c κs = search needs
-
-sub-t : tie.Need-sub-t
-sub-t c = search needs
-
-part-t-start : tie.Need-part-t-start
-part-t-start c = search needs
-
-part-t-end : tie.Need-part-t-end
-part-t-end c = search needs
-
-skip-requires-2 : tie.Need-skip-requires-2
-skip-requires-2 c κs = search needs
-
 returns-3 : tie.Need-returns-3
 returns-3 c =
     let a = c .before .before .before .before .before .before .before .before .args in
     no-field (now (a .sheet)) (a .line) (a .i) (c .before .before .before .before .before .before .if1 .left) (c .before .before .before .before .before .skip .ensures) (c .before .before .before .before .if2 .left) (c .before .before .before .find .ensures .0) (c .before .skip2 .ensures) (c .if3 .taken)
-
-find-requires-2 : tie.Need-find-requires-2
-find-requires-2 c κs = search needs
-
-add-t10 : tie.Need-add-t10
-add-t10 c = search needs
-
-add-t11 : tie.Need-add-t11
-add-t11 c = search needs
 
 returns-4 : tie.Need-returns-4
 returns-4 c =
@@ -57,5 +27,5 @@ returns-4 c =
 
 pub field-place-spec : {M : Type 1} → statement M
 field-place-spec =
-    tie.close (tie.spec returns sub-skip skip-requires returns-2 find-requires sub-t part-t-start part-t-end skip-requires-2 returns-3 find-requires-2
-    add-t10 add-t11 returns-4)
+    tie.close (tie.spec returns (λ c. search needs) (λ c κs. search needs) returns-2 (λ c κs. search needs) (λ c. search needs) (λ c. search needs)
+    (λ c. search needs) (λ c κs. search needs) returns-3 (λ c κs. search needs) (λ c. search needs) (λ c. search needs) returns-4)

@@ -16,22 +16,10 @@ Inv-loop s at b i₀ i = (at ≤ i) × (i ≤ length s) × (at + length (until b
 abbrev μ-loop : tie.MeasureT-loop
 μ-loop s at b i₀ i = length s - i
 
-loop-holds : tie.Need-loop-holds Inv-loop μ-loop
-loop-holds c = search needs
-
-shared-slice-read-if1 : tie.Need-shared-slice-read-if1 Inv-loop μ-loop
-shared-slice-read-if1 c = search needs
-
 returns : tie.Need-returns Inv-loop μ-loop
 returns c =
     let a = c .before .before .before .before .args in
     omega (arith, ap length (until-hit (now (a .s)) (a .b) (c .before .before .before .loop .i) (c .before .before .loop-test .taken) (c .if1 .taken)))
-
-add-i : tie.Need-add-i Inv-loop μ-loop
-add-i c = search needs
-
-loop-less : tie.Need-loop-less Inv-loop μ-loop
-loop-less c = search needs
 
 loop-again : tie.Need-loop-again Inv-loop μ-loop
 loop-again c =
@@ -45,4 +33,5 @@ returns-2 c =
     omega (arith, ap length (until-end (now (a .s)) (a .b) (c .before .loop .i) (c .loop-test .left)))
 
 pub find-spec : {M : Type 1} → statement M
-find-spec = tie.close (tie.spec Inv-loop μ-loop loop-holds shared-slice-read-if1 returns add-i loop-less loop-again returns-2)
+find-spec =
+    tie.close (tie.spec Inv-loop μ-loop (λ c. search needs) (λ c. search needs) returns (λ c. search needs) (λ c. search needs) loop-again returns-2)

@@ -19,26 +19,11 @@ abbrev μ-loop : tie.MeasureT-loop
 loop-holds : tie.Need-loop-holds Inv-loop μ-loop
 loop-holds c = (search needs, search needs, simp (sub-zero, zero-add))
 
-find-requires : tie.Need-find-requires Inv-loop μ-loop
-find-requires c κs = search needs
-
-add-result : tie.Need-add-result Inv-loop μ-loop
-add-result c = search needs
-
 returns : tie.Need-returns Inv-loop μ-loop
 returns c =
     let l = c .before .before .before .loop in
     let a = c .before .before .before .before .before .args in
     sym (l .inv .2 ∙ skip-stop (a .b) (a .n) (l .k) (l .at) (now (a .s)) (c .before .before .loop-test .taken) (l .inv .0) (c .before .find .ensures .0) (c .if1 .taken))
-
-add-at : tie.Need-add-at Inv-loop μ-loop
-add-at c = search needs
-
-add-k : tie.Need-add-k Inv-loop μ-loop
-add-k c = search needs
-
-loop-less : tie.Need-loop-less Inv-loop μ-loop
-loop-less c = search needs
 
 loop-again : tie.Need-loop-again Inv-loop μ-loop
 loop-again c =
@@ -53,4 +38,6 @@ returns-2 c =
     skip-end (a .b) (a .n) (l .k) (l .at) (now (a .s)) (l .inv .2) (l .inv .1) (c .loop-test .left)
 
 pub skip-spec : {M : Type 1} → statement M
-skip-spec = tie.close (tie.spec Inv-loop μ-loop loop-holds find-requires add-result returns add-at add-k loop-less loop-again returns-2)
+skip-spec =
+    tie.close (tie.spec Inv-loop μ-loop loop-holds (λ c κs. search needs) (λ c. search needs) returns (λ c. search needs) (λ c. search needs)
+    (λ c. search needs) loop-again returns-2)

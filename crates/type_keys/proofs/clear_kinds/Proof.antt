@@ -17,26 +17,13 @@ abbrev μ-loop : tie.MeasureT-loop
 loop-holds : tie.Need-loop-holds Inv-loop μ-loop
 loop-holds c = (omega arith, outside-all, λ j h. absurd (omega arith))
 
-add-work : tie.Need-add-work Inv-loop μ-loop
-add-work c = search needs
-
-slice-write-work : tie.Need-slice-write-work Inv-loop μ-loop
-slice-write-work c = search needs
-
-add-k : tie.Need-add-k Inv-loop μ-loop
-add-k c = search needs
-
-loop-less : tie.Need-loop-less Inv-loop μ-loop
-loop-less c = search needs
-
 loop-again : tie.Need-loop-again Inv-loop μ-loop
 loop-again c = (omega (arith, c .loop-test .taken), outside-then (c .before .loop .inv .1) (outside-set 10624 10629 (c .before .loop .work) (10624 + c .before .loop .k) 0 (omega arith) (omega (arith, c .loop-test .taken))), cleared-next (c .before .loop .work) (c .before .loop .k) (c .loop-test .taken) (omega (arith, c .before .before .pre, c .before .loop .inv .1 .kept .long)) (c .before .loop .inv .2))
-
-same-length : tie.Need-same-length Inv-loop μ-loop
-same-length c = search needs
 
 returns : tie.Need-returns Inv-loop μ-loop
 returns c = (c .before .loop .inv .1, λ k h. c .before .loop .inv .2 k (omega (arith, c .loop-test .left)))
 
 pub clear-kinds-spec : {M : Type 1} → statement M
-clear-kinds-spec = tie.close (tie.spec Inv-loop μ-loop loop-holds add-work slice-write-work add-k loop-less loop-again same-length returns)
+clear-kinds-spec =
+    tie.close (tie.spec Inv-loop μ-loop loop-holds (λ c. search needs) (λ c. search needs) (λ c. search needs) (λ c. search needs) loop-again
+    (λ c. search needs) returns)

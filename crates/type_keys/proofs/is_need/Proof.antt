@@ -4,14 +4,8 @@ use borrow.Author.Needs.{needs}
 use Rattle.type_keys.proofs.is_need.Statement.{statement}
 use Rattle.type_keys.proofs.is_need.Tie as tie
 
-need-digest-requires : tie.Need-need-digest-requires
-need-digest-requires c κs = search needs
-
 returns : tie.Need-returns
 returns c = let x = c .before .before .before .before .pre in digests-apart (x .0) (x .2 .line) (λ e. c .if1 .taken (c .before .need-digest .ensures ∙ x .2 .digest ∙ sym e ∙ sym (x .1)))
-
-need-line-requires : tie.Need-need-line-requires
-need-line-requires c κs = search needs
 
 same-need-requires : tie.Need-same-need-requires
 same-need-requires c κs = let x = c .before .before .before .before .before .pre in (x .0, rw (c .need-line .ensures) (x .2 .line))
@@ -20,4 +14,5 @@ returns-2 : tie.Need-returns-2
 returns-2 c = c .same-need .ensures ∙ rw (c .before .need-line .ensures)
 
 pub is-need-spec : {M : Type 1} → statement M
-is-need-spec = tie.close (tie.spec need-digest-requires returns need-line-requires same-need-requires returns-2)
+is-need-spec =
+    tie.close (tie.spec (λ c κs. search needs) returns (λ c κs. search needs) same-need-requires returns-2)

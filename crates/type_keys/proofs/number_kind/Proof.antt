@@ -7,26 +7,12 @@ use borrow.Author.Needs.{needs}
 use Rattle.type_keys.proofs.number_kind.Statement.{statement}
 use Rattle.type_keys.proofs.number_kind.Tie as tie
 
-kind-place-requires : tie.Need-kind-place-requires
-kind-place-requires c κs = search needs
-
-same-length : tie.Need-same-length
-same-length c = search needs
-
 returns : tie.Need-returns
 returns c = (λ k ks hk x. kind-known (now (c .before .before .before .before .args .work)) (c .before .before .before .before .pre .2) k ks (c .before .before .before .before .args .keys) x (λ z. c .if1 .taken (c .before .kind-place .ensures .0 ∙ ap (kindOf (now (c .before .before .before .before .args .work))) hk ∙ z)), outside-all)
-
-enter-kind-requires : tie.Need-enter-kind-requires
-enter-kind-requires c κs = search needs
-
-add-result : tie.Need-add-result
-add-result c = search needs
-
-same-length-2 : tie.Need-same-length-2
-same-length-2 c = search needs
 
 returns-2 : tie.Need-returns-2
 returns-2 c = (λ k ks hk x. kind-new (now (c .before .before .before .before .before .before .before .before .args .work)) (c .before .before .before .before .before .before .before .before .pre .2) k ks (c .before .before .before .before .before .before .before .before .args .keys) x (c .before .before .before .before .before .before .before .before .args .kind) hk (sym (c .before .before .before .before .before .kind-place .ensures .0) ∙ c .before .before .before .before .if1 .left) (c .before .before .enter-kind .last .0) (c .before .before .enter-kind .ensures), rw (c .before .before .enter-kind .ensures) (kind-outside (now (c .before .before .before .before .before .before .before .before .args .work)) (c .before .before .before .before .before .before .before .before .pre .2) (c .before .before .before .before .before .before .before .before .args .kind) (c .before .before .before .before .before .before .before .before .args .keys)))
 
 pub number-kind-spec : {M : Type 1} → statement M
-number-kind-spec = tie.close (tie.spec kind-place-requires same-length returns enter-kind-requires add-result same-length-2 returns-2)
+number-kind-spec =
+    tie.close (tie.spec (λ c κs. search needs) (λ c. search needs) returns (λ c κs. search needs) (λ c. search needs) (λ c. search needs) returns-2)

@@ -11,23 +11,11 @@ use borrow.Author.Needs.{needs}
 use Rattle.type_keys.proofs.number_need.Statement.{statement}
 use Rattle.type_keys.proofs.number_need.Tie as tie
 
-line-at-requires : tie.Need-line-at-requires
-line-at-requires c κs = search needs
-
-digest-requires : tie.Need-digest-requires
-digest-requires c κs = search needs
-
 place-for-requires : tie.Need-place-for-requires
 place-for-requires c κs = (c .before .before .before .before .before .before .pre, c .before .digest .ensures .0 ∙ ap (λ (l : List ℕ). digest l) (c .before .before .line-at .ensures))
 
-form-at-requires : tie.Need-form-at-requires
-form-at-requires c κs = search needs
-
 enter-requires : tie.Need-enter-requires
 enter-requires c κs = let x = c .before .before .before .before .before .before .before .before .before .before .pre in (needs-room x .0, omega (arith, x .line .within, x .line .checked .whole .lined .few), omega (arith, needs-room x .1, c .before .before .before .place-for .ensures), x .line .checked .whole .room)
-
-kind-needed-requires : tie.Need-kind-needed-requires
-kind-needed-requires c κs = search needs
 
 enter-kind-requires : tie.Need-enter-kind-requires
 enter-kind-requires c κs = let x = c .before .before .before .before .before .before .before .before .before .before .before .before .before .before .before .pre in (omega (arith, needs-room x .1, c .before .before .before .before .before .before .before .before .place-for .ensures), omega (arith, c .before .before .before .before .enter .kept .0, x .line .checked .whole .room))
@@ -41,9 +29,6 @@ add-t21 c = record { fits = omega (arith, needs-room (c .before .before .before 
 with-key-requires : tie.Need-with-key-requires
 with-key-requires c κs = omega (arith, needs-room (c .before .before .before .before .before .before .before .before .before .before .before .before .before .before .before .before .before .before .before .before .before .before .before .pre) .2)
 
-same-length : tie.Need-same-length
-same-length c = search needs
-
 returns : tie.Need-returns
 returns c = let x = c .before .before .before .before .before .before .before .before .before .before .before .before .before .before .before .before .before .before .before .before .before .before .before .before .pre in
     let hd = c .before .before .before .before .before .before .before .before .before .before .before .before .before .before .before .before .before .before .before .digest .ensures .0 ∙ ap (λ (l : List ℕ). digest l) (c .before .before .before .before .before .before .before .before .before .before .before .before .before .before .before .before .before .before .before .before .line-at .ensures) in
@@ -52,5 +37,5 @@ returns c = let x = c .before .before .before .before .before .before .before .b
 
 pub number-need-spec : {M : Type 1} → statement M
 number-need-spec =
-    tie.close (tie.spec line-at-requires digest-requires place-for-requires form-at-requires enter-requires kind-needed-requires enter-kind-requires
-    enter-digest-requires add-t21 with-key-requires same-length returns)
+    tie.close (tie.spec (λ c κs. search needs) (λ c κs. search needs) place-for-requires (λ c κs. search needs) enter-requires (λ c κs. search needs)
+    enter-kind-requires enter-digest-requires add-t21 with-key-requires (λ c. search needs) returns)

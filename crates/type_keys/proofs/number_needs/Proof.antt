@@ -15,30 +15,19 @@ Inv-loop sheet work₀ n d₀ i₀ work d i = (Numbering sheet work n i (d .need
 abbrev μ-loop : tie.MeasureT-loop
 μ-loop sheet work₀ n d₀ i₀ work d i = n - i
 
-clear-kinds-requires : tie.Need-clear-kinds-requires Inv-loop μ-loop
-clear-kinds-requires c κs = search needs
-
 loop-holds : tie.Need-loop-holds Inv-loop μ-loop
 loop-holds c = (numbering-start (now (c .before .before .before .before .before .before .args .sheet)) (c .before .before .clear-kinds .last .0) (c .before .before .before .before .before .before .args .n) (checked-kept (kept-less (omega arith) (c .before .before .clear-kinds .ensures .0 .kept)) (c .before .before .before .before .before .before .pre)) (c .before .before .clear-kinds .ensures .1), outside-all)
 
 number-line-requires : tie.Need-number-line-requires Inv-loop μ-loop
 number-line-requires c κs = (c .before .before .loop .inv .0, c .before .loop-test .taken)
 
-add-i : tie.Need-add-i Inv-loop μ-loop
-add-i c = search needs
-
-loop-less : tie.Need-loop-less Inv-loop μ-loop
-loop-less c = search needs
-
 loop-again : tie.Need-loop-again Inv-loop μ-loop
 loop-again c = (c .before .before .number-line .ensures .0, outside-then (c .before .before .before .before .before .loop .inv .1) (c .before .before .number-line .ensures .1))
-
-same-length : tie.Need-same-length Inv-loop μ-loop
-same-length c = search needs
 
 returns : tie.Need-returns Inv-loop μ-loop
 returns c = let w = numbering-end (now (c .before .before .before .before .before .before .before .before .args .sheet)) (c .before .loop .work) (c .before .before .before .before .before .before .before .before .args .n) (c .before .loop .i) (c .before .loop .d .needs) (c .before .loop .d .keys) (c .before .loop .inv .0) (c .loop-test .left) in (w .0, w .1, w .2, outside-then (outside-less 10240 11264 (omega arith) (omega arith) (c .before .before .before .before .clear-kinds .ensures .0)) (c .before .loop .inv .1))
 
 pub number-needs-spec : {M : Type 1} → statement M
 number-needs-spec =
-    tie.close (tie.spec Inv-loop μ-loop clear-kinds-requires loop-holds number-line-requires add-i loop-less loop-again same-length returns)
+    tie.close (tie.spec Inv-loop μ-loop (λ c κs. search needs) loop-holds number-line-requires (λ c. search needs) (λ c. search needs) loop-again
+    (λ c. search needs) returns)

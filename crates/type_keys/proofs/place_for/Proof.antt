@@ -30,12 +30,6 @@ need-place-requires c κs = let x = c .before .before .before .before .before .b
 returns : tie.Need-returns Inv-loop μ-loop
 returns c = c .need-place .ensures .0 ∙ place-found (c .before .before .before .before .before .before .before .before .pre .0) (c .before .before .before .before .before .loop .q) (c .before .before .before .if1 .taken) (c .before .before .is-need .result) (c .before .before .is-need .ensures) (c .before .if2 .taken)
 
-add-q : tie.Need-add-q Inv-loop μ-loop
-add-q c = search needs
-
-loop-less : tie.Need-loop-less Inv-loop μ-loop
-loop-less c = search needs
-
 loop-again : tie.Need-loop-again Inv-loop μ-loop
 loop-again c = (omega (arith, c .before .before .if1 .taken), place-next (c .before .before .before .before .before .before .before .pre .0) (c .before .before .before .before .loop .q) (c .before .before .if1 .taken) (c .before .is-need .result) (c .before .is-need .ensures) (c .if2 .left) (c .before .before .before .before .loop .inv .1))
 
@@ -43,4 +37,6 @@ returns-2 : tie.Need-returns-2 Inv-loop μ-loop
 returns-2 c = place-new (c .before .before .before .before .before .pre .0) (c .before .before .loop .q) (c .if1 .left) (c .before .before .loop .inv .1)
 
 pub place-for-spec : {M : Type 1} → statement M
-place-for-spec = tie.close (tie.spec Inv-loop μ-loop loop-holds is-need-requires need-place-requires returns add-q loop-less loop-again returns-2)
+place-for-spec =
+    tie.close (tie.spec Inv-loop μ-loop loop-holds is-need-requires need-place-requires returns (λ c. search needs) (λ c. search needs) loop-again
+    returns-2)

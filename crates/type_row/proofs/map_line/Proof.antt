@@ -21,9 +21,6 @@ Inv-loop sheet work₀ n i size count j₀ work j = (j ≤ count) × (count ≡ 
 abbrev μ-loop : tie.MeasureT-loop
 μ-loop sheet work₀ n i size count j₀ work j = count - j
 
-clear-map-requires : tie.Need-clear-map-requires Inv-loop μ-loop
-clear-map-requires c κs = search needs
-
 offset-count-requires : tie.Need-offset-count-requires Inv-loop μ-loop
 offset-count-requires c κs = shape-kept (c .before .before .before .clear-map .ensures .kept) (c .before .before .before .before .before .before .before .pre .0)
 
@@ -36,12 +33,6 @@ offset-at-requires c κs = (shape-kept (c .before .before .loop .inv .2 .kept) (
 mark-raised-requires : tie.Need-mark-raised-requires Inv-loop μ-loop
 mark-raised-requires c κs = (room-kept (c .before .before .before .before .loop .inv .2 .kept) (room-kept (c .before .before .before .before .before .before .before .before .before .clear-map .ensures .kept) (c .before .before .before .before .before .before .before .before .before .before .before .before .before .pre .1)), c .before .offset-at .ensures .1)
 
-add-j : tie.Need-add-j Inv-loop μ-loop
-add-j c = search needs
-
-loop-less : tie.Need-loop-less Inv-loop μ-loop
-loop-less c = search needs
-
 loop-again : tie.Need-loop-again Inv-loop μ-loop
 loop-again c = (omega (arith, c .before .before .before .before .before .before .loop-test .taken), c .before .before .before .before .before .before .before .loop .inv .1, offsets-next (shapeAt (now (c .before .before .before .before .before .before .before .before .before .before .before .before .before .before .before .before .args .sheet)) (c .before .before .before .before .before .before .before .before .before .before .before .before .before .before .before .before .args .i) .pointers) (c .before .before .before .before .before .before .before .loop .j) (omega (arith, c .before .before .before .before .before .before .loop-test .taken, c .before .before .before .before .before .before .before .loop .inv .1)) (c .before .before .before .before .before .before .before .loop .inv .2) (c .before .before .mark-raised .ensures _ (offset-near (now (c .before .before .before .before .before .before .before .before .before .before .before .before .before .before .before .before .args .sheet)) (now (c .before .before .before .before .before .before .before .before .before .before .before .before .before .before .before .before .args .work)) (c .before .before .before .before .before .before .before .before .before .before .before .before .before .before .before .before .args .n) (c .before .before .before .before .before .before .before .before .before .before .before .before .before .before .before .before .args .i) (c .before .before .before .before .before .before .before .before .before .before .before .before .before .before .before .before .pre .0) (c .before .before .before .before .before .before .before .loop .j) (omega (arith, c .before .before .before .before .before .before .loop-test .taken, c .before .before .before .before .before .before .before .loop .inv .1))) (c .before .before .before .before .offset-at .ensures .0)))
 
@@ -53,5 +44,5 @@ returns c = made-then (c .before .before .before .before .before .before .before
 
 pub map-line-spec : {M : Type 1} → statement M
 map-line-spec =
-    tie.close (tie.spec Inv-loop μ-loop clear-map-requires offset-count-requires loop-holds offset-at-requires mark-raised-requires add-j loop-less
-    loop-again same-length returns)
+    tie.close (tie.spec Inv-loop μ-loop (λ c κs. search needs) offset-count-requires loop-holds offset-at-requires mark-raised-requires
+    (λ c. search needs) (λ c. search needs) loop-again same-length returns)

@@ -18,23 +18,11 @@ Inv-loop work₀ size count k₀ work k = (k ≤ count) × Marks size (words k) 
 abbrev μ-loop : tie.MeasureT-loop
 μ-loop work₀ size count k₀ work k = count - k
 
-clear-map-requires : tie.Need-clear-map-requires Inv-loop μ-loop
-clear-map-requires c κs = search needs
-
 loop-holds : tie.Need-loop-holds Inv-loop μ-loop
 loop-holds c = (omega arith, words-none)
 
-mul-mark-at : tie.Need-mul-mark-at Inv-loop μ-loop
-mul-mark-at c = search needs
-
 mark-at-requires : tie.Need-mark-at-requires Inv-loop μ-loop
 mark-at-requires c κs = room-kept (c .before .before .loop .inv .1 .kept) (room-kept (c .before .before .before .before .before .clear-map .ensures .kept) (c .before .before .before .before .before .before .before .before .pre .0))
-
-add-k : tie.Need-add-k Inv-loop μ-loop
-add-k c = search needs
-
-loop-less : tie.Need-loop-less Inv-loop μ-loop
-loop-less c = search needs
 
 loop-again : tie.Need-loop-again Inv-loop μ-loop
 loop-again c = (omega (arith, c .before .before .before .before .loop-test .taken), words-next (c .before .before .before .before .before .loop .k) (c .before .before .before .before .before .loop .inv .1) (c .before .before .mark-at .ensures))
@@ -47,4 +35,5 @@ returns c = let e : c .before .loop .k ≡ c .before .before .before .before .be
 
 pub map-words-spec : {M : Type 1} → statement M
 map-words-spec =
-    tie.close (tie.spec Inv-loop μ-loop clear-map-requires loop-holds mul-mark-at mark-at-requires add-k loop-less loop-again same-length returns)
+    tie.close (tie.spec Inv-loop μ-loop (λ c κs. search needs) loop-holds (λ c. search needs) mark-at-requires (λ c. search needs) (λ c. search needs)
+    loop-again same-length returns)

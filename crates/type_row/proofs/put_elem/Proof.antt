@@ -6,23 +6,12 @@ use borrow.Author.Needs.{needs}
 use Rattle.type_row.proofs.put_elem.Statement.{statement}
 use Rattle.type_row.proofs.put_elem.Tie as tie
 
-elem-size-requires : tie.Need-elem-size-requires
-elem-size-requires c κs = search needs
-
-elem-pointers-requires : tie.Need-elem-pointers-requires
-elem-pointers-requires c κs = search needs
-
 put-words-requires : tie.Need-put-words-requires
 put-words-requires c κs = (record { room = c .before .before .before .before .before .before .pre; small = omega (arith, c .before .before .elem-size .ensures .1) }, omega (arith, c .before .elem-pointers .ensures .1))
-
-same-length : tie.Need-same-length
-same-length c = search needs
-
-same-length-2 : tie.Need-same-length-2
-same-length-2 c = search needs
 
 returns : tie.Need-returns
 returns c = (λ k e. rowed-as (shape-is (elemShape k) (c .before .before .before .before .before .before .before .elem-size .result) (words (c .before .before .before .before .before .before .elem-pointers .result)) (c .before .before .before .before .before .before .before .elem-size .ensures .0 k e) (c .before .before .before .before .before .before .elem-pointers .ensures .0 k e)) (c .before .before .before .before .put-words .ensures), c .before .before .before .before .put-words .ensures .kept)
 
 pub put-elem-spec : {M : Type 1} → statement M
-put-elem-spec = tie.close (tie.spec elem-size-requires elem-pointers-requires put-words-requires same-length same-length-2 returns)
+put-elem-spec =
+    tie.close (tie.spec (λ c κs. search needs) (λ c κs. search needs) put-words-requires (λ c. search needs) (λ c. search needs) returns)

@@ -8,23 +8,15 @@ use borrow.Author.Needs.{needs}
 use Rattle.type_row.proofs.put_line.Statement.{statement}
 use Rattle.type_row.proofs.put_line.Tie as tie
 
-size-at-requires : tie.Need-size-at-requires
-size-at-requires c κs = search needs
-
 map-line-requires : tie.Need-map-line-requires
 map-line-requires c κs = (c .before .before .before .before .before .before .pre, record { room = c .before .before .before .before .before .before .pre .checked .whole .room; small = omega (arith, c .before .size-at .ensures .1) })
 
 put-type-requires : tie.Need-put-type-requires
 put-type-requires c κs = room-kept (c .before .before .before .before .map-line .ensures .kept) (record { room = c .before .before .before .before .before .before .before .before .before .before .before .pre .checked .whole .room; small = omega (arith, c .before .before .before .before .before .before .size-at .ensures .1) })
 
-same-length : tie.Need-same-length
-same-length c = search needs
-
-same-length-2 : tie.Need-same-length-2
-same-length-2 c = search needs
-
 returns : tie.Need-returns
 returns c = rowed-as (shape-is (shapeAt (now (c .before .before .before .before .before .before .before .before .before .before .before .before .before .before .args .sheet)) (c .before .before .before .before .before .before .before .before .before .before .before .before .before .before .args .i)) (c .before .before .before .before .before .before .before .before .before .size-at .result) (shapeAt (now (c .before .before .before .before .before .before .before .before .before .before .before .before .before .before .args .sheet)) (c .before .before .before .before .before .before .before .before .before .before .before .before .before .before .args .i) .pointers) (c .before .before .before .before .before .before .before .before .before .size-at .ensures .0) refl) (record { wrote = c .before .before .put-type .ensures _ (c .before .before .before .before .before .before .before .map-line .ensures .map); kept = c .before .before .before .before .before .before .before .map-line .ensures .kept })
 
 pub put-line-spec : {M : Type 1} → statement M
-put-line-spec = tie.close (tie.spec size-at-requires map-line-requires put-type-requires same-length same-length-2 returns)
+put-line-spec =
+    tie.close (tie.spec (λ c κs. search needs) map-line-requires put-type-requires (λ c. search needs) (λ c. search needs) returns)

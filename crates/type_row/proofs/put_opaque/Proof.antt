@@ -9,14 +9,9 @@ use Rattle.type_row.proofs.put_opaque.Tie as tie
 put-words-requires : tie.Need-put-words-requires
 put-words-requires c κs = (record { room = c .before .before .before .before .pre; small = omega arith }, omega arith)
 
-same-length : tie.Need-same-length
-same-length c = search needs
-
-same-length-2 : tie.Need-same-length-2
-same-length-2 c = search needs
-
 returns : tie.Need-returns
 returns c = rowed-as (shape-is opaqueShape 48 (words 12) opaque-size opaque-words) (c .before .before .before .before .put-words .ensures)
 
 pub put-opaque-spec : {M : Type 1} → statement M
-put-opaque-spec = tie.close (tie.spec put-words-requires same-length same-length-2 returns)
+put-opaque-spec =
+    tie.close (tie.spec put-words-requires (λ c. search needs) (λ c. search needs) returns)

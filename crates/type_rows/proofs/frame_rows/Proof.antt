@@ -26,12 +26,6 @@ loop-holds c = (omega arith, refl, wrotes-none (c .before .before .before .pre .
 next-frame-requires : tie.Need-next-frame-requires Inv-loop μ-loop
 next-frame-requires c κs = (map-checked (c .before .before .before .loop .inv .2 .kept) (c .before .before .before .before .before .before .before .pre .0), c .before .before .loop-test .taken, omega (arith, c .before .before .before .loop .inv .1, c .before .before .before .loop .inv .2 .id, frames-few (now (c .before .before .before .before .before .before .before .args .sheet)) (now (c .before .before .before .before .before .before .before .args .work)) (c .before .before .before .before .before .before .before .args .n) (c .before .before .before .before .before .before .before .pre .0) (c .before .before .before .loop .i) (c .before .before .before .loop .inv .0)), within (c .before .before .before .loop .inv .2 .wrote))
 
-add-i : tie.Need-add-i Inv-loop μ-loop
-add-i c = search needs
-
-loop-less : tie.Need-loop-less Inv-loop μ-loop
-loop-less c = search needs
-
 loop-again : tie.Need-loop-again Inv-loop μ-loop
 loop-again c = (omega (arith, c .before .before .before .before .before .before .before .loop-test .taken), c .before .before .before .before .before .before .before .before .loop .inv .1, rw (frames-more (now (c .before .before .before .before .before .before .before .before .before .before .before .before .args .sheet)) (now (c .before .before .before .before .before .before .before .before .before .before .before .before .args .work)) (c .before .before .before .before .before .before .before .before .before .before .before .before .args .n) (c .before .before .before .before .before .before .before .before .before .before .before .before .pre .0) (c .before .before .before .before .before .before .before .before .loop .i) (c .before .before .before .before .before .before .before .loop-test .taken)) (wrotes-then (framesTo (now (c .before .before .before .before .before .before .before .before .before .before .before .before .args .sheet)) (c .before .before .before .before .before .before .before .before .loop .i)) (declaresAt (nodesIn (now (c .before .before .before .before .before .before .before .before .before .before .before .before .args .sheet))) (c .before .before .before .before .before .before .before .before .loop .i) .frames) (c .before .before .before .before .before .before .before .before .loop .inv .2) (c .before .before .before .before .next-frame .ensures)))
 
@@ -45,4 +39,6 @@ returns : tie.Need-returns Inv-loop μ-loop
 returns c = let e : c .before .loop .i ≡ c .before .before .before .before .before .args .n = omega (arith, c .loop-test .left, c .before .loop .inv .0) in rw (← frames-all (now (c .before .before .before .before .before .args .sheet)) (now (c .before .before .before .before .before .args .work)) (c .before .before .before .before .before .args .n) (c .before .before .before .before .before .pre .0), ← e) (c .before .loop .inv .2)
 
 pub frame-rows-spec : {M : Type 1} → statement M
-frame-rows-spec = tie.close (tie.spec Inv-loop μ-loop loop-holds next-frame-requires add-i loop-less loop-again same-length same-length-2 returns)
+frame-rows-spec =
+    tie.close (tie.spec Inv-loop μ-loop loop-holds next-frame-requires (λ c. search needs) (λ c. search needs) loop-again same-length same-length-2
+    returns)

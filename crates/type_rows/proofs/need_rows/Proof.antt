@@ -22,12 +22,6 @@ loop-holds c = (omega arith, refl, omega arith, wrotes-none (c .before .before .
 next-need-requires : tie.Need-next-need-requires Inv-loop μ-loop
 next-need-requires c κs = (ready-kept (c .before .before .before .loop .inv .3 .kept) (c .before .before .before .before .before .before .before .pre .0), c .before .before .loop-test .taken, omega (arith, c .before .before .before .loop .inv .1, c .before .before .before .before .before .before .before .pre .1), c .before .before .before .loop .inv .2, within (c .before .before .before .loop .inv .3 .wrote))
 
-add-q : tie.Need-add-q Inv-loop μ-loop
-add-q c = search needs
-
-loop-less : tie.Need-loop-less Inv-loop μ-loop
-loop-less c = search needs
-
 loop-again : tie.Need-loop-again Inv-loop μ-loop
 loop-again c = (omega (arith, c .before .before .before .before .before .before .before .loop-test .taken), c .before .before .before .before .before .before .before .before .loop .inv .1, c .before .before .before .before .next-need .ensures .1, c .before .before .before .before .next-need .ensures .0 (c .before .before .before .before .before .before .before .before .before .before .before .before .args .p) (now (c .before .before .before .before .before .before .before .before .before .before .before .before .args .work)) (now (c .before .before .before .before .before .before .before .before .before .before .before .before .args .out)) (c .before .before .before .before .before .before .before .before .loop .inv .3))
 
@@ -41,4 +35,6 @@ returns : tie.Need-returns Inv-loop μ-loop
 returns c = rw (← keys-all (now (c .before .before .before .before .before .args .sheet)) (c .before .loop .q) (omega (arith, c .loop-test .left, c .before .before .before .before .before .pre .0 .count))) (c .before .loop .inv .3)
 
 pub need-rows-spec : {M : Type 1} → statement M
-need-rows-spec = tie.close (tie.spec Inv-loop μ-loop loop-holds next-need-requires add-q loop-less loop-again same-length same-length-2 returns)
+need-rows-spec =
+    tie.close (tie.spec Inv-loop μ-loop loop-holds next-need-requires (λ c. search needs) (λ c. search needs) loop-again same-length same-length-2
+    returns)

@@ -8,29 +8,16 @@ use borrow.Author.Needs.{needs}
 use Rattle.type_rows.proofs.next_frame.Statement.{statement}
 use Rattle.type_rows.proofs.next_frame.Tie as tie
 
-is-frame-requires : tie.Need-is-frame-requires
-is-frame-requires c κs = search needs
-
 put-line-requires : tie.Need-put-line-requires
 put-line-requires c κs = frame-line (now (c .before .before .before .before .before .before .before .before .args .sheet)) (now (c .before .before .before .before .before .before .before .before .args .work)) (c .before .before .before .before .before .before .before .before .args .n) (c .before .before .before .before .before .before .before .before .pre .0) (c .before .before .before .before .before .before .before .before .args .i) (c .before .before .before .before .before .before .before .before .pre .1) (eqb-true _ 71 (sym (c .before .before .before .is-frame .ensures) ∙ c .before .before .if1 .taken))
 
-add-t16 : tie.Need-add-t16
-add-t16 c = search needs
-
-same-length : tie.Need-same-length
-same-length c = search needs
-
-same-length-2 : tie.Need-same-length-2
-same-length-2 c = search needs
-
 returns : tie.Need-returns
 returns c = rw (frames-by (now (c .before .before .before .before .before .before .before .before .before .before .before .before .before .args .sheet)) (now (c .before .before .before .before .before .before .before .before .before .before .before .before .before .args .work)) (c .before .before .before .before .before .before .before .before .before .before .before .before .before .args .n) (c .before .before .before .before .before .before .before .before .before .before .before .before .before .pre .0) (c .before .before .before .before .before .before .before .before .before .before .before .before .before .args .i) (c .before .before .before .before .before .before .before .before .before .before .before .before .before .pre .1) true (sym (c .before .before .before .before .before .before .before .if1 .taken) ∙ c .before .before .before .before .before .before .before .before .is-frame .ensures)) (wrotes-one refl (c .before .before .before .before .put-line .ensures))
-
-same-length-3 : tie.Need-same-length-3
-same-length-3 c = search needs
 
 returns-2 : tie.Need-returns-2
 returns-2 c = rw (frames-by (now (c .before .before .before .before .before .before .args .sheet)) (now (c .before .before .before .before .before .before .args .work)) (c .before .before .before .before .before .before .args .n) (c .before .before .before .before .before .before .pre .0) (c .before .before .before .before .before .before .args .i) (c .before .before .before .before .before .before .pre .1) false (sym (c .if1 .left) ∙ c .before .is-frame .ensures)) (wrotes-none (c .before .before .before .before .before .before .pre .3))
 
 pub next-frame-spec : {M : Type 1} → statement M
-next-frame-spec = tie.close (tie.spec is-frame-requires put-line-requires add-t16 same-length same-length-2 returns same-length-3 returns-2)
+next-frame-spec =
+    tie.close (tie.spec (λ c κs. search needs) put-line-requires (λ c. search needs) (λ c. search needs) (λ c. search needs) returns
+    (λ c. search needs) returns-2)

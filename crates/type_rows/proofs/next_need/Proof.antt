@@ -18,12 +18,6 @@ use Rattle.type_rows.proofs.next_need.Tie as tie
 need-place-requires : tie.Need-need-place-requires
 need-place-requires c κs = (need-low (now (c .before .before .before .before .args .sheet)) (now (c .before .before .before .before .args .work)) (c .before .before .before .before .args .n) (c .before .before .before .before .args .m) (c .before .before .before .before .args .needs) (c .before .before .before .before .pre .0) (c .before .before .before .before .args .q) (c .before .before .before .before .pre .1), c .before .before .before .before .pre .0 .log .checked .whole .room)
 
-add-if1 : tie.Need-add-if1
-add-if1 c = search needs
-
-same-length : tie.Need-same-length
-same-length c = search needs
-
 returns : tie.Need-returns
 returns c = let e = keys-stay (now (c .before .before .before .before .before .before .args .sheet)) (now (c .before .before .before .before .before .before .args .work)) (c .before .before .before .before .before .before .args .n) (c .before .before .before .before .before .before .args .m) (c .before .before .before .before .before .before .args .needs) (c .before .before .before .before .before .before .pre .0) (c .before .before .before .before .before .before .args .q) (c .before .before .before .before .before .before .pre .1) (c .before .before .before .before .before .before .args .base) (c .before .before .before .before .before .before .args .r .id) (c .before .before .before .before .before .before .pre .3) (λ z. c .if1 .taken (ap (λ (y : ℕ). c .before .before .before .before .before .before .args .base + y) (c .before .need-place .ensures .0) ∙ z)) in (λ p t d w. rw e w, c .before .before .before .before .before .before .pre .3 ∙ ap (λ (y : ℕ). c .before .before .before .before .before .before .args .base + y) (sym (ap length e)))
 
@@ -33,15 +27,6 @@ need-line-requires c κs = (need-low (now (c .before .before .before .before .be
 put-need-requires : tie.Need-put-need-requires
 put-need-requires c κs = (c .before .before .before .before .before .before .before .before .before .before .pre .0 .log, rw (c .before .before .need-line .ensures) (need-at (now (c .before .before .before .before .before .before .before .before .before .before .args .sheet)) (now (c .before .before .before .before .before .before .before .before .before .before .args .work)) (c .before .before .before .before .before .before .before .before .before .before .args .n) (c .before .before .before .before .before .before .before .before .before .before .args .m) (c .before .before .before .before .before .before .before .before .before .before .args .needs) (c .before .before .before .before .before .before .before .before .before .before .pre .0) (c .before .before .before .before .before .before .before .before .before .before .args .q) (c .before .before .before .before .before .before .before .before .before .before .pre .1)))
 
-add-t13 : tie.Need-add-t13
-add-t13 c = search needs
-
-same-length-2 : tie.Need-same-length-2
-same-length-2 c = search needs
-
-same-length-3 : tie.Need-same-length-3
-same-length-3 c = search needs
-
 returns-2 : tie.Need-returns-2
 returns-2 c = let e = keys-next (now (c .before .before .before .before .before .before .before .before .before .before .before .before .before .before .before .args .sheet)) (now (c .before .before .before .before .before .before .before .before .before .before .before .before .before .before .before .args .work)) (c .before .before .before .before .before .before .before .before .before .before .before .before .before .before .before .args .n) (c .before .before .before .before .before .before .before .before .before .before .before .before .before .before .before .args .m) (c .before .before .before .before .before .before .before .before .before .before .before .before .before .before .before .args .needs) (c .before .before .before .before .before .before .before .before .before .before .before .before .before .before .before .pre .0) (c .before .before .before .before .before .before .before .before .before .before .before .before .before .before .before .args .q) (c .before .before .before .before .before .before .before .before .before .before .before .before .before .before .before .pre .1) (c .before .before .before .before .before .before .before .before .before .before .before .before .before .before .before .args .base) (c .before .before .before .before .before .before .before .before .before .before .before .before .before .before .before .args .r .id) (c .before .before .before .before .before .before .before .before .before .before .before .before .before .before .before .pre .3) (sym (ap (λ (y : ℕ). c .before .before .before .before .before .before .before .before .before .before .before .before .before .before .before .args .base + y) (c .before .before .before .before .before .before .before .before .before .before .need-place .ensures .0)) ∙ c .before .before .before .before .before .before .before .before .before .if1 .left) in
     let y = needAt (now (c .before .before .before .before .before .before .before .before .before .before .before .before .before .before .before .args .sheet)) (lineOf (now (c .before .before .before .before .before .before .before .before .before .before .before .before .before .before .before .args .work)) (c .before .before .before .before .before .before .before .before .before .before .before .before .before .before .before .args .q)) in
@@ -49,5 +34,5 @@ returns-2 c = let e = keys-next (now (c .before .before .before .before .before 
 
 pub next-need-spec : {M : Type 1} → statement M
 next-need-spec =
-    tie.close (tie.spec need-place-requires add-if1 same-length returns need-line-requires put-need-requires add-t13 same-length-2 same-length-3
-    returns-2)
+    tie.close (tie.spec need-place-requires (λ c. search needs) (λ c. search needs) returns need-line-requires put-need-requires (λ c. search needs)
+    (λ c. search needs) (λ c. search needs) returns-2)

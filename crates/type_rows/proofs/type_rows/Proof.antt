@@ -14,9 +14,6 @@ use borrow.Author.Needs.{needs}
 use Rattle.type_rows.proofs.type_rows.Statement.{statement}
 use Rattle.type_rows.proofs.type_rows.Tie as tie
 
-opaque-rows-requires : tie.Need-opaque-rows-requires
-opaque-rows-requires c κs = search needs
-
 frame-rows-requires : tie.Need-frame-rows-requires
 frame-rows-requires c κs = (map-checked (c .before .before .before .before .before .before .opaque-rows .ensures .1) (c .before .before .before .before .before .before .before .before .before .before .before .before .pre .0 .log .checked), within (c .before .before .before .before .before .before .opaque-rows .ensures .0))
 
@@ -26,15 +23,11 @@ need-rows-requires c κs = (ready-kept (c .before .before .before .before .befor
 kind-rows-requires : tie.Need-kind-rows-requires
 kind-rows-requires c κs = (omega (arith, c .before .before .before .before .before .before .before .before .before .before .before .before .before .before .before .before .before .before .before .before .before .before .before .before .before .before .pre .0 .log .checked .whole .room, c .before .before .before .before .before .before .before .before .before .before .before .before .before .before .before .before .before .before .before .before .opaque-rows .ensures .1 .long, c .before .before .before .before .before .before .before .before .before .before .before .before .before .frame-rows .ensures .kept .long, c .before .before .before .before .before .before .need-rows .ensures .kept .long), omega (arith, c .before .before .before .before .before .before .need-rows .ensures .id), omega (arith, c .before .before .before .before .before .before .before .before .before .before .before .before .before .frame-rows .ensures .id, frames-low (now (c .before .before .before .before .before .before .before .before .before .before .before .before .before .before .before .before .before .before .before .before .before .before .before .before .before .before .args .sheet)) (now (c .before .before .before .before .before .before .before .before .before .before .before .before .before .before .before .before .before .before .before .before .before .before .before .before .before .before .args .work)) (c .before .before .before .before .before .before .before .before .before .before .before .before .before .before .before .before .before .before .before .before .before .before .before .before .before .before .args .n) (c .before .before .before .before .before .before .before .before .before .before .before .before .before .before .before .before .before .before .before .before .before .before .before .before .before .before .pre .0 .log .checked)), c .before .before .before .before .before .before .before .before .before .before .before .before .before .before .before .before .before .before .before .before .before .before .before .before .before .before .pre .1, within (c .before .before .before .before .before .before .need-rows .ensures .wrote))
 
-same-length : tie.Need-same-length
-same-length c = search needs
-
-same-length-2 : tie.Need-same-length-2
-same-length-2 c = search needs
-
 returns : tie.Need-returns
 returns c = let k = kept-then (c .before .before .before .before .before .before .before .before .before .before .before .before .before .before .before .before .before .before .before .before .before .before .before .before .before .opaque-rows .ensures .1) (kept-then (c .before .before .before .before .before .before .before .before .before .before .before .before .before .before .before .before .before .before .frame-rows .ensures .kept) (c .before .before .before .before .before .before .before .before .before .before .before .need-rows .ensures .kept)) in
     (λ is x. all-rows (now (c .before .before .before .before .before .before .before .before .before .before .before .before .before .before .before .before .before .before .before .before .before .before .before .before .before .before .before .before .before .before .before .args .sheet)) is refl (c .before .before .before .before .before .before .before .before .before .before .before .before .before .before .before .before .before .before .before .before .before .before .before .before .before .opaque-rows .ensures .0) (c .before .before .before .before .before .before .before .before .before .before .before .before .before .before .before .before .before .before .frame-rows .ensures) (c .before .before .before .before .before .before .before .before .before .before .before .need-rows .ensures) (c .before .before .before .before .kind-rows .result) (c .before .before .before .before .kind-rows .ensures .0 (now (c .before .before .before .before .before .before .before .before .before .before .before .before .before .before .before .before .before .before .before .before .before .before .before .before .before .before .before .before .before .before .before .args .sheet)) (sheetSource (now (c .before .before .before .before .before .before .before .before .before .before .before .before .before .before .before .before .before .before .before .before .before .before .before .before .before .before .before .before .before .before .before .args .sheet)) .needs) is (c .before .before .before .before .before .before .before .before .before .before .before .need-rows .ensures .id ∙ ap (λ (y : ℕ). c .before .before .before .before .before .before .before .before .before .before .before .before .before .before .before .before .before .before .frame-rows .result .id + y) (shapes-length (now (c .before .before .before .before .before .before .before .before .before .before .before .before .before .before .before .before .before .before .before .before .before .before .before .before .before .before .before .before .before .before .before .args .sheet)) (distinct [] (sheetSource (now (c .before .before .before .before .before .before .before .before .before .before .before .before .before .before .before .before .before .before .before .before .before .before .before .before .before .before .before .before .before .before .before .args .sheet)) .needs)))) (kinds-kept (kept-less (omega arith) k) x)), kept-then k (c .before .before .before .before .kind-rows .ensures .1))
 
 pub type-rows-spec : {M : Type 1} → statement M
-type-rows-spec = tie.close (tie.spec opaque-rows-requires frame-rows-requires need-rows-requires kind-rows-requires same-length same-length-2 returns)
+type-rows-spec =
+    tie.close (tie.spec (λ c κs. search needs) frame-rows-requires need-rows-requires kind-rows-requires (λ c. search needs) (λ c. search needs)
+    returns)

@@ -28,23 +28,13 @@ loop-holds c = (omega arith, refl, λ is. wrote-none _ _ (c .before .before .bef
 need-id-requires : tie.Need-need-id-requires Inv-loop μ-loop
 need-id-requires c κs = (c .before .before .before .before .before .before .pre .0 .few, omega (arith, c .before .loop-test .taken, c .before .before .before .before .before .before .pre .0 .count, c .before .before .before .before .before .before .pre .0 .table .few), c .before .before .before .before .before .before .pre .0 .checked .whole .room)
 
-put-use-requires : tie.Need-put-use-requires Inv-loop μ-loop
-put-use-requires c κs = search needs
-
-add-q : tie.Need-add-q Inv-loop μ-loop
-add-q c = search needs
-
-loop-less : tie.Need-loop-less Inv-loop μ-loop
-loop-less c = search needs
-
 loop-again : tie.Need-loop-again Inv-loop μ-loop
 loop-again c = (omega (arith, c .before .before .before .before .before .loop-test .taken), wrote-length (c .before .before .put-use .ensures) ∙ c .before .before .before .before .before .before .loop .inv .1, λ is. uses-next (idOf (sheetSource (now (c .before .before .before .before .before .before .before .before .before .before .args .sheet))) is) (sheetSource (now (c .before .before .before .before .before .before .before .before .before .before .args .sheet)) .needs) (c .before .before .before .before .before .before .loop .q) (c .before .before .before .need-id .result) (omega (arith, c .before .before .before .before .before .loop-test .taken, c .before .before .before .before .before .before .before .before .before .before .pre .0 .count)) (c .before .before .before .need-id .ensures .0 (now (c .before .before .before .before .before .before .before .before .before .before .args .sheet)) (c .before .before .before .before .before .before .before .before .before .before .args .n) is (c .before .before .before .before .before .before .before .before .before .before .pre .0 .table) (omega (arith, c .before .before .before .before .before .loop-test .taken, c .before .before .before .before .before .before .before .before .before .before .pre .0 .count)) (c .before .before .before .before .before .before .before .before .before .before .pre .0 .framed)) (c .before .before .before .before .before .before .loop .inv .2 is) (c .before .before .put-use .ensures))
-
-same-length : tie.Need-same-length Inv-loop μ-loop
-same-length c = search needs
 
 returns : tie.Need-returns Inv-loop μ-loop
 returns c = λ is. uses-end (idOf (sheetSource (now (c .before .before .before .before .before .args .sheet))) is) (sheetSource (now (c .before .before .before .before .before .args .sheet)) .needs) (c .before .loop .q) (omega (arith, c .loop-test .left, c .before .before .before .before .before .pre .0 .count)) (c .before .loop .inv .2 is)
 
 pub use-rows-spec : {M : Type 1} → statement M
-use-rows-spec = tie.close (tie.spec Inv-loop μ-loop loop-holds need-id-requires put-use-requires add-q loop-less loop-again same-length returns)
+use-rows-spec =
+    tie.close (tie.spec Inv-loop μ-loop loop-holds need-id-requires (λ c κs. search needs) (λ c. search needs) (λ c. search needs) loop-again
+    (λ c. search needs) returns)

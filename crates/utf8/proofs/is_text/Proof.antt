@@ -16,43 +16,13 @@ Inv-loop s a₀ i₀ a i = (i ≤ length s) × (isText s ≡ textFrom (stateOf a
 abbrev μ-loop : tie.MeasureT-loop
 μ-loop s a₀ i₀ a i = length s - i
 
-to-come-requires : tie.Need-to-come-requires Inv-loop μ-loop
-to-come-requires c κs = search needs
-
 loop-holds : tie.Need-loop-holds Inv-loop μ-loop
 loop-holds c = (search needs, rw (c .to-come .ensures) (text-start (now (c .before .before .args .s))))
-
-add-loop : tie.Need-add-loop Inv-loop μ-loop
-add-loop c = search needs
-
-shared-slice-read-pair : tie.Need-shared-slice-read-pair Inv-loop μ-loop
-shared-slice-read-pair c = search needs
-
-add-pair : tie.Need-add-pair Inv-loop μ-loop
-add-pair c = search needs
-
-shared-slice-read-pair-2 : tie.Need-shared-slice-read-pair-2 Inv-loop μ-loop
-shared-slice-read-pair-2 c = search needs
-
-pair-requires : tie.Need-pair-requires Inv-loop μ-loop
-pair-requires c κs = search needs
 
 returns : tie.Need-returns Inv-loop μ-loop
 returns c =
     let l = c .before .before .before .before .before .loop in
     sym (l .inv .1 ∙ text-bad (now (c .before .before .before .before .before .before .before .before .args .s)) (l .i) (stateOf (l .a)) (c .before .before .before .before .loop-test .taken) (c .before .pair .ensures .0) (c .if1 .taken))
-
-cast-next : tie.Need-cast-next Inv-loop μ-loop
-cast-next c = search needs
-
-next-requires : tie.Need-next-requires Inv-loop μ-loop
-next-requires c κs = search needs
-
-add-i : tie.Need-add-i Inv-loop μ-loop
-add-i c = search needs
-
-loop-less : tie.Need-loop-less Inv-loop μ-loop
-loop-less c = search needs
 
 loop-again : tie.Need-loop-again Inv-loop μ-loop
 loop-again c =
@@ -64,9 +34,6 @@ returns-2 c =
     let l = c .before .before .loop in
     sym (l .inv .1 ∙ text-odd (now (c .before .before .before .before .before .args .s)) (l .i) (stateOf (l .a)) (c .if2 .taken) (omega arith))
 
-may-end-requires : tie.Need-may-end-requires Inv-loop μ-loop
-may-end-requires c κs = search needs
-
 returns-3 : tie.Need-returns-3 Inv-loop μ-loop
 returns-3 c =
     let l = c .before .before .before .loop in
@@ -74,5 +41,6 @@ returns-3 c =
 
 pub is-text-spec : {M : Type 1} → statement M
 is-text-spec =
-    tie.close (tie.spec Inv-loop μ-loop to-come-requires loop-holds add-loop shared-slice-read-pair add-pair shared-slice-read-pair-2 pair-requires
-    returns cast-next next-requires add-i loop-less loop-again returns-2 may-end-requires returns-3)
+    tie.close (tie.spec Inv-loop μ-loop (λ c κs. search needs) loop-holds (λ c. search needs) (λ c. search needs) (λ c. search needs)
+    (λ c. search needs) (λ c κs. search needs) returns (λ c. search needs) (λ c κs. search needs) (λ c. search needs) (λ c. search needs) loop-again
+    returns-2 (λ c κs. search needs) returns-3)

@@ -10,32 +10,17 @@ returns : tie.Need-returns
 unfolding stateOf followed
 returns c = simp (not-true (c .before .before .args .a .good) (c .if1 .taken))
 
-leading-requires : tie.Need-leading-requires
-leading-requires c κs = search needs
-
 returns-2 : tie.Need-returns-2
 unfolding stateOf followed leadAt
 returns-2 c =
     let a = c .before .before .before .before .before .args in
     simp (not-false (a .a .good) (c .before .before .before .if1 .left), eq-eqb (a .a .more) 0 (c .before .if2 .taken)) (c .leading .ensures)
 
-is-within-requires : tie.Need-is-within-requires
-is-within-requires c κs = search needs
-
-sub-to-come : tie.Need-sub-to-come
-sub-to-come c = search needs
-
-to-come-requires : tie.Need-to-come-requires
-to-come-requires c κs = search needs
-
 returns-3 : tie.Need-returns-3
 unfolding stateOf followed
 returns-3 c =
     let a = c .before .before .before .before .before .before .before .before .args in
     c .to-come .ensures ∙ simp (not-false (a .a .good) (c .before .before .before .before .before .before .if1 .left), ne-eqb (a .a .more) 0 (c .before .before .before .before .if2 .left), sym (c .before .before .before .is-within .ensures) ∙ c .before .before .if3 .taken)
-
-fault-requires : tie.Need-fault-requires
-fault-requires c κs = search needs
 
 returns-4 : tie.Need-returns-4
 unfolding stateOf followed
@@ -44,4 +29,6 @@ returns-4 c =
     c .fault .ensures ∙ simp (not-false (a .a .good) (c .before .before .before .before .before .if1 .left), ne-eqb (a .a .more) 0 (c .before .before .before .if2 .left), sym (c .before .before .is-within .ensures) ∙ c .before .if3 .left)
 
 pub next-spec : {M : Type 1} → statement M
-next-spec = tie.close (tie.spec returns leading-requires returns-2 is-within-requires sub-to-come to-come-requires returns-3 fault-requires returns-4)
+next-spec =
+    tie.close (tie.spec returns (λ c κs. search needs) returns-2 (λ c κs. search needs) (λ c. search needs) (λ c κs. search needs) returns-3
+    (λ c κs. search needs) returns-4)

@@ -6,9 +6,6 @@ use Rattle.utf8.specs.Utf8.{startsOne}
 use Rattle.utf8.proofs.starts_one.Statement.{statement}
 use Rattle.utf8.proofs.starts_one.Tie as tie
 
-is-within-requires : tie.Need-is-within-requires
-is-within-requires c κs = search needs
-
 returns : tie.Need-returns
 unfolding startsOne
 returns c = (simp (sym (c .before .is-within .ensures) ∙ c .if1 .taken), omega arith)
@@ -18,4 +15,5 @@ unfolding startsOne
 returns-2 c = (simp (sym (c .before .is-within .ensures) ∙ c .if1 .left), omega arith)
 
 pub starts-one-spec : {M : Type 1} → statement M
-starts-one-spec = tie.close (tie.spec is-within-requires returns returns-2)
+starts-one-spec =
+    tie.close (tie.spec (λ c κs. search needs) returns returns-2)

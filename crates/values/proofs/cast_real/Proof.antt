@@ -4,9 +4,6 @@ use borrow.Author.Needs.{needs}
 use Rattle.values.proofs.cast_real.Statement.{statement}
 use Rattle.values.proofs.cast_real.Tie as tie
 
-to-i64-requires : tie.Need-to-i64-requires
-to-i64-requires c κs = search needs
-
 returns : tie.Need-returns
 returns c = real-whole (c .before .before .args .code) (c .before .before .args .x) (record { sfits = c .to-i64 .ok }) (c .before .if1 .taken) (c .to-i64 .ensures)
 
@@ -14,4 +11,5 @@ returns-2 : tie.Need-returns-2
 returns-2 c = real-same (c .before .args .code) (c .before .args .x) (c .if1 .left)
 
 pub cast-real-spec : {M : Type 1} → statement M
-cast-real-spec = tie.close (tie.spec to-i64-requires returns returns-2)
+cast-real-spec =
+    tie.close (tie.spec (λ c κs. search needs) returns returns-2)

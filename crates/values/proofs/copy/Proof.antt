@@ -26,15 +26,6 @@ add-b c = omega (arith, c .before .before .before .pre .source)
 slice-read-b : tie.Need-slice-read-b Inv-loop μ-loop
 slice-read-b c = omega (arith, c .before .before .before .before .pre .source, c .before .before .loop .inv .1)
 
-put-requires : tie.Need-put-requires Inv-loop μ-loop
-put-requires c κs = search needs
-
-add-k : tie.Need-add-k Inv-loop μ-loop
-add-k c = search needs
-
-loop-less : tie.Need-loop-less Inv-loop μ-loop
-loop-less c = search needs
-
 loop-again : tie.Need-loop-again Inv-loop μ-loop
 loop-again c = (omega arith, wrote-length (c .before .before .put .ensures) ∙ c .before .before .before .before .before .before .loop .inv .1, copied-more (c .before .before .before .before .before .before .before .before .pre) (c .before .before .before .before .before .loop-test .taken) (c .before .before .before .before .before .before .loop .inv .2) (c .before .before .put .ensures))
 
@@ -47,4 +38,6 @@ returns c =
     c .before .loop .inv .2 .bytes ∙ ap (λ (j : ℕ). over (now (c .before .before .before .args .work)) (c .before .before .before .args .to) (take j (drop (c .before .before .before .args .from) (now (c .before .before .before .args .work))))) e
 
 pub copy-spec : {M : Type 1} → statement M
-copy-spec = tie.close (tie.spec Inv-loop μ-loop loop-holds add-b slice-read-b put-requires add-k loop-less loop-again same-length returns)
+copy-spec =
+    tie.close (tie.spec Inv-loop μ-loop loop-holds add-b slice-read-b (λ c κs. search needs) (λ c. search needs) (λ c. search needs) loop-again
+    same-length returns)

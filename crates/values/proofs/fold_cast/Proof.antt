@@ -5,23 +5,8 @@ use borrow.Author.Needs.{needs}
 use Rattle.values.proofs.fold_cast.Statement.{statement}
 use Rattle.values.proofs.fold_cast.Tie as tie
 
-enum-known-v : tie.Need-enum-known-v
-enum-known-v c = search needs
-
-cast-int-requires : tie.Need-cast-int-requires
-cast-int-requires c κs = search needs
-
-enum-known-v-2 : tie.Need-enum-known-v-2
-enum-known-v-2 c = search needs
-
-cast-real-requires : tie.Need-cast-real-requires
-cast-real-requires c κs = search needs
-
 enum-told : tie.Need-enum-told
 enum-told c = search needs
-
-same-length : tie.Need-same-length
-same-length c = search needs
 
 returns : tie.Need-returns
 returns c = casts-int (c .before .before .before .before .before .before .before .before .args .code) (now (c .before .before .before .before .before .before .before .before .args .work)) (c .before .before .before .before .before .before .before .before .args .top) (c .before .before .before .before .before .v .given .1) (search needs) (c .before .before .cast-int .ensures)
@@ -34,4 +19,5 @@ returns-3 c = casts-string (c .before .before .before .args .code) (now (c .befo
 
 pub fold-cast-spec : {M : Type 1} → statement M
 fold-cast-spec =
-    tie.close (tie.spec enum-known-v cast-int-requires enum-known-v-2 cast-real-requires enum-told same-length returns returns-2 returns-3)
+    tie.close (tie.spec (λ c. search needs) (λ c κs. search needs) (λ c. search needs) (λ c κs. search needs) enum-told (λ c. search needs) returns
+    returns-2 returns-3)

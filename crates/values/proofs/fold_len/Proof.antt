@@ -17,26 +17,11 @@ use Rattle.values.proofs.fold_len.Tie as tie
 enum-told : tie.Need-enum-told
 enum-told c = search needs
 
-enum-told-2 : tie.Need-enum-told-2
-enum-told-2 c = search needs
-
-enum-known-v : tie.Need-enum-known-v
-enum-known-v c = search needs
-
 add-e : tie.Need-add-e
 add-e c = let w = string-within (now (c .before .before .before .before .args .work)) (c .before .v .given .1) (c .before .before .before .before .pre) in record { fits = omega arith }
 
-sub-count : tie.Need-sub-count
-sub-count c = search needs
-
-part-count-start : tie.Need-part-count-start
-part-count-start c = search needs
-
 part-count-end : tie.Need-part-count-end
 part-count-end c = string-within (now (c .before .before .before .before .args .work)) (c .before .v .given .1) (c .before .before .before .before .pre) .0
-
-count-requires : tie.Need-count-requires
-count-requires c κs = search needs
 
 cast-t12 : tie.Need-cast-t12
 cast-t12 c = let w = string-within (now (c .before .before .before .before .before .before .args .work)) (c .before .before .before .v .given .1) (c .before .before .before .before .before .before .pre) in record { sfits = omega (arith, c .count .ensures .1, length-take (c .before .before .before .v .given .0 .0 + c .before .before .before .v .given .0 .1 .0 - c .before .before .before .v .given .0 .0) (drop (c .before .before .before .v .given .0 .0) (now (c .before .before .before .before .before .before .args .work)))) }
@@ -61,5 +46,5 @@ returns-3 c =
 
 pub fold-len-spec : {M : Type 1} → statement M
 fold-len-spec =
-    tie.close (tie.spec enum-told enum-told-2 enum-known-v add-e sub-count part-count-start part-count-end count-requires cast-t12 returns returns-2
-    returns-3)
+    tie.close (tie.spec enum-told (λ c. search needs) (λ c. search needs) add-e (λ c. search needs) (λ c. search needs) part-count-end
+    (λ c κs. search needs) cast-t12 returns returns-2 returns-3)

@@ -6,18 +6,6 @@ use borrow.Author.Needs.{needs}
 use Rattle.values.proofs.fold_unary.Statement.{statement}
 use Rattle.values.proofs.fold_unary.Tie as tie
 
-enum-known-v : tie.Need-enum-known-v
-enum-known-v c = search needs
-
-int-unary-requires : tie.Need-int-unary-requires
-int-unary-requires c κs = search needs
-
-enum-known-v-2 : tie.Need-enum-known-v-2
-enum-known-v-2 c = search needs
-
-real-unary-requires : tie.Need-real-unary-requires
-real-unary-requires c κs = search needs
-
 enum-told : tie.Need-enum-told
 enum-told c = search needs
 
@@ -33,4 +21,5 @@ unfolding valueIn
 returns-3 c = unary-of (c .before .before .args .op) (c .enum-told .given .1) (answers-failed refl)
 
 pub fold-unary-spec : {M : Type 1} → statement M
-fold-unary-spec = tie.close (tie.spec enum-known-v int-unary-requires enum-known-v-2 real-unary-requires enum-told returns returns-2 returns-3)
+fold-unary-spec =
+    tie.close (tie.spec (λ c. search needs) (λ c κs. search needs) (λ c. search needs) (λ c κs. search needs) enum-told returns returns-2 returns-3)

@@ -6,60 +6,6 @@ use borrow.Author.Needs.{needs}
 use Rattle.values.proofs.int_binary.Statement.{statement}
 use Rattle.values.proofs.int_binary.Tie as tie
 
-add-requires : tie.Need-add-requires
-add-requires c κs = search needs
-
-sub-requires : tie.Need-sub-requires
-sub-requires c κs = search needs
-
-mul-requires : tie.Need-mul-requires
-mul-requires c κs = search needs
-
-div-requires : tie.Need-div-requires
-div-requires c κs = search needs
-
-quotient-requires : tie.Need-quotient-requires
-quotient-requires c κs = search needs
-
-rem-requires : tie.Need-rem-requires
-rem-requires c κs = search needs
-
-quotient-requires-2 : tie.Need-quotient-requires-2
-quotient-requires-2 c κs = search needs
-
-and-requires : tie.Need-and-requires
-and-requires c κs = search needs
-
-or-requires : tie.Need-or-requires
-or-requires c κs = search needs
-
-xor-requires : tie.Need-xor-requires
-xor-requires c κs = search needs
-
-shl-requires : tie.Need-shl-requires
-shl-requires c κs = search needs
-
-shr-requires : tie.Need-shr-requires
-shr-requires c κs = search needs
-
-eq-requires : tie.Need-eq-requires
-eq-requires c κs = search needs
-
-neq-requires : tie.Need-neq-requires
-neq-requires c κs = search needs
-
-lt-requires : tie.Need-lt-requires
-lt-requires c κs = search needs
-
-gt-requires : tie.Need-gt-requires
-gt-requires c κs = search needs
-
-leq-requires : tie.Need-leq-requires
-leq-requires c κs = search needs
-
-geq-requires : tie.Need-geq-requires
-geq-requires c κs = search needs
-
 returns : tie.Need-returns
 returns c = binary-int (c .before .match .keys1) (c .before .before .fits .x) (c .before .before .fits .y) (record { sfits = c .add .ok }) (c .add .ensures)
 
@@ -113,7 +59,8 @@ returns-17 c = answers-failed (fails-at (λ o. intBinary o (c .before .args .x) 
 
 pub int-binary-spec : {M : Type 1} → statement M
 int-binary-spec =
-    tie.close (tie.spec add-requires sub-requires mul-requires div-requires quotient-requires rem-requires quotient-requires-2 and-requires
-    or-requires xor-requires shl-requires shr-requires eq-requires neq-requires lt-requires gt-requires leq-requires geq-requires returns returns-2
-    returns-3 returns-4 returns-5 returns-6 returns-7 returns-8 returns-9 returns-10 returns-11 returns-12 returns-13 returns-14 returns-15 returns-16
-    returns-17)
+    tie.close (tie.spec (λ c κs. search needs) (λ c κs. search needs) (λ c κs. search needs) (λ c κs. search needs) (λ c κs. search needs)
+    (λ c κs. search needs) (λ c κs. search needs) (λ c κs. search needs) (λ c κs. search needs) (λ c κs. search needs) (λ c κs. search needs)
+    (λ c κs. search needs) (λ c κs. search needs) (λ c κs. search needs) (λ c κs. search needs) (λ c κs. search needs) (λ c κs. search needs)
+    (λ c κs. search needs) returns returns-2 returns-3 returns-4 returns-5 returns-6 returns-7 returns-8 returns-9 returns-10 returns-11 returns-12
+    returns-13 returns-14 returns-15 returns-16 returns-17)

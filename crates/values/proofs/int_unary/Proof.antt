@@ -4,15 +4,6 @@ use borrow.Author.Needs.{needs}
 use Rattle.values.proofs.int_unary.Statement.{statement}
 use Rattle.values.proofs.int_unary.Tie as tie
 
-neg-requires : tie.Need-neg-requires
-neg-requires c κs = search needs
-
-not-requires : tie.Need-not-requires
-not-requires c κs = search needs
-
-bit-not-requires : tie.Need-bit-not-requires
-bit-not-requires c κs = search needs
-
 returns : tie.Need-returns
 returns c = unary-int (c .before .match .keys1) (c .before .before .fits .x) (record { sfits = c .neg .ok }) (c .neg .ensures)
 
@@ -26,4 +17,5 @@ returns-4 : tie.Need-returns-4
 returns-4 c = answers-failed (no-unary (c .before .args .x) (c .before .args .op) (c .match .rest .0 .0 .1) (c .match .rest .0 .1) (c .match .rest .1))
 
 pub int-unary-spec : {M : Type 1} → statement M
-int-unary-spec = tie.close (tie.spec neg-requires not-requires bit-not-requires returns returns-2 returns-3 returns-4)
+int-unary-spec =
+    tie.close (tie.spec (λ c κs. search needs) (λ c κs. search needs) (λ c κs. search needs) returns returns-2 returns-3 returns-4)

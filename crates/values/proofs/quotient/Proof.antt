@@ -6,9 +6,6 @@ use borrow.Author.Needs.{needs}
 use Rattle.values.proofs.quotient.Statement.{statement}
 use Rattle.values.proofs.quotient.Tie as tie
 
-enum-known-q : tie.Need-enum-known-q
-enum-known-q c = search needs
-
 enum-told : tie.Need-enum-told
 enum-told c = search needs
 
@@ -19,4 +16,5 @@ returns-2 : tie.Need-returns-2
 returns-2 c = answers-failed (ap folded (sym (c .enum-told .given .1)))
 
 pub quotient-spec : {M : Type 1} → statement M
-quotient-spec = tie.close (tie.spec enum-known-q enum-told returns returns-2)
+quotient-spec =
+    tie.close (tie.spec (λ c. search needs) enum-told returns returns-2)

@@ -8,18 +8,6 @@ use borrow.Author.Needs.{needs}
 use Rattle.values.proofs.real_binary.Statement.{statement}
 use Rattle.values.proofs.real_binary.Tie as tie
 
-add-requires : tie.Need-add-requires
-add-requires c κs = search needs
-
-sub-requires : tie.Need-sub-requires
-sub-requires c κs = search needs
-
-mul-requires : tie.Need-mul-requires
-mul-requires c κs = search needs
-
-div-requires : tie.Need-div-requires
-div-requires c κs = search needs
-
 returns : tie.Need-returns
 returns c = binary-real (c .before .before .args .x) (c .before .before .args .y) (c .before .match .keys1) (ap (λ u. ok (vReal u)) (c .add .ensures))
 
@@ -36,4 +24,6 @@ returns-5 : tie.Need-returns-5
 returns-5 c = answers-failed (fails-at (λ o. realBinary o (c .before .args .x) (c .before .args .y)) refl (c .before .args .op) ((λ e. absurd (c .match .rest .0 .0 .0 .1 e)), ((λ e. absurd (c .match .rest .0 .0 .1 e)), ((λ e. absurd (c .match .rest .0 .1 e)), ((λ e. absurd (c .match .rest .1 e)), ((λ _. refl), ((λ _. refl), ((λ _. refl), ((λ _. refl), ((λ _. refl), ((λ _. refl), ((λ _. refl), ((λ _. refl), ((λ _. refl), ((λ _. refl), ((λ _. refl), ((λ _. refl), ((λ _. refl), ((λ _. refl), ((λ _. refl), tt))))))))))))))))))))
 
 pub real-binary-spec : {M : Type 1} → statement M
-real-binary-spec = tie.close (tie.spec add-requires sub-requires mul-requires div-requires returns returns-2 returns-3 returns-4 returns-5)
+real-binary-spec =
+    tie.close (tie.spec (λ c κs. search needs) (λ c κs. search needs) (λ c κs. search needs) (λ c κs. search needs) returns returns-2 returns-3
+    returns-4 returns-5)

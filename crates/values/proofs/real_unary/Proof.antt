@@ -10,9 +10,6 @@ use borrow.Author.Needs.{needs}
 use Rattle.values.proofs.real_unary.Statement.{statement}
 use Rattle.values.proofs.real_unary.Tie as tie
 
-neg-requires : tie.Need-neg-requires
-neg-requires c κs = search needs
-
 returns : tie.Need-returns
 unfolding neg
 returns c = answers-real (ap (λ u. ok (vReal u)) (c .neg .ensures) ∙ ap (λ o. realUnary (unaryAt o) (c .before .before .args .x)) (sym (c .before .if1 .taken)))
@@ -21,4 +18,5 @@ returns-2 : tie.Need-returns-2
 returns-2 c = answers-failed (no-real-unary (c .before .args .x) (c .before .args .op) (c .if1 .left))
 
 pub real-unary-spec : {M : Type 1} → statement M
-real-unary-spec = tie.close (tie.spec neg-requires returns returns-2)
+real-unary-spec =
+    tie.close (tie.spec (λ c κs. search needs) returns returns-2)

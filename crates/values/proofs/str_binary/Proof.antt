@@ -18,11 +18,9 @@ returns-2 c = λ t h. joins-long (c .before .before .args .op) (c .before .befor
 returns-3 : tie.Need-returns-3
 returns-3 c = λ t h. joins-long (c .before .before .before .args .op) (c .before .before .before .args .p) (c .before .before .before .args .l) (c .before .before .before .args .m) t h (c .before .before .if1 .left) (omega arith)
 
-add-t6 : tie.Need-add-t6
-add-t6 c = search needs
-
 returns-4 : tie.Need-returns-4
 returns-4 c = λ t h. joins (c .before .before .before .args .op) (c .before .before .before .args .p) (c .before .before .before .args .l) (c .before .before .before .args .m) t h (c .before .before .if1 .left) (omega arith)
 
 pub str-binary-spec : {M : Type 1} → statement M
-str-binary-spec = tie.close (tie.spec returns returns-2 returns-3 add-t6 returns-4)
+str-binary-spec =
+    tie.close (tie.spec returns returns-2 returns-3 (λ c. search needs) returns-4)

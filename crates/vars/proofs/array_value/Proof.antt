@@ -4,20 +4,12 @@ use borrow.Author.Needs.{needs}
 use Rattle.vars.proofs.array_value.Statement.{statement}
 use Rattle.vars.proofs.array_value.Tie as tie
 
-element-type-requires : tie.Need-element-type-requires
-element-type-requires c κs = search needs
-
 const-array-requires : tie.Need-const-array-requires
 const-array-requires c κs = array-line (c .before .before .before .before .before .pre) (c .before .element-type .ensures .0) (c .before .element-type .ensures .1)
-
-of-array-requires : tie.Need-of-array-requires
-of-array-requires c κs = search needs
-
-same-length : tie.Need-same-length
-same-length c = search needs
 
 returns : tie.Need-returns
 returns c = array-is (c .before .before .before .before .before .before .before .before .before .pre) (c .before .before .before .before .before .element-type .ensures .0) (c .before .before .before .before .before .element-type .ensures .1) (c .before .before .before .const-array .ensures) (c .of-array .result) (c .of-array .ensures)
 
 pub array-value-spec : {M : Type 1} → statement M
-array-value-spec = tie.close (tie.spec element-type-requires const-array-requires of-array-requires same-length returns)
+array-value-spec =
+    tie.close (tie.spec (λ c κs. search needs) const-array-requires (λ c κs. search needs) (λ c. search needs) returns)

@@ -7,12 +7,6 @@ use borrow.Author.Needs.{needs}
 use Rattle.vars.proofs.element_type.Statement.{statement}
 use Rattle.vars.proofs.element_type.Tie as tie
 
-sub-number-at : tie.Need-sub-number-at
-sub-number-at c = search needs
-
-number-at-requires : tie.Need-number-at-requires
-number-at-requires c κs = search needs
-
 sub-form-at : tie.Need-sub-form-at
 sub-form-at c = type-line (c .before .before .before .pre) (c .number-at .ensures .0) .first
 
@@ -33,4 +27,5 @@ returns-2 c = (element-some (c .before .before .before .before .before .before .
 
 pub element-type-spec : {M : Type 1} → statement M
 element-type-spec =
-    tie.close (tie.spec sub-number-at number-at-requires sub-form-at form-at-requires returns sub-number-at-2 number-at-requires-2 returns-2)
+    tie.close (tie.spec (λ c. search needs) (λ c κs. search needs) sub-form-at form-at-requires returns sub-number-at-2 number-at-requires-2
+    returns-2)

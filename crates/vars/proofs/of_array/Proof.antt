@@ -4,17 +4,8 @@ use borrow.Author.Needs.{needs}
 use Rattle.vars.proofs.of_array.Statement.{statement}
 use Rattle.vars.proofs.of_array.Tie as tie
 
-enum-known-x : tie.Need-enum-known-x
-enum-known-x c = search needs
-
-enum-known-x-2 : tie.Need-enum-known-x-2
-enum-known-x-2 c = search needs
-
 enum-told : tie.Need-enum-told
 enum-told c = search needs
-
-enum-known-x-3 : tie.Need-enum-known-x-3
-enum-known-x-3 c = search needs
 
 returns : tie.Need-returns
 returns c = array-alloc (c .before .x .given .1)
@@ -29,4 +20,5 @@ returns-4 : tie.Need-returns-4
 returns-4 c = array-refused (c .before .x3 .given .1)
 
 pub of-array-spec : {M : Type 1} → statement M
-of-array-spec = tie.close (tie.spec enum-known-x enum-known-x-2 enum-told enum-known-x-3 returns returns-2 returns-3 returns-4)
+of-array-spec =
+    tie.close (tie.spec (λ c. search needs) (λ c. search needs) enum-told (λ c. search needs) returns returns-2 returns-3 returns-4)

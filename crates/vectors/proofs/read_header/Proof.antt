@@ -21,12 +21,6 @@ returns c = tt
 step-requires : tie.Need-step-requires Inv-loop μ-loop
 step-requires c κs = tt
 
-sub-left : tie.Need-sub-left Inv-loop μ-loop
-sub-left c = omega arith
-
-loop-less : tie.Need-loop-less Inv-loop μ-loop
-loop-less c = omega arith
-
 loop-again : tie.Need-loop-again Inv-loop μ-loop
 loop-again c = tt
 
@@ -34,4 +28,6 @@ returns-2 : tie.Need-returns-2 Inv-loop μ-loop
 returns-2 c = tt
 
 pub read-header-spec : {M : Type 1} → statement M
-read-header-spec = tie.close (tie.spec Inv-loop μ-loop loop-holds next-byte-requires returns step-requires sub-left loop-less loop-again returns-2)
+read-header-spec =
+    tie.close (tie.spec Inv-loop μ-loop loop-holds next-byte-requires returns step-requires (λ c. omega arith) (λ c. omega arith) loop-again
+    returns-2)

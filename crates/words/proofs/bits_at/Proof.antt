@@ -26,23 +26,8 @@ loop-holds c = (omega arith, lit< tt, Laws.bits-start (now (c .before .args .wor
 mul-acc : tie.Need-mul-acc Inv-loop μ-loop
 mul-acc c = record { fits = let h = bytes-fit (c .before .loop .acc) (c .before .loop .k) 0 (c .before .loop .inv .1) (c .loop-test .taken) (omega arith) in omega arith }
 
-add-wide64 : tie.Need-add-wide64 Inv-loop μ-loop
-add-wide64 c = search needs
-
-shared-slice-read-wide64 : tie.Need-shared-slice-read-wide64 Inv-loop μ-loop
-shared-slice-read-wide64 c = search needs
-
-wide64-requires : tie.Need-wide64-requires Inv-loop μ-loop
-wide64-requires c κs = search needs
-
 add-acc : tie.Need-add-acc Inv-loop μ-loop
 add-acc c = record { fits = bytes-fit (c .before .before .before .loop .acc) (c .before .before .before .loop .k) (c .wide64 .result) (c .before .before .before .loop .inv .1) (c .before .before .loop-test .taken) (omega arith) }
-
-add-k : tie.Need-add-k Inv-loop μ-loop
-add-k c = search needs
-
-loop-less : tie.Need-loop-less Inv-loop μ-loop
-loop-less c = search needs
 
 loop-again : tie.Need-loop-again Inv-loop μ-loop
 loop-again c = (omega arith, bytes-grow (c .before .before .before .loop .acc) (c .before .before .before .loop .k) (c .wide64 .result) (c .before .before .before .loop .inv .1) (omega arith), c .before .before .before .loop .inv .2 ∙ Laws.bits-next (now (c .before .before .before .before .before .args .work)) (c .before .before .before .before .before .args .a) (c .before .before .before .loop .k) (c .before .before .before .loop .acc) (omega arith) (omega arith) ∙ rw (c .wide64 .ensures .0))
@@ -52,5 +37,5 @@ returns c = Laws.bits-end (now (c .before .before .before .args .work)) (c .befo
 
 pub bits-at-spec : {M : Type 1} → statement M
 bits-at-spec =
-    tie.close (tie.spec Inv-loop μ-loop loop-holds mul-acc add-wide64 shared-slice-read-wide64 wide64-requires add-acc add-k loop-less loop-again
-    returns)
+    tie.close (tie.spec Inv-loop μ-loop loop-holds mul-acc (λ c. search needs) (λ c. search needs) (λ c κs. search needs) add-acc (λ c. search needs)
+    (λ c. search needs) loop-again returns)

@@ -18,24 +18,6 @@ abbrev μ-loop : tie.MeasureT-loop
 loop-holds : tie.Need-loop-holds Inv-loop μ-loop
 loop-holds c = (omega arith, omega arith, refl)
 
-mul-h : tie.Need-mul-h Inv-loop μ-loop
-mul-h c = search needs
-
-shared-slice-read-wide : tie.Need-shared-slice-read-wide Inv-loop μ-loop
-shared-slice-read-wide c = search needs
-
-wide-requires : tie.Need-wide-requires Inv-loop μ-loop
-wide-requires c κs = search needs
-
-add-h : tie.Need-add-h Inv-loop μ-loop
-add-h c = search needs
-
-add-i : tie.Need-add-i Inv-loop μ-loop
-add-i c = search needs
-
-loop-less : tie.Need-loop-less Inv-loop μ-loop
-loop-less c = search needs
-
 loop-again : tie.Need-loop-again Inv-loop μ-loop
 loop-again c = (omega arith, omega arith, c .before .before .before .loop .inv .2 ∙ digest-next (now (c .before .before .before .before .before .args .s)) (c .before .before .before .loop .i) (c .before .before .before .loop .h) (omega arith) (c .wide .ensures .0))
 
@@ -43,4 +25,6 @@ returns : tie.Need-returns Inv-loop μ-loop
 returns c = (digest-end (now (c .before .before .before .args .s)) (c .before .loop .i) (c .before .loop .h) (omega arith) (c .before .loop .inv .2), c .before .loop .inv .1)
 
 pub digest-on-spec : {M : Type 1} → statement M
-digest-on-spec = tie.close (tie.spec Inv-loop μ-loop loop-holds mul-h shared-slice-read-wide wide-requires add-h add-i loop-less loop-again returns)
+digest-on-spec =
+    tie.close (tie.spec Inv-loop μ-loop loop-holds (λ c. search needs) (λ c. search needs) (λ c κs. search needs) (λ c. search needs)
+    (λ c. search needs) (λ c. search needs) loop-again returns)

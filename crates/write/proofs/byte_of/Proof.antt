@@ -6,15 +6,6 @@ use Rattle.write.proofs.Hex.{byte-at}
 use Rattle.write.proofs.byte_of.Statement.{statement}
 use Rattle.write.proofs.byte_of.Tie as tie
 
-mul-result : tie.Need-mul-result
-mul-result c = search needs
-
-sub-result : tie.Need-sub-result
-sub-result c = search needs
-
-shr-result : tie.Need-shr-result
-shr-result c = search needs
-
 cast-result : tie.Need-cast-result
 cast-result c = record { fits = mask-lt (c .args .n / 2 ^ (56 - 8 * c .args .k)) 8 }
 
@@ -22,4 +13,5 @@ returns : tie.Need-returns
 returns c = byte-at (c .args .n) (c .args .k) (c .pre)
 
 pub byte-of-spec : {M : Type 1} → statement M
-byte-of-spec = tie.close (tie.spec mul-result sub-result shr-result cast-result returns)
+byte-of-spec =
+    tie.close (tie.spec (λ c. search needs) (λ c. search needs) (λ c. search needs) cast-result returns)

@@ -4,17 +4,12 @@ use borrow.Author.Needs.{needs}
 use Rattle.write.proofs.hex_digit.Statement.{statement}
 use Rattle.write.proofs.hex_digit.Tie as tie
 
-add-result : tie.Need-add-result
-add-result c = search needs
-
 returns : tie.Need-returns
 returns c = simp (lt-ltb (c .before .args .d) 10 (c .if1 .taken))
-
-add-result-2 : tie.Need-add-result-2
-add-result-2 c = search needs
 
 returns-2 : tie.Need-returns-2
 returns-2 c = simp (le-ltb (c .before .args .d) 10 (c .if1 .left))
 
 pub hex-digit-spec : {M : Type 1} → statement M
-hex-digit-spec = tie.close (tie.spec add-result returns add-result-2 returns-2)
+hex-digit-spec =
+    tie.close (tie.spec (λ c. search needs) returns (λ c. search needs) returns-2)

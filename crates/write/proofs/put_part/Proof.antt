@@ -16,26 +16,11 @@ Inv-loop out₀ at part p₀ k₀ out p k = (k ≤ length part) × Wrote out₀ 
 abbrev μ-loop : tie.MeasureT-loop
 μ-loop out₀ at part p₀ k₀ out p k = length part - k
 
-add-result : tie.Need-add-result Inv-loop μ-loop
-add-result c = search needs
-
 returns : tie.Need-returns Inv-loop μ-loop
 returns c = wrote-past (now (c .before .before .before .args .out)) (c .before .before .before .args .at) _ (omega arith) (omega arith)
 
 loop-holds : tie.Need-loop-holds Inv-loop μ-loop
 loop-holds c = (search needs, wrote-none (now (c .before .before .before .args .out)) (c .before .before .before .args .at) (omega arith))
-
-shared-slice-read-put : tie.Need-shared-slice-read-put Inv-loop μ-loop
-shared-slice-read-put c = search needs
-
-put-requires : tie.Need-put-requires Inv-loop μ-loop
-put-requires c κs = search needs
-
-add-k : tie.Need-add-k Inv-loop μ-loop
-add-k c = search needs
-
-loop-less : tie.Need-loop-less Inv-loop μ-loop
-loop-less c = search needs
 
 loop-again : tie.Need-loop-again Inv-loop μ-loop
 loop-again c = (search needs, wrote-next _ _ (c .before .before .before .before .before .loop-test .taken) (c .before .before .before .before .before .before .loop .inv .1) (c .before .before .put .ensures))
@@ -48,5 +33,5 @@ returns-2 c = wrote-as (take-all (c .before .loop .k) _ (c .loop-test .left)) (c
 
 pub put-part-spec : {M : Type 1} → statement M
 put-part-spec =
-    tie.close (tie.spec Inv-loop μ-loop add-result returns loop-holds shared-slice-read-put put-requires add-k loop-less loop-again same-length
-    returns-2)
+    tie.close (tie.spec Inv-loop μ-loop (λ c. search needs) returns loop-holds (λ c. search needs) (λ c κs. search needs) (λ c. search needs)
+    (λ c. search needs) loop-again same-length returns-2)

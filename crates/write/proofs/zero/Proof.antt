@@ -14,15 +14,6 @@ Inv-loop out₀ i₀ out i = (i ≤ length out) × (length out ≡ length out₀
 abbrev μ-loop : tie.MeasureT-loop
 μ-loop out₀ i₀ out i = length out - i
 
-loop-holds : tie.Need-loop-holds Inv-loop μ-loop
-loop-holds c = search needs
-
-slice-write-out : tie.Need-slice-write-out Inv-loop μ-loop
-slice-write-out c = search needs
-
-add-i : tie.Need-add-i Inv-loop μ-loop
-add-i c = search needs
-
 loop-less : tie.Need-loop-less Inv-loop μ-loop
 loop-less c = simp length-set (omega arith)
 
@@ -31,13 +22,11 @@ loop-again c =
     let l = c .before .loop in
     (simp length-set (omega arith), length-set (l .out) (l .i) 0 ∙ l .inv .1, zeroed-more (l .out) (l .i) (c .loop-test .taken) (l .inv .2))
 
-same-length : tie.Need-same-length Inv-loop μ-loop
-same-length c = search needs
-
 returns : tie.Need-returns Inv-loop μ-loop
 returns c =
     let l = c .before .loop in
     zeroed-all (l .out) (l .i) _ (l .inv .2) (c .loop-test .left) (l .inv .0) (l .inv .1)
 
 pub zero-spec : {M : Type 1} → statement M
-zero-spec = tie.close (tie.spec Inv-loop μ-loop loop-holds slice-write-out add-i loop-less loop-again same-length returns)
+zero-spec =
+    tie.close (tie.spec Inv-loop μ-loop (λ c. search needs) (λ c. search needs) (λ c. search needs) loop-less loop-again (λ c. search needs) returns)

@@ -10,9 +10,6 @@ use Rattle.globals.specs.Table.{entryAt}
 use Rattle.globals.proofs.listing.global_row.Statement.{statement}
 use Rattle.globals.proofs.listing.global_row.Tie as tie
 
-line-of-requires : tie.Need-line-of-requires
-line-of-requires c κs = search needs
-
 sub-number-at : tie.Need-sub-number-at
 sub-number-at c =
     let a = c .before .before .before .before .args in
@@ -23,48 +20,15 @@ number-at-requires c κs =
     let a = c .before .before .before .before .args in
     (c .before .before .before .before .pre .0 .checked .whole, entry-in (now (a .sheet)) (now (a .work)) (a .n) (a .g) (a .i) (c .before .before .before .before .pre .0) (c .before .before .before .before .pre .1) _ (c .line-of .ensures) .1)
 
-slice-aggregate-put-part : tie.Need-slice-aggregate-put-part
-slice-aggregate-put-part c = search needs
-
-put-part-requires : tie.Need-put-part-requires
-put-part-requires c κs = search needs
-
-name-of-requires : tie.Need-name-of-requires
-name-of-requires c κs = search needs
-
-put-comma-part-requires : tie.Need-put-comma-part-requires
-put-comma-part-requires c κs = search needs
-
-offset-of-requires : tie.Need-offset-of-requires
-offset-of-requires c κs = search needs
-
-put-comma-nat-requires : tie.Need-put-comma-nat-requires
-put-comma-nat-requires c κs = search needs
-
 global-size-requires : tie.Need-global-size-requires
 global-size-requires c κs =
     let a = c .before .before .before .before .before .before .before .before .before .before .before .before .before .before .before .before .before .before .before .before .before .args in
     entry-type-line (now (a .sheet)) (now (a .work)) (a .n) (a .g) (a .i) (c .before .before .before .before .before .before .before .before .before .before .before .before .before .before .before .before .before .before .before .before .before .pre .0) (c .before .before .before .before .before .before .before .before .before .before .before .before .before .before .before .before .before .before .before .before .before .pre .1) _ (c .before .before .before .before .before .before .before .before .before .before .before .before .before .before .before .before .before .line-of .ensures) _ (c .before .before .before .before .before .before .before .before .before .before .before .before .before .before .before .before .number-at .ensures .0)
 
-cast-put-comma-nat : tie.Need-cast-put-comma-nat
-cast-put-comma-nat c = search needs
-
-put-comma-nat-requires-2 : tie.Need-put-comma-nat-requires-2
-put-comma-nat-requires-2 c κs = search needs
-
 is-pointer-requires : tie.Need-is-pointer-requires
 is-pointer-requires c κs =
     let a = c .before .before .before .before .before .before .before .before .before .before .before .before .before .before .before .before .before .before .before .before .before .before .before .before .before .before .args in
     entry-type-line (now (a .sheet)) (now (a .work)) (a .n) (a .g) (a .i) (c .before .before .before .before .before .before .before .before .before .before .before .before .before .before .before .before .before .before .before .before .before .before .before .before .before .before .pre .0) (c .before .before .before .before .before .before .before .before .before .before .before .before .before .before .before .before .before .before .before .before .before .before .before .before .before .before .pre .1) _ (c .before .before .before .before .before .before .before .before .before .before .before .before .before .before .before .before .before .before .before .before .before .before .line-of .ensures) _ (c .before .before .before .before .before .before .before .before .before .before .before .before .before .before .before .before .before .before .before .before .before .number-at .ensures .0)
-
-put-comma-flag-requires : tie.Need-put-comma-flag-requires
-put-comma-flag-requires c κs = search needs
-
-put-lf-requires : tie.Need-put-lf-requires
-put-lf-requires c κs = search needs
-
-same-length : tie.Need-same-length
-same-length c = search needs
 
 returns : tie.Need-returns
 returns c =
@@ -76,6 +40,6 @@ returns c =
 
 pub global-row-spec : {M : Type 1} → statement M
 global-row-spec =
-    tie.close (tie.spec line-of-requires sub-number-at number-at-requires slice-aggregate-put-part put-part-requires name-of-requires
-    put-comma-part-requires offset-of-requires put-comma-nat-requires global-size-requires cast-put-comma-nat put-comma-nat-requires-2
-    is-pointer-requires put-comma-flag-requires put-lf-requires same-length returns)
+    tie.close (tie.spec (λ c κs. search needs) sub-number-at number-at-requires (λ c. search needs) (λ c κs. search needs) (λ c κs. search needs)
+    (λ c κs. search needs) (λ c κs. search needs) (λ c κs. search needs) global-size-requires (λ c. search needs) (λ c κs. search needs)
+    is-pointer-requires (λ c κs. search needs) (λ c κs. search needs) (λ c. search needs) returns)

@@ -23,9 +23,6 @@ Inv-loop sheet work n g out₀ at p₀ i₀ out p i = (i ≤ g) × (length out �
 abbrev μ-loop : tie.MeasureT-loop
 μ-loop sheet work n g out₀ at p₀ i₀ out p i = g - i
 
-add-result : tie.Need-add-result Inv-loop μ-loop
-add-result c = search needs
-
 returns : tie.Need-returns Inv-loop μ-loop
 returns c =
     let a = c .before .before .before .before .args in
@@ -40,20 +37,11 @@ loop-holds c =
 global-row-requires : tie.Need-global-row-requires Inv-loop μ-loop
 global-row-requires c κs = (c .before .before .before .before .before .before .before .pre, c .before .loop-test .taken)
 
-add-i : tie.Need-add-i Inv-loop μ-loop
-add-i c = search needs
-
-loop-less : tie.Need-loop-less Inv-loop μ-loop
-loop-less c = search needs
-
 loop-again : tie.Need-loop-again Inv-loop μ-loop
 loop-again c =
     let a = c .before .before .before .before .before .before .before .before .before .before .args in
     let l = c .before .before .before .before .before .loop in
     (search needs, wrote-length (c .before .before .global-row .ensures) ∙ l .inv .1, rows-next (now (a .sheet)) (now (a .work)) (l .i) (l .inv .2) (c .before .before .global-row .ensures))
-
-same-length : tie.Need-same-length Inv-loop μ-loop
-same-length c = search needs
 
 returns-2 : tie.Need-returns-2 Inv-loop μ-loop
 returns-2 c =
@@ -64,4 +52,5 @@ returns-2 c =
 
 pub global-rows-spec : {M : Type 1} → statement M
 global-rows-spec =
-    tie.close (tie.spec Inv-loop μ-loop add-result returns loop-holds global-row-requires add-i loop-less loop-again same-length returns-2)
+    tie.close (tie.spec Inv-loop μ-loop (λ c. search needs) returns loop-holds global-row-requires (λ c. search needs) (λ c. search needs) loop-again
+    (λ c. search needs) returns-2)

@@ -11,15 +11,6 @@ use Rattle.layout.proofs.align.align_up.Tie as tie
 returns : tie.Need-returns
 returns c = (rw (c .if1 .taken) (sym (zero-align (c .before .args .off))), omega arith)
 
-sub-result : tie.Need-sub-result
-sub-result c = search needs
-
-add-result : tie.Need-add-result
-add-result c = search needs
-
-div-result : tie.Need-div-result
-div-result c = search needs
-
 mul-result : tie.Need-mul-result
 mul-result c = record { fits = lt-of-le-of-lt (div-mul-le-self _ _) (omega arith) }
 
@@ -27,4 +18,5 @@ returns-2 : tie.Need-returns-2
 returns-2 c = (refl, omega (arith, below-next (c .before .args .align) (c .before .args .off)))
 
 pub align-up-spec : {M : Type 1} → statement M
-align-up-spec = tie.close (tie.spec returns sub-result add-result div-result mul-result returns-2)
+align-up-spec =
+    tie.close (tie.spec returns (λ c. search needs) (λ c. search needs) (λ c. search needs) mul-result returns-2)

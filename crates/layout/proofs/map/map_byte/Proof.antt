@@ -19,12 +19,6 @@ loop-holds : tie.Need-loop-holds Inv-loop μ-loop
 unfolding mapBits
 loop-holds c = (omega arith, refl)
 
-cast-word-marked : tie.Need-cast-word-marked Inv-loop μ-loop
-cast-word-marked c = omega arith
-
-add-word-marked : tie.Need-add-word-marked Inv-loop μ-loop
-add-word-marked c = omega arith
-
 word-marked-requires : tie.Need-word-marked-requires Inv-loop μ-loop
 word-marked-requires c κs = tt
 
@@ -40,12 +34,6 @@ mul-byte c = omega (arith, roomy c)
 add-byte : tie.Need-add-byte Inv-loop μ-loop
 add-byte c = omega (arith, roomy c)
 
-add-k : tie.Need-add-k Inv-loop μ-loop
-add-k c = omega arith
-
-loop-less : tie.Need-loop-less Inv-loop μ-loop
-loop-less c = omega arith
-
 loop-again : tie.Need-loop-again Inv-loop μ-loop
 loop-again c = (omega arith, next-bit _ _ (c .before .before .loop .k) _ _ _ (c .before .before .loop .inv .1) (c .word-marked .ensures))
 
@@ -54,5 +42,5 @@ returns c = let e : c .before .loop .k ≡ 8 = omega arith in rw e at (c .before
 
 pub map-byte-spec : {M : Type 1} → statement M
 map-byte-spec =
-    tie.close (tie.spec Inv-loop μ-loop loop-holds cast-word-marked add-word-marked word-marked-requires cast-bit mul-byte add-byte add-k loop-less
-    loop-again returns)
+    tie.close (tie.spec Inv-loop μ-loop loop-holds (λ c. omega arith) (λ c. omega arith) word-marked-requires cast-bit mul-byte add-byte
+    (λ c. omega arith) (λ c. omega arith) loop-again returns)

@@ -7,14 +7,9 @@ use borrow.Author.Needs.{needs}
 use Rattle.layout.proofs.map.map_bytes.Statement.{statement}
 use Rattle.layout.proofs.map.map_bytes.Tie as tie
 
-add-result : tie.Need-add-result
-add-result c = search needs
-
-add-result-2 : tie.Need-add-result-2
-add-result-2 c = search needs
-
 returns : tie.Need-returns
 returns c = (λ offs. sym (map-length (c .args .size) offs), omega arith)
 
 pub map-bytes-spec : {M : Type 1} → statement M
-map-bytes-spec = tie.close (tie.spec add-result add-result-2 returns)
+map-bytes-spec =
+    tie.close (tie.spec (λ c. search needs) (λ c. search needs) returns)

@@ -21,29 +21,14 @@ map-bytes-requires c κs = tt
 loop-holds : tie.Need-loop-holds Inv-loop μ-loop
 loop-holds c = (omega arith, start _ _ _)
 
-mul-map-byte : tie.Need-mul-map-byte Inv-loop μ-loop
-mul-map-byte c = omega arith
-
-cast-map-byte : tie.Need-cast-map-byte Inv-loop μ-loop
-cast-map-byte c = omega arith
-
 map-byte-requires : tie.Need-map-byte-requires Inv-loop μ-loop
 map-byte-requires c κs = tt
 
 ones-of-requires : tie.Need-ones-of-requires Inv-loop μ-loop
 ones-of-requires c κs = tt
 
-add-count : tie.Need-add-count Inv-loop μ-loop
-add-count c = omega arith
-
 put-requires : tie.Need-put-requires Inv-loop μ-loop
 put-requires c κs = tt
-
-add-n : tie.Need-add-n Inv-loop μ-loop
-add-n c = omega arith
-
-loop-less : tie.Need-loop-less Inv-loop μ-loop
-loop-less c = omega arith
 
 loop-again : tie.Need-loop-again Inv-loop μ-loop
 loop-again c =
@@ -68,5 +53,5 @@ returns c =
 
 pub pointer-map-for-spec : {M : Type 1} → statement M
 pointer-map-for-spec =
-    tie.close (tie.spec Inv-loop μ-loop map-bytes-requires loop-holds mul-map-byte cast-map-byte map-byte-requires ones-of-requires add-count
-    put-requires add-n loop-less loop-again same-length returns)
+    tie.close (tie.spec Inv-loop μ-loop map-bytes-requires loop-holds (λ c. omega arith) (λ c. omega arith) map-byte-requires ones-of-requires
+    (λ c. omega arith) put-requires (λ c. omega arith) (λ c. omega arith) loop-again same-length returns)

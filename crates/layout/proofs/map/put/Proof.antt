@@ -6,17 +6,9 @@ use borrow.Author.Needs.{needs}
 use Rattle.layout.proofs.map.put.Statement.{statement}
 use Rattle.layout.proofs.map.put.Tie as tie
 
-slice-write-d : tie.Need-slice-write-d
-slice-write-d c = search needs
-
-same-length : tie.Need-same-length
-same-length c = search needs
-
-returns : tie.Need-returns
-returns c = search needs
-
 returns-2 : tie.Need-returns-2
 returns-2 c = sym (set-out _ _ _ (c .if1 .left))
 
 pub put-spec : {M : Type 1} → statement M
-put-spec = tie.close (tie.spec slice-write-d same-length returns returns-2)
+put-spec =
+    tie.close (tie.spec (λ c. search needs) (λ c. search needs) (λ c. search needs) returns-2)

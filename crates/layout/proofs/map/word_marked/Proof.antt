@@ -19,12 +19,6 @@ abbrev μ-loop : tie.MeasureT-loop
 loop-holds : tie.Need-loop-holds Inv-loop μ-loop
 loop-holds c = refl
 
-mul-off : tie.Need-mul-off Inv-loop μ-loop
-mul-off c = omega arith
-
-shared-slice-copy-out-off : tie.Need-shared-slice-copy-out-off Inv-loop μ-loop
-shared-slice-copy-out-off c = omega arith
-
 marks-word-requires : tie.Need-marks-word-requires Inv-loop μ-loop
 marks-word-requires c κs = tt
 
@@ -39,12 +33,6 @@ seen c =
 returns : tie.Need-returns Inv-loop μ-loop
 returns c = sym (rw (c .if1 .taken) at (seen (c .before)))
 
-add-i : tie.Need-add-i Inv-loop μ-loop
-add-i c = omega arith
-
-loop-less : tie.Need-loop-less Inv-loop μ-loop
-loop-less c = omega arith
-
 loop-again : tie.Need-loop-again Inv-loop μ-loop
 loop-again c = rw (c .if1 .left) at (seen (c .before))
 
@@ -53,4 +41,5 @@ returns-2 c = sym (c .before .loop .inv ∙ at-end _ _ (c .before .loop .i) _ (c
 
 pub word-marked-spec : {M : Type 1} → statement M
 word-marked-spec =
-    tie.close (tie.spec Inv-loop μ-loop loop-holds mul-off shared-slice-copy-out-off marks-word-requires returns add-i loop-less loop-again returns-2)
+    tie.close (tie.spec Inv-loop μ-loop loop-holds (λ c. omega arith) (λ c. omega arith) marks-word-requires returns (λ c. omega arith)
+    (λ c. omega arith) loop-again returns-2)

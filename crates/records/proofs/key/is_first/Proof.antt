@@ -28,9 +28,6 @@ same-key-requires c κs =
 returns : tie.Need-returns Inv-loop μ-loop
 returns c = seen-found (now (c .before .before .before .before .before .before .args .sheet)) (now (c .before .before .before .before .before .before .args .work)) (c .before .before .before .before .before .before .args .n) (c .before .before .before .before .before .before .args .m) (c .before .before .before .before .before .before .pre .0) (recordedAt (now (c .before .before .before .before .before .before .args .sheet)) (now (c .before .before .before .before .before .before .args .work)) (c .before .before .before .before .before .before .args .i) .key) (c .before .before .before .before .before .before .args .i) (c .before .before .before .loop .j) (c .before .before .before .before .before .before .pre .1) (c .before .before .loop-test .taken) (c .before .before .before .loop .inv .1) (c .before .same-key .ensures) (c .if1 .taken)
 
-add-j : tie.Need-add-j Inv-loop μ-loop
-add-j c = search needs
-
 loop-less : tie.Need-loop-less Inv-loop μ-loop
 loop-less c = omega (arith, c .before .before .loop-test .taken)
 
@@ -41,4 +38,5 @@ returns-2 : tie.Need-returns-2 Inv-loop μ-loop
 returns-2 c = seen-none (now (c .before .before .before .before .args .sheet)) (now (c .before .before .before .before .args .work)) (c .before .before .before .before .args .n) (c .before .before .before .before .args .m) (c .before .before .before .before .pre .0) (recordedAt (now (c .before .before .before .before .args .sheet)) (now (c .before .before .before .before .args .work)) (c .before .before .before .before .args .i) .key) (c .before .before .before .before .args .i) (c .before .loop .j) (c .before .before .before .before .pre .1) (c .loop-test .left) (c .before .loop .inv .1)
 
 pub is-first-spec : {M : Type 1} → statement M
-is-first-spec = tie.close (tie.spec Inv-loop μ-loop loop-holds same-key-requires returns add-j loop-less loop-again returns-2)
+is-first-spec =
+    tie.close (tie.spec Inv-loop μ-loop loop-holds same-key-requires returns (λ c. search needs) loop-less loop-again returns-2)

@@ -9,20 +9,8 @@ use borrow.Author.Needs.{needs}
 use Rattle.records.proofs.key.key_is.Statement.{statement}
 use Rattle.records.proofs.key.key_is.Tie as tie
 
-digest-of-requires : tie.Need-digest-of-requires
-digest-of-requires c κs = search needs
-
 returns : tie.Need-returns
 returns c = keys-apart (now (c .before .before .before .before .before .args .key)) (now (c .before .before .before .before .before .args .sheet)) (now (c .before .before .before .before .before .args .work)) (c .before .before .before .before .before .args .i) (c .before .before .before .before .before .pre .2) (c .before .before .before .before .before .pre .1) (λ e. c .if1 .taken (c .before .digest-of .ensures ∙ e))
-
-name-of-requires : tie.Need-name-of-requires
-name-of-requires c κs = search needs
-
-case-of-requires : tie.Need-case-of-requires
-case-of-requires c κs = search needs
-
-same-requires : tie.Need-same-requires
-same-requires c κs = search needs
 
 returns-2 : tie.Need-returns-2
 returns-2 c = c .same .ensures ∙ rw (c .before .before .before .name-of .ensures, plain-key (now (c .before .before .before .before .before .before .before .before .before .args .sheet)) (now (c .before .before .before .before .before .before .before .before .before .args .work)) (c .before .before .before .before .before .before .before .before .before .args .i) (sym (c .before .before .case-of .ensures .0) ∙ c .before .if2 .taken))
@@ -30,14 +18,10 @@ returns-2 c = c .same .ensures ∙ rw (c .before .before .before .name-of .ensur
 returns-3 : tie.Need-returns-3
 returns-3 c = rw (variant-key (now (c .before .before .before .before .before .before .before .before .before .args .sheet)) (now (c .before .before .before .before .before .before .before .before .before .args .work)) (c .before .before .before .before .before .before .before .before .before .args .i) (λ e. c .before .if2 .left (c .before .before .case-of .ensures .0 ∙ e))) (joined-short (now (c .before .before .before .before .before .before .before .before .before .args .key)) (nameOf (now (c .before .before .before .before .before .before .before .before .before .args .sheet)) (entryAt (now (c .before .before .before .before .before .before .before .before .before .args .work)) (c .before .before .before .before .before .before .before .before .before .args .i))) (tagOf (now (c .before .before .before .before .before .before .before .before .before .args .sheet)) (entryAt (now (c .before .before .before .before .before .before .before .before .before .args .work)) (c .before .before .before .before .before .before .before .before .before .args .i))) (omega (arith, c .if3 .taken, ap length (c .before .before .before .name-of .ensures))))
 
-tag-of-requires : tie.Need-tag-of-requires
-tag-of-requires c κs = search needs
-
-is-joined-requires : tie.Need-is-joined-requires
-is-joined-requires c κs = search needs
-
 returns-4 : tie.Need-returns-4
 returns-4 c = c .is-joined .ensures ∙ rw (c .before .before .before .before .before .name-of .ensures, c .before .tag-of .ensures, variant-key (now (c .before .before .before .before .before .before .before .before .before .before .before .args .sheet)) (now (c .before .before .before .before .before .before .before .before .before .before .before .args .work)) (c .before .before .before .before .before .before .before .before .before .before .before .args .i) (λ e. c .before .before .before .if2 .left (c .before .before .before .before .case-of .ensures .0 ∙ e)))
 
 pub key-is-spec : {M : Type 1} → statement M
-key-is-spec = tie.close (tie.spec digest-of-requires returns name-of-requires case-of-requires same-requires returns-2 returns-3 tag-of-requires is-joined-requires returns-4)
+key-is-spec =
+    tie.close (tie.spec (λ c κs. search needs) returns (λ c κs. search needs) (λ c κs. search needs) (λ c κs. search needs) returns-2 returns-3
+    (λ c κs. search needs) (λ c κs. search needs) returns-4)

@@ -13,14 +13,8 @@ Inv-loop sheet work n m key d i₀ i = (i ≤ m) × (Deciding sheet key i)
 abbrev μ-loop : tie.MeasureT-loop
 μ-loop sheet work n m key d i₀ i = i
 
-digest-requires : tie.Need-digest-requires Inv-loop μ-loop
-digest-requires c κs = search needs
-
 loop-holds : tie.Need-loop-holds Inv-loop μ-loop
 loop-holds c = (omega arith, deciding-start (now (c .before .before .before .before .args .sheet)) (now (c .before .before .before .before .args .work)) (c .before .before .before .before .args .n) (c .before .before .before .before .args .m) (c .before .before .before .before .pre) (now (c .before .before .before .before .args .key)))
-
-sub-i : tie.Need-sub-i Inv-loop μ-loop
-sub-i c = search needs
 
 key-is-requires : tie.Need-key-is-requires Inv-loop μ-loop
 key-is-requires c κs =
@@ -52,4 +46,6 @@ returns-2 c =
     newest-none (now (c .before .before .before .before .before .before .args .sheet)) (now (c .before .before .before .before .before .before .args .work)) (c .before .before .before .before .before .before .args .n) (c .before .before .before .before .before .before .args .m) (c .before .before .before .before .before .before .pre) (now (c .before .before .before .before .before .before .args .key)) (rw z at (c .before .loop .inv .1))
 
 pub newest-spec : {M : Type 1} → statement M
-newest-spec = tie.close (tie.spec Inv-loop μ-loop digest-requires loop-holds sub-i key-is-requires add-result returns loop-less loop-again returns-2)
+newest-spec =
+    tie.close (tie.spec Inv-loop μ-loop (λ c κs. search needs) loop-holds (λ c. search needs) key-is-requires add-result returns loop-less loop-again
+    returns-2)

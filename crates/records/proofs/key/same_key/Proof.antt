@@ -9,32 +9,11 @@ use borrow.Author.Needs.{needs}
 use Rattle.records.proofs.key.same_key.Statement.{statement}
 use Rattle.records.proofs.key.same_key.Tie as tie
 
-digest-of-requires : tie.Need-digest-of-requires
-digest-of-requires c κs = search needs
-
-digest-of-requires-2 : tie.Need-digest-of-requires-2
-digest-of-requires-2 c κs = search needs
-
 returns : tie.Need-returns
 returns c = keys-apart (recordedAt (now (c .before .before .before .before .before .args .sheet)) (now (c .before .before .before .before .before .args .work)) (c .before .before .before .before .before .args .i) .key) (now (c .before .before .before .before .before .args .sheet)) (now (c .before .before .before .before .before .args .work)) (c .before .before .before .before .before .args .j) (c .before .digest-of2 .ensures ∙ c .before .before .before .before .before .pre .2) (c .before .before .before .before .before .pre .3) (λ e. c .if1 .taken (c .before .before .digest-of .ensures ∙ e))
 
-name-of-requires : tie.Need-name-of-requires
-name-of-requires c κs = search needs
-
-name-of-requires-2 : tie.Need-name-of-requires-2
-name-of-requires-2 c κs = search needs
-
-same-requires : tie.Need-same-requires
-same-requires c κs = search needs
-
 returns-2 : tie.Need-returns-2
 returns-2 c = keys-unnamed (now (c .before .before .before .before .before .before .before .before .before .args .sheet)) (now (c .before .before .before .before .before .before .before .before .before .args .work)) (c .before .before .before .before .before .before .before .before .before .args .n) (c .before .before .before .before .before .before .before .before .before .args .i) (c .before .before .before .before .before .before .before .before .before .args .j) (c .before .before .before .before .before .before .before .before .before .pre .0) (c .before .before .before .before .before .before .before .before .before .pre .1) (c .before .same .ensures ∙ rw (c .before .before .before .name-of .ensures, c .before .before .name-of2 .ensures)) (not-true _ (c .if2 .taken))
-
-case-of-requires : tie.Need-case-of-requires
-case-of-requires c κs = search needs
-
-case-of-requires-2 : tie.Need-case-of-requires-2
-case-of-requires-2 c κs = search needs
 
 returns-3 : tie.Need-returns-3
 returns-3 c = ap (λ d. eqb d 0) (c .before .before .case-of .ensures .0) ∙ keys-own (now (c .before .before .before .before .before .before .before .before .before .before .before .before .args .sheet)) (now (c .before .before .before .before .before .before .before .before .before .before .before .before .args .work)) (c .before .before .before .before .before .before .before .before .before .before .before .before .args .n) (c .before .before .before .before .before .before .before .before .before .before .before .before .args .i) (c .before .before .before .before .before .before .before .before .before .before .before .before .args .j) (c .before .before .before .before .before .before .before .before .before .before .before .before .pre .0) (c .before .before .before .before .before .before .before .before .before .before .before .before .pre .1) (c .before .before .before .before .same .ensures ∙ rw (c .before .before .before .before .before .before .name-of .ensures, c .before .before .before .before .before .name-of2 .ensures)) (not-false _ (c .before .before .before .if2 .left)) (sym (c .before .case-of2 .ensures .0) ∙ c .if3 .taken)
@@ -42,19 +21,11 @@ returns-3 c = ap (λ d. eqb d 0) (c .before .before .case-of .ensures .0) ∙ ke
 returns-4 : tie.Need-returns-4
 returns-4 c = keys-plain (now (c .before .before .before .before .before .before .before .before .before .before .before .before .before .args .sheet)) (now (c .before .before .before .before .before .before .before .before .before .before .before .before .before .args .work)) (c .before .before .before .before .before .before .before .before .before .before .before .before .before .args .n) (c .before .before .before .before .before .before .before .before .before .before .before .before .before .args .i) (c .before .before .before .before .before .before .before .before .before .before .before .before .before .args .j) (c .before .before .before .before .before .before .before .before .before .before .before .before .before .pre .0) (c .before .before .before .before .before .before .before .before .before .before .before .before .before .pre .1) (c .before .before .before .before .before .same .ensures ∙ rw (c .before .before .before .before .before .before .before .name-of .ensures, c .before .before .before .before .before .before .name-of2 .ensures)) (not-false _ (c .before .before .before .before .if2 .left)) (λ e. c .before .if3 .left (c .before .before .case-of2 .ensures .0 ∙ e)) (sym (c .before .before .before .case-of .ensures .0) ∙ c .if4 .taken)
 
-tag-of-requires : tie.Need-tag-of-requires
-tag-of-requires c κs = search needs
-
-tag-of-requires-2 : tie.Need-tag-of-requires-2
-tag-of-requires-2 c κs = search needs
-
-same-requires-2 : tie.Need-same-requires-2
-same-requires-2 c κs = search needs
-
 returns-5 : tie.Need-returns-5
 returns-5 c = keys-tags (now (c .before .before .before .before .before .before .before .before .before .before .before .before .before .before .before .before .args .sheet)) (now (c .before .before .before .before .before .before .before .before .before .before .before .before .before .before .before .before .args .work)) (c .before .before .before .before .before .before .before .before .before .before .before .before .before .before .before .before .args .n) (c .before .before .before .before .before .before .before .before .before .before .before .before .before .before .before .before .args .i) (c .before .before .before .before .before .before .before .before .before .before .before .before .before .before .before .before .args .j) (c .before .before .before .before .before .before .before .before .before .before .before .before .before .before .before .before .pre .0) (c .before .before .before .before .before .before .before .before .before .before .before .before .before .before .before .before .pre .1) (c .before .before .before .before .before .before .before .before .same .ensures ∙ rw (c .before .before .before .before .before .before .before .before .before .before .name-of .ensures, c .before .before .before .before .before .before .before .before .before .name-of2 .ensures)) (not-false _ (c .before .before .before .before .before .before .before .if2 .left)) (λ e. c .before .before .before .before .if3 .left (c .before .before .before .before .before .case-of2 .ensures .0 ∙ e)) (λ e. c .before .before .before .if4 .left (c .before .before .before .before .before .before .case-of .ensures .0 ∙ e)) (c .same2 .ensures ∙ rw (c .before .before .tag-of .ensures, c .before .tag-of2 .ensures))
 
 pub same-key-spec : {M : Type 1} → statement M
 same-key-spec =
-    tie.close (tie.spec digest-of-requires digest-of-requires-2 returns name-of-requires name-of-requires-2 same-requires returns-2 case-of-requires
-    case-of-requires-2 returns-3 returns-4 tag-of-requires tag-of-requires-2 same-requires-2 returns-5)
+    tie.close (tie.spec (λ c κs. search needs) (λ c κs. search needs) returns (λ c κs. search needs) (λ c κs. search needs) (λ c κs. search needs)
+    returns-2 (λ c κs. search needs) (λ c κs. search needs) returns-3 returns-4 (λ c κs. search needs) (λ c κs. search needs) (λ c κs. search needs)
+    returns-5)

@@ -5,20 +5,8 @@ use borrow.Author.Needs.{needs}
 use Rattle.records.proofs.key.tag_of.Statement.{statement}
 use Rattle.records.proofs.key.tag_of.Tie as tie
 
-line-of-requires : tie.Need-line-of-requires
-line-of-requires c κs = search needs
-
-case-of-requires : tie.Need-case-of-requires
-case-of-requires c κs = search needs
-
-sub-case-line : tie.Need-sub-case-line
-sub-case-line c = search needs
-
 case-line-requires : tie.Need-case-line-requires
 case-line-requires c κs = rw (c .before .line-of .ensures, c .case-of .ensures .0) (entry-variant (now (c .before .before .before .before .args .sheet)) (now (c .before .before .before .before .args .work)) (c .before .before .before .before .args .n) (c .before .before .before .before .args .i) (c .before .before .before .before .pre .0) (c .before .before .before .before .pre .1))
-
-position-of-requires : tie.Need-position-of-requires
-position-of-requires c κs = search needs
 
 tag-at-requires : tie.Need-tag-at-requires
 tag-at-requires c κs =
@@ -31,4 +19,6 @@ returns c =
     c .tag-at .ensures ∙ rw (c .before .position-of .ensures) (tag-read (now (c .before .before .before .before .before .before .before .args .sheet)) (now (c .before .before .before .before .before .before .before .args .work)) (c .before .before .before .before .before .before .before .args .n) (c .before .before .before .before .before .before .before .args .i) (c .before .before .before .before .before .before .before .pre .0) (c .before .before .before .before .before .before .before .pre .1) (c .before .before .case-line .result) x)
 
 pub tag-of-spec : {M : Type 1} → statement M
-tag-of-spec = tie.close (tie.spec line-of-requires case-of-requires sub-case-line case-line-requires position-of-requires tag-at-requires returns)
+tag-of-spec =
+    tie.close (tie.spec (λ c κs. search needs) (λ c κs. search needs) (λ c. search needs) case-line-requires (λ c κs. search needs) tag-at-requires
+    returns)

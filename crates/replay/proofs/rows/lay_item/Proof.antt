@@ -12,27 +12,6 @@ returns c =
     let h = c .before .before .before .before .before .pre in
     lays-none (now (a .image)) (now (a .area)) (h) (item-none (now (a .work)) (a .k) (now (a .row)) (now (a .image)) (now (a .area)) (a .s) (c .if1 .taken))
 
-field-requires : tie.Need-field-requires
-field-requires c κs = search needs
-
-number-requires : tie.Need-number-requires
-number-requires c κs = search needs
-
-skip-requires : tie.Need-skip-requires
-skip-requires c κs = search needs
-
-width-of-requires : tie.Need-width-of-requires
-width-of-requires c κs = search needs
-
-lay-values-requires : tie.Need-lay-values-requires
-lay-values-requires c κs = search needs
-
-same-length : tie.Need-same-length
-same-length c = search needs
-
-same-length-2 : tie.Need-same-length-2
-same-length-2 c = search needs
-
 returns-2 : tie.Need-returns-2
 returns-2 c =
     let a = c .before .before .before .before .before .before .before .before .before .before .before .before .before .before .before .before .before .args in
@@ -47,15 +26,6 @@ returns-2 c =
     let lay-values = c .before .before .before .before .lay-values in
     lays-as (item-values (now (a .work)) (a .k) (now (a .row)) (now (a .image)) (now (a .area)) (a .s) (if1 .left) (omega (arith, good .1 .1 .1 .1)) (omega (arith, good .1 .1 .1 .1)) (h) (number .ensures .0) (f .ensures) (if2 .taken) (skip .ensures) (width-of .ensures .0)) (lay-values .ensures)
 
-lay-handle-requires : tie.Need-lay-handle-requires
-lay-handle-requires c κs = search needs
-
-same-length-3 : tie.Need-same-length-3
-same-length-3 c = search needs
-
-same-length-4 : tie.Need-same-length-4
-same-length-4 c = search needs
-
 returns-3 : tie.Need-returns-3
 returns-3 c =
     let a = c .before .before .before .before .before .before .before .before .before .before .before .before .before .before .before .before .args in
@@ -68,30 +38,6 @@ returns-3 c =
     let if3 = c .before .before .before .before .before .before .before .if3 in
     let lay-handle = c .before .before .before .before .lay-handle in
     lays-as (item-string (now (a .work)) (a .k) (now (a .row)) (now (a .image)) (now (a .area)) (a .s) (if1 .left) (omega (arith, good .1 .1 .1 .1)) (omega (arith, good .1 .1 .1 .1)) (h) (number .ensures .0) (f .ensures) (if2 .left) (if3 .taken)) (lay-handle .ensures)
-
-field-requires-2 : tie.Need-field-requires-2
-field-requires-2 c κs = search needs
-
-number-requires-2 : tie.Need-number-requires-2
-number-requires-2 c κs = search needs
-
-field-requires-3 : tie.Need-field-requires-3
-field-requires-3 c κs = search needs
-
-number-requires-3 : tie.Need-number-requires-3
-number-requires-3 c κs = search needs
-
-size-of-requires : tie.Need-size-of-requires
-size-of-requires c κs = search needs
-
-lay-array-requires : tie.Need-lay-array-requires
-lay-array-requires c κs = search needs
-
-same-length-5 : tie.Need-same-length-5
-same-length-5 c = search needs
-
-same-length-6 : tie.Need-same-length-6
-same-length-6 c = search needs
 
 returns-4 : tie.Need-returns-4
 returns-4 c =
@@ -111,15 +57,6 @@ returns-4 c =
     let size-of = c .before .before .before .size-of in
     lays-as (item-array (now (a .work)) (a .k) (now (a .row)) (now (a .image)) (now (a .area)) (a .s) (if1 .left) (omega (arith, good .1 .1 .1 .1)) (omega (arith, good .1 .1 .1 .1)) (h) (number .ensures .0) (f .ensures) (if2 .left) (if3 .left) (if4 .taken) (number2 .ensures .0) (field2 .ensures) (number3 .ensures .0) (field3 .ensures) (size-of .ensures)) (c .before .before .lay-array .ensures)
 
-moved-requires : tie.Need-moved-requires
-moved-requires c κs = search needs
-
-same-length-7 : tie.Need-same-length-7
-same-length-7 c = search needs
-
-same-length-8 : tie.Need-same-length-8
-same-length-8 c = search needs
-
 returns-5 : tie.Need-returns-5
 returns-5 c =
     let a = c .before .before .before .before .before .before .before .before .before .before .before .before .before .args in
@@ -135,6 +72,7 @@ returns-5 c =
 
 pub lay-item-spec : {M : Type 1} → statement M
 lay-item-spec =
-    tie.close (tie.spec returns field-requires number-requires skip-requires width-of-requires lay-values-requires same-length same-length-2 returns-2
-    lay-handle-requires same-length-3 same-length-4 returns-3 field-requires-2 number-requires-2 field-requires-3 number-requires-3 size-of-requires
-    lay-array-requires same-length-5 same-length-6 returns-4 moved-requires same-length-7 same-length-8 returns-5)
+    tie.close (tie.spec returns (λ c κs. search needs) (λ c κs. search needs) (λ c κs. search needs) (λ c κs. search needs) (λ c κs. search needs)
+    (λ c. search needs) (λ c. search needs) returns-2 (λ c κs. search needs) (λ c. search needs) (λ c. search needs) returns-3 (λ c κs. search needs)
+    (λ c κs. search needs) (λ c κs. search needs) (λ c κs. search needs) (λ c κs. search needs) (λ c κs. search needs) (λ c. search needs)
+    (λ c. search needs) returns-4 (λ c κs. search needs) (λ c. search needs) (λ c. search needs) returns-5)

@@ -20,20 +20,11 @@ Inv-loop listing work image₀ area₀ end s₀ at₀ image area s at = (s .star
 abbrev μ-loop : tie.MeasureT-loop
 μ-loop listing work image₀ area₀ end s₀ at₀ image area s at = length listing - at
 
-first-requires : tie.Need-first-requires Inv-loop μ-loop
-first-requires c κs = search needs
-
 loop-holds : tie.Need-loop-holds Inv-loop μ-loop
 loop-holds c =
     let a = c .before .before .before .before .before .args in
     let f = c .first in
     (omega (arith, f .ensures .start, f .ensures .part), omega (arith, f .ensures .part), omega (arith, f .ensures .item), refl, refl, ap (λ (m : Option Laying). laidText (sizeAt (now (a .work))) (now (a .listing)) m) (sym (f .ensures .is (now (a .image)) (now (a .area)) refl)))
-
-same-length : tie.Need-same-length Inv-loop μ-loop
-same-length c = search needs
-
-same-length-2 : tie.Need-same-length-2 Inv-loop μ-loop
-same-length-2 c = search needs
 
 returns : tie.Need-returns Inv-loop μ-loop
 returns c =
@@ -41,30 +32,12 @@ returns c =
     let l = c .before .before .loop in
     sym (l .inv .5 ∙ text-full (sizeAt (now (a .work))) (now (a .listing)) (l .at) (l .s) (l .image) (l .area) (c .if1 .taken))
 
-find-requires : tie.Need-find-requires Inv-loop μ-loop
-find-requires c κs = search needs
-
-sub-step : tie.Need-sub-step Inv-loop μ-loop
-sub-step c = search needs
-
-part-step-start : tie.Need-part-step-start Inv-loop μ-loop
-part-step-start c = search needs
-
-part-step-end : tie.Need-part-step-end Inv-loop μ-loop
-part-step-end c = search needs
-
 step-requires : tie.Need-step-requires Inv-loop μ-loop
 step-requires c κs =
     let good = c .before .before .before .before .before .before .before .before .before .before .before .before .good in
     let l = c .before .before .before .before .before .before .loop in
     let if1 = c .before .before .before .before .if1 in
     record { fitted = if1 .left; low = l .inv .0; high = l .inv .1; item = omega (arith, l .inv .2, good) }
-
-add-at : tie.Need-add-at Inv-loop μ-loop
-add-at c = search needs
-
-loop-less : tie.Need-loop-less Inv-loop μ-loop
-loop-less c = search needs
 
 loop-again : tie.Need-loop-again Inv-loop μ-loop
 loop-again c =
@@ -76,12 +49,6 @@ loop-again c =
     let st = c .before .before .before .before .step in
     (st .ensures .low, st .ensures .high, omega (arith, st .ensures .item, l .inv .2, e .ensures .1), st .kept .1 .1 .1 .0 ∙ l .inv .3, st .kept .1 .1 .1 .1 .0 ∙ l .inv .4, l .inv .5 ∙ text-turn (sizeAt (now (a .work))) (now (a .listing)) (l .at) (e .result) (l .s) (l .image) (l .area) (t .taken) (e .ensures .0) (if1 .left) (st .ensures))
 
-same-length-3 : tie.Need-same-length-3 Inv-loop μ-loop
-same-length-3 c = search needs
-
-same-length-4 : tie.Need-same-length-4 Inv-loop μ-loop
-same-length-4 c = search needs
-
 returns-2 : tie.Need-returns-2 Inv-loop μ-loop
 returns-2 c =
     let a = c .before .before .before .before .before .before .before .args in
@@ -90,5 +57,6 @@ returns-2 c =
 
 pub lay-rows-spec : {M : Type 1} → statement M
 lay-rows-spec =
-    tie.close (tie.spec Inv-loop μ-loop first-requires loop-holds same-length same-length-2 returns find-requires sub-step part-step-start
-    part-step-end step-requires add-at loop-less loop-again same-length-3 same-length-4 returns-2)
+    tie.close (tie.spec Inv-loop μ-loop (λ c κs. search needs) loop-holds (λ c. search needs) (λ c. search needs) returns (λ c κs. search needs)
+    (λ c. search needs) (λ c. search needs) (λ c. search needs) step-requires (λ c. search needs) (λ c. search needs) loop-again (λ c. search needs)
+    (λ c. search needs) returns-2)

@@ -7,39 +7,6 @@ use borrow.Author.Needs.{needs}
 use Rattle.replay.proofs.rows.note_size.Statement.{statement}
 use Rattle.replay.proofs.rows.note_size.Tie as tie
 
-field-requires : tie.Need-field-requires
-field-requires c κs = search needs
-
-slice-aggregate-same : tie.Need-slice-aggregate-same
-slice-aggregate-same c = search needs
-
-same-requires : tie.Need-same-requires
-same-requires c κs = search needs
-
-field-requires-2 : tie.Need-field-requires-2
-field-requires-2 c κs = search needs
-
-number-requires : tie.Need-number-requires
-number-requires c κs = search needs
-
-add-i : tie.Need-add-i
-add-i c = search needs
-
-field-requires-3 : tie.Need-field-requires-3
-field-requires-3 c κs = search needs
-
-number-requires-2 : tie.Need-number-requires-2
-number-requires-2 c κs = search needs
-
-small-requires : tie.Need-small-requires
-small-requires c κs = search needs
-
-slice-write-work : tie.Need-slice-write-work
-slice-write-work c = search needs
-
-same-length : tie.Need-same-length
-same-length c = search needs
-
 returns : tie.Need-returns
 returns c =
     let a = c .before .before .before .before .before .before .before .before .before .before .before .before .args in
@@ -68,5 +35,6 @@ returns-3 c =
 
 pub note-size-spec : {M : Type 1} → statement M
 note-size-spec =
-    tie.close (tie.spec field-requires slice-aggregate-same same-requires field-requires-2 number-requires add-i field-requires-3 number-requires-2
-    small-requires slice-write-work same-length returns returns-2 returns-3)
+    tie.close (tie.spec (λ c κs. search needs) (λ c. search needs) (λ c κs. search needs) (λ c κs. search needs) (λ c κs. search needs)
+    (λ c. search needs) (λ c κs. search needs) (λ c κs. search needs) (λ c κs. search needs) (λ c. search needs) (λ c. search needs) returns returns-2
+    returns-3)

@@ -10,14 +10,8 @@ use Rattle.replay.proofs.rows.size_of.Tie as tie
 returns : tie.Need-returns
 returns c = no-size (now (c .before .args .work)) (c .before .args .id) (c .if1 .taken)
 
-add-i : tie.Need-add-i
-add-i c = search needs
-
 returns-2 : tie.Need-returns-2
 returns-2 c = short-table (now (c .before .before .args .work)) (c .before .before .args .id) (c .if2 .taken)
-
-shared-slice-read-result : tie.Need-shared-slice-read-result
-shared-slice-read-result c = search needs
 
 cast-result : tie.Need-cast-result
 cast-result c = omega (arith, c .shared-slice-known .given (5120 + c .before .before .before .args .id))
@@ -26,4 +20,5 @@ returns-3 : tie.Need-returns-3
 returns-3 c = a-size (now (c .before .before .before .args .work)) (c .before .before .before .args .id) (omega arith)
 
 pub size-of-spec : {M : Type 1} → statement M
-size-of-spec = tie.close (tie.spec returns add-i returns-2 shared-slice-read-result cast-result returns-3)
+size-of-spec =
+    tie.close (tie.spec returns (λ c. search needs) returns-2 (λ c. search needs) cast-result returns-3)

@@ -7,30 +7,6 @@ use borrow.Author.Needs.{needs}
 use Rattle.replay.proofs.rows.step.Statement.{statement}
 use Rattle.replay.proofs.rows.step.Tie as tie
 
-field-requires : tie.Need-field-requires
-field-requires c κs = search needs
-
-slice-aggregate-same : tie.Need-slice-aggregate-same
-slice-aggregate-same c = search needs
-
-same-requires : tie.Need-same-requires
-same-requires c κs = search needs
-
-field-requires-2 : tie.Need-field-requires-2
-field-requires-2 c κs = search needs
-
-keyword-requires : tie.Need-keyword-requires
-keyword-requires c κs = search needs
-
-lay-item-requires : tie.Need-lay-item-requires
-lay-item-requires c κs = search needs
-
-same-length : tie.Need-same-length
-same-length c = search needs
-
-same-length-2 : tie.Need-same-length-2
-same-length-2 c = search needs
-
 returns : tie.Need-returns
 returns c =
     let a = c .before .before .before .before .before .before .before .before .before .before .before .before .before .before .before .before .before .args in
@@ -51,5 +27,5 @@ returns-2 c =
 
 pub step-spec : {M : Type 1} → statement M
 step-spec =
-    tie.close (tie.spec field-requires slice-aggregate-same same-requires field-requires-2 keyword-requires lay-item-requires same-length
-    same-length-2 returns returns-2)
+    tie.close (tie.spec (λ c κs. search needs) (λ c. search needs) (λ c κs. search needs) (λ c κs. search needs) (λ c κs. search needs)
+    (λ c κs. search needs) (λ c. search needs) (λ c. search needs) returns returns-2)

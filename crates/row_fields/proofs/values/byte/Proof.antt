@@ -6,12 +6,6 @@ use borrow.Author.Needs.{needs}
 use Rattle.row_fields.proofs.values.byte.Statement.{statement}
 use Rattle.row_fields.proofs.values.byte.Tie as tie
 
-mul-result : tie.Need-mul-result
-mul-result c = search needs
-
-shr-result : tie.Need-shr-result
-shr-result c = search needs
-
 cast-result : tie.Need-cast-result
 cast-result c = record { fits = mask-lt (c .args .n / 2 ^ (8 * c .args .j)) 8 }
 
@@ -19,4 +13,5 @@ returns : tie.Need-returns
 returns c = byte-low (c .args .n) (c .args .j)
 
 pub byte-spec : {M : Type 1} → statement M
-byte-spec = tie.close (tie.spec mul-result shr-result cast-result returns)
+byte-spec =
+    tie.close (tie.spec (λ c. search needs) (λ c. search needs) cast-result returns)

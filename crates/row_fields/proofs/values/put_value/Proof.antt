@@ -17,29 +17,11 @@ Inv-loop out₀ at w n p₀ j₀ out p j = (j ≤ w) × (length out ≡ length o
 abbrev μ-loop : tie.MeasureT-loop
 μ-loop out₀ at w n p₀ j₀ out p j = j
 
-add-result : tie.Need-add-result Inv-loop μ-loop
-add-result c = search needs
-
 returns : tie.Need-returns Inv-loop μ-loop
 returns c = wrote-past (now (c .before .before .args .out)) (c .before .before .args .at) _ (omega arith) (omega arith)
 
 loop-holds : tie.Need-loop-holds Inv-loop μ-loop
 loop-holds c = (search needs, refl, omega arith, left-all (now (c .before .before .args .out)) (c .before .before .args .at) _)
-
-sub-byte : tie.Need-sub-byte Inv-loop μ-loop
-sub-byte c = search needs
-
-byte-requires : tie.Need-byte-requires Inv-loop μ-loop
-byte-requires c κs = search needs
-
-put-requires : tie.Need-put-requires Inv-loop μ-loop
-put-requires c κs = search needs
-
-sub-j : tie.Need-sub-j Inv-loop μ-loop
-sub-j c = search needs
-
-loop-less : tie.Need-loop-less Inv-loop μ-loop
-loop-less c = search needs
 
 loop-again : tie.Need-loop-again Inv-loop μ-loop
 loop-again c =
@@ -49,9 +31,6 @@ loop-again c =
     let w = c .before .before .put in
     (search needs, w .kept .0 ∙ l .inv .1, omega (arith, w .ensures .place, w .kept .0), left-next (big-next (l .j) (a .n) (omega arith) (b .ensures)) (l .inv .3) (w .ensures))
 
-same-length : tie.Need-same-length Inv-loop μ-loop
-same-length c = search needs
-
 returns-2 : tie.Need-returns-2 Inv-loop μ-loop
 returns-2 c =
     let a = c .before .before .before .before .args in
@@ -60,5 +39,5 @@ returns-2 c =
 
 pub put-value-spec : {M : Type 1} → statement M
 put-value-spec =
-    tie.close (tie.spec Inv-loop μ-loop add-result returns loop-holds sub-byte byte-requires put-requires sub-j loop-less loop-again same-length
-    returns-2)
+    tie.close (tie.spec Inv-loop μ-loop (λ c. search needs) returns loop-holds (λ c. search needs) (λ c κs. search needs) (λ c κs. search needs)
+    (λ c. search needs) (λ c. search needs) loop-again (λ c. search needs) returns-2)

@@ -18,38 +18,11 @@ Inv-loop out₀ at row from w reals p₀ i₀ out p i = (length out ≡ length o
 abbrev μ-loop : tie.MeasureT-loop
 μ-loop out₀ at row from w reals p₀ i₀ out p i = length row + 1 - i
 
-add-result : tie.Need-add-result Inv-loop μ-loop
-add-result c = search needs
-
 returns : tie.Need-returns Inv-loop μ-loop
 returns c = wrote-past (now (c .before .before .before .args .out)) (c .before .before .before .args .at) _ (omega arith) (omega arith)
 
 loop-holds : tie.Need-loop-holds Inv-loop μ-loop
 loop-holds c = (refl, omega arith, left-all (now (c .before .before .before .args .out)) (c .before .before .before .args .at) _)
-
-find-requires : tie.Need-find-requires Inv-loop μ-loop
-find-requires c κs = search needs
-
-sub-value : tie.Need-sub-value Inv-loop μ-loop
-sub-value c = search needs
-
-part-value-start : tie.Need-part-value-start Inv-loop μ-loop
-part-value-start c = search needs
-
-part-value-end : tie.Need-part-value-end Inv-loop μ-loop
-part-value-end c = search needs
-
-value-requires : tie.Need-value-requires Inv-loop μ-loop
-value-requires c κs = search needs
-
-put-value-requires : tie.Need-put-value-requires Inv-loop μ-loop
-put-value-requires c κs = search needs
-
-add-i : tie.Need-add-i Inv-loop μ-loop
-add-i c = search needs
-
-loop-less : tie.Need-loop-less Inv-loop μ-loop
-loop-less c = search needs
 
 loop-again : tie.Need-loop-again Inv-loop μ-loop
 loop-again c =
@@ -60,9 +33,6 @@ loop-again c =
     let put-value = c .before .before .put-value in
     (put-value .kept .0 ∙ l .inv .0, omega (arith, put-value .ensures .place, put-value .kept .0), left-next (values-next (a .w) (a .reals) (now (a .row)) (l .i) (e .result) (omega arith) (e .ensures .0) (v .ensures)) (l .inv .2) (put-value .ensures))
 
-same-length : tie.Need-same-length Inv-loop μ-loop
-same-length c = search needs
-
 returns-2 : tie.Need-returns-2 Inv-loop μ-loop
 returns-2 c =
     let a = c .before .before .before .before .before .args in
@@ -71,5 +41,6 @@ returns-2 c =
 
 pub put-values-spec : {M : Type 1} → statement M
 put-values-spec =
-    tie.close (tie.spec Inv-loop μ-loop add-result returns loop-holds find-requires sub-value part-value-start part-value-end value-requires
-    put-value-requires add-i loop-less loop-again same-length returns-2)
+    tie.close (tie.spec Inv-loop μ-loop (λ c. search needs) returns loop-holds (λ c κs. search needs) (λ c. search needs) (λ c. search needs)
+    (λ c. search needs) (λ c κs. search needs) (λ c κs. search needs) (λ c. search needs) (λ c. search needs) loop-again (λ c. search needs)
+    returns-2)

@@ -9,17 +9,12 @@ use borrow.Author.Needs.{needs}
 use Rattle.row_fields.proofs.values.value.Statement.{statement}
 use Rattle.row_fields.proofs.values.value.Tie as tie
 
-real-requires : tie.Need-real-requires
-real-requires c κs = search needs
-
 returns : tie.Need-returns
 returns c = c .real .ensures ∙ ap (λ (b : Bool). bitsIn b (now (c .before .before .before .args .f))) (sym (c .before .if1 .taken))
-
-integer-requires : tie.Need-integer-requires
-integer-requires c κs = search needs
 
 returns-2 : tie.Need-returns-2
 returns-2 c = c .integer .ensures ∙ ap (λ (b : Bool). bitsIn b (now (c .before .before .before .args .f))) (sym (c .before .if1 .left))
 
 pub value-spec : {M : Type 1} → statement M
-value-spec = tie.close (tie.spec real-requires returns integer-requires returns-2)
+value-spec =
+    tie.close (tie.spec (λ c κs. search needs) returns (λ c κs. search needs) returns-2)

@@ -6,12 +6,6 @@ use borrow.Author.Needs.{needs}
 use Rattle.sizes.proofs.place.place_field.Statement.{statement}
 use Rattle.sizes.proofs.place.place_field.Tie as tie
 
-sub-number-at : tie.Need-sub-number-at
-sub-number-at c = search needs
-
-number-at-requires : tie.Need-number-at-requires
-number-at-requires c κs = search needs
-
 returns : tie.Need-returns
 returns c = (placed-untyped (now (c .before .before .before .before .args .sheet)) (now (c .before .before .before .before .args .work)) (c .before .before .before .before .args .n) (c .before .before .before .before .args .r) ((c .before .before .before .before .pre) .0) (c .before .number-at .result) (c .before .number-at .ensures .0) (c .if1 .taken) (c .before .before .before .before .args .p), omega arith)
 
@@ -21,12 +15,6 @@ type-size-align-requires c κs = type-line (now (c .before .before .before .befo
 is-pointer-requires : tie.Need-is-pointer-requires
 is-pointer-requires c κs = type-line (now (c .before .before .before .before .before .args .sheet)) (now (c .before .before .before .before .before .args .work)) (c .before .before .before .before .before .args .n) (c .before .before .before .before .before .args .r) ((c .before .before .before .before .before .pre) .0) (c .before .before .number-at .result) (c .before .before .number-at .ensures .0) (c .before .if1 .left)
 
-sub-number-at-2 : tie.Need-sub-number-at-2
-sub-number-at-2 c = search needs
-
-number-at-requires-2 : tie.Need-number-at-requires-2
-number-at-requires-2 c κs = search needs
-
 place-line-requires : tie.Need-place-line-requires
 place-line-requires c κs = ((c .before .before .before .before .before .before .before .pre) .1, c .before .before .type-size-align .ensures .small, c .before .before .type-size-align .ensures .low, names-few (now (c .before .before .before .before .before .before .before .args .sheet)) (now (c .before .before .before .before .before .before .before .args .work)) (c .before .before .before .before .before .before .before .args .n) (c .before .before .before .before .before .before .before .args .r) ((c .before .before .before .before .before .before .before .pre) .0) (c .before .before .before .before .number-at .result) (c .before .before .before .before .number-at .ensures .0) (c .before .before .before .if1 .left) (c .number-at2 .result) (c .number-at2 .ensures .0))
 
@@ -35,5 +23,5 @@ returns-2 c = (placed-typed (now (c .before .before .before .before .before .bef
 
 pub place-field-spec : {M : Type 1} → statement M
 place-field-spec =
-    tie.close (tie.spec sub-number-at number-at-requires returns type-size-align-requires is-pointer-requires sub-number-at-2 number-at-requires-2
-    place-line-requires returns-2)
+    tie.close (tie.spec (λ c. search needs) (λ c κs. search needs) returns type-size-align-requires is-pointer-requires (λ c. search needs)
+    (λ c κs. search needs) place-line-requires returns-2)

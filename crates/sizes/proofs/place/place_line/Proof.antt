@@ -8,23 +8,8 @@ use borrow.Author.Needs.{needs}
 use Rattle.sizes.proofs.place.place_line.Statement.{statement}
 use Rattle.sizes.proofs.place.place_line.Tie as tie
 
-align-up-requires : tie.Need-align-up-requires
-align-up-requires c κs = search needs
-
-cast-at : tie.Need-cast-at
-cast-at c = search needs
-
 line-fields-requires : tie.Need-line-fields-requires
 line-fields-requires c κs = ((c .before .pre) .3, omega (arith, names-small ((c .before .pre) .3) ((c .before .pre) .1), c .align-up .ensures .1, (c .before .pre) .0, (c .before .pre) .2))
-
-cast-furthest-of : tie.Need-cast-furthest-of
-cast-furthest-of c = search needs
-
-furthest-of-requires : tie.Need-furthest-of-requires
-furthest-of-requires c κs = search needs
-
-cast-t9 : tie.Need-cast-t9
-cast-t9 c = search needs
 
 mul-t10 : tie.Need-mul-t10
 mul-t10 c = record { fits = omega (arith, names-small ((c .before .before .before .before .before .pre) .3) ((c .before .before .before .before .before .pre) .1)) }
@@ -44,4 +29,5 @@ returns c = (line-placed (c .before .before .before .before .before .args .p) _ 
 
 pub place-line-spec : {M : Type 1} → statement M
 place-line-spec =
-    tie.close (tie.spec align-up-requires cast-at line-fields-requires cast-furthest-of furthest-of-requires cast-t9 mul-t10 add-t11 cast-t12 returns)
+    tie.close (tie.spec (λ c κs. search needs) (λ c. search needs) line-fields-requires (λ c. search needs) (λ c κs. search needs) (λ c. search needs)
+    mul-t10 add-t11 cast-t12 returns)

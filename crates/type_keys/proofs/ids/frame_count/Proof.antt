@@ -26,12 +26,6 @@ frames-of-requires c κs = (c .before .before .before .before .pre, c .loop-test
 add-frames : tie.Need-add-frames Inv-loop μ-loop
 add-frames c = record { fits = omega (arith, c .before .before .loop .inv .1, c .frames-of .ensures, frames-step (now (c .before .before .before .before .before .args .sheet)) (now (c .before .before .before .before .before .args .work)) (c .before .before .before .before .before .args .n) (c .before .before .before .before .before .pre) (c .before .before .loop .i) (c .before .loop-test .taken), frames-few (now (c .before .before .before .before .before .args .sheet)) (now (c .before .before .before .before .before .args .work)) (c .before .before .before .before .before .args .n) (c .before .before .before .before .before .pre) (c .before .before .loop .i + 1) (omega (arith, c .before .loop-test .taken))) }
 
-add-i : tie.Need-add-i Inv-loop μ-loop
-add-i c = search needs
-
-loop-less : tie.Need-loop-less Inv-loop μ-loop
-loop-less c = search needs
-
 loop-again : tie.Need-loop-again Inv-loop μ-loop
 loop-again c = (omega (arith, c .before .loop-test .taken), omega (arith, c .before .before .loop .inv .1, c .frames-of .ensures, frames-step (now (c .before .before .before .before .before .args .sheet)) (now (c .before .before .before .before .before .args .work)) (c .before .before .before .before .before .args .n) (c .before .before .before .before .before .pre) (c .before .before .loop .i) (c .before .loop-test .taken)))
 
@@ -39,4 +33,5 @@ returns : tie.Need-returns Inv-loop μ-loop
 returns c = let e : c .before .loop .i ≡ c .before .before .before .before .args .n = omega (arith, c .before .loop .inv .0, c .loop-test .left) in let g = c .before .loop .inv .1 ∙ ap (λ (j : ℕ). length (framesTo (now (c .before .before .before .before .args .sheet)) j)) e in (g ∙ ap length (frames-all (now (c .before .before .before .before .args .sheet)) (now (c .before .before .before .before .args .work)) (c .before .before .before .before .args .n) (c .before .before .before .before .pre)), omega (arith, g, frames-few (now (c .before .before .before .before .args .sheet)) (now (c .before .before .before .before .args .work)) (c .before .before .before .before .args .n) (c .before .before .before .before .pre) (c .before .before .before .before .args .n) (omega arith)))
 
 pub frame-count-spec : {M : Type 1} → statement M
-frame-count-spec = tie.close (tie.spec Inv-loop μ-loop loop-holds frames-of-requires add-frames add-i loop-less loop-again returns)
+frame-count-spec =
+    tie.close (tie.spec Inv-loop μ-loop loop-holds frames-of-requires add-frames (λ c. search needs) (λ c. search needs) loop-again returns)

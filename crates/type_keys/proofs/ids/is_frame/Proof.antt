@@ -9,9 +9,6 @@ use borrow.Author.Needs.{needs}
 use Rattle.type_keys.proofs.ids.is_frame.Statement.{statement}
 use Rattle.type_keys.proofs.ids.is_frame.Tie as tie
 
-form-at-requires : tie.Need-form-at-requires
-form-at-requires c κs = search needs
-
 kind-requires : tie.Need-kind-requires
 kind-requires c κs = omega (arith, c .form-at .ensures, form-low (now (c .before .before .before .args .sheet)) (now (c .before .before .before .args .work)) (c .before .before .before .args .n) (c .before .before .before .pre .0 .whole) (c .before .before .before .args .i) (c .before .before .before .pre .1))
 
@@ -19,4 +16,5 @@ returns : tie.Need-returns
 returns c = ap (λ (k : ℕ). eqb k 71) (c .kind .ensures ∙ ap kindAt (c .before .form-at .ensures) ∙ sym (kind-is (now (c .before .before .before .before .args .sheet)) (now (c .before .before .before .before .args .work)) (c .before .before .before .before .args .n) (c .before .before .before .before .pre .0 .whole) (c .before .before .before .before .args .i) (c .before .before .before .before .pre .1)))
 
 pub is-frame-spec : {M : Type 1} → statement M
-is-frame-spec = tie.close (tie.spec form-at-requires kind-requires returns)
+is-frame-spec =
+    tie.close (tie.spec (λ c κs. search needs) kind-requires returns)

@@ -5,17 +5,9 @@ use borrow.Author.Needs.{needs}
 use Rattle.type_keys.proofs.ids.kind_id.Statement.{statement}
 use Rattle.type_keys.proofs.ids.kind_id.Tie as tie
 
-kind-place-requires : tie.Need-kind-place-requires
-kind-place-requires c κs = search needs
-
-sub-id-of : tie.Need-sub-id-of
-sub-id-of c = search needs
-
-id-of-requires : tie.Need-id-of-requires
-id-of-requires c κs = search needs
-
 returns : tie.Need-returns
 returns c = (λ s is k ks ms count hk x e g. c .id-of .ensures .0 s is (elemKey k) e (rw g (kind-behind (now (c .before .before .before .args .work)) ks ms count k x (c .before .before .before .args .kind) (c .before .kind-place .result) hk (c .before .kind-place .ensures .0) (c .before .before .before .pre .2))), c .id-of .ensures .1)
 
 pub kind-id-spec : {M : Type 1} → statement M
-kind-id-spec = tie.close (tie.spec kind-place-requires sub-id-of id-of-requires returns)
+kind-id-spec =
+    tie.close (tie.spec (λ c κs. search needs) (λ c. search needs) (λ c κs. search needs) returns)

@@ -7,14 +7,9 @@ use borrow.Author.Needs.{needs}
 use Rattle.type_keys.proofs.ids.need_id.Statement.{statement}
 use Rattle.type_keys.proofs.ids.need_id.Tie as tie
 
-need-place-requires : tie.Need-need-place-requires
-need-place-requires c κs = search needs
-
-id-of-requires : tie.Need-id-of-requires
-id-of-requires c κs = search needs
-
 returns : tie.Need-returns
 returns c = (λ s n is x h e. c .id-of .ensures .0 (sheetSource s) is _ e (c .before .need-place .ensures .0 ∙ rw (keys-are s is) (need-position s (now (c .before .before .before .args .work)) n (sheetSource s .needs) x (concatMap arrayKey is) (c .before .before .before .args .q) h)), c .id-of .ensures .1)
 
 pub need-id-spec : {M : Type 1} → statement M
-need-id-spec = tie.close (tie.spec need-place-requires id-of-requires returns)
+need-id-spec =
+    tie.close (tie.spec (λ c κs. search needs) (λ c κs. search needs) returns)

@@ -17,17 +17,8 @@ abbrev μ-loop : tie.MeasureT-loop
 loop-holds : tie.Need-loop-holds Inv-loop μ-loop
 loop-holds c = (omega arith, λ j h e. omega arith)
 
-kind-place-requires : tie.Need-kind-place-requires Inv-loop μ-loop
-kind-place-requires c κs = search needs
-
 returns : tie.Need-returns Inv-loop μ-loop
 returns c = (λ h. sym (c .before .kind-place .ensures .0) ∙ c .if1 .taken, λ j h e. not-below j (c .before .before .before .loop .k) (λ l. c .before .before .before .loop .inv .1 j l e))
-
-add-k : tie.Need-add-k Inv-loop μ-loop
-add-k c = search needs
-
-loop-less : tie.Need-loop-less Inv-loop μ-loop
-loop-less c = search needs
 
 loop-again : tie.Need-loop-again Inv-loop μ-loop
 loop-again c = (omega (arith, c .before .before .loop-test .taken), below-more _ _ (c .before .before .before .loop .inv .1) (λ e. c .if1 .left (c .before .kind-place .ensures .0 ∙ e)))
@@ -36,4 +27,5 @@ returns-2 : tie.Need-returns-2 Inv-loop μ-loop
 returns-2 c = (λ h. absurd (omega (arith, h, c .loop-test .left)), λ j h e. not-below j (c .before .loop .k) (λ l. c .before .loop .inv .1 j l e))
 
 pub kind-at-spec : {M : Type 1} → statement M
-kind-at-spec = tie.close (tie.spec Inv-loop μ-loop loop-holds kind-place-requires returns add-k loop-less loop-again returns-2)
+kind-at-spec =
+    tie.close (tie.spec Inv-loop μ-loop loop-holds (λ c κs. search needs) returns (λ c. search needs) (λ c. search needs) loop-again returns-2)

@@ -15,29 +15,17 @@ Inv-loop work₀ base keys out₀ end at₀ id₀ work out at id = (id₀ ≤ id
 abbrev μ-loop : tie.MeasureT-loop
 μ-loop work₀ base keys out₀ end at₀ id₀ work out at id = end - id
 
-add-end : tie.Need-add-end Inv-loop μ-loop
-add-end c = search needs
-
 loop-holds : tie.Need-loop-holds Inv-loop μ-loop
 loop-holds c = (omega arith, refl, c .before .before .pre .1, kept-all, refl, kinds-start (c .before .before .args .base) (c .before .before .args .keys) (c .before .before .args .p) (c .before .before .pre .4))
 
 sub-kind-at : tie.Need-sub-kind-at Inv-loop μ-loop
 sub-kind-at c = omega (arith, c .before .before .loop .inv .0, c .before .before .loop .inv .2)
 
-add-kind-at : tie.Need-add-kind-at Inv-loop μ-loop
-add-kind-at c = search needs
-
 kind-at-requires : tie.Need-kind-at-requires Inv-loop μ-loop
 kind-at-requires c κs = omega (arith, c .before .before .before .before .before .pre .0, c .before .before .loop .inv .3 .long)
 
 put-elem-requires : tie.Need-put-elem-requires Inv-loop μ-loop
 put-elem-requires c κs = omega (arith, c .before .before .before .before .before .before .before .before .pre .0, c .before .before .before .before .before .loop .inv .3 .long)
-
-add-id : tie.Need-add-id Inv-loop μ-loop
-add-id c = search needs
-
-loop-less : tie.Need-loop-less Inv-loop μ-loop
-loop-less c = search needs
 
 loop-again : tie.Need-loop-again Inv-loop μ-loop
 loop-again c = (omega (arith, c .before .before .before .before .before .before .before .before .before .before .loop .inv .0), c .before .before .before .before .before .before .before .before .before .before .loop .inv .1, c .before .before .before .before .before .before .before .before .before .before .loop .inv .2, kept-then (c .before .before .before .before .before .before .before .before .before .before .loop .inv .3) (c .before .before .before .before .put-elem .ensures .1), c .before .before .before .before .put-elem .kept .1 .1 .1 .0 ∙ c .before .before .before .before .before .before .before .before .before .before .loop .inv .4, kinds-next (c .before .before .before .before .before .before .before .before .before .before .before .before .before .args .base) (c .before .before .before .before .before .before .before .before .before .before .before .before .before .args .keys) (c .before .before .before .before .before .before .before .before .before .before .before .before .before .args .p) (c .before .before .before .before .before .before .before .before .before .before .loop .at) (c .before .before .before .before .before .before .before .before .before .before .loop .id) (c .before .before .before .before .before .before .before .before .before .before .loop .inv .0) (omega (arith, c .before .before .before .before .before .before .before .before .before .loop-test .taken, c .before .before .before .before .before .before .before .before .before .before .loop .inv .1)) (c .before .before .before .before .before .before .before .before .before .before .loop .inv .2) (c .before .before .before .before .before .before .before .before .before .before .loop .inv .5) (c .before .before .before .before .before .before .before .before .before .before .loop .inv .3) (c .before .before .before .before .before .before .before .kind-at .result) (c .before .before .before .before .put-elem .result) (c .before .before .before .before .before .before .before .kind-at .ensures .0) (c .before .before .before .before .before .before .before .kind-at .ensures .1) (c .before .before .before .before .put-elem .ensures .0))
@@ -53,5 +41,5 @@ returns c = (kinds-end (c .before .before .before .before .args .base) (c .befor
 
 pub kind-rows-spec : {M : Type 1} → statement M
 kind-rows-spec =
-    tie.close (tie.spec Inv-loop μ-loop add-end loop-holds sub-kind-at add-kind-at kind-at-requires put-elem-requires add-id loop-less loop-again
-    same-length same-length-2 returns)
+    tie.close (tie.spec Inv-loop μ-loop (λ c. search needs) loop-holds sub-kind-at (λ c. search needs) kind-at-requires put-elem-requires
+    (λ c. search needs) (λ c. search needs) loop-again same-length same-length-2 returns)

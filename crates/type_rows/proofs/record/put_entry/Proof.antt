@@ -7,23 +7,15 @@ use borrow.Author.Needs.{needs}
 use Rattle.type_rows.proofs.record.put_entry.Statement.{statement}
 use Rattle.type_rows.proofs.record.put_entry.Tie as tie
 
-entry-size-requires : tie.Need-entry-size-requires
-entry-size-requires c κs = search needs
-
 map-entry-requires : tie.Need-map-entry-requires
 map-entry-requires c κs = (c .before .before .before .before .before .before .pre .log .entries (c .before .before .before .before .before .before .args .e) (c .before .before .before .before .before .before .pre .low), record { room = c .before .before .before .before .before .before .pre .log .checked .whole .room; small = c .before .entry-size .ensures .1 })
 
 put-type-requires : tie.Need-put-type-requires
 put-type-requires c κs = room-kept (c .before .before .before .before .map-entry .ensures .kept) (record { room = c .before .before .before .before .before .before .before .before .before .before .before .pre .log .checked .whole .room; small = c .before .before .before .before .before .before .entry-size .ensures .1 })
 
-same-length : tie.Need-same-length
-same-length c = search needs
-
-same-length-2 : tie.Need-same-length-2
-same-length-2 c = search needs
-
 returns : tie.Need-returns
 returns c = rowed-as (shape-is (recordedAt (now (c .before .before .before .before .before .before .before .before .before .before .before .before .before .before .args .sheet)) (now (c .before .before .before .before .before .before .before .before .before .before .before .before .before .before .args .work)) (c .before .before .before .before .before .before .before .before .before .before .before .before .before .before .args .e) .shape) (c .before .before .before .before .before .before .before .before .before .entry-size .result) (recordedAt (now (c .before .before .before .before .before .before .before .before .before .before .before .before .before .before .args .sheet)) (now (c .before .before .before .before .before .before .before .before .before .before .before .before .before .before .args .work)) (c .before .before .before .before .before .before .before .before .before .before .before .before .before .before .args .e) .shape .pointers) (c .before .before .before .before .before .before .before .before .before .entry-size .ensures .0) refl) (record { wrote = c .before .before .put-type .ensures _ (c .before .before .before .before .before .before .before .map-entry .ensures .map); kept = c .before .before .before .before .before .before .before .map-entry .ensures .kept })
 
 pub put-entry-spec : {M : Type 1} → statement M
-put-entry-spec = tie.close (tie.spec entry-size-requires map-entry-requires put-type-requires same-length same-length-2 returns)
+put-entry-spec =
+    tie.close (tie.spec (λ c κs. search needs) map-entry-requires put-type-requires (λ c. search needs) (λ c. search needs) returns)

@@ -10,40 +10,19 @@ use borrow.Author.Needs.{needs}
 use Rattle.type_rows.proofs.record.put_record.Statement.{statement}
 use Rattle.type_rows.proofs.record.put_record.Tie as tie
 
-field-at-requires : tie.Need-field-at-requires
-field-at-requires c κs = search needs
-
-newest-requires : tie.Need-newest-requires
-newest-requires c κs = search needs
-
 put-words-requires : tie.Need-put-words-requires
 put-words-requires c κs = (record { room = c .before .before .before .before .before .before .before .before .before .pre .0 .checked .whole .room; small = omega arith }, omega arith)
-
-same-length : tie.Need-same-length
-same-length c = search needs
-
-same-length-2 : tie.Need-same-length-2
-same-length-2 c = search needs
 
 returns : tie.Need-returns
 returns c = rowed-as (shape-is (keyShape (logOf (now (c .before .before .before .before .before .before .before .before .before .before .before .before .before .before .args .sheet))) (needAt (now (c .before .before .before .before .before .before .before .before .before .before .before .before .before .before .args .sheet)) (c .before .before .before .before .before .before .before .before .before .before .before .before .before .before .args .i))) 4 (words 0) (unknown-size (now (c .before .before .before .before .before .before .before .before .before .before .before .before .before .before .args .sheet)) (now (c .before .before .before .before .before .before .before .before .before .before .before .before .before .before .args .work)) (c .before .before .before .before .before .before .before .before .before .before .before .before .before .before .args .n) (c .before .before .before .before .before .before .before .before .before .before .before .before .before .before .args .i) (c .before .before .before .before .before .before .before .before .before .before .before .before .before .before .pre .1) (c .before .before .before .before .before .before .before .before .before .before .before .before .before .before .pre .2) (now (c .before .before .before .before .before .before .before .before .before .field-at .result)) (c .before .before .before .before .before .before .before .before .before .field-at .ensures) (c .before .before .before .before .before .before .before .before .newest .result) (c .before .before .before .before .before .before .before .before .newest .ensures) (c .before .before .before .before .before .before .before .if1 .taken)) (unknown-words (now (c .before .before .before .before .before .before .before .before .before .before .before .before .before .before .args .sheet)) (now (c .before .before .before .before .before .before .before .before .before .before .before .before .before .before .args .work)) (c .before .before .before .before .before .before .before .before .before .before .before .before .before .before .args .n) (c .before .before .before .before .before .before .before .before .before .before .before .before .before .before .args .i) (c .before .before .before .before .before .before .before .before .before .before .before .before .before .before .pre .1) (c .before .before .before .before .before .before .before .before .before .before .before .before .before .before .pre .2) (now (c .before .before .before .before .before .before .before .before .before .field-at .result)) (c .before .before .before .before .before .before .before .before .before .field-at .ensures) (c .before .before .before .before .before .before .before .before .newest .result) (c .before .before .before .before .before .before .before .before .newest .ensures) (c .before .before .before .before .before .before .before .if1 .taken))) (c .before .before .before .before .put-words .ensures)
 
-sub-put-entry : tie.Need-sub-put-entry
-sub-put-entry c = search needs
-
 put-entry-requires : tie.Need-put-entry-requires
 put-entry-requires c κs = record { log = c .before .before .before .before .before .before .before .before .before .pre .0; low = known-low (now (c .before .before .before .before .before .before .before .before .before .args .sheet)) (now (c .before .before .before .before .before .before .before .before .before .args .work)) (c .before .before .before .before .before .before .before .before .before .args .n) (c .before .before .before .before .before .before .before .before .before .args .i) (c .before .before .before .before .before .before .before .before .before .pre .1) (c .before .before .before .before .before .before .before .before .before .pre .2) (now (c .before .before .before .before .field-at .result)) (c .before .before .before .before .field-at .ensures) (c .before .before .before .newest .result) (c .before .before .before .newest .ensures) (c .before .before .before .before .before .before .before .before .before .args .m) (c .before .before .before .before .before .before .before .before .before .pre .0) (c .before .before .if1 .left) }
-
-same-length-3 : tie.Need-same-length-3
-same-length-3 c = search needs
-
-same-length-4 : tie.Need-same-length-4
-same-length-4 c = search needs
 
 returns-2 : tie.Need-returns-2
 returns-2 c = rowed-as (known-shape (now (c .before .before .before .before .before .before .before .before .before .before .before .before .before .before .args .sheet)) (now (c .before .before .before .before .before .before .before .before .before .before .before .before .before .before .args .work)) (c .before .before .before .before .before .before .before .before .before .before .before .before .before .before .args .n) (c .before .before .before .before .before .before .before .before .before .before .before .before .before .before .args .i) (c .before .before .before .before .before .before .before .before .before .before .before .before .before .before .pre .1) (c .before .before .before .before .before .before .before .before .before .before .before .before .before .before .pre .2) (now (c .before .before .before .before .before .before .before .before .before .field-at .result)) (c .before .before .before .before .before .before .before .before .before .field-at .ensures) (c .before .before .before .before .before .before .before .before .newest .result) (c .before .before .before .before .before .before .before .before .newest .ensures) (c .before .before .before .before .before .before .before .before .before .before .before .before .before .before .args .m) (c .before .before .before .before .before .before .before .before .before .before .before .before .before .before .pre .0) (c .before .before .before .before .before .before .before .if1 .left)) (c .before .before .before .before .put-entry .ensures)
 
 pub put-record-spec : {M : Type 1} → statement M
 put-record-spec =
-    tie.close (tie.spec field-at-requires newest-requires put-words-requires same-length same-length-2 returns sub-put-entry put-entry-requires
-    same-length-3 same-length-4 returns-2)
+    tie.close (tie.spec (λ c κs. search needs) (λ c κs. search needs) put-words-requires (λ c. search needs) (λ c. search needs) returns
+    (λ c. search needs) put-entry-requires (λ c. search needs) (λ c. search needs) returns-2)
