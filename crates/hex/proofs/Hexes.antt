@@ -166,7 +166,7 @@ byte-of (h ∷ (l ∷ ds)) bs (suc i) e =
 
 -- ---- 64 bits
 
-unhex-length : (s bs : Bytes) → unhex s ≡ some bs → length s ≡ 2 * length bs
+pub unhex-length : (s bs : Bytes) → unhex s ≡ some bs → length s ≡ 2 * length bs
 unfolding unhex
 unhex-length [] bs e = let q : [] ≡ bs = cc in ap (λ (l : Bytes). 2 * length l) q
 unhex-length (h ∷ []) bs e = let z : _≡_ {A = ℕ} 0 1 = cc in absurd (omega arith)

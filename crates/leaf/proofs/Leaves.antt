@@ -4,7 +4,7 @@ use mathlib.Core.Bool.{Bool, true, false, cond, _&&_}
 use mathlib.Core.List.{List, [], _∷_}
 use mathlib.Core.Logic.{inl}
 use mathlib.Core.Option.{Option, none, some}
-use Prim.Native.Nat.{ℕ, zero, suc, _+_, _-_, _*_, _/_, _%_, _≤_, _<_, min}
+use Prim.Native.Nat.{ℕ, zero, suc, _+_, _-_, _/_, _%_, _≤_, _<_, min}
 use native.Mathlib.Omega.{arith}
 use lib.Dec.{ltb, eqb}
 use lib.IntN.{ℤ, pos}
@@ -14,7 +14,7 @@ use lib.Seq.{length-take-le, take-all}
 use mir.Syntax.{w64}
 use mir.Val.{SFits}
 use mir.Facts.{toZ-ofZ}
-use Rattle.semantics.specs.Text.{Bytes, bytes, same, holdsOf, orElse, intOf, hexValue, hexPair, unhex, isUtf8, fromBigEndian, fieldsOf, partsAt, headPart, tailParts, cut}
+use Rattle.semantics.specs.Text.{Bytes, bytes, same, holdsOf, orElse, intOf, unhex, isUtf8, fromBigEndian, fieldsOf, partsAt, headPart, tailParts, cut}
 use Rattle.semantics.specs.Tree as Tree
 use Rattle.semantics.specs.Tree.ConstVal.{vInt, vReal, vStr}
 use Rattle.semantics.specs.Form.{Atom, forms, holds, between, notNaN, numberOf, fieldsFrom}
@@ -29,7 +29,7 @@ use Rattle.decimal.specs.declared.Integer.the-variants.{Is, Bad as NoInteger}
 use Rattle.hex.specs.Hex.{byteAt, word, wordOf}
 use Rattle.hex.specs.declared.Word.{Word}
 use Rattle.hex.specs.declared.Word.the-variants.{Bits, Bad}
-use Rattle.hex.proofs.Hexes.{byte-of}
+use Rattle.hex.proofs.Hexes.{byte-of, unhex-length}
 use Rattle.write.specs.Wrote.{over, Wrote}
 use Rattle.write.proofs.Wrote.{wrote-as, wrote-next}
 use Rattle.form.specs.Table.{rowAt, rowNode}
@@ -95,25 +95,9 @@ text-read x = go (unhex x)
     go none h = never h
     go (some bs) h = refl
 
--- two digits for each byte
-digits-twice : (x bs : Bytes) → unhex x ≡ some bs → length x ≡ 2 * length bs
-unfolding unhex
-digits-twice [] [] e = refl
-digits-twice [] (b ∷ bs) e = let z : _≡_ {A = ℕ} 0 1 = cc in absurd (omega arith)
-digits-twice (h ∷ []) bs e = let z : _≡_ {A = ℕ} 0 1 = cc in absurd (omega arith)
-digits-twice (h ∷ (l ∷ ds)) bs e = go (hexValue h) (hexValue l) (unhex ds) (λ cs q. digits-twice ds cs q) e
-  where
-    go : (a b : Option ℕ) (o : Option Bytes) → ((cs : Bytes) → o ≡ some cs → length ds ≡ 2 * length cs) → hexPair a b o ≡ some bs → suc (suc (length ds)) ≡ 2 * length bs
-    go none b o ih q = let z : _≡_ {A = ℕ} 0 1 = cc in absurd (omega arith)
-    go (some a) none o ih q = let z : _≡_ {A = ℕ} 0 1 = cc in absurd (omega arith)
-    go (some a) (some b) none ih q = let z : _≡_ {A = ℕ} 0 1 = cc in absurd (omega arith)
-    go (some a) (some b) (some cs) ih q =
-        let w : (a * 16 + b) ∷ cs ≡ bs = cc in
-        rw (← w) (omega (arith, ih cs refl))
-
 module _ (x : Bytes) (h : holds Atom.text x ≡ true) where
   string-length : length x / 2 ≡ length (orElse [] (unhex x))
-  string-length = let e = digits-twice x (orElse [] (unhex x)) (text-read x h) in omega (arith, e)
+  string-length = let e = unhex-length x (orElse [] (unhex x)) (text-read x h) in omega (arith, e)
 
   pub string-more : {d : Bytes} {top i v : ℕ} {e : Bytes} {p : ℕ} {f : Bytes} {q : ℕ} → i < length x / 2 → v ≡ byteAt x i
       → Wrote d top (take i (orElse [] (unhex x))) e p → Wrote e p (v ∷ []) f q → Wrote d top (take (i + 1) (orElse [] (unhex x))) f q

@@ -2,7 +2,7 @@
 use Prim.Native.Nat.{ℕ, zero, suc, _+_, _-_, _*_, _/_, _%_, _^_, _≤_, _<_, max}
 use native.Mathlib.Omega.{arith}
 use mathlib.Core.Path.{_≡_, refl, sym, ap, _∙_}
-use mathlib.Core.Bool.{Bool, true, false, _||_, cond}
+use mathlib.Core.Bool.{Bool, true, false, _||_, cond, or-false}
 use mathlib.Core.List.{List, [], _∷_, _++_}
 use lib.Bits.{bitOr, or-step, or-zero-l}
 use lib.Dec.{eqb}
@@ -111,10 +111,6 @@ module _ (size : ℕ) where
   module _ (off : ℕ) (fit : off + 4 ≤ size) where
     lone : (x : ℕ) → marked size (pos off ∷ []) x ≡ eqb (off / 4) x
     lone x = rw (le-leb (off + 4) size fit) (or-false (eqb (off / 4) x))
-      where
-        or-false : (b : Bool) → b || false ≡ b
-        or-false true = refl
-        or-false false = refl
 
     pub byte-one : getD (pointerMap size (pos off ∷ [])) (off / 4 / 8) 0 ≡ 2 ^ (7 - off / 4 % 8)
     byte-one = byte-at size (pos off ∷ []) (off / 4 / 8) ∙ bits-one (pos off ∷ []) (off / 4) lone 8 (8 * (off / 4 / 8)) (7 - off / 4 % 8) (omega arith) (omega arith)

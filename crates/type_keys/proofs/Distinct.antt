@@ -1,6 +1,6 @@
 -- Distinct keys: one more key, and positions that stay.
 use mathlib.Core.Path.{_≡_, refl, sym, ap, _∙_}
-use mathlib.Core.Bool.{Bool, true, false, cond, _||_}
+use mathlib.Core.Bool.{Bool, true, false, cond, _||_, or-false}
 use mathlib.Core.List.{List, [], _∷_, _++_, append-assoc, append-nil}
 use Prim.Native.Nat.{ℕ, zero, suc, _≤_, _<_}
 use native.Mathlib.Omega.{arith}
@@ -14,16 +14,9 @@ use Rattle.semantics.specs.Fold.{eqZ}
 use Rattle.semantics.specs.Types.{sameInts, keyCode, sameTypeKey, distinct, position}
 use Rattle.type_keys.specs.Table.{placed}
 use Rattle.laws.proofs.Tests.{never, and-left, and-right, or-left, or-right}
+use Rattle.laws.proofs.Lists.{any-append}
 
 -- ---- tests
-
-pub or-false : (a : Bool) → a || false ≡ a
-or-false true = refl
-or-false false = refl
-
-or-assoc : (a b c : Bool) → (a || b) || c ≡ a || (b || c)
-or-assoc true b c = refl
-or-assoc false b c = refl
 
 or-swap : (a b c : Bool) → (a || b) || c ≡ b || (a || c)
 or-swap true true c = refl
@@ -32,10 +25,6 @@ or-swap false b c = refl
 
 or-true : (a b : Bool) → a ≡ true → a || b ≡ true
 or-true a b h = rw h
-
-pub any-append : {A : Type 0} (p : A → Bool) (l m : List A) → any p (l ++ m) ≡ any p l || any p m
-any-append p [] m = refl
-any-append p (x ∷ l) m = rw (any-append p l m) (sym (or-assoc (p x) (any p l) (any p m)))
 
 -- ---- keys are compared by their codes
 

@@ -25,7 +25,8 @@ use Rattle.source.specs.Walk.{declaresAt, declaredTo}
 use Rattle.source.proofs.Walk.{declared-all, source-of}
 use Rattle.type_keys.specs.Keys.{needAt}
 use Rattle.type_keys.specs.Table.{lineOf, placeOf, kindOf, digestOf, kindsUsed, kindBy, needsTo, entered, kindEntered, Needs, Kinds, Outside, NeedEntry, Numbering, NeedNext}
-use Rattle.type_keys.proofs.Distinct.{any-append, position-same, position-within, position-none, position-more, length-more, placed-more, known-same, known-length, placed-some, placed-none, distinct-more, distinct-few, key-member, none-distinct, known-more}
+use Rattle.laws.proofs.Lists.{any-append}
+use Rattle.type_keys.proofs.Distinct.{position-same, position-within, position-none, position-more, length-more, placed-more, known-same, known-length, placed-some, placed-none, distinct-more, distinct-few, key-member, none-distinct, known-more}
 use Rattle.type_keys.proofs.Forms.{needs-line, kind-low}
 use Rattle.type_keys.proofs.Same.{elems-are, elem-is}
 use Rattle.type_keys.proofs.Table.{outside-then, outside-less, outside-set, line-below, place-below, kind-above, kind-kept, entered-outside, entered-line, entered-place, other-line, other-place, kind-outside, kind-entered, digest-above, digest-same, digest-other}

@@ -1,6 +1,6 @@
 -- The keys of `need` lines, by their forms.
-use mathlib.Core.Path.{_≡_, refl, sym, _∙_}
-use mathlib.Core.Bool.{Bool, true, false, cond, _&&_}
+use mathlib.Core.Path.{_≡_, sym, _∙_}
+use mathlib.Core.Bool.{false, cond, and-true}
 use mathlib.Core.List.{List}
 use Prim.Native.Nat.{ℕ, zero, suc, _+_, _-_, _<_}
 use native.Mathlib.Omega.{arith}
@@ -34,10 +34,6 @@ module _ (s t : List ℕ) (n i : ℕ) (l : NeedLine s t n i) where
   block-line e = record { checked = l .checked; within = l .within; form = rw e }
 
 -- ---- which kind of element a `need` line asks for
-
-and-true : (a : Bool) → a && true ≡ a
-and-true true = refl
-and-true false = refl
 
 pub elems-are : (j k : ElemKind) → sameTypeKey (elemKey j) (elemKey k) ≡ eqb (kindNumber j) (kindNumber k)
 elems-are j k = rw (eqZ-pos (kindNumber j) (kindNumber k)) (and-true (eqb (kindNumber j) (kindNumber k)))

@@ -48,7 +48,7 @@ pub struct Numbered {
 }
 
 // Whether the `need` lines a and b, from 0, have the same key: a key is spelled in one way only, so their texts tell.
-pub fn same_need(sheet: &[u8], work: &[u8], n: usize, a: usize, b: usize) -> bool
+fn same_need(sheet: &[u8], work: &[u8], n: usize, a: usize, b: usize) -> bool
     requires { ⌜ (NeedLine (now sheet) (now work) n a) × (NeedLine (now sheet) (now work) n b) ⌝ }
     ensures { λ r. ⌜ r ≡ sameTypeKey (needAt (now (sheet .entry)) a) (needAt (now (sheet .entry)) b) ⌝ }
 {

@@ -15,7 +15,7 @@ use Rattle.semantics.specs.Types.{sameTypeKey, distinct, position, keyShape}
 use Rattle.semantics.specs.Listing.{typeRows}
 use Rattle.laws.proofs.Lists.{map-append}
 use Rattle.write.specs.Wrote.{Wrote}
-use Rattle.write.proofs.Wrote.{wrote-length, wrote-none}
+use Rattle.write.proofs.Wrote.{wrote-none}
 use Rattle.checks.specs.Checks.{Kept}
 use Rattle.checks.proofs.Kept.{kept-all, kept-then, kept-less, kept-at}
 use Rattle.records.specs.Log.{logOf}
@@ -27,9 +27,6 @@ use Rattle.type_rows.specs.declared.Next.{Next}
 use Rattle.type_row.specs.Row.{Rowed}
 use Rattle.type_rows.specs.Rows.{Wrotes, keysTo, shapesOf, Ready}
 use Rattle.type_row.proofs.Rows.{rows-then}
-
-pub within : {d : List ℕ} {a : ℕ} {t e : List ℕ} {b : ℕ} → Wrote d a t e b → b ≤ length e + 1
-within w = omega (arith, w .place, wrote-length w)
 
 pub wrotes-none : {p : Next} {t d : List ℕ} → p .at ≤ length d + 1 → Wrotes [] p p t t d d
 unfolding typeRows

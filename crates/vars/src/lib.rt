@@ -81,7 +81,7 @@ pub fn first_value(sheet: &[u8], work: &mut [u8], n: usize, m: usize, r: usize) 
 }
 
 // Whether line r has a name that is laid out: `nil` is not.
-pub fn has_names(sheet: &[u8], work: &[u8], n: usize, r: usize) -> bool
+fn has_names(sheet: &[u8], work: &[u8], n: usize, r: usize) -> bool
     requires { ⌜ VarLine (now sheet) (now work) n r ⌝ }
     ensures { λ b. ⌜ b ≡ not (noneOf (laidNames (namesOn (now (sheet .entry)) r))) ⌝ }
 {

@@ -3,13 +3,13 @@ use borrow.Author.Needs.{needs}
 use Prim.Native.Nat.{_≤_, _-_}
 use denote.Ref.{now}
 use mathlib.Core.Path.{_≡_, refl}
-use Rattle.write.proofs.Wrote.{wrote-length}
+use Rattle.write.proofs.Wrote.{wrote-length, place-low}
 use Rattle.lines.specs.Lines.{nodesIn}
 use Rattle.source.specs.Walk.{declaredTo, declaresAt}
 use Rattle.type_keys.proofs.Numbers.{framesTo, frames-more, frames-few, frames-all}
 use Rattle.type_rows.specs.Rows.{Wrotes}
 use Rattle.type_row.proofs.Kept.{map-checked}
-use Rattle.type_rows.proofs.Wrotes.{within, wrotes-none, wrotes-then}
+use Rattle.type_rows.proofs.Wrotes.{wrotes-none, wrotes-then}
 use Rattle.type_rows.proofs.frame_rows.Statement.{statement}
 use Rattle.type_rows.proofs.frame_rows.Tie as tie
 
@@ -24,7 +24,7 @@ unfolding declaredTo
 loop-holds c = (omega arith, refl, wrotes-none (c .before .before .before .pre .1))
 
 next-frame-requires : tie.Need-next-frame-requires Inv-loop μ-loop
-next-frame-requires c κs = (map-checked (c .before .before .before .loop .inv .2 .kept) (c .before .before .before .before .before .before .before .pre .0), c .before .before .loop-test .taken, omega (arith, c .before .before .before .loop .inv .1, c .before .before .before .loop .inv .2 .id, frames-few (now (c .before .before .before .before .before .before .before .args .sheet)) (now (c .before .before .before .before .before .before .before .args .work)) (c .before .before .before .before .before .before .before .args .n) (c .before .before .before .before .before .before .before .pre .0) (c .before .before .before .loop .i) (c .before .before .before .loop .inv .0)), within (c .before .before .before .loop .inv .2 .wrote))
+next-frame-requires c κs = (map-checked (c .before .before .before .loop .inv .2 .kept) (c .before .before .before .before .before .before .before .pre .0), c .before .before .loop-test .taken, omega (arith, c .before .before .before .loop .inv .1, c .before .before .before .loop .inv .2 .id, frames-few (now (c .before .before .before .before .before .before .before .args .sheet)) (now (c .before .before .before .before .before .before .before .args .work)) (c .before .before .before .before .before .before .before .args .n) (c .before .before .before .before .before .before .before .pre .0) (c .before .before .before .loop .i) (c .before .before .before .loop .inv .0)), place-low (c .before .before .before .loop .inv .2 .wrote))
 
 loop-again : tie.Need-loop-again Inv-loop μ-loop
 loop-again c = (omega (arith, c .before .before .before .before .before .before .before .loop-test .taken), c .before .before .before .before .before .before .before .before .loop .inv .1, rw (frames-more (now (c .before .before .before .before .before .before .before .before .before .before .before .before .args .sheet)) (now (c .before .before .before .before .before .before .before .before .before .before .before .before .args .work)) (c .before .before .before .before .before .before .before .before .before .before .before .before .args .n) (c .before .before .before .before .before .before .before .before .before .before .before .before .pre .0) (c .before .before .before .before .before .before .before .before .loop .i) (c .before .before .before .before .before .before .before .loop-test .taken)) (wrotes-then (framesTo (now (c .before .before .before .before .before .before .before .before .before .before .before .before .args .sheet)) (c .before .before .before .before .before .before .before .before .loop .i)) (declaresAt (nodesIn (now (c .before .before .before .before .before .before .before .before .before .before .before .before .args .sheet))) (c .before .before .before .before .before .before .before .before .loop .i) .frames) (c .before .before .before .before .before .before .before .before .loop .inv .2) (c .before .before .before .before .next-frame .ensures)))

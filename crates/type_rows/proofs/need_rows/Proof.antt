@@ -4,9 +4,9 @@ use denote.Ref.{now}
 use Prim.Native.Nat.{_≤_, _-_, _+_}
 use lib.ListN.{length}
 use mathlib.Core.Path.{_≡_, refl}
-use Rattle.write.proofs.Wrote.{wrote-length}
+use Rattle.write.proofs.Wrote.{wrote-length, place-low}
 use Rattle.type_rows.specs.Rows.{Wrotes, keysTo, shapesOf}
-use Rattle.type_rows.proofs.Wrotes.{within, wrotes-none, ready-kept, keys-all}
+use Rattle.type_rows.proofs.Wrotes.{wrotes-none, ready-kept, keys-all}
 use Rattle.type_rows.proofs.need_rows.Statement.{statement}
 use Rattle.type_rows.proofs.need_rows.Tie as tie
 
@@ -20,7 +20,7 @@ loop-holds : tie.Need-loop-holds Inv-loop μ-loop
 loop-holds c = (omega arith, refl, omega arith, wrotes-none (c .before .before .before .pre .2))
 
 next-need-requires : tie.Need-next-need-requires Inv-loop μ-loop
-next-need-requires c κs = (ready-kept (c .before .before .before .loop .inv .3 .kept) (c .before .before .before .before .before .before .before .pre .0), c .before .before .loop-test .taken, omega (arith, c .before .before .before .loop .inv .1, c .before .before .before .before .before .before .before .pre .1), c .before .before .before .loop .inv .2, within (c .before .before .before .loop .inv .3 .wrote))
+next-need-requires c κs = (ready-kept (c .before .before .before .loop .inv .3 .kept) (c .before .before .before .before .before .before .before .pre .0), c .before .before .loop-test .taken, omega (arith, c .before .before .before .loop .inv .1, c .before .before .before .before .before .before .before .pre .1), c .before .before .before .loop .inv .2, place-low (c .before .before .before .loop .inv .3 .wrote))
 
 loop-again : tie.Need-loop-again Inv-loop μ-loop
 loop-again c = (omega (arith, c .before .before .before .before .before .before .before .loop-test .taken), c .before .before .before .before .before .before .before .before .loop .inv .1, c .before .before .before .before .next-need .ensures .1, c .before .before .before .before .next-need .ensures .0 (c .before .before .before .before .before .before .before .before .before .before .before .before .args .p) (now (c .before .before .before .before .before .before .before .before .before .before .before .before .args .work)) (now (c .before .before .before .before .before .before .before .before .before .before .before .before .args .out)) (c .before .before .before .before .before .before .before .before .loop .inv .3))

@@ -9,19 +9,20 @@ use Rattle.semantics.specs.Types.{distinct}
 use Rattle.semantics.specs.Sheet.{sheetSource}
 use Rattle.type_rows.proofs.All.{all-rows, frames-low}
 use Rattle.type_row.proofs.Kept.{map-checked}
-use Rattle.type_rows.proofs.Wrotes.{within, ready-kept, shapes-length}
+use Rattle.write.proofs.Wrote.{place-low}
+use Rattle.type_rows.proofs.Wrotes.{ready-kept, shapes-length}
 use borrow.Author.Needs.{needs}
 use Rattle.type_rows.proofs.type_rows.Statement.{statement}
 use Rattle.type_rows.proofs.type_rows.Tie as tie
 
 frame-rows-requires : tie.Need-frame-rows-requires
-frame-rows-requires c κs = (map-checked (c .before .before .before .before .before .before .opaque-rows .ensures .1) (c .before .before .before .before .before .before .before .before .before .before .before .before .pre .0 .log .checked), within (c .before .before .before .before .before .before .opaque-rows .ensures .0))
+frame-rows-requires c κs = (map-checked (c .before .before .before .before .before .before .opaque-rows .ensures .1) (c .before .before .before .before .before .before .before .before .before .before .before .before .pre .0 .log .checked), place-low (c .before .before .before .before .before .before .opaque-rows .ensures .0))
 
 need-rows-requires : tie.Need-need-rows-requires
-need-rows-requires c κs = (ready-kept (c .before .before .before .before .before .before .frame-rows .ensures .kept) (ready-kept (c .before .before .before .before .before .before .before .before .before .before .before .before .before .opaque-rows .ensures .1) (c .before .before .before .before .before .before .before .before .before .before .before .before .before .before .before .before .before .before .before .pre .0)), omega (arith, c .before .before .before .before .before .before .frame-rows .ensures .id, frames-low (now (c .before .before .before .before .before .before .before .before .before .before .before .before .before .before .before .before .before .before .before .args .sheet)) (now (c .before .before .before .before .before .before .before .before .before .before .before .before .before .before .before .before .before .before .before .args .work)) (c .before .before .before .before .before .before .before .before .before .before .before .before .before .before .before .before .before .before .before .args .n) (c .before .before .before .before .before .before .before .before .before .before .before .before .before .before .before .before .before .before .before .pre .0 .log .checked)), within (c .before .before .before .before .before .before .frame-rows .ensures .wrote))
+need-rows-requires c κs = (ready-kept (c .before .before .before .before .before .before .frame-rows .ensures .kept) (ready-kept (c .before .before .before .before .before .before .before .before .before .before .before .before .before .opaque-rows .ensures .1) (c .before .before .before .before .before .before .before .before .before .before .before .before .before .before .before .before .before .before .before .pre .0)), omega (arith, c .before .before .before .before .before .before .frame-rows .ensures .id, frames-low (now (c .before .before .before .before .before .before .before .before .before .before .before .before .before .before .before .before .before .before .before .args .sheet)) (now (c .before .before .before .before .before .before .before .before .before .before .before .before .before .before .before .before .before .before .before .args .work)) (c .before .before .before .before .before .before .before .before .before .before .before .before .before .before .before .before .before .before .before .args .n) (c .before .before .before .before .before .before .before .before .before .before .before .before .before .before .before .before .before .before .before .pre .0 .log .checked)), place-low (c .before .before .before .before .before .before .frame-rows .ensures .wrote))
 
 kind-rows-requires : tie.Need-kind-rows-requires
-kind-rows-requires c κs = (omega (arith, c .before .before .before .before .before .before .before .before .before .before .before .before .before .before .before .before .before .before .before .before .before .before .before .before .before .before .pre .0 .log .checked .whole .room, c .before .before .before .before .before .before .before .before .before .before .before .before .before .before .before .before .before .before .before .before .opaque-rows .ensures .1 .long, c .before .before .before .before .before .before .before .before .before .before .before .before .before .frame-rows .ensures .kept .long, c .before .before .before .before .before .before .need-rows .ensures .kept .long), omega (arith, c .before .before .before .before .before .before .need-rows .ensures .id), omega (arith, c .before .before .before .before .before .before .before .before .before .before .before .before .before .frame-rows .ensures .id, frames-low (now (c .before .before .before .before .before .before .before .before .before .before .before .before .before .before .before .before .before .before .before .before .before .before .before .before .before .before .args .sheet)) (now (c .before .before .before .before .before .before .before .before .before .before .before .before .before .before .before .before .before .before .before .before .before .before .before .before .before .before .args .work)) (c .before .before .before .before .before .before .before .before .before .before .before .before .before .before .before .before .before .before .before .before .before .before .before .before .before .before .args .n) (c .before .before .before .before .before .before .before .before .before .before .before .before .before .before .before .before .before .before .before .before .before .before .before .before .before .before .pre .0 .log .checked)), c .before .before .before .before .before .before .before .before .before .before .before .before .before .before .before .before .before .before .before .before .before .before .before .before .before .before .pre .1, within (c .before .before .before .before .before .before .need-rows .ensures .wrote))
+kind-rows-requires c κs = (omega (arith, c .before .before .before .before .before .before .before .before .before .before .before .before .before .before .before .before .before .before .before .before .before .before .before .before .before .before .pre .0 .log .checked .whole .room, c .before .before .before .before .before .before .before .before .before .before .before .before .before .before .before .before .before .before .before .before .opaque-rows .ensures .1 .long, c .before .before .before .before .before .before .before .before .before .before .before .before .before .frame-rows .ensures .kept .long, c .before .before .before .before .before .before .need-rows .ensures .kept .long), omega (arith, c .before .before .before .before .before .before .need-rows .ensures .id), omega (arith, c .before .before .before .before .before .before .before .before .before .before .before .before .before .frame-rows .ensures .id, frames-low (now (c .before .before .before .before .before .before .before .before .before .before .before .before .before .before .before .before .before .before .before .before .before .before .before .before .before .before .args .sheet)) (now (c .before .before .before .before .before .before .before .before .before .before .before .before .before .before .before .before .before .before .before .before .before .before .before .before .before .before .args .work)) (c .before .before .before .before .before .before .before .before .before .before .before .before .before .before .before .before .before .before .before .before .before .before .before .before .before .before .args .n) (c .before .before .before .before .before .before .before .before .before .before .before .before .before .before .before .before .before .before .before .before .before .before .before .before .before .before .pre .0 .log .checked)), c .before .before .before .before .before .before .before .before .before .before .before .before .before .before .before .before .before .before .before .before .before .before .before .before .before .before .pre .1, place-low (c .before .before .before .before .before .before .need-rows .ensures .wrote))
 
 returns : tie.Need-returns
 returns c = let k = kept-then (c .before .before .before .before .before .before .before .before .before .before .before .before .before .before .before .before .before .before .before .before .before .before .before .before .before .opaque-rows .ensures .1) (kept-then (c .before .before .before .before .before .before .before .before .before .before .before .before .before .before .before .before .before .before .frame-rows .ensures .kept) (c .before .before .before .before .before .before .before .before .before .before .before .need-rows .ensures .kept)) in
