@@ -12,7 +12,9 @@ same-length : tie.Need-same-length
 same-length c = search needs
 
 returns : tie.Need-returns
-returns c = Laws.entered-failed (now (c .before .before .before .before .before .args .work)) _ (c .before .before .before .before .before .args .m) (c .before .before .before .before .before .args .line) (c .before .before .before .before .before .args .within) (c .before .before .before .before .before .pre) (c .before .before .put-entry .ensures)
+returns c =
+    let a = c .before .before .before .before .before .args in
+    Laws.entered-failed (now (a .work)) _ (a .m) (a .line) (a .within) (a .d) (c .before .before .before .before .before .pre .0) (c .before .before .put-entry .ensures)
 
 pub enter-failed-spec : {M : Type 1} → statement M
 enter-failed-spec = tie.close (tie.spec put-entry-requires same-length returns)

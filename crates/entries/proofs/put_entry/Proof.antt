@@ -41,14 +41,20 @@ put-requires-5 c κs = search needs
 put-bits-requires : tie.Need-put-bits-requires
 put-bits-requires c κs = search needs
 
+cast-put-5 : tie.Need-cast-put-5
+cast-put-5 c = search needs
+
+put-requires-6 : tie.Need-put-requires-6
+put-requires-6 c κs = search needs
+
 same-length : tie.Need-same-length
 same-length c = search needs
 
 returns : tie.Need-returns
 unfolding entryOf
-returns c = then (then (then (then (then (c .before .before .before .before .before .before .before .before .before .before .before .before .before .before .before .before .before .before .before .before .before .before .put .ensures) (c .before .before .before .before .before .before .before .before .before .before .before .before .before .before .before .before .before .before .put2 .ensures)) (c .before .before .before .before .before .before .before .before .before .before .before .before .before .before .put3 .ensures)) (c .before .before .before .before .before .before .before .before .before .before .put4 .ensures)) (c .before .before .before .before .before .before .put5 .ensures)) (c .before .before .put-bits .ensures) .bytes
+returns c = then (then (then (then (then (then (c .before .before .before .before .before .before .before .before .before .before .before .before .before .before .before .before .before .before .before .before .before .before .before .before .before .before .put .ensures) (c .before .before .before .before .before .before .before .before .before .before .before .before .before .before .before .before .before .before .before .before .before .before .put2 .ensures)) (c .before .before .before .before .before .before .before .before .before .before .before .before .before .before .before .before .before .before .put3 .ensures)) (c .before .before .before .before .before .before .before .before .before .before .before .before .before .before .put4 .ensures)) (c .before .before .before .before .before .before .before .before .before .before .put5 .ensures)) (c .before .before .before .before .before .before .put-bits .ensures)) (c .before .before .put6 .ensures) .bytes
 
 pub put-entry-spec : {M : Type 1} → statement M
 put-entry-spec =
     tie.close (tie.spec mul-put add-put cast-put put-requires cast-put-2 put-requires-2 cast-put-3 put-requires-3 cast-put-4 put-requires-4
-    put-requires-5 put-bits-requires same-length returns)
+    put-requires-5 put-bits-requires cast-put-5 put-requires-6 same-length returns)
