@@ -16,8 +16,8 @@ use Rattle.semantics.specs.Listing.{keysIn, isPlain, constRow}
 use Rattle.laws.proofs.Tests.{same-eq}
 use Rattle.laws.proofs.Lists.{concat-append, filter-append, any-append}
 use Rattle.form.proofs.Table.{never, both}
-use Rattle.implement.specs.Modules.{moduleAt, isOwn}
-use Rattle.names.specs.Table.{lineOf, moduleLineOf, slotAt, fieldAt, entriesAt, logIn, hasKey}
+use Rattle.implement.specs.Modules.{firstField, moduleAt, isOwn}
+use Rattle.names.specs.Table.{lineOf, moduleLineOf, slotAt, entriesAt, logIn, hasKey}
 use Rattle.const_rows.specs.Rows.{plainKey, qualifiedKey, qualifiedTo, plainTo, qualifiedPart, plainPart}
 
 -- ---- equal keys
@@ -87,10 +87,10 @@ module _ (impl : Option Bytes) (s y : Bytes) (v : Option ConstVal) (log : List C
       ∙ rw (← keys-has (qualified m y) log) (filter-one isQualified (any (sameKey (qualified m y)) (keysIn log)) (keysIn log) (qualified m y) refl)
 
   qualified-entry : (k : ℕ) → filter isQualified (keysIn (entries impl (moduleAt s k) y v ++ log))
-      ≡ filter isQualified (keysIn log) ++ cond (eqb k 0 || hasKey (qualified (fieldAt s k) y) log) [] (qualified (fieldAt s k) y ∷ [])
+      ≡ filter isQualified (keysIn log) ++ cond (eqb k 0 || hasKey (qualified (firstField s k) y) log) [] (qualified (firstField s k) y ∷ [])
   unfolding moduleAt
   qualified-entry zero = filter-other isQualified (any (sameKey (plain y)) (keysIn log)) (keysIn log) (plain y) refl ∙ sym (append-nil (filter isQualified (keysIn log)))
-  qualified-entry (suc k) = rw (ne-eqb (suc k) 0 (λ e. omega arith)) (qualified-in (sameOption impl (some (fieldAt s (suc k)))) (fieldAt s (suc k)))
+  qualified-entry (suc k) = rw (ne-eqb (suc k) 0 (λ e. omega arith)) (qualified-in (sameOption impl (some (firstField s (suc k)))) (firstField s (suc k)))
 
   plain-in : (i : Bool) (m : Bytes)
       → filter isPlain (keysIn ((cond i (record { key = plain y; value = v } ∷ []) [] ++ (record { key = qualified m y; value = v } ∷ [])) ++ log))
@@ -106,7 +106,7 @@ module _ (impl : Option Bytes) (s y : Bytes) (v : Option ConstVal) (log : List C
       ≡ filter isPlain (keysIn log) ++ cond (not (eqb k 0 || implements impl (moduleAt s k)) || hasKey (plain y) log) [] (plain y ∷ [])
   unfolding moduleAt
   plain-entry zero = filter-one isPlain (any (sameKey (plain y)) (keysIn log)) (keysIn log) (plain y) refl ∙ rw (keys-has (plain y) log)
-  plain-entry (suc k) = rw (ne-eqb (suc k) 0 (λ e. omega arith)) (plain-in (sameOption impl (some (fieldAt s (suc k)))) (fieldAt s (suc k)))
+  plain-entry (suc k) = rw (ne-eqb (suc k) 0 (λ e. omega arith)) (plain-in (sameOption impl (some (firstField s (suc k)))) (firstField s (suc k)))
 
 -- ---- the rows
 
@@ -128,7 +128,7 @@ module _ (s t : Bytes) (m : ℕ) where
   qualified-more i =
       let f = constRow (logIn s t m) in
       let b = eqb (moduleLineOf t i) 0 || hasKey (qualifiedKey s t i) (logIn s t i) in
-      ap (concatMap f) (qualified-entry (sheetSource s .implement) s (fieldAt s (lineOf t i)) (slotAt t (5124 + 16 * i)) (logIn s t i) (moduleLineOf t i))
+      ap (concatMap f) (qualified-entry (sheetSource s .implement) s (firstField s (lineOf t i)) (slotAt t (5124 + 16 * i)) (logIn s t i) (moduleLineOf t i))
       ∙ concat-append f (filter isQualified (keysIn (logIn s t i))) (cond b [] (qualifiedKey s t i ∷ []))
       ∙ ap (λ (x : Bytes). concatMap f (filter isQualified (keysIn (logIn s t i))) ++ x) (concat-cond f b (qualifiedKey s t i))
 
@@ -137,6 +137,6 @@ module _ (s t : Bytes) (m : ℕ) where
   plain-more i =
       let f = constRow (logIn s t m) in
       let b = not (isOwn s (moduleLineOf t i)) || hasKey (plainKey s t i) (logIn s t i) in
-      ap (concatMap f) (plain-entry (sheetSource s .implement) s (fieldAt s (lineOf t i)) (slotAt t (5124 + 16 * i)) (logIn s t i) (moduleLineOf t i))
+      ap (concatMap f) (plain-entry (sheetSource s .implement) s (firstField s (lineOf t i)) (slotAt t (5124 + 16 * i)) (logIn s t i) (moduleLineOf t i))
       ∙ concat-append f (filter isPlain (keysIn (logIn s t i))) (cond b [] (plainKey s t i ∷ []))
       ∙ ap (λ (x : Bytes). concatMap f (filter isPlain (keysIn (logIn s t i))) ++ x) (concat-cond f b (plainKey s t i))

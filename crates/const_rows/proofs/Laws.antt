@@ -22,8 +22,8 @@ use Rattle.semantics.specs.Listing.{row, valueFields, constRow, constRows}
 use Rattle.ints.proofs.Widths.{held}
 use Rattle.write.specs.Wrote.{Wrote}
 use Rattle.write.proofs.Wrote.{wrote-none, wrote-as, then}
-use Rattle.implement.specs.Modules.{isOwn}
-use Rattle.names.specs.Table.{lineOf, moduleLineOf, valueBy, kindOf, bitsOf, fieldAt, logIn, Logged, found, hasKey}
+use Rattle.implement.specs.Modules.{firstField, isOwn}
+use Rattle.names.specs.Table.{lineOf, moduleLineOf, valueBy, kindOf, bitsOf, logIn, Logged, found, hasKey}
 use Rattle.names.proofs.Laws.{slot-is, value-failed, value-int, value-real, value-text}
 use Rattle.const_rows.specs.Rows.{plainKey, qualifiedKey, qualifiedTo, plainTo, qualifiedPart, plainPart, rowsTo, partOf, Shown, Table}
 use Rattle.const_rows.proofs.Keys.{qualified-none, plain-none, qualified-more, plain-more}
@@ -109,7 +109,7 @@ module _ (s t : Bytes) (m i : ℕ) where
     unfolding qualifiedPart
     no-module {d} {at} z = nothing {d = d} {at = at} (qualifiedPart s t m i) (rw (sym hk ∙ z))
 
-    module _ (z : k ≡ 0 → ⊥) {within name : Bytes} (hw : within ≡ fieldAt s k) {l : ℕ} (hl : l ≡ lineOf t i) (hn : name ≡ fieldAt s l) where
+    module _ (z : k ≡ 0 → ⊥) {within name : Bytes} (hw : within ≡ firstField s k) {l : ℕ} (hl : l ≡ lineOf t i) (hn : name ≡ firstField s l) where
       key-is : qualified within name ≡ qualifiedKey s t i
       key-is = rw (hw, hk, hn, hl)
 
@@ -140,7 +140,7 @@ module _ (s t : Bytes) (m i : ℕ) where
     unfolding plainPart
     not-own {d} {at} z = nothing {d = d} {at = at} (plainPart s t m i) (rw (own-is, z))
 
-    module _ (z : not own ≡ false) {name : Bytes} {l : ℕ} (hl : l ≡ lineOf t i) (hn : name ≡ fieldAt s l) where
+    module _ (z : not own ≡ false) {name : Bytes} {l : ℕ} (hl : l ≡ lineOf t i) (hn : name ≡ firstField s l) where
       name-is : plain name ≡ plainKey s t i
       name-is = rw (hn, hl)
 
@@ -163,7 +163,7 @@ module _ (s t : Bytes) (m i : ℕ) where
 
 module _ {s t : Bytes} {n m : ℕ} (b : Table s t n m) where
   pub fewer : {i : ℕ} → i < m → Logged s t n i
-  fewer {i} h = record { few = omega (arith, b .logged .few); each = λ j k. b .logged .each j (omega arith) }
+  fewer {i} h = record { few = omega (arith, b .logged .few); each = λ j k. b .logged .each j (omega arith); digests = λ j k. b .logged .digests j (omega arith) }
 
   pub shown : {r : ℕ} → r ≤ m → Shown t r
   shown {r} h = record { few = omega (arith, b .logged .few); long = b .checked .whole .room; text = λ i e. b .logged .each i (omega arith) .text }

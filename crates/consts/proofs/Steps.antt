@@ -15,10 +15,11 @@ use Rattle.semantics.specs.Fold.{fold}
 use Rattle.semantics.specs.Const.{entries}
 use Rattle.decimal.specs.Number as Number
 use Rattle.lines.specs.Lines.{readAt, nodesIn}
-use Rattle.implement.specs.Modules.{moduleAt}
+use Rattle.implement.specs.Modules.{firstField, moduleAt}
+use Rattle.words.specs.Words.{digest}
 use Rattle.checks.specs.Checks.{Kept}
 use Rattle.checks.proofs.Kept.{kept-then, kept-less}
-use Rattle.names.specs.Table.{fieldAt, logIn, Logged}
+use Rattle.names.specs.Table.{logIn, Logged}
 use Rattle.names.proofs.Laws.{logged-kept, log-kept}
 use Rattle.values.specs.declared.ConstVal.{ConstVal}
 use Rattle.values.specs.declared.Folded.{Folded}
@@ -29,6 +30,12 @@ use Rattle.leaf.specs.Folds.{foldAt, Foldable, Folds}
 use Rattle.fold.proofs.Steps.{foldable}
 use Rattle.consts.specs.Passes.{constAt, ConstLine, Steps}
 use Rattle.consts.proofs.Lines.{ex-number, ex-line}
+
+name-is : (s : Bytes) (i : ℕ) → firstField s (i + 1) ≡ getD (readAt s i .fields) 0 []
+name-is s i = let e : i + 1 - 1 ≡ i = omega arith in rw e
+
+pub digest-is : (s : Bytes) (i : ℕ) {d : ℕ} {x : Bytes} → x ≡ getD (readAt s i .fields) 0 [] → d ≡ digest x → d ≡ digest (firstField s (i + 1))
+digest-is s i h e = e ∙ ap digest (h ∙ sym (name-is s i))
 
 module _ (s t : Bytes) (n m k i : ℕ) (l : ConstLine s t n m k i) (r : ℕ) (is : r ≡ Number.numberOf 65536 (getD (readAt s i .fields) 3 [])) where
   pub value-foldable : Foldable s t n m r 49152
@@ -45,12 +52,9 @@ module _ (s t : Bytes) (n m k i : ℕ) (l : ConstLine s t n m k i) (r : ℕ) (is
         ap (λ (j : ℕ). fold (record { log = logIn s t m }) (pos iota) (nodeAt (nodesIn s) j .ex)) (sym (ex-number s t n i (l .checked) (l .line) (l .kind) r is))
         ∙ sym (f .answer .value) ∙ ap (resultIn u) q
 
-    name-is : fieldAt s (i + 1) ≡ getD (readAt s i .fields) 0 []
-    name-is = let e : i + 1 - 1 ≡ i = omega arith in rw e
-
     module _ (o : Option Tree.ConstVal) (w : Bytes) (e : Entered s u n m (i + 1) k o w) where
       log-is : logIn s w (m + 1) ≡ entries (sheetSource s .implement) (moduleAt s k) (getD (readAt s i .fields) 0 []) o ++ logIn s t m
-      log-is = e .log ∙ rw (name-is, log-kept (f .kept) (l .logged))
+      log-is = e .log ∙ rw (name-is s i, log-kept (f .kept) (l .logged))
 
       all-kept : Kept 5120 t w
       all-kept = kept-then (kept-less (omega arith) (f .kept)) (e .kept)

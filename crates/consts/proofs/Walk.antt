@@ -260,7 +260,7 @@ module _ (s t : Bytes) (n m i : ℕ) (b : Before s t n m i) where
       ap (λ (f : Folding). f .refused) (sym same) ∙ rw (passes-end s t n (b .checked) i h) (then-stop (groupFrom s 0 0) [] (sheetSource s .implement) (logIn s t m) q)
 
 pub start-before : (s t : Bytes) (n : ℕ) → Checked s t n → Before s t n 0 0
-start-before s t n c = record { checked = c; logged = record { few = omega arith; each = λ i h. absurd (omega arith) }; few = omega arith }
+start-before s t n c = record { checked = c; logged = record { few = omega arith; each = λ i h. absurd (omega arith); digests = λ i h. absurd (omega arith) }; few = omega arith }
 
 pub start-same : (s t : Bytes) (n : ℕ) → Checked s t n → rest s t 0 0 ≡ constants (sheetSource s)
 unfolding rest logIn

@@ -47,14 +47,15 @@ fn take_constant(
     ensures { λ b. ⌜ (Kept 5120 (now (work .entry)) (now (work .exit))) × (Steps (now (sheet .entry)) (now (work .entry)) (now (work .exit)) n m k i iota b) ⌝ }
 {
     let r = lines::number_at(sheet, work, n, i, 3);
+    let d = words::digest(lines::field_at(sheet, work, n, i, 0));
     let x = fold::fold_const(sheet, work, n, m, iota, r, STACK);
     match x {
         Folded::Value(v) => {
-            entries::enter(work, m, i + 1, k, v);
+            entries::enter(work, m, i + 1, k, v, d);
             true
         }
         Folded::Failed => {
-            entries::enter_failed(work, m, i + 1, k);
+            entries::enter_failed(work, m, i + 1, k, d);
             true
         }
         Folded::TooLong => false,

@@ -1,7 +1,7 @@
 -- Laws of entries.
 use mathlib.Core.Path.{_≡_, refl, sym, ap, _∙_, subst}
 use mathlib.Core.Bool.{true}
-use mathlib.Core.List.{[], _++_, append-assoc}
+use mathlib.Core.List.{[], _∷_, _++_, append-assoc}
 use mathlib.Core.Logic.{⊎-elim}
 use mathlib.Core.Option.{Option, none, some}
 use Prim.Native.Nat.{ℕ, _+_, _-_, _*_, _/_, _%_, _≤_, _<_, min}
@@ -12,8 +12,8 @@ use lib.Dec.{T}
 use lib.IntN.{ℤ}
 use lib.Ieee.{Float, binary64, toBits, fits}
 use lib.Ieee.Bits.{ofBits-toBits}
-use lib.ListN.{length, take, drop, getD}
-use lib.Seq.{getD-take, getD-drop, take-at, drop-drop, take-all, sets-eq, length-take-le, drop-at, drop-append-add}
+use lib.ListN.{length, take, drop, getD, length-append}
+use lib.Seq.{getD-take, getD-drop, take-at, drop-drop, getD-at, sets-eq, length-take-le, drop-at, drop-append-add}
 use mir.Syntax.{w64}
 use mir.Val.{SFits}
 use mir.ValLaws.{toZ-ofZ}
@@ -26,10 +26,11 @@ use Rattle.ints.proofs.Wrapping.{wrap-same}
 use Rattle.write.specs.Wrote.{over}
 use Rattle.write.proofs.Hex.{big-length}
 use Rattle.write.proofs.Back.{word-back}
-use Rattle.words.specs.Words.{wordAt, bitsAt}
+use Rattle.words.specs.Words.{digest, wordAt, bitsAt}
+use Rattle.implement.specs.Modules.{firstField}
 use Rattle.checks.specs.Checks.{Kept}
 use Rattle.checks.proofs.Kept.{kept-then, kept-less}
-use Rattle.names.specs.Table.{lineOf, moduleLineOf, valueBy, kindOf, bitsOf, entriesAt, logIn, Entry, Logged}
+use Rattle.names.specs.Table.{lineOf, moduleLineOf, valueBy, kindOf, bitsOf, digestOf, entriesAt, logIn, Entry, Logged}
 use Rattle.names.proofs.Laws.{slot-is, value-failed, value-int, value-real, value-text, part-low, part-kept, SameText, logged-same, log-same}
 use Rattle.values.specs.declared.ConstVal.{ConstVal}
 use Rattle.values.specs.declared.ConstVal.the-variants.{Int, Real, Str}
@@ -67,9 +68,9 @@ string-some t u a e d = rw e d
 
 -- ---- an entry's bytes
 
-entry-length : (line within kind bits : ℕ) → length (entryOf line within kind bits) ≡ 13
+entry-length : (line within kind bits d : ℕ) → length (entryOf line within kind bits d) ≡ 14
 unfolding entryOf
-entry-length line within kind bits = omega (arith, big-length 8 bits)
+entry-length line within kind bits d = omega (arith, length-append (bigEndian 8 bits) (d ∷ []), big-length 8 bits)
 
 -- bytes written over others lie there, and all others are kept
 module _ (t r : Bytes) (a : ℕ) (room : a + length r ≤ length t) where
@@ -98,8 +99,8 @@ module _ (t r : Bytes) (a : ℕ) (room : a + length r ≤ length t) where
   over-kept : Kept a t (over t a r)
   over-kept = wrote-kept {d = t} {a = a} {t = r} {e = over t a r} {b = min (a + length r) (length t + 1)} (record { bytes = refl; place = refl })
 
-module _ (t u : Bytes) (m line within kind bits : ℕ) (f : Free t m line within) (str : Bytes) (short : length str ≤ 256)
-    (is : u ≡ over (over t (16384 + 256 * m) str) (5120 + 16 * m) (entryOf line within kind bits))
+module _ (t u : Bytes) (m line within kind bits d : ℕ) (f : Free t m line within) (str : Bytes) (short : length str ≤ 256)
+    (is : u ≡ over (over t (16384 + 256 * m) str) (5120 + 16 * m) (entryOf line within kind bits d))
     (low : kind ≤ 3) (word : bits < 18446744073709551616) (text : kind ≡ 3 → (bits % 65536 ≡ 16384 + 256 * m) × (bits / 65536 ≤ 256)) where
   string-room : 16384 + 256 * m + length str ≤ length t
   string-room = omega (arith, f .few, f .long)
@@ -107,27 +108,27 @@ module _ (t u : Bytes) (m line within kind bits : ℕ) (f : Free t m line within
   string-kept : Kept (16384 + 256 * m) t (over t (16384 + 256 * m) str)
   string-kept = over-kept t str (16384 + 256 * m) string-room
 
-  entry-room : 5120 + 16 * m + length (entryOf line within kind bits) ≤ length (over t (16384 + 256 * m) str)
-  entry-room = omega (arith, f .few, f .long, entry-length line within kind bits, string-kept .long)
+  entry-room : 5120 + 16 * m + length (entryOf line within kind bits d) ≤ length (over t (16384 + 256 * m) str)
+  entry-room = omega (arith, f .few, f .long, entry-length line within kind bits d, string-kept .long)
 
   entry-only : Kept (5120 + 16 * m) (over t (16384 + 256 * m) str) u
-  entry-only = rw is (over-kept (over t (16384 + 256 * m) str) (entryOf line within kind bits) (5120 + 16 * m) entry-room)
+  entry-only = rw is (over-kept (over t (16384 + 256 * m) str) (entryOf line within kind bits d) (5120 + 16 * m) entry-room)
 
   table-kept : Kept (5120 + 16 * m) t u
   table-kept = kept-then (kept-less (omega (arith, f .few)) string-kept) entry-only
 
   -- what stands behind the table is as the string leaves it
   behind : (p : ℕ) → 7168 ≤ p → drop p u ≡ drop p (over t (16384 + 256 * m) str)
-  behind p h = rw is (over-behind (over t (16384 + 256 * m) str) (entryOf line within kind bits) (5120 + 16 * m) entry-room p (omega (arith, f .few, entry-length line within kind bits)))
+  behind p h = rw is (over-behind (over t (16384 + 256 * m) str) (entryOf line within kind bits d) (5120 + 16 * m) entry-room p (omega (arith, f .few, entry-length line within kind bits d)))
 
   -- ---- the new entry
 
-  here : take 13 (drop (5120 + 16 * m) u) ≡ entryOf line within kind bits
-  here = rw (is, ← entry-length line within kind bits) (over-there (over t (16384 + 256 * m) str) (entryOf line within kind bits) (5120 + 16 * m) entry-room)
+  here : take 14 (drop (5120 + 16 * m) u) ≡ entryOf line within kind bits d
+  here = rw (is, ← entry-length line within kind bits d) (over-there (over t (16384 + 256 * m) str) (entryOf line within kind bits d) (5120 + 16 * m) entry-room)
 
-  byte-here : (p j : ℕ) → p ≡ 5120 + 16 * m + j → j < 13 → getD u p 0 ≡ getD (entryOf line within kind bits) j 0
+  byte-here : (p j : ℕ) → p ≡ 5120 + 16 * m + j → j < 14 → getD u p 0 ≡ getD (entryOf line within kind bits d) j 0
   byte-here p j e h =
-      ap (λ (q : ℕ). getD u q 0) e ∙ sym (getD-drop (5120 + 16 * m) u j 0) ∙ sym (getD-take 13 (drop (5120 + 16 * m) u) j 0 h) ∙ ap (λ (l : Bytes). getD l j 0) here
+      ap (λ (q : ℕ). getD u q 0) e ∙ sym (getD-drop (5120 + 16 * m) u j 0) ∙ sym (getD-take 14 (drop (5120 + 16 * m) u) j 0 h) ∙ ap (λ (l : Bytes). getD l j 0) here
 
   line-here : lineOf u m ≡ line
   unfolding wordAt entryOf
@@ -146,8 +147,12 @@ module _ (t u : Bytes) (m line within kind bits : ℕ) (f : Free t m line within
   bits-here =
       let a : 5125 + 16 * m ≡ 5120 + 16 * m + 5 = omega arith in
       let e : take 8 (drop (5125 + 16 * m) u) ≡ bigEndian 8 bits =
-      rw (a, ← drop-drop 5 (5120 + 16 * m) u) (sym (part-low 5 8 13 (drop (5120 + 16 * m) u) (omega arith)) ∙ ap (λ (l : Bytes). take 8 (drop 5 l)) here ∙ take-all 8 (bigEndian 8 bits) (omega (arith, big-length 8 bits))) in
+      rw (a, ← drop-drop 5 (5120 + 16 * m) u) (sym (part-low 5 8 14 (drop (5120 + 16 * m) u) (omega arith)) ∙ ap (λ (l : Bytes). take 8 (drop 5 l)) here ∙ take-at (bigEndian 8 bits) (d ∷ []) 8 (big-length 8 bits)) in
       ap (fromBigEndian 0) e ∙ word-back bits (omega arith)
+
+  digest-here : digestOf u m ≡ d
+  unfolding entryOf
+  digest-here = byte-here (5133 + 16 * m) 13 (omega arith) (omega arith) ∙ getD-at (bigEndian 8 bits) d [] 0 8 (big-length 8 bits)
 
   entry-new : (n : ℕ) → line ≤ n → within ≤ n → Entry u n m
   entry-new n p q = record {
@@ -173,35 +178,39 @@ module _ (t u : Bytes) (m line within kind bits : ℕ) (f : Free t m line within
       let e = l .each i h .text k in
       rw (behind (bitsOf t i % 65536) (omega arith)) (part-kept string-kept (bitsOf t i % 65536) (bitsOf t i / 65536) (omega (arith, e .short)))
 
-  entered : (v : Option Tree.ConstVal) → valueBy u kind bits ≡ v → (s : Bytes) (n : ℕ) → line ≤ n → within ≤ n → Logged s t n m → Entered s t n m line within v u
+  entered : (v : Option Tree.ConstVal) → valueBy u kind bits ≡ v → (s : Bytes) (n : ℕ) → line ≤ n → within ≤ n → d ≡ digest (firstField s line) → Logged s t n m → Entered s t n m line within v u
   unfolding logIn entriesAt
-  entered v e s n p q l = record {
+  entered v e s n p q hd l = record {
     log = rw (add-one, line-here, within-here, slot-is u m, kind-here, bits-here, e, log-same table-kept l (texts-same s n l));
-    logged = record { few = omega (arith, f .few); each = λ i h. ⊎-elim (λ (x : i ≡ m). subst (Entry u n) (sym x) (entry-new n p q)) (λ (x : i < m). logged-same table-kept l .each i x) (eq-or-lt-of-le (omega arith)) };
+    logged = record {
+      few = omega (arith, f .few);
+      each = λ i h. ⊎-elim (λ (x : i ≡ m). subst (Entry u n) (sym x) (entry-new n p q)) (λ (x : i < m). logged-same table-kept l .each i x) (eq-or-lt-of-le (omega arith));
+      digests = λ i h. ⊎-elim (λ (x : i ≡ m). rw (x, digest-here, line-here) hd) (λ (x : i < m). logged-same table-kept l .digests i x) (eq-or-lt-of-le (omega arith));
+    };
     kept = kept-less (omega arith) table-kept;
   }
 
-module _ (t u : Bytes) (m line within : ℕ) (f : Free t m line within) where
-  pub entered-failed : u ≡ over t (5120 + 16 * m) (entryOf line within 0 0) → (s : Bytes) (n : ℕ) → line ≤ n → within ≤ n → Logged s t n m → Entered s t n m line within none u
+module _ (t u : Bytes) (m line within d : ℕ) (f : Free t m line within) where
+  pub entered-failed : u ≡ over t (5120 + 16 * m) (entryOf line within 0 0 d) → (s : Bytes) (n : ℕ) → line ≤ n → within ≤ n → d ≡ digest (firstField s line) → Logged s t n m → Entered s t n m line within none u
   entered-failed e =
-      entered t u m line within 0 0 f [] (omega arith) (e ∙ ap (λ (x : Bytes). over x (5120 + 16 * m) (entryOf line within 0 0)) (over-none t (16384 + 256 * m))) (omega arith) (omega arith) (λ k. absurd (omega arith))
+      entered t u m line within 0 0 d f [] (omega arith) (e ∙ ap (λ (x : Bytes). over x (5120 + 16 * m) (entryOf line within 0 0 d)) (over-none t (16384 + 256 * m))) (omega arith) (omega arith) (λ k. absurd (omega arith))
       none (value-failed u 0 0 (λ k. omega arith) (λ k. omega arith) (λ k. omega arith))
 
   -- a value, by its variant
   pub entered-value : (v : ConstVal) → At 49152 v → {b : ℕ} → b < 18446744073709551616 → Says v (16384 + 256 * m) b
-      → u ≡ over (over t (16384 + 256 * m) (stringOf t v)) (5120 + 16 * m) (entryOf line within (kindFor v) b)
-      → (s : Bytes) (n : ℕ) → line ≤ n → within ≤ n → Logged s t n m → Entered s t n m line within (some (valueIn t v)) u
+      → u ≡ over (over t (16384 + 256 * m) (stringOf t v)) (5120 + 16 * m) (entryOf line within (kindFor v) b d)
+      → (s : Bytes) (n : ℕ) → line ≤ n → within ≤ n → d ≡ digest (firstField s line) → Logged s t n m → Entered s t n m line within (some (valueIn t v)) u
   unfolding valueIn
   entered-value (Int z) a {b} h says e =
-      entered t u m line within 1 b f [] (omega arith) e (omega arith) h (λ k. absurd (omega arith))
+      entered t u m line within 1 b d f [] (omega arith) e (omega arith) h (λ k. absurd (omega arith))
       (some (vInt z)) (value-int u 1 b refl ∙ ap (λ (x : ℤ). some (vInt x)) says)
   entered-value (Real x) a {b} h says e =
-      entered t u m line within 2 b f [] (omega arith) e (omega arith) h (λ k. absurd (omega arith))
+      entered t u m line within 2 b d f [] (omega arith) e (omega arith) h (λ k. absurd (omega arith))
       (some (vReal x)) (value-real u 2 b refl ∙ ap (λ (y : Float). some (vReal y)) says)
   entered-value (Str p l) a {b} h says e =
       let g : length (stringIn t p l) ≡ l = string-length t p l (omega (arith, f .long)) in
       let c : (bits : ℕ) → bits ≡ 16384 + 256 * m + 65536 * l → (bits % 65536 ≡ 16384 + 256 * m) × (bits / 65536 ≡ l) = λ bits q. (omega (arith, f .few), omega (arith, f .few)) in
       let x : (k : _≡_ {A = ℕ} 3 3) → (b % 65536 ≡ 16384 + 256 * m) × (b / 65536 ≤ 256) = λ k. (c b says .0, omega (arith, c b says .1)) in
       let y : length (stringIn t p l) ≤ 256 = omega arith in
-      entered t u m line within 3 b f (stringIn t p l) y e (omega arith) h x
-      (some (vStr (stringIn t p l))) (text-here t u m line within 3 b f (stringIn t p l) y e (omega arith) h x refl (c b says .1 ∙ sym g))
+      entered t u m line within 3 b d f (stringIn t p l) y e (omega arith) h x
+      (some (vStr (stringIn t p l))) (text-here t u m line within 3 b d f (stringIn t p l) y e (omega arith) h x refl (c b says .1 ∙ sym g))

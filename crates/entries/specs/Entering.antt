@@ -10,16 +10,16 @@ use Rattle.semantics.specs.Tree as Tree
 use Rattle.semantics.specs.Sheet.{sheetSource}
 use Rattle.semantics.specs.Fold.{signed64}
 use Rattle.semantics.specs.Const.{entries}
-use Rattle.implement.specs.Modules.{moduleAt}
+use Rattle.implement.specs.Modules.{firstField, moduleAt}
 use Rattle.checks.specs.Checks.{Kept}
-use Rattle.names.specs.Table.{fieldAt, logIn, Logged}
+use Rattle.names.specs.Table.{logIn, Logged}
 use Rattle.values.specs.declared.ConstVal.{ConstVal}
 use Rattle.values.specs.declared.ConstVal.the-variants.{Int, Real, Str}
 use Rattle.values.specs.Values.{stringIn}
 
--- the bytes of an entry: the `con` line, its module's line, the kind and the bits
-unfoldable pub entryOf : ℕ → ℕ → ℕ → ℕ → Bytes
-entryOf line within kind bits = line % 256 ∷ (line / 256 ∷ (within % 256 ∷ (within / 256 ∷ (kind ∷ bigEndian 8 bits))))
+-- the bytes of an entry: the `con` line, its module's line, the kind, the bits and the name's digest
+unfoldable pub entryOf : ℕ → ℕ → ℕ → ℕ → ℕ → Bytes
+entryOf line within kind bits d = line % 256 ∷ (line / 256 ∷ (within % 256 ∷ (within / 256 ∷ (kind ∷ (bigEndian 8 bits ++ (d ∷ []))))))
 
 abbrev pub kindFor : ConstVal → ℕ
 kindFor (Int z) = 1
@@ -47,6 +47,6 @@ pub record Free (t : Bytes) (m line within : ℕ) : Type 0 where
 
 -- entry m holds a constant with this value, and the entries before it what they held
 pub record Entered (s t : Bytes) (n m line within : ℕ) (v : Option Tree.ConstVal) (u : Bytes) : Type 0 where
-  pub log : logIn s u (m + 1) ≡ entries (sheetSource s .implement) (moduleAt s within) (fieldAt s line) v ++ logIn s t m
+  pub log : logIn s u (m + 1) ≡ entries (sheetSource s .implement) (moduleAt s within) (firstField s line) v ++ logIn s t m
   pub logged : Logged s u n (m + 1)
   pub kept : Kept 5120 t u

@@ -6,6 +6,8 @@ ghost use Prim.Native.Nat.{ℕ, _+_, _*_, _≤_, _<_};
 ghost use lib.ListN.{length};
 ghost use Rattle.semantics.specs.Text.{Bytes};
 ghost use Rattle.write.specs.Wrote.{over};
+ghost use Rattle.words.specs.Words.{digest};
+ghost use Rattle.implement.specs.Modules.{firstField};
 ghost use Rattle.names.specs.Table.{Logged};
 ghost use Rattle.values.specs.Values.{valueIn, At};
 ghost use Rattle.entries.specs.Entering.{entryOf, kindFor, Says, stringOf, Free, Entered};
@@ -14,17 +16,18 @@ const TABLE: usize = 5120;
 
 const STRINGS: usize = 16384;
 
-// Entry m: a `con` line, its module's line, and a slot.
-fn put_entry(work: &mut [u8], m: usize, line: usize, within: usize, kind: u8, bits: u64)
-    requires { ⌜ Free (now work) m line within ⌝ }
-    ensures { λ _. ⌜ now (work .exit) ≡ over (now (work .entry)) (5120 + 16 * m) (entryOf line within kind bits) ⌝ }
+// Entry m: a `con` line, its module's line, a slot, and the digest of the name.
+fn put_entry(work: &mut [u8], m: usize, line: usize, within: usize, kind: u8, bits: u64, d: usize)
+    requires { ⌜ (Free (now work) m line within) × (d < 256) ⌝ }
+    ensures { λ _. ⌜ now (work .exit) ≡ over (now (work .entry)) (5120 + 16 * m) (entryOf line within kind bits d) ⌝ }
 {
     let a = write::put(work, TABLE + 16 * m, (line % 256) as u8);
     let b = write::put(work, a, (line / 256) as u8);
     let c = write::put(work, b, (within % 256) as u8);
-    let d = write::put(work, c, (within / 256) as u8);
-    let e = write::put(work, d, kind);
-    let _ = words::put_bits(work, e, bits);
+    let e = write::put(work, c, (within / 256) as u8);
+    let f = write::put(work, e, kind);
+    let g = words::put_bits(work, f, bits);
+    let _ = write::put(work, g, d as u8);
 }
 
 fn kind_of(v: ConstVal) -> u8
@@ -61,10 +64,10 @@ fn keep_string(work: &mut [u8], v: ConstVal, m: usize)
     }
 }
 
-// A constant that has a value.
-pub fn enter(work: &mut [u8], m: usize, line: usize, within: usize, v: ConstVal)
-    requires { ⌜ (Free (now work) m line within) × (At 49152 v) ⌝ }
-    ensures { λ _. ⌜ ((s : Bytes) (n : ℕ) → line ≤ n → within ≤ n → Logged s (now (work .entry)) n m → Entered s (now (work .entry)) n m line within (some (valueIn (now (work .entry)) v)) (now (work .exit))) ⌝ }
+// A constant that has a value; d is the digest of its name.
+pub fn enter(work: &mut [u8], m: usize, line: usize, within: usize, v: ConstVal, d: usize)
+    requires { ⌜ (Free (now work) m line within) × (At 49152 v) × (d < 256) ⌝ }
+    ensures { λ _. ⌜ ((s : Bytes) (n : ℕ) → line ≤ n → within ≤ n → d ≡ digest (firstField s line) → Logged s (now (work .entry)) n m → Entered s (now (work .entry)) n m line within (some (valueIn (now (work .entry)) v)) (now (work .exit))) ⌝ }
 {
     keep_string(work, v, m);
     put_entry(
@@ -74,13 +77,14 @@ pub fn enter(work: &mut [u8], m: usize, line: usize, within: usize, v: ConstVal)
         within,
         kind_of(v),
         bits_of(v, STRINGS + 256 * m),
+        d,
     );
 }
 
 // One that failed.
-pub fn enter_failed(work: &mut [u8], m: usize, line: usize, within: usize)
-    requires { ⌜ Free (now work) m line within ⌝ }
-    ensures { λ _. ⌜ ((s : Bytes) (n : ℕ) → line ≤ n → within ≤ n → Logged s (now (work .entry)) n m → Entered s (now (work .entry)) n m line within none (now (work .exit))) ⌝ }
+pub fn enter_failed(work: &mut [u8], m: usize, line: usize, within: usize, d: usize)
+    requires { ⌜ (Free (now work) m line within) × (d < 256) ⌝ }
+    ensures { λ _. ⌜ ((s : Bytes) (n : ℕ) → line ≤ n → within ≤ n → d ≡ digest (firstField s line) → Logged s (now (work .entry)) n m → Entered s (now (work .entry)) n m line within none (now (work .exit))) ⌝ }
 {
-    put_entry(work, m, line, within, 0, 0);
+    put_entry(work, m, line, within, 0, 0, d);
 }

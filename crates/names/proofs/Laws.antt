@@ -16,11 +16,12 @@ use Rattle.semantics.specs.Tree.ConstVal.{vInt, vReal, vStr}
 use Rattle.semantics.specs.Sheet.{sheetSource}
 use Rattle.semantics.specs.Fold.{Key, Const, signed64, plain, qualified, sameOption, lookUp, valueOf}
 use Rattle.semantics.specs.Const.{entries, implements}
-use Rattle.words.specs.Words.{wordAt, bitsAt}
-use Rattle.implement.specs.Modules.{moduleAt, isOwn}
+use Rattle.words.specs.Words.{digest, wordAt, bitsAt}
+use Rattle.words.proofs.Laws.{digest-apart}
+use Rattle.implement.specs.Modules.{firstField, moduleAt, isOwn}
 use Rattle.checks.specs.Checks.{Kept}
 use Rattle.checks.proofs.Kept.{kept-at, kept-less}
-use Rattle.names.specs.Table.{lineOf, moduleLineOf, valueBy, slotAt, kindOf, bitsOf, fieldAt, entriesAt, logIn, Entry, Logged, found, hasKey, answersPlain, answersQualified}
+use Rattle.names.specs.Table.{lineOf, moduleLineOf, valueBy, slotAt, kindOf, bitsOf, digestOf, entriesAt, logIn, Entry, Logged, found, hasKey, answersPlain, answersQualified}
 
 -- ---- a slot by its kind and bits
 
@@ -79,7 +80,7 @@ module _ (impl : Option Bytes) (s x y : Bytes) (v : Option ConstVal) (rest : Lis
   plain-has : (k : ℕ) → hasKey (plain x) (entries impl (moduleAt s k) y v ++ rest) ≡ (same x y && (eqb k 0 || implements impl (moduleAt s k))) || hasKey (plain x) rest
   unfolding moduleAt hasKey
   plain-has zero = has-one (same x y) (hasKey (plain x) rest)
-  plain-has (suc k) = rw (ne-eqb (suc k) 0 (λ e. omega arith)) (plain-has-within (sameOption impl (some (fieldAt s (suc k)))) (fieldAt s (suc k)))
+  plain-has (suc k) = rw (ne-eqb (suc k) 0 (λ e. omega arith)) (plain-has-within (sameOption impl (some (firstField s (suc k)))) (firstField s (suc k)))
 
   qualified-has-within : (q : Bytes) (i : Bool) (m : Bytes)
       → hasKey (qualified q x) ((cond i (record { key = plain y; value = v } ∷ []) [] ++ (record { key = qualified m y; value = v } ∷ [])) ++ rest) ≡ (same x y && (true && same q m)) || hasKey (qualified q x) rest
@@ -87,10 +88,10 @@ module _ (impl : Option Bytes) (s x y : Bytes) (v : Option ConstVal) (rest : Lis
   qualified-has-within q true m = has-both (same q m) (same x y) (hasKey (qualified q x) rest)
   qualified-has-within q false m = has-both (same q m) (same x y) (hasKey (qualified q x) rest)
 
-  qualified-has : (q : Bytes) (k : ℕ) → hasKey (qualified q x) (entries impl (moduleAt s k) y v ++ rest) ≡ (same x y && (not (eqb k 0) && same q (fieldAt s k))) || hasKey (qualified q x) rest
+  qualified-has : (q : Bytes) (k : ℕ) → hasKey (qualified q x) (entries impl (moduleAt s k) y v ++ rest) ≡ (same x y && (not (eqb k 0) && same q (firstField s k))) || hasKey (qualified q x) rest
   unfolding moduleAt hasKey
   qualified-has q zero = has-none (same x y) (hasKey (qualified q x) rest)
-  qualified-has q (suc k) = rw (ne-eqb (suc k) 0 (λ e. omega arith)) (qualified-has-within q (sameOption impl (some (fieldAt s (suc k)))) (fieldAt s (suc k)))
+  qualified-has q (suc k) = rw (ne-eqb (suc k) 0 (λ e. omega arith)) (qualified-has-within q (sameOption impl (some (firstField s (suc k)))) (firstField s (suc k)))
 
   plain-within : (i : Bool) (m : Bytes)
       → valueOf (lookUp (plain x) ((cond i (record { key = plain y; value = v } ∷ []) [] ++ (record { key = qualified m y; value = v } ∷ [])) ++ rest)) ≡ cond (same x y && i) v (valueOf (lookUp (plain x) rest))
@@ -100,7 +101,7 @@ module _ (impl : Option Bytes) (s x y : Bytes) (v : Option ConstVal) (rest : Lis
   plain-step : (k : ℕ) → valueOf (lookUp (plain x) (entries impl (moduleAt s k) y v ++ rest)) ≡ cond (same x y && (eqb k 0 || implements impl (moduleAt s k))) v (valueOf (lookUp (plain x) rest))
   unfolding moduleAt
   plain-step zero = chosen (same x y) v (plain y) (lookUp (plain x) rest)
-  plain-step (suc k) = rw (ne-eqb (suc k) 0 (λ e. omega arith)) (plain-within (sameOption impl (some (fieldAt s (suc k)))) (fieldAt s (suc k)))
+  plain-step (suc k) = rw (ne-eqb (suc k) 0 (λ e. omega arith)) (plain-within (sameOption impl (some (firstField s (suc k)))) (firstField s (suc k)))
 
   module _ (q : Bytes) where
     last : (m : Bytes)
@@ -118,10 +119,10 @@ module _ (impl : Option Bytes) (s x y : Bytes) (v : Option ConstVal) (rest : Lis
     qualified-within true m = last m
     qualified-within false m = last m
 
-    qualified-step : (k : ℕ) → valueOf (lookUp (qualified q x) (entries impl (moduleAt s k) y v ++ rest)) ≡ cond (same x y && (not (eqb k 0) && same q (fieldAt s k))) v (valueOf (lookUp (qualified q x) rest))
+    qualified-step : (k : ℕ) → valueOf (lookUp (qualified q x) (entries impl (moduleAt s k) y v ++ rest)) ≡ cond (same x y && (not (eqb k 0) && same q (firstField s k))) v (valueOf (lookUp (qualified q x) rest))
     unfolding moduleAt
     qualified-step zero = passed (same x y) v (valueOf (lookUp (qualified q x) rest))
-    qualified-step (suc k) = rw (ne-eqb (suc k) 0 (λ e. omega arith)) (qualified-within (sameOption impl (some (fieldAt s (suc k)))) (fieldAt s (suc k)))
+    qualified-step (suc k) = rw (ne-eqb (suc k) 0 (λ e. omega arith)) (qualified-within (sameOption impl (some (firstField s (suc k)))) (firstField s (suc k)))
 
 -- a look-up, where it is known which entries answer it
 pub record Answers (s t : Bytes) (k : Key) (answers : ℕ → Bool) : Type 0 where
@@ -141,20 +142,20 @@ pub looking : (s t : Bytes) (k : Key) (m : ℕ) → Looking s t k m m
 looking s t k m = record { value = refl; has = refl }
 
 module _ (s t : Bytes) (k : Key) (answers : ℕ → Bool) (a : Answers s t k answers) (m : ℕ) where
-  pub look-hit : (i : ℕ) → Looking s t k m i → 0 < i → true ≡ answers (i - 1) → Looked s t k m i
+  pub look-hit : (i : ℕ) → Looking s t k m i → 0 < i → {b : Bool} → b ≡ answers (i - 1) → b ≡ true → Looked s t k m i
   unfolding logIn found
-  look-hit zero l p h = absurd (omega arith)
-  look-hit (suc i) l p h =
+  look-hit zero l p h q = absurd (omega arith)
+  look-hit (suc i) l p h q =
       let e : suc i - 1 ≡ i = omega arith in
-      let g : answers i ≡ true = sym (rw e at h) in
+      let g : answers i ≡ true = sym (rw e at h) ∙ q in
       record { value = l .value ∙ a .value i (logIn s t i) ∙ rw g; has = l .has ∙ a .has i (logIn s t i) ∙ rw (g, lt-ltb 0 (suc i) (omega arith)) }
 
-  pub look-on : (i : ℕ) → Looking s t k m i → 0 < i → false ≡ answers (i - 1) → Looking s t k m (i - 1)
+  pub look-on : (i : ℕ) → Looking s t k m i → 0 < i → {b : Bool} → b ≡ answers (i - 1) → b ≡ false → Looking s t k m (i - 1)
   unfolding logIn
-  look-on zero l p h = absurd (omega arith)
-  look-on (suc i) l p h =
+  look-on zero l p h q = absurd (omega arith)
+  look-on (suc i) l p h q =
       let e : suc i - 1 ≡ i = omega arith in
-      let g : answers i ≡ false = sym (rw e at h) in
+      let g : answers i ≡ false = sym (rw e at h) ∙ q in
       rw e (record { value = l .value ∙ a .value i (logIn s t i) ∙ rw g; has = l .has ∙ a .has i (logIn s t i) ∙ rw g })
 
 pub look-end : (s t : Bytes) (k : Key) (m i : ℕ) → Looking s t k m i → i ≤ 0 → Looked s t k m 0
@@ -165,42 +166,43 @@ look-end s t k m (suc i) l h = absurd (omega arith)
 pub answers-plain : (s t x : Bytes) → Answers s t (plain x) (λ (i : ℕ). answersPlain s t i x)
 unfolding entriesAt answersPlain
 answers-plain s t x = record {
-  value = λ i rest. plain-step (sheetSource s .implement) s x (fieldAt s (lineOf t i)) (slotAt t (5124 + 16 * i)) rest (moduleLineOf t i);
-  has = λ i rest. plain-has (sheetSource s .implement) s x (fieldAt s (lineOf t i)) (slotAt t (5124 + 16 * i)) rest (moduleLineOf t i);
+  value = λ i rest. plain-step (sheetSource s .implement) s x (firstField s (lineOf t i)) (slotAt t (5124 + 16 * i)) rest (moduleLineOf t i);
+  has = λ i rest. plain-has (sheetSource s .implement) s x (firstField s (lineOf t i)) (slotAt t (5124 + 16 * i)) rest (moduleLineOf t i);
 }
 
 pub answers-qualified : (s t q x : Bytes) → Answers s t (qualified q x) (λ (i : ℕ). answersQualified s t i q x)
 unfolding entriesAt answersQualified
 answers-qualified s t q x = record {
-  value = λ i rest. qualified-step (sheetSource s .implement) s x (fieldAt s (lineOf t i)) (slotAt t (5124 + 16 * i)) rest q (moduleLineOf t i);
-  has = λ i rest. qualified-has (sheetSource s .implement) s x (fieldAt s (lineOf t i)) (slotAt t (5124 + 16 * i)) rest q (moduleLineOf t i);
+  value = λ i rest. qualified-step (sheetSource s .implement) s x (firstField s (lineOf t i)) (slotAt t (5124 + 16 * i)) rest q (moduleLineOf t i);
+  has = λ i rest. qualified-has (sheetSource s .implement) s x (firstField s (lineOf t i)) (slotAt t (5124 + 16 * i)) rest q (moduleLineOf t i);
 }
 
--- which entries answer, as it is tested
-module _ (s t : Bytes) (i : ℕ) (x : Bytes) {b : Bool} {k : ℕ} (line : k ≡ lineOf t i) (name : b ≡ same x (fieldAt s k)) where
-  named : same x (fieldAt s (lineOf t i)) ≡ b
-  named = ap (λ (j : ℕ). same x (fieldAt s j)) (sym line) ∙ sym name
+-- names with different digests are different
+pub named-apart : {s t : Bytes} {n m i d : ℕ} (x : Bytes) → Logged s t n m → i < m → d ≡ digest x → (digestOf t i ≡ d → ⊥) → false ≡ same x (firstField s (lineOf t i))
+named-apart {s} {t} {i = i} x l h e z = digest-apart x (firstField s (lineOf t i)) (λ q. z (l .digests i h ∙ sym (e ∙ q)))
 
+-- which entries answer, as it is tested
+module _ (s t : Bytes) (i : ℕ) (x : Bytes) {b : Bool} (name : b ≡ same x (firstField s (lineOf t i))) where
   pub plain-other : not b ≡ true → false ≡ answersPlain s t i x
   unfolding answersPlain
-  plain-other f = rw (named, not-true b f)
+  plain-other f = rw (← name, not-true b f)
 
   pub qualified-other : (q : Bytes) → not b ≡ true → false ≡ answersQualified s t i q x
   unfolding answersQualified
-  qualified-other q f = rw (named, not-true b f)
+  qualified-other q f = rw (← name, not-true b f)
 
   module _ (f : not b ≡ false) {j : ℕ} (within : j ≡ moduleLineOf t i) where
     pub plain-own : {r : Bool} → r ≡ isOwn s j → r ≡ answersPlain s t i x
     unfolding answersPlain
-    plain-own e = rw (named, not-false b f, ← within) e
+    plain-own e = rw (← name, not-false b f, ← within) e
 
     pub qualified-top : (q : Bytes) → j ≡ 0 → false ≡ answersQualified s t i q x
     unfolding answersQualified
-    qualified-top q z = rw (named, not-false b f, ← within, eq-eqb j 0 z)
+    qualified-top q z = rw (← name, not-false b f, ← within, eq-eqb j 0 z)
 
-    pub qualified-in : (q : Bytes) → (j ≡ 0 → ⊥) → {r : Bool} → r ≡ same q (fieldAt s j) → r ≡ answersQualified s t i q x
+    pub qualified-in : (q : Bytes) → (j ≡ 0 → ⊥) → {r : Bool} → r ≡ same q (firstField s j) → r ≡ answersQualified s t i q x
     unfolding answersQualified
-    qualified-in q z {r} e = rw (named, not-false b f, ← within, ne-eqb j 0 z) e
+    qualified-in q z {r} e = rw (← name, not-false b f, ← within, ne-eqb j 0 z) e
 
 -- ---- what is kept
 
@@ -240,6 +242,9 @@ module _ {t u : Bytes} (n i : ℕ) (w : Kept (5136 + 16 * i) t u) (e : Entry t n
   word-of : bitsOf u i ≡ bitsOf t i
   word-of = bits-kept w (5125 + 16 * i) (omega arith)
 
+  digest-kept : digestOf u i ≡ digestOf t i
+  digest-kept = kept-at w (5133 + 16 * i) (omega arith)
+
   entry-kept : Entry u n i
   entry-kept = record {
     first = rw line-kept (e .first);
@@ -269,7 +274,11 @@ module _ {s t u : Bytes} {n m : ℕ} (w : Kept (5120 + 16 * m) t u) (l : Logged 
   own-part i h = kept-less (omega arith) w
 
   pub logged-same : Logged s u n m
-  logged-same = record { few = l .few; each = λ i h. entry-kept n i (own-part i h) (l .each i h) }
+  logged-same = record {
+    few = l .few;
+    each = λ i h. entry-kept n i (own-part i h) (l .each i h);
+    digests = λ i h. let e = l .each i h in rw (digest-kept n i (own-part i h) e, line-kept n i (own-part i h) e) (l .digests i h);
+  }
 
   module _ (same : (i : ℕ) → i < m → SameText t u i) where
     log-upto : (k : ℕ) → k ≤ m → logIn s u k ≡ logIn s t k

@@ -1,5 +1,6 @@
 -- The table of constants in the working space, and the log that it holds.
--- Entry i takes 16 bytes from 5120 + 16 i: the `con` line and its module's line, 0 for none, two bytes each, the low one first; then a slot.
+-- Entry i takes 16 bytes from 5120 + 16 i: the `con` line and its module's line, 0 for none, two bytes each, the low one first; a slot;
+-- the digest of the constant's name; two are free.
 -- A slot is a kind and 8 bytes, the highest first: 0 failed, 1 an integer's bits, 2 a real's, 3 a string's place + 65536 times its length.
 use Prim.Native.Nat.{ℕ, zero, suc, _+_, _*_, _/_, _%_, _≤_, _<_}
 use mathlib.Core.Path.{_≡_}
@@ -15,7 +16,7 @@ use Rattle.semantics.specs.Tree.ConstVal.{vInt, vReal, vStr}
 use Rattle.semantics.specs.Sheet.{sheetSource}
 use Rattle.semantics.specs.Fold.{Key, Const, signed64, sameKey}
 use Rattle.semantics.specs.Const.{entries}
-use Rattle.words.specs.Words.{wordAt, bitsAt}
+use Rattle.words.specs.Words.{digest, wordAt, bitsAt}
 use Rattle.implement.specs.Modules.{firstField, moduleAt, isOwn}
 
 abbrev pub lineOf : Bytes → ℕ → ℕ
@@ -44,13 +45,13 @@ kindOf t i = getD t (5124 + 16 * i) 0
 abbrev pub bitsOf : Bytes → ℕ → ℕ
 bitsOf t i = bitsAt t (5125 + 16 * i)
 
+abbrev pub digestOf : Bytes → ℕ → ℕ
+digestOf t i = getD t (5133 + 16 * i) 0
+
 -- ---- the log
 
-abbrev pub fieldAt : Bytes → ℕ → Bytes
-fieldAt s k = firstField s k
-
 unfoldable pub entriesAt : Bytes → Bytes → ℕ → List Const
-entriesAt s t i = entries (sheetSource s .implement) (moduleAt s (moduleLineOf t i)) (fieldAt s (lineOf t i)) (slotAt t (5124 + 16 * i))
+entriesAt s t i = entries (sheetSource s .implement) (moduleAt s (moduleLineOf t i)) (firstField s (lineOf t i)) (slotAt t (5124 + 16 * i))
 
 -- the constants of the first m entries, the newest first
 unfoldable pub logIn : Bytes → Bytes → ℕ → List Const
@@ -75,6 +76,7 @@ pub record Entry (t : Bytes) (n i : ℕ) : Type 0 where
 pub record Logged (s t : Bytes) (n m : ℕ) : Type 0 where
   pub few : m ≤ 128
   pub each : (i : ℕ) → i < m → Entry t n i
+  pub digests : (i : ℕ) → i < m → digestOf t i ≡ digest (firstField s (lineOf t i))
 
 -- what a look-up answers: 0 for no constant, else the entry's number from 1
 unfoldable pub found : Bytes → ℕ → Option ConstVal
@@ -89,8 +91,8 @@ hasKey k cs = any (λ (c : Const). sameKey k (c .key)) cs
 
 -- the name alone, outside modules and in the implemented module
 unfoldable pub answersPlain : Bytes → Bytes → ℕ → Bytes → Bool
-answersPlain s t i x = same x (fieldAt s (lineOf t i)) && isOwn s (moduleLineOf t i)
+answersPlain s t i x = same x (firstField s (lineOf t i)) && isOwn s (moduleLineOf t i)
 
 -- the module's name and the name
 unfoldable pub answersQualified : Bytes → Bytes → ℕ → Bytes → Bytes → Bool
-answersQualified s t i q x = same x (fieldAt s (lineOf t i)) && (not (eqb (moduleLineOf t i) 0) && same q (fieldAt s (moduleLineOf t i)))
+answersQualified s t i q x = same x (firstField s (lineOf t i)) && (not (eqb (moduleLineOf t i) 0) && same q (firstField s (moduleLineOf t i)))

@@ -5,8 +5,10 @@ ghost use lib.Dec.{ltb};
 ghost use lib.ListN.{length};
 ghost use Rattle.semantics.specs.Text as Text;
 ghost use Rattle.semantics.specs.Fold.{plain, qualified, lookUp, valueOf};
+ghost use Rattle.words.specs.Words.{digest};
+ghost use Rattle.implement.specs.Modules.{firstField};
 ghost use Rattle.checks.specs.Checks.{Checked};
-ghost use Rattle.names.specs.Table.{lineOf, moduleLineOf, bitsOf, kindOf, fieldAt, logIn, Logged, found, hasKey, answersPlain, answersQualified};
+ghost use Rattle.names.specs.Table.{lineOf, moduleLineOf, bitsOf, kindOf, digestOf, logIn, Logged, found, hasKey, answersPlain, answersQualified};
 
 const TABLE: usize = 5120;
 
@@ -40,20 +42,47 @@ pub fn slot_bits(work: &[u8], i: usize) -> u64
     words::bits_at(work, TABLE + 5 + 16 * i)
 }
 
-// Whether the `con` line k has this name.
+// The digest of its name.
+fn digest_of(work: &[u8], i: usize) -> usize
+    requires { ⌜ (i < 128) × (65536 ≤ length (now work)) ⌝ }
+    ensures { λ r. ⌜ r ≡ digestOf (now (work .entry)) i ⌝ }
+{
+    words::wide(work[TABLE + 13 + 16 * i])
+}
+
+// Whether line k, a `con` or a `mod` line, has this name.
 fn is_named(sheet: &[u8], work: &[u8], n: usize, k: usize, name: &[u8]) -> bool
     requires { ⌜ (Checked (now sheet) (now work) n) × (0 < k) × (k ≤ n) ⌝ }
-    ensures { λ r. ⌜ r ≡ Text.same (now (name .entry)) (fieldAt (now (sheet .entry)) k) ⌝ }
+    ensures { λ r. ⌜ r ≡ Text.same (now (name .entry)) (firstField (now (sheet .entry)) k) ⌝ }
 {
     lines::first_is(sheet, work, n, k - 1, name)
 }
 
+// Whether the constant of entry i has this name, which has the digest d.
+fn has_name(sheet: &[u8], work: &[u8], n: usize, m: usize, i: usize, name: &[u8], d: usize) -> bool
+    requires { ⌜ (Checked (now sheet) (now work) n) × (Logged (now sheet) (now work) n m) × (i < m) × (d ≡ digest (now name)) ⌝ }
+    ensures { λ r. ⌜ r ≡ Text.same (now (name .entry)) (firstField (now (sheet .entry)) (lineOf (now (work .entry)) i)) ⌝ }
+{
+    if digest_of(work, i) != d {
+        return false; // before the line is looked at
+    }
+    is_named(sheet, work, n, line_of(work, i), name)
+}
+
 // Whether entry i enters a constant by the plain name.
-fn answers_plain(sheet: &[u8], work: &[u8], n: usize, m: usize, i: usize, name: &[u8]) -> bool
-    requires { ⌜ (Checked (now sheet) (now work) n) × (Logged (now sheet) (now work) n m) × (i < m) ⌝ }
+fn answers_plain(
+    sheet: &[u8],
+    work: &[u8],
+    n: usize,
+    m: usize,
+    i: usize,
+    name: &[u8],
+    d: usize,
+) -> bool
+    requires { ⌜ (Checked (now sheet) (now work) n) × (Logged (now sheet) (now work) n m) × (i < m) × (d ≡ digest (now name)) ⌝ }
     ensures { λ r. ⌜ r ≡ answersPlain (now (sheet .entry)) (now (work .entry)) i (now (name .entry)) ⌝ }
 {
-    if !is_named(sheet, work, n, line_of(work, i), name) {
+    if !has_name(sheet, work, n, m, i, name, d) {
         return false;
     }
     implement::is_own(sheet, work, n, module_line_of(work, i))
@@ -68,11 +97,12 @@ fn answers_qualified(
     i: usize,
     within: &[u8],
     name: &[u8],
+    d: usize,
 ) -> bool
-    requires { ⌜ (Checked (now sheet) (now work) n) × (Logged (now sheet) (now work) n m) × (i < m) ⌝ }
+    requires { ⌜ (Checked (now sheet) (now work) n) × (Logged (now sheet) (now work) n m) × (i < m) × (d ≡ digest (now name)) ⌝ }
     ensures { λ r. ⌜ r ≡ answersQualified (now (sheet .entry)) (now (work .entry)) i (now (within .entry)) (now (name .entry)) ⌝ }
 {
-    if !is_named(sheet, work, n, line_of(work, i), name) {
+    if !has_name(sheet, work, n, m, i, name, d) {
         return false;
     }
     let k = module_line_of(work, i);
@@ -87,9 +117,10 @@ pub fn look_up(sheet: &[u8], work: &[u8], n: usize, m: usize, name: &[u8]) -> us
     requires { ⌜ (Checked (now sheet) (now work) n) × (Logged (now sheet) (now work) n m) ⌝ }
     ensures { λ r. ⌜ (valueOf (lookUp (plain (now (name .entry))) (logIn (now (sheet .entry)) (now (work .entry)) m)) ≡ found (now (work .entry)) r) × (r ≤ m) × (hasKey (plain (now (name .entry))) (logIn (now (sheet .entry)) (now (work .entry)) m) ≡ ltb 0 r) ⌝ }
 {
+    let d = words::digest(name);
     let mut i = m;
     while 0 < i {
-        if answers_plain(sheet, work, n, m, i - 1, name) {
+        if answers_plain(sheet, work, n, m, i - 1, name, d) {
             return i;
         }
         i -= 1;
@@ -109,9 +140,10 @@ pub fn look_up_in(
     requires { ⌜ (Checked (now sheet) (now work) n) × (Logged (now sheet) (now work) n m) ⌝ }
     ensures { λ r. ⌜ (valueOf (lookUp (qualified (now (within .entry)) (now (name .entry))) (logIn (now (sheet .entry)) (now (work .entry)) m)) ≡ found (now (work .entry)) r) × (r ≤ m) × (hasKey (qualified (now (within .entry)) (now (name .entry))) (logIn (now (sheet .entry)) (now (work .entry)) m) ≡ ltb 0 r) ⌝ }
 {
+    let d = words::digest(name);
     let mut i = m;
     while 0 < i {
-        if answers_qualified(sheet, work, n, m, i - 1, within, name) {
+        if answers_qualified(sheet, work, n, m, i - 1, within, name, d) {
             return i;
         }
         i -= 1;

@@ -6,7 +6,9 @@ use Rattle.entries.proofs.enter_failed.Statement.{statement}
 use Rattle.entries.proofs.enter_failed.Tie as tie
 
 returns : tie.Need-returns
-returns c = Laws.entered-failed (now (c .before .before .before .before .before .args .work)) _ (c .before .before .before .before .before .args .m) (c .before .before .before .before .before .args .line) (c .before .before .before .before .before .args .within) (c .before .before .before .before .before .pre) (c .before .before .put-entry .ensures)
+returns c =
+    let a = c .before .before .before .before .before .args in
+    Laws.entered-failed (now (a .work)) _ (a .m) (a .line) (a .within) (a .d) (c .before .before .before .before .before .pre .0) (c .before .before .put-entry .ensures)
 
 pub enter-failed-spec : {M : Type 1} → statement M
 enter-failed-spec =

@@ -7,10 +7,10 @@ use Rattle.entries.proofs.put_entry.Tie as tie
 
 returns : tie.Need-returns
 unfolding entryOf
-returns c = then (then (then (then (then (c .before .before .before .before .before .before .before .before .before .before .before .before .before .before .before .before .before .before .before .before .before .before .put .ensures) (c .before .before .before .before .before .before .before .before .before .before .before .before .before .before .before .before .before .before .put2 .ensures)) (c .before .before .before .before .before .before .before .before .before .before .before .before .before .before .put3 .ensures)) (c .before .before .before .before .before .before .before .before .before .before .put4 .ensures)) (c .before .before .before .before .before .before .put5 .ensures)) (c .before .before .put-bits .ensures) .bytes
+returns c = then (then (then (then (then (then (c .before .before .before .before .before .before .before .before .before .before .before .before .before .before .before .before .before .before .before .before .before .before .before .before .before .before .put .ensures) (c .before .before .before .before .before .before .before .before .before .before .before .before .before .before .before .before .before .before .before .before .before .before .put2 .ensures)) (c .before .before .before .before .before .before .before .before .before .before .before .before .before .before .before .before .before .before .put3 .ensures)) (c .before .before .before .before .before .before .before .before .before .before .before .before .before .before .put4 .ensures)) (c .before .before .before .before .before .before .before .before .before .before .put5 .ensures)) (c .before .before .before .before .before .before .put-bits .ensures)) (c .before .before .put6 .ensures) .bytes
 
 pub put-entry-spec : {M : Type 1} → statement M
 put-entry-spec =
     tie.close (tie.spec (λ c. search needs) (λ c. search needs) (λ c. search needs) (λ c κs. search needs) (λ c. search needs) (λ c κs. search needs)
     (λ c. search needs) (λ c κs. search needs) (λ c. search needs) (λ c κs. search needs) (λ c κs. search needs) (λ c κs. search needs)
-    (λ c. search needs) returns)
+    (λ c. search needs) (λ c κs. search needs) (λ c. search needs) returns)

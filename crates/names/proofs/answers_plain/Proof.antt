@@ -6,18 +6,21 @@ use borrow.Author.Needs.{needs}
 use Rattle.names.proofs.answers_plain.Statement.{statement}
 use Rattle.names.proofs.answers_plain.Tie as tie
 
-is-named-requires : tie.Need-is-named-requires
-is-named-requires c κs = let e = c .before .before .before .before .pre .1 .each (c .before .before .before .before .args .i) (c .before .before .before .before .pre .2) in (c .before .before .before .before .pre .0, omega (arith, c .line-of .ensures, e .first), omega (arith, c .line-of .ensures, e .last))
-
 returns : tie.Need-returns
-returns c = Laws.plain-other (now (c .before .before .before .before .before .before .args .sheet)) (now (c .before .before .before .before .before .before .args .work)) (c .before .before .before .before .before .before .args .i) (now (c .before .before .before .before .before .before .args .name)) (c .before .before .line-of .ensures) (c .before .is-named .ensures) (c .if1 .taken)
+returns c =
+    let a = c .before .before .before .before .before .args in
+    Laws.plain-other (now (a .sheet)) (now (a .work)) (a .i) (now (a .name)) (c .before .has-name .ensures) (c .if1 .taken)
 
 is-own-requires : tie.Need-is-own-requires
-is-own-requires c κs = let e = c .before .before .before .before .before .before .before .pre .1 .each (c .before .before .before .before .before .before .before .args .i) (c .before .before .before .before .before .before .before .pre .2) in (c .before .before .before .before .before .before .before .pre .0, omega (arith, c .module-line-of .ensures, e .within))
+is-own-requires c κs =
+    let e = c .before .before .before .before .before .before .pre .1 .each (c .before .before .before .before .before .before .args .i) (c .before .before .before .before .before .before .pre .2) in
+    (c .before .before .before .before .before .before .pre .0, omega (arith, c .module-line-of .ensures, e .within))
 
 returns-2 : tie.Need-returns-2
-returns-2 c = Laws.plain-own (now (c .before .before .before .before .before .before .before .before .args .sheet)) (now (c .before .before .before .before .before .before .before .before .args .work)) (c .before .before .before .before .before .before .before .before .args .i) (now (c .before .before .before .before .before .before .before .before .args .name)) (c .before .before .before .before .line-of .ensures) (c .before .before .before .is-named .ensures) (c .before .before .if1 .left) (c .before .module-line-of .ensures) (c .is-own .ensures)
+returns-2 c =
+    let a = c .before .before .before .before .before .before .before .args in
+    Laws.plain-own (now (a .sheet)) (now (a .work)) (a .i) (now (a .name)) (c .before .before .before .has-name .ensures) (c .before .before .if1 .left) (c .before .module-line-of .ensures) (c .is-own .ensures)
 
 pub answers-plain-spec : {M : Type 1} → statement M
 answers-plain-spec =
-    tie.close (tie.spec (λ c κs. search needs) is-named-requires returns (λ c κs. search needs) is-own-requires returns-2)
+    tie.close (tie.spec (λ c κs. search needs) returns (λ c κs. search needs) is-own-requires returns-2)

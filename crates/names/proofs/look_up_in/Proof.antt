@@ -5,30 +5,42 @@ use Rattle.semantics.specs.Fold.{qualified}
 use borrow.Author.Needs.{needs}
 use denote.Ref.{now}
 use native.Mathlib.Omega.{arith}
-use mathlib.Core.Path.{_∙_, sym}
 use Prim.Native.Nat.{ℕ, _≤_}
 use Rattle.names.proofs.look_up_in.Statement.{statement}
 use Rattle.names.proofs.look_up_in.Tie as tie
 
 abbrev Inv-loop : tie.InvT-loop
-Inv-loop sheet work n m within name i₀ i = (i ≤ m) × Laws.Looking sheet work (qualified within name) m i
+Inv-loop sheet work n m within name d i₀ i = (i ≤ m) × Laws.Looking sheet work (qualified within name) m i
 
 abbrev μ-loop : tie.MeasureT-loop
-μ-loop sheet work n m within name i₀ i = i
+μ-loop sheet work n m within name d i₀ i = i
 
 loop-holds : tie.Need-loop-holds Inv-loop μ-loop
-loop-holds c = (omega arith, Laws.looking (now (c .before .before .before .before .args .sheet)) (now (c .before .before .before .before .args .work)) (qualified (now (c .before .before .before .before .args .within)) (now (c .before .before .before .before .args .name))) (c .before .before .before .before .args .m))
+loop-holds c =
+    let a = c .before .before .before .before .before .args in
+    (omega arith, Laws.looking (now (a .sheet)) (now (a .work)) (qualified (now (a .within)) (now (a .name))) (a .m))
+
+answers-qualified-requires : tie.Need-answers-qualified-requires Inv-loop μ-loop
+answers-qualified-requires c κs = (c .before .before .before .before .before .before .before .pre .0, c .before .before .before .before .before .before .before .pre .1, omega (arith, c .before .loop .inv .0, c .loop-test .taken), c .before .before .digest .ensures .0)
 
 returns : tie.Need-returns Inv-loop μ-loop
-returns c = let w = Laws.look-hit (now (c .before .before .before .before .before .before .before .before .args .sheet)) (now (c .before .before .before .before .before .before .before .before .args .work)) (qualified (now (c .before .before .before .before .before .before .before .before .args .within)) (now (c .before .before .before .before .before .before .before .before .args .name))) (λ (j : ℕ). answersQualified (now (c .before .before .before .before .before .before .before .before .args .sheet)) (now (c .before .before .before .before .before .before .before .before .args .work)) j (now (c .before .before .before .before .before .before .before .before .args .within)) (now (c .before .before .before .before .before .before .before .before .args .name))) (Laws.answers-qualified (now (c .before .before .before .before .before .before .before .before .args .sheet)) (now (c .before .before .before .before .before .before .before .before .args .work)) (now (c .before .before .before .before .before .before .before .before .args .within)) (now (c .before .before .before .before .before .before .before .before .args .name))) (c .before .before .before .before .before .before .before .before .args .m) (c .before .before .before .loop .i) (c .before .before .before .loop .inv .1) (omega arith) (sym (c .if1 .taken) ∙ c .before .answers-qualified .ensures) in (w .value, c .before .before .before .loop .inv .0, w .has)
+returns c =
+    let a = c .before .before .before .before .before .before .before .before .before .args in
+    let w = Laws.look-hit (now (a .sheet)) (now (a .work)) (qualified (now (a .within)) (now (a .name))) (λ (j : ℕ). answersQualified (now (a .sheet)) (now (a .work)) j (now (a .within)) (now (a .name))) (Laws.answers-qualified (now (a .sheet)) (now (a .work)) (now (a .within)) (now (a .name))) (a .m) (c .before .before .before .loop .i) (c .before .before .before .loop .inv .1) (omega arith) (c .before .answers-qualified .ensures) (c .if1 .taken) in
+    (w .value, c .before .before .before .loop .inv .0, w .has)
 
 loop-again : tie.Need-loop-again Inv-loop μ-loop
-loop-again c = (omega arith, Laws.look-on (now (c .before .before .before .before .before .before .before .before .args .sheet)) (now (c .before .before .before .before .before .before .before .before .args .work)) (qualified (now (c .before .before .before .before .before .before .before .before .args .within)) (now (c .before .before .before .before .before .before .before .before .args .name))) (λ (j : ℕ). answersQualified (now (c .before .before .before .before .before .before .before .before .args .sheet)) (now (c .before .before .before .before .before .before .before .before .args .work)) j (now (c .before .before .before .before .before .before .before .before .args .within)) (now (c .before .before .before .before .before .before .before .before .args .name))) (Laws.answers-qualified (now (c .before .before .before .before .before .before .before .before .args .sheet)) (now (c .before .before .before .before .before .before .before .before .args .work)) (now (c .before .before .before .before .before .before .before .before .args .within)) (now (c .before .before .before .before .before .before .before .before .args .name))) (c .before .before .before .before .before .before .before .before .args .m) (c .before .before .before .loop .i) (c .before .before .before .loop .inv .1) (omega arith) (sym (c .if1 .left) ∙ c .before .answers-qualified .ensures))
+loop-again c =
+    let a = c .before .before .before .before .before .before .before .before .before .args in
+    (omega arith, Laws.look-on (now (a .sheet)) (now (a .work)) (qualified (now (a .within)) (now (a .name))) (λ (j : ℕ). answersQualified (now (a .sheet)) (now (a .work)) j (now (a .within)) (now (a .name))) (Laws.answers-qualified (now (a .sheet)) (now (a .work)) (now (a .within)) (now (a .name))) (a .m) (c .before .before .before .loop .i) (c .before .before .before .loop .inv .1) (omega arith) (c .before .answers-qualified .ensures) (c .if1 .left))
 
 returns-2 : tie.Need-returns-2 Inv-loop μ-loop
-returns-2 c = let w = Laws.look-end (now (c .before .before .before .before .before .before .args .sheet)) (now (c .before .before .before .before .before .before .args .work)) (qualified (now (c .before .before .before .before .before .before .args .within)) (now (c .before .before .before .before .before .before .args .name))) (c .before .before .before .before .before .before .args .m) (c .before .loop .i) (c .before .loop .inv .1) (omega arith) in (w .value, omega arith, w .has)
+returns-2 c =
+    let a = c .before .before .before .before .before .before .before .args in
+    let w = Laws.look-end (now (a .sheet)) (now (a .work)) (qualified (now (a .within)) (now (a .name))) (a .m) (c .before .loop .i) (c .before .loop .inv .1) (omega arith) in
+    (w .value, omega arith, w .has)
 
 pub look-up-in-spec : {M : Type 1} → statement M
 look-up-in-spec =
-    tie.close (tie.spec Inv-loop μ-loop loop-holds (λ c. search needs) (λ c κs. search needs) returns (λ c. search needs) (λ c. search needs)
-    loop-again returns-2)
+    tie.close (tie.spec Inv-loop μ-loop (λ c κs. search needs) loop-holds (λ c. search needs) answers-qualified-requires returns (λ c. search needs)
+    (λ c. search needs) loop-again returns-2)
