@@ -2,7 +2,7 @@
 
     clients(records)      -> a sheet of so many client records, with constants,
                              tables and needs
-    largest()             -> such a sheet of 1,024 lines and 65,535 bytes
+    largest()             -> such a sheet of 1,024 lines and 65,534 bytes
     lookups(quarters)     -> look-ups at their worst: tables that are full at four
                              quarters, and names that begin alike
     blocks(count)         -> so many needs of blocks that differ in the last offset

@@ -78,17 +78,20 @@ abbrev pub Settles : Bytes → Outcome → ℕ → ℕ → Listed → Bytes → 
 Settles s o L W (Written p end) d u = Lays s o L W p end d u
 Settles s o L W (Refused q k) d u = Refuses o L W q k d u
 
--- that of a checked sheet, and of any
+-- that of a checked sheet
 abbrev pub Works : Bytes → ℕ → ℕ → Listed → Bytes → Bytes → Type 0
 Works s L W r d u = Settles s (worked L (sheetSource s)) L W r d u
 
+-- that of any sheet
 pub record Lists (s : Bytes) (L W : ℕ) (r : Listed) (d u : Bytes) : Type 0 where
   pub settles : Settles s (compiled L W s) L W r d u
 
+-- the outcome that an answer says, with the bytes d of the listing's buffer
 abbrev pub answered : Answer → Bytes → Outcome
 answered (Answer.Listed n) d = listed (take n d)
 answered (Answer.Refused r) d = refused (refusalNumber r) (refusalLine r)
 
+-- the bytes of the listing that it counts
 abbrev pub lengthOf : Answer → ℕ
 lengthOf (Answer.Listed n) = n
 lengthOf (Answer.Refused r) = 0

@@ -11,7 +11,7 @@ use Rattle.semantics.specs.Fold.{Key, plain, qualified}
 use Rattle.semantics.specs.Listing.{keysIn, isPlain, constRow}
 use Rattle.implement.specs.Modules.{firstField, isOwn}
 use Rattle.checks.specs.Checks.{Checked}
-use Rattle.names.specs.Table.{lineOf, moduleLineOf, kindOf, bitsOf, logIn, Text, Logged, hasKey}
+use Rattle.names.specs.Table.{lineOf, moduleLineOf, kindOf, bitsOf, logIn, StringPlace, Logged, hasKey}
 
 -- the keys of entry i
 abbrev pub plainKey : Bytes → Bytes → ℕ → Key
@@ -47,7 +47,7 @@ partOf false s t m i = qualifiedPart s t m i
 pub record Shown (t : Bytes) (r : ℕ) : Type 0 where
   pub few : r ≤ 128
   pub long : 65536 ≤ length t
-  pub text : (i : ℕ) → r ≡ suc i → kindOf t i ≡ 3 → Text (bitsOf t i)
+  pub text : (i : ℕ) → r ≡ suc i → kindOf t i ≡ 3 → StringPlace (bitsOf t i)
 
 -- the table of a checked sheet has m entries
 pub record Table (s t : Bytes) (n m : ℕ) : Type 0 where

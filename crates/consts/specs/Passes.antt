@@ -116,6 +116,7 @@ pub record Moves (s t u : Bytes) (n k : ℕ) (p q : Pass) : Type 0 where
   pub same : goes s u k q ≡ goes s t k p
   pub count : q .count + length (groupFrom s k (q .line)) ≡ p .count + length (groupFrom s k (p .line))
 
+-- a line is visited: the pass moves on, or the line is refused
 abbrev pub Visits : Bytes → Bytes → Bytes → ℕ → ℕ → Pass → Visited → Type 0
 Visits s t u n k p (Visited.On q) = Moves s t u n k p q
 Visits s t u n k p (Visited.Refused j) = goes s t k p .refused ≡ some (tooLong j)
@@ -133,6 +134,7 @@ pub record Logs (s u : Bytes) (n m : ℕ) (f : Folding) : Type 0 where
   pub logged : Logged s u n m
   pub same : f ≡ record { log = logIn s u m; refused = none }
 
+-- a pass over the group of line k is done: c entries stand then, or line j is refused
 abbrev pub Passes : Bytes → Bytes → Bytes → ℕ → ℕ → ℕ → Collected → Type 0
 Passes s t u n m k (Collected.Count c) =
     Logs s u n c (pass (sheetSource s .implement) (groupFrom s k 0) newCounter (logIn s t m)) × (c ≡ m + length (groupFrom s k 0))
@@ -146,9 +148,11 @@ pub record Before (s t : Bytes) (n m i : ℕ) : Type 0 where
   pub logged : Logged s t n m
   pub few : m ≤ countBefore s i
 
+-- what the passes from line i on give
 unfoldable pub rest : Bytes → Bytes → ℕ → ℕ → Folding
 rest s t m i = passesFrom (sheetSource s .implement) (passesAfter s i) (logIn s t m)
 
+-- line i is done: the passes behind it give what was left, or line j is refused
 abbrev pub Past : Bytes → Bytes → Bytes → ℕ → ℕ → ℕ → Collected → Type 0
 Past s t u n m i (Collected.Count c) = Before s u n c (i + 1) × (rest s u c (i + 1) ≡ rest s t m i)
 Past s t u n m i (Collected.Refused j) = rest s t m i .refused ≡ some (tooLong j)

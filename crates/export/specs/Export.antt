@@ -32,10 +32,12 @@ pub record Compiles (s : Bytes) (L W : ℕ) (r : Compiled) (d u : Bytes) : Type 
 
 -- ---- the image
 
+-- the numbers that an outcome is told by: lengths where an image is laid, else 01's number and line
 abbrev pub laidNumbers : Outcome → Imaged → Laid
 laidNumbers o (laid image area) = record { number = 0; line = 0; listing = length (listingBytes o); image = length image; area = length area }
 laidNumbers o (notLaid n k) = record { number = n; line = k; listing = 0; image = 0; area = 0 }
 
+-- the outcome that numbers and the bytes of image and area say
 abbrev pub imagedOf : Laid → Bytes → Bytes → Imaged
 imagedOf r image area = cond (eqb (r .number) 0) (laid (take (r .image) image) (take (r .area) area)) (notLaid (r .number) (r .line))
 

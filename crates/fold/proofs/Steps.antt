@@ -34,7 +34,8 @@ use Rattle.values.specs.Values.{stringIn, valueIn, resultIn, unaryAt, binaryAt,
 use Rattle.values.proofs.Values.{answers-as, answers-failed}
 use Rattle.names.specs.Table.{logIn, Logged}
 use Rattle.names.proofs.Laws.{part-kept, logged-kept, log-kept}
-use Rattle.leaf.specs.Folds.{exAt, foldAt, ExLine, Foldable, Folds, OperatorLine, operandOf, onOne, Applies}
+use Rattle.leaf.specs.Folds.{exAt, foldAt, ExLine, Foldable, Folds}
+use Rattle.fold.specs.Operators.{OperatorLine, operandOf, onOne, Applies}
 use Rattle.leaf.proofs.Lines.{RefTo, in-sheet, ex-is, form-span, depth-some, field-good, ref-good, small-number, basic-is, made-unary, made-binary, made-cast, made-len, made-failing}
 
 -- what holds of forms 13 to 16

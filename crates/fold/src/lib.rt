@@ -3,7 +3,8 @@ ghost use mathlib.Core.Path.{_≡_};
 ghost use Prim.Native.Nat.{_-_};
 ghost use Rattle.values.specs.Values.{valueIn, Answers};
 ghost use Rattle.checks.specs.Checks.{Kept};
-ghost use Rattle.leaf.specs.Folds.{exAt, onOne, operandOf, Foldable, Folds, OperatorLine, Applies};
+ghost use Rattle.leaf.specs.Folds.{exAt, Foldable, Folds};
+ghost use Rattle.fold.specs.Operators.{onOne, operandOf, OperatorLine, Applies};
 use values::ConstVal;
 use values::Folded;
 
@@ -43,7 +44,7 @@ fn apply(sheet: &[u8], work: &mut [u8], n: usize, r: usize, v: ConstVal, top: us
     values::fold_len(work, v)
 }
 
-// The value of line r, where the first m constants are known: a string stands at `top`. Each line below r is visited once.
+// The value of line r, where the first m constants are known: a string stands at `top`. Each line under r is visited once.
 pub fn fold_const(
     sheet: &[u8],
     work: &mut [u8],

@@ -14,7 +14,7 @@ const END: u8 = b'O';
 const IMPL: u8 = b'I';
 
 // Whether the sheet implements the module of line k; 0 is none.
-pub fn implements(sheet: &[u8], work: &[u8], n: usize, k: usize) -> bool
+fn implements(sheet: &[u8], work: &[u8], n: usize, k: usize) -> bool
     requires { ⌜ (Checked (now sheet) (now work) n) × (k ≤ n) ⌝ }
     ensures { λ r. ⌜ r ≡ Const.implements (sheetSource (now (sheet .entry)) .implement) (moduleAt (now (sheet .entry)) k) ⌝ }
 {

@@ -45,7 +45,7 @@ use Rattle.values.specs.declared.Folded.the-variants.{Value, Failed}
 use Rattle.values.specs.Values.{stringIn, valueIn, resultIn, At, Answers, Casts, Apart}
 use Rattle.values.proofs.Values.{answers-as, answers-int, answers-real, answers-failed}
 use Rattle.values.proofs.Written.{wrote-kept, wrote-there}
-use Rattle.names.specs.Table.{valueBy, kindOf, bitsOf, logIn, found, Text}
+use Rattle.names.specs.Table.{valueBy, kindOf, bitsOf, logIn, found, StringPlace}
 use Rattle.names.proofs.Laws.{slot-is, value-int, value-real, value-text, value-failed}
 use Rattle.leaf.specs.Folds.{exAt, foldAt, literalOf, ExLine, Foldable, Folds, Leaf, Literal, Slot}
 use Rattle.leaf.proofs.Lines.{RefTo, in-sheet, ex-is, form-span, depth-some, field-good, ref-good, made-literal, made-ident, made-qualified, made-nameless}
@@ -214,7 +214,7 @@ module _ {t : Bytes} {k top : ℕ} (w : Slot t k top) where
     pub found-real : kind ≡ 2 → {y : Float} → y ≡ ofBits binary64 b → Answers t top (Value (Real y)) (fromOption (found t k)) × Kept top t t
     found-real e q = (answers-real (rw (found-is, value-real t kind b e) (ap (λ (u : Float). ok (vReal u)) q)) t top, kept-all)
 
-    found-text : kind ≡ 3 → Text b
+    found-text : kind ≡ 3 → StringPlace b
     found-text e =
         let i : k ≡ suc (k - 1) = omega (arith, some-k) in
         rw hb (w .text (k - 1) i (sym hk ∙ e))

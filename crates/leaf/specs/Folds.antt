@@ -6,22 +6,20 @@ use mathlib.Core.List.{[]}
 use lib.Dec.{eqb}
 use lib.IntN.{pos}
 use lib.Ieee.{binary64, ofBits}
-use lib.ListN.{length, getD}
+use lib.ListN.{length}
 use Rattle.semantics.specs.Text.{Bytes, orElse, intOf, unhex, fromBigEndian}
 use Rattle.semantics.specs.Tree as Tree
-use Rattle.semantics.specs.Tree.{Ex, basicOf}
-use Rattle.semantics.specs.Tree.Ex.{constant, ident, modQual, unary, binary, cast, len, arrayEx, otherEx}
+use Rattle.semantics.specs.Tree.{Ex}
 use Rattle.semantics.specs.Tree.ConstVal.{vInt, vReal, vStr}
-use Rattle.semantics.specs.Form.{letter, nodeAt, numberOf}
-use Rattle.semantics.specs.Fold.{Result, fold, foldUnary, foldCast, foldLen}
-use Rattle.semantics.specs.Fold.Result.{ok, failed}
+use Rattle.semantics.specs.Form.{letter, nodeAt}
+use Rattle.semantics.specs.Fold.{Result, fold}
 use Rattle.lines.specs.Lines.{readsIn, readAt, nodesIn, formAt}
 use Rattle.nesting.specs.Nesting.{depthOf}
 use Rattle.checks.specs.Checks.{Checked, Kept}
 use Rattle.values.specs.declared.ConstVal.{ConstVal}
 use Rattle.values.specs.declared.Folded.{Folded}
-use Rattle.values.specs.Values.{At, Answers}
-use Rattle.names.specs.Table.{kindOf, bitsOf, logIn, Logged, Text}
+use Rattle.values.specs.Values.{Answers}
+use Rattle.names.specs.Table.{kindOf, bitsOf, logIn, Logged, StringPlace}
 
 -- the expression of line r, from 1
 abbrev pub exAt : Bytes → ℕ → Ex
@@ -50,47 +48,19 @@ pub record Folds (s t : Bytes) (m iota r top : ℕ) (u : Bytes) (x : Folded) : T
   pub answer : Answers u top x (foldAt s t m iota r)
   pub kept : Kept top t u
 
--- ---- operators
-
--- line r has an operand: its form is 13 to 16
-pub record OperatorLine (s t : Bytes) (n r : ℕ) : Type 0 where
-  pub line : ExLine s t n r
-  pub low : 13 ≤ formAt t (r - 1)
-  pub high : formAt t (r - 1) ≤ 16
-
--- the line of the only or left operand: `len` has it first, others behind an operator or a type
-unfoldable pub operandOf : Bytes → Bytes → ℕ → ℕ
-operandOf s t r = numberOf (getD (readAt s (r - 1) .fields) (cond (eqb (formAt t (r - 1)) 16) 0 1) [])
-
--- what an expression makes of the value of its only operand
-abbrev pub onOne : Ex → Tree.ConstVal → Result Tree.ConstVal
-onOne (constant c) v = failed
-onOne (ident n) v = failed
-onOne (modQual e n) v = failed
-onOne (unary o e) v = foldUnary o v
-onOne (binary l o r) v = failed
-onOne (cast t e) v = ok (foldCast (basicOf t) v)
-onOne (len e) v = foldLen v
-onOne (arrayEx a) v = failed
-onOne otherEx v = failed
-
--- line r has one operand, whose value is v
-pub record Applies (s t : Bytes) (n r : ℕ) (v : ConstVal) (top : ℕ) : Type 0 where
-  pub line : OperatorLine s t n r
-  pub one : formAt t (r - 1) ≡ 14 → ⊥
-  pub at : At top v
-  pub room : top + 256 ≤ length t
-
 -- ---- expressions without an operand that is folded
 
+-- line r is a literal, a name or a name of a module: a form below 13
 pub record Leaf (s t : Bytes) (n m r top : ℕ) : Type 0 where
   pub fold : Foldable s t n m r top
   pub form : formAt t (r - 1) < 13
 
+-- line r is `ex,id`
 pub record Ident (s t : Bytes) (n m r top : ℕ) : Type 0 where
   pub fold : Foldable s t n m r top
   pub form : formAt t (r - 1) ≡ 11
 
+-- line r is `ex,qual`
 pub record Qualified (s t : Bytes) (n m r top : ℕ) : Type 0 where
   pub fold : Foldable s t n m r top
   pub form : formAt t (r - 1) ≡ 12
@@ -112,6 +82,6 @@ literalOf f x =
 pub record Slot (t : Bytes) (k top : ℕ) : Type 0 where
   pub few : k ≤ 128
   pub long : 65536 ≤ length t
-  pub text : (i : ℕ) → k ≡ suc i → kindOf t i ≡ 3 → Text (bitsOf t i)
+  pub text : (i : ℕ) → k ≡ suc i → kindOf t i ≡ 3 → StringPlace (bitsOf t i)
   pub low : 49152 ≤ top
   pub room : top + 256 ≤ length t

@@ -59,7 +59,7 @@ logIn s t zero = []
 logIn s t (suc m) = entriesAt s t m ++ logIn s t m
 
 -- a string's bytes lie among the constants' strings
-pub record Text (b : ℕ) : Type 0 where
+pub record StringPlace (b : ℕ) : Type 0 where
   pub low : 16384 ≤ b % 65536
   pub high : b % 65536 + b / 65536 ≤ 49152
   pub short : b / 65536 ≤ 256
@@ -70,9 +70,10 @@ pub record Entry (t : Bytes) (n i : ℕ) : Type 0 where
   pub last : lineOf t i ≤ n
   pub within : moduleLineOf t i ≤ n
   pub kind : kindOf t i ≤ 3
-  pub text : kindOf t i ≡ 3 → Text (bitsOf t i)
+  pub text : kindOf t i ≡ 3 → StringPlace (bitsOf t i)
   pub own : kindOf t i ≡ 3 → bitsOf t i % 65536 ≡ 16384 + 256 * i
 
+-- the table's first m entries, each with the digest of its constant's name
 pub record Logged (s t : Bytes) (n m : ℕ) : Type 0 where
   pub few : m ≤ 128
   pub each : (i : ℕ) → i < m → Entry t n i

@@ -148,7 +148,7 @@ fn put_fields(sheet: &[u8], work: &[u8], n: usize, i: usize, out: &mut [u8], at:
 }
 
 // The rows of the record of entry i.
-pub fn put_record(
+fn put_record(
     sheet: &[u8],
     work: &mut [u8],
     n: usize,

@@ -1,4 +1,4 @@
--- The log of records in the working space: a line, and a case of it and a tag of that case where the record is a variant.
+-- The log of records in the working space: for each a line; where it is a variant its case, its tag and the tag's number; and the digest of its key.
 use Prim.Native.Nat.{ℕ, zero, suc, _+_, _*_, _/_, _%_, _-_, _≤_, _<_}
 use mathlib.Core.Path.{_≡_}
 use mathlib.Core.Bool.{true, _||_}
@@ -156,6 +156,7 @@ pub record Digested (s t : Bytes) (n m d : ℕ) : Type 0 where
   pub entries : (i : ℕ) → i < m → EntryIn s t n i
   pub digests : (i : ℕ) → i < d → digestOf t i ≡ digest (recordedAt s t i .key)
 
+-- the log of all records of the sheet, m of them, with all digests
 abbrev pub Logged : Bytes → Bytes → ℕ → ℕ → Type 0
 Logged s t n m = Digested s t n m m
 

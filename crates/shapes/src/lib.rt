@@ -12,7 +12,7 @@ ghost use Rattle.shapes.specs.Shapes.{shapeAt, casesAt, variantAt, PickL
 // The form of `adt` lines.
 const ADT: usize = 26;
 
-// The tag word of a record with pick.
+// The bytes of the tag word of a record with `pick`: fields begin behind it.
 const TAG: u32 = 4;
 
 // How many cases the `pick` line r has.

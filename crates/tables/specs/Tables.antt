@@ -17,6 +17,7 @@ use Rattle.tables.specs.declared.Tables.{Tables}
 use Rattle.tables.specs.declared.Made.{Made}
 use Rattle.tables.specs.declared.Made.the-variants.{Whole, Refused}
 
+-- the working space t has all tables of the checked sheet s, of as many entries as x counts
 pub record Held (s t : Bytes) (n : ℕ) (x : Tables) : Type 0 where
   pub checked : Checked s t n
   pub consts : Names.Logged s t n (x .consts)

@@ -1,4 +1,4 @@
--- The keys of `need` lines, by their forms.
+-- Which kind of element a `need` line asks for.
 use mathlib.Core.Path.{_≡_, sym, _∙_}
 use mathlib.Core.Bool.{false, cond, and-true}
 use mathlib.Core.List.{List}

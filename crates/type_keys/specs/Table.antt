@@ -32,6 +32,7 @@ kindOf t k = getD t (10624 + k) 0
 unfoldable pub digestOf : Bytes → ℕ → ℕ
 digestOf t q = getD t (10752 + q) 0
 
+-- 0 where k is not among the keys js, else its position plus 1
 abbrev pub placed : TypeKey → List TypeKey → ℕ
 placed k js = cond (any (sameTypeKey k) js) (suc (position k js)) 0
 
@@ -93,8 +94,10 @@ kindBy f = cond (eqb f 35) 1 (cond (eqb f 36) 0 (cond (leb 37 f && leb f 39) (f 
 
 -- ---- what is stored
 
+-- need q is on line i, and its key has position p
 unfoldable pub entered : Bytes → ℕ → ℕ → ℕ → Bytes
 entered t q i p = set (set (set t (10240 + q) (i % 256)) (10368 + q) (i / 256)) (10496 + q) p
 
+-- the key of element kind k has position p; 5 is no kind
 unfoldable pub kindEntered : Bytes → ℕ → ℕ → Bytes
 kindEntered t k p = cond (ltb k 5) (set t (10624 + k) (p + 1)) t

@@ -23,7 +23,7 @@ fn read_offset(f: &[u8]) -> usize
     }
 }
 
-// The size that line i writes out, from 0.
+// The size that line i, from 0, writes out.
 pub fn size_at(sheet: &[u8], work: &[u8], n: usize, i: usize) -> u32
     requires { ⌜ ShapeLine (now sheet) (now work) n i ⌝ }
     ensures { λ r. ⌜ (r ≡ shapeAt (now (sheet .entry)) i .size) × (r ≤ 4096) ⌝ }

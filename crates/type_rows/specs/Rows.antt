@@ -1,4 +1,4 @@
--- Rows of types, and the maps that they print.
+-- Rows of types, and the tables that they are made from.
 use Prim.Native.Nat.{ℕ, _+_}
 use mathlib.Core.Path.{_≡_}
 use mathlib.Core.List.{List, [], map}

@@ -1,4 +1,4 @@
--- `var` lines, and what a pass over them has at hand.
+-- `var` lines, and what a pass over them (`pends`, `data_rows`) has at hand.
 use Prim.Native.Nat.{ℕ, suc, _<_}
 use mathlib.Core.Bool.{cond}
 use mathlib.Core.List.{List, [], _∷_}
