@@ -1,4 +1,8 @@
 // Constant arrays: `alloc` and literals.
+use codes::area;
+use codes::element;
+use codes::ex;
+use codes::ty;
 use placements::Placed;
 use values::ConstVal;
 use values::Folded;
@@ -17,34 +21,12 @@ ghost use Rattle.leaf.specs.Folds.{exAt};
 ghost use Rattle.literals.specs.Literals.{namesIn, elsAt, Line, LiteralLine, above};
 ghost use Rattle.arrays.specs.Arrays.{kindAt, arrayedIn, sizeResult, Stands, Measured, Answers, typeOf, sizeAt, ownType, allocType, ArrayLine, AllocLine, LitLine, Counted, Sized};
 
-// Forms of types and expressions.
-const INT: usize = 0;
-
-const BYTE: usize = 1;
-
-const STRING: usize = 4;
-
-const CAST: usize = 15;
-
-const ALLOC: usize = 17;
-
-const LIT: usize = 18;
-
-const STACK: usize = 49152;
-
 // Above the strings of 16 elements.
 const ABOVE: usize = 53248;
 
 const LONGEST_ALLOC: i64 = 2147483647;
 
 const LONGEST: u64 = 1024;
-
-// Kinds of elements: 0 bytes, 1 words, 2 bigs, 3 reals, 4 pointers.
-const BYTES: u8 = 0;
-
-const WORDS: u8 = 1;
-
-const POINTERS: u8 = 4;
 
 pub enum Size {
     Of(u64),
@@ -66,16 +48,16 @@ pub fn elem_kind(sheet: &[u8], work: &[u8], n: usize, r: usize) -> u8
     ensures { λ k. ⌜ (k ≡ kindNumber (elemKind (typeAt (now (sheet .entry)) r))) × (k ≤ 4) ⌝ }
 {
     let f = lines::form_at(work, r - 1);
-    if f == INT {
-        return WORDS;
+    if f == ty::INT {
+        return element::WORD;
     }
-    if f == BYTE {
-        return BYTES;
+    if f == ty::BYTE {
+        return element::BYTE;
     }
-    if f < STRING {
+    if f < ty::STRING {
         return f as u8;
     }
-    POINTERS
+    element::POINTER
 }
 
 // ---- `alloc`
@@ -127,7 +109,7 @@ fn alloc(sheet: &[u8], work: &mut [u8], n: usize, m: usize, declared: usize, r: 
 {
     let kind = alloc_kind(sheet, work, n, m, declared, r);
     let q = lines::number_at(sheet, work, n, r - 1, 0);
-    allocated(kind, fold::fold_const(sheet, work, n, m, 0, q, STACK))
+    allocated(kind, fold::fold_const(sheet, work, n, m, 0, q, area::STACK))
 }
 
 // ---- literals
@@ -168,10 +150,10 @@ fn is_byte_cast(sheet: &[u8], work: &[u8], n: usize, m: usize, r: usize) -> bool
     requires { ⌜ Line 69 (now sheet) (now work) n m r ⌝ }
     ensures { λ b. ⌜ b ≡ isByteCast (exAt (now (sheet .entry)) r) ⌝ }
 {
-    if lines::form_at(work, r - 1) != CAST {
+    if lines::form_at(work, r - 1) != ex::CAST {
         return false;
     }
-    elem_kind(sheet, work, n, lines::number_at(sheet, work, n, r - 1, 0)) == BYTES
+    elem_kind(sheet, work, n, lines::number_at(sheet, work, n, r - 1, 0)) == element::BYTE
 }
 
 // Whether there is an element, and the value of every one is a cast to byte.
@@ -218,7 +200,7 @@ fn literal_kind(
         return elem_kind(sheet, work, n, own);
     }
     if is_byte_literal(sheet, work, n, m, r) {
-        return BYTES;
+        return element::BYTE;
     }
     placements::kind_of_values(work, count)
 }
@@ -292,10 +274,10 @@ pub fn const_array(
     ensures { λ x. ⌜ Answers (now (work .entry)) (constArray (namesIn (now (sheet .entry)) (now (work .entry)) m) (typeOf (now (sheet .entry)) declared) (exAt (now (sheet .entry)) r)) x (now (work .exit)) ⌝ }
 {
     let f = lines::form_at(work, r - 1);
-    if f == ALLOC {
+    if f == ex::ALLOC {
         return alloc(sheet, work, n, m, declared, r);
     }
-    if f == LIT {
+    if f == ex::LIT {
         return literal(sheet, work, n, m, declared, r);
     }
     Arrayed::Pending

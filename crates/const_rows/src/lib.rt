@@ -1,4 +1,5 @@
 // Rows of the listing for constants: all M->NAME, then all plain names, each in the order of first insertion with its last value.
+use codes::value;
 ghost use mathlib.Core.List.{_∷_, _++_};
 ghost use Prim.Native.Nat.{_+_, _≤_, _<_};
 ghost use lib.ListN.{length};
@@ -6,17 +7,6 @@ ghost use Rattle.semantics.specs.Listing.{row, valueFields, constRows};
 ghost use Rattle.write.specs.Wrote.{Wrote};
 ghost use Rattle.names.specs.Table.{found, logIn};
 ghost use Rattle.const_rows.specs.Rows.{qualifiedPart, plainPart, rowsTo, partOf, Shown, Table};
-
-const LF: u8 = 10;
-
-const COMMA: u8 = 44;
-
-// Kinds of slots.
-const INT: u8 = 1;
-
-const REAL: u8 = 2;
-
-const STRING: u8 = 3;
 
 // The fields of the value that a look-up found, to the row's end.
 fn put_value(work: &[u8], out: &mut [u8], at: usize, r: usize) -> usize
@@ -28,22 +18,22 @@ fn put_value(work: &[u8], out: &mut [u8], at: usize, r: usize) -> usize
     }
     let k = names::slot_kind(work, r - 1);
     let b = names::slot_bits(work, r - 1);
-    if k == INT {
+    if k == value::INT {
         let p = write::put_part(out, at, b"i,");
         let q = write::put_int(out, p, ints::of_bits(b));
-        return write::put(out, q, LF);
+        return write::put(out, q, b'\n');
     }
-    if k == REAL {
+    if k == value::REAL {
         let p = write::put_part(out, at, b"r,");
         let q = write::put_word(out, p, reals::bits(reals::of_bits(b)));
-        return write::put(out, q, LF);
+        return write::put(out, q, b'\n');
     }
-    if k == STRING {
+    if k == value::STRING {
         let a = (b % 65536) as usize;
         let e = a + (b / 65536) as usize;
         let p = write::put_part(out, at, b"s,");
         let q = write::put_hex(out, p, &work[a..e]);
-        return write::put(out, q, LF);
+        return write::put(out, q, b'\n');
     }
     write::put_part(out, at, b"x\n")
 }
@@ -54,7 +44,7 @@ fn put_rest(work: &[u8], out: &mut [u8], at: usize, name: &[u8], r: usize) -> us
     ensures { λ p. ⌜ Wrote (now (out .entry)) at (now (name .entry) ++ (44 ∷ row (valueFields (found (now (work .entry)) r)))) (now (out .exit)) p ⌝ }
 {
     let p = write::put_part(out, at, name);
-    let q = write::put(out, p, COMMA);
+    let q = write::put(out, p, b',');
     put_value(work, out, q, r)
 }
 

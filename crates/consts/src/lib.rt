@@ -1,18 +1,12 @@
 // The constants of a sheet, in their passes: one for each module in the sheet's order, then one for the top level.
+use codes::area;
+use codes::kind;
 use iota::IotaCounter;
 use values::Folded;
 ghost use mathlib.Core.Path.{_≡_};
 ghost use Prim.Native.Nat.{_+_, _<_};
 ghost use Rattle.checks.specs.Checks.{Checked, Kept};
 ghost use Rattle.consts.specs.Passes.{ConstLine, Steps, AtConstant, Standing, Visits, Group, Passes, Before, Past, Collects, left};
-
-// Letters of kinds.
-const CON: u8 = b'D';
-
-const MOD: u8 = b'M';
-
-// Where the stack of folds begins.
-const STACK: usize = 49152;
 
 // How many constants there are, or the line whose string grows too long.
 pub enum Collected {
@@ -48,7 +42,7 @@ fn take_constant(
 {
     let r = lines::number_at(sheet, work, n, i, 3);
     let d = words::digest(lines::field_at(sheet, work, n, i, 0));
-    let x = fold::fold_const(sheet, work, n, m, iota, r, STACK);
+    let x = fold::fold_const(sheet, work, n, m, iota, r, area::STACK);
     match x {
         Folded::Value(v) => {
             entries::enter(work, m, i + 1, k, v, d);
@@ -94,7 +88,7 @@ fn visit(sheet: &[u8], work: &mut [u8], n: usize, k: usize, p: Pass) -> Visited
     let i = p.line;
     let within = p.within;
     let c = p.iota;
-    if form::kind(lines::form_at(work, i)) != CON {
+    if form::kind(lines::form_at(work, i)) != kind::CON {
         return Visited::On(Pass {
             line: i + 1,
             within: implement::open_after(sheet, work, n, i, within),
@@ -157,7 +151,7 @@ fn module_consts(sheet: &[u8], work: &mut [u8], n: usize, m: usize, i: usize) ->
     requires { ⌜ (Before (now sheet) (now work) n m i) × (i < n) ⌝ }
     ensures { λ r. ⌜ (Kept 5120 (now (work .entry)) (now (work .exit))) × (Past (now (sheet .entry)) (now (work .entry)) (now (work .exit)) n m i r) ⌝ }
 {
-    if form::kind(lines::form_at(work, i)) != MOD {
+    if form::kind(lines::form_at(work, i)) != kind::MOD {
         return Collected::Count(m);
     }
     pass_consts(sheet, work, n, m, i + 1)

@@ -1,4 +1,5 @@
 // Refusal 7: counts.
+use codes::kind;
 ghost use mathlib.Core.Path.{_≡_};
 ghost use mathlib.Core.Bool.{false, cond};
 ghost use mathlib.Core.List.{[]};
@@ -8,20 +9,6 @@ ghost use Rattle.semantics.specs.Form.{letter};
 ghost use Rattle.semantics.specs.Refusal.{over, noCounts, refsOf, badRefFrom, tooManyFrom};
 ghost use Rattle.lines.specs.Lines.{readsIn, readAt, nodesIn, Whole};
 ghost use Rattle.counts.specs.Counts.{countsOf, fieldNumber, oneOf, tagsIn, recordsOf, varNames, added};
-
-const ADT: u8 = b'A';
-
-const PICK: u8 = b'B';
-
-const CASE: u8 = b'C';
-
-const CON: u8 = b'D';
-
-const FRAME: u8 = b'G';
-
-const VAR: u8 = b'H';
-
-const NEED: u8 = b'N';
 
 // `con`, `need` and `frame` lines, records plus tags, and `var` names.
 pub struct Tally {
@@ -46,7 +33,7 @@ fn case_tags(sheet: &[u8], work: &[u8], n: usize, x: u8, v: usize) -> usize
     requires { ⌜ (Whole (now sheet) (now work) n) × (x ≡ 67 → (0 < v) × (v ≤ n) × (letter (readAt (now sheet) (v - 1) .form .kind) ≡ 67)) ⌝ }
     ensures { λ r. ⌜ (r ≡ cond (eqb x 67) (fieldNumber (readAt (now (sheet .entry)) (v - 1)) 0) 0) × (r ≤ 65537) ⌝ }
 {
-    if x == CASE {
+    if x == kind::PC {
         return lines::number_at(sheet, work, n, v - 1, 0);
     }
     0
@@ -75,10 +62,10 @@ fn records(sheet: &[u8], work: &[u8], n: usize, i: usize, k: u8) -> usize
     requires { ⌜ (Whole (now sheet) (now work) n) × (badRefFrom (readsIn (now sheet)) 1 [] (readsIn (now sheet)) ≡ 0) × (i < n) × (k ≡ letter (readAt (now sheet) i .form .kind)) ⌝ }
     ensures { λ r. ⌜ (r ≡ recordsOf (readsIn (now (sheet .entry))) (readAt (now (sheet .entry)) i)) × (r ≤ 16777473) ⌝ }
 {
-    if k == ADT {
+    if k == kind::ADT {
         return 1;
     }
-    if k == PICK {
+    if k == kind::PICK {
         return 1 + tags(sheet, work, n, i);
     }
     0
@@ -89,7 +76,7 @@ fn names(sheet: &[u8], work: &[u8], n: usize, i: usize, k: u8) -> usize
     requires { ⌜ (Whole (now sheet) (now work) n) × (i < n) × (k ≡ letter (readAt (now sheet) i .form .kind)) ⌝ }
     ensures { λ r. ⌜ (r ≡ varNames (readAt (now (sheet .entry)) i)) × (r ≤ 65537) ⌝ }
 {
-    if k == VAR {
+    if k == kind::VAR {
         return lines::number_at(sheet, work, n, i, 2);
     }
     0
@@ -104,9 +91,9 @@ fn count(sheet: &[u8], work: &[u8], n: usize, i: usize, t: Tally) -> Tally
     let r = records(sheet, work, n, i, k);
     let v = names(sheet, work, n, i, k);
     Tally {
-        consts: t.consts + one(k, CON),
-        needs: t.needs + one(k, NEED),
-        frames: t.frames + one(k, FRAME),
+        consts: t.consts + one(k, kind::CON),
+        needs: t.needs + one(k, kind::NEED),
+        frames: t.frames + one(k, kind::FRAME),
         records: t.records + r,
         names: t.names + v,
     }

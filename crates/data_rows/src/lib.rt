@@ -1,4 +1,6 @@
 // The `dat` rows of a sheet's data items, with numbers for the keys of array elements.
+use codes::decl;
+use codes::element;
 use values::ConstVal;
 use vars::First;
 ghost use mathlib.Core.Path.{_≡_};
@@ -23,14 +25,6 @@ ghost use Rattle.type_keys.specs.Table.{Kinds, Outside};
 ghost use Rattle.vars.specs.First.{initIn, varOn};
 ghost use Rattle.vars.specs.Lines.{laidAt};
 ghost use Rattle.data_rows.specs.Data.{itemsIn, keysOf, rowsOf, Ready, Numbers, Keeping, ItemsPrinted, Keyed, Held, Filled, NameTask, firstItems, nameItems, lineItems};
-
-// The form of `var` lines.
-const VAR: usize = 29;
-
-// Kinds of elements.
-const BIG: u8 = 2;
-
-const POINTER: u8 = 4;
 
 // Where the next row goes, and how many keys have a number.
 pub struct Next {
@@ -58,17 +52,17 @@ fn is_big(sheet: &[u8], work: &[u8], n: usize, r: usize) -> bool
     ensures { λ b. ⌜ isOfKind kBig (typeOn (now (sheet .entry)) r) ≡ b ⌝ }
 {
     let ty = lines::number_at(sheet, work, n, r - 1, 0);
-    arrays::elem_kind(sheet, work, n, ty) == BIG
+    arrays::elem_kind(sheet, work, n, ty) == element::BIG
 }
 
 // The number of a kind of elements, from 0 to 4.
 fn kind_number(kind: u8) -> u8
     ensures { λ k. ⌜ (k ≡ kindNumber (kindAt kind)) × (k < 5) ⌝ }
 {
-    if kind < POINTER {
+    if kind < element::POINTER {
         return kind;
     }
-    POINTER
+    element::POINTER
 }
 
 // Nothing is written; a place past the end becomes one past it.
@@ -251,7 +245,7 @@ fn rows_at(
     requires { ⌜ (Held (now sheet) (now work) c (p .keys)) × (Open (now sheet) (now work) (c .lines) i k) × (i < c .lines) ⌝ }
     ensures { λ q. ⌜ (ItemsPrinted (now (sheet .entry)) (lineItems (namesIn (now (sheet .entry)) (now (work .entry)) (c .consts)) (placesIn (now (sheet .entry)) (now (work .entry)) (c .globals)) (laidAt (now (sheet .entry)) i)) p q (now (work .entry)) (now (work .exit)) (now (out .entry)) (now (out .exit))) × (Keeping (now (work .entry)) (now (work .exit))) ⌝ }
 {
-    if lines::form_at(work, i) != VAR {
+    if lines::form_at(work, i) != decl::VAR {
         return no_rows(out, p);
     }
     if !globals::is_laid(sheet, work, c.lines, k) {

@@ -8,12 +8,6 @@ ghost use Rattle.decimal.specs.Number.{most, digitsOf, numberOf, signedO
 // One more than the size of the lowest i64: a number that is larger need not be told from it.
 const MOST: u64 = 9223372036854775809;
 
-const ZERO: u8 = 48;
-
-const NINE: u8 = 57;
-
-const MINUS: u8 = 45;
-
 // An integer's size, no further than MOST, with its sign.
 pub enum Signed {
     Plus(u64),
@@ -45,13 +39,13 @@ fn digits(s: &[u8], from: usize) -> u64
     let mut i = from;
     while i < s.len() {
         let x = s[i];
-        if x < ZERO {
+        if x < b'0' {
             return MOST + 1;
         }
-        if NINE < x {
+        if b'9' < x {
             return MOST + 1;
         }
-        acc = more(acc, wide(x - ZERO));
+        acc = more(acc, wide(x - b'0'));
         i += 1;
     }
     acc
@@ -64,7 +58,7 @@ pub fn natural(s: &[u8], from: usize) -> u64
     if s.len() <= from {
         return MOST + 1;
     }
-    if s[from] == ZERO {
+    if s[from] == b'0' {
         if from + 1 < s.len() {
             return MOST + 1;
         }
@@ -95,7 +89,7 @@ pub fn read_signed(s: &[u8]) -> Signed
     if s.len() == 0 {
         return Signed::NoInteger;
     }
-    if s[0] == MINUS {
+    if s[0] == b'-' {
         let m = natural(s, 1);
         if m == 0 {
             return Signed::NoInteger;

@@ -1,4 +1,5 @@
 // Entries of the table of constants.
+use codes::area;
 use values::ConstVal;
 ghost use mathlib.Core.Path.{_≡_};
 ghost use mathlib.Core.Option.{none, some};
@@ -12,16 +13,12 @@ ghost use Rattle.names.specs.Table.{Logged};
 ghost use Rattle.values.specs.Values.{valueIn, At};
 ghost use Rattle.entries.specs.Entering.{entryOf, kindFor, Says, stringOf, Free, Entered};
 
-const TABLE: usize = 5120;
-
-const STRINGS: usize = 16384;
-
 // Entry m: a `con` line, its module's line, a slot, and the digest of the name.
 fn put_entry(work: &mut [u8], m: usize, line: usize, within: usize, kind: u8, bits: u64, d: usize)
     requires { ⌜ (Free (now work) m line within) × (d < 256) ⌝ }
     ensures { λ _. ⌜ now (work .exit) ≡ over (now (work .entry)) (5120 + 16 * m) (entryOf line within kind bits d) ⌝ }
 {
-    let a = write::put(work, TABLE + 16 * m, (line % 256) as u8);
+    let a = write::put(work, area::CONSTANTS + 16 * m, (line % 256) as u8);
     let b = write::put(work, a, (line / 256) as u8);
     let c = write::put(work, b, (within % 256) as u8);
     let e = write::put(work, c, (within / 256) as u8);
@@ -60,7 +57,7 @@ fn keep_string(work: &mut [u8], v: ConstVal, m: usize)
     match v {
         ConstVal::Int(_) => {}
         ConstVal::Real(_) => {}
-        ConstVal::Str(p, l) => values::copy(work, p, STRINGS + 256 * m, l),
+        ConstVal::Str(p, l) => values::copy(work, p, area::STRINGS + 256 * m, l),
     }
 }
 
@@ -76,7 +73,7 @@ pub fn enter(work: &mut [u8], m: usize, line: usize, within: usize, v: ConstVal,
         line,
         within,
         kind_of(v),
-        bits_of(v, STRINGS + 256 * m),
+        bits_of(v, area::STRINGS + 256 * m),
         d,
     );
 }

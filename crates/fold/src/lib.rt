@@ -1,4 +1,5 @@
 // Expressions folded: the value of an `ex` line of a checked sheet, left first. Strings stand in the working space as on a stack.
+use codes::ex;
 ghost use mathlib.Core.Path.{_≡_};
 ghost use Prim.Native.Nat.{_-_};
 ghost use Rattle.values.specs.Values.{valueIn, Answers};
@@ -8,21 +9,12 @@ ghost use Rattle.fold.specs.Operators.{onOne, operandOf, OperatorLine, A
 use values::ConstVal;
 use values::Folded;
 
-// Forms of expressions. Those before UNARY refer to no line that is folded, and those behind LEN fail.
-const UNARY: usize = 13;
-
-const BINARY: usize = 14;
-
-const CAST: usize = 15;
-
-const LEN: usize = 16;
-
 // The line of the only or left operand of line r.
 fn operand(sheet: &[u8], work: &[u8], n: usize, r: usize) -> usize
     requires { ⌜ OperatorLine (now sheet) (now work) n r ⌝ }
     ensures { λ k. ⌜ k ≡ operandOf (now (sheet .entry)) (now (work .entry)) r ⌝ }
 {
-    if lines::form_at(work, r - 1) == LEN {
+    if lines::form_at(work, r - 1) == ex::LEN {
         return lines::number_at(sheet, work, n, r - 1, 0);
     }
     lines::number_at(sheet, work, n, r - 1, 1)
@@ -34,10 +26,10 @@ fn apply(sheet: &[u8], work: &mut [u8], n: usize, r: usize, v: ConstVal, top: us
     ensures { λ x. ⌜ (Answers (now (work .exit)) top x (onOne (exAt (now (sheet .entry)) r) (valueIn (now (work .entry)) v))) × (Kept top (now (work .entry)) (now (work .exit))) ⌝ }
 {
     let f = lines::form_at(work, r - 1);
-    if f == UNARY {
+    if f == ex::UN {
         return values::fold_unary(lines::number_at(sheet, work, n, r - 1, 0), v);
     }
-    if f == CAST {
+    if f == ex::CAST {
         let code = lines::form_at(work, lines::number_at(sheet, work, n, r - 1, 0) - 1);
         return Folded::Value(values::fold_cast(work, code, v, top));
     }
@@ -58,17 +50,17 @@ pub fn fold_const(
     ensures { λ x. ⌜ Folds (now (sheet .entry)) (now (work .entry)) m iota r top (now (work .exit)) x ⌝ }
 {
     let f = lines::form_at(work, r - 1);
-    if f < UNARY {
+    if f < ex::UN {
         return leaf::leaf(sheet, work, n, m, iota, r, top);
     }
-    if LEN < f {
+    if ex::LEN < f {
         return Folded::Failed;
     }
     let x = fold_const(sheet, work, n, m, iota, operand(sheet, work, n, r), top);
     let Folded::Value(v) = x else {
         return x;
     };
-    if f != BINARY {
+    if f != ex::BIN {
         return apply(sheet, work, n, r, v, top);
     }
     let right = lines::number_at(sheet, work, n, r - 1, 2);

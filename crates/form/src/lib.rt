@@ -1,4 +1,5 @@
 // The forms of lines: a table, and one walk over a line's fields by it.
+use codes::kind;
 ghost use mathlib.Core.Path.{_≡_};
 ghost use mathlib.Core.Bool.{cond};
 ghost use mathlib.Core.List.{[]};
@@ -68,14 +69,6 @@ const WIDTHS: [u8; 42] = *b"fgfgifhhfgfegefgfhfhggebbbcdccccdehmnmnpjk";
 
 const ROWS: usize = 42;
 
-const BLANK: u8 = 32;
-
-const COMMA: u8 = 44;
-
-const DOT: u8 = 46;
-
-const IMPL: u8 = b'I';
-
 const SIGN: u64 = 0x8000000000000000;
 
 const INFINITY: u64 = 0x7FF0000000000000;
@@ -135,11 +128,11 @@ fn behind_in(t: &[u8; 1008], l: &[u8], f: usize) -> usize
     let mut i = 0;
     loop {
         let w = word(t, f, i);
-        if w == BLANK {
+        if w == b' ' {
             if i == l.len() {
                 return i + 1;
             }
-            if l[i] == COMMA {
+            if l[i] == b',' {
                 return i + 1;
             }
             return 0;
@@ -205,7 +198,7 @@ fn limit(x: u8) -> u64
     if x == SIZE {
         return 4097;
     }
-    if x == BLANK {
+    if x == b' ' {
         return 0;
     }
     65537
@@ -215,12 +208,12 @@ fn limit(x: u8) -> u64
 fn is_key(s: &[u8]) -> bool
     ensures { λ r. ⌜ r ≡ isKeyField (now (s .entry)) ⌝ }
 {
-    let p = text::find(s, 0, DOT);
+    let p = text::find(s, 0, b'.');
     if p == s.len() {
         return name::is_name(s);
     }
     let a = p + 1;
-    let q = text::find(s, a, DOT);
+    let q = text::find(s, a, b'.');
     if q < s.len() {
         return false;
     }
@@ -354,14 +347,14 @@ fn fits_form(l: &[u8], from: usize, f: usize) -> bool
     while w.at <= l.len() {
         let at = w.at;
         let x = letter(f, w);
-        let e = text::find(l, at, COMMA);
+        let e = text::find(l, at, b',');
         let s = &l[at..e];
         if !is_good(s, x) {
             return false;
         }
         w = step(f, w, x, number(s), e + 1);
     }
-    letter(f, w) == BLANK
+    letter(f, w) == b' '
 }
 
 // The number of line k's form, 42 where it has none.
@@ -379,7 +372,7 @@ pub fn form_of(l: &[u8], k: usize) -> usize
     if !fits_form(l, at, f) {
         return ROWS;
     }
-    if kind(f) != IMPL {
+    if kind(f) != kind::IMPL {
         return f;
     }
     if k == 1 {
@@ -406,7 +399,7 @@ pub fn field(l: &[u8], f: usize, i: usize) -> &[u8]
     let mut at = width(f) + 1;
     let mut k = 0;
     while at <= l.len() {
-        let e = text::find(l, at, COMMA);
+        let e = text::find(l, at, b',');
         if k == i {
             return &l[at..e];
         }
@@ -423,7 +416,7 @@ fn ends_at(l: &[u8], e: usize) -> bool
     if e == l.len() {
         return true;
     }
-    l[e] == COMMA
+    l[e] == b','
 }
 
 // Whether the field that begins at `at` is this text: compared in place and from its end, as names often begin alike.
@@ -444,7 +437,7 @@ fn stands_at(l: &[u8], at: usize, name: &[u8]) -> bool
         if x != name[i] {
             return false;
         }
-        if x == COMMA {
+        if x == b',' {
             return false;
         }
     }
@@ -489,7 +482,7 @@ pub fn next(l: &[u8], f: usize, w: Walk) -> Seen
 {
     let at = w.at;
     let x = letter(f, w);
-    let e = text::find(l, at, COMMA);
+    let e = text::find(l, at, b',');
     let v = number(&l[at..e]);
     let u = step(f, w, x, v, e + 1);
     Seen {

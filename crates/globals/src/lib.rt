@@ -1,6 +1,8 @@
 // Places of globals: a table of them in the working space, in the order of their `var` lines.
 pub mod listing;
 
+use codes::area;
+use codes::decl;
 use layout::align::align_up;
 ghost use mathlib.Core.Path.{_≡_};
 ghost use Prim.Native.Nat.{_+_, _*_, _≤_, _<_};
@@ -16,11 +18,6 @@ ghost use Rattle.globals.specs.Laying.{lay, layNames, counts};
 ghost use Rattle.globals.specs.Vars.{offsetIn};
 ghost use Rattle.globals.specs.Table.{VarLine, nameOn, typeOn, namesOn, lineOf, positionOf, offsetOf, digestOf, entered, entryAt, placesIn, layingIn, Tabled, offsetBy, Around, Standing, Laid, namesAt, layLine, Collected};
 
-const TABLE: usize = 7168;
-
-// The form of `var` lines.
-const VAR: usize = 29;
-
 pub struct Globals {
     pub count: usize,
     pub end: u32,
@@ -31,7 +28,7 @@ pub fn line_of(work: &[u8], i: usize) -> usize
     requires { ⌜ (i < 256) × (65536 ≤ length (now work)) ⌝ }
     ensures { λ r. ⌜ r ≡ lineOf (now (work .entry)) i ⌝ }
 {
-    words::word_at(work, TABLE + 8 * i)
+    words::word_at(work, area::GLOBALS + 8 * i)
 }
 
 // The position of its name among the line's names, from 0.
@@ -39,7 +36,7 @@ fn position_of(work: &[u8], i: usize) -> usize
     requires { ⌜ (i < 256) × (65536 ≤ length (now work)) ⌝ }
     ensures { λ r. ⌜ (r ≡ positionOf (now (work .entry)) i) × (r < 256) ⌝ }
 {
-    words::wide(work[TABLE + 2 + 8 * i])
+    words::wide(work[area::GLOBALS + 2 + 8 * i])
 }
 
 // Its offset.
@@ -47,7 +44,7 @@ pub fn offset_of(work: &[u8], i: usize) -> usize
     requires { ⌜ (i < 256) × (65536 ≤ length (now work)) ⌝ }
     ensures { λ r. ⌜ (r ≡ offsetOf (now (work .entry)) i) × (r < 65536) ⌝ }
 {
-    words::word_at(work, TABLE + 3 + 8 * i)
+    words::word_at(work, area::GLOBALS + 3 + 8 * i)
 }
 
 // Its name's digest.
@@ -55,14 +52,14 @@ fn digest_of(work: &[u8], i: usize) -> usize
     requires { ⌜ (i < 256) × (65536 ≤ length (now work)) ⌝ }
     ensures { λ r. ⌜ r ≡ digestOf (now (work .entry)) i ⌝ }
 {
-    words::wide(work[TABLE + 5 + 8 * i])
+    words::wide(work[area::GLOBALS + 5 + 8 * i])
 }
 
 fn enter(work: &mut [u8], i: usize, line: usize, position: usize, offset: usize, digest: usize)
     requires { ⌜ (i < 256) × (line < 65536) × (position < 256) × (offset < 65536) × (digest < 256) × (65536 ≤ length (now work)) ⌝ }
     ensures { λ _. ⌜ now (work .exit) ≡ entered (now (work .entry)) i line position offset digest ⌝ }
 {
-    let a = TABLE + 8 * i;
+    let a = area::GLOBALS + 8 * i;
     work[a] = (line % 256) as u8;
     work[a + 1] = (line / 256) as u8;
     work[a + 2] = position as u8;
@@ -181,7 +178,7 @@ fn declare_line(sheet: &[u8], work: &mut [u8], n: usize, i: usize, k: usize, g: 
     requires { ⌜ (Standing (now sheet) (now work) n g) × (Open (now sheet) (now work) n i k) × (i < n) × (g .count + namesAt (now sheet) i ≤ 256) ⌝ }
     ensures { λ h. ⌜ Laid (now (sheet .entry)) (now (work .entry)) (now (work .exit)) n (layLine (now (sheet .entry)) i (layingIn (now (sheet .entry)) (now (work .entry)) g)) h (g .count + namesAt (now (sheet .entry)) i) ⌝ }
 {
-    if lines::form_at(work, i) != VAR {
+    if lines::form_at(work, i) != decl::VAR {
         return g;
     }
     if !is_laid(sheet, work, n, k) {

@@ -1,17 +1,11 @@
 // The modules of a checked sheet: which one is open before a line, and whether the sheet implements it.
+use codes::kind;
 ghost use mathlib.Core.Path.{_≡_};
 ghost use Prim.Native.Nat.{_+_, _≤_, _<_};
 ghost use Rattle.semantics.specs.Sheet.{sheetSource};
 ghost use Rattle.semantics.specs.Const as Const;
 ghost use Rattle.checks.specs.Checks.{Checked};
 ghost use Rattle.implement.specs.Modules.{moduleAt, isOwn, Open};
-
-// Letters of kinds.
-const MOD: u8 = b'M';
-
-const END: u8 = b'O';
-
-const IMPL: u8 = b'I';
 
 // Whether the sheet implements the module of line k; 0 is none.
 fn implements(sheet: &[u8], work: &[u8], n: usize, k: usize) -> bool
@@ -21,7 +15,7 @@ fn implements(sheet: &[u8], work: &[u8], n: usize, k: usize) -> bool
     if k == 0 {
         return false;
     }
-    if form::kind(lines::form_at(work, 0)) != IMPL {
+    if form::kind(lines::form_at(work, 0)) != kind::IMPL {
         return false;
     }
     let name = lines::field_at(sheet, work, n, 0, 0);
@@ -45,10 +39,10 @@ pub fn open_after(sheet: &[u8], work: &[u8], n: usize, i: usize, k: usize) -> us
     ensures { λ r. ⌜ Open (now (sheet .entry)) (now (work .entry)) n (i + 1) r ⌝ }
 {
     let kind = form::kind(lines::form_at(work, i));
-    if kind == MOD {
+    if kind == kind::MOD {
         return i + 1;
     }
-    if kind == END {
+    if kind == kind::END {
         return 0;
     }
     k

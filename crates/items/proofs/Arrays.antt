@@ -20,7 +20,8 @@ use Rattle.rows.specs.Rows.{commaed}
 use Rattle.values.specs.declared.ConstVal.{ConstVal}
 use Rattle.values.specs.Values.{valueIn}
 use Rattle.placements.specs.Placements.{entryAt, slotAt, elementAt, valuesIn}
-use Rattle.items.specs.Items.{elementText, elementTexts, kindName, valuesRow, itemRows}
+use Rattle.items.specs.Items.{itemRows}
+use Rattle.elements.specs.Elements.{elementText, elementTexts, kindName, valuesRow}
 
 -- ---- one more value of a literal
 

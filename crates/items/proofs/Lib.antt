@@ -1,3 +1,2 @@
-pub mod Elements
 pub mod Rows
 pub mod Arrays

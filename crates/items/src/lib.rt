@@ -1,13 +1,12 @@
 // Rows of data items: single values, and arrays with the elements of a literal that stands in the working space.
+use codes::element;
 use values::ConstVal;
 ghost use mathlib.Core.Path.{_≡_};
 ghost use mathlib.Core.Bool.{cond};
 ghost use mathlib.Core.List.{[], _∷_, _++_};
 ghost use Prim.Native.Nat.{ℕ, _+_, _*_, _≤_, _<_};
 ghost use lib.ListN.{length};
-ghost use Rattle.semantics.specs.Text.{Bytes};
 ghost use Rattle.semantics.specs.Tree.{Ty, ElemKind, TypeKey};
-ghost use Rattle.semantics.specs.Tree.ConstVal.{vInt, vReal, vStr};
 ghost use Rattle.semantics.specs.Tree.ElemKind.{kBig};
 ghost use Rattle.semantics.specs.Tree.TypeKey.{elemKey};
 ghost use Rattle.semantics.specs.Array.{ConstArray, kindNumber, isOfKind};
@@ -18,104 +17,8 @@ ghost use Rattle.write.specs.Wrote.{Wrote};
 ghost use Rattle.rows.specs.Rows.{commaed};
 ghost use Rattle.values.specs.Values.{stringIn, valueIn, Within};
 ghost use Rattle.placements.specs.Placements.{entryAt, slotAt, elementAt, valuesIn};
-ghost use Rattle.items.specs.Items.{elementText, elementTexts, kindName, headText, valuesRow, itemRows, Literal};
-
-// Kinds of elements.
-const BYTE: u8 = 0;
-
-const WORD: u8 = 1;
-
-const BIG: u8 = 2;
-
-const REAL: u8 = 3;
-
-const POINTER: u8 = 4;
-
-fn put_int_element(out: &mut [u8], at: usize, kind: u8, n: i64) -> usize
-    ensures { λ r. ⌜ Wrote (now (out .entry)) at (44 ∷ elementText kind (vInt n)) (now (out .exit)) r ⌝ }
-{
-    if kind == BYTE {
-        return rows::put_comma_nat(out, at, conversions::byte_of_int(n) as u64);
-    }
-    if kind == WORD {
-        return rows::put_comma_int(out, at, conversions::word_of_int(n) as i64);
-    }
-    if kind == BIG {
-        return rows::put_comma_int(out, at, n);
-    }
-    rows::put_comma_word(out, at, reals::bits(conversions::real_of_int(n)))
-}
-
-fn put_real_element(out: &mut [u8], at: usize, kind: u8, x: f64) -> usize
-    ensures { λ r. ⌜ Wrote (now (out .entry)) at (44 ∷ elementText kind (vReal x)) (now (out .exit)) r ⌝ }
-{
-    if kind == BYTE {
-        return rows::put_comma_nat(out, at, conversions::byte_of_real(x) as u64);
-    }
-    if kind == WORD {
-        return rows::put_comma_int(out, at, conversions::word_of_real(x) as i64);
-    }
-    if kind == BIG {
-        return rows::put_comma_int(out, at, conversions::big_of_real(x));
-    }
-    rows::put_comma_word(out, at, reals::bits(x))
-}
-
-// A string among numbers.
-fn put_zero_element(out: &mut [u8], at: usize, kind: u8) -> usize
-    ensures { λ r. ⌜ ((s : Bytes) → Wrote (now (out .entry)) at (44 ∷ elementText kind (vStr s)) (now (out .exit)) r) ⌝ }
-{
-    if kind < REAL {
-        return rows::put_comma_nat(out, at, 0);
-    }
-    rows::put_comma_word(out, at, 0)
-}
-
-// An element as a number of its array's kind, behind its comma.
-fn put_element(out: &mut [u8], at: usize, kind: u8, v: ConstVal) -> usize
-    ensures { λ r. ⌜ ((t : Bytes) → Wrote (now (out .entry)) at (44 ∷ elementText kind (valueIn t v)) (now (out .exit)) r) ⌝ }
-{
-    match v {
-        ConstVal::Int(n) => put_int_element(out, at, kind, n),
-        ConstVal::Real(x) => put_real_element(out, at, kind, x),
-        ConstVal::Str(_, _) => put_zero_element(out, at, kind),
-    }
-}
-
-// The name of a kind of numbers, behind its comma.
-fn put_kind(out: &mut [u8], at: usize, kind: u8) -> usize
-    ensures { λ r. ⌜ Wrote (now (out .entry)) at (44 ∷ kindName kind) (now (out .exit)) r ⌝ }
-{
-    if kind == BYTE {
-        return rows::put_comma_part(out, at, b"bytes");
-    }
-    if kind == WORD {
-        return rows::put_comma_part(out, at, b"words");
-    }
-    if kind == BIG {
-        return rows::put_comma_part(out, at, b"bigs");
-    }
-    rows::put_comma_part(out, at, b"reals")
-}
-
-// What stands in front of `count` numbers.
-fn put_head(out: &mut [u8], at: usize, kind: u8, off: usize, count: usize) -> usize
-    ensures { λ r. ⌜ Wrote (now (out .entry)) at (headText kind off count) (now (out .exit)) r ⌝ }
-{
-    let p = write::put_part(out, at, b"dat");
-    let q = put_kind(out, p, kind);
-    let r = rows::put_comma_nat(out, q, off as u64);
-    rows::put_comma_nat(out, r, count as u64)
-}
-
-// The row of one number.
-fn number_row(out: &mut [u8], at: usize, kind: u8, off: usize, v: ConstVal) -> usize
-    ensures { λ r. ⌜ ((t : Bytes) → Wrote (now (out .entry)) at (valuesRow kind off (valueIn t v ∷ [])) (now (out .exit)) r) ⌝ }
-{
-    let p = put_head(out, at, kind, off, 1);
-    let q = put_element(out, p, kind, v);
-    rows::put_lf(out, q)
-}
+ghost use Rattle.items.specs.Items.{itemRows, Literal};
+ghost use Rattle.elements.specs.Elements.{elementTexts, valuesRow};
 
 // The row of the string of l bytes at p.
 fn str_row(work: &[u8], out: &mut [u8], at: usize, off: usize, p: usize, l: usize) -> usize
@@ -132,9 +35,9 @@ fn int_kind(big: bool) -> u8
     ensures { λ r. ⌜ r ≡ cond big 2 1 ⌝ }
 {
     if big {
-        return BIG;
+        return element::BIG;
     }
-    WORD
+    element::WORD
 }
 
 // The row of a single value; the type decides only between big and word.
@@ -150,8 +53,8 @@ pub fn value_item(
     ensures { λ r. ⌜ ((id : TypeKey → ℕ) (ty : Ty) → isOfKind kBig ty ≡ big → Wrote (now (out .entry)) at (itemRow id (valueItem off ty (valueIn (now (work .entry)) v))) (now (out .exit)) r) ⌝ }
 {
     match v {
-        ConstVal::Int(_) => number_row(out, at, int_kind(big), off, v),
-        ConstVal::Real(_) => number_row(out, at, REAL, off, v),
+        ConstVal::Int(_) => elements::number_row(out, at, int_kind(big), off, v),
+        ConstVal::Real(_) => elements::number_row(out, at, element::REAL, off, v),
         ConstVal::Str(p, l) => str_row(work, out, at, off, p, l),
     }
 }
@@ -167,7 +70,7 @@ fn put_elements(work: &[u8], out: &mut [u8], at: usize, kind: u8, count: usize) 
     let mut p = at;
     let mut i = 0;
     while i < count {
-        p = put_element(out, p, kind, placements::element(work, i));
+        p = elements::put_element(out, p, kind, placements::element(work, i));
         i += 1;
     }
     p
@@ -178,7 +81,7 @@ fn elements_row(work: &[u8], out: &mut [u8], at: usize, kind: u8, count: usize) 
     requires { ⌜ Literal (now work) count ⌝ }
     ensures { λ r. ⌜ Wrote (now (out .entry)) at (valuesRow kind 0 (valuesIn (now (work .entry)) 0 count)) (now (out .exit)) r ⌝ }
 {
-    let p = put_head(out, at, kind, 0, count);
+    let p = elements::put_head(out, at, kind, 0, count);
     let q = put_elements(work, out, p, kind, count);
     rows::put_lf(out, q)
 }
@@ -217,7 +120,7 @@ fn element_items(work: &[u8], out: &mut [u8], at: usize, kind: u8, count: usize)
     requires { ⌜ Literal (now work) count ⌝ }
     ensures { λ r. ⌜ ((id : TypeKey → ℕ) (k : ElemKind) → kindNumber k ≡ kind → Wrote (now (out .entry)) at (itemRows id (elementItems k (valuesIn (now (work .entry)) 0 count))) (now (out .exit)) r) ⌝ }
 {
-    if kind < POINTER {
+    if kind < element::POINTER {
         return elements_row(work, out, at, kind, count);
     }
     string_rows(work, out, at, count)

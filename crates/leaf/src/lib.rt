@@ -1,4 +1,6 @@
 // Expressions without an operand that is folded: literals, names, and names of a module.
+use codes::ex;
+use codes::value;
 ghost use mathlib.Core.Path.{_≡_};
 ghost use mathlib.Core.Bool.{true};
 ghost use mathlib.Core.List.{[]};
@@ -17,22 +19,6 @@ ghost use Rattle.names.specs.Table.{found};
 ghost use Rattle.leaf.specs.Folds.{literalOf, Folds, Leaf, Literal, Ident, Qualified, Slot};
 use values::ConstVal;
 use values::Folded;
-
-// Forms of these expressions.
-const INT: usize = 8;
-
-const REAL: usize = 9;
-
-const IDENT: usize = 11;
-
-const QUALIFIED: usize = 12;
-
-// Kinds of constants in their table.
-const INT_KIND: u8 = 1;
-
-const REAL_KIND: u8 = 2;
-
-const STRING_KIND: u8 = 3;
 
 fn integer(x: &[u8]) -> ConstVal
     requires { ⌜ Form.holds Form.Atom.i64 (now x) ≡ true ⌝ }
@@ -77,10 +63,10 @@ fn literal(sheet: &[u8], work: &mut [u8], n: usize, r: usize, top: usize) -> Con
 {
     let f = lines::form_at(work, r - 1);
     let x = lines::field_at(sheet, work, n, r - 1, 0);
-    if f == INT {
+    if f == ex::INT {
         return integer(x);
     }
-    if f == REAL {
+    if f == ex::REAL {
         return real(x);
     }
     string(x, work, top)
@@ -96,13 +82,13 @@ fn constant(work: &mut [u8], k: usize, top: usize) -> Folded
     }
     let kind = names::slot_kind(work, k - 1);
     let b = names::slot_bits(work, k - 1);
-    if kind == INT_KIND {
+    if kind == value::INT {
         return Folded::Value(ConstVal::Int(ints::of_bits(b)));
     }
-    if kind == REAL_KIND {
+    if kind == value::REAL {
         return Folded::Value(ConstVal::Real(reals::of_bits(b)));
     }
-    if kind == STRING_KIND {
+    if kind == value::STRING {
         let l = (b / 65536) as usize;
         values::copy(work, (b % 65536) as usize, top, l);
         return Folded::Value(ConstVal::Str(top, l));
@@ -145,7 +131,7 @@ fn qualified(
     ensures { λ x. ⌜ Folds (now (sheet .entry)) (now (work .entry)) m iota r top (now (work .exit)) x ⌝ }
 {
     let q = lines::number_at(sheet, work, n, r - 1, 0);
-    if lines::form_at(work, q - 1) != IDENT {
+    if lines::form_at(work, q - 1) != ex::ID {
         return Folded::Failed;
     }
     let within = lines::field_at(sheet, work, n, q - 1, 0);
@@ -167,10 +153,10 @@ pub fn leaf(
     ensures { λ x. ⌜ Folds (now (sheet .entry)) (now (work .entry)) m iota r top (now (work .exit)) x ⌝ }
 {
     let f = lines::form_at(work, r - 1);
-    if f == IDENT {
+    if f == ex::ID {
         return ident(sheet, work, n, m, iota, r, top);
     }
-    if f == QUALIFIED {
+    if f == ex::QUAL {
         return qualified(sheet, work, n, m, iota, r, top);
     }
     Folded::Value(literal(sheet, work, n, r, top))

@@ -1,4 +1,5 @@
 // The lines of a sheet: their forms, and tables of them in the working space.
+use codes::area;
 ghost use mathlib.Core.Path.{_≡_};
 ghost use Prim.Native.Nat.{_+_, _≤_, _<_};
 ghost use mathlib.Core.List.{[]};
@@ -6,8 +7,6 @@ ghost use lib.ListN.{length, getD};
 ghost use Rattle.semantics.specs.Text.{same};
 ghost use Rattle.decimal.specs.Number.{numberOf};
 ghost use Rattle.lines.specs.Lines.{textAt, readAt, start, formAt, entered, Whole, Passed, Above};
-
-const LF: u8 = 10;
 
 const ROWS: usize = 42;
 
@@ -29,15 +28,15 @@ fn enter(work: &mut [u8], i: usize, at: usize, f: usize)
     ensures { λ _. ⌜ now (work .exit) ≡ entered (now (work .entry)) i at f ⌝ }
 {
     work[i] = (at % 256) as u8;
-    work[1024 + i] = (at / 256) as u8;
-    work[2048 + i] = f as u8;
+    work[area::LINE_HIGH + i] = (at / 256) as u8;
+    work[area::LINE_FORMS + i] = f as u8;
 }
 
 fn start_of(work: &[u8], i: usize) -> usize
     requires { ⌜ (i < 1024) × (65536 ≤ length (now work)) ⌝ }
     ensures { λ r. ⌜ r ≡ start (now (work .entry)) i ⌝ }
 {
-    wide(work[i]) + 256 * wide(work[1024 + i])
+    wide(work[i]) + 256 * wide(work[area::LINE_HIGH + i])
 }
 
 // The form of line i, from 0.
@@ -45,7 +44,7 @@ pub fn form_at(work: &[u8], i: usize) -> usize
     requires { ⌜ (i < 1024) × (65536 ≤ length (now work)) ⌝ }
     ensures { λ r. ⌜ r ≡ formAt (now (work .entry)) i ⌝ }
 {
-    wide(work[2048 + i])
+    wide(work[area::LINE_FORMS + i])
 }
 
 // The bytes of line i, from 0, as that part of the sheet.
@@ -58,7 +57,7 @@ pub fn line_at<'a>(sheet: &'a [u8], work: &[u8], n: usize, i: usize) -> &'a [u8]
         let b = start_of(work, i + 1); // behind this line's LF
         return &sheet[a..b - 1];
     }
-    let e = text::find(sheet, a, LF);
+    let e = text::find(sheet, a, b'\n');
     &sheet[a..e]
 }
 
@@ -96,7 +95,7 @@ pub fn index(sheet: &[u8], work: &mut [u8]) -> Formed
     let mut at = 0;
     let mut n = 0;
     loop {
-        let e = text::find(sheet, at, LF);
+        let e = text::find(sheet, at, b'\n');
         if e == sheet.len() {
             if at == e {
                 return Formed::Lines(n);

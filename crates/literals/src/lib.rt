@@ -1,4 +1,6 @@
 // The elements of a literal: each value is folded and stored, then its selectors, and then it is placed.
+use codes::area;
+use codes::el;
 use placements::Placed;
 use values::ConstVal;
 use values::Folded;
@@ -16,13 +18,6 @@ ghost use Rattle.placements.specs.Placements.{stopped};
 ghost use Rattle.values.specs.Values.{resultIn};
 ghost use Rattle.leaf.specs.Folds.{exAt};
 ghost use Rattle.literals.specs.Literals.{seAt, namesIn, Task, above, indexResult, spanResult, sesAt, AtTask, elAt, elsAt, ValuedTask, Turn, LiteralLine, placed, Moves, Selects, Fills, Turns, AllFilled};
-
-const STACK: usize = 49152;
-
-// Forms of elements; what is neither has selectors.
-const NEXT: usize = 20;
-
-const STAR: usize = 21;
 
 // An index, or why there is none.
 pub enum Index {
@@ -55,7 +50,7 @@ fn index_of(sheet: &[u8], work: &mut [u8], n: usize, m: usize, r: usize, e: usiz
     requires { ⌜ Task 69 (now sheet) (now work) n m r e ⌝ }
     ensures { λ i. ⌜ (indexResult i ≡ indexOf (namesIn (now (sheet .entry)) (now (work .entry)) m) (exAt (now (sheet .entry)) r)) × (Kept (above e) (now (work .entry)) (now (work .exit))) ⌝ }
 {
-    as_int(fold::fold_const(sheet, work, n, m, 0, r, STACK + 256 * e))
+    as_int(fold::fold_const(sheet, work, n, m, 0, r, area::STACK + 256 * e))
 }
 
 // The high end of a selector's line r, where its low end is known.
@@ -175,10 +170,10 @@ fn place_element(
     ensures { λ y. ⌜ Fills (now (work .entry)) e next reach (placed (namesIn (now (sheet .entry)) (now (work .entry)) m) (elAt (now (sheet .entry)) r)) y (now (work .exit)) ⌝ }
 {
     let f = lines::form_at(work, r - 1);
-    if f == NEXT {
+    if f == el::NEXT {
         return placements::place_next(work, e, next, reach);
     }
-    if f == STAR {
+    if f == el::STAR {
         placements::put_value(work, 0, v);
         return Placed::Into(next, reach);
     }
@@ -200,7 +195,7 @@ fn fill_element(
     ensures { λ y. ⌜ Turns (now (work .entry)) k next reach (fillElement (namesIn (now (sheet .entry)) (now (work .entry)) m) (elAt (now (sheet .entry)) r)) y (now (work .exit)) ⌝ }
 {
     let q = lines::number_at(sheet, work, n, r - 1, 0);
-    match fold::fold_const(sheet, work, n, m, 0, q, STACK + 256 * k) {
+    match fold::fold_const(sheet, work, n, m, 0, q, area::STACK + 256 * k) {
         Folded::Value(v) => {
             placements::put_value(work, k + 1, v);
             place_element(sheet, work, n, m, r, k + 1, v, next, reach)

@@ -1,4 +1,5 @@
 // A pointer map in the working space.
+use codes::area;
 ghost use mathlib.Core.Path.{_≡_};
 ghost use mathlib.Core.Bool.{cond};
 ghost use mathlib.Core.List.{[], _∷_};
@@ -6,9 +7,6 @@ ghost use Prim.Native.Nat.{_+_, _^_, _-_, _%_, _<_};
 ghost use lib.IntN.{pos};
 ghost use Rattle.semantics.specs.Layout.{pointerCount};
 ghost use Rattle.maps.specs.Maps.{mapIn, MapRoom, Marks, Made};
-
-// Where a map begins. No fold is in progress while one stands there.
-const MAP: usize = 49152;
 
 // Makes the map of a block of this size that has no pointers.
 pub fn clear_map(work: &mut [u8], size: u32)
@@ -18,7 +16,7 @@ pub fn clear_map(work: &mut [u8], size: u32)
     let end = layout::map::map_bytes(size);
     let mut i = 0;
     while i < end {
-        work[MAP + i] = 0;
+        work[area::MAP + i] = 0;
         i += 1;
     }
 }
@@ -42,7 +40,7 @@ pub fn mark_at(work: &mut [u8], size: u32, off: u32)
         return;
     }
     let w = off / 4;
-    let at = MAP + (w / 8) as usize;
+    let at = area::MAP + (w / 8) as usize;
     work[at] = work[at] | bit_of(w);
 }
 
@@ -77,7 +75,7 @@ pub fn map_ones(work: &[u8], size: u32) -> u32
     let mut count: u32 = 0;
     let mut i = 0;
     while i < end {
-        count += layout::map::ones_of(work[MAP + i]);
+        count += layout::map::ones_of(work[area::MAP + i]);
         i += 1;
     }
     count

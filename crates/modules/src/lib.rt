@@ -1,22 +1,19 @@
 // Refusal 6: modules.
+use codes::kind;
 ghost use mathlib.Core.Path.{_≡_};
 ghost use mathlib.Core.Bool.{false};
 ghost use Rattle.semantics.specs.Refusal.{badModuleFrom};
 ghost use Rattle.lines.specs.Lines.{readsIn, Whole};
 ghost use Rattle.modules.specs.Modules.{wrong, opens};
 
-const MOD: u8 = b'M';
-
-const END: u8 = b'O';
-
 // Whether a line of kind k may not stand here.
 fn is_wrong(k: u8, inside: bool) -> bool
     ensures { λ r. ⌜ r ≡ wrong k inside ⌝ }
 {
-    if k == MOD {
+    if k == kind::MOD {
         return inside;
     }
-    if k == END {
+    if k == kind::END {
         return !inside;
     }
     false
@@ -26,10 +23,10 @@ fn is_wrong(k: u8, inside: bool) -> bool
 fn is_open(k: u8, inside: bool) -> bool
     ensures { λ r. ⌜ r ≡ opens k inside ⌝ }
 {
-    if k == MOD {
+    if k == kind::MOD {
         return true;
     }
-    if k == END {
+    if k == kind::END {
         return false;
     }
     inside

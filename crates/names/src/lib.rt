@@ -1,4 +1,5 @@
 // The table of constants: look-ups by name and by module and name, the newest entry first.
+use codes::area;
 ghost use mathlib.Core.Path.{_≡_};
 ghost use Prim.Native.Nat.{_+_, _≤_, _<_};
 ghost use lib.Dec.{ltb};
@@ -10,14 +11,12 @@ ghost use Rattle.implement.specs.Modules.{firstField};
 ghost use Rattle.checks.specs.Checks.{Checked};
 ghost use Rattle.names.specs.Table.{lineOf, moduleLineOf, bitsOf, kindOf, digestOf, logIn, Logged, found, hasKey, answersPlain, answersQualified};
 
-const TABLE: usize = 5120;
-
 // The `con` line of entry i.
 pub fn line_of(work: &[u8], i: usize) -> usize
     requires { ⌜ (i < 128) × (65536 ≤ length (now work)) ⌝ }
     ensures { λ r. ⌜ r ≡ lineOf (now (work .entry)) i ⌝ }
 {
-    words::word_at(work, TABLE + 16 * i)
+    words::word_at(work, area::CONSTANTS + 16 * i)
 }
 
 // The line of its module, 0 for none.
@@ -25,21 +24,21 @@ pub fn module_line_of(work: &[u8], i: usize) -> usize
     requires { ⌜ (i < 128) × (65536 ≤ length (now work)) ⌝ }
     ensures { λ r. ⌜ r ≡ moduleLineOf (now (work .entry)) i ⌝ }
 {
-    words::word_at(work, TABLE + 2 + 16 * i)
+    words::word_at(work, area::CONSTANTS + 2 + 16 * i)
 }
 
 pub fn slot_kind(work: &[u8], i: usize) -> u8
     requires { ⌜ (i < 128) × (65536 ≤ length (now work)) ⌝ }
     ensures { λ r. ⌜ r ≡ kindOf (now (work .entry)) i ⌝ }
 {
-    work[TABLE + 4 + 16 * i]
+    work[area::CONSTANTS + 4 + 16 * i]
 }
 
 pub fn slot_bits(work: &[u8], i: usize) -> u64
     requires { ⌜ (i < 128) × (65536 ≤ length (now work)) ⌝ }
     ensures { λ r. ⌜ r ≡ bitsOf (now (work .entry)) i ⌝ }
 {
-    words::bits_at(work, TABLE + 5 + 16 * i)
+    words::bits_at(work, area::CONSTANTS + 5 + 16 * i)
 }
 
 // The digest of its name.
@@ -47,7 +46,7 @@ fn digest_of(work: &[u8], i: usize) -> usize
     requires { ⌜ (i < 128) × (65536 ≤ length (now work)) ⌝ }
     ensures { λ r. ⌜ r ≡ digestOf (now (work .entry)) i ⌝ }
 {
-    words::wide(work[TABLE + 13 + 16 * i])
+    words::wide(work[area::CONSTANTS + 13 + 16 * i])
 }
 
 // Whether line k, a `con` or a `mod` line, has this name.

@@ -1,4 +1,5 @@
 // Refusal 5: nesting.
+use codes::area;
 use lines::wide;
 ghost use mathlib.Core.Path.{_≡_};
 ghost use mathlib.Core.List.{List, []};
@@ -7,8 +8,6 @@ ghost use lib.ListN.{length};
 ghost use Rattle.semantics.specs.Refusal.{refsOf, deepest, tooDeepFrom};
 ghost use Rattle.lines.specs.Lines.{readsIn, readAt, Whole};
 ghost use Rattle.nesting.specs.Nesting.{refDepth, Depths};
-
-const DEPTHS: usize = 4096;
 
 const DEEPEST: usize = 32;
 
@@ -38,7 +37,7 @@ fn ref_depth(work: &[u8], i: usize, x: u8, v: usize) -> usize
     if i < v {
         return 0;
     }
-    wide(work[DEPTHS + (v - 1)])
+    wide(work[area::DEPTHS + (v - 1)])
 }
 
 // How deep the deepest line is to which line i, from 0, refers.
@@ -70,7 +69,7 @@ pub fn too_deep(sheet: &[u8], work: &mut [u8], n: usize) -> usize
         if DEEPEST < d {
             return i + 1;
         }
-        work[DEPTHS + i] = d as u8;
+        work[area::DEPTHS + i] = d as u8;
         i += 1;
     }
     0

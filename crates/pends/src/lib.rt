@@ -1,4 +1,5 @@
 // The `pend` rows of globals, and the refusals of their first values.
+use codes::decl;
 use vars::First;
 use vars::var_value;
 ghost use Prim.Native.Nat.{_-_, _<_};
@@ -12,9 +13,6 @@ ghost use Rattle.literals.specs.Literals.{namesIn, Line};
 ghost use Rattle.globals.specs.Table.{VarLine, nameOn, namesOn};
 ghost use Rattle.vars.specs.Lines.{locatedAt, laidAt, Ready, LineTask};
 ghost use Rattle.pends.specs.Pends.{Pended, AllPended};
-
-// The form of `var` lines.
-const VAR: usize = 29;
 
 // The place behind the rows, or a refusal and its line.
 pub enum Pends {
@@ -103,7 +101,7 @@ fn pend_at(
     requires { ⌜ LineTask (now sheet) (now work) n m i k ⌝ }
     ensures { λ x. ⌜ (Pended (namesIn (now (sheet .entry)) (now (work .entry)) m) (laidAt (now (sheet .entry)) i) (now (out .entry)) at x (now (out .exit))) × (Keeps 16384 49152 (now (work .entry)) (now (work .exit))) ⌝ }
 {
-    if lines::form_at(work, i) != VAR {
+    if lines::form_at(work, i) != decl::VAR {
         return Pends::Written(no_rows(out, at));
     }
     if !globals::is_laid(sheet, work, n, k) {

@@ -1,4 +1,7 @@
 // Where the elements of a literal fall: a table of its first 1,024 indices, and slots for the elements' values.
+use codes::area;
+use codes::element;
+use codes::value;
 use words::wide;
 ghost use mathlib.Core.Path.{_≡_};
 ghost use Prim.Native.Nat.{ℕ, _+_, _*_, _^_, _≤_, _<_, min, max};
@@ -11,28 +14,10 @@ ghost use Rattle.slots.specs.Slots.{Small, Stored};
 ghost use Rattle.placements.specs.declared.Placed.the-variants.{Into};
 ghost use Rattle.placements.specs.Placements.{entryAt, slotAt, valuesIn, Keeps, Painted, Filling, Places, rankOf, hasRank};
 
-const TABLE: usize = 11264;
-
-const SLOTS: usize = 12288;
-
 const INDICES: u64 = 1024;
 
 // 2^63, the first index that counts as negative.
 const BEYOND: u64 = 9223372036854775808;
-
-// What a value is.
-const INTEGER: u8 = 1;
-
-const REAL: u8 = 2;
-
-const STRING: u8 = 3;
-
-// Kinds of elements.
-const WORDS: u8 = 1;
-
-const REALS: u8 = 3;
-
-const POINTERS: u8 = 4;
 
 // A literal so far, with the next plain index and the end of its indices; or how it ends.
 pub enum Placed {
@@ -68,7 +53,7 @@ fn paint(work: &mut [u8], low: u64, high: u64, e: u8)
     let mut i = clipped(low);
     let end = clipped(high + 1);
     while i < end {
-        work[TABLE + i] = e;
+        work[area::PLACEMENTS + i] = e;
         i += 1;
     }
 }
@@ -79,7 +64,7 @@ pub fn empty(work: &mut [u8])
     ensures { λ _. ⌜ (Filling (now (work .exit)) 49152 0 0 0 noneFilled) × ((b : ℕ) → Keeps 16384 b (now (work .entry)) (now (work .exit))) ⌝ }
 {
     paint(work, 0, 1023, 0);
-    slots::put_value(work, SLOTS, values::ConstVal::Int(0));
+    slots::put_value(work, area::ELEMENTS, values::ConstVal::Int(0));
 }
 
 // The value of element j, from 1, or of the filler, 0.
@@ -87,7 +72,7 @@ pub fn put_value(work: &mut [u8], j: usize, v: values::ConstVal)
     requires { ⌜ (j ≤ 16) × (65536 ≤ length (now work)) × (Small v) ⌝ }
     ensures { λ _. ⌜ Stored (now (work .entry)) (12288 + 16 * j) v (now (work .exit)) ⌝ }
 {
-    slots::put_value(work, SLOTS + 16 * j, v);
+    slots::put_value(work, area::ELEMENTS + 16 * j, v);
 }
 
 fn place_span(work: &mut [u8], e: usize, low: u64, high: u64, reach: u64) -> Placed
@@ -135,16 +120,16 @@ pub fn element(work: &[u8], i: usize) -> values::ConstVal
     requires { ⌜ (i < 1024) × (65536 ≤ length (now work)) ⌝ }
     ensures { λ r. ⌜ r ≡ slotAt (now (work .entry)) (entryAt (now (work .entry)) i) ⌝ }
 {
-    slots::value_at(work, SLOTS + 16 * wide(work[TABLE + i]))
+    slots::value_at(work, area::ELEMENTS + 16 * wide(work[area::PLACEMENTS + i]))
 }
 
 fn rank(v: values::ConstVal) -> u8
     ensures { λ r. ⌜ ((t : Bytes) → r ≡ rankOf (valueIn t v)) ⌝ }
 {
     match v {
-        values::ConstVal::Int(_) => INTEGER,
-        values::ConstVal::Real(_) => REAL,
-        values::ConstVal::Str(_, _) => STRING,
+        values::ConstVal::Int(_) => value::INT,
+        values::ConstVal::Real(_) => value::REAL,
+        values::ConstVal::Str(_, _) => value::STRING,
     }
 }
 
@@ -168,11 +153,11 @@ pub fn kind_of_values(work: &[u8], count: usize) -> u8
     requires { ⌜ (count ≤ 1024) × (65536 ≤ length (now work)) ⌝ }
     ensures { λ r. ⌜ r ≡ kindNumber (kindOfValues (valuesIn (now (work .entry)) 0 count)) ⌝ }
 {
-    if has(work, count, STRING) {
-        return POINTERS;
+    if has(work, count, value::STRING) {
+        return element::POINTER;
     }
-    if has(work, count, REAL) {
-        return REALS;
+    if has(work, count, value::REAL) {
+        return element::REAL;
     }
-    WORDS
+    element::WORD
 }

@@ -1,4 +1,6 @@
 // The rows of records: `rec`, and `fld` for each field.
+use codes::area;
+use codes::decl;
 use layout::map::map_bytes;
 use records::key::case_of;
 use records::key::is_first;
@@ -19,14 +21,6 @@ ghost use Rattle.records.specs.Log.{recordedAt, EntryIn, Logged};
 ghost use Rattle.field_rows.specs.Rows.{placedRows};
 ghost use Rattle.record_rows.specs.Rows.{TagWrote, headText, shapeText, keyRows, allRows, LogEntry, Printed};
 
-// Where a pointer map stands while it is printed.
-const MAP: usize = 49152;
-
-const DOT: u8 = 46;
-
-// The form of `adt` lines.
-const ADT: usize = 26;
-
 // Fields of a record with pick begin behind its tag word.
 const TAG: u32 = 4;
 
@@ -39,7 +33,7 @@ fn put_key(sheet: &[u8], work: &[u8], n: usize, i: usize, out: &mut [u8], at: us
     if case_of(work, i) == 0 {
         return p;
     }
-    let q = write::put(out, p, DOT);
+    let q = write::put(out, p, b'.');
     write::put_part(out, q, tag_of(sheet, work, n, i))
 }
 
@@ -108,8 +102,8 @@ fn put_shape(
     let size = entry_size(sheet, work, n, m, i);
     map_entry(sheet, work, n, i, size);
     let p = rows::put_comma_nat(out, at, size as u64);
-    let end = MAP + map_bytes(size);
-    let q = rows::put_comma_hex(out, p, &work[MAP..end]);
+    let end = area::MAP + map_bytes(size);
+    let q = rows::put_comma_hex(out, p, &work[area::MAP..end]);
     rows::put_lf(out, q)
 }
 
@@ -119,7 +113,7 @@ fn put_fields(sheet: &[u8], work: &[u8], n: usize, i: usize, out: &mut [u8], at:
     ensures { λ p. ⌜ Wrote (now (out .entry)) at (placedRows (recordedAt (now (sheet .entry)) (now (work .entry)) i .fields)) (now (out .exit)) p ⌝ }
 {
     let r = line_of(work, i);
-    if lines::form_at(work, r - 1) == ADT {
+    if lines::form_at(work, r - 1) == decl::ADT {
         return field_rows::put_common(
             sheet,
             work,

@@ -1,6 +1,7 @@
 // The entries of the log, and their keys: T, or T.tag.
 use crate::RECORDS;
 use crate::line;
+use codes::area;
 use words::wide;
 ghost use mathlib.Core.Path.{_≡_};
 ghost use mathlib.Core.Bool.{not};
@@ -12,13 +13,11 @@ ghost use Rattle.semantics.specs.Layout.{seen};
 ghost use Rattle.words.specs.Words.{digest};
 ghost use Rattle.records.specs.Log.{byteOf, entryAt, recordedAt, nameOf, tagOf, digestOf, logOf, EntryIn, Logged, Newest, NewestOf};
 
-const DOT: u8 = 46;
-
 fn byte_at(work: &[u8], i: usize, k: usize) -> usize
     requires { ⌜ (i < 128) × (k < 8) × (65536 ≤ length (now work)) ⌝ }
     ensures { λ r. ⌜ (r ≡ byteOf (now (work .entry)) i k) × (r < 256) ⌝ }
 {
-    wide(work[RECORDS + (8 * i + k)])
+    wide(work[area::RECORDS + (8 * i + k)])
 }
 
 // The line of entry i, from 1.
@@ -98,7 +97,7 @@ fn is_joined(key: &[u8], name: &[u8], tag: &[u8]) -> bool
     if key.len() <= k {
         return false;
     }
-    if key[k] != DOT {
+    if key[k] != b'.' {
         return false;
     }
     if !words::same(&key[0..k], name) {

@@ -2,6 +2,8 @@
 pub mod key;
 pub mod line;
 
+use codes::area;
+use codes::decl;
 ghost use mathlib.Core.Path.{_≡_};
 ghost use Prim.Native.Nat.{_+_, _*_, _≤_, _<_};
 ghost use lib.ListN.{length, set};
@@ -9,14 +11,6 @@ ghost use Rattle.write.specs.Wrote.{Wrote};
 ghost use Rattle.checks.specs.Checks.{Checked};
 ghost use Rattle.records.specs.Log.{declAt, casesIn, entryBytes, tagEntries, caseEntries, entriesOf, logBytes, Digested, CollectedTo, Collected};
 ghost use Rattle.shapes.specs.Shapes.{PickLine};
-
-// Where the log begins: 8 bytes an entry.
-const RECORDS: usize = 9216;
-
-// Forms of the lines that declare records.
-const ADT: usize = 26;
-
-const PICK: usize = 27;
 
 // One entry: a line, 0 or a case from 1, the place of a tag in it, and the tag's number.
 fn put_entry(
@@ -82,10 +76,10 @@ fn record_adt(sheet: &[u8], work: &mut [u8], n: usize, r: usize, at: usize) -> u
     ensures { λ p. ⌜ Wrote (now (work .entry)) at (logBytes (entriesOf (now (sheet .entry)) r)) (now (work .exit)) p ⌝ }
 {
     let f = lines::form_at(work, r - 1);
-    if f == ADT {
+    if f == decl::ADT {
         return put_entry(work, at, r, 0, 0, 0);
     }
-    if f == PICK {
+    if f == decl::PICK {
         let p = put_entry(work, at, r, 0, 0, 0);
         return put_cases(sheet, work, n, r, p);
     }
@@ -97,20 +91,20 @@ fn log_adts(sheet: &[u8], work: &mut [u8], n: usize) -> usize
     requires { ⌜ Checked (now sheet) (now work) n ⌝ }
     ensures { λ m. ⌜ CollectedTo (now (sheet .entry)) (now (work .entry)) (now (work .exit)) n m 0 ⌝ }
 {
-    let mut at = RECORDS;
+    let mut at = area::RECORDS;
     let mut r = 0;
     while r < n {
         r += 1;
         at = record_adt(sheet, work, n, r, at);
     }
-    (at - RECORDS) / 8
+    (at - area::RECORDS) / 8
 }
 
 fn enter_digest(work: &mut [u8], i: usize, d: usize)
     requires { ⌜ (i < 128) × (d < 256) × (65536 ≤ length (now work)) ⌝ }
     ensures { λ _. ⌜ now (work .exit) ≡ set (now (work .entry)) (9216 + (8 * i + 5)) d ⌝ }
 {
-    work[RECORDS + (8 * i + 5)] = d as u8;
+    work[area::RECORDS + (8 * i + 5)] = d as u8;
 }
 
 // The digests of all keys, into their entries.

@@ -1,4 +1,5 @@
 // Refusal 4: references.
+use codes::area;
 ghost use mathlib.Core.Path.{_≡_};
 ghost use mathlib.Core.Bool.{cond};
 ghost use mathlib.Core.List.{List, []};
@@ -8,8 +9,6 @@ ghost use Rattle.semantics.specs.Refusal.{refsOf, useAll, badRefFrom};
 ghost use Rattle.form.specs.Table.{rowCount};
 ghost use Rattle.lines.specs.Lines.{readsIn, readAt, formAt, Whole};
 ghost use Rattle.refs.specs.Refs.{wantedBy, claims, marked, Used, Outcome};
-
-const USED: usize = 3072;
 
 // The kind that a reference's letter asks for.
 fn wanted(x: u8) -> u8
@@ -43,10 +42,10 @@ fn claim(work: &mut [u8], k: usize, x: u8, r: usize) -> bool
     if form::kind(lines::form_at(work, i)) != wanted(x) {
         return false;
     }
-    if work[USED + i] != 0 {
+    if work[area::USED + i] != 0 {
         return false;
     }
-    work[USED + i] = 1;
+    work[area::USED + i] = 1;
     true
 }
 

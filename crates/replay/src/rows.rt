@@ -1,4 +1,5 @@
 // The rows of a listing, one after the other.
+use codes::area;
 use laying::State;
 ghost use mathlib.Core.Path.{_≡_};
 ghost use Prim.Native.Nat.{_+_, _≤_, min};
@@ -7,15 +8,6 @@ ghost use Rattle.stored.specs.Reading.{largestSize};
 ghost use Rattle.laying.specs.Steps.{layingOf, seen, Ready, Lays};
 ghost use Rattle.replay.specs.Rows.{sizeAt, width, laidItem, laidRow, begun, laidText, Noted, Sizes};
 ghost use Rattle.replay.specs.Firsts.{First};
-
-const LF: u8 = 10;
-
-const COMMA: u8 = 44;
-
-// The table of sizes in the working space: a byte for each number below TYPES.
-const TABLE: usize = 5120;
-
-const TABLE_END: usize = 6144;
 
 const TYPES: u64 = 1024;
 
@@ -26,7 +18,7 @@ fn size_of(work: &[u8], id: u64) -> usize
     if TYPES <= id {
         return 0;
     }
-    let i = TABLE + id as usize;
+    let i = area::SIZES + id as usize;
     if work.len() <= i {
         return 0;
     }
@@ -55,7 +47,7 @@ fn lay_item(s: State, k: usize, row: &[u8], work: &[u8], image: &mut [u8], area:
     }
     let off = row_fields::number(row_fields::field(row, 2)) as usize;
     if k < 5 {
-        let from = text::skip(row, 4, COMMA);
+        let from = text::skip(row, 4, b',');
         return laying::lay_values(s, image, area, off, row, from, width_of(k), k == 4);
     }
     if k == 5 {
@@ -111,7 +103,7 @@ pub fn lay_rows(listing: &[u8], work: &[u8], image: &mut [u8], area: &mut [u8], 
         if s.full {
             return s;
         }
-        let e = text::find(listing, at, LF);
+        let e = text::find(listing, at, b'\n');
         s = step(s, &listing[at..e], work, image, area);
         at = e + 1;
     }
@@ -136,7 +128,7 @@ fn note_size(row: &[u8], work: &mut [u8])
     if words::same(row_fields::field(row, 0), b"typ") {
         let id = row_fields::number(row_fields::field(row, 1));
         if id < TYPES {
-            let i = TABLE + id as usize;
+            let i = area::SIZES + id as usize;
             work[i] = small(row_fields::number(row_fields::field(row, 2)));
         }
     }
@@ -147,10 +139,10 @@ pub fn read_sizes(listing: &[u8], work: &mut [u8])
     requires { ⌜ 65536 ≤ length (now work) ⌝ }
     ensures { λ _. ⌜ Sizes (now (listing .entry)) (now (work .entry)) (now (work .exit)) ⌝ }
 {
-    write::zero(&mut work[TABLE..TABLE_END]);
+    write::zero(&mut work[area::SIZES..area::SIZES_END]);
     let mut at = 0;
     while at < listing.len() {
-        let e = text::find(listing, at, LF);
+        let e = text::find(listing, at, b'\n');
         note_size(&listing[at..e], work);
         at = e + 1;
     }

@@ -13,8 +13,6 @@ ghost use Rattle.decimal.specs.Number.{most};
 ghost use Rattle.stored.specs.Reading.{numberIn, bitsIn, keywordOf};
 ghost use Rattle.row_fields.specs.Keywords.{whichOf};
 
-const COMMA: u8 = 44;
-
 const MOST: u64 = 9223372036854775809;
 
 // Which of four words a field is, from 1 on, 0 where it is none.
@@ -55,11 +53,11 @@ pub fn keyword(s: &[u8]) -> usize
 pub fn field(row: &[u8], i: usize) -> &[u8]
     ensures { λ r. ⌜ now r ≡ getD (fieldsOf (now (row .entry))) i [] ⌝ }
 {
-    let a = text::skip(row, i, COMMA);
+    let a = text::skip(row, i, b',');
     if row.len() < a {
         return &row[row.len()..];
     }
-    let e = text::find(row, a, COMMA);
+    let e = text::find(row, a, b',');
     &row[a..e]
 }
 

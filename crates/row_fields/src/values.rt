@@ -8,8 +8,6 @@ ghost use Rattle.write.specs.Wrote.{Wrote};
 ghost use Rattle.stored.specs.Reading.{bitsIn, valuesIn};
 ghost use Rattle.row_fields.specs.Rest.{fieldsAt};
 
-const COMMA: u8 = 44;
-
 // Byte j of n, from the lowest.
 fn byte(n: u64, j: usize) -> u8
     requires { ⌜ j < 8 ⌝ }
@@ -63,7 +61,7 @@ pub fn put_values(
     let mut p = at;
     let mut i = from;
     while i <= row.len() {
-        let e = text::find(row, i, COMMA);
+        let e = text::find(row, i, b',');
         p = put_value(out, p, w, value(&row[i..e], reals));
         i = e + 1;
     }

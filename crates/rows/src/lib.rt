@@ -10,14 +10,12 @@ ghost use Rattle.semantics.specs.Text.{decimal, decimalℤ, hexOf, bigEndian};
 ghost use Rattle.semantics.specs.Listing.{flag, pendRow};
 ghost use Rattle.write.specs.Wrote.{Wrote};
 
-const COMMA: u8 = 44;
-
-const LF: u8 = 10;
+const COMMA: u8 = b',';
 
 pub fn put_lf(out: &mut [u8], at: usize) -> usize
     ensures { λ r. ⌜ Wrote (now (out .entry)) at (10 ∷ []) (now (out .exit)) r ⌝ }
 {
-    put(out, at, LF)
+    put(out, at, b'\n')
 }
 
 pub fn put_comma_part(out: &mut [u8], at: usize, part: &[u8]) -> usize

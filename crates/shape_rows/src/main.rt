@@ -2,6 +2,8 @@
 // of the sheet on standard input its number, its size, the ones of its map and the map, and behind a `pick` line the same for each of its cases.
 // `expected.py` writes `stdout` from 01's words, not from this program.
 use checks::Checks;
+use codes::area;
+use codes::decl;
 use libc::STDIN_FILENO;
 use libc::STDOUT_FILENO;
 ghost use Prim.Native.Nat.{_≤_, _<_};
@@ -10,17 +12,7 @@ ghost use Rattle.sizes.specs.Places.{RecordLine};
 ghost use Rattle.shapes.specs.Shapes.{PickLine, VariantLine};
 ghost use Rattle.maps.specs.Maps.{MapRoom};
 
-const ADT: usize = 26;
-
-const PICK: usize = 27;
-
-const MAP: usize = 49152;
-
 const LARGEST: u32 = 131080;
-
-const COMMA: u8 = 44;
-
-const LF: u8 = 10;
 
 // A number, a size, and the map that stands in the working space.
 fn print_row(work: &[u8], number: usize, size: u32)
@@ -28,14 +20,14 @@ fn print_row(work: &[u8], number: usize, size: u32)
 {
     let mut out = [0u8; 8300];
     let mut p = write::put_nat(&mut out, 0, number as u64);
-    p = write::put(&mut out, p, COMMA);
+    p = write::put(&mut out, p, b',');
     p = write::put_nat(&mut out, p, size as u64);
-    p = write::put(&mut out, p, COMMA);
+    p = write::put(&mut out, p, b',');
     p = write::put_nat(&mut out, p, maps::map_ones(work, size) as u64);
-    p = write::put(&mut out, p, COMMA);
-    let end = MAP + layout::map::map_bytes(size);
-    p = write::put_hex(&mut out, p, &work[MAP..end]);
-    p = write::put(&mut out, p, LF);
+    p = write::put(&mut out, p, b',');
+    let end = area::MAP + layout::map::map_bytes(size);
+    p = write::put_hex(&mut out, p, &work[area::MAP..end]);
+    p = write::put(&mut out, p, b'\n');
     if p <= 8300 {
         io::write_all(STDOUT_FILENO, &out[0..p]);
     }
@@ -82,11 +74,11 @@ fn print_line(sheet: &[u8], work: &mut [u8], n: usize, r: usize)
     ensures { λ _. ⌜ Kept 49152 (now (work .entry)) (now (work .exit)) ⌝ }
 {
     let f = lines::form_at(work, r - 1);
-    if f == ADT {
+    if f == decl::ADT {
         print_record(sheet, work, n, r);
         return;
     }
-    if f == PICK {
+    if f == decl::PICK {
         print_record(sheet, work, n, r);
         print_variants(sheet, work, n, r);
         return;

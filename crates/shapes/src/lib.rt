@@ -1,4 +1,5 @@
 // Sizes and pointer maps of records, over the lines of a checked sheet.
+use codes::decl;
 use sizes::place::Reached;
 ghost use mathlib.Core.Path.{_≡_};
 ghost use Prim.Native.Nat.{_-_, _≤_};
@@ -8,9 +9,6 @@ ghost use Rattle.lines.specs.Lines.{formAt};
 ghost use Rattle.sizes.specs.Places.{caseAt, CaseLine, RecordLine};
 ghost use Rattle.maps.specs.Maps.{MapRoom, Marks, Made};
 ghost use Rattle.shapes.specs.Shapes.{shapeAt, casesAt, variantAt, PickLine, VariantLine, CaseOf, BehindCommon};
-
-// The form of `adt` lines.
-const ADT: usize = 26;
 
 // The bytes of the tag word of a record with `pick`: fields begin behind it.
 const TAG: u32 = 4;
@@ -89,7 +87,7 @@ pub fn record_size(sheet: &[u8], work: &[u8], n: usize, r: usize) -> u32
     requires { ⌜ RecordLine (now sheet) (now work) n r ⌝ }
     ensures { λ x. ⌜ x ≡ shapeAt (now (sheet .entry)) r .size ⌝ }
 {
-    if lines::form_at(work, r - 1) == ADT {
+    if lines::form_at(work, r - 1) == decl::ADT {
         return adt_size(sheet, work, n, r);
     }
     pick_size(sheet, work, n, r)
@@ -125,7 +123,7 @@ pub fn map_record(sheet: &[u8], work: &mut [u8], n: usize, r: usize, size: u32)
     ensures { λ _. ⌜ Made size (shapeAt (now (sheet .entry)) r .pointers) (now (work .entry)) (now (work .exit)) ⌝ }
 {
     maps::clear_map(work, size);
-    if lines::form_at(work, r - 1) == ADT {
+    if lines::form_at(work, r - 1) == decl::ADT {
         marks::mark_common(sheet, work, n, r, size, 0);
         return;
     }

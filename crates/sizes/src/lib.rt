@@ -1,17 +1,11 @@
 // Sizes of types and places of fields, over the lines of a checked sheet.
 pub mod place;
 
+use codes::ty;
 ghost use mathlib.Core.Path.{_≡_};
 ghost use Prim.Native.Nat.{_+_, _≤_, max};
 ghost use Rattle.semantics.specs.Layout.{alignUp, roundedSize, isPtr};
 ghost use Rattle.sizes.specs.Sizes.{isLong, typeAt, TypeLine, TupleLine, Measures};
-
-// Forms of types. Those behind REAL are pointers.
-const BIG: usize = 2;
-
-const REAL: usize = 3;
-
-const TUPLE: usize = 7;
 
 pub struct SizeAlign {
     pub size: u32,
@@ -51,10 +45,10 @@ fn behind(t: SizeAlign, x: SizeAlign) -> SizeAlign
 fn is_long(f: usize) -> bool
     ensures { λ b. ⌜ b ≡ isLong f ⌝ }
 {
-    if f == BIG {
+    if f == ty::BIG {
         return true;
     }
-    f == REAL
+    f == ty::REAL
 }
 
 // Whether the type of line r marks its first word as a pointer: all but int, byte, big and real do.
@@ -62,7 +56,7 @@ pub fn is_pointer(sheet: &[u8], work: &[u8], n: usize, r: usize) -> bool
     requires { ⌜ TypeLine (now sheet) (now work) n r ⌝ }
     ensures { λ b. ⌜ b ≡ isPtr (typeAt (now (sheet .entry)) r) ⌝ }
 {
-    REAL < lines::form_at(work, r - 1)
+    ty::REAL < lines::form_at(work, r - 1)
 }
 
 // Size and alignment of the type of line r, both in one descent: a tuple's fields are measured once each.
@@ -71,7 +65,7 @@ pub fn type_size_align(sheet: &[u8], work: &[u8], n: usize, r: usize) -> SizeAli
     ensures { λ x. ⌜ Measures (typeAt (now (sheet .entry)) r) (x .size) (x .align) ⌝ }
 {
     let f = lines::form_at(work, r - 1);
-    if f == TUPLE {
+    if f == ty::TUPLE {
         return tuple_size_align(sheet, work, n, r);
     }
     if is_long(f) {

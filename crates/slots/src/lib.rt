@@ -1,4 +1,5 @@
 // Folded values in slots of the working space: a kind, and 8 bytes of bits, the highest first.
+use codes::value;
 ghost use mathlib.Core.Path.{_≡_};
 ghost use mathlib.Core.List.{_∷_};
 ghost use Prim.Native.Nat.{_+_, _≤_};
@@ -6,12 +7,6 @@ ghost use lib.ListN.{length};
 ghost use Rattle.semantics.specs.Text.{bigEndian};
 ghost use Rattle.write.specs.Wrote.{over};
 ghost use Rattle.slots.specs.Slots.{slotOf, Small, Stored};
-
-const INTEGER: u8 = 1;
-
-const REAL: u8 = 2;
-
-const STRING: u8 = 3;
 
 fn store(work: &mut [u8], a: usize, kind: u8, bits: u64)
     ensures { λ _. ⌜ now (work .exit) ≡ over (now (work .entry)) a (kind ∷ bigEndian 8 bits) ⌝ }
@@ -25,9 +20,9 @@ pub fn put_value(work: &mut [u8], a: usize, v: values::ConstVal)
     ensures { λ _. ⌜ Stored (now (work .entry)) a v (now (work .exit)) ⌝ }
 {
     match v {
-        values::ConstVal::Int(n) => store(work, a, INTEGER, ints::bits(n)),
-        values::ConstVal::Real(x) => store(work, a, REAL, reals::bits(x)),
-        values::ConstVal::Str(p, l) => store(work, a, STRING, p as u64 + 65536 * l as u64),
+        values::ConstVal::Int(n) => store(work, a, value::INT, ints::bits(n)),
+        values::ConstVal::Real(x) => store(work, a, value::REAL, reals::bits(x)),
+        values::ConstVal::Str(p, l) => store(work, a, value::STRING, p as u64 + 65536 * l as u64),
     }
 }
 
@@ -37,10 +32,10 @@ pub fn value_at(work: &[u8], a: usize) -> values::ConstVal
 {
     let b = words::bits_at(work, a + 1);
     let kind = work[a];
-    if kind == REAL {
+    if kind == value::REAL {
         return values::ConstVal::Real(reals::of_bits(b));
     }
-    if kind == STRING {
+    if kind == value::STRING {
         return values::ConstVal::Str((b % 65536) as usize, (b / 65536) as usize);
     }
     values::ConstVal::Int(ints::of_bits(b))

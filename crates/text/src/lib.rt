@@ -5,10 +5,6 @@ ghost use lib.ListN.{length, drop};
 ghost use Rattle.semantics.specs.Text.{inRange, fieldOf, fieldStart};
 ghost use Rattle.text.specs.Parts.{until, startOf, StandsAt};
 
-const LF: u8 = 10;
-
-const COMMA: u8 = 44;
-
 // The place of the first byte b at or after `at`, or the length where there is none.
 pub fn find(s: &[u8], at: usize, b: u8) -> usize
     requires { ⌜ at ≤ length (now s) ⌝ }
@@ -58,17 +54,17 @@ pub fn field_place(sheet: &[u8], line: usize, i: usize) -> Place
     if line == 0 {
         return absent;
     }
-    let a = skip(sheet, line - 1, LF);
+    let a = skip(sheet, line - 1, b'\n');
     if sheet.len() < a {
         return absent;
     }
-    let e = find(sheet, a, LF);
+    let e = find(sheet, a, b'\n');
     let t = &sheet[a..e];
-    let x = skip(t, i, COMMA);
+    let x = skip(t, i, b',');
     if t.len() < x {
         return absent; // at the sheet's end, not the line's
     }
-    let y = find(t, x, COMMA);
+    let y = find(t, x, b',');
     Place {
         start: a + x,
         end: a + y,

@@ -1,6 +1,7 @@
 // The numbers of keys.
 use crate::kind_place;
 use crate::need_place;
+use codes::kind;
 ghost use mathlib.Core.Path.{_≡_};
 ghost use mathlib.Core.List.{List, _++_, []};
 ghost use Prim.Native.Nat.{ℕ, _≤_, _<_};
@@ -19,8 +20,6 @@ ghost use Rattle.source.specs.Walk.{declaresAt};
 ghost use Rattle.checks.specs.Checks.{Checked};
 ghost use Rattle.type_keys.specs.Table.{kindOf, Needs, Kinds};
 
-const FRAME: u8 = b'G';
-
 // The number of the key at a position, behind two opaque records and the frames.
 fn id_of(frames: usize, place: usize) -> usize
     requires { ⌜ (frames ≤ 128) × (place < 256) ⌝ }
@@ -34,7 +33,7 @@ pub fn is_frame(sheet: &[u8], work: &[u8], n: usize, i: usize) -> bool
     requires { ⌜ (Checked (now sheet) (now work) n) × (i < n) ⌝ }
     ensures { λ r. ⌜ r ≡ eqb (letter (readAt (now (sheet .entry)) i .form .kind)) 71 ⌝ }
 {
-    form::kind(lines::form_at(work, i)) == FRAME
+    form::kind(lines::form_at(work, i)) == kind::FRAME
 }
 
 // How many frames line i declares.

@@ -2,6 +2,9 @@
 pub mod ids;
 pub mod shape;
 
+use codes::area;
+use codes::kind;
+use codes::need;
 ghost use mathlib.Core.Path.{_≡_};
 ghost use mathlib.Core.List.{[], _∷_, _++_};
 ghost use Prim.Native.Nat.{ℕ, _+_, _≤_, _<_};
@@ -17,29 +20,6 @@ ghost use Rattle.checks.specs.Checks.{Checked};
 ghost use Rattle.words.specs.Words.{digest};
 ghost use Rattle.type_keys.specs.Keys.{needAt, NeedLine};
 ghost use Rattle.type_keys.specs.Table.{lineOf, placeOf, kindOf, digestOf, kindBy, needsTo, entered, kindEntered, Needs, Kinds, Outside, NeedEntry, Numbering, NeedNext};
-
-const NEED: u8 = b'N';
-
-// Forms of `need` lines.
-const INT: usize = 35;
-
-const BYTE: usize = 36;
-
-const BIG: usize = 37;
-
-const STRING: usize = 39;
-
-// The table in the working space: for each need its line, low and high byte, and the position of its key among the distinct
-// keys; for each kind of element 0 where it is not used, or its position plus 1; for each need the digest of its line's text.
-const LOW: usize = 10240;
-
-const HIGH: usize = 10368;
-
-const PLACES: usize = 10496;
-
-const KINDS: usize = 10624;
-
-const DIGESTS: usize = 10752;
 
 // How many needs there are, and how many of their keys are distinct.
 pub struct Numbered {
@@ -63,7 +43,7 @@ pub fn need_line(work: &[u8], q: usize) -> usize
     requires { ⌜ (q < 128) × (65536 ≤ length (now work)) ⌝ }
     ensures { λ r. ⌜ r ≡ lineOf (now (work .entry)) q ⌝ }
 {
-    words::wide(work[LOW + q]) + 256 * words::wide(work[HIGH + q])
+    words::wide(work[area::NEED_LOW + q]) + 256 * words::wide(work[area::NEED_HIGH + q])
 }
 
 // The position of its key.
@@ -71,7 +51,7 @@ pub fn need_place(work: &[u8], q: usize) -> usize
     requires { ⌜ (q < 128) × (65536 ≤ length (now work)) ⌝ }
     ensures { λ r. ⌜ (r ≡ placeOf (now (work .entry)) q) × (r < 256) ⌝ }
 {
-    words::wide(work[PLACES + q])
+    words::wide(work[area::NEED_POSITIONS + q])
 }
 
 // The digest of its line's text.
@@ -79,7 +59,7 @@ fn need_digest(work: &[u8], q: usize) -> usize
     requires { ⌜ (q < 128) × (65536 ≤ length (now work)) ⌝ }
     ensures { λ r. ⌜ r ≡ digestOf (now (work .entry)) q ⌝ }
 {
-    words::wide(work[DIGESTS + q])
+    words::wide(work[area::NEED_DIGESTS + q])
 }
 
 // The position of the key of a kind of element plus 1, 0 where it is not used.
@@ -87,7 +67,7 @@ pub fn kind_place(work: &[u8], kind: usize) -> usize
     requires { ⌜ (kind < 5) × (65536 ≤ length (now work)) ⌝ }
     ensures { λ r. ⌜ (r ≡ kindOf (now (work .entry)) kind) × (r < 256) ⌝ }
 {
-    words::wide(work[KINDS + kind])
+    words::wide(work[area::KIND_POSITIONS + kind])
 }
 
 // Need q is on line i, and its key has position p.
@@ -95,9 +75,9 @@ fn enter(work: &mut [u8], q: usize, i: usize, p: usize)
     requires { ⌜ (q < 128) × (i < 1024) × (p < 256) × (65536 ≤ length (now work)) ⌝ }
     ensures { λ _. ⌜ now (work .exit) ≡ entered (now (work .entry)) q i p ⌝ }
 {
-    work[LOW + q] = (i % 256) as u8;
-    work[HIGH + q] = (i / 256) as u8;
-    work[PLACES + q] = p as u8;
+    work[area::NEED_LOW + q] = (i % 256) as u8;
+    work[area::NEED_HIGH + q] = (i / 256) as u8;
+    work[area::NEED_POSITIONS + q] = p as u8;
 }
 
 // The text of need q has the digest h.
@@ -105,7 +85,7 @@ fn enter_digest(work: &mut [u8], q: usize, h: usize)
     requires { ⌜ (q < 128) × (h < 256) × (65536 ≤ length (now work)) ⌝ }
     ensures { λ _. ⌜ now (work .exit) ≡ set (now (work .entry)) (10752 + q) h ⌝ }
 {
-    work[DIGESTS + q] = h as u8;
+    work[area::NEED_DIGESTS + q] = h as u8;
 }
 
 // The key of a kind of element has position p; 5 is no kind.
@@ -114,7 +94,7 @@ fn enter_kind(work: &mut [u8], kind: usize, p: usize)
     ensures { λ _. ⌜ now (work .exit) ≡ kindEntered (now (work .entry)) kind p ⌝ }
 {
     if kind < 5 {
-        work[KINDS + kind] = (p + 1) as u8;
+        work[area::KIND_POSITIONS + kind] = (p + 1) as u8;
     }
 }
 
@@ -125,7 +105,7 @@ fn clear_kinds(work: &mut [u8])
 {
     let mut k = 0;
     while k < 5 {
-        work[KINDS + k] = 0;
+        work[area::KIND_POSITIONS + k] = 0;
         k += 1;
     }
 }
@@ -136,16 +116,16 @@ fn clear_kinds(work: &mut [u8])
 pub fn kind_needed(f: usize) -> usize
     ensures { λ r. ⌜ r ≡ kindBy f ⌝ }
 {
-    if f == INT {
+    if f == need::INT {
         return 1;
     }
-    if f == BYTE {
+    if f == need::BYTE {
         return 0;
     }
-    if f < BIG {
+    if f < need::BIG {
         return 5;
     }
-    if STRING < f {
+    if need::STRING < f {
         return 5;
     }
     f - 35
@@ -211,7 +191,7 @@ fn number_line(sheet: &[u8], work: &mut [u8], n: usize, i: usize, d: Numbered) -
     requires { ⌜ (Numbering (now sheet) (now work) n i (d .needs) (d .keys)) × (i < n) ⌝ }
     ensures { λ r. ⌜ (Numbering (now (sheet .entry)) (now (work .exit)) n (i + 1) (r .needs) (r .keys)) × (Outside 10240 11264 (now (work .entry)) (now (work .exit))) ⌝ }
 {
-    if form::kind(lines::form_at(work, i)) != NEED {
+    if form::kind(lines::form_at(work, i)) != kind::NEED {
         return d;
     }
     number_need(sheet, work, n, i, d)

@@ -1,4 +1,5 @@
 // One `typ` row: the map is made in the working space, and what is printed is that map and its ones.
+use codes::area;
 ghost use mathlib.Core.Path.{_≡_};
 ghost use mathlib.Core.Bool.{true};
 ghost use mathlib.Core.List.{List, [], _∷_};
@@ -16,19 +17,17 @@ ghost use Rattle.maps.specs.Maps.{MapRoom, Mapped, Marks, Made};
 ghost use Rattle.type_keys.specs.Keys.{shapeAt, ShapeLine, raised};
 ghost use Rattle.type_row.specs.Row.{words, Rowed};
 
-const MAP: usize = 49152;
-
 // The row of a block of this size whose map stands in the working space.
 pub fn put_type(work: &[u8], id: usize, size: u32, out: &mut [u8], at: usize) -> usize
     requires { ⌜ MapRoom (now work) size ⌝ }
     ensures { λ r. ⌜ ((offs : List ℤ) → Mapped (now (work .entry)) size offs → Wrote (now (out .entry)) at (typeRows id (record { size = size; pointers = offs } ∷ [])) (now (out .exit)) r) ⌝ }
 {
-    let end = MAP + layout::map::map_bytes(size);
+    let end = area::MAP + layout::map::map_bytes(size);
     let mut p = write::put_part(out, at, b"typ");
     p = rows::put_comma_nat(out, p, id as u64);
     p = rows::put_comma_nat(out, p, size as u64);
     p = rows::put_comma_nat(out, p, maps::map_ones(work, size) as u64);
-    p = rows::put_comma_hex(out, p, &work[MAP..end]);
+    p = rows::put_comma_hex(out, p, &work[area::MAP..end]);
     rows::put_lf(out, p)
 }
 

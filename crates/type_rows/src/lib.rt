@@ -2,6 +2,7 @@
 pub mod kinds;
 pub mod record;
 
+use codes::need;
 ghost use mathlib.Core.Path.{_≡_};
 ghost use mathlib.Core.List.{List, [], _∷_, _++_};
 ghost use Prim.Native.Nat.{_+_, _≤_, _<_};
@@ -21,13 +22,6 @@ ghost use Rattle.type_keys.specs.Table.{Kinds};
 ghost use Rattle.type_rows.specs.declared.Next.{Next};
 ghost use Rattle.type_row.specs.Row.{Rowed};
 ghost use Rattle.type_rows.specs.Rows.{Wrotes, keysTo, shapesOf, Ready};
-
-// Forms of `need` lines.
-const ADT: usize = 34;
-
-const BLOCK: usize = 40;
-
-const OPAQUE: usize = 41;
 
 // Where the next row goes, and its number.
 pub struct Next {
@@ -90,13 +84,13 @@ fn put_need(
     ensures { λ r. ⌜ Rowed id (keyShape (logOf (now (sheet .entry))) (needAt (now (sheet .entry)) i)) (now (work .entry)) (now (work .exit)) (now (out .entry)) at (now (out .exit)) r ⌝ }
 {
     let f = lines::form_at(work, i);
-    if f == ADT {
+    if f == need::ADT {
         return record::put_record(sheet, work, n, m, i, id, out, at);
     }
-    if f == BLOCK {
+    if f == need::BLOCK {
         return type_row::put_line(sheet, work, n, i, id, out, at);
     }
-    if f == OPAQUE {
+    if f == need::OPAQUE {
         return type_row::put_opaque(work, id, out, at);
     }
     type_row::put_elem(work, id, type_keys::kind_needed(f), out, at)

@@ -1,4 +1,5 @@
 // Folded values, and what operators make of them. Bytes of strings stand in the working space, as on a stack.
+use codes::ty;
 ghost use mathlib.Core.Path.{_≡_};
 ghost use Prim.Native.Nat.{ℕ, _+_, _≤_};
 ghost use lib.ListN.{length, take, drop};
@@ -11,11 +12,6 @@ ghost use Rattle.values.specs.Values.{valueIn, stringIn, unaryAt, binary
 
 // The longest string that a fold may build.
 const LONGEST: usize = 256;
-
-// Types to which a cast changes a number; those before REAL are integers.
-const REAL: usize = 3;
-
-const STRING: usize = 4;
 
 // An integer, a real, or a string's place in the working space and its length.
 pub enum ConstVal {
@@ -176,10 +172,10 @@ fn cast_int(work: &mut [u8], code: usize, x: i64, top: usize) -> ConstVal
     requires { ⌜ top + 256 ≤ length (now work) ⌝ }
     ensures { λ r. ⌜ Casts (now (work .entry)) top (foldCast (basicAt code) (vInt x)) (now (work .exit)) r ⌝ }
 {
-    if code == REAL {
+    if code == ty::REAL {
         return ConstVal::Real(reals::from_i64(x));
     }
-    if code == STRING {
+    if code == ty::STRING {
         let p = write::put_int(work, top, x);
         return ConstVal::Str(top, p - top);
     }
@@ -189,7 +185,7 @@ fn cast_int(work: &mut [u8], code: usize, x: i64, top: usize) -> ConstVal
 fn cast_real(code: usize, x: f64) -> ConstVal
     ensures { λ r. ⌜ ((t : Bytes) (top : ℕ) → (valueIn t r ≡ foldCast (basicAt code) (vReal x)) × At top r) ⌝ }
 {
-    if code < REAL {
+    if code < ty::REAL {
         return ConstVal::Int(reals::to_i64(x));
     }
     ConstVal::Real(x)

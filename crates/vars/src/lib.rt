@@ -1,5 +1,7 @@
 // First values of globals.
 use arrays::Arrayed;
+use codes::area;
+use codes::ty;
 use values::ConstVal;
 use values::Folded;
 ghost use mathlib.Core.Path.{_≡_};
@@ -14,11 +16,6 @@ ghost use Rattle.arrays.specs.Arrays as Arrays;
 ghost use Rattle.arrays.specs.Arrays.{arrayedIn, typeOf, Declared};
 ghost use Rattle.globals.specs.Table.{VarLine, namesOn};
 ghost use Rattle.vars.specs.First.{initIn, Stands, Inits, varOn, Valued, plain, settled};
-
-// The form of `ty,array` lines.
-const ARRAY: usize = 6;
-
-const STACK: usize = 49152;
 
 // The first value of a global: none, a folded one, the kind and the number of an array's elements, or one that is left pending.
 // Strings and the values of a literal stand in the working space.
@@ -49,7 +46,7 @@ fn element_type(sheet: &[u8], work: &[u8], n: usize, m: usize, r: usize) -> usiz
     ensures { λ d. ⌜ (typeOf (now (sheet .entry)) d ≡ elemOf (varOn (now (sheet .entry)) r .ty)) × (Declared (now (sheet .entry)) (now (work .entry)) n d) ⌝ }
 {
     let ty = lines::number_at(sheet, work, n, r - 1, 0);
-    if lines::form_at(work, ty - 1) != ARRAY {
+    if lines::form_at(work, ty - 1) != ty::ARRAY {
         return 0;
     }
     lines::number_at(sheet, work, n, ty - 1, 0)
@@ -73,7 +70,7 @@ pub fn first_value(sheet: &[u8], work: &mut [u8], n: usize, m: usize, r: usize) 
     if q == 0 {
         return First::NoValue;
     }
-    match fold::fold_const(sheet, work, n, m, 0, q, STACK) {
+    match fold::fold_const(sheet, work, n, m, 0, q, area::STACK) {
         Folded::Value(v) => First::Value(v),
         Folded::Failed => array_value(sheet, work, n, m, r, q),
         Folded::TooLong => First::Refused(8),
@@ -105,7 +102,7 @@ fn plain_value(sheet: &[u8], work: &mut [u8], n: usize, m: usize, r: usize) -> F
     if q == 0 {
         return First::NoValue;
     }
-    match fold::fold_const(sheet, work, n, m, 0, q, STACK) {
+    match fold::fold_const(sheet, work, n, m, 0, q, area::STACK) {
         Folded::Value(v) => First::Value(v),
         Folded::Failed => First::Pending,
         Folded::TooLong => First::Refused(8), // met without a name too

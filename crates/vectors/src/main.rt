@@ -17,10 +17,6 @@ const HEADER: usize = 255;
 
 const LARGE: usize = 1000000;
 
-const COMMA: u8 = 44;
-
-const LF: u8 = 10;
-
 // What becomes of a case: an equal listing, an equal refusal by its number (1 to 13), another answer, or an equal listing and image.
 const LISTED: usize = 0;
 
@@ -75,7 +71,7 @@ fn is_rows(text: &[u8], picture: &[u8], area: &[u8]) -> bool {
     p = write::put_hex(&mut rows, p, picture);
     p = write::put_part(&mut rows, p, b"\narea,");
     p = write::put_hex(&mut rows, p, area);
-    p = write::put(&mut rows, p, LF);
+    p = write::put(&mut rows, p, b'\n');
     are_first(text, &rows, p)
 }
 
@@ -148,7 +144,7 @@ struct Header {
 
 // The next byte, or LF where there is none.
 fn next_byte() -> u8 {
-    let mut b = [LF; 1];
+    let mut b = [b'\n'; 1];
     io::read_full(STDIN_FILENO, &mut b);
     b[0]
 }
@@ -166,7 +162,7 @@ fn more(n: usize, c: u8) -> usize {
 
 // The last three fields of a header up to here, with one byte more.
 fn step(h: Header, c: u8) -> Header {
-    if c == COMMA {
+    if c == b',' {
         return Header {
             sheet: h.answer,
             answer: h.image,
@@ -190,7 +186,7 @@ fn read_header() -> Header {
     let mut left = HEADER;
     while left > 0 {
         let c = next_byte();
-        if c == LF {
+        if c == b'\n' {
             return h;
         }
         h = step(h, c);

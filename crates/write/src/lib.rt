@@ -7,8 +7,6 @@ ghost use lib.ListN.{length, getD, replicate};
 ghost use Rattle.semantics.specs.Text.{decimal, decimalℤ, hexDigit, hexOf, bigEndian};
 ghost use Rattle.write.specs.Wrote.{Wrote};
 
-const MINUS: u8 = 45;
-
 // Zeros in a whole buffer.
 pub fn zero(out: &mut [u8])
     ensures { λ _. ⌜ now (out .exit) ≡ replicate (length (now (out .entry))) 0 ⌝ }
@@ -63,7 +61,7 @@ pub fn put_int(out: &mut [u8], at: usize, n: i64) -> usize
     if n >= 0 {
         return put_nat(out, at, n as u64);
     }
-    let p = put(out, at, MINUS);
+    let p = put(out, at, b'-');
     put_nat(out, p, (!n) as u64 + 1)
 }
 

@@ -1,7 +1,7 @@
 -- `items::elements_row` meets its contract.
 use Rattle.items.proofs.Arrays.{values-length}
-use Rattle.items.proofs.Rows.{numbers-row}
-use Rattle.items.specs.Items.{headText}
+use Rattle.elements.proofs.Rows.{numbers-row}
+use Rattle.elements.specs.Elements.{headText}
 use Rattle.placements.specs.Placements.{valuesIn}
 use Rattle.write.proofs.Wrote.{wrote-as}
 use mathlib.Core.Path.{ap, sym}

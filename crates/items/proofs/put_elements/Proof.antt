@@ -2,7 +2,7 @@
 use native.Mathlib.Omega.{arith}
 use borrow.Author.Needs.{needs}
 use Rattle.items.proofs.Arrays.{elements-next, up-to}
-use Rattle.items.specs.Items.{elementTexts}
+use Rattle.elements.specs.Elements.{elementTexts}
 use Rattle.placements.specs.Placements.{valuesIn}
 use Rattle.rows.specs.Rows.{commaed}
 use Rattle.write.proofs.Wrote.{wrote-none, wrote-past}

@@ -19,7 +19,7 @@ use Rattle.write.proofs.Wrote.{wrote-as}
 use Rattle.values.specs.declared.ConstVal.{ConstVal}
 use Rattle.values.specs.declared.ConstVal.the-variants.{Int, Real, Str}
 use Rattle.values.specs.Values.{stringIn, valueIn}
-use Rattle.items.specs.Items.{elementText}
+use Rattle.elements.specs.Elements.{elementText}
 
 -- a word as an i64
 pub widened : (z : ℤ) → SFits w32 z → SFits w64 (held w32 z)

@@ -1,9 +1,9 @@
--- `items::put_kind` meets its contract.
-use Rattle.items.specs.Items.{kindName}
-use Rattle.items.proofs.Rows.{kind-named, kind-reals}
+-- `elements::put_kind` meets its contract.
+use Rattle.elements.specs.Elements.{kindName}
+use Rattle.elements.proofs.Rows.{kind-named, kind-reals}
 use borrow.Author.Needs.{needs}
-use Rattle.items.proofs.put_kind.Statement.{statement}
-use Rattle.items.proofs.put_kind.Tie as tie
+use Rattle.elements.proofs.put_kind.Statement.{statement}
+use Rattle.elements.proofs.put_kind.Tie as tie
 
 returns : tie.Need-returns
 unfolding kindName

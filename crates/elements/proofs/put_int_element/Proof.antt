@@ -1,13 +1,13 @@
--- `items::put_int_element` meets its contract.
-use Rattle.items.proofs.Elements.{widened, as-byte, as-word, as-big, as-real}
+-- `elements::put_int_element` meets its contract.
+use Rattle.elements.proofs.Elements.{widened, as-byte, as-word, as-big, as-real}
 use Rattle.ints.proofs.Widths.{from1}
 use Rattle.semantics.specs.Fold.{toReal}
 use Rattle.semantics.specs.Array.{lowest, lowByte}
 use Rattle.semantics.specs.Tree.ConstVal.{vInt}
 use mathlib.Core.Path.{refl}
 use borrow.Author.Needs.{needs}
-use Rattle.items.proofs.put_int_element.Statement.{statement}
-use Rattle.items.proofs.put_int_element.Tie as tie
+use Rattle.elements.proofs.put_int_element.Statement.{statement}
+use Rattle.elements.proofs.put_int_element.Tie as tie
 
 returns : tie.Need-returns
 returns c = as-byte _ (vInt (c .before .before .before .before .before .before .before .args .n)) (c .before .before .before .before .before .if1 .taken) (from1 (λ z. lowByte (lowest 31 z)) (c .before .before .before .before .before .before .before .fits .n) (c .before .before .before .byte-of-int .ensures)) (c .before .before .put-comma-nat .ensures)

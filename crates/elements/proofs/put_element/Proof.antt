@@ -1,8 +1,8 @@
--- `items::put_element` meets its contract.
-use Rattle.items.proofs.Elements.{int-element, real-element, string-element}
+-- `elements::put_element` meets its contract.
+use Rattle.elements.proofs.Elements.{int-element, real-element, string-element}
 use borrow.Author.Needs.{needs}
-use Rattle.items.proofs.put_element.Statement.{statement}
-use Rattle.items.proofs.put_element.Tie as tie
+use Rattle.elements.proofs.put_element.Statement.{statement}
+use Rattle.elements.proofs.put_element.Tie as tie
 
 enum-told : tie.Need-enum-told
 enum-told c = search needs

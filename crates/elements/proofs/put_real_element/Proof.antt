@@ -1,10 +1,10 @@
--- `items::put_real_element` meets its contract.
-use Rattle.items.proofs.Elements.{widened, as-byte, as-word, as-big, as-real}
+-- `elements::put_real_element` meets its contract.
+use Rattle.elements.proofs.Elements.{widened, as-byte, as-word, as-big, as-real}
 use Rattle.semantics.specs.Tree.ConstVal.{vReal}
 use mathlib.Core.Path.{refl}
 use borrow.Author.Needs.{needs}
-use Rattle.items.proofs.put_real_element.Statement.{statement}
-use Rattle.items.proofs.put_real_element.Tie as tie
+use Rattle.elements.proofs.put_real_element.Statement.{statement}
+use Rattle.elements.proofs.put_real_element.Tie as tie
 
 returns : tie.Need-returns
 returns c = as-byte _ (vReal (c .before .before .before .before .before .before .before .args .x)) (c .before .before .before .before .before .if1 .taken) (c .before .before .before .byte-of-real .ensures) (c .before .before .put-comma-nat .ensures)

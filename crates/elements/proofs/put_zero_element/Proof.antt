@@ -1,8 +1,8 @@
--- `items::put_zero_element` meets its contract.
-use Rattle.items.proofs.Elements.{as-zero, as-real-zero}
+-- `elements::put_zero_element` meets its contract.
+use Rattle.elements.proofs.Elements.{as-zero, as-real-zero}
 use borrow.Author.Needs.{needs}
-use Rattle.items.proofs.put_zero_element.Statement.{statement}
-use Rattle.items.proofs.put_zero_element.Tie as tie
+use Rattle.elements.proofs.put_zero_element.Statement.{statement}
+use Rattle.elements.proofs.put_zero_element.Tie as tie
 
 returns : tie.Need-returns
 returns c = λ s. as-zero s (c .before .before .before .before .if1 .taken) (c .before .before .put-comma-nat .ensures)

@@ -1,9 +1,9 @@
--- `items::put_head` meets its contract.
-use Rattle.items.specs.Items.{headText}
+-- `elements::put_head` meets its contract.
+use Rattle.elements.specs.Elements.{headText}
 use Rattle.write.proofs.Wrote.{then}
 use borrow.Author.Needs.{needs}
-use Rattle.items.proofs.put_head.Statement.{statement}
-use Rattle.items.proofs.put_head.Tie as tie
+use Rattle.elements.proofs.put_head.Statement.{statement}
+use Rattle.elements.proofs.put_head.Tie as tie
 
 returns : tie.Need-returns
 unfolding headText
