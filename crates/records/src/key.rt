@@ -1,5 +1,4 @@
 // The entries of the log, and their keys: T, or T.tag.
-use crate::RECORDS;
 use crate::line;
 use codes::area;
 use words::wide;
