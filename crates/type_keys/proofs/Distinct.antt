@@ -12,7 +12,7 @@ use Rattle.semantics.specs.Text.{any}
 use Rattle.semantics.specs.Tree.{TypeKey}
 use Rattle.semantics.specs.Fold.{eqZ}
 use Rattle.semantics.specs.Types.{sameInts, keyCode, sameTypeKey, distinct, position}
-use Rattle.type_keys.specs.Table.{placed}
+use Rattle.type_keys.specs.Table.{positionFromOne}
 use Rattle.laws.proofs.Tests.{never, and-left, and-right, or-left, or-right}
 use Rattle.laws.proofs.Lists.{any-append}
 
@@ -155,38 +155,38 @@ module _ (k : TypeKey) (l : List TypeKey) where
       go false = rw (any-append (sameTypeKey j) l (k ∷ []), h) (or-false (any (sameTypeKey j) l))
 
   -- where it is known
-  pub known-same : any (sameTypeKey k) l ≡ true → (j : TypeKey) → placed j l ≡ cond (sameTypeKey j k) (suc (position k l)) (placed j l)
+  pub known-same : any (sameTypeKey k) l ≡ true → (j : TypeKey) → positionFromOne j l ≡ cond (sameTypeKey j k) (suc (position k l)) (positionFromOne j l)
   known-same h j = go (sameTypeKey j k) refl
     where
-      go : (t : Bool) → sameTypeKey j k ≡ t → placed j l ≡ cond (sameTypeKey j k) (suc (position k l)) (placed j l)
+      go : (t : Bool) → sameTypeKey j k ≡ t → positionFromOne j l ≡ cond (sameTypeKey j k) (suc (position k l)) (positionFromOne j l)
       go true e = rw (e, any-same j k e l, h, position-same j k e l)
       go false e = rw e
 
   pub known-length : any (sameTypeKey k) l ≡ true → length (l ++ newKey k l) ≡ length l
   known-length h = rw (h, append-nil l)
 
-  pub placed-some : (placed k l ≡ 0 → ⊥) → any (sameTypeKey k) l ≡ true
-  placed-some h = go (any (sameTypeKey k) l) refl
+  pub from-one-some : (positionFromOne k l ≡ 0 → ⊥) → any (sameTypeKey k) l ≡ true
+  from-one-some h = go (any (sameTypeKey k) l) refl
     where
       go : (t : Bool) → any (sameTypeKey k) l ≡ t → t ≡ true
       go true e = refl
       go false e = absurd (h (rw e))
 
-  pub placed-none : placed k l ≡ 0 → any (sameTypeKey k) l ≡ false
-  placed-none h = go (any (sameTypeKey k) l) refl
+  pub from-one-none : positionFromOne k l ≡ 0 → any (sameTypeKey k) l ≡ false
+  from-one-none h = go (any (sameTypeKey k) l) refl
     where
       go : (t : Bool) → any (sameTypeKey k) l ≡ t → t ≡ false
       go true e = let z : suc (position k l) ≡ 0 = rw e at h in absurd (omega arith)
       go false e = refl
 
-  pub placed-more : (j : TypeKey) → placed j (l ++ newKey k l) ≡ cond (sameTypeKey j k) (suc (position k l)) (placed j l)
-  placed-more j = go (sameTypeKey j k) refl
+  pub from-one-more : (j : TypeKey) → positionFromOne j (l ++ newKey k l) ≡ cond (sameTypeKey j k) (suc (position k l)) (positionFromOne j l)
+  from-one-more j = go (sameTypeKey j k) refl
     where
       known : (t : Bool) → any (sameTypeKey j) l ≡ t → cond (any (sameTypeKey j) l) (suc (position j (l ++ newKey k l))) 0 ≡ cond (any (sameTypeKey j) l) (suc (position j l)) 0
       known true q = rw (q, position-known j l (newKey k l) q)
       known false q = rw q
 
-      go : (t : Bool) → sameTypeKey j k ≡ t → placed j (l ++ newKey k l) ≡ cond (sameTypeKey j k) (suc (position k l)) (placed j l)
+      go : (t : Bool) → sameTypeKey j k ≡ t → positionFromOne j (l ++ newKey k l) ≡ cond (sameTypeKey j k) (suc (position k l)) (positionFromOne j l)
       go true e = rw (any-same j k e (l ++ newKey k l), any-self, position-same j k e (l ++ newKey k l), position-more, e)
       go false e = rw (any-other j e, e) (known (any (sameTypeKey j) l) refl)
 

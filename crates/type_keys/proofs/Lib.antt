@@ -5,4 +5,5 @@ pub mod Spelling
 pub mod Same
 pub mod Table
 pub mod Pass
-pub mod Numbers
+pub mod Positions
+pub mod Frames

@@ -1,4 +1,4 @@
--- The pass over the lines that numbers what they need.
+-- The pass over the lines that enters what they need.
 use mathlib.Core.Path.{_≡_, refl, sym, ap, _∙_}
 use mathlib.Core.Bool.{Bool, true, false, cond}
 use mathlib.Core.List.{List, [], _∷_, _++_, append-nil}
@@ -24,12 +24,12 @@ use Rattle.words.specs.Words.{digest}
 use Rattle.source.specs.Walk.{declaresAt, declaredTo}
 use Rattle.source.proofs.Walk.{declared-all, source-of}
 use Rattle.type_keys.specs.Keys.{needAt}
-use Rattle.type_keys.specs.Table.{lineOf, placeOf, kindOf, digestOf, kindsUsed, kindBy, needsTo, entered, kindEntered, Needs, Kinds, Outside, NeedEntry, Numbering, NeedNext}
+use Rattle.type_keys.specs.Table.{lineOf, positionOf, kindOf, digestOf, kindsUsed, kindBy, needsTo, entered, kindEntered, Needs, Kinds, Outside, NeedEntry, Collecting, NeedNext}
 use Rattle.laws.proofs.Lists.{any-append}
-use Rattle.type_keys.proofs.Distinct.{position-same, position-within, position-none, position-more, length-more, placed-more, known-same, known-length, placed-some, placed-none, distinct-more, distinct-few, key-member, none-distinct, known-more}
+use Rattle.type_keys.proofs.Distinct.{position-same, position-within, position-none, position-more, length-more, from-one-more, known-same, known-length, from-one-some, from-one-none, distinct-more, distinct-few, key-member, none-distinct, known-more}
 use Rattle.type_keys.proofs.Forms.{needs-line, kind-low}
 use Rattle.type_keys.proofs.Same.{elems-are, elem-is}
-use Rattle.type_keys.proofs.Table.{outside-then, outside-less, outside-set, line-below, place-below, kind-above, kind-kept, entered-outside, entered-line, entered-place, other-line, other-place, kind-outside, kind-entered, digest-above, digest-same, digest-other}
+use Rattle.type_keys.proofs.Table.{outside-then, outside-less, outside-set, line-below, position-below, kind-above, kind-kept, entered-outside, entered-line, entered-position, other-line, other-position, kind-outside, kind-entered, digest-above, digest-same, digest-other}
 
 -- ---- how many needs there are
 
@@ -71,34 +71,34 @@ module _ {s t : List ℕ} {n i needs keys : ℕ} (x : NeedNext s t n i needs key
   needs-room =
       let e = needs-few s t n (x .line .checked) (i + 1) (omega (arith, x .line .within)) in
       let g = ap length (needs-next s t n (x .line .checked) i (x .line .within) (x .line .kind)) ∙ length-append (needsTo s i) (needAt s i ∷ []) in
-      (omega (arith, e, g, x .numbering .count), omega (arith, e, g, position-within (needAt s i) (distinct [] (needsTo s i)), distinct-few [] (needsTo s i)), omega (arith, e, g, x .numbering .kinds .count, distinct-few [] (needsTo s i)))
+      (omega (arith, e, g, x .collecting .count), omega (arith, e, g, position-within (needAt s i) (distinct [] (needsTo s i)), distinct-few [] (needsTo s i)), omega (arith, e, g, x .collecting .kinds .count, distinct-few [] (needsTo s i)))
 
   pub known-entry : (q : ℕ) → q < needs → NeedEntry s t n q
   known-entry q h =
-      let z : q < length (needsTo s i) = omega (arith, x .numbering .count) in
+      let z : q < length (needsTo s i) = omega (arith, x .collecting .count) in
       record {
         low = omega (arith, needs-room .0);
-        line = record { checked = x .numbering .checked; within = x .numbering .table .within q z; kind = x .numbering .table .kind q z };
-        digest = x .numbering .digests q h;
+        line = record { checked = x .collecting .checked; within = x .collecting .table .within q z; kind = x .collecting .table .kind q z };
+        digest = x .collecting .digests q h;
       }
 
   module _ (q : ℕ) (h : q < needs) (b : Bool) (e : b ≡ sameTypeKey (needAt s i) (needAt s (lineOf t q))) where
     low : q < length (needsTo s i)
-    low = omega (arith, x .numbering .count)
+    low = omega (arith, x .collecting .count)
 
     same-as : b ≡ sameTypeKey (needAt s i) (getD (needsTo s i) q opaqueKey)
-    same-as = e ∙ ap (sameTypeKey (needAt s i)) (x .numbering .table .key q low)
+    same-as = e ∙ ap (sameTypeKey (needAt s i)) (x .collecting .table .key q low)
 
-    pub place-found : b ≡ true → placeOf t q ≡ position (needAt s i) (distinct [] (needsTo s i))
-    place-found g = x .numbering .table .place q low ∙ sym (position-same (needAt s i) (getD (needsTo s i) q opaqueKey) (sym same-as ∙ g) (distinct [] (needsTo s i)))
+    pub found-position : b ≡ true → positionOf t q ≡ position (needAt s i) (distinct [] (needsTo s i))
+    found-position g = x .collecting .table .position q low ∙ sym (position-same (needAt s i) (getD (needsTo s i) q opaqueKey) (sym same-as ∙ g) (distinct [] (needsTo s i)))
 
-    pub place-next : b ≡ false → any (sameTypeKey (needAt s i)) (take q (needsTo s i)) ≡ false → any (sameTypeKey (needAt s i)) (take (q + 1) (needsTo s i)) ≡ false
-    place-next g k = rw (add-one q, take-suc (needsTo s i) q opaqueKey low, any-append (sameTypeKey (needAt s i)) (take q (needsTo s i)) (getD (needsTo s i) q opaqueKey ∷ []), k, ← same-as, g)
+    pub still-new : b ≡ false → any (sameTypeKey (needAt s i)) (take q (needsTo s i)) ≡ false → any (sameTypeKey (needAt s i)) (take (q + 1) (needsTo s i)) ≡ false
+    still-new g k = rw (add-one q, take-suc (needsTo s i) q opaqueKey low, any-append (sameTypeKey (needAt s i)) (take q (needsTo s i)) (getD (needsTo s i) q opaqueKey ∷ []), k, ← same-as, g)
 
-  pub place-new : (q : ℕ) → needs ≤ q → any (sameTypeKey (needAt s i)) (take q (needsTo s i)) ≡ false → keys ≡ position (needAt s i) (distinct [] (needsTo s i))
-  place-new q h k =
-      let z = rw (take-all q (needsTo s i) (omega (arith, x .numbering .count))) at k in
-      x .numbering .kinds .count ∙ sym (position-none (needAt s i) (distinct [] (needsTo s i)) (none-distinct (needAt s i) (needsTo s i) z))
+  pub next-position : (q : ℕ) → needs ≤ q → any (sameTypeKey (needAt s i)) (take q (needsTo s i)) ≡ false → keys ≡ position (needAt s i) (distinct [] (needsTo s i))
+  next-position q h k =
+      let z = rw (take-all q (needsTo s i) (omega (arith, x .collecting .count))) at k in
+      x .collecting .kinds .count ∙ sym (position-none (needAt s i) (distinct [] (needsTo s i)) (none-distinct (needAt s i) (needsTo s i) z))
 
 -- ---- one key more
 
@@ -118,14 +118,14 @@ pub kinds-more : {t u : List ℕ} {l : List TypeKey} {keys : ℕ} (k : TypeKey) 
     → more ≡ length (distinct [] (l ++ (k ∷ []))) → more ≤ 128 + kindsUsed u → Kinds u (l ++ (k ∷ [])) more
 kinds-more {t} {u} {l} {keys} k more x h g w = record {
   count = g;
-  place = λ e. h e ∙ rw (distinct-more k l, placed-more k (distinct [] l) (elemKey e), x .place e);
+  position = λ e. h e ∙ rw (distinct-more k l, from-one-more k (distinct [] l) (elemKey e), x .position e);
   few = w;
 }
 
 module _ {s t : List ℕ} {n i needs keys : ℕ} (x : NeedNext s t n i needs keys) {f p d : ℕ} (hf : f ≡ formAt t i) (hp : p ≡ position (needAt s i) (distinct [] (needsTo s i))) (hd : d ≡ digest (textAt s i))
     {u v w : List ℕ} (hu : u ≡ entered t needs i p) (hv : v ≡ kindEntered u (kindBy f) p) (hw : w ≡ set v (10752 + needs) d) where
   room : 65536 ≤ length t
-  room = x .numbering .checked .whole .room
+  room = x .collecting .checked .whole .room
 
   first : Outside 10240 10624 t u
   first = rw hu (entered-outside t room needs i p (needs-room x .0))
@@ -139,48 +139,48 @@ module _ {s t : List ℕ} {n i needs keys : ℕ} (x : NeedNext s t n i needs key
   later : Outside 10624 11264 u w
   later = outside-then (outside-less 10624 11264 (omega arith) (omega arith) second) (outside-less 10624 11264 (omega arith) (omega arith) third)
 
-  pub numbered-outside : Outside 10240 11264 t w
-  numbered-outside = outside-then (outside-less 10240 11264 (omega arith) (omega arith) first) (outside-less 10240 11264 (omega arith) (omega arith) later)
+  pub collected-outside : Outside 10240 11264 t w
+  collected-outside = outside-then (outside-less 10240 11264 (omega arith) (omega arith) first) (outside-less 10240 11264 (omega arith) (omega arith) later)
 
   line-at : (q : ℕ) → q < 128 → lineOf w q ≡ lineOf (entered t needs i p) q
   line-at q h = line-below later q h ∙ ap (λ (l : List ℕ). lineOf l q) hu
 
-  place-at : (q : ℕ) → q < 128 → placeOf w q ≡ placeOf (entered t needs i p) q
-  place-at q h = place-below later q h ∙ ap (λ (l : List ℕ). placeOf l q) hu
+  position-at : (q : ℕ) → q < 128 → positionOf w q ≡ positionOf (entered t needs i p) q
+  position-at q h = position-below later q h ∙ ap (λ (l : List ℕ). positionOf l q) hu
 
   module _ (q : ℕ) (h : q < length (needsTo s i)) where
     few : q < 128
-    few = omega (arith, needs-room x .0, x .numbering .count)
+    few = omega (arith, needs-room x .0, x .collecting .count)
 
     apart : q ≡ needs → ⊥
-    apart e = omega (arith, x .numbering .count)
+    apart e = omega (arith, x .collecting .count)
 
     old-line : lineOf w q ≡ lineOf t q
     old-line = line-at q few ∙ other-line t room needs i p (needs-room x .0) q few apart
 
-    old-place : placeOf w q ≡ placeOf t q
-    old-place = place-at q few ∙ other-place t room needs i p (needs-room x .0) q few apart
+    old-position : positionOf w q ≡ positionOf t q
+    old-position = position-at q few ∙ other-position t room needs i p (needs-room x .0) q few apart
 
   new-line : lineOf w (length (needsTo s i)) ≡ i
-  new-line = rw (← x .numbering .count) (line-at needs (needs-room x .0) ∙ entered-line t room needs i p (needs-room x .0))
+  new-line = rw (← x .collecting .count) (line-at needs (needs-room x .0) ∙ entered-line t room needs i p (needs-room x .0))
 
-  new-place : placeOf w (length (needsTo s i)) ≡ p
-  new-place = rw (← x .numbering .count) (place-at needs (needs-room x .0) ∙ entered-place t room needs i p (needs-room x .0))
+  new-position : positionOf w (length (needsTo s i)) ≡ p
+  new-position = rw (← x .collecting .count) (position-at needs (needs-room x .0) ∙ entered-position t room needs i p (needs-room x .0))
 
-  places-stay : (q : ℕ) → q < length (needsTo s i) → placeOf w q ≡ position (getD (needsTo s i) q opaqueKey) (distinct [] (needsTo s i ++ (needAt s i ∷ [])))
-  places-stay q h =
-      old-place q h ∙ x .numbering .table .place q h
+  positions-stay : (q : ℕ) → q < length (needsTo s i) → positionOf w q ≡ position (getD (needsTo s i) q opaqueKey) (distinct [] (needsTo s i ++ (needAt s i ∷ [])))
+  positions-stay q h =
+      old-position q h ∙ x .collecting .table .position q h
       ∙ sym (known-more (getD (needsTo s i) q opaqueKey) (needsTo s i) (needAt s i ∷ []) (key-member opaqueKey (needsTo s i) q h) .1)
 
   needs-more : Needs s w n (needsTo s i ++ (needAt s i ∷ []))
   needs-more =
-      let old = x .numbering .table in
+      let old = x .collecting .table in
       record {
-        few = omega (arith, length-append (needsTo s i) (needAt s i ∷ []), needs-room x .0, x .numbering .count);
+        few = omega (arith, length-append (needsTo s i) (needAt s i ∷ []), needs-room x .0, x .collecting .count);
         within = λ q h. each (needsTo s i) (needAt s i) (λ q k. lineOf w q < n) (λ q h. rw (old-line q h) (old .within q h)) (rw new-line (x .line .within)) q h;
         kind = λ q h. each (needsTo s i) (needAt s i) (λ q k. letter (readAt s (lineOf w q) .form .kind) ≡ 78) (λ q h. rw (old-line q h) (old .kind q h)) (rw new-line (x .line .kind)) q h;
         key = λ q h. each (needsTo s i) (needAt s i) (λ q k. needAt s (lineOf w q) ≡ k) (λ q h. rw (old-line q h) (old .key q h)) (ap (needAt s) new-line) q h;
-        place = λ q h. each (needsTo s i) (needAt s i) (λ q k. placeOf w q ≡ position k (distinct [] (needsTo s i ++ (needAt s i ∷ [])))) places-stay (new-place ∙ hp ∙ rw (distinct-more (needAt s i) (needsTo s i)) (sym (position-more (needAt s i) (distinct [] (needsTo s i))))) q h;
+        position = λ q h. each (needsTo s i) (needAt s i) (λ q k. positionOf w q ≡ position k (distinct [] (needsTo s i ++ (needAt s i ∷ [])))) positions-stay (new-position ∙ hp ∙ rw (distinct-more (needAt s i) (needsTo s i)) (sym (position-more (needAt s i) (distinct [] (needsTo s i))))) q h;
       }
 
   kinds-are : (e : ElemKind) → kindOf w (kindNumber e) ≡ cond (sameTypeKey (elemKey e) (needAt s i)) (suc (position (needAt s i) (distinct [] (needsTo s i)))) (kindOf t (kindNumber e))
@@ -203,47 +203,47 @@ module _ {s t : List ℕ} {n i needs keys : ℕ} (x : NeedNext s t n i needs key
       go true e =
           let z : q ≡ needs = eqb-true q needs e in
           ap (digestOf w) z ∙ ap (λ (l : List ℕ). digestOf l needs) hw ∙ digest-same v long needs d low ∙ hd
-          ∙ ap (λ (l : ℕ). digest (textAt s l)) (sym new-line ∙ ap (lineOf w) (sym (x .numbering .count) ∙ sym z))
+          ∙ ap (λ (l : ℕ). digest (textAt s l)) (sym new-line ∙ ap (lineOf w) (sym (x .collecting .count) ∙ sym z))
       go false e =
           let ne = eqb-false q needs e in
-          let k : q < length (needsTo s i) = omega (arith, x .numbering .count) in
+          let k : q < length (needsTo s i) = omega (arith, x .collecting .count) in
           ap (λ (l : List ℕ). digestOf l q) hw ∙ digest-other v long needs d low q ne ∙ digest-above (omega arith) second q ∙ digest-above (omega arith) first q
-          ∙ x .numbering .digests q (omega (arith, x .numbering .count)) ∙ ap (λ (l : ℕ). digest (textAt s l)) (sym (old-line q k))
+          ∙ x .collecting .digests q (omega (arith, x .collecting .count)) ∙ ap (λ (l : ℕ). digest (textAt s l)) (sym (old-line q k))
 
-  pub numbered : (more : ℕ) → more ≡ length (distinct [] (needsTo s i ++ (needAt s i ∷ []))) → Numbering s w n (i + 1) (needs + 1) more
-  numbered m hm =
-      let c = x .numbering .checked in
+  pub collected : (more : ℕ) → more ≡ length (distinct [] (needsTo s i ++ (needAt s i ∷ []))) → Collecting s w n (i + 1) (needs + 1) more
+  collected m hm =
+      let c = x .collecting .checked in
       let e = needs-next s t n c i (x .line .within) (x .line .kind) in
       let few = needs-few s t n c (i + 1) (omega (arith, x .line .within)) in
       record {
-        checked = checked-kept (kept-less (omega arith) (numbered-outside .kept)) c;
+        checked = checked-kept (kept-less (omega arith) (collected-outside .kept)) c;
         digests = digests-are;
         within = omega (arith, x .line .within);
-        count = rw e (sym (length-append (needsTo s i) (needAt s i ∷ []) ∙ omega (arith, x .numbering .count)));
+        count = rw e (sym (length-append (needsTo s i) (needAt s i ∷ []) ∙ omega (arith, x .collecting .count)));
         table = rw e needs-more;
-        kinds = rw e (kinds-more (needAt s i) m (x .numbering .kinds) kinds-are hm (omega (arith, hm, distinct-few [] (needsTo s i ++ (needAt s i ∷ [])), ap length e, few)));
+        kinds = rw e (kinds-more (needAt s i) m (x .collecting .kinds) kinds-are hm (omega (arith, hm, distinct-few [] (needsTo s i ++ (needAt s i ∷ [])), ap length e, few)));
       }
 
 -- ---- lines that need nothing, and the ends of the pass
 
-module _ (s t : List ℕ) (n i needs keys : ℕ) (x : Numbering s t n i needs keys) where
-  pub numbering-stay : i < n → (letter (readAt s i .form .kind) ≡ 78 → ⊥) → Numbering s t n (i + 1) needs keys
-  numbering-stay h e =
+module _ (s t : List ℕ) (n i needs keys : ℕ) (x : Collecting s t n i needs keys) where
+  pub collecting-stay : i < n → (letter (readAt s i .form .kind) ≡ 78 → ⊥) → Collecting s t n (i + 1) needs keys
+  collecting-stay h e =
       let z = needs-stay s t n (x .checked) i h e in
       record { checked = x .checked; within = omega arith; count = rw z (x .count); table = rw z (x .table); kinds = rw z (x .kinds); digests = x .digests }
 
-  pub numbering-need : i < n → letter (readAt s i .form .kind) ≡ 78 → NeedNext s t n i needs keys
-  numbering-need h e = record { numbering = x; line = record { checked = x .checked; within = h; kind = e } }
+  pub collecting-need : i < n → letter (readAt s i .form .kind) ≡ 78 → NeedNext s t n i needs keys
+  collecting-need h e = record { collecting = x; line = record { checked = x .checked; within = h; kind = e } }
 
-  pub numbering-end : n ≤ i → (needs ≡ length (sheetSource s .needs)) × (Needs s t n (sheetSource s .needs)) × (Kinds t (sheetSource s .needs) keys)
-  numbering-end h =
+  pub collecting-end : n ≤ i → (needs ≡ length (sheetSource s .needs)) × (Needs s t n (sheetSource s .needs)) × (Kinds t (sheetSource s .needs) keys)
+  collecting-end h =
       let z : i ≡ n = omega (arith, x .within) in
       let e : needsTo s i ≡ sheetSource s .needs = ap (needsTo s) z ∙ needs-all s t n (x .checked) in
       (x .count ∙ ap length e, rw e at (x .table), rw e at (x .kinds))
 
-pub numbering-start : (s t : List ℕ) (n : ℕ) → Checked s t n → ((k : ℕ) → k < 5 → kindOf t k ≡ 0) → Numbering s t n 0 0 0
+pub collecting-start : (s t : List ℕ) (n : ℕ) → Checked s t n → ((k : ℕ) → k < 5 → kindOf t k ≡ 0) → Collecting s t n 0 0 0
 unfolding declaredTo
-numbering-start s t n c z = record {
+collecting-start s t n c z = record {
   checked = c;
   within = omega arith;
   count = refl;
@@ -252,9 +252,9 @@ numbering-start s t n c z = record {
     within = λ q h. absurd (omega arith);
     kind = λ q h. absurd (omega arith);
     key = λ q h. absurd (omega arith);
-    place = λ q h. absurd (omega arith);
+    position = λ q h. absurd (omega arith);
   };
-  kinds = record { count = refl; place = λ k. z (kindNumber k) (kind-low k); few = omega arith };
+  kinds = record { count = refl; position = λ k. z (kindNumber k) (kind-low k); few = omega arith };
   digests = λ q h. absurd (omega arith);
 }
 
@@ -272,18 +272,18 @@ used-more t u (suc (suc (suc (suc (suc k))))) h z p o = absurd (omega arith)
 module _ (t : List ℕ) (room : 65536 ≤ length t) (k : ElemKind) (l : List TypeKey) (keys : ℕ) (x : Kinds t l keys) where
   pub kind-known : (kindOf t (kindNumber k) ≡ 0 → ⊥) → Kinds t (l ++ (elemKey k ∷ [])) keys
   kind-known h =
-      let a = placed-some (elemKey k) (distinct [] l) (λ z. h (x .place k ∙ z)) in
+      let a = from-one-some (elemKey k) (distinct [] l) (λ z. h (x .position k ∙ z)) in
       kinds-more (elemKey k) keys x
-      (λ e. x .place e ∙ known-same (elemKey k) (distinct [] l) a (elemKey e) ∙ rw (← x .place e))
+      (λ e. x .position e ∙ known-same (elemKey k) (distinct [] l) a (elemKey e) ∙ rw (← x .position e))
       (x .count ∙ rw (distinct-more (elemKey k) l) (sym (known-length (elemKey k) (distinct [] l) a)))
       (x .few)
 
   module _ (kind : ℕ) (hk : kind ≡ kindNumber k) (z : kindOf t kind ≡ 0) (u : List ℕ) (hu : u ≡ kindEntered t kind keys) where
     none : any (sameTypeKey (elemKey k)) (distinct [] l) ≡ false
-    none = placed-none (elemKey k) (distinct [] l) (sym (x .place k) ∙ rw (← hk) z)
+    none = from-one-none (elemKey k) (distinct [] l) (sym (x .position k) ∙ rw (← hk) z)
 
-    place : keys ≡ position (elemKey k) (distinct [] l)
-    place = x .count ∙ sym (position-none (elemKey k) (distinct [] l) none)
+    own-position : keys ≡ position (elemKey k) (distinct [] l)
+    own-position = x .count ∙ sym (position-none (elemKey k) (distinct [] l) none)
 
     entered-at : (j : ℕ) → j < 5 → kindOf u j ≡ cond (eqb j kind) (suc keys) (kindOf t j)
     entered-at j h = rw hu (kind-entered t room kind keys j h)
@@ -292,6 +292,6 @@ module _ (t : List ℕ) (room : 65536 ≤ length t) (k : ElemKind) (l : List Typ
     kind-new =
         let low : kind < 5 = omega (arith, kind-low k) in
         kinds-more (elemKey k) (keys + 1) x
-        (λ e. entered-at (kindNumber e) (kind-low e) ∙ rw (elems-are e k, hk, place))
-        (sym (keys-more (elemKey k) l keys keys place (x .count) ∙ rw (eq-eqb keys keys refl) (omega arith)))
+        (λ e. entered-at (kindNumber e) (kind-low e) ∙ rw (elems-are e k, hk, own-position))
+        (sym (keys-more (elemKey k) l keys keys own-position (x .count) ∙ rw (eq-eqb keys keys refl) (omega arith)))
         (omega (arith, x .few, used-more t u kind low z (λ q. let y : suc keys ≡ 0 = sym (entered-at kind low ∙ rw (eq-eqb kind kind refl)) ∙ q in absurd (omega arith)) (λ j h ne. entered-at j h ∙ rw (ne-eqb j kind ne))))

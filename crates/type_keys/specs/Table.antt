@@ -21,8 +21,8 @@ use Rattle.type_keys.specs.Keys.{needAt, NeedLine}
 unfoldable pub lineOf : Bytes → ℕ → ℕ
 lineOf t q = getD t (10240 + q) 0 + 256 * getD t (10368 + q) 0
 
-unfoldable pub placeOf : Bytes → ℕ → ℕ
-placeOf t q = getD t (10496 + q) 0
+unfoldable pub positionOf : Bytes → ℕ → ℕ
+positionOf t q = getD t (10496 + q) 0
 
 -- for each kind of element 0 where its key is not used, or its position plus 1
 unfoldable pub kindOf : Bytes → ℕ → ℕ
@@ -32,9 +32,9 @@ kindOf t k = getD t (10624 + k) 0
 unfoldable pub digestOf : Bytes → ℕ → ℕ
 digestOf t q = getD t (10752 + q) 0
 
--- 0 where k is not among the keys js, else its position plus 1
-abbrev pub placed : TypeKey → List TypeKey → ℕ
-placed k js = cond (any (sameTypeKey k) js) (suc (position k js)) 0
+-- the position of k among the keys js, from 1 on; 0 where it is none of them
+abbrev pub positionFromOne : TypeKey → List TypeKey → ℕ
+positionFromOne k js = cond (any (sameTypeKey k) js) (suc (position k js)) 0
 
 -- the table has the lines of the needs ks, and their positions
 pub record Needs (s t : Bytes) (n : ℕ) (ks : List TypeKey) : Type 0 where
@@ -42,7 +42,7 @@ pub record Needs (s t : Bytes) (n : ℕ) (ks : List TypeKey) : Type 0 where
   pub within : (q : ℕ) → q < length ks → lineOf t q < n
   pub kind : (q : ℕ) → q < length ks → letter (readAt s (lineOf t q) .form .kind) ≡ 78
   pub key : (q : ℕ) → q < length ks → needAt s (lineOf t q) ≡ getD ks q opaqueKey
-  pub place : (q : ℕ) → q < length ks → placeOf t q ≡ position (getD ks q opaqueKey) (distinct [] ks)
+  pub position : (q : ℕ) → q < length ks → positionOf t q ≡ position (getD ks q opaqueKey) (distinct [] ks)
 
 abbrev pub isUsed : ℕ → ℕ
 isUsed p = cond (eqb p 0) 0 1
@@ -54,7 +54,7 @@ kindsUsed t = isUsed (kindOf t 0) + isUsed (kindOf t 1) + isUsed (kindOf t 2) + 
 -- so many keys are distinct among ks, and these are the positions of elements among them; all but those of elements are needs'
 pub record Kinds (t : Bytes) (ks : List TypeKey) (keys : ℕ) : Type 0 where
   pub count : keys ≡ length (distinct [] ks)
-  pub place : (k : ElemKind) → kindOf t (kindNumber k) ≡ placed (elemKey k) (distinct [] ks)
+  pub position : (k : ElemKind) → kindOf t (kindNumber k) ≡ positionFromOne (elemKey k) (distinct [] ks)
   pub few : keys ≤ 128 + kindsUsed t
 
 -- u is as long as t and holds the same bytes but from a up to b
@@ -75,7 +75,7 @@ pub record NeedEntry (s t : Bytes) (n q : ℕ) : Type 0 where
   pub digest : digestOf t q ≡ digest (textAt s (lineOf t q))
 
 -- the table has what the first i lines need
-pub record Numbering (s t : Bytes) (n i needs keys : ℕ) : Type 0 where
+pub record Collecting (s t : Bytes) (n i needs keys : ℕ) : Type 0 where
   pub checked : Checked s t n
   pub within : i ≤ n
   pub count : needs ≡ length (needsTo s i)
@@ -85,7 +85,7 @@ pub record Numbering (s t : Bytes) (n i needs keys : ℕ) : Type 0 where
 
 -- and what line i needs too, which is a `need` line
 pub record NeedNext (s t : Bytes) (n i needs keys : ℕ) : Type 0 where
-  pub numbering : Numbering s t n i needs keys
+  pub collecting : Collecting s t n i needs keys
   pub line : NeedLine s t n i
 
 -- the kind of element that form f needs, 5 for none: 36 is byte, 35 int

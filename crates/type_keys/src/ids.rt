@@ -1,6 +1,6 @@
-// The numbers of keys.
-use crate::kind_place;
-use crate::need_place;
+// The IDs of keys.
+use crate::kind_position;
+use crate::need_position;
 ghost use mathlib.Core.Path.{_≡_};
 ghost use mathlib.Core.List.{List, _++_, []};
 ghost use Prim.Native.Nat.{ℕ, _≤_, _<_};
@@ -21,12 +21,12 @@ ghost use Rattle.type_keys.specs.Table.{kindOf, Needs, Kinds};
 
 const FRAME: u8 = b'G';
 
-// The number of the key at a position, behind two opaque records and the frames.
-fn id_of(frames: usize, place: usize) -> usize
-    requires { ⌜ (frames ≤ 128) × (place < 256) ⌝ }
-    ensures { λ r. ⌜ ((s : Source) (is : List Item) (k : TypeKey) → frames ≡ length (s .frames) → place ≡ position k (keys s is) → r ≡ idOf s is k) × (r < 512) ⌝ }
+// The ID of the key at position p, behind two opaque records and the frames.
+fn id_of(frames: usize, p: usize) -> usize
+    requires { ⌜ (frames ≤ 128) × (p < 256) ⌝ }
+    ensures { λ r. ⌜ ((s : Source) (is : List Item) (k : TypeKey) → frames ≡ length (s .frames) → p ≡ position k (keys s is) → r ≡ idOf s is k) × (r < 512) ⌝ }
 {
-    2 + frames + place
+    2 + frames + p
 }
 
 // Whether line i is a `frame` line.
@@ -62,18 +62,18 @@ pub fn frame_count(sheet: &[u8], work: &[u8], n: usize) -> usize
     frames
 }
 
-// The number of the key of need q, where there are so many frames. Later array elements leave it as it is.
+// The ID of the key of need q, where there are so many frames. Later array elements leave it as it is.
 pub fn need_id(work: &[u8], frames: usize, q: usize) -> usize
     requires { ⌜ (frames ≤ 128) × (q < 128) × (65536 ≤ length (now work)) ⌝ }
     ensures { λ r. ⌜ ((s : Bytes) (n : ℕ) (is : List Item) → Needs s (now (work .entry)) n (sheetSource s .needs) → q < length (sheetSource s .needs) → frames ≡ length (sheetSource s .frames) → r ≡ idOf (sheetSource s) is (getD (sheetSource s .needs) q opaqueKey)) × (r < 512) ⌝ }
 {
-    id_of(frames, need_place(work, q))
+    id_of(frames, need_position(work, q))
 }
 
-// The number of the key of a kind of element that is used among the keys ks. Later keys leave it as it is.
+// The ID of the key of a kind of element that is used among the keys ks. Later keys leave it as it is.
 pub fn kind_id(work: &[u8], frames: usize, kind: usize) -> usize
     requires { ⌜ (frames ≤ 128) × (kind < 5) × (0 < kindOf (now work) kind) × (65536 ≤ length (now work)) ⌝ }
     ensures { λ r. ⌜ ((s : Source) (is : List Item) (k : ElemKind) (ks ms : List TypeKey) (count : ℕ) → kind ≡ kindNumber k → Kinds (now (work .entry)) ks count → frames ≡ length (s .frames) → keys s is ≡ distinct [] (ks ++ ms) → r ≡ idOf s is (elemKey k)) × (r < 512) ⌝ }
 {
-    id_of(frames, kind_place(work, kind) - 1)
+    id_of(frames, kind_position(work, kind) - 1)
 }

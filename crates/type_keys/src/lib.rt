@@ -1,4 +1,4 @@
-// The keys of descriptors, and their numbers.
+// The keys of descriptors, and their positions.
 pub mod ids;
 pub mod shape;
 
@@ -16,7 +16,7 @@ ghost use Rattle.lines.specs.Lines.{textAt};
 ghost use Rattle.checks.specs.Checks.{Checked};
 ghost use Rattle.words.specs.Words.{digest};
 ghost use Rattle.type_keys.specs.Keys.{needAt, NeedLine};
-ghost use Rattle.type_keys.specs.Table.{lineOf, placeOf, kindOf, digestOf, kindBy, needsTo, entered, kindEntered, Needs, Kinds, Outside, NeedEntry, Numbering, NeedNext};
+ghost use Rattle.type_keys.specs.Table.{lineOf, positionOf, kindOf, digestOf, kindBy, needsTo, entered, kindEntered, Needs, Kinds, Outside, NeedEntry, Collecting, NeedNext};
 
 const NEED: u8 = b'N';
 
@@ -35,14 +35,14 @@ const LOW: usize = 10240;
 
 const HIGH: usize = 10368;
 
-const PLACES: usize = 10496;
+const POSITIONS: usize = 10496;
 
 const KINDS: usize = 10624;
 
 const DIGESTS: usize = 10752;
 
 // How many needs there are, and how many of their keys are distinct.
-pub struct Numbered {
+pub struct NeedCounts {
     pub needs: usize,
     pub keys: usize,
 }
@@ -67,11 +67,11 @@ pub fn need_line(work: &[u8], q: usize) -> usize
 }
 
 // The position of its key.
-pub fn need_place(work: &[u8], q: usize) -> usize
+pub fn need_position(work: &[u8], q: usize) -> usize
     requires { ⌜ (q < 128) × (65536 ≤ length (now work)) ⌝ }
-    ensures { λ r. ⌜ (r ≡ placeOf (now (work .entry)) q) × (r < 256) ⌝ }
+    ensures { λ r. ⌜ (r ≡ positionOf (now (work .entry)) q) × (r < 256) ⌝ }
 {
-    words::wide(work[PLACES + q])
+    words::wide(work[POSITIONS + q])
 }
 
 // The digest of its line's text.
@@ -83,7 +83,7 @@ fn need_digest(work: &[u8], q: usize) -> usize
 }
 
 // The position of the key of a kind of element plus 1, 0 where it is not used.
-pub fn kind_place(work: &[u8], kind: usize) -> usize
+pub fn kind_position(work: &[u8], kind: usize) -> usize
     requires { ⌜ (kind < 5) × (65536 ≤ length (now work)) ⌝ }
     ensures { λ r. ⌜ (r ≡ kindOf (now (work .entry)) kind) × (r < 256) ⌝ }
 {
@@ -97,7 +97,7 @@ fn enter(work: &mut [u8], q: usize, i: usize, p: usize)
 {
     work[LOW + q] = (i % 256) as u8;
     work[HIGH + q] = (i / 256) as u8;
-    work[PLACES + q] = p as u8;
+    work[POSITIONS + q] = p as u8;
 }
 
 // The text of need q has the digest h.
@@ -164,14 +164,14 @@ fn is_need(sheet: &[u8], work: &[u8], n: usize, i: usize, h: usize, q: usize) ->
 
 // The position of the key of the `need` line i, whose text has the digest h, among those of the lines before; the next position,
 // where it is new.
-fn place_for(sheet: &[u8], work: &[u8], n: usize, i: usize, h: usize, d: Numbered) -> usize
+fn position_for(sheet: &[u8], work: &[u8], n: usize, i: usize, h: usize, d: NeedCounts) -> usize
     requires { ⌜ (NeedNext (now sheet) (now work) n i (d .needs) (d .keys)) × (h ≡ digest (textAt (now sheet) i)) ⌝ }
     ensures { λ r. ⌜ r ≡ position (needAt (now (sheet .entry)) i) (distinct [] (needsTo (now (sheet .entry)) i)) ⌝ }
 {
     let mut q = 0;
     while q < d.needs {
         if is_need(sheet, work, n, i, h, q) {
-            return need_place(work, q);
+            return need_position(work, q);
         }
         q += 1;
     }
@@ -189,55 +189,55 @@ fn with_key(p: usize, keys: usize) -> usize
     keys
 }
 
-// Numbers the key of the `need` line i.
-fn number_need(sheet: &[u8], work: &mut [u8], n: usize, i: usize, d: Numbered) -> Numbered
+// Enters the `need` line i, with the position of its key.
+fn collect_need(sheet: &[u8], work: &mut [u8], n: usize, i: usize, d: NeedCounts) -> NeedCounts
     requires { ⌜ NeedNext (now sheet) (now work) n i (d .needs) (d .keys) ⌝ }
-    ensures { λ r. ⌜ (Numbering (now (sheet .entry)) (now (work .exit)) n (i + 1) (r .needs) (r .keys)) × (Outside 10240 11264 (now (work .entry)) (now (work .exit))) ⌝ }
+    ensures { λ r. ⌜ (Collecting (now (sheet .entry)) (now (work .exit)) n (i + 1) (r .needs) (r .keys)) × (Outside 10240 11264 (now (work .entry)) (now (work .exit))) ⌝ }
 {
     let h = words::digest(lines::line_at(sheet, work, n, i));
-    let p = place_for(sheet, work, n, i, h, d);
+    let p = position_for(sheet, work, n, i, h, d);
     let f = lines::form_at(work, i);
     enter(work, d.needs, i, p);
     enter_kind(work, kind_needed(f), p);
     enter_digest(work, d.needs, h);
-    Numbered {
+    NeedCounts {
         needs: d.needs + 1,
         keys: with_key(p, d.keys),
     }
 }
 
-// Numbers what line i needs.
-fn number_line(sheet: &[u8], work: &mut [u8], n: usize, i: usize, d: Numbered) -> Numbered
-    requires { ⌜ (Numbering (now sheet) (now work) n i (d .needs) (d .keys)) × (i < n) ⌝ }
-    ensures { λ r. ⌜ (Numbering (now (sheet .entry)) (now (work .exit)) n (i + 1) (r .needs) (r .keys)) × (Outside 10240 11264 (now (work .entry)) (now (work .exit))) ⌝ }
+// Enters what line i needs.
+fn collect_line(sheet: &[u8], work: &mut [u8], n: usize, i: usize, d: NeedCounts) -> NeedCounts
+    requires { ⌜ (Collecting (now sheet) (now work) n i (d .needs) (d .keys)) × (i < n) ⌝ }
+    ensures { λ r. ⌜ (Collecting (now (sheet .entry)) (now (work .exit)) n (i + 1) (r .needs) (r .keys)) × (Outside 10240 11264 (now (work .entry)) (now (work .exit))) ⌝ }
 {
     if form::kind(lines::form_at(work, i)) != NEED {
         return d;
     }
-    number_need(sheet, work, n, i, d)
+    collect_need(sheet, work, n, i, d)
 }
 
-// Numbers the keys of all needs, in sheet order, equal ones once.
-pub fn number_needs(sheet: &[u8], work: &mut [u8], n: usize) -> Numbered
+// Enters all needs, in sheet order; equal keys have one position.
+pub fn collect_needs(sheet: &[u8], work: &mut [u8], n: usize) -> NeedCounts
     requires { ⌜ Checked (now sheet) (now work) n ⌝ }
     ensures { λ r. ⌜ (r .needs ≡ length (sheetSource (now (sheet .entry)) .needs)) × (Needs (now (sheet .entry)) (now (work .exit)) n (sheetSource (now (sheet .entry)) .needs)) × (Kinds (now (work .exit)) (sheetSource (now (sheet .entry)) .needs) (r .keys)) × (Outside 10240 11264 (now (work .entry)) (now (work .exit))) ⌝ }
 {
     clear_kinds(work);
-    let mut d = Numbered { needs: 0, keys: 0 };
+    let mut d = NeedCounts { needs: 0, keys: 0 };
     let mut i = 0;
     while i < n {
-        d = number_line(sheet, work, n, i, d);
+        d = collect_line(sheet, work, n, i, d);
         i += 1;
     }
     d
 }
 
-// Numbers the key of an array's elements where it is new; so many keys are there then.
-pub fn number_kind(work: &mut [u8], kind: usize, keys: usize) -> usize
+// Enters the key of an array's elements where it is new; so many keys are there then.
+pub fn collect_kind(work: &mut [u8], kind: usize, keys: usize) -> usize
     requires { ⌜ (kind < 5) × (keys < 255) × (65536 ≤ length (now work)) ⌝ }
     ensures { λ r. ⌜ ((k : ElemKind) (ks : List TypeKey) → kind ≡ kindNumber k → Kinds (now (work .entry)) ks keys → Kinds (now (work .exit)) (ks ++ (elemKey k ∷ [])) r) × (Outside 10624 10629 (now (work .entry)) (now (work .exit))) ⌝ }
 {
-    if kind_place(work, kind) != 0 {
+    if kind_position(work, kind) != 0 {
         return keys;
     }
     enter_kind(work, kind, keys);

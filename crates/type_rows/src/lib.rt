@@ -29,7 +29,7 @@ const BLOCK: usize = 40;
 
 const OPAQUE: usize = 41;
 
-// Where the next row goes, and its number.
+// Where the next row goes, and its ID.
 pub struct Next {
     pub at: usize,
     pub id: usize,
@@ -118,7 +118,7 @@ fn next_need(
     ensures { λ z. ⌜ ((p : Next) (t d : Bytes) → Wrotes (shapesOf (now (sheet .entry)) (keysTo (now (sheet .entry)) q)) p r t (now (work .entry)) d (now (out .entry)) → Wrotes (shapesOf (now (sheet .entry)) (keysTo (now (sheet .entry)) (q + 1))) p z t (now (work .exit)) d (now (out .exit))) × (z .id ≡ base + length (keysTo (now (sheet .entry)) (q + 1))) ⌝ }
 {
     let id = r.id;
-    if base + type_keys::need_place(work, q) != id {
+    if base + type_keys::need_position(work, q) != id {
         return r;
     }
     let i = type_keys::need_line(work, q);
@@ -151,7 +151,7 @@ fn need_rows(
 
 // ---- all types
 
-// Two opaque records, the frames, what is needed, and the elements of arrays, where there are so many keys. Arrays' elements are numbered
+// Two opaque records, the frames, what is needed, and the elements of arrays, where there are so many keys. Arrays' elements are entered
 // before.
 pub fn type_rows(
     sheet: &[u8],

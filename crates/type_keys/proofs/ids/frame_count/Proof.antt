@@ -6,7 +6,7 @@ use lib.ListN.{length}
 use denote.Ref.{now}
 use mathlib.Core.Path.{_≡_, refl, _∙_, ap}
 use Rattle.source.specs.Walk.{declaredTo}
-use Rattle.type_keys.proofs.Numbers.{framesTo, frames-all, frames-few, frames-step}
+use Rattle.type_keys.proofs.Frames.{framesTo, frames-all, frames-few, frames-step}
 use Rattle.type_keys.proofs.ids.frame_count.Statement.{statement}
 use Rattle.type_keys.proofs.ids.frame_count.Tie as tie
 

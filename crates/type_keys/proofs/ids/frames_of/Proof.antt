@@ -1,7 +1,7 @@
 use denote.Ref.{now}
 use mathlib.Core.Bool.{true, false}
 use mathlib.Core.Path.{_∙_, sym}
-use Rattle.type_keys.proofs.Numbers.{frames-count}
+use Rattle.type_keys.proofs.Frames.{frames-count}
 use borrow.Author.Needs.{needs}
 use Rattle.type_keys.proofs.ids.frames_of.Statement.{statement}
 use Rattle.type_keys.proofs.ids.frames_of.Tie as tie

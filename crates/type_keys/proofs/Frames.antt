@@ -1,19 +1,15 @@
--- The numbers of keys, and how many frames there are.
+-- Which lines are `frame` lines, and how many there are.
 use mathlib.Core.Path.{_≡_, refl, sym, ap, _∙_}
 use mathlib.Core.Bool.{Bool, true, false, cond}
 use mathlib.Core.List.{List, [], _∷_, _++_}
-use Prim.Native.Nat.{ℕ, suc, _+_, _-_, _≤_, _<_}
+use Prim.Native.Nat.{ℕ, _+_, _-_, _≤_, _<_}
 use native.Mathlib.Omega.{arith}
 use native.Mathlib.Numerals.{add-one}
 use lib.Dec.{eqb}
-use lib.ListN.{length, getD, length-append}
-use Rattle.semantics.specs.Tree.{Declares, ElemKind, TypeKey, Shape}
-use Rattle.semantics.specs.Tree.TypeKey.{elemKey, opaqueKey}
+use lib.ListN.{length, length-append}
+use Rattle.semantics.specs.Tree.{Declares, Shape}
 use Rattle.semantics.specs.Form.{letter}
-use Rattle.semantics.specs.Sheet.{sheetSource, concatMap}
-use Rattle.semantics.specs.Array.{kindNumber}
-use Rattle.semantics.specs.Global.{Item}
-use Rattle.semantics.specs.Types.{arrayKey, distinct, position, keys}
+use Rattle.semantics.specs.Sheet.{sheetSource}
 use Rattle.form.proofs.Table.{only-frame, form-of-kind}
 use Rattle.lines.specs.Lines.{readAt, nodesIn, formAt}
 use Rattle.lines.proofs.Line.{form-low, kind-is}
@@ -23,43 +19,7 @@ use Rattle.source.specs.Walk.{declaresAt, declaredTo, byKind}
 use Rattle.source.proofs.Walk.{declared-all, source-of}
 use Rattle.source.proofs.Declares.{line-declares}
 use Rattle.type_keys.specs.Keys.{shapeAt, ShapeLine}
-use Rattle.type_keys.specs.Table.{placeOf, kindOf, Needs, Kinds, Outside}
-use Rattle.type_keys.proofs.Distinct.{key-member, known-more, placed-some}
 use Rattle.type_keys.proofs.Pass.{declared-more}
-use Rattle.type_keys.proofs.Table.{line-below, place-below}
-
--- ---- positions among more keys
-
-pub keys-are : (s : List ℕ) (is : List Item) → keys (sheetSource s) is ≡ distinct [] (sheetSource s .needs ++ concatMap arrayKey is)
-unfolding keys
-keys-are s is = refl
-
-module _ (s t : List ℕ) (n : ℕ) (ks : List TypeKey) (x : Needs s t n ks) where
-  pub need-position : (ms : List TypeKey) (q : ℕ) → q < length ks → placeOf t q ≡ position (getD ks q opaqueKey) (distinct [] (ks ++ ms))
-  need-position ms q h = x .place q h ∙ sym (known-more (getD ks q opaqueKey) ks ms (key-member opaqueKey ks q h) .1)
-
-  -- a store behind the needs leaves them
-  pub needs-kept : (u : List ℕ) {b : ℕ} → Outside 10624 b t u → Needs s u n ks
-  needs-kept u o =
-      let low : (q : ℕ) → q < length ks → q < 128 = λ q h. omega (arith, x .few) in
-      record {
-        few = x .few;
-        within = λ q h. rw (line-below o q (low q h)) (x .within q h);
-        kind = λ q h. rw (line-below o q (low q h)) (x .kind q h);
-        key = λ q h. rw (line-below o q (low q h)) (x .key q h);
-        place = λ q h. place-below o q (low q h) ∙ x .place q h;
-      }
-
-module _ (t : List ℕ) (ks ms : List TypeKey) (count : ℕ) (k : ElemKind) (x : Kinds t ks count) where
-  pub kind-position : 0 < kindOf t (kindNumber k) → kindOf t (kindNumber k) ≡ suc (position (elemKey k) (distinct [] (ks ++ ms)))
-  kind-position h =
-      let a = placed-some (elemKey k) (distinct [] ks) (λ z. omega (arith, x .place k)) in
-      x .place k ∙ rw (a, known-more (elemKey k) ks ms a .1)
-
-  pub kind-behind : (kind p : ℕ) → kind ≡ kindNumber k → p ≡ kindOf t kind → 0 < kindOf t kind → p - 1 ≡ position (elemKey k) (distinct [] (ks ++ ms))
-  kind-behind kind p hk hp h = let e = kind-position (rw hk at h) in let g = hp ∙ ap (kindOf t) hk in omega (arith, e, g)
-
--- ---- frames
 
 abbrev pub framesTo : List ℕ → ℕ → List Shape
 framesTo s i = declaredTo (λ (d : Declares). d .frames) (nodesIn s) i
