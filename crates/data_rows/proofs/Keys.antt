@@ -18,7 +18,8 @@ use Rattle.semantics.specs.Types.{arrayKey, distinct, position}
 use Rattle.laws.proofs.Lists.{concat-append}
 use Rattle.arrays.specs.Arrays.{kindAt}
 use Rattle.type_keys.specs.Table.{kindOf, isUsed, kindsUsed, Kinds}
-use Rattle.type_keys.proofs.Distinct.{same-self, distinct-more, from-one-more}
+use Rattle.type_lines.proofs.Codes.{same-self}
+use Rattle.type_keys.proofs.Distinct.{distinct-more, from-one-more}
 use Rattle.data_rows.specs.Data.{keysOf}
 
 -- ---- kinds

@@ -20,7 +20,7 @@ use Rattle.globals.specs.Table.{Around}
 use Rattle.globals.proofs.Collect.{collected-kept}
 use Rattle.records.specs.Log as Records
 use Rattle.records.proofs.Kept.{logged-kept}
-use Rattle.type_keys.specs.declared.NeedCounts.{NeedCounts}
+use Rattle.need_keys.specs.declared.NeedCounts.{NeedCounts}
 use Rattle.type_keys.specs.Table.{Needs, Kinds, Outside}
 use Rattle.tables.specs.Tables.{Held}
 use Rattle.names.specs.Table.{bitsOf, logIn, Logged}

@@ -27,7 +27,7 @@ fn make_others(sheet: &[u8], work: &mut [u8], n: usize, m: usize) -> Tables
 {
     let g = globals::collect_globals(sheet, work, n);
     let r = records::collect_adts(sheet, work, n);
-    let d = type_keys::collect_needs(sheet, work, n);
+    let d = need_keys::collect_needs(sheet, work, n);
     Tables {
         consts: m,
         globals: g.count,

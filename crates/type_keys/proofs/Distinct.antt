@@ -4,16 +4,15 @@ use mathlib.Core.Bool.{Bool, true, false, cond, _||_, or-false}
 use mathlib.Core.List.{List, [], _∷_, _++_, append-assoc, append-nil}
 use Prim.Native.Nat.{ℕ, zero, suc, _≤_, _<_}
 use native.Mathlib.Omega.{arith}
-use lib.Dec.{leb, eqb}
-use lib.IntN.{ℤ, pos, negsuc}
+use lib.Dec.{eqb}
 use lib.ListN.{length, getD, length-append}
-use borrow.Author.Tests.{le-leb, leb-true, eq-eqb, ne-eqb}
+use borrow.Author.Tests.{eq-eqb, ne-eqb}
 use Rattle.semantics.specs.Text.{any}
 use Rattle.semantics.specs.Tree.{TypeKey}
-use Rattle.semantics.specs.Fold.{eqZ}
-use Rattle.semantics.specs.Types.{sameInts, keyCode, sameTypeKey, distinct, position}
+use Rattle.semantics.specs.Types.{keyCode, sameTypeKey, distinct, position}
+use Rattle.type_lines.proofs.Codes.{ints-eq, same-self}
 use Rattle.type_keys.specs.Table.{positionFromOne}
-use Rattle.laws.proofs.Tests.{never, and-left, and-right, or-left, or-right}
+use Rattle.laws.proofs.Tests.{never, or-left, or-right}
 use Rattle.laws.proofs.Lists.{any-append}
 
 -- ---- tests
@@ -25,38 +24,6 @@ or-swap false b c = refl
 
 or-true : (a b : Bool) → a ≡ true → a || b ≡ true
 or-true a b h = rw h
-
--- ---- keys are compared by their codes
-
-eqZ-refl : (z : ℤ) → eqZ z z ≡ true
-eqZ-refl (pos n) = rw (le-leb n n (omega arith))
-eqZ-refl (negsuc n) = rw (le-leb n n (omega arith))
-
-eqZ-eq : (y z : ℤ) → eqZ y z ≡ true → y ≡ z
-eqZ-eq (pos a) (pos b) h =
-    let e : a ≡ b = omega (arith, leb-true a b (and-left (leb a b) (leb b a) h), leb-true b a (and-right (leb a b) (leb b a) h)) in
-    ap pos e
-eqZ-eq (pos a) (negsuc b) h = never h
-eqZ-eq (negsuc a) (pos b) h = never h
-eqZ-eq (negsuc a) (negsuc b) h =
-    let e : a ≡ b = omega (arith, leb-true b a (and-left (leb b a) (leb a b) h), leb-true a b (and-right (leb b a) (leb a b) h)) in
-    ap negsuc e
-
-ints-refl : (l : List ℤ) → sameInts l l ≡ true
-ints-refl [] = refl
-ints-refl (z ∷ l) = rw (eqZ-refl z) (ints-refl l)
-
-pub ints-eq : (l m : List ℤ) → sameInts l m ≡ true → l ≡ m
-ints-eq [] [] h = refl
-ints-eq [] (y ∷ ys) h = never h
-ints-eq (x ∷ xs) [] h = never h
-ints-eq (x ∷ xs) (y ∷ ys) h =
-    let a = eqZ-eq x y (and-left (eqZ x y) (sameInts xs ys) h) in
-    let b = ints-eq xs ys (and-right (eqZ x y) (sameInts xs ys) h) in
-    cc
-
-pub same-self : (k : TypeKey) → sameTypeKey k k ≡ true
-same-self k = ints-refl (keyCode k)
 
 -- what holds of a key by comparing it holds of those that are the same
 module _ (j k : TypeKey) (h : sameTypeKey j k ≡ true) where

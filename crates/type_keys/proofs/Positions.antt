@@ -35,7 +35,7 @@ module _ (s t : List ℕ) (n : ℕ) (ks : List TypeKey) (x : Needs s t n ks) whe
       }
 
 module _ (t : List ℕ) (ks ms : List TypeKey) (count : ℕ) (k : ElemKind) (x : Kinds t ks count) where
-  pub kind-position-stays : 0 < kindOf t (kindNumber k) → kindOf t (kindNumber k) ≡ suc (position (elemKey k) (distinct [] (ks ++ ms)))
+  kind-position-stays : 0 < kindOf t (kindNumber k) → kindOf t (kindNumber k) ≡ suc (position (elemKey k) (distinct [] (ks ++ ms)))
   kind-position-stays h =
       let a = from-one-some (elemKey k) (distinct [] ks) (λ z. omega (arith, x .position k)) in
       x .position k ∙ rw (a, known-more (elemKey k) ks ms a .1)

@@ -14,7 +14,7 @@ use Rattle.semantics.specs.Array.{kindNumber}
 use Rattle.checks.specs.Checks.{Kept}
 use Rattle.checks.proofs.Kept.{kept-all, kept-then, kept-less, kept-at}
 use Rattle.type_keys.specs.Table.{lineOf, positionOf, kindOf, digestOf, kindsUsed, entered, kindEntered, Kinds, Outside}
-use Rattle.type_keys.proofs.Forms.{kind-low}
+use Rattle.type_lines.proofs.Codes.{kind-low}
 
 -- ---- what is kept
 

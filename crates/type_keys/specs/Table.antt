@@ -1,21 +1,19 @@
 -- The table of descriptor keys in the working space, from byte 10240 on.
-use Prim.Native.Nat.{ℕ, suc, _+_, _-_, _*_, _/_, _%_, _≤_, _<_}
+use Prim.Native.Nat.{ℕ, suc, _+_, _*_, _/_, _%_, _≤_, _<_}
 use mathlib.Core.Path.{_≡_}
-use mathlib.Core.Bool.{cond, _&&_}
+use mathlib.Core.Bool.{cond}
 use mathlib.Core.List.{List, []}
-use lib.Dec.{leb, ltb, eqb}
+use lib.Dec.{ltb, eqb}
 use lib.ListN.{length, drop, getD, set}
 use Rattle.semantics.specs.Text.{Bytes, any}
-use Rattle.semantics.specs.Tree.{ElemKind, TypeKey, Declares}
+use Rattle.semantics.specs.Tree.{ElemKind, TypeKey}
 use Rattle.semantics.specs.Tree.TypeKey.{elemKey, opaqueKey}
 use Rattle.semantics.specs.Form.{letter}
 use Rattle.semantics.specs.Array.{kindNumber}
 use Rattle.semantics.specs.Types.{sameTypeKey, distinct, position}
-use Rattle.lines.specs.Lines.{textAt, readAt, nodesIn}
-use Rattle.checks.specs.Checks.{Checked, Kept}
-use Rattle.words.specs.Words.{digest}
-use Rattle.source.specs.Walk.{declaredTo}
-use Rattle.type_keys.specs.Keys.{needAt, NeedLine}
+use Rattle.lines.specs.Lines.{readAt}
+use Rattle.checks.specs.Checks.{Kept}
+use Rattle.type_lines.specs.Needs.{needAt}
 
 -- 128 bytes each: the line of need q, low and high byte, and the position of its key among the distinct keys
 unfoldable pub lineOf : Bytes → ℕ → ℕ
@@ -61,36 +59,6 @@ pub record Kinds (t : Bytes) (ks : List TypeKey) (keys : ℕ) : Type 0 where
 pub record Outside (a b : ℕ) (t u : Bytes) : Type 0 where
   pub kept : Kept a t u
   pub above : drop b u ≡ drop b t
-
--- ---- one line after the other
-
--- what the first i lines need
-abbrev pub needsTo : Bytes → ℕ → List TypeKey
-needsTo s i = declaredTo (λ (d : Declares). d .needs) (nodesIn s) i
-
--- need q is in the table, with its digest
-pub record NeedEntry (s t : Bytes) (n q : ℕ) : Type 0 where
-  pub low : q < 128
-  pub line : NeedLine s t n (lineOf t q)
-  pub digest : digestOf t q ≡ digest (textAt s (lineOf t q))
-
--- the table has what the first i lines need
-pub record Collecting (s t : Bytes) (n i needs keys : ℕ) : Type 0 where
-  pub checked : Checked s t n
-  pub within : i ≤ n
-  pub count : needs ≡ length (needsTo s i)
-  pub table : Needs s t n (needsTo s i)
-  pub kinds : Kinds t (needsTo s i) keys
-  pub digests : (q : ℕ) → q < needs → digestOf t q ≡ digest (textAt s (lineOf t q))
-
--- and what line i needs too, which is a `need` line
-pub record NeedNext (s t : Bytes) (n i needs keys : ℕ) : Type 0 where
-  pub collecting : Collecting s t n i needs keys
-  pub line : NeedLine s t n i
-
--- the kind of element that form f needs, 5 for none: 36 is byte, 35 int
-abbrev pub kindBy : ℕ → ℕ
-kindBy f = cond (eqb f 35) 1 (cond (eqb f 36) 0 (cond (leb 37 f && leb f 39) (f - 35) 5))
 
 -- ---- what is stored
 

@@ -16,7 +16,7 @@ use Rattle.write.proofs.Wrote.{wrote-as}
 use Rattle.checks.specs.Checks.{Checked}
 use Rattle.records.specs.Log.{logOf}
 use Rattle.type_keys.proofs.Distinct.{newKey, distinct-more}
-use Rattle.type_keys.proofs.Frames.{frames-all, frames-few}
+use Rattle.type_lines.proofs.Frames.{frames-all, frames-few}
 use Rattle.type_rows.specs.declared.Next.{Next}
 use Rattle.type_rows.specs.Rows.{Wrotes, shapesOf}
 use Rattle.type_row.proofs.Rows.{rows-then}

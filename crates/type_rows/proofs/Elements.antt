@@ -22,9 +22,8 @@ use Rattle.checks.proofs.Kept.{kept-less}
 use Rattle.records.specs.Log.{logOf}
 use Rattle.type_keys.specs.Table.{kindOf, positionFromOne, Kinds}
 use Rattle.type_keys.proofs.Distinct.{newKey, position-none, position-new, position-known, distinct-more, from-one-some}
-use Rattle.type_keys.proofs.Forms.{kind-low}
 use Rattle.type_keys.proofs.Table.{kind-kept}
-use Rattle.type_keys.proofs.Same.{elems-are}
+use Rattle.type_lines.proofs.Codes.{kind-low, elems-are}
 use Rattle.laws.proofs.Tests.{never}
 use Rattle.type_rows.specs.declared.Next.{Next}
 use Rattle.type_row.specs.Row.{Rowed}

@@ -20,7 +20,7 @@ use Rattle.checks.specs.Checks.{Kept}
 use Rattle.checks.proofs.Kept.{kept-all, kept-then, kept-less, kept-at}
 use Rattle.records.specs.Log.{logOf}
 use Rattle.records.proofs.Kept.{logged-kept}
-use Rattle.type_keys.specs.Keys.{needAt, NeedLine}
+use Rattle.type_lines.specs.Needs.{needAt, NeedLine}
 use Rattle.type_keys.specs.Table.{lineOf, positionOf}
 use Rattle.type_keys.proofs.Distinct.{newKey, position-none, position-low, position-more, distinct-more, key-member, known-more}
 use Rattle.type_rows.specs.declared.Next.{Next}

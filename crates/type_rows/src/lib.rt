@@ -16,7 +16,7 @@ ghost use Rattle.checks.specs.Checks.{Checked, Kept};
 ghost use Rattle.source.specs.Walk.{declaresAt};
 ghost use Rattle.lines.specs.Lines.{nodesIn};
 ghost use Rattle.records.specs.Log.{logOf, Logged};
-ghost use Rattle.type_keys.specs.Keys.{needAt, NeedLine};
+ghost use Rattle.type_lines.specs.Needs.{needAt, NeedLine};
 ghost use Rattle.type_keys.specs.Table.{Kinds};
 ghost use Rattle.type_rows.specs.declared.Next.{Next};
 ghost use Rattle.type_row.specs.Row.{Rowed};
@@ -51,7 +51,7 @@ fn next_frame(sheet: &[u8], work: &mut [u8], n: usize, i: usize, out: &mut [u8],
     requires { ⌜ (Checked (now sheet) (now work) n) × (i < n) × (r .id < 1024) × (r .at ≤ length (now out) + 1) ⌝ }
     ensures { λ q. ⌜ Wrotes (declaresAt (nodesIn (now (sheet .entry))) i .frames) r q (now (work .entry)) (now (work .exit)) (now (out .entry)) (now (out .exit)) ⌝ }
 {
-    if type_keys::ids::is_frame(sheet, work, n, i) {
+    if type_lines::frame::is_frame(sheet, work, n, i) {
         let id = r.id;
         let at = type_row::put_line(sheet, work, n, i, id, out, r.at);
         return Next { at: at, id: id + 1 };
@@ -99,7 +99,7 @@ fn put_need(
     if f == OPAQUE {
         return type_row::put_opaque(work, id, out, at);
     }
-    type_row::put_elem(work, id, type_keys::kind_needed(f), out, at)
+    type_row::put_elem(work, id, type_lines::kind_needed(f), out, at)
 }
 
 // The row of need q, where its key is new. The keys' rows begin at `base`.

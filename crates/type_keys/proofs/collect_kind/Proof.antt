@@ -2,7 +2,7 @@ use Rattle.type_keys.specs.Table.{kindOf}
 use denote.Ref.{now}
 use mathlib.Core.Path.{_∙_, sym, ap}
 use Rattle.type_keys.proofs.Table.{outside-all, kind-outside}
-use Rattle.type_keys.proofs.Pass.{kind-known, kind-new}
+use Rattle.type_keys.proofs.Elements.{kind-known, kind-new}
 use borrow.Author.Needs.{needs}
 use Rattle.type_keys.proofs.collect_kind.Statement.{statement}
 use Rattle.type_keys.proofs.collect_kind.Tie as tie

@@ -6,7 +6,7 @@ use mathlib.Core.List.{_∷_, []}
 use mathlib.Core.Path.{_∙_, sym, ap, refl}
 use Rattle.records.specs.Log.{logOf}
 use Rattle.semantics.specs.Types.{keyShape}
-use Rattle.type_keys.specs.Keys.{needAt}
+use Rattle.type_lines.specs.Needs.{needAt}
 use Rattle.type_keys.specs.Table.{lineOf}
 use Rattle.type_rows.specs.Rows.{keysTo}
 use Rattle.type_rows.proofs.Wrotes.{need-at, need-low, keys-stay, keys-next, keys-then, wrotes-one}
