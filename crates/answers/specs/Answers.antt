@@ -35,7 +35,7 @@ refusalLine (LongLiteral k) = k
 refusalLine Outgrown = 0
 
 -- q is the number of a refusal, and k its line: 1, 2 and 13 have none
-pub record Numbered (q k : ℕ) : Type 0 where
+pub record RefusalAt (q k : ℕ) : Type 0 where
   pub first : 0 < q
   pub last : q < 14
   pub sheet : q ≡ 1 → k ≡ 0

@@ -4,7 +4,7 @@ ghost use Prim.Native.Nat.{_≤_};
 ghost use lib.ListN.{length};
 ghost use Rattle.semantics.specs.Refusal.{refused, printed};
 ghost use Rattle.write.specs.Wrote.{Wrote};
-ghost use Rattle.answers.specs.Answers.{refusalNumber, refusalLine, Numbered};
+ghost use Rattle.answers.specs.Answers.{refusalNumber, refusalLine, RefusalAt};
 
 // One case for each of the thirteen, in their order, with its line where it has one.
 pub enum Refusal {
@@ -66,7 +66,7 @@ pub fn line_of(r: Refusal) -> usize
 
 // The refusal of this number at this line.
 pub fn refuse(number: u8, line: usize) -> Refusal
-    requires { ⌜ Numbered number line ⌝ }
+    requires { ⌜ RefusalAt number line ⌝ }
     ensures { λ r. ⌜ (refusalNumber r ≡ number) × (refusalLine r ≡ line) ⌝ }
 {
     match number {

@@ -15,7 +15,7 @@ use Rattle.placements.specs.Placements.{Keeps}
 use Rattle.literals.proofs.Names.{kept-low, logged-kept, log-kept}
 use Rattle.type_keys.specs.Table.{Needs}
 use Rattle.type_keys.proofs.Table.{kinds-kept}
-use Rattle.type_keys.proofs.Numbers.{needs-kept}
+use Rattle.type_keys.proofs.Positions.{needs-kept}
 use Rattle.tables.specs.declared.Tables.{Tables}
 use Rattle.tables.specs.Tables.{Held}
 use Rattle.compile.specs.Compile.{Known}

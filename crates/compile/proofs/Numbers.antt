@@ -32,7 +32,7 @@ use Rattle.semantics.specs.Array.{Filled, elemKind, outside, ConstArray, noneFi
 use Rattle.semantics.specs.Global.{varValue, initOf, firstValue, laidNames, noneOf, refusedBy, varsRefused}
 use Rattle.semantics.specs.Refusal.{Outcome, listed, refused, refuseIf, refuseAt, noCounts, badForm, badRefFrom, tooDeepFrom, badModuleFrom, tooManyFrom}
 use Rattle.checks.specs.Checks.{tested}
-use Rattle.answers.specs.Answers.{Numbered}
+use Rattle.answers.specs.Answers.{RefusalAt}
 
 -- a refusal while the work goes on
 LateIs : {A : Type 0} → Result A → Type 0
@@ -284,22 +284,22 @@ vars-late ns (v ∷ vs) = by-late (v .line) (varValue ns (v .it)) (varsRefused n
 
 -- ---- numbers and their lines
 
-pub with-line : {q k : ℕ} → 3 ≤ q → q ≤ 12 → Numbered q k
+pub with-line : {q k : ℕ} → 3 ≤ q → q ≤ 12 → RefusalAt q k
 with-line a b = record { first = omega arith; last = omega arith; sheet = λ e. absurd (omega arith); space = λ e. absurd (omega arith); outgrown = λ e. absurd (omega arith) }
 
-pub vars-numbered : (ns : Names) (vs : List (Located VarDecl)) {q k : ℕ} → varsRefused ns vs ≡ some (record { number = q; line = k }) → Numbered q k
+pub vars-numbered : (ns : Names) (vs : List (Located VarDecl)) {q k : ℕ} → varsRefused ns vs ≡ some (record { number = q; line = k }) → RefusalAt q k
 unfolding LateRefusal
 vars-numbered ns vs e = let p = subst LateRefusal e (vars-late ns vs) in with-line (omega (arith, p .0)) (p .1)
 
 -- what is refused has a number
 NamedIs : Outcome → Type 0
 NamedIs (listed x) = Unit {0}
-NamedIs (refused q k) = Numbered q k
+NamedIs (refused q k) = RefusalAt q k
 
 record Named (o : Outcome) : Type 0 where
   is : NamedIs o
 
-named : {q k : ℕ} → Numbered q k → Named (refused q k)
+named : {q k : ℕ} → RefusalAt q k → Named (refused q k)
 unfolding NamedIs
 named n = record { is = n }
 
@@ -307,7 +307,7 @@ one-of : (b : Bool) {o p : Outcome} → Named o → Named p → Named (cond b o 
 one-of true h k = h
 one-of false h k = k
 
-pub without-line : {q : ℕ} → 1 ≤ q → q ≤ 13 → Numbered q 0
+pub without-line : {q : ℕ} → 1 ≤ q → q ≤ 13 → RefusalAt q 0
 without-line a b = record { first = omega arith; last = omega arith; sheet = λ e. refl; space = λ e. refl; outgrown = λ e. refl }
 
 named-if : (q : ℕ) (b : Bool) {o : Outcome} → 1 ≤ q → q ≤ 13 → Named o → Named (refuseIf q b o)
@@ -327,6 +327,6 @@ tested-named w s h =
     (named-at 6 (badModuleFrom 1 false rs) (omega arith) (omega arith)
     (named-at 7 (tooManyFrom 1 noCounts (nodesFrom [] rs)) (omega arith) (omega arith) h))))))
 
-pub tested-numbered : (w : ℕ) (s : Bytes) {q k : ℕ} → ((o : Outcome) → tested w s o ≡ refused q k) → Numbered q k
+pub tested-numbered : (w : ℕ) (s : Bytes) {q k : ℕ} → ((o : Outcome) → tested w s o ≡ refused q k) → RefusalAt q k
 unfolding NamedIs
 tested-numbered w s h = subst Named (h (listed [])) (tested-named w s (record { is = tt })) .is

@@ -12,7 +12,7 @@ use Rattle.checks.specs.declared.Checks.{Checks}
 use Rattle.checks.specs.declared.Checks.the-variants as Answer
 use Rattle.checks.proofs.Laws.{compiled-by}
 use Rattle.answers.specs.declared.Refusal.{Refusal}
-use Rattle.answers.specs.Answers.{refusalNumber, refusalLine, Numbered}
+use Rattle.answers.specs.Answers.{refusalNumber, refusalLine, RefusalAt}
 use Rattle.compile.specs.declared.Listed.{Listed}
 use Rattle.compile.specs.declared.Listed.the-variants.{Written, Refused}
 use Rattle.compile.specs.declared.Answer.the-variants as Answers
@@ -52,7 +52,7 @@ module _ (s : Bytes) (W : ℕ) {r : Checks} (h : (o : Outcome) → tested W s o 
 -- ---- the working space is zeroed
 
 module _ (s : Bytes) (L W : ℕ) (d u : Bytes) {r : Listed} (h : Lists s L W r d u) where
-  pub listed-numbered : {q k : ℕ} → r ≡ Refused q k → Numbered q k
+  pub listed-numbered : {q k : ℕ} → r ≡ Refused q k → RefusalAt q k
   listed-numbered e = subst (λ (x : Listed). Lists s L W x d u) e h .settles .numbered
 
   pub compiles-listed : {p end : ℕ} {t : Bytes} → r ≡ Written p end → t ≡ zeros W → Compiles s L W (Answers.Listed p) d t

@@ -16,7 +16,7 @@ use Rattle.checks.specs.Checks.{Kept}
 use Rattle.checks.proofs.Kept.{kept-less, checked-kept}
 use Rattle.records.proofs.Kept.{logged-kept}
 use Rattle.type_rows.specs.Rows as Types
-use Rattle.uses.specs.Uses.{Numbers}
+use Rattle.uses.specs.Uses.{NeedIds}
 use Rattle.data_rows.specs.Data.{itemsIn, rowsOf}
 use Rattle.tables.specs.declared.Tables.{Tables}
 use Rattle.compile.specs.Compile.{Known, typesText}
@@ -29,7 +29,7 @@ module _ {s t : Bytes} {n frames : ℕ} {x : Tables} (k : Known s t n x) (fr : (
     pub types-ready : Types.Ready s u n (x .records) (x .needs)
     types-ready = record { log = logged-kept (kept-less (omega arith) h) (k .held .records); table = needs-stay h (k .held .needs); count = k .held .count }
 
-    pub uses-ready : {v : Bytes} → Kept 49152 u v → Numbers s v n (x .needs) frames
+    pub uses-ready : {v : Bytes} → Kept 49152 u v → NeedIds s v n (x .needs) frames
     uses-ready m = record {
       checked = checked-kept (kept-less (omega arith) m) (checked-kept (kept-less (omega arith) h) (k .held .checked));
       table = needs-stay (kept-less (omega arith) m) (needs-stay h (k .held .needs));

@@ -15,7 +15,7 @@ use Rattle.checks.specs.Checks.{Checked}
 use Rattle.names.specs.Table.{logIn}
 use Rattle.tables.specs.declared.Tables.{Tables}
 use Rattle.tables.specs.Tables.{Held}
-use Rattle.answers.specs.Answers.{refusalNumber, refusalLine, Numbered}
+use Rattle.answers.specs.Answers.{refusalNumber, refusalLine, RefusalAt}
 use Rattle.compile.specs.declared.Listed.{Listed}
 use Rattle.compile.specs.declared.Listed.the-variants.{Written, Refused}
 use Rattle.compile.specs.declared.Answer.{Answer}
@@ -60,12 +60,12 @@ pub record Lays (s : Bytes) (o : Outcome) (L W p end : ℕ) (d u : Bytes) : Type
 -- refusal q at line k
 pub record Stops (o : Outcome) (q k : ℕ) : Type 0 where
   pub outcome : o ≡ refused q k
-  pub numbered : Numbered q k
+  pub numbered : RefusalAt q k
 
 -- and the L bytes of the listing and the W bytes of the working space are zero
 pub record Refuses (o : Outcome) (L W q k : ℕ) (d u : Bytes) : Type 0 where
   pub outcome : o ≡ refused q k
-  pub numbered : Numbered q k
+  pub numbered : RefusalAt q k
   pub bytes : d ≡ zeros L
   pub work : u ≡ zeros W
 

@@ -39,7 +39,7 @@ fn put_types(sheet: &[u8], work: &mut [u8], n: usize, x: Tables, out: &mut [u8],
     requires { ⌜ Known (now sheet) (now work) n x ⌝ }
     ensures { λ p. ⌜ (Wrote (now (out .entry)) at (typesText (now (sheet .entry))) (now (out .exit)) p) × (Checked (now (sheet .entry)) (now (work .exit)) n) ⌝ }
 {
-    let frames = type_keys::ids::frame_count(sheet, work, n);
+    let frames = type_lines::frame::frame_count(sheet, work, n);
     let d = data_rows::data_rows(sheet, work, n, x.consts, x.globals, frames, x.keys, out, at);
     let p = type_rows::type_rows(sheet, work, n, x.records, x.needs, d.keys, out, d.at);
     uses::use_rows(sheet, work, n, x.needs, frames, out, p)

@@ -81,7 +81,7 @@ within-standing n (Str p q) l h = (omega (arith, h .1), h .2)
 pub literal-filled : {t : Bytes} {count : ℕ} → 65536 ≤ length t → Filled t count → Literal t count
 literal-filled {t} l f = record { long = l; few = f .few; strings = λ i h. within-standing (length t) (slotAt t (entryAt t i)) l (f .strings i h) }
 
--- storing numbers of elements leaves it
+-- storing positions of elements leaves it
 module _ {t u : Bytes} (o : Outside 10624 10629 t u) where
   entry-still : (i : ℕ) → entryAt u i ≡ entryAt t i
   unfolding entryAt

@@ -18,7 +18,8 @@ use Rattle.semantics.specs.Types.{arrayKey, distinct, position}
 use Rattle.laws.proofs.Lists.{concat-append}
 use Rattle.arrays.specs.Arrays.{kindAt}
 use Rattle.type_keys.specs.Table.{kindOf, isUsed, kindsUsed, Kinds}
-use Rattle.type_keys.proofs.Distinct.{same-self, distinct-more, placed-more}
+use Rattle.type_lines.proofs.Codes.{same-self}
+use Rattle.type_keys.proofs.Distinct.{distinct-more, from-one-more}
 use Rattle.data_rows.specs.Data.{keysOf}
 
 -- ---- kinds
@@ -58,10 +59,10 @@ kinds-few {t} x = omega (arith, x .few, used-one (kindOf t 0), used-one (kindOf 
 
 -- ---- one more kind
 
--- it has a place then
-pub kind-placed : {t : Bytes} (ks : List TypeKey) {count : ℕ} (k : ElemKind) → Kinds t (ks ++ (elemKey k ∷ [])) count → {kind : ℕ} → kind ≡ kindNumber k → 0 < kindOf t kind
-kind-placed {t} ks k x e =
-    let w : kindOf t (kindNumber k) ≡ suc (position (elemKey k) (distinct [] ks)) = x .place k ∙ rw (distinct-more (elemKey k) ks) (placed-more (elemKey k) (distinct [] ks) (elemKey k) ∙ rw (same-self (elemKey k))) in
+-- it is used then
+pub kind-used : {t : Bytes} (ks : List TypeKey) {count : ℕ} (k : ElemKind) → Kinds t (ks ++ (elemKey k ∷ [])) count → {kind : ℕ} → kind ≡ kindNumber k → 0 < kindOf t kind
+kind-used {t} ks k x e =
+    let w : kindOf t (kindNumber k) ≡ suc (position (elemKey k) (distinct [] ks)) = x .position k ∙ rw (distinct-more (elemKey k) ks) (from-one-more (elemKey k) (distinct [] ks) (elemKey k) ∙ rw (same-self (elemKey k))) in
     rw e (omega (arith, w))
 
 -- ---- keys of items

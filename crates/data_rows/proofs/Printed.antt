@@ -16,10 +16,10 @@ use Rattle.write.proofs.Wrote.{then, wrote-as}
 use Rattle.items.specs.Items.{itemRows}
 use Rattle.items.proofs.Arrays.{rows-append}
 use Rattle.type_keys.specs.Table.{Kinds}
-use Rattle.type_keys.proofs.Numbers.{keys-are}
+use Rattle.type_keys.proofs.Positions.{keys-are}
 use Rattle.data_rows.specs.declared.Next.{Next}
-use Rattle.data_rows.specs.declared.Numbered.{Numbered}
-use Rattle.data_rows.specs.Data.{keysOf, Numbers, ItemsPrinted}
+use Rattle.data_rows.specs.declared.ElementId.{ElementId}
+use Rattle.data_rows.specs.Data.{keysOf, Identified, ItemsPrinted}
 use Rattle.data_rows.proofs.Keys.{keys-append, value-keys, array-keys}
 
 keys-with : (s : Bytes) (off : ℕ) (a : ConstArray) (bs : List Item) → keysOf s (bs ++ arrayItems off a) ≡ keysOf s bs ++ (elemKey (a .kind) ∷ [])
@@ -51,7 +51,7 @@ module _ {s : Bytes} {p q : Next} where
   printed-value off ty v w k = printed-plain (valueItem off ty v ∷ []) (value-keys off ty v) k (λ id. wrote-as (sym (append-nil (itemRow id (valueItem off ty v)))) (w id))
 
   -- an array
-  module _ (off : ℕ) (a : ConstArray) {t u d e : Bytes} {frames kind : ℕ} {r : Numbered} (n : Numbers t u frames kind (p .keys) r) (hk : kind ≡ kindNumber (a .kind)) (hf : frames ≡ length (sheetSource s .frames)) where
+  module _ (off : ℕ) (a : ConstArray) {t u d e : Bytes} {frames kind : ℕ} {r : ElementId} (n : Identified t u frames kind (p .keys) r) (hk : kind ≡ kindNumber (a .kind)) (hf : frames ≡ length (sheetSource s .frames)) where
     pub printed-array : q .keys ≡ r .keys → ((f : TypeKey → ℕ) → f (elemKey (a .kind)) ≡ r .id → Wrote d (p .at) (itemRows f (arrayItems off a)) e (q .at)) → ItemsPrinted s (arrayItems off a) p q t u d e
     printed-array k w = record {
       rows = λ bs cs x. w (idOf (sheetSource s) (bs ++ (arrayItems off a ++ cs))) (n (a .kind) (keysOf s bs) hk x .1 (sheetSource s) (bs ++ (arrayItems off a ++ cs)) (concatMap arrayKey cs) hf (keys-here s off a bs cs));

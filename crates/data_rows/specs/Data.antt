@@ -25,7 +25,7 @@ use Rattle.vars.specs.declared.First.{First}
 use Rattle.vars.specs.First.{Stands}
 use Rattle.data_rows.specs.declared.Next.{Next}
 use Rattle.data_rows.specs.declared.Counts.{Counts}
-use Rattle.data_rows.specs.declared.Numbered.{Numbered}
+use Rattle.data_rows.specs.declared.ElementId.{ElementId}
 
 -- ---- a sheet s whose first m constants stand in the working space t
 
@@ -40,7 +40,7 @@ keysOf s is = sheetSource s .needs ++ concatMap arrayKey is
 abbrev pub rowsOf : Bytes → List Item → Bytes
 rowsOf s is = concatMap (itemRow (idOf (sheetSource s) is)) is
 
--- the tables of a checked sheet of n lines: m constants, g globals, and the numbers of the keys of needs
+-- the tables of a checked sheet of n lines: m constants, g globals, and the keys of needs
 pub record Ready (s t : Bytes) (n m g frames keys : ℕ) : Type 0 where
   pub checked : Checked s t n
   pub log : Logged s t n m
@@ -52,12 +52,12 @@ pub record Ready (s t : Bytes) (n m g frames keys : ℕ) : Type 0 where
 
 -- ---- items one after the other
 
--- the key of a kind of elements has the number r .id, and r .keys keys have one, where t has become u
-abbrev pub Numbers : Bytes → Bytes → ℕ → ℕ → ℕ → Numbered → Type 0
-Numbers t u frames kind count r = (k : ElemKind) (ks : List TypeKey) → kind ≡ kindNumber k → Kinds t ks count
+-- the key of a kind of elements has the ID r .id, and r .keys keys have one, where t has become u
+abbrev pub Identified : Bytes → Bytes → ℕ → ℕ → ℕ → ElementId → Type 0
+Identified t u frames kind count r = (k : ElemKind) (ks : List TypeKey) → kind ≡ kindNumber k → Kinds t ks count
     → Kinds u (ks ++ (elemKey k ∷ [])) (r .keys) × ((s : Source) (is : List Item) (ms : List TypeKey) → frames ≡ length (s .frames) → keys s is ≡ distinct [] ((ks ++ (elemKey k ∷ [])) ++ ms) → idOf s is (elemKey k) ≡ r .id)
 
--- the items xs were printed, from p to q, and their keys have numbers, whatever items stand before them and behind
+-- the items xs were printed, from p to q, and their keys have IDs, whatever items stand before them and behind
 pub record ItemsPrinted (s : Bytes) (xs : List Item) (p q : Next) (t u d e : Bytes) : Type 0 where
   pub rows : (before behind : List Item) → Kinds t (keysOf s before) (p .keys) → Wrote d (p .at) (itemRows (idOf (sheetSource s) (before ++ (xs ++ behind))) xs) e (q .at)
   pub kinds : (before : List Item) → Kinds t (keysOf s before) (p .keys) → Kinds u (keysOf s (before ++ xs)) (q .keys)
@@ -67,14 +67,14 @@ pub record Keeping (t u : Bytes) : Type 0 where
   pub below : Kept 10624 t u
   pub strings : (j : ℕ) → 16384 ≤ j → j < 49152 → getD u j 0 ≡ getD t j 0
 
--- so many keys have numbers
+-- so many keys have IDs
 pub record Keyed (t : Bytes) (frames keys : ℕ) : Type 0 where
   pub few : frames ≤ 128
   pub long : 65536 ≤ length t
   pub known : List TypeKey
   pub kinds : Kinds t known keys
 
--- the tables that lines are printed from, where the keys of the items printed so far have numbers
+-- the tables that lines are printed from, where the keys of the items printed so far have IDs
 pub record Held (s t : Bytes) (c : Counts) (keys : ℕ) : Type 0 where
   pub log : Logged s t (c .lines) (c .consts)
   pub places : Tabled s t (c .lines) (c .globals)

@@ -1,4 +1,4 @@
-// The `dat` rows of a sheet's data items, with numbers for the keys of array elements.
+// The `dat` rows of a sheet's data items, with IDs for the keys of array elements.
 use codes::decl;
 use codes::element;
 use values::ConstVal;
@@ -24,9 +24,9 @@ ghost use Rattle.globals.specs.Vars.{varItems};
 ghost use Rattle.type_keys.specs.Table.{Kinds, Outside};
 ghost use Rattle.vars.specs.First.{initIn, varOn};
 ghost use Rattle.vars.specs.Lines.{laidAt};
-ghost use Rattle.data_rows.specs.Data.{itemsIn, keysOf, rowsOf, Ready, Numbers, Keeping, ItemsPrinted, Keyed, Held, Filled, NameTask, firstItems, nameItems, lineItems};
+ghost use Rattle.data_rows.specs.Data.{itemsIn, keysOf, rowsOf, Ready, Identified, Keeping, ItemsPrinted, Keyed, Held, Filled, NameTask, firstItems, nameItems, lineItems};
 
-// Where the next row goes, and how many keys have a number.
+// Where the next row goes, and how many keys have an ID.
 pub struct Next {
     pub at: usize,
     pub keys: usize,
@@ -40,8 +40,8 @@ pub struct Counts {
     pub frames: usize,
 }
 
-// The number of a key, and how many keys have one.
-pub struct Numbered {
+// The ID of the key of an array's elements, and how many keys have one.
+pub struct ElementId {
     pub id: usize,
     pub keys: usize,
 }
@@ -75,14 +75,14 @@ fn no_rows(out: &mut [u8], p: Next) -> Next
     }
 }
 
-// The number of the key of a kind of elements, which gets one where it has none.
-fn number_elements(work: &mut [u8], frames: usize, kind: u8, keys: usize) -> Numbered
+// The ID of the key of a kind of elements, which gets one where it has none.
+fn element_id(work: &mut [u8], frames: usize, kind: u8, keys: usize) -> ElementId
     requires { ⌜ (kind < 5) × (Keyed (now work) frames keys) ⌝ }
-    ensures { λ r. ⌜ (Numbers (now (work .entry)) (now (work .exit)) frames kind keys r) × (Outside 10624 10629 (now (work .entry)) (now (work .exit))) ⌝ }
+    ensures { λ r. ⌜ (Identified (now (work .entry)) (now (work .exit)) frames kind keys r) × (Outside 10624 10629 (now (work .entry)) (now (work .exit))) ⌝ }
 {
     let k = kind as usize;
-    let count = type_keys::number_kind(work, k, keys);
-    Numbered {
+    let count = type_keys::collect_kind(work, k, keys);
+    ElementId {
         id: type_keys::ids::kind_id(work, frames, k),
         keys: count,
     }
@@ -124,7 +124,7 @@ fn alloc_rows(
     requires { ⌜ Keyed (now work) frames (p .keys) ⌝ }
     ensures { λ q. ⌜ ((s : Bytes) → frames ≡ length (sheetSource s .frames) → ItemsPrinted s (arrayItems off (record { kind = kindAt kind; count = count; values = [] })) p q (now (work .entry)) (now (work .exit)) (now (out .entry)) (now (out .exit))) × (Outside 10624 10629 (now (work .entry)) (now (work .exit))) ⌝ }
 {
-    let e = number_elements(work, frames, kind_number(kind), p.keys);
+    let e = element_id(work, frames, kind_number(kind), p.keys);
     Next {
         at: items::alloc_item(out, p.at, off, e.id, count as u64),
         keys: e.keys,
@@ -145,7 +145,7 @@ fn literal_rows(
     ensures { λ q. ⌜ ((s : Bytes) → frames ≡ length (sheetSource s .frames) → ItemsPrinted s (arrayItems off (record { kind = kindAt kind; count = count; values = valuesIn (now (work .entry)) 0 count })) p q (now (work .entry)) (now (work .exit)) (now (out .entry)) (now (out .exit))) × (Outside 10624 10629 (now (work .entry)) (now (work .exit))) ⌝ }
 {
     let k = kind_number(kind);
-    let e = number_elements(work, frames, k, p.keys);
+    let e = element_id(work, frames, k, p.keys);
     Next {
         at: items::array_items(work, out, p.at, off, e.id, k, count),
         keys: e.keys,

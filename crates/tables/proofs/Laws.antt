@@ -20,7 +20,7 @@ use Rattle.globals.specs.Table.{Around}
 use Rattle.globals.proofs.Collect.{collected-kept}
 use Rattle.records.specs.Log as Records
 use Rattle.records.proofs.Kept.{logged-kept}
-use Rattle.type_keys.specs.declared.Numbered.{Numbered}
+use Rattle.need_keys.specs.declared.NeedCounts.{NeedCounts}
 use Rattle.type_keys.specs.Table.{Needs, Kinds, Outside}
 use Rattle.tables.specs.Tables.{Held}
 use Rattle.names.specs.Table.{bitsOf, logIn, Logged}
@@ -49,7 +49,7 @@ module _ {s t u : Bytes} {n m a : ℕ} (low : a ≤ 16384) (k : Kept 7168 t u) (
   pub constants-log : logIn s u m ≡ logIn s t m
   constants-log = log-same table-kept l texts
 
-module _ {s t t2 t3 t4 : Bytes} {n m r : ℕ} {g : Globals} {d : Numbered} (l : Logged s t n m)
+module _ {s t t2 t3 t4 : Bytes} {n m r : ℕ} {g : Globals} {d : NeedCounts} (l : Logged s t n m)
     (a : Around t t2) (places : Globals.Collected s t2 n g)
     (log : Records.Collected s t2 t3 n r)
     (o : Outside 10240 11264 t3 t4) (needs : Needs s t4 n (sheetSource s .needs)) (kinds : Kinds t4 (sheetSource s .needs) (d .keys)) (count : d .needs ≡ length (sheetSource s .needs))

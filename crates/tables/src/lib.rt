@@ -1,4 +1,4 @@
-// All tables of a checked sheet: its constants, the places of its globals, its record log, and the numbers of its needs.
+// All tables of a checked sheet: its constants, the places of its globals, its record log, and the keys of its needs.
 use consts::Collected;
 ghost use mathlib.Core.Path.{_≡_};
 ghost use Rattle.checks.specs.Checks.{Checked, Kept};
@@ -27,7 +27,7 @@ fn make_others(sheet: &[u8], work: &mut [u8], n: usize, m: usize) -> Tables
 {
     let g = globals::collect_globals(sheet, work, n);
     let r = records::collect_adts(sheet, work, n);
-    let d = type_keys::number_needs(sheet, work, n);
+    let d = need_keys::collect_needs(sheet, work, n);
     Tables {
         consts: m,
         globals: g.count,

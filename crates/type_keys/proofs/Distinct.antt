@@ -4,16 +4,15 @@ use mathlib.Core.Bool.{Bool, true, false, cond, _||_, or-false}
 use mathlib.Core.List.{List, [], _∷_, _++_, append-assoc, append-nil}
 use Prim.Native.Nat.{ℕ, zero, suc, _≤_, _<_}
 use native.Mathlib.Omega.{arith}
-use lib.Dec.{leb, eqb}
-use lib.IntN.{ℤ, pos, negsuc}
+use lib.Dec.{eqb}
 use lib.ListN.{length, getD, length-append}
-use borrow.Author.Tests.{le-leb, leb-true, eq-eqb, ne-eqb}
+use borrow.Author.Tests.{eq-eqb, ne-eqb}
 use Rattle.semantics.specs.Text.{any}
 use Rattle.semantics.specs.Tree.{TypeKey}
-use Rattle.semantics.specs.Fold.{eqZ}
-use Rattle.semantics.specs.Types.{sameInts, keyCode, sameTypeKey, distinct, position}
-use Rattle.type_keys.specs.Table.{placed}
-use Rattle.laws.proofs.Tests.{never, and-left, and-right, or-left, or-right}
+use Rattle.semantics.specs.Types.{keyCode, sameTypeKey, distinct, position}
+use Rattle.type_lines.proofs.Codes.{ints-eq, same-self}
+use Rattle.type_keys.specs.Table.{positionFromOne}
+use Rattle.laws.proofs.Tests.{never, or-left, or-right}
 use Rattle.laws.proofs.Lists.{any-append}
 
 -- ---- tests
@@ -25,38 +24,6 @@ or-swap false b c = refl
 
 or-true : (a b : Bool) → a ≡ true → a || b ≡ true
 or-true a b h = rw h
-
--- ---- keys are compared by their codes
-
-eqZ-refl : (z : ℤ) → eqZ z z ≡ true
-eqZ-refl (pos n) = rw (le-leb n n (omega arith))
-eqZ-refl (negsuc n) = rw (le-leb n n (omega arith))
-
-eqZ-eq : (y z : ℤ) → eqZ y z ≡ true → y ≡ z
-eqZ-eq (pos a) (pos b) h =
-    let e : a ≡ b = omega (arith, leb-true a b (and-left (leb a b) (leb b a) h), leb-true b a (and-right (leb a b) (leb b a) h)) in
-    ap pos e
-eqZ-eq (pos a) (negsuc b) h = never h
-eqZ-eq (negsuc a) (pos b) h = never h
-eqZ-eq (negsuc a) (negsuc b) h =
-    let e : a ≡ b = omega (arith, leb-true b a (and-left (leb b a) (leb a b) h), leb-true a b (and-right (leb b a) (leb a b) h)) in
-    ap negsuc e
-
-ints-refl : (l : List ℤ) → sameInts l l ≡ true
-ints-refl [] = refl
-ints-refl (z ∷ l) = rw (eqZ-refl z) (ints-refl l)
-
-pub ints-eq : (l m : List ℤ) → sameInts l m ≡ true → l ≡ m
-ints-eq [] [] h = refl
-ints-eq [] (y ∷ ys) h = never h
-ints-eq (x ∷ xs) [] h = never h
-ints-eq (x ∷ xs) (y ∷ ys) h =
-    let a = eqZ-eq x y (and-left (eqZ x y) (sameInts xs ys) h) in
-    let b = ints-eq xs ys (and-right (eqZ x y) (sameInts xs ys) h) in
-    cc
-
-pub same-self : (k : TypeKey) → sameTypeKey k k ≡ true
-same-self k = ints-refl (keyCode k)
 
 -- what holds of a key by comparing it holds of those that are the same
 module _ (j k : TypeKey) (h : sameTypeKey j k ≡ true) where
@@ -155,38 +122,38 @@ module _ (k : TypeKey) (l : List TypeKey) where
       go false = rw (any-append (sameTypeKey j) l (k ∷ []), h) (or-false (any (sameTypeKey j) l))
 
   -- where it is known
-  pub known-same : any (sameTypeKey k) l ≡ true → (j : TypeKey) → placed j l ≡ cond (sameTypeKey j k) (suc (position k l)) (placed j l)
+  pub known-same : any (sameTypeKey k) l ≡ true → (j : TypeKey) → positionFromOne j l ≡ cond (sameTypeKey j k) (suc (position k l)) (positionFromOne j l)
   known-same h j = go (sameTypeKey j k) refl
     where
-      go : (t : Bool) → sameTypeKey j k ≡ t → placed j l ≡ cond (sameTypeKey j k) (suc (position k l)) (placed j l)
+      go : (t : Bool) → sameTypeKey j k ≡ t → positionFromOne j l ≡ cond (sameTypeKey j k) (suc (position k l)) (positionFromOne j l)
       go true e = rw (e, any-same j k e l, h, position-same j k e l)
       go false e = rw e
 
   pub known-length : any (sameTypeKey k) l ≡ true → length (l ++ newKey k l) ≡ length l
   known-length h = rw (h, append-nil l)
 
-  pub placed-some : (placed k l ≡ 0 → ⊥) → any (sameTypeKey k) l ≡ true
-  placed-some h = go (any (sameTypeKey k) l) refl
+  pub from-one-some : (positionFromOne k l ≡ 0 → ⊥) → any (sameTypeKey k) l ≡ true
+  from-one-some h = go (any (sameTypeKey k) l) refl
     where
       go : (t : Bool) → any (sameTypeKey k) l ≡ t → t ≡ true
       go true e = refl
       go false e = absurd (h (rw e))
 
-  pub placed-none : placed k l ≡ 0 → any (sameTypeKey k) l ≡ false
-  placed-none h = go (any (sameTypeKey k) l) refl
+  pub from-one-none : positionFromOne k l ≡ 0 → any (sameTypeKey k) l ≡ false
+  from-one-none h = go (any (sameTypeKey k) l) refl
     where
       go : (t : Bool) → any (sameTypeKey k) l ≡ t → t ≡ false
       go true e = let z : suc (position k l) ≡ 0 = rw e at h in absurd (omega arith)
       go false e = refl
 
-  pub placed-more : (j : TypeKey) → placed j (l ++ newKey k l) ≡ cond (sameTypeKey j k) (suc (position k l)) (placed j l)
-  placed-more j = go (sameTypeKey j k) refl
+  pub from-one-more : (j : TypeKey) → positionFromOne j (l ++ newKey k l) ≡ cond (sameTypeKey j k) (suc (position k l)) (positionFromOne j l)
+  from-one-more j = go (sameTypeKey j k) refl
     where
       known : (t : Bool) → any (sameTypeKey j) l ≡ t → cond (any (sameTypeKey j) l) (suc (position j (l ++ newKey k l))) 0 ≡ cond (any (sameTypeKey j) l) (suc (position j l)) 0
       known true q = rw (q, position-known j l (newKey k l) q)
       known false q = rw q
 
-      go : (t : Bool) → sameTypeKey j k ≡ t → placed j (l ++ newKey k l) ≡ cond (sameTypeKey j k) (suc (position k l)) (placed j l)
+      go : (t : Bool) → sameTypeKey j k ≡ t → positionFromOne j (l ++ newKey k l) ≡ cond (sameTypeKey j k) (suc (position k l)) (positionFromOne j l)
       go true e = rw (any-same j k e (l ++ newKey k l), any-self, position-same j k e (l ++ newKey k l), position-more, e)
       go false e = rw (any-other j e, e) (known (any (sameTypeKey j) l) refl)
 

@@ -13,8 +13,8 @@ use Rattle.semantics.specs.Tree.{TypeKey}
 use Rattle.semantics.specs.Array.{kindNumber}
 use Rattle.checks.specs.Checks.{Kept}
 use Rattle.checks.proofs.Kept.{kept-all, kept-then, kept-less, kept-at}
-use Rattle.type_keys.specs.Table.{lineOf, placeOf, kindOf, digestOf, kindsUsed, entered, kindEntered, Kinds, Outside}
-use Rattle.type_keys.proofs.Forms.{kind-low}
+use Rattle.type_keys.specs.Table.{lineOf, positionOf, kindOf, digestOf, kindsUsed, entered, kindEntered, Kinds, Outside}
+use Rattle.type_lines.proofs.Codes.{kind-low}
 
 -- ---- what is kept
 
@@ -45,9 +45,9 @@ module _ {t u : List ℕ} where
   unfolding lineOf
   line-below x q h = rw (kept-at (x .kept) (10240 + q) (omega arith), kept-at (x .kept) (10368 + q) (omega arith))
 
-  pub place-below : {b : ℕ} → Outside 10624 b t u → (q : ℕ) → q < 128 → placeOf u q ≡ placeOf t q
-  unfolding placeOf
-  place-below x q h = kept-at (x .kept) (10496 + q) (omega arith)
+  pub position-below : {b : ℕ} → Outside 10624 b t u → (q : ℕ) → q < 128 → positionOf u q ≡ positionOf t q
+  unfolding positionOf
+  position-below x q h = kept-at (x .kept) (10496 + q) (omega arith)
 
   -- and one among the needs the kinds
   pub kind-above : {a : ℕ} → Outside a 10624 t u → (k : ℕ) → kindOf u k ≡ kindOf t k
@@ -68,7 +68,7 @@ module _ {t u : List ℕ} where
   unfolding kindsUsed
   kinds-kept k x = record {
     count = x .count;
-    place = λ e. kind-kept k (kindNumber e) (kind-low e) ∙ x .place e;
+    position = λ e. kind-kept k (kindNumber e) (kind-low e) ∙ x .position e;
     few = rw (kind-kept k 0 (omega arith), kind-kept k 1 (omega arith), kind-kept k 2 (omega arith), kind-kept k 3 (omega arith), kind-kept k 4 (omega arith)) (x .few);
   }
 
@@ -104,9 +104,9 @@ module _ (t : List ℕ) (room : 65536 ≤ length t) (q i p : ℕ) (hq : q < 128)
       )
       (omega (arith, div-add-mod' i 256))
 
-  pub entered-place : placeOf (entered t q i p) q ≡ p
-  unfolding placeOf entered
-  entered-place = getD-set-same (set (set t (10240 + q) (i % 256)) (10368 + q) (i / 256)) (10496 + q) p 0 (omega (arith, long-2))
+  pub entered-position : positionOf (entered t q i p) q ≡ p
+  unfolding positionOf entered
+  entered-position = getD-set-same (set (set t (10240 + q) (i % 256)) (10368 + q) (i / 256)) (10496 + q) p 0 (omega (arith, long-2))
 
   module _ (j : ℕ) (hj : j < 128) (ne : j ≡ q → ⊥) where
     pub other-line : lineOf (entered t q i p) j ≡ lineOf t j
@@ -123,9 +123,9 @@ module _ (t : List ℕ) (room : 65536 ≤ length t) (q i p : ℕ) (hq : q < 128)
           getD-set-other t (10240 + q) (10368 + j) (i % 256) 0 (λ e. absurd (omega arith)),
         )
 
-    pub other-place : placeOf (entered t q i p) j ≡ placeOf t j
-    unfolding placeOf entered
-    other-place =
+    pub other-position : positionOf (entered t q i p) j ≡ positionOf t j
+    unfolding positionOf entered
+    other-position =
         let a = set t (10240 + q) (i % 256) in
         let b = set a (10368 + q) (i / 256) in
         rw (getD-set-other b (10496 + q) (10496 + j) p 0 (λ e. ne (omega arith)), getD-set-other a (10368 + q) (10496 + j) (i / 256) 0 (λ e. absurd (omega arith)), getD-set-other t (10240 + q) (10496 + j) (i % 256) 0 (λ e. absurd (omega arith)))

@@ -1,28 +1,26 @@
 -- The table of descriptor keys in the working space, from byte 10240 on.
-use Prim.Native.Nat.{ℕ, suc, _+_, _-_, _*_, _/_, _%_, _≤_, _<_}
+use Prim.Native.Nat.{ℕ, suc, _+_, _*_, _/_, _%_, _≤_, _<_}
 use mathlib.Core.Path.{_≡_}
-use mathlib.Core.Bool.{cond, _&&_}
+use mathlib.Core.Bool.{cond}
 use mathlib.Core.List.{List, []}
-use lib.Dec.{leb, ltb, eqb}
+use lib.Dec.{ltb, eqb}
 use lib.ListN.{length, drop, getD, set}
 use Rattle.semantics.specs.Text.{Bytes, any}
-use Rattle.semantics.specs.Tree.{ElemKind, TypeKey, Declares}
+use Rattle.semantics.specs.Tree.{ElemKind, TypeKey}
 use Rattle.semantics.specs.Tree.TypeKey.{elemKey, opaqueKey}
 use Rattle.semantics.specs.Form.{letter}
 use Rattle.semantics.specs.Array.{kindNumber}
 use Rattle.semantics.specs.Types.{sameTypeKey, distinct, position}
-use Rattle.lines.specs.Lines.{textAt, readAt, nodesIn}
-use Rattle.checks.specs.Checks.{Checked, Kept}
-use Rattle.words.specs.Words.{digest}
-use Rattle.source.specs.Walk.{declaredTo}
-use Rattle.type_keys.specs.Keys.{needAt, NeedLine}
+use Rattle.lines.specs.Lines.{readAt}
+use Rattle.checks.specs.Checks.{Kept}
+use Rattle.type_lines.specs.Needs.{needAt}
 
 -- 128 bytes each: the line of need q, low and high byte, and the position of its key among the distinct keys
 unfoldable pub lineOf : Bytes → ℕ → ℕ
 lineOf t q = getD t (10240 + q) 0 + 256 * getD t (10368 + q) 0
 
-unfoldable pub placeOf : Bytes → ℕ → ℕ
-placeOf t q = getD t (10496 + q) 0
+unfoldable pub positionOf : Bytes → ℕ → ℕ
+positionOf t q = getD t (10496 + q) 0
 
 -- for each kind of element 0 where its key is not used, or its position plus 1
 unfoldable pub kindOf : Bytes → ℕ → ℕ
@@ -32,9 +30,9 @@ kindOf t k = getD t (10624 + k) 0
 unfoldable pub digestOf : Bytes → ℕ → ℕ
 digestOf t q = getD t (10752 + q) 0
 
--- 0 where k is not among the keys js, else its position plus 1
-abbrev pub placed : TypeKey → List TypeKey → ℕ
-placed k js = cond (any (sameTypeKey k) js) (suc (position k js)) 0
+-- the position of k among the keys js, from 1 on; 0 where it is none of them
+abbrev pub positionFromOne : TypeKey → List TypeKey → ℕ
+positionFromOne k js = cond (any (sameTypeKey k) js) (suc (position k js)) 0
 
 -- the table has the lines of the needs ks, and their positions
 pub record Needs (s t : Bytes) (n : ℕ) (ks : List TypeKey) : Type 0 where
@@ -42,7 +40,7 @@ pub record Needs (s t : Bytes) (n : ℕ) (ks : List TypeKey) : Type 0 where
   pub within : (q : ℕ) → q < length ks → lineOf t q < n
   pub kind : (q : ℕ) → q < length ks → letter (readAt s (lineOf t q) .form .kind) ≡ 78
   pub key : (q : ℕ) → q < length ks → needAt s (lineOf t q) ≡ getD ks q opaqueKey
-  pub place : (q : ℕ) → q < length ks → placeOf t q ≡ position (getD ks q opaqueKey) (distinct [] ks)
+  pub position : (q : ℕ) → q < length ks → positionOf t q ≡ position (getD ks q opaqueKey) (distinct [] ks)
 
 abbrev pub isUsed : ℕ → ℕ
 isUsed p = cond (eqb p 0) 0 1
@@ -54,43 +52,13 @@ kindsUsed t = isUsed (kindOf t 0) + isUsed (kindOf t 1) + isUsed (kindOf t 2) + 
 -- so many keys are distinct among ks, and these are the positions of elements among them; all but those of elements are needs'
 pub record Kinds (t : Bytes) (ks : List TypeKey) (keys : ℕ) : Type 0 where
   pub count : keys ≡ length (distinct [] ks)
-  pub place : (k : ElemKind) → kindOf t (kindNumber k) ≡ placed (elemKey k) (distinct [] ks)
+  pub position : (k : ElemKind) → kindOf t (kindNumber k) ≡ positionFromOne (elemKey k) (distinct [] ks)
   pub few : keys ≤ 128 + kindsUsed t
 
 -- u is as long as t and holds the same bytes but from a up to b
 pub record Outside (a b : ℕ) (t u : Bytes) : Type 0 where
   pub kept : Kept a t u
   pub above : drop b u ≡ drop b t
-
--- ---- one line after the other
-
--- what the first i lines need
-abbrev pub needsTo : Bytes → ℕ → List TypeKey
-needsTo s i = declaredTo (λ (d : Declares). d .needs) (nodesIn s) i
-
--- need q is in the table, with its digest
-pub record NeedEntry (s t : Bytes) (n q : ℕ) : Type 0 where
-  pub low : q < 128
-  pub line : NeedLine s t n (lineOf t q)
-  pub digest : digestOf t q ≡ digest (textAt s (lineOf t q))
-
--- the table has what the first i lines need
-pub record Numbering (s t : Bytes) (n i needs keys : ℕ) : Type 0 where
-  pub checked : Checked s t n
-  pub within : i ≤ n
-  pub count : needs ≡ length (needsTo s i)
-  pub table : Needs s t n (needsTo s i)
-  pub kinds : Kinds t (needsTo s i) keys
-  pub digests : (q : ℕ) → q < needs → digestOf t q ≡ digest (textAt s (lineOf t q))
-
--- and what line i needs too, which is a `need` line
-pub record NeedNext (s t : Bytes) (n i needs keys : ℕ) : Type 0 where
-  pub numbering : Numbering s t n i needs keys
-  pub line : NeedLine s t n i
-
--- the kind of element that form f needs, 5 for none: 36 is byte, 35 int
-abbrev pub kindBy : ℕ → ℕ
-kindBy f = cond (eqb f 35) 1 (cond (eqb f 36) 0 (cond (leb 37 f && leb f 39) (f - 35) 5))
 
 -- ---- what is stored
 

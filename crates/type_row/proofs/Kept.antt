@@ -6,7 +6,7 @@ use native.Mathlib.Omega.{arith}
 use Rattle.lines.specs.Lines.{formAt}
 use Rattle.checks.specs.Checks.{Kept, Checked}
 use Rattle.checks.proofs.Kept.{kept-less, checked-kept}
-use Rattle.type_keys.specs.Keys.{ShapeLine}
+use Rattle.type_lines.specs.Shapes.{ShapeLine}
 
 module _ {t u : List ℕ} (k : Kept 49152 t u) where
   pub map-checked : {s : List ℕ} {n : ℕ} → Checked s t n → Checked s u n

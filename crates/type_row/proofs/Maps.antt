@@ -17,7 +17,7 @@ use Rattle.semantics.specs.Array.{kindNumber}
 use Rattle.semantics.specs.Types.{opaqueShape, elemShape}
 use Rattle.maps.specs.Maps.{Marks}
 use Rattle.maps.proofs.Maps.{marks-none, marks-then, marks-skip}
-use Rattle.type_keys.specs.Keys.{raised}
+use Rattle.type_lines.specs.Shapes.{raised}
 use Rattle.type_row.specs.Row.{words, Rowed}
 
 pub opaque-words : words 12 ≡ opaqueShape .pointers

@@ -14,7 +14,7 @@ ghost use Rattle.semantics.specs.Listing.{typeRows};
 ghost use Rattle.write.specs.Wrote.{Wrote};
 ghost use Rattle.checks.specs.Checks.{Kept};
 ghost use Rattle.maps.specs.Maps.{MapRoom, Mapped, Marks, Made};
-ghost use Rattle.type_keys.specs.Keys.{shapeAt, ShapeLine, raised};
+ghost use Rattle.type_lines.specs.Shapes.{shapeAt, ShapeLine, raised};
 ghost use Rattle.type_row.specs.Row.{words, Rowed};
 
 // The row of a block of this size whose map stands in the working space.
@@ -121,10 +121,10 @@ fn map_line(sheet: &[u8], work: &mut [u8], n: usize, i: usize, size: u32)
     ensures { λ _. ⌜ Made size (shapeAt (now (sheet .entry)) i .pointers) (now (work .entry)) (now (work .exit)) ⌝ }
 {
     maps::clear_map(work, size);
-    let count = type_keys::shape::offset_count(sheet, work, n, i);
+    let count = type_lines::shape::offset_count(sheet, work, n, i);
     let mut j = 0;
     while j < count {
-        let z = type_keys::shape::offset_at(sheet, work, n, i, j);
+        let z = type_lines::shape::offset_at(sheet, work, n, i, j);
         mark_raised(work, size, z);
         j += 1;
     }
@@ -143,7 +143,7 @@ pub fn put_line(
     requires { ⌜ ShapeLine (now sheet) (now work) n i ⌝ }
     ensures { λ r. ⌜ Rowed id (shapeAt (now (sheet .entry)) i) (now (work .entry)) (now (work .exit)) (now (out .entry)) at (now (out .exit)) r ⌝ }
 {
-    let size = type_keys::shape::size_at(sheet, work, n, i);
+    let size = type_lines::shape::size_at(sheet, work, n, i);
     map_line(sheet, work, n, i, size);
     put_type(work, id, size, out, at)
 }

@@ -16,13 +16,13 @@ use Rattle.write.proofs.Wrote.{wrote-as}
 use Rattle.checks.specs.Checks.{Checked}
 use Rattle.records.specs.Log.{logOf}
 use Rattle.type_keys.proofs.Distinct.{newKey, distinct-more}
-use Rattle.type_keys.proofs.Numbers.{frames-all, frames-few}
+use Rattle.type_lines.proofs.Frames.{frames-all, frames-few}
 use Rattle.type_rows.specs.declared.Next.{Next}
 use Rattle.type_rows.specs.Rows.{Wrotes, shapesOf}
 use Rattle.type_row.proofs.Rows.{rows-then}
 use Rattle.type_rows.proofs.Wrotes.{wrotes-then}
 
--- keys keep their places when more come
+-- keys keep their positions when more come
 record Longer (l k : List TypeKey) : Type 0 where
   rest : List TypeKey
   is : k ≡ l ++ rest

@@ -20,11 +20,10 @@ use Rattle.semantics.specs.Types.{sameTypeKey, distinct, position, arrayKey, el
 use Rattle.checks.specs.Checks.{Kept}
 use Rattle.checks.proofs.Kept.{kept-less}
 use Rattle.records.specs.Log.{logOf}
-use Rattle.type_keys.specs.Table.{kindOf, placed, Kinds}
-use Rattle.type_keys.proofs.Distinct.{newKey, position-none, position-new, position-known, distinct-more, placed-some}
-use Rattle.type_keys.proofs.Forms.{kind-low}
+use Rattle.type_keys.specs.Table.{kindOf, positionFromOne, Kinds}
+use Rattle.type_keys.proofs.Distinct.{newKey, position-none, position-new, position-known, distinct-more, from-one-some}
 use Rattle.type_keys.proofs.Table.{kind-kept}
-use Rattle.type_keys.proofs.Same.{elems-are}
+use Rattle.type_lines.proofs.Codes.{kind-low, elems-are}
 use Rattle.laws.proofs.Tests.{never}
 use Rattle.type_rows.specs.declared.Next.{Next}
 use Rattle.type_row.specs.Row.{Rowed}
@@ -84,13 +83,13 @@ nodup-all l (m ∷ ms) d =
     let z : (l ++ (m ∷ [])) ++ ms ≡ l ++ (m ∷ ms) = append-assoc l (m ∷ []) ms in
     rw (← z) (nodup-all (l ++ (m ∷ [])) ms (rw (distinct-more m l) (nodup-more m (distinct [] l) d)))
 
-own-place : (l : List TypeKey) → NoDup (distinct [] l)
+no-dup : (l : List TypeKey) → NoDup (distinct [] l)
 unfolding NoDup
-own-place l = nodup-all [] l (λ p h. absurd (omega arith))
+no-dup l = nodup-all [] l (λ p h. absurd (omega arith))
 
 own-at : (l : List TypeKey) (p : ℕ) → p < length (distinct [] l) → position (getD (distinct [] l) p opaqueKey) (distinct [] l) ≡ p
 unfolding NoDup
-own-at l p h = own-place l p h
+own-at l p h = no-dup l p h
 
 -- more keys change none
 prefix : (l ms : List TypeKey) (p : ℕ) → p < length (distinct [] l) → getD (distinct [] (l ++ ms)) p opaqueKey ≡ getD (distinct [] l) p opaqueKey
@@ -159,21 +158,21 @@ module _ (t : List ℕ) (ls : List TypeKey) (is : List Item) (keys : ℕ) (x : K
   at : ElemAt (distinct [] (ls ++ concatMap arrayKey is)) p
   at = elems ls is p h (omega (arith, x .count))
 
-  at-place : kindOf t (kindNumber (at .kind)) ≡ p + 1
-  at-place =
+  at-position : kindOf t (kindNumber (at .kind)) ≡ p + 1
+  at-position =
       let z : position (elemKey (at .kind)) K ≡ p = rw (at .is) at (own-at (ls ++ concatMap arrayKey is) p (omega (arith, x .count))) in
       let a = any-of (elemKey (at .kind)) K (omega (arith, z, x .count)) in
-      x .place (at .kind) ∙ rw (a, z) (omega arith)
+      x .position (at .kind) ∙ rw (a, z) (omega arith)
 
   r-low : r < 5
-  r-low = omega (arith, first (kindNumber (at .kind)) (kind-low (at .kind)) at-place, kind-low (at .kind))
+  r-low = omega (arith, first (kindNumber (at .kind)) (kind-low (at .kind)) at-position, kind-low (at .kind))
 
   r-is : r ≡ kindNumber (at .kind)
   r-is =
       let m = kindBack r r-low in
       let e = back-number r r-low in
-      let g : placed (elemKey m) K ≡ p + 1 = sym (x .place m) ∙ rw (← e) (found r-low) in
-      let a = placed-some (elemKey m) K (λ z. omega (arith, g)) in
+      let g : positionFromOne (elemKey m) K ≡ p + 1 = sym (x .position m) ∙ rw (← e) (found r-low) in
+      let a = from-one-some (elemKey m) K (λ z. omega (arith, g)) in
       let y : suc (position (elemKey m) K) ≡ p + 1 = rw a at g in
       let w : sameTypeKey (elemKey m) (getD K p opaqueKey) ≡ true = (let v : position (elemKey m) K ≡ p = omega (arith, y) in rw v at (position-at (elemKey m) K a)) in
       e ∙ eqb-true (kindNumber m) (kindNumber (at .kind)) (sym (elems-are m (at .kind)) ∙ (rw (at .is) at w))
@@ -184,7 +183,7 @@ module _ (t : List ℕ) (ls : List TypeKey) (is : List Item) (keys : ℕ) (x : K
 
 -- ---- row by row
 
--- the first rows of keys behind those of ls, up to number `id`
+-- the first rows of keys behind those of ls, up to the ID `id`
 abbrev pub KindRows : ℕ → Next → ℕ → ℕ → List ℕ → List ℕ → List ℕ → List ℕ → ℕ → Type 0
 KindRows base p at id t u d e keys =
     (s : List ℕ) (ls : List TypeKey) (is : List Item) → p .id ≡ base + length (distinct [] ls) → Kinds t (ls ++ concatMap arrayKey is) keys

@@ -13,10 +13,10 @@ use Rattle.lines.specs.Lines.{readAt, formAt}
 use Rattle.source.specs.Walk.{fieldAt}
 use Rattle.records.specs.Log.{recordedAt, logOf, noRecord, Logged, Newest}
 use Rattle.records.proofs.Lists.{default-same}
-use Rattle.type_keys.specs.Keys.{needAt, NeedLine, shapeAt}
-use Rattle.type_keys.specs.Table.{kindBy}
-use Rattle.type_keys.proofs.Forms.{elemBy, form-from}
-use Rattle.type_keys.proofs.Same.{name-key, block-key, opaque-key, plain-key}
+use Rattle.type_lines.specs.Needs.{needAt, NeedLine, kindBy}
+use Rattle.type_lines.specs.Shapes.{shapeAt}
+use Rattle.type_lines.proofs.Forms.{elemBy, form-from}
+use Rattle.type_lines.proofs.ByForm.{name-key, block-key, opaque-key, plain-key}
 use Rattle.type_row.specs.Row.{words}
 
 elem-kind : (d : ℕ) → d < 5 → kindBy (35 + d) ≡ kindNumber (elemBy (35 + d))

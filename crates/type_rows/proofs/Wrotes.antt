@@ -20,8 +20,8 @@ use Rattle.checks.specs.Checks.{Kept}
 use Rattle.checks.proofs.Kept.{kept-all, kept-then, kept-less, kept-at}
 use Rattle.records.specs.Log.{logOf}
 use Rattle.records.proofs.Kept.{logged-kept}
-use Rattle.type_keys.specs.Keys.{needAt, NeedLine}
-use Rattle.type_keys.specs.Table.{lineOf, placeOf}
+use Rattle.type_lines.specs.Needs.{needAt, NeedLine}
+use Rattle.type_keys.specs.Table.{lineOf, positionOf}
 use Rattle.type_keys.proofs.Distinct.{newKey, position-none, position-low, position-more, distinct-more, key-member, known-more}
 use Rattle.type_rows.specs.declared.Next.{Next}
 use Rattle.type_row.specs.Row.{Rowed}
@@ -49,7 +49,7 @@ two-rows x y v w = rows-then 0 (x ∷ []) (y ∷ []) 1 refl (v .wrote) (w .wrote
 
 -- a store behind the tables leaves them
 pub ready-kept : {s t u : List ℕ} {n m needs : ℕ} → Kept 49152 t u → Ready s t n m needs → Ready s u n m needs
-unfolding lineOf placeOf
+unfolding lineOf positionOf
 ready-kept {s} {t} {u} {n} {m} k x =
     let at : (j : ℕ) → j < 49152 → getD u j 0 ≡ getD t j 0 = λ j h. kept-at k j h in
     let low : (q : ℕ) → q < length (sheetSource s .needs) → q < 128 = λ q h. omega (arith, x .table .few) in
@@ -61,7 +61,7 @@ ready-kept {s} {t} {u} {n} {m} k x =
         within = λ q h. rw (line q h) (x .table .within q h);
         kind = λ q h. rw (line q h) (x .table .kind q h);
         key = λ q h. rw (line q h) (x .table .key q h);
-        place = λ q h. at (10496 + q) (omega (arith, low q h)) ∙ x .table .place q h;
+        position = λ q h. at (10496 + q) (omega (arith, low q h)) ∙ x .table .position q h;
       };
       count = x .count;
     }
@@ -86,29 +86,29 @@ module _ (s t : List ℕ) (n m needs : ℕ) (x : Ready s t n m needs) (q : ℕ) 
   keys-more = ap (distinct []) one-more ∙ distinct-more (getD (sheetSource s .needs) q opaqueKey) (take q (sheetSource s .needs))
 
   -- its position is that among the keys before
-  pub place-is : placeOf t q ≡ position (getD (sheetSource s .needs) q opaqueKey) (keysTo s q)
-  place-is =
+  pub position-is : positionOf t q ≡ position (getD (sheetSource s .needs) q opaqueKey) (keysTo s q)
+  position-is =
       let y = getD (sheetSource s .needs) q opaqueKey in
       let l = take (q + 1) (sheetSource s .needs) in
       let g : getD l q opaqueKey ≡ y = getD-take (q + 1) (sheetSource s .needs) q opaqueKey (omega arith) in
       let long : q < length l = omega (arith, length-take-le (q + 1) (sheetSource s .needs) (omega (arith, low))) in
       let a : any (sameTypeKey y) (distinct [] l) ≡ true = rw g at (key-member opaqueKey l q long) in
       let e : position y (distinct [] (sheetSource s .needs)) ≡ position y (distinct [] l) = rw (take-append-drop (q + 1) (sheetSource s .needs)) at (known-more y l (drop (q + 1) (sheetSource s .needs)) a .1) in
-      x .table .place q low ∙ e ∙ ap (position y) keys-more ∙ position-more y (keysTo s q)
+      x .table .position q low ∙ e ∙ ap (position y) keys-more ∙ position-more y (keysTo s q)
 
   module _ (base id : ℕ) (hid : id ≡ base + length (keysTo s q)) where
-    pub keys-stay : (base + placeOf t q ≡ id → ⊥) → keysTo s (q + 1) ≡ keysTo s q
+    pub keys-stay : (base + positionOf t q ≡ id → ⊥) → keysTo s (q + 1) ≡ keysTo s q
     keys-stay ne = keys-more ∙ go (any (sameTypeKey (getD (sheetSource s .needs) q opaqueKey)) (keysTo s q)) refl
       where
         go : (b : Bool) → any (sameTypeKey (getD (sheetSource s .needs) q opaqueKey)) (keysTo s q) ≡ b → keysTo s q ++ cond b [] (getD (sheetSource s .needs) q opaqueKey ∷ []) ≡ keysTo s q
         go true e = append-nil (keysTo s q)
-        go false e = absurd (ne (omega (arith, place-is, hid, position-none (getD (sheetSource s .needs) q opaqueKey) (keysTo s q) e)))
+        go false e = absurd (ne (omega (arith, position-is, hid, position-none (getD (sheetSource s .needs) q opaqueKey) (keysTo s q) e)))
 
-    pub keys-next : base + placeOf t q ≡ id → keysTo s (q + 1) ≡ keysTo s q ++ (needAt s (lineOf t q) ∷ [])
+    pub keys-next : base + positionOf t q ≡ id → keysTo s (q + 1) ≡ keysTo s q ++ (needAt s (lineOf t q) ∷ [])
     keys-next eq = keys-more ∙ rw (x .table .key q low) (go (any (sameTypeKey (getD (sheetSource s .needs) q opaqueKey)) (keysTo s q)) refl)
       where
         go : (b : Bool) → any (sameTypeKey (getD (sheetSource s .needs) q opaqueKey)) (keysTo s q) ≡ b → keysTo s q ++ cond b [] (getD (sheetSource s .needs) q opaqueKey ∷ []) ≡ keysTo s q ++ (getD (sheetSource s .needs) q opaqueKey ∷ [])
-        go true e = absurd (omega (arith, place-is, hid, position-low (getD (sheetSource s .needs) q opaqueKey) (keysTo s q) e))
+        go true e = absurd (omega (arith, position-is, hid, position-low (getD (sheetSource s .needs) q opaqueKey) (keysTo s q) e))
         go false e = refl
 
 -- one more key's row

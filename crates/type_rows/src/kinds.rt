@@ -1,6 +1,6 @@
 // The rows of array elements that no need asked for.
 use crate::Next;
-use type_keys::kind_place;
+use type_keys::kind_position;
 use type_row::put_elem;
 ghost use mathlib.Core.Path.{_≡_};
 ghost use mathlib.Core.List.{List, [], _++_};
@@ -15,14 +15,14 @@ ghost use Rattle.checks.specs.Checks.{Kept};
 ghost use Rattle.type_keys.specs.Table.{kindOf, Kinds};
 ghost use Rattle.type_rows.specs.Rows.{Wrotes, shapesOf};
 
-// The kind of element whose byte is `place`; 5 where there is none.
-fn kind_at(work: &[u8], place: usize) -> usize
+// The kind of element whose key has position p - 1; 5 where there is none.
+fn kind_at(work: &[u8], p: usize) -> usize
     requires { ⌜ 65536 ≤ length (now work) ⌝ }
-    ensures { λ r. ⌜ (r < 5 → kindOf (now (work .entry)) r ≡ place) × ((k : ℕ) → k < 5 → kindOf (now (work .entry)) k ≡ place → r ≤ k) ⌝ }
+    ensures { λ r. ⌜ (r < 5 → kindOf (now (work .entry)) r ≡ p) × ((k : ℕ) → k < 5 → kindOf (now (work .entry)) k ≡ p → r ≤ k) ⌝ }
 {
     let mut k = 0;
     while k < 5 {
-        if kind_place(work, k) == place {
+        if kind_position(work, k) == p {
             return k;
         }
         k += 1;

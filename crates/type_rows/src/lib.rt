@@ -17,13 +17,13 @@ ghost use Rattle.checks.specs.Checks.{Checked, Kept};
 ghost use Rattle.source.specs.Walk.{declaresAt};
 ghost use Rattle.lines.specs.Lines.{nodesIn};
 ghost use Rattle.records.specs.Log.{logOf, Logged};
-ghost use Rattle.type_keys.specs.Keys.{needAt, NeedLine};
+ghost use Rattle.type_lines.specs.Needs.{needAt, NeedLine};
 ghost use Rattle.type_keys.specs.Table.{Kinds};
 ghost use Rattle.type_rows.specs.declared.Next.{Next};
 ghost use Rattle.type_row.specs.Row.{Rowed};
 ghost use Rattle.type_rows.specs.Rows.{Wrotes, keysTo, shapesOf, Ready};
 
-// Where the next row goes, and its number.
+// Where the next row goes, and its ID.
 pub struct Next {
     pub at: usize,
     pub id: usize,
@@ -45,7 +45,7 @@ fn next_frame(sheet: &[u8], work: &mut [u8], n: usize, i: usize, out: &mut [u8],
     requires { ⌜ (Checked (now sheet) (now work) n) × (i < n) × (r .id < 1024) × (r .at ≤ length (now out) + 1) ⌝ }
     ensures { λ q. ⌜ Wrotes (declaresAt (nodesIn (now (sheet .entry))) i .frames) r q (now (work .entry)) (now (work .exit)) (now (out .entry)) (now (out .exit)) ⌝ }
 {
-    if type_keys::ids::is_frame(sheet, work, n, i) {
+    if type_lines::frame::is_frame(sheet, work, n, i) {
         let id = r.id;
         let at = type_row::put_line(sheet, work, n, i, id, out, r.at);
         return Next { at: at, id: id + 1 };
@@ -93,7 +93,7 @@ fn put_need(
     if f == need::OPAQUE {
         return type_row::put_opaque(work, id, out, at);
     }
-    type_row::put_elem(work, id, type_keys::kind_needed(f), out, at)
+    type_row::put_elem(work, id, type_lines::kind_needed(f), out, at)
 }
 
 // The row of need q, where its key is new. The keys' rows begin at `base`.
@@ -112,7 +112,7 @@ fn next_need(
     ensures { λ z. ⌜ ((p : Next) (t d : Bytes) → Wrotes (shapesOf (now (sheet .entry)) (keysTo (now (sheet .entry)) q)) p r t (now (work .entry)) d (now (out .entry)) → Wrotes (shapesOf (now (sheet .entry)) (keysTo (now (sheet .entry)) (q + 1))) p z t (now (work .exit)) d (now (out .exit))) × (z .id ≡ base + length (keysTo (now (sheet .entry)) (q + 1))) ⌝ }
 {
     let id = r.id;
-    if base + type_keys::need_place(work, q) != id {
+    if base + type_keys::need_position(work, q) != id {
         return r;
     }
     let i = type_keys::need_line(work, q);
@@ -145,7 +145,7 @@ fn need_rows(
 
 // ---- all types
 
-// Two opaque records, the frames, what is needed, and the elements of arrays, where there are so many keys. Arrays' elements are numbered
+// Two opaque records, the frames, what is needed, and the elements of arrays, where there are so many keys. Arrays' elements are entered
 // before.
 pub fn type_rows(
     sheet: &[u8],

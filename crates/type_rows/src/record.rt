@@ -5,7 +5,7 @@ ghost use mathlib.Core.Path.{_≡_};
 ghost use Rattle.semantics.specs.Types.{keyShape};
 ghost use Rattle.lines.specs.Lines.{formAt};
 ghost use Rattle.records.specs.Log.{recordedAt, logOf, Logged};
-ghost use Rattle.type_keys.specs.Keys.{needAt, NeedLine};
+ghost use Rattle.type_lines.specs.Needs.{needAt, NeedLine};
 ghost use Rattle.record_rows.specs.Rows.{LogEntry};
 ghost use Rattle.type_row.specs.Row.{Rowed};
 

@@ -7,8 +7,8 @@ use Rattle.semantics.specs.Sheet.{sheetSource}
 use Rattle.checks.specs.Checks.{Checked}
 use Rattle.type_keys.specs.Table.{Needs}
 
--- the needs, and how many frames there are
-pub record Numbers (s t : Bytes) (n needs frames : ℕ) : Type 0 where
+-- what the IDs of needs follow from: their table, and how many frames there are
+pub record NeedIds (s t : Bytes) (n needs frames : ℕ) : Type 0 where
   pub checked : Checked s t n
   pub table : Needs s t n (sheetSource s .needs)
   pub count : needs ≡ length (sheetSource s .needs)

@@ -8,7 +8,7 @@ ghost use Rattle.semantics.specs.Global.{Item};
 ghost use Rattle.semantics.specs.Types.{idOf};
 ghost use Rattle.semantics.specs.Listing.{row, useRow};
 ghost use Rattle.write.specs.Wrote.{Wrote};
-ghost use Rattle.uses.specs.Uses.{Numbers};
+ghost use Rattle.uses.specs.Uses.{NeedIds};
 
 fn put_use(out: &mut [u8], at: usize, id: usize) -> usize
     ensures { λ r. ⌜ Wrote (now (out .entry)) at (row (bytes "use" ∷ decimal id ∷ [])) (now (out .exit)) r ⌝ }
@@ -18,7 +18,7 @@ fn put_use(out: &mut [u8], at: usize, id: usize) -> usize
     rows::put_lf(out, p)
 }
 
-// The number of what each `need` line asks for, whatever arrays there are.
+// The ID of what each `need` line asks for, whatever arrays there are.
 pub fn use_rows(
     sheet: &[u8],
     work: &[u8],
@@ -28,7 +28,7 @@ pub fn use_rows(
     out: &mut [u8],
     at: usize,
 ) -> usize
-    requires { ⌜ (Numbers (now sheet) (now work) n needs frames) × (at ≤ length (now out) + 1) ⌝ }
+    requires { ⌜ (NeedIds (now sheet) (now work) n needs frames) × (at ≤ length (now out) + 1) ⌝ }
     ensures { λ r. ⌜ ((is : List Item) → Wrote (now (out .entry)) at (concatMap (useRow (idOf (sheetSource (now (sheet .entry))) is)) (sheetSource (now (sheet .entry)) .needs)) (now (out .exit)) r) ⌝ }
 {
     let mut p = at;

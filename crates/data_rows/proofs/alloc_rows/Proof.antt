@@ -8,7 +8,7 @@ use Rattle.data_rows.proofs.alloc_rows.Statement.{statement}
 use Rattle.data_rows.proofs.alloc_rows.Tie as tie
 
 returns : tie.Need-returns
-returns c = (λ s hf. printed-array (c .before .before .before .before .before .before .before .before .before .before .before .args .off) (arrayBy (c .before .before .before .before .before .before .before .before .before .before .before .args .kind) (c .before .before .before .before .before .before .before .before .before .before .before .args .count) []) (c .before .before .before .before .before .before .number-elements .ensures .0) (c .before .before .before .before .before .before .before .kind-number .ensures .0) hf refl (λ f h. c .before .before .alloc-item .ensures f (arrayBy (c .before .before .before .before .before .before .before .before .before .before .before .args .kind) (c .before .before .before .before .before .before .before .before .before .before .before .args .count) []) h refl refl), c .before .before .before .before .before .before .number-elements .ensures .1)
+returns c = (λ s hf. printed-array (c .before .before .before .before .before .before .before .before .before .before .before .args .off) (arrayBy (c .before .before .before .before .before .before .before .before .before .before .before .args .kind) (c .before .before .before .before .before .before .before .before .before .before .before .args .count) []) (c .before .before .before .before .before .before .element-id .ensures .0) (c .before .before .before .before .before .before .before .kind-number .ensures .0) hf refl (λ f h. c .before .before .alloc-item .ensures f (arrayBy (c .before .before .before .before .before .before .before .before .before .before .before .args .kind) (c .before .before .before .before .before .before .before .before .before .before .before .args .count) []) h refl refl), c .before .before .before .before .before .before .element-id .ensures .1)
 
 pub alloc-rows-spec : {M : Type 1} → statement M
 alloc-rows-spec =

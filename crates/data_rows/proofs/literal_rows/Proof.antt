@@ -11,10 +11,10 @@ use Rattle.data_rows.proofs.literal_rows.Statement.{statement}
 use Rattle.data_rows.proofs.literal_rows.Tie as tie
 
 array-items-requires : tie.Need-array-items-requires
-array-items-requires c κs = literal-filled (omega (arith, c .before .before .before .before .number-elements .ensures .1 .kept .long, (c .before .before .before .before .before .before .before .before .before .pre) .0 .long)) (filled-still (c .before .before .before .before .number-elements .ensures .1) ((c .before .before .before .before .before .before .before .before .before .pre) .1))
+array-items-requires c κs = literal-filled (omega (arith, c .before .before .before .before .element-id .ensures .1 .kept .long, (c .before .before .before .before .before .before .before .before .before .pre) .0 .long)) (filled-still (c .before .before .before .before .element-id .ensures .1) ((c .before .before .before .before .before .before .before .before .before .pre) .1))
 
 returns : tie.Need-returns
-returns c = (λ s hf. printed-array (c .before .before .before .before .before .before .before .before .before .before .before .before .args .off) (arrayBy (c .before .before .before .before .before .before .before .before .before .before .before .before .args .kind) (c .before .before .before .before .before .before .before .before .before .before .before .before .args .count) (valuesIn (now (c .before .before .before .before .before .before .before .before .before .before .before .before .args .work)) 0 (c .before .before .before .before .before .before .before .before .before .before .before .before .args .count))) (c .before .before .before .before .before .before .before .number-elements .ensures .0) (c .before .before .before .before .before .before .before .before .before .kind-number .ensures .0) hf refl (λ f h. c .before .before .array-items .ensures f (arrayBy (c .before .before .before .before .before .before .before .before .before .before .before .before .args .kind) (c .before .before .before .before .before .before .before .before .before .before .before .before .args .count) (valuesIn (now (c .before .before .before .before .before .before .before .before .before .before .before .before .args .work)) 0 (c .before .before .before .before .before .before .before .before .before .before .before .before .args .count))) h (sym (c .before .before .before .before .before .before .before .before .before .kind-number .ensures .0)) refl (sym (values-still (c .before .before .before .before .before .before .before .number-elements .ensures .1) (c .before .before .before .before .before .before .before .before .before .before .before .before .args .count) ((c .before .before .before .before .before .before .before .before .before .before .before .before .pre) .1)))), c .before .before .before .before .before .before .before .number-elements .ensures .1)
+returns c = (λ s hf. printed-array (c .before .before .before .before .before .before .before .before .before .before .before .before .args .off) (arrayBy (c .before .before .before .before .before .before .before .before .before .before .before .before .args .kind) (c .before .before .before .before .before .before .before .before .before .before .before .before .args .count) (valuesIn (now (c .before .before .before .before .before .before .before .before .before .before .before .before .args .work)) 0 (c .before .before .before .before .before .before .before .before .before .before .before .before .args .count))) (c .before .before .before .before .before .before .before .element-id .ensures .0) (c .before .before .before .before .before .before .before .before .before .kind-number .ensures .0) hf refl (λ f h. c .before .before .array-items .ensures f (arrayBy (c .before .before .before .before .before .before .before .before .before .before .before .before .args .kind) (c .before .before .before .before .before .before .before .before .before .before .before .before .args .count) (valuesIn (now (c .before .before .before .before .before .before .before .before .before .before .before .before .args .work)) 0 (c .before .before .before .before .before .before .before .before .before .before .before .before .args .count))) h (sym (c .before .before .before .before .before .before .before .before .before .kind-number .ensures .0)) refl (sym (values-still (c .before .before .before .before .before .before .before .element-id .ensures .1) (c .before .before .before .before .before .before .before .before .before .before .before .before .args .count) ((c .before .before .before .before .before .before .before .before .before .before .before .before .pre) .1)))), c .before .before .before .before .before .before .before .element-id .ensures .1)
 
 pub literal-rows-spec : {M : Type 1} → statement M
 literal-rows-spec =

@@ -2,8 +2,8 @@ use lib.ListN.{length, take}
 use mathlib.Core.Path.{_≡_, _∙_}
 use Rattle.maps.proofs.Maps.{room-kept, made-then, marks-none}
 use Rattle.maps.specs.Maps.{Marks}
-use Rattle.type_keys.proofs.Shapes.{offset-near}
-use Rattle.type_keys.specs.Keys.{shapeAt}
+use Rattle.type_lines.proofs.Shapes.{offset-near}
+use Rattle.type_lines.specs.Shapes.{shapeAt}
 use Rattle.type_row.proofs.Kept.{shape-kept}
 use Rattle.type_row.proofs.Maps.{offsets-next, offsets-all}
 use native.Mathlib.Omega.{arith}

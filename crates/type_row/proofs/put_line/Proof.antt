@@ -2,7 +2,7 @@ use native.Mathlib.Omega.{arith}
 use denote.Ref.{now}
 use mathlib.Core.Path.{refl}
 use Rattle.maps.proofs.Maps.{room-kept}
-use Rattle.type_keys.specs.Keys.{shapeAt}
+use Rattle.type_lines.specs.Shapes.{shapeAt}
 use Rattle.type_row.proofs.Maps.{shape-is, rowed-as}
 use borrow.Author.Needs.{needs}
 use Rattle.type_row.proofs.put_line.Statement.{statement}

@@ -6,7 +6,8 @@ use mathlib.Core.Path.{_≡_, refl}
 use Rattle.write.proofs.Wrote.{wrote-length, place-low}
 use Rattle.lines.specs.Lines.{nodesIn}
 use Rattle.source.specs.Walk.{declaredTo, declaresAt}
-use Rattle.type_keys.proofs.Numbers.{framesTo, frames-more, frames-few, frames-all}
+use Rattle.type_lines.specs.Shapes.{framesTo}
+use Rattle.type_lines.proofs.Frames.{frames-more, frames-few, frames-all}
 use Rattle.type_rows.specs.Rows.{Wrotes}
 use Rattle.type_row.proofs.Kept.{map-checked}
 use Rattle.type_rows.proofs.Wrotes.{wrotes-none, wrotes-then}

@@ -2,7 +2,7 @@ use denote.Ref.{now}
 use mathlib.Core.Bool.{true, false}
 use mathlib.Core.Path.{_∙_, sym, refl}
 use borrow.Author.Tests.{eqb-true}
-use Rattle.type_keys.proofs.Numbers.{frames-by, frame-line}
+use Rattle.type_lines.proofs.Frames.{frames-by, frame-line}
 use Rattle.type_rows.proofs.Wrotes.{wrotes-none, wrotes-one}
 use borrow.Author.Needs.{needs}
 use Rattle.type_rows.proofs.next_frame.Statement.{statement}

@@ -1,8 +1,8 @@
 use denote.Ref.{now}
 use mathlib.Core.Path.{_∙_, sym}
 use Rattle.records.specs.Log.{logOf}
-use Rattle.type_keys.proofs.Forms.{elemBy}
-use Rattle.type_keys.proofs.Same.{block-line}
+use Rattle.type_lines.proofs.Forms.{elemBy}
+use Rattle.type_lines.proofs.ByForm.{block-line}
 use Rattle.type_rows.proofs.Needs.{block-shape, opaque-shape, elem-shape, elem-number}
 use Rattle.type_row.proofs.Maps.{rowed-as}
 use borrow.Author.Needs.{needs}

@@ -1,6 +1,6 @@
 use native.Mathlib.Omega.{arith}
 use denote.Ref.{now}
-use Rattle.type_keys.specs.Keys.{needAt}
+use Rattle.type_lines.specs.Needs.{needAt}
 use Rattle.semantics.specs.Types.{keyShape}
 use Rattle.records.specs.Log.{logOf}
 use Rattle.type_row.specs.Row.{words}

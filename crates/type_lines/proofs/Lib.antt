@@ -1,0 +1,8 @@
+pub mod Codes
+pub mod Forms
+pub mod ByForm
+pub mod Spelling
+pub mod Shapes
+pub mod Declared
+pub mod Needs
+pub mod Frames
