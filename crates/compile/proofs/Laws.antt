@@ -19,7 +19,7 @@ use Rattle.write.proofs.Wrote.{wrote-as, then, on-zeros}
 use Rattle.checks.specs.Checks.{Checked}
 use Rattle.names.specs.Table.{logIn}
 use Rattle.literals.specs.Literals.{namesIn}
-use Rattle.globals.specs.Table.{placesIn}
+use Rattle.global_table.specs.Table.{placesIn}
 use Rattle.record_rows.specs.Rows.{allRows}
 use Rattle.const_rows.specs.Rows.{Table}
 use Rattle.pends.specs.declared.Pends.{Pends}

@@ -31,7 +31,7 @@ fn put_declared(sheet: &[u8], work: &mut [u8], n: usize, x: Tables, out: &mut [u
 {
     let p = record_rows::record_rows(sheet, work, n, x.records, out, 0);
     let q = const_rows::const_rows(sheet, work, n, x.consts, out, p);
-    globals::listing::global_rows(sheet, work, n, x.globals, out, q)
+    global_rows::global_rows(sheet, work, n, x.globals, out, q)
 }
 
 // Items, types and uses.

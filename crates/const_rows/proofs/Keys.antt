@@ -11,12 +11,12 @@ use Rattle.semantics.specs.Text.{Bytes, same, any, filter}
 use Rattle.semantics.specs.Tree.{ConstVal}
 use Rattle.semantics.specs.Sheet.{sheetSource, concatMap}
 use Rattle.semantics.specs.Fold.{Key, Const, plain, qualified, sameOption, sameKey}
-use Rattle.semantics.specs.Const.{entries, implements}
+use Rattle.semantics.specs.Const.{entries}
 use Rattle.semantics.specs.Listing.{keysIn, isPlain, constRow}
 use Rattle.laws.proofs.Tests.{same-eq}
 use Rattle.laws.proofs.Lists.{concat-append, filter-append, any-append}
 use Rattle.form.proofs.Table.{never, both}
-use Rattle.implement.specs.Modules.{firstField, moduleAt, isOwn}
+use Rattle.implement.specs.Modules.{firstField, moduleAt, ownIn, isOwn}
 use Rattle.names.specs.Table.{lineOf, moduleLineOf, slotAt, entriesAt, logIn, hasKey}
 use Rattle.const_rows.specs.Rows.{plainKey, qualifiedKey, qualifiedTo, plainTo, qualifiedPart, plainPart}
 
@@ -103,10 +103,10 @@ module _ (impl : Option Bytes) (s y : Bytes) (v : Option ConstVal) (log : List C
       ∙ rw (plain-apart b y m (keysIn log), keys-has (plain y) log, filter-other isPlain b (keysIn log) (qualified m y) refl)
 
   plain-entry : (k : ℕ) → filter isPlain (keysIn (entries impl (moduleAt s k) y v ++ log))
-      ≡ filter isPlain (keysIn log) ++ cond (not (eqb k 0 || implements impl (moduleAt s k)) || hasKey (plain y) log) [] (plain y ∷ [])
+      ≡ filter isPlain (keysIn log) ++ cond (not (ownIn impl (moduleAt s k)) || hasKey (plain y) log) [] (plain y ∷ [])
   unfolding moduleAt
   plain-entry zero = filter-one isPlain (any (sameKey (plain y)) (keysIn log)) (keysIn log) (plain y) refl ∙ rw (keys-has (plain y) log)
-  plain-entry (suc k) = rw (ne-eqb (suc k) 0 (λ e. omega arith)) (plain-in (sameOption impl (some (firstField s (suc k)))) (firstField s (suc k)))
+  plain-entry (suc k) = plain-in (sameOption impl (some (firstField s (suc k)))) (firstField s (suc k))
 
 -- ---- the rows
 

@@ -15,8 +15,8 @@ use Rattle.placements.specs.Placements.{entryAt, slotAt, elementAt, valuesIn, K
 use Rattle.placements.proofs.Same.{part-same, value-same, slot-kept, element-same}
 use Rattle.literals.specs.Literals.{above}
 use Rattle.literals.proofs.Names.{kept-low}
-use Rattle.globals.specs.Table.{VarLine, placesIn, Tabled}
-use Rattle.globals.proofs.Table.{places-kept, tabled-kept}
+use Rattle.global_table.specs.Table.{VarLine, placesIn, Tabled}
+use Rattle.global_table.proofs.Table.{places-kept, tabled-kept}
 use Rattle.items.specs.Items.{Literal}
 use Rattle.type_keys.specs.Table.{Outside}
 use Rattle.type_keys.proofs.Table.{outside-above}

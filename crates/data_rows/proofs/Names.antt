@@ -16,8 +16,7 @@ use Rattle.write.proofs.Wrote.{wrote-none, wrote-length}
 use Rattle.lines.specs.Lines.{readAt}
 use Rattle.placements.specs.Placements.{Keeps}
 use Rattle.literals.proofs.Names.{kept-low}
-use Rattle.globals.specs.Table.{placesIn, typeOn, nameOn, namesOn}
-use Rattle.globals.specs.Vars.{offsetIn}
+use Rattle.global_table.specs.Table.{placesIn, offsetIn, typeOn, nameOn, namesOn}
 use Rattle.type_keys.specs.Table.{Outside}
 use Rattle.type_keys.proofs.Table.{outside-all, outside-then, kinds-kept}
 use Rattle.vars.specs.declared.First.{First}

@@ -21,19 +21,19 @@ use Rattle.implement.specs.Modules.{moduleAt, Open}
 use Rattle.names.specs.Table.{logIn}
 use Rattle.literals.specs.Literals.{namesIn, Line}
 use Rattle.literals.proofs.Names.{kept-low, line-kept}
-use Rattle.globals.specs.Table.{placesIn, typeOn, namesOn}
-use Rattle.globals.specs.Vars.{laidVarsTo, varItems}
+use Rattle.global_table.specs.Table.{placesIn, typeOn, namesOn}
+use Rattle.globals.specs.Vars.{locatedAt, laidAt, laidVarsTo, varItems, lineItems}
 use Rattle.items.specs.Items.{itemRows}
 use Rattle.type_keys.specs.Table.{Kinds, Outside}
 use Rattle.type_keys.proofs.Table.{kinds-kept}
 use Rattle.vars.specs.declared.First.{First}
 use Rattle.vars.specs.First.{initIn, Inits, varOn}
-use Rattle.vars.specs.Lines.{locatedAt, laidAt, LineTask}
+use Rattle.vars.specs.Lines.{LineTask}
 use Rattle.vars.proofs.Lines.{var-line}
 use Rattle.vars.proofs.Items.{items-all}
 use Rattle.data_rows.specs.declared.Next.{Next}
 use Rattle.data_rows.specs.declared.Counts.{Counts}
-use Rattle.data_rows.specs.Data.{itemsIn, keysOf, rowsOf, Ready, Keeping, ItemsPrinted, Held, NameTask, nameItems, lineItems}
+use Rattle.data_rows.specs.Data.{itemsIn, keysOf, rowsOf, Ready, Keeping, ItemsPrinted, Held, NameTask, nameItems}
 use Rattle.data_rows.proofs.Kept.{keeping-all, keeping-then, keeping-first, keeping-outside, checked-still, places-still, log-still}
 use Rattle.data_rows.proofs.Keys.{kinds-few}
 use Rattle.data_rows.proofs.Printed.{printed-as, printed-none, printed-then}

@@ -4,9 +4,9 @@ use mathlib.Core.Path.{_≡_}
 use mathlib.Core.List.{List, [], _∷_, _++_}
 use lib.ListN.{length, getD}
 use Rattle.semantics.specs.Text.{Bytes}
-use Rattle.semantics.specs.Tree.{Ty, VarDecl, ElemKind, TypeKey}
+use Rattle.semantics.specs.Tree.{Ty, ElemKind, TypeKey}
 use Rattle.semantics.specs.Tree.TypeKey.{elemKey}
-use Rattle.semantics.specs.Sheet.{Located, Source, concatMap, sheetSource}
+use Rattle.semantics.specs.Sheet.{Source, concatMap, sheetSource}
 use Rattle.semantics.specs.Fold.{Result, Names}
 use Rattle.semantics.specs.Global.{Item, Init, Global, orNoInit, initItems, laidNames, globals}
 use Rattle.semantics.specs.Array.{kindNumber}
@@ -17,8 +17,7 @@ use Rattle.checks.specs.Checks.{Checked, Kept}
 use Rattle.names.specs.Table.{Logged}
 use Rattle.placements.specs.Placements.{entryAt, slotAt, Standing}
 use Rattle.literals.specs.Literals.{namesIn, above}
-use Rattle.globals.specs.Table.{placesIn, VarLine, Tabled}
-use Rattle.globals.specs.Vars.{offsetIn, varItems}
+use Rattle.global_table.specs.Table.{placesIn, offsetIn, VarLine, Tabled}
 use Rattle.items.specs.Items.{itemRows}
 use Rattle.type_keys.specs.Table.{Kinds}
 use Rattle.vars.specs.declared.First.{First}
@@ -101,6 +100,3 @@ firstItems ty off x = initItems off ty (orNoInit x)
 
 abbrev pub nameItems : Ty → List Global → Result Init → List Bytes → List Item
 nameItems ty ps x ns = concatMap (λ (n : Bytes). firstItems ty (offsetIn n ps) x) (laidNames ns)
-
-abbrev pub lineItems : Names → List Global → List (Located VarDecl) → List Item
-lineItems ns ps vs = concatMap (λ (v : Located VarDecl). varItems ns ps (v .it)) vs

@@ -19,12 +19,11 @@ ghost use Rattle.values.specs.Values.{valueIn, Within};
 ghost use Rattle.placements.specs.Placements.{valuesIn};
 ghost use Rattle.literals.specs.Literals.{namesIn, Line};
 ghost use Rattle.arrays.specs.Arrays.{kindAt};
-ghost use Rattle.globals.specs.Table.{VarLine, typeOn, nameOn, namesOn, placesIn};
-ghost use Rattle.globals.specs.Vars.{varItems};
+ghost use Rattle.global_table.specs.Table.{VarLine, typeOn, nameOn, namesOn, placesIn};
+ghost use Rattle.globals.specs.Vars.{laidAt, varItems, lineItems};
 ghost use Rattle.type_keys.specs.Table.{Kinds, Outside};
 ghost use Rattle.vars.specs.First.{initIn, varOn};
-ghost use Rattle.vars.specs.Lines.{laidAt};
-ghost use Rattle.data_rows.specs.Data.{itemsIn, keysOf, rowsOf, Ready, Identified, Keeping, ItemsPrinted, Keyed, Held, Filled, NameTask, firstItems, nameItems, lineItems};
+ghost use Rattle.data_rows.specs.Data.{itemsIn, keysOf, rowsOf, Ready, Identified, Keeping, ItemsPrinted, Keyed, Held, Filled, NameTask, firstItems, nameItems};
 
 // Where the next row goes, and how many keys have an ID.
 pub struct Next {
@@ -196,7 +195,7 @@ fn name_rows(
     if words::same(name, b"nil") {
         return no_rows(out, p);
     }
-    let off = globals::offset_in(sheet, work, c.lines, c.globals, name);
+    let off = global_table::offset_in(sheet, work, c.lines, c.globals, name);
     first_rows(sheet, work, c, r, off, x, out, p)
 }
 
@@ -248,7 +247,7 @@ fn rows_at(
     if lines::form_at(work, i) != decl::VAR {
         return no_rows(out, p);
     }
-    if !globals::is_laid(sheet, work, c.lines, k) {
+    if !implement::is_own(sheet, work, c.lines, k) {
         return no_rows(out, p);
     }
     line_rows(sheet, work, c, i + 1, out, p)

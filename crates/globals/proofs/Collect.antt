@@ -7,75 +7,61 @@ use native.Mathlib.Numerals.{add-one}
 use native.Mathlib.Omega.{arith}
 use lib.Dec.{eqb}
 use lib.ListN.{length}
-use borrow.Author.Tests.{ne-eqb}
 use Rattle.semantics.specs.Text.{Bytes}
 use Rattle.semantics.specs.Tree.{VarDecl, Declares}
-use Rattle.semantics.specs.Form.{letter, forms}
+use Rattle.semantics.specs.Form.{letter}
 use Rattle.semantics.specs.Sheet.{declared, sheetSource}
 use Rattle.semantics.specs.Refusal.{sumOf}
 use Rattle.semantics.specs.Fold.{Names}
 use Rattle.semantics.specs.Global.{globals}
-use Rattle.form.specs.Table.{kindAt}
-use Rattle.form.proofs.Table.{only-var, form-of-kind}
 use Rattle.lines.specs.Lines.{readAt, nodesIn, formAt}
-use Rattle.lines.proofs.Line.{form-low, kind-is}
 use Rattle.refs.proofs.Nodes.{node-count}
 use Rattle.checks.specs.Checks.{Checked, Kept}
 use Rattle.source.specs.Walk.{declaresAt, openAt, declaredTo, locatedTo, byKind}
 use Rattle.source.proofs.Walk.{declared-all}
 use Rattle.source.proofs.Declares.{line-declares}
-use Rattle.implement.specs.Modules.{moduleAt, Open}
+use Rattle.implement.specs.Modules.{moduleAt, isOwn, Open}
+use Rattle.implement.proofs.Modules.{own-open}
 use Rattle.globals.specs.declared.Globals.{Globals}
-use Rattle.globals.specs.Laying.{Laying, layingOf, layNames, counts, layVars, laidTo}
-use Rattle.globals.specs.Table.{VarLine, typeOn, namesOn, entriesFrom, layingIn, Around, Standing, Laid, namesAt, namesTo, layLine, Collected}
+use Rattle.globals.specs.Laying.{Laying, layingOf, layNames, layVars, laidTo}
+use Rattle.global_table.specs.Table.{VarLine, typeOn, namesOn, entriesFrom, Around}
+use Rattle.globals.specs.Collect.{layingIn, Standing, Laid, namesAt, namesTo, layLine, Collected}
 use Rattle.globals.proofs.Laying.{laid-all, laid-next}
-use Rattle.globals.proofs.Table.{places-count, checked-around, places-kept, tabled-kept}
+use Rattle.global_table.proofs.Line.{kind-other, kind-var}
+use Rattle.global_table.proofs.Table.{places-count, checked-around, places-kept, tabled-kept}
 use Rattle.globals.proofs.Declare.{laid-same, laid-then}
 
 -- ---- one line
 
--- row 29 is that of `var` lines
-var-kind : kindAt 29 ≡ 72
-unfolding forms
-var-kind = refl
-
 module _ (s t : Bytes) (n i k : ℕ) (g : Globals) (st : Standing s t n g) (o : Open s t n i k) (h : i < n) (f : ℕ) (hf : f ≡ formAt t i) where
-  kind-other : (f ≡ 29 → ⊥) → eqb (letter (readAt s i .form .kind)) 72 ≡ false
-  kind-other z =
-      ne-eqb (letter (readAt s i .form .kind)) 72
-      (λ e. z (hf ∙ form-of-kind only-var (formAt t i) (form-low s t n (o .checked .whole) i h) (sym (kind-is s t n (o .checked .whole) i h) ∙ e)))
-
   pub line-other : (f ≡ 29 → ⊥) → Laid s t t n (layLine s i (layingIn s t g)) g (g .count + namesAt s i)
   unfolding layLine
-  line-other z = laid-same st (rw (kind-other z)) (omega arith)
+  line-other z = laid-same st (rw (kind-other s t n (o .checked .whole) i h hf z)) (omega arith)
 
   module _ (e : f ≡ 29) where
-    kind-var : letter (readAt s i .form .kind) ≡ 72
-    kind-var = kind-is s t n (o .checked .whole) i h ∙ ap kindAt (sym hf ∙ e) ∙ var-kind
+    is-var : letter (readAt s i .form .kind) ≡ 72
+    is-var = kind-var s t n (o .checked .whole) i h hf e
 
     pub line-var : VarLine s t n (i + 1)
-    line-var = let z : i + 1 - 1 ≡ i = omega arith in record { checked = o .checked; first = omega arith; last = omega arith; kind = rw z kind-var }
+    line-var = let z : i + 1 - 1 ≡ i = omega arith in record { checked = o .checked; first = omega arith; last = omega arith; kind = rw z is-var }
 
     names-are : namesAt s i ≡ length (namesOn s (i + 1))
     unfolding namesAt byKind
     names-are =
         let z : i + 1 - 1 ≡ i = omega arith in
-        ap (λ (d : Declares). sumOf (λ (v : VarDecl). length (v .names)) (d .vars)) (line-declares s t n (o .checked) i h) ∙ rw (kind-var, z) (omega arith)
+        ap (λ (d : Declares). sumOf (λ (v : VarDecl). length (v .names)) (d .vars)) (line-declares s t n (o .checked) i h) ∙ rw (is-var, z) (omega arith)
 
     pub line-room : g .count + namesAt s i ≤ 256 → g .count + length (namesOn s (i + 1)) ≤ 256
     line-room l = omega (arith, names-are)
 
-    counts-here : {b : Bool} → b ≡ counts (sheetSource s .implement) (moduleAt s k) → counts (sheetSource s .implement) (openAt (nodesIn s) i) ≡ b
-    counts-here p = ap (counts (sheetSource s .implement)) (sym (o .here)) ∙ sym p
-
-    pub line-skipped : {b : Bool} → b ≡ counts (sheetSource s .implement) (moduleAt s k) → b ≡ false → Laid s t t n (layLine s i (layingIn s t g)) g (g .count + namesAt s i)
+    pub line-skipped : {b : Bool} → b ≡ isOwn s k → b ≡ false → Laid s t t n (layLine s i (layingIn s t g)) g (g .count + namesAt s i)
     unfolding layLine
-    line-skipped p q = laid-same st (rw (kind-var, counts-here p, q)) (omega arith)
+    line-skipped p q = laid-same st (rw (is-var, own-open o p, q)) (omega arith)
 
-    pub line-laid : {b : Bool} {u : Bytes} {x : Globals} → b ≡ counts (sheetSource s .implement) (moduleAt s k) → b ≡ true
+    pub line-laid : {b : Bool} {u : Bytes} {x : Globals} → b ≡ isOwn s k → b ≡ true
         → Laid s t u n (layNames (typeOn s (i + 1)) (namesOn s (i + 1)) (layingIn s t g)) x (g .count + length (namesOn s (i + 1))) → Laid s t u n (layLine s i (layingIn s t g)) x (g .count + namesAt s i)
     unfolding layLine
-    line-laid p q l = record { standing = l .standing; around = l .around; laying = l .laying ∙ rw (kind-var, counts-here p, q); most = omega (arith, l .most, names-are) }
+    line-laid p q l = record { standing = l .standing; around = l .around; laying = l .laying ∙ rw (is-var, own-open o p, q); most = omega (arith, l .most, names-are) }
 
 -- ---- names of the first lines
 

@@ -9,26 +9,24 @@ use native.Mathlib.Nat.{eq-or-lt-of-le}
 use native.Mathlib.Omega.{arith}
 use lib.ListN.{length, drop, getD}
 use lib.Seq.{getD-drop}
-use borrow.Author.Tests.{ne-eqb}
 use Rattle.semantics.specs.Text.{Bytes, bytes, same}
 use Rattle.semantics.specs.Tree.{Ty}
 use Rattle.semantics.specs.Form.{values, numberOf}
 use Rattle.semantics.specs.Form.Atom.{name}
 use Rattle.semantics.specs.Layout.{alignUp}
-use Rattle.semantics.specs.Sheet.{sheetSource}
 use Rattle.semantics.specs.Global.{Global, globalSize, placeOf, newOffset}
 use Rattle.laws.proofs.Alignments.{global-size}
 use Rattle.decimal.specs.Number as Number
 use Rattle.words.specs.Words.{digest}
 use Rattle.lines.specs.Lines.{readAt, nodesIn}
 use Rattle.sizes.specs.Sizes.{typeAt}
-use Rattle.implement.specs.Modules.{moduleAt, isOwn}
 use Rattle.globals.specs.declared.Globals.{Globals}
-use Rattle.globals.specs.Laying.{Laying, lay, layNames, counts}
-use Rattle.globals.specs.Table.{VarLine, nameOn, typeOn, namesOn, lineOf, digestOf, entered, entryAt, placesIn, layingIn, offsetBy, Around, Standing, Laid}
+use Rattle.globals.specs.Laying.{Laying, lay, layNames}
+use Rattle.global_table.specs.Table.{VarLine, nameOn, typeOn, namesOn, lineOf, digestOf, entered, entryAt, placesIn, offsetBy, Around}
+use Rattle.globals.specs.Collect.{layingIn, Standing, Laid}
 use Rattle.globals.proofs.Laying.{names-next}
-use Rattle.globals.proofs.Line.{type-on, count-on}
-use Rattle.globals.proofs.Table.{line-new, position-new, offset-new, digest-new, line-old, digest-old, entry-old, around-entered, places-more, places-entered, around-all, around-then, checked-around, var-around}
+use Rattle.global_table.proofs.Line.{type-on, count-on}
+use Rattle.global_table.proofs.Table.{line-new, position-new, offset-new, digest-new, line-old, digest-old, entry-old, around-entered, places-more, places-entered, around-all, around-then, checked-around, var-around}
 
 -- 8 bytes each are enough
 place-low : (t : Ty) (end count : ℕ) → end ≤ 8 * count → alignUp (globalSize t) end ≤ 8 * count
@@ -191,10 +189,3 @@ module _ (s t : Bytes) (n r : ℕ) (g : Globals) (count : ℕ) where
           laying = m .laid .laying ∙ ap (λ (x : ℕ). layNames (typeOn s r) (values name (nodesIn s) x (drop 3 (readAt s (r - 1) .fields))) (layingIn s t g)) z;
           most = omega (arith, m .laid .most, q .2, m .within);
         }
-
--- ---- lines that count
-
-pub counts-own : (s : Bytes) (k : ℕ) → isOwn s k ≡ counts (sheetSource s .implement) (moduleAt s k)
-unfolding moduleAt
-counts-own s zero = refl
-counts-own s (suc k) = rw (ne-eqb (suc k) 0 (λ e. omega arith))

@@ -21,8 +21,9 @@ use Rattle.checks.specs.Checks.{Checked}
 use Rattle.source.specs.Walk.{declaresAt, openAt, locatedTo, varOf, byKind}
 use Rattle.source.proofs.Walk.{located-all, source-of}
 use Rattle.source.proofs.Declares.{line-declares}
-use Rattle.globals.specs.Table.{layLine}
-use Rattle.globals.specs.Laying.{Laying, noLaying, layingOf, layAt, lay, layNames, counts, layVars, laidTo}
+use Rattle.implement.specs.Modules.{ownIn}
+use Rattle.globals.specs.Collect.{layLine}
+use Rattle.globals.specs.Laying.{Laying, noLaying, layingOf, layAt, lay, layNames, layVars, laidTo}
 
 -- ---- what is declared, without first values
 
@@ -60,16 +61,16 @@ module _ (ns : Names) where
 
   -- all lines
   by-lines : (impl : Option Bytes) (vs : List (Located VarDecl)) (l : Laying)
-      → layAll (concatMap (declaredBy ns) (filter (λ (v : Located VarDecl). counts impl (v .within)) vs)) l ≡ layVars impl vs l
+      → layAll (concatMap (declaredBy ns) (filter (λ (v : Located VarDecl). ownIn impl (v .within)) vs)) l ≡ layVars impl vs l
   unfolding layAll layVars
   by-lines impl [] l = refl
-  by-lines impl (v ∷ vs) l = go (counts impl (v .within)) (λ (m : Laying). by-lines impl vs m)
+  by-lines impl (v ∷ vs) l = go (ownIn impl (v .within)) (λ (m : Laying). by-lines impl vs m)
     where
-      go : (b : Bool) → ((m : Laying) → layAll (concatMap (declaredBy ns) (filter (λ (w : Located VarDecl). counts impl (w .within)) vs)) m ≡ layVars impl vs m)
-          → layAll (concatMap (declaredBy ns) (cond b (v ∷ filter (λ (w : Located VarDecl). counts impl (w .within)) vs) (filter (λ (w : Located VarDecl). counts impl (w .within)) vs))) l
+      go : (b : Bool) → ((m : Laying) → layAll (concatMap (declaredBy ns) (filter (λ (w : Located VarDecl). ownIn impl (w .within)) vs)) m ≡ layVars impl vs m)
+          → layAll (concatMap (declaredBy ns) (cond b (v ∷ filter (λ (w : Located VarDecl). ownIn impl (w .within)) vs) (filter (λ (w : Located VarDecl). ownIn impl (w .within)) vs))) l
           ≡ layVars impl vs (cond b (layNames (v .it .ty) (v .it .names) l) l)
       go true ih =
-          all-append (declaredBy ns v) (concatMap (declaredBy ns) (filter (λ (w : Located VarDecl). counts impl (w .within)) vs)) l
+          all-append (declaredBy ns v) (concatMap (declaredBy ns) (filter (λ (w : Located VarDecl). ownIn impl (w .within)) vs)) l
           ∙ ih (layAll (declaredBy ns v) l)
           ∙ ap (layVars impl vs) (by-names (λ (n : Bytes). record { name = n; ty = v .it .ty; first = orNoInit (initOf ns (v .it .ty) (v .it .init)) }) (v .it .ty) (λ n. refl) (λ n. refl) (v .it .names) l)
       go false ih = ih l
@@ -82,7 +83,7 @@ module _ (ns : Names) where
 vars-append : (impl : Option Bytes) (vs ws : List (Located VarDecl)) (l : Laying) → layVars impl (vs ++ ws) l ≡ layVars impl ws (layVars impl vs l)
 unfolding layVars
 vars-append impl [] ws l = refl
-vars-append impl (v ∷ vs) ws l = vars-append impl vs ws (cond (counts impl (v .within)) (layNames (v .it .ty) (v .it .names) l) l)
+vars-append impl (v ∷ vs) ws l = vars-append impl vs ws (cond (ownIn impl (v .within)) (layNames (v .it .ty) (v .it .names) l) l)
 
 -- one more name
 pub names-next : (t : Ty) (ns : List Node) (fs : List Bytes) (j : ℕ) (l : Laying) → layNames t (values name ns (j + 1) fs) l ≡ lay t (getD fs j []) (layNames t (values name ns j fs) l)
@@ -114,9 +115,9 @@ module _ (s t : Bytes) (n : ℕ) (c : Checked s t n) where
         ∙ vars-append (sheetSource s .implement) (locatedTo (λ (d : Declares). d .vars) (nodesIn s) i) (map at (declaresAt (nodesIn s) i .vars)) noLaying
         ∙ ap (λ (d : Declares). layVars (sheetSource s .implement) (map at (d .vars)) (laidTo s i)) (line-declares s t n c i h)
         ∙ go (eqb (letter (readAt s i .form .kind)) 72)
-        ∙ ap (λ (x : ℕ). cond (eqb (letter (readAt s i .form .kind)) 72) (cond (counts (sheetSource s .implement) (openAt (nodesIn s) i)) (layNames (varOf (nodesIn s) (readAt s x .fields) .ty) (varOf (nodesIn s) (readAt s x .fields) .names) (laidTo s i)) (laidTo s i)) (laidTo s i)) z
+        ∙ ap (λ (x : ℕ). cond (eqb (letter (readAt s i .form .kind)) 72) (cond (ownIn (sheetSource s .implement) (openAt (nodesIn s) i)) (layNames (varOf (nodesIn s) (readAt s x .fields) .ty) (varOf (nodesIn s) (readAt s x .fields) .names) (laidTo s i)) (laidTo s i)) (laidTo s i)) z
       where
         go : (b : Bool) → layVars (sheetSource s .implement) (map (λ (v : VarDecl). record { line = suc i; within = openAt (nodesIn s) i; it = v }) (cond b (varOf (nodesIn s) (readAt s i .fields) ∷ []) [])) (laidTo s i)
-            ≡ cond b (cond (counts (sheetSource s .implement) (openAt (nodesIn s) i)) (layNames (varOf (nodesIn s) (readAt s i .fields) .ty) (varOf (nodesIn s) (readAt s i .fields) .names) (laidTo s i)) (laidTo s i)) (laidTo s i)
+            ≡ cond b (cond (ownIn (sheetSource s .implement) (openAt (nodesIn s) i)) (layNames (varOf (nodesIn s) (readAt s i .fields) .ty) (varOf (nodesIn s) (readAt s i .fields) .names) (laidTo s i)) (laidTo s i)) (laidTo s i)
         go true = refl
         go false = refl

@@ -1,7 +1,4 @@
 pub mod Laying
-pub mod Line
-pub mod Table
 pub mod Declare
 pub mod Collect
-pub mod Rows
 pub mod Vars

@@ -18,9 +18,10 @@ use Rattle.lines.specs.Lines.{readAt, nodesIn}
 use Rattle.checks.specs.Checks.{Checked}
 use Rattle.source.specs.Walk.{declaresAt, openAt, locatedTo, varOf, byKind}
 use Rattle.source.proofs.Declares.{line-declares}
-use Rattle.globals.specs.Laying.{counts}
+use Rattle.implement.specs.Modules.{ownIn}
+use Rattle.global_table.specs.Table.{offsetIn}
 use Rattle.globals.proofs.Laying.{vars-are}
-use Rattle.globals.specs.Vars.{laidVarsTo, offsetIn, firstOf, varItems, varPends}
+use Rattle.globals.specs.Vars.{locatedAt, laidVarsTo, firstOf, varItems, lineItems, varPends}
 
 -- ---- a place stays
 
@@ -92,7 +93,7 @@ concat-same f g h [] = refl
 concat-same f g h (x ∷ xs) = rw (h x, concat-same f g h xs)
 
 module _ (ns : Names) (s : Source) where
-  pub items-by : globals ns s .items ≡ concatMap (λ (v : Located VarDecl). varItems ns (globals ns s .places) (v .it)) (laidVars s)
+  pub items-by : globals ns s .items ≡ lineItems ns (globals ns s .places) (laidVars s)
   items-by =
       let ps = globals ns s .places in
       let f : Declared → List Item = λ (d : Declared). initItems (offsetIn (d .name) ps) (d .ty) (d .first) in
@@ -110,21 +111,21 @@ module _ (ns : Names) (s : Source) where
 -- ---- the lines that count, line by line
 
 module _ (s t : Bytes) (n : ℕ) (c : Checked s t n) where
-  lines-to : (i : ℕ) → i ≤ n → filter (λ (v : Located VarDecl). counts (sheetSource s .implement) (v .within)) (locatedTo (λ (d : Declares). d .vars) (nodesIn s) i) ≡ laidVarsTo s i
+  lines-to : (i : ℕ) → i ≤ n → filter (λ (v : Located VarDecl). ownIn (sheetSource s .implement) (v .within)) (locatedTo (λ (d : Declares). d .vars) (nodesIn s) i) ≡ laidVarsTo s i
   unfolding locatedTo laidVarsTo byKind
   lines-to zero h = refl
   lines-to (suc i) h =
-      let p : Located VarDecl → Bool = λ (v : Located VarDecl). counts (sheetSource s .implement) (v .within) in
+      let p : Located VarDecl → Bool = λ (v : Located VarDecl). ownIn (sheetSource s .implement) (v .within) in
       let at : VarDecl → Located VarDecl = λ (v : VarDecl). record { line = suc i; within = openAt (nodesIn s) i; it = v } in
       filter-append p (locatedTo (λ (d : Declares). d .vars) (nodesIn s) i) (map at (declaresAt (nodesIn s) i .vars))
       ∙ rw (lines-to i (omega arith))
       (ap (λ (d : Declares). laidVarsTo s i ++ filter p (map at (d .vars))) (line-declares s t n c i (omega arith)) ∙ go (eqb (letter (readAt s i .form .kind)) 72))
     where
       go : (b : Bool)
-          → laidVarsTo s i ++ filter (λ (v : Located VarDecl). counts (sheetSource s .implement) (v .within)) (map (λ (v : VarDecl). record { line = suc i; within = openAt (nodesIn s) i; it = v }) (cond b (varOf (nodesIn s) (readAt s i .fields) ∷ []) []))
-          ≡ laidVarsTo s i ++ cond b (cond (counts (sheetSource s .implement) (openAt (nodesIn s) i)) (record { line = suc i; within = openAt (nodesIn s) i; it = varOf (nodesIn s) (readAt s i .fields) } ∷ []) []) []
+          → laidVarsTo s i ++ filter (λ (v : Located VarDecl). ownIn (sheetSource s .implement) (v .within)) (map (λ (v : VarDecl). record { line = suc i; within = openAt (nodesIn s) i; it = v }) (cond b (varOf (nodesIn s) (readAt s i .fields) ∷ []) []))
+          ≡ laidVarsTo s i ++ cond b (cond (ownIn (sheetSource s .implement) (openAt (nodesIn s) i)) (locatedAt s i ∷ []) []) []
       go true = refl
       go false = refl
 
   pub laid-lines : laidVars (sheetSource s) ≡ laidVarsTo s n
-  laid-lines = ap (filter (λ (v : Located VarDecl). counts (sheetSource s .implement) (v .within))) (vars-are s t n c) ∙ lines-to n (omega arith)
+  laid-lines = ap (filter (λ (v : Located VarDecl). ownIn (sheetSource s .implement) (v .within))) (vars-are s t n c) ∙ lines-to n (omega arith)

@@ -1,15 +1,15 @@
 -- Places of globals by names alone: first values have no part in them.
 use Prim.Native.Nat.{ℕ, _+_}
-use mathlib.Core.Bool.{Bool, _||_, cond}
+use mathlib.Core.Bool.{cond}
 use mathlib.Core.List.{List, [], _∷_, _++_}
 use mathlib.Core.Option.{Option, none, some}
-use Rattle.semantics.specs.Text.{Bytes, bytes, same, isNone}
+use Rattle.semantics.specs.Text.{Bytes, bytes, same}
 use Rattle.semantics.specs.Tree.{Ty, VarDecl, Declares}
-use Rattle.semantics.specs.Sheet.{Module, Located, sheetSource}
-use Rattle.semantics.specs.Const.{implements}
+use Rattle.semantics.specs.Sheet.{Located, sheetSource}
 use Rattle.semantics.specs.Global.{Global, Globals, placeOf, newOffset, globalSize}
 use Rattle.lines.specs.Lines.{nodesIn}
 use Rattle.source.specs.Walk.{locatedTo}
+use Rattle.implement.specs.Modules.{ownIn}
 
 -- places in order, and the end of allocation
 pub record Laying : Type 0 where
@@ -36,12 +36,9 @@ layNames t [] l = l
 layNames t (n ∷ ns) l = layNames t ns (lay t n l)
 
 -- lines outside modules and in the implemented one count
-abbrev pub counts : Option Bytes → Option Module → Bool
-counts impl m = isNone m || implements impl m
-
 unfoldable pub layVars : Option Bytes → List (Located VarDecl) → Laying → Laying
 layVars impl [] l = l
-layVars impl (v ∷ vs) l = layVars impl vs (cond (counts impl (v .within)) (layNames (v .it .ty) (v .it .names) l) l)
+layVars impl (v ∷ vs) l = layVars impl vs (cond (ownIn impl (v .within)) (layNames (v .it .ty) (v .it .names) l) l)
 
 -- those of a sheet's first i lines
 unfoldable pub laidTo : Bytes → ℕ → Laying

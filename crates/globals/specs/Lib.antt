@@ -1,3 +1,3 @@
 pub mod Laying
-pub mod Table
+pub mod Collect
 pub mod Vars

@@ -23,7 +23,7 @@ use Rattle.checks.specs.Checks.{Checked}
 use Rattle.source.specs.Walk.{declaresAt, openAt, declaredTo, byKind}
 use Rattle.source.proofs.Walk.{declared-all, source-of}
 use Rattle.source.proofs.Declares.{line-declares}
-use Rattle.implement.specs.Modules.{firstField, moduleAt, Open}
+use Rattle.implement.specs.Modules.{firstField, moduleAt, ownIn, isOwn, Open}
 
 -- ---- the implemented module
 
@@ -100,3 +100,19 @@ module _ (s t : Bytes) (n i k : ℕ) (o : Open s t n i k) (h : i < n) (f x : ℕ
 
   pub open-other : (x ≡ 77 → ⊥) → (x ≡ 79 → ⊥) → Open s t n (i + 1) k
   open-other a b = opens (o .low) (o .here ∙ sym (rw (behind, ne-eqb x 77 a, ne-eqb x 79 b)))
+
+-- ---- the sheet's own
+
+pub own-outside : (s : Bytes) (k : ℕ) → k ≡ 0 → true ≡ isOwn s k
+unfolding moduleAt
+own-outside s zero e = refl
+own-outside s (suc k) e = absurd (omega arith)
+
+pub own-within : (s : Bytes) (k : ℕ) {b : Bool} → (k ≡ 0 → ⊥) → b ≡ implements (sheetSource s .implement) (moduleAt s k) → b ≡ isOwn s k
+unfolding moduleAt
+own-within s zero z e = absurd (z refl)
+own-within s (suc k) z e = e
+
+-- the same of the module that is open before line i
+pub own-open : {s t : Bytes} {n i k : ℕ} {b : Bool} → Open s t n i k → b ≡ isOwn s k → ownIn (sheetSource s .implement) (openAt (nodesIn s) i) ≡ b
+own-open {s} o e = ap (ownIn (sheetSource s .implement)) (sym (o .here)) ∙ sym e

@@ -4,9 +4,8 @@ use mathlib.Core.Path.{_≡_}
 use mathlib.Core.Bool.{Bool, _||_}
 use mathlib.Core.List.{[]}
 use mathlib.Core.Option.{Option, none, some}
-use lib.Dec.{eqb}
 use lib.ListN.{getD}
-use Rattle.semantics.specs.Text.{Bytes}
+use Rattle.semantics.specs.Text.{Bytes, isNone}
 use Rattle.semantics.specs.Sheet.{Module, sheetSource}
 use Rattle.semantics.specs.Const.{implements}
 use Rattle.lines.specs.Lines.{readAt, nodesIn}
@@ -22,9 +21,13 @@ unfoldable pub moduleAt : Bytes → ℕ → Option Module
 moduleAt s zero = none
 moduleAt s (suc k) = some (record { name = firstField s (suc k); line = suc k })
 
--- whether names of the module of line k, none for 0, are the sheet's own
+-- whether what is declared in a module is the sheet's own: outside modules, and in the implemented one
+abbrev pub ownIn : Option Bytes → Option Module → Bool
+ownIn impl m = isNone m || implements impl m
+
+-- in the module of line k, none for 0
 abbrev pub isOwn : Bytes → ℕ → Bool
-isOwn s k = eqb k 0 || implements (sheetSource s .implement) (moduleAt s k)
+isOwn s k = ownIn (sheetSource s .implement) (moduleAt s k)
 
 -- the module of line k, none for 0, is open before line i, from 0
 pub record Open (s t : Bytes) (n i k : ℕ) : Type 0 where

@@ -15,10 +15,10 @@ use Rattle.semantics.specs.Tree.{ConstVal}
 use Rattle.semantics.specs.Tree.ConstVal.{vInt, vReal, vStr}
 use Rattle.semantics.specs.Sheet.{sheetSource}
 use Rattle.semantics.specs.Fold.{Key, Const, signed64, plain, qualified, sameOption, lookUp, valueOf}
-use Rattle.semantics.specs.Const.{entries, implements}
+use Rattle.semantics.specs.Const.{entries}
 use Rattle.words.specs.Words.{digest, wordAt, bitsAt}
 use Rattle.words.proofs.Laws.{digest-apart}
-use Rattle.implement.specs.Modules.{firstField, moduleAt, isOwn}
+use Rattle.implement.specs.Modules.{firstField, moduleAt, ownIn, isOwn}
 use Rattle.checks.specs.Checks.{Kept}
 use Rattle.checks.proofs.Kept.{kept-at, kept-less}
 use Rattle.names.specs.Table.{lineOf, moduleLineOf, valueBy, slotAt, kindOf, bitsOf, digestOf, entriesAt, logIn, Entry, Logged, found, hasKey, answersPlain, answersQualified}
@@ -77,10 +77,10 @@ module _ (impl : Option Bytes) (s x y : Bytes) (v : Option ConstVal) (rest : Lis
   plain-has-within true m = has-one (same x y) (hasKey (plain x) rest)
   plain-has-within false m = has-none (same x y) (hasKey (plain x) rest)
 
-  plain-has : (k : ℕ) → hasKey (plain x) (entries impl (moduleAt s k) y v ++ rest) ≡ (same x y && (eqb k 0 || implements impl (moduleAt s k))) || hasKey (plain x) rest
+  plain-has : (k : ℕ) → hasKey (plain x) (entries impl (moduleAt s k) y v ++ rest) ≡ (same x y && ownIn impl (moduleAt s k)) || hasKey (plain x) rest
   unfolding moduleAt hasKey
   plain-has zero = has-one (same x y) (hasKey (plain x) rest)
-  plain-has (suc k) = rw (ne-eqb (suc k) 0 (λ e. omega arith)) (plain-has-within (sameOption impl (some (firstField s (suc k)))) (firstField s (suc k)))
+  plain-has (suc k) = plain-has-within (sameOption impl (some (firstField s (suc k)))) (firstField s (suc k))
 
   qualified-has-within : (q : Bytes) (i : Bool) (m : Bytes)
       → hasKey (qualified q x) ((cond i (record { key = plain y; value = v } ∷ []) [] ++ (record { key = qualified m y; value = v } ∷ [])) ++ rest) ≡ (same x y && (true && same q m)) || hasKey (qualified q x) rest
@@ -98,10 +98,10 @@ module _ (impl : Option Bytes) (s x y : Bytes) (v : Option ConstVal) (rest : Lis
   plain-within true m = chosen (same x y) v (plain y) (lookUp (plain x) rest)
   plain-within false m = passed (same x y) v (valueOf (lookUp (plain x) rest))
 
-  plain-step : (k : ℕ) → valueOf (lookUp (plain x) (entries impl (moduleAt s k) y v ++ rest)) ≡ cond (same x y && (eqb k 0 || implements impl (moduleAt s k))) v (valueOf (lookUp (plain x) rest))
+  plain-step : (k : ℕ) → valueOf (lookUp (plain x) (entries impl (moduleAt s k) y v ++ rest)) ≡ cond (same x y && ownIn impl (moduleAt s k)) v (valueOf (lookUp (plain x) rest))
   unfolding moduleAt
   plain-step zero = chosen (same x y) v (plain y) (lookUp (plain x) rest)
-  plain-step (suc k) = rw (ne-eqb (suc k) 0 (λ e. omega arith)) (plain-within (sameOption impl (some (firstField s (suc k)))) (firstField s (suc k)))
+  plain-step (suc k) = plain-within (sameOption impl (some (firstField s (suc k)))) (firstField s (suc k))
 
   module _ (q : Bytes) where
     last : (m : Bytes)

@@ -19,8 +19,8 @@ use Rattle.decimal.specs.Number as Number
 use Rattle.write.specs.Wrote.{Wrote}
 use Rattle.write.proofs.Wrote.{then, wrote-as}
 use Rattle.lines.specs.Lines.{readAt}
-use Rattle.globals.specs.Table.{VarLine, nameOn, namesOn}
-use Rattle.globals.specs.Vars.{varPends, firstOf}
+use Rattle.global_table.specs.Table.{VarLine, nameOn, namesOn}
+use Rattle.globals.specs.Vars.{locatedAt, varPends, firstOf}
 use Rattle.values.specs.declared.ConstVal.{ConstVal}
 use Rattle.values.specs.Values.{valueIn}
 use Rattle.placements.specs.Placements.{valuesIn}
@@ -29,7 +29,6 @@ use Rattle.vars.specs.declared.First.{First}
 use Rattle.vars.specs.declared.First.the-variants.{NoValue, Value, Alloc, Literal}
 use Rattle.pends.specs.declared.Pends.the-variants.{Written}
 use Rattle.vars.specs.First.{initIn, Inits, varOn, settled}
-use Rattle.vars.specs.Lines.{locatedAt}
 use Rattle.pends.specs.Pends.{Pended}
 use Rattle.vars.proofs.Values.{settled-init}
 use Rattle.vars.proofs.Names.{namesFrom, names-step, names-over, names-all}

@@ -31,12 +31,12 @@ use Rattle.placements.specs.Placements.{Keeps}
 use Rattle.placements.proofs.Same.{keeps-all, keeps-then}
 use Rattle.literals.specs.Literals.{namesIn}
 use Rattle.literals.proofs.Names.{kept-low, log-kept, logged-kept}
-use Rattle.globals.specs.Laying.{counts}
-use Rattle.globals.specs.Vars.{laidVarsTo, varPends}
+use Rattle.implement.specs.Modules.{ownIn}
+use Rattle.globals.specs.Vars.{locatedAt, laidAt, laidVarsTo, varPends}
 use Rattle.globals.proofs.Vars.{pends-by, laid-lines}
 use Rattle.pends.specs.declared.Pends.{Pends}
 use Rattle.pends.specs.declared.Pends.the-variants.{Written, Refused}
-use Rattle.vars.specs.Lines.{locatedAt, laidAt, Ready, LineTask}
+use Rattle.vars.specs.Lines.{Ready, LineTask}
 use Rattle.vars.proofs.Items.{refused-append}
 use Rattle.pends.specs.Pends.{pendsOf, Pended, AllPended}
 use Rattle.pends.proofs.Pends.{the-type}
@@ -68,7 +68,7 @@ module _ (ns : Names) (s : Bytes) where
 
   -- line i is refused as line i + 1, from 1
   laid-line : (i : ℕ) → lineIn (suc i) (varsRefused ns (laidAt s i)) ≡ suc i
-  laid-line i = go (eqb (letter (readAt s i .form .kind)) 72) (counts (sheetSource s .implement) (openAt (nodesIn s) i))
+  laid-line i = go (eqb (letter (readAt s i .form .kind)) 72) (ownIn (sheetSource s .implement) (openAt (nodesIn s) i))
     where
       go : (x y : Bool) → lineIn (suc i) (varsRefused ns (cond x (cond y (locatedAt s i ∷ []) []) [])) ≡ suc i
       go false y = refl

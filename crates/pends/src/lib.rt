@@ -10,8 +10,9 @@ ghost use Rattle.semantics.specs.Listing.{pendRow};
 ghost use Rattle.write.specs.Wrote.{Wrote};
 ghost use Rattle.placements.specs.Placements.{Keeps};
 ghost use Rattle.literals.specs.Literals.{namesIn, Line};
-ghost use Rattle.globals.specs.Table.{VarLine, nameOn, namesOn};
-ghost use Rattle.vars.specs.Lines.{locatedAt, laidAt, Ready, LineTask};
+ghost use Rattle.global_table.specs.Table.{VarLine, nameOn, namesOn};
+ghost use Rattle.globals.specs.Vars.{locatedAt, laidAt};
+ghost use Rattle.vars.specs.Lines.{Ready, LineTask};
 ghost use Rattle.pends.specs.Pends.{Pended, AllPended};
 
 // The place behind the rows, or a refusal and its line.
@@ -104,7 +105,7 @@ fn pend_at(
     if lines::form_at(work, i) != decl::VAR {
         return Pends::Written(no_rows(out, at));
     }
-    if !globals::is_laid(sheet, work, n, k) {
+    if !implement::is_own(sheet, work, n, k) {
         return Pends::Written(no_rows(out, at));
     }
     pend_line(sheet, work, n, m, i + 1, out, at)

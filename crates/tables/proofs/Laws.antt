@@ -15,8 +15,8 @@ use Rattle.consts.specs.declared.Collected.the-variants as Collected
 use Rattle.consts.specs.declared.Collected.the-variants.{Count}
 use Rattle.consts.specs.Passes.{Collects, tooLong}
 use Rattle.globals.specs.declared.Globals.{Globals}
-use Rattle.globals.specs.Table as Globals
-use Rattle.globals.specs.Table.{Around}
+use Rattle.globals.specs.Collect as Globals
+use Rattle.global_table.specs.Table.{Around}
 use Rattle.globals.proofs.Collect.{collected-kept}
 use Rattle.records.specs.Log as Records
 use Rattle.records.proofs.Kept.{logged-kept}

@@ -10,7 +10,7 @@ use Rattle.checks.specs.Checks.{Checked}
 use Rattle.names.specs.Table as Names
 use Rattle.names.specs.Table.{logIn}
 use Rattle.consts.specs.Passes.{tooLong}
-use Rattle.globals.specs.Table as Globals
+use Rattle.globals.specs.Collect as Globals
 use Rattle.records.specs.Log as Records
 use Rattle.type_keys.specs.Table.{Needs, Kinds}
 use Rattle.tables.specs.declared.Tables.{Tables}

@@ -8,25 +8,19 @@ use native.Mathlib.Nat.{eq-or-lt-of-le}
 use native.Mathlib.Omega.{arith}
 use Rattle.semantics.specs.Text.{Bytes}
 use Rattle.semantics.specs.Tree.{VarDecl}
-use Rattle.semantics.specs.Sheet.{Located, concatMap, sheetSource}
+use Rattle.semantics.specs.Sheet.{Located, sheetSource}
 use Rattle.semantics.specs.Fold.{Result, Names}
 use Rattle.semantics.specs.Fold.Result.{ok, failed, refuse}
 use Rattle.semantics.specs.Const.{Refusal}
-use Rattle.semantics.specs.Global.{Item, Global, varValue, refusedBy, varsRefused, globals}
+use Rattle.semantics.specs.Global.{varValue, refusedBy, varsRefused, globals}
 use Rattle.semantics.specs.Refusal.{orRefused}
 use Rattle.checks.specs.Checks.{Checked}
-use Rattle.globals.specs.Vars.{laidVarsTo, varItems}
+use Rattle.globals.specs.Vars.{laidAt, laidVarsTo, lineItems}
 use Rattle.globals.proofs.Vars.{items-by, laid-lines}
-use Rattle.vars.specs.Lines.{laidAt}
 
--- the items of lines, with names at these places
-abbrev pub itemsOf : Names → List Global → List (Located VarDecl) → List Item
-itemsOf ns ps vs = concatMap (λ (v : Located VarDecl). varItems ns ps (v .it)) vs
-
-module _ (ns : Names) (s : Bytes) where
-  -- those of all lines are the sheet's
-  pub items-all : {t : Bytes} {n : ℕ} → Checked s t n → itemsOf ns (globals ns (sheetSource s) .places) (laidVarsTo s n) ≡ globals ns (sheetSource s) .items
-  items-all {t} {n} c = sym (items-by ns (sheetSource s) ∙ ap (itemsOf ns (globals ns (sheetSource s) .places)) (laid-lines s t n c))
+-- the items of all lines are the sheet's
+pub items-all : (ns : Names) (s : Bytes) {t : Bytes} {n : ℕ} → Checked s t n → lineItems ns (globals ns (sheetSource s) .places) (laidVarsTo s n) ≡ globals ns (sheetSource s) .items
+items-all ns s {t} {n} c = sym (items-by ns (sheetSource s) ∙ ap (lineItems ns (globals ns (sheetSource s) .places)) (laid-lines s t n c))
 
 -- ---- the first line that is refused, and none where the sheet is not
 

@@ -4,20 +4,16 @@ use mathlib.Core.List.{List, [], _∷_}
 use mathlib.Core.Option.{none, some}
 use Prim.Native.Nat.{ℕ, zero, suc, _-_, _<_}
 use native.Mathlib.Omega.{arith}
-use lib.ListN.{getD, drop}
-use lib.Seq.{getD-drop}
+use lib.ListN.{getD}
 use Rattle.semantics.specs.Text.{Bytes}
 use Rattle.semantics.specs.Tree.{Node, elemOf}
 use Rattle.semantics.specs.Form.{forms, numberOf, nodeAt, perhapsAt, exOf}
-use Rattle.semantics.specs.Form.Kind.{kTy, kEx}
-use Rattle.semantics.specs.Form.Atom.{name, maybe}
-use Rattle.semantics.specs.Form.Part.{one, many}
+use Rattle.semantics.specs.Form.Kind.{kTy}
 use Rattle.decimal.specs.Number as Number
 use Rattle.form.specs.Table.{rowNode}
-use Rattle.form.proofs.Table.{only-var, form-of-kind}
 use Rattle.lines.specs.Lines.{readsIn, readAt, nodesIn, formAt}
 use Rattle.sizes.specs.Sizes.{typeAt, TypeLine}
-use Rattle.sizes.proofs.Types.{Good, May, ref-head, maybe-head, head-drop}
+use Rattle.sizes.proofs.Types.{ref-head, head-drop}
 use Rattle.leaf.specs.Folds.{exAt, Foldable}
 use Rattle.literals.specs.Literals.{Line}
 use Rattle.sizes.proofs.Forms.{type-form}
@@ -25,7 +21,8 @@ use Rattle.literals.proofs.Lines.{line-form, parts-at, makes, good-line, may-li
 use Rattle.literals.proofs.Selectors.{foldable}
 use Rattle.arrays.specs.Arrays.{typeOf}
 use Rattle.arrays.proofs.Allocs.{type-given}
-use Rattle.globals.specs.Table.{VarLine}
+use Rattle.global_table.specs.Table.{VarLine}
+use Rattle.global_table.proofs.Line.{parts-good}
 use Rattle.vars.specs.First.{varOn}
 
 -- only arrays have an element type
@@ -49,22 +46,11 @@ module _ {s t : Bytes} {n m r : ℕ} (l : Line 72 s t n m r) where
   pub var-line : VarLine s t n r
   var-line = record { checked = l .checked; first = l .first; last = l .last; kind = l .kind }
 
-  var-form : formAt t (r - 1) ≡ 29
-  var-form = let w = line-form l in form-of-kind only-var (formAt t (r - 1)) (w .0) (w .1)
-
-  var-refs : Good (readsIn s) (r - 1) 75 (getD (readAt s (r - 1) .fields) 0 []) × May (readsIn s) (r - 1) 69 (getD (readAt s (r - 1) .fields) 1 [])
-  unfolding forms
-  var-refs =
-      let w = parts-at l var-form in
-      let x = ref-head (readsIn s) (r - 1) kTy (one (maybe kEx) ∷ (many name ∷ [])) (readAt s (r - 1) .fields) (w .0) (w .1) in
-      let y = maybe-head (readsIn s) (r - 1) kEx (many name ∷ []) (drop 1 (readAt s (r - 1) .fields)) (x .1) (x .2) in
-      (x .0, rw (getD-drop 1 (readAt s (r - 1) .fields) 0 []) at (y .0))
-
   -- ---- the type
 
   module _ {ty : ℕ} (ht : ty ≡ Number.numberOf 65536 (getD (readAt s (r - 1) .fields) 0 [])) where
     type-ref : (ty ≡ numberOf (getD (readAt s (r - 1) .fields) 0 [])) × Line 75 s t n m ty
-    type-ref = good-line l 75 (getD (readAt s (r - 1) .fields) 0 []) ty ht (var-refs .0)
+    type-ref = good-line l 75 (getD (readAt s (r - 1) .fields) 0 []) ty ht (parts-good s t n r var-line .0)
 
     pub type-line : Line 75 s t n m ty
     type-line = type-ref .1
@@ -99,7 +85,7 @@ module _ {s t : Bytes} {n m r : ℕ} (l : Line 72 s t n m r) where
 
   module _ {q : ℕ} (hq : q ≡ Number.numberOf 65536 (getD (readAt s (r - 1) .fields) 1 [])) where
     value-ref : (q ≡ numberOf (getD (readAt s (r - 1) .fields) 1 [])) × ((q ≡ 0 → ⊥) → Line 69 s t n m q)
-    value-ref = may-line l 69 (getD (readAt s (r - 1) .fields) 1 []) q hq (var-refs .1)
+    value-ref = may-line l 69 (getD (readAt s (r - 1) .fields) 1 []) q hq (parts-good s t n r var-line .1)
 
     pub init-none : q ≡ 0 → varOn s r .init ≡ none
     init-none z = rw (sym (value-ref .0) ∙ z)

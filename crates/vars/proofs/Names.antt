@@ -12,8 +12,8 @@ use Rattle.semantics.specs.Global.{laidNames, noneOf}
 use Rattle.decimal.specs.Number as Number
 use Rattle.lines.specs.Lines.{readAt, nodesIn}
 use Rattle.sizes.proofs.Types.{head-drop, tail-drop}
-use Rattle.globals.specs.Table.{VarLine, nameOn, namesOn}
-use Rattle.globals.proofs.Line.{count-on}
+use Rattle.global_table.specs.Table.{VarLine, nameOn, namesOn}
+use Rattle.global_table.proofs.Line.{count-on}
 
 -- those from j on, of `count`
 abbrev pub namesFrom : Bytes → ℕ → ℕ → ℕ → List Bytes

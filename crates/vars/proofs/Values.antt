@@ -29,7 +29,7 @@ use Rattle.arrays.specs.declared.Arrayed.{Arrayed}
 use Rattle.arrays.specs.declared.Arrayed.the-variants as Arrayed
 use Rattle.arrays.specs.Arrays as Arrays
 use Rattle.arrays.specs.Arrays.{arrayedIn, typeOf, ArrayLine, Declared}
-use Rattle.globals.specs.Table.{namesOn}
+use Rattle.global_table.specs.Table.{namesOn}
 use Rattle.vars.specs.declared.First.{First}
 use Rattle.vars.specs.declared.First.the-variants.{NoValue, Value, Alloc, Literal, Pending, Refused}
 use Rattle.vars.specs.First.{initIn, Stands, Inits, varOn, Valued, plain, settled}

@@ -14,7 +14,7 @@ ghost use Rattle.leaf.specs.Folds.{exAt};
 ghost use Rattle.literals.specs.Literals.{namesIn, Line};
 ghost use Rattle.arrays.specs.Arrays as Arrays;
 ghost use Rattle.arrays.specs.Arrays.{arrayedIn, typeOf, Declared};
-ghost use Rattle.globals.specs.Table.{VarLine, namesOn};
+ghost use Rattle.global_table.specs.Table.{VarLine, namesOn};
 ghost use Rattle.vars.specs.First.{initIn, Stands, Inits, varOn, Valued, plain, settled};
 
 // The first value of a global: none, a folded one, the kind and the number of an array's elements, or one that is left pending.

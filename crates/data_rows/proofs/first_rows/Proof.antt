@@ -2,7 +2,7 @@
 use Rattle.data_rows.proofs.Firsts.{held-keyed, first-within, first-filled, first-none, first-value, first-alloc, first-literal, first-pending, first-refused}
 use Rattle.data_rows.proofs.Printed.{printed-none}
 use Rattle.type_keys.proofs.Table.{outside-all}
-use Rattle.globals.specs.Table.{typeOn}
+use Rattle.global_table.specs.Table.{typeOn}
 use denote.Ref.{now}
 use borrow.Author.Needs.{needs}
 use Rattle.data_rows.proofs.first_rows.Statement.{statement}

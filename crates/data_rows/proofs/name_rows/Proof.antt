@@ -3,7 +3,7 @@ use Rattle.data_rows.proofs.Names.{name-nil, name-items}
 use Rattle.data_rows.proofs.Printed.{printed-as, printed-none}
 use Rattle.type_keys.proofs.Table.{outside-all}
 use Rattle.vars.specs.First.{initIn}
-use Rattle.globals.specs.Table.{typeOn, placesIn}
+use Rattle.global_table.specs.Table.{typeOn, placesIn}
 use denote.Ref.{now}
 use borrow.Author.Needs.{needs}
 use Rattle.data_rows.proofs.name_rows.Statement.{statement}

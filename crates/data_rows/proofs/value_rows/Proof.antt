@@ -1,6 +1,6 @@
 -- `data_rows::value_rows` meets its contract.
 use Rattle.data_rows.proofs.Printed.{printed-value}
-use Rattle.globals.specs.Table.{typeOn}
+use Rattle.global_table.specs.Table.{typeOn}
 use Rattle.values.specs.Values.{valueIn}
 use mathlib.Core.Path.{refl}
 use denote.Ref.{now}

@@ -3,7 +3,7 @@ use Prim.Native.Nat.{_-_}
 use borrow.Author.Needs.{needs}
 use denote.Ref.{now}
 use Rattle.globals.proofs.Declare.{Naming, naming-start, naming-here, naming-next, naming-end}
-use Rattle.globals.proofs.Line.{var-in}
+use Rattle.global_table.proofs.Line.{var-in}
 use Rattle.globals.proofs.declare_global.Statement.{statement}
 use Rattle.globals.proofs.declare_global.Tie as tie
 

@@ -14,7 +14,7 @@ returns c =
 returns-2 : tie.Need-returns-2
 returns-2 c =
     let a = c .before .before .before .before .before .before .before .before .args in let p = c .before .before .before .before .before .before .before .before .pre in
-    line-skipped (now (a .sheet)) (now (a .work)) (a .n) (a .i) (a .k) (a .g) (p .0) (p .1) (p .2) _ (c .before .before .before .before .form-at .ensures) (c .before .before .before .if1 .left) (c .before .is-laid .ensures) (not-true _ (c .if2 .taken))
+    line-skipped (now (a .sheet)) (now (a .work)) (a .n) (a .i) (a .k) (a .g) (p .0) (p .1) (p .2) _ (c .before .before .before .before .form-at .ensures) (c .before .before .before .if1 .left) (c .before .is-own .ensures) (not-true _ (c .if2 .taken))
 
 declare-global-requires : tie.Need-declare-global-requires
 declare-global-requires c κs =
@@ -25,7 +25,7 @@ declare-global-requires c κs =
 returns-3 : tie.Need-returns-3
 returns-3 c =
     let a = c .before .before .before .before .before .before .before .before .before .before .before .before .args in let p = c .before .before .before .before .before .before .before .before .before .before .before .before .pre in
-    line-laid (now (a .sheet)) (now (a .work)) (a .n) (a .i) (a .k) (a .g) (p .0) (p .1) (p .2) _ (c .before .before .before .before .before .before .before .before .form-at .ensures) (c .before .before .before .before .before .before .before .if1 .left) (c .before .before .before .before .before .is-laid .ensures) (not-false _ (c .before .before .before .before .if2 .left)) (c .before .before .declare-global .ensures)
+    line-laid (now (a .sheet)) (now (a .work)) (a .n) (a .i) (a .k) (a .g) (p .0) (p .1) (p .2) _ (c .before .before .before .before .before .before .before .before .form-at .ensures) (c .before .before .before .before .before .before .before .if1 .left) (c .before .before .before .before .before .is-own .ensures) (not-false _ (c .before .before .before .before .if2 .left)) (c .before .before .declare-global .ensures)
 
 pub declare-line-spec : {M : Type 1} → statement M
 declare-line-spec =

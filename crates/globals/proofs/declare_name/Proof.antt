@@ -4,8 +4,9 @@ use mathlib.Core.Path.{refl, _∙_}
 use denote.Ref.{now}
 use borrow.Author.Needs.{needs}
 use Rattle.globals.proofs.Declare.{laid-same, nil-test, lay-nil, lay-again, enter-fits, end-fits, laid-entered}
-use Rattle.globals.proofs.Line.{type-line}
-use Rattle.globals.specs.Table.{nameOn, typeOn, layingIn}
+use Rattle.global_table.proofs.Line.{type-line}
+use Rattle.global_table.specs.Table.{nameOn, typeOn}
+use Rattle.globals.specs.Collect.{layingIn}
 use Rattle.globals.proofs.declare_name.Statement.{statement}
 use Rattle.globals.proofs.declare_name.Tie as tie
 

@@ -1,0 +1,53 @@
+-- Laws of the rows of globals.
+use mathlib.Core.Path.{_≡_, refl, sym, ap, _∙_}
+use mathlib.Core.Bool.{Bool}
+use mathlib.Core.List.{List, [], _∷_, _++_, append-assoc, append-nil}
+use Prim.Native.Nat.{ℕ, _+_, _-_, _<_}
+use lib.ListN.{getD}
+use Rattle.semantics.specs.Text.{Bytes, bytes, decimal}
+use Rattle.semantics.specs.Layout.{isPtr}
+use Rattle.semantics.specs.Sheet.{concatMap}
+use Rattle.semantics.specs.Global.{Global, globalSize}
+use Rattle.semantics.specs.Listing.{row, flag, globalRow}
+use Rattle.decimal.specs.Number as Number
+use Rattle.lines.specs.Lines.{readAt}
+use Rattle.write.specs.Wrote.{Wrote}
+use Rattle.write.proofs.Wrote.{then, wrote-as}
+use Rattle.sizes.specs.Sizes.{typeAt, TypeLine}
+use Rattle.global_table.specs.Table.{VarLine, lineOf, offsetOf, entryAt, placesIn, Tabled}
+use Rattle.global_table.proofs.Line.{var-in, type-line, type-on}
+use Rattle.global_table.proofs.Table.{places-more}
+
+pub row-is : (e : Global) {x : Bytes} {off size : ℕ} {b : Bool} → x ≡ e .name → off ≡ e .offset → size ≡ globalSize (e .ty) → b ≡ isPtr (e .ty)
+    → bytes "glo" ++ ((44 ∷ x) ++ ((44 ∷ decimal off) ++ ((44 ∷ decimal size) ++ ((44 ∷ flag b) ++ (10 ∷ []))))) ≡ globalRow e
+unfolding row globalRow
+row-is e p q r s = rw (p, q, r, s)
+
+pub entry-offset : (s t : Bytes) (i : ℕ) → offsetOf t i ≡ entryAt s t i .offset
+unfolding entryAt
+entry-offset s t i = refl
+
+-- the `var` line of an entry, and its type
+module _ (s t : Bytes) (n g i : ℕ) (d : Tabled s t n g) (h : i < g) (r : ℕ) (hr : r ≡ lineOf t i) where
+  entry-line : VarLine s t n r
+  entry-line = rw hr (d .each i h)
+
+  pub entry-in : (0 < r) × (r - 1 < n)
+  entry-in = (entry-line .first, var-in s t n r entry-line)
+
+  module _ (v : ℕ) (hv : v ≡ Number.numberOf 65536 (getD (readAt s (r - 1) .fields) 0 [])) where
+    pub entry-type-line : TypeLine s t n v
+    entry-type-line = type-line s t n r entry-line v hv
+
+    pub entry-type : typeAt s v ≡ entryAt s t i .ty
+    unfolding entryAt
+    entry-type = type-on s t n r entry-line v hv ∙ rw hr
+
+concat-more : (xs : List Global) (y : Global) → concatMap globalRow (xs ++ (y ∷ [])) ≡ concatMap globalRow xs ++ globalRow y
+concat-more [] y = append-nil (globalRow y)
+concat-more (x ∷ xs) y = rw (concat-more xs y) (sym (append-assoc (globalRow x) (concatMap globalRow xs) (globalRow y)))
+
+-- one more row
+pub rows-next : (s t : Bytes) (i : ℕ) {d : Bytes} {a : ℕ} {e : Bytes} {b : ℕ} {f : Bytes} {c : ℕ}
+    → Wrote d a (concatMap globalRow (placesIn s t i)) e b → Wrote e b (globalRow (entryAt s t i)) f c → Wrote d a (concatMap globalRow (placesIn s t (i + 1))) f c
+rows-next s t i v w = wrote-as (sym (ap (concatMap globalRow) (places-more s t i) ∙ concat-more (placesIn s t i) (entryAt s t i))) (then v w)

@@ -1,0 +1,62 @@
+// The rows of globals.
+use global_table::global_size;
+use global_table::line_of;
+use global_table::name_of;
+use global_table::offset_of;
+use rows::put_comma_flag;
+use rows::put_comma_nat;
+use rows::put_comma_part;
+use rows::put_lf;
+use write::put_part;
+ghost use Prim.Native.Nat.{_<_};
+ghost use Rattle.semantics.specs.Sheet.{concatMap};
+ghost use Rattle.semantics.specs.Listing.{globalRow};
+ghost use Rattle.write.specs.Wrote.{Wrote};
+ghost use Rattle.global_table.specs.Table.{entryAt, placesIn, Tabled};
+
+// That of entry i of g.
+fn global_row(
+    sheet: &[u8],
+    work: &[u8],
+    n: usize,
+    g: usize,
+    i: usize,
+    out: &mut [u8],
+    at: usize,
+) -> usize
+    requires { ⌜ (Tabled (now sheet) (now work) n g) × (i < g) ⌝ }
+    ensures { λ r. ⌜ Wrote (now (out .entry)) at (globalRow (entryAt (now (sheet .entry)) (now (work .entry)) i)) (now (out .exit)) r ⌝ }
+{
+    let line = line_of(work, i);
+    let ty = lines::number_at(sheet, work, n, line - 1, 0);
+    let name = put_part(out, at, b"glo");
+    let offset = put_comma_part(out, name, name_of(sheet, work, n, g, i));
+    let size = put_comma_nat(out, offset, offset_of(work, i) as u64);
+    let flag = put_comma_nat(out, size, global_size(sheet, work, n, ty) as u64);
+    let end = put_comma_flag(out, flag, sizes::is_pointer(sheet, work, n, ty));
+    put_lf(out, end)
+}
+
+// Those of all g entries.
+pub fn global_rows(
+    sheet: &[u8],
+    work: &[u8],
+    n: usize,
+    g: usize,
+    out: &mut [u8],
+    at: usize,
+) -> usize
+    requires { ⌜ Tabled (now sheet) (now work) n g ⌝ }
+    ensures { λ r. ⌜ Wrote (now (out .entry)) at (concatMap globalRow (placesIn (now (sheet .entry)) (now (work .entry)) g)) (now (out .exit)) r ⌝ }
+{
+    if out.len() < at {
+        return out.len() + 1;
+    }
+    let mut p = at;
+    let mut i = 0;
+    while i < g {
+        p = global_row(sheet, work, n, g, i, out, p);
+        i += 1;
+    }
+    p
+}

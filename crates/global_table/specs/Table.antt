@@ -1,0 +1,85 @@
+-- The table of globals in the working space, and the places that it holds.
+-- Entry i takes 8 bytes from 7168 + 8 i: the `var` line, from 1, in two bytes, the low one first; the position of the name among the line's
+-- names, from 0; the offset in two bytes; the name's digest; two are free.
+use Prim.Native.Nat.{ℕ, zero, suc, _+_, _-_, _*_, _/_, _%_, _≤_, _<_}
+use mathlib.Core.Path.{_≡_}
+use mathlib.Core.List.{List, [], _∷_}
+use mathlib.Core.Option.{Option, none, some}
+use lib.ListN.{length, drop, getD}
+use lib.Seq.{sets}
+use Rattle.semantics.specs.Text.{Bytes, orElse}
+use Rattle.semantics.specs.Tree.{Ty}
+use Rattle.semantics.specs.Form.{letter}
+use Rattle.semantics.specs.Global.{Global, placeOf}
+use Rattle.lines.specs.Lines.{readAt, nodesIn}
+use Rattle.words.specs.Words.{digest, wordAt}
+use Rattle.checks.specs.Checks.{Checked, Kept}
+use Rattle.source.specs.Walk.{varOf}
+
+-- ---- a `var` line: the type's line, the value's, and a count with as many names
+
+-- line r of a checked sheet is a `var` line, 72
+pub record VarLine (s t : Bytes) (n r : ℕ) : Type 0 where
+  pub checked : Checked s t n
+  pub first : 0 < r
+  pub last : r ≤ n
+  pub kind : letter (readAt s (r - 1) .form .kind) ≡ 72
+
+abbrev pub nameOn : Bytes → ℕ → ℕ → Bytes
+nameOn s r j = getD (readAt s (r - 1) .fields) (3 + j) []
+
+abbrev pub typeOn : Bytes → ℕ → Ty
+typeOn s r = varOf (nodesIn s) (readAt s (r - 1) .fields) .ty
+
+abbrev pub namesOn : Bytes → ℕ → List Bytes
+namesOn s r = varOf (nodesIn s) (readAt s (r - 1) .fields) .names
+
+-- ---- the table
+
+abbrev pub lineOf : Bytes → ℕ → ℕ
+lineOf t i = wordAt t (7168 + 8 * i)
+
+unfoldable pub positionOf : Bytes → ℕ → ℕ
+positionOf t i = getD t (7170 + 8 * i) 0
+
+abbrev pub offsetOf : Bytes → ℕ → ℕ
+offsetOf t i = wordAt t (7171 + 8 * i)
+
+unfoldable pub digestOf : Bytes → ℕ → ℕ
+digestOf t i = getD t (7173 + 8 * i) 0
+
+unfoldable pub entered : Bytes → ℕ → ℕ → ℕ → ℕ → ℕ → Bytes
+entered t i line position offset d = sets t (7168 + 8 * i) (line % 256 ∷ line / 256 ∷ position ∷ offset % 256 ∷ offset / 256 ∷ d ∷ [])
+
+-- entry i
+unfoldable pub entryAt : Bytes → Bytes → ℕ → Global
+entryAt s t i = record { name = nameOn s (lineOf t i) (positionOf t i); offset = offsetOf t i; ty = typeOn s (lineOf t i) }
+
+-- k entries from i on
+unfoldable pub entriesFrom : Bytes → Bytes → ℕ → ℕ → List Global
+entriesFrom s t i zero = []
+entriesFrom s t i (suc k) = entryAt s t i ∷ entriesFrom s t (suc i) k
+
+abbrev pub placesIn : Bytes → Bytes → ℕ → List Global
+placesIn s t g = entriesFrom s t 0 g
+
+-- g entries, each of a `var` line
+pub record Tabled (s t : Bytes) (n g : ℕ) : Type 0 where
+  pub checked : Checked s t n
+  pub few : g ≤ 256
+  pub each : (i : ℕ) → i < g → VarLine s t n (lineOf t i)
+  pub digests : (i : ℕ) → i < g → digestOf t i ≡ digest (entryAt s t i .name)
+
+-- what a number of an entry, from 1, says of a name: 0 is none
+unfoldable pub offsetBy : Bytes → ℕ → Option ℕ
+offsetBy t zero = none
+offsetBy t (suc i) = some (offsetOf t i)
+
+-- where a name lies among places, 0 where it has none
+abbrev pub offsetIn : Bytes → List Global → ℕ
+offsetIn x ps = orElse 0 (placeOf x ps)
+
+-- what stands outside the table is kept
+pub record Around (t u : Bytes) : Type 0 where
+  pub below : Kept 7168 t u
+  pub above : drop 9216 u ≡ drop 9216 t

@@ -1,0 +1,53 @@
+-- Globals as they are collected: the places that the table holds after some lines.
+use Prim.Native.Nat.{ℕ, _+_, _*_, _≤_}
+use mathlib.Core.Path.{_≡_}
+use mathlib.Core.Bool.{cond}
+use lib.Dec.{eqb}
+use lib.ListN.{length}
+use Rattle.semantics.specs.Text.{Bytes}
+use Rattle.semantics.specs.Tree.{VarDecl, Declares}
+use Rattle.semantics.specs.Form.{letter}
+use Rattle.semantics.specs.Sheet.{sheetSource}
+use Rattle.semantics.specs.Refusal.{sumOf}
+use Rattle.semantics.specs.Fold.{Names}
+use Rattle.semantics.specs.Global.{globals}
+use Rattle.lines.specs.Lines.{readAt, nodesIn}
+use Rattle.source.specs.Walk.{declaresAt, openAt, declaredTo}
+use Rattle.implement.specs.Modules.{ownIn}
+use Rattle.global_table.specs.Table.{typeOn, namesOn, placesIn, Tabled, Around}
+use Rattle.globals.specs.declared.Globals.{Globals}
+use Rattle.globals.specs.Laying.{Laying, layNames}
+
+abbrev pub layingIn : Bytes → Bytes → Globals → Laying
+layingIn s t g = record { places = placesIn s t (g .count); end = g .end }
+
+-- g places are entered: no place is further from the start than 8 bytes for each before it
+pub record Standing (s t : Bytes) (n : ℕ) (g : Globals) : Type 0 where
+  pub tabled : Tabled s t n (g .count)
+  pub low : g .end ≤ 8 * g .count
+
+-- from t on, the working space came to hold these places, at most so many
+pub record Laid (s t u : Bytes) (n : ℕ) (l : Laying) (g : Globals) (m : ℕ) : Type 0 where
+  pub standing : Standing s u n g
+  pub around : Around t u
+  pub laying : layingIn s u g ≡ l
+  pub most : g .count ≤ m
+
+-- how many names line i declares, from 0, and the first i lines
+unfoldable pub namesAt : Bytes → ℕ → ℕ
+namesAt s i = sumOf (λ (v : VarDecl). length (v .names)) (declaresAt (nodesIn s) i .vars)
+
+unfoldable pub namesTo : Bytes → ℕ → ℕ
+namesTo s i = sumOf (λ (v : VarDecl). length (v .names)) (declaredTo (λ (d : Declares). d .vars) (nodesIn s) i)
+
+-- one more line
+unfoldable pub layLine : Bytes → ℕ → Laying → Laying
+layLine s i l = cond (eqb (letter (readAt s i .form .kind)) 72) (cond (ownIn (sheetSource s .implement) (openAt (nodesIn s) i)) (layNames (typeOn s (i + 1)) (namesOn s (i + 1)) l) l) l
+
+-- all globals of a sheet are entered, whatever names are known to their first values
+pub record Collected (s t : Bytes) (n : ℕ) (g : Globals) : Type 0 where
+  pub tabled : Tabled s t n (g .count)
+  pub places : (ns : Names) → placesIn s t (g .count) ≡ globals ns (sheetSource s) .places
+  pub end : (ns : Names) → g .end ≡ globals ns (sheetSource s) .end
+  pub count : (ns : Names) → g .count ≡ length (globals ns (sheetSource s) .places)
+  pub low : g .end ≤ 8 * g .count
