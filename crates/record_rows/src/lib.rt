@@ -28,7 +28,7 @@ const DOT: u8 = 46;
 const ADT: usize = 26;
 
 // Fields of a record with pick begin behind its tag word.
-const TAG: u32 = 4;
+const TAG_BYTES: u32 = 4;
 
 // KEY, with its comma: T, or T.tag.
 fn put_key(sheet: &[u8], work: &[u8], n: usize, i: usize, out: &mut [u8], at: usize) -> usize
@@ -134,8 +134,8 @@ fn put_fields(sheet: &[u8], work: &[u8], n: usize, i: usize, out: &mut [u8], at:
         );
     }
     let tag = Reached {
-        end: TAG,
-        furthest: TAG,
+        end: TAG_BYTES,
+        furthest: TAG_BYTES,
     };
     let p = field_rows::put_common(sheet, work, n, r, tag, out, at);
     let c = case_of(work, i);
