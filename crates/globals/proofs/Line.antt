@@ -17,7 +17,8 @@ use Rattle.semantics.specs.Layout.{sizeOf, isPtr}
 use Rattle.semantics.specs.Global.{globalSize}
 use Rattle.decimal.specs.Number as Number
 use Rattle.form.specs.Table.{rowAt}
-use Rattle.form.proofs.Table.{never, only-var, form-of-kind}
+use Rattle.semantics.proofs.Common.{never}
+use Rattle.form.proofs.Table.{only-var, form-of-kind}
 use Rattle.lines.specs.Lines.{readsIn, readAt, nodesIn, formAt}
 use Rattle.lines.proofs.Line.{form-low, form-is, kind-is, read-fits}
 use Rattle.refs.proofs.Fine.{needed-ref}

@@ -13,7 +13,8 @@ use Rattle.semantics.specs.Tree.{TypeKey}
 use Rattle.semantics.specs.Fold.{eqZ}
 use Rattle.semantics.specs.Types.{sameInts, keyCode, sameTypeKey, distinct, position}
 use Rattle.type_keys.specs.Table.{placed}
-use Rattle.laws.proofs.Tests.{never, and-left, and-right, or-left, or-right}
+use Rattle.semantics.proofs.Common.{never}
+use Rattle.laws.proofs.Tests.{and-left, and-right, or-left, or-right}
 use Rattle.laws.proofs.Lists.{any-append}
 
 -- ---- tests

@@ -18,13 +18,13 @@ use Rattle.semantics.specs.Fold.{eqZ}
 use Rattle.semantics.specs.Array.{kindNumber}
 use Rattle.semantics.specs.Types.{sameTypeKey}
 use Rattle.form.specs.Table.{kindAt, rowNode}
-use Rattle.form.proofs.Table.{both, row-count, Each, done, _also_, each-at}
+use Rattle.form.proofs.Table.{row-count, Each, done, _also_, each-at}
 use Rattle.lines.specs.Lines.{readAt, nodesIn, formAt}
 use Rattle.lines.proofs.Line.{form-low, kind-is}
 use Rattle.refs.proofs.Nodes.{node-at}
 use Rattle.checks.specs.Checks.{Checked}
 use Rattle.source.specs.Walk.{declaresAt, fieldAt, frameOf}
-use Rattle.laws.proofs.Tests.{never}
+use Rattle.semantics.proofs.Common.{never, both}
 use Rattle.type_keys.specs.Keys.{firstKey, needAt, NeedLine}
 
 -- ---- `need` lines are the forms from 34 on

@@ -25,7 +25,7 @@ use Rattle.type_keys.proofs.Distinct.{newKey, position-none, position-new, posi
 use Rattle.type_keys.proofs.Forms.{kind-low}
 use Rattle.type_keys.proofs.Table.{kind-kept}
 use Rattle.type_keys.proofs.Same.{elems-are}
-use Rattle.laws.proofs.Tests.{never}
+use Rattle.semantics.proofs.Common.{never}
 use Rattle.type_rows.specs.declared.Next.{Next}
 use Rattle.type_row.specs.Row.{Rowed}
 use Rattle.type_rows.specs.Rows.{Wrotes, shapesOf}

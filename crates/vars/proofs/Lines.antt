@@ -17,7 +17,8 @@ use Rattle.form.specs.Table.{rowNode}
 use Rattle.form.proofs.Table.{only-var, form-of-kind}
 use Rattle.lines.specs.Lines.{readsIn, readAt, nodesIn, formAt}
 use Rattle.sizes.specs.Sizes.{typeAt, TypeLine}
-use Rattle.sizes.proofs.Types.{Good, May, ref-head, maybe-head, head-drop}
+use Rattle.refs.proofs.Fields.{head-drop}
+use Rattle.sizes.proofs.Types.{Good, May, ref-head, maybe-head}
 use Rattle.leaf.specs.Folds.{exAt, Foldable}
 use Rattle.literals.specs.Literals.{Line}
 use Rattle.sizes.proofs.Forms.{type-form}

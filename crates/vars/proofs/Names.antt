@@ -11,7 +11,7 @@ use Rattle.semantics.specs.Form.Atom.{name}
 use Rattle.semantics.specs.Global.{laidNames, noneOf}
 use Rattle.decimal.specs.Number as Number
 use Rattle.lines.specs.Lines.{readAt, nodesIn}
-use Rattle.sizes.proofs.Types.{head-drop, tail-drop}
+use Rattle.refs.proofs.Fields.{head-drop, tail-drop}
 use Rattle.globals.specs.Table.{VarLine, nameOn, namesOn}
 use Rattle.globals.proofs.Line.{count-on}
 
