@@ -20,7 +20,8 @@ use Rattle.semantics.specs.Array.{kindNumber, elemKind, allocated, constArray}
 use Rattle.decimal.specs.Number as Number
 use Rattle.lines.specs.Lines.{readsIn, readAt}
 use Rattle.sizes.specs.Sizes.{typeAt, TypeLine}
-use Rattle.sizes.proofs.Types.{Good, ref-head, head-drop, tail-drop}
+use Rattle.refs.proofs.Fields.{head-drop, tail-drop}
+use Rattle.sizes.proofs.Types.{Good, ref-head}
 use Rattle.values.specs.declared.Folded.{Folded}
 use Rattle.values.specs.Values.{resultIn}
 use Rattle.placements.proofs.Same.{keeps-less, keeps-kept}

@@ -24,7 +24,8 @@ use Rattle.lines.proofs.Line.{form-low, kind-is}
 use Rattle.refs.proofs.Nodes.{node-at}
 use Rattle.sizes.specs.Sizes.{typeAt, TypeLine}
 use Rattle.sizes.proofs.Forms.{type-form, of-types}
-use Rattle.sizes.proofs.Types.{ref-head, head-drop}
+use Rattle.refs.proofs.Fields.{head-drop}
+use Rattle.sizes.proofs.Types.{ref-head}
 use Rattle.leaf.specs.Folds.{exAt}
 use Rattle.literals.specs.Literals.{elsAt, Line, LiteralLine}
 use Rattle.literals.proofs.Lines.{line-form, parts-at, makes, good-line, el-value, value-ref}

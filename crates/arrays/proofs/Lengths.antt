@@ -6,7 +6,6 @@ use Prim.Native.Nat.{ℕ, _≤_, _<_}
 use native.Mathlib.Omega.{arith}
 use lib.Dec.{T}
 use lib.IntN.{ℤ, pos, negsuc, natAbs}
-use lib.Ieee.{Float}
 use lib.Signed.{ltZ, nonNeg}
 use mir.Syntax.{w32, w64}
 use mir.Val.{Fits, SFits}
@@ -20,7 +19,7 @@ use Rattle.semantics.specs.Fold.Result.{ok, failed, refuse}
 use Rattle.semantics.specs.Array.{allocated, asSize}
 use Rattle.ints.proofs.Widths.{held}
 use Rattle.values.specs.declared.ConstVal.{ConstVal}
-use Rattle.values.specs.declared.ConstVal.the-variants.{Int, Real, Str}
+use Rattle.values.specs.declared.ConstVal.the-variants.{Int}
 use Rattle.values.specs.declared.Folded.{Folded}
 use Rattle.values.specs.declared.Folded.the-variants as Folded
 use Rattle.values.specs.Values.{valueIn, resultIn}
@@ -68,19 +67,9 @@ module _ (k : ElemKind) {z : ℤ} (f : SFits w64 z) where
 
 -- ---- by what a fold gives
 
-module _ (t : Bytes) (k : ElemKind) {x : Folded} where
-  module _ {v : ConstVal} (e : x ≡ Folded.Value v) where
-    pub alloc-int : {z : ℤ} → v ≡ Int z → SFits w64 z → (y : Arrayed) → arrayedIn t y ≡ allocated k (vInt (held w64 z)) → arrayedIn t y ≡ bind (resultIn t x) (allocated k)
-    unfolding resultIn valueIn
-    alloc-int d f y h = rw (e, d) (rw (toZ-ofZ f) at h)
-
-    pub alloc-real : {a : Float} → v ≡ Real a → failed ≡ bind (resultIn t x) (allocated k)
-    unfolding resultIn valueIn
-    alloc-real d = rw (e, d)
-
-    pub alloc-string : {p l : ℕ} → v ≡ Str p l → failed ≡ bind (resultIn t x) (allocated k)
-    unfolding resultIn valueIn
-    alloc-string d = rw (e, d)
+pub alloc-int : (t : Bytes) (k : ElemKind) {x : Folded} {v : ConstVal} {z : ℤ} → x ≡ Folded.Value v → v ≡ Int z → SFits w64 z → (y : Arrayed) → arrayedIn t y ≡ allocated k (vInt (held w64 z)) → arrayedIn t y ≡ bind (resultIn t x) (allocated k)
+unfolding resultIn valueIn
+alloc-int t k e d f y h = rw (e, d) (rw (toZ-ofZ f) at h)
 
 -- ---- the size of a literal
 
@@ -99,20 +88,11 @@ size-natural (negsuc n) d = absurd (true≢false d)
 pub size-fits : {z : ℤ} → SFits w64 z → ltZ (held w64 z) (pos 0) ≡ false → T (nonNeg (held w64 z)) × Fits w64 (natAbs (held w64 z))
 size-fits {z} f d = rw (toZ-ofZ f) (fits-64 z f (rw (toZ-ofZ f) at d))
 
-module _ (t : Bytes) {x : Folded} where
-  module _ {v : ConstVal} (e : x ≡ Folded.Value v) where
-    pub size-negative : {z : ℤ} → v ≡ Int z → SFits w64 z → ltZ (held w64 z) (pos 0) ≡ true → failed ≡ bind (resultIn t x) asSize
-    unfolding resultIn valueIn
-    size-negative {z} d f h = rw (e, d) (size-below z (rw (toZ-ofZ f) at h))
+module _ (t : Bytes) {x : Folded} {v : ConstVal} (e : x ≡ Folded.Value v) where
+  pub size-negative : {z : ℤ} → v ≡ Int z → SFits w64 z → ltZ (held w64 z) (pos 0) ≡ true → failed ≡ bind (resultIn t x) asSize
+  unfolding resultIn valueIn
+  size-negative {z} d f h = rw (e, d) (size-below z (rw (toZ-ofZ f) at h))
 
-    pub size-whole : {z : ℤ} → v ≡ Int z → SFits w64 z → ltZ (held w64 z) (pos 0) ≡ false → ok (natAbs (held w64 z)) ≡ bind (resultIn t x) asSize
-    unfolding resultIn valueIn
-    size-whole {z} d f h = rw (e, d, toZ-ofZ f) (size-natural z (rw (toZ-ofZ f) at h))
-
-    pub size-real : {a : Float} → v ≡ Real a → failed ≡ bind (resultIn t x) asSize
-    unfolding resultIn valueIn
-    size-real d = rw (e, d)
-
-    pub size-string : {p l : ℕ} → v ≡ Str p l → failed ≡ bind (resultIn t x) asSize
-    unfolding resultIn valueIn
-    size-string d = rw (e, d)
+  pub size-whole : {z : ℤ} → v ≡ Int z → SFits w64 z → ltZ (held w64 z) (pos 0) ≡ false → ok (natAbs (held w64 z)) ≡ bind (resultIn t x) asSize
+  unfolding resultIn valueIn
+  size-whole {z} d f h = rw (e, d, toZ-ofZ f) (size-natural z (rw (toZ-ofZ f) at h))

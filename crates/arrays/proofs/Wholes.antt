@@ -19,7 +19,8 @@ use Rattle.semantics.specs.Array as Array
 use Rattle.semantics.specs.Array.{Filled, noneFilled, kindNumber, elemKind, isByteLiteral, kindOfValues, literalKind, literalSize, fill, constArray}
 use Rattle.decimal.specs.Number as Number
 use Rattle.form.specs.Table.{rowNode}
-use Rattle.form.proofs.Table.{never, done, _also_}
+use Rattle.semantics.proofs.Common.{never}
+use Rattle.form.proofs.Table.{done, _also_}
 use Rattle.lines.specs.Lines.{readAt, nodesIn, formAt}
 use Rattle.sizes.specs.Sizes.{typeAt, TypeLine}
 use Rattle.checks.specs.Checks.{Kept}

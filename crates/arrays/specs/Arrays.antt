@@ -41,6 +41,7 @@ sizeResult Size.TooLong = refuse 8
 abbrev pub ValuesStand : Bytes → ℕ → Type 0
 ValuesStand t n = (n ≤ 1024) × ((i : ℕ) → i < n → Standing (above 16) (slotAt t (entryAt t i)))
 
+-- what stands in t for an array: the values of a literal
 abbrev pub Stands : Bytes → Arrayed → Type 0
 Stands t (Alloc k n) = Unit {0}
 Stands t (Literal k n) = ValuesStand t n

@@ -5,7 +5,7 @@ use Prim.Native.Nat.{ℕ, _+_, _≤_, _<_}
 use native.Mathlib.Omega.{arith}
 use lib.ListN.{take, getD}
 use lib.Seq.{getD-take, take-take}
-use Rattle.lines.specs.Lines.{start, formAt, Whole}
+use Rattle.lines.proofs.Laws.{whole-kept}
 use Rattle.checks.specs.Checks.{Kept, Checked}
 
 pub kept-all : {k : ℕ} {t : List ℕ} → Kept k t t
@@ -21,32 +21,9 @@ pub kept-at : {k : ℕ} {t u : List ℕ} → Kept k t u → (i : ℕ) → i < k 
 kept-at {k} {t} {u} a i h = sym (getD-take k u i 0 h) ∙ ap (λ (l : List ℕ). getD l i 0) (a .below) ∙ getD-take k t i 0 h
 
 module _ {t u : List ℕ} (a : Kept 3072 t u) where
-  start-kept : (i : ℕ) → i < 1024 → start u i ≡ start t i
-  unfolding start
-  start-kept i h = rw (kept-at a i (omega arith), kept-at a (1024 + i) (omega arith))
-
-  form-kept : (i : ℕ) → i < 1024 → formAt u i ≡ formAt t i
-  unfolding formAt
-  form-kept i h = kept-at a (2048 + i) (omega arith)
-
-  whole-kept : {s : List ℕ} {n : ℕ} → Whole s t n → Whole s u n
-  whole-kept w =
-      let l = w .lined in
-      record {
-        lined = record {
-          few = l .few;
-          at = λ i h. rw (start-kept i (omega (arith, l .few))) (l .at i h);
-          within = λ i h. rw (start-kept i (omega (arith, l .few))) (l .within i h);
-          row = λ i h. rw (form-kept i (omega (arith, l .few))) (l .row i h);
-          good = l .good;
-        };
-        count = w .count;
-        room = omega (arith, a .long, w .room);
-      }
-
   pub checked-kept : {s : List ℕ} {n : ℕ} → Checked s t n → Checked s u n
   checked-kept c = record {
-    whole = whole-kept (c .whole);
+    whole = whole-kept t u (kept-at a) (a .long) (c .whole);
     good = c .good;
     fine = c .fine;
     once = c .once;

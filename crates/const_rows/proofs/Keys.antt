@@ -15,10 +15,10 @@ use Rattle.semantics.specs.Const.{entries}
 use Rattle.semantics.specs.Listing.{keysIn, isPlain, constRow}
 use Rattle.laws.proofs.Tests.{same-eq}
 use Rattle.laws.proofs.Lists.{concat-append, filter-append, any-append}
-use Rattle.form.proofs.Table.{never, both}
 use Rattle.implement.specs.Modules.{firstField, moduleAt, ownIn, isOwn}
 use Rattle.names.specs.Table.{lineOf, moduleLineOf, slotAt, entriesAt, logIn, hasKey}
 use Rattle.const_rows.specs.Rows.{plainKey, qualifiedKey, qualifiedTo, plainTo, qualifiedPart, plainPart}
+use Rattle.semantics.proofs.Common.{never, both}
 
 -- ---- equal keys
 

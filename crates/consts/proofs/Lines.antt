@@ -14,10 +14,11 @@ use Rattle.semantics.specs.Form.Kind.{kEx}
 use Rattle.semantics.specs.Form.Atom.{name, lineOrCol, ref}
 use Rattle.semantics.specs.Form.Part.{one}
 use Rattle.semantics.specs.Refusal.{refsIn}
-use Rattle.sizes.proofs.Types.{number-exact}
+use Rattle.refs.proofs.Fields.{number-exact}
 use Rattle.decimal.specs.Number as Number
 use Rattle.form.specs.Table.{rowAt}
-use Rattle.form.proofs.Table.{never, both, only-con, form-of-kind}
+use Rattle.semantics.proofs.Common.{never, both}
+use Rattle.form.proofs.Table.{only-con, form-of-kind}
 use Rattle.lines.specs.Lines.{readsIn, readAt, formAt}
 use Rattle.lines.proofs.Line.{form-low, form-is, kind-is, read-fits}
 use Rattle.refs.specs.Refs.{fineRef, fineRefs}

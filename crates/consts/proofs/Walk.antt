@@ -9,7 +9,7 @@ use native.Mathlib.Numerals.{add-one}
 use lib.Dec.{eqb}
 use lib.ListN.{length, getD}
 use borrow.Author.Tests.{eqb-false, not-true}
-use Rattle.form.proofs.Table.{both}
+use Rattle.semantics.proofs.Common.{both}
 use Rattle.semantics.specs.Text.{Bytes}
 use Rattle.semantics.specs.Tree.{ConstDecl}
 use Rattle.semantics.specs.Form.{letter, numberOf}

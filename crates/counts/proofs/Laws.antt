@@ -21,7 +21,8 @@ use Rattle.decimal.specs.Number as Number
 use Rattle.form.specs.declared.Walk.{Walk}
 use Rattle.form.specs.Table.{rowAt, rowNode}
 use Rattle.form.specs.Letters.{lettersFrom, fieldsLeft, beginning, Standing, Stepped}
-use Rattle.form.proofs.Table.{never, both, row-count, Only, only-pc, only-pick, only-var, form-of-kind, each-at}
+use Rattle.semantics.proofs.Common.{never, both}
+use Rattle.form.proofs.Table.{row-count, Only, only-pc, only-pick, only-var, form-of-kind, each-at}
 use Rattle.lines.specs.Lines.{textAt, readsIn, readAt, nodesIn, formAt, Whole}
 use Rattle.lines.proofs.Line.{line-short, form-low, form-is, kind-is, read-fits}
 use Rattle.refs.specs.Refs as Refs

@@ -16,6 +16,7 @@ use mir.ValLaws.{toZ-pos, toZ-neg}
 use borrow.Author.Tests.{le-leb, lt-leb, lt-ltb, le-ltb, eq-eqb, ne-eqb, leb-true, leb-false}
 use Rattle.semantics.specs.Text.{Bytes, isDigit, digitsValue, natOf, negative, intOf, mapOption, holdsOf}
 use Rattle.semantics.specs.Form.{between}
+use Rattle.semantics.proofs.Common.{never}
 use Rattle.decimal.specs.declared.Signed.{Signed}
 use Rattle.decimal.specs.declared.Signed.the-variants.{Plus, Minus, NoInteger}
 use Rattle.decimal.specs.declared.Integer.the-variants.{Is, Bad}
@@ -196,8 +197,8 @@ module _ (s : Bytes) {r : Signed} (is : r ≡ signedOf s) where
     where
       go : (o : Option ℤ) (r : Signed) → Known o r → r ≡ NoInteger → Bad ≡ whole o
       go none r unknown e = refl
-      go (some (pos n)) r (plus p) e = let z : _≡_ {A = ℕ} 0 1 = cc in absurd (omega arith)
-      go (some (negsuc n)) r (minus p) e = let z : _≡_ {A = ℕ} 0 1 = cc in absurd (omega arith)
+      go (some (pos n)) r (plus p) e = never cc
+      go (some (negsuc n)) r (minus p) e = never cc
 
   -- by the size n that the code has
   module _ {n : ℕ} where
@@ -205,16 +206,16 @@ module _ (s : Bytes) {r : Signed} (is : r ≡ signedOf s) where
     plus-by-size e = go (intOf s) r known-of e
       where
         go : (o : Option ℤ) (r : Signed) → Known o r → r ≡ Plus n → (m : ℕ) × (o ≡ some (pos m)) × (n ≡ min m most)
-        go none r unknown e = let z : _≡_ {A = ℕ} 0 1 = cc in absurd (omega arith)
+        go none r unknown e = never cc
         go (some (pos m)) (Plus k) (plus p) e = let q : k ≡ n = cc in (m, refl, omega arith)
-        go (some (negsuc m)) r (minus p) e = let z : _≡_ {A = ℕ} 0 1 = cc in absurd (omega arith)
+        go (some (negsuc m)) r (minus p) e = never cc
 
     minus-by-size : r ≡ Minus n → (m : ℕ) × (intOf s ≡ some (negsuc m)) × (n ≡ min (suc m) most)
     minus-by-size e = go (intOf s) r known-of e
       where
         go : (o : Option ℤ) (r : Signed) → Known o r → r ≡ Minus n → (m : ℕ) × (o ≡ some (negsuc m)) × (n ≡ min (suc m) most)
-        go none r unknown e = let z : _≡_ {A = ℕ} 0 1 = cc in absurd (omega arith)
-        go (some (pos m)) r (plus p) e = let z : _≡_ {A = ℕ} 0 1 = cc in absurd (omega arith)
+        go none r unknown e = never cc
+        go (some (pos m)) r (plus p) e = never cc
         go (some (negsuc m)) (Minus k) (minus p) e = let q : k ≡ n = cc in (m, refl, omega arith)
 
     module _ (e : r ≡ Plus n) where
@@ -258,5 +259,5 @@ module _ (s : Bytes) {r : Signed} (is : r ≡ signedOf s) where
     where
       go : (o : Option ℤ) (r : Signed) → Known o r → r ≡ NoInteger → false ≡ holdsOf (between lo hi) o
       go none r unknown e = refl
-      go (some (pos n)) r (plus p) e = let z : _≡_ {A = ℕ} 0 1 = cc in absurd (omega arith)
-      go (some (negsuc n)) r (minus p) e = let z : _≡_ {A = ℕ} 0 1 = cc in absurd (omega arith)
+      go (some (pos n)) r (plus p) e = never cc
+      go (some (negsuc n)) r (minus p) e = never cc

@@ -1,6 +1,5 @@
 -- Each global's first value is that of its own `var` line, where no line is refused.
 use Prim.Native.Nat.{ℕ, suc}
-use native.Mathlib.Omega.{arith}
 use mathlib.Core.Path.{_≡_, refl}
 use mathlib.Core.Bool.{Bool, true, false, cond}
 use mathlib.Core.List.{List, [], _∷_, _++_, map}
@@ -18,6 +17,7 @@ use Rattle.semantics.specs.Global.{Declared, firstValue, initOf, orNoInit, decl
 use Rattle.semantics.specs.Refusal.{Outcome, badForm, badRefFrom, tooDeepFrom, badModuleFrom, tooManyFrom, noCounts, refuseAt, listedIn, orRefused, refuseWork, checked, longestSheet, leastWork, workRefused, sourceListing, worked, compiled}
 use Rattle.semantics.specs.Refusal.Outcome.{listed, refused}
 use Rattle.semantics.specs.Demand.{In, DeclaredAt, AllDeclared, sourceDeclared, laidFrom, laidOf}
+use Rattle.semantics.proofs.Common.{never}
 
 -- ---- what holds of each of a list
 
@@ -50,11 +50,11 @@ each-declared P ns v h = each-name P (namedOn ns (v .it)) (laidNames (v .it .nam
 -- ---- a sheet that is listed has no refused line
 
 some-none : {A B : Type 0} {x : A} → some x ≡ none → B
-some-none h = let z : _≡_ {A = ℕ} 0 1 = cc in absurd (omega arith)
+some-none h = never cc
 
 module _ (out : Bytes) where
   never-listed : {A : Type 0} (n k : ℕ) → refused n k ≡ listed out → A
-  never-listed n k h = let z : _≡_ {A = ℕ} 0 1 = cc in absurd (omega arith)
+  never-listed n k h = never cc
 
   unless : (t : Bool) (n k : ℕ) (x : Outcome) → cond t (refused n k) x ≡ listed out → x ≡ listed out
   unless true n k x h = never-listed n k h
@@ -114,7 +114,7 @@ init-there ns t none k o h = refl
 init-there ns t (some e) k o h = first-there k (foldAt0 ns e) (constArray ns (elemOf t) e) o h
 
 some-name : {n : Bytes} (ns : List Bytes) → In n ns → noneOf ns ≡ false
-some-name [] i = let h = i .there in let z : _≡_ {A = ℕ} 0 1 = cc in absurd (omega arith)
+some-name [] i = let h = i .there in never cc
 some-name (m ∷ ms) i = refl
 
 pub vars-declared : (ns : Names) (vs : List (Located VarDecl)) → varsRefused ns vs ≡ none → Each (DeclaredAt ns vs) (concatMap (declaredBy ns) vs)

@@ -25,7 +25,8 @@ use Rattle.semantics.specs.Global.Item.{valuesItem, strItem, arrayItem, setItem
 use Rattle.semantics.specs.Global.Init.{noInit, constInit, arrayInit, pendingInit}
 use Rattle.semantics.specs.Image.{written, wordBytes, bigBytes, realBytes, handle, elemSize, partAt, endAfter, areaAfter, ArrayPart, Replay, startOf, lay, replayItem, replayAll}
 use Rattle.semantics.specs.Demand.{isOf, ofKind, kindsFit, Laid, afterPart, laidFrom, valueBytes, firstBytes, imageByte, stringBytes, elementBytes, afterString, elementsBytes, partByte, areaByte}
-use Rattle.laws.proofs.Tests.{never, and-left, and-right}
+use Rattle.semantics.proofs.Common.{never}
+use Rattle.laws.proofs.Tests.{and-left, and-right}
 use Rattle.demand.proofs.Bytes.{shifted, shifted-below, shifted-at, shifted-past, shifted-nil, shifted-append, length-written, written-adds, layer, lies-below, getD-zeros, word-bytes}
 use Rattle.laws.proofs.Alignments.{global-size}
 use Rattle.demand.proofs.Elements.{Sized}

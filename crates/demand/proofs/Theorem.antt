@@ -1,7 +1,6 @@
 -- Demand 3, proved.
 use Prim.Native.Nat.{ℕ, _≤_}
 use native.Mathlib.Nat.{zero-add, le-refl}
-use native.Mathlib.Omega.{arith}
 use mathlib.Core.Path.{_≡_, refl, ap, _∙_, subst}
 use mathlib.Core.Bool.{Bool, true, false, cond}
 use mathlib.Core.List.{List, [], _∷_}
@@ -18,7 +17,7 @@ use Rattle.semantics.specs.Image.{Memory, memoryOf, areaAfter}
 use Rattle.semantics.specs.Refusal.{Buffers, Outcome, Imaged, sourceGlobals, laidIn, replayed, afterListing, compiled, imaged, imageBytes, areaBytes}
 use Rattle.semantics.specs.Refusal.Outcome.{listed, refused}
 use Rattle.semantics.specs.Refusal.Imaged.{laid, notLaid}
-use Rattle.semantics.proofs.Common.{zeros-at}
+use Rattle.semantics.proofs.Common.{never, zeros-at}
 use Rattle.semantics.specs.Demand.{namesDistinct, kindsFit, sourceDeclared, laidFrom, laidOf, AllDeclared, imageEnd, areaEnd, EveryByte, Demand}
 use Rattle.demand.proofs.Records.{records-apart}
 use Rattle.demand.proofs.Elements.{Sized, array-given, init-sized}
@@ -48,7 +47,7 @@ parts-laid (d ∷ ds) e k a = parts-laid ds _ _ _
 -- ---- an accepted sheet's image and area are those of its globals
 
 never-laid : {A : Type 0} (n k : ℕ) (image area : Bytes) → notLaid n k ≡ laid image area → A
-never-laid n k image area h = let z : _≡_ {A = ℕ} 0 1 = cc in absurd (omega arith)
+never-laid n k image area h = never cc
 
 module _ (image area : Bytes) where
   if-laid : (t : Bool) (x : Imaged) → cond t (notLaid 13 0) x ≡ laid image area → x ≡ laid image area

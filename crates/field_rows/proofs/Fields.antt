@@ -19,7 +19,7 @@ use Rattle.lines.specs.Lines.{readAt, nodesIn}
 use Rattle.sizes.specs.declared.place.Reached.{Reached}
 use Rattle.sizes.specs.Sizes.{typeAt, Measures}
 use Rattle.sizes.specs.Places.{fieldAt, fieldsAt, FieldLine, FieldRefs, LinePlaced}
-use Rattle.sizes.proofs.Rows.{values-length}
+use Rattle.refs.proofs.Fields.{values-length}
 use Rattle.sizes.proofs.Places.{fd-is, untyped, typed, fields-next}
 use Rattle.records.proofs.Picks.{names-at}
 use Rattle.laws.proofs.Lists.{concat-append}

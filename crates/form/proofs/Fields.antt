@@ -12,6 +12,7 @@ use lib.Seq.{take-all}
 use borrow.Author.Tests.{ltb-true, ltb-false}
 use Rattle.semantics.specs.Text.{partsAt, holdsOf, fromBigEndian, intOf, unhex, isName}
 use Rattle.semantics.specs.Form as Form
+use Rattle.semantics.proofs.Common.{never}
 use Rattle.text.specs.Parts.{until}
 use Rattle.decimal.specs.Number.{whole, integerOf, isBetween}
 use Rattle.hex.specs.Hex.{word, wordOf}
@@ -75,10 +76,10 @@ module _ (s : List ℕ) where
     where
       of : (b : Bool) (y : ℤ) → cond b (Integer.Is y) Integer.Bad ≡ Integer.Is z → true ≡ b
       of true y e = refl
-      of false y e = let o : _≡_ {A = ℕ} 0 1 = cc in absurd (omega arith)
+      of false y e = never cc
 
       go : (o : Option ℤ) → whole o ≡ Integer.Is z → true ≡ holdsOf (Form.between 9223372036854775808 9223372036854775807) o
-      go none e = let o : _≡_ {A = ℕ} 0 1 = cc in absurd (omega arith)
+      go none e = never cc
       go (some y) e = of (Form.between 9223372036854775808 9223372036854775807 y) y e
 
   pub i64-bad : integerOf s ≡ Integer.Bad → false ≡ isBetween 9223372036854775808 9223372036854775807 s
@@ -87,7 +88,7 @@ module _ (s : List ℕ) where
     where
       of : (b : Bool) (y : ℤ) → cond b (Integer.Is y) Integer.Bad ≡ Integer.Bad → false ≡ b
       of false y e = refl
-      of true y e = let o : _≡_ {A = ℕ} 0 1 = cc in absurd (omega arith)
+      of true y e = never cc
 
       go : (o : Option ℤ) → whole o ≡ Integer.Bad → false ≡ holdsOf (Form.between 9223372036854775808 9223372036854775807) o
       go none e = refl
@@ -101,10 +102,10 @@ module _ (s : List ℕ) where
     where
       of : (b : Bool) (m : ℕ) → cond b (Word.Bits m) Word.Bad ≡ Word.Bits n → leb (n % 9223372036854775808) 9218868437227405312 ≡ b && Form.notNaN m
       of true m e = let q : m ≡ n = cc in rw q
-      of false m e = let o : _≡_ {A = ℕ} 0 1 = cc in absurd (omega arith)
+      of false m e = never cc
 
       go : (o : Option (List ℕ)) → word o ≡ Word.Bits n → leb (n % 9223372036854775808) 9218868437227405312 ≡ holdsOf Form.isRealBytes o
-      go none e = let o : _≡_ {A = ℕ} 0 1 = cc in absurd (omega arith)
+      go none e = never cc
       go (some bs) e = of (eqb (length bs) 8) (fromBigEndian 0 bs) e
 
   pub real-bad : wordOf s ≡ Word.Bad → false ≡ isReal s
@@ -112,7 +113,7 @@ module _ (s : List ℕ) where
   real-bad = go (unhex s)
     where
       of : (b : Bool) (m : ℕ) → cond b (Word.Bits m) Word.Bad ≡ Word.Bad → false ≡ b && Form.notNaN m
-      of true m e = let o : _≡_ {A = ℕ} 0 1 = cc in absurd (omega arith)
+      of true m e = never cc
       of false m e = refl
 
       go : (o : Option (List ℕ)) → word o ≡ Word.Bad → false ≡ holdsOf Form.isRealBytes o

@@ -22,7 +22,8 @@ use Rattle.text.proofs.Parts.{until-take, parts-step, parts-one}
 use Rattle.form.specs.Table.{code, codes, rowAt, wordsAt, kindAt, codesAt, fieldsBehind, formOf}
 use Rattle.form.specs.declared.Walk.{Walk}
 use Rattle.form.specs.Letters.{isKeyField, isReal, limitOf, holds, after, fits, pending, Ready, lettersFrom, fieldsLeft, Standing, Stepped, beginning}
-use Rattle.form.proofs.Table.{fine, both, row-count, words-plain, codes-plain, parts-fine}
+use Rattle.semantics.proofs.Common.{never, both}
+use Rattle.form.proofs.Table.{fine, row-count, words-plain, codes-plain, parts-fine}
 
 -- what stands in a list is within it
 pub inside : (xs : List ℕ) (i : ℕ) → (getD xs i 32 ≡ 32 → ⊥) → i < length xs
@@ -180,7 +181,7 @@ unfolding holds limitOf
 blank-bad s = le-ltb (Number.numberOf 65536 s) 0 (omega arith)
 
 pub not-blank : (x : ℕ) (s : List ℕ) → holds x s ≡ true → x ≡ 32 → ⊥
-not-blank x s h e = let z : _≡_ {A = ℕ} 0 1 = (let p : true ≡ false = sym h ∙ rw e (blank-bad s) in cc) in omega arith
+not-blank x s h e = let p : true ≡ false = sym h ∙ rw e (blank-bad s) in never (sym p)
 
 holds-count : (x : ℕ) (s : List ℕ) → 97 ≤ x → holds x s ≡ ltb (Number.numberOf 65536 s) 17
 unfolding holds limitOf

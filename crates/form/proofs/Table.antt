@@ -11,7 +11,7 @@ use borrow.Author.Tests.{eq-eqb, ltb-true, leb-true, eqb-false, not-true}
 use Rattle.semantics.specs.Text as Text
 use Rattle.semantics.specs.Form as Form
 use Rattle.semantics.specs.Form.Part.{one, many}
-pub use Rattle.semantics.proofs.Common.{never, both}
+use Rattle.semantics.proofs.Common.{both}
 use Rattle.form.specs.Table.{code, codes, fill, encode, table, rowAt, wordsAt, kindAt, codesAt}
 
 fill-length : (n : ℕ) (xs : List ℕ) → length (fill n xs) ≡ n

@@ -20,7 +20,7 @@ use Rattle.semantics.specs.Layout.{sizeOf, isPtr}
 use Rattle.semantics.specs.Global.{globalSize}
 use Rattle.decimal.specs.Number as Number
 use Rattle.form.specs.Table.{rowAt, kindAt}
-use Rattle.form.proofs.Table.{never, only-var, form-of-kind}
+use Rattle.form.proofs.Table.{only-var, form-of-kind}
 use Rattle.lines.specs.Lines.{readsIn, readAt, nodesIn, formAt, Whole}
 use Rattle.lines.proofs.Line.{form-low, form-is, kind-is, read-fits}
 use Rattle.refs.proofs.Fine.{needed-ref}
@@ -28,6 +28,7 @@ use Rattle.sizes.specs.Sizes.{typeAt, TypeLine}
 use Rattle.refs.proofs.Fields.{number-exact, count-exact, third-count, values-length}
 use Rattle.sizes.proofs.Types.{Good, May, ref-head, maybe-head}
 use Rattle.global_table.specs.Table.{VarLine, typeOn, namesOn}
+use Rattle.semantics.proofs.Common.{never}
 
 -- all pointers take a word
 pub size-word : (t : Ty) → isPtr t ≡ true → 4 ≡ globalSize t

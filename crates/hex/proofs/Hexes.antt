@@ -12,6 +12,7 @@ use lib.ListN.{length, drop, getD, drop-of-length-le, List·getD-eq-default}
 use lib.Seq.{drop-cons}
 use borrow.Author.Tests.{eq-eqb, ne-eqb}
 use Rattle.semantics.specs.Text.{Bytes, orElse, mapOption, inRange, hexValue, hexPair, unhex}
+use Rattle.semantics.proofs.Common.{never}
 use Rattle.hex.specs.declared.Word.the-variants.{Bits, Bad}
 use Rattle.hex.specs.Hex.{digitOf, pairByte, pairOf, byteAt, word, wordOf, wordFrom}
 use Rattle.text.proofs.Tests.{within-yes}
@@ -92,10 +93,10 @@ module _ (h l : ℕ) where
 -- ---- pairs of digits
 
 pair-opens : (x y : Option ℕ) (o : Option Bytes) → (pairByte x y ≡ none → hexPair x y o ≡ none) × ((v : ℕ) → pairByte x y ≡ some v → hexPair x y o ≡ mapOption (λ (bs : Bytes). v ∷ bs) o)
-pair-opens none y o = (λ e. refl, λ v e. let z : _≡_ {A = ℕ} 0 1 = cc in absurd (omega arith))
-pair-opens (some m) none o = (λ e. refl, λ v e. let z : _≡_ {A = ℕ} 0 1 = cc in absurd (omega arith))
+pair-opens none y o = (λ e. refl, λ v e. never cc)
+pair-opens (some m) none o = (λ e. refl, λ v e. never cc)
 pair-opens (some m) (some n) none = (λ e. refl, λ v e. refl)
-pair-opens (some m) (some n) (some bs) = (λ e. let z : _≡_ {A = ℕ} 0 1 = cc in absurd (omega arith), λ v e. cc)
+pair-opens (some m) (some n) (some bs) = (λ e. never cc, λ v e. cc)
 
 module _ (s : Bytes) (i : ℕ) (h : i + 1 < length s) {v : ℕ} (is : v ≡ pairOf (getD s i 0) (getD s (i + 1) 0)) where
   two : drop i s ≡ getD s i 0 ∷ (getD s (i + 1) 0 ∷ drop (i + 2) s)
@@ -147,16 +148,16 @@ module _ (s : Bytes) (i : ℕ) where
 
 -- the bytes behind two digits
 unhex-tail : (x y : Option ℕ) (o : Option Bytes) (bs : Bytes) → hexPair x y o ≡ some bs → (v : ℕ) × (cs : Bytes) × (pairByte x y ≡ some v) × (o ≡ some cs) × (bs ≡ v ∷ cs)
-unhex-tail none y o bs e = let z : _≡_ {A = ℕ} 0 1 = cc in absurd (omega arith)
-unhex-tail (some m) none o bs e = let z : _≡_ {A = ℕ} 0 1 = cc in absurd (omega arith)
-unhex-tail (some m) (some n) none bs e = let z : _≡_ {A = ℕ} 0 1 = cc in absurd (omega arith)
+unhex-tail none y o bs e = never cc
+unhex-tail (some m) none o bs e = never cc
+unhex-tail (some m) (some n) none bs e = never cc
 unhex-tail (some m) (some n) (some cs) bs e = let q : bs ≡ (m * 16 + n) ∷ cs = cc in (m * 16 + n, cs, refl, refl, q)
 
 -- byte i of a good field is the byte at i of those that it writes
 pub byte-of : (s bs : Bytes) (i : ℕ) → unhex s ≡ some bs → byteAt s i ≡ getD bs i 0
 unfolding unhex byteAt
 byte-of [] bs i e = let q : [] ≡ bs = cc in rw (← q)
-byte-of (h ∷ []) bs i e = let z : _≡_ {A = ℕ} 0 1 = cc in absurd (omega arith)
+byte-of (h ∷ []) bs i e = never cc
 byte-of (h ∷ (l ∷ ds)) bs zero e = let t = unhex-tail (hexValue h) (hexValue l) (unhex ds) bs e in ap (orElse 0) (t .2) ∙ ap (λ (l : Bytes). getD l 0 0) (sym (t .4))
 byte-of (h ∷ (l ∷ ds)) bs (suc i) e =
     let t = unhex-tail (hexValue h) (hexValue l) (unhex ds) bs e in
@@ -169,7 +170,7 @@ byte-of (h ∷ (l ∷ ds)) bs (suc i) e =
 pub unhex-length : (s bs : Bytes) → unhex s ≡ some bs → length s ≡ 2 * length bs
 unfolding unhex
 unhex-length [] bs e = let q : [] ≡ bs = cc in ap (λ (l : Bytes). 2 * length l) q
-unhex-length (h ∷ []) bs e = let z : _≡_ {A = ℕ} 0 1 = cc in absurd (omega arith)
+unhex-length (h ∷ []) bs e = never cc
 unhex-length (h ∷ (l ∷ ds)) bs e =
     let t = unhex-tail (hexValue h) (hexValue l) (unhex ds) bs e in
     omega (arith, unhex-length ds (t .1) (t .3), ap length (t .4))

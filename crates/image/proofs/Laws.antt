@@ -15,6 +15,7 @@ use Rattle.semantics.specs.Image.{memoryOf, areaAfter}
 use Rattle.semantics.specs.Refusal.{Buffers, Outcome, Imaged, compiled, imaged, zeros, padded, listingBytes, listingKept, imageBytes, areaBytes, replayed, afterListing, sourceGlobals, sourceListing}
 use Rattle.semantics.specs.Refusal.Outcome.{listed, refused}
 use Rattle.semantics.specs.Refusal.Imaged.{laid, notLaid}
+use Rattle.semantics.proofs.Common.{never}
 use Rattle.demand.proofs.Theorem.{demand}
 use Rattle.replay.specs.declared.Replayed.{Replayed}
 use Rattle.replay.specs.declared.Replayed.the-variants as Replayed
@@ -116,7 +117,7 @@ module _ (s : Bytes) (b : Buffers) where
   outgrown : (t u : Bool) (x y : Bytes) → Replayed.Outgrown ≡ lengthsOf (cond t (notLaid 13 0) (cond u (notLaid 13 0) (laid x y))) → cond t (notLaid 13 0) (cond u (notLaid 13 0) (laid x y)) ≡ notLaid 13 0
   outgrown true u x y h = refl
   outgrown false true x y h = refl
-  outgrown false false x y h = let z : _≡_ {A = ℕ} 0 1 = cc in absurd (omega arith)
+  outgrown false false x y h = never cc
 
   never-fits : Replayed.Outgrown ≡ lengthsOf (replayed b items) → replayed b items ≡ notLaid 13 0
   never-fits h = let m = memoryOf items in outgrown (ltb (b .area) (areaAfter 0 (items .items))) (ltb (b .image) (length (m .image))) (m .image) (m .area) h
@@ -129,7 +130,7 @@ module _ (s : Bytes) (b : Buffers) where
       laid-pictures (sourceListing (sheetSource s)) x y (h .outcome) q (h .long) (h .room) (h .bytes) (cc) (m .imageIs) image-long (cc) (m .areaIs) area-long
   by-image {l} {i} {a} (notLaid n k) q h image-long area-long e m =
       let f : Replayed.Laid i a ≡ Replayed.Outgrown = sym e ∙ m .answer in
-      let z : _≡_ {A = ℕ} 0 1 = cc in absurd (omega arith)
+      never cc
 
   module _ {l end : ℕ} {listing u t t′ image image′ area area′ : Bytes} {r : Replayed} (h : Listing l end listing u)
       (image-long : length image ≡ b .image) (area-long : length area ≡ b .area) (e : Replays (take (l - 0) listing) end t t′ image image′ area area′ r) where

@@ -15,7 +15,7 @@ use Rattle.semantics.specs.Form as Form
 use Rattle.semantics.specs.Sheet.{Source, opened, openAfter, sheetSource, firstOf}
 use Rattle.semantics.specs.Const.{implements}
 use Rattle.form.specs.Table.{kindAt}
-use Rattle.form.proofs.Table.{both}
+use Rattle.semantics.proofs.Common.{both}
 use Rattle.lines.specs.Lines.{textAt, readAt, nodesIn, formAt}
 use Rattle.lines.proofs.Line.{read-is, kind-is}
 use Rattle.refs.proofs.Nodes.{node-count}

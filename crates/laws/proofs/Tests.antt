@@ -5,8 +5,7 @@ use mathlib.Core.List.{[], _∷_}
 use lib.Dec.{eqb}
 use borrow.Author.Tests.{eqb-true, eq-eqb}
 use Rattle.semantics.specs.Text.{Bytes, same}
-use Rattle.semantics.proofs.Common.{both}
-pub use Rattle.semantics.proofs.Common.{never}
+use Rattle.semantics.proofs.Common.{never, both}
 
 pub and-left : (a b : Bool) → a && b ≡ true → a ≡ true
 and-left a b h = both a b h .0

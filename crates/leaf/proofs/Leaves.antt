@@ -33,7 +33,7 @@ use Rattle.hex.proofs.Hexes.{byte-of, unhex-length}
 use Rattle.write.specs.Wrote.{over, Wrote}
 use Rattle.write.proofs.Wrote.{wrote-as, wrote-next}
 use Rattle.form.specs.Table.{rowAt, rowNode}
-use Rattle.form.proofs.Table.{never, both}
+use Rattle.semantics.proofs.Common.{never, both}
 use Rattle.lines.specs.Lines.{textAt, readAt, nodesIn, formAt}
 use Rattle.lines.proofs.Line.{fields-are, line-short}
 use Rattle.checks.specs.Checks.{Kept}
@@ -65,7 +65,7 @@ unfolding valueIn
 integer-is x h p q f t top = let e = integer-read x h in (ap vInt (toZ-ofZ f ∙ (cc)), tt)
 
 pub integer-not : {A : Type 0} (x : Bytes) {o : Integer} → holds Atom.i64 x ≡ true → o ≡ integerOf x → o ≡ NoInteger → A
-integer-not x h p q = let e = integer-read x h in let z : _≡_ {A = ℕ} 0 1 = cc in absurd (omega arith)
+integer-not x h p q = let e = integer-read x h in never cc
 
 real-read : (x : Bytes) → holds Atom.real x ≡ true → wordOf x ≡ Bits (fromBigEndian 0 (orElse [] (unhex x)))
 unfolding wordOf
@@ -84,7 +84,7 @@ real-is x {n = n} h p q e t top =
     (ap vReal (e ∙ ap (ofBits binary64) g), tt)
 
 pub real-not : {A : Type 0} (x : Bytes) {o : Word} → holds Atom.real x ≡ true → o ≡ wordOf x → o ≡ Bad → A
-real-not x h p q = let e = real-read x h in let z : _≡_ {A = ℕ} 0 1 = cc in absurd (omega arith)
+real-not x h p q = let e = real-read x h in never cc
 
 -- ---- strings
 

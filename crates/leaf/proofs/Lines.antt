@@ -22,7 +22,7 @@ use Rattle.semantics.specs.Form.Part.{one, many}
 use Rattle.semantics.specs.Refusal.{Ref, refOf, refsIn, refsOf, deepest}
 use Rattle.decimal.specs.Number as Number
 use Rattle.form.specs.Table.{rowAt, rowNode}
-use Rattle.form.proofs.Table.{never, both}
+use Rattle.semantics.proofs.Common.{never, both}
 use Rattle.lines.specs.Lines.{readsIn, readAt, nodesIn, formAt}
 use Rattle.lines.proofs.Line.{line-count, form-low, form-is, kind-is, read-fits}
 use Rattle.refs.specs.Refs.{fineRef, fineRefs}
@@ -32,7 +32,7 @@ use Rattle.nesting.specs.Nesting.{depthsFrom, depthOf, lowerRefs}
 use Rattle.checks.specs.Checks.{Checked}
 use Rattle.sizes.specs.Sizes.{typeAt}
 use Rattle.sizes.proofs.Forms.{type-form, ex-form, of-types}
-use Rattle.sizes.proofs.Types.{number-exact}
+use Rattle.refs.proofs.Fields.{number-exact}
 use Rattle.values.specs.Values.{unaryAt, binaryAt, basicAt}
 use Rattle.leaf.specs.Folds.{exAt, literalOf, ExLine}
 

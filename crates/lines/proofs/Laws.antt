@@ -15,12 +15,38 @@ use Rattle.text.specs.Parts.{until}
 use Rattle.semantics.specs.Text as Text
 use Rattle.semantics.specs.Form as Form
 use Rattle.semantics.specs.Refusal as Refusal
+use Rattle.semantics.proofs.Common.{never}
 use Rattle.text.proofs.Parts.{until-take, parts-step, parts-one}
 use Rattle.form.specs.Table.{formOf}
 use Rattle.lines.specs.Lines.{textAt, start, formAt, entered, Lined, Whole, Above}
 use Rattle.lines.proofs.Line.{row-below}
 
 -- ---- the tables
+
+-- bytes above the tables of lines may change
+module _ (t u : List ℕ) (alike : (i : ℕ) → i < 3072 → getD u i 0 ≡ getD t i 0) where
+  start-kept : (i : ℕ) → i < 1024 → start u i ≡ start t i
+  unfolding start
+  start-kept i h = rw (alike i (omega arith), alike (1024 + i) (omega arith))
+
+  form-kept : (i : ℕ) → i < 1024 → formAt u i ≡ formAt t i
+  unfolding formAt
+  form-kept i h = alike (2048 + i) (omega arith)
+
+  pub whole-kept : {s : List ℕ} {n : ℕ} → length u ≡ length t → Whole s t n → Whole s u n
+  whole-kept e w =
+      let l = w .lined in
+      record {
+        lined = record {
+          few = l .few;
+          at = λ i h. rw (start-kept i (omega (arith, l .few))) (l .at i h);
+          within = λ i h. rw (start-kept i (omega (arith, l .few))) (l .within i h);
+          row = λ i h. rw (form-kept i (omega (arith, l .few))) (l .row i h);
+          good = l .good;
+        };
+        count = w .count;
+        room = rw e (w .room);
+      }
 
 module _ (t : List ℕ) (i a f : ℕ) (hi : i < 1024) (ha : a < 65536) (room : 65536 ≤ length t) where
   other : (j : ℕ) → (j ≡ i → ⊥) → (j ≡ 1024 + i → ⊥) → (j ≡ 2048 + i → ⊥) → getD (entered t i a f) j 0 ≡ getD t j 0
@@ -63,17 +89,17 @@ module _ (t : List ℕ) (i a f : ℕ) (hi : i < 1024) (ha : a < 65536) (room : 6
 
 drop-tail : {A : Type 0} (n : ℕ) (xs ys : List A) (y : A) → drop n xs ≡ y ∷ ys → drop (n + 1) xs ≡ ys
 drop-tail zero xs ys y e = ap (drop 1) e
-drop-tail (suc n) [] ys y e = let z : _≡_ {A = ℕ} 0 1 = cc in absurd (omega arith)
+drop-tail (suc n) [] ys y e = never cc
 drop-tail (suc n) (x ∷ xs) ys y e = let q : suc n + 1 ≡ suc (n + 1) = omega arith in rw q (drop-tail n xs ys y e)
 
 get-head : {A : Type 0} (d : A) (n : ℕ) (xs ys : List A) (y : A) → drop n xs ≡ y ∷ ys → getD xs n d ≡ y
 get-head d zero xs ys y e = ap (λ l. getD l 0 d) e
-get-head d (suc n) [] ys y e = let z : _≡_ {A = ℕ} 0 1 = cc in absurd (omega arith)
+get-head d (suc n) [] ys y e = never cc
 get-head d (suc n) (x ∷ xs) ys y e = get-head d n xs ys y e
 
 drop-length-is : {A : Type 0} (n : ℕ) (xs ys : List A) (y : A) → drop n xs ≡ y ∷ ys → length xs ≡ n + suc (length ys)
 drop-length-is zero xs ys y e = ap length e ∙ omega arith
-drop-length-is (suc n) [] ys y e = let z : _≡_ {A = ℕ} 0 1 = cc in absurd (omega arith)
+drop-length-is (suc n) [] ys y e = never cc
 drop-length-is (suc n) (x ∷ xs) ys y e = let q = drop-length-is n xs ys y e in omega arith
 
 parts-cons : (s : List ℕ) → Text.lineParts s ≡ until 10 s ∷ drop 1 (Text.lineParts s)

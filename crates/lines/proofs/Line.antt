@@ -12,7 +12,8 @@ use Rattle.semantics.specs.Form as Form
 use Rattle.semantics.specs.Sheet.{readsOf}
 use Rattle.semantics.specs.Refusal.{noRead}
 use Rattle.form.specs.Table.{rowCount, rowAt, kindAt, fieldsBehind}
-use Rattle.form.proofs.Table.{both, row-count}
+use Rattle.semantics.proofs.Common.{both}
+use Rattle.form.proofs.Table.{row-count}
 use Rattle.lines.specs.Lines.{textAt, readsIn, readAt, formAt, Whole}
 
 -- ---- a line that has a form

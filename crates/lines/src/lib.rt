@@ -1,5 +1,6 @@
 // The lines of a sheet: their forms, and tables of them in the working space.
 use codes::area;
+use words::wide;
 ghost use mathlib.Core.Path.{_≡_};
 ghost use Prim.Native.Nat.{_+_, _≤_, _<_};
 ghost use mathlib.Core.List.{[]};
@@ -13,13 +14,6 @@ const ROWS: usize = 42;
 pub enum Formed {
     Lines(usize),
     NoForm(usize),
-}
-
-// A byte as a number.
-pub fn wide(x: u8) -> usize
-    ensures { λ r. ⌜ (r ≡ x) × (r < 256) ⌝ }
-{
-    x as usize
 }
 
 // Line i starts at `at` and has form f.

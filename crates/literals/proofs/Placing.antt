@@ -12,7 +12,7 @@ use Rattle.semantics.specs.Tree as Tree
 use Rattle.semantics.specs.Fold.{Result, bind}
 use Rattle.semantics.specs.Array.{Filled, placeIndices}
 use Rattle.ints.proofs.Widths.{held}
-use Rattle.form.proofs.Table.{never}
+use Rattle.semantics.proofs.Common.{never}
 use Rattle.checks.specs.Checks.{Kept}
 use Rattle.placements.specs.declared.Placed.{Placed}
 use Rattle.placements.specs.declared.Placed.the-variants.{Into, Negative, Failed, TooLong}

@@ -41,15 +41,15 @@ module _ (t : Bytes) {x : Folded} where
     unfolding resultIn valueIn
     int-value d f = rw (e, d, toZ-ofZ f)
 
-    pub real-value : {y : Float} → v ≡ Real y → failed ≡ bind (resultIn t x) asInt
-    unfolding resultIn valueIn
-    real-value d = rw (e, d)
-
-    pub string-value : {p l : ℕ} → v ≡ Str p l → failed ≡ bind (resultIn t x) asInt
-    unfolding resultIn valueIn
-    string-value d = rw (e, d)
-
   module _ {A : Type 0} (f : Tree.ConstVal → Result A) where
+    pub real-value : {v : ConstVal} {y : Float} → x ≡ Folded.Value v → v ≡ Real y → failed ≡ f (Tree.ConstVal.vReal y) → failed ≡ bind (resultIn t x) f
+    unfolding resultIn valueIn
+    real-value e d h = rw (e, d) h
+
+    pub string-value : {v : ConstVal} {p l : ℕ} → x ≡ Folded.Value v → v ≡ Str p l → ((y : Bytes) → failed ≡ f (Tree.ConstVal.vStr y)) → failed ≡ bind (resultIn t x) f
+    unfolding resultIn valueIn
+    string-value e d h = rw (e, d) (h _)
+
     pub no-value : x ≡ Folded.Failed → failed ≡ bind (resultIn t x) f
     unfolding resultIn
     no-value e = rw e

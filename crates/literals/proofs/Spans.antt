@@ -17,9 +17,9 @@ use Rattle.semantics.specs.Fold.{Result, bind, Names}
 use Rattle.semantics.specs.Fold.Result.{ok, failed, refuse}
 use Rattle.semantics.specs.Array.{Filled, placeIndices, placeSpans, spanOf, spansOf}
 use Rattle.decimal.specs.Number as Number
-use Rattle.form.proofs.Table.{never}
+use Rattle.semantics.proofs.Common.{never}
 use Rattle.lines.specs.Lines.{readAt, nodesIn}
-use Rattle.sizes.proofs.Types.{head-drop, tail-drop}
+use Rattle.refs.proofs.Fields.{head-drop, tail-drop}
 use Rattle.placements.specs.declared.Placed.{Placed}
 use Rattle.placements.specs.declared.Placed.the-variants.{Into, Negative, Failed, TooLong}
 use Rattle.placements.specs.Placements.{elementAt, Keeps, Filling, Step, stopped}

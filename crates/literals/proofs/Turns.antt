@@ -22,7 +22,8 @@ use Rattle.semantics.specs.Fold.{Result, bind}
 use Rattle.semantics.specs.Array.{Filled, noneFilled, fillElement, fill}
 use Rattle.decimal.specs.Number as Number
 use Rattle.lines.specs.Lines.{readsIn, readAt, nodesIn}
-use Rattle.sizes.proofs.Types.{May, maybe-head, Group, group-at, head-drop, tail-drop}
+use Rattle.refs.proofs.Fields.{head-drop, tail-drop}
+use Rattle.sizes.proofs.Types.{May, maybe-head, Group, group-at}
 use Rattle.placements.specs.declared.Placed.{Placed}
 use Rattle.placements.specs.declared.Placed.the-variants.{Into, Negative, Failed, TooLong}
 use Rattle.placements.specs.Placements.{Keeps, Filling, Goes, Step}

@@ -45,6 +45,7 @@ kindOf t i = getD t (5124 + 16 * i) 0
 abbrev pub bitsOf : Bytes → ℕ → ℕ
 bitsOf t i = bitsAt t (5125 + 16 * i)
 
+-- the digest of entry i's name, by which look-ups pass over other names
 abbrev pub digestOf : Bytes → ℕ → ℕ
 digestOf t i = getD t (5133 + 16 * i) 0
 

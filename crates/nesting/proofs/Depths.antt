@@ -10,7 +10,7 @@ use lib.Seq.{getD-take, getD-append-seam, take-all, take-at, take-take}
 use borrow.Author.Tests.{lt-ltb, leb-true, ltb-true, eqb-false}
 use Rattle.semantics.specs.Form.{Read}
 use Rattle.semantics.specs.Refusal.{Ref, noRead, refsOf, deepest, tooDeepFrom, badRefFrom}
-use Rattle.form.proofs.Table.{both}
+use Rattle.semantics.proofs.Common.{both}
 use Rattle.lines.specs.Lines.{readsIn, readAt, Whole}
 use Rattle.lines.proofs.Line.{line-count}
 use Rattle.refs.specs.Refs.{fineRef, fineRefs}

@@ -62,25 +62,20 @@ module _ (t ds : List ℕ) (i : ℕ) (small : i < 1024) (d : Depths t ds i) (x :
   m : ℕ
   m = Form.numberOf f
 
-  module _ (low : 32 < x) (high : x < 80) where
-    v-is : v ≡ min m 65536
-    unfolding m
-    v-is = hv ∙ ref-number x f low high good
-
-    same-depth : cond (eqb m 0) 0 (getD ds (m - 1) 0) ≡ refDepth t i x v
-    same-depth = go (eqb m 0) (ltb i m) refl refl
-      where
-        go : (y z : Bool) → eqb m 0 ≡ y → ltb i m ≡ z → cond (eqb m 0) 0 (getD ds (m - 1) 0) ≡ refDepth t i x v
-        go true z p q = let e = eqb-true m 0 p in rw p (depth-zero t i x v low high (omega (arith, v-is)))
-        go false true p q =
-            let e : (m ≡ 0 → ⊥) = eqb-false m 0 p in
-            let l : i < m = ltb-true i m q in
-            rw p (List·getD-eq-default ds 0 (omega (arith, d .count)) ∙ depth-late t i x v low high (λ z. e (omega (arith, v-is))) (omega (arith, v-is)))
-        go false false p q =
-            let e : (m ≡ 0 → ⊥) = eqb-false m 0 p in
-            let l : m ≤ i = ltb-false i m q in
-            let c : v ≡ m = omega (arith, v-is) in
-            rw p (sym (d .each (m - 1) (omega (arith, e))) ∙ depth-get t (m - 1) ∙ ap (λ (j : ℕ). getD t (4096 + (j - 1)) 0) (sym c) ∙ depth-line t i x v low high (λ z. e (omega arith)) (omega arith))
+  same-depth : 32 < x → x < 80 → v ≡ min m 65536 → cond (eqb m 0) 0 (getD ds (m - 1) 0) ≡ refDepth t i x v
+  same-depth low high v-is = go (eqb m 0) (ltb i m) refl refl
+    where
+      go : (y z : Bool) → eqb m 0 ≡ y → ltb i m ≡ z → cond (eqb m 0) 0 (getD ds (m - 1) 0) ≡ refDepth t i x v
+      go true z p q = let e = eqb-true m 0 p in rw p (depth-zero t i x v low high (omega (arith, v-is)))
+      go false true p q =
+          let e : (m ≡ 0 → ⊥) = eqb-false m 0 p in
+          let l : i < m = ltb-true i m q in
+          rw p (List·getD-eq-default ds 0 (omega (arith, d .count)) ∙ depth-late t i x v low high (λ z. e (omega (arith, v-is))) (omega (arith, v-is)))
+      go false false p q =
+          let e : (m ≡ 0 → ⊥) = eqb-false m 0 p in
+          let l : m ≤ i = ltb-false i m q in
+          let c : v ≡ m = omega (arith, v-is) in
+          rw p (sym (d .each (m - 1) (omega (arith, e))) ∙ depth-get t (m - 1) ∙ ap (λ (j : ℕ). getD t (4096 + (j - 1)) 0) (sym c) ∙ depth-line t i x v low high (λ z. e (omega arith)) (omega arith))
 
   deepest-turn : deepest ds (refOf x f rs) ≡ max (refDepth t i x v) (deepest ds rs)
   unfolding m
@@ -89,7 +84,10 @@ module _ (t ds : List ℕ) (i : ℕ) (small : i < 1024) (d : Depths t ds i) (x :
       go : (y z : Bool) → ltb 32 x ≡ y → ltb x 80 ≡ z → deepest ds (refOf x f rs) ≡ max (refDepth t i x v) (deepest ds rs)
       go false z p q = rw (← depth-low t i x v (ltb-false 32 x p), deepest-plain ds x f rs (rw p)) (omega arith)
       go true false p q = rw (← depth-high t i x v (ltb-false x 80 q), deepest-plain ds x f rs (rw (p, q))) (omega arith)
-      go true true p q = deepest-ref ds x f rs (rw (p, q)) ∙ rw (← same-depth (ltb-true 32 x p) (ltb-true x 80 q)) refl
+      go true true p q =
+          let low = ltb-true 32 x p in
+          let high = ltb-true x 80 q in
+          deepest-ref ds x f rs (rw (p, q)) ∙ rw (← same-depth low high (hv ∙ ref-number x f low high good)) refl
 
 -- ---- the fields of a line
 

@@ -1,6 +1,6 @@
 // Refusal 5: nesting.
 use codes::area;
-use lines::wide;
+use words::wide;
 ghost use mathlib.Core.Path.{_≡_};
 ghost use mathlib.Core.List.{List, []};
 ghost use Prim.Native.Nat.{ℕ, _≤_, _<_, max};

@@ -21,15 +21,6 @@ pub enum Pends {
     Refused(u8, usize),
 }
 
-fn no_rows(out: &[u8], at: usize) -> usize
-    ensures { λ r. ⌜ Wrote (now (out .entry)) at [] (now (out .entry)) r ⌝ }
-{
-    if out.len() < at {
-        return out.len() + 1;
-    }
-    at
-}
-
 // The row of name j of line r.
 fn pend_name(
     sheet: &[u8],
@@ -45,7 +36,7 @@ fn pend_name(
 {
     let name = lines::field_at(sheet, work, n, r - 1, 3 + j);
     if words::same(name, b"nil") {
-        return no_rows(out, at);
+        return write::nothing(out, at);
     }
     rows::pend_row(out, at, name)
 }
@@ -56,7 +47,7 @@ fn pend_names(sheet: &[u8], work: &[u8], n: usize, r: usize, out: &mut [u8], at:
     ensures { λ p. ⌜ Wrote (now (out .entry)) at (concatMap pendRow (laidNames (namesOn (now (sheet .entry)) r))) (now (out .exit)) p ⌝ }
 {
     let count = lines::number_at(sheet, work, n, r - 1, 2);
-    let mut p = no_rows(out, at);
+    let mut p = write::nothing(out, at);
     let mut j = 0;
     while j < count {
         p = pend_name(sheet, work, n, r, j, out, p);
@@ -79,10 +70,10 @@ fn pend_line(
     ensures { λ x. ⌜ (Pended (namesIn (now (sheet .entry)) (now (work .entry)) m) (locatedAt (now (sheet .entry)) (r - 1) ∷ []) (now (out .entry)) at x (now (out .exit))) × (Keeps 16384 49152 (now (work .entry)) (now (work .exit))) ⌝ }
 {
     match var_value(sheet, work, n, m, r) {
-        First::NoValue => Pends::Written(no_rows(out, at)),
-        First::Value(_) => Pends::Written(no_rows(out, at)),
-        First::Alloc(_, _) => Pends::Written(no_rows(out, at)),
-        First::Literal(_, _) => Pends::Written(no_rows(out, at)),
+        First::NoValue => Pends::Written(write::nothing(out, at)),
+        First::Value(_) => Pends::Written(write::nothing(out, at)),
+        First::Alloc(_, _) => Pends::Written(write::nothing(out, at)),
+        First::Literal(_, _) => Pends::Written(write::nothing(out, at)),
         First::Pending => Pends::Written(pend_names(sheet, work, n, r, out, at)),
         First::Refused(q) => Pends::Refused(q, r),
     }
@@ -103,10 +94,10 @@ fn pend_at(
     ensures { λ x. ⌜ (Pended (namesIn (now (sheet .entry)) (now (work .entry)) m) (laidAt (now (sheet .entry)) i) (now (out .entry)) at x (now (out .exit))) × (Keeps 16384 49152 (now (work .entry)) (now (work .exit))) ⌝ }
 {
     if lines::form_at(work, i) != decl::VAR {
-        return Pends::Written(no_rows(out, at));
+        return Pends::Written(write::nothing(out, at));
     }
     if !implement::is_own(sheet, work, n, k) {
-        return Pends::Written(no_rows(out, at));
+        return Pends::Written(write::nothing(out, at));
     }
     pend_line(sheet, work, n, m, i + 1, out, at)
 }
@@ -123,7 +114,7 @@ pub fn pend_rows(
     requires { ⌜ Ready (now sheet) (now work) n m ⌝ }
     ensures { λ x. ⌜ (AllPended (namesIn (now (sheet .entry)) (now (work .entry)) m) (now (sheet .entry)) (now (out .entry)) at x (now (out .exit))) × (Keeps 16384 49152 (now (work .entry)) (now (work .exit))) ⌝ }
 {
-    let mut p = no_rows(out, at);
+    let mut p = write::nothing(out, at);
     let mut k = 0;
     let mut i = 0;
     while i < n {

@@ -18,6 +18,7 @@ use Rattle.semantics.specs.Tree as Tree
 use Rattle.semantics.specs.Fold.{Result}
 use Rattle.semantics.specs.Fold.Result.{ok, failed}
 use Rattle.semantics.specs.Array.{Filled, noneFilled, placeSpan, placeIndices, placeNext}
+use Rattle.semantics.proofs.Common.{never}
 use Rattle.ints.proofs.Widths.{held}
 use Rattle.values.specs.declared.ConstVal.the-variants.{Int}
 use Rattle.values.specs.Values.{valueIn}
@@ -117,7 +118,7 @@ non-negative {z} f e = rw (toZ-ofZ f) (go z f e)
   where
     go : (z : ℤ) → SFits w64 z → z ≡ pos (natAbs z) → T (nonNeg z) × Fits w64 (natAbs z) × (natAbs z < 2 ^ 63)
     go (pos n) f e = let h : n < 9223372036854775808 = f .sfits in (tt, record { fits = omega arith }, h)
-    go (negsuc n) f e = let z : _≡_ {A = ℕ} 0 1 = cc in absurd (omega arith)
+    go (negsuc n) f e = never cc
 
 module _ (t : Bytes) (e next reach : ℕ) {low high : ℤ} (fl : SFits w64 low) (fh : SFits w64 high) where
   abbrev Act : Tree.ConstVal → Filled → Result Filled

@@ -22,7 +22,7 @@ ghost use Rattle.field_rows.specs.Rows.{placedRows};
 ghost use Rattle.record_rows.specs.Rows.{TagWrote, headText, shapeText, keyRows, allRows, LogEntry, Printed};
 
 // Fields of a record with pick begin behind its tag word.
-const TAG: u32 = 4;
+const TAG_BYTES: u32 = 4;
 
 // KEY, with its comma: T, or T.tag.
 fn put_key(sheet: &[u8], work: &[u8], n: usize, i: usize, out: &mut [u8], at: usize) -> usize
@@ -128,8 +128,8 @@ fn put_fields(sheet: &[u8], work: &[u8], n: usize, i: usize, out: &mut [u8], at:
         );
     }
     let tag = Reached {
-        end: TAG,
-        furthest: TAG,
+        end: TAG_BYTES,
+        furthest: TAG_BYTES,
     };
     let p = field_rows::put_common(sheet, work, n, r, tag, out, at);
     let c = case_of(work, i);

@@ -13,7 +13,7 @@ use borrow.Author.Tests.{eqb-true, eqb-false, eq-eqb, ne-eqb}
 use Rattle.semantics.specs.Text.{Bytes, same, all, isName, isLetter, isDigit}
 use Rattle.semantics.specs.Tree.{AdtDecl, Case}
 use Rattle.semantics.specs.Layout.{Recorded, recordsFor, lastOf, seen}
-use Rattle.form.proofs.Table.{never, both}
+use Rattle.semantics.proofs.Common.{never, both}
 use Rattle.laws.proofs.Lists.{last-append}
 use Rattle.words.proofs.Laws.{same-length}
 use Rattle.sizes.specs.Places.{RecordLine}

@@ -18,7 +18,7 @@ use Rattle.semantics.specs.Form.Atom.{name, ref}
 use Rattle.semantics.specs.Form.Part.{one}
 use Rattle.decimal.specs.Number as Number
 use Rattle.form.specs.Table.{kindAt, rowNode}
-use Rattle.form.proofs.Table.{never, both}
+use Rattle.semantics.proofs.Common.{never, both}
 use Rattle.lines.specs.Lines.{readAt, nodesIn, formAt}
 use Rattle.lines.proofs.Line.{form-low, kind-is, read-fits}
 use Rattle.refs.proofs.Nodes.{node-at}

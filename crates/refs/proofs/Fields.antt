@@ -15,7 +15,7 @@ use Rattle.semantics.specs.Tree.{Node}
 use Rattle.semantics.specs.Form.{Atom, Part, values, numberOf, fits, holds, isCount, isNumber, ones}
 use Rattle.semantics.specs.Form.Part.{one, many}
 use Rattle.decimal.specs.Number as Number
-use Rattle.form.proofs.Table.{never, both}
+use Rattle.semantics.proofs.Common.{never, both}
 
 -- ---- numbers
 

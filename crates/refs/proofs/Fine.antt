@@ -11,7 +11,7 @@ use borrow.Author.Tests.{ltb-true, eqb-true, eqb-false}
 use Rattle.semantics.specs.Text.{any}
 use Rattle.semantics.specs.Form.{Read, letter}
 use Rattle.semantics.specs.Refusal.{Ref, noRead, lineAt, refsOf, goodRef, useAll, badRefFrom}
-use Rattle.form.proofs.Table.{never, both}
+use Rattle.semantics.proofs.Common.{never, both}
 use Rattle.lines.specs.Lines.{readsIn, readAt, Whole}
 use Rattle.lines.proofs.Line.{line-count}
 use Rattle.refs.specs.Refs.{fineRef, fineRefs}
@@ -41,7 +41,7 @@ uses-fine ls i (r ∷ rs) us vs e = go (goodRef ls (i + 1) us r) refl (λ x. use
   where
     go : (b : Bool) → goodRef ls (i + 1) us r ≡ b → (useAll ls (i + 1) rs (r .line ∷ us) ≡ some vs → fineRefs ls i rs ≡ true) → fineRefs ls i (r ∷ rs) ≡ true
     go true q ih = rw (good-fine ls (i + 1) us r q) (ih (rw q at e))
-    go false q ih = let p : none ≡ some vs = rw q at e in let z : _≡_ {A = ℕ} 0 1 = cc in absurd (omega arith)
+    go false q ih = let p : none ≡ some vs = rw q at e in never cc
 
 pass-fine : (ls ms : List Read) (k : ℕ) (us : List ℕ) → badRefFrom ls (k + 1) us ms ≡ 0 → (i : ℕ) → i < length ms → fineRefs ls (k + i) (refsOf (getD ms i noRead)) ≡ true
 unfolding badRefFrom

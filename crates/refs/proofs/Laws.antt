@@ -17,7 +17,7 @@ use Rattle.semantics.specs.Refusal.{useAll, refsOf, badRefFrom}
 use Rattle.decimal.specs.Number as Number
 use Rattle.form.specs.declared.Walk.{Walk}
 use Rattle.form.specs.Table.{kindAt}
-use Rattle.form.proofs.Table.{never}
+use Rattle.semantics.proofs.Common.{never}
 use Rattle.form.specs.Letters.{holds, lettersFrom, fieldsLeft, beginning, Standing, Stepped}
 use Rattle.lines.specs.Lines.{textAt, readsIn, readAt, formAt, Whole}
 use Rattle.lines.proofs.Line.{line-count, kind-is, form-low}

@@ -18,10 +18,12 @@ use Rattle.decimal.specs.Number as Number
 use Rattle.form.specs.declared.Walk.{Walk}
 use Rattle.form.specs.Table.{code, codes, rowAt}
 use Rattle.form.specs.Letters.{after, pending, holds, lettersFrom, fieldsLeft, beginning, Standing, Stepped}
-use Rattle.form.proofs.Table.{both, fine, parts-fine}
+use Rattle.semantics.proofs.Common.{both}
+use Rattle.form.proofs.Table.{fine, parts-fine}
 use Rattle.form.proofs.Laws.{fields-end, one-after, many-after, ones-fine, kind-letter, ref-holds, walk-begins}
-use Rattle.lines.specs.Lines.{textAt, readAt, start, formAt, Lined, Whole}
+use Rattle.lines.specs.Lines.{textAt, readAt, formAt, Whole}
 use Rattle.lines.proofs.Line.{form-low, form-is, fields-are, read-fits}
+use Rattle.lines.proofs.Laws.{whole-kept}
 use Rattle.refs.specs.Refs.{refOf, refsIn}
 
 -- ---- letters say what the table's parts say
@@ -105,23 +107,5 @@ refs-end f l w h = rw (fields-end (w .at) l h)
 
 -- ---- bytes above the tables of lines may change
 
-module _ (t : List ℕ) (j y : ℕ) where
-  start-kept : (i : ℕ) → i < 1024 → start (set t (3072 + j) y) i ≡ start t i
-  unfolding start
-  start-kept i h = rw (getD-set-other t (3072 + j) i y 0 (omega arith), getD-set-other t (3072 + j) (1024 + i) y 0 (omega arith))
-
-  form-kept : (i : ℕ) → i < 1024 → formAt (set t (3072 + j) y) i ≡ formAt t i
-  unfolding formAt
-  form-kept i h = getD-set-other t (3072 + j) (2048 + i) y 0 (omega arith)
-
-  lined-kept : (s : List ℕ) (n : ℕ) → Lined s t n → Lined s (set t (3072 + j) y) n
-  lined-kept s n l = record {
-    few = l .few;
-    at = λ i h. rw (start-kept i (omega (arith, l .few))) (l .at i h);
-    within = λ i h. rw (start-kept i (omega (arith, l .few))) (l .within i h);
-    row = λ i h. rw (form-kept i (omega (arith, l .few))) (l .row i h);
-    good = λ i h. l .good i h;
-  }
-
 pub whole-set : (s t : List ℕ) (n j y : ℕ) → Whole s t n → Whole s (set t (3072 + j) y) n
-whole-set s t n j y w = record { lined = lined-kept t j y s n (w .lined); count = w .count; room = rw (length-set t (3072 + j) y) (w .room) }
+whole-set s t n j y w = whole-kept t (set t (3072 + j) y) (λ i h. getD-set-other t (3072 + j) i y 0 (omega arith)) (length-set t (3072 + j) y) w

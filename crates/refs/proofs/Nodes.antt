@@ -17,7 +17,7 @@ use Rattle.semantics.specs.Form.Part.{one, many}
 use Rattle.semantics.specs.Sheet.{nodesFrom}
 use Rattle.semantics.specs.Refusal.{Ref, noRead, refOf, refsIn, badRefFrom}
 use Rattle.form.specs.Table.{rowNode}
-use Rattle.form.proofs.Table.{never, both}
+use Rattle.semantics.proofs.Common.{never, both}
 use Rattle.lines.specs.Lines.{readsIn, readAt, nodesIn, formAt, Whole}
 use Rattle.lines.proofs.Line.{line-count, form-is, read-fits}
 use Rattle.refs.specs.Refs.{fineRef, fineRefs}

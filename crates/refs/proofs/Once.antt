@@ -10,7 +10,7 @@ use borrow.Author.Tests.{ne-eqb, eqb-true, not-true}
 use Rattle.semantics.specs.Text.{any}
 use Rattle.semantics.specs.Form.{Read, letter}
 use Rattle.semantics.specs.Refusal.{Ref, lineAt, refsOf, goodRef, useAll, badRefFrom}
-use Rattle.form.proofs.Table.{both}
+use Rattle.semantics.proofs.Common.{never, both}
 use Rattle.refs.specs.Refs.{flag, usesOf, usesIn}
 
 module _ (ls : List Read) (r : ℕ) (pos : 0 < r) where
@@ -34,7 +34,7 @@ module _ (ls : List Read) (r : ℕ) (pos : 0 < r) where
       go : (b : Bool) → goodRef ls k us x ≡ b → (useAll ls k rs (x .line ∷ us) ≡ some vs → flag (any (eqb r) vs) ≡ flag (any (eqb r) (x .line ∷ us)) + usesOf r rs)
           → flag (any (eqb r) vs) ≡ flag (any (eqb r) us) + (cond (eqb r (x .line)) 1 0 + usesOf r rs)
       go true q ih = ih (rw q at e) ∙ omega (arith, one-more k us x q)
-      go false q ih = let p : none ≡ some vs = rw q at e in let z : _≡_ {A = ℕ} 0 1 = cc in absurd (omega arith)
+      go false q ih = let p : none ≡ some vs = rw q at e in never cc
 
   flag-low : (b : Bool) → flag b ≤ 1
   flag-low true = omega arith

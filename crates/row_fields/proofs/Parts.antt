@@ -15,6 +15,7 @@ use borrow.Author.Tests.{leb-true, ltb-true, ltb-false}
 use Rattle.semantics.specs.Text.{Bytes, bytes, same, orElse, natOf, intOf, unhex, fieldsOf, fromBigEndian}
 use Rattle.semantics.specs.Form.{between}
 use Rattle.semantics.specs.Fold.{bits64}
+use Rattle.semantics.proofs.Common.{never}
 use Rattle.text.specs.Parts.{until, startOf}
 use Rattle.decimal.specs.Number.{most, capped, numberOf, whole, integerOf}
 use Rattle.hex.specs.Hex.{word, wordOf}
@@ -107,12 +108,12 @@ unfolding integerOf bitsIn
 integer-is f {z} e = go (intOf f) e
   where
     go : (o : Option ℤ) → whole o ≡ Is z → bits64 (toZ w64 (ofZ w64 z)) ≡ integerBits o
-    go none e = let q : _≡_ {A = ℕ} 0 1 = cc in absurd (omega arith)
+    go none e = never cc
     go (some y) e = by (between (2 ^ 63) (2 ^ 63 - 1) y) refl e
       where
         by : (b : Bool) → between (2 ^ 63) (2 ^ 63 - 1) y ≡ b → cond b (Is y) Bad ≡ Is z → bits64 (toZ w64 (ofZ w64 z)) ≡ cond b (bits64 y) 0
         by true h e = let q : z ≡ y = cc in ap (λ (x : ℤ). bits64 (toZ w64 (ofZ w64 x))) q ∙ ap bits64 (toZ-ofZ w64 y (fits-64 y h))
-        by false h e = let q : _≡_ {A = ℕ} 0 1 = cc in absurd (omega arith)
+        by false h e = never cc
 
 pub integer-bad : (f : Bytes) → integerOf f ≡ Bad → 0 ≡ bitsIn false f
 unfolding integerOf bitsIn
@@ -123,7 +124,7 @@ integer-bad f e = go (intOf f) e
     go (some y) e = by (between (2 ^ 63) (2 ^ 63 - 1) y) e
       where
         by : (b : Bool) → cond b (Is y) Bad ≡ Bad → 0 ≡ cond b (bits64 y) 0
-        by true e = let q : _≡_ {A = ℕ} 0 1 = cc in absurd (omega arith)
+        by true e = never cc
         by false e = refl
 
 pub real-is : (f : Bytes) {b : ℕ} → wordOf f ≡ Bits b → b ≡ bitsIn true f
@@ -131,12 +132,12 @@ unfolding wordOf bitsIn
 real-is f {b} e = go (unhex f) e
   where
     go : (o : Option Bytes) → word o ≡ Bits b → b ≡ wordBits o
-    go none e = let q : _≡_ {A = ℕ} 0 1 = cc in absurd (omega arith)
+    go none e = never cc
     go (some bs) e = by (eqb (length bs) 8) e
       where
         by : (t : Bool) → cond t (Bits (fromBigEndian 0 bs)) NoWord ≡ Bits b → b ≡ cond t (fromBigEndian 0 bs) 0
         by true e = cc
-        by false e = let q : _≡_ {A = ℕ} 0 1 = cc in absurd (omega arith)
+        by false e = never cc
 
 pub real-bad : (f : Bytes) → wordOf f ≡ NoWord → 0 ≡ bitsIn true f
 unfolding wordOf bitsIn
@@ -147,5 +148,5 @@ real-bad f e = go (unhex f) e
     go (some bs) e = by (eqb (length bs) 8) e
       where
         by : (t : Bool) → cond t (Bits (fromBigEndian 0 bs)) NoWord ≡ NoWord → 0 ≡ cond t (fromBigEndian 0 bs) 0
-        by true e = let q : _≡_ {A = ℕ} 0 1 = cc in absurd (omega arith)
+        by true e = never cc
         by false e = refl

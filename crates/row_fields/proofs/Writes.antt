@@ -23,8 +23,8 @@ use Rattle.row_fields.specs.Rest.{fieldsAt}
 abbrev pub Left : Bytes → ℕ → Bytes → Bytes → ℕ → Bytes → Type 0
 Left d a t out p u = (e : Bytes) (b : ℕ) → Wrote out p u e b → Wrote d a t e b
 
-pub left-all : (d : Bytes) (a : ℕ) (t : Bytes) → Left d a t d a t
-left-all d a t e b w = w
+pub left-all : {d : Bytes} {a p : ℕ} (t : Bytes) → Wrote d a [] d p → Left d a t d p t
+left-all t w e b x = then w x
 
 pub left-next : {d : Bytes} {a : ℕ} {t out : Bytes} {p : ℕ} {s v u out₁ : Bytes} {p₁ : ℕ} → s ≡ v ++ u → Left d a t out p s → Wrote out p v out₁ p₁ → Left d a t out₁ p₁ u
 left-next q k w e b x = k e b (rw q (then w x))

@@ -21,10 +21,7 @@ pub fn put_value(out: &mut [u8], at: usize, w: usize, n: u64) -> usize
     requires { ⌜ w ≤ 8 ⌝ }
     ensures { λ r. ⌜ Wrote (now (out .entry)) at (bigEndian w n) (now (out .exit)) r ⌝ }
 {
-    if out.len() < at {
-        return out.len() + 1;
-    }
-    let mut p = at;
+    let mut p = write::nothing(out, at);
     let mut j = w;
     while 0 < j {
         p = write::put(out, p, byte(n, j - 1));
@@ -55,10 +52,7 @@ pub fn put_values(
     requires { ⌜ w ≤ 8 ⌝ }
     ensures { λ r. ⌜ Wrote (now (out .entry)) at (valuesIn w reals (fieldsAt (now (row .entry)) from)) (now (out .exit)) r ⌝ }
 {
-    if out.len() < at {
-        return out.len() + 1;
-    }
-    let mut p = at;
+    let mut p = write::nothing(out, at);
     let mut i = from;
     while i <= row.len() {
         let e = text::find(row, i, b',');

@@ -18,7 +18,7 @@ use Rattle.semantics.specs.Form.Part.{one, many}
 use Rattle.semantics.specs.Refusal.{refsIn}
 use Rattle.decimal.specs.Number as Number
 use Rattle.form.specs.Table.{rowAt, kindAt, rowNode}
-use Rattle.form.proofs.Table.{both}
+use Rattle.semantics.proofs.Common.{never, both}
 use Rattle.lines.specs.Lines.{readsIn, readAt, nodesIn, formAt}
 use Rattle.lines.proofs.Line.{form-low, form-is, kind-is, read-fits}
 use Rattle.refs.specs.Refs.{fineRef, fineRefs}
@@ -26,9 +26,9 @@ use Rattle.refs.proofs.Fine.{needed-ref}
 use Rattle.refs.proofs.Nodes.{node-at}
 use Rattle.checks.specs.Checks.{Checked}
 use Rattle.sizes.specs.Places.{ownFields, commonAt, RecordLine}
-use Rattle.sizes.proofs.Rows.{count-number}
 use Rattle.sizes.proofs.Forms.{adt-form, pick-form}
-use Rattle.sizes.proofs.Types.{number-exact, Good, group-good, head-drop, tail-drop}
+use Rattle.refs.proofs.Fields.{number-exact, head-drop, tail-drop, count-number}
+use Rattle.sizes.proofs.Types.{Good, group-good}
 use Rattle.sizes.proofs.Places.{name-first, common-is}
 use Rattle.shapes.specs.Shapes.{firstDecl, declAt, casesIn, casesAt, PickLine, CaseOf}
 
@@ -39,14 +39,14 @@ module _ (ls : List Read) (i : ℕ) (a : Kind) (ps : List Part) where
       → (fits ps (drop m fs) ≡ true) × (fineRefs ls i (refsIn ps (drop m fs)) ≡ true)
   unfolding fineRefs
   refs-first zero fs h k = (h, k)
-  refs-first (suc m) [] h k = let z : _≡_ {A = ℕ} 0 1 = cc in absurd (omega arith)
+  refs-first (suc m) [] h k = never cc
   refs-first (suc m) (f ∷ fs) h k =
       refs-first m fs (both (holds (ref a) f) (fits (ones m (ref a) ++ ps) fs) h .1)
       (both (fineRef ls (i + 1) (record { kind = letter a; optional = false; line = numberOf f })) (fineRefs ls i (refsIn (ones m (ref a) ++ ps) fs)) k .1)
 
   group-first : (fs : List (List ℕ)) → fits (many (ref a) ∷ ps) fs ≡ true → fineRefs ls i (refsIn (many (ref a) ∷ ps) fs) ≡ true
       → (fits ps (drop (suc (numberOf (getD fs 0 []))) fs) ≡ true) × (fineRefs ls i (refsIn ps (drop (suc (numberOf (getD fs 0 []))) fs)) ≡ true)
-  group-first [] h k = let z : _≡_ {A = ℕ} 0 1 = cc in absurd (omega arith)
+  group-first [] h k = never cc
   group-first (f ∷ fs) h k = refs-first (numberOf f) fs (both (isCount f) (fits (ones (numberOf f) (ref a) ++ ps) fs) h .1) k
 
 group-length : {A : Type 0} (f : Node → A) (a : Kind) (ns : List Node) (m : ℕ) (fs : List (List ℕ)) → length (map f (values (ref a) ns m fs)) ≡ m

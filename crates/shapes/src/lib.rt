@@ -11,7 +11,7 @@ ghost use Rattle.maps.specs.Maps.{MapRoom, Marks, Made};
 ghost use Rattle.shapes.specs.Shapes.{shapeAt, casesAt, variantAt, PickLine, VariantLine, CaseOf, BehindCommon};
 
 // The bytes of the tag word of a record with `pick`: fields begin behind it.
-const TAG: u32 = 4;
+const TAG_BYTES: u32 = 4;
 
 // How many cases the `pick` line r has.
 pub fn case_count(sheet: &[u8], work: &[u8], n: usize, r: usize) -> usize
@@ -37,8 +37,8 @@ fn behind_common(sheet: &[u8], work: &[u8], n: usize, r: usize) -> Reached
     ensures { λ q. ⌜ BehindCommon (now (sheet .entry)) r q ⌝ }
 {
     let p = Reached {
-        end: TAG,
-        furthest: TAG,
+        end: TAG_BYTES,
+        furthest: TAG_BYTES,
     };
     sizes::place::place_common(sheet, work, n, r, p)
 }
@@ -107,7 +107,7 @@ fn mark_pick(sheet: &[u8], work: &mut [u8], n: usize, r: usize, size: u32)
     requires { ⌜ (PickLine (now sheet) (now work) n r) × (MapRoom (now work) size) ⌝ }
     ensures { λ _. ⌜ Marks size (shapeAt (now (sheet .entry)) r .pointers) (now (work .entry)) (now (work .exit)) ⌝ }
 {
-    let end = marks::mark_common(sheet, work, n, r, size, TAG);
+    let end = marks::mark_common(sheet, work, n, r, size, TAG_BYTES);
     let count = case_count(sheet, work, n, r);
     let mut c = 0;
     while c < count {
@@ -136,7 +136,7 @@ pub fn map_variant(sheet: &[u8], work: &mut [u8], n: usize, r: usize, c: usize, 
     ensures { λ _. ⌜ Made size (variantAt (now (sheet .entry)) r c .pointers) (now (work .entry)) (now (work .exit)) ⌝ }
 {
     maps::clear_map(work, size);
-    let behind = marks::mark_common(sheet, work, n, r, size, TAG);
+    let behind = marks::mark_common(sheet, work, n, r, size, TAG_BYTES);
     let k = case_line(sheet, work, n, r, c);
     marks::mark_case(sheet, work, n, k, size, behind);
 }

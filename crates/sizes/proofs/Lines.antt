@@ -15,7 +15,8 @@ use Rattle.semantics.specs.Form.Atom.{name, key, ref, maybe, unaryOp, binaryOp,
 use Rattle.semantics.specs.Form.Part.{one, many}
 use Rattle.semantics.specs.Sheet.{nodesFrom}
 use Rattle.semantics.specs.Refusal.{Ref, noRead, lineAt, refOf, refsIn, refsOf, sumOf}
-use Rattle.form.proofs.Table.{never, both, row-count, each-at}
+use Rattle.semantics.proofs.Common.{never, both}
+use Rattle.form.proofs.Table.{row-count, each-at}
 use Rattle.layout.specs.Lines.{linesOf, declLines, Every}
 use Rattle.layout.proofs.Bounds.{every-append}
 use Rattle.lines.specs.Lines.{readsIn, readAt, nodesIn, formAt}

@@ -24,7 +24,7 @@ use Rattle.field_list.specs.Fields.{fieldsFrom, lineFields, furthestIn}
 use Rattle.field_list.proofs.Laws.{line-take}
 use Rattle.decimal.specs.Number as Number
 use Rattle.form.specs.Table.{rowAt, kindAt, rowNode}
-use Rattle.form.proofs.Table.{never, both}
+use Rattle.semantics.proofs.Common.{never, both}
 use Rattle.lines.specs.Lines.{readsIn, readAt, nodesIn, formAt}
 use Rattle.lines.proofs.Line.{form-low, form-is, kind-is, read-fits}
 use Rattle.refs.specs.Refs.{fineRefs}

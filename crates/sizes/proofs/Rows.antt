@@ -14,8 +14,9 @@ use Rattle.semantics.specs.Form.Atom.{name, key, ref, maybe, unaryOp, binaryOp,
 use Rattle.semantics.specs.Form.Part.{one, many}
 use Rattle.semantics.specs.Refusal.{sumOf}
 use Rattle.form.specs.Table.{rowAt}
-use Rattle.form.proofs.Table.{never, both, Each, done, _also_}
-pub use Rattle.refs.proofs.Fields.{count-number, values-length}
+use Rattle.semantics.proofs.Common.{never, both}
+use Rattle.form.proofs.Table.{Each, done, _also_}
+use Rattle.refs.proofs.Fields.{count-number, values-length}
 use Rattle.layout.specs.Lines.{linesOf, linesOfAll, typeLines, fieldLines, caseLines, declLines, Every, FewNames, FewInPick}
 
 -- ---- what a node takes

@@ -22,13 +22,13 @@ use Rattle.laws.proofs.Alignments.{four-or-eight, aligned}
 use Rattle.layout.proofs.Bounds.{size-bound}
 use Rattle.decimal.specs.Number as Number
 use Rattle.form.specs.Table.{rowAt, rowNode}
-use Rattle.form.proofs.Table.{never, both}
+use Rattle.semantics.proofs.Common.{never, both}
 use Rattle.lines.specs.Lines.{readsIn, readAt, nodesIn, formAt}
 use Rattle.lines.proofs.Line.{form-low, form-is, kind-is, read-fits}
 use Rattle.refs.specs.Refs.{fineRef, fineRefs}
 use Rattle.refs.proofs.Fine.{needed-ref}
 use Rattle.refs.proofs.Nodes.{node-at}
-pub use Rattle.refs.proofs.Fields.{number-exact, count-exact, head-drop, tail-drop}
+use Rattle.refs.proofs.Fields.{number-exact, count-exact, head-drop, tail-drop}
 use Rattle.sizes.specs.Sizes.{isLong, typeAt, TypeLine, TupleLine, Measures}
 use Rattle.sizes.proofs.Lines.{type-lines}
 use Rattle.sizes.proofs.Forms.{type-form, of-types}

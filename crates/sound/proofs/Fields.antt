@@ -15,7 +15,7 @@ use Rattle.semantics.specs.Tree.{Node, noNode}
 use Rattle.semantics.specs.Form.{Atom, Part, Value, Makes, holds, between, value, values, make, numberOf, perhapsAt, isCount, fits as fields-fit, fieldsFrom, ones}
 use Rattle.semantics.specs.Form.Atom.{name, key, ref, maybe, unaryOp, binaryOp, lineOrCol, size, i64, offset, real, text}
 use Rattle.semantics.specs.Form.Part.{one, many}
-use Rattle.form.proofs.Table.{never, both}
+use Rattle.semantics.proofs.Common.{never, both}
 use Rattle.write.specs.Plain.{isPlain}
 use Rattle.demand.proofs.Lines.{Each}
 use Rattle.stored.proofs.Items.{Fits64}

@@ -16,9 +16,8 @@ use Rattle.semantics.specs.Global.Item.{valuesItem, strItem, arrayItem, setItem
 use Rattle.semantics.specs.Image.{handle, partAt, endAfter, areaAfter, Replay, replay, memoryOf, startOf, lay, moved, withPart as withReplayPart}
 use Rattle.semantics.specs.Demand.{liesIn}
 use Rattle.semantics.specs.Refusal.{Buffers, Imaged, laid, notLaid, zeros, padded, imageBytes, areaBytes, replayed}
-use Rattle.semantics.proofs.Common.{zeros-at}
+use Rattle.semantics.proofs.Common.{zeros-at, never}
 use Rattle.write.proofs.Wrote.{length-over}
-use Rattle.laws.proofs.Tests.{never}
 use Rattle.demand.proofs.Bytes.{getD-zeros}
 use Rattle.write.specs.Wrote.{over}
 use Rattle.stored.specs.Stored.{Stored, bytesAt, stringAt, arrayAt, setAt, goBack, storedOf, replayOne, replayStored}

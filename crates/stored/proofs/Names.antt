@@ -10,7 +10,8 @@ use lib.ListN.{length}
 use lib.Dec.{leb, eqb}
 use borrow.Author.Tests.{leb-true, eqb-true, lt-ltb}
 use Rattle.semantics.specs.Text.{Bytes, bytes, all, any, filter, same, isNone, inRange, isLetter, isDigit, isName}
-use Rattle.laws.proofs.Tests.{never, and-left, and-right}
+use Rattle.semantics.proofs.Common.{never}
+use Rattle.laws.proofs.Tests.{and-left, and-right}
 use Rattle.semantics.specs.Tree.{Ty, Fd, Case, AdtDecl, ConstDecl, VarDecl, ConstVal, Shape}
 use Rattle.semantics.specs.Sheet.{Module, Located, Source, concatMap}
 use Rattle.semantics.specs.Layout.{Placed, placeNames, placeLine, place, behindTag, variantFields, variantShape, Recorded, variantsOf, casesFrom, recordsFor, recordsOf, recordLog, lastOf, seen, recordsByKey, records, recordedAdts}

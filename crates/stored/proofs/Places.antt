@@ -19,7 +19,7 @@ use Rattle.semantics.specs.Global.{Item, Init, Declared, Globals, strItems, ele
 use Rattle.semantics.specs.Global.Item.{arrayItem, backItem}
 use Rattle.semantics.specs.Global.Init.{noInit, constInit, arrayInit, pendingInit}
 use Rattle.semantics.specs.Image.{wordBytes, bigBytes, realBytes, elemSize}
-use Rattle.laws.proofs.Tests.{never}
+use Rattle.semantics.proofs.Common.{never}
 use Rattle.demand.proofs.Elements.{Sized}
 use Rattle.demand.proofs.Replay.{AllSized, real-long, size-le}
 use Rattle.demand.proofs.Theorem.{vars-sized}

@@ -9,6 +9,7 @@ use borrow.Author.Tests.{ltb-true, ne-eqb}
 use Rattle.semantics.specs.Text.{Bytes, cut, headPart, tailParts, partsAt, lineParts, fieldsOf}
 use Rattle.semantics.specs.Sheet.{concatMap}
 use Rattle.semantics.specs.Listing.{row}
+use Rattle.semantics.proofs.Common.{never}
 use Rattle.write.specs.Plain.{isPlain}
 use Rattle.write.proofs.Uncut.{plain-part, plain-last}
 use Rattle.stored.specs.Reading.{readRow, readRows, readAll, sizeBy, sizeRows}
@@ -40,7 +41,7 @@ plain-ahead (b ∷ t) u h = go (ltb 44 b) refl h (λ l. plain-ahead t u l)
     go : (x : Bool) → ltb 44 b ≡ x → x && isPlain t ≡ true → (isPlain t ≡ true → partsAt 10 (t ++ u) ≡ (t ++ headPart (partsAt 10 u)) ∷ tailParts (partsAt 10 u))
         → partsAt 10 (b ∷ (t ++ u)) ≡ (b ∷ (t ++ headPart (partsAt 10 u))) ∷ tailParts (partsAt 10 u)
     go true e h ih = let l = ltb-true 44 b e in rw (ne-eqb b 10 (λ (q : b ≡ 10). omega arith), ih h)
-    go false e h ih = let z : _≡_ {A = ℕ} 0 1 = cc in absurd (omega arith)
+    go false e h ih = never cc
 
 -- a row is the first line, and its fields are those that it was made of
 pub row-line : (f : Bytes) (fs : List Bytes) (rest : Bytes) → Plain (f ∷ fs) → lineParts (row (f ∷ fs) ++ rest) ≡ lineOf f fs ∷ lineParts rest

@@ -18,7 +18,7 @@ use Rattle.semantics.specs.Global.Item.{valuesItem, strItem, arrayItem, setItem
 use Rattle.semantics.specs.Types.{sameTypeKey, arrayKey, distinct, keys, position, idOf, keyShape, descriptors, opaqueShape}
 use Rattle.semantics.specs.Image.{elemSize}
 use Rattle.semantics.specs.Listing.{listing}
-use Rattle.laws.proofs.Tests.{never}
+use Rattle.semantics.proofs.Common.{never}
 use Rattle.stored.specs.Reading.{largestSize, mostTypes, sizeIn}
 use Rattle.demand.proofs.Lines.{Each}
 use Rattle.stored.proofs.Items.{InRange, Readable}

@@ -1,6 +1,6 @@
 // Text: the parts of a sheet, whose lines end in LF and whose fields are parted by commas; and what readers of one field share.
 ghost use mathlib.Core.Path.{_≡_};
-ghost use Prim.Native.Nat.{_+_, _≤_};
+ghost use Prim.Native.Nat.{_+_, _≤_, _<_};
 ghost use lib.ListN.{length, drop};
 ghost use Rattle.semantics.specs.Text.{inRange, fieldOf, fieldStart};
 ghost use Rattle.text.specs.Parts.{until, startOf, StandsAt};
@@ -90,8 +90,9 @@ pub fn is_within(b: u8, lo: u8, hi: u8) -> bool
     b <= hi
 }
 
+// A byte as a number.
 pub fn wide(x: u8) -> u64
-    ensures { λ r. ⌜ r ≡ x ⌝ }
+    ensures { λ r. ⌜ (r ≡ x) × (r < 256) ⌝ }
 {
     x as u64
 }

@@ -12,8 +12,9 @@ use Rattle.semantics.specs.Tree.{TypeKey}
 use Rattle.semantics.specs.Types.{keyCode, sameTypeKey, distinct, position}
 use Rattle.type_lines.proofs.Codes.{ints-eq, same-self}
 use Rattle.type_keys.specs.Table.{positionFromOne}
-use Rattle.laws.proofs.Tests.{never, or-left, or-right}
+use Rattle.laws.proofs.Tests.{or-left, or-right}
 use Rattle.laws.proofs.Lists.{any-append}
+use Rattle.semantics.proofs.Common.{never}
 
 -- ---- tests
 

@@ -13,7 +13,8 @@ use Rattle.semantics.specs.Tree.TypeKey.{elemKey}
 use Rattle.semantics.specs.Fold.{eqZ}
 use Rattle.semantics.specs.Array.{kindNumber}
 use Rattle.semantics.specs.Types.{sameInts, keyCode, sameTypeKey}
-use Rattle.laws.proofs.Tests.{never, and-left, and-right}
+use Rattle.laws.proofs.Tests.{and-left, and-right}
+use Rattle.semantics.proofs.Common.{never}
 
 eqZ-refl : (z : ℤ) → eqZ z z ≡ true
 eqZ-refl (pos n) = rw (le-leb n n (omega arith))

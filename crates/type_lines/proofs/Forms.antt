@@ -16,7 +16,7 @@ use Rattle.semantics.specs.Form.{Row, letter, forms, make}
 use Rattle.semantics.specs.Array.{kindNumber}
 use Rattle.semantics.specs.Types.{sameTypeKey}
 use Rattle.form.specs.Table.{kindAt, rowNode}
-use Rattle.form.proofs.Table.{both, row-count, Each, done, _also_, each-at}
+use Rattle.form.proofs.Table.{row-count, Each, done, _also_, each-at}
 use Rattle.lines.specs.Lines.{readAt, nodesIn, formAt}
 use Rattle.lines.proofs.Line.{form-low, kind-is}
 use Rattle.refs.proofs.Nodes.{node-at}

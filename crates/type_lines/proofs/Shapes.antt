@@ -19,13 +19,11 @@ use Rattle.decimal.specs.Number as Number
 use Rattle.decimal.specs.declared.Signed.{Signed}
 use Rattle.decimal.specs.declared.Signed.the-variants as Signed
 use Rattle.form.specs.Table.{rowAt}
-use Rattle.form.proofs.Table.{both}
 use Rattle.lines.specs.Lines.{readAt, nodesIn, formAt}
 use Rattle.lines.proofs.Line.{read-fits}
-use Rattle.laws.proofs.Tests.{never}
-use Rattle.sizes.proofs.Types.{number-exact}
-use Rattle.sizes.proofs.Rows.{count-number, values-length}
 use Rattle.type_lines.specs.Shapes.{shapeAt, ShapeLine, raised}
+use Rattle.semantics.proofs.Common.{never}
+use Rattle.refs.proofs.Fields.{number-exact, count-number, values-length}
 
 -- ---- fields
 

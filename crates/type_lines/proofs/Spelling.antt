@@ -17,18 +17,19 @@ use Rattle.semantics.specs.Form.{forms, holds, fits, ones, values, upTo, isCoun
 use Rattle.semantics.specs.Form.Atom.{key, size, offset}
 use Rattle.semantics.specs.Form.Part.{one, many}
 use Rattle.form.specs.Table.{rowAt, wordsAt}
-use Rattle.form.proofs.Table.{both, row-count}
+use Rattle.form.proofs.Table.{row-count}
 use Rattle.form.proofs.Laws.{begins-chosen}
 use Rattle.lines.specs.Lines.{textAt, readAt, nodesIn, formAt}
 use Rattle.lines.proofs.Line.{read-is, fields-are, read-fits, form-low}
 use Rattle.words.specs.Words.{digest}
 use Rattle.words.proofs.Laws.{digest-apart}
-use Rattle.laws.proofs.Tests.{never, tests-agree, same-refl, same-eq}
+use Rattle.semantics.proofs.Common.{never, both}
+use Rattle.laws.proofs.Tests.{tests-agree, same-refl, same-eq}
 use Rattle.source.specs.Walk.{fieldAt, frameOf}
-use Rattle.sizes.proofs.Rows.{values-length}
 use Rattle.type_lines.specs.Needs.{needAt, NeedLine}
 use Rattle.type_lines.proofs.Codes.{ints-eq, same-self}
 use Rattle.type_lines.proofs.Forms.{keyBy, key-is, form-from, forms-apart}
+use Rattle.refs.proofs.Fields.{values-length}
 
 nothing : {A B : Type 0} {b : B} → none ≡ some b → A
 nothing h = let z : _≡_ {A = ℕ} 0 1 = cc in absurd (omega arith)

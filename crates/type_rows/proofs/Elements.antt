@@ -24,12 +24,12 @@ use Rattle.type_keys.specs.Table.{kindOf, positionFromOne, Kinds}
 use Rattle.type_keys.proofs.Distinct.{newKey, position-none, position-new, position-known, distinct-more, from-one-some}
 use Rattle.type_keys.proofs.Table.{kind-kept}
 use Rattle.type_lines.proofs.Codes.{kind-low, elems-are}
-use Rattle.laws.proofs.Tests.{never}
 use Rattle.type_rows.specs.declared.Next.{Next}
 use Rattle.type_row.specs.Row.{Rowed}
 use Rattle.type_rows.specs.Rows.{Wrotes, shapesOf}
 use Rattle.type_rows.proofs.Wrotes.{wrotes-none, wrotes-one, keys-then}
 use Rattle.type_row.proofs.Maps.{rowed-as}
+use Rattle.semantics.proofs.Common.{never}
 
 pub not-below : (a b : ℕ) → (a < b → ⊥) → b ≤ a
 not-below a b h = go (ltb a b) refl

@@ -14,6 +14,7 @@ use Rattle.semantics.specs.Fold.Result.{ok, failed, refuse}
 use Rattle.semantics.specs.Const.{Refusal}
 use Rattle.semantics.specs.Global.{varValue, refusedBy, varsRefused, globals}
 use Rattle.semantics.specs.Refusal.{orRefused}
+use Rattle.semantics.proofs.Common.{never}
 use Rattle.checks.specs.Checks.{Checked}
 use Rattle.globals.specs.Vars.{laidAt, laidVarsTo, lineItems}
 use Rattle.globals.proofs.Vars.{items-by, laid-lines}
@@ -35,7 +36,7 @@ refused-append ns (v ∷ vs) ws = rw (refused-append ns vs ws) (refused-then (v 
 
 none-both : (a b : Option Refusal) → orRefused a b ≡ none → (a ≡ none) × (b ≡ none)
 none-both none b h = (refl, h)
-none-both (some r) b h = let z : _≡_ {A = ℕ} 0 1 = cc in absurd (omega arith)
+none-both (some r) b h = never cc
 
 pub none-refused : (ns : Names) (s : Bytes) (n i : ℕ) → i < n → varsRefused ns (laidVarsTo s n) ≡ none → varsRefused ns (laidAt s i) ≡ none
 unfolding laidVarsTo

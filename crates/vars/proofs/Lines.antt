@@ -13,7 +13,7 @@ use Rattle.decimal.specs.Number as Number
 use Rattle.form.specs.Table.{rowNode}
 use Rattle.lines.specs.Lines.{readsIn, readAt, nodesIn, formAt}
 use Rattle.sizes.specs.Sizes.{typeAt, TypeLine}
-use Rattle.sizes.proofs.Types.{ref-head, head-drop}
+use Rattle.sizes.proofs.Types.{ref-head}
 use Rattle.leaf.specs.Folds.{exAt, Foldable}
 use Rattle.literals.specs.Literals.{Line}
 use Rattle.sizes.proofs.Forms.{type-form}
@@ -24,6 +24,7 @@ use Rattle.arrays.proofs.Allocs.{type-given}
 use Rattle.global_table.specs.Table.{VarLine}
 use Rattle.global_table.proofs.Line.{parts-good}
 use Rattle.vars.specs.First.{varOn}
+use Rattle.refs.proofs.Fields.{head-drop}
 
 -- only arrays have an element type
 elem-of-form : (ns : List Node) (fs : List Bytes) (f : ℕ) → f < 8 → (f ≡ 6 → ⊥) → none ≡ elemOf (rowNode ns f fs .ty)

@@ -11,9 +11,9 @@ use Rattle.semantics.specs.Form.Atom.{name}
 use Rattle.semantics.specs.Global.{laidNames, noneOf}
 use Rattle.decimal.specs.Number as Number
 use Rattle.lines.specs.Lines.{readAt, nodesIn}
-use Rattle.sizes.proofs.Types.{head-drop, tail-drop}
 use Rattle.global_table.specs.Table.{VarLine, nameOn, namesOn}
 use Rattle.global_table.proofs.Line.{count-on}
+use Rattle.refs.proofs.Fields.{head-drop, tail-drop}
 
 -- those from j on, of `count`
 abbrev pub namesFrom : Bytes → ℕ → ℕ → ℕ → List Bytes

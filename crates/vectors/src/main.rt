@@ -64,14 +64,19 @@ fn outcome(sheet: &[u8], wanted: &[u8], listing: &mut [u8], work: &mut [u8]) -> 
     }
 }
 
-// Whether a text is the rows of an image and an area.
+// Writes the rows of an image and an area from the start, and returns where they end.
+fn put_rows(rows: &mut [u8], picture: &[u8], area: &[u8]) -> usize {
+    let mut p = write::put_part(rows, 0, b"image,");
+    p = write::put_hex(rows, p, picture);
+    p = write::put_part(rows, p, b"\narea,");
+    p = write::put_hex(rows, p, area);
+    write::put(rows, p, b'\n')
+}
+
+// Whether a text is these rows.
 fn is_rows(text: &[u8], picture: &[u8], area: &[u8]) -> bool {
     let mut rows = [0u8; 262160];
-    let mut p = write::put_part(&mut rows, 0, b"image,");
-    p = write::put_hex(&mut rows, p, picture);
-    p = write::put_part(&mut rows, p, b"\narea,");
-    p = write::put_hex(&mut rows, p, area);
-    p = write::put(&mut rows, p, b'\n');
+    let p = put_rows(&mut rows, picture, area);
     are_first(text, &rows, p)
 }
 

@@ -23,6 +23,7 @@ pub fn same(a: &[u8], b: &[u8]) -> bool
     true
 }
 
+// A byte as an index; `text::wide` is the same in 64 bits.
 pub fn wide(x: u8) -> usize
     ensures { λ r. ⌜ (r ≡ x) × (r < 256) ⌝ }
 {
@@ -50,12 +51,6 @@ pub fn digest(s: &[u8]) -> usize
     digest_on(0, s)
 }
 
-fn wide64(x: u8) -> u64
-    ensures { λ r. ⌜ (r ≡ x) × (r < 256) ⌝ }
-{
-    x as u64
-}
-
 // Two bytes, the low one first.
 pub fn word_at(work: &[u8], a: usize) -> usize
     requires { ⌜ a + 1 < length (now work) ⌝ }
@@ -72,7 +67,7 @@ pub fn bits_at(work: &[u8], a: usize) -> u64
     let mut acc: u64 = 0;
     let mut k = 0;
     while k < 8 {
-        acc = acc * 256 + wide64(work[a + k]);
+        acc = acc * 256 + text::wide(work[a + k]);
         k += 1;
     }
     acc

@@ -10,18 +10,11 @@ use lib.Seq.{take-suc, take-suc-set}
 use lib.Pow.{pow-add}
 use lib.Bits.{bitAnd, and-mask}
 use Rattle.semantics.specs.Text.{Bytes, hexOf, bigEndian}
-use Rattle.write.specs.Wrote.{Wrote}
-use Rattle.write.proofs.Wrote.{then}
 
-hex-append : (s t : Bytes) → hexOf (s ++ t) ≡ hexOf s ++ hexOf t
+pub hex-append : (s t : Bytes) → hexOf (s ++ t) ≡ hexOf s ++ hexOf t
 unfolding hexOf
 hex-append [] t = refl
 hex-append (b ∷ s) t = rw (hex-append s t)
-
--- one more byte of a list
-pub hex-next : (s : Bytes) (k : ℕ) → k < length s → {d : Bytes} {a : ℕ} {e : Bytes} {b : ℕ} {f : Bytes} {c : ℕ}
-    → Wrote d a (hexOf (take k s)) e b → Wrote e b (hexOf (getD s k 0 ∷ [])) f c → Wrote d a (hexOf (take (k + 1) s)) f c
-hex-next s k h v w = rw (add-one, take-suc s k 0 h, hex-append) (then v w)
 
 -- ---- a number's bytes, the highest first
 

@@ -9,6 +9,7 @@ use lib.Dec.{ltb}
 use lib.IntN.{ℤ, pos, negsuc}
 use borrow.Author.Tests.{lt-ltb, eq-eqb, ne-eqb, ltb-true, ltb-false}
 use Rattle.semantics.specs.Text.{Bytes, partsAt, decimal, decimalℤ, hexDigit, hexOf}
+use Rattle.semantics.proofs.Common.{never}
 use Rattle.write.specs.Plain.{isPlain}
 use Rattle.write.proofs.Decimal.{decimal-one, decimal-more}
 
@@ -19,7 +20,7 @@ plain-append (b ∷ s) t h k = go (ltb 44 b) refl h (λ l. plain-append s t l k)
   where
     go : (x : Bool) → ltb 44 b ≡ x → x && isPlain s ≡ true → (isPlain s ≡ true → isPlain (s ++ t) ≡ true) → ltb 44 b && isPlain (s ++ t) ≡ true
     go true e h ih = rw e (ih h)
-    go false e h ih = let z : _≡_ {A = ℕ} 0 1 = cc in absurd (omega arith)
+    go false e h ih = never cc
 
 plain-one : (b : ℕ) → 44 < b → isPlain (b ∷ []) ≡ true
 unfolding isPlain
@@ -63,7 +64,7 @@ module _ (c : ℕ) (low : c ≤ 44) where
     where
       go : (x : Bool) → ltb 44 b ≡ x → x && isPlain t ≡ true → (isPlain t ≡ true → partsAt c (t ++ (c ∷ u)) ≡ t ∷ partsAt c u) → partsAt c (b ∷ (t ++ (c ∷ u))) ≡ (b ∷ t) ∷ partsAt c u
       go true e h ih = let l = ltb-true 44 b e in rw (ne-eqb b c (λ (q : b ≡ c). omega arith), ih h)
-      go false e h ih = let z : _≡_ {A = ℕ} 0 1 = cc in absurd (omega arith)
+      go false e h ih = never cc
 
   pub plain-last : (t : Bytes) → isPlain t ≡ true → partsAt c t ≡ t ∷ []
   unfolding isPlain
@@ -72,4 +73,4 @@ module _ (c : ℕ) (low : c ≤ 44) where
     where
       go : (x : Bool) → ltb 44 b ≡ x → x && isPlain t ≡ true → (isPlain t ≡ true → partsAt c t ≡ t ∷ []) → partsAt c (b ∷ t) ≡ (b ∷ t) ∷ []
       go true e h ih = let l = ltb-true 44 b e in rw (ne-eqb b c (λ (q : b ≡ c). omega arith), ih h)
-      go false e h ih = let z : _≡_ {A = ℕ} 0 1 = cc in absurd (omega arith)
+      go false e h ih = never cc

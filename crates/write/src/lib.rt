@@ -18,6 +18,16 @@ pub fn zero(out: &mut [u8])
     }
 }
 
+// No text: the place, or the one past the end.
+pub fn nothing(out: &[u8], at: usize) -> usize
+    ensures { λ r. ⌜ Wrote (now (out .entry)) at [] (now (out .entry)) r ⌝ }
+{
+    if out.len() < at {
+        return out.len() + 1;
+    }
+    at
+}
+
 pub fn put(out: &mut [u8], at: usize, b: u8) -> usize
     ensures { λ r. ⌜ Wrote (now (out .entry)) at (b ∷ []) (now (out .exit)) r ⌝ }
 {
@@ -31,10 +41,7 @@ pub fn put(out: &mut [u8], at: usize, b: u8) -> usize
 pub fn put_part(out: &mut [u8], at: usize, part: &[u8]) -> usize
     ensures { λ r. ⌜ Wrote (now (out .entry)) at (now (part .entry)) (now (out .exit)) r ⌝ }
 {
-    if out.len() < at {
-        return out.len() + 1;
-    }
-    let mut p = at;
+    let mut p = nothing(out, at);
     let mut k = 0;
     while k < part.len() {
         p = put(out, p, part[k]);
@@ -86,10 +93,7 @@ fn put_hex_byte(out: &mut [u8], at: usize, b: u8) -> usize
 pub fn put_hex(out: &mut [u8], at: usize, part: &[u8]) -> usize
     ensures { λ r. ⌜ Wrote (now (out .entry)) at (hexOf (now (part .entry))) (now (out .exit)) r ⌝ }
 {
-    if out.len() < at {
-        return out.len() + 1;
-    }
-    let mut p = at;
+    let mut p = nothing(out, at);
     let mut k = 0;
     while k < part.len() {
         p = put_hex_byte(out, p, part[k]);

@@ -11,9 +11,6 @@ fill-requires c κs = c .before .before .before .pre .literal
 sized-requires : tie.Need-sized-requires
 sized-requires c κs = literal-kept (c .before .before .before .before .before .before .before .before .before .before .pre) (c .before .before .before .before .before .before .fill .result) (c .before .before .before .before .before .before .fill .ensures)
 
-enum-told : tie.Need-enum-told
-enum-told c = search needs
-
 returns : tie.Need-returns
 returns c = literal-well (c .before .before .before .before .before .before .before .before .before .before .before .before .before .pre) (c .before .before .before .before .before .before .before .before .before .fill .result) (c .before .before .before .before .before .before .before .before .before .fill .ensures) (c .before .before .before .before .before .reach .given .1) (c .before .before .sized .ensures)
 
@@ -28,5 +25,5 @@ returns-4 c = literal-ended (c .before .before .before .before .before .before .
 
 pub literal-spec : {M : Type 1} → statement M
 literal-spec =
-    tie.close (tie.spec fill-requires (λ c. search needs) sized-requires enum-told (λ c. search needs) (λ c. search needs) (λ c. search needs) returns
+    tie.close (tie.spec fill-requires (λ c. search needs) sized-requires (λ c. search needs) (λ c. search needs) (λ c. search needs) (λ c. search needs) returns
     (λ c. search needs) returns-2 (λ c. search needs) returns-3 (λ c. search needs) returns-4)

@@ -9,9 +9,6 @@ literal-size-requires c κs = c .before .before .before .pre .literal
 measured-requires : tie.Need-measured-requires
 measured-requires c κs = lit-kept (size-keeps (c .before .before .before .before .before .before .literal-size .ensures .1)) (c .before .before .before .before .before .before .before .before .before .before .pre)
 
-enum-told : tie.Need-enum-told
-enum-told c = search needs
-
 returns : tie.Need-returns
 returns c = sized-well (c .before .before .before .before .before .before .before .before .before .before .before .pre) (c .before .before .before .before .before .before .before .literal-size .ensures .1) (c .before .before .before .before .before .before .before .literal-size .result) (c .before .before .before .before .before .before .before .literal-size .ensures .0) (c .before .before .before .size .given .1) (c .measured .result) (c .measured .ensures)
 
@@ -23,5 +20,5 @@ returns-3 c = sized-long (c .before .before .before .before .before .before .bef
 
 pub sized-spec : {M : Type 1} → statement M
 sized-spec =
-    tie.close (tie.spec literal-size-requires (λ c. search needs) measured-requires enum-told (λ c. search needs) (λ c. search needs) returns
+    tie.close (tie.spec literal-size-requires (λ c. search needs) measured-requires (λ c. search needs) (λ c. search needs) (λ c. search needs) returns
     (λ c. search needs) returns-2 (λ c. search needs) returns-3)

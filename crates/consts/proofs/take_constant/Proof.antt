@@ -19,9 +19,6 @@ enter-requires c κs =
       c .before .before .before .before .before .before .before .before .digest .ensures .1,
     )
 
-enum-told : tie.Need-enum-told
-enum-told c = search needs
-
 enter-failed-requires : tie.Need-enter-failed-requires
 enter-failed-requires c κs =
     let a = c .before .before .before .before .before .before .before .before .before .before .before .before .before .before .args in
@@ -49,5 +46,5 @@ returns-3 c =
 pub take-constant-spec : {M : Type 1} → statement M
 take-constant-spec =
     tie.close (tie.spec (λ c κs. search needs) (λ c κs. search needs) (λ c κs. search needs) fold-const-requires (λ c. search needs)
-    (λ c. search needs) enter-requires enum-told (λ c. search needs) enter-failed-requires (λ c. search needs) (λ c. search needs) returns
+    (λ c. search needs) enter-requires (λ c. search needs) (λ c. search needs) enter-failed-requires (λ c. search needs) (λ c. search needs) returns
     (λ c. search needs) returns-2 (λ c. search needs) returns-3)

@@ -8,9 +8,6 @@ use borrow.Author.Needs.{needs}
 use Rattle.data_rows.proofs.first_rows.Statement.{statement}
 use Rattle.data_rows.proofs.first_rows.Tie as tie
 
-enum-told : tie.Need-enum-told
-enum-told c = search needs
-
 value-rows-requires : tie.Need-value-rows-requires
 value-rows-requires c κs = ((c .before .before .before .before .before .before .before .before .pre) .line, first-within (c .before .before .before .before .before .before .before .before .pre) (c .before .before .before .x .given .1))
 
@@ -40,7 +37,7 @@ returns-6 c = (first-refused (typeOn (now (c .before .before .before .before .be
 
 pub first-rows-spec : {M : Type 1} → statement M
 first-rows-spec =
-    tie.close (tie.spec enum-told (λ c κs. search needs) (λ c. search needs) value-rows-requires (λ c. search needs) alloc-rows-requires
+    tie.close (tie.spec (λ c. search needs) (λ c κs. search needs) (λ c. search needs) value-rows-requires (λ c. search needs) alloc-rows-requires
     (λ c. search needs) literal-rows-requires (λ c. search needs) (λ c κs. search needs) (λ c. search needs) (λ c κs. search needs)
     (λ c. search needs) returns (λ c. search needs) (λ c. search needs) returns-2 (λ c. search needs) (λ c. search needs) returns-3
     (λ c. search needs) (λ c. search needs) returns-4 (λ c. search needs) returns-5 (λ c. search needs) returns-6)

@@ -29,7 +29,7 @@ returns-2 c =
 loop-again : tie.Need-loop-again Inv-loop μ-loop
 loop-again c =
     let l = c .before .before .before .before .before .before .loop in
-    let e = c .before .wide .ensures in
+    let e = c .before .wide .ensures .0 in
     (search needs, l .inv .1 ∙ digit-turn most (l .acc) (l .i) (now (c .before .before .before .before .before .before .before .before .args .s)) (c .before .before .before .before .before .loop-test .taken) (c .before .before .before .if1 .left) (c .before .before .if2 .left) (omega (arith, c .more .ensures, e)))
 
 returns-3 : tie.Need-returns-3 Inv-loop μ-loop

@@ -6,9 +6,6 @@ use Rattle.decimal.proofs.Numbers.{plus-within, minus-within, none-with
 use Rattle.decimal.proofs.is_between.Statement.{statement}
 use Rattle.decimal.proofs.is_between.Tie as tie
 
-enum-told : tie.Need-enum-told
-enum-told c = search needs
-
 returns : tie.Need-returns
 returns c =
     let a = c .before .before .before .before .before .args in
@@ -26,4 +23,4 @@ returns-3 c =
 
 pub is-between-spec : {M : Type 1} → statement M
 is-between-spec =
-    tie.close (tie.spec (λ c κs. search needs) (λ c. search needs) (λ c. search needs) enum-told returns returns-2 returns-3)
+    tie.close (tie.spec (λ c κs. search needs) (λ c. search needs) (λ c. search needs) (λ c. search needs) returns returns-2 returns-3)

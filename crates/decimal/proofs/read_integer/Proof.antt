@@ -14,9 +14,6 @@ returns-2 c = minus-large (now (c .before .before .before .before .before .befor
 sub-t9 : tie.Need-sub-t9
 sub-t9 c = minus-size (now (c .before .before .before .before .before .before .args .s)) (c .before .before .before .before .read-signed .ensures) (c .before .before .r2 .given .1)
 
-enum-told : tie.Need-enum-told
-enum-told c = search needs
-
 returns-3 : tie.Need-returns-3
 returns-3 c = plus-is (now (c .before .before .before .before .before .before .args .s)) (c .before .before .before .before .read-signed .ensures) (c .before .before .r .given .1) (c .if1 .left)
 
@@ -29,4 +26,4 @@ returns-5 c = integer-none (now (c .before .before .before .before .args .s)) (c
 pub read-integer-spec : {M : Type 1} → statement M
 read-integer-spec =
     tie.close (tie.spec (λ c κs. search needs) (λ c. search needs) returns (λ c. search needs) (λ c. search needs) returns-2 sub-t9
-    (λ c. search needs) enum-told returns-3 returns-4 returns-5)
+    (λ c. search needs) (λ c. search needs) returns-3 returns-4 returns-5)

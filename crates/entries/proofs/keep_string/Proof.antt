@@ -8,9 +8,6 @@ use borrow.Author.Needs.{needs}
 use Rattle.entries.proofs.keep_string.Statement.{statement}
 use Rattle.entries.proofs.keep_string.Tie as tie
 
-enum-told : tie.Need-enum-told
-enum-told c = search needs
-
 copy-requires : tie.Need-copy-requires
 copy-requires c κs = let h = Laws.text-short (c .before .before .v .given .1) (c .before .before .before .before .before .pre .2) in record { source = omega arith; target = omega arith; apart = inr (omega arith) }
 
@@ -25,5 +22,5 @@ returns-3 c = Laws.string-some (now (c .before .before .before .before .before .
 
 pub keep-string-spec : {M : Type 1} → statement M
 keep-string-spec =
-    tie.close (tie.spec enum-told (λ c. search needs) (λ c. search needs) (λ c. search needs) (λ c. search needs) copy-requires returns returns-2
+    tie.close (tie.spec (λ c. search needs) (λ c. search needs) (λ c. search needs) (λ c. search needs) (λ c. search needs) copy-requires returns returns-2
     (λ c. search needs) returns-3)

@@ -42,14 +42,8 @@ fold-const-form-at-requires t c κs = (omega (arith, c .before .before .before .
 fold-const-leaf-requires : (t : ℕ) → fold-const-lts.Need-leaf-requires (callees t) (fold-const-at t) fold-const.Post
 fold-const-leaf-requires t c κs = record { fold = c .before .before .before .before .before .before .pre .1; form = omega (arith, c .before .before .form-at .ensures, c .before .if1 .taken) }
 
-fold-const-same-length : (t : ℕ) → fold-const-lts.Need-same-length (callees t) (fold-const-at t) fold-const.Post
-fold-const-same-length t c = search needs
-
 fold-const-returns : (t : ℕ) → fold-const-lts.Need-returns (callees t) (fold-const-at t) fold-const.Post
 fold-const-returns t c = c .before .before .leaf .ensures
-
-fold-const-same-length-2 : (t : ℕ) → fold-const-lts.Need-same-length-2 (callees t) (fold-const-at t) fold-const.Post
-fold-const-same-length-2 t c = search needs
 
 fold-const-returns-2 : (t : ℕ) → fold-const-lts.Need-returns-2 (callees t) (fold-const-at t) fold-const.Post
 fold-const-returns-2 t c = fails-behind (c .before .before .before .before .before .before .pre .1) (omega (arith, c .before .before .form-at .ensures, c .if2 .taken))
@@ -60,20 +54,11 @@ fold-const-operand-requires t c κs = operator-line (c .before .before .before .
 fold-const-fold-const-requires : (t : ℕ) → fold-const-lts.Need-fold-const-requires (callees t) (fold-const-at t) fold-const.Post
 fold-const-fold-const-requires t c κs = (omega (arith, c .before .before .before .before .before .before .before .before .before .pre .0, operand-before (c .before .before .before .before .before .before .before .before .before .pre .1) (omega (arith, c .before .before .before .before .before .form-at .ensures, c .before .before .before .before .if1 .left)) (omega (arith, c .before .before .before .before .before .form-at .ensures, c .before .before .before .if2 .left)) (c .operand .ensures)), operand-foldable (c .before .before .before .before .before .before .before .before .before .pre .1) (omega (arith, c .before .before .before .before .before .form-at .ensures, c .before .before .before .before .if1 .left)) (omega (arith, c .before .before .before .before .before .form-at .ensures, c .before .before .before .if2 .left)) (c .operand .ensures))
 
-fold-const-enum-known-x : (t : ℕ) → fold-const-lts.Need-enum-known-x (callees t) (fold-const-at t) fold-const.Post
-fold-const-enum-known-x t c = search needs
-
-fold-const-same-length-3 : (t : ℕ) → fold-const-lts.Need-same-length-3 (callees t) (fold-const-at t) fold-const.Post
-fold-const-same-length-3 t c = search needs
-
 fold-const-returns-3 : (t : ℕ) → fold-const-lts.Need-returns-3 (callees t) (fold-const-at t) fold-const.Post
 fold-const-returns-3 t c = left-stops (c .before .before .before .before .before .before .before .before .before .before .before .before .before .pre .1) (omega (arith, c .before .before .before .before .before .before .before .before .before .form-at .ensures, c .before .before .before .before .before .before .before .before .if1 .left)) (omega (arith, c .before .before .before .before .before .before .before .before .before .form-at .ensures, c .before .before .before .before .before .before .before .if2 .left)) (c .before .before .before .before .operand .ensures) (c .before .before .before .fold-const .ensures) (c .match .keys2)
 
 fold-const-apply-requires : (t : ℕ) → fold-const-lts.Need-apply-requires (callees t) (fold-const-at t) fold-const.Post
 fold-const-apply-requires t c κs = applies (c .before .before .before .before .before .before .before .before .before .before .before .before .before .before .before .before .before .pre .1) (omega (arith, c .before .before .before .before .before .before .before .before .before .before .before .before .before .form-at .ensures, c .before .before .before .before .before .before .before .before .before .before .before .before .if1 .left)) (omega (arith, c .before .before .before .before .before .before .before .before .before .before .before .before .before .form-at .ensures, c .before .before .before .before .before .before .before .before .before .before .before .if2 .left)) (c .before .before .before .before .before .before .before .before .operand .ensures) (c .before .before .before .before .before .before .before .fold-const .ensures) (c .before .before .before .x .given .1) (λ e. c .before .if3 .taken (c .before .before .before .before .before .before .before .before .before .before .before .before .before .form-at .ensures ∙ e))
-
-fold-const-same-length-4 : (t : ℕ) → fold-const-lts.Need-same-length-4 (callees t) (fold-const-at t) fold-const.Post
-fold-const-same-length-4 t c = search needs
 
 fold-const-returns-4 : (t : ℕ) → fold-const-lts.Need-returns-4 (callees t) (fold-const-at t) fold-const.Post
 fold-const-returns-4 t c = applied (c .before .before .before .before .before .before .before .before .before .before .before .before .before .before .before .before .before .before .before .before .pre .1) (omega (arith, c .before .before .before .before .before .before .before .before .before .before .before .before .before .before .before .before .form-at .ensures, c .before .before .before .before .before .before .before .before .before .before .before .before .before .before .before .if1 .left)) (omega (arith, c .before .before .before .before .before .before .before .before .before .before .before .before .before .before .before .before .form-at .ensures, c .before .before .before .before .before .before .before .before .before .before .before .before .before .before .if2 .left)) (c .before .before .before .before .before .before .before .before .before .before .before .operand .ensures) (c .before .before .before .before .before .before .before .before .before .before .fold-const .ensures) (c .before .before .before .before .before .before .x .given .1) (λ e. c .before .before .before .before .if3 .taken (c .before .before .before .before .before .before .before .before .before .before .before .before .before .before .before .before .form-at .ensures ∙ e)) (c .before .before .apply .ensures)
@@ -84,20 +69,11 @@ fold-const-sub-number-at t c = c .before .before .before .before .before .before
 fold-const-number-at-requires : (t : ℕ) → fold-const-lts.Need-number-at-requires (callees t) (fold-const-at t) fold-const.Post
 fold-const-number-at-requires t c κs = readable-behind (c .before .before .before .before .before .before .before .before .before .before .before .before .before .before .before .before .before .pre .1) (omega (arith, c .before .before .before .before .before .before .before .before .before .before .before .before .before .form-at .ensures, c .before .before .before .before .before .before .before .before .before .before .before .before .if1 .left)) (omega (arith, c .before .before .before .before .before .before .before .before .before .before .before .before .before .form-at .ensures, c .before .before .before .before .before .before .before .before .before .before .before .if2 .left)) (c .before .before .before .before .before .before .before .fold-const .ensures .kept)
 
-fold-const-size-requires : (t : ℕ) → fold-const-lts.Need-size-requires (callees t) (fold-const-at t) fold-const.Post
-fold-const-size-requires t c κs = search needs
-
 fold-const-add-fold-const : (t : ℕ) → fold-const-lts.Need-add-fold-const (callees t) (fold-const-at t) fold-const.Post
 fold-const-add-fold-const t c = record { fits = omega (arith, right-fits (c .before .before .before .before .before .before .before .before .before .before .before .before .before .before .before .before .before .before .before .before .pre .1) (omega (arith, c .before .before .before .before .before .before .before .before .before .before .before .before .before .before .before .before .form-at .ensures, c .before .before .before .before .before .before .before .before .before .before .before .before .before .before .before .if1 .left)) (omega (arith, c .before .before .before .before .before .before .before .before .before .before .before .before .before .before .before .before .form-at .ensures, c .before .before .before .before .before .before .before .before .before .before .before .before .before .before .if2 .left)) (c .before .before .before .before .before .before .before .before .before .before .before .operand .ensures) (c .before .before .before .before .before .before .before .before .before .before .fold-const .ensures) (c .before .before .before .before .before .before .x .given .1) (sym (c .before .before .before .before .before .before .before .before .before .before .before .before .before .before .before .before .form-at .ensures) ∙ c .before .before .before .before .if3 .left) (c .before .before .number-at .ensures .0) (c .size .ensures)) }
 
 fold-const-fold-const-requires-2 : (t : ℕ) → fold-const-lts.Need-fold-const-requires-2 (callees t) (fold-const-at t) fold-const.Post
 fold-const-fold-const-requires-2 t c κs = (omega (arith, c .before .before .before .before .before .before .before .before .before .before .before .before .before .before .before .before .before .before .before .before .pre .0, right-before (c .before .before .before .before .before .before .before .before .before .before .before .before .before .before .before .before .before .before .before .before .pre .1) (omega (arith, c .before .before .before .before .before .before .before .before .before .before .before .before .before .before .before .before .form-at .ensures, c .before .before .before .before .before .before .before .before .before .before .before .before .before .before .before .if1 .left)) (omega (arith, c .before .before .before .before .before .before .before .before .before .before .before .before .before .before .before .before .form-at .ensures, c .before .before .before .before .before .before .before .before .before .before .before .before .before .before .if2 .left)) (c .before .before .before .before .before .before .before .before .before .before .before .operand .ensures) (c .before .before .before .before .before .before .before .before .before .before .fold-const .ensures) (c .before .before .before .before .before .before .x .given .1) (sym (c .before .before .before .before .before .before .before .before .before .before .before .before .before .before .before .before .form-at .ensures) ∙ c .before .before .before .before .if3 .left) (c .before .before .number-at .ensures .0) (c .size .ensures)), right-foldable (c .before .before .before .before .before .before .before .before .before .before .before .before .before .before .before .before .before .before .before .before .pre .1) (omega (arith, c .before .before .before .before .before .before .before .before .before .before .before .before .before .before .before .before .form-at .ensures, c .before .before .before .before .before .before .before .before .before .before .before .before .before .before .before .if1 .left)) (omega (arith, c .before .before .before .before .before .before .before .before .before .before .before .before .before .before .before .before .form-at .ensures, c .before .before .before .before .before .before .before .before .before .before .before .before .before .before .if2 .left)) (c .before .before .before .before .before .before .before .before .before .before .before .operand .ensures) (c .before .before .before .before .before .before .before .before .before .before .fold-const .ensures) (c .before .before .before .before .before .before .x .given .1) (sym (c .before .before .before .before .before .before .before .before .before .before .before .before .before .before .before .before .form-at .ensures) ∙ c .before .before .before .before .if3 .left) (c .before .before .number-at .ensures .0) (c .size .ensures))
-
-fold-const-enum-known-y : (t : ℕ) → fold-const-lts.Need-enum-known-y (callees t) (fold-const-at t) fold-const.Post
-fold-const-enum-known-y t c = search needs
-
-fold-const-same-length-5 : (t : ℕ) → fold-const-lts.Need-same-length-5 (callees t) (fold-const-at t) fold-const.Post
-fold-const-same-length-5 t c = search needs
 
 fold-const-returns-5 : (t : ℕ) → fold-const-lts.Need-returns-5 (callees t) (fold-const-at t) fold-const.Post
 fold-const-returns-5 t c = right-stops (c .before .before .before .before .before .before .before .before .before .before .before .before .before .before .before .before .before .before .before .before .before .before .before .before .pre .1) (omega (arith, c .before .before .before .before .before .before .before .before .before .before .before .before .before .before .before .before .before .before .before .before .form-at .ensures, c .before .before .before .before .before .before .before .before .before .before .before .before .before .before .before .before .before .before .before .if1 .left)) (omega (arith, c .before .before .before .before .before .before .before .before .before .before .before .before .before .before .before .before .before .before .before .before .form-at .ensures, c .before .before .before .before .before .before .before .before .before .before .before .before .before .before .before .before .before .before .if2 .left)) (c .before .before .before .before .before .before .before .before .before .before .before .before .before .before .before .operand .ensures) (c .before .before .before .before .before .before .before .before .before .before .before .before .before .before .fold-const .ensures) (c .before .before .before .before .before .before .before .before .before .before .x .given .1) (sym (c .before .before .before .before .before .before .before .before .before .before .before .before .before .before .before .before .before .before .before .before .form-at .ensures) ∙ c .before .before .before .before .before .before .before .before .if3 .left) (c .before .before .before .before .before .before .number-at .ensures .0) (c .before .before .before .before .size .ensures) (c .before .before .before .fold-const2 .ensures) (c .match2 .keys2)
@@ -108,44 +84,15 @@ fold-const-sub-number-at-2 t c = c .before .before .before .before .before .befo
 fold-const-number-at-requires-2 : (t : ℕ) → fold-const-lts.Need-number-at-requires-2 (callees t) (fold-const-at t) fold-const.Post
 fold-const-number-at-requires-2 t c κs = readable-behind (c .before .before .before .before .before .before .before .before .before .before .before .before .before .before .before .before .before .before .before .before .before .before .before .before .before .before .before .pre .1) (omega (arith, c .before .before .before .before .before .before .before .before .before .before .before .before .before .before .before .before .before .before .before .before .before .before .before .form-at .ensures, c .before .before .before .before .before .before .before .before .before .before .before .before .before .before .before .before .before .before .before .before .before .before .if1 .left)) (omega (arith, c .before .before .before .before .before .before .before .before .before .before .before .before .before .before .before .before .before .before .before .before .before .before .before .form-at .ensures, c .before .before .before .before .before .before .before .before .before .before .before .before .before .before .before .before .before .before .before .before .before .if2 .left)) (right-kept (c .before .before .before .before .before .before .before .before .before .before .before .before .before .before .before .before .before .before .before .before .before .before .before .before .before .before .before .pre .1) (omega (arith, c .before .before .before .before .before .before .before .before .before .before .before .before .before .before .before .before .before .before .before .before .before .before .before .form-at .ensures, c .before .before .before .before .before .before .before .before .before .before .before .before .before .before .before .before .before .before .before .before .before .before .if1 .left)) (omega (arith, c .before .before .before .before .before .before .before .before .before .before .before .before .before .before .before .before .before .before .before .before .before .before .before .form-at .ensures, c .before .before .before .before .before .before .before .before .before .before .before .before .before .before .before .before .before .before .before .before .before .if2 .left)) (c .before .before .before .before .before .before .before .before .before .before .before .before .before .before .before .before .before .before .operand .ensures) (c .before .before .before .before .before .before .before .before .before .before .before .before .before .before .before .before .before .fold-const .ensures) (c .before .before .before .before .before .before .before .before .before .before .before .before .before .x .given .1) (sym (c .before .before .before .before .before .before .before .before .before .before .before .before .before .before .before .before .before .before .before .before .before .before .before .form-at .ensures) ∙ c .before .before .before .before .before .before .before .before .before .before .before .if3 .left) (c .before .before .before .before .before .before .before .before .before .number-at .ensures .0) (c .before .before .before .before .before .before .before .size .ensures) (c .before .before .before .before .before .before .fold-const2 .ensures))
 
-fold-const-fold-binary-requires : (t : ℕ) → fold-const-lts.Need-fold-binary-requires (callees t) (fold-const-at t) fold-const.Post
-fold-const-fold-binary-requires t c κs = search needs
-
-fold-const-same-length-6 : (t : ℕ) → fold-const-lts.Need-same-length-6 (callees t) (fold-const-at t) fold-const.Post
-fold-const-same-length-6 t c = search needs
-
 fold-const-returns-6 : (t : ℕ) → fold-const-lts.Need-returns-6 (callees t) (fold-const-at t) fold-const.Post
 fold-const-returns-6 t c = binary-folds (c .before .before .before .before .before .before .before .before .before .before .before .before .before .before .before .before .before .before .before .before .before .before .before .before .before .before .before .before .before .pre .1) (omega (arith, c .before .before .before .before .before .before .before .before .before .before .before .before .before .before .before .before .before .before .before .before .before .before .before .before .before .form-at .ensures, c .before .before .before .before .before .before .before .before .before .before .before .before .before .before .before .before .before .before .before .before .before .before .before .before .if1 .left)) (omega (arith, c .before .before .before .before .before .before .before .before .before .before .before .before .before .before .before .before .before .before .before .before .before .before .before .before .before .form-at .ensures, c .before .before .before .before .before .before .before .before .before .before .before .before .before .before .before .before .before .before .before .before .before .before .before .if2 .left)) (c .before .before .before .before .before .before .before .before .before .before .before .before .before .before .before .before .before .before .before .before .operand .ensures) (c .before .before .before .before .before .before .before .before .before .before .before .before .before .before .before .before .before .before .before .fold-const .ensures) (c .before .before .before .before .before .before .before .before .before .before .before .before .before .before .before .x .given .1) (sym (c .before .before .before .before .before .before .before .before .before .before .before .before .before .before .before .before .before .before .before .before .before .before .before .before .before .form-at .ensures) ∙ c .before .before .before .before .before .before .before .before .before .before .before .before .before .if3 .left) (c .before .before .before .before .before .before .before .before .before .before .before .number-at .ensures .0) (c .before .before .before .before .before .before .before .before .before .size .ensures) (c .before .before .before .before .before .before .before .before .fold-const2 .ensures) (c .before .before .before .before .y .given .1) (c .before .number-at2 .ensures .0) (c .fold-binary .ensures)
 
 pub +fold-const-spec : {M : Type 1} → statement M
-+fold-const-spec = close μ-fold-const λ t. fold-const-lts.spec (callees t)
-    (fold-const-at t)
-    fold-const.Post
-    (fold-const-sub-form-at t)
-    (fold-const-form-at-requires t)
-    (fold-const-leaf-requires t)
-    (fold-const-same-length t)
-    (fold-const-returns t)
-    (fold-const-same-length-2 t)
-    (fold-const-returns-2 t)
-    (fold-const-operand-requires t)
-    (fold-const-fold-const-requires t)
-    (fold-const-enum-known-x t)
-    (fold-const-same-length-3 t)
-    (fold-const-returns-3 t)
-    (fold-const-apply-requires t)
-    (fold-const-same-length-4 t)
-    (fold-const-returns-4 t)
-    (fold-const-sub-number-at t)
-    (fold-const-number-at-requires t)
-    (fold-const-size-requires t)
-    (fold-const-add-fold-const t)
-    (fold-const-fold-const-requires-2 t)
-    (fold-const-enum-known-y t)
-    (fold-const-same-length-5 t)
-    (fold-const-returns-5 t)
-    (fold-const-sub-number-at-2 t)
-    (fold-const-number-at-requires-2 t)
-    (fold-const-fold-binary-requires t)
-    (fold-const-same-length-6 t)
-    (fold-const-returns-6 t)
++fold-const-spec =
+    close μ-fold-const λ t. fold-const-lts.spec (callees t) (fold-const-at t) fold-const.Post (fold-const-sub-form-at t)
+    (fold-const-form-at-requires t) (fold-const-leaf-requires t) (λ c. search needs) (fold-const-returns t) (λ c. search needs)
+    (fold-const-returns-2 t) (fold-const-operand-requires t) (fold-const-fold-const-requires t) (λ c. search needs) (λ c. search needs)
+    (fold-const-returns-3 t) (fold-const-apply-requires t) (λ c. search needs) (fold-const-returns-4 t) (fold-const-sub-number-at t)
+    (fold-const-number-at-requires t) (λ c κs. search needs) (fold-const-add-fold-const t) (fold-const-fold-const-requires-2 t) (λ c. search needs)
+    (λ c. search needs) (fold-const-returns-5 t) (fold-const-sub-number-at-2 t) (fold-const-number-at-requires-2 t) (λ c κs. search needs)
+    (λ c. search needs) (fold-const-returns-6 t)

@@ -6,9 +6,6 @@ use borrow.Author.Needs.{needs}
 use Rattle.form.proofs.is_i64.Statement.{statement}
 use Rattle.form.proofs.is_i64.Tie as tie
 
-enum-told : tie.Need-enum-told
-enum-told c = search needs
-
 returns : tie.Need-returns
 returns c = i64-good (now (c .before .before .before .before .args .s)) (sym (c .before .before .read-integer .ensures) ∙ c .enum-told .given .1)
 
@@ -17,4 +14,4 @@ returns-2 c = i64-bad (now (c .before .before .before .before .args .s)) (sym (c
 
 pub is-i64-spec : {M : Type 1} → statement M
 is-i64-spec =
-    tie.close (tie.spec (λ c κs. search needs) enum-told (λ c. search needs) returns returns-2)
+    tie.close (tie.spec (λ c κs. search needs) (λ c. search needs) (λ c. search needs) returns returns-2)

@@ -6,9 +6,6 @@ use borrow.Author.Needs.{needs}
 use Rattle.form.proofs.is_real.Statement.{statement}
 use Rattle.form.proofs.is_real.Tie as tie
 
-enum-told : tie.Need-enum-told
-enum-told c = search needs
-
 returns : tie.Need-returns
 returns c = real-bits (now (c .before .before .before .before .before .args .s)) (sym (c .before .before .before .read-word .ensures) ∙ c .before .w .given .1)
 
@@ -17,4 +14,4 @@ returns-2 c = real-bad (now (c .before .before .before .before .args .s)) (sym (
 
 pub is-real-spec : {M : Type 1} → statement M
 is-real-spec =
-    tie.close (tie.spec (λ c κs. search needs) (λ c. search needs) enum-told returns returns-2)
+    tie.close (tie.spec (λ c κs. search needs) (λ c. search needs) (λ c. search needs) returns returns-2)

@@ -17,9 +17,6 @@ part-replay-end c = let h = has-listed (now (c .before .before .before .before .
 replay-requires : tie.Need-replay-requires
 replay-requires c κs = let h = has-listed (now (c .before .before .before .before .before .before .before .before .before .before .before .before .before .before .before .before .before .before .before .before .args .sheet)) _ _ (c .before .before .before .before .before .before .l .given .1) (c .before .before .before .before .before .before .before .before .before .before .before .before .list .ensures) in omega (arith, h .work, c .before .before .before .before .before .before .before .before .before .before .before .before .list .kept .1 .1 .0)
 
-enum-told : tie.Need-enum-told
-enum-told c = search needs
-
 returns : tie.Need-returns
 returns c =
     let a = c .before .before .before .before .before .before .before .before .before .before .before .before .before .before .before .before .before .before .before .before .before .before .before .before .args in
@@ -45,7 +42,7 @@ returns-3 c =
 pub lay-spec : {M : Type 1} → statement M
 lay-spec =
     tie.close (tie.spec (λ c κs. search needs) (λ c. search needs) (λ c κs. search needs) (λ c κs. search needs) refuse-requires (λ c. search needs)
-    (λ c. search needs) (λ c. search needs) part-replay-end (λ c. search needs) replay-requires (λ c. search needs) enum-told (λ c κs. search needs)
+    (λ c. search needs) (λ c. search needs) part-replay-end (λ c. search needs) replay-requires (λ c. search needs) (λ c. search needs) (λ c κs. search needs)
     (λ c κs. search needs) (λ c. search needs) (λ c. search needs) (λ c. search needs) (λ c. search needs) returns (λ c. search needs)
     (λ c. search needs) (λ c. search needs) (λ c. search needs) returns-2 (λ c. search needs) (λ c. search needs) (λ c. search needs)
     (λ c. search needs) returns-3)

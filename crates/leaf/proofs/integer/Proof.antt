@@ -5,9 +5,6 @@ use borrow.Author.Needs.{needs}
 use Rattle.leaf.proofs.integer.Statement.{statement}
 use Rattle.leaf.proofs.integer.Tie as tie
 
-enum-told : tie.Need-enum-told
-enum-told c = search needs
-
 returns : tie.Need-returns
 returns c = integer-is (now (c .before .before .before .before .before .args .x)) (c .before .before .before .before .before .pre) (c .before .before .before .read-integer .ensures) (c .before .z .given .1) (search needs)
 
@@ -16,4 +13,4 @@ returns-2 c = integer-not (now (c .before .before .before .before .args .x)) (c 
 
 pub integer-spec : {M : Type 1} → statement M
 integer-spec =
-    tie.close (tie.spec (λ c κs. search needs) (λ c. search needs) enum-told returns returns-2)
+    tie.close (tie.spec (λ c κs. search needs) (λ c. search needs) (λ c. search needs) returns returns-2)

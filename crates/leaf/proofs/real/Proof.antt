@@ -5,9 +5,6 @@ use borrow.Author.Needs.{needs}
 use Rattle.leaf.proofs.real.Statement.{statement}
 use Rattle.leaf.proofs.real.Tie as tie
 
-enum-told : tie.Need-enum-told
-enum-told c = search needs
-
 returns : tie.Need-returns
 returns c = real-is (now (c .before .before .before .before .before .before .args .x)) (c .before .before .before .before .before .before .pre) (c .before .before .before .before .read-word .ensures) (c .before .before .b .given .1) (c .of-bits .ensures)
 
@@ -16,4 +13,4 @@ returns-2 c = real-not (now (c .before .before .before .before .args .x)) (c .be
 
 pub real-spec : {M : Type 1} → statement M
 real-spec =
-    tie.close (tie.spec (λ c κs. search needs) (λ c. search needs) (λ c κs. search needs) enum-told returns returns-2)
+    tie.close (tie.spec (λ c κs. search needs) (λ c. search needs) (λ c κs. search needs) (λ c. search needs) returns returns-2)

@@ -7,17 +7,11 @@ use borrow.Author.Needs.{needs}
 use Rattle.lines.proofs.enter.Statement.{statement}
 use Rattle.lines.proofs.enter.Tie as tie
 
-slice-write-work-2 : tie.Need-slice-write-work-2
-slice-write-work-2 c = simp length-set (omega arith)
-
-slice-write-work-3 : tie.Need-slice-write-work-3
-slice-write-work-3 c = simp length-set (omega arith)
-
 returns : tie.Need-returns
 unfolding entered
 returns c = refl
 
 pub enter-spec : {M : Type 1} → statement M
 enter-spec =
-    tie.close (tie.spec (λ c. search needs) (λ c. search needs) (λ c. search needs) (λ c. search needs) slice-write-work-2 (λ c. search needs)
-    (λ c. search needs) slice-write-work-3 (λ c. search needs) returns)
+    tie.close (tie.spec (λ c. search needs) (λ c. search needs) (λ c. search needs) (λ c. search needs) (λ c. simp length-set (omega arith))
+    (λ c. search needs) (λ c. search needs) (λ c. simp length-set (omega arith)) (λ c. search needs) returns)

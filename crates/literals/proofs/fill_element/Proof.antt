@@ -13,9 +13,6 @@ put-value-requires c κs = (omega (arith, c .before .before .before .before .bef
 place-element-requires : tie.Need-place-element-requires
 place-element-requires c κs = value-stored (c .before .before .before .before .before .before .before .before .before .before .before .before .before .before .before .before .pre) (c .before .before .before .before .before .before .before .before .before .before .before .before .before .before .before .before .args .next) (c .before .before .before .before .before .before .before .before .before .before .before .before .before .before .before .before .args .reach) (c .before .before .before .before .before .before .before .before .before .before .before .before .number-at .ensures .0) (c .before .before .before .before .before .before .before .before .before .before .fold-const .ensures) (c .before .before .before .before .before .before .v .given .1) (c .before .before .before .put-value .ensures)
 
-enum-told : tie.Need-enum-told
-enum-told c = search needs
-
 returns : tie.Need-returns
 returns c = turn-placed (c .before .before .before .before .before .before .before .before .before .before .before .before .before .before .before .before .before .before .before .pre) (c .before .before .before .before .before .before .before .before .before .before .before .before .before .before .before .before .before .before .before .args .next) (c .before .before .before .before .before .before .before .before .before .before .before .before .before .before .before .before .before .before .before .args .reach) (c .before .before .before .before .before .before .before .before .before .before .before .before .before .before .before .number-at .ensures .0) (c .before .before .before .before .before .before .before .before .before .before .before .before .before .fold-const .ensures) (c .before .before .before .before .before .before .before .before .before .v .given .1) (c .before .before .before .before .before .before .put-value .ensures) (c .before .before .place-element .ensures)
 
@@ -28,5 +25,5 @@ returns-3 c = turn-long (c .before .before .before .before .before .before .befo
 pub fill-element-spec : {M : Type 1} → statement M
 fill-element-spec =
     tie.close (tie.spec (λ c. search needs) (λ c κs. search needs) (λ c. search needs) (λ c. search needs) fold-const-requires (λ c. search needs)
-    (λ c. search needs) put-value-requires (λ c. search needs) place-element-requires enum-told (λ c. search needs) (λ c. search needs) returns
+    (λ c. search needs) put-value-requires (λ c. search needs) place-element-requires (λ c. search needs) (λ c. search needs) (λ c. search needs) returns
     (λ c. search needs) returns-2 (λ c. search needs) returns-3)

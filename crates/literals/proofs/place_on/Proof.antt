@@ -6,9 +6,6 @@ use borrow.Author.Needs.{needs}
 use Rattle.literals.proofs.place_on.Statement.{statement}
 use Rattle.literals.proofs.place_on.Tie as tie
 
-enum-told : tie.Need-enum-told
-enum-told c = search needs
-
 returns : tie.Need-returns
 returns c = moves-into (now (c .before .before .before .before .before .before .before .before .args .work)) (c .before .before .before .before .before .before .before .before .args .e) (c .before .before .before .before .before .before .before .before .args .low) (c .before .before .before .before .before .before .before .before .args .high) (c .before .before .before .before .before .x .given .1) (c .before .before .before .before .before .before .before .before .fits .low) (c .before .before .before .before .before .before .before .before .fits .high) (c .before .before .place-indices .ensures)
 
@@ -23,5 +20,5 @@ returns-4 c = moves-ended (now (c .before .before .before .args .work)) (c .befo
 
 pub place-on-spec : {M : Type 1} → statement M
 place-on-spec =
-    tie.close (tie.spec (λ c. search needs) (λ c κs. search needs) enum-told (λ c. search needs) (λ c. search needs) (λ c. search needs) returns
+    tie.close (tie.spec (λ c. search needs) (λ c κs. search needs) (λ c. search needs) (λ c. search needs) (λ c. search needs) (λ c. search needs) returns
     returns-2 returns-3 returns-4)

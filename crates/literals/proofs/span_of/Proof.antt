@@ -10,9 +10,6 @@ index-of-requires c κs = low-task (c .before .before .before .before .before .p
 high-of-requires : tie.Need-high-of-requires
 high-of-requires c κs = again (c .before .before .before .before .before .before .before .before .before .before .before .before .pre) (c .before .before .before .before .before .before .before .before .number-at .ensures .0) (c .before .before .before .before .before .before .index-of .result) (c .before .before .before .before .before .before .index-of .ensures .0) (c .before .before .low .given .1) (record { sfits = c .before .known-told .given .0 .1 }) (c .before .before .before .before .before .before .index-of .ensures .1)
 
-enum-told : tie.Need-enum-told
-enum-told c = search needs
-
 returns : tie.Need-returns
 returns c = (span-ok (c .before .before .before .before .before .before .before .before .before .before .before .before .before .before .before .before .before .before .pre) (c .before .before .before .before .before .before .before .before .before .before .before .before .before .before .number-at .ensures .0) (c .before .before .before .before .before .before .before .before .before .before .before .before .index-of .result) (c .before .before .before .before .before .before .before .before .before .before .before .before .index-of .ensures .0) (c .before .before .before .before .before .before .before .before .low .given .1) (record { sfits = c .before .before .before .before .before .before .before .known-told .given .0 .1 }) (c .before .before .before .before .before .before .before .before .before .before .before .before .index-of .ensures .1) (c .before .before .before .before .before .high-of .result) (c .before .before .before .before .before .high-of .ensures .0) (c .before .high .given .1) (record { sfits = c .known-told2 .given .0 .1 }), kept-then (c .before .before .before .before .before .before .before .before .before .before .before .before .index-of .ensures .1) (c .before .before .before .before .before .high-of .ensures .1))
 
@@ -31,5 +28,5 @@ returns-5 c = (span-low-long (c .before .before .before .before .before .before 
 pub span-of-spec : {M : Type 1} → statement M
 span-of-spec =
     tie.close (tie.spec (λ c. search needs) (λ c κs. search needs) index-of-requires (λ c. search needs) high-of-requires (λ c. search needs)
-    enum-told (λ c. search needs) (λ c. search needs) (λ c. search needs) (λ c. search needs) returns (λ c. search needs) returns-2
+    (λ c. search needs) (λ c. search needs) (λ c. search needs) (λ c. search needs) (λ c. search needs) returns (λ c. search needs) returns-2
     (λ c. search needs) returns-3 (λ c. search needs) returns-4 (λ c. search needs) returns-5)

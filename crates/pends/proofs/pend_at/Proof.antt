@@ -9,10 +9,10 @@ use Rattle.pends.proofs.pend_at.Statement.{statement}
 use Rattle.pends.proofs.pend_at.Tie as tie
 
 returns : tie.Need-returns
-returns c = (none-laid _ (now (c .before .before .before .before .before .before .before .before .args .sheet)) (c .before .before .before .before .before .before .before .before .args .i) (laid-other (c .before .before .before .before .before .before .before .before .pre) (c .before .before .before .form-at .ensures) (c .before .before .if1 .taken)) (c .no-rows .ensures), keeps-all)
+returns c = (none-laid _ (now (c .before .before .before .before .before .before .before .before .args .sheet)) (c .before .before .before .before .before .before .before .before .args .i) (laid-other (c .before .before .before .before .before .before .before .before .pre) (c .before .before .before .form-at .ensures) (c .before .before .if1 .taken)) (c .nothing .ensures), keeps-all)
 
 returns-2 : tie.Need-returns-2
-returns-2 c = (none-laid _ (now (c .before .before .before .before .before .before .before .before .before .before .before .args .sheet)) (c .before .before .before .before .before .before .before .before .before .before .before .args .i) (laid-skipped (c .before .before .before .before .before .before .before .before .before .before .before .pre) (c .before .before .before .before .before .before .form-at .ensures) (c .before .before .before .before .before .if1 .left) (c .before .before .before .is-own .ensures) (not-true _ (c .before .before .if2 .taken))) (c .no-rows2 .ensures), keeps-all)
+returns-2 c = (none-laid _ (now (c .before .before .before .before .before .before .before .before .before .before .before .args .sheet)) (c .before .before .before .before .before .before .before .before .before .before .before .args .i) (laid-skipped (c .before .before .before .before .before .before .before .before .before .before .before .pre) (c .before .before .before .before .before .before .form-at .ensures) (c .before .before .before .before .before .if1 .left) (c .before .before .before .is-own .ensures) (not-true _ (c .before .before .if2 .taken))) (c .nothing2 .ensures), keeps-all)
 
 pend-line-requires : tie.Need-pend-line-requires
 pend-line-requires c κs = laid-line (c .before .before .before .before .before .before .before .before .before .before .before .pre) (c .before .before .before .before .before .before .form-at .ensures) (c .before .before .before .before .before .if1 .left)

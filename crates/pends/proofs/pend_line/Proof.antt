@@ -9,23 +9,20 @@ use borrow.Author.Needs.{needs}
 use Rattle.pends.proofs.pend_line.Statement.{statement}
 use Rattle.pends.proofs.pend_line.Tie as tie
 
-enum-told : tie.Need-enum-told
-enum-told c = search needs
-
 pend-names-requires : tie.Need-pend-names-requires
 pend-names-requires c κs = var-line (line-kept (c .before .before .before .before .before .before .var-value .ensures .keeps) (c .before .before .before .before .before .before .before .before .before .before .before .pre))
 
 returns : tie.Need-returns
-returns c = (quiet-none (now (c .before .before .before .before .before .before .before .before .before .before .before .args .sheet)) (c .before .before .before .before .before .before .before .before .before .before .before .args .r) _ (c .before .before .before .before .before .before .before .before .before .before .before .pre .first) (c .before .before .before .before .before .before .var-value .ensures) (c .before .before .enum-told .given .1) (c .no-rows .ensures), c .before .before .before .before .before .before .var-value .ensures .keeps)
+returns c = (quiet-none (now (c .before .before .before .before .before .before .before .before .before .before .before .args .sheet)) (c .before .before .before .before .before .before .before .before .before .before .before .args .r) _ (c .before .before .before .before .before .before .before .before .before .before .before .pre .first) (c .before .before .before .before .before .before .var-value .ensures) (c .before .before .enum-told .given .1) (c .nothing .ensures), c .before .before .before .before .before .before .var-value .ensures .keeps)
 
 returns-2 : tie.Need-returns-2
-returns-2 c = (quiet-value (now (c .before .before .before .before .before .before .before .before .before .before .before .args .sheet)) (c .before .before .before .before .before .before .before .before .before .before .before .args .r) _ (c .before .before .before .before .before .before .before .before .before .before .before .pre .first) (c .before .before .before .before .before .before .var-value .ensures) (c .before .before .enum-told2 .given .1) (c .no-rows2 .ensures), c .before .before .before .before .before .before .var-value .ensures .keeps)
+returns-2 c = (quiet-value (now (c .before .before .before .before .before .before .before .before .before .before .before .args .sheet)) (c .before .before .before .before .before .before .before .before .before .before .before .args .r) _ (c .before .before .before .before .before .before .before .before .before .before .before .pre .first) (c .before .before .before .before .before .before .var-value .ensures) (c .before .before .enum-told2 .given .1) (c .nothing2 .ensures), c .before .before .before .before .before .before .var-value .ensures .keeps)
 
 returns-3 : tie.Need-returns-3
-returns-3 c = (quiet-alloc (now (c .before .before .before .before .before .before .before .before .before .before .before .args .sheet)) (c .before .before .before .before .before .before .before .before .before .before .before .args .r) _ (c .before .before .before .before .before .before .before .before .before .before .before .pre .first) (c .before .before .before .before .before .before .var-value .ensures) (c .before .before .enum-told3 .given .1) (c .no-rows3 .ensures), c .before .before .before .before .before .before .var-value .ensures .keeps)
+returns-3 c = (quiet-alloc (now (c .before .before .before .before .before .before .before .before .before .before .before .args .sheet)) (c .before .before .before .before .before .before .before .before .before .before .before .args .r) _ (c .before .before .before .before .before .before .before .before .before .before .before .pre .first) (c .before .before .before .before .before .before .var-value .ensures) (c .before .before .enum-told3 .given .1) (c .nothing3 .ensures), c .before .before .before .before .before .before .var-value .ensures .keeps)
 
 returns-4 : tie.Need-returns-4
-returns-4 c = (quiet-literal (now (c .before .before .before .before .before .before .before .before .before .before .before .args .sheet)) (c .before .before .before .before .before .before .before .before .before .before .before .args .r) _ (c .before .before .before .before .before .before .before .before .before .before .before .pre .first) (c .before .before .before .before .before .before .var-value .ensures) (c .before .before .enum-told4 .given .1) (c .no-rows4 .ensures), c .before .before .before .before .before .before .var-value .ensures .keeps)
+returns-4 c = (quiet-literal (now (c .before .before .before .before .before .before .before .before .before .before .before .args .sheet)) (c .before .before .before .before .before .before .before .before .before .before .before .args .r) _ (c .before .before .before .before .before .before .before .before .before .before .before .pre .first) (c .before .before .before .before .before .before .var-value .ensures) (c .before .before .enum-told4 .given .1) (c .nothing4 .ensures), c .before .before .before .before .before .before .var-value .ensures .keeps)
 
 returns-5 : tie.Need-returns-5
 returns-5 c = (line-pending (now (c .before .before .before .before .before .before .before .before .before .before .before .before .before .before .args .sheet)) (c .before .before .before .before .before .before .before .before .before .before .before .before .before .before .args .r) _ (c .before .before .before .before .before .before .before .before .before .before .before .before .before .before .pre .first) (c .before .before .before .before .before .before .before .before .before .var-value .ensures) (ap (initIn _) (c .before .before .before .before .before .enum-told5 .given .1)) (c .before .before .pend-names .ensures), c .before .before .before .before .before .before .before .before .before .var-value .ensures .keeps)
@@ -35,7 +32,7 @@ returns-6 c = ((line-refused (now (c .before .before .before .before .before .be
 
 pub pend-line-spec : {M : Type 1} → statement M
 pend-line-spec =
-    tie.close (tie.spec (λ c κs. search needs) enum-told (λ c κs. search needs) (λ c. search needs) (λ c κs. search needs) (λ c. search needs)
+    tie.close (tie.spec (λ c κs. search needs) (λ c. search needs) (λ c κs. search needs) (λ c. search needs) (λ c κs. search needs) (λ c. search needs)
     (λ c κs. search needs) (λ c. search needs) (λ c κs. search needs) (λ c. search needs) pend-names-requires (λ c. search needs) (λ c. search needs)
     (λ c. search needs) returns (λ c. search needs) (λ c. search needs) returns-2 (λ c. search needs) (λ c. search needs) returns-3
     (λ c. search needs) (λ c. search needs) returns-4 (λ c. search needs) (λ c. search needs) returns-5 (λ c. search needs) returns-6)

@@ -5,7 +5,7 @@ use Rattle.pends.proofs.pend_name.Statement.{statement}
 use Rattle.pends.proofs.pend_name.Tie as tie
 
 returns : tie.Need-returns
-returns c = name-nil (c .before .before .before .before .before .field-at .ensures) (c .before .before .before .same .ensures) (c .before .before .if1 .taken) (c .no-rows .ensures)
+returns c = name-nil (c .before .before .before .before .before .field-at .ensures) (c .before .before .before .same .ensures) (c .before .before .if1 .taken) (c .nothing .ensures)
 
 returns-2 : tie.Need-returns-2
 returns-2 c = name-row (c .before .before .before .before .before .before .before .field-at .ensures) (c .before .before .before .before .before .same .ensures) (c .before .before .before .before .if1 .left) (c .before .before .pend-row .ensures)

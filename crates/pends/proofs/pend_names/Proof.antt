@@ -16,7 +16,7 @@ abbrev μ-loop : tie.MeasureT-loop
 μ-loop sheet work n r out₀ at count p₀ j₀ out p j = count - j
 
 loop-holds : tie.Need-loop-holds Inv-loop μ-loop
-loop-holds c = naming-start (now (c .before .before .before .before .before .before .args .sheet)) (now (c .before .before .before .before .before .before .args .work)) (c .before .before .before .before .before .before .args .n) (c .before .before .before .before .before .before .args .r) (c .before .before .before .before .before .before .pre) (c .before .before .number-at .ensures .0) (c .no-rows .ensures)
+loop-holds c = naming-start (now (c .before .before .before .before .before .before .args .sheet)) (now (c .before .before .before .before .before .before .args .work)) (c .before .before .before .before .before .before .args .n) (c .before .before .before .before .before .before .args .r) (c .before .before .before .before .before .before .pre) (c .before .before .number-at .ensures .0) (c .nothing .ensures)
 
 pend-name-requires : tie.Need-pend-name-requires Inv-loop μ-loop
 pend-name-requires c κs = (c .before .before .before .before .before .before .before .before .before .pre, omega (arith, few-names (now (c .before .before .before .before .before .before .before .before .before .args .sheet)) (now (c .before .before .before .before .before .before .before .before .before .args .work)) (c .before .before .before .before .before .before .before .before .before .args .n) (c .before .before .before .before .before .before .before .before .before .args .r) (c .before .before .before .before .before .before .before .before .before .pre) (c .before .before .before .before .before .number-at .ensures .0), c .before .loop-test .taken))

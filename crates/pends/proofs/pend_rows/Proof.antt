@@ -13,7 +13,7 @@ abbrev μ-loop : tie.MeasureT-loop
 μ-loop sheet work₀ n m out₀ at p₀ k₀ i₀ work out p k i = n - i
 
 loop-holds : tie.Need-loop-holds Inv-loop μ-loop
-loop-holds c = walk-start (c .before .before .before .before .before .pre) (c .no-rows .ensures)
+loop-holds c = walk-start (c .before .before .before .before .before .pre) (c .nothing .ensures)
 
 pend-at-requires : tie.Need-pend-at-requires Inv-loop μ-loop
 pend-at-requires c κs = walk-task (c .before .before .before .before .before .before .before .before .before .pre) (c .before .before .before .loop .inv) (c .before .before .loop-test .taken)

@@ -3,9 +3,6 @@ use borrow.Author.Needs.{needs}
 use Rattle.placements.proofs.rank.Statement.{statement}
 use Rattle.placements.proofs.rank.Tie as tie
 
-enum-told : tie.Need-enum-told
-enum-told c = search needs
-
 returns : tie.Need-returns
 returns c = λ t. rank-int t (c .before .before .args .v) (c .enum-told .given .1)
 
@@ -17,4 +14,4 @@ returns-3 c = λ t. rank-string t (c .before .before .args .v) (c .enum-told3 .g
 
 pub rank-spec : {M : Type 1} → statement M
 rank-spec =
-    tie.close (tie.spec enum-told (λ c. search needs) (λ c. search needs) returns returns-2 returns-3)
+    tie.close (tie.spec (λ c. search needs) (λ c. search needs) (λ c. search needs) returns returns-2 returns-3)

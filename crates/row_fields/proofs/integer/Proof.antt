@@ -6,9 +6,6 @@ use borrow.Author.Needs.{needs}
 use Rattle.row_fields.proofs.integer.Statement.{statement}
 use Rattle.row_fields.proofs.integer.Tie as tie
 
-enum-told : tie.Need-enum-told
-enum-told c = search needs
-
 returns : tie.Need-returns
 returns c =
     let a = c .before .before .before .before .before .before .args in
@@ -23,4 +20,4 @@ returns-2 c =
 
 pub integer-spec : {M : Type 1} → statement M
 integer-spec =
-    tie.close (tie.spec (λ c κs. search needs) (λ c. search needs) (λ c κs. search needs) enum-told returns returns-2)
+    tie.close (tie.spec (λ c κs. search needs) (λ c. search needs) (λ c κs. search needs) (λ c. search needs) returns returns-2)

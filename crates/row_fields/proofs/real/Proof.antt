@@ -6,9 +6,6 @@ use borrow.Author.Needs.{needs}
 use Rattle.row_fields.proofs.real.Statement.{statement}
 use Rattle.row_fields.proofs.real.Tie as tie
 
-enum-told : tie.Need-enum-told
-enum-told c = search needs
-
 returns : tie.Need-returns
 returns c =
     let a = c .before .before .before .before .before .args in
@@ -20,4 +17,4 @@ returns-2 c = real-bad (now (c .before .before .before .before .args .f)) (sym (
 
 pub real-spec : {M : Type 1} → statement M
 real-spec =
-    tie.close (tie.spec (λ c κs. search needs) (λ c. search needs) enum-told returns returns-2)
+    tie.close (tie.spec (λ c κs. search needs) (λ c. search needs) (λ c. search needs) returns returns-2)

@@ -106,9 +106,6 @@ type-size-align-tuple-size-align-requires t c κs = (omega (arith, c .before .be
 type-size-align-returns : (t : ℕ) → type-size-align-lts.Need-returns (type-callees t) (type-size-align-at t) type-size-align.Post
 type-size-align-returns t c = c .tuple-size-align .ensures
 
-type-size-align-is-long-requires : (t : ℕ) → type-size-align-lts.Need-is-long-requires (type-callees t) (type-size-align-at t) type-size-align.Post
-type-size-align-is-long-requires t c κs = search needs
-
 type-size-align-returns-2 : (t : ℕ) → type-size-align-lts.Need-returns-2 (type-callees t) (type-size-align-at t) type-size-align.Post
 type-size-align-returns-2 t c = measures-plain (c .before .before .before .before .before .before .pre .1) (c .before .before .before .form-at .ensures) (c .before .before .if1 .left) true (sym (c .if2 .taken) ∙ c .before .is-long .ensures)
 
@@ -117,30 +114,11 @@ type-size-align-returns-3 t c = measures-plain (c .before .before .before .befor
 
 pub +tuple-size-align+type-size-align-spec : {M : Type 1} → statement M
 +tuple-size-align+type-size-align-spec =
-    close μ-tuple-size-align μ-type-size-align (λ t. tuple-size-align-lts.spec (tuple-callees t)
-    (tuple-size-align-at t)
-    tuple-size-align.Post
-    tuple-size-align-Inv-loop
-    tuple-size-align-μ-loop
-    (tuple-size-align-sub-number-at t)
-    (tuple-size-align-number-at-requires t)
-    (tuple-size-align-loop-holds t)
-    (tuple-size-align-add-j t)
-    (tuple-size-align-sub-number-at-2 t)
-    (tuple-size-align-number-at-requires-2 t)
-    (tuple-size-align-type-size-align-requires t)
-    (tuple-size-align-behind-requires t)
-    (tuple-size-align-loop-less t)
-    (tuple-size-align-loop-again t)
-    (tuple-size-align-rounded-size-requires t)
-    (tuple-size-align-returns t))
-    λ t. type-size-align-lts.spec (type-callees t)
-    (type-size-align-at t)
-    type-size-align.Post
-    (type-size-align-sub-form-at t)
-    (type-size-align-form-at-requires t)
-    (type-size-align-tuple-size-align-requires t)
-    (type-size-align-returns t)
-    (type-size-align-is-long-requires t)
-    (type-size-align-returns-2 t)
-    (type-size-align-returns-3 t)
+    close μ-tuple-size-align μ-type-size-align (λ t. tuple-size-align-lts.spec (tuple-callees t) (tuple-size-align-at t) tuple-size-align.Post
+    tuple-size-align-Inv-loop tuple-size-align-μ-loop (tuple-size-align-sub-number-at t) (tuple-size-align-number-at-requires t)
+    (tuple-size-align-loop-holds t) (tuple-size-align-add-j t) (tuple-size-align-sub-number-at-2 t) (tuple-size-align-number-at-requires-2 t)
+    (tuple-size-align-type-size-align-requires t) (tuple-size-align-behind-requires t) (tuple-size-align-loop-less t)
+    (tuple-size-align-loop-again t) (tuple-size-align-rounded-size-requires t) (tuple-size-align-returns t))
+    λ t. type-size-align-lts.spec (type-callees t) (type-size-align-at t) type-size-align.Post (type-size-align-sub-form-at t)
+    (type-size-align-form-at-requires t) (type-size-align-tuple-size-align-requires t) (type-size-align-returns t) (λ c κs. search needs)
+    (type-size-align-returns-2 t) (type-size-align-returns-3 t)

@@ -6,9 +6,6 @@ use borrow.Author.Needs.{needs}
 use Rattle.values.proofs.fold_binary.Statement.{statement}
 use Rattle.values.proofs.fold_binary.Tie as tie
 
-enum-told : tie.Need-enum-told
-enum-told c = search needs
-
 returns : tie.Need-returns
 returns c = binds (c .before .before .before .before .before .before .before .args .op) (c .before .before .before .before .before .x .given .1) (c .before .before .y .given .1) (binds-ints (c .before .before .before .before .before .before .before .args .op) (search needs) (search needs) (c .int-binary .ensures))
 
@@ -43,6 +40,6 @@ returns-9 c = binds (c .before .before .before .before .before .before .before .
 pub fold-binary-spec : {M : Type 1} → statement M
 fold-binary-spec =
     tie.close (tie.spec (λ c. search needs) (λ c. search needs) (λ c κs. search needs) (λ c. search needs) (λ c κs. search needs)
-    (λ c κs. search needs) enum-told (λ c. search needs) (λ c. search needs) (λ c κs. search needs) (λ c κs. search needs) (λ c. search needs)
+    (λ c κs. search needs) (λ c. search needs) (λ c. search needs) (λ c. search needs) (λ c κs. search needs) (λ c κs. search needs) (λ c. search needs)
     (λ c κs. search needs) (λ c. search needs) (λ c. search needs) (λ c. search needs) (λ c. search needs) (λ c. search needs) (λ c κs. search needs)
     returns returns-2 returns-3 returns-4 returns-5 returns-6 returns-7 returns-8 returns-9)

@@ -5,9 +5,6 @@ use borrow.Author.Needs.{needs}
 use Rattle.values.proofs.fold_cast.Statement.{statement}
 use Rattle.values.proofs.fold_cast.Tie as tie
 
-enum-told : tie.Need-enum-told
-enum-told c = search needs
-
 returns : tie.Need-returns
 returns c = casts-int (c .before .before .before .before .before .before .before .before .args .code) (now (c .before .before .before .before .before .before .before .before .args .work)) (c .before .before .before .before .before .before .before .before .args .top) (c .before .before .before .before .before .v .given .1) (search needs) (c .before .before .cast-int .ensures)
 
@@ -19,5 +16,5 @@ returns-3 c = casts-string (c .before .before .before .args .code) (now (c .befo
 
 pub fold-cast-spec : {M : Type 1} → statement M
 fold-cast-spec =
-    tie.close (tie.spec (λ c. search needs) (λ c κs. search needs) (λ c. search needs) (λ c κs. search needs) enum-told (λ c. search needs) returns
+    tie.close (tie.spec (λ c. search needs) (λ c κs. search needs) (λ c. search needs) (λ c κs. search needs) (λ c. search needs) (λ c. search needs) returns
     returns-2 returns-3)

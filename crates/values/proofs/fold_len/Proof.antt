@@ -14,9 +14,6 @@ use borrow.Author.Needs.{needs}
 use Rattle.values.proofs.fold_len.Statement.{statement}
 use Rattle.values.proofs.fold_len.Tie as tie
 
-enum-told : tie.Need-enum-told
-enum-told c = search needs
-
 add-e : tie.Need-add-e
 add-e c = let w = string-within (now (c .before .before .before .before .args .work)) (c .before .v .given .1) (c .before .before .before .before .pre) in record { fits = omega arith }
 
@@ -46,5 +43,5 @@ returns-3 c =
 
 pub fold-len-spec : {M : Type 1} → statement M
 fold-len-spec =
-    tie.close (tie.spec enum-told (λ c. search needs) (λ c. search needs) add-e (λ c. search needs) (λ c. search needs) part-count-end
+    tie.close (tie.spec (λ c. search needs) (λ c. search needs) (λ c. search needs) add-e (λ c. search needs) (λ c. search needs) part-count-end
     (λ c κs. search needs) cast-t12 returns returns-2 returns-3)

@@ -6,9 +6,6 @@ use borrow.Author.Needs.{needs}
 use Rattle.values.proofs.fold_unary.Statement.{statement}
 use Rattle.values.proofs.fold_unary.Tie as tie
 
-enum-told : tie.Need-enum-told
-enum-told c = search needs
-
 returns : tie.Need-returns
 returns c = unary-of-int (c .before .before .before .before .args .op) (c .before .before .v .given .1) (search needs) (c .int-unary .ensures)
 
@@ -22,4 +19,4 @@ returns-3 c = unary-of (c .before .before .args .op) (c .enum-told .given .1) (a
 
 pub fold-unary-spec : {M : Type 1} → statement M
 fold-unary-spec =
-    tie.close (tie.spec (λ c. search needs) (λ c κs. search needs) (λ c. search needs) (λ c κs. search needs) enum-told returns returns-2 returns-3)
+    tie.close (tie.spec (λ c. search needs) (λ c κs. search needs) (λ c. search needs) (λ c κs. search needs) (λ c. search needs) returns returns-2 returns-3)

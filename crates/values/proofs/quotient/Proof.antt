@@ -6,9 +6,6 @@ use borrow.Author.Needs.{needs}
 use Rattle.values.proofs.quotient.Statement.{statement}
 use Rattle.values.proofs.quotient.Tie as tie
 
-enum-told : tie.Need-enum-told
-enum-told c = search needs
-
 returns : tie.Need-returns
 returns c = answers-int (search needs) (ap folded (sym (c .before .q .given .1)))
 
@@ -17,4 +14,4 @@ returns-2 c = answers-failed (ap folded (sym (c .enum-told .given .1)))
 
 pub quotient-spec : {M : Type 1} → statement M
 quotient-spec =
-    tie.close (tie.spec (λ c. search needs) enum-told returns returns-2)
+    tie.close (tie.spec (λ c. search needs) (λ c. search needs) returns returns-2)

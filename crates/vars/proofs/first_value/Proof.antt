@@ -11,9 +11,6 @@ returns c = first-none (c .before .before .before .before .before .pre) (c .befo
 fold-const-requires : tie.Need-fold-const-requires
 fold-const-requires c κs = value-foldable (c .before .before .before .before .before .before .pre) (c .before .before .number-at .ensures .0) (c .before .if1 .left)
 
-enum-told : tie.Need-enum-told
-enum-told c = search needs
-
 array-value-requires : tie.Need-array-value-requires
 array-value-requires c κs = array-task (c .before .before .before .before .before .before .before .before .before .before .before .before .pre) (c .before .before .before .before .before .before .before .before .number-at .ensures .0) (c .before .before .before .before .before .before .before .if1 .left) (c .before .before .before .before .before .fold-const .ensures) (c .before .enum-told .given .1)
 
@@ -28,5 +25,5 @@ returns-4 c = first-long (c .before .before .before .before .before .before .bef
 
 pub first-value-spec : {M : Type 1} → statement M
 first-value-spec =
-    tie.close (tie.spec (λ c. search needs) (λ c κs. search needs) (λ c. search needs) returns fold-const-requires (λ c. search needs) enum-told
+    tie.close (tie.spec (λ c. search needs) (λ c κs. search needs) (λ c. search needs) returns fold-const-requires (λ c. search needs) (λ c. search needs)
     array-value-requires (λ c. search needs) (λ c. search needs) returns-2 (λ c. search needs) returns-3 (λ c. search needs) returns-4)

@@ -4,9 +4,6 @@ use borrow.Author.Needs.{needs}
 use Rattle.vars.proofs.of_array.Statement.{statement}
 use Rattle.vars.proofs.of_array.Tie as tie
 
-enum-told : tie.Need-enum-told
-enum-told c = search needs
-
 returns : tie.Need-returns
 returns c = array-alloc (c .before .x .given .1)
 
@@ -21,4 +18,4 @@ returns-4 c = array-refused (c .before .x3 .given .1)
 
 pub of-array-spec : {M : Type 1} → statement M
 of-array-spec =
-    tie.close (tie.spec (λ c. search needs) (λ c. search needs) enum-told (λ c. search needs) returns returns-2 returns-3 returns-4)
+    tie.close (tie.spec (λ c. search needs) (λ c. search needs) (λ c. search needs) (λ c. search needs) returns returns-2 returns-3 returns-4)

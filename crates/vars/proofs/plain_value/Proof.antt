@@ -11,9 +11,6 @@ returns c = plain-none (c .before .before .before .before .before .pre) (c .befo
 fold-const-requires : tie.Need-fold-const-requires
 fold-const-requires c κs = value-foldable (c .before .before .before .before .before .before .pre) (c .before .before .number-at .ensures .0) (c .before .if1 .left)
 
-enum-told : tie.Need-enum-told
-enum-told c = search needs
-
 returns-2 : tie.Need-returns-2
 returns-2 c = plain-folded (c .before .before .before .before .before .before .before .before .before .before .before .before .pre) (c .before .before .before .before .before .before .before .before .number-at .ensures .0) (c .before .before .before .before .before .before .before .if1 .left) (c .before .before .before .before .before .fold-const .ensures) (c .before .v .given .1)
 
@@ -25,5 +22,5 @@ returns-4 c = plain-long (c .before .before .before .before .before .before .bef
 
 pub plain-value-spec : {M : Type 1} → statement M
 plain-value-spec =
-    tie.close (tie.spec (λ c. search needs) (λ c κs. search needs) (λ c. search needs) returns fold-const-requires (λ c. search needs) enum-told
+    tie.close (tie.spec (λ c. search needs) (λ c κs. search needs) (λ c. search needs) returns fold-const-requires (λ c. search needs) (λ c. search needs)
     (λ c. search needs) (λ c. search needs) returns-2 (λ c. search needs) returns-3 (λ c. search needs) returns-4)

@@ -27,10 +27,10 @@ mul-acc : tie.Need-mul-acc Inv-loop μ-loop
 mul-acc c = record { fits = let h = bytes-fit (c .before .loop .acc) (c .before .loop .k) 0 (c .before .loop .inv .1) (c .loop-test .taken) (omega arith) in omega arith }
 
 add-acc : tie.Need-add-acc Inv-loop μ-loop
-add-acc c = record { fits = bytes-fit (c .before .before .before .loop .acc) (c .before .before .before .loop .k) (c .wide64 .result) (c .before .before .before .loop .inv .1) (c .before .before .loop-test .taken) (omega arith) }
+add-acc c = record { fits = bytes-fit (c .before .before .before .loop .acc) (c .before .before .before .loop .k) (c .wide .result) (c .before .before .before .loop .inv .1) (c .before .before .loop-test .taken) (omega arith) }
 
 loop-again : tie.Need-loop-again Inv-loop μ-loop
-loop-again c = (omega arith, bytes-grow (c .before .before .before .loop .acc) (c .before .before .before .loop .k) (c .wide64 .result) (c .before .before .before .loop .inv .1) (omega arith), c .before .before .before .loop .inv .2 ∙ Laws.bits-next (now (c .before .before .before .before .before .args .work)) (c .before .before .before .before .before .args .a) (c .before .before .before .loop .k) (c .before .before .before .loop .acc) (omega arith) (omega arith) ∙ rw (c .wide64 .ensures .0))
+loop-again c = (omega arith, bytes-grow (c .before .before .before .loop .acc) (c .before .before .before .loop .k) (c .wide .result) (c .before .before .before .loop .inv .1) (omega arith), c .before .before .before .loop .inv .2 ∙ Laws.bits-next (now (c .before .before .before .before .before .args .work)) (c .before .before .before .before .before .args .a) (c .before .before .before .loop .k) (c .before .before .before .loop .acc) (omega arith) (omega arith) ∙ rw (c .wide .ensures .0))
 
 returns : tie.Need-returns Inv-loop μ-loop
 returns c = Laws.bits-end (now (c .before .before .before .args .work)) (c .before .before .before .args .a) (c .before .loop .k) (c .before .loop .acc) (omega arith) (c .before .loop .inv .2)

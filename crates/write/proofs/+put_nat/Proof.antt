@@ -27,52 +27,15 @@ put-nat-below t = and 1 put-nat-kinds.ps (falls 1 put-nat-kinds.ps _<_ μ-put-na
 abbrev callees : ℕ → put-nat-lts.Claims
 callees t = (put-reads.Asked, put-reads.Learnt, put-nat-below t, put-nat.Post)
 
-put-nat-cast-put : (t : ℕ) → put-nat-lts.Need-cast-put (callees t) (put-nat-at t) put-nat.Post
-put-nat-cast-put t c = search needs
-
-put-nat-add-put : (t : ℕ) → put-nat-lts.Need-add-put (callees t) (put-nat-at t) put-nat.Post
-put-nat-add-put t c = search needs
-
-put-nat-put-requires : (t : ℕ) → put-nat-lts.Need-put-requires (callees t) (put-nat-at t) put-nat.Post
-put-nat-put-requires t c κs = search needs
-
-put-nat-same-length : (t : ℕ) → put-nat-lts.Need-same-length (callees t) (put-nat-at t) put-nat.Post
-put-nat-same-length t c = search needs
-
 put-nat-returns : (t : ℕ) → put-nat-lts.Need-returns (callees t) (put-nat-at t) put-nat.Post
 put-nat-returns t c = wrote-as (sym (decimal-one (c .before .before .before .before .before .before .args .n) (c .before .before .before .before .if1 .taken))) (c .before .before .put .ensures)
-
-put-nat-put-nat-requires : (t : ℕ) → put-nat-lts.Need-put-nat-requires (callees t) (put-nat-at t) put-nat.Post
-put-nat-put-nat-requires t c κs = search needs
-
-put-nat-cast-put-2 : (t : ℕ) → put-nat-lts.Need-cast-put-2 (callees t) (put-nat-at t) put-nat.Post
-put-nat-cast-put-2 t c = search needs
-
-put-nat-add-put-2 : (t : ℕ) → put-nat-lts.Need-add-put-2 (callees t) (put-nat-at t) put-nat.Post
-put-nat-add-put-2 t c = search needs
-
-put-nat-put-requires-2 : (t : ℕ) → put-nat-lts.Need-put-requires-2 (callees t) (put-nat-at t) put-nat.Post
-put-nat-put-requires-2 t c κs = search needs
-
-put-nat-same-length-2 : (t : ℕ) → put-nat-lts.Need-same-length-2 (callees t) (put-nat-at t) put-nat.Post
-put-nat-same-length-2 t c = search needs
 
 put-nat-returns-2 : (t : ℕ) → put-nat-lts.Need-returns-2 (callees t) (put-nat-at t) put-nat.Post
 put-nat-returns-2 t c =
     wrote-as (sym (decimal-more (c .before .before .before .before .before .before .before .before .before .before .args .n) (omega arith))) (then (c .before .before .before .before .before .before .put-nat .ensures) (c .before .before .put2 .ensures))
 
 pub +put-nat-spec : {M : Type 1} → statement M
-+put-nat-spec = close μ-put-nat λ t. put-nat-lts.spec (callees t)
-    (put-nat-at t)
-    put-nat.Post
-    (put-nat-cast-put t)
-    (put-nat-add-put t)
-    (put-nat-put-requires t)
-    (put-nat-same-length t)
-    (put-nat-returns t)
-    (put-nat-put-nat-requires t)
-    (put-nat-cast-put-2 t)
-    (put-nat-add-put-2 t)
-    (put-nat-put-requires-2 t)
-    (put-nat-same-length-2 t)
-    (put-nat-returns-2 t)
++put-nat-spec =
+    close μ-put-nat λ t. put-nat-lts.spec (callees t) (put-nat-at t) put-nat.Post (λ c. search needs) (λ c. search needs) (λ c κs. search needs)
+    (λ c. search needs) (put-nat-returns t) (λ c κs. search needs) (λ c. search needs) (λ c. search needs) (λ c κs. search needs)
+    (λ c. search needs) (put-nat-returns-2 t)

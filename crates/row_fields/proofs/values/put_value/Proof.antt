@@ -2,9 +2,7 @@
 use native.Mathlib.Omega.{arith}
 use borrow.Author.Needs.{needs}
 use Rattle.row_fields.proofs.Writes.{Left, left-all, left-next, left-none, big-next, big-none}
-use Rattle.write.proofs.Wrote.{wrote-past}
 use Rattle.semantics.specs.Text.{bigEndian}
-use denote.Ref.{now}
 use lib.ListN.{length}
 use mathlib.Core.Path.{_≡_, _∙_, refl}
 use Prim.Native.Nat.{_≤_, _+_}
@@ -17,27 +15,24 @@ Inv-loop out₀ at w n p₀ j₀ out p j = (j ≤ w) × (length out ≡ length o
 abbrev μ-loop : tie.MeasureT-loop
 μ-loop out₀ at w n p₀ j₀ out p j = j
 
-returns : tie.Need-returns Inv-loop μ-loop
-returns c = wrote-past (now (c .before .before .args .out)) (c .before .before .args .at) _ (omega arith) (omega arith)
-
 loop-holds : tie.Need-loop-holds Inv-loop μ-loop
-loop-holds c = (search needs, refl, omega arith, left-all (now (c .before .before .args .out)) (c .before .before .args .at) _)
+loop-holds c = (search needs, refl, omega (arith, c .nothing .ensures .place), left-all _ (c .nothing .ensures))
 
 loop-again : tie.Need-loop-again Inv-loop μ-loop
 loop-again c =
-    let a = c .before .before .before .before .before .before .before .before .before .args in
+    let a = c .before .before .before .before .before .before .before .before .before .before .args in
     let l = c .before .before .before .before .before .before .loop in
     let b = c .before .before .before .byte in
     let w = c .before .before .put in
     (search needs, w .kept .0 ∙ l .inv .1, omega (arith, w .ensures .place, w .kept .0), left-next (big-next (l .j) (a .n) (omega arith) (b .ensures)) (l .inv .3) (w .ensures))
 
-returns-2 : tie.Need-returns-2 Inv-loop μ-loop
-returns-2 c =
-    let a = c .before .before .before .before .args in
+returns : tie.Need-returns Inv-loop μ-loop
+returns c =
+    let a = c .before .before .before .before .before .args in
     let l = c .before .loop in
     left-none (big-none (l .j) (a .n) (omega arith)) (l .inv .3) (l .inv .2)
 
 pub put-value-spec : {M : Type 1} → statement M
 put-value-spec =
-    tie.close (tie.spec Inv-loop μ-loop (λ c. search needs) returns loop-holds (λ c. search needs) (λ c κs. search needs) (λ c κs. search needs)
-    (λ c. search needs) (λ c. search needs) loop-again (λ c. search needs) returns-2)
+    tie.close (tie.spec Inv-loop μ-loop (λ c κs. search needs) loop-holds (λ c. search needs) (λ c κs. search needs) (λ c κs. search needs)
+    (λ c. search needs) (λ c. search needs) loop-again (λ c. search needs) returns)

@@ -3,7 +3,6 @@ use native.Mathlib.Omega.{arith}
 use borrow.Author.Needs.{needs}
 use Rattle.row_fields.proofs.Writes.{Left, left-all, left-next, left-none, values-next, values-none}
 use Rattle.row_fields.specs.Rest.{fieldsAt}
-use Rattle.write.proofs.Wrote.{wrote-past}
 use Rattle.stored.specs.Reading.{valuesIn}
 use denote.Ref.{now}
 use lib.ListN.{length}
@@ -18,29 +17,26 @@ Inv-loop out₀ at row from w reals p₀ i₀ out p i = (length out ≡ length o
 abbrev μ-loop : tie.MeasureT-loop
 μ-loop out₀ at row from w reals p₀ i₀ out p i = length row + 1 - i
 
-returns : tie.Need-returns Inv-loop μ-loop
-returns c = wrote-past (now (c .before .before .before .args .out)) (c .before .before .before .args .at) _ (omega arith) (omega arith)
-
 loop-holds : tie.Need-loop-holds Inv-loop μ-loop
-loop-holds c = (refl, omega arith, left-all (now (c .before .before .before .args .out)) (c .before .before .before .args .at) _)
+loop-holds c = (refl, omega (arith, c .nothing .ensures .place), left-all _ (c .nothing .ensures))
 
 loop-again : tie.Need-loop-again Inv-loop μ-loop
 loop-again c =
-    let a = c .before .before .before .before .before .before .before .before .before .before .before .before .args in
+    let a = c .before .before .before .before .before .before .before .before .before .before .before .before .before .args in
     let l = c .before .before .before .before .before .before .before .before .loop in
     let e = c .before .before .before .before .before .before .find in
     let v = c .before .before .before .value in
     let put-value = c .before .before .put-value in
     (put-value .kept .0 ∙ l .inv .0, omega (arith, put-value .ensures .place, put-value .kept .0), left-next (values-next (a .w) (a .reals) (now (a .row)) (l .i) (e .result) (omega arith) (e .ensures .0) (v .ensures)) (l .inv .2) (put-value .ensures))
 
-returns-2 : tie.Need-returns-2 Inv-loop μ-loop
-returns-2 c =
-    let a = c .before .before .before .before .before .args in
+returns : tie.Need-returns Inv-loop μ-loop
+returns c =
+    let a = c .before .before .before .before .before .before .args in
     let l = c .before .loop in
     left-none (values-none (a .w) (a .reals) (now (a .row)) (l .i) (omega arith)) (l .inv .2) (l .inv .1)
 
 pub put-values-spec : {M : Type 1} → statement M
 put-values-spec =
-    tie.close (tie.spec Inv-loop μ-loop (λ c. search needs) returns loop-holds (λ c κs. search needs) (λ c. search needs) (λ c. search needs)
+    tie.close (tie.spec Inv-loop μ-loop (λ c κs. search needs) loop-holds (λ c κs. search needs) (λ c. search needs) (λ c. search needs)
     (λ c. search needs) (λ c κs. search needs) (λ c κs. search needs) (λ c. search needs) (λ c. search needs) loop-again (λ c. search needs)
-    returns-2)
+    returns)

@@ -1,10 +1,10 @@
--- `pends::no_rows` meets its contract.
+-- `write::nothing` meets its contract.
 use native.Mathlib.Omega.{arith}
 use denote.Ref.{now}
 use Rattle.write.proofs.Wrote.{wrote-none, wrote-past}
 use borrow.Author.Needs.{needs}
-use Rattle.pends.proofs.no_rows.Statement.{statement}
-use Rattle.pends.proofs.no_rows.Tie as tie
+use Rattle.write.proofs.nothing.Statement.{statement}
+use Rattle.write.proofs.nothing.Tie as tie
 
 returns : tie.Need-returns
 returns c = wrote-past (now (c .before .args .out)) (c .before .args .at) _ (omega arith) (omega arith)
@@ -12,6 +12,6 @@ returns c = wrote-past (now (c .before .args .out)) (c .before .args .at) _ (ome
 returns-2 : tie.Need-returns-2
 returns-2 c = wrote-none (now (c .before .args .out)) (c .before .args .at) (omega arith)
 
-pub no-rows-spec : {M : Type 1} → statement M
-no-rows-spec =
+pub nothing-spec : {M : Type 1} → statement M
+nothing-spec =
     tie.close (tie.spec (λ c. search needs) returns returns-2)
