@@ -1,6 +1,6 @@
 -- The rows together are the listing, and what compiling gives by each answer.
 use mathlib.Core.Path.{_≡_, sym, ap, _∙_, subst}
-use mathlib.Core.List.{List, _++_, append-assoc}
+use mathlib.Core.List.{_++_, append-assoc}
 use mathlib.Core.Option.{none, some}
 use Prim.Native.Nat.{ℕ, _≤_, _<_}
 use native.Mathlib.Omega.{arith}
@@ -8,20 +8,16 @@ use lib.ListN.{length}
 use borrow.Author.Tests.{lt-ltb, le-ltb}
 use Rattle.semantics.specs.Text.{Bytes}
 use Rattle.semantics.specs.Sheet.{sheetSource, concatMap}
-use Rattle.semantics.specs.Fold.{Const, Names}
+use Rattle.semantics.specs.Fold.{Names}
 use Rattle.semantics.specs.Const.{namesOf}
-use Rattle.semantics.specs.Global.{laidVars, varsRefused, globals}
+use Rattle.semantics.specs.Global.{laidVars, varsRefused}
 use Rattle.semantics.specs.Types.{idOf, descriptors}
-use Rattle.semantics.specs.Listing.{constRows, globalRow, pendRow, itemRow, typeRows, useRow, listing}
+use Rattle.semantics.specs.Listing.{pendRow, itemRow, typeRows, useRow, listing}
 use Rattle.semantics.specs.Refusal.{Outcome, zeros, worked, sourceGlobals, sourceListing}
 use Rattle.write.specs.Wrote.{Wrote}
 use Rattle.write.proofs.Wrote.{wrote-as, then, on-zeros}
 use Rattle.checks.specs.Checks.{Checked}
-use Rattle.names.specs.Table.{logIn}
 use Rattle.literals.specs.Literals.{namesIn}
-use Rattle.global_table.specs.Table.{placesIn}
-use Rattle.record_rows.specs.Rows.{allRows}
-use Rattle.const_rows.specs.Rows.{Table}
 use Rattle.pends.specs.declared.Pends.{Pends}
 use Rattle.pends.specs.declared.Pends.the-variants as Pends
 use Rattle.pends.specs.Pends.{AllPended}
@@ -30,36 +26,22 @@ use Rattle.tables.specs.declared.Made.{Made}
 use Rattle.tables.specs.declared.Made.the-variants as Made
 use Rattle.tables.specs.Tables.{Makes}
 use Rattle.compile.specs.declared.Listed.{Listed}
-use Rattle.compile.specs.Compile.{declaredText, typesText, Known, Lays, Stops, Tries}
+use Rattle.compile.specs.Compile.{Lays, Stops, Tries}
+use Rattle.parts.proofs.Laws.{names-are}
+use Rattle.parts.specs.Parts.{declaredText, typesText, Known}
 use Rattle.compile.proofs.Numbers.{with-line, without-line, vars-numbered}
 
 three-last : (a b c d : Bytes) → a ++ ((b ++ c) ++ d) ≡ ((a ++ b) ++ c) ++ d
 three-last a b c d = sym (append-assoc a (b ++ c) d) ∙ ap (λ (l : Bytes). l ++ d) (sym (append-assoc a b c))
 
 module _ {s t : Bytes} {n : ℕ} {x : Tables} (k : Known s t n x) where
-  -- ---- rows
-
-  pub constants-table : Table s t n (x .consts)
-  constants-table = record { checked = k .held .checked; logged = k .held .consts }
-
-  pub declared-rows : {d e f g : Bytes} {p q r : ℕ}
-      → Wrote d 0 (allRows s) e p → Wrote e p (constRows (logIn s t (x .consts))) f q → Wrote f q (concatMap globalRow (placesIn s t (x .globals))) g r
-      → Wrote d 0 (declaredText s) g r
-  unfolding declaredText allRows
-  declared-rows a b c =
-      then (then a (wrote-as (ap constRows (sym (k .log))) b)) (wrote-as (ap (concatMap globalRow) (k .held .globals .places (namesOf (sheetSource s)))) c)
-
-  -- the names that first values see
-  pub names-are : namesIn s t (x .consts) ≡ namesOf (sheetSource s)
-  names-are = ap (λ (l : List Const). record { log = l }) (sym (k .log))
-
   -- the pending names' rows, where no line is refused
   module _ (d e : Bytes) (a : ℕ) (y : Pends) (h : AllPended (namesIn s t (x .consts)) s d a y e) where
     pub pends-written : {b : ℕ} → y ≡ Pends.Written b → (varsRefused (namesOf (sheetSource s)) (laidVars (sheetSource s)) ≡ none) × Wrote d a (concatMap pendRow (sourceGlobals (sheetSource s) .pends)) e b
-    pends-written {b} q = subst (λ (ns : Names). AllPended ns s d a (Pends.Written b) e) names-are (subst (λ (z : Pends). AllPended (namesIn s t (x .consts)) s d a z e) q h)
+    pends-written {b} q = subst (λ (ns : Names). AllPended ns s d a (Pends.Written b) e) (names-are k) (subst (λ (z : Pends). AllPended (namesIn s t (x .consts)) s d a z e) q h)
 
     pub pends-refused : {q l : ℕ} → y ≡ Pends.Refused q l → varsRefused (namesOf (sheetSource s)) (laidVars (sheetSource s)) ≡ some (record { number = q; line = l })
-    pends-refused {q} {l} g = subst (λ (ns : Names). AllPended ns s d a (Pends.Refused q l) e) names-are (subst (λ (z : Pends). AllPended (namesIn s t (x .consts)) s d a z e) g h) .0
+    pends-refused {q} {l} g = subst (λ (ns : Names). AllPended ns s d a (Pends.Refused q l) e) (names-are k) (subst (λ (z : Pends). AllPended (namesIn s t (x .consts)) s d a z e) g h) .0
 
   -- all rows
   listing-rows : {d e f g : Bytes} {p q r : ℕ}

@@ -1,50 +1,16 @@
 -- What compiling leaves, step by step.
 use Prim.Native.Nat.{ℕ, _≤_}
 use mathlib.Core.Path.{_≡_}
-use mathlib.Core.List.{_++_}
-use mathlib.Core.Option.{none}
 use lib.ListN.{length, take}
 use Rattle.semantics.specs.Text.{Bytes}
-use Rattle.semantics.specs.Sheet.{sheetSource, concatMap}
-use Rattle.semantics.specs.Layout.{recordedAdts, records}
-use Rattle.semantics.specs.Const.{constants}
-use Rattle.semantics.specs.Types.{idOf, descriptors}
-use Rattle.semantics.specs.Listing.{recordRows, constRows, globalRow, itemRow, typeRows, useRow}
+use Rattle.semantics.specs.Sheet.{sheetSource}
 use Rattle.semantics.specs.Refusal.{Outcome, listed, refused, zeros, padded, listingBytes, worked, sourceGlobals, sourceListing, compiled}
 use Rattle.checks.specs.Checks.{Checked}
-use Rattle.names.specs.Table.{logIn}
-use Rattle.tables.specs.declared.Tables.{Tables}
-use Rattle.tables.specs.Tables.{Held}
 use Rattle.answers.specs.Answers.{refusalNumber, refusalLine, RefusalAt}
 use Rattle.compile.specs.declared.Listed.{Listed}
 use Rattle.compile.specs.declared.Listed.the-variants.{Written, Refused}
 use Rattle.compile.specs.declared.Answer.{Answer}
 use Rattle.compile.specs.declared.Answer.the-variants as Answer
-
--- ---- the listing in parts
-
--- records, constants and globals
-unfoldable pub declaredText : Bytes → Bytes
-declaredText s =
-    concatMap recordRows (records (recordedAdts (sheetSource s)))
-    ++ constRows (constants (sheetSource s) .log)
-    ++ concatMap globalRow (sourceGlobals (sheetSource s) .places)
-
--- items, types and uses
-unfoldable pub typesText : Bytes → Bytes
-typesText s =
-    let g = sourceGlobals (sheetSource s) in
-    concatMap (itemRow (idOf (sheetSource s) (g .items))) (g .items)
-    ++ typeRows 0 (descriptors (sheetSource s) (g .items))
-    ++ concatMap (useRow (idOf (sheetSource s) (g .items))) (sheetSource s .needs)
-
--- the tables stand, and no constant is refused
-pub record Known (s t : Bytes) (n : ℕ) (x : Tables) : Type 0 where
-  pub held : Held s t n x
-  pub folded : constants (sheetSource s) .refused ≡ none
-  pub log : constants (sheetSource s) .log ≡ logIn s t (x .consts)
-
--- ---- answers
 
 -- o is what compiling gives: the listing of p bytes stands on L bytes, and the sheet's tables in the working space u of W bytes
 pub record Lays (s : Bytes) (o : Outcome) (L W p end : ℕ) (d u : Bytes) : Type 0 where

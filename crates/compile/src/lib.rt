@@ -8,9 +8,9 @@ ghost use mathlib.Core.Path.{_≡_};
 ghost use lib.ListN.{length};
 ghost use Rattle.semantics.specs.Sheet.{sheetSource};
 ghost use Rattle.semantics.specs.Refusal.{zeros, worked};
-ghost use Rattle.write.specs.Wrote.{Wrote};
 ghost use Rattle.checks.specs.Checks.{Checked};
-ghost use Rattle.compile.specs.Compile.{Lists, Works, Tries, Known, Compiles, declaredText, typesText};
+ghost use Rattle.compile.specs.Compile.{Lists, Works, Tries, Compiles};
+ghost use Rattle.parts.specs.Parts.{Known};
 
 // What stands before the working space is zeroed: the listing's length and the end of allocation, or a refusal's number and line.
 pub enum Listed {
@@ -24,37 +24,16 @@ pub enum Answer {
     Refused(Refusal),
 }
 
-// Records, constants and globals, from the listing's start.
-fn put_declared(sheet: &[u8], work: &mut [u8], n: usize, x: Tables, out: &mut [u8]) -> usize
-    requires { ⌜ Known (now sheet) (now work) n x ⌝ }
-    ensures { λ p. ⌜ (Wrote (now (out .entry)) 0 (declaredText (now (sheet .entry))) (now (out .exit)) p) × (Known (now (sheet .entry)) (now (work .exit)) n x) ⌝ }
-{
-    let p = record_rows::record_rows(sheet, work, n, x.records, out, 0);
-    let q = const_rows::const_rows(sheet, work, n, x.consts, out, p);
-    global_rows::global_rows(sheet, work, n, x.globals, out, q)
-}
-
-// Items, types and uses.
-fn put_types(sheet: &[u8], work: &mut [u8], n: usize, x: Tables, out: &mut [u8], at: usize) -> usize
-    requires { ⌜ Known (now sheet) (now work) n x ⌝ }
-    ensures { λ p. ⌜ (Wrote (now (out .entry)) at (typesText (now (sheet .entry))) (now (out .exit)) p) × (Checked (now (sheet .entry)) (now (work .exit)) n) ⌝ }
-{
-    let frames = type_lines::frame::frame_count(sheet, work, n);
-    let d = data_rows::data_rows(sheet, work, n, x.consts, x.globals, frames, x.keys, out, at);
-    let p = type_rows::type_rows(sheet, work, n, x.records, x.needs, d.keys, out, d.at);
-    uses::use_rows(sheet, work, n, x.needs, frames, out, p)
-}
-
 // All rows, where the constants are not refused. A first value is refused before the listing outgrows its buffer.
 fn list_rows(sheet: &[u8], listing: &mut [u8], work: &mut [u8], n: usize, x: Tables) -> Listed
     requires { ⌜ (Known (now sheet) (now work) n x) × (now listing ≡ zeros (length (now listing))) ⌝ }
     ensures { λ r. ⌜ Tries (now (sheet .entry)) (worked (length (now (listing .entry))) (sheetSource (now (sheet .entry)))) (length (now (listing .entry))) (length (now (work .entry))) r (now (listing .exit)) (now (work .exit)) ⌝ }
 {
-    let p = put_declared(sheet, work, n, x, listing);
+    let p = parts::put_declared(sheet, work, n, x, listing);
     match pends::pend_rows(sheet, work, n, x.consts, listing, p) {
         Pends::Refused(q, k) => Listed::Refused(q, k),
         Pends::Written(q) => {
-            let end = put_types(sheet, work, n, x, listing, q);
+            let end = parts::put_types(sheet, work, n, x, listing, q);
             if end <= listing.len() {
                 return Listed::Written(end, x.end);
             }

@@ -18,7 +18,7 @@ use Rattle.type_keys.proofs.Table.{kinds-kept}
 use Rattle.type_keys.proofs.Positions.{needs-kept}
 use Rattle.tables.specs.declared.Tables.{Tables}
 use Rattle.tables.specs.Tables.{Held}
-use Rattle.compile.specs.Compile.{Known}
+use Rattle.parts.specs.Parts.{Known}
 
 -- lines and positions of needs end at 10624; their digests are not asked for behind numbering
 pub needs-stay : {s t u : Bytes} {n : ℕ} {ks : List TypeKey} → Kept 10624 t u → Needs s t n ks → Needs s u n ks

@@ -19,11 +19,10 @@ use Rattle.type_rows.specs.Rows as Types
 use Rattle.uses.specs.Uses.{NeedIds}
 use Rattle.data_rows.specs.Data.{itemsIn, rowsOf}
 use Rattle.tables.specs.declared.Tables.{Tables}
-use Rattle.compile.specs.Compile.{Known, typesText}
-use Rattle.compile.proofs.Kept.{needs-stay}
-use Rattle.compile.proofs.Laws.{names-are}
+use Rattle.parts.specs.Parts.{Known, typesText}
+use Rattle.parts.proofs.Kept.{needs-stay}
+use Rattle.parts.proofs.Laws.{names-are}
 
--- the next place is no further than one past the end
 module _ {s t : Bytes} {n frames : ℕ} {x : Tables} (k : Known s t n x) (fr : (frames ≡ length (sheetSource s .frames)) × (frames ≤ 128)) where
   module _ {u : Bytes} (h : Kept 10624 t u) where
     pub types-ready : Types.Ready s u n (x .records) (x .needs)

@@ -1,10 +1,10 @@
--- `compile::put_types` meets its contract.
+-- `parts::put_types` meets its contract.
 use denote.Ref.{now}
 use Rattle.data_rows.specs.Data.{itemsIn}
-use Rattle.compile.proofs.Types.{types-ready, uses-ready, types-rows}
+use Rattle.parts.proofs.Types.{types-ready, uses-ready, types-rows}
 use borrow.Author.Needs.{needs}
-use Rattle.compile.proofs.put_types.Statement.{statement}
-use Rattle.compile.proofs.put_types.Tie as tie
+use Rattle.parts.proofs.put_types.Statement.{statement}
+use Rattle.parts.proofs.put_types.Tie as tie
 use Rattle.write.proofs.Wrote.{place-low}
 
 type-rows-requires : tie.Need-type-rows-requires
