@@ -25,7 +25,7 @@ fn put_value(work: &[u8], out: &mut [u8], at: usize, r: usize) -> usize
     }
     if k == value::REAL {
         let p = write::put_part(out, at, b"r,");
-        let q = write::put_word(out, p, reals::bits(reals::of_bits(b)));
+        let q = write::put_hex_bits(out, p, reals::bits(reals::of_bits(b)));
         return write::put(out, q, b'\n');
     }
     if k == value::STRING {

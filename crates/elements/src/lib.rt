@@ -21,7 +21,7 @@ fn put_int_element(out: &mut [u8], at: usize, kind: u8, n: i64) -> usize
     if kind == element::BIG {
         return rows::put_comma_int(out, at, n);
     }
-    rows::put_comma_word(out, at, reals::bits(conversions::real_of_int(n)))
+    rows::put_comma_bits(out, at, reals::bits(conversions::real_of_int(n)))
 }
 
 fn put_real_element(out: &mut [u8], at: usize, kind: u8, x: f64) -> usize
@@ -36,7 +36,7 @@ fn put_real_element(out: &mut [u8], at: usize, kind: u8, x: f64) -> usize
     if kind == element::BIG {
         return rows::put_comma_int(out, at, conversions::big_of_real(x));
     }
-    rows::put_comma_word(out, at, reals::bits(x))
+    rows::put_comma_bits(out, at, reals::bits(x))
 }
 
 // A string among numbers.
@@ -46,7 +46,7 @@ fn put_zero_element(out: &mut [u8], at: usize, kind: u8) -> usize
     if kind < element::REAL {
         return rows::put_comma_nat(out, at, 0);
     }
-    rows::put_comma_word(out, at, 0)
+    rows::put_comma_bits(out, at, 0)
 }
 
 // An element as a number of its array's kind, behind its comma.

@@ -25,8 +25,8 @@ use Rattle.ints.proofs.Widths.{held}
 use Rattle.ints.proofs.Wrapping.{wrap-same}
 use Rattle.write.specs.Wrote.{over}
 use Rattle.write.proofs.Hex.{big-length}
-use Rattle.write.proofs.Back.{word-back}
-use Rattle.words.specs.Words.{digest, wordAt, bitsAt}
+use Rattle.write.proofs.Back.{bits-back}
+use Rattle.words.specs.Words.{digest, u16At, bitsAt}
 use Rattle.implement.specs.Modules.{firstField}
 use Rattle.checks.specs.Checks.{Kept}
 use Rattle.checks.proofs.Kept.{kept-then, kept-less}
@@ -131,11 +131,11 @@ module _ (t u : Bytes) (m line within kind bits d : ℕ) (f : Free t m line with
       ap (λ (q : ℕ). getD u q 0) e ∙ sym (getD-drop (5120 + 16 * m) u j 0) ∙ sym (getD-take 14 (drop (5120 + 16 * m) u) j 0 h) ∙ ap (λ (l : Bytes). getD l j 0) here
 
   line-here : lineOf u m ≡ line
-  unfolding wordAt entryOf
+  unfolding u16At entryOf
   line-here = omega (arith, byte-here (5120 + 16 * m) 0 (omega arith) (omega arith), byte-here (5120 + 16 * m + 1) 1 (omega arith) (omega arith))
 
   within-here : moduleLineOf u m ≡ within
-  unfolding wordAt entryOf
+  unfolding u16At entryOf
   within-here = omega (arith, byte-here (5122 + 16 * m) 2 (omega arith) (omega arith), byte-here (5122 + 16 * m + 1) 3 (omega arith) (omega arith))
 
   kind-here : kindOf u m ≡ kind
@@ -148,7 +148,7 @@ module _ (t u : Bytes) (m line within kind bits d : ℕ) (f : Free t m line with
       let a : 5125 + 16 * m ≡ 5120 + 16 * m + 5 = omega arith in
       let e : take 8 (drop (5125 + 16 * m) u) ≡ bigEndian 8 bits =
       rw (a, ← drop-drop 5 (5120 + 16 * m) u) (sym (part-low 5 8 14 (drop (5120 + 16 * m) u) (omega arith)) ∙ ap (λ (l : Bytes). take 8 (drop 5 l)) here ∙ take-at (bigEndian 8 bits) (d ∷ []) 8 (big-length 8 bits)) in
-      ap (fromBigEndian 0) e ∙ word-back bits (omega arith)
+      ap (fromBigEndian 0) e ∙ bits-back bits (omega arith)
 
   digest-here : digestOf u m ≡ d
   unfolding entryOf

@@ -3,8 +3,8 @@ use Prim.Native.Nat.{ℕ, _+_, _*_, _≤_, _<_, _^_}
 use native.Mathlib.Omega.{arith}
 use mir.Syntax.{Ty, w64, tyInt, Body, skip, seq, assign, block, loop, cond, switch, exit, return, call}
 
-abbrev pub word : Ty
-word = tyInt w64
+abbrev pub usizeTy : Ty
+usizeTy = tyInt w64
 
 -- what follows the first statement of a sequence
 abbrev pub after : Body → Body

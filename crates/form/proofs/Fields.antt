@@ -15,11 +15,11 @@ use Rattle.semantics.specs.Form as Form
 use Rattle.semantics.proofs.Common.{never}
 use Rattle.text.specs.Parts.{until}
 use Rattle.decimal.specs.Number.{whole, integerOf, isBetween}
-use Rattle.hex.specs.Hex.{word, wordOf}
+use Rattle.hex.specs.Hex.{eightBytes, bits64Of}
 use Rattle.decimal.specs.declared.Integer.{Integer}
 use Rattle.decimal.specs.declared.Integer.the-variants as Integer
-use Rattle.hex.specs.declared.Word.{Word}
-use Rattle.hex.specs.declared.Word.the-variants as Word
+use Rattle.hex.specs.declared.Bits64.{Bits64}
+use Rattle.hex.specs.declared.Bits64.the-variants as Bits64
 use Rattle.text.proofs.Parts.{until-take, parts-step, parts-one}
 use Rattle.form.specs.Letters.{isKeyField, isReal}
 
@@ -96,26 +96,26 @@ module _ (s : List ℕ) where
 
   -- ---- reals
 
-  pub real-bits : {n : ℕ} → wordOf s ≡ Word.Bits n → leb (n % 9223372036854775808) 9218868437227405312 ≡ isReal s
-  unfolding wordOf isReal
+  pub real-bits : {n : ℕ} → bits64Of s ≡ Bits64.Bits n → leb (n % 9223372036854775808) 9218868437227405312 ≡ isReal s
+  unfolding bits64Of isReal
   real-bits {n} = go (unhex s)
     where
-      of : (b : Bool) (m : ℕ) → cond b (Word.Bits m) Word.Bad ≡ Word.Bits n → leb (n % 9223372036854775808) 9218868437227405312 ≡ b && Form.notNaN m
+      of : (b : Bool) (m : ℕ) → cond b (Bits64.Bits m) Bits64.Bad ≡ Bits64.Bits n → leb (n % 9223372036854775808) 9218868437227405312 ≡ b && Form.notNaN m
       of true m e = let q : m ≡ n = cc in rw q
       of false m e = never cc
 
-      go : (o : Option (List ℕ)) → word o ≡ Word.Bits n → leb (n % 9223372036854775808) 9218868437227405312 ≡ holdsOf Form.isRealBytes o
+      go : (o : Option (List ℕ)) → eightBytes o ≡ Bits64.Bits n → leb (n % 9223372036854775808) 9218868437227405312 ≡ holdsOf Form.isRealBytes o
       go none e = never cc
       go (some bs) e = of (eqb (length bs) 8) (fromBigEndian 0 bs) e
 
-  pub real-bad : wordOf s ≡ Word.Bad → false ≡ isReal s
-  unfolding wordOf isReal
+  pub real-bad : bits64Of s ≡ Bits64.Bad → false ≡ isReal s
+  unfolding bits64Of isReal
   real-bad = go (unhex s)
     where
-      of : (b : Bool) (m : ℕ) → cond b (Word.Bits m) Word.Bad ≡ Word.Bad → false ≡ b && Form.notNaN m
+      of : (b : Bool) (m : ℕ) → cond b (Bits64.Bits m) Bits64.Bad ≡ Bits64.Bad → false ≡ b && Form.notNaN m
       of true m e = never cc
       of false m e = refl
 
-      go : (o : Option (List ℕ)) → word o ≡ Word.Bad → false ≡ holdsOf Form.isRealBytes o
+      go : (o : Option (List ℕ)) → eightBytes o ≡ Bits64.Bad → false ≡ holdsOf Form.isRealBytes o
       go none e = refl
       go (some bs) e = of (eqb (length bs) 8) (fromBigEndian 0 bs) e

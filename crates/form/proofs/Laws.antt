@@ -19,11 +19,11 @@ use Rattle.semantics.specs.Form.Part.{one, many}
 use Rattle.decimal.specs.Number as Number
 use Rattle.utf8.specs.Utf8 as Utf8
 use Rattle.text.proofs.Parts.{until-take, parts-step, parts-one}
-use Rattle.form.specs.Table.{code, codes, rowAt, wordsAt, kindAt, codesAt, fieldsBehind, formOf}
+use Rattle.form.specs.Table.{code, codes, rowAt, keywordsAt, kindAt, codesAt, fieldsBehind, formOf}
 use Rattle.form.specs.declared.Walk.{Walk}
 use Rattle.form.specs.Letters.{isKeyField, isReal, limitOf, holds, after, fits, pending, Ready, lettersFrom, fieldsLeft, Standing, Stepped, beginning}
 use Rattle.semantics.proofs.Common.{never, both}
-use Rattle.form.proofs.Table.{fine, row-count, words-plain, codes-plain, parts-fine}
+use Rattle.form.proofs.Table.{fine, row-count, keywords-plain, codes-plain, parts-fine}
 
 -- what stands in a list is within it
 pub inside : (xs : List ℕ) (i : ℕ) → (getD xs i 32 ≡ 32 → ⊥) → i < length xs
@@ -33,60 +33,60 @@ inside (x ∷ xs) (suc i) n = let h = inside xs i n in omega arith
 
 -- ---- keywords
 
-module _ (f : ℕ) (l : List ℕ) (i : ℕ) (h : f < 42) (within : i ≤ length (wordsAt f)) (same : Form.begins (wordsAt f) l ≡ Form.begins (drop i (wordsAt f)) (drop i l)) where
-  ended : getD (wordsAt f) i 32 ≡ 32 → i ≡ length (wordsAt f)
-  ended e = go (ltb i (length (wordsAt f))) refl
+module _ (f : ℕ) (l : List ℕ) (i : ℕ) (h : f < 42) (within : i ≤ length (keywordsAt f)) (same : Form.begins (keywordsAt f) l ≡ Form.begins (drop i (keywordsAt f)) (drop i l)) where
+  ended : getD (keywordsAt f) i 32 ≡ 32 → i ≡ length (keywordsAt f)
+  ended e = go (ltb i (length (keywordsAt f))) refl
     where
-      go : (t : Bool) → ltb i (length (wordsAt f)) ≡ t → i ≡ length (wordsAt f)
-      go true q = absurd (words-plain f h i (ltb-true _ _ q) e)
-      go false q = let k = ltb-false i (length (wordsAt f)) q in omega arith
+      go : (t : Bool) → ltb i (length (keywordsAt f)) ≡ t → i ≡ length (keywordsAt f)
+      go true q = absurd (keywords-plain f h i (ltb-true _ _ q) e)
+      go false q = let k = ltb-false i (length (keywordsAt f)) q in omega arith
 
-  at-end : getD (wordsAt f) i 32 ≡ 32 → Form.begins (wordsAt f) l ≡ Form.begins [] (drop i l)
-  at-end e = same ∙ ap (λ (w : List ℕ). Form.begins w (drop i l)) (drop-of-length-le (wordsAt f) {i = i} (omega (arith, ended e)))
+  at-end : getD (keywordsAt f) i 32 ≡ 32 → Form.begins (keywordsAt f) l ≡ Form.begins [] (drop i l)
+  at-end e = same ∙ ap (λ (w : List ℕ). Form.begins w (drop i l)) (drop-of-length-le (keywordsAt f) {i = i} (omega (arith, ended e)))
 
-  pub begins-all : getD (wordsAt f) i 32 ≡ 32 → length l ≤ i → i + 1 ≡ cond (Form.begins (wordsAt f) l) (length (wordsAt f) + 1) 0
+  pub begins-all : getD (keywordsAt f) i 32 ≡ 32 → length l ≤ i → i + 1 ≡ cond (Form.begins (keywordsAt f) l) (length (keywordsAt f) + 1) 0
   begins-all e k = rw (at-end e, drop-of-length-le l k) (omega (arith, ended e))
 
-  pub begins-comma : getD (wordsAt f) i 32 ≡ 32 → i < length l → getD l i 0 ≡ 44 → i + 1 ≡ cond (Form.begins (wordsAt f) l) (length (wordsAt f) + 1) 0
+  pub begins-comma : getD (keywordsAt f) i 32 ≡ 32 → i < length l → getD l i 0 ≡ 44 → i + 1 ≡ cond (Form.begins (keywordsAt f) l) (length (keywordsAt f) + 1) 0
   begins-comma e k c = rw (at-end e, drop-cons l i 0 k, eq-eqb (getD l i 0) 44 c) (omega (arith, ended e))
 
-  pub begins-other : getD (wordsAt f) i 32 ≡ 32 → i < length l → (getD l i 0 ≡ 44 → ⊥) → 0 ≡ cond (Form.begins (wordsAt f) l) (length (wordsAt f) + 1) 0
+  pub begins-other : getD (keywordsAt f) i 32 ≡ 32 → i < length l → (getD l i 0 ≡ 44 → ⊥) → 0 ≡ cond (Form.begins (keywordsAt f) l) (length (keywordsAt f) + 1) 0
   begins-other e k c = rw (at-end e, drop-cons l i 0 k, ne-eqb (getD l i 0) 44 c)
 
-  more : (getD (wordsAt f) i 32 ≡ 32 → ⊥) → Form.begins (wordsAt f) l ≡ Form.begins (getD (wordsAt f) i 32 ∷ drop (suc i) (wordsAt f)) (drop i l)
-  more n = same ∙ ap (λ (w : List ℕ). Form.begins w (drop i l)) (drop-cons (wordsAt f) i 32 (inside (wordsAt f) i n))
+  more : (getD (keywordsAt f) i 32 ≡ 32 → ⊥) → Form.begins (keywordsAt f) l ≡ Form.begins (getD (keywordsAt f) i 32 ∷ drop (suc i) (keywordsAt f)) (drop i l)
+  more n = same ∙ ap (λ (w : List ℕ). Form.begins w (drop i l)) (drop-cons (keywordsAt f) i 32 (inside (keywordsAt f) i n))
 
-  pub begins-short : (getD (wordsAt f) i 32 ≡ 32 → ⊥) → length l ≤ i → 0 ≡ cond (Form.begins (wordsAt f) l) (length (wordsAt f) + 1) 0
+  pub begins-short : (getD (keywordsAt f) i 32 ≡ 32 → ⊥) → length l ≤ i → 0 ≡ cond (Form.begins (keywordsAt f) l) (length (keywordsAt f) + 1) 0
   begins-short n k = rw (more n, drop-of-length-le l k)
 
-  pub begins-differ : (getD (wordsAt f) i 32 ≡ 32 → ⊥) → i < length l → (getD l i 0 ≡ getD (wordsAt f) i 32 → ⊥) → 0 ≡ cond (Form.begins (wordsAt f) l) (length (wordsAt f) + 1) 0
-  begins-differ n k c = rw (more n, drop-cons l i 0 k, ne-eqb (getD l i 0) (getD (wordsAt f) i 32) c)
+  pub begins-differ : (getD (keywordsAt f) i 32 ≡ 32 → ⊥) → i < length l → (getD l i 0 ≡ getD (keywordsAt f) i 32 → ⊥) → 0 ≡ cond (Form.begins (keywordsAt f) l) (length (keywordsAt f) + 1) 0
+  begins-differ n k c = rw (more n, drop-cons l i 0 k, ne-eqb (getD l i 0) (getD (keywordsAt f) i 32) c)
 
-  pub begins-next : (getD (wordsAt f) i 32 ≡ 32 → ⊥) → i < length l → getD l i 0 ≡ getD (wordsAt f) i 32 → Form.begins (wordsAt f) l ≡ Form.begins (drop (i + 1) (wordsAt f)) (drop (i + 1) l)
-  begins-next n k c = more n ∙ rw (drop-cons l i 0 k, eq-eqb (getD l i 0) (getD (wordsAt f) i 32) c, add-one)
+  pub begins-next : (getD (keywordsAt f) i 32 ≡ 32 → ⊥) → i < length l → getD l i 0 ≡ getD (keywordsAt f) i 32 → Form.begins (keywordsAt f) l ≡ Form.begins (drop (i + 1) (keywordsAt f)) (drop (i + 1) l)
+  begins-next n k c = more n ∙ rw (drop-cons l i 0 k, eq-eqb (getD l i 0) (getD (keywordsAt f) i 32) c, add-one)
 
-pub begins-start : (f : ℕ) (l : List ℕ) → Form.begins (wordsAt f) l ≡ Form.begins (drop 0 (wordsAt f)) (drop 0 l)
+pub begins-start : (f : ℕ) (l : List ℕ) → Form.begins (keywordsAt f) l ≡ Form.begins (drop 0 (keywordsAt f)) (drop 0 l)
 begins-start f l = refl
 
 -- ---- the first row
 
 module _ (l : List ℕ) (f : ℕ) (h : f < 42) (same : Form.rowOf Form.forms l ≡ f + Form.rowOf (drop f Form.forms) l) where
-  opened : Form.rowOf Form.forms l ≡ f + cond (Form.begins (wordsAt f) l) 0 (suc (Form.rowOf (drop (suc f) Form.forms) l))
+  opened : Form.rowOf Form.forms l ≡ f + cond (Form.begins (keywordsAt f) l) 0 (suc (Form.rowOf (drop (suc f) Form.forms) l))
   opened = same ∙ ap (λ (r : List Form.Row). f + Form.rowOf r l) (drop-cons Form.forms f Form.noRow (omega (arith, row-count)))
 
-  chosen : (t : Bool) → cond t (length (wordsAt f) + 1) 0 ≡ 0 → t ≡ false
+  chosen : (t : Bool) → cond t (length (keywordsAt f) + 1) 0 ≡ 0 → t ≡ false
   chosen true e = absurd (omega arith)
   chosen false e = refl
 
-  pub row-here : {r : ℕ} → r ≡ cond (Form.begins (wordsAt f) l) (length (wordsAt f) + 1) 0 → (r ≡ 0 → ⊥) → f ≡ Form.rowOf Form.forms l
-  row-here {r} p n = go (Form.begins (wordsAt f) l) refl
+  pub row-here : {r : ℕ} → r ≡ cond (Form.begins (keywordsAt f) l) (length (keywordsAt f) + 1) 0 → (r ≡ 0 → ⊥) → f ≡ Form.rowOf Form.forms l
+  row-here {r} p n = go (Form.begins (keywordsAt f) l) refl
     where
-      go : (t : Bool) → Form.begins (wordsAt f) l ≡ t → f ≡ Form.rowOf Form.forms l
+      go : (t : Bool) → Form.begins (keywordsAt f) l ≡ t → f ≡ Form.rowOf Form.forms l
       go true q = sym (opened ∙ rw q (omega arith))
       go false q = absurd (n (p ∙ rw q))
 
-  pub row-next : {r : ℕ} → r ≡ cond (Form.begins (wordsAt f) l) (length (wordsAt f) + 1) 0 → r ≡ 0 → Form.rowOf Form.forms l ≡ f + 1 + Form.rowOf (drop (f + 1) Form.forms) l
-  row-next p z = opened ∙ rw (chosen (Form.begins (wordsAt f) l) (sym p ∙ z), add-one) (omega arith)
+  pub row-next : {r : ℕ} → r ≡ cond (Form.begins (keywordsAt f) l) (length (keywordsAt f) + 1) 0 → r ≡ 0 → Form.rowOf Form.forms l ≡ f + 1 + Form.rowOf (drop (f + 1) Form.forms) l
+  row-next p z = opened ∙ rw (chosen (Form.begins (keywordsAt f) l) (sym p ∙ z), add-one) (omega arith)
 
 pub row-start : (l : List ℕ) → Form.rowOf Form.forms l ≡ 0 + Form.rowOf (drop 0 Form.forms) l
 row-start l = omega arith
@@ -359,7 +359,7 @@ begins-chosen (r ∷ rs) l h = go (Form.begins (r .words) l) refl (λ k. begins-
     go false q ih = rw q (ih (let k : suc (Form.rowOf rs l) < suc (length rs) = rw q at h in omega arith))
 
 module _ (k : ℕ) (l : List ℕ) where
-  form-open : formOf k l ≡ cond (leb (length l) 255 && ltb (Form.rowOf Form.forms l) 42 && Form.fits (rowAt (Form.rowOf Form.forms l) .parts) (Form.fieldsFrom (length (wordsAt (Form.rowOf Form.forms l)) + 1) l) && (eqb k 1 || not (eqb (kindAt (Form.rowOf Form.forms l)) 73))) (Form.rowOf Form.forms l) 42
+  form-open : formOf k l ≡ cond (leb (length l) 255 && ltb (Form.rowOf Form.forms l) 42 && Form.fits (rowAt (Form.rowOf Form.forms l) .parts) (Form.fieldsFrom (length (keywordsAt (Form.rowOf Form.forms l)) + 1) l) && (eqb k 1 || not (eqb (kindAt (Form.rowOf Form.forms l)) 73))) (Form.rowOf Form.forms l) 42
   unfolding Form.formed Form.readOf
   form-open = rw row-count
 
@@ -367,22 +367,22 @@ module _ (k : ℕ) (l : List ℕ) where
   form-long h = sym (form-open ∙ rw (lt-leb (length l) 255 h))
 
   module _ (f : ℕ) (short : length l ≤ 255) (hf : f ≡ Form.rowOf Form.forms l) where
-    form-row : formOf k l ≡ cond (ltb f 42 && Form.fits (rowAt f .parts) (Form.fieldsFrom (length (wordsAt f) + 1) l) && (eqb k 1 || not (eqb (kindAt f) 73))) f 42
+    form-row : formOf k l ≡ cond (ltb f 42 && Form.fits (rowAt f .parts) (Form.fieldsFrom (length (keywordsAt f) + 1) l) && (eqb k 1 || not (eqb (kindAt f) 73))) f 42
     form-row = form-open ∙ rw (le-leb (length l) 255 short, ← hf)
 
     pub form-none : f ≡ 42 → 42 ≡ formOf k l
     form-none e = sym (form-row ∙ rw (le-ltb f 42 (omega arith)))
 
-    module _ (at : ℕ) (low : f < 42) (hat : at ≡ cond (Form.begins (wordsAt f) l) (length (wordsAt f) + 1) 0) where
-      chosen-begins : Form.begins (wordsAt f) l ≡ true
+    module _ (at : ℕ) (low : f < 42) (hat : at ≡ cond (Form.begins (keywordsAt f) l) (length (keywordsAt f) + 1) 0) where
+      chosen-begins : Form.begins (keywordsAt f) l ≡ true
       chosen-begins =
           rw hf (begins-chosen Form.forms l (omega (arith, hf, row-count)))
 
-      at-is : at ≡ length (wordsAt f) + 1
+      at-is : at ≡ length (keywordsAt f) + 1
       at-is = hat ∙ rw chosen-begins
 
       form-fields : formOf k l ≡ cond (fits (codesAt f) (Form.fieldsFrom at l) && (eqb k 1 || not (eqb (kindAt f) 73))) f 42
-      form-fields = form-row ∙ rw (lt-ltb f 42 low, at-is, fits-codes (Form.fieldsFrom (length (wordsAt f) + 1) l) (rowAt f .parts) (parts-fine f low))
+      form-fields = form-row ∙ rw (lt-ltb f 42 low, at-is, fits-codes (Form.fieldsFrom (length (keywordsAt f) + 1) l) (rowAt f .parts) (parts-fine f low))
 
       pub form-unfit : fits (codesAt f) (Form.fieldsFrom at l) ≡ false → 42 ≡ formOf k l
       form-unfit e = sym (form-fields ∙ rw e)
@@ -409,7 +409,7 @@ module _ (l : List ℕ) (at e i k : ℕ) (h : at ≤ length l) (he : e ≡ at + 
 pub field-none : (l : List ℕ) (at i : ℕ) → length l < at → take (length l - length l) (drop (length l) l) ≡ getD (Form.fieldsFrom at l) i []
 field-none l at i h = rw (drop-length, fields-end at l h) (take-nil (length l - length l))
 
-pub field-start : (l : List ℕ) (f i w : ℕ) → w ≡ length (wordsAt f) → getD (Form.fieldsFrom (length (wordsAt f) + 1) l) i [] ≡ getD (Form.fieldsFrom (w + 1) l) (i - 0) []
+pub field-start : (l : List ℕ) (f i w : ℕ) → w ≡ length (keywordsAt f) → getD (Form.fieldsFrom (length (keywordsAt f) + 1) l) i [] ≡ getD (Form.fieldsFrom (w + 1) l) (i - 0) []
 field-start l f i w e = let z : i - 0 ≡ i = omega arith in rw (e, z)
 
 -- ---- the walk over a line that fits

@@ -12,7 +12,7 @@ use Rattle.semantics.specs.Text as Text
 use Rattle.semantics.specs.Form as Form
 use Rattle.semantics.specs.Form.Part.{one, many}
 use Rattle.semantics.proofs.Common.{both}
-use Rattle.form.specs.Table.{code, codes, fill, encode, table, rowAt, wordsAt, kindAt, codesAt}
+use Rattle.form.specs.Table.{code, codes, fill, encode, table, rowAt, keywordsAt, kindAt, codesAt}
 
 fill-length : (n : ℕ) (xs : List ℕ) → length (fill n xs) ≡ n
 fill-length zero xs = refl
@@ -49,8 +49,8 @@ module _ (f : ℕ) (h : f < 42) where
   row-bytes : (i : ℕ) → i < 24 → getD (table Form.forms) (24 * f + i) 0 ≡ getD (encode (rowAt f)) i 0
   row-bytes i k = table-at Form.forms f i (omega (arith, row-count)) k
 
-  pub word-cell : (i : ℕ) → i < 17 → getD (table Form.forms) (24 * f + 1 + i) 0 ≡ getD (wordsAt f) i 32
-  word-cell i k =
+  pub keyword-cell : (i : ℕ) → i < 17 → getD (table Form.forms) (24 * f + 1 + i) 0 ≡ getD (keywordsAt f) i 32
+  keyword-cell i k =
       let e : 24 * f + 1 + i ≡ 24 * f + suc i = omega arith in
       rw e (row-bytes (suc i) (omega arith)
       ∙ List·getD-append (fill 17 (rowAt f .words)) _ 0 i (omega (arith, fill-length 17 (rowAt f .words))) ∙ fill-at 17 (rowAt f .words) i k)
@@ -88,7 +88,7 @@ pub atom-cell : (f : ℕ) → f < 42 → (j : ℕ) → j < 5 → getD (letters F
 atom-cell f h j k = letters-at Form.forms f j (omega (arith, row-count)) k
 
 -- the lengths of keywords, each a small letter
-pub width-cell : (f : ℕ) → f < 42 → getD (column (λ (r : Form.Row). length (r .words) + 96) Form.forms) f 0 ≡ length (wordsAt f) + 96
+pub width-cell : (f : ℕ) → f < 42 → getD (column (λ (r : Form.Row). length (r .words) + 96) Form.forms) f 0 ≡ length (keywordsAt f) + 96
 width-cell f h = column-at (λ (r : Form.Row). length (r .words) + 96) Form.forms f (omega (arith, row-count))
 
 -- ---- what holds of all Form.forms
@@ -122,21 +122,21 @@ module _ (f : ℕ) (h : f < 42) where
   row-tidy : tidy (rowAt f) ≡ true
   row-tidy = all-at tidy Form.noRow Form.forms f all-tidy (omega (arith, row-count))
 
-  t0 : (Text.all plain (wordsAt f) ≡ true) × (leb (length (wordsAt f)) 16 && (Text.all plain (codesAt f) && (leb (length (codesAt f)) 4 && Text.all fine (rowAt f .parts))) ≡ true)
+  t0 : (Text.all plain (keywordsAt f) ≡ true) × (leb (length (keywordsAt f)) 16 && (Text.all plain (codesAt f) && (leb (length (codesAt f)) 4 && Text.all fine (rowAt f .parts))) ≡ true)
   unfolding tidy
   t0 = both _ _ row-tidy
 
-  t1 : (leb (length (wordsAt f)) 16 ≡ true) × (Text.all plain (codesAt f) && (leb (length (codesAt f)) 4 && Text.all fine (rowAt f .parts)) ≡ true)
+  t1 : (leb (length (keywordsAt f)) 16 ≡ true) × (Text.all plain (codesAt f) && (leb (length (codesAt f)) 4 && Text.all fine (rowAt f .parts)) ≡ true)
   t1 = both _ _ (t0 .1)
 
   t2 : (Text.all plain (codesAt f) ≡ true) × (leb (length (codesAt f)) 4 && Text.all fine (rowAt f .parts) ≡ true)
   t2 = both _ _ (t1 .1)
 
-  pub words-plain : (i : ℕ) → i < length (wordsAt f) → (getD (wordsAt f) i 32 ≡ 32 → ⊥)
-  words-plain i k = plain-not _ (all-at plain 32 (wordsAt f) i (t0 .0) k) .0
+  pub keywords-plain : (i : ℕ) → i < length (keywordsAt f) → (getD (keywordsAt f) i 32 ≡ 32 → ⊥)
+  keywords-plain i k = plain-not _ (all-at plain 32 (keywordsAt f) i (t0 .0) k) .0
 
-  pub words-short : length (wordsAt f) ≤ 16
-  words-short = leb-true _ _ (t1 .0)
+  pub keywords-short : length (keywordsAt f) ≤ 16
+  keywords-short = leb-true _ _ (t1 .0)
 
   pub codes-plain : (i : ℕ) → i < length (codesAt f) → (getD (codesAt f) i 32 ≡ 32 → ⊥) × (getD (codesAt f) i 32 < 129)
   codes-plain i k = plain-not _ (all-at plain 32 (codesAt f) i (t2 .0) k)

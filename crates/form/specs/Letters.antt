@@ -10,7 +10,7 @@ use Rattle.semantics.specs.Form as Form
 use Rattle.decimal.specs.Number as Number
 use Rattle.utf8.specs.Utf8 as Utf8
 use Rattle.form.specs.declared.Walk.{Walk}
-use Rattle.form.specs.Table.{rowCount, wordsAt, codesAt}
+use Rattle.form.specs.Table.{rowCount, keywordsAt, codesAt}
 
 unfoldable pub isKeyField : Bytes → Bool
 isKeyField f = Form.isKey (partsAt 46 f)
@@ -84,4 +84,4 @@ pub record Stepped (f : ℕ) (l : Bytes) (w : Walk) (x v : ℕ) (u : Walk) : Typ
 
 -- a walk over the fields behind the keywords of form f
 abbrev pub beginning : ℕ → Walk
-beginning f = record { at = length (wordsAt f) + 1; j = 0; c = 0; e = 65 }
+beginning f = record { at = length (keywordsAt f) + 1; j = 0; c = 0; e = 65 }

@@ -51,8 +51,8 @@ rowCount = 42
 abbrev pub rowAt : ℕ → Row
 rowAt f = getD forms f noRow
 
-abbrev pub wordsAt : ℕ → Bytes
-wordsAt f = rowAt f .words
+abbrev pub keywordsAt : ℕ → Bytes
+keywordsAt f = rowAt f .words
 
 abbrev pub kindAt : ℕ → ℕ
 kindAt f = letter (rowAt f .kind)
@@ -62,7 +62,7 @@ codesAt f = codes (rowAt f .parts)
 
 -- the fields of a line behind the keywords of form f
 abbrev pub fieldsBehind : ℕ → Bytes → List Bytes
-fieldsBehind f l = fieldsFrom (length (wordsAt f) + 1) l
+fieldsBehind f l = fieldsFrom (length (keywordsAt f) + 1) l
 
 -- the number of line k's form, 42 where it has none
 abbrev pub formOf : ℕ → Bytes → ℕ

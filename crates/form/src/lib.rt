@@ -9,7 +9,7 @@ ghost use Rattle.semantics.specs.Text.{same};
 ghost use Rattle.semantics.specs.Form.{forms, begins, rowOf, fieldsFrom};
 ghost use Rattle.decimal.specs.Number.{numberOf, isBetween};
 ghost use Rattle.text.specs.Parts.{until};
-ghost use Rattle.form.specs.Table.{table, rowCount, wordsAt, kindAt, codesAt, fieldsBehind, formOf};
+ghost use Rattle.form.specs.Table.{table, rowCount, keywordsAt, kindAt, codesAt, fieldsBehind, formOf};
 ghost use Rattle.form.specs.Letters.{isKeyField, isReal, limitOf, holds, after, fits, lettersFrom, Ready, Standing, Stepped, beginning};
 
 // A row: keywords, the kind's letter, and a letter for each field behind the keywords. A to O are kinds, and references to lines of
@@ -99,7 +99,7 @@ const TEXT: u8 = b'T';
 // The table is lent to what looks at many of its bytes: the array would be made anew for each.
 fn word(t: &[u8; 1008], f: usize, i: usize) -> u8
     requires { ⌜ (now t ≡ table forms) × (f < rowCount) × (i < 17) ⌝ }
-    ensures { λ r. ⌜ r ≡ getD (wordsAt f) i 32 ⌝ }
+    ensures { λ r. ⌜ r ≡ getD (keywordsAt f) i 32 ⌝ }
 {
     t[24 * f + 1 + i]
 }
@@ -123,7 +123,7 @@ fn atom(f: usize, j: usize) -> u8
 // Where the fields behind the keywords of form f begin; 0 where a line begins otherwise.
 fn behind_in(t: &[u8; 1008], l: &[u8], f: usize) -> usize
     requires { ⌜ (f < rowCount) × (length (now l) ≤ 255) × (now t ≡ table forms) ⌝ }
-    ensures { λ r. ⌜ r ≡ cond (begins (wordsAt f) (now (l .entry))) (length (wordsAt f) + 1) 0 ⌝ }
+    ensures { λ r. ⌜ r ≡ cond (begins (keywordsAt f) (now (l .entry))) (length (keywordsAt f) + 1) 0 ⌝ }
 {
     let mut i = 0;
     loop {
@@ -149,7 +149,7 @@ fn behind_in(t: &[u8; 1008], l: &[u8], f: usize) -> usize
 
 fn behind(l: &[u8], f: usize) -> usize
     requires { ⌜ (f < rowCount) × (length (now l) ≤ 255) ⌝ }
-    ensures { λ r. ⌜ r ≡ cond (begins (wordsAt f) (now (l .entry))) (length (wordsAt f) + 1) 0 ⌝ }
+    ensures { λ r. ⌜ r ≡ cond (begins (keywordsAt f) (now (l .entry))) (length (keywordsAt f) + 1) 0 ⌝ }
 {
     let t = FORMS;
     behind_in(&t, l, f)
@@ -237,10 +237,10 @@ fn is_i64(s: &[u8]) -> bool
 fn is_real(s: &[u8]) -> bool
     ensures { λ r. ⌜ r ≡ isReal (now (s .entry)) ⌝ }
 {
-    let w = hex::read_word(s);
+    let w = hex::read_bits(s);
     match w {
-        hex::Word::Bits(b) => b % SIGN <= INFINITY,
-        hex::Word::Bad => false,
+        hex::Bits64::Bits(b) => b % SIGN <= INFINITY,
+        hex::Bits64::Bad => false,
     }
 }
 
@@ -386,7 +386,7 @@ pub fn form_of(l: &[u8], k: usize) -> usize
 // How long the keywords of form f are.
 fn width(f: usize) -> usize
     requires { ⌜ f < rowCount ⌝ }
-    ensures { λ r. ⌜ (r ≡ length (wordsAt f)) × (r ≤ 16) ⌝ }
+    ensures { λ r. ⌜ (r ≡ length (keywordsAt f)) × (r ≤ 16) ⌝ }
 {
     (WIDTHS[f] - 96) as usize
 }

@@ -10,7 +10,7 @@ use lib.ListN.{length, take, drop, getD, set, length-set}
 use lib.Seq.{sets, length-sets, getD-set-same, getD-set-other, take-set-le, drop-set-lt}
 use Rattle.semantics.specs.Text.{Bytes, same, orElse}
 use Rattle.semantics.specs.Global.{Global, placeOf}
-use Rattle.words.specs.Words.{digest, wordAt}
+use Rattle.words.specs.Words.{digest, u16At}
 use Rattle.words.proofs.Laws.{digest-apart}
 use Rattle.checks.specs.Checks.{Checked, Kept}
 use Rattle.checks.proofs.Kept.{kept-all, kept-then, kept-less, kept-at, checked-kept}
@@ -64,7 +64,7 @@ module _ (t : Bytes) (i line position offset d : ℕ) (hi : i < 256) (hl : line 
   cell-at k j h e = rw e (sets-at t (7168 + 8 * i) cells k h (omega arith))
 
   pub line-new : lineOf (entered t i line position offset d) i ≡ line
-  unfolding wordAt cells
+  unfolding u16At cells
   line-new = rw (cell-at 0 (7168 + 8 * i) (omega arith) (omega arith), cell-at 1 (7168 + 8 * i + 1) (omega arith) refl) (omega arith)
 
   pub position-new : positionOf (entered t i line position offset d) i ≡ position
@@ -72,7 +72,7 @@ module _ (t : Bytes) (i line position offset d : ℕ) (hi : i < 256) (hl : line 
   position-new = cell-at 2 (7170 + 8 * i) (omega arith) (omega arith)
 
   pub offset-new : offsetOf (entered t i line position offset d) i ≡ offset
-  unfolding wordAt cells
+  unfolding u16At cells
   offset-new = rw (cell-at 3 (7171 + 8 * i) (omega arith) (omega arith), cell-at 4 (7171 + 8 * i + 1) (omega arith) (omega arith)) (omega arith)
 
   pub digest-new : digestOf (entered t i line position offset d) i ≡ d
@@ -86,7 +86,7 @@ module _ (t : Bytes) (i line position offset d : ℕ) (hi : i < 256) (hl : line 
     cell-old k h m e = sets-other t (7168 + 8 * i) cells m (λ x l q. omega arith)
 
     pub line-old : lineOf (entered t i line position offset d) j ≡ lineOf t j
-    unfolding wordAt
+    unfolding u16At
     line-old = rw (cell-old 0 (omega arith) (7168 + 8 * j) (omega arith), cell-old 1 (omega arith) (7168 + 8 * j + 1) refl)
 
     position-old : positionOf (entered t i line position offset d) j ≡ positionOf t j
@@ -94,7 +94,7 @@ module _ (t : Bytes) (i line position offset d : ℕ) (hi : i < 256) (hl : line 
     position-old = cell-old 2 (omega arith) (7170 + 8 * j) (omega arith)
 
     offset-old : offsetOf (entered t i line position offset d) j ≡ offsetOf t j
-    unfolding wordAt
+    unfolding u16At
     offset-old = rw (cell-old 3 (omega arith) (7171 + 8 * j) (omega arith), cell-old 4 (omega arith) (7171 + 8 * j + 1) (omega arith))
 
     pub digest-old : digestOf (entered t i line position offset d) j ≡ digestOf t j
@@ -192,15 +192,15 @@ var-around a l = var-kept (kept-less (omega arith) (a .below)) l
 -- ---- the table stays where all that stands up to its end is kept
 
 module _ {t u : Bytes} (a : Kept 9216 t u) where
-  word-kept : (k : ℕ) → k + 1 < 9216 → wordAt u k ≡ wordAt t k
-  unfolding wordAt
-  word-kept k h = rw (kept-at a k (omega arith), kept-at a (k + 1) h)
+  u16-kept : (k : ℕ) → k + 1 < 9216 → u16At u k ≡ u16At t k
+  unfolding u16At
+  u16-kept k h = rw (kept-at a k (omega arith), kept-at a (k + 1) h)
 
   pub line-kept : (i : ℕ) → i < 256 → lineOf u i ≡ lineOf t i
-  line-kept i h = word-kept (7168 + 8 * i) (omega arith)
+  line-kept i h = u16-kept (7168 + 8 * i) (omega arith)
 
   pub offset-kept : (i : ℕ) → i < 256 → offsetOf u i ≡ offsetOf t i
-  offset-kept i h = word-kept (7171 + 8 * i) (omega arith)
+  offset-kept i h = u16-kept (7171 + 8 * i) (omega arith)
 
   digest-kept : (i : ℕ) → i < 256 → digestOf u i ≡ digestOf t i
   unfolding digestOf

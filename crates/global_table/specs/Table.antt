@@ -12,7 +12,7 @@ use Rattle.semantics.specs.Tree.{Ty}
 use Rattle.semantics.specs.Form.{letter}
 use Rattle.semantics.specs.Global.{Global, placeOf}
 use Rattle.lines.specs.Lines.{readAt, nodesIn}
-use Rattle.words.specs.Words.{digest, wordAt}
+use Rattle.words.specs.Words.{digest, u16At}
 use Rattle.checks.specs.Checks.{Checked, Kept}
 use Rattle.source.specs.Walk.{varOf}
 
@@ -37,13 +37,13 @@ namesOn s r = varOf (nodesIn s) (readAt s (r - 1) .fields) .names
 -- ---- the table
 
 abbrev pub lineOf : Bytes → ℕ → ℕ
-lineOf t i = wordAt t (7168 + 8 * i)
+lineOf t i = u16At t (7168 + 8 * i)
 
 unfoldable pub positionOf : Bytes → ℕ → ℕ
 positionOf t i = getD t (7170 + 8 * i) 0
 
 abbrev pub offsetOf : Bytes → ℕ → ℕ
-offsetOf t i = wordAt t (7171 + 8 * i)
+offsetOf t i = u16At t (7171 + 8 * i)
 
 unfoldable pub digestOf : Bytes → ℕ → ℕ
 digestOf t i = getD t (7173 + 8 * i) 0

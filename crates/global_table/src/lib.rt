@@ -14,7 +14,7 @@ pub fn line_of(work: &[u8], i: usize) -> usize
     requires { ⌜ (i < 256) × (65536 ≤ length (now work)) ⌝ }
     ensures { λ r. ⌜ r ≡ lineOf (now (work .entry)) i ⌝ }
 {
-    words::word_at(work, area::GLOBALS + 8 * i)
+    words::u16_at(work, area::GLOBALS + 8 * i)
 }
 
 // The position of its name among the line's names, from 0.
@@ -30,7 +30,7 @@ pub fn offset_of(work: &[u8], i: usize) -> usize
     requires { ⌜ (i < 256) × (65536 ≤ length (now work)) ⌝ }
     ensures { λ r. ⌜ (r ≡ offsetOf (now (work .entry)) i) × (r < 65536) ⌝ }
 {
-    words::word_at(work, area::GLOBALS + 3 + 8 * i)
+    words::u16_at(work, area::GLOBALS + 3 + 8 * i)
 }
 
 // Its name's digest.

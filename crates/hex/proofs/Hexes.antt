@@ -13,8 +13,8 @@ use lib.Seq.{drop-cons}
 use borrow.Author.Tests.{eq-eqb, ne-eqb}
 use Rattle.semantics.specs.Text.{Bytes, orElse, mapOption, inRange, hexValue, hexPair, unhex}
 use Rattle.semantics.proofs.Common.{never}
-use Rattle.hex.specs.declared.Word.the-variants.{Bits, Bad}
-use Rattle.hex.specs.Hex.{digitOf, pairByte, pairOf, byteAt, word, wordOf, wordFrom}
+use Rattle.hex.specs.declared.Bits64.the-variants.{Bits, Bad}
+use Rattle.hex.specs.Hex.{digitOf, pairByte, pairOf, byteAt, eightBytes, bits64Of, bits64From}
 use Rattle.text.proofs.Tests.{within-yes}
 
 Below : ℕ → Option ℕ → Type 0
@@ -175,37 +175,37 @@ unhex-length (h ∷ (l ∷ ds)) bs e =
     let t = unhex-tail (hexValue h) (hexValue l) (unhex ds) bs e in
     omega (arith, unhex-length ds (t .1) (t .3), ap length (t .4))
 
-pub word-short : (s : Bytes) → (length s ≡ 16 → ⊥) → Bad ≡ wordOf s
-unfolding wordOf
-word-short s n = go (unhex s) refl
+pub bits-short : (s : Bytes) → (length s ≡ 16 → ⊥) → Bad ≡ bits64Of s
+unfolding bits64Of
+bits-short s n = go (unhex s) refl
   where
-    go : (o : Option Bytes) → unhex s ≡ o → Bad ≡ word o
+    go : (o : Option Bytes) → unhex s ≡ o → Bad ≡ eightBytes o
     go none e = refl
     go (some bs) e = simp (ne-eqb (length bs) 8 (λ k. n (omega (arith, unhex-length s bs e))))
 
-pub word-start : (s : Bytes) → length s ≡ 16 → wordOf s ≡ wordFrom 0 (unhex (drop 0 s))
-unfolding wordOf
-word-start s n = go (unhex s) refl
+pub bits-start : (s : Bytes) → length s ≡ 16 → bits64Of s ≡ bits64From 0 (unhex (drop 0 s))
+unfolding bits64Of
+bits-start s n = go (unhex s) refl
   where
-    go : (o : Option Bytes) → unhex s ≡ o → word o ≡ wordFrom 0 o
+    go : (o : Option Bytes) → unhex s ≡ o → eightBytes o ≡ bits64From 0 o
     go none e = refl
     go (some bs) e = simp (eq-eqb (length bs) 8 (omega (arith, unhex-length s bs e)))
 
 module _ (s : Bytes) (k acc : ℕ) (h : 2 * k + 1 < length s) {v : ℕ} (is : v ≡ pairOf (getD s (2 * k) 0) (getD s (2 * k + 1) 0)) where
-  pub word-bad : v ≡ 256 → wordFrom acc (unhex (drop (2 * k) s)) ≡ Bad
-  word-bad z = rw (unhex-bad s (2 * k) h is z)
+  pub bits-bad : v ≡ 256 → bits64From acc (unhex (drop (2 * k) s)) ≡ Bad
+  bits-bad z = rw (unhex-bad s (2 * k) h is z)
 
-  pub word-next : (v ≡ 256 → ⊥) → wordFrom acc (unhex (drop (2 * k) s)) ≡ wordFrom (acc * 256 + v) (unhex (drop (2 * (k + 1)) s))
-  word-next z =
+  pub bits-next : (v ≡ 256 → ⊥) → bits64From acc (unhex (drop (2 * k) s)) ≡ bits64From (acc * 256 + v) (unhex (drop (2 * (k + 1)) s))
+  bits-next z =
       let q : 2 * k + 2 ≡ 2 * (k + 1) = omega arith in
       rw (unhex-next s (2 * k) h is z) (rw q (go (unhex (drop (2 * (k + 1)) s))))
     where
-      go : (o : Option Bytes) → wordFrom acc (mapOption (λ (bs : Bytes). v ∷ bs) o) ≡ wordFrom (acc * 256 + v) o
+      go : (o : Option Bytes) → bits64From acc (mapOption (λ (bs : Bytes). v ∷ bs) o) ≡ bits64From (acc * 256 + v) o
       go none = refl
       go (some bs) = refl
 
-pub word-end : (s : Bytes) (i acc : ℕ) → length s ≤ i → Bits acc ≡ wordFrom acc (unhex (drop i s))
-word-end s i acc h = rw (unhex-end s i h)
+pub bits-end : (s : Bytes) (i acc : ℕ) → length s ≤ i → Bits acc ≡ bits64From acc (unhex (drop i s))
+bits-end s i acc h = rw (unhex-end s i h)
 
 -- k bytes are below 256 ^ k
 pub bytes-grow : (acc k v : ℕ) → acc < 256 ^ k → v < 256 → acc * 256 + v < 256 ^ (k + 1)

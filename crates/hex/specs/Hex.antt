@@ -5,8 +5,8 @@ use mathlib.Core.Option.{Option, none, some}
 use lib.ListN.{length, getD}
 use lib.Dec.{eqb}
 use Rattle.semantics.specs.Text.{Bytes, orElse, hexValue, unhex, fromBigEndian}
-use Rattle.hex.specs.declared.Word.{Word}
-use Rattle.hex.specs.declared.Word.the-variants.{Bits, Bad}
+use Rattle.hex.specs.declared.Bits64.{Bits64}
+use Rattle.hex.specs.declared.Bits64.the-variants.{Bits, Bad}
 
 -- a digit's value, 16 where there is none
 unfoldable pub digitOf : ℕ → ℕ
@@ -27,14 +27,14 @@ unfoldable pub byteAt : Bytes → ℕ → ℕ
 byteAt s i = orElse 0 (pairByte (hexValue (getD s (2 * i) 0)) (hexValue (getD s (2 * i + 1) 0)))
 
 -- 64 bits from eight bytes
-abbrev pub word : Option Bytes → Word
-word none = Bad
-word (some bs) = cond (eqb (length bs) 8) (Bits (fromBigEndian 0 bs)) Bad
+abbrev pub eightBytes : Option Bytes → Bits64
+eightBytes none = Bad
+eightBytes (some bs) = cond (eqb (length bs) 8) (Bits (fromBigEndian 0 bs)) Bad
 
-unfoldable pub wordOf : Bytes → Word
-wordOf s = word (unhex s)
+unfoldable pub bits64Of : Bytes → Bits64
+bits64Of s = eightBytes (unhex s)
 
 -- the same from eight bytes or fewer, behind the bytes of n
-abbrev pub wordFrom : ℕ → Option Bytes → Word
-wordFrom n none = Bad
-wordFrom n (some bs) = Bits (fromBigEndian n bs)
+abbrev pub bits64From : ℕ → Option Bytes → Bits64
+bits64From n none = Bad
+bits64From n (some bs) = Bits (fromBigEndian n bs)

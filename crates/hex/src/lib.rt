@@ -3,10 +3,10 @@ use text::is_within;
 use text::wide;
 ghost use mathlib.Core.Path.{_≡_};
 ghost use Prim.Native.Nat.{_≤_};
-ghost use Rattle.hex.specs.Hex.{digitOf, pairOf, byteAt, wordOf};
+ghost use Rattle.hex.specs.Hex.{digitOf, pairOf, byteAt, bits64Of};
 
 // 64 bits.
-pub enum Word {
+pub enum Bits64 {
     Bits(u64),
     Bad,
 }
@@ -54,21 +54,21 @@ pub fn byte(s: &[u8], i: usize) -> u8
 }
 
 // The 64 bits that 16 digits write.
-pub fn read_word(s: &[u8]) -> Word
-    ensures { λ r. ⌜ r ≡ wordOf (now (s .entry)) ⌝ }
+pub fn read_bits(s: &[u8]) -> Bits64
+    ensures { λ r. ⌜ r ≡ bits64Of (now (s .entry)) ⌝ }
 {
     if s.len() != 16 {
-        return Word::Bad;
+        return Bits64::Bad;
     }
     let mut acc: u64 = 0;
     let mut k: usize = 0;
     while k < 8 {
         let v = pair(s[2 * k], s[2 * k + 1]);
         if v == 256 {
-            return Word::Bad;
+            return Bits64::Bad;
         }
         acc = acc * 256 + v;
         k += 1;
     }
-    Word::Bits(acc)
+    Bits64::Bits(acc)
 }

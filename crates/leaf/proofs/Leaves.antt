@@ -26,9 +26,9 @@ use Rattle.decimal.specs.Number as Number
 use Rattle.decimal.specs.Number.{integerOf, whole}
 use Rattle.decimal.specs.declared.Integer.{Integer}
 use Rattle.decimal.specs.declared.Integer.the-variants.{Is, Bad as NoInteger}
-use Rattle.hex.specs.Hex.{byteAt, word, wordOf}
-use Rattle.hex.specs.declared.Word.{Word}
-use Rattle.hex.specs.declared.Word.the-variants.{Bits, Bad}
+use Rattle.hex.specs.Hex.{byteAt, eightBytes, bits64Of}
+use Rattle.hex.specs.declared.Bits64.{Bits64}
+use Rattle.hex.specs.declared.Bits64.the-variants.{Bits, Bad}
 use Rattle.hex.proofs.Hexes.{byte-of, unhex-length}
 use Rattle.write.specs.Wrote.{over, Wrote}
 use Rattle.write.proofs.Wrote.{wrote-as, wrote-next}
@@ -67,15 +67,15 @@ integer-is x h p q f t top = let e = integer-read x h in (ap vInt (toZ-ofZ f ∙
 pub integer-not : {A : Type 0} (x : Bytes) {o : Integer} → holds Atom.i64 x ≡ true → o ≡ integerOf x → o ≡ NoInteger → A
 integer-not x h p q = let e = integer-read x h in never cc
 
-real-read : (x : Bytes) → holds Atom.real x ≡ true → wordOf x ≡ Bits (fromBigEndian 0 (orElse [] (unhex x)))
-unfolding wordOf
+real-read : (x : Bytes) → holds Atom.real x ≡ true → bits64Of x ≡ Bits (fromBigEndian 0 (orElse [] (unhex x)))
+unfolding bits64Of
 real-read x = go (unhex x)
   where
-    go : (o : Option Bytes) → holdsOf (λ (bs : Bytes). eqb (length bs) 8 && notNaN (fromBigEndian 0 bs)) o ≡ true → word o ≡ Bits (fromBigEndian 0 (orElse [] o))
+    go : (o : Option Bytes) → holdsOf (λ (bs : Bytes). eqb (length bs) 8 && notNaN (fromBigEndian 0 bs)) o ≡ true → eightBytes o ≡ Bits (fromBigEndian 0 (orElse [] o))
     go none h = never h
     go (some bs) h = rw (both (eqb (length bs) 8) (notNaN (fromBigEndian 0 bs)) h .0)
 
-pub real-is : (x : Bytes) {o : Word} {n : ℕ} {y : Float} → holds Atom.real x ≡ true → o ≡ wordOf x → o ≡ Bits n → y ≡ ofBits binary64 n
+pub real-is : (x : Bytes) {o : Bits64} {n : ℕ} {y : Float} → holds Atom.real x ≡ true → o ≡ bits64Of x → o ≡ Bits n → y ≡ ofBits binary64 n
     → (t : Bytes) (top : ℕ) → (valueIn t (Real y) ≡ vReal (ofBits binary64 (fromBigEndian 0 (orElse [] (unhex x))))) × At top (Real y)
 unfolding valueIn
 real-is x {n = n} h p q e t top =
@@ -83,7 +83,7 @@ real-is x {n = n} h p q e t top =
     let g : n ≡ fromBigEndian 0 (orElse [] (unhex x)) = cc in
     (ap vReal (e ∙ ap (ofBits binary64) g), tt)
 
-pub real-not : {A : Type 0} (x : Bytes) {o : Word} → holds Atom.real x ≡ true → o ≡ wordOf x → o ≡ Bad → A
+pub real-not : {A : Type 0} (x : Bytes) {o : Bits64} → holds Atom.real x ≡ true → o ≡ bits64Of x → o ≡ Bad → A
 real-not x h p q = let e = real-read x h in never cc
 
 -- ---- strings

@@ -35,10 +35,10 @@ fn real(x: &[u8]) -> ConstVal
     requires { ⌜ Form.holds Form.Atom.real (now x) ≡ true ⌝ }
     ensures { λ r. ⌜ ((t : Bytes) (top : ℕ) → (valueIn t r ≡ vReal (ofBits binary64 (fromBigEndian 0 (orElse [] (unhex (now (x .entry))))))) × At top r) ⌝ }
 {
-    let b = hex::read_word(x);
+    let b = hex::read_bits(x);
     match b {
-        hex::Word::Bits(n) => ConstVal::Real(reals::of_bits(n)),
-        hex::Word::Bad => ConstVal::Real(0.0),
+        hex::Bits64::Bits(n) => ConstVal::Real(reals::of_bits(n)),
+        hex::Bits64::Bad => ConstVal::Real(0.0),
     }
 }
 

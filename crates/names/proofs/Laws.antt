@@ -16,7 +16,7 @@ use Rattle.semantics.specs.Tree.ConstVal.{vInt, vReal, vStr}
 use Rattle.semantics.specs.Sheet.{sheetSource}
 use Rattle.semantics.specs.Fold.{Key, Const, signed64, plain, qualified, sameOption, lookUp, valueOf}
 use Rattle.semantics.specs.Const.{entries}
-use Rattle.words.specs.Words.{digest, wordAt, bitsAt}
+use Rattle.words.specs.Words.{digest, u16At, bitsAt}
 use Rattle.words.proofs.Laws.{digest-apart}
 use Rattle.implement.specs.Modules.{firstField, moduleAt, ownIn, isOwn}
 use Rattle.checks.specs.Checks.{Kept}
@@ -216,9 +216,9 @@ pub part-kept : {c : ℕ} {t u : Bytes} → Kept c t u → (a b : ℕ) → a + b
 part-kept {c} {t} {u} k a b h = sym (part-low a b c u h) ∙ ap (λ (l : Bytes). take b (drop a l)) (k .below) ∙ part-low a b c t h
 
 module _ {c : ℕ} {t u : Bytes} (w : Kept c t u) where
-  word-kept : (a : ℕ) → a + 1 < c → wordAt u a ≡ wordAt t a
-  unfolding wordAt
-  word-kept a h = rw (kept-at w a (omega arith), kept-at w (a + 1) h)
+  u16-kept : (a : ℕ) → a + 1 < c → u16At u a ≡ u16At t a
+  unfolding u16At
+  u16-kept a h = rw (kept-at w a (omega arith), kept-at w (a + 1) h)
 
   bits-kept : (a : ℕ) → a + 8 ≤ c → bitsAt u a ≡ bitsAt t a
   unfolding bitsAt
@@ -231,16 +231,16 @@ SameText t u i = kindOf t i ≡ 3 → take (bitsOf t i / 65536) (drop (bitsOf t 
 -- an entry stays as it is where it and its string are kept
 module _ {t u : Bytes} (n i : ℕ) (w : Kept (5136 + 16 * i) t u) (e : Entry t n i) where
   line-kept : lineOf u i ≡ lineOf t i
-  line-kept = word-kept w (5120 + 16 * i) (omega arith)
+  line-kept = u16-kept w (5120 + 16 * i) (omega arith)
 
   module-kept : moduleLineOf u i ≡ moduleLineOf t i
-  module-kept = word-kept w (5122 + 16 * i) (omega arith)
+  module-kept = u16-kept w (5122 + 16 * i) (omega arith)
 
   kind-kept : kindOf u i ≡ kindOf t i
   kind-kept = kept-at w (5124 + 16 * i) (omega arith)
 
-  word-of : bitsOf u i ≡ bitsOf t i
-  word-of = bits-kept w (5125 + 16 * i) (omega arith)
+  bits-kept : bitsOf u i ≡ bitsOf t i
+  bits-kept = bits-kept w (5125 + 16 * i) (omega arith)
 
   digest-kept : digestOf u i ≡ digestOf t i
   digest-kept = kept-at w (5133 + 16 * i) (omega arith)
@@ -251,14 +251,14 @@ module _ {t u : Bytes} (n i : ℕ) (w : Kept (5136 + 16 * i) t u) (e : Entry t n
     last = rw line-kept (e .last);
     within = rw module-kept (e .within);
     kind = rw kind-kept (e .kind);
-    text = λ q. rw word-of (e .text (sym kind-kept ∙ q));
-    own = λ q. rw word-of (e .own (sym kind-kept ∙ q));
+    text = λ q. rw bits-kept (e .text (sym kind-kept ∙ q));
+    own = λ q. rw bits-kept (e .own (sym kind-kept ∙ q));
   }
 
   module _ (same : SameText t u i) where
     slot-kept : slotAt u (5124 + 16 * i) ≡ slotAt t (5124 + 16 * i)
     unfolding valueBy
-    slot-kept = slot-is u i ∙ rw (kind-kept, word-of) (go (eqb (kindOf t i) 3) refl) ∙ sym (slot-is t i)
+    slot-kept = slot-is u i ∙ rw (kind-kept, bits-kept) (go (eqb (kindOf t i) 3) refl) ∙ sym (slot-is t i)
       where
         go : (q : Bool) → eqb (kindOf t i) 3 ≡ q → valueBy u (kindOf t i) (bitsOf t i) ≡ valueBy t (kindOf t i) (bitsOf t i)
         go true x = rw (x, same (eqb-true (kindOf t i) 3 x))

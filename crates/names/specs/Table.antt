@@ -16,14 +16,14 @@ use Rattle.semantics.specs.Tree.ConstVal.{vInt, vReal, vStr}
 use Rattle.semantics.specs.Sheet.{sheetSource}
 use Rattle.semantics.specs.Fold.{Key, Const, signed64, sameKey}
 use Rattle.semantics.specs.Const.{entries}
-use Rattle.words.specs.Words.{digest, wordAt, bitsAt}
+use Rattle.words.specs.Words.{digest, u16At, bitsAt}
 use Rattle.implement.specs.Modules.{firstField, moduleAt, isOwn}
 
 abbrev pub lineOf : Bytes → ℕ → ℕ
-lineOf t i = wordAt t (5120 + 16 * i)
+lineOf t i = u16At t (5120 + 16 * i)
 
 abbrev pub moduleLineOf : Bytes → ℕ → ℕ
-moduleLineOf t i = wordAt t (5122 + 16 * i)
+moduleLineOf t i = u16At t (5122 + 16 * i)
 
 -- ---- slots
 

@@ -16,7 +16,7 @@ pub fn line_of(work: &[u8], i: usize) -> usize
     requires { ⌜ (i < 128) × (65536 ≤ length (now work)) ⌝ }
     ensures { λ r. ⌜ r ≡ lineOf (now (work .entry)) i ⌝ }
 {
-    words::word_at(work, area::CONSTANTS + 16 * i)
+    words::u16_at(work, area::CONSTANTS + 16 * i)
 }
 
 // The line of its module, 0 for none.
@@ -24,7 +24,7 @@ pub fn module_line_of(work: &[u8], i: usize) -> usize
     requires { ⌜ (i < 128) × (65536 ≤ length (now work)) ⌝ }
     ensures { λ r. ⌜ r ≡ moduleLineOf (now (work .entry)) i ⌝ }
 {
-    words::word_at(work, area::CONSTANTS + 2 + 16 * i)
+    words::u16_at(work, area::CONSTANTS + 2 + 16 * i)
 }
 
 pub fn slot_kind(work: &[u8], i: usize) -> u8

@@ -18,11 +18,11 @@ use Rattle.semantics.specs.Fold.{bits64}
 use Rattle.semantics.proofs.Common.{never}
 use Rattle.text.specs.Parts.{until, startOf}
 use Rattle.decimal.specs.Number.{most, capped, numberOf, whole, integerOf}
-use Rattle.hex.specs.Hex.{word, wordOf}
+use Rattle.hex.specs.Hex.{eightBytes, bits64Of}
 use Rattle.decimal.specs.declared.Integer.the-variants.{Is, Bad}
-use Rattle.hex.specs.declared.Word.the-variants.{Bits, Bad as NoWord}
+use Rattle.hex.specs.declared.Bits64.the-variants.{Bits, Bad as NoBits}
 use Rattle.text.proofs.Parts.{part-view, part-absent}
-use Rattle.stored.specs.Reading.{numberIn, keywordOf, integerBits, wordBits, bitsIn}
+use Rattle.stored.specs.Reading.{numberIn, keywordOf, integerBits, realBits, bitsIn}
 use Rattle.row_fields.specs.Keywords.{whichOf}
 
 -- ---- keywords
@@ -127,26 +127,26 @@ integer-bad f e = go (intOf f) e
         by true e = never cc
         by false e = refl
 
-pub real-is : (f : Bytes) {b : ℕ} → wordOf f ≡ Bits b → b ≡ bitsIn true f
-unfolding wordOf bitsIn
+pub real-is : (f : Bytes) {b : ℕ} → bits64Of f ≡ Bits b → b ≡ bitsIn true f
+unfolding bits64Of bitsIn
 real-is f {b} e = go (unhex f) e
   where
-    go : (o : Option Bytes) → word o ≡ Bits b → b ≡ wordBits o
+    go : (o : Option Bytes) → eightBytes o ≡ Bits b → b ≡ realBits o
     go none e = never cc
     go (some bs) e = by (eqb (length bs) 8) e
       where
-        by : (t : Bool) → cond t (Bits (fromBigEndian 0 bs)) NoWord ≡ Bits b → b ≡ cond t (fromBigEndian 0 bs) 0
+        by : (t : Bool) → cond t (Bits (fromBigEndian 0 bs)) NoBits ≡ Bits b → b ≡ cond t (fromBigEndian 0 bs) 0
         by true e = cc
         by false e = never cc
 
-pub real-bad : (f : Bytes) → wordOf f ≡ NoWord → 0 ≡ bitsIn true f
-unfolding wordOf bitsIn
+pub real-bad : (f : Bytes) → bits64Of f ≡ NoBits → 0 ≡ bitsIn true f
+unfolding bits64Of bitsIn
 real-bad f e = go (unhex f) e
   where
-    go : (o : Option Bytes) → word o ≡ NoWord → 0 ≡ wordBits o
+    go : (o : Option Bytes) → eightBytes o ≡ NoBits → 0 ≡ realBits o
     go none e = refl
     go (some bs) e = by (eqb (length bs) 8) e
       where
-        by : (t : Bool) → cond t (Bits (fromBigEndian 0 bs)) NoWord ≡ NoWord → 0 ≡ cond t (fromBigEndian 0 bs) 0
+        by : (t : Bool) → cond t (Bits (fromBigEndian 0 bs)) NoBits ≡ NoBits → 0 ≡ cond t (fromBigEndian 0 bs) 0
         by true e = never cc
         by false e = refl

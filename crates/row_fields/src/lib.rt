@@ -2,7 +2,7 @@
 pub mod values;
 
 use decimal::Integer;
-use hex::Word;
+use hex::Bits64;
 ghost use mathlib.Core.Path.{_≡_};
 ghost use mathlib.Core.Bool.{true, false};
 ghost use mathlib.Core.List.{[]};
@@ -87,9 +87,9 @@ pub fn integer(f: &[u8]) -> u64
 pub fn real(f: &[u8]) -> u64
     ensures { λ r. ⌜ r ≡ bitsIn true (now (f .entry)) ⌝ }
 {
-    let w = hex::read_word(f);
+    let w = hex::read_bits(f);
     match w {
-        Word::Bits(b) => b,
-        Word::Bad => 0,
+        Bits64::Bits(b) => b,
+        Bits64::Bad => 0,
     }
 }

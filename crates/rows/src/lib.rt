@@ -1,10 +1,10 @@
 // Fields of a row of the listing, each behind its comma, and the row's end. Keywords and a row's first field go by `write::put_part`.
 use write::put;
 use write::put_hex;
+use write::put_hex_bits;
 use write::put_int;
 use write::put_nat;
 use write::put_part;
-use write::put_word;
 ghost use mathlib.Core.List.{_∷_, []};
 ghost use Rattle.semantics.specs.Text.{decimal, decimalℤ, hexOf, bigEndian};
 ghost use Rattle.semantics.specs.Listing.{flag, pendRow};
@@ -46,11 +46,11 @@ pub fn put_comma_hex(out: &mut [u8], at: usize, part: &[u8]) -> usize
     put_hex(out, p, part)
 }
 
-pub fn put_comma_word(out: &mut [u8], at: usize, n: u64) -> usize
+pub fn put_comma_bits(out: &mut [u8], at: usize, n: u64) -> usize
     ensures { λ r. ⌜ Wrote (now (out .entry)) at (44 ∷ hexOf (bigEndian 8 n)) (now (out .exit)) r ⌝ }
 {
     let p = put(out, at, COMMA);
-    put_word(out, p, n)
+    put_hex_bits(out, p, n)
 }
 
 // 1 or 0.

@@ -20,7 +20,7 @@ use Rattle.ints.proofs.Widths.{held, from1}
 use Rattle.ints.proofs.Wrapping.{wrap-same}
 use Rattle.write.specs.Wrote.{over}
 use Rattle.write.proofs.Hex.{big-length}
-use Rattle.write.proofs.Back.{word-back}
+use Rattle.write.proofs.Back.{bits-back}
 use Rattle.values.specs.declared.ConstVal.{ConstVal}
 use Rattle.values.specs.declared.ConstVal.the-variants.{Int, Real, Str}
 use Rattle.words.specs.Words.{bitsAt}
@@ -51,7 +51,7 @@ module _ (t : Bytes) (a k b : ℕ) (room : a + 9 ≤ length t) (fits : b < 2 ^ 6
       let d : drop (a + 1) (over t a (k ∷ bigEndian 8 b)) ≡ bigEndian 8 b ++ rest =
       ap (drop (a + 1)) (split ∙ sym (append-assoc (take a t) (k ∷ []) (bigEndian 8 b ++ rest)))
       ∙ drop-at (take a t ++ (k ∷ [])) (bigEndian 8 b ++ rest) (a + 1) (length-append (take a t) (k ∷ []) ∙ omega (arith, length-take-le a t (omega arith))) in
-      ap (λ (u : Bytes). fromBigEndian 0 (take 8 u)) d ∙ ap (fromBigEndian 0) (take-at (bigEndian 8 b) rest 8 (big-length 8 b)) ∙ word-back b fits
+      ap (λ (u : Bytes). fromBigEndian 0 (take 8 u)) d ∙ ap (fromBigEndian 0) (take-at (bigEndian 8 b) rest 8 (big-length 8 b)) ∙ bits-back b fits
 
   pub stored : {v : ConstVal} {u : Bytes} → u ≡ over t a (k ∷ bigEndian 8 b) → slotBy k b ≡ v → Stored t a v u
   unfolding slotOf over

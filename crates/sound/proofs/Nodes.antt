@@ -14,7 +14,7 @@ use Rattle.semantics.specs.Form.Atom.{name}
 use Rattle.semantics.specs.Form.{Read, Row, forms, nodeOf, fits, exOf, elsOf, fdsOf, casesOf}
 use Rattle.semantics.specs.Sheet.{nodesFrom}
 use Rattle.semantics.specs.Refusal.{noRead}
-use Rattle.form.specs.Table.{rowAt, wordsAt}
+use Rattle.form.specs.Table.{rowAt, keywordsAt}
 use Rattle.form.proofs.Table as Table
 use Rattle.form.proofs.Table.{row-count, each-at, done, _also_}
 use Rattle.lines.specs.Lines.{readsIn, readAt, nodesIn, formAt, textAt, Whole}
@@ -134,7 +134,7 @@ module _ (s t : Bytes) (n : ℕ) (w : Whole s t n) where
     row-keeps = rw (form-is s t n w i h) (each-at RowKeeps forms all-keep (formAt t i) (omega (arith, row-count, form-low s t n w i h)))
 
     line-fields : Each (Short 255) (readAt s i .fields)
-    line-fields = rw (fields-are s t n w i h) (fields-short 255 (length (wordsAt (formAt t i)) + 1) (textAt s i) (line-short (i + 1) (textAt s i) (w .lined .good i h)))
+    line-fields = rw (fields-are s t n w i h) (fields-short 255 (length (keywordsAt (formAt t i)) + 1) (textAt s i) (line-short (i + 1) (textAt s i) (w .lined .good i h)))
 
     line-keeps : LineKeeps (readAt s i)
     unfolding nodeOf

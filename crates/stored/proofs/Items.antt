@@ -20,11 +20,11 @@ use Rattle.semantics.specs.Global.Item.{valuesItem, strItem, arrayItem, setItem
 use Rattle.semantics.specs.Listing.{realText, itemFields, itemRow}
 use Rattle.semantics.specs.Image.{realBytes, elemSize, Replay, replayItem, replayAll}
 use Rattle.write.specs.Plain.{isPlain}
-use Rattle.write.proofs.Back.{nat-back, int-back, hex-back, word-back}
+use Rattle.write.proofs.Back.{nat-back, int-back, hex-back, bits-back}
 use Rattle.write.proofs.Uncut.{decimal-plain, integer-plain, hex-plain}
 use Rattle.demand.proofs.Lines.{Each}
 use Rattle.stored.specs.Stored.{Stored, storedOf, bytesAt, replayOne, replayStored}
-use Rattle.stored.specs.Reading.{numberIn, integerBits, wordBits, bitsIn, valuesIn, keywordOf, readRow, readAll}
+use Rattle.stored.specs.Reading.{numberIn, integerBits, realBits, bitsIn, valuesIn, keywordOf, readRow, readAll}
 use Rattle.stored.proofs.Rows.{Plain, read-row}
 
 -- ---- replaying items is replaying what is stored of them
@@ -66,7 +66,7 @@ byte-below (suc k) n (suc j) = byte-below k n j
 
 real-bits : (n : ℕ) → n < 2 ^ 64 → bitsIn true (hexOf (bigEndian 8 n)) ≡ n
 unfolding bitsIn bigEndian
-real-bits n h = ap wordBits (hex-back (bigEndian 8 n) (byte-below 8 n)) ∙ word-back n h
+real-bits n h = ap realBits (hex-back (bigEndian 8 n) (byte-below 8 n)) ∙ bits-back n h
 
 -- ---- values
 

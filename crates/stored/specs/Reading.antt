@@ -23,13 +23,13 @@ integerBits none = 0
 integerBits (some z) = cond (between (2 ^ 63) (2 ^ 63 - 1) z) (bits64 z) 0
 
 -- the bits that eight bytes hold
-abbrev pub wordBits : Option Bytes → ℕ
-wordBits none = 0
-wordBits (some bs) = cond (eqb (length bs) 8) (fromBigEndian 0 bs) 0
+abbrev pub realBits : Option Bytes → ℕ
+realBits none = 0
+realBits (some bs) = cond (eqb (length bs) 8) (fromBigEndian 0 bs) 0
 
 -- the bits of a value: a real's, or an integer's
 unfoldable pub bitsIn : Bool → Bytes → ℕ
-bitsIn true f = wordBits (unhex f)
+bitsIn true f = realBits (unhex f)
 bitsIn false f = integerBits (intOf f)
 
 -- values one after the other, each in w bytes

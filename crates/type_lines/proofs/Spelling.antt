@@ -16,7 +16,7 @@ use Rattle.semantics.specs.Types.{keyCode, sameTypeKey}
 use Rattle.semantics.specs.Form.{forms, holds, fits, ones, values, upTo, isCount, between, numberOf, begins, rowOf, fieldsFrom, readOf}
 use Rattle.semantics.specs.Form.Atom.{key, size, offset}
 use Rattle.semantics.specs.Form.Part.{one, many}
-use Rattle.form.specs.Table.{rowAt, wordsAt}
+use Rattle.form.specs.Table.{rowAt, keywordsAt}
 use Rattle.form.proofs.Table.{row-count}
 use Rattle.form.proofs.Laws.{begins-chosen}
 use Rattle.lines.specs.Lines.{textAt, readAt, nodesIn, formAt}
@@ -236,13 +236,13 @@ line-back (w ∷ ws) (b ∷ l) h =
 -- ---- two lines
 
 module _ {s t : Bytes} {n i : ℕ} (l : NeedLine s t n i) where
-  text-begins : begins (wordsAt (formAt t i)) (textAt s i) ≡ true
+  text-begins : begins (keywordsAt (formAt t i)) (textAt s i) ≡ true
   text-begins =
       let e = l .checked .whole .lined .row i (l .within) in
       rw e (begins-chosen forms (textAt s i) (omega (arith, e, row-count, form-low s t n (l .checked .whole) i (l .within))))
 
-  text-is : textAt s i ≡ wordsAt (formAt t i) ++ behind 44 (readAt s i .fields)
-  text-is = line-back (wordsAt (formAt t i)) (textAt s i) text-begins ∙ rw (fields-are s t n (l .checked .whole) i (l .within), add-one)
+  text-is : textAt s i ≡ keywordsAt (formAt t i) ++ behind 44 (readAt s i .fields)
+  text-is = line-back (keywordsAt (formAt t i)) (textAt s i) text-begins ∙ rw (fields-are s t n (l .checked .whole) i (l .within), add-one)
 
 module _ {s t : Bytes} {n i j : ℕ} (a : NeedLine s t n i) (b : NeedLine s t n j) where
   key-same : textAt s i ≡ textAt s j → needAt s i ≡ needAt s j

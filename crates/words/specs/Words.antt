@@ -5,8 +5,8 @@ use lib.ListN.{take, drop, getD}
 use Rattle.semantics.specs.Text.{Bytes, fromBigEndian}
 
 -- 2 bytes, the low one first
-unfoldable pub wordAt : Bytes → ℕ → ℕ
-wordAt t a = getD t a 0 + 256 * getD t (a + 1) 0
+unfoldable pub u16At : Bytes → ℕ → ℕ
+u16At t a = getD t a 0 + 256 * getD t (a + 1) 0
 
 -- 8 bytes, the highest first
 unfoldable pub bitsAt : Bytes → ℕ → ℕ

@@ -5,7 +5,7 @@ ghost use lib.ListN.{length};
 ghost use Rattle.semantics.specs.Text as Text;
 ghost use Rattle.semantics.specs.Text.{bigEndian};
 ghost use Rattle.write.specs.Wrote.{Wrote};
-ghost use Rattle.words.specs.Words.{digestFrom, digest, wordAt, bitsAt};
+ghost use Rattle.words.specs.Words.{digestFrom, digest, u16At, bitsAt};
 
 pub fn same(a: &[u8], b: &[u8]) -> bool
     ensures { λ r. ⌜ r ≡ Text.same (now (a .entry)) (now (b .entry)) ⌝ }
@@ -52,9 +52,9 @@ pub fn digest(s: &[u8]) -> usize
 }
 
 // Two bytes, the low one first.
-pub fn word_at(work: &[u8], a: usize) -> usize
+pub fn u16_at(work: &[u8], a: usize) -> usize
     requires { ⌜ a + 1 < length (now work) ⌝ }
-    ensures { λ r. ⌜ (r ≡ wordAt (now (work .entry)) a) × (r < 65536) ⌝ }
+    ensures { λ r. ⌜ (r ≡ u16At (now (work .entry)) a) × (r < 65536) ⌝ }
 {
     wide(work[a]) + 256 * wide(work[a + 1])
 }

@@ -112,5 +112,5 @@ bytes-back (suc k) a n =
     bytes-back k (a * 256 + n / 256 ^ k % 256) n
     ∙ rw (m, add-mul, add-assoc, pow-suc, mul-assoc) (ap (λ (p : ℕ). a * p + (n / 256 ^ k % 256 * 256 ^ k + n % 256 ^ k)) (mul-comm 256 (256 ^ k)))
 
-pub word-back : (n : ℕ) → n < 2 ^ 64 → fromBigEndian 0 (bigEndian 8 n) ≡ n
-word-back n h = bytes-back 8 0 n ∙ omega arith
+pub bits-back : (n : ℕ) → n < 2 ^ 64 → fromBigEndian 0 (bigEndian 8 n) ≡ n
+bits-back n h = bytes-back 8 0 n ∙ omega arith

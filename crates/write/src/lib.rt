@@ -124,7 +124,7 @@ pub fn bytes_of(n: u64) -> [u8; 8]
 }
 
 // 64 bits as 16 hexadecimal digits.
-pub fn put_word(out: &mut [u8], at: usize, n: u64) -> usize
+pub fn put_hex_bits(out: &mut [u8], at: usize, n: u64) -> usize
     ensures { λ r. ⌜ Wrote (now (out .entry)) at (hexOf (bigEndian 8 n)) (now (out .exit)) r ⌝ }
 {
     let bytes = bytes_of(n);

@@ -15,7 +15,7 @@ returns-2 : tie.Need-returns-2
 returns-2 c = Laws.shows-int (now (c .before .before .before .before .before .before .before .before .before .before .before .before .before .before .before .before .before .before .before .before .args .work)) (c .before .before .before .before .before .before .before .before .before .before .before .before .before .before .before .before .before .before .before .before .args .r) (c .before .before .before .before .before .before .before .before .before .before .before .before .before .before .before .before .before .if1 .left) (c .before .before .before .before .before .before .before .before .before .before .before .before .before .before .before .before .slot-kind .result) (c .before .before .before .before .before .before .before .before .before .before .before .before .before .before .before .slot-bits .result) (c .before .before .before .before .before .before .before .before .before .before .before .before .before .before .before .before .slot-kind .ensures) (c .before .before .before .before .before .before .before .before .before .before .before .before .before .before .before .slot-bits .ensures) (c .before .before .before .before .before .before .before .before .before .before .before .before .before .before .if2 .taken) (search needs) (c .before .before .before .before .before .before .before .of-bits .ensures) (c .before .before .before .before .before .before .before .before .before .before .before .put-part2 .ensures) (c .before .before .before .before .before .before .put-int .ensures) (c .before .before .put .ensures)
 
 returns-3 : tie.Need-returns-3
-returns-3 c = Laws.shows-real (now (c .before .before .before .before .before .before .before .before .before .before .before .before .before .before .before .before .before .before .before .before .before .before .args .work)) (c .before .before .before .before .before .before .before .before .before .before .before .before .before .before .before .before .before .before .before .before .before .before .args .r) (c .before .before .before .before .before .before .before .before .before .before .before .before .before .before .before .before .before .before .before .if1 .left) (c .before .before .before .before .before .before .before .before .before .before .before .before .before .before .before .before .before .before .slot-kind .result) (c .before .before .before .before .before .before .before .before .before .before .before .before .before .before .before .before .before .slot-bits .result) (c .before .before .before .before .before .before .before .before .before .before .before .before .before .before .before .before .before .before .slot-kind .ensures) (c .before .before .before .before .before .before .before .before .before .before .before .before .before .before .before .before .before .slot-bits .ensures) (c .before .before .before .before .before .before .before .before .before .before .before .before .before .before .before .if3 .taken) (c .before .before .before .before .before .before .before .before .of-bits2 .ensures) (c .before .before .before .before .before .before .before .bits .ensures) (c .before .before .before .before .before .before .before .before .before .before .before .before .put-part3 .ensures) (c .before .before .before .before .before .before .put-word .ensures) (c .before .before .put2 .ensures)
+returns-3 c = Laws.shows-real (now (c .before .before .before .before .before .before .before .before .before .before .before .before .before .before .before .before .before .before .before .before .before .before .args .work)) (c .before .before .before .before .before .before .before .before .before .before .before .before .before .before .before .before .before .before .before .before .before .before .args .r) (c .before .before .before .before .before .before .before .before .before .before .before .before .before .before .before .before .before .before .before .if1 .left) (c .before .before .before .before .before .before .before .before .before .before .before .before .before .before .before .before .before .before .slot-kind .result) (c .before .before .before .before .before .before .before .before .before .before .before .before .before .before .before .before .before .slot-bits .result) (c .before .before .before .before .before .before .before .before .before .before .before .before .before .before .before .before .before .before .slot-kind .ensures) (c .before .before .before .before .before .before .before .before .before .before .before .before .before .before .before .before .before .slot-bits .ensures) (c .before .before .before .before .before .before .before .before .before .before .before .before .before .before .before .if3 .taken) (c .before .before .before .before .before .before .before .before .of-bits2 .ensures) (c .before .before .before .before .before .before .before .bits .ensures) (c .before .before .before .before .before .before .before .before .before .before .before .before .put-part3 .ensures) (c .before .before .before .before .before .before .put-hex-bits .ensures) (c .before .before .put2 .ensures)
 
 part-put-hex-end : tie.Need-part-put-hex-end
 part-put-hex-end c = let h = Laws.text-inside (now (c .before .before .before .before .before .before .before .before .before .before .before .before .before .before .args .work)) (c .before .before .before .before .before .before .before .before .before .before .before .before .before .before .args .r) (c .before .before .before .before .before .before .before .before .before .before .before .if1 .left) (c .before .before .before .before .before .before .before .before .before .before .slot-kind .result) (c .before .before .before .before .before .before .before .before .before .slot-bits .result) (c .before .before .before .before .before .before .before .before .before .before .slot-kind .ensures) (c .before .before .before .before .before .before .before .before .before .slot-bits .ensures) (c .before .before .before .before .before .before .before .before .before .before .before .before .before .before .pre) (c .before .before .before .before .before .before .if4 .taken) in omega (arith, c .before .before .before .before .before .before .before .before .before .before .before .before .before .before .pre .long)

@@ -22,7 +22,7 @@ returns-3 : tie.Need-returns-3
 returns-3 c = as-big _ (vInt (c .before .before .before .before .before .before .before .before .args .n)) (c .before .before .before .before .if3 .taken) (c .before .before .before .before .before .before .before .before .fits .n) refl (c .before .before .put-comma-int2 .ensures)
 
 returns-4 : tie.Need-returns-4
-returns-4 c = as-real _ (vInt (c .before .before .before .before .before .before .before .before .before .before .args .n)) (c .before .before .before .before .before .before .before .before .if1 .left) (c .before .before .before .before .before .before .before .if2 .left) (c .before .before .before .before .before .before .if3 .left) (c .before .before .before .bits .ensures) (from1 toReal (c .before .before .before .before .before .before .before .before .before .before .fits .n) (c .before .before .before .before .real-of-int .ensures)) (c .before .before .put-comma-word .ensures)
+returns-4 c = as-real _ (vInt (c .before .before .before .before .before .before .before .before .before .before .args .n)) (c .before .before .before .before .before .before .before .before .if1 .left) (c .before .before .before .before .before .before .before .if2 .left) (c .before .before .before .before .before .before .if3 .left) (c .before .before .before .bits .ensures) (from1 toReal (c .before .before .before .before .before .before .before .before .before .before .fits .n) (c .before .before .before .before .real-of-int .ensures)) (c .before .before .put-comma-bits .ensures)
 
 pub put-int-element-spec : {M : Type 1} → statement M
 put-int-element-spec =

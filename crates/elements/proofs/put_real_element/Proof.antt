@@ -19,7 +19,7 @@ returns-3 : tie.Need-returns-3
 returns-3 c = as-big _ (vReal (c .before .before .before .before .before .before .before .before .before .args .x)) (c .before .before .before .before .before .if3 .taken) (record { sfits = c .before .before .before .big-of-real .ok }) (c .before .before .before .big-of-real .ensures) (c .before .before .put-comma-int2 .ensures)
 
 returns-4 : tie.Need-returns-4
-returns-4 c = as-real _ (vReal (c .before .before .before .before .before .before .before .before .before .args .x)) (c .before .before .before .before .before .before .before .if1 .left) (c .before .before .before .before .before .before .if2 .left) (c .before .before .before .before .before .if3 .left) (c .before .before .before .bits .ensures) refl (c .before .before .put-comma-word .ensures)
+returns-4 c = as-real _ (vReal (c .before .before .before .before .before .before .before .before .before .args .x)) (c .before .before .before .before .before .before .before .if1 .left) (c .before .before .before .before .before .before .if2 .left) (c .before .before .before .before .before .if3 .left) (c .before .before .before .bits .ensures) refl (c .before .before .put-comma-bits .ensures)
 
 pub put-real-element-spec : {M : Type 1} → statement M
 put-real-element-spec =

@@ -8,7 +8,7 @@ returns : tie.Need-returns
 returns c = λ s. as-zero s (c .before .before .before .before .if1 .taken) (c .before .before .put-comma-nat .ensures)
 
 returns-2 : tie.Need-returns-2
-returns-2 c = λ s. as-real-zero s (c .before .before .before .before .if1 .left) (c .before .before .put-comma-word .ensures)
+returns-2 c = λ s. as-real-zero s (c .before .before .before .before .if1 .left) (c .before .before .put-comma-bits .ensures)
 
 pub put-zero-element-spec : {M : Type 1} → statement M
 put-zero-element-spec =

@@ -49,7 +49,7 @@ use denote.Exit.{yes}
 use denote.Triple.Clauses.{ensured, lasts}
 use Rattle.field_list.specs.Fields.{noField, furthestIn}
 use Rattle.field_list.specs.declared.Field.{Field}
-use Rattle.field_list.proofs.Walk.{word, after, scaled, next-fits}
+use Rattle.field_list.proofs.Walk.{usizeTy, after, scaled, next-fits}
 use Rattle.field_list.proofs.Field as F
 use Rattle.field_list.proofs.Field.Laws as F′
 use Rattle.field_list.proofs.further as further
@@ -144,13 +144,13 @@ module _ {M : Type 1} (𝓤 : URA M) (H : Heap 𝓤) (A : Atoms 𝓤) (W : Given
     slice = sliceTy (tyRef (named 0) imm (pointee (R .written)))
 
     abbrev En : Env 𝓤 H
-    En = (word, l₀) ∷ (word, l₁) ∷ (slice, l₂) ∷ (word, l₃) ∷ (word, l₄) ∷ (F′.mir, l₅) ∷ (word, l₆) ∷ (tyBool, l₇) ∷ (tyPtr, l₈) ∷ (F′.mir, l₉) ∷ []
+    En = (usizeTy, l₀) ∷ (usizeTy, l₁) ∷ (slice, l₂) ∷ (usizeTy, l₃) ∷ (usizeTy, l₄) ∷ (F′.mir, l₅) ∷ (usizeTy, l₆) ∷ (tyBool, l₇) ∷ (tyPtr, l₈) ∷ (F′.mir, l₉) ∷ []
 
     -- [_9; …; _8; …; _7; …; _6; …; _5; …; _4; …; _3; …; _2; …; _1; …; room for _0; …; the fractured borrow; the token; what the slice owns]
     abbrev At : State → List (Item 𝓤)
-    At t = ‵ (froom F′.mir l₉ 0) ∷ ‵ (fdies F′.mir l₉) ∷ ‵ (froom tyPtr l₈ 0) ∷ ‵ (fdies tyPtr l₈) ∷ ‵ (froom tyBool l₇ 0) ∷ ‵ (fdies tyBool l₇) ∷ ‵ (froom word l₆ 0) ∷ ‵ (fdies word l₆) ∷ ‵ (froom F′.mir l₅ 0) ∷ ‵ (fdies F′.mir l₅)
-        ∷ ‵ (fat fullShare word l₄ 0 (vint w64 (t .0))) ∷ ‵ (fdies word l₄) ∷ ‵ (fat fullShare word l₃ 0 (vint w64 (t .1 .0))) ∷ ‵ (fdies word l₃)
-        ∷ ‵ (fat fullShare slice l₂ 0 (sliceVal (b, o) n)) ∷ ‵ (fdies slice l₂) ∷ ‵ (fat fullShare word l₁ 0 (vint w64 s₀)) ∷ ‵ (fdies word l₁) ∷ ‵ (froom word l₀ 0) ∷ ‵ (fdies word l₀)
+    At t = ‵ (froom F′.mir l₉ 0) ∷ ‵ (fdies F′.mir l₉) ∷ ‵ (froom tyPtr l₈ 0) ∷ ‵ (fdies tyPtr l₈) ∷ ‵ (froom tyBool l₇ 0) ∷ ‵ (fdies tyBool l₇) ∷ ‵ (froom usizeTy l₆ 0) ∷ ‵ (fdies usizeTy l₆) ∷ ‵ (froom F′.mir l₅ 0) ∷ ‵ (fdies F′.mir l₅)
+        ∷ ‵ (fat fullShare usizeTy l₄ 0 (vint w64 (t .0))) ∷ ‵ (fdies usizeTy l₄) ∷ ‵ (fat fullShare usizeTy l₃ 0 (vint w64 (t .1 .0))) ∷ ‵ (fdies usizeTy l₃)
+        ∷ ‵ (fat fullShare slice l₂ 0 (sliceVal (b, o) n)) ∷ ‵ (fdies slice l₂) ∷ ‵ (fat fullShare usizeTy l₁ 0 (vint w64 s₀)) ∷ ‵ (fdies usizeTy l₁) ∷ ‵ (froom usizeTy l₀ 0) ∷ ‵ (fdies usizeTy l₀)
         ∷ ‵ Borrow ∷ ‵ (flft κ q) ∷ ‵ Own ∷ []
 
     -- a turn's postcondition: it ends nearer to the slice's end, or the loop is left and the rest of the body runs
@@ -201,7 +201,7 @@ module _ {M : Type 1} (𝓤 : URA M) (H : Heap 𝓤) (A : Atoms 𝓤) (W : Given
           use1 W (later (some (λ (r : ℕ). (‵ ftrue ⊛ ‵ (E .own r (v ∷ []))) ⊛ raw (ensured 𝓤 H A further.ended (further.clauses 𝓤 H A at-mem run) tt (s, (f .offset, (f .size, tt))) tt r)))) (id⊢ 𝓤 _) $ await ! tt $ pick ! (λ r.
           split ! $ move ! (1 ∷ []) $ use1 W (raw (fact 𝓤 (r ≡ withField s f))) (told s f r) $ heard ! (r ≡ withField s f) (λ e. split ! $ drop ! $
           peeks ! E (Is E) (shows 𝓤 H A E) r (v ∷ []) (λ ris.
-          land ! (from ! (stop !)) (store ! 15 refl (uint-lawful 𝓤 H A W w64 .typed r _ ris .0)) $ rewrite ! 15 (λ (u : Val). ‵ (fat fullShare word l₃ 0 u)) (ap only (ris .0)) refl $ drop ! $
+          land ! (from ! (stop !)) (store ! 15 refl (uint-lawful 𝓤 H A W w64 .typed r _ ris .0)) $ rewrite ! 15 (λ (u : Val). ‵ (fat fullShare usizeTy l₃ 0 u)) (ap only (ris .0)) refl $ drop ! $
           -- i moves on, and the invariant holds there
           assigns-last ! (bin ! (load ! (from ! (stop !)) (look ! 12 refl)) (lit ! tt) (record { fits = next-fits (in-slice less) (room .0) })) (from ! (stop !)) (store ! 12 refl (tt, record { fits = next-fits (in-slice less) (room .0) })) $
           forget ! 2 refl $ forget ! 4 refl $ forget ! 6 refl $ forget ! 8 refl $ forget ! 10 refl $

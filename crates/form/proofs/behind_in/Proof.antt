@@ -4,8 +4,8 @@ use lib.ListN.{length, drop, getD}
 use native.Mathlib.Omega.{arith}
 use borrow.Author.Needs.{needs}
 use Rattle.form.proofs.Laws.{inside, begins-start, begins-all, begins-comma, begins-other, begins-short, begins-differ, begins-next}
-use Rattle.form.proofs.Table.{words-short}
-use Rattle.form.specs.Table.{wordsAt}
+use Rattle.form.proofs.Table.{keywords-short}
+use Rattle.form.specs.Table.{keywordsAt}
 use denote.Ref.{now}
 use mathlib.Core.Path.{_≡_, _∙_, sym}
 use Prim.Native.Nat.{_≤_, _-_}
@@ -13,7 +13,7 @@ use Rattle.form.proofs.behind_in.Statement.{statement}
 use Rattle.form.proofs.behind_in.Tie as tie
 
 abbrev Inv-loop : tie.InvT-loop
-Inv-loop t l f i₀ i = (i ≤ length (wordsAt f)) × (i ≤ length l) × (begins (wordsAt f) l ≡ begins (drop i (wordsAt f)) (drop i l))
+Inv-loop t l f i₀ i = (i ≤ length (keywordsAt f)) × (i ≤ length l) × (begins (keywordsAt f) l ≡ begins (drop i (keywordsAt f)) (drop i l))
 
 abbrev μ-loop : tie.MeasureT-loop
 μ-loop t l f i₀ i = 17 - i
@@ -22,7 +22,7 @@ loop-holds : tie.Need-loop-holds Inv-loop μ-loop
 loop-holds c = (omega arith, omega arith, begins-start (c .before .args .f) (now (c .before .args .l)))
 
 word-requires : tie.Need-word-requires Inv-loop μ-loop
-word-requires c κs = (c .before .before .pre .2, c .before .before .pre .0, omega (arith, words-short (c .before .before .args .f) (c .before .before .pre .0)))
+word-requires c κs = (c .before .before .pre .2, c .before .before .pre .0, omega (arith, keywords-short (c .before .before .args .f) (c .before .before .pre .0)))
 
 returns : tie.Need-returns Inv-loop μ-loop
 returns c = begins-all (c .before .before .before .before .before .args .f) (now (c .before .before .before .before .before .args .l)) (c .before .before .before .loop .i) (c .before .before .before .before .before .pre .0) (c .before .before .before .loop .inv .0) (c .before .before .before .loop .inv .2) (sym (c .before .before .word .ensures) ∙ c .before .if1 .taken) (omega arith)
@@ -40,12 +40,12 @@ returns-5 : tie.Need-returns-5 Inv-loop μ-loop
 returns-5 c = begins-differ (c .before .before .before .before .before .before .before .args .f) (now (c .before .before .before .before .before .before .before .args .l)) (c .before .before .before .before .before .loop .i) (c .before .before .before .before .before .before .before .pre .0) (c .before .before .before .before .before .loop .inv .0) (c .before .before .before .before .before .loop .inv .2) (λ q. c .before .before .before .if1 .left (c .before .before .before .before .word .ensures ∙ q)) (omega arith) (λ q. c .if5 .taken (q ∙ sym (c .before .before .before .before .word .ensures)))
 
 loop-less : tie.Need-loop-less Inv-loop μ-loop
-loop-less c = let h = inside (wordsAt (c .before .before .before .before .before .before .before .args .f)) (c .before .before .before .before .before .loop .i) (λ q. c .before .before .before .if1 .left (c .before .before .before .before .word .ensures ∙ q)) in omega (arith, words-short (c .before .before .before .before .before .before .before .args .f) (c .before .before .before .before .before .before .before .pre .0))
+loop-less c = let h = inside (keywordsAt (c .before .before .before .before .before .before .before .args .f)) (c .before .before .before .before .before .loop .i) (λ q. c .before .before .before .if1 .left (c .before .before .before .before .word .ensures ∙ q)) in omega (arith, keywords-short (c .before .before .before .before .before .before .before .args .f) (c .before .before .before .before .before .before .before .pre .0))
 
 loop-again : tie.Need-loop-again Inv-loop μ-loop
 loop-again c =
-    let n : (getD (wordsAt (c .before .before .before .before .before .before .before .args .f)) (c .before .before .before .before .before .loop .i) 32 ≡ 32 → ⊥) = λ q. c .before .before .before .if1 .left (c .before .before .before .before .word .ensures ∙ q) in
-    (omega (arith, inside (wordsAt (c .before .before .before .before .before .before .before .args .f)) (c .before .before .before .before .before .loop .i) n), omega arith, begins-next (c .before .before .before .before .before .before .before .args .f) (now (c .before .before .before .before .before .before .before .args .l)) (c .before .before .before .before .before .loop .i) (c .before .before .before .before .before .before .before .pre .0) (c .before .before .before .before .before .loop .inv .0) (c .before .before .before .before .before .loop .inv .2) n (omega arith) (c .if5 .left ∙ c .before .before .before .before .word .ensures))
+    let n : (getD (keywordsAt (c .before .before .before .before .before .before .before .args .f)) (c .before .before .before .before .before .loop .i) 32 ≡ 32 → ⊥) = λ q. c .before .before .before .if1 .left (c .before .before .before .before .word .ensures ∙ q) in
+    (omega (arith, inside (keywordsAt (c .before .before .before .before .before .before .before .args .f)) (c .before .before .before .before .before .loop .i) n), omega arith, begins-next (c .before .before .before .before .before .before .before .args .f) (now (c .before .before .before .before .before .before .before .args .l)) (c .before .before .before .before .before .loop .i) (c .before .before .before .before .before .before .before .pre .0) (c .before .before .before .before .before .loop .inv .0) (c .before .before .before .before .before .loop .inv .2) n (omega arith) (c .if5 .left ∙ c .before .before .before .before .word .ensures))
 
 pub behind-in-spec : {M : Type 1} → statement M
 behind-in-spec =

@@ -7,10 +7,10 @@ use Rattle.form.proofs.is_real.Statement.{statement}
 use Rattle.form.proofs.is_real.Tie as tie
 
 returns : tie.Need-returns
-returns c = real-bits (now (c .before .before .before .before .before .args .s)) (sym (c .before .before .before .read-word .ensures) ∙ c .before .w .given .1)
+returns c = real-bits (now (c .before .before .before .before .before .args .s)) (sym (c .before .before .before .read-bits .ensures) ∙ c .before .w .given .1)
 
 returns-2 : tie.Need-returns-2
-returns-2 c = real-bad (now (c .before .before .before .before .args .s)) (sym (c .before .before .read-word .ensures) ∙ c .enum-told .given .1)
+returns-2 c = real-bad (now (c .before .before .before .before .args .s)) (sym (c .before .before .read-bits .ensures) ∙ c .enum-told .given .1)
 
 pub is-real-spec : {M : Type 1} → statement M
 is-real-spec =

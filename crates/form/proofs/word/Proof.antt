@@ -3,7 +3,7 @@ use Prim.Native.Nat.{ℕ, _+_, _*_}
 use mathlib.Core.Path.{ap, _∙_}
 use mathlib.Core.List.{List}
 use lib.ListN.{getD}
-use Rattle.form.proofs.Table.{word-cell}
+use Rattle.form.proofs.Table.{keyword-cell}
 use borrow.Author.Needs.{needs}
 use Rattle.form.proofs.word.Statement.{statement}
 use Rattle.form.proofs.word.Tie as tie
@@ -11,7 +11,7 @@ use Rattle.form.proofs.word.Tie as tie
 returns : tie.Need-returns
 returns c =
     ap (λ (xs : List ℕ). getD xs (24 * c .before .args .f + 1 + c .before .args .i) 0) (c .before .pre .0)
-    ∙ word-cell (c .before .args .f) (c .before .pre .1) (c .before .args .i) (c .before .pre .2)
+    ∙ keyword-cell (c .before .args .f) (c .before .pre .1) (c .before .args .i) (c .before .pre .2)
 
 pub word-spec : {M : Type 1} → statement M
 word-spec =

@@ -53,7 +53,7 @@ use denote.Triple.Clauses.{ensured, lasts}
 use Rattle.field_list.specs.declared.Field.{Field}
 use Rattle.field_list.specs.Fields.{noField, pointersIn}
 use Rattle.field_list.proofs.Again.{LentAgain, lends-again, comes-back}
-use Rattle.field_list.proofs.Walk.{word, after, scaled, next-fits}
+use Rattle.field_list.proofs.Walk.{usizeTy, after, scaled, next-fits}
 use Rattle.field_list.proofs.Field as F
 use Rattle.field_list.proofs.Field.Laws as F′
 use Rattle.maps.specs.Maps.{MapRoom, Marks}
@@ -164,12 +164,12 @@ module _ {M : Type 1} (𝓤 : URA M) (H : Heap 𝓤) (A : Atoms 𝓤) (W : Given
     ref₁₁ = tyRef erased mut (tyInt w8)
 
     abbrev En : Env 𝓤 H
-    En = (tyUnit, l₀) ∷ (tyInt w32, l₁) ∷ (slice₂, l₂) ∷ (slice₃, l₃) ∷ (word, l₄) ∷ (F′.mir, l₅) ∷ (word, l₆) ∷ (tyBool, l₇) ∷ (tyPtr, l₈) ∷ (F′.mir, l₉) ∷ (tyUnit, l₁₀) ∷ (ref₁₁, l₁₁) ∷ (sliceTy ref₁₁, l₁₂) ∷ []
+    En = (tyUnit, l₀) ∷ (tyInt w32, l₁) ∷ (slice₂, l₂) ∷ (slice₃, l₃) ∷ (usizeTy, l₄) ∷ (F′.mir, l₅) ∷ (usizeTy, l₆) ∷ (tyBool, l₇) ∷ (tyPtr, l₈) ∷ (F′.mir, l₉) ∷ (tyUnit, l₁₀) ∷ (ref₁₁, l₁₁) ∷ (sliceTy ref₁₁, l₁₂) ∷ []
 
     -- [_12; …; _11; …; _10; …; _9; …; _8; …; _7; …; _6; …; _5; …; _4; …; _3; …; _2; …; _1; …; room for _0; …; the fractured borrow; its token; what the fields own; what the working space owns; its token]
     abbrev At : State → List (Item 𝓤)
     At t = ‵ (froom (sliceTy ref₁₁) l₁₂ 0) ∷ ‵ (fdies (sliceTy ref₁₁) l₁₂) ∷ ‵ (froom ref₁₁ l₁₁ 0) ∷ ‵ (fdies ref₁₁ l₁₁) ∷ ‵ (froom tyUnit l₁₀ 0) ∷ ‵ (fdies tyUnit l₁₀) ∷ ‵ (froom F′.mir l₉ 0) ∷ ‵ (fdies F′.mir l₉) ∷ ‵ (froom tyPtr l₈ 0) ∷ ‵ (fdies tyPtr l₈)
-        ∷ ‵ (froom tyBool l₇ 0) ∷ ‵ (fdies tyBool l₇) ∷ ‵ (froom word l₆ 0) ∷ ‵ (fdies word l₆) ∷ ‵ (froom F′.mir l₅ 0) ∷ ‵ (fdies F′.mir l₅) ∷ ‵ (fat fullShare word l₄ 0 (vint w64 (t .0))) ∷ ‵ (fdies word l₄)
+        ∷ ‵ (froom tyBool l₇ 0) ∷ ‵ (fdies tyBool l₇) ∷ ‵ (froom usizeTy l₆ 0) ∷ ‵ (fdies usizeTy l₆) ∷ ‵ (froom F′.mir l₅ 0) ∷ ‵ (fdies F′.mir l₅) ∷ ‵ (fat fullShare usizeTy l₄ 0 (vint w64 (t .0))) ∷ ‵ (fdies usizeTy l₄)
         ∷ ‵ (fat fullShare slice₃ l₃ 0 v₃) ∷ ‵ (fdies slice₃ l₃) ∷ ‵ (fat fullShare slice₂ l₂ 0 v₂) ∷ ‵ (fdies slice₂ l₂) ∷ ‵ (fat fullShare (tyInt w32) l₁ 0 (vint w32 size)) ∷ ‵ (fdies (tyInt w32) l₁) ∷ ‵ (froom tyUnit l₀ 0) ∷ ‵ (fdies tyUnit l₀)
         ∷ ‵ Borrow ∷ ‵ (flft κ q) ∷ ‵ Own ∷ ‵ (Mine (t .1 .0)) ∷ ‵ (flft κ′ q′) ∷ []
 

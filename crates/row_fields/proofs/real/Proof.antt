@@ -9,11 +9,11 @@ use Rattle.row_fields.proofs.real.Tie as tie
 returns : tie.Need-returns
 returns c =
     let a = c .before .before .before .before .before .args in
-    let read-word = c .before .before .before .read-word in
-    real-is (now (a .f)) (sym (read-word .ensures) ∙ c .before .w .given .1)
+    let read-bits = c .before .before .before .read-bits in
+    real-is (now (a .f)) (sym (read-bits .ensures) ∙ c .before .w .given .1)
 
 returns-2 : tie.Need-returns-2
-returns-2 c = real-bad (now (c .before .before .before .before .args .f)) (sym (c .before .before .read-word .ensures) ∙ c .enum-told .given .1)
+returns-2 c = real-bad (now (c .before .before .before .before .args .f)) (sym (c .before .before .read-bits .ensures) ∙ c .enum-told .given .1)
 
 pub real-spec : {M : Type 1} → statement M
 real-spec =

@@ -1,11 +1,11 @@
--- `write::put_word` meets its contract.
+-- `write::put_hex_bits` meets its contract.
 use borrow.Author.Needs.{needs}
-use Rattle.write.proofs.put_word.Statement.{statement}
-use Rattle.write.proofs.put_word.Tie as tie
+use Rattle.write.proofs.put_hex_bits.Statement.{statement}
+use Rattle.write.proofs.put_hex_bits.Tie as tie
 
 returns : tie.Need-returns
 returns c = rw (← c .before .before .before .before .before .bytes-of .ensures) (c .before .before .put-hex .ensures)
 
-pub put-word-spec : {M : Type 1} → statement M
-put-word-spec =
+pub put-hex-bits-spec : {M : Type 1} → statement M
+put-hex-bits-spec =
     tie.close (tie.spec (λ c κs. search needs) (λ c. search needs) (λ c κs. search needs) (λ c. search needs) returns)
