@@ -21,7 +21,7 @@ enter-kind-requires : tie.Need-enter-kind-requires
 enter-kind-requires c κs = let x = c .before .before .before .before .before .before .before .before .before .before .before .before .before .before .before .pre in (omega (arith, needs-room x .1, c .before .before .before .before .before .before .before .before .position-for .ensures), omega (arith, c .before .before .before .before .enter-need .kept .0, x .line .checked .whole .room))
 
 enter-digest-requires : tie.Need-enter-digest-requires
-enter-digest-requires c κs = let x = c .before .before .before .before .before .before .before .before .before .before .before .before .before .before .before .before .before .before .before .pre in (needs-room x .0, c .before .before .before .before .before .before .before .before .before .before .before .before .before .before .digest .ensures .1, omega (arith, c .before .before .before .enter-kind .kept .0, c .before .before .before .before .before .before .before .before .enter-need .kept .0, x .line .checked .whole .room))
+enter-digest-requires c κs = let x = c .before .before .before .before .before .before .before .before .before .before .before .before .before .before .before .before .before .before .before .pre in (needs-room x .0, omega (arith, c .before .before .before .before .before .before .before .before .before .before .before .before .before .before .digest .ensures .1), omega (arith, c .before .before .before .enter-kind .kept .0, c .before .before .before .before .before .before .before .before .enter-need .kept .0, x .line .checked .whole .room))
 
 add-t21 : tie.Need-add-t21
 add-t21 c = record { fits = omega (arith, needs-room (c .before .before .before .before .before .before .before .before .before .before .before .before .before .before .before .before .before .before .before .before .before .before .before .pre) .0) }

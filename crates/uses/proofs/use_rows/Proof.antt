@@ -26,7 +26,7 @@ loop-holds : tie.Need-loop-holds Inv-loop μ-loop
 loop-holds c = (omega arith, refl, λ is. wrote-none _ _ (c .before .before .before .pre .1))
 
 need-id-requires : tie.Need-need-id-requires Inv-loop μ-loop
-need-id-requires c κs = (c .before .before .before .before .before .before .pre .0 .few, omega (arith, c .before .loop-test .taken, c .before .before .before .before .before .before .pre .0 .count, c .before .before .before .before .before .before .pre .0 .table .few), c .before .before .before .before .before .before .pre .0 .checked .whole .room)
+need-id-requires c κs = (omega (arith, c .before .before .before .before .before .before .pre .0 .few), omega (arith, c .before .loop-test .taken, c .before .before .before .before .before .before .pre .0 .count, c .before .before .before .before .before .before .pre .0 .table .few), c .before .before .before .before .before .before .pre .0 .checked .whole .room)
 
 loop-again : tie.Need-loop-again Inv-loop μ-loop
 loop-again c = (omega (arith, c .before .before .before .before .before .loop-test .taken), wrote-length (c .before .before .put-use .ensures) ∙ c .before .before .before .before .before .before .loop .inv .1, λ is. uses-next (idOf (sheetSource (now (c .before .before .before .before .before .before .before .before .before .before .args .sheet))) is) (sheetSource (now (c .before .before .before .before .before .before .before .before .before .before .args .sheet)) .needs) (c .before .before .before .before .before .before .loop .q) (c .before .before .before .need-id .result) (omega (arith, c .before .before .before .before .before .loop-test .taken, c .before .before .before .before .before .before .before .before .before .before .pre .0 .count)) (c .before .before .before .need-id .ensures .0 (now (c .before .before .before .before .before .before .before .before .before .before .args .sheet)) (c .before .before .before .before .before .before .before .before .before .before .args .n) is (c .before .before .before .before .before .before .before .before .before .before .pre .0 .table) (omega (arith, c .before .before .before .before .before .loop-test .taken, c .before .before .before .before .before .before .before .before .before .before .pre .0 .count)) (c .before .before .before .before .before .before .before .before .before .before .pre .0 .framed)) (c .before .before .before .before .before .before .loop .inv .2 is) (c .before .before .put-use .ensures))
