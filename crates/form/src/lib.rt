@@ -97,7 +97,7 @@ const REAL: u8 = b'R';
 const TEXT: u8 = b'T';
 
 // The table is lent to what looks at many of its bytes: the array would be made anew for each.
-fn word(t: &[u8; 1008], f: usize, i: usize) -> u8
+fn keyword_byte(t: &[u8; 1008], f: usize, i: usize) -> u8
     requires { ⌜ (now t ≡ table forms) × (f < rowCount) × (i < 17) ⌝ }
     ensures { λ r. ⌜ r ≡ getD (keywordsAt f) i 32 ⌝ }
 {
@@ -127,7 +127,7 @@ fn behind_in(t: &[u8; 1008], l: &[u8], f: usize) -> usize
 {
     let mut i = 0;
     loop {
-        let w = word(t, f, i);
+        let w = keyword_byte(t, f, i);
         if w == b' ' {
             if i == l.len() {
                 return i + 1;

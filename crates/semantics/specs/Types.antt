@@ -1,4 +1,4 @@
--- Type lines: descriptor keys and their numbers.
+-- Type lines: descriptor keys and their IDs.
 use Prim.Native.Nat.{ℕ, suc, _+_}
 use mathlib.Core.Bool.{Bool, true, false, _&&_, cond}
 use mathlib.Core.List.{List, [], _∷_, _++_, map}
@@ -54,7 +54,7 @@ abbrev pub position : TypeKey → List TypeKey → ℕ
 position k [] = 0
 position k (j ∷ js) = cond (sameTypeKey k j) 0 (suc (position k js))
 
--- a key's number, behind two opaque records and the frames
+-- a key's ID, behind two opaque records and the frames
 abbrev pub idOf : Source → List Item → TypeKey → ℕ
 idOf s is k = 2 + length (s .frames) + position k (keys s is)
 

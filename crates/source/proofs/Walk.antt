@@ -1,9 +1,9 @@
 -- The declarations of all lines are those of the first lines, up to the last.
 use mathlib.Core.Path.{_≡_, refl, sym, ap, _∙_}
 use mathlib.Core.List.{List, [], _∷_, _++_, map, append-assoc, append-nil}
-use Prim.Native.Nat.{ℕ, zero, suc, _+_, _<_}
+use Prim.Native.Nat.{ℕ, zero, suc, _+_, _≤_, _<_}
 use native.Mathlib.Omega.{arith}
-use lib.ListN.{length, drop, drop-of-length-le}
+use lib.ListN.{length, drop, drop-of-length-le, length-append}
 use lib.Seq.{drop-cons}
 use Rattle.semantics.specs.Tree.{Declares, Node, noNode}
 use Rattle.semantics.specs.Sheet.{Located, locatedFrom, located, declared, sourceOf, sheetSource}
@@ -65,3 +65,15 @@ module _ {A : Type 0} (f : Declares → List A) (ns : List Node) where
 pub source-of : (s : List ℕ) → sheetSource s ≡ sourceOf (nodesIn s)
 unfolding sheetSource
 source-of s = refl
+
+-- the first lines declare no more than all do
+module _ {A : Type 0} (f : Declares → List A) (ns : List Node) where
+  one-more : (i : ℕ) → length (declaredTo f ns i) ≤ length (declaredTo f ns (suc i))
+  unfolding declaredTo
+  one-more i = omega (arith, length-append (declaredTo f ns i) (f (declaresAt ns i)))
+
+  pub declared-more : (i d : ℕ) → length (declaredTo f ns i) ≤ length (declaredTo f ns (i + d))
+  declared-more i zero = let z : i + 0 ≡ i = omega arith in rw z (omega arith)
+  declared-more i (suc d) =
+      let z : i + suc d ≡ suc (i + d) = omega arith in
+      rw z (omega (arith, declared-more i d, one-more (i + d)))

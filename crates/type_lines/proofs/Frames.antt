@@ -16,10 +16,9 @@ use Rattle.lines.proofs.Line.{form-low, kind-is}
 use Rattle.refs.proofs.Nodes.{node-count}
 use Rattle.checks.specs.Checks.{Checked}
 use Rattle.source.specs.Walk.{declaresAt, declaredTo, byKind}
-use Rattle.source.proofs.Walk.{declared-all, source-of}
+use Rattle.source.proofs.Walk.{declared-all, source-of, declared-more}
 use Rattle.source.proofs.Declares.{line-declares}
 use Rattle.type_lines.specs.Shapes.{shapeAt, ShapeLine, framesTo}
-use Rattle.type_lines.proofs.Declared.{declared-more}
 
 module _ (s t : List ℕ) (n : ℕ) (c : Checked s t n) where
   pub frames-all : framesTo s n ≡ sheetSource s .frames

@@ -3,6 +3,5 @@ pub mod Forms
 pub mod ByForm
 pub mod Spelling
 pub mod Shapes
-pub mod Declared
 pub mod Needs
 pub mod Frames

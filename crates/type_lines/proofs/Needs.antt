@@ -13,9 +13,8 @@ use Rattle.lines.specs.Lines.{readAt, nodesIn}
 use Rattle.refs.proofs.Nodes.{node-count}
 use Rattle.checks.specs.Checks.{Checked}
 use Rattle.source.specs.Walk.{declaredTo}
-use Rattle.source.proofs.Walk.{declared-all, source-of}
+use Rattle.source.proofs.Walk.{declared-all, source-of, declared-more}
 use Rattle.type_lines.specs.Needs.{needAt, needsTo}
-use Rattle.type_lines.proofs.Declared.{declared-more}
 use Rattle.type_lines.proofs.Forms.{needs-line}
 
 module _ (s t : List ℕ) (n : ℕ) (c : Checked s t n) where

@@ -21,33 +21,33 @@ abbrev μ-loop : tie.MeasureT-loop
 loop-holds : tie.Need-loop-holds Inv-loop μ-loop
 loop-holds c = (omega arith, omega arith, begins-start (c .before .args .f) (now (c .before .args .l)))
 
-word-requires : tie.Need-word-requires Inv-loop μ-loop
-word-requires c κs = (c .before .before .pre .2, c .before .before .pre .0, omega (arith, keywords-short (c .before .before .args .f) (c .before .before .pre .0)))
+keyword-byte-requires : tie.Need-keyword-byte-requires Inv-loop μ-loop
+keyword-byte-requires c κs = (c .before .before .pre .2, c .before .before .pre .0, omega (arith, keywords-short (c .before .before .args .f) (c .before .before .pre .0)))
 
 returns : tie.Need-returns Inv-loop μ-loop
-returns c = begins-all (c .before .before .before .before .before .args .f) (now (c .before .before .before .before .before .args .l)) (c .before .before .before .loop .i) (c .before .before .before .before .before .pre .0) (c .before .before .before .loop .inv .0) (c .before .before .before .loop .inv .2) (sym (c .before .before .word .ensures) ∙ c .before .if1 .taken) (omega arith)
+returns c = begins-all (c .before .before .before .before .before .args .f) (now (c .before .before .before .before .before .args .l)) (c .before .before .before .loop .i) (c .before .before .before .before .before .pre .0) (c .before .before .before .loop .inv .0) (c .before .before .before .loop .inv .2) (sym (c .before .before .keyword-byte .ensures) ∙ c .before .if1 .taken) (omega arith)
 
 returns-2 : tie.Need-returns-2 Inv-loop μ-loop
-returns-2 c = begins-comma (c .before .before .before .before .before .before .before .args .f) (now (c .before .before .before .before .before .before .before .args .l)) (c .before .before .before .before .before .loop .i) (c .before .before .before .before .before .before .before .pre .0) (c .before .before .before .before .before .loop .inv .0) (c .before .before .before .before .before .loop .inv .2) (sym (c .before .before .before .before .word .ensures) ∙ c .before .before .before .if1 .taken) (omega arith) (c .if3 .taken)
+returns-2 c = begins-comma (c .before .before .before .before .before .before .before .args .f) (now (c .before .before .before .before .before .before .before .args .l)) (c .before .before .before .before .before .loop .i) (c .before .before .before .before .before .before .before .pre .0) (c .before .before .before .before .before .loop .inv .0) (c .before .before .before .before .before .loop .inv .2) (sym (c .before .before .before .before .keyword-byte .ensures) ∙ c .before .before .before .if1 .taken) (omega arith) (c .if3 .taken)
 
 returns-3 : tie.Need-returns-3 Inv-loop μ-loop
-returns-3 c = begins-other (c .before .before .before .before .before .before .before .args .f) (now (c .before .before .before .before .before .before .before .args .l)) (c .before .before .before .before .before .loop .i) (c .before .before .before .before .before .before .before .pre .0) (c .before .before .before .before .before .loop .inv .0) (c .before .before .before .before .before .loop .inv .2) (sym (c .before .before .before .before .word .ensures) ∙ c .before .before .before .if1 .taken) (omega arith) (c .if3 .left)
+returns-3 c = begins-other (c .before .before .before .before .before .before .before .args .f) (now (c .before .before .before .before .before .before .before .args .l)) (c .before .before .before .before .before .loop .i) (c .before .before .before .before .before .before .before .pre .0) (c .before .before .before .before .before .loop .inv .0) (c .before .before .before .before .before .loop .inv .2) (sym (c .before .before .before .before .keyword-byte .ensures) ∙ c .before .before .before .if1 .taken) (omega arith) (c .if3 .left)
 
 returns-4 : tie.Need-returns-4 Inv-loop μ-loop
-returns-4 c = begins-short (c .before .before .before .before .before .args .f) (now (c .before .before .before .before .before .args .l)) (c .before .before .before .loop .i) (c .before .before .before .before .before .pre .0) (c .before .before .before .loop .inv .0) (c .before .before .before .loop .inv .2) (λ q. c .before .if1 .left (c .before .before .word .ensures ∙ q)) (omega arith)
+returns-4 c = begins-short (c .before .before .before .before .before .args .f) (now (c .before .before .before .before .before .args .l)) (c .before .before .before .loop .i) (c .before .before .before .before .before .pre .0) (c .before .before .before .loop .inv .0) (c .before .before .before .loop .inv .2) (λ q. c .before .if1 .left (c .before .before .keyword-byte .ensures ∙ q)) (omega arith)
 
 returns-5 : tie.Need-returns-5 Inv-loop μ-loop
-returns-5 c = begins-differ (c .before .before .before .before .before .before .before .args .f) (now (c .before .before .before .before .before .before .before .args .l)) (c .before .before .before .before .before .loop .i) (c .before .before .before .before .before .before .before .pre .0) (c .before .before .before .before .before .loop .inv .0) (c .before .before .before .before .before .loop .inv .2) (λ q. c .before .before .before .if1 .left (c .before .before .before .before .word .ensures ∙ q)) (omega arith) (λ q. c .if5 .taken (q ∙ sym (c .before .before .before .before .word .ensures)))
+returns-5 c = begins-differ (c .before .before .before .before .before .before .before .args .f) (now (c .before .before .before .before .before .before .before .args .l)) (c .before .before .before .before .before .loop .i) (c .before .before .before .before .before .before .before .pre .0) (c .before .before .before .before .before .loop .inv .0) (c .before .before .before .before .before .loop .inv .2) (λ q. c .before .before .before .if1 .left (c .before .before .before .before .keyword-byte .ensures ∙ q)) (omega arith) (λ q. c .if5 .taken (q ∙ sym (c .before .before .before .before .keyword-byte .ensures)))
 
 loop-less : tie.Need-loop-less Inv-loop μ-loop
-loop-less c = let h = inside (keywordsAt (c .before .before .before .before .before .before .before .args .f)) (c .before .before .before .before .before .loop .i) (λ q. c .before .before .before .if1 .left (c .before .before .before .before .word .ensures ∙ q)) in omega (arith, keywords-short (c .before .before .before .before .before .before .before .args .f) (c .before .before .before .before .before .before .before .pre .0))
+loop-less c = let h = inside (keywordsAt (c .before .before .before .before .before .before .before .args .f)) (c .before .before .before .before .before .loop .i) (λ q. c .before .before .before .if1 .left (c .before .before .before .before .keyword-byte .ensures ∙ q)) in omega (arith, keywords-short (c .before .before .before .before .before .before .before .args .f) (c .before .before .before .before .before .before .before .pre .0))
 
 loop-again : tie.Need-loop-again Inv-loop μ-loop
 loop-again c =
-    let n : (getD (keywordsAt (c .before .before .before .before .before .before .before .args .f)) (c .before .before .before .before .before .loop .i) 32 ≡ 32 → ⊥) = λ q. c .before .before .before .if1 .left (c .before .before .before .before .word .ensures ∙ q) in
-    (omega (arith, inside (keywordsAt (c .before .before .before .before .before .before .before .args .f)) (c .before .before .before .before .before .loop .i) n), omega arith, begins-next (c .before .before .before .before .before .before .before .args .f) (now (c .before .before .before .before .before .before .before .args .l)) (c .before .before .before .before .before .loop .i) (c .before .before .before .before .before .before .before .pre .0) (c .before .before .before .before .before .loop .inv .0) (c .before .before .before .before .before .loop .inv .2) n (omega arith) (c .if5 .left ∙ c .before .before .before .before .word .ensures))
+    let n : (getD (keywordsAt (c .before .before .before .before .before .before .before .args .f)) (c .before .before .before .before .before .loop .i) 32 ≡ 32 → ⊥) = λ q. c .before .before .before .if1 .left (c .before .before .before .before .keyword-byte .ensures ∙ q) in
+    (omega (arith, inside (keywordsAt (c .before .before .before .before .before .before .before .args .f)) (c .before .before .before .before .before .loop .i) n), omega arith, begins-next (c .before .before .before .before .before .before .before .args .f) (now (c .before .before .before .before .before .before .before .args .l)) (c .before .before .before .before .before .loop .i) (c .before .before .before .before .before .before .before .pre .0) (c .before .before .before .before .before .loop .inv .0) (c .before .before .before .before .before .loop .inv .2) n (omega arith) (c .if5 .left ∙ c .before .before .before .before .keyword-byte .ensures))
 
 pub behind-in-spec : {M : Type 1} → statement M
 behind-in-spec =
-    tie.close (tie.spec Inv-loop μ-loop loop-holds word-requires (λ c. search needs) returns (λ c. search needs) (λ c. search needs) returns-2
+    tie.close (tie.spec Inv-loop μ-loop loop-holds keyword-byte-requires (λ c. search needs) returns (λ c. search needs) (λ c. search needs) returns-2
     returns-3 returns-4 (λ c. search needs) returns-5 (λ c. search needs) loop-less loop-again)
