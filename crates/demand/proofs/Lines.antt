@@ -18,34 +18,22 @@ use Rattle.semantics.specs.Refusal.{Outcome, badForm, badRefFrom, tooDeepFrom, 
 use Rattle.semantics.specs.Refusal.Outcome.{listed, refused}
 use Rattle.semantics.specs.Demand.{In, DeclaredAt, AllDeclared, sourceDeclared, laidFrom, laidOf}
 use Rattle.semantics.proofs.Common.{never}
-
--- ---- what holds of each of a list
-
-abbrev pub Each : {A : Type 0} → (A → Type 0) → List A → Type 0
-Each P [] = Unit {0}
-Each P (x ∷ xs) = P x × Each P xs
-
-pub each-join : {A : Type 0} (P : A → Type 0) (xs ys : List A) → Each P xs → Each P ys → Each P (xs ++ ys)
-each-join P [] ys a b = b
-each-join P (x ∷ xs) ys a b = (a .0, each-join P xs ys (a .1) b)
-
-pub each-more : {A : Type 0} (P Q : A → Type 0) → ((x : A) → P x → Q x) → (xs : List A) → Each P xs → Each Q xs
-each-more P Q f [] h = tt
-each-more P Q f (x ∷ xs) h = (f x (h .0), each-more P Q f xs (h .1))
+use Rattle.laws.specs.Every.{Every}
+use Rattle.laws.proofs.Every.{every-append, every-map}
 
 later : {A : Type 0} {x y : A} {xs : List A} → In x xs → In x (y ∷ xs)
 later i = record { index = suc (i .index); there = i .there }
 
-each-name : (P : Declared → Type 0) (d : Bytes → Declared) (ns : List Bytes) → ((n : Bytes) → In n ns → P (d n)) → Each P (map d ns)
-each-name P d [] h = tt
-each-name P d (n ∷ ns) h = (h n (record { index = 0; there = refl }), each-name P d ns (λ m i. h m (later i)))
+every-name : (P : Declared → Type 0) (d : Bytes → Declared) (ns : List Bytes) → ((n : Bytes) → In n ns → P (d n)) → Every P (map d ns)
+every-name P d [] h = tt
+every-name P d (n ∷ ns) h = (h n (record { index = 0; there = refl }), every-name P d ns (λ m i. h m (later i)))
 
 -- the global of a name of a line
 abbrev namedOn : Names → VarDecl → Bytes → Declared
 namedOn ns d n = record { name = n; ty = d .ty; first = orNoInit (initOf ns (d .ty) (d .init)) }
 
-pub each-declared : (P : Declared → Type 0) (ns : Names) (v : Located VarDecl) → ((n : Bytes) → In n (laidNames (v .it .names)) → P (namedOn ns (v .it) n)) → Each P (declaredBy ns v)
-each-declared P ns v h = each-name P (namedOn ns (v .it)) (laidNames (v .it .names)) h
+pub every-declared : (P : Declared → Type 0) (ns : Names) (v : Located VarDecl) → ((n : Bytes) → In n (laidNames (v .it .names)) → P (namedOn ns (v .it) n)) → Every P (declaredBy ns v)
+every-declared P ns v h = every-name P (namedOn ns (v .it)) (laidNames (v .it .names)) h
 
 -- ---- a sheet that is listed has no refused line
 
@@ -117,7 +105,7 @@ some-name : {n : Bytes} (ns : List Bytes) → In n ns → noneOf ns ≡ false
 some-name [] i = let h = i .there in never cc
 some-name (m ∷ ms) i = refl
 
-pub vars-declared : (ns : Names) (vs : List (Located VarDecl)) → varsRefused ns vs ≡ none → Each (DeclaredAt ns vs) (concatMap (declaredBy ns) vs)
+pub vars-declared : (ns : Names) (vs : List (Located VarDecl)) → varsRefused ns vs ≡ none → Every (DeclaredAt ns vs) (concatMap (declaredBy ns) vs)
 vars-declared ns [] h = tt
 vars-declared ns (v ∷ vs) h =
     let o = varsRefused ns vs in
@@ -125,19 +113,19 @@ vars-declared ns (v ∷ vs) h =
     let names = laidNames (d .names) in
     let here = DeclaredAt ns (v ∷ vs) in
     let rest = concatMap (declaredBy ns) vs in
-    each-join here (declaredBy ns v) rest
-    (each-declared here ns v λ n i. record {
+    every-append here (declaredBy ns v) rest
+    (every-declared here ns v λ n i. record {
       line = v;
       counts = record { index = 0; there = refl };
       named = i;
       sameType = refl;
       value = init-there ns (d .ty) (d .init) (v .line) o (rw (some-name names i) at h);
     })
-    (each-more (DeclaredAt ns vs) here
+    (every-map (DeclaredAt ns vs) here
     (λ x p. record { line = p .line; counts = later (p .counts); named = p .named; sameType = p .sameType; value = p .value })
     rest (vars-declared ns vs (rest-done (v .line) (varValue ns d) o h)))
 
-laid-declared : (ns : Names) (vs : List (Located VarDecl)) (ds : List Declared) (e k a : ℕ) → Each (DeclaredAt ns vs) ds → AllDeclared ns vs (laidFrom e k a ds)
+laid-declared : (ns : Names) (vs : List (Located VarDecl)) (ds : List Declared) (e k a : ℕ) → Every (DeclaredAt ns vs) ds → AllDeclared ns vs (laidFrom e k a ds)
 laid-declared ns vs [] e k a h = tt
 laid-declared ns vs (d ∷ ds) e k a h = (h .0, laid-declared ns vs ds _ _ _ (h .1))
 

@@ -30,8 +30,8 @@ use Rattle.laws.proofs.Tests.{and-left, and-right}
 use Rattle.demand.proofs.Bytes.{shifted, shifted-below, shifted-at, shifted-past, shifted-nil, shifted-append, length-written, written-adds, layer, lies-below, getD-zeros, word-bytes}
 use Rattle.laws.proofs.Alignments.{global-size}
 use Rattle.demand.proofs.Elements.{Sized}
-use Rattle.demand.proofs.Lines.{Each}
 use Rattle.demand.proofs.Places.{endAt, endFrom, itemsAt, itemsFrom}
+use Rattle.laws.specs.Every.{Every}
 
 -- ---- any items: the number of the next one, and the end of the parts
 
@@ -331,7 +331,7 @@ init-items t pendingInit k im ar a ps off h s fits z room zr = nothing k im ar a
 -- ---- all globals
 
 abbrev pub AllSized : List Declared → Type 0
-AllSized ds = Each (λ (d : Declared). Sized (d .first)) ds
+AllSized ds = Every (λ (d : Declared). Sized (d .first)) ds
 
 -- where their parts of the area end
 abbrev pub partsFrom : ℕ → List Declared → ℕ

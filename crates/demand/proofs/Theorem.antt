@@ -21,10 +21,11 @@ use Rattle.semantics.proofs.Common.{never, zeros-at}
 use Rattle.semantics.specs.Demand.{namesDistinct, kindsFit, sourceDeclared, laidFrom, laidOf, AllDeclared, imageEnd, areaEnd, EveryByte, Demand}
 use Rattle.demand.proofs.Records.{records-apart}
 use Rattle.demand.proofs.Elements.{Sized, array-given, init-sized}
-use Rattle.demand.proofs.Lines.{each-join, each-declared, all-declared}
+use Rattle.demand.proofs.Lines.{every-declared, all-declared}
 use Rattle.demand.proofs.Places.{endFrom, itemsFrom, made}
 use Rattle.demand.proofs.Replay.{AllSized, partsFrom, items-end, replayed as replay-adds}
 use Rattle.demand.proofs.Items.{all-items}
+use Rattle.laws.proofs.Every.{every-append}
 
 -- ---- no array of a sheet has more values than its length
 
@@ -32,7 +33,7 @@ pub vars-sized : (ns : Names) (vs : List (Located VarDecl)) → AllSized (concat
 vars-sized ns [] = tt
 vars-sized ns (v ∷ vs) =
     let sized : Declared → Type 0 = λ d. Sized (d .first) in
-    each-join sized (declaredBy ns v) (concatMap (declaredBy ns) vs) (each-declared sized ns v λ n i. init-sized ns (v .it .ty) (v .it .init)) (vars-sized ns vs)
+    every-append sized (declaredBy ns v) (concatMap (declaredBy ns) vs) (every-declared sized ns v λ n i. init-sized ns (v .it .ty) (v .it .init)) (vars-sized ns vs)
 
 -- ---- the ends by the places
 

@@ -12,7 +12,9 @@ use Rattle.semantics.specs.Tree.Ty.{basic, ptr, array, tuple}
 use Rattle.semantics.specs.Tree.Tys.{noTys, andTy}
 use Rattle.semantics.specs.Layout.{alignUp, alignOf, sizeOf, endOfAll, Placed, placeNames, placeLine, place, furthest, shapeOf, pickShape, Recorded, behindTag, variantFields, variantShape, variantsOf, casesFrom, recordsFor, recordsOf}
 use Rattle.laws.proofs.Alignments.{four-or-eight, aligned}
-use Rattle.layout.specs.Lines.{linesOf, linesOfAll, typeLines, fieldLines, caseLines, pickLines, declLines, Every, FewNames, FewInPick}
+use Rattle.layout.specs.Lines.{linesOf, linesOfAll, typeLines, fieldLines, caseLines, pickLines, declLines, FewNames, FewInPick}
+use Rattle.laws.specs.Every.{Every}
+use Rattle.laws.proofs.Every.{every-append}
 
 -- ---- types
 
@@ -55,10 +57,6 @@ line-above (some t) off ns = omega (arith, aligned t off, names-above t (alignUp
 pub place-above : (fs : List Fd) (off : ℕ) → off ≤ place off fs .end
 place-above [] off = le-refl off
 place-above (f ∷ fs) off = let end = placeLine (f .ty) (f .names) off .end in omega (arith, line-above (f .ty) off (f .names), place-above fs end)
-
-pub every-append : {A : Type 0} (P : A → Type 0) (xs ys : List A) → Every P xs → Every P ys → Every P (xs ++ ys)
-every-append P [] ys u v = v
-every-append P (x ∷ xs) ys u v = (u .0, every-append P xs ys (u .1) v)
 
 abbrev Ends : ℕ → Placed → Type 0
 Ends end p = p .offset + sizeOf (p .ty) ≤ end

@@ -7,6 +7,7 @@ use lib.ListN.{length}
 use Rattle.semantics.specs.Tree.{Ty, Tys, Fd, Case, AdtDecl}
 use Rattle.semantics.specs.Tree.Ty.{basic, ptr, array, tuple}
 use Rattle.semantics.specs.Tree.Tys.{noTys, andTy}
+use Rattle.laws.specs.Every.{Every}
 
 -- the `ty` lines of a type: its own and those below it
 abbrev mutual
@@ -41,10 +42,6 @@ pickLines (some ks) = caseLines ks
 -- an `adt` or `pick` line with all that it refers to
 abbrev pub declLines : AdtDecl → ℕ
 declLines d = suc (fieldLines (d .fields) + pickLines (d .pick))
-
-abbrev pub Every : {A : Type 0} → (A → Type 0) → List A → Type 0
-Every P [] = Unit {0}
-Every P (x ∷ xs) = P x × Every P xs
 
 -- no `fd` line has more than 16 names: N is a count 0 to 16
 abbrev pub FewNames : List Fd → Type 0

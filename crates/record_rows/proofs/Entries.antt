@@ -15,7 +15,6 @@ use Rattle.semantics.specs.Layout.{Recorded, place, recordsFor, variantFields, 
 use Rattle.semantics.specs.Listing.{row, recordRows, fieldRow}
 use Rattle.write.specs.Wrote.{Wrote}
 use Rattle.write.proofs.Wrote.{then}
-use Rattle.layout.specs.Lines.{Every}
 use Rattle.layout.proofs.Bounds.{Sized}
 use Rattle.lines.specs.Lines.{nodesIn, formAt}
 use Rattle.sizes.specs.Places.{ownFields, commonAt, caseAt, RecordLine, AllPlaced}
@@ -31,6 +30,7 @@ use Rattle.records.proofs.Keys.{plain-key, variant-key, entry-line, entry-varia
 use Rattle.field_rows.specs.Rows.{placedRows, fieldRows}
 use Rattle.field_rows.proofs.Fields.{placed-append}
 use Rattle.record_rows.specs.Rows.{tagText, headText, shapeText, LogEntry}
+use Rattle.laws.proofs.Every.{every-at}
 
 -- ---- T's own record
 
@@ -114,11 +114,6 @@ module _ (s t : Bytes) (n i : ℕ) (l : EntryIn s t n i) where
       shape-variant = ap (λ (x : Recorded). x .shape) (variant-is s t i (λ z. e (hc ∙ z))) ∙ rw (hr, hc)
 
 -- ---- the size is small
-
-every-at : {A : Type 0} (P : A → Type 0) (xs : List A) → Every P xs → (d : A) (i : ℕ) → i < length xs → P (getD xs i d)
-every-at P [] u d i h = absurd (omega arith)
-every-at P (x ∷ xs) u d zero h = u .0
-every-at P (x ∷ xs) u d (suc i) h = every-at P xs (u .1) d i (omega arith)
 
 entry-small : (s t : Bytes) (n m i : ℕ) → LogEntry s t n m i → recordedAt s t i .shape .size ≤ 131080
 unfolding logOf

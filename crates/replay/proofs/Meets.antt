@@ -18,7 +18,6 @@ use Rattle.semantics.specs.Const.{constants, namesOf}
 use Rattle.stored.specs.Stored.{Stored, storedOf}
 use Rattle.stored.specs.Reading.{sizeIn}
 use Rattle.stored.specs.Laying.{Laying, layAll, beginning, InPlace}
-use Rattle.demand.proofs.Lines.{Each}
 use Rattle.stored.proofs.Items.{Readable}
 use Rattle.stored.proofs.Others.{PlainNames, listing-read}
 use Rattle.stored.proofs.Laying.{Answer, replayed-by}
@@ -29,6 +28,7 @@ use Rattle.stored.proofs.Ranges.{SoundFirst, globals-ranged}
 use Rattle.replay.specs.declared.Replayed.{Replayed}
 use Rattle.replay.specs.declared.Replayed.the-variants.{Laid, Outgrown}
 use Rattle.replay.specs.Whole.{laidListing, answerOf, imageOf, areaOf, Replays}
+use Rattle.laws.specs.Every.{Every}
 
 abbrev pub lengthsOf : Imaged → Replayed
 lengthsOf (laid image area) = Laid (length image) (length area)
@@ -47,7 +47,7 @@ by-answer q b (some m) h = record {
   areaIs = h .areaIs;
 }
 
-module _ (s : Source) (cs : List Const) (g : Globals) (b : Buffers) (plain : PlainNames s cs g) (readable : Each (Readable (sizeIn (listing s cs g)) (idOf s (g .items))) (g .items))
+module _ (s : Source) (cs : List Const) (g : Globals) (b : Buffers) (plain : PlainNames s cs g) (readable : Every (Readable (sizeIn (listing s cs g)) (idOf s (g .items))) (g .items))
     (place : InPlace 0 0 false (map storedOf (g .items))) where
   laid-items : laidListing (listing s cs g) (g .end) (b .image) (b .area) ≡ layAll (map storedOf (g .items)) (beginning (g .end) (b .image) (b .area))
   unfolding laidListing
@@ -66,7 +66,7 @@ module _ (s : Source) (cs : List Const) (g : Globals) (b : Buffers) (plain : Pla
 
 -- the same of a source whose names hold no separators, whose frames and needs are as many as a checked sheet's, and whose values have 64 bits
 pub sheet-meets : (s : Source) (b : Buffers) → PlainSource s → length (s .frames) ≤ 128 → length (s .needs) ≤ 128
-    → Each (λ (d : Declared). SoundFirst (d .first)) (declaredIn (namesOf s) s)
+    → Every (λ (d : Declared). SoundFirst (d .first)) (declaredIn (namesOf s) s)
     → {t u image image′ area area′ : Bytes} {r : Replayed} → length image ≡ b .image → length area ≡ b .area
     → Replays (sourceListing s) (sourceGlobals s .end) t u image image′ area area′ r
     → Meets (replayed b (sourceGlobals s)) (b .image) (b .area) r image′ area′

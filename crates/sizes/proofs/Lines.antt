@@ -17,8 +17,7 @@ use Rattle.semantics.specs.Sheet.{nodesFrom}
 use Rattle.semantics.specs.Refusal.{Ref, noRead, lineAt, refOf, refsIn, refsOf, sumOf}
 use Rattle.semantics.proofs.Common.{never, both}
 use Rattle.form.proofs.Table.{row-count, each-at}
-use Rattle.layout.specs.Lines.{linesOf, declLines, Every}
-use Rattle.layout.proofs.Bounds.{every-append}
+use Rattle.layout.specs.Lines.{linesOf, declLines}
 use Rattle.lines.specs.Lines.{readsIn, readAt, nodesIn, formAt}
 use Rattle.lines.proofs.Line.{line-count, form-low, form-is, read-fits}
 use Rattle.refs.specs.Refs.{fineRef, fineRefs, usesOf, usesIn}
@@ -26,6 +25,8 @@ use Rattle.refs.proofs.Fine.{needed-ref}
 use Rattle.refs.proofs.Nodes.{node-at}
 use Rattle.checks.specs.Checks.{Checked}
 use Rattle.sizes.proofs.Rows.{nodeLines, perhapsLines, valueLines, partsLines, FewOf, FewBefore, Sound, all-sound}
+use Rattle.laws.specs.Every.{Every}
+use Rattle.laws.proofs.Every.{every-append, every-get, every-of}
 
 -- ---- sums
 
@@ -174,15 +175,6 @@ module _ (w : ℕ → ℕ) where
             omega (arith, lines-sum k h, all-sum k k (omega arith) h, sum-le (λ r. w r * usesTo k r) w k (λ r l. at-most r k h))
 
 -- ---- on a checked sheet
-
-every-get : {A : Type 0} (P : A → Type 0) (d : A) (xs : List A) → P d → Every P xs → (j : ℕ) → P (getD xs j d)
-every-get P d [] h u j = h
-every-get P d (x ∷ xs) h u zero = u .0
-every-get P d (x ∷ xs) h u (suc j) = every-get P d xs h (u .1) j
-
-pub every-of : {A : Type 0} (P : A → Type 0) (d : A) (xs : List A) → ((j : ℕ) → j < length xs → P (getD xs j d)) → Every P xs
-every-of P d [] h = tt
-every-of P d (x ∷ xs) h = (h 0 (omega arith), every-of P d xs (λ j l. h (suc j) (omega arith)))
 
 abbrev Keeps : Read → Type 0
 Keeps r = (ns : List Node) → FewBefore ns → FewOf (nodeOf ns r)

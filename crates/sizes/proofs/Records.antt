@@ -9,27 +9,17 @@ use Rattle.semantics.specs.Form.{nodeAt}
 use Rattle.semantics.specs.Sheet.{Module, Located, locatedFrom, openAfter, concatMap, sheetSource}
 use Rattle.semantics.specs.Refusal.{sumOf}
 use Rattle.semantics.specs.Layout.{recordsOf, recordedAdts, recordLog}
-use Rattle.layout.specs.Lines.{declLines, Every}
-use Rattle.layout.proofs.Bounds.{Sized, Small, every-append, sheet-records-bound}
+use Rattle.layout.specs.Lines.{declLines}
+use Rattle.layout.proofs.Bounds.{Sized, Small, sheet-records-bound}
 use Rattle.lines.specs.Lines.{nodesIn}
 use Rattle.refs.proofs.Nodes.{node-count}
 use Rattle.checks.specs.Checks.{Checked}
 use Rattle.sizes.proofs.Rows.{FewDecl}
-use Rattle.sizes.proofs.Lines.{few-at, decl-lines, every-of}
+use Rattle.sizes.proofs.Lines.{few-at, decl-lines}
+use Rattle.laws.specs.Every.{Every}
+use Rattle.laws.proofs.Every.{every-append, every-map, every-of, every-concat, every-under}
 
 -- ---- lists
-
-every-map : {A : Type 0} (P Q : A → Type 0) → ((x : A) → P x → Q x) → (xs : List A) → Every P xs → Every Q xs
-every-map P Q f [] u = tt
-every-map P Q f (x ∷ xs) u = (f x (u .0), every-map P Q f xs (u .1))
-
-every-concat : {A B : Type 0} (Q : B → Type 0) (g : A → List B) (xs : List A) → Every (λ (x : A). Every Q (g x)) xs → Every Q (concatMap g xs)
-every-concat Q g [] u = tt
-every-concat Q g (x ∷ xs) u = every-append Q (g x) (concatMap g xs) (u .0) (every-concat Q g xs (u .1))
-
-every-under : {A B : Type 0} (P : B → Type 0) (g : A → B) (xs : List A) → Every (λ (x : A). P (g x)) xs → Every P (map g xs)
-every-under P g [] u = tt
-every-under P g (x ∷ xs) u = (u .0, every-under P g xs (u .1))
 
 every-located : {A : Type 0} (P : A → Type 0) (f : Declares → List A) (k : ℕ) (o : Option Module) (ns : List Node) → Every (λ (m : Node). Every P (f (m .declares))) ns
     → Every (λ (l : Located A). P (l .it)) (locatedFrom f k o ns)

@@ -17,7 +17,8 @@ use Rattle.form.specs.Table.{rowAt}
 use Rattle.semantics.proofs.Common.{never, both}
 use Rattle.form.proofs.Table.{Each, done, _also_}
 use Rattle.refs.proofs.Fields.{count-number, values-length}
-use Rattle.layout.specs.Lines.{linesOf, linesOfAll, typeLines, fieldLines, caseLines, declLines, Every, FewNames, FewInPick}
+use Rattle.layout.specs.Lines.{linesOf, linesOfAll, typeLines, fieldLines, caseLines, declLines, FewNames, FewInPick}
+use Rattle.laws.specs.Every.{Every}
 
 -- ---- what a node takes
 

@@ -18,11 +18,11 @@ use Rattle.semantics.specs.Fold.{Result, Names, bind, foldAt0}
 use Rattle.semantics.specs.Fold.Result.{ok, failed, refuse}
 use Rattle.semantics.specs.Array.{ConstArray, Placement, Filled, allocated, placeSpan, placeIndices, placeNext, placeSpans, setWildcard, spansOf, fillElement, fill, noneFilled, valueAt, valuesFrom, filler, literalSize, outside, built, measured, arrayOf, constArray, longestAlloc, longestLiteral}
 use Rattle.semantics.specs.Global.{Init, Declared, firstValue, initOf, laidVars, laidNames, orNoInit, declaredBy, declaredIn}
-use Rattle.demand.proofs.Lines.{Each, each-join}
-use Rattle.stored.proofs.Others.{each-filter}
 use Rattle.stored.proofs.Ranges.{Sound, SoundFirst}
 use Rattle.sound.proofs.Limits.{Limited, LimitedOption, LimitedEx, LimitedArray, LimitedEl, LimitedEls, LimitedInit}
 use Rattle.sound.proofs.Folds.{Gives, next-gives, LimitedConst, fold-limited}
+use Rattle.laws.specs.Every.{Every}
+use Rattle.laws.proofs.Every.{every-append, every-filter}
 
 sound : (v : ConstVal) → Limited v → Sound v
 sound (vInt z) h = h
@@ -35,11 +35,11 @@ abbrev LimitedPlacement : Placement → Type 0
 LimitedPlacement p = Limited (p .value)
 
 record LimitedFilled (f : Filled) : Type 0 where
-  placements : Each LimitedPlacement (f .placements)
+  placements : Every LimitedPlacement (f .placements)
   wildcard : LimitedOption (f .wildcard)
 
 span-limited : (v : ConstVal) (l h : ℕ) (f : Filled) → Limited v → LimitedFilled f → LimitedFilled (placeSpan v l h f)
-span-limited v l h f g e = record { placements = each-join LimitedPlacement (f .placements) (record { low = l; high = h; value = v } ∷ []) (e .placements) (g, tt); wildcard = e .wildcard }
+span-limited v l h f g e = record { placements = every-append LimitedPlacement (f .placements) (record { low = l; high = h; value = v } ∷ []) (e .placements) (g, tt); wildcard = e .wildcard }
 
 indices-limited : (v : ConstVal) (l h : ℤ) (f : Filled) → Limited v → LimitedFilled f → Gives LimitedFilled (placeIndices v l h f)
 indices-limited v (pos l) (pos h) f g e = go (leb l h)
@@ -69,7 +69,7 @@ spans-limited v (s ∷ ss) f g e =
 
 -- ---- the values of a literal
 
-value-limited : (ps : List Placement) (v : ConstVal) (i : ℕ) → Each LimitedPlacement ps → Limited v → Limited (valueAt ps v i)
+value-limited : (ps : List Placement) (v : ConstVal) (i : ℕ) → Every LimitedPlacement ps → Limited v → Limited (valueAt ps v i)
 value-limited [] v i h e = e
 value-limited (p ∷ ps) v i h e = value-limited ps (cond (leb (p .low) i && leb i (p .high)) (p .value) v) i (h .1) (go (leb (p .low) i && leb i (p .high)))
   where
@@ -77,7 +77,7 @@ value-limited (p ∷ ps) v i h e = value-limited ps (cond (leb (p .low) i && leb
     go true = h .0
     go false = e
 
-values-sound : (ps : List Placement) (v : ConstVal) (i n : ℕ) → Each LimitedPlacement ps → Limited v → Each Sound (valuesFrom ps v i n)
+values-sound : (ps : List Placement) (v : ConstVal) (i n : ℕ) → Every LimitedPlacement ps → Limited v → Every Sound (valuesFrom ps v i n)
 values-sound ps v i zero h e = tt
 values-sound ps v i (suc n) h e = (sound (valueAt ps v i) (value-limited ps v i h e), values-sound ps v (suc i) n h e)
 
@@ -86,7 +86,7 @@ filler-limited none h = refl
 filler-limited (some v) h = h
 
 abbrev SoundArray : ConstArray → Type 0
-SoundArray a = Each Sound (a .values)
+SoundArray a = Every Sound (a .values)
 
 measured-sound : (declared ty : Option Ty) (es : Els) (f : Filled) (n : ℕ) → LimitedFilled f → Gives SoundArray (measured declared ty es f n)
 measured-sound declared ty es f n e = go (any (outside n) (f .placements)) (leb n longestLiteral)
@@ -116,7 +116,7 @@ any-result (ok a) = tt
 any-result failed = tt
 any-result (refuse r) = tt
 
-module _ (ns : Names) (known : Each LimitedConst (ns .log)) where
+module _ (ns : Names) (known : Every LimitedConst (ns .log)) where
   at-0 : (e : Ex) → LimitedEx e → Gives Limited (foldAt0 ns e)
   at-0 e h = fold-limited ns known (pos 0) refl e h
 
@@ -163,15 +163,15 @@ module _ (ns : Names) (known : Each LimitedConst (ns .log)) where
   init-sound t none h = tt
   init-sound t (some e) h = first-sound (foldAt0 ns e) (constArray ns (elemOf t) e) (at-0 e h) (constant-array-sound (elemOf t) e h)
 
-  names-sound : (t : Ty) (i : Init) (xs : List Bytes) → SoundFirst i → Each (λ (d : Declared). SoundFirst (d .first)) (map (λ (n : Bytes). record { name = n; ty = t; first = i }) xs)
+  names-sound : (t : Ty) (i : Init) (xs : List Bytes) → SoundFirst i → Every (λ (d : Declared). SoundFirst (d .first)) (map (λ (n : Bytes). record { name = n; ty = t; first = i }) xs)
   names-sound t i [] h = tt
   names-sound t i (x ∷ xs) h = (h, names-sound t i xs h)
 
-  lines-sound : (vs : List (Located VarDecl)) → Each (λ (v : Located VarDecl). LimitedInit (v .it .init)) vs → Each (λ (d : Declared). SoundFirst (d .first)) (concatMap (declaredBy ns) vs)
+  lines-sound : (vs : List (Located VarDecl)) → Every (λ (v : Located VarDecl). LimitedInit (v .it .init)) vs → Every (λ (d : Declared). SoundFirst (d .first)) (concatMap (declaredBy ns) vs)
   lines-sound [] h = tt
   lines-sound (v ∷ vs) h =
-      each-join (λ (d : Declared). SoundFirst (d .first)) (declaredBy ns v) (concatMap (declaredBy ns) vs)
+      every-append (λ (d : Declared). SoundFirst (d .first)) (declaredBy ns v) (concatMap (declaredBy ns) vs)
       (names-sound (v .it .ty) (orNoInit (initOf ns (v .it .ty) (v .it .init))) (laidNames (v .it .names)) (init-sound (v .it .ty) (v .it .init) (h .0))) (lines-sound vs (h .1))
 
-  pub firsts-sound : (s : Source) → Each (λ (v : Located VarDecl). LimitedInit (v .it .init)) (s .vars) → Each (λ (d : Declared). SoundFirst (d .first)) (declaredIn ns s)
-  firsts-sound s h = lines-sound (laidVars s) (each-filter (λ (v : Located VarDecl). LimitedInit (v .it .init)) _ (s .vars) h)
+  pub firsts-sound : (s : Source) → Every (λ (v : Located VarDecl). LimitedInit (v .it .init)) (s .vars) → Every (λ (d : Declared). SoundFirst (d .first)) (declaredIn ns s)
+  firsts-sound s h = lines-sound (laidVars s) (every-filter (λ (v : Located VarDecl). LimitedInit (v .it .init)) _ (s .vars) h)

@@ -14,17 +14,17 @@ use Rattle.semantics.specs.Fold.{Result, Const, plain, qualified, fold}
 use Rattle.semantics.specs.Fold.Result.{ok, failed, refuse}
 use Rattle.semantics.specs.Const.{IotaCounter, newCounter, sameGroup, iotaAt, iotaNext, Folding, implements, entries, entered, pass, standsIn, modulePasses, topLevel, passesOf, passesFrom, constants}
 use Rattle.semantics.proofs.Common.{filter-less}
-use Rattle.demand.proofs.Lines.{Each, each-join}
 use Rattle.stored.proofs.Items.{Fits64}
-use Rattle.stored.proofs.Others.{each-filter}
 use Rattle.sound.proofs.Limits.{LimitedOption, LimitedEx}
 use Rattle.sound.proofs.Folds.{LimitedResult, LimitedConst, fold-limited}
+use Rattle.laws.specs.Every.{Every}
+use Rattle.laws.proofs.Every.{every-append, every-filter}
 
 abbrev pub LimitedValue : Located ConstDecl → Type 0
 LimitedValue c = LimitedEx (c .it .value)
 
 LimitedLog : Folding → Type 0
-LimitedLog f = Each LimitedConst (f .log)
+LimitedLog f = Every LimitedConst (f .log)
 
 -- ---- iota
 
@@ -44,22 +44,22 @@ next-few line col i = omega (arith, iota-few line col i)
 
 -- ---- a pass
 
-entries-limited : (impl : Option Bytes) (w : Option Module) (n : Bytes) (v : Option ConstVal) → LimitedOption v → Each LimitedConst (entries impl w n v)
+entries-limited : (impl : Option Bytes) (w : Option Module) (n : Bytes) (v : Option ConstVal) → LimitedOption v → Every LimitedConst (entries impl w n v)
 entries-limited impl none n v h = (h, tt)
 entries-limited impl (some m) n v h = go (implements impl (some m))
   where
-    go : (b : Bool) → Each LimitedConst ((cond b (record { key = plain n; value = v } ∷ []) []) ++ (record { key = qualified (m .name) n; value = v } ∷ []))
+    go : (b : Bool) → Every LimitedConst ((cond b (record { key = plain n; value = v } ∷ []) []) ++ (record { key = qualified (m .name) n; value = v } ∷ []))
     go true = (h, (h, tt))
     go false = (h, tt)
 
-entered-limited : (impl : Option Bytes) (c : Located ConstDecl) (r : Result ConstVal) (go : List Const → Folding) (log : List Const) → LimitedResult r → Each LimitedConst log
-    → ((l : List Const) → Each LimitedConst l → LimitedLog (go l)) → LimitedLog (entered impl c r go log)
+entered-limited : (impl : Option Bytes) (c : Located ConstDecl) (r : Result ConstVal) (go : List Const → Folding) (log : List Const) → LimitedResult r → Every LimitedConst log
+    → ((l : List Const) → Every LimitedConst l → LimitedLog (go l)) → LimitedLog (entered impl c r go log)
 unfolding LimitedLog
-entered-limited impl c (ok v) go log h e next = next _ (each-join LimitedConst (entries impl (c .within) (c .it .name) (some v)) log (entries-limited impl (c .within) (c .it .name) (some v) h) e)
-entered-limited impl c failed go log h e next = next _ (each-join LimitedConst (entries impl (c .within) (c .it .name) none) log (entries-limited impl (c .within) (c .it .name) none tt) e)
+entered-limited impl c (ok v) go log h e next = next _ (every-append LimitedConst (entries impl (c .within) (c .it .name) (some v)) log (entries-limited impl (c .within) (c .it .name) (some v) h) e)
+entered-limited impl c failed go log h e next = next _ (every-append LimitedConst (entries impl (c .within) (c .it .name) none) log (entries-limited impl (c .within) (c .it .name) none tt) e)
 entered-limited impl c (refuse r) go log h e next = e
 
-pass-limited : (impl : Option Bytes) (cs : List (Located ConstDecl)) (i : IotaCounter) (log : List Const) → i .value + length cs ≤ 128 → Each LimitedValue cs → Each LimitedConst log
+pass-limited : (impl : Option Bytes) (cs : List (Located ConstDecl)) (i : IotaCounter) (log : List Const) → i .value + length cs ≤ 128 → Every LimitedValue cs → Every LimitedConst log
     → LimitedLog (pass impl cs i log)
 unfolding LimitedLog
 pass-limited impl [] i log k h e = e
@@ -73,9 +73,9 @@ pass-limited impl (c ∷ cs) i log k h e =
 -- ---- the passes
 
 abbrev FewLimited : List (Located ConstDecl) → Type 0
-FewLimited cs = (length cs ≤ 128) × Each LimitedValue cs
+FewLimited cs = (length cs ≤ 128) × Every LimitedValue cs
 
-passes-limited : (impl : Option Bytes) (ps : List (List (Located ConstDecl))) (log : List Const) → Each FewLimited ps → Each LimitedConst log → LimitedLog (passesFrom impl ps log)
+passes-limited : (impl : Option Bytes) (ps : List (List (Located ConstDecl))) (log : List Const) → Every FewLimited ps → Every LimitedConst log → LimitedLog (passesFrom impl ps log)
 unfolding LimitedLog
 passes-limited impl [] log h e = e
 passes-limited impl (p ∷ ps) log h e =
@@ -89,14 +89,14 @@ passes-limited impl (p ∷ ps) log h e =
     go false g k = g
 
 filtered : (f : Located ConstDecl → Bool) (cs : List (Located ConstDecl)) → FewLimited cs → FewLimited (filter f cs)
-filtered f cs h = (omega (arith, filter-less f cs, h .0), each-filter LimitedValue f cs (h .1))
+filtered f cs h = (omega (arith, filter-less f cs, h .0), every-filter LimitedValue f cs (h .1))
 
-modules-limited : (cs : List (Located ConstDecl)) (ms : List Module) → FewLimited cs → Each FewLimited (map (λ (m : Module). filter (standsIn m) cs) ms)
+modules-limited : (cs : List (Located ConstDecl)) (ms : List Module) → FewLimited cs → Every FewLimited (map (λ (m : Module). filter (standsIn m) cs) ms)
 modules-limited cs [] h = tt
 modules-limited cs (m ∷ ms) h = (filtered (standsIn m) cs h, modules-limited cs ms h)
 
-pub constants-limited : (s : Source) → length (s .consts) ≤ 128 → Each LimitedValue (s .consts) → Each LimitedConst (constants s .log)
+pub constants-limited : (s : Source) → length (s .consts) ≤ 128 → Every LimitedValue (s .consts) → Every LimitedConst (constants s .log)
 unfolding constants LimitedLog
 constants-limited s k h =
     passes-limited (s .implement) (passesOf s) []
-    (each-join FewLimited (modulePasses s) (topLevel s ∷ []) (modules-limited (s .consts) (s .modules) (k, h)) (filtered _ (s .consts) (k, h), tt)) tt
+    (every-append FewLimited (modulePasses s) (topLevel s ∷ []) (modules-limited (s .consts) (s .modules) (k, h)) (filtered _ (s .consts) (k, h), tt)) tt

@@ -17,46 +17,46 @@ use Rattle.semantics.specs.Form.Atom.{name, key, ref, maybe, unaryOp, binaryOp,
 use Rattle.semantics.specs.Form.Part.{one, many}
 use Rattle.semantics.proofs.Common.{never, both}
 use Rattle.write.specs.Plain.{isPlain}
-use Rattle.demand.proofs.Lines.{Each}
 use Rattle.stored.proofs.Items.{Fits64}
 use Rattle.stored.proofs.Names.{name-plain}
 use Rattle.sound.proofs.Limits.{LimitedNode}
+use Rattle.laws.specs.Every.{Every}
 
 -- ---- the fields of a line of at most k bytes
 
 abbrev pub Short : ℕ → Bytes → Type 0
 Short k f = length f ≤ k
 
-each-more : (k : ℕ) (fs : List Bytes) → Each (Short k) fs → Each (Short (suc k)) fs
-each-more k [] h = tt
-each-more k (f ∷ fs) h = (omega (arith, h .0), each-more k fs (h .1))
+short-more : (k : ℕ) (fs : List Bytes) → Every (Short k) fs → Every (Short (suc k)) fs
+short-more k [] h = tt
+short-more k (f ∷ fs) h = (omega (arith, h .0), short-more k fs (h .1))
 
-head-short : (k : ℕ) (fs : List Bytes) → Each (Short k) fs → length (headPart fs) ≤ k
+head-short : (k : ℕ) (fs : List Bytes) → Every (Short k) fs → length (headPart fs) ≤ k
 head-short k [] h = omega arith
 head-short k (f ∷ fs) h = h .0
 
-tail-short : (k : ℕ) (fs : List Bytes) → Each (Short k) fs → Each (Short k) (tailParts fs)
+tail-short : (k : ℕ) (fs : List Bytes) → Every (Short k) fs → Every (Short k) (tailParts fs)
 tail-short k [] h = tt
 tail-short k (f ∷ fs) h = h .1
 
-drop-short : (k n : ℕ) (fs : List Bytes) → Each (Short k) fs → Each (Short k) (drop n fs)
+drop-short : (k n : ℕ) (fs : List Bytes) → Every (Short k) fs → Every (Short k) (drop n fs)
 drop-short k zero fs h = h
 drop-short k (suc n) [] h = tt
 drop-short k (suc n) (f ∷ fs) h = drop-short k n fs (h .1)
 
-parts-short : (c k : ℕ) (l : Bytes) → length l ≤ k → Each (Short k) (partsAt c l)
+parts-short : (c k : ℕ) (l : Bytes) → length l ≤ k → Every (Short k) (partsAt c l)
 parts-short c k [] h = (omega arith, tt)
 parts-short c zero (b ∷ l) h = absurd (omega arith)
 parts-short c (suc k) (b ∷ l) h = go (eqb b c) (parts-short c k l (omega arith))
   where
-    go : (t : Bool) → Each (Short k) (partsAt c l) → Each (Short (suc k)) (cut t b (partsAt c l))
-    go true e = (omega arith, each-more k (partsAt c l) e)
-    go false e = (omega (arith, head-short k (partsAt c l) e), each-more k (tailParts (partsAt c l)) (tail-short k (partsAt c l) e))
+    go : (t : Bool) → Every (Short k) (partsAt c l) → Every (Short (suc k)) (cut t b (partsAt c l))
+    go true e = (omega arith, short-more k (partsAt c l) e)
+    go false e = (omega (arith, head-short k (partsAt c l) e), short-more k (tailParts (partsAt c l)) (tail-short k (partsAt c l) e))
 
-pub fields-short : (k n : ℕ) (l : Bytes) → length l ≤ k → Each (Short k) (fieldsFrom n l)
+pub fields-short : (k n : ℕ) (l : Bytes) → length l ≤ k → Every (Short k) (fieldsFrom n l)
 fields-short k n l h = go (ltb (length l) n)
   where
-    go : (t : Bool) → Each (Short k) (cond t [] (fieldsOf (drop n l)))
+    go : (t : Bool) → Every (Short k) (cond t [] (fieldsOf (drop n l)))
     go true = tt
     go false = parts-short 44 k (drop n l) (omega (arith, length-drop n l, h))
 
@@ -97,17 +97,17 @@ LimitedField text v = length v ≤ 256
 abbrev pub Keeps : (ps : List Part) → Makes ps → Type 0
 Keeps [] m = LimitedNode m
 Keeps (one a ∷ ps) m = (v : Value a) → LimitedField a v → Keeps ps (m v)
-Keeps (many a ∷ ps) m = (vs : List (Value a)) → Each (LimitedField a) vs → Keeps ps (m vs)
+Keeps (many a ∷ ps) m = (vs : List (Value a)) → Every (LimitedField a) vs → Keeps ps (m vs)
 
 no-node : LimitedNode noNode
 no-node = record { ex = tt; el = tt; fd = tt; tags = tt; fields = tt; adts = tt; consts = tt; vars = tt; opens = tt }
 
-node-limited : (ns : List Node) (j : ℕ) → Each LimitedNode ns → LimitedNode (getD ns j noNode)
+node-limited : (ns : List Node) (j : ℕ) → Every LimitedNode ns → LimitedNode (getD ns j noNode)
 node-limited [] j h = no-node
 node-limited (m ∷ ns) zero h = h .0
 node-limited (m ∷ ns) (suc j) h = node-limited ns j (h .1)
 
-perhaps-limited : (ns : List Node) (r : ℕ) → Each LimitedNode ns → LimitedPerhaps (perhapsAt ns r)
+perhaps-limited : (ns : List Node) (r : ℕ) → Every LimitedNode ns → LimitedPerhaps (perhapsAt ns r)
 perhaps-limited ns zero h = tt
 perhaps-limited ns (suc r) h = node-limited ns (suc r - 1) h
 
@@ -115,7 +115,7 @@ integer-fits : (o : Option ℤ) → holdsOf (between 9223372036854775808 9223372
 integer-fits none h = refl
 integer-fits (some z) h = h
 
-module _ (ns : List Node) (before : Each LimitedNode ns) where
+module _ (ns : List Node) (before : Every LimitedNode ns) where
   value-limited : (a : Atom) (f : Bytes) → holds a f ≡ true → Short 255 f → LimitedField a (value a ns f)
   value-limited name f h l = name-plain f h
   value-limited key f h l = tt
@@ -130,8 +130,8 @@ module _ (ns : List Node) (before : Each LimitedNode ns) where
   value-limited real f h l = ofBits-fits binary64 (fromBigEndian 0 (orElse [] (unhex f)))
   value-limited text f h l = omega (arith, unhex-short f, l)
 
-  values-limited : (n : ℕ) (a : Atom) (ps : List Part) (fs : List Bytes) → fields-fit (ones n a ++ ps) fs ≡ true → Each (Short 255) fs
-      → Each (LimitedField a) (values a ns n fs) × (fields-fit ps (drop n fs) ≡ true)
+  values-limited : (n : ℕ) (a : Atom) (ps : List Part) (fs : List Bytes) → fields-fit (ones n a ++ ps) fs ≡ true → Every (Short 255) fs
+      → Every (LimitedField a) (values a ns n fs) × (fields-fit ps (drop n fs) ≡ true)
   values-limited zero a ps fs h l = (tt, h)
   values-limited (suc n) a ps [] h l = never h
   values-limited (suc n) a ps (f ∷ fs) h l =
@@ -139,7 +139,7 @@ module _ (ns : List Node) (before : Each LimitedNode ns) where
       let r = values-limited n a ps fs (w .1) (l .1) in
       ((value-limited a f (w .0) (l .0), r .0), r .1)
 
-  pub make-limited : (ps : List Part) (m : Makes ps) (fs : List Bytes) → fields-fit ps fs ≡ true → Each (Short 255) fs → Keeps ps m → LimitedNode (make ps m ns fs)
+  pub make-limited : (ps : List Part) (m : Makes ps) (fs : List Bytes) → fields-fit ps fs ≡ true → Every (Short 255) fs → Keeps ps m → LimitedNode (make ps m ns fs)
   make-limited [] m fs h l k = k
   make-limited (one a ∷ ps) m [] h l k = never h
   make-limited (one a ∷ ps) m (f ∷ fs) h l k =

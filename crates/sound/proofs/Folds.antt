@@ -27,10 +27,10 @@ use Rattle.semantics.specs.Tree.BinOp.{arith as arith-op, intOp, power, logAnd,
 use Rattle.semantics.specs.Fold.{Result, bind, bits64, shiftCount, eqZ, signed64, wrap, isZero, test, intArith, intOnly, intBinary, realBinary, toReal, joinStr, strBinary, foldBinary, foldUnary, castInt, castReal, foldCast, foldLen, Key, Const, Names, sameKey, lookUp, valueOf, fromOption, qualifiedValue, plain, qualified, fold}
 use Rattle.semantics.specs.Fold.Result.{ok, failed, refuse}
 use Rattle.values.proofs.Written.{integer-short}
-use Rattle.demand.proofs.Lines.{Each}
 use Rattle.stored.proofs.Items.{Fits64}
 use Rattle.stored.proofs.Ranges.{small, whole-fits}
 use Rattle.sound.proofs.Limits.{Limited, LimitedOption, LimitedEx}
+use Rattle.laws.specs.Every.{Every}
 
 -- what holds of a result, where there is one
 abbrev pub Gives : {A : Type 0} → (A → Type 0) → Result A → Type 0
@@ -204,7 +204,7 @@ value-found : (o : Option ConstVal) → LimitedOption o → LimitedResult (fromO
 value-found none h = tt
 value-found (some v) h = h
 
-found-limited : (k : Key) (cs : List Const) → Each LimitedConst cs → LimitedResult (fromOption (valueOf (lookUp k cs)))
+found-limited : (k : Key) (cs : List Const) → Every LimitedConst cs → LimitedResult (fromOption (valueOf (lookUp k cs)))
 found-limited k [] h = tt
 found-limited k (c ∷ cs) h = go (sameKey k (c .key)) (found-limited k cs (h .1))
   where
@@ -214,7 +214,7 @@ found-limited k (c ∷ cs) h = go (sameKey k (c .key)) (found-limited k cs (h .1
 
 -- ---- expressions
 
-module _ (ns : Names) (known : Each LimitedConst (ns .log)) (iota : ℤ) (few : Fits64 iota) where
+module _ (ns : Names) (known : Every LimitedConst (ns .log)) (iota : ℤ) (few : Fits64 iota) where
   qualified-limited : (e : Ex) (n : Bytes) → LimitedResult (qualifiedValue ns e n)
   qualified-limited (constant v) n = tt
   qualified-limited (ident m) n = found-limited (qualified m n) (ns .log) known

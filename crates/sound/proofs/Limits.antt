@@ -14,9 +14,9 @@ use Rattle.semantics.specs.Tree.El.{next, star, at}
 use Rattle.semantics.specs.Tree.Els.{noEls, andEl}
 use Rattle.write.specs.Plain.{isPlain}
 use Rattle.stored.proofs.Rows.{Plain}
-use Rattle.demand.proofs.Lines.{Each}
 use Rattle.stored.proofs.Items.{Fits64}
 use Rattle.stored.proofs.Names.{PlainFields, PlainAdt}
+use Rattle.laws.specs.Every.{Every}
 
 -- an integer of 64 bits, a real that binary64 holds, or a string of at most 256 bytes
 abbrev pub Limited : ConstVal → Type 0
@@ -70,7 +70,7 @@ pub record LimitedNode (m : Node) : Type 0 where
   pub fd : Plain (m .fd .names)
   pub tags : Plain (m .case .tags)
   pub fields : PlainFields (m .case .fields)
-  pub adts : Each PlainAdt (m .declares .adts)
-  pub consts : Each LimitedDecl (m .declares .consts)
-  pub vars : Each LimitedVar (m .declares .vars)
+  pub adts : Every PlainAdt (m .declares .adts)
+  pub consts : Every LimitedDecl (m .declares .consts)
+  pub vars : Every LimitedVar (m .declares .vars)
   pub opens : Plain (m .declares .opens)

@@ -20,10 +20,11 @@ use Rattle.form.proofs.Table.{row-count, each-at, done, _also_}
 use Rattle.lines.specs.Lines.{readsIn, readAt, nodesIn, formAt, textAt, Whole}
 use Rattle.lines.proofs.Line.{line-count, line-short, form-low, form-is, fields-are, read-fits}
 use Rattle.stored.proofs.Rows.{Plain}
-use Rattle.demand.proofs.Lines.{Each, each-join}
 use Rattle.stored.proofs.Names.{PlainFields, PlainPick, PlainAdt}
 use Rattle.sound.proofs.Limits.{LimitedEx, LimitedEl, LimitedEls, LimitedInit, LimitedDecl, LimitedVar, LimitedNode}
 use Rattle.sound.proofs.Fields.{Short, fields-short, LimitedPerhaps, LimitedField, Keeps, make-limited}
+use Rattle.laws.specs.Every.{Every}
+use Rattle.laws.proofs.Every.{every-append, every-of}
 
 -- ---- what a form makes, by what it declares
 
@@ -41,7 +42,7 @@ no-ex : {t : Ty} {s : Se} → LimitedNode (tree t otherEx (next otherEx) s noFd 
 no-ex = tree-node tt tt tt tt tt
 
 decl-node : {ds : List AdtDecl} {cs : List ConstDecl} {vs : List VarDecl} {fs : List Shape} {ns : List TypeKey} {os : List Bytes} {c : Bool} {is : List Bytes}
-    → Each PlainAdt ds → Each LimitedDecl cs → Each LimitedVar vs → Plain os → LimitedNode (declares ds cs vs fs ns os c is)
+    → Every PlainAdt ds → Every LimitedDecl cs → Every LimitedVar vs → Plain os → LimitedNode (declares ds cs vs fs ns os c is)
 decl-node a c v o = record { ex = tt; el = tt; fd = tt; tags = tt; fields = tt; adts = a; consts = c; vars = v; opens = o }
 
 -- an `end`, `impl`, `frame` or `need` line
@@ -50,19 +51,19 @@ no-decl = decl-node tt tt tt tt
 
 -- ---- lists of values
 
-names-plain : (ns : List Bytes) → Each (LimitedField name) ns → Plain ns
+names-plain : (ns : List Bytes) → Every (LimitedField name) ns → Plain ns
 names-plain [] h = tt
 names-plain (n ∷ ns) h = (h .0, names-plain ns (h .1))
 
-fields-plain : (ms : List Node) → Each LimitedNode ms → PlainFields (fdsOf ms)
+fields-plain : (ms : List Node) → Every LimitedNode ms → PlainFields (fdsOf ms)
 fields-plain [] h = tt
 fields-plain (m ∷ ms) h = (h .0 .fd, fields-plain ms (h .1))
 
-cases-plain : (ms : List Node) → Each LimitedNode ms → PlainPick (some (casesOf ms))
+cases-plain : (ms : List Node) → Every LimitedNode ms → PlainPick (some (casesOf ms))
 cases-plain [] h = tt
 cases-plain (m ∷ ms) h = ((h .0 .tags, h .0 .fields), cases-plain ms (h .1))
 
-elements-limited : (ms : List Node) → Each LimitedNode ms → LimitedEls (elsOf ms)
+elements-limited : (ms : List Node) → Every LimitedNode ms → LimitedEls (elsOf ms)
 elements-limited [] h = tt
 elements-limited (m ∷ ms) h = (h .0 .el, elements-limited ms (h .1))
 
@@ -114,16 +115,12 @@ all-keep =
 -- ---- the lines of a sheet
 
 abbrev LineKeeps : Read → Type 0
-LineKeeps r = (ns : List Node) → Each LimitedNode ns → LimitedNode (nodeOf ns r)
+LineKeeps r = (ns : List Node) → Every LimitedNode ns → LimitedNode (nodeOf ns r)
 
-nodes-keep : (rs : List Read) (ns : List Node) → Each LineKeeps rs → Each LimitedNode ns → Each LimitedNode (nodesFrom ns rs)
+nodes-keep : (rs : List Read) (ns : List Node) → Every LineKeeps rs → Every LimitedNode ns → Every LimitedNode (nodesFrom ns rs)
 unfolding nodesFrom
 nodes-keep [] ns k h = h
-nodes-keep (r ∷ rs) ns k h = nodes-keep rs (ns ++ (nodeOf ns r ∷ [])) (k .1) (each-join LimitedNode ns (nodeOf ns r ∷ []) h (k .0 ns h, tt))
-
-each-of : (rs : List Read) → ((i : ℕ) → i < length rs → LineKeeps (getD rs i noRead)) → Each LineKeeps rs
-each-of [] h = tt
-each-of (r ∷ rs) h = (h 0 (omega arith), each-of rs (λ i l. h (suc i) (omega arith)))
+nodes-keep (r ∷ rs) ns k h = nodes-keep rs (ns ++ (nodeOf ns r ∷ [])) (k .1) (every-append LimitedNode ns (nodeOf ns r ∷ []) h (k .0 ns h, tt))
 
 module _ (s t : Bytes) (n : ℕ) (w : Whole s t n) where
   module _ (i : ℕ) (h : i < n) where
@@ -133,12 +130,12 @@ module _ (s t : Bytes) (n : ℕ) (w : Whole s t n) where
     row-keeps : RowKeeps (readAt s i .form)
     row-keeps = rw (form-is s t n w i h) (each-at RowKeeps forms all-keep (formAt t i) (omega (arith, row-count, form-low s t n w i h)))
 
-    line-fields : Each (Short 255) (readAt s i .fields)
+    line-fields : Every (Short 255) (readAt s i .fields)
     line-fields = rw (fields-are s t n w i h) (fields-short 255 (length (keywordsAt (formAt t i)) + 1) (textAt s i) (line-short (i + 1) (textAt s i) (w .lined .good i h)))
 
     line-keeps : LineKeeps (readAt s i)
     unfolding nodeOf
     line-keeps ns b = make-limited ns b (readAt s i .form .parts) (readAt s i .form .make) (readAt s i .fields) fits-row line-fields row-keeps
 
-  pub nodes-limited : Each LimitedNode (nodesIn s)
-  nodes-limited = nodes-keep (readsIn s) [] (each-of (readsIn s) (λ i l. line-keeps i (omega (arith, line-count s t n w)))) tt
+  pub nodes-limited : Every LimitedNode (nodesIn s)
+  nodes-limited = nodes-keep (readsIn s) [] (every-of LineKeeps noRead (readsIn s) (λ i l. line-keeps i (omega (arith, line-count s t n w)))) tt

@@ -22,10 +22,10 @@ use Rattle.semantics.specs.Image.{realBytes, elemSize, Replay, replayItem, repl
 use Rattle.write.specs.Plain.{isPlain}
 use Rattle.write.proofs.Back.{nat-back, int-back, hex-back, bits-back}
 use Rattle.write.proofs.Uncut.{decimal-plain, integer-plain, hex-plain}
-use Rattle.demand.proofs.Lines.{Each}
 use Rattle.stored.specs.Stored.{Stored, storedOf, bytesAt, replayOne, replayStored}
 use Rattle.stored.specs.Reading.{numberIn, integerBits, realBits, bitsIn, valuesIn, keywordOf, readRow, readAll}
 use Rattle.stored.proofs.Rows.{Plain, read-row}
+use Rattle.laws.specs.Every.{Every}
 
 -- ---- replaying items is replaying what is stored of them
 
@@ -72,10 +72,10 @@ real-bits n h = ap realBits (hex-back (bigEndian 8 n) (byte-below 8 n)) ∙ bits
 
 -- values in the range of their kind
 abbrev pub InRange : Values → Type 0
-InRange (byteValues vs) = Each (λ (b : ℕ). b < 256) vs
-InRange (wordValues zs) = Each Fits64 zs
-InRange (bigValues zs) = Each Fits64 zs
-InRange (realValues xs) = Each (λ (x : Float). toBits binary64 x < 2 ^ 64) xs
+InRange (byteValues vs) = Every (λ (b : ℕ). b < 256) vs
+InRange (wordValues zs) = Every Fits64 zs
+InRange (bigValues zs) = Every Fits64 zs
+InRange (realValues xs) = Every (λ (x : Float). toBits binary64 x < 2 ^ 64) xs
 
 byte-read : (v : ℕ) → v < 256 → bigEndian 1 (bitsIn false (decimal v)) ≡ v ∷ []
 unfolding bigEndian decimalℤ
@@ -83,17 +83,17 @@ byte-read v l =
     let e : v % 2 ^ 64 / 1 % 256 ≡ v = omega arith in
     ap (bigEndian 1) (integer-bits (pos v) (le-leb v (2 ^ 63 - 1) (omega arith))) ∙ ap (λ (n : ℕ). n ∷ []) e
 
-bytes-read : (vs : List ℕ) → Each (λ (b : ℕ). b < 256) vs → valuesIn 1 false (map decimal vs) ≡ vs
+bytes-read : (vs : List ℕ) → Every (λ (b : ℕ). b < 256) vs → valuesIn 1 false (map decimal vs) ≡ vs
 unfolding valuesIn
 bytes-read [] h = refl
 bytes-read (v ∷ vs) h = λ i. byte-read v (h .0) i ++ bytes-read vs (h .1) i
 
-integers-read : (w : ℕ) (zs : List ℤ) → Each Fits64 zs → valuesIn w false (map decimalℤ zs) ≡ concatMap (λ (z : ℤ). bigEndian w (bits64 z)) zs
+integers-read : (w : ℕ) (zs : List ℤ) → Every Fits64 zs → valuesIn w false (map decimalℤ zs) ≡ concatMap (λ (z : ℤ). bigEndian w (bits64 z)) zs
 unfolding valuesIn
 integers-read w [] h = refl
 integers-read w (z ∷ zs) h = λ i. bigEndian w (integer-bits z (h .0) i) ++ integers-read w zs (h .1) i
 
-reals-read : (xs : List Float) → Each (λ (x : Float). toBits binary64 x < 2 ^ 64) xs → valuesIn 8 true (map realText xs) ≡ concatMap realBytes xs
+reals-read : (xs : List Float) → Every (λ (x : Float). toBits binary64 x < 2 ^ 64) xs → valuesIn 8 true (map realText xs) ≡ concatMap realBytes xs
 unfolding valuesIn toBits
 reals-read [] h = refl
 reals-read (x ∷ xs) h = λ i. bigEndian 8 (real-bits (toBits binary64 x) (h .0) i) ++ reals-read xs (h .1) i
@@ -138,7 +138,7 @@ item-plain id (setItem o) = (refl, (decimal-plain o, (refl, tt)))
 item-plain id backItem = (refl, tt)
 
 -- the rows of items are read as what is stored of them, in order
-pub items-read : (sizes : ℕ → ℕ) (id : TypeKey → ℕ) (is : List Item) (rest : Bytes) → Each (Readable sizes id) is
+pub items-read : (sizes : ℕ → ℕ) (id : TypeKey → ℕ) (is : List Item) (rest : Bytes) → Every (Readable sizes id) is
     → readAll sizes (concatMap (itemRow id) is ++ rest) ≡ map storedOf is ++ readAll sizes rest
 unfolding itemRow isPlain
 items-read sizes id [] rest h = refl

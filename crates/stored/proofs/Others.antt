@@ -23,8 +23,9 @@ use Rattle.write.proofs.Uncut.{decimal-plain, integer-plain, hex-plain}
 use Rattle.stored.specs.Stored.{Stored, storedOf}
 use Rattle.stored.specs.Reading.{readRow, readRows, readAll, largestSize, sizeBy, sizeRows, mostTypes, sizeIn}
 use Rattle.stored.proofs.Rows.{Plain, read-row, size-row}
-use Rattle.demand.proofs.Lines.{Each}
 use Rattle.stored.proofs.Items.{Readable, number-back, items-read, item-plain}
+use Rattle.laws.specs.Every.{Every}
+use Rattle.laws.proofs.Every.{every-filter}
 
 -- a text of rows of plain fields, each with a first word that differs from w
 pub data Rows (w : Bytes) : Bytes → Type 0 where
@@ -147,12 +148,12 @@ record Apart (w : Bytes) : Type 0 where
 
 -- records, constants and globals with plain names
 abbrev pub PlainRecord : Recorded → Type 0
-PlainRecord r = (isPlain (r .key) ≡ true) × Each (λ (p : Placed). isPlain (p .name) ≡ true) (r .fields)
+PlainRecord r = (isPlain (r .key) ≡ true) × Every (λ (p : Placed). isPlain (p .name) ≡ true) (r .fields)
 
 pub record PlainNames (s : Source) (cs : List Const) (g : Globals) : Type 0 where
-  pub records : Each PlainRecord (records (recordedAdts s))
-  pub consts : Each (λ (k : Key). isPlain (keyText k) ≡ true) (keysIn cs)
-  pub places : Each (λ (p : Global). isPlain (p .name) ≡ true) (g .places)
+  pub records : Every PlainRecord (records (recordedAdts s))
+  pub consts : Every (λ (k : Key). isPlain (keyText k) ≡ true) (keysIn cs)
+  pub places : Every (λ (p : Global). isPlain (p .name) ≡ true) (g .places)
   pub pends : Plain (g .pends)
 
 flag-plain : (b : Bool) → isPlain (flag b) ≡ true
@@ -166,14 +167,6 @@ value-plain none = (refl, tt)
 value-plain (some (vInt z)) = (refl, (integer-plain z, tt))
 value-plain (some (vReal x)) = (refl, (hex-plain (bigEndian 8 (toBits binary64 x)), tt))
 value-plain (some (vStr s)) = (refl, (hex-plain s, tt))
-
-pub each-filter : {A : Type 0} (P : A → Type 0) (f : A → Bool) (xs : List A) → Each P xs → Each P (filter f xs)
-each-filter P f [] h = tt
-each-filter P f (x ∷ xs) h = go (f x) (each-filter P f xs (h .1))
-  where
-    go : (b : Bool) → Each P (filter f xs) → Each P (cond b (x ∷ filter f xs) (filter f xs))
-    go true ih = (h .0, ih)
-    go false ih = ih
 
 -- the rows in front of the items
 abbrev frontOf : Source → List Const → Globals → Bytes
@@ -190,7 +183,7 @@ module _ {w : Bytes} (a : Apart w) where
   pend-rows [] h = noRows
   pend-rows (n ∷ ns) h = rows-join (rows-one (bytes "pend") (n ∷ []) (a .pends) (refl, (h .0, tt))) (pend-rows ns (h .1))
 
-  global-rows : (gs : List Global) → Each (λ (g : Global). isPlain (g .name) ≡ true) gs → Rows w (concatMap globalRow gs)
+  global-rows : (gs : List Global) → Every (λ (g : Global). isPlain (g .name) ≡ true) gs → Rows w (concatMap globalRow gs)
   unfolding globalRow isPlain
   global-rows [] h = noRows
   global-rows (g ∷ gs) h =
@@ -199,20 +192,20 @@ module _ {w : Bytes} (a : Apart w) where
       (refl, (h .0, (decimal-plain (g .offset), (decimal-plain (globalSize (g .ty)), (flag-plain (isPtr (g .ty)), tt))))))
       (global-rows gs (h .1))
 
-  const-rows : (cs : List Const) (ks : List Key) → Each (λ (k : Key). isPlain (keyText k) ≡ true) ks → Rows w (concatMap (constRow cs) ks)
+  const-rows : (cs : List Const) (ks : List Key) → Every (λ (k : Key). isPlain (keyText k) ≡ true) ks → Rows w (concatMap (constRow cs) ks)
   unfolding isPlain
   const-rows cs [] h = noRows
   const-rows cs (k ∷ ks) h =
       rows-join (rows-one (bytes "con") (keyText k ∷ valueFields (valueOf (lookUp k cs))) (a .consts) (refl, (h .0, value-plain (valueOf (lookUp k cs))))) (const-rows cs ks (h .1))
 
-  all-consts : (cs : List Const) → Each (λ (k : Key). isPlain (keyText k) ≡ true) (keysIn cs) → Rows w (constRows cs)
+  all-consts : (cs : List Const) → Every (λ (k : Key). isPlain (keyText k) ≡ true) (keysIn cs) → Rows w (constRows cs)
   unfolding constRows
   all-consts cs h =
       rows-join
-      (const-rows cs (filter (λ (k : Key). not (isPlain-key k)) (keysIn cs)) (each-filter _ _ (keysIn cs) h))
-      (const-rows cs (filter isPlain-key (keysIn cs)) (each-filter _ _ (keysIn cs) h))
+      (const-rows cs (filter (λ (k : Key). not (isPlain-key k)) (keysIn cs)) (every-filter _ _ (keysIn cs) h))
+      (const-rows cs (filter isPlain-key (keysIn cs)) (every-filter _ _ (keysIn cs) h))
 
-  field-rows : (ps : List Placed) → Each (λ (p : Placed). isPlain (p .name) ≡ true) ps → Rows w (concatMap fieldRow ps)
+  field-rows : (ps : List Placed) → Every (λ (p : Placed). isPlain (p .name) ≡ true) ps → Rows w (concatMap fieldRow ps)
   unfolding isPlain
   field-rows [] h = noRows
   field-rows (p ∷ ps) h =
@@ -220,7 +213,7 @@ module _ {w : Bytes} (a : Apart w) where
       (rows-one (bytes "fld") (p .name ∷ decimal (p .offset) ∷ decimal (sizeOf (p .ty)) ∷ []) (a .fields) (refl, (h .0, (decimal-plain (p .offset), (decimal-plain (sizeOf (p .ty)), tt)))))
       (field-rows ps (h .1))
 
-  record-rows : (rs : List Recorded) → Each PlainRecord rs → Rows w (concatMap recordRows rs)
+  record-rows : (rs : List Recorded) → Every PlainRecord rs → Rows w (concatMap recordRows rs)
   unfolding recordRows isPlain
   record-rows [] h = noRows
   record-rows (r ∷ rs) h =
@@ -240,7 +233,7 @@ module _ {w : Bytes} (a : Apart w) where
 
 module _ (s : Source) (cs : List Const) (g : Globals) (plain : PlainNames s cs g) where
   -- what is stored of its items, in order
-  pub listing-read : (sizes : ℕ → ℕ) → Each (Readable sizes (idOf s (g .items))) (g .items) → readAll sizes (listing s cs g) ≡ map storedOf (g .items)
+  pub listing-read : (sizes : ℕ → ℕ) → Every (Readable sizes (idOf s (g .items))) (g .items) → readAll sizes (listing s cs g) ≡ map storedOf (g .items)
   unfolding listing
   listing-read sizes h =
       let apart : Apart (bytes "dat") = record { uses = refl; pends = refl; places = refl; consts = refl; records = refl; fields = refl } in

@@ -23,9 +23,10 @@ use Rattle.semantics.specs.Global.{Init, Declared, Globals, strItems, elementIt
 use Rattle.semantics.specs.Global.Values.{bigValues, wordValues}
 use Rattle.semantics.specs.Global.Item.{backItem}
 use Rattle.semantics.specs.Global.Init.{noInit, constInit, arrayInit, pendingInit}
-use Rattle.demand.proofs.Lines.{Each, each-join}
 use Rattle.stored.proofs.Items.{Fits64, InRange}
 use Rattle.stored.proofs.Sizes.{Ranged}
+use Rattle.laws.specs.Every.{Every}
+use Rattle.laws.proofs.Every.{every-append}
 
 -- an integer of 64 bits, and a real that binary64 holds
 abbrev pub Sound : ConstVal → Type 0
@@ -36,7 +37,7 @@ Sound (vStr s) = Unit {0}
 abbrev pub SoundFirst : Init → Type 0
 SoundFirst noInit = Unit {0}
 SoundFirst (constInit v) = Sound v
-SoundFirst (arrayInit a) = Each Sound (a .values)
+SoundFirst (arrayInit a) = Every Sound (a .values)
 SoundFirst pendingInit = Unit {0}
 
 -- ---- values after conversion
@@ -90,32 +91,32 @@ real-range (vStr s) h = bits-range (constReal (vStr s)) tt
 
 -- ---- items
 
-each-value : {B : Type 0} (Q : B → Type 0) (f : ConstVal → B) → ((v : ConstVal) → Sound v → Q (f v)) → (vs : List ConstVal) → Each Sound vs → Each Q (map f vs)
-each-value Q f h [] e = tt
-each-value Q f h (v ∷ vs) e = (h v (e .0), each-value Q f h vs (e .1))
+every-value : {B : Type 0} (Q : B → Type 0) (f : ConstVal → B) → ((v : ConstVal) → Sound v → Q (f v)) → (vs : List ConstVal) → Every Sound vs → Every Q (map f vs)
+every-value Q f h [] e = tt
+every-value Q f h (v ∷ vs) e = (h v (e .0), every-value Q f h vs (e .1))
 
-strings-ranged : (o : ℕ) (vs : List ConstVal) → Each Ranged (strItems o vs)
+strings-ranged : (o : ℕ) (vs : List ConstVal) → Every Ranged (strItems o vs)
 strings-ranged o [] = tt
 strings-ranged o (vInt z ∷ vs) = strings-ranged _ vs
 strings-ranged o (vReal x ∷ vs) = strings-ranged _ vs
 strings-ranged o (vStr s ∷ vs) = (tt, strings-ranged _ vs)
 
-elements-ranged : (k : ElemKind) (vs : List ConstVal) → Each Sound vs → Each Ranged (elementItems k vs)
-elements-ranged kByte vs h = (each-value (λ (b : ℕ). b < 256) constByte (λ v e. byte-small (constWord v)) vs h, tt)
-elements-ranged kWord vs h = (each-value Fits64 constWord (λ v e. word-range v) vs h, tt)
-elements-ranged kBig vs h = (each-value Fits64 constBig big-range vs h, tt)
-elements-ranged kReal vs h = (each-value (λ (x : Float). toBits binary64 x < 2 ^ 64) constReal real-range vs h, tt)
+elements-ranged : (k : ElemKind) (vs : List ConstVal) → Every Sound vs → Every Ranged (elementItems k vs)
+elements-ranged kByte vs h = (every-value (λ (b : ℕ). b < 256) constByte (λ v e. byte-small (constWord v)) vs h, tt)
+elements-ranged kWord vs h = (every-value Fits64 constWord (λ v e. word-range v) vs h, tt)
+elements-ranged kBig vs h = (every-value Fits64 constBig big-range vs h, tt)
+elements-ranged kReal vs h = (every-value (λ (x : Float). toBits binary64 x < 2 ^ 64) constReal real-range vs h, tt)
 elements-ranged kPtr vs h = strings-ranged 0 vs
 
-contents-ranged : (off : ℕ) (k : ElemKind) (vs : List ConstVal) → Each Sound vs → Each Ranged (contents off k vs)
+contents-ranged : (off : ℕ) (k : ElemKind) (vs : List ConstVal) → Every Sound vs → Every Ranged (contents off k vs)
 contents-ranged off k [] h = tt
-contents-ranged off k (v ∷ vs) h = (tt, each-join Ranged (elementItems k (v ∷ vs)) (backItem ∷ []) (elements-ranged k (v ∷ vs) h) (tt, tt))
+contents-ranged off k (v ∷ vs) h = (tt, every-append Ranged (elementItems k (v ∷ vs)) (backItem ∷ []) (elements-ranged k (v ∷ vs) h) (tt, tt))
 
 value-range : (b : Bool) (z : ℤ) → Fits64 z → InRange (cond b (bigValues (z ∷ [])) (wordValues (lowest 31 z ∷ [])))
 value-range true z h = (h, tt)
 value-range false z h = (low-small z, tt)
 
-init-ranged : (off : ℕ) (t : Ty) (i : Init) → SoundFirst i → Each Ranged (initItems off t i)
+init-ranged : (off : ℕ) (t : Ty) (i : Init) → SoundFirst i → Every Ranged (initItems off t i)
 init-ranged off t noInit h = tt
 init-ranged off t (constInit (vInt z)) h = (value-range (isOfKind kBig t) z h, tt)
 init-ranged off t (constInit (vReal x)) h = ((bits-range x h, tt), tt)
@@ -123,13 +124,13 @@ init-ranged off t (constInit (vStr s)) h = (tt, tt)
 init-ranged off t (arrayInit a) h = (tt, contents-ranged off (a .kind) (a .values) h)
 init-ranged off t pendingInit h = tt
 
-declare-ranged : (d : Declared) (o : Option ℕ) (g : Globals) → SoundFirst (d .first) → Each Ranged (g .items) → Each Ranged (declareAt d o g .items)
-declare-ranged d none g h e = each-join Ranged (g .items) _ e (init-ranged _ (d .ty) (d .first) h)
-declare-ranged d (some off) g h e = each-join Ranged (g .items) _ e (init-ranged off (d .ty) (d .first) h)
+declare-ranged : (d : Declared) (o : Option ℕ) (g : Globals) → SoundFirst (d .first) → Every Ranged (g .items) → Every Ranged (declareAt d o g .items)
+declare-ranged d none g h e = every-append Ranged (g .items) _ e (init-ranged _ (d .ty) (d .first) h)
+declare-ranged d (some off) g h e = every-append Ranged (g .items) _ e (init-ranged off (d .ty) (d .first) h)
 
-all-ranged : (g : Globals) (ds : List Declared) → Each (λ (d : Declared). SoundFirst (d .first)) ds → Each Ranged (g .items) → Each Ranged (globalsFrom g ds .items)
+all-ranged : (g : Globals) (ds : List Declared) → Every (λ (d : Declared). SoundFirst (d .first)) ds → Every Ranged (g .items) → Every Ranged (globalsFrom g ds .items)
 all-ranged g [] h e = e
 all-ranged g (d ∷ ds) h e = all-ranged _ ds (h .1) (declare-ranged d (placeOf (d .name) (g .places)) g (h .0) e)
 
-pub globals-ranged : (ns : Names) (s : Source) → Each (λ (d : Declared). SoundFirst (d .first)) (declaredIn ns s) → Each Ranged (globals ns s .items)
+pub globals-ranged : (ns : Names) (s : Source) → Every (λ (d : Declared). SoundFirst (d .first)) (declaredIn ns s) → Every Ranged (globals ns s .items)
 globals-ranged ns s h = all-ranged noGlobals (declaredIn ns s) h tt

@@ -20,9 +20,9 @@ use Rattle.semantics.specs.Image.{elemSize}
 use Rattle.semantics.specs.Listing.{listing}
 use Rattle.semantics.proofs.Common.{never}
 use Rattle.stored.specs.Reading.{largestSize, mostTypes, sizeIn}
-use Rattle.demand.proofs.Lines.{Each}
 use Rattle.stored.proofs.Items.{InRange, Readable}
 use Rattle.stored.proofs.Others.{PlainNames, no-shape, listing-size}
+use Rattle.laws.specs.Every.{Every}
 
 -- ---- an element's key equals no other
 
@@ -218,8 +218,8 @@ module _ (s : Source) (cs : List Const) (g : Globals) (plain : PlainNames s cs g
       listing-size s cs g plain (idOf s (g .items) (elemKey k)) (omega arith) l
       ∙ ap (λ (n : ℕ). min n largestSize) (size-there k s (g .items) h) ∙ size-small k
 
-  readable-from : (is : List Item) → ((k : ElemKind) → among k (concatMap arrayKey is) ≡ true → among k (concatMap arrayKey (g .items)) ≡ true) → Each Ranged is
-      → Each (Readable (sizeIn (listing s cs g)) (idOf s (g .items))) is
+  readable-from : (is : List Item) → ((k : ElemKind) → among k (concatMap arrayKey is) ≡ true → among k (concatMap arrayKey (g .items)) ≡ true) → Every Ranged is
+      → Every (Readable (sizeIn (listing s cs g)) (idOf s (g .items))) is
   readable-from [] f h = tt
   readable-from (valuesItem o vs ∷ is) f h = (h .0, readable-from is f (h .1))
   readable-from (strItem o t ∷ is) f h = (tt, readable-from is f (h .1))
@@ -228,5 +228,5 @@ module _ (s : Source) (cs : List Const) (g : Globals) (plain : PlainNames s cs g
   readable-from (setItem o ∷ is) f h = (tt, readable-from is f (h .1))
   readable-from (backItem ∷ is) f h = (tt, readable-from is f (h .1))
 
-  pub listing-readable : Each Ranged (g .items) → Each (Readable (sizeIn (listing s cs g)) (idOf s (g .items))) (g .items)
+  pub listing-readable : Every Ranged (g .items) → Every (Readable (sizeIn (listing s cs g)) (idOf s (g .items))) (g .items)
   listing-readable h = readable-from (g .items) (λ k e. e) h
