@@ -12,7 +12,7 @@ use Rattle.semantics.specs.Types.{opaqueShape, elemShape, keyShape, unknown}
 use Rattle.lines.specs.Lines.{readAt, formAt}
 use Rattle.source.specs.Walk.{fieldAt}
 use Rattle.records.specs.Log.{recordedAt, logOf, noRecord, Logged, Newest}
-use Rattle.records.proofs.Lists.{default-same}
+use Rattle.records.proofs.Keys.{default-same}
 use Rattle.type_keys.specs.Keys.{needAt, NeedLine, shapeAt}
 use Rattle.type_keys.specs.Table.{kindBy}
 use Rattle.type_keys.proofs.Forms.{elemBy, form-from}
