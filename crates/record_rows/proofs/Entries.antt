@@ -9,21 +9,20 @@ use lib.ListN.{length, drop, take, getD}
 use lib.IntN.{negsuc}
 use Rattle.semantics.specs.Text.{Bytes, bytes, decimal, decimalℤ, hexOf}
 use Rattle.semantics.specs.Tree.{AdtDecl, Case, Shape, Fd}
-use Rattle.semantics.specs.Form.{nodeAt}
 use Rattle.semantics.specs.Sheet.{concatMap}
 use Rattle.semantics.specs.Layout.{Recorded, place, recordsFor, variantFields, mapOf}
 use Rattle.semantics.specs.Listing.{row, recordRows, fieldRow}
 use Rattle.write.specs.Wrote.{Wrote}
 use Rattle.write.proofs.Wrote.{then}
 use Rattle.layout.proofs.Bounds.{Sized}
-use Rattle.lines.specs.Lines.{nodesIn, formAt}
-use Rattle.sizes.specs.Places.{ownFields, commonAt, caseAt, RecordLine, AllPlaced}
+use Rattle.lines.specs.Lines.{formAt}
+use Rattle.sizes.specs.Places.{commonAt, caseAt, RecordLine, AllPlaced}
 use Rattle.sizes.specs.declared.place.Reached.{Reached}
 use Rattle.sizes.proofs.Records.{checked-records-bound}
 use Rattle.maps.specs.Maps.{mapIn, mapLength, Mapped, MapRoom}
-use Rattle.shapes.specs.Shapes as Shapes
-use Rattle.shapes.specs.Shapes.{firstDecl, VariantLine, CaseOf}
-use Rattle.records.specs.Log.{declAt, firstRecord, ownRecord, casesIn, caseIn, variantRecord, recordIn, entryAt, recordedAt, nameOf, tagOf, logOf, noRecord, EntryIn, Logged}
+use Rattle.shapes.proofs.Cases.{fields-are}
+use Rattle.shapes.specs.Shapes.{firstDecl, declAt, firstShape, shapeAt, casesIn, casesAt, variantAt, VariantLine, CaseOf}
+use Rattle.records.specs.Log.{firstRecord, ownRecord, caseIn, variantRecord, recordIn, entryAt, recordedAt, nameOf, tagOf, logOf, noRecord, EntryIn, Logged}
 use Rattle.records.specs.Lines.{caseOf}
 use Rattle.records.proofs.Picks.{adt-decl, pick-decl, record-form, case-is}
 use Rattle.records.proofs.Keys.{plain-key, variant-key, entry-line, entry-variant}
@@ -42,21 +41,16 @@ own-tag d = go (d .pick)
     go none = (refl, refl)
     go (some ks) = (refl, refl)
 
-own-shape : (s : Bytes) (r : ℕ) → ownRecord (declAt s r) .shape ≡ Shapes.shapeAt s r
-unfolding ownRecord declAt Shapes.shapeAt
-own-shape s r = go (Shapes.declAt s r .pick)
+own-shape : (s : Bytes) (r : ℕ) → ownRecord (declAt s r) .shape ≡ shapeAt s r
+unfolding ownRecord shapeAt
+own-shape s r = go (declAt s r .pick)
   where
-    go : (o : Option (List Case)) → firstRecord (recordsFor (Shapes.declAt s r .name) (Shapes.declAt s r .fields) o) .shape ≡ Shapes.firstShape (recordsFor (Shapes.declAt s r .name) (Shapes.declAt s r .fields) o)
+    go : (o : Option (List Case)) → firstRecord (recordsFor (declAt s r .name) (declAt s r .fields) o) .shape ≡ firstShape (recordsFor (declAt s r .name) (declAt s r .fields) o)
     go none = refl
     go (some ks) = refl
 
 same-fields : (s : Bytes) (r : ℕ) → declAt s r .fields ≡ commonAt s r
-unfolding declAt
-same-fields s r = go (nodeAt (nodesIn s) r .declares .adts)
-  where
-    go : (ds : List AdtDecl) → firstDecl ds .fields ≡ ownFields ds
-    go [] = refl
-    go (d ∷ ds) = refl
+same-fields s r = sym (fields-are s r)
 
 own-fields-none : (d : AdtDecl) → d .pick ≡ none → ownRecord d .fields ≡ place 0 (d .fields) .placed
 unfolding ownRecord
@@ -99,7 +93,7 @@ module _ (s t : Bytes) (n i : ℕ) (l : EntryIn s t n i) where
     pub line-is : RecordLine s t n r
     line-is = rw hr (entry-line s t n i l)
 
-    pub shape-plain : c ≡ 0 → recordedAt s t i .shape ≡ Shapes.shapeAt s r
+    pub shape-plain : c ≡ 0 → recordedAt s t i .shape ≡ shapeAt s r
     shape-plain e = ap (λ (x : Recorded). x .shape) (plain-is s t i (sym hc ∙ e)) ∙ own-shape s (entryAt t i .line) ∙ rw hr
 
     module _ (e : c ≡ 0 → ⊥) where
@@ -109,8 +103,8 @@ module _ (s t : Bytes) (n i : ℕ) (l : EntryIn s t n i) where
       pub variant-line : VariantLine s t n r (c - 1)
       variant-line = rw (hr, hc) (entry-variant s t n i l positive)
 
-      pub shape-variant : recordedAt s t i .shape ≡ Shapes.variantAt s r (c - 1)
-      unfolding variantRecord Shapes.variantAt Shapes.casesAt declAt
+      pub shape-variant : recordedAt s t i .shape ≡ variantAt s r (c - 1)
+      unfolding variantRecord variantAt casesAt
       shape-variant = ap (λ (x : Recorded). x .shape) (variant-is s t i (λ z. e (hc ∙ z))) ∙ rw (hr, hc)
 
 -- ---- the size is small

@@ -17,10 +17,10 @@ use Rattle.semantics.proofs.Common.{never, both}
 use Rattle.laws.proofs.Lists.{last-append}
 use Rattle.words.proofs.Laws.{same-length}
 use Rattle.sizes.specs.Places.{RecordLine}
-use Rattle.records.specs.Log.{declAt, firstRecord, ownRecord, casesIn, caseIn, variantRecord, recordIn, entryAt, recordedAt, nameOf, tagOf, logOf, noRecord, EntryIn, Logged, Newest}
+use Rattle.shapes.specs.Shapes.{declAt, casesIn}
+use Rattle.records.specs.Log.{firstRecord, ownRecord, caseIn, variantRecord, recordIn, entryAt, recordedAt, nameOf, tagOf, logOf, noRecord, EntryIn, Logged, Newest}
 use Rattle.records.specs.Lines.{caseOf}
 use Rattle.shapes.specs.Shapes.{VariantLine, CaseOf}
-use Rattle.records.proofs.Lists.{default-same}
 use Rattle.records.proofs.Picks.{name-good, pick-line, variant-line, case-is}
 
 -- ---- a name and a tag
@@ -223,6 +223,11 @@ module _ (s t : Bytes) (n i j : ℕ) (k : EntryIn s t n i) (l : EntryIn s t n j)
             go (suc c) (suc d) b x y = refl
 
 -- ---- the last record of a key
+
+pub default-same : {A : Type 0} (l : List A) (i : ℕ) (x y : A) → i < length l → getD l i x ≡ getD l i y
+default-same [] i x y h = absurd (omega arith)
+default-same (r ∷ l) zero x y h = refl
+default-same (r ∷ l) (suc i) x y h = default-same l i x y (omega arith)
 
 -- the first i records hold the last of key k
 abbrev pub Deciding : Bytes → Bytes → ℕ → Type 0

@@ -29,10 +29,10 @@ use Rattle.source.proofs.Declares.{line-declares}
 use Rattle.sizes.specs.Places.{RecordLine, CaseLine}
 use Rattle.sizes.proofs.Forms.{adt-form, pick-form}
 use Rattle.sizes.proofs.Places.{case-in, form-pc, case-good}
-use Rattle.records.specs.Log.{declAt, casesIn, caseIn}
+use Rattle.shapes.specs.Shapes.{declAt, casesIn}
+use Rattle.records.specs.Log.{caseIn}
 use Rattle.records.specs.Lines.{caseOf}
-use Rattle.shapes.specs.Shapes as Shapes
-use Rattle.shapes.specs.Shapes.{firstDecl, PickLine, VariantLine, CaseOf}
+use Rattle.shapes.specs.Shapes.{firstDecl, casesAt, PickLine, VariantLine, CaseOf}
 
 -- ---- what line i declares, from 0
 
@@ -129,11 +129,11 @@ module _ (s t : List ℕ) (n r : ℕ) (l : RecordLine s t n r) where
 
 -- ---- the cases of a `pick` line
 
-same-cases : (s : List ℕ) (r : ℕ) → Shapes.casesAt s r ≡ casesIn (declAt s r)
-unfolding declAt Shapes.casesAt
+same-cases : (s : List ℕ) (r : ℕ) → casesAt s r ≡ casesIn (declAt s r)
+unfolding casesAt
 same-cases s r = refl
 
-pub cases-count : (s : List ℕ) (r : ℕ) {k : ℕ} → k ≡ length (Shapes.casesAt s r) → k ≡ length (casesIn (declAt s r))
+pub cases-count : (s : List ℕ) (r : ℕ) {k : ℕ} → k ≡ length (casesAt s r) → k ≡ length (casesIn (declAt s r))
 cases-count s r e = e ∙ ap length (same-cases s r)
 
 pub variant-line : {s t : List ℕ} {n r c : ℕ} → PickLine s t n r → c < length (casesIn (declAt s r)) → VariantLine s t n r c

@@ -1,5 +1,5 @@
 -- The log of records in the working space: for each a line; where it is a variant its case, its tag and the tag's number; and the digest of its key.
-use Prim.Native.Nat.{ℕ, zero, suc, _+_, _*_, _/_, _%_, _-_, _≤_, _<_}
+use Prim.Native.Nat.{ℕ, zero, suc, _+_, _*_, _-_, _≤_, _<_}
 use mathlib.Core.Path.{_≡_}
 use mathlib.Core.Bool.{true, _||_}
 use mathlib.Core.List.{List, [], _∷_, _++_}
@@ -7,22 +7,17 @@ use lib.Dec.{eqb}
 use lib.IntN.{pos}
 use lib.ListN.{length, getD}
 use Rattle.semantics.specs.Text.{Bytes}
-use Rattle.semantics.specs.Tree.{AdtDecl, Case, Node, noCase}
+use Rattle.semantics.specs.Tree.{AdtDecl, Case, noCase}
 use Rattle.semantics.specs.Form.{letter}
-use Rattle.semantics.specs.Sheet.{concatMap, sheetSource}
+use Rattle.semantics.specs.Sheet.{sheetSource}
 use Rattle.semantics.specs.Layout.{Recorded, recordsOf, recordedAdts, recordLog, lastOf, variantShape, variantFields}
 use Rattle.semantics.specs.Types.{unknown}
 use Rattle.words.specs.Words.{digest}
-use Rattle.lines.specs.Lines.{readAt, nodesIn}
-use Rattle.checks.specs.Checks.{Checked, Kept}
-use Rattle.source.specs.Walk.{declaresAt}
-use Rattle.shapes.specs.Shapes as Shapes
+use Rattle.lines.specs.Lines.{readAt}
+use Rattle.checks.specs.Checks.{Checked}
+use Rattle.shapes.specs.Shapes.{declAt, casesIn}
 
 -- ---- the records of a declaration
-
--- what line r declares, from 1
-unfoldable pub declAt : Bytes → ℕ → AdtDecl
-declAt s r = Shapes.declAt s r
 
 abbrev pub firstRecord : List Recorded → Recorded
 firstRecord [] = unknown []
@@ -31,9 +26,6 @@ firstRecord (r ∷ rs) = r
 -- T's own record stands first
 unfoldable pub ownRecord : AdtDecl → Recorded
 ownRecord d = firstRecord (recordsOf d)
-
-abbrev pub casesIn : AdtDecl → List Case
-casesIn d = Shapes.casesIn (d .pick)
 
 abbrev pub caseIn : AdtDecl → ℕ → Case
 caseIn d c = getD (casesIn d) c noCase
@@ -71,17 +63,11 @@ nameOf s e = declAt s (e .line) .name
 unfoldable pub tagOf : Bytes → Entry → Bytes
 tagOf s e = getD (caseIn (declAt s (e .line)) (e .case - 1) .tags) (e .position) []
 
--- 8 bytes an entry, the line low byte first, with room for the digest of the key
-abbrev pub entryBytes : ℕ → ℕ → ℕ → ℕ → Bytes
-entryBytes r c p k = (r % 256) ∷ (r / 256) ∷ c ∷ p ∷ k ∷ 0 ∷ 0 ∷ 0 ∷ []
-
-abbrev pub bytesOf : Entry → Bytes
-bytesOf e = entryBytes (e .line) (e .case) (e .position) (e .number)
-
--- byte k of entry i
+-- 8 bytes an entry: byte k of entry i
 abbrev pub byteOf : Bytes → ℕ → ℕ → ℕ
 byteOf t i k = getD t (9216 + (8 * i + k)) 0
 
+-- the line low byte first
 unfoldable pub entryAt : Bytes → ℕ → Entry
 entryAt t i = record { line = byteOf t i 0 + 256 * byteOf t i 1; case = byteOf t i 2; position = byteOf t i 3; number = byteOf t i 4 }
 
@@ -92,38 +78,6 @@ digestOf t i = byteOf t i 5
 -- the record that entry i stands for
 unfoldable pub recordedAt : Bytes → Bytes → ℕ → Recorded
 recordedAt s t i = recordOf s (entryAt t i)
-
--- ---- the entries of a sheet
-
--- so many tags of a case, from place p and number k on
-abbrev pub tagEntries : ℕ → ℕ → ℕ → ℕ → ℕ → List Entry
-tagEntries r c p k zero = []
-tagEntries r c p k (suc q) = record { line = r; case = c; position = p; number = k } ∷ tagEntries r c (suc p) (suc k) q
-
--- tags count over all cases
-abbrev pub caseEntries : ℕ → ℕ → ℕ → List Case → List Entry
-caseEntries r c k [] = []
-caseEntries r c k (x ∷ xs) = tagEntries r (suc c) 0 k (length (x .tags)) ++ caseEntries r (suc c) (k + length (x .tags)) xs
-
-abbrev pub declEntries : ℕ → AdtDecl → List Entry
-declEntries r d = record { line = r; case = 0; position = 0; number = 0 } ∷ caseEntries r 0 0 (casesIn d)
-
-abbrev pub lineEntries : ℕ → List AdtDecl → List Entry
-lineEntries r [] = []
-lineEntries r (d ∷ ds) = declEntries r d
-
--- of line r, from 1
-unfoldable pub entriesOf : Bytes → ℕ → List Entry
-entriesOf s r = lineEntries r (declaresAt (nodesIn s) (r - 1) .adts)
-
--- those of the first i lines
-unfoldable pub entriesTo : List Node → ℕ → List Entry
-entriesTo ns zero = []
-entriesTo ns (suc i) = entriesTo ns i ++ lineEntries (suc i) (declaresAt ns i .adts)
-
--- and their bytes
-unfoldable pub logBytes : List Entry → Bytes
-logBytes es = concatMap bytesOf es
 
 -- ---- the log of a checked sheet
 
@@ -159,15 +113,6 @@ pub record Digested (s t : Bytes) (n m d : ℕ) : Type 0 where
 -- the log of all records of the sheet, m of them, with all digests
 abbrev pub Logged : Bytes → Bytes → ℕ → ℕ → Type 0
 Logged s t n m = Digested s t n m m
-
--- what making it leaves
-pub record CollectedTo (s t u : Bytes) (n m d : ℕ) : Type 0 where
-  pub log : Digested s u n m d
-  pub kept : Kept 9216 t u
-  pub above : (j : ℕ) → 10240 ≤ j → getD u j 0 ≡ getD t j 0
-
-abbrev pub Collected : Bytes → Bytes → Bytes → ℕ → ℕ → Type 0
-Collected s t u n m = CollectedTo s t u n m m
 
 -- ---- the entries of a key
 

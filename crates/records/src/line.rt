@@ -4,7 +4,7 @@ ghost use mathlib.Core.List.{[]};
 ghost use Prim.Native.Nat.{_≤_, _<_};
 ghost use lib.ListN.{length, getD};
 ghost use Rattle.sizes.specs.Places.{RecordLine, CaseLine};
-ghost use Rattle.records.specs.Log.{declAt};
+ghost use Rattle.shapes.specs.Shapes.{declAt};
 ghost use Rattle.records.specs.Lines.{caseOf};
 
 pub fn record_name<'a>(sheet: &'a [u8], work: &[u8], n: usize, r: usize) -> &'a [u8]

@@ -66,6 +66,7 @@ own-fields [] = refl
 own-fields (d ∷ ds) = refl
 
 pub fields-are : (s : List ℕ) (r : ℕ) → commonAt s r ≡ declAt s r .fields
+unfolding declAt
 fields-are s r = own-fields (nodeAt (nodesIn s) r .declares .adts)
 
 -- ---- forms 26 and 27: `adt` and `pick`
@@ -75,6 +76,7 @@ module _ (s t : List ℕ) (n r : ℕ) (c : Checked s t n) (first : 0 < r) (last 
   kind-of f e = kind-is s t n (c .whole) (r - 1) (omega arith) ∙ ap kindAt e
 
   decl-of : (f : ℕ) → formAt t (r - 1) ≡ f → declAt s r ≡ firstDecl (rowNode (nodesIn s) f (readAt s (r - 1) .fields) .declares .adts)
+  unfolding declAt
   decl-of f e =
       ap (λ (m : Node). firstDecl (m .declares .adts)) (node-at s t n (c .whole) (c .good) (r - 1) (omega arith))
       ∙ ap (λ (g : ℕ). firstDecl (rowNode (nodesIn s) g (readAt s (r - 1) .fields) .declares .adts)) e
@@ -149,7 +151,7 @@ module _ (s t : List ℕ) (n r : ℕ) (l : PickLine s t n r) where
   unfolding casesAt forms
   pick-some = from (ap (λ (d : AdtDecl). d .pick) (decl-of s t n r (l .checked) (l .first) (l .last) 27 form-pick))
     where
-      from : {ks : List Case} → declAt s r .pick ≡ some ks → declAt s r .pick ≡ some (casesIn (declAt s r .pick))
+      from : {ks : List Case} → declAt s r .pick ≡ some ks → declAt s r .pick ≡ some (casesIn (declAt s r))
       from e = rw e
 
   cases-are : casesAt s r ≡ casesOf (values (ref kPc) (nodesIn s) (numberOf (getD parts (common + 2) [])) (drop (common + 3) parts))
@@ -157,7 +159,7 @@ module _ (s t : List ℕ) (n r : ℕ) (l : PickLine s t n r) where
   cases-are =
       let z : 1 + suc common ≡ common + 2 = omega arith in
       let y : suc (common + 2) ≡ common + 3 = omega arith in
-      ap (λ (d : AdtDecl). casesIn (d .pick)) (decl-of s t n r (l .checked) (l .first) (l .last) 27 form-pick)
+      ap casesIn (decl-of s t n r (l .checked) (l .first) (l .last) 27 form-pick)
       ∙ rw (tail-drop 0 parts, head-drop 1 parts, drop-drop (suc common) 1 parts, z, head-drop (common + 2) parts, tail-drop (common + 2) parts, y)
 
   cases-length : length (casesAt s r) ≡ numberOf (getD parts (common + 2) [])

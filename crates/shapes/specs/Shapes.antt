@@ -2,9 +2,9 @@
 use Prim.Native.Nat.{ℕ, _+_, _-_, _≤_, _<_}
 use mathlib.Core.Path.{_≡_}
 use mathlib.Core.List.{List, [], _∷_}
-use mathlib.Core.Option.{Option, none, some}
+use mathlib.Core.Option.{none}
 use lib.ListN.{length, getD}
-use Rattle.semantics.specs.Text.{Bytes}
+use Rattle.semantics.specs.Text.{Bytes, orElse}
 use Rattle.semantics.specs.Tree.{Case, AdtDecl, Shape, noCase}
 use Rattle.semantics.specs.Form.{letter, nodeAt, numberOf}
 use Rattle.semantics.specs.Layout as Layout
@@ -19,7 +19,7 @@ abbrev pub firstDecl : List AdtDecl → AdtDecl
 firstDecl [] = record { name = []; fields = []; pick = none }
 firstDecl (d ∷ ds) = d
 
-abbrev pub declAt : Bytes → ℕ → AdtDecl
+unfoldable pub declAt : Bytes → ℕ → AdtDecl
 declAt s r = firstDecl (nodeAt (nodesIn s) r .declares .adts)
 
 -- the record of T itself is the first that a declaration makes
@@ -31,12 +31,11 @@ unfoldable pub shapeAt : Bytes → ℕ → Shape
 shapeAt s r = firstShape (recordsOf (declAt s r))
 
 -- its cases
-abbrev pub casesIn : Option (List Case) → List Case
-casesIn none = []
-casesIn (some ks) = ks
+abbrev pub casesIn : AdtDecl → List Case
+casesIn d = orElse [] (d .pick)
 
 unfoldable pub casesAt : Bytes → ℕ → List Case
-casesAt s r = casesIn (declAt s r .pick)
+casesAt s r = casesIn (declAt s r)
 
 -- the variants of case c, from 0
 unfoldable pub variantAt : Bytes → ℕ → ℕ → Shape

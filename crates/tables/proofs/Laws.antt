@@ -18,7 +18,7 @@ use Rattle.globals.specs.declared.Globals.{Globals}
 use Rattle.globals.specs.Collect as Globals
 use Rattle.global_table.specs.Table.{Around}
 use Rattle.globals.proofs.Collect.{collected-kept}
-use Rattle.records.specs.Log as Records
+use Rattle.record_log.specs.Entries as Records
 use Rattle.records.proofs.Kept.{logged-kept}
 use Rattle.need_keys.specs.declared.NeedCounts.{NeedCounts}
 use Rattle.type_keys.specs.Table.{Needs, Kinds, Outside}

@@ -26,7 +26,7 @@ fn make_others(sheet: &[u8], work: &mut [u8], n: usize, m: usize) -> Tables
     ensures { λ x. ⌜ (Held (now (sheet .entry)) (now (work .exit)) n x) × (x .consts ≡ m) × (logIn (now (sheet .entry)) (now (work .exit)) m ≡ logIn (now (sheet .entry)) (now (work .entry)) m) × (Kept 5120 (now (work .entry)) (now (work .exit))) ⌝ }
 {
     let g = globals::collect_globals(sheet, work, n);
-    let r = records::collect_adts(sheet, work, n);
+    let r = record_log::collect_adts(sheet, work, n);
     let d = need_keys::collect_needs(sheet, work, n);
     Tables {
         consts: m,

@@ -12,7 +12,7 @@ use Rattle.semantics.specs.Types.{opaqueShape, elemShape, keyShape, unknown}
 use Rattle.lines.specs.Lines.{readAt, formAt}
 use Rattle.source.specs.Walk.{fieldAt}
 use Rattle.records.specs.Log.{recordedAt, logOf, noRecord, Logged, Newest}
-use Rattle.records.proofs.Lists.{default-same}
+use Rattle.records.proofs.Keys.{default-same}
 use Rattle.type_lines.specs.Needs.{needAt, NeedLine, kindBy}
 use Rattle.type_lines.specs.Shapes.{shapeAt}
 use Rattle.type_lines.proofs.Forms.{elemBy, form-from}

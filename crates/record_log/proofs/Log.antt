@@ -24,12 +24,15 @@ use Rattle.checks.specs.Checks.{Checked}
 use Rattle.checks.proofs.Kept.{checked-kept}
 use Rattle.source.specs.Walk.{declaresAt, declaredTo}
 use Rattle.source.proofs.Walk.{located-all, located-its, declared-all, source-of}
-use Rattle.records.specs.Log.{declAt, casesIn, caseIn, Entry, recordOf, entryBytes, tagEntries, caseEntries, lineEntries, entryAt, recordedAt, entriesOf, entriesTo, logBytes, logOf, noRecord, Sound, CollectedTo}
+use Rattle.shapes.specs.Shapes.{declAt, casesIn}
+use Rattle.records.specs.Log.{caseIn, Entry, recordOf, entryAt, recordedAt, logOf, noRecord, Sound}
+use Rattle.record_log.specs.Entries.{entryBytes, tagEntries, caseEntries, lineEntries, entriesOf, entriesTo, logBytes, CollectedTo}
 use Rattle.records.specs.Lines.{caseOf}
+use Rattle.records.proofs.Keys.{default-same}
 use Rattle.shapes.specs.Shapes.{firstDecl, PickLine, CaseOf}
-use Rattle.records.proofs.Lists.{default-same, line-log, log-length, AllOf, none-of, all-append, all-at, line-sound}
-use Rattle.records.proofs.Table.{wrote-kept, wrote-above, log-append, log-bytes, entry-back}
+use Rattle.record_log.proofs.Lists.{line-log, log-length, AllOf, none-of, all-append, all-at, line-sound}
+use Rattle.record_log.proofs.Table.{wrote-kept, wrote-above, log-append, log-bytes, entry-back}
 use Rattle.records.proofs.Picks.{adt-decl, pick-decl, no-decl, case-is}
 
 -- ---- a place stays within one past the end
 

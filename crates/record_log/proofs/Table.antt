@@ -10,7 +10,8 @@ use Rattle.semantics.specs.Text.{Bytes}
 use Rattle.write.specs.Wrote.{over, Wrote}
 use Rattle.write.proofs.Wrote.{wrote-length, wrote-none, then, wrote-as}
 use Rattle.checks.specs.Checks.{Kept}
-use Rattle.records.specs.Log.{Entry, entryBytes, bytesOf, byteOf, entryAt, tagEntries, logBytes}
+use Rattle.records.specs.Log.{Entry, byteOf, entryAt}
+use Rattle.record_log.specs.Entries.{entryBytes, bytesOf, tagEntries, logBytes}
 
 -- ---- what a write leaves as it was
 

@@ -1,5 +1,5 @@
-use Rattle.records.proofs.Log.{entries-start, entries-next, entries-end, checked-wrote, place-on}
-use Rattle.records.specs.Log.{entriesTo, logBytes}
+use Rattle.record_log.proofs.Log.{entries-start, entries-next, entries-end, checked-wrote, place-on}
+use Rattle.record_log.specs.Entries.{entriesTo, logBytes}
 use Rattle.lines.specs.Lines.{nodesIn}
 use Rattle.write.proofs.Wrote.{wrote-length, place-low}
 use Rattle.write.specs.Wrote.{Wrote}
@@ -7,8 +7,8 @@ use denote.Ref.{now}
 use Prim.Native.Nat.{_-_, _≤_}
 use native.Mathlib.Omega.{arith}
 use mathlib.Core.Path.{refl}
-use Rattle.records.proofs.log_adts.Statement.{statement}
-use Rattle.records.proofs.log_adts.Tie as tie
+use Rattle.record_log.proofs.log_adts.Statement.{statement}
+use Rattle.record_log.proofs.log_adts.Tie as tie
 
 abbrev Inv-loop : tie.InvT-loop
 Inv-loop sheet work₀ n at₀ r₀ work at r = (r ≤ n) × (Wrote work₀ 9216 (logBytes (entriesTo (nodesIn sheet) r)) work at)

@@ -8,16 +8,17 @@ use native.Mathlib.Omega.{arith}
 use lib.Dec.{eqb}
 use lib.ListN.{length, drop, take, getD, length-append, length-drop}
 use lib.Seq.{getD-drop, drop-drop}
-use Rattle.semantics.specs.Text.{Bytes}
+use Rattle.semantics.specs.Text.{Bytes, orElse}
 use Rattle.semantics.specs.Tree.{AdtDecl, Case, noCase, Fd, Shape}
 use Rattle.semantics.specs.Form.{letter}
 use Rattle.semantics.specs.Refusal.{sumOf, recordCount}
 use Rattle.semantics.specs.Layout.{Placed, variantsOf, casesFrom, recordsFor, recordsOf, recordLog, variantShape, variantFields}
 use Rattle.laws.proofs.Lists.{map-append}
 use Rattle.lines.specs.Lines.{readAt}
-use Rattle.shapes.specs.Shapes as Shapes
 use Rattle.shapes.specs.Shapes.{firstDecl}
-use Rattle.records.specs.Log.{declAt, firstRecord, ownRecord, casesIn, caseIn, variantRecord, Entry, recordOf, tagEntries, caseEntries, declEntries, lineEntries, Sound}
+use Rattle.shapes.specs.Shapes.{declAt, casesIn}
+use Rattle.records.specs.Log.{firstRecord, ownRecord, caseIn, variantRecord, Entry, recordOf, Sound}
+use Rattle.record_log.specs.Entries.{tagEntries, caseEntries, declEntries, lineEntries}
 
 -- ---- lists
 
@@ -26,11 +27,6 @@ head-of d p l x xs h = let z : p + 0 ≡ p = omega arith in sym (getD-drop p l 0
 
 tail-of : {A : Type 0} (p : ℕ) (l : List A) (x : A) (xs : List A) → drop p l ≡ x ∷ xs → drop (suc p) l ≡ xs
 tail-of p l x xs h = let z : suc p ≡ p + 1 = omega arith in ap (λ (j : ℕ). drop j l) z ∙ sym (drop-drop 1 p l) ∙ ap (drop 1) h
-
-pub default-same : {A : Type 0} (l : List A) (i : ℕ) (x y : A) → i < length l → getD l i x ≡ getD l i y
-default-same [] i x y h = absurd (omega arith)
-default-same (r ∷ l) zero x y h = refl
-default-same (r ∷ l) (suc i) x y h = default-same l i x y (omega arith)
 
 longer : {A : Type 0} (p : ℕ) (l : List A) (x : A) (xs : List A) → drop p l ≡ x ∷ xs → p < length l
 longer p l x xs h = omega (arith, length-drop p l, ap length h)
@@ -58,9 +54,9 @@ module _ (s : Bytes) (r : ℕ) where
   decl-log = go (declAt s r .pick) refl
     where
       go : (o : Option (List Case)) → declAt s r .pick ≡ o
-          → firstRecord (recordsFor (declAt s r .name) (declAt s r .fields) o) ∷ map (recordOf s) (caseEntries r 0 0 (Shapes.casesIn o)) ≡ recordsFor (declAt s r .name) (declAt s r .fields) o
+          → firstRecord (recordsFor (declAt s r .name) (declAt s r .fields) o) ∷ map (recordOf s) (caseEntries r 0 0 (orElse [] o)) ≡ recordsFor (declAt s r .name) (declAt s r .fields) o
       go none q = refl
-      go (some ks) q = rw (cases-log ks 0 0 (ap Shapes.casesIn q))
+      go (some ks) q = rw (cases-log ks 0 0 (ap (orElse []) q))
 
   -- a line declares one at most
   pub line-log : (ds : List AdtDecl) → firstDecl ds ≡ declAt s r → take 1 ds ≡ ds → map (recordOf s) (lineEntries r ds) ≡ recordLog ds

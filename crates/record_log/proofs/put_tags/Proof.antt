@@ -1,10 +1,10 @@
-use Rattle.records.proofs.Table.{Tagging, tagging-start, tagging-next, tagging-end}
+use Rattle.record_log.proofs.Table.{Tagging, tagging-start, tagging-next, tagging-end}
 use Rattle.write.proofs.Wrote.{wrote-length}
 use denote.Ref.{now}
 use Prim.Native.Nat.{_-_}
 use native.Mathlib.Omega.{arith}
-use Rattle.records.proofs.put_tags.Statement.{statement}
-use Rattle.records.proofs.put_tags.Tie as tie
+use Rattle.record_log.proofs.put_tags.Statement.{statement}
+use Rattle.record_log.proofs.put_tags.Tie as tie
 
 abbrev Inv-loop : tie.InvT-loop
 Inv-loop work₀ at r case count number p₀ j₀ work p j = Tagging r case count number work₀ p₀ work p j

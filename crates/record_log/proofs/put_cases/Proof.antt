@@ -1,11 +1,11 @@
 use Rattle.records.proofs.Picks.{cases-count, variant-line}
-use Rattle.records.proofs.Log.{Casing, casing-start, casing-next, casing-end, pick-wrote}
+use Rattle.record_log.proofs.Log.{Casing, casing-start, casing-next, casing-end, pick-wrote}
 use Rattle.write.proofs.Wrote.{wrote-length, place-low}
 use denote.Ref.{now}
 use Prim.Native.Nat.{_-_}
 use native.Mathlib.Omega.{arith}
-use Rattle.records.proofs.put_cases.Statement.{statement}
-use Rattle.records.proofs.put_cases.Tie as tie
+use Rattle.record_log.proofs.put_cases.Statement.{statement}
+use Rattle.record_log.proofs.put_cases.Tie as tie
 
 abbrev Inv-loop : tie.InvT-loop
 Inv-loop sheet work₀ n r at count p₀ number₀ c₀ work p number c = Casing sheet r work₀ p₀ work p number c

@@ -1,9 +1,9 @@
 use native.Mathlib.Omega.{arith}
 use Prim.Native.Nat.{_-_, _≤_}
-use Rattle.records.specs.Log.{CollectedTo}
-use Rattle.records.proofs.Digests.{digests-start, digests-next, digests-end}
-use Rattle.records.proofs.enter_digests.Statement.{statement}
-use Rattle.records.proofs.enter_digests.Tie as tie
+use Rattle.record_log.specs.Entries.{CollectedTo}
+use Rattle.record_log.proofs.Digests.{digests-start, digests-next, digests-end}
+use Rattle.record_log.proofs.enter_digests.Statement.{statement}
+use Rattle.record_log.proofs.enter_digests.Tie as tie
 
 abbrev Inv-loop : tie.InvT-loop
 Inv-loop sheet work₀ n m i₀ work i = (i ≤ m) × (CollectedTo sheet work₀ work n m i)

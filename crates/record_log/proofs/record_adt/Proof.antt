@@ -1,9 +1,9 @@
-use Rattle.records.proofs.Log.{adt-entries, pick-entries, no-entries, line-pick, pick-wrote, place-on}
+use Rattle.record_log.proofs.Log.{adt-entries, pick-entries, no-entries, line-pick, pick-wrote, place-on}
 use Rattle.write.proofs.Wrote.{wrote-none, then, wrote-as, place-low}
 use denote.Ref.{now}
 use borrow.Author.Needs.{needs}
-use Rattle.records.proofs.record_adt.Statement.{statement}
-use Rattle.records.proofs.record_adt.Tie as tie
+use Rattle.record_log.proofs.record_adt.Statement.{statement}
+use Rattle.record_log.proofs.record_adt.Tie as tie
 
 returns : tie.Need-returns
 returns c = wrote-as (adt-entries (now (c .before .before .before .before .before .before .before .before .before .args .sheet)) (now (c .before .before .before .before .before .before .before .before .before .args .work)) (c .before .before .before .before .before .before .before .before .before .args .n) (c .before .before .before .before .before .before .before .before .before .pre .0) (c .before .before .before .before .before .before .before .before .before .args .r) (c .before .before .before .before .before .before .before .before .before .pre .1) (c .before .before .before .before .before .before .before .before .before .pre .2) (c .before .before .before .before .before .form-at .ensures) (c .before .before .before .before .if1 .taken)) (c .before .before .put-entry .ensures)

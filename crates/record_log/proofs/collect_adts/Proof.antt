@@ -1,7 +1,7 @@
-use Rattle.records.proofs.Digests.{collected-then}
+use Rattle.record_log.proofs.Digests.{collected-then}
 use borrow.Author.Needs.{needs}
-use Rattle.records.proofs.collect_adts.Statement.{statement}
-use Rattle.records.proofs.collect_adts.Tie as tie
+use Rattle.record_log.proofs.collect_adts.Statement.{statement}
+use Rattle.record_log.proofs.collect_adts.Tie as tie
 
 returns : tie.Need-returns
 returns c = collected-then (c .before .before .before .before .before .before .log-adts .ensures) (c .before .before .enter-digests .ensures)
