@@ -1,8 +1,7 @@
 -- Where what stands below a place is kept: a checked sheet stays checked where its tables are kept.
 use mathlib.Core.Path.{_≡_, refl, sym, ap, _∙_}
 use mathlib.Core.List.{List}
-use Prim.Native.Nat.{ℕ, _+_, _≤_, _<_}
-use native.Mathlib.Omega.{arith}
+use Prim.Native.Nat.{ℕ, _≤_, _<_}
 use lib.ListN.{take, getD}
 use lib.Seq.{getD-take, take-take}
 use Rattle.lines.proofs.Laws.{whole-kept}

@@ -2,7 +2,7 @@
 use Prim.Native.Nat.{ℕ, suc}
 use mathlib.Core.Path.{_≡_, refl}
 use mathlib.Core.Bool.{Bool, true, false, cond}
-use mathlib.Core.List.{List, [], _∷_, _++_, map}
+use mathlib.Core.List.{List, [], _∷_, map}
 use mathlib.Core.Option.{Option, none, some}
 use lib.ListN.{length}
 use lib.Dec.{ltb, eqb}

@@ -5,7 +5,7 @@ use Prim.Native.Nat.{ℕ, zero, suc, _+_, _-_, _*_, _/_, _%_, _≤_, _<_}
 use mathlib.Core.Path.{_≡_}
 use mathlib.Core.List.{List, [], _∷_}
 use mathlib.Core.Option.{Option, none, some}
-use lib.ListN.{length, drop, getD}
+use lib.ListN.{drop, getD}
 use lib.Seq.{sets}
 use Rattle.semantics.specs.Text.{Bytes, orElse}
 use Rattle.semantics.specs.Tree.{Ty}

@@ -5,7 +5,7 @@ use mathlib.Core.Option.{Option, none, some}
 use mathlib.Core.Logic.{⊎-elim}
 use Prim.Native.Nat.{ℕ, zero, suc, _+_, _-_, _≤_, _<_}
 use native.Mathlib.Omega.{arith}
-use lib.ListN.{length, drop, take, getD}
+use lib.ListN.{drop, take}
 use lib.IntN.{negsuc}
 use Rattle.semantics.specs.Text.{Bytes, bytes, decimal, decimalℤ, hexOf}
 use Rattle.semantics.specs.Tree.{AdtDecl, Case, Shape, Fd}

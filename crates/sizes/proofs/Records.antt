@@ -6,7 +6,7 @@ use Prim.Native.Nat.{ℕ, suc, _-_, _≤_, _<_}
 use native.Mathlib.Omega.{arith}
 use Rattle.semantics.specs.Tree.{AdtDecl, Declares, Node, noNode}
 use Rattle.semantics.specs.Form.{nodeAt}
-use Rattle.semantics.specs.Sheet.{Module, Located, locatedFrom, openAfter, concatMap, sheetSource}
+use Rattle.semantics.specs.Sheet.{Module, Located, locatedFrom, openAfter, sheetSource}
 use Rattle.semantics.specs.Refusal.{sumOf}
 use Rattle.semantics.specs.Layout.{recordsOf, recordedAdts, recordLog}
 use Rattle.layout.specs.Lines.{declLines}

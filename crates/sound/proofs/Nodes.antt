@@ -1,11 +1,11 @@
 -- Every node of a checked sheet keeps to the limits: form by form, and then line by line.
-use Prim.Native.Nat.{ℕ, suc, _+_, _<_}
+use Prim.Native.Nat.{ℕ, _+_, _<_}
 use native.Mathlib.Omega.{arith}
 use mathlib.Core.Path.{_≡_}
 use mathlib.Core.Bool.{Bool, true}
 use mathlib.Core.List.{List, [], _∷_, _++_}
 use mathlib.Core.Option.{Option, none, some}
-use lib.ListN.{length, getD}
+use lib.ListN.{length}
 use Rattle.semantics.specs.Text.{Bytes}
 use Rattle.semantics.specs.Tree.{Ty, Ex, El, Se, Fd, Case, AdtDecl, ConstDecl, VarDecl, Shape, TypeKey, Node, noFd, noCase, tree, declares, anEx, anEl}
 use Rattle.semantics.specs.Tree.Ex.{otherEx}

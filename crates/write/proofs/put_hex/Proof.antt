@@ -1,7 +1,6 @@
 -- `write::put_hex` meets its contract. The digits of the first k bytes are written.
 use Prim.Native.Nat.{ℕ, _-_, _≤_}
 use mathlib.Core.Path.{ap}
-use native.Mathlib.Omega.{arith}
 use native.Mathlib.Numerals.{add-one}
 use lib.Seq.{take-all, take-suc}
 use lib.ListN.{length, take}

@@ -1,6 +1,5 @@
 -- `write::put_part` meets its contract. The first k bytes are written.
 use Prim.Native.Nat.{_-_, _≤_}
-use native.Mathlib.Omega.{arith}
 use lib.Seq.{take-all}
 use lib.ListN.{length, take}
 use borrow.Author.Needs.{needs}
