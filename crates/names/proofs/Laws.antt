@@ -220,9 +220,9 @@ module _ {c : ℕ} {t u : Bytes} (w : Kept c t u) where
   unfolding u16At
   u16-kept a h = rw (kept-at w a (omega arith), kept-at w (a + 1) h)
 
-  bits-kept : (a : ℕ) → a + 8 ≤ c → bitsAt u a ≡ bitsAt t a
+  u64-kept : (a : ℕ) → a + 8 ≤ c → bitsAt u a ≡ bitsAt t a
   unfolding bitsAt
-  bits-kept a h = ap (fromBigEndian 0) (part-kept w a 8 h)
+  u64-kept a h = ap (fromBigEndian 0) (part-kept w a 8 h)
 
 -- the string of an entry is the same
 abbrev pub SameText : Bytes → Bytes → ℕ → Type 0
@@ -240,7 +240,7 @@ module _ {t u : Bytes} (n i : ℕ) (w : Kept (5136 + 16 * i) t u) (e : Entry t n
   kind-kept = kept-at w (5124 + 16 * i) (omega arith)
 
   bits-kept : bitsOf u i ≡ bitsOf t i
-  bits-kept = bits-kept w (5125 + 16 * i) (omega arith)
+  bits-kept = u64-kept w (5125 + 16 * i) (omega arith)
 
   digest-kept : digestOf u i ≡ digestOf t i
   digest-kept = kept-at w (5133 + 16 * i) (omega arith)

@@ -1,7 +1,7 @@
 -- The records of the entries are the log of what is declared, and every entry is sound.
 use mathlib.Core.Path.{_≡_, refl, sym, ap, _∙_}
 use mathlib.Core.Bool.{true, _||_}
-use mathlib.Core.List.{List, [], _∷_, _++_, map, append-nil}
+use mathlib.Core.List.{List, [], _∷_, map, append-nil}
 use mathlib.Core.Option.{Option, none, some}
 use Prim.Native.Nat.{ℕ, zero, suc, _+_, _-_, _≤_, _<_}
 use native.Mathlib.Omega.{arith}
@@ -13,11 +13,13 @@ use Rattle.semantics.specs.Tree.{AdtDecl, Case, noCase, Fd, Shape}
 use Rattle.semantics.specs.Form.{letter}
 use Rattle.semantics.specs.Refusal.{sumOf, recordCount}
 use Rattle.semantics.specs.Layout.{Placed, variantsOf, casesFrom, recordsFor, recordsOf, recordLog, variantShape, variantFields}
+use Rattle.laws.specs.Every.{Every}
 use Rattle.laws.proofs.Lists.{map-append}
+use Rattle.laws.proofs.Every.{every-append}
 use Rattle.lines.specs.Lines.{readAt}
 use Rattle.shapes.specs.Shapes.{firstDecl}
 use Rattle.shapes.specs.Shapes.{declAt, casesIn}
-use Rattle.records.specs.Log.{firstRecord, ownRecord, caseIn, variantRecord, Entry, recordOf, Sound}
+use Rattle.records.specs.Log.{firstRecord, ownRecord, caseIn, variantRecord, recordOf, Sound}
 use Rattle.record_log.specs.Entries.{tagEntries, caseEntries, declEntries, lineEntries}
 
 -- ---- lists
@@ -86,24 +88,11 @@ log-length (d ∷ ds) = length-append (recordsOf d) (recordLog ds) ∙ rw (recor
 
 -- ---- every entry is sound
 
-pub data AllOf (P : Entry → Type 0) : List Entry → Type 0 where
-  none-of : AllOf P []
-  one-more : {e : Entry} {es : List Entry} → P e → AllOf P es → AllOf P (e ∷ es)
-
-pub all-append : {P : Entry → Type 0} {xs ys : List Entry} → AllOf P xs → AllOf P ys → AllOf P (xs ++ ys)
-all-append none-of b = b
-all-append (one-more p a) b = one-more p (all-append a b)
-
-pub all-at : {P : Entry → Type 0} {xs : List Entry} → AllOf P xs → (d : Entry) (i : ℕ) → i < length xs → P (getD xs i d)
-all-at none-of d i h = absurd (omega arith)
-all-at (one-more p a) d zero h = p
-all-at (one-more p a) d (suc i) h = all-at a d i (omega arith)
-
 module _ (s : Bytes) (n r : ℕ) (first : 0 < r) (last : r ≤ n) (kind : eqb (letter (readAt s (r - 1) .form .kind)) 65 || eqb (letter (readAt s (r - 1) .form .kind)) 66 ≡ true) where
-  tags-sound : (c : ℕ) → c < length (casesIn (declAt s r)) → (q p k : ℕ) → p + q ≤ length (caseIn (declAt s r) c .tags) → AllOf (Sound s n) (tagEntries r (suc c) p k q)
-  tags-sound c h zero p k l = none-of
+  tags-sound : (c : ℕ) → c < length (casesIn (declAt s r)) → (q p k : ℕ) → p + q ≤ length (caseIn (declAt s r) c .tags) → Every (Sound s n) (tagEntries r (suc c) p k q)
+  tags-sound c h zero p k l = tt
   tags-sound c h (suc q) p k l =
-      one-more {e = record { line = r; case = suc c; position = p; number = k }} (record { first = first; last = last; kind = kind; case = λ x e. here x (omega (arith, e)); tag = λ x e. there x (omega (arith, e)) }) (tags-sound c h q (suc p) (suc k) (omega arith))
+      (record { first = first; last = last; kind = kind; case = λ x e. here x (omega (arith, e)); tag = λ x e. there x (omega (arith, e)) }, tags-sound c h q (suc p) (suc k) (omega arith))
     where
       here : (x : ℕ) → c ≡ x → x < length (casesIn (declAt s r))
       here x e = omega arith
@@ -111,13 +100,13 @@ module _ (s : Bytes) (n r : ℕ) (first : 0 < r) (last : r ≤ n) (kind : eqb (l
       there : (x : ℕ) → c ≡ x → p < length (caseIn (declAt s r) x .tags)
       there x e = rw (← e) (omega arith)
 
-  cases-sound : (ks : List Case) (c k : ℕ) → drop c (casesIn (declAt s r)) ≡ ks → AllOf (Sound s n) (caseEntries r c k ks)
-  cases-sound [] c k h = none-of
+  cases-sound : (ks : List Case) (c k : ℕ) → drop c (casesIn (declAt s r)) ≡ ks → Every (Sound s n) (caseEntries r c k ks)
+  cases-sound [] c k h = tt
   cases-sound (x ∷ xs) c k h =
       let e : caseIn (declAt s r) c ≡ x = head-of noCase c (casesIn (declAt s r)) x xs h in
-      all-append (tags-sound c (longer c (casesIn (declAt s r)) x xs h) (length (x .tags)) 0 k (rw e (omega arith))) (cases-sound xs (suc c) (k + length (x .tags)) (tail-of c (casesIn (declAt s r)) x xs h))
+      every-append (Sound s n) (tagEntries r (suc c) 0 k (length (x .tags))) (caseEntries r (suc c) (k + length (x .tags)) xs) (tags-sound c (longer c (casesIn (declAt s r)) x xs h) (length (x .tags)) 0 k (rw e (omega arith))) (cases-sound xs (suc c) (k + length (x .tags)) (tail-of c (casesIn (declAt s r)) x xs h))
 
-  pub line-sound : (ds : List AdtDecl) → firstDecl ds ≡ declAt s r → AllOf (Sound s n) (lineEntries r ds)
-  line-sound [] e = none-of
+  pub line-sound : (ds : List AdtDecl) → firstDecl ds ≡ declAt s r → Every (Sound s n) (lineEntries r ds)
+  line-sound [] e = tt
   line-sound (d ∷ ds) e =
-      one-more {e = record { line = r; case = 0; position = 0; number = 0 }} (record { first = first; last = last; kind = kind; case = λ c q. absurd (omega (arith, q)); tag = λ c q. absurd (omega (arith, q)) }) (cases-sound (casesIn d) 0 0 (ap casesIn (sym e)))
+      (record { first = first; last = last; kind = kind; case = λ c q. absurd (omega (arith, q)); tag = λ c q. absurd (omega (arith, q)) }, cases-sound (casesIn d) 0 0 (ap casesIn (sym e)))

@@ -13,7 +13,9 @@ use Rattle.semantics.specs.Tree.{AdtDecl, Case, Declares, noCase}
 use Rattle.semantics.specs.Form.{forms, letter}
 use Rattle.semantics.specs.Sheet.{Source}
 use Rattle.semantics.specs.Layout.{Recorded, recordsOf, recordedAdts, recordLog}
+use Rattle.laws.specs.Every.{Every}
 use Rattle.laws.proofs.Lists.{map-append, concat-append}
+use Rattle.laws.proofs.Every.{every-append, every-at}
 use Rattle.write.specs.Wrote.{Wrote}
 use Rattle.write.proofs.Wrote.{wrote-none, then, wrote-as}
 use Rattle.form.specs.Table.{kindAt}
@@ -30,7 +32,7 @@ use Rattle.record_log.specs.Entries.{entryBytes, tagEntries, caseEntries
 use Rattle.records.specs.Lines.{caseOf}
 use Rattle.records.proofs.Keys.{default-same}
 use Rattle.shapes.specs.Shapes.{firstDecl, PickLine, CaseOf}
-use Rattle.record_log.proofs.Lists.{line-log, log-length, AllOf, none-of, all-append, all-at, line-sound}
+use Rattle.record_log.proofs.Lists.{line-log, log-length, line-sound}
 use Rattle.record_log.proofs.Table.{wrote-kept, wrote-above, log-append, log-bytes, entry-back}
 use Rattle.records.proofs.Picks.{adt-decl, pick-decl, no-decl, case-is}
 
@@ -158,14 +160,14 @@ module _ (s t : Bytes) (n : ℕ) (c : Checked s t n) where
       map-append (recordOf s) (entriesTo (nodesIn s) i) (lineEntries (suc i) ds)
       ∙ rw (lines-log i (omega arith), line-log s (suc i) ds (first-is i) one) (sym (concat-append recordsOf (declaredTo (λ (d : Declares). d .adts) (nodesIn s) i) ds))
 
-  lines-sound : (i : ℕ) → i ≤ n → AllOf (Sound s n) (entriesTo (nodesIn s) i)
+  lines-sound : (i : ℕ) → i ≤ n → Every (Sound s n) (entriesTo (nodesIn s) i)
   unfolding entriesTo
-  lines-sound zero h = none-of
+  lines-sound zero h = tt
   lines-sound (suc i) h =
       let z : suc i - 1 ≡ i = omega arith in
-      all-append (lines-sound i (omega arith))
-      (by-form (λ (l : List AdtDecl). firstDecl l ≡ declAt s (suc i) → AllOf (Sound s n) (lineEntries (suc i) l)) i (omega arith)
-      (λ d k e. line-sound s n (suc i) (omega arith) h (rw z k) (d ∷ []) e) (λ e. none-of) (first-is i))
+      every-append (Sound s n) (entriesTo (nodesIn s) i) (lineEntries (suc i) (declaresAt (nodesIn s) i .adts)) (lines-sound i (omega arith))
+      (by-form (λ (l : List AdtDecl). firstDecl l ≡ declAt s (suc i) → Every (Sound s n) (lineEntries (suc i) l)) i (omega arith)
+      (λ d k e. line-sound s n (suc i) (omega arith) h (rw z k) (d ∷ []) e) (λ e. tt) (first-is i))
 
   log-is : logOf s ≡ recordLog (declaredTo (λ (d : Declares). d .adts) (nodesIn s) n)
   unfolding logOf
@@ -219,7 +221,7 @@ module _ (s d : Bytes) (n : ℕ) (c : Checked s d n) (e : Bytes) (b : ℕ) (w : 
           few = omega (arith, length-es .1);
           each = λ i l. record-back i (omega arith);
           digests = λ i l. absurd (omega arith);
-          entries = λ i l. record { checked = checked-now; low = omega (arith, length-es .1); sound = rw (back i (omega arith)) (all-at (lines-sound s d n c n (omega arith)) noEntry i (omega (arith, length-es .0))) };
+          entries = λ i l. record { checked = checked-now; low = omega (arith, length-es .1); sound = rw (back i (omega arith)) (every-at (Sound s n) (entriesTo (nodesIn s) n) (lines-sound s d n c n (omega arith)) noEntry i (omega (arith, length-es .0))) };
         };
         kept = wrote-kept w 9216 (omega arith);
         above = λ j l. wrote-above w j (omega (arith, log-bytes (entriesTo (nodesIn s) n), length-es .0, length-es .1));

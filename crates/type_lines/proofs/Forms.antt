@@ -21,6 +21,7 @@ use Rattle.lines.specs.Lines.{readAt, nodesIn, formAt}
 use Rattle.lines.proofs.Line.{form-low, kind-is}
 use Rattle.refs.proofs.Nodes.{node-at}
 use Rattle.checks.specs.Checks.{Checked}
+use Rattle.semantics.proofs.Common.{both}
 use Rattle.source.specs.Walk.{declaresAt, fieldAt, frameOf}
 use Rattle.type_lines.proofs.Codes.{eqZ-pos}
 use Rattle.type_lines.specs.Needs.{firstKey, needAt, NeedLine}

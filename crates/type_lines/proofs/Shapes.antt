@@ -22,7 +22,7 @@ use Rattle.form.specs.Table.{rowAt}
 use Rattle.lines.specs.Lines.{readAt, nodesIn, formAt}
 use Rattle.lines.proofs.Line.{read-fits}
 use Rattle.type_lines.specs.Shapes.{shapeAt, ShapeLine, raised}
-use Rattle.semantics.proofs.Common.{never}
+use Rattle.semantics.proofs.Common.{never, both}
 use Rattle.refs.proofs.Fields.{number-exact, count-number, values-length}
 
 -- ---- fields
