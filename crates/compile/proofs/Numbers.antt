@@ -20,10 +20,10 @@ use Rattle.semantics.specs.Tree.MaybeEx.{absent, given}
 use Rattle.semantics.specs.Tree.El.{next, star, at}
 use Rattle.semantics.specs.Tree.Els.{noEls, andEl}
 use Rattle.semantics.specs.Tree.Ses.{noSes, andSe}
-use Rattle.semantics.specs.Tree.UnaryOp.{neg, bitNot, ref}
+use Rattle.semantics.specs.Tree.UnaryOp.{neg, not as lnot, bitNot, ref}
 use Rattle.semantics.specs.Tree.Arith.{add, sub, mul, div}
 use Rattle.semantics.specs.Tree.IntOp.{rem, and, or, xor, lshift, rshift, eq, neq, lt, gt, leq, geq}
-use Rattle.semantics.specs.Tree.BinOp.{intOp, power, logAnd, logOr}
+use Rattle.semantics.specs.Tree.BinOp.{arith as arithOp, intOp, power, logAnd, logOr}
 use Rattle.semantics.specs.Sheet.{Located, readsOf, nodesFrom}
 use Rattle.semantics.specs.Const.{Refusal}
 use Rattle.semantics.specs.Fold.{Result, bind, fromOption, toReal, valueOf, lookUp, eqZ, plain, qualified, test, isZero, intOnly, intArith, intBinary, realBinary, strBinary, foldBinary, foldUnary, foldLen, qualifiedValue, Names, fold, foldAt0}
