@@ -83,7 +83,7 @@ pub fn clear_kinds(work: &mut [u8])
     }
 }
 
-// Enters the key of an array's elements where it is new; so many keys are there then.
+// Enters the key of an array's elements where it is new, and returns how many keys there are then.
 pub fn collect_kind(work: &mut [u8], kind: usize, keys: usize) -> usize
     requires { ⌜ (kind < 5) × (keys < 255) × (65536 ≤ length (now work)) ⌝ }
     ensures { λ r. ⌜ ((k : ElemKind) (ks : List TypeKey) → kind ≡ kindNumber k → Kinds (now (work .entry)) ks keys → Kinds (now (work .exit)) (ks ++ (elemKey k ∷ [])) r) × (Outside 10624 10629 (now (work .entry)) (now (work .exit))) ⌝ }
