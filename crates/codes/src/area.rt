@@ -14,7 +14,7 @@ pub const GLOBALS: usize = 7168;
 
 pub const RECORDS: usize = 9216;
 
-// For each need its line, low and high byte, and the position of its key among the distinct keys; for each kind of element 0
+// For each need its line from 0, low and high byte, and the position of its key among the distinct keys; for each kind of element 0
 // where it is not used, or its position plus 1; for each need the digest of its line's text.
 pub const NEED_LOW: usize = 10240;
 

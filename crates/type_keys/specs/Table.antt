@@ -15,7 +15,7 @@ use Rattle.lines.specs.Lines.{readAt}
 use Rattle.checks.specs.Checks.{Kept}
 use Rattle.type_lines.specs.Needs.{needAt}
 
--- 128 bytes each: the line of need q, low and high byte, and the position of its key among the distinct keys
+-- 128 bytes each: the line, from 0, of need q, low and high byte, and the position of its key among the distinct keys
 unfoldable pub lineOf : Bytes → ℕ → ℕ
 lineOf t q = getD t (10240 + q) 0 + 256 * getD t (10368 + q) 0
 
@@ -63,7 +63,7 @@ pub record Outside (a b : ℕ) (t u : Bytes) : Type 0 where
 
 -- ---- what is stored
 
--- need q is on line i, and its key has position p
+-- need q is on line i, from 0, and its key has position p
 unfoldable pub entered : Bytes → ℕ → ℕ → ℕ → Bytes
 entered t q i p = set (set (set t (10240 + q) (i % 256)) (10368 + q) (i / 256)) (10496 + q) p
 
