@@ -23,6 +23,7 @@ pub enum Refusal {
     Outgrown,
 }
 
+// 01's number of a refusal.
 pub fn number_of(r: Refusal) -> u8
     ensures { λ q. ⌜ q ≡ refusalNumber r ⌝ }
 {

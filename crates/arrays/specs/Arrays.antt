@@ -22,6 +22,7 @@ use Rattle.arrays.specs.declared.Arrayed.the-variants.{Alloc, Literal, P
 
 -- ---- answers
 
+-- the kind that a number stands for
 abbrev pub kindAt : ℕ → ElemKind
 kindAt k = getD (kByte ∷ kWord ∷ kBig ∷ kReal ∷ kPtr ∷ []) k kPtr
 
@@ -65,6 +66,7 @@ pub record Measured (t : Bytes) (r : Result ConstArray) (x : Arrayed) : Type 0 w
 abbrev pub typeOf : Bytes → ℕ → Option Ty
 typeOf s r = tyOf (perhapsAt (nodesIn s) r)
 
+-- SIZE and TY of an `ex,lit` line
 abbrev pub sizeAt : Bytes → ℕ → MaybeEx
 sizeAt s r = maybeEx (perhapsAt (nodesIn s) (numberOf (getD (readAt s (r - 1) .fields) 0 [])))
 
@@ -84,10 +86,12 @@ pub record ArrayLine (s t : Bytes) (n m declared r : ℕ) : Type 0 where
   pub line : Line 69 s t n m r
   pub declares : Declared s t n declared
 
+-- and an `ex,alloc` line, form 17
 pub record AllocLine (s t : Bytes) (n m declared r : ℕ) : Type 0 where
   pub array : ArrayLine s t n m declared r
   pub form : formAt t (r - 1) ≡ 17
 
+-- line r is an `ex,lit` line, for such a global
 pub record LitLine (s t : Bytes) (n m declared r : ℕ) : Type 0 where
   pub literal : LiteralLine s t n m r
   pub declares : Declared s t n declared

@@ -28,6 +28,7 @@ const LONGEST_ALLOC: i64 = 2147483647;
 
 const LONGEST: u64 = 1024;
 
+// The size of a literal, or why there is none.
 pub enum Size {
     Of(u64),
     Failed,
@@ -42,7 +43,7 @@ pub enum Arrayed {
     Refused(u8),
 }
 
-// How an array holds elements of the type of line r.
+// How an array holds elements of the type of line r. As forms and as kinds big and real have the same numbers.
 pub fn elem_kind(sheet: &[u8], work: &[u8], n: usize, r: usize) -> u8
     requires { ⌜ TypeLine (now sheet) (now work) n r ⌝ }
     ensures { λ k. ⌜ (k ≡ kindNumber (elemKind (typeAt (now (sheet .entry)) r))) × (k ≤ 4) ⌝ }

@@ -52,7 +52,7 @@ abbrev pub Tables : Bytes → Bytes → Checks → Type 0
 Tables s t (Lines n) = Checked s t n
 Tables s t (Refused r k) = t ≡ zeros (length t)
 
--- before zeros are made
+-- the same before the zeros are written
 abbrev pub Passes : Bytes → Bytes → Checks → Type 0
 Passes s t (Lines n) = Checked s t n
 Passes s t (Refused r k) = Unit {0}

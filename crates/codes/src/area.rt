@@ -1,5 +1,5 @@
-// Where tables of the working space begin; that of the starts of lines, low bytes, at 0. Used lines and depths are free after the
-// checks.
+// Where the tables of the working space begin. The first, of the low bytes of the starts of lines, begins at 0. Used lines and
+// depths are free after the checks.
 pub const LINE_HIGH: usize = 1024;
 
 pub const LINE_FORMS: usize = 2048;
@@ -14,7 +14,7 @@ pub const GLOBALS: usize = 7168;
 
 pub const RECORDS: usize = 9216;
 
-// For each need its line, low and high byte, and the position of its key among the distinct keys; for each kind of element 0
+// For each need its line from 0, low and high byte, and the position of its key among the distinct keys; for each kind of element 0
 // where it is not used, or its position plus 1; for each need the digest of its line's text.
 pub const NEED_LOW: usize = 10240;
 
@@ -39,7 +39,7 @@ pub const STACK: usize = 49152;
 
 pub const MAP: usize = 49152;
 
-// While a listing is replayed: the sizes of descriptors, a byte for each, in the place of constants.
+// While a listing is replayed: the sizes of descriptors, a byte for each, where the constants stood.
 pub const SIZES: usize = 5120;
 
 pub const SIZES_END: usize = 6144;

@@ -22,6 +22,7 @@ pub struct Pass {
     pub iota: IotaCounter,
 }
 
+// The pass behind a line, or the line that is refused.
 pub enum Visited {
     On(Pass),
     Refused(usize),

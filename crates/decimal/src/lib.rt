@@ -15,6 +15,7 @@ pub enum Signed {
     NoInteger,
 }
 
+// An integer of 64 bits, or none.
 pub enum Integer {
     Is(i64),
     Bad,

@@ -39,7 +39,7 @@ fn put_real_element(out: &mut [u8], at: usize, kind: u8, x: f64) -> usize
     rows::put_comma_bits(out, at, reals::bits(x))
 }
 
-// A string among numbers.
+// A string among numbers is 0.
 fn put_zero_element(out: &mut [u8], at: usize, kind: u8) -> usize
     ensures { λ r. ⌜ ((s : Bytes) → Wrote (now (out .entry)) at (44 ∷ elementText kind (vStr s)) (now (out .exit)) r) ⌝ }
 {

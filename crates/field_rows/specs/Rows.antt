@@ -1,4 +1,4 @@
--- The rows of records, by the lines that declare them.
+-- The `fld` rows of fields, by the lines that declare them.
 use Prim.Native.Nat.{ℕ, _+_}
 use mathlib.Core.List.{List, [], _∷_, _++_}
 use Rattle.semantics.specs.Text.{Bytes, bytes, decimal}

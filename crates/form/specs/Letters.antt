@@ -53,6 +53,7 @@ fits xs (f ∷ fs) = holds (getD xs 0 32) f && fits (after (Form.numberOf f) xs)
 unfoldable pub pending : ℕ → ℕ → ℕ → ℕ → Bytes
 pending f j c e = replicate c e ++ drop j (codesAt f)
 
+-- a walk may stand there: e is no letter of a count
 pub record Ready (f j c e : ℕ) : Type 0 where
   pub form : f < rowCount
   pub within : j ≤ length (codesAt f)

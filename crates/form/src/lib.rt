@@ -104,6 +104,7 @@ fn keyword_byte(t: &[u8; 1008], f: usize, i: usize) -> u8
     t[24 * f + 1 + i]
 }
 
+// The letter of the kind of form f.
 pub fn kind(f: usize) -> u8
     requires { ⌜ f < rowCount ⌝ }
     ensures { λ r. ⌜ r ≡ kindAt f ⌝ }
@@ -111,6 +112,7 @@ pub fn kind(f: usize) -> u8
     KINDS[f]
 }
 
+// The letter of field j of form f, blank behind the last.
 fn atom(f: usize, j: usize) -> u8
     requires { ⌜ (f < rowCount) × (j < 5) ⌝ }
     ensures { λ r. ⌜ r ≡ getD (codesAt f) j 32 ⌝ }
@@ -180,6 +182,7 @@ fn row_of(l: &[u8]) -> usize
 
 // ---- fields
 
+// What a number must be below where its letter is x.
 fn limit(x: u8) -> u64
     ensures { λ r. ⌜ r ≡ limitOf x ⌝ }
 {
@@ -409,6 +412,7 @@ pub fn field(l: &[u8], f: usize, i: usize) -> &[u8]
     &l[l.len()..]
 }
 
+// Whether a field ends at e.
 fn ends_at(l: &[u8], e: usize) -> bool
     requires { ⌜ e ≤ length (now l) ⌝ }
     ensures { λ r. ⌜ r ≡ same [] (until 44 (drop e (now (l .entry)))) ⌝ }
@@ -476,6 +480,7 @@ pub struct Seen {
     pub next: Walk,
 }
 
+// One field of a walk.
 pub fn next(l: &[u8], f: usize, w: Walk) -> Seen
     requires { ⌜ (Standing f (now l) w) × (w .at ≤ length (now l)) ⌝ }
     ensures { λ r. ⌜ Stepped f (now (l .entry)) w (r .letter) (r .number) (r .next) ⌝ }

@@ -1,4 +1,4 @@
-// The rows of globals.
+// The `glo` rows of globals.
 use global_table::global_size;
 use global_table::line_of;
 use global_table::name_of;
@@ -14,7 +14,7 @@ ghost use Rattle.semantics.specs.Listing.{globalRow};
 ghost use Rattle.write.specs.Wrote.{Wrote};
 ghost use Rattle.global_table.specs.Table.{entryAt, placesIn, Tabled};
 
-// That of entry i of g.
+// The row of entry i of g.
 fn global_row(
     sheet: &[u8],
     work: &[u8],
@@ -37,7 +37,7 @@ fn global_row(
     put_lf(out, end)
 }
 
-// Those of all g entries.
+// The rows of all g entries.
 pub fn global_rows(
     sheet: &[u8],
     work: &[u8],

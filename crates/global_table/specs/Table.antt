@@ -1,6 +1,6 @@
 -- The table of globals in the working space, and the places that it holds.
--- Entry i takes 8 bytes from 7168 + 8 i: the `var` line, from 1, in two bytes, the low one first; the position of the name among the line's
--- names, from 0; the offset in two bytes; the name's digest; two are free.
+-- Entry i takes 8 bytes from 7168 + 8 i: the `var` line, from 1, in two bytes, the low one first; the position of the name among the
+-- line's names, from 0; the offset, as the line; the name's digest; two are free.
 use Prim.Native.Nat.{ℕ, zero, suc, _+_, _-_, _*_, _/_, _%_, _≤_, _<_}
 use mathlib.Core.Path.{_≡_}
 use mathlib.Core.List.{List, [], _∷_}
@@ -25,6 +25,7 @@ pub record VarLine (s t : Bytes) (n r : ℕ) : Type 0 where
   pub last : r ≤ n
   pub kind : letter (readAt s (r - 1) .form .kind) ≡ 72
 
+-- name j, the type and the names of line r
 abbrev pub nameOn : Bytes → ℕ → ℕ → Bytes
 nameOn s r j = getD (readAt s (r - 1) .fields) (3 + j) []
 
@@ -48,10 +49,11 @@ offsetOf t i = u16At t (7171 + 8 * i)
 unfoldable pub digestOf : Bytes → ℕ → ℕ
 digestOf t i = getD t (7173 + 8 * i) 0
 
+-- entry i made
 unfoldable pub entered : Bytes → ℕ → ℕ → ℕ → ℕ → ℕ → Bytes
 entered t i line position offset d = sets t (7168 + 8 * i) (line % 256 ∷ line / 256 ∷ position ∷ offset % 256 ∷ offset / 256 ∷ d ∷ [])
 
--- entry i
+-- the global of entry i
 unfoldable pub entryAt : Bytes → Bytes → ℕ → Global
 entryAt s t i = record { name = nameOn s (lineOf t i) (positionOf t i); offset = offsetOf t i; ty = typeOn s (lineOf t i) }
 
@@ -70,7 +72,7 @@ pub record Tabled (s t : Bytes) (n g : ℕ) : Type 0 where
   pub each : (i : ℕ) → i < g → VarLine s t n (lineOf t i)
   pub digests : (i : ℕ) → i < g → digestOf t i ≡ digest (entryAt s t i .name)
 
--- what a number of an entry, from 1, says of a name: 0 is none
+-- the offset of an entry by its number from 1; 0 is none
 unfoldable pub offsetBy : Bytes → ℕ → Option ℕ
 offsetBy t zero = none
 offsetBy t (suc i) = some (offsetOf t i)

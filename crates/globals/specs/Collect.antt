@@ -18,15 +18,16 @@ use Rattle.global_table.specs.Table.{typeOn, namesOn, placesIn, Tabled, Around}
 use Rattle.globals.specs.declared.Globals.{Globals}
 use Rattle.globals.specs.Laying.{Laying, layNames}
 
+-- the places in the table, and the end of allocation
 abbrev pub layingIn : Bytes → Bytes → Globals → Laying
 layingIn s t g = record { places = placesIn s t (g .count); end = g .end }
 
--- g places are entered: no place is further from the start than 8 bytes for each before it
+-- g places are entered, and end within 8 bytes for each
 pub record Standing (s t : Bytes) (n : ℕ) (g : Globals) : Type 0 where
   pub tabled : Tabled s t n (g .count)
   pub low : g .end ≤ 8 * g .count
 
--- from t on, the working space came to hold these places, at most so many
+-- the working space t has become u, which holds the places l, at most m
 pub record Laid (s t u : Bytes) (n : ℕ) (l : Laying) (g : Globals) (m : ℕ) : Type 0 where
   pub standing : Standing s u n g
   pub around : Around t u
@@ -40,7 +41,7 @@ namesAt s i = sumOf (λ (v : VarDecl). length (v .names)) (declaresAt (nodesIn s
 unfoldable pub namesTo : Bytes → ℕ → ℕ
 namesTo s i = sumOf (λ (v : VarDecl). length (v .names)) (declaredTo (λ (d : Declares). d .vars) (nodesIn s) i)
 
--- one more line
+-- what line i, from 0, adds where it is a `var` line, 72, that counts
 unfoldable pub layLine : Bytes → ℕ → Laying → Laying
 layLine s i l = cond (eqb (letter (readAt s i .form .kind)) 72) (cond (ownIn (sheetSource s .implement) (openAt (nodesIn s) i)) (layNames (typeOn s (i + 1)) (namesOn s (i + 1)) l) l) l
 

@@ -27,7 +27,7 @@ abbrev pub layAt : Ty → Bytes → Option ℕ → Laying → Laying
 layAt t n (some off) l = l
 layAt t n none l = record { places = l .places ++ (record { name = n; offset = newOffset t (l .end); ty = t } ∷ []); end = newOffset t (l .end) + globalSize t }
 
--- `nil` has none
+-- `nil` has no place
 unfoldable pub lay : Ty → Bytes → Laying → Laying
 lay t n l = cond (same n (bytes "nil")) l (layAt t n (placeOf n (l .places)) l)
 

@@ -18,7 +18,7 @@ use Rattle.global_table.specs.Table.{offsetIn}
 abbrev pub locatedAt : Bytes → ℕ → Located VarDecl
 locatedAt s i = record { line = suc i; within = openAt (nodesIn s) i; it = varOf (nodesIn s) (readAt s i .fields) }
 
--- line i where it is a `var` line that counts
+-- line i where it is a `var` line, 72, that counts
 abbrev pub laidAt : Bytes → ℕ → List (Located VarDecl)
 laidAt s i = cond (eqb (letter (readAt s i .form .kind)) 72) (cond (ownIn (sheetSource s .implement) (openAt (nodesIn s) i)) (locatedAt s i ∷ []) []) []
 
@@ -27,6 +27,7 @@ unfoldable pub laidVarsTo : Bytes → ℕ → List (Located VarDecl)
 laidVarsTo s zero = []
 laidVarsTo s (suc i) = laidVarsTo s i ++ laidAt s i
 
+-- the first value of a line
 abbrev pub firstOf : Names → VarDecl → Init
 firstOf ns v = orNoInit (initOf ns (v .ty) (v .init))
 
@@ -38,6 +39,6 @@ varItems ns ps v = concatMap (λ (x : Bytes). initItems (offsetIn x ps) (v .ty) 
 abbrev pub lineItems : Names → List Global → List (Located VarDecl) → List Item
 lineItems ns ps vs = concatMap (λ (v : Located VarDecl). varItems ns ps (v .it)) vs
 
--- its names that are pending
+-- the names of a line that are pending
 abbrev pub varPends : Names → VarDecl → List Bytes
 varPends ns v = concatMap (λ (x : Bytes). pendOf x (firstOf ns v)) (laidNames (v .names))

@@ -9,6 +9,7 @@ ghost use Rattle.global_table.specs.Table.{VarLine, nameOn, typeOn, namesOn, Ar
 ghost use Rattle.globals.specs.Laying.{lay, layNames};
 ghost use Rattle.globals.specs.Collect.{layingIn, Standing, Laid, namesAt, layLine, Collected};
 
+// How many globals have a place, and where allocation ends.
 pub struct Globals {
     pub count: usize,
     pub end: u32,

@@ -31,6 +31,7 @@ abbrev pub eightBytes : Option Bytes → Bits64
 eightBytes none = Bad
 eightBytes (some bs) = cond (eqb (length bs) 8) (Bits (fromBigEndian 0 bs)) Bad
 
+-- the 64 bits that 16 digits write
 unfoldable pub bits64Of : Bytes → Bits64
 bits64Of s = eightBytes (unhex s)
 

@@ -5,7 +5,7 @@ ghost use mathlib.Core.Path.{_≡_};
 ghost use Prim.Native.Nat.{_≤_};
 ghost use Rattle.hex.specs.Hex.{digitOf, pairOf, byteAt, bits64Of};
 
-// 64 bits.
+// 64 bits, or none.
 pub enum Bits64 {
     Bits(u64),
     Bad,
@@ -53,7 +53,7 @@ pub fn byte(s: &[u8], i: usize) -> u8
     v as u8
 }
 
-// The 64 bits that 16 digits write.
+// The 64 bits that 16 digits write; `Bad` of any other field.
 pub fn read_bits(s: &[u8]) -> Bits64
     ensures { λ r. ⌜ r ≡ bits64Of (now (s .entry)) ⌝ }
 {

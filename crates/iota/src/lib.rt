@@ -61,7 +61,7 @@ fn step(c: IotaCounter, line: usize, col: usize) -> Stepped
 }
 
 impl IotaCounter {
-    // The counter is lent, and moved on.
+    // The value of `iota` at a constant; the lent counter is moved on.
     pub fn next(&mut self, line: usize, col: usize) -> u32
         ensures { λ r. ⌜ (r ≡ iotaAt line col (counterOf (now (self .entry)))) × (now (self .exit) ≡ movedOf (now (self .entry)) line col) ⌝ }
     {

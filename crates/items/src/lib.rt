@@ -154,7 +154,7 @@ fn contents(work: &[u8], out: &mut [u8], at: usize, off: usize, kind: u8, count:
     write::put_part(out, q, b"dat,back\n")
 }
 
-// The rows of an array that a literal of `count` values makes; `id` is the number of its element key.
+// The rows of an array that a literal of `count` values makes; `id` is the ID of its element key.
 pub fn array_items(
     work: &[u8],
     out: &mut [u8],

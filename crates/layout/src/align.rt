@@ -1,3 +1,4 @@
+// Rounding up to an alignment.
 ghost use mathlib.Core.Path.{_≡_};
 ghost use Prim.Native.Nat.{_+_, _≤_};
 ghost use Rattle.semantics.specs.Layout.{alignUp};

@@ -1,3 +1,4 @@
+// Pointer maps, and how many ones they have.
 ghost use mathlib.Core.Path.{_≡_};
 ghost use Prim.Native.Nat.{_^_, _≤_};
 ghost use lib.ListN.{length, set};

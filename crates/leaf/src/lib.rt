@@ -140,6 +140,7 @@ fn qualified(
     constant(work, k, top)
 }
 
+// The value of line r, where the first m constants are known: a string stands at `top`.
 pub fn leaf(
     sheet: &[u8],
     work: &mut [u8],

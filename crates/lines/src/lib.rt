@@ -11,6 +11,7 @@ ghost use Rattle.lines.specs.Lines.{textAt, readAt, start, formAt, enter
 
 const ROWS: usize = 42;
 
+// How many lines there are, all with a form; or the first line that is refused by 3.
 pub enum Formed {
     Lines(usize),
     NoForm(usize),
@@ -26,6 +27,7 @@ fn enter(work: &mut [u8], i: usize, at: usize, f: usize)
     work[area::LINE_FORMS + i] = f as u8;
 }
 
+// Where line i starts.
 fn start_of(work: &[u8], i: usize) -> usize
     requires { ⌜ (i < 1024) × (65536 ≤ length (now work)) ⌝ }
     ensures { λ r. ⌜ r ≡ start (now (work .entry)) i ⌝ }

@@ -72,7 +72,7 @@ pub record ValuedTask (s t : Bytes) (n m r e : ℕ) (v : ConstVal) : Type 0 wher
   pub stands : Standing (49152 + 256 * e) v
   pub value : slotAt t e ≡ v
 
--- it is an element's line, to be worked on after k elements
+-- it is an `el` line, 76, to be worked on after k elements
 pub record Turn (s t : Bytes) (n m r k : ℕ) : Type 0 where
   pub line : Line 76 s t n m r
   pub few : k < 16

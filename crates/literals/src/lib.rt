@@ -26,6 +26,7 @@ pub enum Index {
     TooLong,
 }
 
+// The low and high end of a selector, or why there are none.
 pub enum Span {
     Of(i64, i64),
     Failed,
@@ -82,7 +83,7 @@ fn span_of(sheet: &[u8], work: &mut [u8], n: usize, m: usize, r: usize, e: usize
     }
 }
 
-// Behind a negative index selectors are folded yet, and nothing is placed.
+// Behind a negative index selectors are still folded, and nothing is placed.
 fn place_on(work: &mut [u8], e: usize, low: i64, high: i64, x: Placed) -> Placed
     requires { ⌜ (e ≤ 16) × (65536 ≤ length (now work)) ⌝ }
     ensures { λ y. ⌜ Moves (now (work .entry)) e x (λ (v : Tree.ConstVal) (r : Result Filled). bind r (placeIndices v low high)) y (now (work .exit)) ⌝ }

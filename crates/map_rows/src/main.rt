@@ -43,7 +43,7 @@ fn short_row(size: u32, offsets: &[i32]) {
     print_row(size, offsets, &mut map);
 }
 
-// the largest block, and two bytes
+// the 128 bytes of the largest block's map, and two behind them
 fn long_row(size: u32, offsets: &[i32]) {
     let mut map = [0xA5u8; 130];
     print_row(size, offsets, &mut map);

@@ -3,6 +3,7 @@ use Prim.Native.Nat.{ℕ}
 use mathlib.Core.Bool.{Bool, _||_}
 use Rattle.semantics.specs.Text.{Bytes, all, isLetter, isDigit}
 
+-- a letter, or `_`
 unfoldable pub letter : ℕ → Bool
 letter b = isLetter b
 

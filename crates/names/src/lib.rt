@@ -27,6 +27,7 @@ pub fn module_line_of(work: &[u8], i: usize) -> usize
     words::u16_at(work, area::CONSTANTS + 2 + 16 * i)
 }
 
+// The kind of its value, 0 where it failed.
 pub fn slot_kind(work: &[u8], i: usize) -> u8
     requires { ⌜ (i < 128) × (65536 ≤ length (now work)) ⌝ }
     ensures { λ r. ⌜ r ≡ kindOf (now (work .entry)) i ⌝ }
@@ -34,6 +35,7 @@ pub fn slot_kind(work: &[u8], i: usize) -> u8
     work[area::CONSTANTS + 4 + 16 * i]
 }
 
+// The bits of its value.
 pub fn slot_bits(work: &[u8], i: usize) -> u64
     requires { ⌜ (i < 128) × (65536 ≤ length (now work)) ⌝ }
     ensures { λ r. ⌜ r ≡ bitsOf (now (work .entry)) i ⌝ }

@@ -24,7 +24,7 @@ pub record Collecting (s t : Bytes) (n i needs keys : ℕ) : Type 0 where
   pub kinds : Kinds t (needsTo s i) keys
   pub digests : (q : ℕ) → q < needs → digestOf t q ≡ digest (textAt s (lineOf t q))
 
--- and what line i needs too, which is a `need` line
+-- and line i, which is to be entered next, is a `need` line
 pub record NeedNext (s t : Bytes) (n i needs keys : ℕ) : Type 0 where
   pub collecting : Collecting s t n i needs keys
   pub line : NeedLine s t n i

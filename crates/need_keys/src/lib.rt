@@ -47,7 +47,7 @@ fn position_for(sheet: &[u8], work: &[u8], n: usize, i: usize, h: usize, d: Need
     d.keys
 }
 
-// How many keys there are with one at position p.
+// How many keys there are with one more at position p, which is new where p is behind all others.
 fn with_key(p: usize, keys: usize) -> usize
     requires { ⌜ keys < 1024 ⌝ }
     ensures { λ r. ⌜ ((k : TypeKey) (ks : List TypeKey) → p ≡ position k (distinct [] ks) → keys ≡ length (distinct [] ks) → r ≡ length (distinct [] (ks ++ (k ∷ [])))) ⌝ }

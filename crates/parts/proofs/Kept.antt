@@ -20,7 +20,7 @@ use Rattle.tables.specs.declared.Tables.{Tables}
 use Rattle.tables.specs.Tables.{Held}
 use Rattle.parts.specs.Parts.{Known}
 
--- lines and positions of needs end at 10624; their digests are not asked for behind numbering
+-- lines and positions of needs end at 10624; their digests serve only while needs are collected
 pub needs-stay : {s t u : Bytes} {n : ℕ} {ks : List TypeKey} → Kept 10624 t u → Needs s t n ks → Needs s u n ks
 needs-stay {s} {t} {u} {n} {ks} k x =
     needs-kept s t n ks x u {b = length t} (record { kept = k; above = drop-of-length-le u {i = length t} (omega (arith, k .long)) ∙ sym (drop-of-length-le t {i = length t} (omega arith)) })

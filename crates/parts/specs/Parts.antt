@@ -14,14 +14,14 @@ use Rattle.names.specs.Table.{logIn}
 use Rattle.tables.specs.declared.Tables.{Tables}
 use Rattle.tables.specs.Tables.{Held}
 
--- records, constants and globals
+-- the first part: records, constants and globals
 unfoldable pub declaredText : Bytes → Bytes
 declaredText s =
     concatMap recordRows (records (recordedAdts (sheetSource s)))
     ++ constRows (constants (sheetSource s) .log)
     ++ concatMap globalRow (sourceGlobals (sheetSource s) .places)
 
--- items, types and uses
+-- the second part: items, types and uses
 unfoldable pub typesText : Bytes → Bytes
 typesText s =
     let g = sourceGlobals (sheetSource s) in

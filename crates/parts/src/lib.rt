@@ -4,7 +4,7 @@ ghost use Rattle.write.specs.Wrote.{Wrote};
 ghost use Rattle.checks.specs.Checks.{Checked};
 ghost use Rattle.parts.specs.Parts.{Known, declaredText, typesText};
 
-// Records, constants and globals, from the listing's start.
+// The first part, from the listing's start: records, constants and globals.
 pub fn put_declared(sheet: &[u8], work: &mut [u8], n: usize, x: Tables, out: &mut [u8]) -> usize
     requires { ⌜ Known (now sheet) (now work) n x ⌝ }
     ensures { λ p. ⌜ (Wrote (now (out .entry)) 0 (declaredText (now (sheet .entry))) (now (out .exit)) p) × (Known (now (sheet .entry)) (now (work .exit)) n x) ⌝ }
@@ -14,7 +14,7 @@ pub fn put_declared(sheet: &[u8], work: &mut [u8], n: usize, x: Tables, out: &mu
     global_rows::global_rows(sheet, work, n, x.globals, out, q)
 }
 
-// Items, types and uses.
+// The second part: items, types and uses.
 pub fn put_types(
     sheet: &[u8],
     work: &mut [u8],

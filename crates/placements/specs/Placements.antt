@@ -87,7 +87,7 @@ Step t top k Negative r = r ≡ failed
 Step t top k Failed r = r ≡ failed
 Step t top k TooLong r = r ≡ refuse 8
 
--- a literal ends here, and nothing behind is folded; at a negative index the selectors behind it are folded yet
+-- a literal ends here, and nothing behind is folded; behind a negative index selectors are still folded
 abbrev pub stopped : Placed → Bool
 stopped (Into next reach) = false
 stopped Negative = false

@@ -21,7 +21,7 @@ bytesOf e = entryBytes (e .line) (e .case) (e .position) (e .number)
 
 -- ---- their order
 
--- so many tags of a case, from place p and number k on
+-- so many tags of case c of line r, from position p and number k on
 abbrev pub tagEntries : ℕ → ℕ → ℕ → ℕ → ℕ → List Entry
 tagEntries r c p k zero = []
 tagEntries r c p k (suc q) = record { line = r; case = c; position = p; number = k } ∷ tagEntries r c (suc p) (suc k) q
@@ -31,6 +31,7 @@ abbrev pub caseEntries : ℕ → ℕ → ℕ → List Case → List Entry
 caseEntries r c k [] = []
 caseEntries r c k (x ∷ xs) = tagEntries r (suc c) 0 k (length (x .tags)) ++ caseEntries r (suc c) (k + length (x .tags)) xs
 
+-- T itself, then its variants
 abbrev pub declEntries : ℕ → AdtDecl → List Entry
 declEntries r d = record { line = r; case = 0; position = 0; number = 0 } ∷ caseEntries r 0 0 (casesIn d)
 
@@ -53,7 +54,7 @@ logBytes es = concatMap bytesOf es
 
 -- ---- the log
 
--- what making it leaves
+-- t has become u, which holds the log of m records, d of them with the digests of their keys; what stands around it is kept
 pub record CollectedTo (s t u : Bytes) (n m d : ℕ) : Type 0 where
   pub log : Digested s u n m d
   pub kept : Kept 9216 t u

@@ -1,4 +1,4 @@
-// The records of a checked sheet: a log of them in the working space, in the order of the sheet.
+// Makes the log of a checked sheet's records in the working space, in the order of the sheet.
 use codes::area;
 use codes::decl;
 ghost use mathlib.Core.Path.{_≡_};
@@ -10,7 +10,7 @@ ghost use Rattle.shapes.specs.Shapes.{declAt, casesIn, PickLine};
 ghost use Rattle.records.specs.Log.{Digested};
 ghost use Rattle.record_log.specs.Entries.{entryBytes, tagEntries, caseEntries, entriesOf, logBytes, CollectedTo, Collected};
 
-// One entry: a line, 0 or a case from 1, the place of a tag in it, and the tag's number.
+// One entry: a line, 0 or a case from 1, the position of a tag in it, and the tag's number.
 fn put_entry(
     work: &mut [u8],
     at: usize,
@@ -98,6 +98,7 @@ fn log_adts(sheet: &[u8], work: &mut [u8], n: usize) -> usize
     (at - area::RECORDS) / 8
 }
 
+// The digest d, into entry i.
 fn enter_digest(work: &mut [u8], i: usize, d: usize)
     requires { ⌜ (i < 128) × (d < 256) × (65536 ≤ length (now work)) ⌝ }
     ensures { λ _. ⌜ now (work .exit) ≡ set (now (work .entry)) (9216 + (8 * i + 5)) d ⌝ }

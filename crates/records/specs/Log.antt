@@ -1,4 +1,5 @@
--- The log of records in the working space: for each a line; where it is a variant its case, its tag and the tag's number; and the digest of its key.
+-- The log of records in the working space: for each its line; of a variant its case, its tag's position and number; and the digest of
+-- its key.
 use Prim.Native.Nat.{ℕ, zero, suc, _+_, _*_, _-_, _≤_, _<_}
 use mathlib.Core.Path.{_≡_}
 use mathlib.Core.Bool.{true, _||_}
@@ -30,7 +31,7 @@ ownRecord d = firstRecord (recordsOf d)
 abbrev pub caseIn : AdtDecl → ℕ → Case
 caseIn d c = getD (casesIn d) c noCase
 
--- the variant of the tag at place p of case c, with the number k
+-- the variant of the tag at position p of case c, with the number k
 unfoldable pub variantRecord : AdtDecl → ℕ → ℕ → ℕ → Recorded
 variantRecord d c p k = record {
   key = d .name ++ (46 ∷ getD (caseIn d c .tags) p []);
@@ -42,7 +43,7 @@ variantRecord d c p k = record {
 
 -- ---- entries
 
--- case 0 is T itself, and c + 1 is case c
+-- a line, from 1; 0 for T itself, or c + 1 for case c; the tag's position in its case, and its number
 pub record Entry : Type 0 where
   pub line : ℕ
   pub case : ℕ
@@ -56,7 +57,7 @@ recordIn d (suc c) p k = variantRecord d c p k
 abbrev pub recordOf : Bytes → Entry → Recorded
 recordOf s e = recordIn (declAt s (e .line)) (e .case) (e .position) (e .number)
 
--- an entry's record is T, or T.tag
+-- T and the tag of an entry, whose key is T or T.tag
 unfoldable pub nameOf : Bytes → Entry → Bytes
 nameOf s e = declAt s (e .line) .name
 

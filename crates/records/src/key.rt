@@ -12,6 +12,7 @@ ghost use Rattle.semantics.specs.Layout.{seen};
 ghost use Rattle.words.specs.Words.{digest};
 ghost use Rattle.records.specs.Log.{byteOf, entryAt, recordedAt, nameOf, tagOf, digestOf, logOf, EntryIn, Logged, Newest, NewestOf};
 
+// Byte k of entry i.
 fn byte_at(work: &[u8], i: usize, k: usize) -> usize
     requires { ⌜ (i < 128) × (k < 8) × (65536 ≤ length (now work)) ⌝ }
     ensures { λ r. ⌜ (r ≡ byteOf (now (work .entry)) i k) × (r < 256) ⌝ }
@@ -35,6 +36,7 @@ pub fn case_of(work: &[u8], i: usize) -> usize
     byte_at(work, i, 2)
 }
 
+// The position of its tag in the case.
 fn position_of(work: &[u8], i: usize) -> usize
     requires { ⌜ (i < 128) × (65536 ≤ length (now work)) ⌝ }
     ensures { λ r. ⌜ r ≡ entryAt (now (work .entry)) i .position ⌝ }
@@ -50,7 +52,7 @@ pub fn number_of(work: &[u8], i: usize) -> usize
     byte_at(work, i, 4)
 }
 
-// T.
+// The name T of its record.
 pub fn name_of<'a>(sheet: &'a [u8], work: &[u8], n: usize, i: usize) -> &'a [u8]
     requires { ⌜ EntryIn (now sheet) (now work) n i ⌝ }
     ensures { λ x. ⌜ now x ≡ nameOf (now (sheet .entry)) (entryAt (now (work .entry)) i) ⌝ }
@@ -58,7 +60,7 @@ pub fn name_of<'a>(sheet: &'a [u8], work: &[u8], n: usize, i: usize) -> &'a [u8]
     line::record_name(sheet, work, n, line_of(work, i))
 }
 
-// The tag of a variant.
+// Its tag, where it is a variant.
 pub fn tag_of<'a>(sheet: &'a [u8], work: &[u8], n: usize, i: usize) -> &'a [u8]
     requires { ⌜ (EntryIn (now sheet) (now work) n i) × (0 < entryAt (now work) i .case) ⌝ }
     ensures { λ x. ⌜ now x ≡ tagOf (now (sheet .entry)) (entryAt (now (work .entry)) i) ⌝ }

@@ -1,4 +1,4 @@
-// The lines of records: names and tags.
+// The lines of records and of cases: names and tags.
 ghost use mathlib.Core.Path.{_≡_};
 ghost use mathlib.Core.List.{[]};
 ghost use Prim.Native.Nat.{_≤_, _<_};
@@ -7,6 +7,7 @@ ghost use Rattle.sizes.specs.Places.{RecordLine, CaseLine};
 ghost use Rattle.shapes.specs.Shapes.{declAt};
 ghost use Rattle.records.specs.Lines.{caseOf};
 
+// T, of the `adt` or `pick` line r.
 pub fn record_name<'a>(sheet: &'a [u8], work: &[u8], n: usize, r: usize) -> &'a [u8]
     requires { ⌜ RecordLine (now sheet) (now work) n r ⌝ }
     ensures { λ x. ⌜ now x ≡ declAt (now (sheet .entry)) r .name ⌝ }

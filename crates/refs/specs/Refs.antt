@@ -15,9 +15,11 @@ use Rattle.lines.specs.Lines.{formAt}
 
 -- ---- by letters
 
+-- whether x is the letter of a reference: it lies above the blank, 32, and below P, 80
 abbrev pub isRef : ℕ → Bool
 isRef x = ltb 32 x && ltb x 80
 
+-- the letter of the kind that it asks for; below 64 it may be 0 too
 abbrev pub wantedBy : ℕ → ℕ
 wantedBy x = cond (ltb x 64) (x + 32) x
 

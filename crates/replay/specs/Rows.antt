@@ -10,7 +10,7 @@ use Rattle.semantics.specs.Text.{Bytes, fieldsOf}
 use Rattle.stored.specs.Reading.{numberIn, widthOf, itemBy, readRow, readAll, sizeBy, mostTypes, sizeIn}
 use Rattle.stored.specs.Laying.{Laying, layAll}
 
--- where the table begins; a byte for each number
+-- where the table begins; it has a byte for each ID
 abbrev pub tableAt : ℕ
 tableAt = 5120
 

@@ -224,9 +224,11 @@ literalKind none none es vs = cond (isByteLiteral es) kByte (kindOfValues vs)
 abbrev pub longestLiteral : ℕ
 longestLiteral = 1024
 
+-- whether a placement has an index outside the size n
 abbrev pub outside : ℕ → Placement → Bool
 outside n p = leb n (p .high)
 
+-- a size that is negative or no integer leaves the literal pending
 abbrev pub asSize : ConstVal → Result ℕ
 asSize (vInt (pos n)) = ok n
 asSize (vInt (negsuc n)) = failed
@@ -243,6 +245,7 @@ built declared ty es f n =
     let vs = valuesFrom (f .placements) (filler (f .wildcard)) 0 n in
     ok (record { kind = literalKind declared ty es vs; count = n; values = vs })
 
+-- a literal of size n: first refusal 11 is tried, then 12
 abbrev pub measured : Option Ty → Option Ty → Els → Filled → ℕ → Result ConstArray
 measured declared ty es f n = cond (any (outside n) (f .placements)) (refuse 11) (cond (leb n longestLiteral) (built declared ty es f n) (refuse 12))
 

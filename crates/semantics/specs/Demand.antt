@@ -91,6 +91,7 @@ afterPart end (constInit v) = end
 afterPart end (arrayInit a) = partAt end + elemSize (a .kind) * a .count
 afterPart end pendingInit = end
 
+-- globals one after the other, with the end of the places so far, the number of the next item, and the end of the parts so far
 abbrev pub laidFrom : ℕ → ℕ → ℕ → List Declared → List Laid
 laidFrom end k area [] = []
 laidFrom end k area (d ∷ ds) =

@@ -39,6 +39,7 @@ fromOption (some a) = ok a
 
 -- ---- integers of 64 bits
 
+-- the low 64 bits of an integer, and the integer that 64 bits are
 abbrev pub bits64 : ℤ → ℕ
 bits64 (pos n) = n % 2 ^ 64
 bits64 (negsuc n) = 2 ^ 64 - 1 - n % 2 ^ 64

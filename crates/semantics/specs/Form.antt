@@ -74,12 +74,14 @@ abbrev pub between : ℕ → ℕ → ℤ → Bool
 between lo hi (pos n) = leb n hi
 between lo hi (negsuc n) = ltb n lo
 
+-- NAME or NAME.NAME, by its parts between full stops
 abbrev pub isKey : List Bytes → Bool
 isKey [] = false
 isKey (n ∷ []) = isName n
 isKey (n ∷ (m ∷ [])) = isName n && isName m
 isKey (n ∷ (m ∷ (x ∷ xs))) = false
 
+-- whether bits are no NaN's: without the sign they are not above infinity's
 abbrev pub notNaN : ℕ → Bool
 notNaN b = leb (b % 2 ^ 63) (0x7FF * 2 ^ 52)
 
@@ -301,10 +303,12 @@ formed k l =
 
 -- ---- what it makes
 
+-- the values of the first n fields
 abbrev pub values : (a : Atom) → List Node → ℕ → List Bytes → List (Value a)
 values a ns zero fs = []
 values a ns (suc n) fs = value a ns (headPart fs) ∷ values a ns n (tailParts fs)
 
+-- what a form's parts make of fields, one after the other
 abbrev pub make : (ps : List Part) → Makes ps → List Node → List Bytes → Node
 make [] m ns fs = m
 make (one a ∷ ps) m ns fs = make ps (m (value a ns (headPart fs))) ns (tailParts fs)

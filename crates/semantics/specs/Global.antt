@@ -52,6 +52,7 @@ elementItems kBig vs = valuesItem 0 (bigValues (map constBig vs)) ∷ []
 elementItems kReal vs = valuesItem 0 (realValues (map constReal vs)) ∷ []
 elementItems kPtr vs = strItems 0 vs
 
+-- what fills an array: nothing where it has no values
 abbrev pub contents : ℕ → ElemKind → List ConstVal → List Item
 contents off k [] = []
 contents off k (v ∷ vs) = setItem off ∷ (elementItems k (v ∷ vs) ++ (backItem ∷ []))

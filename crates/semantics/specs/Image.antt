@@ -94,6 +94,7 @@ lay off ys (some start) r = record { item = suc (r .item); image = r .image; are
 abbrev pub withPart : ℕ → ℕ → Replay → Replay
 withPart off end r = record { item = r .item; image = r .image; area = r .area; end = end; parts = record { place = off; start = partAt (r .end) } ∷ r .parts; inside = r .inside }
 
+-- writing goes to the part that starts at i, or for none to the image
 abbrev pub moved : Option ℕ → Replay → Replay
 moved i r = record { item = suc (r .item); image = r .image; area = r .area; end = r .end; parts = r .parts; inside = i }
 

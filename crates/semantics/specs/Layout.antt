@@ -112,6 +112,7 @@ pointerCount (b ∷ bs) = onesIn 8 b + pointerCount bs
 
 -- ---- the fields of a record
 
+-- a field, and where it begins
 pub record Placed : Type 0 where
   pub name : Bytes
   pub ty : Ty
@@ -144,6 +145,7 @@ place off (f ∷ fs) = let r = placeLine (f .ty) (f .names) off in joined r (pla
 
 -- ---- size and pointers
 
+-- the furthest end of fields, at least `end`
 abbrev pub furthest : ℕ → List Placed → ℕ
 furthest end [] = end
 furthest end (p ∷ ps) = furthest (max end (p .offset + sizeOf (p .ty))) ps
@@ -151,6 +153,7 @@ furthest end (p ∷ ps) = furthest (max end (p .offset + sizeOf (p .ty))) ps
 abbrev pub pointersOf : List Placed → List ℤ
 pointersOf ps = concatMap (λ (p : Placed). marksOf (p .ty) (p .offset)) ps
 
+-- the shape of a record whose fields begin at `base`
 unfoldable pub shapeOf : ℕ → List Placed → Shape
 shapeOf base ps = record { size = roundedSize (furthest base ps); pointers = pointersOf ps }
 
@@ -183,6 +186,7 @@ variantFields common k = let r = place behindTag common in r .placed ++ place (r
 abbrev pub variantShape : List Fd → Case → Shape
 variantShape common k = shapeOf behindTag (variantFields common k)
 
+-- a variant of case g for each tag, numbered from n on
 abbrev pub variantsOf : Bytes → Shape → List Placed → ℕ → ℕ → List Bytes → List Recorded
 variantsOf t s ps g n [] = []
 variantsOf t s ps g n (x ∷ xs) = record { key = t ++ (46 ∷ x); tag = pos n; group = pos g; shape = s; fields = ps } ∷ variantsOf t s ps g (suc n) xs

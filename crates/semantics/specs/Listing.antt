@@ -94,7 +94,7 @@ valuesFields (wordValues vs) = (bytes "words", length vs, map decimalℤ vs)
 valuesFields (bigValues vs) = (bytes "bigs", length vs, map decimalℤ vs)
 valuesFields (realValues vs) = (bytes "reals", length vs, map realText vs)
 
--- what stands behind `dat`; an array's ID is its element key's number
+-- what stands behind `dat`; an array's ID is that of its element key
 abbrev pub itemFields : (TypeKey → ℕ) → Item → List Bytes
 itemFields id (valuesItem o vs) = let f = valuesFields vs in f .0 ∷ decimal o ∷ decimal (f .1) ∷ f .2
 itemFields id (strItem o s) = bytes "str" ∷ decimal o ∷ hexOf s ∷ []

@@ -62,6 +62,7 @@ abbrev pub tailParts : List Bytes → List Bytes
 tailParts [] = []
 tailParts (p ∷ ps) = ps
 
+-- parts with one more byte b in front: a separator ends an empty part, any other byte belongs to the first part
 abbrev pub cut : Bool → ℕ → List Bytes → List Bytes
 cut true b ps = [] ∷ ps
 cut false b ps = (b ∷ headPart ps) ∷ tailParts ps
@@ -188,6 +189,7 @@ fromBigEndian n (b ∷ bs) = fromBigEndian (n * 256 + b) bs
 
 -- ---- names
 
+-- a letter, or `_`
 abbrev pub isLetter : ℕ → Bool
 isLetter b = inRange 65 90 b || inRange 97 122 b || eqb b 95
 
@@ -213,6 +215,7 @@ lead b =
     (cond (inRange 0xF1 0xF3 b) (some (3, 0x80, 0xBF))
     (cond (inRange 0xF4 0xF4 b) (some (3, 0x80, 0x8F)) none)))))))
 
+-- the state behind one more byte, none where it is a fault
 abbrev pub afterByte : ℕ → Lead → Option Lead
 afterByte b l = cond (eqb (l .0) 0) (lead b) (cond (inRange (l .1) (l .2) b) (some (l .0 - 1, 0x80, 0xBF)) none)
 

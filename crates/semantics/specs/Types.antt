@@ -1,4 +1,4 @@
--- Type lines: descriptor keys and their IDs.
+-- Type lines: descriptor keys, their positions and IDs, and the descriptors.
 use Prim.Native.Nat.{ℕ, suc, _+_}
 use mathlib.Core.Bool.{Bool, true, false, _&&_, cond}
 use mathlib.Core.List.{List, [], _∷_, _++_, map}
@@ -50,6 +50,7 @@ distinct before (k ∷ ks) = cond (any (sameTypeKey k) before) (distinct before 
 unfoldable pub keys : Source → List Item → List TypeKey
 keys s is = distinct [] (s .needs ++ concatMap arrayKey is)
 
+-- how many keys stand before a key
 abbrev pub position : TypeKey → List TypeKey → ℕ
 position k [] = 0
 position k (j ∷ js) = cond (sameTypeKey k j) 0 (suc (position k js))

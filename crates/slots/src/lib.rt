@@ -15,6 +15,7 @@ fn store(work: &mut [u8], a: usize, kind: u8, bits: u64)
     let _ = words::put_bits(work, p, bits);
 }
 
+// Stores a value in the slot at a.
 pub fn put_value(work: &mut [u8], a: usize, v: values::ConstVal)
     requires { ⌜ (a + 9 ≤ length (now work)) × (Small v) ⌝ }
     ensures { λ _. ⌜ Stored (now (work .entry)) a v (now (work .exit)) ⌝ }
@@ -26,6 +27,7 @@ pub fn put_value(work: &mut [u8], a: usize, v: values::ConstVal)
     }
 }
 
+// The value in the slot at a.
 pub fn value_at(work: &[u8], a: usize) -> values::ConstVal
     requires { ⌜ a + 9 ≤ length (now work) ⌝ }
     ensures { λ r. ⌜ r ≡ slotOf (now (work .entry)) a ⌝ }

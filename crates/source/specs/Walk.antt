@@ -45,7 +45,8 @@ varOf ns fs = record { ty = nodeAt ns (numberOf (fieldAt fs 0)) .ty; init = exOf
 abbrev pub frameOf : List Node → List Bytes → Shape
 frameOf ns fs = record { size = numberOf (fieldAt fs 0); pointers = values offset ns (numberOf (fieldAt fs 1)) (drop 2 fs) }
 
--- by the letter of the kind: `con` is 68, `var` 72, `frame` 71, `mod` 77, `end` 79, `impl` 73; `adt` 65 and `pick` 66 declare records, `need` 78 needs
+-- by the letter of the kind: `adt` is 65, `pick` 66, `con` 68, `var` 72, `frame` 71, `need` 78, `mod` 77, `end` 79, `impl` 73; records
+-- and needs are those of d
 unfoldable pub byKind : ℕ → List Node → List Bytes → Declares → Declares
 byKind k ns fs d = record {
   adts = cond (eqb k 65 || eqb k 66) (d .adts) [];

@@ -250,7 +250,7 @@ module _ (s : Source) (cs : List Const) (g : Globals) (plain : PlainNames s cs g
       ∙ ap (λ (xs : List Stored). map storedOf (g .items) ++ xs) behind
       ∙ append-nil (map storedOf (g .items)))
 
-  -- the size of each descriptor by its number
+  -- the size of each descriptor by its ID
   pub listing-size : (i : ℕ) → i < mostTypes → i < length (descriptors s (g .items))
       → sizeIn (listing s cs g) i ≡ min (getD (descriptors s (g .items)) i no-shape .size) largestSize
   unfolding listing sizeIn

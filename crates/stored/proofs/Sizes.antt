@@ -92,7 +92,7 @@ module _ (k : ElemKind) where
           rw (f, e)
       go false e h x y = skip (any (sameTypeKey j) before) e (x h) (y h (rw (e, b)))
 
-  -- its shape stands where its number says
+  -- its shape stands where its ID says
   key-at : (rs : List Recorded) (ks : List TypeKey) → among ks ≡ true
       → (position (elemKey k) ks < length ks) × (getD (map (keyShape rs) ks) (position (elemKey k) ks) no-shape .size ≡ elemSize k)
   key-at rs [] h = never h

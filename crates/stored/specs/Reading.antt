@@ -91,10 +91,10 @@ unfoldable pub sizeRows : ℕ → ℕ → List Bytes → ℕ
 sizeRows i d [] = d
 sizeRows i d (l ∷ ls) = sizeRows i (sizeBy i (fieldsOf l) d) ls
 
--- the numbers of descriptors lie below this one
+-- the IDs of descriptors lie below this number
 abbrev pub mostTypes : ℕ
 mostTypes = 1024
 
--- the size that the `typ` rows of a text give a descriptor's number
+-- the size that the `typ` rows of a text give for an ID, 0 where they give none
 unfoldable pub sizeIn : Bytes → ℕ → ℕ
 sizeIn t i = cond (ltb i mostTypes) (sizeRows i 0 (lineParts t)) 0

@@ -5,6 +5,7 @@ ghost use Rattle.checks.specs.Checks.{Checked, Kept};
 ghost use Rattle.names.specs.Table.{logIn, Logged};
 ghost use Rattle.tables.specs.Tables.{Held, Makes};
 
+// How many entries each table has, where allocation ends, and how many keys the needs have.
 pub struct Tables {
     pub consts: usize,
     pub globals: usize,
@@ -38,6 +39,7 @@ fn make_others(sheet: &[u8], work: &mut [u8], n: usize, m: usize) -> Tables
     }
 }
 
+// All tables, the constants first.
 pub fn make_tables(sheet: &[u8], work: &mut [u8], n: usize) -> Made
     requires { ⌜ Checked (now sheet) (now work) n ⌝ }
     ensures { λ r. ⌜ (Makes (now (sheet .entry)) (now (work .exit)) n r) × (Kept 5120 (now (work .entry)) (now (work .exit))) ⌝ }

@@ -15,7 +15,7 @@ use Rattle.lines.specs.Lines.{readAt}
 use Rattle.checks.specs.Checks.{Kept}
 use Rattle.type_lines.specs.Needs.{needAt}
 
--- 128 bytes each: the line of need q, low and high byte, and the position of its key among the distinct keys
+-- 128 bytes each: the line, from 0, of need q, low and high byte, and the position of its key among the distinct keys
 unfoldable pub lineOf : Bytes → ℕ → ℕ
 lineOf t q = getD t (10240 + q) 0 + 256 * getD t (10368 + q) 0
 
@@ -34,7 +34,7 @@ digestOf t q = getD t (10752 + q) 0
 abbrev pub positionFromOne : TypeKey → List TypeKey → ℕ
 positionFromOne k js = cond (any (sameTypeKey k) js) (suc (position k js)) 0
 
--- the table has the lines of the needs ks, and their positions
+-- the table has the lines of the needs ks, which are `need` lines, 78, and the positions of their keys
 pub record Needs (s t : Bytes) (n : ℕ) (ks : List TypeKey) : Type 0 where
   pub few : length ks ≤ 128
   pub within : (q : ℕ) → q < length ks → lineOf t q < n
@@ -42,6 +42,7 @@ pub record Needs (s t : Bytes) (n : ℕ) (ks : List TypeKey) : Type 0 where
   pub key : (q : ℕ) → q < length ks → needAt s (lineOf t q) ≡ getD ks q opaqueKey
   pub position : (q : ℕ) → q < length ks → positionOf t q ≡ position (getD ks q opaqueKey) (distinct [] ks)
 
+-- 1 where a kind of element is used
 abbrev pub isUsed : ℕ → ℕ
 isUsed p = cond (eqb p 0) 0 1
 
@@ -49,7 +50,7 @@ isUsed p = cond (eqb p 0) 0 1
 unfoldable pub kindsUsed : Bytes → ℕ
 kindsUsed t = isUsed (kindOf t 0) + isUsed (kindOf t 1) + isUsed (kindOf t 2) + isUsed (kindOf t 3) + isUsed (kindOf t 4)
 
--- so many keys are distinct among ks, and these are the positions of elements among them; all but those of elements are needs'
+-- `keys` keys are distinct among ks, at most 128 besides those of elements, and the table has the positions of elements' keys
 pub record Kinds (t : Bytes) (ks : List TypeKey) (keys : ℕ) : Type 0 where
   pub count : keys ≡ length (distinct [] ks)
   pub position : (k : ElemKind) → kindOf t (kindNumber k) ≡ positionFromOne (elemKey k) (distinct [] ks)
@@ -62,7 +63,7 @@ pub record Outside (a b : ℕ) (t u : Bytes) : Type 0 where
 
 -- ---- what is stored
 
--- need q is on line i, and its key has position p
+-- need q is on line i, from 0, and its key has position p
 unfoldable pub entered : Bytes → ℕ → ℕ → ℕ → Bytes
 entered t q i p = set (set (set t (10240 + q) (i % 256)) (10368 + q) (i / 256)) (10496 + q) p
 

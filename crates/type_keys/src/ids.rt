@@ -22,7 +22,7 @@ fn id_of(frames: usize, p: usize) -> usize
     2 + frames + p
 }
 
-// The ID of the key of need q, where there are so many frames. Later array elements leave it as it is.
+// The ID of the key of need q. Keys of array elements, which come later, leave it as it is.
 pub fn need_id(work: &[u8], frames: usize, q: usize) -> usize
     requires { ⌜ (frames ≤ 128) × (q < 128) × (65536 ≤ length (now work)) ⌝ }
     ensures { λ r. ⌜ ((s : Bytes) (n : ℕ) (is : List Item) → Needs s (now (work .entry)) n (sheetSource s .needs) → q < length (sheetSource s .needs) → frames ≡ length (sheetSource s .frames) → r ≡ idOf (sheetSource s) is (getD (sheetSource s .needs) q opaqueKey)) × (r < 512) ⌝ }
@@ -30,7 +30,7 @@ pub fn need_id(work: &[u8], frames: usize, q: usize) -> usize
     id_of(frames, need_position(work, q))
 }
 
-// The ID of the key of a kind of element that is used among the keys ks. Later keys leave it as it is.
+// The ID of the key of a kind of element that is used. Later keys leave it as it is.
 pub fn kind_id(work: &[u8], frames: usize, kind: usize) -> usize
     requires { ⌜ (frames ≤ 128) × (kind < 5) × (0 < kindOf (now work) kind) × (65536 ≤ length (now work)) ⌝ }
     ensures { λ r. ⌜ ((s : Source) (is : List Item) (k : ElemKind) (ks ms : List TypeKey) (count : ℕ) → kind ≡ kindNumber k → Kinds (now (work .entry)) ks count → frames ≡ length (s .frames) → keys s is ≡ distinct [] (ks ++ ms) → r ≡ idOf s is (elemKey k)) × (r < 512) ⌝ }

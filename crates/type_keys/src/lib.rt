@@ -11,7 +11,7 @@ ghost use Rattle.semantics.specs.Tree.TypeKey.{elemKey};
 ghost use Rattle.semantics.specs.Array.{kindNumber};
 ghost use Rattle.type_keys.specs.Table.{lineOf, positionOf, kindOf, digestOf, entered, kindEntered, Kinds, Outside};
 
-// The line of need q, from 0.
+// The line of need q; both are counted from 0.
 pub fn need_line(work: &[u8], q: usize) -> usize
     requires { ⌜ (q < 128) × (65536 ≤ length (now work)) ⌝ }
     ensures { λ r. ⌜ r ≡ lineOf (now (work .entry)) q ⌝ }
@@ -43,7 +43,7 @@ pub fn kind_position(work: &[u8], kind: usize) -> usize
     words::wide(work[area::KIND_POSITIONS + kind])
 }
 
-// Need q is on line i, and its key has position p.
+// Need q is on line i, from 0, and its key has position p.
 pub fn enter_need(work: &mut [u8], q: usize, i: usize, p: usize)
     requires { ⌜ (q < 128) × (i < 1024) × (p < 256) × (65536 ≤ length (now work)) ⌝ }
     ensures { λ _. ⌜ now (work .exit) ≡ entered (now (work .entry)) q i p ⌝ }
@@ -83,7 +83,7 @@ pub fn clear_kinds(work: &mut [u8])
     }
 }
 
-// Enters the key of an array's elements where it is new; so many keys are there then.
+// Enters the key of an array's elements where it is new, and returns how many keys there are then.
 pub fn collect_kind(work: &mut [u8], kind: usize, keys: usize) -> usize
     requires { ⌜ (kind < 5) × (keys < 255) × (65536 ≤ length (now work)) ⌝ }
     ensures { λ r. ⌜ ((k : ElemKind) (ks : List TypeKey) → kind ≡ kindNumber k → Kinds (now (work .entry)) ks keys → Kinds (now (work .exit)) (ks ++ (elemKey k ∷ [])) r) × (Outside 10624 10629 (now (work .entry)) (now (work .exit))) ⌝ }

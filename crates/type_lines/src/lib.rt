@@ -16,7 +16,7 @@ pub fn same_need(sheet: &[u8], work: &[u8], n: usize, a: usize, b: usize) -> boo
     words::same(l, lines::line_at(sheet, work, n, b))
 }
 
-// The kind of element that form f needs, 5 for none.
+// The kind of element that form f needs, 5 for none. The forms of big, real and string are as far apart as their kinds.
 pub fn kind_needed(f: usize) -> usize
     ensures { λ r. ⌜ r ≡ kindBy f ⌝ }
 {

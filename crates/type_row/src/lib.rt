@@ -46,6 +46,7 @@ fn map_words(work: &mut [u8], size: u32, count: u32)
     }
 }
 
+// The row of such a block.
 pub fn put_words(
     work: &mut [u8],
     id: usize,

@@ -30,7 +30,7 @@ fn kind_at(work: &[u8], p: usize) -> usize
     k
 }
 
-// The keys behind those of needs, up to the last of `keys`. The keys' rows begin at `base`.
+// The rows of the keys behind those of needs, up to the last of `keys`; `base` is the ID of the first key.
 pub fn kind_rows(work: &mut [u8], base: usize, keys: usize, out: &mut [u8], p: Next) -> Next
     requires { ⌜ (65536 ≤ length (now work)) × (base ≤ p .id) × (base < 1024) × (keys < 1024) × (p .at ≤ length (now out) + 1) ⌝ }
     ensures { λ r. ⌜ ((s : Bytes) (ls : List TypeKey) (is : List Item) → p .id ≡ base + length (distinct [] ls) → Kinds (now (work .entry)) (ls ++ concatMap arrayKey is) keys → Wrotes (shapesOf s (drop (length (distinct [] ls)) (distinct [] (ls ++ concatMap arrayKey is)))) p r (now (work .entry)) (now (work .exit)) (now (out .entry)) (now (out .exit))) × (Kept 49152 (now (work .entry)) (now (work .exit))) ⌝ }

@@ -96,7 +96,7 @@ fn put_need(
     type_row::put_elem(work, id, type_lines::kind_needed(f), out, at)
 }
 
-// The row of need q, where its key is new. The keys' rows begin at `base`.
+// The row of need q, where its key is new; `base` is the ID of the first key.
 fn next_need(
     sheet: &[u8],
     work: &mut [u8],
@@ -145,8 +145,7 @@ fn need_rows(
 
 // ---- all types
 
-// Two opaque records, the frames, what is needed, and the elements of arrays, where there are so many keys. Arrays' elements are entered
-// before.
+// Two opaque records, the frames, and the keys: those of needs, then those of array elements, which are entered before.
 pub fn type_rows(
     sheet: &[u8],
     work: &mut [u8],

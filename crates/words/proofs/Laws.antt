@@ -1,4 +1,4 @@
--- Laws of comparing bytes, and of reading eight of them.
+-- Laws of comparing bytes, of digests, and of reading eight bytes.
 use mathlib.Core.Path.{_≡_, refl, sym, ap, _∙_}
 use mathlib.Core.Bool.{Bool, true, false, _&&_, false≢true}
 use mathlib.Core.List.{[], _∷_, _++_}
@@ -37,7 +37,7 @@ module _ (a b : Bytes) (i : ℕ) (h : i < length a) (k : i < length b) where
 pub same-end : (a b : Bytes) (i : ℕ) → length a ≤ i → length b ≤ i → same (drop i a) (drop i b) ≡ true
 same-end a b i h k = rw (drop-of-length-le a {i = i} h, drop-of-length-le b {i = i} k)
 
--- ---- the number of a text
+-- ---- the digest of a text
 
 pub digest-next : (s : Bytes) (i h : ℕ) {b : ℕ} → i < length s → b ≡ getD s i 0 → digestFrom h (drop i s) ≡ digestFrom ((h * 185 + b) % 256) (drop (i + 1) s)
 unfolding digestFrom

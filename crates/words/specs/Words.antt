@@ -1,4 +1,4 @@
--- Numbers in bytes, and numbers of texts.
+-- Numbers that are stored in bytes, and digests of texts.
 use Prim.Native.Nat.{ℕ, _+_, _*_, _%_}
 use mathlib.Core.List.{[], _∷_}
 use lib.ListN.{take, drop, getD}
@@ -12,7 +12,7 @@ u16At t a = getD t a 0 + 256 * getD t (a + 1) 0
 unfoldable pub bitsAt : Bytes → ℕ → ℕ
 bitsAt t a = fromBigEndian 0 (take 8 (drop a t))
 
--- a number below 256 of a text: all its bytes count, since the factor is odd
+-- the digest of a text behind one with the digest h, a number below 256: all bytes count, since the factor is odd
 unfoldable pub digestFrom : ℕ → Bytes → ℕ
 digestFrom h [] = h
 digestFrom h (b ∷ bs) = digestFrom ((h * 185 + b) % 256) bs

@@ -1,4 +1,4 @@
-// Bytes compared and summed up, and numbers that are stored in bytes.
+// Bytes compared, digests of texts, and numbers that are stored in bytes.
 ghost use mathlib.Core.Path.{_≡_};
 ghost use Prim.Native.Nat.{_+_, _≤_, _<_};
 ghost use lib.ListN.{length};
@@ -51,7 +51,7 @@ pub fn digest(s: &[u8]) -> usize
     digest_on(0, s)
 }
 
-// Two bytes, the low one first.
+// The number in two bytes, the low one first.
 pub fn u16_at(work: &[u8], a: usize) -> usize
     requires { ⌜ a + 1 < length (now work) ⌝ }
     ensures { λ r. ⌜ (r ≡ u16At (now (work .entry)) a) × (r < 65536) ⌝ }
@@ -59,7 +59,7 @@ pub fn u16_at(work: &[u8], a: usize) -> usize
     wide(work[a]) + 256 * wide(work[a + 1])
 }
 
-// Eight bytes, the highest first.
+// The 64 bits in eight bytes, the highest first.
 pub fn bits_at(work: &[u8], a: usize) -> u64
     requires { ⌜ a + 8 ≤ length (now work) ⌝ }
     ensures { λ r. ⌜ r ≡ bitsAt (now (work .entry)) a ⌝ }
@@ -73,7 +73,7 @@ pub fn bits_at(work: &[u8], a: usize) -> u64
     acc
 }
 
-// The same eight bytes, stored.
+// 64 bits stored in eight bytes, the highest first.
 pub fn put_bits(out: &mut [u8], at: usize, n: u64) -> usize
     ensures { λ r. ⌜ Wrote (now (out .entry)) at (bigEndian 8 n) (now (out .exit)) r ⌝ }
 {

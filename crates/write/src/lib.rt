@@ -28,6 +28,7 @@ pub fn nothing(out: &[u8], at: usize) -> usize
     at
 }
 
+// One byte.
 pub fn put(out: &mut [u8], at: usize, b: u8) -> usize
     ensures { λ r. ⌜ Wrote (now (out .entry)) at (b ∷ []) (now (out .exit)) r ⌝ }
 {
@@ -38,6 +39,7 @@ pub fn put(out: &mut [u8], at: usize, b: u8) -> usize
     out.len() + 1
 }
 
+// The bytes of a part.
 pub fn put_part(out: &mut [u8], at: usize, part: &[u8]) -> usize
     ensures { λ r. ⌜ Wrote (now (out .entry)) at (now (part .entry)) (now (out .exit)) r ⌝ }
 {
@@ -90,6 +92,7 @@ fn put_hex_byte(out: &mut [u8], at: usize, b: u8) -> usize
     put(out, p, hex_digit(b % 16))
 }
 
+// Bytes as two hexadecimal digits each.
 pub fn put_hex(out: &mut [u8], at: usize, part: &[u8]) -> usize
     ensures { λ r. ⌜ Wrote (now (out .entry)) at (hexOf (now (part .entry))) (now (out .exit)) r ⌝ }
 {
