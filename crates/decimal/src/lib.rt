@@ -6,7 +6,7 @@ ghost use lib.ListN.{drop};
 ghost use Rattle.decimal.specs.Number.{most, digitsOf, numberOf, signedOf, integerOf, isBetween};
 
 // One more than the size of the lowest i64: a number that is larger need not be told from it.
-const MOST: u64 = 9223372036854775809;
+pub const MOST: u64 = 9223372036854775809;
 
 // An integer's size, no further than MOST, with its sign.
 pub enum Signed {

@@ -1,5 +1,6 @@
 // Entries of the table of constants.
 use codes::area;
+use codes::value;
 use values::ConstVal;
 ghost use mathlib.Core.Path.{_≡_};
 ghost use mathlib.Core.Option.{none, some};
@@ -31,9 +32,9 @@ fn kind_of(v: ConstVal) -> u8
     ensures { λ r. ⌜ r ≡ kindFor v ⌝ }
 {
     match v {
-        ConstVal::Int(_) => 1,
-        ConstVal::Real(_) => 2,
-        ConstVal::Str(_, _) => 3,
+        ConstVal::Int(_) => value::INT,
+        ConstVal::Real(_) => value::REAL,
+        ConstVal::Str(_, _) => value::STRING,
     }
 }
 

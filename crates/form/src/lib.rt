@@ -67,7 +67,8 @@ const FIELDS: [u8; 210] =
 // How long the keywords of each row are: a stands for 1.
 const WIDTHS: [u8; 42] = *b"fgfgifhhfgfegefgfhfhggebbbcdccccdehmnmnpjk";
 
-const ROWS: usize = 42;
+// Behind the last row: no form.
+pub const ROWS: usize = 42;
 
 const SIGN: u64 = 0x8000000000000000;
 

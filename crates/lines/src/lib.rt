@@ -1,5 +1,6 @@
 // The lines of a sheet: their forms, and tables of them in the working space.
 use codes::area;
+use form::ROWS;
 use words::wide;
 ghost use mathlib.Core.Path.{_≡_};
 ghost use Prim.Native.Nat.{_+_, _≤_, _<_};
@@ -8,8 +9,6 @@ ghost use lib.ListN.{length, getD};
 ghost use Rattle.semantics.specs.Text.{same};
 ghost use Rattle.decimal.specs.Number.{numberOf};
 ghost use Rattle.lines.specs.Lines.{textAt, readAt, start, formAt, entered, Whole, Passed, Above};
-
-const ROWS: usize = 42;
 
 // How many lines there are, all with a form; or the first line that is refused by 3.
 pub enum Formed {

@@ -9,6 +9,7 @@ use records::key::name_of;
 use records::key::newest_of;
 use records::key::number_of;
 use records::key::tag_of;
+use shapes::TAG_BYTES;
 use sizes::place::Reached;
 ghost use mathlib.Core.Path.{_≡_};
 ghost use mathlib.Core.List.{_∷_};
@@ -20,9 +21,6 @@ ghost use Rattle.maps.specs.Maps.{MapRoom, Made};
 ghost use Rattle.records.specs.Log.{recordedAt, EntryIn, Logged};
 ghost use Rattle.field_rows.specs.Rows.{placedRows};
 ghost use Rattle.record_rows.specs.Rows.{TagWrote, headText, shapeText, keyRows, allRows, LogEntry, Printed};
-
-// Fields of a record with pick begin behind its tag word.
-const TAG_BYTES: u32 = 4;
 
 // KEY, with its comma: T, or T.tag.
 fn put_key(sheet: &[u8], work: &[u8], n: usize, i: usize, out: &mut [u8], at: usize) -> usize

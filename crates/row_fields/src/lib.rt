@@ -2,6 +2,7 @@
 pub mod values;
 
 use decimal::Integer;
+use decimal::MOST;
 use hex::Bits64;
 ghost use mathlib.Core.Path.{_≡_};
 ghost use mathlib.Core.Bool.{true, false};
@@ -12,8 +13,6 @@ ghost use Rattle.semantics.specs.Text.{fieldsOf};
 ghost use Rattle.decimal.specs.Number.{most};
 ghost use Rattle.stored.specs.Reading.{numberIn, bitsIn, keywordOf};
 ghost use Rattle.row_fields.specs.Keywords.{whichOf};
-
-const MOST: u64 = 9223372036854775809;
 
 // Which of four words a field is, from 1 on, 0 where it is none.
 fn which(s: &[u8], a: &[u8], b: &[u8], c: &[u8], d: &[u8]) -> usize

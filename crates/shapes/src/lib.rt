@@ -11,7 +11,7 @@ ghost use Rattle.maps.specs.Maps.{MapRoom, Marks, Made};
 ghost use Rattle.shapes.specs.Shapes.{shapeAt, casesAt, variantAt, PickLine, VariantLine, CaseOf, BehindCommon};
 
 // The bytes of the tag word of a record with `pick`: fields begin behind it.
-const TAG_BYTES: u32 = 4;
+pub const TAG_BYTES: u32 = 4;
 
 // How many cases the `pick` line r has.
 pub fn case_count(sheet: &[u8], work: &[u8], n: usize, r: usize) -> usize
