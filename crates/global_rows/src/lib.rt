@@ -49,10 +49,7 @@ pub fn global_rows(
     requires { ⌜ Tabled (now sheet) (now work) n g ⌝ }
     ensures { λ r. ⌜ Wrote (now (out .entry)) at (concatMap globalRow (placesIn (now (sheet .entry)) (now (work .entry)) g)) (now (out .exit)) r ⌝ }
 {
-    if out.len() < at {
-        return out.len() + 1;
-    }
-    let mut p = at;
+    let mut p = write::nothing(out, at);
     let mut i = 0;
     while i < g {
         p = global_row(sheet, work, n, g, i, out, p);

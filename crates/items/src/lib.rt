@@ -64,10 +64,7 @@ fn put_elements(work: &[u8], out: &mut [u8], at: usize, kind: u8, count: usize) 
     requires { ⌜ Literal (now work) count ⌝ }
     ensures { λ r. ⌜ Wrote (now (out .entry)) at (commaed (elementTexts kind (valuesIn (now (work .entry)) 0 count))) (now (out .exit)) r ⌝ }
 {
-    if out.len() < at {
-        return out.len() + 1;
-    }
-    let mut p = at;
+    let mut p = write::nothing(out, at);
     let mut i = 0;
     while i < count {
         p = elements::put_element(out, p, kind, placements::element(work, i));
@@ -103,10 +100,7 @@ fn string_rows(work: &[u8], out: &mut [u8], at: usize, count: usize) -> usize
     requires { ⌜ Literal (now work) count ⌝ }
     ensures { λ r. ⌜ ((id : TypeKey → ℕ) → Wrote (now (out .entry)) at (itemRows id (strItems 0 (valuesIn (now (work .entry)) 0 count))) (now (out .exit)) r) ⌝ }
 {
-    if out.len() < at {
-        return out.len() + 1;
-    }
-    let mut p = at;
+    let mut p = write::nothing(out, at);
     let mut i = 0;
     while i < count {
         p = string_row(work, out, p, i);

@@ -8,7 +8,6 @@ use mathlib.Core.Path.{_≡_, refl, _∙_}
 use borrow.Author.Needs.{needs}
 use denote.Ref.{now}
 use Rattle.write.proofs.Wrote.{wrote-length, wrote-as}
-use Rattle.write.proofs.Wrote.{wrote-none, wrote-past}
 use Rattle.write.specs.Wrote.{Wrote}
 use Rattle.semantics.specs.Listing.{globalRow}
 use Rattle.semantics.specs.Sheet.{concatMap}
@@ -23,34 +22,27 @@ Inv-loop sheet work n g out₀ at p₀ i₀ out p i = (i ≤ g) × (length out �
 abbrev μ-loop : tie.MeasureT-loop
 μ-loop sheet work n g out₀ at p₀ i₀ out p i = g - i
 
-returns : tie.Need-returns Inv-loop μ-loop
-returns c =
-    let a = c .before .before .before .before .args in
-    wrote-past (now (a .out)) (a .at) _ (omega arith) (omega arith)
-
 loop-holds : tie.Need-loop-holds Inv-loop μ-loop
 unfolding entriesFrom
-loop-holds c =
-    let a = c .before .before .before .before .args in
-    (search needs, refl, wrote-none (now (a .out)) (a .at) (omega arith))
+loop-holds c = (search needs, refl, c .nothing .ensures)
 
 global-row-requires : tie.Need-global-row-requires Inv-loop μ-loop
-global-row-requires c κs = (c .before .before .before .before .before .before .before .pre, c .before .loop-test .taken)
+global-row-requires c κs = (c .before .before .before .before .before .before .before .before .pre, c .before .loop-test .taken)
 
 loop-again : tie.Need-loop-again Inv-loop μ-loop
 loop-again c =
-    let a = c .before .before .before .before .before .before .before .before .before .before .args in
+    let a = c .before .before .before .before .before .before .before .before .before .before .before .args in
     let l = c .before .before .before .before .before .loop in
     (search needs, wrote-length (c .before .before .global-row .ensures) ∙ l .inv .1, rows-next (now (a .sheet)) (now (a .work)) (l .i) (l .inv .2) (c .before .before .global-row .ensures))
 
-returns-2 : tie.Need-returns-2 Inv-loop μ-loop
-returns-2 c =
-    let a = c .before .before .before .before .before .before .args in
+returns : tie.Need-returns Inv-loop μ-loop
+returns c =
+    let a = c .before .before .before .before .before .before .before .args in
     let l = c .before .loop in
     let z : l .i ≡ a .g = omega arith in
     wrote-as (ap (λ (j : ℕ). concatMap globalRow (placesIn (now (a .sheet)) (now (a .work)) j)) z) (l .inv .2)
 
 pub global-rows-spec : {M : Type 1} → statement M
 global-rows-spec =
-    tie.close (tie.spec Inv-loop μ-loop (λ c. search needs) returns loop-holds global-row-requires (λ c. search needs) (λ c. search needs) loop-again
-    (λ c. search needs) returns-2)
+    tie.close (tie.spec Inv-loop μ-loop (λ c κs. search needs) loop-holds global-row-requires (λ c. search needs) (λ c. search needs) loop-again
+    (λ c. search needs) returns)

@@ -4,7 +4,6 @@ use borrow.Author.Needs.{needs}
 use Rattle.items.proofs.Arrays.{strings-next, up-to}
 use Rattle.items.specs.Items.{itemRows}
 use Rattle.placements.specs.Placements.{valuesIn}
-use Rattle.write.proofs.Wrote.{wrote-none, wrote-past}
 use Rattle.write.specs.Wrote.{Wrote}
 use Rattle.semantics.specs.Global.{strItems}
 use Rattle.semantics.specs.Tree.{TypeKey}
@@ -21,23 +20,20 @@ Inv-loop work out₀ at count p₀ i₀ out p i = (i ≤ count) × (length out �
 abbrev μ-loop : tie.MeasureT-loop
 μ-loop work out₀ at count p₀ i₀ out p i = count - i
 
-returns : tie.Need-returns Inv-loop μ-loop
-returns c = λ id. wrote-past (now (c .before .before .before .args .out)) (c .before .before .before .args .at) _ (omega arith) (omega arith)
-
 loop-holds : tie.Need-loop-holds Inv-loop μ-loop
 unfolding valuesIn itemRows
-loop-holds c = (search needs, refl, λ id. wrote-none (now (c .before .before .before .args .out)) (c .before .before .before .args .at) (omega arith))
+loop-holds c = (search needs, refl, λ id. c .nothing .ensures)
 
 string-row-requires : tie.Need-string-row-requires Inv-loop μ-loop
-string-row-requires c κs = (omega (arith, c .before .loop-test .taken, c .before .before .before .before .before .before .pre .few), c .before .before .before .before .before .before .pre .long, c .before .before .before .before .before .before .pre .strings (c .before .before .loop .i) (c .before .loop-test .taken))
+string-row-requires c κs = (omega (arith, c .before .loop-test .taken, c .before .before .before .before .before .before .before .pre .few), c .before .before .before .before .before .before .before .pre .long, c .before .before .before .before .before .before .before .pre .strings (c .before .before .loop .i) (c .before .loop-test .taken))
 
 loop-again : tie.Need-loop-again Inv-loop μ-loop
-loop-again c = (search needs, c .before .before .string-row .kept .1 .0 ∙ c .before .before .before .before .before .loop .inv .1, λ id. strings-next (now (c .before .before .before .before .before .before .before .before .before .args .work)) (c .before .before .before .before .before .loop .i) id (c .before .before .before .before .before .loop .inv .2 id) (c .before .before .string-row .ensures id))
+loop-again c = (search needs, c .before .before .string-row .kept .1 .0 ∙ c .before .before .before .before .before .loop .inv .1, λ id. strings-next (now (c .before .before .before .before .before .before .before .before .before .before .args .work)) (c .before .before .before .before .before .loop .i) id (c .before .before .before .before .before .loop .inv .2 id) (c .before .before .string-row .ensures id))
 
-returns-2 : tie.Need-returns-2 Inv-loop μ-loop
-returns-2 c = λ id. up-to (λ (n : ℕ). itemRows id (strItems 0 (valuesIn (now (c .before .before .before .before .before .args .work)) 0 n))) (c .before .loop .inv .0) (c .loop-test .left) (c .before .loop .inv .2 id)
+returns : tie.Need-returns Inv-loop μ-loop
+returns c = λ id. up-to (λ (n : ℕ). itemRows id (strItems 0 (valuesIn (now (c .before .before .before .before .before .before .args .work)) 0 n))) (c .before .loop .inv .0) (c .loop-test .left) (c .before .loop .inv .2 id)
 
 pub string-rows-spec : {M : Type 1} → statement M
 string-rows-spec =
-    tie.close (tie.spec Inv-loop μ-loop (λ c. search needs) returns loop-holds string-row-requires (λ c. search needs) (λ c. search needs) loop-again
-    (λ c. search needs) returns-2)
+    tie.close (tie.spec Inv-loop μ-loop (λ c κs. search needs) loop-holds string-row-requires (λ c. search needs) (λ c. search needs) loop-again
+    (λ c. search needs) returns)
