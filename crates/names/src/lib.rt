@@ -11,6 +11,12 @@ ghost use Rattle.implement.specs.Modules.{firstField};
 ghost use Rattle.checks.specs.Checks.{Checked};
 ghost use Rattle.names.specs.Table.{lineOf, moduleLineOf, bitsOf, kindOf, digestOf, logIn, Logged, found, hasKey, answersPlain, answersQualified};
 
+// How many lines the sheet has, and how many constants are known.
+pub struct Known {
+    pub lines: usize,
+    pub consts: usize,
+}
+
 // The `con` line of entry i.
 pub fn line_of(work: &[u8], i: usize) -> usize
     requires { ⌜ (i < 128) × (65536 ≤ length (now work)) ⌝ }
