@@ -13,35 +13,6 @@ pub enum ImageAnswer {
     Refused(Refusal),
 }
 
-// The buffers as `image` leaves them, but for the working space.
-fn lay(
-    sheet: &[u8],
-    listing: &mut [u8],
-    image: &mut [u8],
-    area: &mut [u8],
-    work: &mut [u8],
-) -> ImageAnswer
-    ensures { λ r. ⌜ Pictures (now (sheet .entry)) (lentOf (now (listing .entry)) (now (image .entry)) (now (area .entry)) (now (work .entry))) r (now (listing .exit)) (now (image .exit)) (now (area .exit)) ⌝ }
-{
-    match compile::list(sheet, listing, work) {
-        Listed::Refused(number, line) => {
-            write::zero(image);
-            write::zero(area);
-            ImageAnswer::Refused(answers::refuse(number, line))
-        }
-        Listed::Written(l, end) => {
-            let laid = replay::replay(&listing[0..l], work, image, area, end as usize);
-            match laid {
-                Replayed::Laid(i, a) => ImageAnswer::Laid(l, i, a),
-                Replayed::Outgrown => {
-                    write::zero(listing);
-                    ImageAnswer::Refused(answers::refuse(13, 0))
-                }
-            }
-        }
-    }
-}
-
 // Whatever the sheet and the buffers: the lengths, with the bytes and zeros behind them, or a refusal, with zeros alone.
 pub fn image(
     sheet: &[u8],
@@ -52,7 +23,22 @@ pub fn image(
 ) -> ImageAnswer
     ensures { λ r. ⌜ (Pictures (now (sheet .entry)) (lentOf (now (listing .entry)) (now (image .entry)) (now (area .entry)) (now (work .entry))) r (now (listing .exit)) (now (image .exit)) (now (area .exit))) × (now (work .exit) ≡ zeros (length (now (work .entry)))) ⌝ }
 {
-    let r = lay(sheet, listing, image, area, work);
-    write::zero(work);
-    r
+    match compile::list(sheet, listing, work) {
+        Listed::Refused(number, line) => {
+            write::zero(image);
+            write::zero(area);
+            ImageAnswer::Refused(answers::refuse(number, line))
+        }
+        Listed::Written(l, end) => {
+            let laid = replay::replay(&listing[0..l], work, image, area, end as usize);
+            write::zero(work);
+            match laid {
+                Replayed::Laid(i, a) => ImageAnswer::Laid(l, i, a),
+                Replayed::Outgrown => {
+                    write::zero(listing);
+                    ImageAnswer::Refused(answers::refuse(13, 0))
+                }
+            }
+        }
+    }
 }
