@@ -200,30 +200,6 @@ fn read_header() -> Header {
     h
 }
 
-fn run_case(
-    h: Header,
-    sheet: &mut [u8],
-    wanted: &mut [u8],
-    text: &mut [u8],
-    listing: &mut [u8],
-    picture: &mut [u8],
-    area: &mut [u8],
-    work: &mut [u8],
-) -> usize {
-    let n = parts::read_part(sheet, h.sheet);
-    let m = parts::read_part(wanted, h.answer);
-    let k = parts::read_part(text, h.image);
-    case_outcome(
-        &sheet[0..n],
-        &wanted[0..m],
-        &text[0..k],
-        listing,
-        picture,
-        area,
-        work,
-    )
-}
-
 fn add(counts: &mut [u64; 16], outcome: usize) {
     if outcome < OUTCOMES {
         counts[outcome] = std::num::wrapping_add_u64(counts[outcome], 1);
@@ -257,7 +233,18 @@ fn run_cases(
             return k;
         }
         k += 1;
-        let o = run_case(h, sheet, wanted, text, listing, picture, area, work);
+        let n = parts::read_part(sheet, h.sheet);
+        let m = parts::read_part(wanted, h.answer);
+        let l = parts::read_part(text, h.image);
+        let o = case_outcome(
+            &sheet[0..n],
+            &wanted[0..m],
+            &text[0..l],
+            listing,
+            picture,
+            area,
+            work,
+        );
         count(counts, o, k as u64);
     }
     k
