@@ -47,14 +47,14 @@ fn tags(sheet: &[u8], work: &[u8], n: usize, i: usize) -> usize
     let l = lines::line_at(sheet, work, n, i);
     let f = lines::form_at(work, i);
     let mut w = form::begin(f);
-    let mut d = 0;
+    let mut count = 0;
     while w.at <= l.len() {
         let s = form::next(l, f, w);
-        d += case_tags(sheet, work, n, s.letter, s.number);
+        count += case_tags(sheet, work, n, s.letter, s.number);
         let u = s.next;
         w = u;
     }
-    d
+    count
 }
 
 // The records that line i, of kind k, declares.

@@ -48,14 +48,14 @@ fn depth_below(sheet: &[u8], work: &[u8], n: usize, i: usize) -> usize
     let l = lines::line_at(sheet, work, n, i);
     let f = lines::form_at(work, i);
     let mut w = form::begin(f);
-    let mut d = 0;
+    let mut depth = 0;
     while w.at <= l.len() {
         let s = form::next(l, f, w);
-        d = larger(d, ref_depth(work, i, s.letter, s.number));
+        depth = larger(depth, ref_depth(work, i, s.letter, s.number));
         let u = s.next;
         w = u;
     }
-    d
+    depth
 }
 
 // The first line that nests too deep, 0 where there is none.

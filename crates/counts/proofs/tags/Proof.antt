@@ -10,10 +10,10 @@ use Rattle.counts.proofs.tags.Statement.{statement}
 use Rattle.counts.proofs.tags.Tie as tie
 
 abbrev Inv-loop : tie.InvT-loop
-Inv-loop sheet work n i l f w₀ d₀ w d = Tagging sheet i f l w d
+Inv-loop sheet work n i l f w₀ count₀ w count = Tagging sheet i f l w count
 
 abbrev μ-loop : tie.MeasureT-loop
-μ-loop sheet work n i l f w₀ d₀ w d = length l + 1 - w .at
+μ-loop sheet work n i l f w₀ count₀ w count = length l + 1 - w .at
 
 line-at-requires : tie.Need-line-at-requires Inv-loop μ-loop
 line-at-requires c κs = (c .before .before .pre .0, c .before .before .pre .2)
@@ -31,21 +31,21 @@ next-requires : tie.Need-next-requires Inv-loop μ-loop
 next-requires c κs = (c .before .before .loop .inv .standing, c .if1 .taken)
 
 case-tags-requires : tie.Need-case-tags-requires Inv-loop μ-loop
-case-tags-requires c κs = (c .before .before .before .before .before .before .before .before .before .pre .0, tagging-case (now (c .before .before .before .before .before .before .before .before .before .args .sheet)) (c .before .before .before .before .before .before .before .before .before .args .n) (c .before .before .before .before .before .before .before .before .before .args .i) (c .before .before .before .before .before .before .before .before .before .pre .0 .lined .few) (c .before .before .before .before .before .before .before .before .before .pre .2) (c .before .before .before .before .before .form-at .result) (now (c .before .before .before .before .before .before .line-at .result)) (c .before .before .before .loop .w) (c .next .result .next) (c .next .result .letter) (c .next .result .number) (c .before .before .before .loop .d) (c .next .ensures) (c .before .before .before .loop .inv))
+case-tags-requires c κs = (c .before .before .before .before .before .before .before .before .before .pre .0, tagging-case (now (c .before .before .before .before .before .before .before .before .before .args .sheet)) (c .before .before .before .before .before .before .before .before .before .args .n) (c .before .before .before .before .before .before .before .before .before .args .i) (c .before .before .before .before .before .before .before .before .before .pre .0 .lined .few) (c .before .before .before .before .before .before .before .before .before .pre .2) (c .before .before .before .before .before .form-at .result) (now (c .before .before .before .before .before .before .line-at .result)) (c .before .before .before .loop .w) (c .next .result .next) (c .next .result .letter) (c .next .result .number) (c .before .before .before .loop .count) (c .next .ensures) (c .before .before .before .loop .inv))
 
-add-d : tie.Need-add-d Inv-loop μ-loop
-add-d c = record { fits = omega (arith, c .before .before .before .before .loop .inv .small, c .case-tags .ensures .1) }
+add-count : tie.Need-add-count Inv-loop μ-loop
+add-count c = record { fits = omega (arith, c .before .before .before .before .loop .inv .small, c .case-tags .ensures .1) }
 
 loop-less : tie.Need-loop-less Inv-loop μ-loop
 loop-less c = omega (arith, c .before .before .next .ensures .further, c .before .before .before .if1 .taken)
 
 loop-again : tie.Need-loop-again Inv-loop μ-loop
-loop-again c = tagging-on (now (c .before .before .before .before .before .before .before .before .before .before .before .args .sheet)) (c .before .before .before .before .before .before .before .before .before .before .before .args .n) (c .before .before .before .before .before .before .before .before .before .before .before .args .i) (c .before .before .before .before .before .before .before .before .before .before .before .pre .0 .lined .few) (c .before .before .before .before .before .before .before .before .before .before .before .pre .2) (c .before .before .before .before .before .before .before .form-at .result) (now (c .before .before .before .before .before .before .before .before .line-at .result)) (c .before .before .before .before .before .loop .w) (c .before .before .next .result .next) (c .before .before .next .result .letter) (c .before .before .next .result .number) (c .before .before .before .before .before .loop .d) (c .before .before .next .ensures) (c .before .before .before .before .before .loop .inv) (c .before .case-tags .result) _ (omega (arith, c .before .before .before .if1 .taken, length-line (now (c .before .before .before .before .before .before .before .before .before .before .before .args .sheet)) (now (c .before .before .before .before .before .before .before .before .before .before .before .args .work)) (c .before .before .before .before .before .before .before .before .before .before .before .args .n) (c .before .before .before .before .before .before .before .before .before .before .before .args .i) (c .before .before .before .before .before .before .before .before .before .before .before .pre .0) (c .before .before .before .before .before .before .before .before .before .before .before .pre .2) (now (c .before .before .before .before .before .before .before .before .line-at .result)) (c .before .before .before .before .before .before .before .before .line-at .ensures))) (c .before .case-tags .ensures .1) (c .before .case-tags .ensures .0) refl
+loop-again c = tagging-on (now (c .before .before .before .before .before .before .before .before .before .before .before .args .sheet)) (c .before .before .before .before .before .before .before .before .before .before .before .args .n) (c .before .before .before .before .before .before .before .before .before .before .before .args .i) (c .before .before .before .before .before .before .before .before .before .before .before .pre .0 .lined .few) (c .before .before .before .before .before .before .before .before .before .before .before .pre .2) (c .before .before .before .before .before .before .before .form-at .result) (now (c .before .before .before .before .before .before .before .before .line-at .result)) (c .before .before .before .before .before .loop .w) (c .before .before .next .result .next) (c .before .before .next .result .letter) (c .before .before .next .result .number) (c .before .before .before .before .before .loop .count) (c .before .before .next .ensures) (c .before .before .before .before .before .loop .inv) (c .before .case-tags .result) _ (omega (arith, c .before .before .before .if1 .taken, length-line (now (c .before .before .before .before .before .before .before .before .before .before .before .args .sheet)) (now (c .before .before .before .before .before .before .before .before .before .before .before .args .work)) (c .before .before .before .before .before .before .before .before .before .before .before .args .n) (c .before .before .before .before .before .before .before .before .before .before .before .args .i) (c .before .before .before .before .before .before .before .before .before .before .before .pre .0) (c .before .before .before .before .before .before .before .before .before .before .before .pre .2) (now (c .before .before .before .before .before .before .before .before .line-at .result)) (c .before .before .before .before .before .before .before .before .line-at .ensures))) (c .before .case-tags .ensures .1) (c .before .case-tags .ensures .0) refl
 
 returns : tie.Need-returns Inv-loop μ-loop
-returns c = tagging-end (now (c .before .before .before .before .before .before .before .before .args .sheet)) (c .before .before .before .before .before .before .before .before .args .i) (c .before .before .before .before .form-at .result) (now (c .before .before .before .before .before .line-at .result)) (c .before .before .loop .w) (c .before .before .loop .d) (c .if1 .left) (c .before .before .loop .inv)
+returns c = tagging-end (now (c .before .before .before .before .before .before .before .before .args .sheet)) (c .before .before .before .before .before .before .before .before .args .i) (c .before .before .before .before .form-at .result) (now (c .before .before .before .before .before .line-at .result)) (c .before .before .loop .w) (c .before .before .loop .count) (c .if1 .left) (c .before .before .loop .inv)
 
 pub tags-spec : {M : Type 1} → statement M
 tags-spec =
-    tie.close (tie.spec Inv-loop μ-loop line-at-requires form-at-requires begin-requires loop-holds next-requires case-tags-requires add-d loop-less
+    tie.close (tie.spec Inv-loop μ-loop line-at-requires form-at-requires begin-requires loop-holds next-requires case-tags-requires add-count loop-less
     loop-again returns)

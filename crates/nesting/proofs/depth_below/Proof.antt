@@ -10,10 +10,10 @@ use Rattle.nesting.proofs.depth_below.Statement.{statement}
 use Rattle.nesting.proofs.depth_below.Tie as tie
 
 abbrev Inv-loop : tie.InvT-loop
-Inv-loop sheet work n i l f w₀ d₀ w d = (d < 256) × Walking sheet work i f l w d
+Inv-loop sheet work n i l f w₀ depth₀ w depth = (depth < 256) × Walking sheet work i f l w depth
 
 abbrev μ-loop : tie.MeasureT-loop
-μ-loop sheet work n i l f w₀ d₀ w d = length l + 1 - w .at
+μ-loop sheet work n i l f w₀ depth₀ w depth = length l + 1 - w .at
 
 line-at-requires : tie.Need-line-at-requires Inv-loop μ-loop
 line-at-requires c κs = c .before .before .pre
@@ -37,10 +37,10 @@ loop-less : tie.Need-loop-less Inv-loop μ-loop
 loop-less c = omega (arith, c .before .before .before .next .ensures .further, c .before .before .before .before .if1 .taken)
 
 loop-again : tie.Need-loop-again Inv-loop μ-loop
-loop-again c = (omega (arith, c .before .larger .ensures, c .before .before .ref-depth .ensures .1, c .before .before .before .before .before .before .loop .inv .0), walking-on (now (c .before .before .before .before .before .before .before .before .before .before .before .before .args .sheet)) (now (c .before .before .before .before .before .before .before .before .before .before .before .before .args .work)) (c .before .before .before .before .before .before .before .before .before .before .before .before .args .i) (omega (arith, c .before .before .before .before .before .before .before .before .before .before .before .before .pre .0 .lined .few, c .before .before .before .before .before .before .before .before .before .before .before .before .pre .1)) (c .before .before .before .before .before .before .before .before .form-at .result) (now (c .before .before .before .before .before .before .before .before .before .line-at .result)) (c .before .before .before .before .before .before .loop .w) (c .before .before .before .next .result .next) (c .before .before .before .next .result .letter) (c .before .before .before .next .result .number) (c .before .before .before .before .before .before .loop .d) (c .before .before .before .next .ensures) (c .before .before .before .before .before .before .loop .inv .1) (c .before .before .ref-depth .result) (c .before .larger .result) (c .before .before .ref-depth .ensures .0) (c .before .larger .ensures))
+loop-again c = (omega (arith, c .before .larger .ensures, c .before .before .ref-depth .ensures .1, c .before .before .before .before .before .before .loop .inv .0), walking-on (now (c .before .before .before .before .before .before .before .before .before .before .before .before .args .sheet)) (now (c .before .before .before .before .before .before .before .before .before .before .before .before .args .work)) (c .before .before .before .before .before .before .before .before .before .before .before .before .args .i) (omega (arith, c .before .before .before .before .before .before .before .before .before .before .before .before .pre .0 .lined .few, c .before .before .before .before .before .before .before .before .before .before .before .before .pre .1)) (c .before .before .before .before .before .before .before .before .form-at .result) (now (c .before .before .before .before .before .before .before .before .before .line-at .result)) (c .before .before .before .before .before .before .loop .w) (c .before .before .before .next .result .next) (c .before .before .before .next .result .letter) (c .before .before .before .next .result .number) (c .before .before .before .before .before .before .loop .depth) (c .before .before .before .next .ensures) (c .before .before .before .before .before .before .loop .inv .1) (c .before .before .ref-depth .result) (c .before .larger .result) (c .before .before .ref-depth .ensures .0) (c .before .larger .ensures))
 
 returns : tie.Need-returns Inv-loop μ-loop
-returns c = (c .before .before .loop .inv .0, walking-end (now (c .before .before .before .before .before .before .before .before .args .sheet)) (now (c .before .before .before .before .before .before .before .before .args .work)) (c .before .before .before .before .before .before .before .before .args .i) (c .before .before .before .before .form-at .result) (now (c .before .before .before .before .before .line-at .result)) (c .before .before .loop .w) (c .before .before .loop .d) (c .if1 .left) (c .before .before .loop .inv .1))
+returns c = (c .before .before .loop .inv .0, walking-end (now (c .before .before .before .before .before .before .before .before .args .sheet)) (now (c .before .before .before .before .before .before .before .before .args .work)) (c .before .before .before .before .before .before .before .before .args .i) (c .before .before .before .before .form-at .result) (now (c .before .before .before .before .before .line-at .result)) (c .before .before .loop .w) (c .before .before .loop .depth) (c .if1 .left) (c .before .before .loop .inv .1))
 
 pub depth-below-spec : {M : Type 1} → statement M
 depth-below-spec =
