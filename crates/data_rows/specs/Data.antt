@@ -39,15 +39,15 @@ keysOf s is = sheetSource s .needs ++ concatMap arrayKey is
 abbrev pub rowsOf : Bytes → List Item → Bytes
 rowsOf s is = concatMap (itemRow (idOf (sheetSource s) is)) is
 
--- the tables of a checked sheet of n lines: m constants, g globals, and the keys of needs
-pub record Ready (s t : Bytes) (n m g frames keys : ℕ) : Type 0 where
-  pub checked : Checked s t n
-  pub log : Logged s t n m
-  pub places : Tabled s t n g
-  pub laid : (ns : Names) → placesIn s t g ≡ globals ns (sheetSource s) .places
+-- the tables of a checked sheet: constants, globals, and the keys of needs
+pub record Ready (s t : Bytes) (c : Counts) (keys : ℕ) : Type 0 where
+  pub checked : Checked s t (c .lines)
+  pub log : Logged s t (c .lines) (c .consts)
+  pub places : Tabled s t (c .lines) (c .globals)
+  pub laid : (ns : Names) → placesIn s t (c .globals) ≡ globals ns (sheetSource s) .places
   pub kinds : Kinds t (sheetSource s .needs) keys
-  pub framed : frames ≡ length (sheetSource s .frames)
-  pub few : frames ≤ 128
+  pub framed : c .frames ≡ length (sheetSource s .frames)
+  pub few : c .frames ≤ 128
 
 -- ---- items one after the other
 

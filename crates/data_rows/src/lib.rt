@@ -1,6 +1,6 @@
 // The `dat` rows of a sheet's data items, with IDs for the keys of array elements.
-use codes::decl;
 use codes::element;
+use names::Known;
 use values::ConstVal;
 use vars::First;
 ghost use mathlib.Core.Path.{_≡_};
@@ -14,15 +14,15 @@ ghost use Rattle.semantics.specs.Array.{kindNumber, isOfKind};
 ghost use Rattle.semantics.specs.Global.{valueItem, arrayItems};
 ghost use Rattle.write.specs.Wrote.{Wrote};
 ghost use Rattle.checks.specs.Checks.{Kept};
-ghost use Rattle.implement.specs.Modules.{Open};
 ghost use Rattle.values.specs.Values.{valueIn, Within};
 ghost use Rattle.placements.specs.Placements.{valuesIn};
-ghost use Rattle.literals.specs.Literals.{namesIn, Line};
+ghost use Rattle.literals.specs.Literals.{namesIn};
 ghost use Rattle.arrays.specs.Arrays.{kindAt};
 ghost use Rattle.global_table.specs.Table.{VarLine, typeOn, nameOn, namesOn, placesIn};
-ghost use Rattle.globals.specs.Vars.{laidAt, varItems, lineItems};
+ghost use Rattle.globals.specs.Vars.{lineItems};
 ghost use Rattle.type_keys.specs.Table.{Kinds, Outside};
-ghost use Rattle.vars.specs.First.{initIn, varOn};
+ghost use Rattle.vars.specs.First.{initIn};
+ghost use Rattle.vars.specs.Lines.{laidOn, MayLay};
 ghost use Rattle.data_rows.specs.Data.{itemsIn, keysOf, rowsOf, Ready, Identified, Keeping, ItemsPrinted, Keyed, Held, Filled, NameTask, firstItems, nameItems};
 
 // Where the next row goes, and how many keys have an ID.
@@ -65,11 +65,11 @@ fn kind_number(kind: u8) -> u8
 }
 
 // Nothing is written; a place past the end becomes one past it.
-fn no_rows(out: &mut [u8], p: Next) -> Next
-    ensures { λ q. ⌜ (Wrote (now (out .entry)) (p .at) [] (now (out .exit)) (q .at)) × (q .keys ≡ p .keys) ⌝ }
+fn no_rows(out: &[u8], p: Next) -> Next
+    ensures { λ q. ⌜ (Wrote (now (out .entry)) (p .at) [] (now (out .entry)) (q .at)) × (q .keys ≡ p .keys) ⌝ }
 {
     Next {
-        at: write::put_part(out, p.at, b""),
+        at: write::nothing(out, p.at),
         keys: p.keys,
     }
 }
@@ -222,65 +222,35 @@ fn names_rows(
     q
 }
 
-// The rows of the `var` line r. Its first value stands in the working space while they are printed.
+// The rows of the `var` line r, none where r is 0. Its first value stands in the working space while they are printed.
 fn line_rows(sheet: &[u8], work: &mut [u8], c: Counts, r: usize, out: &mut [u8], p: Next) -> Next
-    requires { ⌜ (Held (now sheet) (now work) c (p .keys)) × (Line 72 (now sheet) (now work) (c .lines) (c .consts) r) ⌝ }
-    ensures { λ q. ⌜ (ItemsPrinted (now (sheet .entry)) (varItems (namesIn (now (sheet .entry)) (now (work .entry)) (c .consts)) (placesIn (now (sheet .entry)) (now (work .entry)) (c .globals)) (varOn (now (sheet .entry)) r)) p q (now (work .entry)) (now (work .exit)) (now (out .entry)) (now (out .exit))) × (Keeping (now (work .entry)) (now (work .exit))) ⌝ }
+    requires { ⌜ (Held (now sheet) (now work) c (p .keys)) × (MayLay (now sheet) (now work) (c .lines) r) ⌝ }
+    ensures { λ q. ⌜ (ItemsPrinted (now (sheet .entry)) (lineItems (namesIn (now (sheet .entry)) (now (work .entry)) (c .consts)) (placesIn (now (sheet .entry)) (now (work .entry)) (c .globals)) (laidOn (now (sheet .entry)) r)) p q (now (work .entry)) (now (work .exit)) (now (out .entry)) (now (out .exit))) × (Keeping (now (work .entry)) (now (work .exit))) ⌝ }
 {
-    let x = vars::first_value(sheet, work, c.lines, c.consts, r);
+    if r == 0 {
+        return no_rows(out, p);
+    }
+    let known = Known {
+        lines: c.lines,
+        consts: c.consts,
+    };
+    let x = vars::first_value(sheet, work, known, r);
     names_rows(sheet, work, c, r, x, out, p)
 }
 
-// The rows of line i, from 0, where the module of line k is open before it.
-fn rows_at(
-    sheet: &[u8],
-    work: &mut [u8],
-    c: Counts,
-    i: usize,
-    k: usize,
-    out: &mut [u8],
-    p: Next,
-) -> Next
-    requires { ⌜ (Held (now sheet) (now work) c (p .keys)) × (Open (now sheet) (now work) (c .lines) i k) × (i < c .lines) ⌝ }
-    ensures { λ q. ⌜ (ItemsPrinted (now (sheet .entry)) (lineItems (namesIn (now (sheet .entry)) (now (work .entry)) (c .consts)) (placesIn (now (sheet .entry)) (now (work .entry)) (c .globals)) (laidAt (now (sheet .entry)) i)) p q (now (work .entry)) (now (work .exit)) (now (out .entry)) (now (out .exit))) × (Keeping (now (work .entry)) (now (work .exit))) ⌝ }
+// The rows of all data items of a sheet. Work goes on where the listing is full.
+pub fn data_rows(sheet: &[u8], work: &mut [u8], c: Counts, out: &mut [u8], p: Next) -> Next
+    requires { ⌜ Ready (now sheet) (now work) c (p .keys) ⌝ }
+    ensures { λ r. ⌜ (Wrote (now (out .entry)) (p .at) (rowsOf (now (sheet .entry)) (itemsIn (now (sheet .entry)) (now (work .entry)) (c .consts))) (now (out .exit)) (r .at)) × (Kinds (now (work .exit)) (keysOf (now (sheet .entry)) (itemsIn (now (sheet .entry)) (now (work .entry)) (c .consts))) (r .keys)) × (r .keys < 1024) × (Kept 10624 (now (work .entry)) (now (work .exit))) ⌝ }
 {
-    if lines::form_at(work, i) != decl::VAR {
-        return no_rows(out, p);
-    }
-    if !implement::is_own(sheet, work, c.lines, k) {
-        return no_rows(out, p);
-    }
-    line_rows(sheet, work, c, i + 1, out, p)
-}
-
-// The rows of all data items of a sheet of n lines, m constants and g globals. Work goes on where the listing is full.
-pub fn data_rows(
-    sheet: &[u8],
-    work: &mut [u8],
-    n: usize,
-    m: usize,
-    g: usize,
-    frames: usize,
-    keys: usize,
-    out: &mut [u8],
-    at: usize,
-) -> Next
-    requires { ⌜ Ready (now sheet) (now work) n m g frames keys ⌝ }
-    ensures { λ r. ⌜ (Wrote (now (out .entry)) at (rowsOf (now (sheet .entry)) (itemsIn (now (sheet .entry)) (now (work .entry)) m)) (now (out .exit)) (r .at)) × (Kinds (now (work .exit)) (keysOf (now (sheet .entry)) (itemsIn (now (sheet .entry)) (now (work .entry)) m)) (r .keys)) × (r .keys < 1024) × (Kept 10624 (now (work .entry)) (now (work .exit))) ⌝ }
-{
-    let c = Counts {
-        lines: n,
-        consts: m,
-        globals: g,
-        frames: frames,
-    };
-    let mut p = no_rows(out, Next { at: at, keys: keys });
+    let mut q = no_rows(out, p);
     let mut k = 0;
     let mut i = 0;
-    while i < n {
-        p = rows_at(sheet, work, c, i, k, out, p);
-        k = implement::open_after(sheet, work, n, i, k);
+    while i < c.lines {
+        let r = vars::laid_line(sheet, work, c.lines, i, k);
+        q = line_rows(sheet, work, c, r, out, q);
+        k = implement::open_after(sheet, work, c.lines, i, k);
         i += 1;
     }
-    p
+    q
 }

@@ -18,7 +18,7 @@ literal-rows-requires : tie.Need-literal-rows-requires
 literal-rows-requires c κs = (held-keyed ((c .before .before .before .before .before .before .before .before .pre) .held), first-filled (c .before .before .before .before .before .before .before .before .pre) (c .before .before .before .x3 .given .1))
 
 returns : tie.Need-returns
-returns c = (first-none (typeOn (now (c .before .before .before .before .before .before .before .before .before .args .sheet)) (c .before .before .before .before .before .before .before .before .before .args .r)) (c .before .before .before .before .before .before .before .before .before .args .off) (c .before .before .before .before .enum-told .given .1) (printed-none (c .before .before .no-rows .ensures .0) (c .before .before .no-rows .ensures .1)), outside-all)
+returns c = (first-none (typeOn (now (c .before .before .before .before .before .before .before .args .sheet)) (c .before .before .before .before .before .before .before .args .r)) (c .before .before .before .before .before .before .before .args .off) (c .before .before .enum-told .given .1) (printed-none (c .no-rows .ensures .0) (c .no-rows .ensures .1)), outside-all)
 
 returns-2 : tie.Need-returns-2
 returns-2 c = (first-value (typeOn (now (c .before .before .before .before .before .before .before .before .before .before .before .args .sheet)) (c .before .before .before .before .before .before .before .before .before .before .before .args .r)) (c .before .before .before .before .before .before .before .before .before .before .before .args .off) (c .before .before .before .before .before .before .x .given .1) (c .before .before .value-rows .ensures), outside-all)
@@ -30,10 +30,10 @@ returns-4 : tie.Need-returns-4
 returns-4 c = (first-literal (typeOn (now (c .before .before .before .before .before .before .before .before .before .before .before .before .before .args .sheet)) (c .before .before .before .before .before .before .before .before .before .before .before .before .before .args .r)) (c .before .before .before .before .before .before .before .before .before .before .before .before .before .args .off) (c .before .before .before .before .before .before .before .before .x3 .given .1) (c .before .before .before .before .literal-rows .ensures .0 (now (c .before .before .before .before .before .before .before .before .before .before .before .before .before .args .sheet)) ((c .before .before .before .before .before .before .before .before .before .before .before .before .before .pre) .held .framed)), c .before .before .before .before .literal-rows .ensures .1)
 
 returns-5 : tie.Need-returns-5
-returns-5 c = (first-pending (typeOn (now (c .before .before .before .before .before .before .before .before .before .args .sheet)) (c .before .before .before .before .before .before .before .before .before .args .r)) (c .before .before .before .before .before .before .before .before .before .args .off) (c .before .before .before .before .enum-told2 .given .1) (printed-none (c .before .before .no-rows2 .ensures .0) (c .before .before .no-rows2 .ensures .1)), outside-all)
+returns-5 c = (first-pending (typeOn (now (c .before .before .before .before .before .before .before .args .sheet)) (c .before .before .before .before .before .before .before .args .r)) (c .before .before .before .before .before .before .before .args .off) (c .before .before .enum-told2 .given .1) (printed-none (c .no-rows2 .ensures .0) (c .no-rows2 .ensures .1)), outside-all)
 
 returns-6 : tie.Need-returns-6
-returns-6 c = (first-refused (typeOn (now (c .before .before .before .before .before .before .before .before .before .args .sheet)) (c .before .before .before .before .before .before .before .before .before .args .r)) (c .before .before .before .before .before .before .before .before .before .args .off) (c .before .before .before .before .enum-told3 .given .1) (printed-none (c .before .before .no-rows3 .ensures .0) (c .before .before .no-rows3 .ensures .1)), outside-all)
+returns-6 c = (first-refused (typeOn (now (c .before .before .before .before .before .before .before .args .sheet)) (c .before .before .before .before .before .before .before .args .r)) (c .before .before .before .before .before .before .before .args .off) (c .before .before .enum-told3 .given .1) (printed-none (c .no-rows3 .ensures .0) (c .no-rows3 .ensures .1)), outside-all)
 
 pub first-rows-spec : {M : Type 1} → statement M
 first-rows-spec =

@@ -10,7 +10,7 @@ use Rattle.data_rows.proofs.name_rows.Statement.{statement}
 use Rattle.data_rows.proofs.name_rows.Tie as tie
 
 returns : tie.Need-returns
-returns c = (printed-as (name-nil (typeOn (now (c .before .before .before .before .before .before .before .before .before .before .before .before .args .sheet)) (c .before .before .before .before .before .before .before .before .before .before .before .before .args .r)) (placesIn (now (c .before .before .before .before .before .before .before .before .before .before .before .before .args .sheet)) (now (c .before .before .before .before .before .before .before .before .before .before .before .before .args .work)) (c .before .before .before .before .before .before .before .before .before .before .before .before .args .c .globals)) (initIn (now (c .before .before .before .before .before .before .before .before .before .before .before .before .args .work)) (c .before .before .before .before .before .before .before .before .before .before .before .before .args .x)) (c .before .before .before .before .before .before .before .field-at .ensures) (c .before .before .before .before .before .same .ensures) (c .before .before .before .before .if1 .taken)) (printed-none (c .before .before .no-rows .ensures .0) (c .before .before .no-rows .ensures .1)), outside-all)
+returns c = (printed-as (name-nil (typeOn (now (c .before .before .before .before .before .before .before .before .before .before .args .sheet)) (c .before .before .before .before .before .before .before .before .before .before .args .r)) (placesIn (now (c .before .before .before .before .before .before .before .before .before .before .args .sheet)) (now (c .before .before .before .before .before .before .before .before .before .before .args .work)) (c .before .before .before .before .before .before .before .before .before .before .args .c .globals)) (initIn (now (c .before .before .before .before .before .before .before .before .before .before .args .work)) (c .before .before .before .before .before .before .before .before .before .before .args .x)) (c .before .before .before .before .before .field-at .ensures) (c .before .before .before .same .ensures) (c .before .before .if1 .taken)) (printed-none (c .no-rows .ensures .0) (c .no-rows .ensures .1)), outside-all)
 
 returns-2 : tie.Need-returns-2
 returns-2 c = (printed-as (name-items (typeOn (now (c .before .before .before .before .before .before .before .before .before .before .before .before .before .before .before .before .before .args .sheet)) (c .before .before .before .before .before .before .before .before .before .before .before .before .before .before .before .before .before .args .r)) (placesIn (now (c .before .before .before .before .before .before .before .before .before .before .before .before .before .before .before .before .before .args .sheet)) (now (c .before .before .before .before .before .before .before .before .before .before .before .before .before .before .before .before .before .args .work)) (c .before .before .before .before .before .before .before .before .before .before .before .before .before .before .before .before .before .args .c .globals)) (initIn (now (c .before .before .before .before .before .before .before .before .before .before .before .before .before .before .before .before .before .args .work)) (c .before .before .before .before .before .before .before .before .before .before .before .before .before .before .before .before .before .args .x)) (c .before .before .before .before .before .before .before .before .before .before .before .before .field-at .ensures) (c .before .before .before .before .before .before .before .before .before .before .same .ensures) (c .before .before .before .before .before .before .before .before .before .if1 .left) (c .before .before .before .before .before .before .before .offset-in .ensures .0)) (c .before .before .before .before .first-rows .ensures .0), c .before .before .before .before .first-rows .ensures .1)

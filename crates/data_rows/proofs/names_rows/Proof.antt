@@ -16,22 +16,22 @@ abbrev μ-loop : tie.MeasureT-loop
 μ-loop sheet work₀ c r x out₀ count q₀ j₀ work out q j = count - j
 
 loop-holds : tie.Need-loop-holds Inv-loop μ-loop
-loop-holds c = naming-start (c .before .before .before .before .before .before .before .before .before .pre) (c .before .before .before .before .number-at .ensures .0) (c .before .before .no-rows .ensures .0) (c .before .before .no-rows .ensures .1)
+loop-holds c = naming-start (c .before .before .before .before .before .before .before .pre) (c .before .before .number-at .ensures .0) (c .no-rows .ensures .0) (c .no-rows .ensures .1)
 
 name-rows-requires : tie.Need-name-rows-requires Inv-loop μ-loop
-name-rows-requires c κs = (c .before .before .before .loop .inv .task, omega (arith, few-names (now (c .before .before .before .before .before .before .before .before .before .before .before .before .before .args .sheet)) (now (c .before .before .before .before .before .before .before .before .before .before .before .before .before .args .work)) (c .before .before .before .before .before .before .before .before .before .before .before .before .before .args .c .lines) (c .before .before .before .before .before .before .before .before .before .before .before .before .before .args .r) ((c .before .before .before .before .before .before .before .before .before .before .before .before .before .pre) .line) (c .before .before .before .before .before .before .before .before .number-at .ensures .0), c .before .before .loop-test .taken))
+name-rows-requires c κs = (c .before .before .before .loop .inv .task, omega (arith, few-names (now (c .before .before .before .before .before .before .before .before .before .before .before .args .sheet)) (now (c .before .before .before .before .before .before .before .before .before .before .before .args .work)) (c .before .before .before .before .before .before .before .before .before .before .before .args .c .lines) (c .before .before .before .before .before .before .before .before .before .before .before .args .r) ((c .before .before .before .before .before .before .before .before .before .before .before .pre) .line) (c .before .before .before .before .before .before .number-at .ensures .0), c .before .before .loop-test .taken))
 
 loop-again : tie.Need-loop-again Inv-loop μ-loop
-loop-again c = naming-next (c .before .before .before .before .before .before .before .before .loop .inv) (c .before .before .before .before .before .before .before .loop-test .taken) (c .before .out2 .given) (c .before .before .before .before .name-rows .ensures)
+loop-again c = naming-next (c .before .before .before .before .before .before .before .before .loop .inv) (c .before .before .before .before .before .before .before .loop-test .taken) (c .before .out .given) (c .before .before .before .before .name-rows .ensures)
 
 same-length : tie.Need-same-length Inv-loop μ-loop
 same-length c = c .before .loop .inv .outside .kept .long
 
 same-length-2 : tie.Need-same-length-2 Inv-loop μ-loop
-same-length-2 c = c .before .loop .inv .long ∙ c .before .before .before .out .given
+same-length-2 c = c .before .loop .inv .long
 
 returns : tie.Need-returns Inv-loop μ-loop
-returns c = naming-end (c .before .loop .inv) (c .loop-test .left) (c .before .before .before .before .no-rows .ensures .0) (c .before .before .before .before .no-rows .ensures .1)
+returns c = naming-end (c .before .loop .inv) (c .loop-test .left) (c .before .before .no-rows .ensures .0) (c .before .before .no-rows .ensures .1)
 
 pub names-rows-spec : {M : Type 1} → statement M
 names-rows-spec =
