@@ -29,7 +29,6 @@ use Rattle.type_keys.proofs.Table.{kinds-kept}
 use Rattle.vars.specs.declared.First.{First}
 use Rattle.vars.specs.First.{initIn, Inits, varOn}
 use Rattle.vars.specs.Lines.{laidOn}
-use Rattle.vars.proofs.Lines.{var-kept}
 use Rattle.vars.proofs.Items.{items-all}
 use Rattle.data_rows.specs.declared.Next.{Next}
 use Rattle.data_rows.specs.declared.Counts.{Counts}
@@ -48,8 +47,8 @@ var-items s (suc i) h ns ps = let z : suc i - 1 ≡ i = omega arith in sym (appe
 module _ {s t u : Bytes} {c : Counts} {r : ℕ} {x : First} {keys : ℕ} (h : Held s t c keys) (l : VarLine s t (c .lines) r)
     (a : Inits t (initOf (namesIn s t (c .consts)) (varOn s r .ty) (varOn s r .init)) x u)
   where
-    pub line-task : NameTask s u c r x keys
-    line-task = record { held = held-first h (a .keeps); line = var-kept (a .keeps) l; stands = a .stands }
+    pub line-task : NameTask s u c x keys
+    line-task = record { held = held-first h (a .keeps); stands = a .stands }
 
     pub line-items : {p q : Next} {v d e : Bytes} → ItemsPrinted s (nameItems (typeOn s r) (placesIn s u (c .globals)) (initIn u x) (namesOn s r)) p q u v d e × Outside 10624 10629 u v
         → ItemsPrinted s (lineItems (namesIn s t (c .consts)) (placesIn s t (c .globals)) (laidOn s r)) p q t v d e × Keeping t v

@@ -17,7 +17,7 @@ use Rattle.checks.specs.Checks.{Checked, Kept}
 use Rattle.names.specs.Table.{Logged}
 use Rattle.placements.specs.Placements.{entryAt, slotAt, Standing}
 use Rattle.literals.specs.Literals.{namesIn, above}
-use Rattle.global_table.specs.Table.{placesIn, offsetIn, VarLine, Tabled}
+use Rattle.global_table.specs.Table.{placesIn, offsetIn, Tabled}
 use Rattle.items.specs.Items.{itemRows}
 use Rattle.type_keys.specs.Table.{Kinds}
 use Rattle.vars.specs.declared.First.{First}
@@ -87,10 +87,9 @@ pub record Filled (t : Bytes) (count : ℕ) : Type 0 where
   pub few : count ≤ 1024
   pub strings : (i : ℕ) → i < count → Standing (above 16) (slotAt t (entryAt t i))
 
--- line r is a `var` line, whose first value x stands in the working space
-pub record NameTask (s t : Bytes) (c : Counts) (r : ℕ) (x : First) (keys : ℕ) : Type 0 where
+-- the tables, and in the working space the first value x
+pub record NameTask (s t : Bytes) (c : Counts) (x : First) (keys : ℕ) : Type 0 where
   pub held : Held s t c keys
-  pub line : VarLine s t (c .lines) r
   pub stands : Stands t x
 
 -- ---- the items of a name at an offset, of names at their places, and of lines
