@@ -19,7 +19,7 @@ use Rattle.vars.specs.declared.First.the-variants.{NoValue, Value, Alloc, Liter
 use Rattle.vars.specs.First.{initIn, Stands}
 use Rattle.data_rows.specs.declared.Next.{Next}
 use Rattle.data_rows.specs.declared.Counts.{Counts}
-use Rattle.data_rows.specs.Data.{ItemsPrinted, Keyed, Held, Filled, NameTask, firstItems}
+use Rattle.data_rows.specs.Data.{ItemsPrinted, Keyed, Held, Filled, firstItems}
 use Rattle.data_rows.proofs.Kept.{within-at}
 use Rattle.data_rows.proofs.Printed.{printed-as}
 

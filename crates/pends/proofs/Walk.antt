@@ -37,7 +37,7 @@ use Rattle.globals.specs.Vars.{locatedAt, laidAt, laidVarsTo, varPends}
 use Rattle.globals.proofs.Vars.{pends-by, laid-lines}
 use Rattle.pends.specs.declared.Pends.{Pends}
 use Rattle.pends.specs.declared.Pends.the-variants.{Written, Refused}
-use Rattle.vars.specs.Lines.{laidOn, MayLay}
+use Rattle.vars.specs.Lines.{laidOn}
 use Rattle.vars.proofs.Items.{refused-append}
 use Rattle.pends.specs.Pends.{pendsOf, Pended, AllPended}
 use Rattle.pends.proofs.Pends.{the-type}

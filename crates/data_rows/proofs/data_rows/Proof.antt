@@ -1,7 +1,6 @@
 -- `data_rows::data_rows` meets its contract.
 use Rattle.data_rows.proofs.Walk.{Walking, walk-start, walk-open, walk-next, walk-end}
 use Prim.Native.Nat.{_-_}
-use mathlib.Core.Path.{_∙_}
 use borrow.Author.Needs.{needs}
 use Rattle.data_rows.proofs.data_rows.Statement.{statement}
 use Rattle.data_rows.proofs.data_rows.Tie as tie

@@ -2,7 +2,6 @@
 use Rattle.data_rows.proofs.Names.{Naming, naming-start, naming-next, naming-end}
 use Rattle.vars.proofs.Names.{few-names}
 use Prim.Native.Nat.{_-_}
-use mathlib.Core.Path.{_∙_}
 use Rattle.global_table.specs.Table.{typeOn}
 use denote.Ref.{now}
 use native.Mathlib.Omega.{arith}
