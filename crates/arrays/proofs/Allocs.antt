@@ -24,6 +24,7 @@ use Rattle.refs.proofs.Fields.{head-drop, tail-drop}
 use Rattle.sizes.proofs.Types.{Good, ref-head}
 use Rattle.values.specs.declared.Folded.{Folded}
 use Rattle.values.specs.Values.{resultIn}
+use Rattle.names.specs.Table.{Logged}
 use Rattle.placements.proofs.Same.{keeps-less, keeps-kept}
 use Rattle.leaf.specs.Folds.{exAt, Foldable, Folds}
 use Rattle.literals.specs.Literals.{namesIn, Line}
@@ -39,15 +40,15 @@ kind-back kBig = refl
 kind-back kReal = refl
 kind-back kPtr = refl
 
-pub type-line : {s t : Bytes} {n m r : ℕ} → Line 75 s t n m r → TypeLine s t n r
+pub type-line : {s t : Bytes} {n r : ℕ} → Line 75 s t n r → TypeLine s t n r
 type-line l = record { checked = l .checked; first = l .first; last = l .last; kind = l .kind }
 
 pub type-given : (s : Bytes) (r : ℕ) → (r ≡ 0 → ⊥) → typeOf s r ≡ some (typeAt s r)
 type-given s zero h = absurd (h refl)
 type-given s (suc r) h = refl
 
-module _ {s t : Bytes} {n m declared r : ℕ} (k : AllocLine s t n m declared r) where
-  l : Line 69 s t n m r
+module _ {s t : Bytes} {n declared r : ℕ} (k : AllocLine s t n declared r) where
+  l : Line 69 s t n r
   l = k .array .line
 
   alloc-refs : Good (readsIn s) (r - 1) 69 (getD (readAt s (r - 1) .fields) 0 []) × Good (readsIn s) (r - 1) 75 (getD (readAt s (r - 1) .fields) 1 [])
@@ -78,15 +79,15 @@ module _ {s t : Bytes} {n m declared r : ℕ} (k : AllocLine s t n m declared r)
     own-kind h e = rw h (rw (good-line l 75 (getD (readAt s (r - 1) .fields) 1 []) v hv (alloc-refs .1) .0) at e)
 
   module _ {q : ℕ} (hq : q ≡ Number.numberOf 65536 (getD (readAt s (r - 1) .fields) 0 [])) where
-    length-line : (q ≡ numberOf (getD (readAt s (r - 1) .fields) 0 [])) × Line 69 s t n m q
+    length-line : (q ≡ numberOf (getD (readAt s (r - 1) .fields) 0 [])) × Line 69 s t n q
     length-line = good-line l 69 (getD (readAt s (r - 1) .fields) 0 []) q hq (alloc-refs .0)
 
-    pub length-foldable : Foldable s t n m q 49152
-    length-foldable = foldable {e = 0} (record { line = length-line .1; few = omega arith })
+    pub length-foldable : {m : ℕ} → Logged s t n m → Foldable s t n m q 49152
+    length-foldable g = foldable {e = 0} (record { line = length-line .1; log = g; few = omega arith })
 
-    pub alloc-answers : {kind : ℕ} → kind ≡ kindNumber (elemKind (allocType s declared r)) → {u : Bytes} {x : Folded} → Folds s t m 0 q 49152 u x
+    pub alloc-answers : {m kind : ℕ} → kind ≡ kindNumber (elemKind (allocType s declared r)) → {u : Bytes} {x : Folded} → Folds s t m 0 q 49152 u x
         → (y : Arrayed) → arrayedIn u y ≡ bind (resultIn u x) (allocated (kindAt kind)) → Stands u y → Answers t (constArray (namesIn s t m) (typeOf s declared) (exAt s r)) y u
-    alloc-answers {kind} e {u} {x} g y h st = record {
+    alloc-answers {m} {kind} e {u} {x} g y h st = record {
       result = rw (folds-to g, e, kind-back (elemKind (allocType s declared r))) at h ∙ sym (rw (alloc-is, ← length-line .0));
       stands = st;
       keeps = keeps-less (omega arith) (omega arith) (keeps-kept {a = 0} (omega arith) (g .kept));

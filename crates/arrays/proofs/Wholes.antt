@@ -25,6 +25,8 @@ use Rattle.lines.specs.Lines.{readAt, nodesIn, formAt}
 use Rattle.sizes.specs.Sizes.{typeAt, TypeLine}
 use Rattle.checks.specs.Checks.{Kept}
 use Rattle.checks.proofs.Kept.{checked-kept}
+use Rattle.names.specs.Table.{Logged}
+use Rattle.placements.specs.declared.Extent.{Extent}
 use Rattle.placements.specs.declared.Placed.{Placed}
 use Rattle.placements.specs.declared.Placed.the-variants.{Into, Negative, Failed, TooLong}
 use Rattle.placements.specs.Placements.{valuesIn, Keeps, Filling, Goes, Step}
@@ -33,7 +35,7 @@ use Rattle.placements.proofs.Fillings.{filling-kept}
 use Rattle.placements.proofs.Values.{values-are, value-stands}
 use Rattle.leaf.specs.Folds.{exAt}
 use Rattle.literals.specs.Literals.{namesIn, elsAt, Line, above, AllFilled}
-use Rattle.literals.proofs.Names.{kept-low, log-kept, line-kept}
+use Rattle.literals.proofs.Names.{kept-low, log-kept, logged-kept, line-kept}
 use Rattle.literals.proofs.Placing.{isInto}
 use Rattle.literals.proofs.Lines.{line-in, line-form, makes, may-line}
 use Rattle.literals.proofs.Turns.{literal-refs, literal-is}
@@ -47,7 +49,7 @@ use Rattle.arrays.proofs.Elements.{outside-forms}
 
 -- ---- the kind
 
-module _ {s t : Bytes} {n m declared r count : ℕ} (c : Counted s t n m declared r count) (vs : List Tree.ConstVal) where
+module _ {s t : Bytes} {n declared r count : ℕ} (c : Counted s t n declared r count) (vs : List Tree.ConstVal) where
   abbrev Kind : ElemKind
   Kind = literalKind (typeOf s declared) (ownType s r) (elsAt s r) vs
 
@@ -55,7 +57,7 @@ module _ {s t : Bytes} {n m declared r count : ℕ} (c : Counted s t n m declare
   kind-declared h e = rw (type-given s declared h) e
 
   module _ (z : declared ≡ 0) {v : ℕ} (hv : v ≡ Number.numberOf 65536 (getD (readAt s (r - 1) .fields) 1 [])) where
-    own-may : (v ≡ numberOf (getD (readAt s (r - 1) .fields) 1 [])) × ((v ≡ 0 → ⊥) → Line 75 s t n m v)
+    own-may : (v ≡ numberOf (getD (readAt s (r - 1) .fields) 1 [])) × ((v ≡ 0 → ⊥) → Line 75 s t n v)
     own-may = may-line (c .lit .literal .line) 75 (getD (readAt s (r - 1) .fields) 1 []) v hv (literal-refs (c .lit .literal) .1)
 
     own-is : ownType s r ≡ typeOf s v
@@ -79,29 +81,24 @@ module _ {s t : Bytes} {n m declared r count : ℕ} (c : Counted s t n m declare
 abbrev whole : Bytes → ℕ → ℕ → ℕ → Filled → Result Array.ConstArray
 whole s declared r size f = Array.measured (typeOf s declared) (ownType s r) (elsAt s r) f size
 
-module _ (s t : Bytes) (declared r reach size : ℕ) where
-  module _ (k next : ℕ) (f : Filled) (p : Filling t (above 16) k next reach f) where
-    pub measured-outside : size < reach → Measured t (whole s declared r size f) (Refused 11)
-    measured-outside h = record { result = sym (rw (p .ends size, lt-ltb size reach h)); stands = tt }
+module _ (s t : Bytes) (declared r size k next reach : ℕ) (f : Filled) (h : reach ≤ size) (p : Filling t (above 16) k next reach f) where
+  pub measured-long : 1024 < size → Measured t (whole s declared r size f) (Refused 12)
+  measured-long g = record { result = sym (rw (p .ends size, le-ltb size reach h, lt-leb size 1024 g)); stands = tt }
 
-    module _ (h : reach ≤ size) where
-      pub measured-long : 1024 < size → Measured t (whole s declared r size f) (Refused 12)
-      measured-long g = record { result = sym (rw (p .ends size, le-ltb size reach h, lt-leb size 1024 g)); stands = tt }
-
-      pub measured-well : size ≤ 1024 → {kind : ℕ} → kind ≡ kindNumber (literalKind (typeOf s declared) (ownType s r) (elsAt s r) (valuesIn t 0 size)) → Measured t (whole s declared r size f) (Literal kind size)
-      measured-well g {kind} e = record {
-        result = sym (rw (p .ends size, le-ltb size reach h, le-leb size 1024 g, values-are p size 0 (omega arith), e, kind-back (literalKind (typeOf s declared) (ownType s r) (elsAt s r) (valuesIn t 0 size))));
-        stands = (g, λ i x. value-stands p i (omega arith));
-      }
+  pub measured-well : size ≤ 1024 → {kind : ℕ} → kind ≡ kindNumber (literalKind (typeOf s declared) (ownType s r) (elsAt s r) (valuesIn t 0 size)) → Measured t (whole s declared r size f) (Literal kind size)
+  measured-well g {kind} e = record {
+    result = sym (rw (p .ends size, le-ltb size reach h, le-leb size 1024 g, values-are p size 0 (omega arith), e, kind-back (literalKind (typeOf s declared) (ownType s r) (elsAt s r) (valuesIn t 0 size))));
+    stands = (g, λ i x. value-stands p i (omega arith));
+  }
 
 -- ---- what is kept of the lines
 
-module _ {s t u : Bytes} {n m declared r : ℕ} (k : Keeps 16384 49152 t u) (l : LitLine s t n m declared r) where
+module _ {s t u : Bytes} {n declared r : ℕ} (k : Keeps 16384 49152 t u) (l : LitLine s t n declared r) where
   form-same : formAt u (r - 1) ≡ formAt t (r - 1)
   unfolding formAt
   form-same = k .below (2048 + (r - 1)) (omega (arith, line-in (l .literal .line), l .literal .line .checked .whole .lined .few))
 
-  pub lit-kept : LitLine s u n m declared r
+  pub lit-kept : LitLine s u n declared r
   lit-kept = record {
     literal = record { line = line-kept k (l .literal .line); form = form-same ∙ l .literal .form };
     declares = λ h. let d = l .declares h in record { checked = checked-kept (kept-low k 3072 (omega arith)) (d .checked); first = d .first; last = d .last; kind = d .kind };
@@ -112,7 +109,7 @@ module _ {s t u : Bytes} {n m declared r : ℕ} (k : Keeps 16384 49152 t u) (l :
 pub size-keeps : {t u : Bytes} → Kept (above 16) t u → Keeps 16384 49152 t u
 size-keeps c = keeps-less (omega arith) (omega arith) (keeps-kept {a = 0} (omega arith) c)
 
-module _ {s t u : Bytes} {n m declared r : ℕ} (l : LitLine s t n m declared r) (c : Kept (above 16) t u) where
+module _ {s t u : Bytes} {n m declared r : ℕ} (l : LitLine s t n declared r) (o : Logged s t n m) (c : Kept (above 16) t u) where
   module _ {reach : ℕ} (x : Size) (h : (f : Filled) → reach ≡ f .reach → sizeResult x ≡ literalSize (namesIn s t m) (sizeAt s r) f) where
     pub sized-failed : x ≡ Size.Failed → Sized s t m declared r reach Pending u
     sized-failed d = record {
@@ -126,21 +123,29 @@ module _ {s t u : Bytes} {n m declared r : ℕ} (l : LitLine s t n m declared r)
       keeps = size-keeps c;
     }
 
-    pub sized-well : {size : ℕ} → x ≡ Size.Of size → (y : Arrayed)
-        → ((k next : ℕ) (f : Filled) → Filling u (above 16) k next reach f → Measured u (Array.measured (typeOf s declared) (ownType s r) (elsAt s r) f size) y) → Sized s t m declared r reach y u
-    sized-well {size} d y g = record {
-      answers = λ k next f few p.
-          let e : literalSize (namesIn s t m) (sizeAt s r) f ≡ ok size = sym (h f (p .reach-is)) ∙ ap sizeResult d in
-          let w = g k next f (filling-kept p u few (omega arith) c) in
-          record { result = w .result ∙ sym (rw e); stands = w .stands };
-      keeps = size-keeps c;
-    }
+    module _ {size : ℕ} (d : x ≡ Size.Of size) where
+      size-is : (k next : ℕ) (f : Filled) → Filling t (above 16) k next reach f → literalSize (namesIn s t m) (sizeAt s r) f ≡ ok size
+      size-is k next f p = sym (h f (p .reach-is)) ∙ ap sizeResult d
+
+      pub sized-outside : size < reach → Sized s t m declared r reach (Refused 11) u
+      sized-outside g = record {
+        answers = λ k next f few p. record { result = sym (rw (size-is k next f p, p .ends size, lt-ltb size reach g)); stands = tt };
+        keeps = size-keeps c;
+      }
+
+      pub sized-well : reach ≤ size → (y : Arrayed) → ((k next reach : ℕ) (f : Filled) → reach ≤ size → Filling u (above 16) k next reach f → Measured u (whole s declared r size f) y) → Sized s t m declared r reach y u
+      sized-well a y g = record {
+        answers = λ k next f few p.
+            let w = g k next reach f a (filling-kept p u few (omega arith) c) in
+            record { result = w .result ∙ sym (rw (size-is k next f p)); stands = w .stands };
+        keeps = size-keeps c;
+      }
 
 -- ---- all of it
 
 -- what is answered where an element ends the literal
 abbrev endedAs : Placed → Arrayed
-endedAs (Into next reach) = Pending
+endedAs (Into x) = Pending
 endedAs Negative = Pending
 endedAs Failed = Pending
 endedAs TooLong = Refused 8
@@ -148,34 +153,34 @@ endedAs TooLong = Refused 8
 abbrev rest : Bytes → Bytes → ℕ → ℕ → ℕ → Filled → Result Array.ConstArray
 rest s t m declared r f = bind (literalSize (namesIn s t m) (sizeAt s r) f) (Array.measured (typeOf s declared) (ownType s r) (elsAt s r) f)
 
-module _ {s t u : Bytes} {n m declared r : ℕ} (l : LitLine s t n m declared r) (y : Placed) (a : AllFilled t (fill (namesIn s t m) (elsAt s r) noneFilled) y u) where
+module _ {s t u : Bytes} {n m declared r : ℕ} (l : LitLine s t n declared r) (o : Logged s t n m) (y : Placed) (a : AllFilled t (fill (namesIn s t m) (elsAt s r) noneFilled) y u) where
   literal-by : constArray (namesIn s t m) (typeOf s declared) (exAt s r) ≡ bind (fill (namesIn s t m) (elsAt s r) noneFilled) (rest s t m declared r)
   literal-by = rw (literal-is (l .literal))
 
-  pub literal-kept : LitLine s u n m declared r
-  literal-kept = lit-kept (a .keeps) l
+  pub literal-kept : (LitLine s u n declared r) × (Logged s u n m)
+  literal-kept = (lit-kept (a .keeps) l, logged-kept (a .keeps) o)
 
   -- one that has ended
   pub literal-ended : (z : Placed) → y ≡ z → isInto z ≡ false → Answers t (constArray (namesIn s t m) (typeOf s declared) (exAt s r)) (endedAs z) u
   literal-ended z d h = record { result = sym (literal-by ∙ go z h (subst (λ (b : Placed). Step u (above 16) (a .count) b (fill (namesIn s t m) (elsAt s r) noneFilled)) d (a .step))); stands = ended-stands z; keeps = a .keeps }
     where
       go : (b : Placed) → isInto b ≡ false → Step u (above 16) (a .count) b (fill (namesIn s t m) (elsAt s r) noneFilled) → bind (fill (namesIn s t m) (elsAt s r) noneFilled) (rest s t m declared r) ≡ arrayedIn u (endedAs b)
-      go (Into next reach) e g = never (sym e)
+      go (Into x) e g = never (sym e)
       go Negative e g = ap (λ (q : Result Filled). bind q (rest s t m declared r)) g
       go Failed e g = ap (λ (q : Result Filled). bind q (rest s t m declared r)) g
       go TooLong e g = ap (λ (q : Result Filled). bind q (rest s t m declared r)) g
 
       ended-stands : (b : Placed) → Stands u (endedAs b)
-      ended-stands (Into next reach) = tt
+      ended-stands (Into x) = tt
       ended-stands Negative = tt
       ended-stands Failed = tt
       ended-stands TooLong = tt
 
-  pub literal-well : {next reach : ℕ} → y ≡ Into next reach → {x : Arrayed} {w : Bytes} → Sized s u m declared r reach x w → Answers t (constArray (namesIn s t m) (typeOf s declared) (exAt s r)) x w
-  literal-well {next} {reach} d {x} {w} z =
-      let g : Goes u (above 16) (a .count) next reach (fill (namesIn s t m) (elsAt s r) noneFilled) = subst (λ (b : Placed). Step u (above 16) (a .count) b (fill (namesIn s t m) (elsAt s r) noneFilled)) d (a .step) in
-      let q = rw (log-kept (a .keeps) (l .literal .line .log)) at (z .answers (a .count) next (g .literal) (a .few) (g .filling)) in
-      record { result = q .result ∙ sym (literal-by ∙ ap (λ (b : Result Filled). bind b (rest s t m declared r)) (g .result)); stands = q .stands; keeps = keeps-then (a .keeps) (z .keeps) }
+  pub literal-well : {b : Extent} → y ≡ Into b → {x : Arrayed} {w : Bytes} → Sized s u m declared r (b .reach) x w → Answers t (constArray (namesIn s t m) (typeOf s declared) (exAt s r)) x w
+  literal-well {b} d {x} {w} z =
+      let g : Goes u (above 16) (a .count) (b .next) (b .reach) (fill (namesIn s t m) (elsAt s r) noneFilled) = subst (λ (v : Placed). Step u (above 16) (a .count) v (fill (namesIn s t m) (elsAt s r) noneFilled)) d (a .step) in
+      let q = rw (log-kept (a .keeps) o) at (z .answers (a .count) (b .next) (g .literal) (a .few) (g .filling)) in
+      record { result = q .result ∙ sym (literal-by ∙ ap (λ (v : Result Filled). bind v (rest s t m declared r)) (g .result)); stands = q .stands; keeps = keeps-then (a .keeps) (z .keeps) }
 
 -- ---- other lines
 
@@ -190,8 +195,8 @@ module _ (ns : List Node) (fs : List Bytes) (names : Names) (o : Option Ty) wher
       (refl also refl also refl also refl also refl also refl also refl also refl also refl also refl also refl also refl also refl also refl also refl also refl also refl also done)
       (refl also refl also refl also refl also refl also refl also refl also refl also refl also refl also refl also refl also refl also refl also refl also refl also refl also refl also refl also refl also refl also refl also refl also done)
 
-pub other-line : {s t : Bytes} {n m declared r : ℕ} → ArrayLine s t n m declared r → {f : ℕ} → f ≡ formAt t (r - 1) → (f ≡ 17 → ⊥) → (f ≡ 18 → ⊥) → Answers t (constArray (namesIn s t m) (typeOf s declared) (exAt s r)) Pending t
-other-line {s} {t} {n} {m} {declared} {r} k {f} e a b = record {
+pub other-line : {s t : Bytes} {n declared r : ℕ} → ArrayLine s t n declared r → (m : ℕ) {f : ℕ} → f ≡ formAt t (r - 1) → (f ≡ 17 → ⊥) → (f ≡ 18 → ⊥) → Answers t (constArray (namesIn s t m) (typeOf s declared) (exAt s r)) Pending t
+other-line {s} {t} {n} {declared} {r} k m {f} e a b = record {
   result = sym (ap (λ (x : Node). constArray (namesIn s t m) (typeOf s declared) (x .ex)) (makes (k .line) refl) ∙ no-array (nodesIn s) (readAt s (r - 1) .fields) (namesIn s t m) (typeOf s declared) (formAt t (r - 1)) (line-form (k .line) .0) (go (ltb (formAt t (r - 1)) 17) refl));
   stands = tt;
   keeps = keeps-all;

@@ -82,23 +82,23 @@ abbrev pub Declared : Bytes → Bytes → ℕ → ℕ → Type 0
 Declared s t n declared = (declared ≡ 0 → ⊥) → TypeLine s t n declared
 
 -- line r is an `ex` line, for a global whose type declares its elements' type in a line, or 0
-pub record ArrayLine (s t : Bytes) (n m declared r : ℕ) : Type 0 where
-  pub line : Line 69 s t n m r
+pub record ArrayLine (s t : Bytes) (n declared r : ℕ) : Type 0 where
+  pub line : Line 69 s t n r
   pub declares : Declared s t n declared
 
 -- and an `ex,alloc` line, form 17
-pub record AllocLine (s t : Bytes) (n m declared r : ℕ) : Type 0 where
-  pub array : ArrayLine s t n m declared r
+pub record AllocLine (s t : Bytes) (n declared r : ℕ) : Type 0 where
+  pub array : ArrayLine s t n declared r
   pub form : formAt t (r - 1) ≡ 17
 
 -- line r is an `ex,lit` line, for such a global
-pub record LitLine (s t : Bytes) (n m declared r : ℕ) : Type 0 where
-  pub literal : LiteralLine s t n m r
+pub record LitLine (s t : Bytes) (n declared r : ℕ) : Type 0 where
+  pub literal : LiteralLine s t n r
   pub declares : Declared s t n declared
 
 -- and has `count` values
-pub record Counted (s t : Bytes) (n m declared r count : ℕ) : Type 0 where
-  pub lit : LitLine s t n m declared r
+pub record Counted (s t : Bytes) (n declared r count : ℕ) : Type 0 where
+  pub lit : LitLine s t n declared r
   pub few : count ≤ 1024
 
 -- t has become u, where x is what the literal of line r is whose elements t holds

@@ -3,6 +3,7 @@ use codes::area;
 use codes::element;
 use codes::ex;
 use codes::ty;
+use names::Known;
 use placements::Placed;
 use values::ConstVal;
 use values::Folded;
@@ -16,13 +17,14 @@ ghost use Rattle.semantics.specs.Array.{Filled, kindNumber, elemKind, isByteCas
 ghost use Rattle.checks.specs.Checks.{Kept};
 ghost use Rattle.sizes.specs.Sizes.{typeAt, TypeLine};
 ghost use Rattle.values.specs.Values.{resultIn};
+ghost use Rattle.names.specs.Table.{Logged};
 ghost use Rattle.placements.specs.Placements.{valuesIn, Filling};
 ghost use Rattle.leaf.specs.Folds.{exAt};
 ghost use Rattle.literals.specs.Literals.{namesIn, elsAt, Line, LiteralLine, above};
 ghost use Rattle.arrays.specs.Arrays.{kindAt, arrayedIn, sizeResult, Stands, Measured, Answers, typeOf, sizeAt, ownType, allocType, ArrayLine, AllocLine, LitLine, Counted, Sized};
 
 // Above the strings of 16 elements.
-const ABOVE: usize = 53248;
+const ABOVE: usize = area::STACK + 256 * 16;
 
 const LONGEST_ALLOC: i64 = 2147483647;
 
@@ -94,8 +96,8 @@ fn allocated(kind: u8, x: Folded) -> Arrayed
 }
 
 // The element type is the one that is declared, or else the `alloc` line's own.
-fn alloc_kind(sheet: &[u8], work: &[u8], n: usize, m: usize, declared: usize, r: usize) -> u8
-    requires { ⌜ AllocLine (now sheet) (now work) n m declared r ⌝ }
+fn alloc_kind(sheet: &[u8], work: &[u8], n: usize, declared: usize, r: usize) -> u8
+    requires { ⌜ AllocLine (now sheet) (now work) n declared r ⌝ }
     ensures { λ k. ⌜ k ≡ kindNumber (elemKind (allocType (now (sheet .entry)) declared r)) ⌝ }
 {
     if declared != 0 {
@@ -104,13 +106,13 @@ fn alloc_kind(sheet: &[u8], work: &[u8], n: usize, m: usize, declared: usize, r:
     elem_kind(sheet, work, n, lines::number_at(sheet, work, n, r - 1, 1))
 }
 
-fn alloc(sheet: &[u8], work: &mut [u8], n: usize, m: usize, declared: usize, r: usize) -> Arrayed
-    requires { ⌜ AllocLine (now sheet) (now work) n m declared r ⌝ }
-    ensures { λ x. ⌜ Answers (now (work .entry)) (constArray (namesIn (now (sheet .entry)) (now (work .entry)) m) (typeOf (now (sheet .entry)) declared) (exAt (now (sheet .entry)) r)) x (now (work .exit)) ⌝ }
+fn alloc(sheet: &[u8], work: &mut [u8], c: Known, declared: usize, r: usize) -> Arrayed
+    requires { ⌜ (AllocLine (now sheet) (now work) (c .lines) declared r) × (Logged (now sheet) (now work) (c .lines) (c .consts)) ⌝ }
+    ensures { λ x. ⌜ Answers (now (work .entry)) (constArray (namesIn (now (sheet .entry)) (now (work .entry)) (c .consts)) (typeOf (now (sheet .entry)) declared) (exAt (now (sheet .entry)) r)) x (now (work .exit)) ⌝ }
 {
-    let kind = alloc_kind(sheet, work, n, m, declared, r);
-    let q = lines::number_at(sheet, work, n, r - 1, 0);
-    allocated(kind, fold::fold_const(sheet, work, n, m, 0, q, area::STACK))
+    let kind = alloc_kind(sheet, work, c.lines, declared, r);
+    let q = lines::number_at(sheet, work, c.lines, r - 1, 0);
+    allocated(kind, fold::fold_const(sheet, work, c, 0, q, area::STACK))
 }
 
 // ---- literals
@@ -135,20 +137,20 @@ fn as_size(x: Folded) -> Size
 }
 
 // The size of a literal: its own, or as many as its indices reach.
-fn literal_size(sheet: &[u8], work: &mut [u8], n: usize, m: usize, r: usize, reach: u64) -> Size
-    requires { ⌜ LiteralLine (now sheet) (now work) n m r ⌝ }
-    ensures { λ x. ⌜ ((f : Filled) → reach ≡ f .reach → sizeResult x ≡ Array.literalSize (namesIn (now (sheet .entry)) (now (work .entry)) m) (sizeAt (now (sheet .entry)) r) f) × (Kept (above 16) (now (work .entry)) (now (work .exit))) ⌝ }
+fn literal_size(sheet: &[u8], work: &mut [u8], c: Known, r: usize, reach: u64) -> Size
+    requires { ⌜ (LiteralLine (now sheet) (now work) (c .lines) r) × (Logged (now sheet) (now work) (c .lines) (c .consts)) ⌝ }
+    ensures { λ x. ⌜ ((f : Filled) → reach ≡ f .reach → sizeResult x ≡ Array.literalSize (namesIn (now (sheet .entry)) (now (work .entry)) (c .consts)) (sizeAt (now (sheet .entry)) r) f) × (Kept (above 16) (now (work .entry)) (now (work .exit))) ⌝ }
 {
-    let q = lines::number_at(sheet, work, n, r - 1, 0);
+    let q = lines::number_at(sheet, work, c.lines, r - 1, 0);
     if q == 0 {
         return Size::Of(reach);
     }
-    as_size(fold::fold_const(sheet, work, n, m, 0, q, ABOVE))
+    as_size(fold::fold_const(sheet, work, c, 0, q, ABOVE))
 }
 
 // Whether the expression of line r is itself a cast to byte.
-fn is_byte_cast(sheet: &[u8], work: &[u8], n: usize, m: usize, r: usize) -> bool
-    requires { ⌜ Line 69 (now sheet) (now work) n m r ⌝ }
+fn is_byte_cast(sheet: &[u8], work: &[u8], n: usize, r: usize) -> bool
+    requires { ⌜ Line 69 (now sheet) (now work) n r ⌝ }
     ensures { λ b. ⌜ b ≡ isByteCast (exAt (now (sheet .entry)) r) ⌝ }
 {
     if lines::form_at(work, r - 1) != ex::CAST {
@@ -158,21 +160,15 @@ fn is_byte_cast(sheet: &[u8], work: &[u8], n: usize, m: usize, r: usize) -> bool
 }
 
 // Whether there is an element, and the value of every one is a cast to byte.
-fn is_byte_literal(sheet: &[u8], work: &[u8], n: usize, m: usize, r: usize) -> bool
-    requires { ⌜ LiteralLine (now sheet) (now work) n m r ⌝ }
+fn is_byte_literal(sheet: &[u8], work: &[u8], n: usize, r: usize) -> bool
+    requires { ⌜ LiteralLine (now sheet) (now work) n r ⌝ }
     ensures { λ b. ⌜ b ≡ isByteLiteral (elsAt (now (sheet .entry)) r) ⌝ }
 {
     let count = lines::number_at(sheet, work, n, r - 1, 2);
     let mut j = 0;
     while j < count {
         let q = lines::number_at(sheet, work, n, r - 1, 3 + j);
-        if !is_byte_cast(
-            sheet,
-            work,
-            n,
-            m,
-            lines::number_at(sheet, work, n, q - 1, 0),
-        ) {
+        if !is_byte_cast(sheet, work, n, lines::number_at(sheet, work, n, q - 1, 0)) {
             return false;
         }
         j += 1;
@@ -181,16 +177,8 @@ fn is_byte_literal(sheet: &[u8], work: &[u8], n: usize, m: usize, r: usize) -> b
 }
 
 // By the type that is declared, or else the literal's own, or else by its values.
-fn literal_kind(
-    sheet: &[u8],
-    work: &[u8],
-    n: usize,
-    m: usize,
-    declared: usize,
-    r: usize,
-    count: usize,
-) -> u8
-    requires { ⌜ Counted (now sheet) (now work) n m declared r count ⌝ }
+fn literal_kind(sheet: &[u8], work: &[u8], n: usize, declared: usize, r: usize, count: usize) -> u8
+    requires { ⌜ Counted (now sheet) (now work) n declared r count ⌝ }
     ensures { λ k. ⌜ k ≡ kindNumber (literalKind (typeOf (now (sheet .entry)) declared) (ownType (now (sheet .entry)) r) (elsAt (now (sheet .entry)) r) (valuesIn (now (work .entry)) 0 count)) ⌝ }
 {
     if declared != 0 {
@@ -200,62 +188,47 @@ fn literal_kind(
     if own != 0 {
         return elem_kind(sheet, work, n, own);
     }
-    if is_byte_literal(sheet, work, n, m, r) {
+    if is_byte_literal(sheet, work, n, r) {
         return element::BYTE;
     }
     placements::kind_of_values(work, count)
 }
 
-// A literal of a size, whose indices end at `reach`.
-fn measured(
-    sheet: &[u8],
-    work: &[u8],
-    n: usize,
-    m: usize,
-    declared: usize,
-    r: usize,
-    reach: u64,
-    size: u64,
-) -> Arrayed
-    requires { ⌜ LitLine (now sheet) (now work) n m declared r ⌝ }
-    ensures { λ x. ⌜ ((k next : ℕ) (f : Filled) → Filling (now (work .entry)) (above 16) k next reach f → Measured (now (work .entry)) (Array.measured (typeOf (now (sheet .entry)) declared) (ownType (now (sheet .entry)) r) (elsAt (now (sheet .entry)) r) f size) x) ⌝ }
+// A literal of a size, which its indices do not pass.
+fn measured(sheet: &[u8], work: &[u8], n: usize, declared: usize, r: usize, size: u64) -> Arrayed
+    requires { ⌜ LitLine (now sheet) (now work) n declared r ⌝ }
+    ensures { λ x. ⌜ ((k next reach : ℕ) (f : Filled) → reach ≤ size → Filling (now (work .entry)) (above 16) k next reach f → Measured (now (work .entry)) (Array.measured (typeOf (now (sheet .entry)) declared) (ownType (now (sheet .entry)) r) (elsAt (now (sheet .entry)) r) f size) x) ⌝ }
 {
-    if size < reach {
-        return Arrayed::Refused(11);
-    }
     if LONGEST < size {
         return Arrayed::Refused(12);
     }
     let count = size as usize;
-    Arrayed::Literal(literal_kind(sheet, work, n, m, declared, r, count), count)
+    Arrayed::Literal(literal_kind(sheet, work, n, declared, r, count), count)
 }
 
-// A literal whose elements are placed.
-fn sized(
-    sheet: &[u8],
-    work: &mut [u8],
-    n: usize,
-    m: usize,
-    declared: usize,
-    r: usize,
-    reach: u64,
-) -> Arrayed
-    requires { ⌜ LitLine (now sheet) (now work) n m declared r ⌝ }
-    ensures { λ x. ⌜ Sized (now (sheet .entry)) (now (work .entry)) m declared r reach x (now (work .exit)) ⌝ }
+// A literal whose elements are placed, with indices that end at `reach`.
+fn sized(sheet: &[u8], work: &mut [u8], c: Known, declared: usize, r: usize, reach: u64) -> Arrayed
+    requires { ⌜ (LitLine (now sheet) (now work) (c .lines) declared r) × (Logged (now sheet) (now work) (c .lines) (c .consts)) ⌝ }
+    ensures { λ x. ⌜ Sized (now (sheet .entry)) (now (work .entry)) (c .consts) declared r reach x (now (work .exit)) ⌝ }
 {
-    match literal_size(sheet, work, n, m, r, reach) {
-        Size::Of(size) => measured(sheet, work, n, m, declared, r, reach, size),
+    match literal_size(sheet, work, c, r, reach) {
+        Size::Of(size) => {
+            if size < reach {
+                return Arrayed::Refused(11);
+            }
+            measured(sheet, work, c.lines, declared, r, size)
+        }
         Size::Failed => Arrayed::Pending,
         Size::TooLong => Arrayed::Refused(8),
     }
 }
 
-fn literal(sheet: &[u8], work: &mut [u8], n: usize, m: usize, declared: usize, r: usize) -> Arrayed
-    requires { ⌜ LitLine (now sheet) (now work) n m declared r ⌝ }
-    ensures { λ x. ⌜ Answers (now (work .entry)) (constArray (namesIn (now (sheet .entry)) (now (work .entry)) m) (typeOf (now (sheet .entry)) declared) (exAt (now (sheet .entry)) r)) x (now (work .exit)) ⌝ }
+fn literal(sheet: &[u8], work: &mut [u8], c: Known, declared: usize, r: usize) -> Arrayed
+    requires { ⌜ (LitLine (now sheet) (now work) (c .lines) declared r) × (Logged (now sheet) (now work) (c .lines) (c .consts)) ⌝ }
+    ensures { λ x. ⌜ Answers (now (work .entry)) (constArray (namesIn (now (sheet .entry)) (now (work .entry)) (c .consts)) (typeOf (now (sheet .entry)) declared) (exAt (now (sheet .entry)) r)) x (now (work .exit)) ⌝ }
 {
-    match literals::fill(sheet, work, n, m, r) {
-        Placed::Into(_, reach) => sized(sheet, work, n, m, declared, r, reach),
+    match literals::fill(sheet, work, c, r) {
+        Placed::Into(x) => sized(sheet, work, c, declared, r, x.reach),
         Placed::Negative => Arrayed::Pending,
         Placed::Failed => Arrayed::Pending,
         Placed::TooLong => Arrayed::Refused(8),
@@ -263,23 +236,16 @@ fn literal(sheet: &[u8], work: &mut [u8], n: usize, m: usize, declared: usize, r
 }
 
 // The constant array that line r is, where `declared` is the line of the type that the global's type declares for elements, or 0.
-pub fn const_array(
-    sheet: &[u8],
-    work: &mut [u8],
-    n: usize,
-    m: usize,
-    declared: usize,
-    r: usize,
-) -> Arrayed
-    requires { ⌜ ArrayLine (now sheet) (now work) n m declared r ⌝ }
-    ensures { λ x. ⌜ Answers (now (work .entry)) (constArray (namesIn (now (sheet .entry)) (now (work .entry)) m) (typeOf (now (sheet .entry)) declared) (exAt (now (sheet .entry)) r)) x (now (work .exit)) ⌝ }
+pub fn const_array(sheet: &[u8], work: &mut [u8], c: Known, declared: usize, r: usize) -> Arrayed
+    requires { ⌜ (ArrayLine (now sheet) (now work) (c .lines) declared r) × (Logged (now sheet) (now work) (c .lines) (c .consts)) ⌝ }
+    ensures { λ x. ⌜ Answers (now (work .entry)) (constArray (namesIn (now (sheet .entry)) (now (work .entry)) (c .consts)) (typeOf (now (sheet .entry)) declared) (exAt (now (sheet .entry)) r)) x (now (work .exit)) ⌝ }
 {
     let f = lines::form_at(work, r - 1);
     if f == ex::ALLOC {
-        return alloc(sheet, work, n, m, declared, r);
+        return alloc(sheet, work, c, declared, r);
     }
     if f == ex::LIT {
-        return literal(sheet, work, n, m, declared, r);
+        return literal(sheet, work, c, declared, r);
     }
     Arrayed::Pending
 }

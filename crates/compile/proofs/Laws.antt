@@ -28,13 +28,13 @@ use Rattle.tables.specs.Tables.{Makes}
 use Rattle.compile.specs.declared.Listed.{Listed}
 use Rattle.compile.specs.Compile.{Lays, Stops, Tries}
 use Rattle.parts.proofs.Laws.{names-are}
-use Rattle.parts.specs.Parts.{declaredText, typesText, Known}
+use Rattle.parts.specs.Parts.{declaredText, typesText, Listable}
 use Rattle.compile.proofs.Numbers.{with-line, without-line, vars-numbered}
 
 three-last : (a b c d : Bytes) → a ++ ((b ++ c) ++ d) ≡ ((a ++ b) ++ c) ++ d
 three-last a b c d = sym (append-assoc a (b ++ c) d) ∙ ap (λ (l : Bytes). l ++ d) (sym (append-assoc a b c))
 
-module _ {s t : Bytes} {n : ℕ} {x : Tables} (k : Known s t n x) where
+module _ {s t : Bytes} {n : ℕ} {x : Tables} (k : Listable s t n x) where
   -- the pending names' rows, where no line is refused
   module _ (d e : Bytes) (a : ℕ) (y : Pends) (h : AllPended (namesIn s t (x .consts)) s d a y e) where
     pub pends-written : {b : ℕ} → y ≡ Pends.Written b → (varsRefused (namesOf (sheetSource s)) (laidVars (sheetSource s)) ≡ none) × Wrote d a (concatMap pendRow (sourceGlobals (sheetSource s) .pends)) e b
@@ -85,8 +85,8 @@ module _ {s t : Bytes} {n : ℕ} {x : Tables} (k : Known s t n x) where
 -- ---- tables, or a constant that is refused
 
 module _ (s t : Bytes) (n : ℕ) {y : Made} (h : Makes s t n y) where
-  pub tables-known : {x : Tables} → y ≡ Made.Whole x → Known s t n x
-  tables-known q = let w = subst (Makes s t n) q h in record { held = w .0; folded = w .1; log = w .2 }
+  pub tables-listable : {x : Tables} → y ≡ Made.Whole x → Listable s t n x
+  tables-listable q = let w = subst (Makes s t n) q h in record { held = w .0; folded = w .1; log = w .2 }
 
   pub constant-refused : (L : ℕ) {l : ℕ} → y ≡ Made.Refused l → Stops (worked L (sheetSource s)) 8 l
   constant-refused L q = record { outcome = rw (subst (Makes s t n) q h); numbered = with-line (omega arith) (omega arith) }

@@ -1,6 +1,7 @@
 // Compiling: a sheet to its listing, or a refusal.
 use answers::Refusal;
 use checks::Checks;
+use names::Known;
 use pends::Pends;
 use tables::Made;
 use tables::Tables;
@@ -10,7 +11,7 @@ ghost use Rattle.semantics.specs.Sheet.{sheetSource};
 ghost use Rattle.semantics.specs.Refusal.{zeros, worked};
 ghost use Rattle.checks.specs.Checks.{Checked};
 ghost use Rattle.compile.specs.Compile.{Lists, Works, Tries, Compiles};
-ghost use Rattle.parts.specs.Parts.{Known};
+ghost use Rattle.parts.specs.Parts.{Listable};
 
 // What stands before the working space is zeroed: the listing's length and the end of allocation, or a refusal's number and line.
 pub enum Listed {
@@ -26,11 +27,15 @@ pub enum Answer {
 
 // All rows, where the constants are not refused. A first value is refused before the listing outgrows its buffer.
 fn list_rows(sheet: &[u8], listing: &mut [u8], work: &mut [u8], n: usize, x: Tables) -> Listed
-    requires { ⌜ (Known (now sheet) (now work) n x) × (now listing ≡ zeros (length (now listing))) ⌝ }
+    requires { ⌜ (Listable (now sheet) (now work) n x) × (now listing ≡ zeros (length (now listing))) ⌝ }
     ensures { λ r. ⌜ Tries (now (sheet .entry)) (worked (length (now (listing .entry))) (sheetSource (now (sheet .entry)))) (length (now (listing .entry))) (length (now (work .entry))) r (now (listing .exit)) (now (work .exit)) ⌝ }
 {
     let p = parts::put_declared(sheet, work, n, x, listing);
-    match pends::pend_rows(sheet, work, n, x.consts, listing, p) {
+    let c = Known {
+        lines: n,
+        consts: x.consts,
+    };
+    match pends::pend_rows(sheet, work, c, listing, p) {
         Pends::Refused(q, k) => Listed::Refused(q, k),
         Pends::Written(q) => {
             let end = parts::put_types(sheet, work, n, x, listing, q);

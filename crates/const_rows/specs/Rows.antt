@@ -1,7 +1,7 @@
 -- The rows of constants, entry by entry: an entry adds the row of its key where no entry before it has the key.
 use Prim.Native.Nat.{ℕ, suc, _≤_}
 use mathlib.Core.Path.{_≡_}
-use mathlib.Core.Bool.{Bool, true, false, cond, not, _||_}
+use mathlib.Core.Bool.{cond, not, _||_}
 use mathlib.Core.List.{[]}
 use lib.Dec.{eqb}
 use lib.ListN.{length}
@@ -10,8 +10,7 @@ use Rattle.semantics.specs.Sheet.{concatMap}
 use Rattle.semantics.specs.Fold.{Key, plain, qualified}
 use Rattle.semantics.specs.Listing.{keysIn, isPlain, constRow}
 use Rattle.implement.specs.Modules.{firstField, isOwn}
-use Rattle.checks.specs.Checks.{Checked}
-use Rattle.names.specs.Table.{lineOf, moduleLineOf, kindOf, bitsOf, logIn, StringPlace, Logged, hasKey}
+use Rattle.names.specs.Table.{lineOf, moduleLineOf, kindOf, bitsOf, logIn, StringPlace, hasKey}
 
 -- the keys of entry i
 abbrev pub plainKey : Bytes → Bytes → ℕ → Key
@@ -34,22 +33,8 @@ qualifiedPart s t m i = cond (eqb (moduleLineOf t i) 0 || hasKey (qualifiedKey s
 unfoldable pub plainPart : Bytes → Bytes → ℕ → ℕ → Bytes
 plainPart s t m i = cond (not (isOwn s (moduleLineOf t i)) || hasKey (plainKey s t i) (logIn s t i)) [] (constRow (logIn s t m) (plainKey s t i))
 
--- the plain ones, or those of M->NAME
-abbrev pub rowsTo : Bool → Bytes → Bytes → ℕ → ℕ → Bytes
-rowsTo true s t m i = plainTo s t m i
-rowsTo false s t m i = qualifiedTo s t m i
-
-abbrev pub partOf : Bool → Bytes → Bytes → ℕ → ℕ → Bytes
-partOf true s t m i = plainPart s t m i
-partOf false s t m i = qualifiedPart s t m i
-
 -- what a look-up answered can be shown: r is 0, or one more than the number of an entry
 pub record Shown (t : Bytes) (r : ℕ) : Type 0 where
   pub few : r ≤ 128
   pub long : 65536 ≤ length t
   pub text : (i : ℕ) → r ≡ suc i → kindOf t i ≡ 3 → StringPlace (bitsOf t i)
-
--- the table of a checked sheet has m entries
-pub record Table (s t : Bytes) (n m : ℕ) : Type 0 where
-  pub checked : Checked s t n
-  pub logged : Logged s t n m

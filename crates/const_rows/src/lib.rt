@@ -1,12 +1,13 @@
 // Rows of the listing for constants: all M->NAME, then all plain names, each in the order of first insertion with its last value.
 use codes::value;
+use names::Known;
 ghost use mathlib.Core.List.{_∷_, _++_};
 ghost use Prim.Native.Nat.{_+_, _≤_, _<_};
 ghost use lib.ListN.{length};
 ghost use Rattle.semantics.specs.Listing.{row, valueFields, constRows};
 ghost use Rattle.write.specs.Wrote.{Wrote};
-ghost use Rattle.names.specs.Table.{found, logIn};
-ghost use Rattle.const_rows.specs.Rows.{qualifiedPart, plainPart, rowsTo, partOf, Shown, Table};
+ghost use Rattle.names.specs.Table.{found, logIn, ConstTable};
+ghost use Rattle.const_rows.specs.Rows.{qualifiedPart, plainPart, Shown};
 
 // The fields of the value that a look-up found, to the row's end.
 fn put_value(work: &[u8], out: &mut [u8], at: usize, r: usize) -> usize
@@ -49,28 +50,20 @@ fn put_rest(work: &[u8], out: &mut [u8], at: usize, name: &[u8], r: usize) -> us
 }
 
 // The row of M->NAME that entry i adds, if it adds one.
-fn qualified_row(
-    sheet: &[u8],
-    work: &[u8],
-    n: usize,
-    m: usize,
-    out: &mut [u8],
-    at: usize,
-    i: usize,
-) -> usize
-    requires { ⌜ (Table (now sheet) (now work) n m) × (i < m) × (at ≤ length (now out) + 1) ⌝ }
-    ensures { λ p. ⌜ Wrote (now (out .entry)) at (qualifiedPart (now (sheet .entry)) (now (work .entry)) m i) (now (out .exit)) p ⌝ }
+fn qualified_row(sheet: &[u8], work: &[u8], c: Known, out: &mut [u8], at: usize, i: usize) -> usize
+    requires { ⌜ (ConstTable (now sheet) (now work) (c .lines) (c .consts)) × (i < c .consts) × (at ≤ length (now out) + 1) ⌝ }
+    ensures { λ p. ⌜ Wrote (now (out .entry)) at (qualifiedPart (now (sheet .entry)) (now (work .entry)) (c .consts) i) (now (out .exit)) p ⌝ }
 {
     let k = names::module_line_of(work, i);
     if k == 0 {
         return at;
     }
-    let within = lines::field_at(sheet, work, n, k - 1, 0);
-    let name = lines::field_at(sheet, work, n, names::line_of(work, i) - 1, 0);
-    if names::look_up_in(sheet, work, n, i, within, name) != 0 {
+    let within = lines::field_at(sheet, work, c.lines, k - 1, 0);
+    let name = lines::field_at(sheet, work, c.lines, names::line_of(work, i) - 1, 0);
+    if names::look_up_in(sheet, work, Known { consts: i, ..c }, within, name) != 0 {
         return at;
     }
-    let r = names::look_up_in(sheet, work, n, m, within, name);
+    let r = names::look_up_in(sheet, work, c, within, name);
     let p = write::put_part(out, at, b"con,");
     let q = write::put_part(out, p, within);
     let a = write::put_part(out, q, b"->");
@@ -78,77 +71,37 @@ fn qualified_row(
 }
 
 // The row of a plain name that entry i adds, if it adds one.
-fn plain_row(
-    sheet: &[u8],
-    work: &[u8],
-    n: usize,
-    m: usize,
-    out: &mut [u8],
-    at: usize,
-    i: usize,
-) -> usize
-    requires { ⌜ (Table (now sheet) (now work) n m) × (i < m) × (at ≤ length (now out) + 1) ⌝ }
-    ensures { λ p. ⌜ Wrote (now (out .entry)) at (plainPart (now (sheet .entry)) (now (work .entry)) m i) (now (out .exit)) p ⌝ }
+fn plain_row(sheet: &[u8], work: &[u8], c: Known, out: &mut [u8], at: usize, i: usize) -> usize
+    requires { ⌜ (ConstTable (now sheet) (now work) (c .lines) (c .consts)) × (i < c .consts) × (at ≤ length (now out) + 1) ⌝ }
+    ensures { λ p. ⌜ Wrote (now (out .entry)) at (plainPart (now (sheet .entry)) (now (work .entry)) (c .consts) i) (now (out .exit)) p ⌝ }
 {
-    if !implement::is_own(sheet, work, n, names::module_line_of(work, i)) {
+    if !implement::is_own(sheet, work, c.lines, names::module_line_of(work, i)) {
         return at;
     }
-    let name = lines::field_at(sheet, work, n, names::line_of(work, i) - 1, 0);
-    if names::look_up(sheet, work, n, i, name) != 0 {
+    let name = lines::field_at(sheet, work, c.lines, names::line_of(work, i) - 1, 0);
+    if names::look_up(sheet, work, Known { consts: i, ..c }, name) != 0 {
         return at;
     }
-    let r = names::look_up(sheet, work, n, m, name);
+    let r = names::look_up(sheet, work, c, name);
     let p = write::put_part(out, at, b"con,");
     put_rest(work, out, p, name, r)
 }
 
-// The row that entry i adds among the plain names, or among M->NAME.
-fn entry_row(
-    sheet: &[u8],
-    work: &[u8],
-    n: usize,
-    m: usize,
-    out: &mut [u8],
-    at: usize,
-    i: usize,
-    plain: bool,
-) -> usize
-    requires { ⌜ (Table (now sheet) (now work) n m) × (i < m) × (at ≤ length (now out) + 1) ⌝ }
-    ensures { λ p. ⌜ Wrote (now (out .entry)) at (partOf plain (now (sheet .entry)) (now (work .entry)) m i) (now (out .exit)) p ⌝ }
+// All rows.
+pub fn const_rows(sheet: &[u8], work: &[u8], c: Known, out: &mut [u8], at: usize) -> usize
+    requires { ⌜ ConstTable (now sheet) (now work) (c .lines) (c .consts) ⌝ }
+    ensures { λ p. ⌜ Wrote (now (out .entry)) at (constRows (logIn (now (sheet .entry)) (now (work .entry)) (c .consts))) (now (out .exit)) p ⌝ }
 {
-    if plain {
-        return plain_row(sheet, work, n, m, out, at, i);
-    }
-    qualified_row(sheet, work, n, m, out, at, i)
-}
-
-// All of them.
-fn rows(
-    sheet: &[u8],
-    work: &[u8],
-    n: usize,
-    m: usize,
-    out: &mut [u8],
-    at: usize,
-    plain: bool,
-) -> usize
-    requires { ⌜ (Table (now sheet) (now work) n m) × (at ≤ length (now out) + 1) ⌝ }
-    ensures { λ p. ⌜ Wrote (now (out .entry)) at (rowsTo plain (now (sheet .entry)) (now (work .entry)) m m) (now (out .exit)) p ⌝ }
-{
-    let mut p = at;
+    let mut p = write::nothing(out, at); // a place past the end is one past it from here on
     let mut i = 0;
-    while i < m {
-        p = entry_row(sheet, work, n, m, out, p, i, plain);
+    while i < c.consts {
+        p = qualified_row(sheet, work, c, out, p, i);
         i += 1;
     }
+    let mut j = 0;
+    while j < c.consts {
+        p = plain_row(sheet, work, c, out, p, j);
+        j += 1;
+    }
     p
-}
-
-pub fn const_rows(sheet: &[u8], work: &[u8], n: usize, m: usize, out: &mut [u8], at: usize) -> usize
-    requires { ⌜ Table (now sheet) (now work) n m ⌝ }
-    ensures { λ p. ⌜ Wrote (now (out .entry)) at (constRows (logIn (now (sheet .entry)) (now (work .entry)) m)) (now (out .exit)) p ⌝ }
-{
-    let p = write::put_part(out, at, b""); // a place past the end is one past it from here on
-    let q = rows(sheet, work, n, m, out, p, false);
-    rows(sheet, work, n, m, out, q, true)
 }

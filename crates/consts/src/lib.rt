@@ -2,6 +2,7 @@
 use codes::area;
 use codes::kind;
 use iota::IotaCounter;
+use names::Known;
 use values::Folded;
 ghost use mathlib.Core.Path.{_≡_};
 ghost use Prim.Native.Nat.{_+_, _<_};
@@ -28,29 +29,21 @@ pub enum Visited {
     Refused(usize),
 }
 
-// The constant of line i, from 0, in the module of line k: folded, and entered as entry m. False where its string grows too long.
-fn take_constant(
-    sheet: &[u8],
-    work: &mut [u8],
-    n: usize,
-    m: usize,
-    k: usize,
-    i: usize,
-    iota: u32,
-) -> bool
-    requires { ⌜ ConstLine (now sheet) (now work) n m k i ⌝ }
-    ensures { λ b. ⌜ (Kept 5120 (now (work .entry)) (now (work .exit))) × (Steps (now (sheet .entry)) (now (work .entry)) (now (work .exit)) n m k i iota b) ⌝ }
+// The constant of line i, from 0, in the module of line k: folded, and entered behind those that are known. False where its string grows too long.
+fn take_constant(sheet: &[u8], work: &mut [u8], c: Known, k: usize, i: usize, iota: u32) -> bool
+    requires { ⌜ ConstLine (now sheet) (now work) (c .lines) (c .consts) k i ⌝ }
+    ensures { λ b. ⌜ (Kept 5120 (now (work .entry)) (now (work .exit))) × (Steps (now (sheet .entry)) (now (work .entry)) (now (work .exit)) (c .lines) (c .consts) k i iota b) ⌝ }
 {
-    let r = lines::number_at(sheet, work, n, i, 3);
-    let d = words::digest(lines::field_at(sheet, work, n, i, 0));
-    let x = fold::fold_const(sheet, work, n, m, iota, r, area::STACK);
+    let r = lines::number_at(sheet, work, c.lines, i, 3);
+    let d = words::digest(lines::field_at(sheet, work, c.lines, i, 0));
+    let x = fold::fold_const(sheet, work, c, iota, r, area::STACK);
     match x {
         Folded::Value(v) => {
-            entries::enter(work, m, i + 1, k, v, d);
+            entries::enter(work, c.consts, i + 1, k, v, d);
             true
         }
         Folded::Failed => {
-            entries::enter_failed(work, m, i + 1, k, d);
+            entries::enter_failed(work, c.consts, i + 1, k, d);
             true
         }
         Folded::TooLong => false,
@@ -63,20 +56,22 @@ fn visit_constant(sheet: &[u8], work: &mut [u8], n: usize, k: usize, p: Pass) ->
     ensures { λ r. ⌜ (Kept 5120 (now (work .entry)) (now (work .exit))) × (Visits (now (sheet .entry)) (now (work .entry)) (now (work .exit)) n k p r) ⌝ }
 {
     let i = p.line;
-    let within = p.within;
-    let m = p.count;
-    let c = p.iota;
+    let counter = p.iota;
     let line = lines::number_at(sheet, work, n, i, 1);
     let col = lines::number_at(sheet, work, n, i, 2);
-    let stepped = iota::advance(c, line, col);
+    let stepped = iota::advance(counter, line, col);
     let next = stepped.next;
-    if !take_constant(sheet, work, n, m, k, i, stepped.value) {
+    let c = Known {
+        lines: n,
+        consts: p.count,
+    };
+    if !take_constant(sheet, work, c, k, i, stepped.value) {
         return Visited::Refused(i + 1);
     }
     Visited::On(Pass {
         line: i + 1,
-        within,
-        count: m + 1,
+        within: p.within,
+        count: p.count + 1,
         iota: next,
     })
 }
@@ -88,13 +83,13 @@ fn visit(sheet: &[u8], work: &mut [u8], n: usize, k: usize, p: Pass) -> Visited
 {
     let i = p.line;
     let within = p.within;
-    let c = p.iota;
+    let counter = p.iota;
     if form::kind(lines::form_at(work, i)) != kind::CON {
         return Visited::On(Pass {
             line: i + 1,
             within: implement::open_after(sheet, work, n, i, within),
             count: p.count,
-            iota: c,
+            iota: counter,
         });
     }
     if within == k {
@@ -104,7 +99,7 @@ fn visit(sheet: &[u8], work: &mut [u8], n: usize, k: usize, p: Pass) -> Visited
         line: i + 1,
         within,
         count: p.count,
-        iota: c,
+        iota: counter,
     })
 }
 

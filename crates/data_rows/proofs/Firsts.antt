@@ -19,7 +19,7 @@ use Rattle.vars.specs.declared.First.the-variants.{NoValue, Value, Alloc, Liter
 use Rattle.vars.specs.First.{initIn, Stands}
 use Rattle.data_rows.specs.declared.Next.{Next}
 use Rattle.data_rows.specs.declared.Counts.{Counts}
-use Rattle.data_rows.specs.Data.{ItemsPrinted, Keyed, Held, Filled, NameTask, firstItems}
+use Rattle.data_rows.specs.Data.{ItemsPrinted, Keyed, Held, Filled, firstItems}
 use Rattle.data_rows.proofs.Kept.{within-at}
 use Rattle.data_rows.proofs.Printed.{printed-as}
 
@@ -32,12 +32,12 @@ held-long h = h .places .checked .whole .room
 pub held-keyed : {s t : Bytes} {c : Counts} {keys : ℕ} → Held s t c keys → Keyed t (c .frames) keys
 held-keyed h = record { few = h .few; long = held-long h; known = _; kinds = h .kinds }
 
-module _ {s t : Bytes} {c : Counts} {r : ℕ} {x : First} {keys : ℕ} (k : NameTask s t c r x keys) where
-  pub first-within : {v : ConstVal} → x ≡ Value v → Within (length t) v
-  first-within {v} e = within-at (length t) v (held-long (k .held)) (subst (Stands t) e (k .stands))
+module _ (t : Bytes) (x : First) (h : Stands t x) where
+  pub first-within : {v : ConstVal} → x ≡ Value v → 65536 ≤ length t → Within (length t) v
+  first-within {v} e l = within-at (length t) v l (subst (Stands t) e h)
 
   pub first-filled : {kind n : ℕ} → x ≡ Literal kind n → Filled t n
-  first-filled e = let w = subst (Stands t) e (k .stands) in record { few = w .0; strings = w .1 }
+  first-filled e = let w = subst (Stands t) e h in record { few = w .0; strings = w .1 }
 
 module _ {s t : Bytes} {x : First} (ty : Ty) (off : ℕ) {p q : Next} {u d e : Bytes} where
   pub first-none : x ≡ NoValue → ItemsPrinted s [] p q t u d e → ItemsPrinted s (firstItems ty off (initIn t x)) p q t u d e

@@ -16,7 +16,7 @@ use Rattle.write.proofs.Wrote.{wrote-none, wrote-length}
 use Rattle.lines.specs.Lines.{readAt}
 use Rattle.placements.specs.Placements.{Keeps}
 use Rattle.literals.proofs.Names.{kept-low}
-use Rattle.global_table.specs.Table.{placesIn, offsetIn, typeOn, nameOn, namesOn}
+use Rattle.global_table.specs.Table.{VarLine, placesIn, offsetIn, typeOn, nameOn, namesOn}
 use Rattle.type_keys.specs.Table.{Outside}
 use Rattle.type_keys.proofs.Table.{outside-all, outside-then, kinds-kept}
 use Rattle.vars.specs.declared.First.{First}
@@ -53,26 +53,22 @@ module _ {s t u : Bytes} {c : Counts} where
     kinds = kinds-kept (kept-low k 10629 (omega arith)) (h .kinds);
   }
 
-  pub task-next : {r : ℕ} {x : First} {xs : List Item} {p q : Next} {d e : Bytes} → NameTask s t c r x (p .keys) → Outside 10624 10629 t u → ItemsPrinted s xs p q t u d e → NameTask s u c r x (q .keys)
-  task-next {r} {x} k o l = record {
+  pub task-next : {x : First} {xs : List Item} {p q : Next} {d e : Bytes} → NameTask s t c x (p .keys) → Outside 10624 10629 t u → ItemsPrinted s xs p q t u d e → NameTask s u c x (q .keys)
+  task-next {x} k o l = record {
     held = held-printed (k .held) (keeping-outside o) l;
-    line = var-still (keeping-outside o) (k .line);
     stands = first-still o x (k .stands) .1;
   }
 
 -- ---- one name
 
-module _ (ty : Ty) (ps : List Global) (i : Result Init) {x y : Bytes} (e : y ≡ x) {b : Bool} (h : b ≡ same y (bytes "nil")) where
-  nil-is : same x (bytes "nil") ≡ b
-  nil-is = sym (h ∙ ap (λ (z : Bytes). same z (bytes "nil")) e)
-
+module _ (ty : Ty) (ps : List Global) (i : Result Init) (x : Bytes) {b : Bool} (h : b ≡ same x (bytes "nil")) where
   pub name-nil : b ≡ true → [] ≡ nameItems ty ps i (x ∷ [])
-  name-nil d = rw (nil-is ∙ d)
+  name-nil d = rw (sym h ∙ d)
 
-  pub name-items : b ≡ false → {off : ℕ} → off ≡ offsetIn y ps → firstItems ty off i ≡ nameItems ty ps i (x ∷ [])
+  pub name-items : b ≡ false → {off : ℕ} → off ≡ offsetIn x ps → firstItems ty off i ≡ nameItems ty ps i (x ∷ [])
   name-items d {off} g =
-      ap (λ (j : ℕ). firstItems ty j i) (g ∙ ap (λ (z : Bytes). offsetIn z ps) e)
-      ∙ sym (append-nil (firstItems ty (offsetIn x ps) i)) ∙ rw (nil-is ∙ d)
+      ap (λ (j : ℕ). firstItems ty j i) g
+      ∙ sym (append-nil (firstItems ty (offsetIn x ps) i)) ∙ rw (sym h ∙ d)
 
 items-step : (ty : Ty) (ps : List Global) (i : Result Init) (x : Bytes) (xs : List Bytes) → nameItems ty ps i (x ∷ xs) ≡ nameItems ty ps i (x ∷ []) ++ nameItems ty ps i xs
 items-step ty ps i x xs = go (same x (bytes "nil"))
@@ -86,7 +82,8 @@ items-step ty ps i x xs = go (same x (bytes "nil"))
 
 -- those of the first j are printed
 pub record Naming (s t : Bytes) (c : Counts) (r : ℕ) (x : First) (count : ℕ) (p : Next) (d u e : Bytes) (q : Next) (j : ℕ) : Type 0 where
-  pub task : NameTask s u c r x (q .keys)
+  pub task : NameTask s u c x (q .keys)
+  pub line : VarLine s u (c .lines) r
   pub outside : Outside 10624 10629 t u
   pub places : placesIn s u (c .globals) ≡ placesIn s t (c .globals)
   pub value : initIn u x ≡ initIn t x
@@ -95,27 +92,29 @@ pub record Naming (s t : Bytes) (c : Counts) (r : ℕ) (x : First) (count : ℕ)
   pub printed : ItemsPrinted s done p q t u d e
   pub rest : done ++ nameItems (typeOn s r) (placesIn s t (c .globals)) (initIn t x) (namesFrom s r count j) ≡ nameItems (typeOn s r) (placesIn s t (c .globals)) (initIn t x) (namesOn s r)
 
-module _ {s t : Bytes} {c : Counts} {r : ℕ} {x : First} {p : Next} (k : NameTask s t c r x (p .keys)) {count : ℕ} (hc : count ≡ Number.numberOf 65536 (getD (readAt s (r - 1) .fields) 2 [])) where
+module _ {s t : Bytes} {c : Counts} {r : ℕ} {x : First} {p : Next} (k : NameTask s t c x (p .keys)) (l : VarLine s t (c .lines) r) {count : ℕ} (hc : count ≡ Number.numberOf 65536 (getD (readAt s (r - 1) .fields) 2 [])) where
   pub naming-start : {q : Next} {d e : Bytes} → Wrote d (p .at) [] e (q .at) → q .keys ≡ p .keys → Naming s t c r x count q e t e q 0
   naming-start {q} {d} {e} w h = record {
     task = rw h k;
+    line = l;
     outside = outside-all;
     places = refl;
     value = refl;
     long = refl;
     done = [];
     printed = printed-none (wrote-none e (q .at) (omega (arith, w .place, wrote-length w))) refl;
-    rest = ap (nameItems (typeOn s r) (placesIn s t (c .globals)) (initIn t x)) (names-all s t (c .lines) r (k .line) hc);
+    rest = ap (nameItems (typeOn s r) (placesIn s t (c .globals)) (initIn t x)) (names-all s t (c .lines) r l hc);
   }
 
 module _ {s t : Bytes} {c : Counts} {r : ℕ} {x : First} {count : ℕ} {p : Next} {d u e : Bytes} {q : Next} {j : ℕ} (m : Naming s t c r x count p d u e q j) where
-  pub naming-next : {z : Next} {v f : Bytes} → j < count → length f ≡ length e
-      → ItemsPrinted s (nameItems (typeOn s r) (placesIn s u (c .globals)) (initIn u x) (nameOn s r j ∷ [])) q z u v e f × Outside 10624 10629 u v → Naming s t c r x count p d v f z (j + 1)
-  naming-next {z} {v} {f} h l a =
+  pub naming-next : {z : Next} {v f : Bytes} → j < count → length f ≡ length e → {y : Bytes} → y ≡ nameOn s r j
+      → ItemsPrinted s (nameItems (typeOn s r) (placesIn s u (c .globals)) (initIn u x) (y ∷ [])) q z u v e f × Outside 10624 10629 u v → Naming s t c r x count p d v f z (j + 1)
+  naming-next {z} {v} {f} h l {y} i a =
       let f1 = nameItems (typeOn s r) (placesIn s t (c .globals)) (initIn t x) in
-      let is : nameItems (typeOn s r) (placesIn s u (c .globals)) (initIn u x) (nameOn s r j ∷ []) ≡ f1 (nameOn s r j ∷ []) = rw (m .places, m .value) in
+      let is : nameItems (typeOn s r) (placesIn s u (c .globals)) (initIn u x) (y ∷ []) ≡ f1 (nameOn s r j ∷ []) = rw (m .places, m .value, i) in
       record {
         task = task-next (m .task) (a .1) (a .0);
+        line = var-still (keeping-outside (a .1)) (m .line);
         outside = outside-then (m .outside) (a .1);
         places = places-still (keeping-outside (a .1)) s (m .task .held .places) ∙ m .places;
         value = first-still (a .1) x (m .task .stands) .0 ∙ m .value;

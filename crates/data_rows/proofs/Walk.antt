@@ -1,7 +1,7 @@
 -- The items of lines, one after the other.
 use mathlib.Core.Path.{_≡_, refl, sym, ap, _∙_, subst}
 use mathlib.Core.List.{List, [], _∷_, _++_, append-nil}
-use Prim.Native.Nat.{ℕ, _+_, _-_, _≤_, _<_}
+use Prim.Native.Nat.{ℕ, zero, suc, _+_, _-_, _≤_, _<_}
 use native.Mathlib.Numerals.{add-one}
 use native.Mathlib.Omega.{arith}
 use lib.ListN.{length}
@@ -19,17 +19,16 @@ use Rattle.checks.specs.Checks.{Kept}
 use Rattle.source.specs.Walk.{openAt}
 use Rattle.implement.specs.Modules.{moduleAt, Open}
 use Rattle.names.specs.Table.{logIn}
-use Rattle.literals.specs.Literals.{namesIn, Line}
-use Rattle.literals.proofs.Names.{kept-low, line-kept}
-use Rattle.global_table.specs.Table.{placesIn, typeOn, namesOn}
+use Rattle.literals.specs.Literals.{namesIn}
+use Rattle.literals.proofs.Names.{kept-low}
+use Rattle.global_table.specs.Table.{VarLine, placesIn, typeOn, namesOn}
 use Rattle.globals.specs.Vars.{locatedAt, laidAt, laidVarsTo, varItems, lineItems}
 use Rattle.items.specs.Items.{itemRows}
 use Rattle.type_keys.specs.Table.{Kinds, Outside}
 use Rattle.type_keys.proofs.Table.{kinds-kept}
 use Rattle.vars.specs.declared.First.{First}
 use Rattle.vars.specs.First.{initIn, Inits, varOn}
-use Rattle.vars.specs.Lines.{LineTask}
-use Rattle.vars.proofs.Lines.{var-line}
+use Rattle.vars.specs.Lines.{laidOn}
 use Rattle.vars.proofs.Items.{items-all}
 use Rattle.data_rows.specs.declared.Next.{Next}
 use Rattle.data_rows.specs.declared.Counts.{Counts}
@@ -41,33 +40,28 @@ use Rattle.data_rows.proofs.Names.{held-printed, held-first}
 
 -- ---- the items of a `var` line
 
-module _ {s t u : Bytes} {c : Counts} {r : ℕ} {x : First} {keys : ℕ} (h : Held s t c keys) (l : Line 72 s t (c .lines) (c .consts) r)
+var-items : (s : Bytes) (r : ℕ) → 0 < r → (ns : Names) (ps : List Global) → varItems ns ps (varOn s r) ≡ lineItems ns ps (laidOn s r)
+var-items s zero h ns ps = absurd (omega arith)
+var-items s (suc i) h ns ps = let z : suc i - 1 ≡ i = omega arith in sym (append-nil (varItems ns ps (varOn s (suc i)))) ∙ ap (λ (j : ℕ). lineItems ns ps (locatedAt s j ∷ [])) z
+
+module _ {s t u : Bytes} {c : Counts} {r : ℕ} {x : First} {keys : ℕ} (h : Held s t c keys) (l : VarLine s t (c .lines) r)
     (a : Inits t (initOf (namesIn s t (c .consts)) (varOn s r .ty) (varOn s r .init)) x u)
   where
-    pub line-task : NameTask s u c r x keys
-    line-task = record { held = held-first h (a .keeps); line = var-line (line-kept (a .keeps) l); stands = a .stands }
+    pub line-task : NameTask s u c x keys
+    line-task = record { held = held-first h (a .keeps); stands = a .stands }
 
     pub line-items : {p q : Next} {v d e : Bytes} → ItemsPrinted s (nameItems (typeOn s r) (placesIn s u (c .globals)) (initIn u x) (namesOn s r)) p q u v d e × Outside 10624 10629 u v
-        → ItemsPrinted s (varItems (namesIn s t (c .consts)) (placesIn s t (c .globals)) (varOn s r)) p q t v d e × Keeping t v
+        → ItemsPrinted s (lineItems (namesIn s t (c .consts)) (placesIn s t (c .globals)) (laidOn s r)) p q t v d e × Keeping t v
     line-items b =
         let i : nameItems (typeOn s r) (placesIn s u (c .globals)) (initIn u x) (namesOn s r) ≡ varItems (namesIn s t (c .consts)) (placesIn s t (c .globals)) (varOn s r) =
         ap (λ (ps : List Global). nameItems (typeOn s r) ps (initIn u x) (namesOn s r)) (places-still (keeping-first (a .keeps)) s (h .places))
         ∙ ap (λ (y : Result Init). nameItems (typeOn s r) (placesIn s t (c .globals)) y (namesOn s r)) (a .result) in
-        let w = printed-as i (b .0) in
+        let w = printed-as (i ∙ var-items s r (l .first) (namesIn s t (c .consts)) (placesIn s t (c .globals))) (b .0) in
         let k = kept-low (a .keeps) 10629 (omega arith) in
         (record { rows = λ bs cs y. w .rows bs cs (kinds-kept k y); kinds = λ bs y. w .kinds bs (kinds-kept k y) }, keeping-then (keeping-first (a .keeps)) (keeping-outside (b .1)))
 
--- ---- any line
-
-pub task-at : {s t : Bytes} {c : Counts} {keys i k : ℕ} → Held s t c keys → Open s t (c .lines) i k → i < c .lines → LineTask s t (c .lines) (c .consts) i k
-task-at h o l = record { ready = record { checked = o .checked; log = h .log }; here = o; low = l }
-
-module _ (s : Bytes) (i : ℕ) (ns : Names) (ps : List Global) {p q : Next} {t d e : Bytes} where
-  pub none-at : laidAt s i ≡ [] → Wrote d (p .at) [] e (q .at) → q .keys ≡ p .keys → ItemsPrinted s (lineItems ns ps (laidAt s i)) p q t t d e × Keeping t t
-  none-at z w k = (printed-as (ap (lineItems ns ps) (sym z)) (printed-none w k), keeping-all)
-
-  pub laid-at : locatedAt s (i + 1 - 1) ∷ [] ≡ laidAt s i → {u : Bytes} → ItemsPrinted s (varItems ns ps (varOn s (i + 1))) p q t u d e × Keeping t u → ItemsPrinted s (lineItems ns ps (laidAt s i)) p q t u d e × Keeping t u
-  laid-at z a = (printed-as (sym (append-nil (varItems ns ps (varOn s (i + 1)))) ∙ ap (lineItems ns ps) z) (a .0), a .1)
+pub none-laid : (s : Bytes) (ns : Names) (ps : List Global) {r : ℕ} → r ≡ 0 → {p q : Next} {t d e : Bytes} → Wrote d (p .at) [] e (q .at) → q .keys ≡ p .keys → ItemsPrinted s (lineItems ns ps (laidOn s r)) p q t t d e × Keeping t t
+none-laid s ns ps z w k = (printed-as (ap (λ (j : ℕ). lineItems ns ps (laidOn s j)) (sym z)) (printed-none w k), keeping-all)
 
 -- ---- all lines
 
@@ -81,14 +75,11 @@ pub record Walking (s t : Bytes) (c : Counts) (p : Next) (d u e : Bytes) (q : Ne
   pub long : length e ≡ length d
   pub printed : ItemsPrinted s (lineItems (namesIn s t (c .consts)) (placesIn s t (c .globals)) (laidVarsTo s i)) p q t u d e
 
-abbrev pub counted : ℕ → ℕ → ℕ → ℕ → Counts
-counted n m g frames = record { lines = n; consts = m; globals = g; frames = frames }
-
-module _ {s t : Bytes} {n m g frames keys : ℕ} (r : Ready s t n m g frames keys) where
+module _ {s t : Bytes} {c : Counts} {keys : ℕ} (r : Ready s t c keys) where
   needs-kinds : Kinds t (keysOf s []) keys
   needs-kinds = rw (append-nil (sheetSource s .needs)) (r .kinds)
 
-  pub walk-start : {at : ℕ} {d e : Bytes} {q : Next} → Wrote d at [] e (q .at) → q .keys ≡ keys → Walking s t (counted n m g frames) q e t e q 0 0
+  pub walk-start : {at : ℕ} {d e : Bytes} {q : Next} → Wrote d at [] e (q .at) → q .keys ≡ keys → Walking s t c q e t e q 0 0
   unfolding laidVarsTo openAt moduleAt
   walk-start {at} {d} {e} {q} w h = record {
     here = record { checked = r .checked; within = omega arith; low = omega arith; here = refl };
@@ -100,37 +91,37 @@ module _ {s t : Bytes} {n m g frames keys : ℕ} (r : Ready s t n m g frames key
     printed = printed-none (wrote-none e (q .at) (omega (arith, w .place, wrote-length w))) refl;
   }
 
-  module _ {p q : Next} {d u e : Bytes} {k i : ℕ} (w : Walking s t (counted n m g frames) p d u e q k i) where
-    module _ {z : Next} {v f : Bytes} (a : ItemsPrinted s (lineItems (namesIn s u m) (placesIn s u g) (laidAt s i)) q z u v e f × Keeping u v) where
-      pub walk-open : Open s v n i k
+  module _ {p q : Next} {d u e : Bytes} {k i : ℕ} (w : Walking s t c p d u e q k i) where
+    module _ (l : ℕ) (y : laidOn s l ≡ laidAt s i) {z : Next} {v f : Bytes} (a : ItemsPrinted s (lineItems (namesIn s u (c .consts)) (placesIn s u (c .globals)) (laidOn s l)) q z u v e f × Keeping u v) where
+      pub walk-open : Open s v (c .lines) i k
       walk-open = record { checked = checked-still (a .1) (w .here .checked); within = w .here .within; low = w .here .low; here = w .here .here }
 
-      pub walk-next : {k′ : ℕ} → length f ≡ length e → Open s v n (i + 1) k′ → Walking s t (counted n m g frames) p d v f z k′ (i + 1)
+      pub walk-next : {k′ : ℕ} → length f ≡ length e → Open s v (c .lines) (i + 1) k′ → Walking s t c p d v f z k′ (i + 1)
       unfolding laidVarsTo
-      walk-next l o =
-          let ns = namesIn s t m in
-          let ps = placesIn s t g in
-          let x : lineItems (namesIn s u m) (placesIn s u g) (laidAt s i) ≡ lineItems ns ps (laidAt s i) = rw (w .names, w .places) in
-          let y : lineItems ns ps (laidVarsTo s i) ++ lineItems ns ps (laidAt s i) ≡ lineItems ns ps (laidVarsTo s (i + 1)) = rw add-one (sym (concat-append (λ (j : Located VarDecl). varItems ns ps (j .it)) (laidVarsTo s i) (laidAt s i))) in
+      walk-next g o =
+          let ns = namesIn s t (c .consts) in
+          let ps = placesIn s t (c .globals) in
+          let x : lineItems (namesIn s u (c .consts)) (placesIn s u (c .globals)) (laidOn s l) ≡ lineItems ns ps (laidAt s i) = rw (w .names, w .places, y) in
+          let b : lineItems ns ps (laidVarsTo s i) ++ lineItems ns ps (laidAt s i) ≡ lineItems ns ps (laidVarsTo s (i + 1)) = rw add-one (sym (concat-append (λ (j : Located VarDecl). varItems ns ps (j .it)) (laidVarsTo s i) (laidAt s i))) in
           record {
             here = o;
             held = held-printed (w .held) (a .1) (a .0);
             keeping = keeping-then (w .keeping) (a .1);
             names = log-still (a .1) (w .held .log) ∙ w .names;
             places = places-still (a .1) s (w .held .places) ∙ w .places;
-            long = l ∙ w .long;
-            printed = printed-as y (printed-then (lineItems ns ps (laidVarsTo s i)) (lineItems ns ps (laidAt s i)) (w .printed) (printed-as x (a .0)));
+            long = g ∙ w .long;
+            printed = printed-as b (printed-then (lineItems ns ps (laidVarsTo s i)) (lineItems ns ps (laidAt s i)) (w .printed) (printed-as x (a .0)));
           }
 
-    pub walk-end : {at : ℕ} {b : Bytes} → n ≤ i → Wrote b at [] d (p .at) → p .keys ≡ keys
-        → Wrote b at (rowsOf s (itemsIn s t m)) e (q .at) × Kinds u (keysOf s (itemsIn s t m)) (q .keys) × (q .keys < 1024) × Kept 10624 t u
+    pub walk-end : {at : ℕ} {b : Bytes} → c .lines ≤ i → Wrote b at [] d (p .at) → p .keys ≡ keys
+        → Wrote b at (rowsOf s (itemsIn s t (c .consts))) e (q .at) × Kinds u (keysOf s (itemsIn s t (c .consts))) (q .keys) × (q .keys < 1024) × Kept 10624 t u
     unfolding itemRows
     walk-end {at} {b} h v k =
-        let ns = namesIn s t m in
-        let is = itemsIn s t m in
-        let z : i ≡ n = omega (arith, w .here .within) in
-        let y : lineItems ns (placesIn s t g) (laidVarsTo s i) ≡ is =
-        ap (λ (j : ℕ). lineItems ns (placesIn s t g) (laidVarsTo s j)) z ∙ ap (λ (ps : List Global). lineItems ns ps (laidVarsTo s n)) (r .laid ns) ∙ items-all ns s (r .checked) in
+        let ns = namesIn s t (c .consts) in
+        let is = itemsIn s t (c .consts) in
+        let z : i ≡ c .lines = omega (arith, w .here .within) in
+        let y : lineItems ns (placesIn s t (c .globals)) (laidVarsTo s i) ≡ is =
+        ap (λ (j : ℕ). lineItems ns (placesIn s t (c .globals)) (laidVarsTo s j)) z ∙ ap (λ (ps : List Global). lineItems ns ps (laidVarsTo s (c .lines))) (r .laid ns) ∙ items-all ns s (r .checked) in
         let o : Next = record { at = at; keys = keys } in
         let a : ItemsPrinted s is o q t u b e = printed-then [] is (printed-none {p = o} v k) (printed-as y (w .printed)) in
         let x = a .kinds [] needs-kinds in

@@ -17,7 +17,7 @@ use Rattle.checks.specs.Checks.{Checked, Kept}
 use Rattle.names.specs.Table.{Logged}
 use Rattle.placements.specs.Placements.{entryAt, slotAt, Standing}
 use Rattle.literals.specs.Literals.{namesIn, above}
-use Rattle.global_table.specs.Table.{placesIn, offsetIn, VarLine, Tabled}
+use Rattle.global_table.specs.Table.{placesIn, offsetIn, Tabled}
 use Rattle.items.specs.Items.{itemRows}
 use Rattle.type_keys.specs.Table.{Kinds}
 use Rattle.vars.specs.declared.First.{First}
@@ -39,15 +39,15 @@ keysOf s is = sheetSource s .needs ++ concatMap arrayKey is
 abbrev pub rowsOf : Bytes → List Item → Bytes
 rowsOf s is = concatMap (itemRow (idOf (sheetSource s) is)) is
 
--- the tables of a checked sheet of n lines: m constants, g globals, and the keys of needs
-pub record Ready (s t : Bytes) (n m g frames keys : ℕ) : Type 0 where
-  pub checked : Checked s t n
-  pub log : Logged s t n m
-  pub places : Tabled s t n g
-  pub laid : (ns : Names) → placesIn s t g ≡ globals ns (sheetSource s) .places
+-- the tables of a checked sheet: constants, globals, and the keys of needs
+pub record Ready (s t : Bytes) (c : Counts) (keys : ℕ) : Type 0 where
+  pub checked : Checked s t (c .lines)
+  pub log : Logged s t (c .lines) (c .consts)
+  pub places : Tabled s t (c .lines) (c .globals)
+  pub laid : (ns : Names) → placesIn s t (c .globals) ≡ globals ns (sheetSource s) .places
   pub kinds : Kinds t (sheetSource s .needs) keys
-  pub framed : frames ≡ length (sheetSource s .frames)
-  pub few : frames ≤ 128
+  pub framed : c .frames ≡ length (sheetSource s .frames)
+  pub few : c .frames ≤ 128
 
 -- ---- items one after the other
 
@@ -87,10 +87,9 @@ pub record Filled (t : Bytes) (count : ℕ) : Type 0 where
   pub few : count ≤ 1024
   pub strings : (i : ℕ) → i < count → Standing (above 16) (slotAt t (entryAt t i))
 
--- line r is a `var` line, whose first value x stands in the working space
-pub record NameTask (s t : Bytes) (c : Counts) (r : ℕ) (x : First) (keys : ℕ) : Type 0 where
+-- the tables, and in the working space the first value x
+pub record NameTask (s t : Bytes) (c : Counts) (x : First) (keys : ℕ) : Type 0 where
   pub held : Held s t c keys
-  pub line : VarLine s t (c .lines) r
   pub stands : Stands t x
 
 -- ---- the items of a name at an offset, of names at their places, and of lines

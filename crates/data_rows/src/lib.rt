@@ -1,29 +1,26 @@
 // The `dat` rows of a sheet's data items, with IDs for the keys of array elements.
-use codes::decl;
 use codes::element;
-use values::ConstVal;
+use names::Known;
 use vars::First;
 ghost use mathlib.Core.Path.{_≡_};
 ghost use mathlib.Core.List.{[], _∷_};
 ghost use Prim.Native.Nat.{_<_};
 ghost use lib.ListN.{length};
 ghost use Rattle.semantics.specs.Text.{Bytes};
+ghost use Rattle.semantics.specs.Tree.{Ty};
 ghost use Rattle.semantics.specs.Tree.ElemKind.{kBig};
 ghost use Rattle.semantics.specs.Sheet.{sheetSource};
 ghost use Rattle.semantics.specs.Array.{kindNumber, isOfKind};
-ghost use Rattle.semantics.specs.Global.{valueItem, arrayItems};
 ghost use Rattle.write.specs.Wrote.{Wrote};
 ghost use Rattle.checks.specs.Checks.{Kept};
-ghost use Rattle.implement.specs.Modules.{Open};
-ghost use Rattle.values.specs.Values.{valueIn, Within};
-ghost use Rattle.placements.specs.Placements.{valuesIn};
-ghost use Rattle.literals.specs.Literals.{namesIn, Line};
+ghost use Rattle.literals.specs.Literals.{namesIn};
 ghost use Rattle.arrays.specs.Arrays.{kindAt};
-ghost use Rattle.global_table.specs.Table.{VarLine, typeOn, nameOn, namesOn, placesIn};
-ghost use Rattle.globals.specs.Vars.{laidAt, varItems, lineItems};
+ghost use Rattle.global_table.specs.Table.{VarLine, typeOn, namesOn, placesIn};
+ghost use Rattle.globals.specs.Vars.{lineItems};
 ghost use Rattle.type_keys.specs.Table.{Kinds, Outside};
-ghost use Rattle.vars.specs.First.{initIn, varOn};
-ghost use Rattle.data_rows.specs.Data.{itemsIn, keysOf, rowsOf, Ready, Identified, Keeping, ItemsPrinted, Keyed, Held, Filled, NameTask, firstItems, nameItems};
+ghost use Rattle.vars.specs.First.{initIn, Stands};
+ghost use Rattle.vars.specs.Lines.{laidOn, MayLay};
+ghost use Rattle.data_rows.specs.Data.{itemsIn, keysOf, rowsOf, Ready, Identified, Keeping, ItemsPrinted, Keyed, Held, NameTask, firstItems, nameItems};
 
 // Where the next row goes, and how many keys have an ID.
 pub struct Next {
@@ -37,6 +34,12 @@ pub struct Counts {
     pub consts: usize,
     pub globals: usize,
     pub frames: usize,
+}
+
+// A first value, and whether its type is big.
+pub struct Typed {
+    pub first: First,
+    pub big: bool,
 }
 
 // The ID of the key of an array's elements, and how many keys have one.
@@ -65,11 +68,11 @@ fn kind_number(kind: u8) -> u8
 }
 
 // Nothing is written; a place past the end becomes one past it.
-fn no_rows(out: &mut [u8], p: Next) -> Next
-    ensures { λ q. ⌜ (Wrote (now (out .entry)) (p .at) [] (now (out .exit)) (q .at)) × (q .keys ≡ p .keys) ⌝ }
+fn no_rows(out: &[u8], p: Next) -> Next
+    ensures { λ q. ⌜ (Wrote (now (out .entry)) (p .at) [] (now (out .entry)) (q .at)) × (q .keys ≡ p .keys) ⌝ }
 {
     Next {
-        at: write::put_part(out, p.at, b""),
+        at: write::nothing(out, p.at),
         keys: p.keys,
     }
 }
@@ -89,87 +92,33 @@ fn element_id(work: &mut [u8], frames: usize, kind: u8, keys: usize) -> ElementI
 
 // ---- one first value, at an offset
 
-// The row of a single value of the `var` line r.
-fn value_rows(
-    sheet: &[u8],
-    work: &[u8],
-    n: usize,
-    r: usize,
-    off: usize,
-    v: ConstVal,
-    out: &mut [u8],
-    p: Next,
-) -> Next
-    requires { ⌜ (VarLine (now sheet) (now work) n r) × (Within (length (now work)) v) ⌝ }
-    ensures { λ q. ⌜ ItemsPrinted (now (sheet .entry)) (valueItem off (typeOn (now (sheet .entry)) r) (valueIn (now (work .entry)) v) ∷ []) p q (now (work .entry)) (now (work .entry)) (now (out .entry)) (now (out .exit)) ⌝ }
+// The rows of a first value at an offset.
+fn first_rows(work: &mut [u8], frames: usize, off: usize, x: Typed, out: &mut [u8], p: Next) -> Next
+    requires { ⌜ (Keyed (now work) frames (p .keys)) × (Stands (now work) (x .first)) ⌝ }
+    ensures { λ q. ⌜ ((s : Bytes) (ty : Ty) → frames ≡ length (sheetSource s .frames) → isOfKind kBig ty ≡ x .big → ItemsPrinted s (firstItems ty off (initIn (now (work .entry)) (x .first))) p q (now (work .entry)) (now (work .exit)) (now (out .entry)) (now (out .exit))) × (Outside 10624 10629 (now (work .entry)) (now (work .exit))) ⌝ }
 {
-    let big = is_big(sheet, work, n, r);
-    Next {
-        at: items::value_item(work, out, p.at, off, big, v),
-        keys: p.keys,
-    }
-}
-
-// The row of an array that an `alloc` makes.
-fn alloc_rows(
-    work: &mut [u8],
-    frames: usize,
-    off: usize,
-    kind: u8,
-    count: u32,
-    out: &mut [u8],
-    p: Next,
-) -> Next
-    requires { ⌜ Keyed (now work) frames (p .keys) ⌝ }
-    ensures { λ q. ⌜ ((s : Bytes) → frames ≡ length (sheetSource s .frames) → ItemsPrinted s (arrayItems off (record { kind = kindAt kind; count = count; values = [] })) p q (now (work .entry)) (now (work .exit)) (now (out .entry)) (now (out .exit))) × (Outside 10624 10629 (now (work .entry)) (now (work .exit))) ⌝ }
-{
-    let e = element_id(work, frames, kind_number(kind), p.keys);
-    Next {
-        at: items::alloc_item(out, p.at, off, e.id, count as u64),
-        keys: e.keys,
-    }
-}
-
-// The rows of an array that a literal makes.
-fn literal_rows(
-    work: &mut [u8],
-    frames: usize,
-    off: usize,
-    kind: u8,
-    count: usize,
-    out: &mut [u8],
-    p: Next,
-) -> Next
-    requires { ⌜ (Keyed (now work) frames (p .keys)) × (Filled (now work) count) ⌝ }
-    ensures { λ q. ⌜ ((s : Bytes) → frames ≡ length (sheetSource s .frames) → ItemsPrinted s (arrayItems off (record { kind = kindAt kind; count = count; values = valuesIn (now (work .entry)) 0 count })) p q (now (work .entry)) (now (work .exit)) (now (out .entry)) (now (out .exit))) × (Outside 10624 10629 (now (work .entry)) (now (work .exit))) ⌝ }
-{
-    let k = kind_number(kind);
-    let e = element_id(work, frames, k, p.keys);
-    Next {
-        at: items::array_items(work, out, p.at, off, e.id, k, count),
-        keys: e.keys,
-    }
-}
-
-// The rows of the first value x of the `var` line r.
-fn first_rows(
-    sheet: &[u8],
-    work: &mut [u8],
-    c: Counts,
-    r: usize,
-    off: usize,
-    x: First,
-    out: &mut [u8],
-    p: Next,
-) -> Next
-    requires { ⌜ NameTask (now sheet) (now work) c r x (p .keys) ⌝ }
-    ensures { λ q. ⌜ (ItemsPrinted (now (sheet .entry)) (firstItems (typeOn (now (sheet .entry)) r) off (initIn (now (work .entry)) x)) p q (now (work .entry)) (now (work .exit)) (now (out .entry)) (now (out .exit))) × (Outside 10624 10629 (now (work .entry)) (now (work .exit))) ⌝ }
-{
-    match x {
+    let first = x.first;
+    match first {
         First::NoValue => no_rows(out, p),
-        First::Value(v) => value_rows(sheet, work, c.lines, r, off, v, out, p),
-        First::Alloc(k, n) => alloc_rows(work, c.frames, off, k, n, out, p),
-        First::Literal(k, n) => literal_rows(work, c.frames, off, k, n, out, p),
+        First::Value(v) => Next {
+            at: items::value_item(work, out, p.at, off, x.big, v),
+            keys: p.keys,
+        },
+        First::Alloc(kind, n) => {
+            let e = element_id(work, frames, kind_number(kind), p.keys);
+            Next {
+                at: items::alloc_item(out, p.at, off, e.id, n as u64),
+                keys: e.keys,
+            }
+        }
+        First::Literal(kind, n) => {
+            let k = kind_number(kind);
+            let e = element_id(work, frames, k, p.keys);
+            Next {
+                at: items::array_items(work, out, p.at, off, e.id, k, n),
+                keys: e.keys,
+            }
+        }
         First::Pending => no_rows(out, p),
         First::Refused(_) => no_rows(out, p),
     }
@@ -177,26 +126,24 @@ fn first_rows(
 
 // ---- lines
 
-// The rows of name j of line r; `nil` has none.
+// The rows of a name; `nil` has none.
 fn name_rows(
     sheet: &[u8],
     work: &mut [u8],
     c: Counts,
-    r: usize,
-    j: usize,
-    x: First,
+    name: &[u8],
+    x: Typed,
     out: &mut [u8],
     p: Next,
 ) -> Next
-    requires { ⌜ (NameTask (now sheet) (now work) c r x (p .keys)) × (j < 16) ⌝ }
-    ensures { λ q. ⌜ (ItemsPrinted (now (sheet .entry)) (nameItems (typeOn (now (sheet .entry)) r) (placesIn (now (sheet .entry)) (now (work .entry)) (c .globals)) (initIn (now (work .entry)) x) (nameOn (now (sheet .entry)) r j ∷ [])) p q (now (work .entry)) (now (work .exit)) (now (out .entry)) (now (out .exit))) × (Outside 10624 10629 (now (work .entry)) (now (work .exit))) ⌝ }
+    requires { ⌜ NameTask (now sheet) (now work) c (x .first) (p .keys) ⌝ }
+    ensures { λ q. ⌜ ((ty : Ty) → isOfKind kBig ty ≡ x .big → ItemsPrinted (now (sheet .entry)) (nameItems ty (placesIn (now (sheet .entry)) (now (work .entry)) (c .globals)) (initIn (now (work .entry)) (x .first)) (now (name .entry) ∷ [])) p q (now (work .entry)) (now (work .exit)) (now (out .entry)) (now (out .exit))) × (Outside 10624 10629 (now (work .entry)) (now (work .exit))) ⌝ }
 {
-    let name = lines::field_at(sheet, work, c.lines, r - 1, 3 + j);
     if words::same(name, b"nil") {
         return no_rows(out, p);
     }
     let off = global_table::offset_in(sheet, work, c.lines, c.globals, name);
-    first_rows(sheet, work, c, r, off, x, out, p)
+    first_rows(work, c.frames, off, x, out, p)
 }
 
 // The rows of all names of line r.
@@ -205,82 +152,57 @@ fn names_rows(
     work: &mut [u8],
     c: Counts,
     r: usize,
-    x: First,
+    x: Typed,
     out: &mut [u8],
     p: Next,
 ) -> Next
-    requires { ⌜ NameTask (now sheet) (now work) c r x (p .keys) ⌝ }
-    ensures { λ q. ⌜ (ItemsPrinted (now (sheet .entry)) (nameItems (typeOn (now (sheet .entry)) r) (placesIn (now (sheet .entry)) (now (work .entry)) (c .globals)) (initIn (now (work .entry)) x) (namesOn (now (sheet .entry)) r)) p q (now (work .entry)) (now (work .exit)) (now (out .entry)) (now (out .exit))) × (Outside 10624 10629 (now (work .entry)) (now (work .exit))) ⌝ }
+    requires { ⌜ (NameTask (now sheet) (now work) c (x .first) (p .keys)) × (VarLine (now sheet) (now work) (c .lines) r) × (isOfKind kBig (typeOn (now sheet) r) ≡ x .big) ⌝ }
+    ensures { λ q. ⌜ (ItemsPrinted (now (sheet .entry)) (nameItems (typeOn (now (sheet .entry)) r) (placesIn (now (sheet .entry)) (now (work .entry)) (c .globals)) (initIn (now (work .entry)) (x .first)) (namesOn (now (sheet .entry)) r)) p q (now (work .entry)) (now (work .exit)) (now (out .entry)) (now (out .exit))) × (Outside 10624 10629 (now (work .entry)) (now (work .exit))) ⌝ }
 {
     let count = lines::number_at(sheet, work, c.lines, r - 1, 2);
     let mut q = no_rows(out, p);
     let mut j = 0;
     while j < count {
-        q = name_rows(sheet, work, c, r, j, x, out, q);
+        let name = lines::field_at(sheet, work, c.lines, r - 1, 3 + j);
+        q = name_rows(sheet, work, c, name, x, out, q);
         j += 1;
     }
     q
 }
 
-// The rows of the `var` line r. Its first value stands in the working space while they are printed.
+// The rows of the `var` line r, none where r is 0. Its first value stands in the working space while they are printed.
 fn line_rows(sheet: &[u8], work: &mut [u8], c: Counts, r: usize, out: &mut [u8], p: Next) -> Next
-    requires { ⌜ (Held (now sheet) (now work) c (p .keys)) × (Line 72 (now sheet) (now work) (c .lines) (c .consts) r) ⌝ }
-    ensures { λ q. ⌜ (ItemsPrinted (now (sheet .entry)) (varItems (namesIn (now (sheet .entry)) (now (work .entry)) (c .consts)) (placesIn (now (sheet .entry)) (now (work .entry)) (c .globals)) (varOn (now (sheet .entry)) r)) p q (now (work .entry)) (now (work .exit)) (now (out .entry)) (now (out .exit))) × (Keeping (now (work .entry)) (now (work .exit))) ⌝ }
+    requires { ⌜ (Held (now sheet) (now work) c (p .keys)) × (MayLay (now sheet) (now work) (c .lines) r) ⌝ }
+    ensures { λ q. ⌜ (ItemsPrinted (now (sheet .entry)) (lineItems (namesIn (now (sheet .entry)) (now (work .entry)) (c .consts)) (placesIn (now (sheet .entry)) (now (work .entry)) (c .globals)) (laidOn (now (sheet .entry)) r)) p q (now (work .entry)) (now (work .exit)) (now (out .entry)) (now (out .exit))) × (Keeping (now (work .entry)) (now (work .exit))) ⌝ }
 {
-    let x = vars::first_value(sheet, work, c.lines, c.consts, r);
+    if r == 0 {
+        return no_rows(out, p);
+    }
+    let known = Known {
+        lines: c.lines,
+        consts: c.consts,
+    };
+    let first = vars::first_value(sheet, work, known, r);
+    let x = Typed {
+        first: first,
+        big: is_big(sheet, work, c.lines, r),
+    };
     names_rows(sheet, work, c, r, x, out, p)
 }
 
-// The rows of line i, from 0, where the module of line k is open before it.
-fn rows_at(
-    sheet: &[u8],
-    work: &mut [u8],
-    c: Counts,
-    i: usize,
-    k: usize,
-    out: &mut [u8],
-    p: Next,
-) -> Next
-    requires { ⌜ (Held (now sheet) (now work) c (p .keys)) × (Open (now sheet) (now work) (c .lines) i k) × (i < c .lines) ⌝ }
-    ensures { λ q. ⌜ (ItemsPrinted (now (sheet .entry)) (lineItems (namesIn (now (sheet .entry)) (now (work .entry)) (c .consts)) (placesIn (now (sheet .entry)) (now (work .entry)) (c .globals)) (laidAt (now (sheet .entry)) i)) p q (now (work .entry)) (now (work .exit)) (now (out .entry)) (now (out .exit))) × (Keeping (now (work .entry)) (now (work .exit))) ⌝ }
+// The rows of all data items of a sheet. Work goes on where the listing is full.
+pub fn data_rows(sheet: &[u8], work: &mut [u8], c: Counts, out: &mut [u8], p: Next) -> Next
+    requires { ⌜ Ready (now sheet) (now work) c (p .keys) ⌝ }
+    ensures { λ r. ⌜ (Wrote (now (out .entry)) (p .at) (rowsOf (now (sheet .entry)) (itemsIn (now (sheet .entry)) (now (work .entry)) (c .consts))) (now (out .exit)) (r .at)) × (Kinds (now (work .exit)) (keysOf (now (sheet .entry)) (itemsIn (now (sheet .entry)) (now (work .entry)) (c .consts))) (r .keys)) × (r .keys < 1024) × (Kept 10624 (now (work .entry)) (now (work .exit))) ⌝ }
 {
-    if lines::form_at(work, i) != decl::VAR {
-        return no_rows(out, p);
-    }
-    if !implement::is_own(sheet, work, c.lines, k) {
-        return no_rows(out, p);
-    }
-    line_rows(sheet, work, c, i + 1, out, p)
-}
-
-// The rows of all data items of a sheet of n lines, m constants and g globals. Work goes on where the listing is full.
-pub fn data_rows(
-    sheet: &[u8],
-    work: &mut [u8],
-    n: usize,
-    m: usize,
-    g: usize,
-    frames: usize,
-    keys: usize,
-    out: &mut [u8],
-    at: usize,
-) -> Next
-    requires { ⌜ Ready (now sheet) (now work) n m g frames keys ⌝ }
-    ensures { λ r. ⌜ (Wrote (now (out .entry)) at (rowsOf (now (sheet .entry)) (itemsIn (now (sheet .entry)) (now (work .entry)) m)) (now (out .exit)) (r .at)) × (Kinds (now (work .exit)) (keysOf (now (sheet .entry)) (itemsIn (now (sheet .entry)) (now (work .entry)) m)) (r .keys)) × (r .keys < 1024) × (Kept 10624 (now (work .entry)) (now (work .exit))) ⌝ }
-{
-    let c = Counts {
-        lines: n,
-        consts: m,
-        globals: g,
-        frames: frames,
-    };
-    let mut p = no_rows(out, Next { at: at, keys: keys });
+    let mut q = no_rows(out, p);
     let mut k = 0;
     let mut i = 0;
-    while i < n {
-        p = rows_at(sheet, work, c, i, k, out, p);
-        k = implement::open_after(sheet, work, n, i, k);
+    while i < c.lines {
+        let r = vars::laid_line(sheet, work, c.lines, i, k);
+        q = line_rows(sheet, work, c, r, out, q);
+        k = implement::open_after(sheet, work, c.lines, i, k);
         i += 1;
     }
-    p
+    q
 }

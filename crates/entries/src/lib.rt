@@ -68,15 +68,8 @@ pub fn enter(work: &mut [u8], m: usize, line: usize, within: usize, v: ConstVal,
     ensures { λ _. ⌜ ((s : Bytes) (n : ℕ) → line ≤ n → within ≤ n → d ≡ digest (firstField s line) → Logged s (now (work .entry)) n m → Entered s (now (work .entry)) n m line within (some (valueIn (now (work .entry)) v)) (now (work .exit))) ⌝ }
 {
     keep_string(work, v, m);
-    put_entry(
-        work,
-        m,
-        line,
-        within,
-        kind_of(v),
-        bits_of(v, area::STRINGS + 256 * m),
-        d,
-    );
+    let bits = bits_of(v, area::STRINGS + 256 * m);
+    put_entry(work, m, line, within, kind_of(v), bits, d);
 }
 
 // One that failed.

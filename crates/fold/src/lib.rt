@@ -6,6 +6,7 @@ ghost use Rattle.values.specs.Values.{valueIn, Answers};
 ghost use Rattle.checks.specs.Checks.{Kept};
 ghost use Rattle.leaf.specs.Folds.{exAt, Foldable, Folds};
 ghost use Rattle.fold.specs.Operators.{onOne, operandOf, OperatorLine, Applies};
+use names::Known;
 use values::ConstVal;
 use values::Folded;
 
@@ -36,37 +37,36 @@ fn apply(sheet: &[u8], work: &mut [u8], n: usize, r: usize, v: ConstVal, top: us
     values::fold_len(work, v)
 }
 
-// The value of line r, where the first m constants are known: a string stands at `top`. Each line under r is visited once.
+// The value of line r, by the constants that are known: a string stands at `top`. Each line under r is visited once.
 pub fn fold_const(
     sheet: &[u8],
     work: &mut [u8],
-    n: usize,
-    m: usize,
+    c: Known,
     iota: u32,
     r: usize,
     top: usize,
 ) -> Folded
-    requires { ⌜ Foldable (now sheet) (now work) n m r top ⌝ }
-    ensures { λ x. ⌜ Folds (now (sheet .entry)) (now (work .entry)) m iota r top (now (work .exit)) x ⌝ }
+    requires { ⌜ Foldable (now sheet) (now work) (c .lines) (c .consts) r top ⌝ }
+    ensures { λ x. ⌜ Folds (now (sheet .entry)) (now (work .entry)) (c .consts) iota r top (now (work .exit)) x ⌝ }
 {
     let f = lines::form_at(work, r - 1);
     if f < ex::UN {
-        return leaf::leaf(sheet, work, n, m, iota, r, top);
+        return leaf::leaf(sheet, work, c, iota, r, top);
     }
     if ex::LEN < f {
         return Folded::Failed;
     }
-    let x = fold_const(sheet, work, n, m, iota, operand(sheet, work, n, r), top);
+    let x = fold_const(sheet, work, c, iota, operand(sheet, work, c.lines, r), top);
     let Folded::Value(v) = x else {
         return x;
     };
     if f != ex::BIN {
-        return apply(sheet, work, n, r, v, top);
+        return apply(sheet, work, c.lines, r, v, top);
     }
-    let right = lines::number_at(sheet, work, n, r - 1, 2);
-    let y = fold_const(sheet, work, n, m, iota, right, top + values::size(v));
+    let right = lines::number_at(sheet, work, c.lines, r - 1, 2);
+    let y = fold_const(sheet, work, c, iota, right, top + values::size(v));
     let Folded::Value(w) = y else {
         return y;
     };
-    values::fold_binary(lines::number_at(sheet, work, n, r - 1, 0), v, w)
+    values::fold_binary(lines::number_at(sheet, work, c.lines, r - 1, 0), v, w)
 }

@@ -90,8 +90,8 @@ fn string_row(work: &[u8], out: &mut [u8], at: usize, i: usize) -> usize
 {
     let v = placements::element(work, i);
     match v {
-        ConstVal::Int(_) => write::put_part(out, at, b""),
-        ConstVal::Real(_) => write::put_part(out, at, b""),
+        ConstVal::Int(_) => write::nothing(out, at),
+        ConstVal::Real(_) => write::nothing(out, at),
         ConstVal::Str(p, l) => str_row(work, out, at, 4 * i, p, l),
     }
 }

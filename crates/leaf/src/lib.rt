@@ -17,6 +17,7 @@ ghost use Rattle.checks.specs.Checks.{Kept};
 ghost use Rattle.values.specs.Values.{valueIn, At, Answers, Casts};
 ghost use Rattle.names.specs.Table.{found};
 ghost use Rattle.leaf.specs.Folds.{literalOf, Folds, Leaf, Literal, Ident, Qualified, Slot};
+use names::Known;
 use values::ConstVal;
 use values::Folded;
 
@@ -97,68 +98,44 @@ fn constant(work: &mut [u8], k: usize, top: usize) -> Folded
 }
 
 // `iota` outranks a constant of that name.
-fn ident(
-    sheet: &[u8],
-    work: &mut [u8],
-    n: usize,
-    m: usize,
-    iota: u32,
-    r: usize,
-    top: usize,
-) -> Folded
-    requires { ⌜ Ident (now sheet) (now work) n m r top ⌝ }
-    ensures { λ x. ⌜ Folds (now (sheet .entry)) (now (work .entry)) m iota r top (now (work .exit)) x ⌝ }
+fn ident(sheet: &[u8], work: &mut [u8], c: Known, iota: u32, r: usize, top: usize) -> Folded
+    requires { ⌜ Ident (now sheet) (now work) (c .lines) (c .consts) r top ⌝ }
+    ensures { λ x. ⌜ Folds (now (sheet .entry)) (now (work .entry)) (c .consts) iota r top (now (work .exit)) x ⌝ }
 {
-    let name = lines::field_at(sheet, work, n, r - 1, 0);
+    let name = lines::field_at(sheet, work, c.lines, r - 1, 0);
     if words::same(name, b"iota") {
         return Folded::Value(ConstVal::Int(iota as i64));
     }
-    let k = names::look_up(sheet, work, n, m, name);
+    let k = names::look_up(sheet, work, c, name);
     constant(work, k, top)
 }
 
 // The module must be named; its line is not folded.
-fn qualified(
-    sheet: &[u8],
-    work: &mut [u8],
-    n: usize,
-    m: usize,
-    iota: u32,
-    r: usize,
-    top: usize,
-) -> Folded
-    requires { ⌜ Qualified (now sheet) (now work) n m r top ⌝ }
-    ensures { λ x. ⌜ Folds (now (sheet .entry)) (now (work .entry)) m iota r top (now (work .exit)) x ⌝ }
+fn qualified(sheet: &[u8], work: &mut [u8], c: Known, iota: u32, r: usize, top: usize) -> Folded
+    requires { ⌜ Qualified (now sheet) (now work) (c .lines) (c .consts) r top ⌝ }
+    ensures { λ x. ⌜ Folds (now (sheet .entry)) (now (work .entry)) (c .consts) iota r top (now (work .exit)) x ⌝ }
 {
-    let q = lines::number_at(sheet, work, n, r - 1, 0);
+    let q = lines::number_at(sheet, work, c.lines, r - 1, 0);
     if lines::form_at(work, q - 1) != ex::ID {
         return Folded::Failed;
     }
-    let within = lines::field_at(sheet, work, n, q - 1, 0);
-    let name = lines::field_at(sheet, work, n, r - 1, 1);
-    let k = names::look_up_in(sheet, work, n, m, within, name);
+    let within = lines::field_at(sheet, work, c.lines, q - 1, 0);
+    let name = lines::field_at(sheet, work, c.lines, r - 1, 1);
+    let k = names::look_up_in(sheet, work, c, within, name);
     constant(work, k, top)
 }
 
-// The value of line r, where the first m constants are known: a string stands at `top`.
-pub fn leaf(
-    sheet: &[u8],
-    work: &mut [u8],
-    n: usize,
-    m: usize,
-    iota: u32,
-    r: usize,
-    top: usize,
-) -> Folded
-    requires { ⌜ Leaf (now sheet) (now work) n m r top ⌝ }
-    ensures { λ x. ⌜ Folds (now (sheet .entry)) (now (work .entry)) m iota r top (now (work .exit)) x ⌝ }
+// The value of line r, by the constants that are known: a string stands at `top`.
+pub fn leaf(sheet: &[u8], work: &mut [u8], c: Known, iota: u32, r: usize, top: usize) -> Folded
+    requires { ⌜ Leaf (now sheet) (now work) (c .lines) (c .consts) r top ⌝ }
+    ensures { λ x. ⌜ Folds (now (sheet .entry)) (now (work .entry)) (c .consts) iota r top (now (work .exit)) x ⌝ }
 {
     let f = lines::form_at(work, r - 1);
     if f == ex::ID {
-        return ident(sheet, work, n, m, iota, r, top);
+        return ident(sheet, work, c, iota, r, top);
     }
     if f == ex::QUAL {
-        return qualified(sheet, work, n, m, iota, r, top);
+        return qualified(sheet, work, c, iota, r, top);
     }
-    Folded::Value(literal(sheet, work, n, r, top))
+    Folded::Value(literal(sheet, work, c.lines, r, top))
 }

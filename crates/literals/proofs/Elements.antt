@@ -21,6 +21,7 @@ use Rattle.values.specs.declared.Folded.{Folded}
 use Rattle.values.specs.declared.Folded.the-variants as Folded
 use Rattle.values.specs.Values.{valueIn, resultIn, At, ResultAt}
 use Rattle.slots.specs.Slots.{Small, Stored}
+use Rattle.placements.specs.declared.Extent.{Extent}
 use Rattle.placements.specs.declared.Placed.{Placed}
 use Rattle.placements.specs.declared.Placed.the-variants.{Into, Failed, TooLong}
 use Rattle.placements.specs.Placements.{slotAt, elementAt, Keeps, Standing, Filling, Step, Places}
@@ -28,7 +29,7 @@ use Rattle.placements.proofs.Same.{keeps-then, keeps-less, keeps-kept}
 use Rattle.placements.proofs.Fillings.{filling-kept, filling-value, filling-star, stored-element}
 use Rattle.leaf.specs.Folds.{exAt, Foldable, Folds}
 use Rattle.literals.specs.Literals.{elAt, sesAt, namesIn, Line, AtTask, ValuedTask, Turn, above, Fills, placed, Turns}
-use Rattle.literals.proofs.Names.{log-kept, line-kept}
+use Rattle.literals.proofs.Names.{log-kept, logged-kept, line-kept}
 use Rattle.literals.proofs.Lines.{good-line, last-form, el-next, el-star, el-at, el-value, value-ref}
 use Rattle.literals.proofs.Selectors.{foldable, folds-to}
 
@@ -42,8 +43,8 @@ standing-small top (Str p l) h s = (omega (arith, s .1, s .0), omega (arith, s .
 stored-keeps : {t u : Bytes} (n : ℕ) {v : ConstVal} → n ≤ 16 → Stored t (12288 + 16 * n) v u → Keeps 16384 49152 t u
 stored-keeps n h q = record { long = q .long; below = λ j x. q .others j (inl (omega arith)); above = λ j x y. q .others j (inr (omega arith)) }
 
-module _ {s t : Bytes} {n m r e : ℕ} {v : ConstVal} (k : ValuedTask s t n m r e v) (next reach : ℕ) where
-  l : Line 76 s t n m r
+module _ {s t : Bytes} {n m r e : ℕ} {v : ConstVal} (k : ValuedTask s t n m r e v) (far : Extent) where
+  l : Line 76 s t n r
   l = k .task .line
 
   pub element-small : Small v
@@ -54,13 +55,13 @@ module _ {s t : Bytes} {n m r e : ℕ} {v : ConstVal} (k : ValuedTask s t n m r 
   element-is = rw (k .value)
 
   module _ {f : ℕ} (hf : f ≡ formAt t (r - 1)) where
-    pub element-next : f ≡ 20 → {y : Placed} {u : Bytes} → Places t e next reach placeNext y u → Fills t e next reach (placed (namesIn s t m) (elAt s r)) y u
+    pub element-next : f ≡ 20 → {y : Placed} {u : Bytes} → Places t e far placeNext y u → Fills t e far (placed (namesIn s t m) (elAt s r)) y u
     element-next d {y} {u} p = record {
       keeps = keeps-less (omega arith) (omega arith) (p .keeps 49152);
       step = λ g one few q. rw (el-next l (sym hf ∙ d)) (p .step (above e) e g one (omega arith) few q);
     }
 
-    pub element-star : f ≡ 21 → {u : Bytes} → Stored t (12288 + 16 * 0) v u → Fills t e next reach (placed (namesIn s t m) (elAt s r)) (Into next reach) u
+    pub element-star : f ≡ 21 → {u : Bytes} → Stored t (12288 + 16 * 0) v u → Fills t e far (placed (namesIn s t m) (elAt s r)) (Into far) u
     element-star d {u} p = record {
       keeps = stored-keeps 0 (omega arith) p;
       step = λ g one few q. rw (el-star l (sym hf ∙ d)) (record { literal = setWildcard (valueIn t v) g; result = rw element-is; filling = filling-star q u (above e) (omega arith) 0 v (k .stands) p (omega arith) refl });
@@ -70,7 +71,7 @@ module _ {s t : Bytes} {n m r e : ℕ} {v : ConstVal} (k : ValuedTask s t n m r 
       pub element-at : AtTask s t n m r e
       element-at = record { task = k .task; form = last-form l (λ d. a (hf ∙ d)) (λ d. b (hf ∙ d)) }
 
-      pub element-spans : {y : Placed} {u : Bytes} → Fills t e next reach (placed (namesIn s t m) (at (elValue (elAt s r)) (sesAt s r))) y u → Fills t e next reach (placed (namesIn s t m) (elAt s r)) y u
+      pub element-spans : {y : Placed} {u : Bytes} → Fills t e far (placed (namesIn s t m) (at (elValue (elAt s r)) (sesAt s r))) y u → Fills t e far (placed (namesIn s t m) (elAt s r)) y u
       element-spans {y} {u} p = record { keeps = p .keeps; step = λ g one few q. rw (el-at l (element-at .form)) (p .step g one few q) }
 
 -- ---- an element: its value first
@@ -85,12 +86,12 @@ at-stands k (Int z) h = tt
 at-stands k (Real x) h = tt
 at-stands k (Str p l) h = (omega (arith, h .0), omega (arith, h .0, h .1), h .1)
 
-module _ {s t : Bytes} {n m r k : ℕ} (c : Turn s t n m r k) (next reach : ℕ) {q : ℕ} (hq : q ≡ Number.numberOf 65536 (getD (readAt s (r - 1) .fields) 0 [])) where
-  value-line : (q ≡ numberOf (getD (readAt s (r - 1) .fields) 0 [])) × Line 69 s t n m q
+module _ {s t : Bytes} {n m r k : ℕ} (c : Turn s t n m r k) (far : Extent) {q : ℕ} (hq : q ≡ Number.numberOf 65536 (getD (readAt s (r - 1) .fields) 0 [])) where
+  value-line : (q ≡ numberOf (getD (readAt s (r - 1) .fields) 0 [])) × Line 69 s t n q
   value-line = good-line (c .line) 69 (getD (readAt s (r - 1) .fields) 0 []) q hq (value-ref (c .line))
 
   pub value-foldable : Foldable s t n m q (49152 + 256 * k)
-  value-foldable = foldable (record { line = value-line .1; few = omega (arith, c .few) })
+  value-foldable = foldable (record { line = value-line .1; log = c .log; few = omega (arith, c .few) })
 
   value-is : elValue (elAt s r) ≡ exAt s q
   value-is = rw (el-value (c .line), value-line .0)
@@ -102,11 +103,11 @@ module _ {s t : Bytes} {n m r k : ℕ} (c : Turn s t n m r k) (next reach : ℕ)
     keeps-fold : Keeps 16384 49152 t u
     keeps-fold = keeps-less (omega arith) (omega arith) (keeps-kept {a = 0} (omega arith) (g .kept))
 
-    pub turn-failed : x ≡ Folded.Failed → Turns t k next reach (fillElement (namesIn s t m) (elAt s r)) Failed u
+    pub turn-failed : x ≡ Folded.Failed → Turns t k far (fillElement (namesIn s t m) (elAt s r)) Failed u
     unfolding resultIn
     turn-failed d = record { keeps = keeps-fold; step = λ f p. fills-to f ∙ rw d }
 
-    pub turn-long : x ≡ Folded.TooLong → Turns t k next reach (fillElement (namesIn s t m) (elAt s r)) TooLong u
+    pub turn-long : x ≡ Folded.TooLong → Turns t k far (fillElement (namesIn s t m) (elAt s r)) TooLong u
     unfolding resultIn
     turn-long d = record { keeps = keeps-fold; step = λ f p. fills-to f ∙ rw d }
 
@@ -123,15 +124,15 @@ module _ {s t : Bytes} {n m r k : ℕ} (c : Turn s t n m r k) (next reach : ℕ)
 
         pub value-stored : ValuedTask s w n m r (k + 1) v
         unfolding slotAt
-        value-stored = record { task = record { line = line-kept keeps-value (c .line); few = omega (arith, c .few) }; stands = value-stands; value = p .value }
+        value-stored = record { task = record { line = line-kept keeps-value (c .line); log = logged-kept keeps-value (c .log); few = omega (arith, c .few) }; stands = value-stands; value = p .value }
 
-        pub turn-placed : {y : Placed} {z : Bytes} → Fills w (k + 1) next reach (placed (namesIn s w m) (elAt s r)) y z → Turns t k next reach (fillElement (namesIn s t m) (elAt s r)) y z
+        pub turn-placed : {y : Placed} {z : Bytes} → Fills w (k + 1) far (placed (namesIn s w m) (elAt s r)) y z → Turns t k far (fillElement (namesIn s t m) (elAt s r)) y z
         unfolding resultIn
         turn-placed {y} {z} a = record {
           keeps = keeps-then keeps-value (a .keeps);
           step = λ f b.
-              let b′ : Filling u (above k) k next reach f = filling-kept b u (omega (arith, c .few)) (omega arith) (g .kept) in
+              let b′ : Filling u (above k) k (far .next) (far .reach) f = filling-kept b u (omega (arith, c .few)) (omega arith) (g .kept) in
               let h = filling-value b′ w (above (k + 1)) (omega arith) (k + 1) v value-stands p (omega (arith, c .few)) refl in
               let i = stored-element b′ w (above (k + 1)) (omega arith) (k + 1) v value-stands p (omega (arith, c .few)) in
-              subst (λ (q′ : Result Filled). Step z (above (k + 1)) (k + 1) y q′) (sym (fills-to f ∙ rw d)) (rw (log-kept keeps-value (c .line .log), i) at (a .step f (omega arith) (omega (arith, c .few)) h));
+              subst (λ (q′ : Result Filled). Step z (above (k + 1)) (k + 1) y q′) (sym (fills-to f ∙ rw d)) (rw (log-kept keeps-value (c .log), i) at (a .step f (omega arith) (omega (arith, c .few)) h));
         }

@@ -33,7 +33,7 @@ use Rattle.literals.specs.Literals.{elAt, seAt, Line}
 
 -- ---- the lines that are referred to
 
-module _ {k : ℕ} {s t : Bytes} {n m r : ℕ} (l : Line k s t n m r) where
+module _ {k : ℕ} {s t : Bytes} {n r : ℕ} (l : Line k s t n r) where
   pub line-in : r - 1 < n
   line-in = omega (arith, l .first, l .last)
 
@@ -50,16 +50,16 @@ module _ {k : ℕ} {s t : Bytes} {n m r : ℕ} (l : Line k s t n m r) where
   makes e = node-at s t n (l .checked .whole) (l .checked .good) (r - 1) line-in ∙ ap (λ (g : ℕ). rowNode (nodesIn s) g (readAt s (r - 1) .fields)) e
 
   module _ (q : ℕ) (f : Bytes) (v : ℕ) (hv : v ≡ Number.numberOf 65536 f) where
-    pub good-line : Good (readsIn s) (r - 1) q f → (v ≡ numberOf f) × Line q s t n m v
+    pub good-line : Good (readsIn s) (r - 1) q f → (v ≡ numberOf f) × Line q s t n v
     good-line g =
         let w = needed-ref (readsIn s) (r - 1 + 1) q (numberOf f) (g .fine) in
         let e : v ≡ numberOf f = hv ∙ number-exact f (g .number) (omega (arith, w .1, l .last, l .checked .whole .lined .few)) in
-        (e, rw e (record { checked = l .checked; log = l .log; first = omega (arith, w .0); last = omega (arith, w .1, l .first, l .last); kind = w .2 }))
+        (e, rw e (record { checked = l .checked; first = omega (arith, w .0); last = omega (arith, w .1, l .first, l .last); kind = w .2 }))
 
-    pub may-line : May (readsIn s) (r - 1) q f → (v ≡ numberOf f) × ((v ≡ 0 → ⊥) → Line q s t n m v)
+    pub may-line : May (readsIn s) (r - 1) q f → (v ≡ numberOf f) × ((v ≡ 0 → ⊥) → Line q s t n v)
     may-line g = go (eqb (numberOf f) 0) refl
       where
-        go : (b : Bool) → eqb (numberOf f) 0 ≡ b → (v ≡ numberOf f) × ((v ≡ 0 → ⊥) → Line q s t n m v)
+        go : (b : Bool) → eqb (numberOf f) 0 ≡ b → (v ≡ numberOf f) × ((v ≡ 0 → ⊥) → Line q s t n v)
         go true d =
             let z = eqb-true (numberOf f) 0 d in
             let e : v ≡ numberOf f = hv ∙ number-exact f (g .number) (omega arith) in
@@ -68,7 +68,7 @@ module _ {k : ℕ} {s t : Bytes} {n m r : ℕ} (l : Line k s t n m r) where
             let z = eqb-false (numberOf f) 0 d in
             let w = given-ref (readsIn s) (r - 1 + 1) q (numberOf f) (g .fine) z in
             let e : v ≡ numberOf f = hv ∙ number-exact f (g .number) (omega (arith, w .0, l .last, l .checked .whole .lined .few)) in
-            (e, λ y. rw e (record { checked = l .checked; log = l .log; first = omega (arith, z); last = omega (arith, w .0, l .first, l .last); kind = w .1 }))
+            (e, λ y. rw e (record { checked = l .checked; first = omega (arith, z); last = omega (arith, w .0, l .first, l .last); kind = w .1 }))
 
   pub count-is : {j q : ℕ} {v : ℕ} → Group (readsIn s) (r - 1) q j (readAt s (r - 1) .fields) → v ≡ Number.numberOf 65536 (getD (readAt s (r - 1) .fields) j []) → (v ≡ numberOf (getD (readAt s (r - 1) .fields) j [])) × (v ≤ 16)
   count-is {j} g = count-exact (getD (readAt s (r - 1) .fields) j []) (g .count)
@@ -83,7 +83,7 @@ maybe-absent ns v e = rw e
 
 -- ---- selectors
 
-module _ {s t : Bytes} {n m r : ℕ} (l : Line 74 s t n m r) where
+module _ {s t : Bytes} {n r : ℕ} (l : Line 74 s t n r) where
   se-form : formAt t (r - 1) ≡ 23
   se-form = let w = line-form l in selector-form (formAt t (r - 1)) (w .0) (w .1)
 
@@ -101,7 +101,7 @@ module _ {s t : Bytes} {n m r : ℕ} (l : Line 74 s t n m r) where
 
 -- ---- elements
 
-module _ {s t : Bytes} {n m r : ℕ} (l : Line 76 s t n m r) where
+module _ {s t : Bytes} {n r : ℕ} (l : Line 76 s t n r) where
   -- 20 a plain element, 21 a wildcard, 22 one with selectors
   by-form : {P : Type 0} → (formAt t (r - 1) ≡ 20 → P) → (formAt t (r - 1) ≡ 21 → P) → (formAt t (r - 1) ≡ 22 → P) → P
   by-form {P} a b c = let w = line-form l in let x = element-form (formAt t (r - 1)) (w .0) (w .1) in go (eqb (formAt t (r - 1)) 20) refl (eqb (formAt t (r - 1)) 21) refl (x .0) (x .1)

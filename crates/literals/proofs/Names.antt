@@ -34,5 +34,5 @@ module _ {t u : Bytes} (k : Keeps 16384 49152 t u) where
     pub logged-kept : Logged s u n m
     logged-kept = logged-same table-kept l
 
-  pub line-kept : {q : ℕ} {s : Bytes} {n m r : ℕ} → Line q s t n m r → Line q s u n m r
-  line-kept l = record { checked = checked-kept (kept-low 3072 (omega arith)) (l .checked); log = logged-kept (l .log); first = l .first; last = l .last; kind = l .kind }
+  pub line-kept : {q : ℕ} {s : Bytes} {n r : ℕ} → Line q s t n r → Line q s u n r
+  line-kept l = record { checked = checked-kept (kept-low 3072 (omega arith)) (l .checked); first = l .first; last = l .last; kind = l .kind }

@@ -14,6 +14,7 @@ use Rattle.semantics.specs.Array.{Filled, placeIndices}
 use Rattle.ints.proofs.Widths.{held}
 use Rattle.semantics.proofs.Common.{never}
 use Rattle.checks.specs.Checks.{Kept}
+use Rattle.placements.specs.declared.Extent.{Extent}
 use Rattle.placements.specs.declared.Placed.{Placed}
 use Rattle.placements.specs.declared.Placed.the-variants.{Into, Negative, Failed, TooLong}
 use Rattle.placements.specs.Placements.{elementAt, Goes, Step, stopped, Places}
@@ -27,14 +28,14 @@ use Rattle.literals.specs.Literals.{above, spanResult, Moves, Took, Chos
 
 -- whether a literal goes on
 abbrev pub isInto : Placed → Bool
-isInto (Into next reach) = true
+isInto (Into a) = true
 isInto Negative = false
 isInto Failed = false
 isInto TooLong = false
 
 -- it stays as it has ended
 pub step-ends : (y : Placed) → isInto y ≡ false → (t : Bytes) (a b k : ℕ) (r : Result Filled) (g : Filled → Result Filled) → Step t a k y r → Step t b k y (bind r g)
-step-ends (Into next reach) h t a b k r g s = never (sym h)
+step-ends (Into q) h t a b k r g s = never (sym h)
 step-ends Negative h t a b k r g s = rw s
 step-ends Failed h t a b k r g s = rw s
 step-ends TooLong h t a b k r g s = rw s
@@ -45,15 +46,15 @@ abbrev onto : ℤ → ℤ → Tree.ConstVal → Result Filled → Result Filled
 onto low high v r = bind r (placeIndices v low high)
 
 module _ (t : Bytes) (e : ℕ) (low high : ℤ) where
-  pub moves-into : {x : Placed} {next reach : ℕ} → x ≡ Into next reach → SFits w64 low → SFits w64 high
-      → {y : Placed} {u : Bytes} → Places t e next reach (λ (v : Tree.ConstVal). placeIndices v (held w64 low) (held w64 high)) y u → Moves t e x (onto low high) y u
-  moves-into {x} {next} {reach} d fl fh {y} {u} p = record {
+  pub moves-into : {x : Placed} {a : Extent} → x ≡ Into a → SFits w64 low → SFits w64 high
+      → {y : Placed} {u : Bytes} → Places t e a (λ (v : Tree.ConstVal). placeIndices v (held w64 low) (held w64 high)) y u → Moves t e x (onto low high) y u
+  moves-into {x} {a} d fl fh {y} {u} p = record {
     keeps = p .keeps (above e);
     ongoing = rw d (p .ongoing);
     step = λ r one few s. go r one few (subst (λ (z : Placed). Step t (above e) e z r) d s);
   }
     where
-      go : (r : Result Filled) → 0 < e → e ≤ 16 → Goes t (above e) e next reach r → Step u (above e) e y (onto low high (elementAt t e) r)
+      go : (r : Result Filled) → 0 < e → e ≤ 16 → Goes t (above e) e (a .next) (a .reach) r → Step u (above e) e y (onto low high (elementAt t e) r)
       go r one few g = rw (g .result) (rw (toZ-ofZ fl, toZ-ofZ fh) at (p .step (above e) e (g .literal) one (omega arith) few (g .filling)))
 
   pub moves-ended : {x : Placed} (y : Placed) → x ≡ y → isInto y ≡ false → Moves t e x (onto low high) y t
@@ -62,20 +63,20 @@ module _ (t : Bytes) (e : ℕ) (low high : ℤ) where
 -- ---- a selector
 
 took : (u : Bytes) (e : ℕ) (span : Result (ℤ × ℤ)) (v : Tree.ConstVal) (r : Result Filled) (y : Placed) → stopped y ≡ false → Took u e span v r y → Chose u e span v r y
-took u e span v r (Into next reach) h k = k
+took u e span v r (Into a) h k = k
 took u e span v r Negative h k = k
 took u e span v r Failed h k = never (sym h)
 took u e span v r TooLong h k = never (sym h)
 
 module _ (t : Bytes) (e : ℕ) {u : Bytes} (c : Kept (above e) t u) where
   step-kept : (x : Placed) (r : Result Filled) → e ≤ 16 → Step t (above e) e x r → Step u (above e) e x r
-  step-kept (Into next reach) r few g = record { literal = g .literal; result = g .result; filling = filling-kept (g .filling) u few (omega arith) c }
+  step-kept (Into a) r few g = record { literal = g .literal; result = g .result; filling = filling-kept (g .filling) u few (omega arith) c }
   step-kept Negative r few g = g
   step-kept Failed r few g = g
   step-kept TooLong r few g = g
 
   value-kept : (x : Placed) (r : Result Filled) (a b : ℤ) → e ≤ 16 → stopped x ≡ false → Step t (above e) e x r → bind r (placeIndices (elementAt u e) a b) ≡ bind r (placeIndices (elementAt t e) a b)
-  value-kept (Into next reach) r a b few h g = rw (element-kept (g .filling) u few (omega arith) c e (omega arith))
+  value-kept (Into q) r a b few h g = rw (element-kept (g .filling) u few (omega arith) c e (omega arith))
   value-kept Negative r a b few h g = rw g
   value-kept Failed r a b few h g = never (sym h)
   value-kept TooLong r a b few h g = never (sym h)

@@ -24,13 +24,14 @@ use Rattle.values.specs.declared.ConstVal.the-variants.{Int, Real, Str}
 use Rattle.values.specs.declared.Folded.{Folded}
 use Rattle.values.specs.declared.Folded.the-variants as Folded
 use Rattle.values.specs.Values.{valueIn, resultIn}
+use Rattle.placements.specs.Placements.{Keeps}
 use Rattle.placements.proofs.Same.{keeps-less, keeps-kept}
 use Rattle.leaf.specs.Folds.{exAt, foldAt, Foldable, Folds}
 use Rattle.fold.proofs.Steps as Steps
 use Rattle.literals.specs.declared.Index.{Index}
 use Rattle.literals.specs.declared.Index.the-variants as Index
 use Rattle.literals.specs.Literals.{seAt, namesIn, Task, above, indexResult}
-use Rattle.literals.proofs.Names.{log-kept, line-kept}
+use Rattle.literals.proofs.Names.{log-kept, logged-kept, line-kept}
 use Rattle.literals.proofs.Lines.{good-line, may-line, se-refs, se-is, maybe-given, maybe-absent}
 
 -- ---- integers
@@ -61,7 +62,7 @@ module _ (t : Bytes) {x : Folded} where
 -- ---- folds
 
 pub foldable : {s t : Bytes} {n m r e : ℕ} → Task 69 s t n m r e → Foldable s t n m r (49152 + 256 * e)
-foldable k = let l = k .line in Steps.foldable (record { checked = l .checked; first = l .first; last = l .last; kind = l .kind }) (l .log) (omega arith) (omega (arith, k .few))
+foldable k = let l = k .line in Steps.foldable (record { checked = l .checked; first = l .first; last = l .last; kind = l .kind }) (k .log) (omega arith) (omega (arith, k .few))
 
 -- what a fold gives, where iota is 0
 pub folds-to : {s t : Bytes} {m r top : ℕ} {u : Bytes} {x : Folded} → Folds s t m 0 r top u x → resultIn u x ≡ fold (namesIn s t m) (pos 0) (exAt s r)
@@ -75,14 +76,14 @@ index-is i f h = rw (folds-to f) at h
 
 module _ {s t : Bytes} {n m r e : ℕ} (k : Task 74 s t n m r e) where
   pub low-task : {v : ℕ} → v ≡ Number.numberOf 65536 (getD (readAt s (r - 1) .fields) 0 []) → Task 69 s t n m v e
-  low-task {v} h = record { line = good-line (k .line) 69 (getD (readAt s (r - 1) .fields) 0 []) v h (se-refs (k .line) .0) .1; few = k .few }
+  low-task {v} h = record { line = good-line (k .line) 69 (getD (readAt s (r - 1) .fields) 0 []) v h (se-refs (k .line) .0) .1; log = k .log; few = k .few }
 
   low-is : {v : ℕ} → v ≡ Number.numberOf 65536 (getD (readAt s (r - 1) .fields) 0 []) → seAt s r .low ≡ exAt s v
   low-is {v} h = rw (se-is (k .line), good-line (k .line) 69 (getD (readAt s (r - 1) .fields) 0 []) v h (se-refs (k .line) .0) .0)
 
   module _ {v : ℕ} (h : v ≡ Number.numberOf 65536 (getD (readAt s (r - 1) .fields) 1 [])) where
     pub high-task : (v ≡ 0 → ⊥) → Task 69 s t n m v e
-    high-task z = record { line = may-line (k .line) 69 (getD (readAt s (r - 1) .fields) 1 []) v h (se-refs (k .line) .1) .1 z; few = k .few }
+    high-task z = record { line = may-line (k .line) 69 (getD (readAt s (r - 1) .fields) 1 []) v h (se-refs (k .line) .1) .1 z; log = k .log; few = k .few }
 
     number-is : numberOf (getD (readAt s (r - 1) .fields) 1 []) ≡ v
     number-is = sym (may-line (k .line) 69 (getD (readAt s (r - 1) .fields) 1 []) v h (se-refs (k .line) .1) .0)
@@ -105,15 +106,18 @@ module _ {s t : Bytes} {n m r e : ℕ} (k : Task 74 s t n m r e) where
     span-low-long d = let q : indexOf (namesIn s t m) (seAt s r .low) ≡ refuse 8 = sym low-found ∙ ap indexResult d in rw q
 
     module _ {a : ℤ} (d : x ≡ Index.At a) (f : SFits w64 a) {u : Bytes} (c : Kept (above e) t u) where
+      keeps-low : Keeps 16384 49152 t u
+      keeps-low = keeps-less (omega arith) (omega arith) (keeps-kept {a = 0} (omega arith) c)
+
       pub again : Task 74 s u n m r e
-      again = record { line = line-kept (keeps-less (omega arith) (omega arith) (keeps-kept {a = 0} (omega arith) c)) (k .line); few = k .few }
+      again = record { line = line-kept keeps-low (k .line); log = logged-kept keeps-low (k .log); few = k .few }
 
       module _ (y : Index) (hy : indexResult y ≡ highOf (namesIn s u m) (held w64 a) (seAt s r .high)) where
         low-ok : indexOf (namesIn s t m) (seAt s r .low) ≡ ok a
         low-ok = sym low-found ∙ ap indexResult d
 
         high-found : highOf (namesIn s t m) a (seAt s r .high) ≡ indexResult y
-        high-found = sym (rw (toZ-ofZ f, log-kept (keeps-less (omega arith) (omega arith) (keeps-kept {a = 0} (omega arith) c)) (k .line .log)) at hy)
+        high-found = sym (rw (toZ-ofZ f, log-kept keeps-low (k .log)) at hy)
 
         pub span-ok : {b : ℤ} → y ≡ Index.At b → SFits w64 b → ok (held w64 a, held w64 b) ≡ spanOf (namesIn s t m) (seAt s r .low) (seAt s r .high)
         span-ok {b} g i = let q : highOf (namesIn s t m) a (seAt s r .high) ≡ ok b = high-found ∙ ap indexResult g in rw (low-ok, q, toZ-ofZ f, toZ-ofZ i)

@@ -20,12 +20,13 @@ use Rattle.decimal.specs.Number as Number
 use Rattle.semantics.proofs.Common.{never}
 use Rattle.lines.specs.Lines.{readAt, nodesIn}
 use Rattle.refs.proofs.Fields.{head-drop, tail-drop}
+use Rattle.placements.specs.declared.Extent.{Extent}
 use Rattle.placements.specs.declared.Placed.{Placed}
 use Rattle.placements.specs.declared.Placed.the-variants.{Into, Negative, Failed, TooLong}
 use Rattle.placements.specs.Placements.{elementAt, Keeps, Filling, Step, stopped}
 use Rattle.placements.proofs.Same.{keeps-all, keeps-then, keeps-less, element-same}
 use Rattle.literals.specs.Literals.{seAt, sesAt, namesIn, Line, Task, AtTask, above, Chose, Selects, Fills}
-use Rattle.literals.proofs.Names.{log-kept, line-kept}
+use Rattle.literals.proofs.Names.{log-kept, logged-kept, line-kept}
 use Rattle.literals.proofs.Lines.{good-line, count-is, selectors}
 
 -- ---- folding and placing in turn gives what folding all and then placing gives
@@ -65,6 +66,13 @@ all-spans ns v (andSe l h ss) r =
 
 -- ---- the loop
 
+-- how far a literal goes, 0 for one that has ended
+abbrev pub extentOf : Placed → Extent
+extentOf (Into a) = a
+extentOf Negative = record { next = 0; reach = 0 }
+extentOf Failed = record { next = 0; reach = 0 }
+extentOf TooLong = record { next = 0; reach = 0 }
+
 -- the selectors from j on, where there are `count`
 abbrev sesFrom : Bytes → ℕ → ℕ → ℕ → Ses
 sesFrom s r count j = sesOf (values (ref kSe) (nodesIn s) (count - j) (drop (2 + j) (readAt s (r - 1) .fields)))
@@ -75,14 +83,14 @@ pub record On (t : Bytes) (e : ℕ) (x : Placed) (ns : Names) (v : Tree.ConstVal
   pub step : Step t (above e) e x result
   pub left : placeAll ns v rest result ≡ placeAll ns v all (ok f)
 
-pub record Selecting (s t : Bytes) (m r e next reach count : ℕ) (u : Bytes) (x : Placed) (j : ℕ) : Type 0 where
+pub record Selecting (s t : Bytes) (m r e : ℕ) (a : Extent) (count : ℕ) (u : Bytes) (x : Placed) (j : ℕ) : Type 0 where
   pub within : j ≤ count
   pub keeps : Keeps 12288 (above e) t u
   pub ongoing : stopped x ≡ false
-  pub on : (f : Filled) → 0 < e → e ≤ 16 → Filling t (above e) e next reach f → On u e x (namesIn s t m) (elementAt t e) (sesFrom s r count j) (sesFrom s r count 0) f
+  pub on : (f : Filled) → 0 < e → e ≤ 16 → Filling t (above e) e (a .next) (a .reach) f → On u e x (namesIn s t m) (elementAt t e) (sesFrom s r count j) (sesFrom s r count 0) f
 
-module _ {s t : Bytes} {n m r e : ℕ} (k : AtTask s t n m r e) (next reach : ℕ) {count : ℕ} (hc : count ≡ Number.numberOf 65536 (getD (readAt s (r - 1) .fields) 1 [])) where
-  l : Line 76 s t n m r
+module _ {s t : Bytes} {n m r e : ℕ} (k : AtTask s t n m r e) (a : Extent) {count : ℕ} (hc : count ≡ Number.numberOf 65536 (getD (readAt s (r - 1) .fields) 1 [])) where
+  l : Line 76 s t n r
   l = k .task .line
 
   pub few-selectors : count ≤ 16
@@ -97,35 +105,35 @@ module _ {s t : Bytes} {n m r e : ℕ} (k : AtTask s t n m r e) (next reach : �
   abbrev Act : Tree.ConstVal → Filled → Result Filled
   Act v f = bind (spansOf (namesIn s t m) (sesAt s r)) (λ (y : List (ℤ × ℤ)). placeSpans v y f)
 
-  pub selecting-start : Selecting s t m r e next reach count t (Into next reach) 0
+  pub selecting-start : Selecting s t m r e a count t (Into a) 0
   selecting-start = record { within = omega arith; keeps = keeps-all; ongoing = refl; on = λ f one few p. record { result = ok f; step = record { literal = f; result = refl; filling = p }; left = refl } }
 
   filled : (y : Placed) (w : Bytes) → Keeps 12288 (above e) t w
-      → ((f : Filled) → 0 < e → e ≤ 16 → Filling t (above e) e next reach f → Step w (above e) e y (placeAll (namesIn s t m) (elementAt t e) (sesFrom s r count 0) (ok f))) → Fills t e next reach Act y w
+      → ((f : Filled) → 0 < e → e ≤ 16 → Filling t (above e) e (a .next) (a .reach) f → Step w (above e) e y (placeAll (namesIn s t m) (elementAt t e) (sesFrom s r count 0) (ok f))) → Fills t e a Act y w
   filled y w c h = record {
     keeps = keeps-less (omega arith) (omega arith) c;
     step = λ f one few p. subst (λ (q : Result Filled). Step w (above e) e y q) (ap (λ (ss : Ses). placeAll (namesIn s t m) (elementAt t e) ss (ok f)) all-selectors ∙ sym (all-spans (namesIn s t m) (elementAt t e) (sesAt s r) (ok f))) (h f one few p);
   }
 
-  module _ {u : Bytes} {x : Placed} {j : ℕ} (c : Selecting s t m r e next reach count u x j) where
+  module _ {u : Bytes} {x : Placed} {j : ℕ} (c : Selecting s t m r e a count u x j) where
     keeps-names : Keeps 16384 49152 t u
     keeps-names = keeps-less (omega arith) (omega arith) (c .keeps)
 
-    pub selecting-line : Line 76 s u n m r
+    pub selecting-line : Line 76 s u n r
     selecting-line = line-kept keeps-names l
 
-    pub selecting-end : count ≤ j → Fills t e next reach Act x u
+    pub selecting-end : count ≤ j → Fills t e a Act x u
     unfolding placeAll
     selecting-end h =
         let z : count - j ≡ 0 = omega arith in
         filled x u (c .keeps) (λ f one few p. let o = c .on f one few p in subst (λ (q : Result Filled). Step u (above e) e x q) (rw z at (o .left)) (o .step))
 
     module _ (h : j < count) {q : ℕ} (hq : q ≡ Number.numberOf 65536 (getD (readAt s (r - 1) .fields) (2 + j) [])) where
-      selector-line : (q ≡ numberOf (getD (readAt s (r - 1) .fields) (2 + j) [])) × Line 74 s u n m q
+      selector-line : (q ≡ numberOf (getD (readAt s (r - 1) .fields) (2 + j) [])) × Line 74 s u n q
       selector-line = good-line selecting-line 74 (getD (readAt s (r - 1) .fields) (2 + j) []) q hq (selectors l (k .form) .each j (omega (arith, count-exact)))
 
       pub selector-task : Task 74 s u n m q e
-      selector-task = record { line = selector-line .1; few = k .task .few }
+      selector-task = record { line = selector-line .1; log = logged-kept keeps-names (k .task .log); few = k .task .few }
 
       selectors-split : sesFrom s r count j ≡ andSe (seAt s q .low) (seAt s q .high) (sesFrom s r count (j + 1))
       selectors-split =
@@ -134,34 +142,34 @@ module _ {s t : Bytes} {n m r e : ℕ} (k : AtTask s t n m r e) (next reach : �
           rw (z, head-drop (2 + j) (readAt s (r - 1) .fields), tail-drop (2 + j) (readAt s (r - 1) .fields), y, selector-line .0)
 
       module _ (y : Placed) {w : Bytes} (d : Selects u e x (spanOf (namesIn s u m) (seAt s q .low) (seAt s q .high)) y w) where
-        chosen : (f : Filled) (one : 0 < e) (few : e ≤ 16) (p : Filling t (above e) e next reach f)
+        chosen : (f : Filled) (one : 0 < e) (few : e ≤ 16) (p : Filling t (above e) e (a .next) (a .reach) f)
             → Chose w e (spanOf (namesIn s t m) (seAt s q .low) (seAt s q .high)) (elementAt t e) (c .on f one few p .result) y
         chosen f one few p =
             let o = c .on f one few p in
             let v : elementAt u e ≡ elementAt t e = element-same t u (c .keeps .long) (above e) e (p .strings e (omega arith)) (λ i a b. c .keeps .above i (omega arith) (omega arith)) (λ i a b. c .keeps .above i (omega arith) b) in
-            rw (v, log-kept keeps-names (l .log)) at (d .chose (o .result) one few (c .ongoing) (o .step))
+            rw (v, log-kept keeps-names (k .task .log)) at (d .chose (o .result) one few (c .ongoing) (o .step))
 
         keeps-next : Keeps 12288 (above e) t w
         keeps-next = keeps-then (c .keeps) (d .keeps)
 
         stops : (z : Placed) (v : Tree.ConstVal) (r′ : Result Filled) → stopped z ≡ true → Chose w e (spanOf (namesIn s t m) (seAt s q .low) (seAt s q .high)) v r′ z → Step w (above e) e z (placeAll (namesIn s t m) v (sesFrom s r count j) r′)
         unfolding placeAll
-        stops (Into a b) v r′ g z = never g
+        stops (Into b) v r′ g z = never g
         stops Negative v r′ g z = never g
         stops Failed v r′ g z = rw (selectors-split, z)
         stops TooLong v r′ g z = rw (selectors-split, z)
 
-        pub selecting-stop : stopped y ≡ true → Fills t e next reach Act y w
+        pub selecting-stop : stopped y ≡ true → Fills t e a Act y w
         selecting-stop z =
             filled y w keeps-next (λ f one few p. let o = c .on f one few p in subst (λ (a : Result Filled). Step w (above e) e y a) (o .left) (stops y (elementAt t e) (o .result) z (chosen f one few p)))
 
         goes : (z : Placed) (v : Tree.ConstVal) (f : Filled) (o : On u e x (namesIn s t m) v (sesFrom s r count j) (sesFrom s r count 0) f) → stopped z ≡ false
             → Chose w e (spanOf (namesIn s t m) (seAt s q .low) (seAt s q .high)) v (o .result) z → On w e z (namesIn s t m) v (sesFrom s r count (j + 1)) (sesFrom s r count 0) f
         unfolding placeAll
-        goes (Into a b) v f o g z = record { result = bind (o .result) (placeIndices v (z .low) (z .high)); step = z .step; left = rw (selectors-split, z .is) at (o .left) }
+        goes (Into b) v f o g z = record { result = bind (o .result) (placeIndices v (z .low) (z .high)); step = z .step; left = rw (selectors-split, z .is) at (o .left) }
         goes Negative v f o g z = record { result = bind (o .result) (placeIndices v (z .low) (z .high)); step = z .step; left = rw (selectors-split, z .is) at (o .left) }
         goes Failed v f o g z = never (sym g)
         goes TooLong v f o g z = never (sym g)
 
-        pub selecting-next : stopped y ≡ false → Selecting s t m r e next reach count w y (j + 1)
+        pub selecting-next : stopped y ≡ false → Selecting s t m r e a count w y (j + 1)
         selecting-next z = record { within = omega arith; keeps = keeps-next; ongoing = z; on = λ f one few p. goes y (elementAt t e) f (c .on f one few p) z (chosen f one few p) }

@@ -24,6 +24,7 @@ use Rattle.decimal.specs.Number as Number
 use Rattle.lines.specs.Lines.{readsIn, readAt, nodesIn}
 use Rattle.refs.proofs.Fields.{head-drop, tail-drop}
 use Rattle.sizes.proofs.Types.{May, maybe-head, Group, group-at}
+use Rattle.placements.specs.declared.Extent.{Extent}
 use Rattle.placements.specs.declared.Placed.{Placed}
 use Rattle.placements.specs.declared.Placed.the-variants.{Into, Negative, Failed, TooLong}
 use Rattle.placements.specs.Placements.{Keeps, Filling, Goes, Step}
@@ -32,13 +33,14 @@ use Rattle.placements.proofs.Same.{keeps-all, keeps-then}
 use Rattle.placements.proofs.Fillings.{filling-wider}
 use Rattle.leaf.specs.Folds.{exAt}
 use Rattle.literals.specs.Literals.{elAt, elsAt, namesIn, Line, Turn, LiteralLine, above, Turns, AllFilled}
-use Rattle.literals.proofs.Names.{log-kept, line-kept}
+use Rattle.names.specs.Table.{Logged}
+use Rattle.literals.proofs.Names.{log-kept, logged-kept, line-kept}
 use Rattle.literals.proofs.Placing.{isInto, step-ends}
 use Rattle.literals.proofs.Lines.{parts-at, makes, good-line, count-is}
 
 -- ---- the line of a literal
 
-module _ {s t : Bytes} {n m r : ℕ} (k : LiteralLine s t n m r) where
+module _ {s t : Bytes} {n r : ℕ} (k : LiteralLine s t n r) where
   pub literal-refs : May (readsIn s) (r - 1) 69 (getD (readAt s (r - 1) .fields) 0 []) × May (readsIn s) (r - 1) 75 (getD (readAt s (r - 1) .fields) 1 []) × Group (readsIn s) (r - 1) 76 2 (readAt s (r - 1) .fields)
   unfolding forms
   literal-refs =
@@ -58,7 +60,7 @@ module _ {s t : Bytes} {n m r : ℕ} (k : LiteralLine s t n m r) where
 abbrev pub elsFrom : Bytes → ℕ → ℕ → ℕ → Els
 elsFrom s r count j = elsOf (values (ref kEl) (nodesIn s) (count - j) (drop (3 + j) (readAt s (r - 1) .fields)))
 
-module _ {s t : Bytes} {n m r : ℕ} (k : LiteralLine s t n m r) {count : ℕ} (hc : count ≡ Number.numberOf 65536 (getD (readAt s (r - 1) .fields) 2 [])) where
+module _ {s t : Bytes} {n r : ℕ} (k : LiteralLine s t n r) {count : ℕ} (hc : count ≡ Number.numberOf 65536 (getD (readAt s (r - 1) .fields) 2 [])) where
   pub few-elements : count ≤ 16
   few-elements = count-is (k .line) (literal-refs k .2) hc .1
 
@@ -69,10 +71,10 @@ module _ {s t : Bytes} {n m r : ℕ} (k : LiteralLine s t n m r) {count : ℕ} (
   all-elements = let z : count - 0 ≡ numberOf (getD (readAt s (r - 1) .fields) 2 []) = omega (arith, count-exact) in rw z
 
   module _ {j : ℕ} (h : j < count) {q : ℕ} (hq : q ≡ Number.numberOf 65536 (getD (readAt s (r - 1) .fields) (3 + j) [])) where
-    element-good : (q ≡ numberOf (getD (readAt s (r - 1) .fields) (3 + j) [])) × Line 76 s t n m q
+    element-good : (q ≡ numberOf (getD (readAt s (r - 1) .fields) (3 + j) [])) × Line 76 s t n q
     element-good = good-line (k .line) 76 (getD (readAt s (r - 1) .fields) (3 + j) []) q hq (literal-refs k .2 .each j (omega (arith, count-exact)))
 
-    pub element-line : Line 76 s t n m q
+    pub element-line : Line 76 s t n q
     element-line = element-good .1
 
     pub elements-split : elsFrom s r count j ≡ andEl (elAt s q) (elsFrom s r count (j + 1))
@@ -84,23 +86,23 @@ module _ {s t : Bytes} {n m r : ℕ} (k : LiteralLine s t n m r) {count : ℕ} (
 -- ---- the loop
 
 -- j elements are placed, and those that are left complete the literal
-pub record Turning (s t : Bytes) (m r count : ℕ) (u : Bytes) (next reach j : ℕ) : Type 0 where
+pub record Turning (s t : Bytes) (m r count : ℕ) (u : Bytes) (x : Extent) (j : ℕ) : Type 0 where
   pub within : j ≤ count
   pub keeps : Keeps 16384 49152 t u
   pub literal : Filled
-  pub filling : Filling u (above j) j next reach literal
+  pub filling : Filling u (above j) j (x .next) (x .reach) literal
   pub left : fill (namesIn s t m) (elsFrom s r count j) literal ≡ fill (namesIn s t m) (elsFrom s r count 0) noneFilled
 
 pub into-not : (y : Placed) → OneOf (1 ∷ 2 ∷ 3 ∷ []) (tagOf the-type y) → isInto y ≡ false
-into-not (Into next reach) (inl e) = absurd (omega arith)
-into-not (Into next reach) (inr (inl e)) = absurd (omega arith)
-into-not (Into next reach) (inr (inr e)) = absurd (omega arith)
+into-not (Into a) (inl e) = absurd (omega arith)
+into-not (Into a) (inr (inl e)) = absurd (omega arith)
+into-not (Into a) (inr (inr e)) = absurd (omega arith)
 into-not Negative h = refl
 into-not Failed h = refl
 into-not TooLong h = refl
 
-module _ {s t₀ : Bytes} {n m r : ℕ} (k : LiteralLine s t₀ n m r) {t : Bytes} (a : (Filling t 49152 0 0 0 noneFilled) × ((b : ℕ) → Keeps 16384 b t₀ t)) where
-  pub begun : Line 69 s t n m r
+module _ {s t₀ : Bytes} {n m r : ℕ} (k : LiteralLine s t₀ n r) (g : Logged s t₀ n m) {t : Bytes} (a : (Filling t 49152 0 0 0 noneFilled) × ((b : ℕ) → Keeps 16384 b t₀ t)) where
+  pub begun : Line 69 s t n r
   begun = line-kept (a .1 49152) (k .line)
 
   module _ {count : ℕ} (hc : count ≡ Number.numberOf 65536 (getD (readAt s (r - 1) .fields) 2 [])) where
@@ -109,16 +111,16 @@ module _ {s t₀ : Bytes} {n m r : ℕ} (k : LiteralLine s t₀ n m r) {t : Byte
 
     -- the literal, as the working space before the start has its names
     whole-is : fill (namesIn s t m) (elsFrom s r count 0) noneFilled ≡ fill (namesIn s t₀ m) (elsAt s r) noneFilled
-    whole-is = rw (all-elements k hc, log-kept (a .1 49152) (k .line .log))
+    whole-is = rw (all-elements k hc, log-kept (a .1 49152) g)
 
-    pub turning-start : Turning s t m r count t 0 0 0
+    pub turning-start : Turning s t m r count t (record { next = 0; reach = 0 }) 0
     turning-start = record { within = omega arith; keeps = keeps-all; literal = noneFilled; filling = a .0; left = refl }
 
-    module _ {u : Bytes} {next reach j : ℕ} (c : Turning s t m r count u next reach j) where
-      pub turning-line : Line 69 s u n m r
+    module _ {u : Bytes} {x : Extent} {j : ℕ} (c : Turning s t m r count u x j) where
+      pub turning-line : Line 69 s u n r
       turning-line = line-kept (c .keeps) begun
 
-      pub turning-end : count ≤ j → AllFilled t₀ (fill (namesIn s t₀ m) (elsAt s r) noneFilled) (Into next reach) u
+      pub turning-end : count ≤ j → AllFilled t₀ (fill (namesIn s t₀ m) (elsAt s r) noneFilled) (Into x) u
       turning-end h =
           let z : count - j ≡ 0 = omega arith in
           record {
@@ -129,15 +131,18 @@ module _ {s t₀ : Bytes} {n m r : ℕ} (k : LiteralLine s t₀ n m r) {t : Byte
           }
 
       module _ (h : j < count) {q : ℕ} (hq : q ≡ Number.numberOf 65536 (getD (readAt s (r - 1) .fields) (3 + j) [])) where
-        pub turn-line : Turn s u n m q j
-        turn-line = record { line = line-kept (keeps-then (a .1 49152) (c .keeps)) (element-line k hc h hq); few = omega (arith, few) }
+        keeps-both : Keeps 16384 49152 t₀ u
+        keeps-both = keeps-then (a .1 49152) (c .keeps)
 
-        module _ (y : Placed) {w : Bytes} (d : Turns u j next reach (fillElement (namesIn s u m) (elAt s q)) y w) where
+        pub turn-line : Turn s u n m q j
+        turn-line = record { line = line-kept keeps-both (element-line k hc h hq); log = logged-kept keeps-both g; few = omega (arith, few) }
+
+        module _ (y : Placed) {w : Bytes} (d : Turns u j x (fillElement (namesIn s u m) (elAt s q)) y w) where
           keeps-next : Keeps 16384 49152 t w
           keeps-next = keeps-then (c .keeps) (d .keeps)
 
           step-next : Step w (above (j + 1)) (j + 1) y (fillElement (namesIn s t m) (elAt s q) (c .literal))
-          step-next = rw (log-kept (c .keeps) (begun .log)) at (d .step (c .literal) (c .filling))
+          step-next = rw (log-kept (c .keeps) (logged-kept (a .1 49152) g)) at (d .step (c .literal) (c .filling))
 
           -- what is left, by what the element gives
           left-next : bind (fillElement (namesIn s t m) (elAt s q) (c .literal)) (fill (namesIn s t m) (elsFrom s r count (j + 1))) ≡ fill (namesIn s t m) (elsFrom s r count 0) noneFilled
@@ -148,10 +153,10 @@ module _ {s t₀ : Bytes} {n m r : ℕ} (k : LiteralLine s t₀ n m r) {t : Byte
             keeps = keeps-then (a .1 49152) keeps-next;
             count = j + 1;
             few = omega (arith, few);
-            step = subst (λ (g : Result Filled). Step w (above 16) (j + 1) y g) (left-next ∙ whole-is) (step-ends y e w (above (j + 1)) (above 16) (j + 1) (fillElement (namesIn s t m) (elAt s q) (c .literal)) (fill (namesIn s t m) (elsFrom s r count (j + 1))) step-next);
+            step = subst (λ (b : Result Filled). Step w (above 16) (j + 1) y b) (left-next ∙ whole-is) (step-ends y e w (above (j + 1)) (above 16) (j + 1) (fillElement (namesIn s t m) (elAt s q) (c .literal)) (fill (namesIn s t m) (elsFrom s r count (j + 1))) step-next);
           }
 
-          pub turning-next : {x z : ℕ} → y ≡ Into x z → Turning s t m r count w x z (j + 1)
-          turning-next {x} {z} e =
-              let g : Goes w (above (j + 1)) (j + 1) x z (fillElement (namesIn s t m) (elAt s q) (c .literal)) = subst (λ (b : Placed). Step w (above (j + 1)) (j + 1) b (fillElement (namesIn s t m) (elAt s q) (c .literal))) e step-next in
-              record { within = omega arith; keeps = keeps-next; literal = g .literal; filling = g .filling; left = rw (g .result) at left-next }
+          pub turning-next : {z : Extent} → y ≡ Into z → Turning s t m r count w z (j + 1)
+          turning-next {z} e =
+              let o : Goes w (above (j + 1)) (j + 1) (z .next) (z .reach) (fillElement (namesIn s t m) (elAt s q) (c .literal)) = subst (λ (b : Placed). Step w (above (j + 1)) (j + 1) b (fillElement (namesIn s t m) (elAt s q) (c .literal))) e step-next in
+              record { within = omega arith; keeps = keeps-next; literal = o .literal; filling = o .filling; left = rw (o .result) at left-next }

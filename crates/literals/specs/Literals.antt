@@ -19,6 +19,7 @@ use Rattle.lines.specs.Lines.{readAt, nodesIn, formAt}
 use Rattle.checks.specs.Checks.{Checked}
 use Rattle.names.specs.Table.{logIn, Logged}
 use Rattle.values.specs.declared.ConstVal.{ConstVal}
+use Rattle.placements.specs.declared.Extent.{Extent}
 use Rattle.placements.specs.declared.Placed.{Placed}
 use Rattle.placements.specs.declared.Placed.the-variants.{Into, Negative, Failed, TooLong}
 use Rattle.placements.specs.Placements.{slotAt, elementAt, Keeps, Standing, Filling, Step, stopped}
@@ -48,17 +49,17 @@ elsAt s r = elsOf (values (ref kEl) (nodesIn s) (numberOf (getD (readAt s (r - 1
 abbrev pub namesIn : Bytes → Bytes → ℕ → Names
 namesIn s t m = record { log = logIn s t m }
 
--- line r of a checked sheet has kind k, and the first m constants stand in their table
-pub record Line (k : ℕ) (s t : Bytes) (n m r : ℕ) : Type 0 where
+-- line r of a checked sheet has kind k
+pub record Line (k : ℕ) (s t : Bytes) (n r : ℕ) : Type 0 where
   pub checked : Checked s t n
-  pub log : Logged s t n m
   pub first : 0 < r
   pub last : r ≤ n
   pub kind : letter (readAt s (r - 1) .form .kind) ≡ k
 
--- it is to be worked on after e elements, each with 256 bytes for its string
+-- it is to be worked on by the first m constants, after e elements, each with 256 bytes for its string
 pub record Task (k : ℕ) (s t : Bytes) (n m r e : ℕ) : Type 0 where
-  pub line : Line k s t n m r
+  pub line : Line k s t n r
+  pub log : Logged s t n m
   pub few : e ≤ 16
 
 -- and is an `el,at` line, form 22
@@ -74,12 +75,13 @@ pub record ValuedTask (s t : Bytes) (n m r e : ℕ) (v : ConstVal) : Type 0 wher
 
 -- it is an `el` line, 76, to be worked on after k elements
 pub record Turn (s t : Bytes) (n m r k : ℕ) : Type 0 where
-  pub line : Line 76 s t n m r
+  pub line : Line 76 s t n r
+  pub log : Logged s t n m
   pub few : k < 16
 
 -- it is an `ex,lit` line, form 18
-pub record LiteralLine (s t : Bytes) (n m r : ℕ) : Type 0 where
-  pub line : Line 69 s t n m r
+pub record LiteralLine (s t : Bytes) (n r : ℕ) : Type 0 where
+  pub line : Line 69 s t n r
   pub form : formAt t (r - 1) ≡ 18
 
 -- where the strings of e elements end
@@ -112,7 +114,7 @@ pub record Took (u : Bytes) (e : ℕ) (span : Result (ℤ × ℤ)) (v : Tree.Con
   pub step : Step u (above e) e y (bind r (placeIndices v low high))
 
 abbrev pub Chose : Bytes → ℕ → Result (ℤ × ℤ) → Tree.ConstVal → Result Filled → Placed → Type 0
-Chose u e span v r (Into next reach) = Took u e span v r (Into next reach)
+Chose u e span v r (Into x) = Took u e span v r (Into x)
 Chose u e span v r Negative = Took u e span v r Negative
 Chose u e span v r Failed = span ≡ failed
 Chose u e span v r TooLong = span ≡ refuse 8
@@ -123,9 +125,9 @@ pub record Selects (t : Bytes) (e : ℕ) (x : Placed) (span : Result (ℤ × ℤ
   pub chose : (r : Result Filled) → 0 < e → e ≤ 16 → stopped x ≡ false → Step t (above e) e x r → Chose u e span (elementAt t e) r y
 
 -- t has become u by placing the value of element e: y is what `act` gives of it
-pub record Fills (t : Bytes) (e next reach : ℕ) (act : Tree.ConstVal → Filled → Result Filled) (y : Placed) (u : Bytes) : Type 0 where
+pub record Fills (t : Bytes) (e : ℕ) (x : Extent) (act : Tree.ConstVal → Filled → Result Filled) (y : Placed) (u : Bytes) : Type 0 where
   pub keeps : Keeps 16384 49152 t u
-  pub step : (f : Filled) → 0 < e → e ≤ 16 → Filling t (above e) e next reach f → Step u (above e) e y (act (elementAt t e) f)
+  pub step : (f : Filled) → 0 < e → e ≤ 16 → Filling t (above e) e (x .next) (x .reach) f → Step u (above e) e y (act (elementAt t e) f)
 
 -- what an element makes of its value
 abbrev pub placed : Names → El → Tree.ConstVal → Filled → Result Filled
@@ -134,9 +136,9 @@ placed ns (star e) v f = ok (setWildcard v f)
 placed ns (at e ss) v f = bind (spansOf ns ss) (λ (l : List (ℤ × ℤ)). placeSpans v l f)
 
 -- t has become u by an element that comes after k others
-pub record Turns (t : Bytes) (k next reach : ℕ) (act : Filled → Result Filled) (y : Placed) (u : Bytes) : Type 0 where
+pub record Turns (t : Bytes) (k : ℕ) (x : Extent) (act : Filled → Result Filled) (y : Placed) (u : Bytes) : Type 0 where
   pub keeps : Keeps 16384 49152 t u
-  pub step : (f : Filled) → Filling t (above k) k next reach f → Step u (above (k + 1)) (k + 1) y (act f)
+  pub step : (f : Filled) → Filling t (above k) k (x .next) (x .reach) f → Step u (above (k + 1)) (k + 1) y (act f)
 
 -- t has become u by all elements of a literal, of which there are `count`
 pub record AllFilled (t : Bytes) (r : Result Filled) (y : Placed) (u : Bytes) : Type 0 where

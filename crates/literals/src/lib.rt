@@ -1,6 +1,8 @@
 // The elements of a literal: each value is folded and stored, then its selectors, and then it is placed.
 use codes::area;
 use codes::el;
+use names::Known;
+use placements::Extent;
 use placements::Placed;
 use values::ConstVal;
 use values::Folded;
@@ -14,6 +16,7 @@ ghost use Rattle.semantics.specs.Tree as Tree;
 ghost use Rattle.semantics.specs.Fold.{Result, bind};
 ghost use Rattle.semantics.specs.Array.{Filled, fill, asInt, indexOf, highOf, spanOf, spansOf, placeIndices, placeSpans, noneFilled, fillElement};
 ghost use Rattle.checks.specs.Checks.{Kept};
+ghost use Rattle.names.specs.Table.{Logged};
 ghost use Rattle.placements.specs.Placements.{stopped};
 ghost use Rattle.values.specs.Values.{resultIn};
 ghost use Rattle.leaf.specs.Folds.{exAt};
@@ -47,33 +50,33 @@ fn as_int(x: Folded) -> Index
     }
 }
 
-fn index_of(sheet: &[u8], work: &mut [u8], n: usize, m: usize, r: usize, e: usize) -> Index
-    requires { ⌜ Task 69 (now sheet) (now work) n m r e ⌝ }
-    ensures { λ i. ⌜ (indexResult i ≡ indexOf (namesIn (now (sheet .entry)) (now (work .entry)) m) (exAt (now (sheet .entry)) r)) × (Kept (above e) (now (work .entry)) (now (work .exit))) ⌝ }
+fn index_of(sheet: &[u8], work: &mut [u8], c: Known, r: usize, e: usize) -> Index
+    requires { ⌜ Task 69 (now sheet) (now work) (c .lines) (c .consts) r e ⌝ }
+    ensures { λ i. ⌜ (indexResult i ≡ indexOf (namesIn (now (sheet .entry)) (now (work .entry)) (c .consts)) (exAt (now (sheet .entry)) r)) × (Kept (above e) (now (work .entry)) (now (work .exit))) ⌝ }
 {
-    as_int(fold::fold_const(sheet, work, n, m, 0, r, area::STACK + 256 * e))
+    as_int(fold::fold_const(sheet, work, c, 0, r, area::STACK + 256 * e))
 }
 
 // The high end of a selector's line r, where its low end is known.
-fn high_of(sheet: &[u8], work: &mut [u8], n: usize, m: usize, r: usize, e: usize, low: i64) -> Index
-    requires { ⌜ Task 74 (now sheet) (now work) n m r e ⌝ }
-    ensures { λ i. ⌜ (indexResult i ≡ highOf (namesIn (now (sheet .entry)) (now (work .entry)) m) low (seAt (now (sheet .entry)) r .high)) × (Kept (above e) (now (work .entry)) (now (work .exit))) ⌝ }
+fn high_of(sheet: &[u8], work: &mut [u8], c: Known, r: usize, e: usize, low: i64) -> Index
+    requires { ⌜ Task 74 (now sheet) (now work) (c .lines) (c .consts) r e ⌝ }
+    ensures { λ i. ⌜ (indexResult i ≡ highOf (namesIn (now (sheet .entry)) (now (work .entry)) (c .consts)) low (seAt (now (sheet .entry)) r .high)) × (Kept (above e) (now (work .entry)) (now (work .exit))) ⌝ }
 {
-    let h = lines::number_at(sheet, work, n, r - 1, 1);
+    let h = lines::number_at(sheet, work, c.lines, r - 1, 1);
     if h == 0 {
         return Index::At(low);
     }
-    index_of(sheet, work, n, m, h, e)
+    index_of(sheet, work, c, h, e)
 }
 
 // A low end that is no integer ends it before the high end is folded.
-fn span_of(sheet: &[u8], work: &mut [u8], n: usize, m: usize, r: usize, e: usize) -> Span
-    requires { ⌜ Task 74 (now sheet) (now work) n m r e ⌝ }
-    ensures { λ x. ⌜ (spanResult x ≡ spanOf (namesIn (now (sheet .entry)) (now (work .entry)) m) (seAt (now (sheet .entry)) r .low) (seAt (now (sheet .entry)) r .high)) × (Kept (above e) (now (work .entry)) (now (work .exit))) ⌝ }
+fn span_of(sheet: &[u8], work: &mut [u8], c: Known, r: usize, e: usize) -> Span
+    requires { ⌜ Task 74 (now sheet) (now work) (c .lines) (c .consts) r e ⌝ }
+    ensures { λ x. ⌜ (spanResult x ≡ spanOf (namesIn (now (sheet .entry)) (now (work .entry)) (c .consts)) (seAt (now (sheet .entry)) r .low) (seAt (now (sheet .entry)) r .high)) × (Kept (above e) (now (work .entry)) (now (work .exit))) ⌝ }
 {
-    let q = lines::number_at(sheet, work, n, r - 1, 0);
-    match index_of(sheet, work, n, m, q, e) {
-        Index::At(low) => match high_of(sheet, work, n, m, r, e, low) {
+    let q = lines::number_at(sheet, work, c.lines, r - 1, 0);
+    match index_of(sheet, work, c, q, e) {
+        Index::At(low) => match high_of(sheet, work, c, r, e, low) {
             Index::At(high) => Span::Of(low, high),
             Index::Failed => Span::Failed,
             Index::TooLong => Span::TooLong,
@@ -89,7 +92,7 @@ fn place_on(work: &mut [u8], e: usize, low: i64, high: i64, x: Placed) -> Placed
     ensures { λ y. ⌜ Moves (now (work .entry)) e x (λ (v : Tree.ConstVal) (r : Result Filled). bind r (placeIndices v low high)) y (now (work .exit)) ⌝ }
 {
     match x {
-        Placed::Into(next, reach) => placements::place_indices(work, e, low, high, next, reach),
+        Placed::Into(a) => placements::place_indices(work, e, low, high, a),
         Placed::Negative => Placed::Negative,
         Placed::Failed => Placed::Failed,
         Placed::TooLong => Placed::TooLong,
@@ -97,19 +100,11 @@ fn place_on(work: &mut [u8], e: usize, low: i64, high: i64, x: Placed) -> Placed
 }
 
 // The selector of line r.
-fn place_selector(
-    sheet: &[u8],
-    work: &mut [u8],
-    n: usize,
-    m: usize,
-    r: usize,
-    e: usize,
-    x: Placed,
-) -> Placed
-    requires { ⌜ Task 74 (now sheet) (now work) n m r e ⌝ }
-    ensures { λ y. ⌜ Selects (now (work .entry)) e x (spanOf (namesIn (now (sheet .entry)) (now (work .entry)) m) (seAt (now (sheet .entry)) r .low) (seAt (now (sheet .entry)) r .high)) y (now (work .exit)) ⌝ }
+fn place_selector(sheet: &[u8], work: &mut [u8], c: Known, r: usize, e: usize, x: Placed) -> Placed
+    requires { ⌜ Task 74 (now sheet) (now work) (c .lines) (c .consts) r e ⌝ }
+    ensures { λ y. ⌜ Selects (now (work .entry)) e x (spanOf (namesIn (now (sheet .entry)) (now (work .entry)) (c .consts)) (seAt (now (sheet .entry)) r .low) (seAt (now (sheet .entry)) r .high)) y (now (work .exit)) ⌝ }
 {
-    match span_of(sheet, work, n, m, r, e) {
+    match span_of(sheet, work, c, r, e) {
         Span::Of(low, high) => place_on(work, e, low, high, x),
         Span::Failed => Placed::Failed,
         Span::TooLong => Placed::TooLong,
@@ -120,7 +115,7 @@ fn is_stopped(x: Placed) -> bool
     ensures { λ b. ⌜ b ≡ stopped x ⌝ }
 {
     match x {
-        Placed::Into(_, _) => false,
+        Placed::Into(_) => false,
         Placed::Negative => false,
         Placed::Failed => true,
         Placed::TooLong => true,
@@ -128,78 +123,58 @@ fn is_stopped(x: Placed) -> bool
 }
 
 // The selectors of line r.
-fn place_selectors(
-    sheet: &[u8],
-    work: &mut [u8],
-    n: usize,
-    m: usize,
-    r: usize,
-    e: usize,
-    next: u64,
-    reach: u64,
-) -> Placed
-    requires { ⌜ AtTask (now sheet) (now work) n m r e ⌝ }
-    ensures { λ y. ⌜ Fills (now (work .entry)) e next reach (λ (v : Tree.ConstVal) (f : Filled). bind (spansOf (namesIn (now (sheet .entry)) (now (work .entry)) m) (sesAt (now (sheet .entry)) r)) (λ (l : List (ℤ × ℤ)). placeSpans v l f)) y (now (work .exit)) ⌝ }
+fn place_selectors(sheet: &[u8], work: &mut [u8], c: Known, r: usize, e: usize, x: Extent) -> Placed
+    requires { ⌜ AtTask (now sheet) (now work) (c .lines) (c .consts) r e ⌝ }
+    ensures { λ y. ⌜ Fills (now (work .entry)) e x (λ (v : Tree.ConstVal) (f : Filled). bind (spansOf (namesIn (now (sheet .entry)) (now (work .entry)) (c .consts)) (sesAt (now (sheet .entry)) r)) (λ (l : List (ℤ × ℤ)). placeSpans v l f)) y (now (work .exit)) ⌝ }
 {
-    let count = lines::number_at(sheet, work, n, r - 1, 1);
-    let mut x = Placed::Into(next, reach);
+    let count = lines::number_at(sheet, work, c.lines, r - 1, 1);
+    let mut y = Placed::Into(x);
     let mut j = 0;
     while j < count {
-        let q = lines::number_at(sheet, work, n, r - 1, 2 + j);
-        x = place_selector(sheet, work, n, m, q, e, x);
-        if is_stopped(x) {
-            return x;
+        let q = lines::number_at(sheet, work, c.lines, r - 1, 2 + j);
+        y = place_selector(sheet, work, c, q, e, y);
+        if is_stopped(y) {
+            return y;
         }
         j += 1;
     }
-    x
+    y
 }
 
 // Element e of line r, whose value v stands in its slot.
 fn place_element(
     sheet: &[u8],
     work: &mut [u8],
-    n: usize,
-    m: usize,
+    c: Known,
     r: usize,
     e: usize,
     v: ConstVal,
-    next: u64,
-    reach: u64,
+    x: Extent,
 ) -> Placed
-    requires { ⌜ ValuedTask (now sheet) (now work) n m r e v ⌝ }
-    ensures { λ y. ⌜ Fills (now (work .entry)) e next reach (placed (namesIn (now (sheet .entry)) (now (work .entry)) m) (elAt (now (sheet .entry)) r)) y (now (work .exit)) ⌝ }
+    requires { ⌜ ValuedTask (now sheet) (now work) (c .lines) (c .consts) r e v ⌝ }
+    ensures { λ y. ⌜ Fills (now (work .entry)) e x (placed (namesIn (now (sheet .entry)) (now (work .entry)) (c .consts)) (elAt (now (sheet .entry)) r)) y (now (work .exit)) ⌝ }
 {
     let f = lines::form_at(work, r - 1);
     if f == el::NEXT {
-        return placements::place_next(work, e, next, reach);
+        return placements::place_next(work, e, x);
     }
     if f == el::STAR {
         placements::put_value(work, 0, v);
-        return Placed::Into(next, reach);
+        return Placed::Into(x);
     }
-    place_selectors(sheet, work, n, m, r, e, next, reach)
+    place_selectors(sheet, work, c, r, e, x)
 }
 
 // The element of line r, which k others come before.
-fn fill_element(
-    sheet: &[u8],
-    work: &mut [u8],
-    n: usize,
-    m: usize,
-    r: usize,
-    k: usize,
-    next: u64,
-    reach: u64,
-) -> Placed
-    requires { ⌜ Turn (now sheet) (now work) n m r k ⌝ }
-    ensures { λ y. ⌜ Turns (now (work .entry)) k next reach (fillElement (namesIn (now (sheet .entry)) (now (work .entry)) m) (elAt (now (sheet .entry)) r)) y (now (work .exit)) ⌝ }
+fn fill_element(sheet: &[u8], work: &mut [u8], c: Known, r: usize, k: usize, x: Extent) -> Placed
+    requires { ⌜ Turn (now sheet) (now work) (c .lines) (c .consts) r k ⌝ }
+    ensures { λ y. ⌜ Turns (now (work .entry)) k x (fillElement (namesIn (now (sheet .entry)) (now (work .entry)) (c .consts)) (elAt (now (sheet .entry)) r)) y (now (work .exit)) ⌝ }
 {
-    let q = lines::number_at(sheet, work, n, r - 1, 0);
-    match fold::fold_const(sheet, work, n, m, 0, q, area::STACK + 256 * k) {
+    let q = lines::number_at(sheet, work, c.lines, r - 1, 0);
+    match fold::fold_const(sheet, work, c, 0, q, area::STACK + 256 * k) {
         Folded::Value(v) => {
             placements::put_value(work, k + 1, v);
-            place_element(sheet, work, n, m, r, k + 1, v, next, reach)
+            place_element(sheet, work, c, r, k + 1, v, x)
         }
         Folded::Failed => Placed::Failed,
         Folded::TooLong => Placed::TooLong,
@@ -207,24 +182,22 @@ fn fill_element(
 }
 
 // The elements of a literal of line r, in order; the first that ends it ends the work.
-pub fn fill(sheet: &[u8], work: &mut [u8], n: usize, m: usize, r: usize) -> Placed
-    requires { ⌜ LiteralLine (now sheet) (now work) n m r ⌝ }
-    ensures { λ y. ⌜ AllFilled (now (work .entry)) (fill (namesIn (now (sheet .entry)) (now (work .entry)) m) (elsAt (now (sheet .entry)) r) noneFilled) y (now (work .exit)) ⌝ }
+pub fn fill(sheet: &[u8], work: &mut [u8], c: Known, r: usize) -> Placed
+    requires { ⌜ (LiteralLine (now sheet) (now work) (c .lines) r) × (Logged (now sheet) (now work) (c .lines) (c .consts)) ⌝ }
+    ensures { λ y. ⌜ AllFilled (now (work .entry)) (fill (namesIn (now (sheet .entry)) (now (work .entry)) (c .consts)) (elsAt (now (sheet .entry)) r) noneFilled) y (now (work .exit)) ⌝ }
 {
     placements::empty(work);
-    let count = lines::number_at(sheet, work, n, r - 1, 2);
-    let mut next: u64 = 0;
-    let mut reach: u64 = 0;
+    let count = lines::number_at(sheet, work, c.lines, r - 1, 2);
+    let mut x = Extent { next: 0, reach: 0 };
     let mut j = 0;
     while j < count {
-        let q = lines::number_at(sheet, work, n, r - 1, 3 + j);
-        let y = fill_element(sheet, work, n, m, q, j, next, reach);
-        let Placed::Into(a, b) = y else {
+        let q = lines::number_at(sheet, work, c.lines, r - 1, 3 + j);
+        let y = fill_element(sheet, work, c, q, j, x);
+        let Placed::Into(a) = y else {
             return y;
         };
-        next = a;
-        reach = b;
+        x = a;
         j += 1;
     }
-    Placed::Into(next, reach)
+    Placed::Into(x)
 }

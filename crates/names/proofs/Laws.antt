@@ -21,7 +21,7 @@ use Rattle.words.proofs.Laws.{digest-apart}
 use Rattle.implement.specs.Modules.{firstField, moduleAt, ownIn, isOwn}
 use Rattle.checks.specs.Checks.{Kept}
 use Rattle.checks.proofs.Kept.{kept-at, kept-less}
-use Rattle.names.specs.Table.{lineOf, moduleLineOf, valueBy, slotAt, kindOf, bitsOf, digestOf, entriesAt, logIn, Entry, Logged, found, hasKey, answersPlain, answersQualified}
+use Rattle.names.specs.Table.{lineOf, moduleLineOf, valueBy, slotAt, kindOf, bitsOf, digestOf, entriesAt, logIn, Entry, Logged, ConstTable, TableEntry, found, hasKey, answersPlain, answersQualified, newestOf}
 
 -- ---- a slot by its kind and bits
 
@@ -129,39 +129,65 @@ pub record Answers (s t : Bytes) (k : Key) (answers : ℕ → Bool) : Type 0 whe
   pub value : (i : ℕ) (rest : List Const) → valueOf (lookUp k (entriesAt s t i ++ rest)) ≡ cond (answers i) (slotAt t (5124 + 16 * i)) (valueOf (lookUp k rest))
   pub has : (i : ℕ) (rest : List Const) → hasKey k (entriesAt s t i ++ rest) ≡ answers i || hasKey k rest
 
--- it comes to the first i entries
-pub record Looking (s t : Bytes) (k : Key) (m i : ℕ) : Type 0 where
-  pub value : valueOf (lookUp k (logIn s t m)) ≡ valueOf (lookUp k (logIn s t i))
-  pub has : hasKey k (logIn s t m) ≡ hasKey k (logIn s t i)
-
-pub record Looked (s t : Bytes) (k : Key) (m r : ℕ) : Type 0 where
-  pub value : valueOf (lookUp k (logIn s t m)) ≡ found t r
-  pub has : hasKey k (logIn s t m) ≡ ltb 0 r
-
-pub looking : (s t : Bytes) (k : Key) (m : ℕ) → Looking s t k m m
-looking s t k m = record { value = refl; has = refl }
-
-module _ (s t : Bytes) (k : Key) (answers : ℕ → Bool) (a : Answers s t k answers) (m : ℕ) where
-  pub look-hit : (i : ℕ) → Looking s t k m i → 0 < i → {b : Bool} → b ≡ answers (i - 1) → b ≡ true → Looked s t k m i
-  unfolding logIn found
-  look-hit zero l p h q = absurd (omega arith)
-  look-hit (suc i) l p h q =
+-- which entry is the newest, as it is looked for from the last on
+module _ (answers : ℕ → Bool) where
+  pub newest-hit : (i : ℕ) → 0 < i → {b : Bool} → b ≡ answers (i - 1) → b ≡ true → i ≡ newestOf answers i
+  unfolding newestOf
+  newest-hit zero p h q = absurd (omega arith)
+  newest-hit (suc i) p h q =
       let e : suc i - 1 ≡ i = omega arith in
       let g : answers i ≡ true = sym (rw e at h) ∙ q in
-      record { value = l .value ∙ a .value i (logIn s t i) ∙ rw g; has = l .has ∙ a .has i (logIn s t i) ∙ rw (g, lt-ltb 0 (suc i) (omega arith)) }
+      rw g
 
-  pub look-on : (i : ℕ) → Looking s t k m i → 0 < i → {b : Bool} → b ≡ answers (i - 1) → b ≡ false → Looking s t k m (i - 1)
-  unfolding logIn
-  look-on zero l p h q = absurd (omega arith)
-  look-on (suc i) l p h q =
+  pub newest-on : (i : ℕ) → 0 < i → {b : Bool} → b ≡ answers (i - 1) → b ≡ false → newestOf answers i ≡ newestOf answers (i - 1)
+  unfolding newestOf
+  newest-on zero p h q = absurd (omega arith)
+  newest-on (suc i) p h q =
       let e : suc i - 1 ≡ i = omega arith in
       let g : answers i ≡ false = sym (rw e at h) ∙ q in
-      rw e (record { value = l .value ∙ a .value i (logIn s t i) ∙ rw g; has = l .has ∙ a .has i (logIn s t i) ∙ rw g })
+      rw (e, g)
 
-pub look-end : (s t : Bytes) (k : Key) (m i : ℕ) → Looking s t k m i → i ≤ 0 → Looked s t k m 0
-unfolding logIn found hasKey
-look-end s t k m zero l h = record { value = l .value; has = l .has }
-look-end s t k m (suc i) l h = absurd (omega arith)
+  pub newest-end : (i : ℕ) → i ≤ 0 → 0 ≡ newestOf answers i
+  unfolding newestOf
+  newest-end zero h = refl
+  newest-end (suc i) h = absurd (omega arith)
+
+  newest-low : (m : ℕ) → newestOf answers m ≤ m
+  unfolding newestOf
+  newest-low zero = omega arith
+  newest-low (suc m) = go (answers m) (newest-low m)
+    where
+      go : (b : Bool) → newestOf answers m ≤ m → cond b (suc m) (newestOf answers m) ≤ suc m
+      go true h = omega arith
+      go false h = omega arith
+
+-- what the number of the newest entry says of the log
+pub record Looked (s t : Bytes) (k : Key) (m r : ℕ) : Type 0 where
+  pub value : valueOf (lookUp k (logIn s t m)) ≡ found t r
+  pub low : r ≤ m
+  pub has : hasKey k (logIn s t m) ≡ ltb 0 r
+
+module _ {s t : Bytes} {k : Key} {answers : ℕ → Bool} (a : Answers s t k answers) where
+  newest-value : (m : ℕ) → valueOf (lookUp k (logIn s t m)) ≡ found t (newestOf answers m)
+  unfolding logIn found newestOf
+  newest-value zero = refl
+  newest-value (suc m) = a .value m (logIn s t m) ∙ go (answers m) (newest-value m)
+    where
+      go : (b : Bool) → valueOf (lookUp k (logIn s t m)) ≡ found t (newestOf answers m) → cond b (slotAt t (5124 + 16 * m)) (valueOf (lookUp k (logIn s t m))) ≡ found t (cond b (suc m) (newestOf answers m))
+      go true h = refl
+      go false h = h
+
+  newest-has : (m : ℕ) → hasKey k (logIn s t m) ≡ ltb 0 (newestOf answers m)
+  unfolding logIn hasKey newestOf
+  newest-has zero = refl
+  newest-has (suc m) = a .has m (logIn s t m) ∙ go (answers m) (newest-has m)
+    where
+      go : (b : Bool) → hasKey k (logIn s t m) ≡ ltb 0 (newestOf answers m) → b || hasKey k (logIn s t m) ≡ ltb 0 (cond b (suc m) (newestOf answers m))
+      go true h = sym (lt-ltb 0 (suc m) (omega arith))
+      go false h = h
+
+  pub looked : {m r : ℕ} → r ≡ newestOf answers m → Looked s t k m r
+  looked {m} e = rw e (record { value = newest-value m; low = newest-low answers m; has = newest-has m })
 
 pub answers-plain : (s t x : Bytes) → Answers s t (plain x) (λ (i : ℕ). answersPlain s t i x)
 unfolding entriesAt answersPlain
@@ -177,9 +203,12 @@ answers-qualified s t q x = record {
   has = λ i rest. qualified-has (sheetSource s .implement) s x (firstField s (lineOf t i)) (slotAt t (5124 + 16 * i)) rest q (moduleLineOf t i);
 }
 
+pub table-entry : {s t : Bytes} {n m i : ℕ} → ConstTable s t n m → i < m → TableEntry s t n i
+table-entry {i = i} c h = record { checked = c .checked; low = omega (arith, c .logged .few); entry = c .logged .each i h; digested = c .logged .digests i h }
+
 -- names with different digests are different
-pub named-apart : {s t : Bytes} {n m i d : ℕ} (x : Bytes) → Logged s t n m → i < m → d ≡ digest x → (digestOf t i ≡ d → ⊥) → false ≡ same x (firstField s (lineOf t i))
-named-apart {s} {t} {i = i} x l h e z = digest-apart x (firstField s (lineOf t i)) (λ q. z (l .digests i h ∙ sym (e ∙ q)))
+pub named-apart : {s t : Bytes} {n i d : ℕ} (x : Bytes) → TableEntry s t n i → d ≡ digest x → (digestOf t i ≡ d → ⊥) → false ≡ same x (firstField s (lineOf t i))
+named-apart {s} {t} {i = i} x k e z = digest-apart x (firstField s (lineOf t i)) (λ q. z (k .digested ∙ sym (e ∙ q)))
 
 -- which entries answer, as it is tested
 module _ (s t : Bytes) (i : ℕ) (x : Bytes) {b : Bool} (name : b ≡ same x (firstField s (lineOf t i))) where

@@ -18,6 +18,7 @@ use Rattle.semantics.specs.Fold.{Key, Const, signed64, sameKey}
 use Rattle.semantics.specs.Const.{entries}
 use Rattle.words.specs.Words.{digest, u16At, bitsAt}
 use Rattle.implement.specs.Modules.{firstField, moduleAt, isOwn}
+use Rattle.checks.specs.Checks.{Checked}
 
 abbrev pub lineOf : Bytes → ℕ → ℕ
 lineOf t i = u16At t (5120 + 16 * i)
@@ -80,6 +81,18 @@ pub record Logged (s t : Bytes) (n m : ℕ) : Type 0 where
   pub each : (i : ℕ) → i < m → Entry t n i
   pub digests : (i : ℕ) → i < m → digestOf t i ≡ digest (firstField s (lineOf t i))
 
+-- the table of a checked sheet has m entries
+pub record ConstTable (s t : Bytes) (n m : ℕ) : Type 0 where
+  pub checked : Checked s t n
+  pub logged : Logged s t n m
+
+-- i is one of them
+pub record TableEntry (s t : Bytes) (n i : ℕ) : Type 0 where
+  pub checked : Checked s t n
+  pub low : i < 128
+  pub entry : Entry t n i
+  pub digested : digestOf t i ≡ digest (firstField s (lineOf t i))
+
 -- what a look-up answers: 0 for no constant, else the entry's number from 1
 unfoldable pub found : Bytes → ℕ → Option ConstVal
 found t zero = none
@@ -98,3 +111,14 @@ answersPlain s t i x = same x (firstField s (lineOf t i)) && isOwn s (moduleLine
 -- the module's name and the name
 unfoldable pub answersQualified : Bytes → Bytes → ℕ → Bytes → Bytes → Bool
 answersQualified s t i q x = same x (firstField s (lineOf t i)) && (not (eqb (moduleLineOf t i) 0) && same q (firstField s (moduleLineOf t i)))
+
+-- the newest of the first m entries that answer: its number from 1, 0 for none
+unfoldable pub newestOf : (ℕ → Bool) → ℕ → ℕ
+newestOf answers zero = 0
+newestOf answers (suc m) = cond (answers m) (suc m) (newestOf answers m)
+
+abbrev pub newestPlain : Bytes → Bytes → ℕ → Bytes → ℕ
+newestPlain s t m x = newestOf (λ (i : ℕ). answersPlain s t i x) m
+
+abbrev pub newestQualified : Bytes → Bytes → ℕ → Bytes → Bytes → ℕ
+newestQualified s t m q x = newestOf (λ (i : ℕ). answersQualified s t i q x) m

@@ -9,7 +9,7 @@ ghost use Rattle.semantics.specs.Fold.{plain, qualified, lookUp, valueOf};
 ghost use Rattle.words.specs.Words.{digest};
 ghost use Rattle.implement.specs.Modules.{firstField};
 ghost use Rattle.checks.specs.Checks.{Checked};
-ghost use Rattle.names.specs.Table.{lineOf, moduleLineOf, bitsOf, kindOf, digestOf, logIn, Logged, found, hasKey, answersPlain, answersQualified};
+ghost use Rattle.names.specs.Table.{lineOf, moduleLineOf, bitsOf, kindOf, digestOf, logIn, found, hasKey, answersPlain, answersQualified, newestPlain, newestQualified, ConstTable, TableEntry};
 
 // How many lines the sheet has, and how many constants are known.
 pub struct Known {
@@ -66,8 +66,8 @@ fn is_named(sheet: &[u8], work: &[u8], n: usize, k: usize, name: &[u8]) -> bool
 }
 
 // Whether the constant of entry i has this name, which has the digest d.
-fn has_name(sheet: &[u8], work: &[u8], n: usize, m: usize, i: usize, name: &[u8], d: usize) -> bool
-    requires { ⌜ (Checked (now sheet) (now work) n) × (Logged (now sheet) (now work) n m) × (i < m) × (d ≡ digest (now name)) ⌝ }
+fn has_name(sheet: &[u8], work: &[u8], n: usize, i: usize, name: &[u8], d: usize) -> bool
+    requires { ⌜ (TableEntry (now sheet) (now work) n i) × (d ≡ digest (now name)) ⌝ }
     ensures { λ r. ⌜ r ≡ Text.same (now (name .entry)) (firstField (now (sheet .entry)) (lineOf (now (work .entry)) i)) ⌝ }
 {
     if digest_of(work, i) != d {
@@ -77,19 +77,11 @@ fn has_name(sheet: &[u8], work: &[u8], n: usize, m: usize, i: usize, name: &[u8]
 }
 
 // Whether entry i enters a constant by the plain name.
-fn answers_plain(
-    sheet: &[u8],
-    work: &[u8],
-    n: usize,
-    m: usize,
-    i: usize,
-    name: &[u8],
-    d: usize,
-) -> bool
-    requires { ⌜ (Checked (now sheet) (now work) n) × (Logged (now sheet) (now work) n m) × (i < m) × (d ≡ digest (now name)) ⌝ }
+fn answers_plain(sheet: &[u8], work: &[u8], n: usize, i: usize, name: &[u8], d: usize) -> bool
+    requires { ⌜ (TableEntry (now sheet) (now work) n i) × (d ≡ digest (now name)) ⌝ }
     ensures { λ r. ⌜ r ≡ answersPlain (now (sheet .entry)) (now (work .entry)) i (now (name .entry)) ⌝ }
 {
-    if !has_name(sheet, work, n, m, i, name, d) {
+    if !has_name(sheet, work, n, i, name, d) {
         return false;
     }
     implement::is_own(sheet, work, n, module_line_of(work, i))
@@ -100,16 +92,15 @@ fn answers_qualified(
     sheet: &[u8],
     work: &[u8],
     n: usize,
-    m: usize,
     i: usize,
     within: &[u8],
     name: &[u8],
     d: usize,
 ) -> bool
-    requires { ⌜ (Checked (now sheet) (now work) n) × (Logged (now sheet) (now work) n m) × (i < m) × (d ≡ digest (now name)) ⌝ }
+    requires { ⌜ (TableEntry (now sheet) (now work) n i) × (d ≡ digest (now name)) ⌝ }
     ensures { λ r. ⌜ r ≡ answersQualified (now (sheet .entry)) (now (work .entry)) i (now (within .entry)) (now (name .entry)) ⌝ }
 {
-    if !has_name(sheet, work, n, m, i, name, d) {
+    if !has_name(sheet, work, n, i, name, d) {
         return false;
     }
     let k = module_line_of(work, i);
@@ -120,14 +111,14 @@ fn answers_qualified(
 }
 
 // The newest constant of a plain name: 0 where there is none, else its entry's number from 1.
-pub fn look_up(sheet: &[u8], work: &[u8], n: usize, m: usize, name: &[u8]) -> usize
-    requires { ⌜ (Checked (now sheet) (now work) n) × (Logged (now sheet) (now work) n m) ⌝ }
-    ensures { λ r. ⌜ (valueOf (lookUp (plain (now (name .entry))) (logIn (now (sheet .entry)) (now (work .entry)) m)) ≡ found (now (work .entry)) r) × (r ≤ m) × (hasKey (plain (now (name .entry))) (logIn (now (sheet .entry)) (now (work .entry)) m) ≡ ltb 0 r) ⌝ }
+pub fn look_up(sheet: &[u8], work: &[u8], c: Known, name: &[u8]) -> usize
+    requires { ⌜ ConstTable (now sheet) (now work) (c .lines) (c .consts) ⌝ }
+    ensures { λ r. ⌜ (valueOf (lookUp (plain (now (name .entry))) (logIn (now (sheet .entry)) (now (work .entry)) (c .consts))) ≡ found (now (work .entry)) r) × (r ≤ c .consts) × (hasKey (plain (now (name .entry))) (logIn (now (sheet .entry)) (now (work .entry)) (c .consts)) ≡ ltb 0 r) × (r ≡ newestPlain (now (sheet .entry)) (now (work .entry)) (c .consts) (now (name .entry))) ⌝ }
 {
     let d = words::digest(name);
-    let mut i = m;
+    let mut i = c.consts;
     while 0 < i {
-        if answers_plain(sheet, work, n, m, i - 1, name, d) {
+        if answers_plain(sheet, work, c.lines, i - 1, name, d) {
             return i;
         }
         i -= 1;
@@ -136,21 +127,14 @@ pub fn look_up(sheet: &[u8], work: &[u8], n: usize, m: usize, name: &[u8]) -> us
 }
 
 // The same of a module's name.
-pub fn look_up_in(
-    sheet: &[u8],
-    work: &[u8],
-    n: usize,
-    m: usize,
-    within: &[u8],
-    name: &[u8],
-) -> usize
-    requires { ⌜ (Checked (now sheet) (now work) n) × (Logged (now sheet) (now work) n m) ⌝ }
-    ensures { λ r. ⌜ (valueOf (lookUp (qualified (now (within .entry)) (now (name .entry))) (logIn (now (sheet .entry)) (now (work .entry)) m)) ≡ found (now (work .entry)) r) × (r ≤ m) × (hasKey (qualified (now (within .entry)) (now (name .entry))) (logIn (now (sheet .entry)) (now (work .entry)) m) ≡ ltb 0 r) ⌝ }
+pub fn look_up_in(sheet: &[u8], work: &[u8], c: Known, within: &[u8], name: &[u8]) -> usize
+    requires { ⌜ ConstTable (now sheet) (now work) (c .lines) (c .consts) ⌝ }
+    ensures { λ r. ⌜ (valueOf (lookUp (qualified (now (within .entry)) (now (name .entry))) (logIn (now (sheet .entry)) (now (work .entry)) (c .consts))) ≡ found (now (work .entry)) r) × (r ≤ c .consts) × (hasKey (qualified (now (within .entry)) (now (name .entry))) (logIn (now (sheet .entry)) (now (work .entry)) (c .consts)) ≡ ltb 0 r) × (r ≡ newestQualified (now (sheet .entry)) (now (work .entry)) (c .consts) (now (within .entry)) (now (name .entry))) ⌝ }
 {
     let d = words::digest(name);
-    let mut i = m;
+    let mut i = c.consts;
     while 0 < i {
-        if answers_qualified(sheet, work, n, m, i - 1, within, name, d) {
+        if answers_qualified(sheet, work, c.lines, i - 1, within, name, d) {
             return i;
         }
         i -= 1;

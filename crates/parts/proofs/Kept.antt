@@ -18,7 +18,7 @@ use Rattle.type_keys.proofs.Table.{kinds-kept}
 use Rattle.type_keys.proofs.Positions.{needs-kept}
 use Rattle.tables.specs.declared.Tables.{Tables}
 use Rattle.tables.specs.Tables.{Held}
-use Rattle.parts.specs.Parts.{Known}
+use Rattle.parts.specs.Parts.{Listable}
 
 -- lines and positions of needs end at 10624; their digests serve only while needs are collected
 pub needs-stay : {s t u : Bytes} {n : ℕ} {ks : List TypeKey} → Kept 10624 t u → Needs s t n ks → Needs s u n ks
@@ -39,13 +39,13 @@ module _ {s t u : Bytes} {n : ℕ} {x : Tables} where
   }
 
   -- where values are folded
-  pub known-keeps : Keeps 16384 49152 t u → Known s t n x → Known s u n x
-  known-keeps k h = record {
+  pub listable-keeps : Keeps 16384 49152 t u → Listable s t n x → Listable s u n x
+  listable-keeps k h = record {
     held = held-kept (kept-low k 11264 (omega arith)) (logged-kept k (h .held .consts)) (h .held);
     folded = h .folded;
     log = h .log ∙ sym (log-kept k (h .held .consts));
   }
 
   -- where maps are made
-  pub known-kept : Kept 49152 t u → Known s t n x → Known s u n x
-  known-kept k h = known-keeps (record { long = k .long; below = λ j l. kept-at k j (omega arith); above = λ j a l. kept-at k j l }) h
+  pub listable-kept : Kept 49152 t u → Listable s t n x → Listable s u n x
+  listable-kept k h = listable-keeps (record { long = k .long; below = λ j l. kept-at k j (omega arith); above = λ j a l. kept-at k j l }) h

@@ -9,16 +9,15 @@ use Rattle.semantics.specs.Const.{namesOf}
 use Rattle.semantics.specs.Listing.{constRows, globalRow}
 use Rattle.write.specs.Wrote.{Wrote}
 use Rattle.write.proofs.Wrote.{wrote-as, then}
-use Rattle.names.specs.Table.{logIn}
+use Rattle.names.specs.Table.{logIn, ConstTable}
 use Rattle.literals.specs.Literals.{namesIn}
 use Rattle.global_table.specs.Table.{placesIn}
 use Rattle.record_rows.specs.Rows.{allRows}
-use Rattle.const_rows.specs.Rows.{Table}
 use Rattle.tables.specs.declared.Tables.{Tables}
-use Rattle.parts.specs.Parts.{declaredText, Known}
+use Rattle.parts.specs.Parts.{declaredText, Listable}
 
-module _ {s t : Bytes} {n : ℕ} {x : Tables} (k : Known s t n x) where
-  pub constants-table : Table s t n (x .consts)
+module _ {s t : Bytes} {n : ℕ} {x : Tables} (k : Listable s t n x) where
+  pub constants-table : ConstTable s t n (x .consts)
   constants-table = record { checked = k .held .checked; logged = k .held .consts }
 
   pub declared-rows : {d e f g : Bytes} {p q r : ℕ}

@@ -19,11 +19,11 @@ use Rattle.type_rows.specs.Rows as Types
 use Rattle.uses.specs.Uses.{NeedIds}
 use Rattle.data_rows.specs.Data.{itemsIn, rowsOf}
 use Rattle.tables.specs.declared.Tables.{Tables}
-use Rattle.parts.specs.Parts.{Known, typesText}
+use Rattle.parts.specs.Parts.{Listable, typesText}
 use Rattle.parts.proofs.Kept.{needs-stay}
 use Rattle.parts.proofs.Laws.{names-are}
 
-module _ {s t : Bytes} {n frames : ℕ} {x : Tables} (k : Known s t n x) (fr : (frames ≡ length (sheetSource s .frames)) × (frames ≤ 128)) where
+module _ {s t : Bytes} {n frames : ℕ} {x : Tables} (k : Listable s t n x) (fr : (frames ≡ length (sheetSource s .frames)) × (frames ≤ 128)) where
   module _ {u : Bytes} (h : Kept 10624 t u) where
     pub types-ready : Types.Ready s u n (x .records) (x .needs)
     types-ready = record { log = logged-kept (kept-less (omega arith) h) (k .held .records); table = needs-stay h (k .held .needs); count = k .held .count }
@@ -40,7 +40,7 @@ module _ {s t : Bytes} {n frames : ℕ} {x : Tables} (k : Known s t n x) (fr : (
 abbrev textOf : Bytes → List Item → Bytes
 textOf s is = (rowsOf s is ++ typeRows 0 (descriptors (sheetSource s) is)) ++ concatMap (useRow (idOf (sheetSource s) is)) (sheetSource s .needs)
 
-pub types-rows : {s t : Bytes} {n : ℕ} {x : Tables} → Known s t n x → {d e f g : Bytes} {a b c r : ℕ}
+pub types-rows : {s t : Bytes} {n : ℕ} {x : Tables} → Listable s t n x → {d e f g : Bytes} {a b c r : ℕ}
     → Wrote d a (rowsOf s (itemsIn s t (x .consts))) e b → Wrote e b (typeRows 0 (descriptors (sheetSource s) (itemsIn s t (x .consts)))) f c
     → ((is : List Item) → Wrote f c (concatMap (useRow (idOf (sheetSource s) is)) (sheetSource s .needs)) g r)
     → Wrote d a (typesText s) g r

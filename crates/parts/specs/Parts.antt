@@ -30,7 +30,7 @@ typesText s =
     ++ concatMap (useRow (idOf (sheetSource s) (g .items))) (sheetSource s .needs)
 
 -- the tables stand, and no constant is refused
-pub record Known (s t : Bytes) (n : ℕ) (x : Tables) : Type 0 where
+pub record Listable (s t : Bytes) (n : ℕ) (x : Tables) : Type 0 where
   pub held : Held s t n x
   pub folded : constants (sheetSource s) .refused ≡ none
   pub log : constants (sheetSource s) .log ≡ logIn s t (x .consts)

@@ -3,7 +3,7 @@ use mathlib.Core.Path.{_≡_, refl, sym, ap, _∙_}
 use mathlib.Core.Bool.{Bool, true, false, not, cond}
 use mathlib.Core.List.{List, [], _∷_, _++_, append-assoc, append-nil}
 use mathlib.Core.Option.{Option, none, some}
-use Prim.Native.Nat.{ℕ, suc, _+_, _-_, _≤_, _<_}
+use Prim.Native.Nat.{ℕ, zero, suc, _+_, _-_, _≤_, _<_}
 use native.Mathlib.Omega.{arith}
 use lib.ListN.{length, getD}
 use Rattle.semantics.specs.Text.{Bytes, bytes, same}
@@ -28,6 +28,7 @@ use Rattle.arrays.specs.Arrays.{kindAt}
 use Rattle.vars.specs.declared.First.{First}
 use Rattle.vars.specs.declared.First.the-variants.{NoValue, Value, Alloc, Literal}
 use Rattle.pends.specs.declared.Pends.the-variants.{Written}
+use Rattle.vars.specs.Lines.{laidOn}
 use Rattle.vars.specs.First.{initIn, Inits, varOn, settled}
 use Rattle.pends.specs.Pends.{Pended}
 use Rattle.vars.proofs.Values.{settled-init}
@@ -38,15 +39,12 @@ use Rattle.vars.proofs.Names.{namesFrom, names-step, names-over, names-all}
 abbrev pub rowsOf : List Bytes → Bytes
 rowsOf xs = concatMap pendRow (laidNames xs)
 
-module _ {x y : Bytes} (e : y ≡ x) {b : Bool} (h : b ≡ same y (bytes "nil")) where
-  nil-is : same x (bytes "nil") ≡ b
-  nil-is = sym (h ∙ ap (λ (z : Bytes). same z (bytes "nil")) e)
-
+module _ (x : Bytes) {b : Bool} (h : b ≡ same x (bytes "nil")) where
   pub name-nil : b ≡ true → {d f : Bytes} {a p : ℕ} → Wrote d a [] f p → Wrote d a (rowsOf (x ∷ [])) f p
-  name-nil d w = wrote-as (rw (nil-is ∙ d)) w
+  name-nil d w = wrote-as (rw (sym h ∙ d)) w
 
-  pub name-row : b ≡ false → {d f : Bytes} {a p : ℕ} → Wrote d a (pendRow y) f p → Wrote d a (rowsOf (x ∷ [])) f p
-  name-row d w = wrote-as (ap pendRow e ∙ sym (append-nil (pendRow x)) ∙ rw (nil-is ∙ d)) w
+  pub name-row : b ≡ false → {d f : Bytes} {a p : ℕ} → Wrote d a (pendRow x) f p → Wrote d a (rowsOf (x ∷ [])) f p
+  name-row d w = wrote-as (sym (append-nil (pendRow x)) ∙ rw (sym h ∙ d)) w
 
 rows-step : (x : Bytes) (xs : List Bytes) → rowsOf (x ∷ xs) ≡ rowsOf (x ∷ []) ++ rowsOf xs
 rows-step x xs = go (same x (bytes "nil"))
@@ -67,11 +65,11 @@ module _ (s t : Bytes) (n r : ℕ) (l : VarLine s t n r) {count : ℕ} (hc : cou
   naming-start w = record { long = refl; text = []; wrote = w; rest = ap rowsOf (names-all s t n r l hc) }
 
 module _ {s : Bytes} {r count : ℕ} {d : Bytes} {a j : ℕ} {e : Bytes} {p : ℕ} (m : Naming s r count d a j e p) where
-  pub naming-next : {f : Bytes} {q : ℕ} → j < count → length f ≡ length e → Wrote e p (rowsOf (nameOn s r j ∷ [])) f q → Naming s r count d a (j + 1) f q
-  naming-next h k w = record {
+  pub naming-next : {f : Bytes} {q : ℕ} → j < count → length f ≡ length e → {x : Bytes} → x ≡ nameOn s r j → Wrote e p (rowsOf (x ∷ [])) f q → Naming s r count d a (j + 1) f q
+  naming-next h k i w = record {
     long = k ∙ m .long;
     text = m .text ++ rowsOf (nameOn s r j ∷ []);
-    wrote = then (m .wrote) w;
+    wrote = then (m .wrote) (wrote-as (ap (λ (x : Bytes). rowsOf (x ∷ [])) i) w);
     rest = append-assoc (m .text) (rowsOf (nameOn s r j ∷ [])) (rowsOf (namesFrom s r count (j + 1)))
         ∙ ap (λ (x : Bytes). m .text ++ x) (sym (ap rowsOf (names-step s r count j h) ∙ rows-step (nameOn s r j) (namesFrom s r count (j + 1)))) ∙ m .rest;
   }
@@ -110,28 +108,35 @@ all-pend [] = refl
 all-pend (x ∷ xs) = rw (all-pend xs)
 
 module _ (s : Bytes) (r : ℕ) (ns : Names) (h : 0 < r) {x : First} {t u : Bytes} (a : Inits t (settled (varValue ns (varOn s r))) x u) where
-  not-refused : {i : Init} → initIn u x ≡ ok i → varsRefused ns (locatedAt s (r - 1) ∷ []) ≡ none
-  not-refused i = sym (refused-settled (suc (r - 1)) (varValue ns (varOn s r)) none) ∙ ap (λ (y : Result Init). refusedBy (suc (r - 1)) y none) (sym (a .result) ∙ i)
+  on : laidOn s r ≡ locatedAt s (r - 1) ∷ []
+  on = go r h
+    where
+      go : (q : ℕ) → 0 < q → laidOn s q ≡ locatedAt s (q - 1) ∷ []
+      go zero h = absurd (omega arith)
+      go (suc q) h = let z : suc q - 1 ≡ q = omega arith in rw z
 
-  pub line-quiet : {d : Bytes} {at : ℕ} {e : Bytes} {p : ℕ} (i : Init) → initIn u x ≡ ok i → ((y : Bytes) → pendOf y i ≡ []) → Wrote d at [] e p → Pended ns (locatedAt s (r - 1) ∷ []) d at (Written p) e
-  line-quiet i k q w = (not-refused k, wrote-as (sym (rw (pends-are ns (varOn s r) (sym (a .result) ∙ k), no-pends i q (laidNames (namesOn s r))))) w)
+  not-refused : {i : Init} → initIn u x ≡ ok i → varsRefused ns (laidOn s r) ≡ none
+  not-refused i = ap (varsRefused ns) on ∙ sym (refused-settled (suc (r - 1)) (varValue ns (varOn s r)) none) ∙ ap (λ (y : Result Init). refusedBy (suc (r - 1)) y none) (sym (a .result) ∙ i)
 
-  pub line-pending : {d : Bytes} {at : ℕ} {e : Bytes} {p : ℕ} → initIn u x ≡ ok pendingInit → Wrote d at (rowsOf (namesOn s r)) e p → Pended ns (locatedAt s (r - 1) ∷ []) d at (Written p) e
-  line-pending k w = (not-refused k, wrote-as (sym (rw (pends-are ns (varOn s r) (sym (a .result) ∙ k), all-pend (laidNames (namesOn s r)), append-nil (laidNames (namesOn s r))))) w)
+  pub line-quiet : {d : Bytes} {at : ℕ} {e : Bytes} {p : ℕ} (i : Init) → initIn u x ≡ ok i → ((y : Bytes) → pendOf y i ≡ []) → Wrote d at [] e p → Pended ns (laidOn s r) d at (Written p) e
+  line-quiet i k q w = (not-refused k, wrote-as (sym (rw (on, pends-are ns (varOn s r) (sym (a .result) ∙ k), no-pends i q (laidNames (namesOn s r))))) w)
 
-  pub line-refused : {q : ℕ} → initIn u x ≡ refuse q → varsRefused ns (locatedAt s (r - 1) ∷ []) ≡ some (record { number = q; line = r })
+  pub line-pending : {d : Bytes} {at : ℕ} {e : Bytes} {p : ℕ} → initIn u x ≡ ok pendingInit → Wrote d at (rowsOf (namesOn s r)) e p → Pended ns (laidOn s r) d at (Written p) e
+  line-pending k w = (not-refused k, wrote-as (sym (rw (on, pends-are ns (varOn s r) (sym (a .result) ∙ k), all-pend (laidNames (namesOn s r)), append-nil (laidNames (namesOn s r))))) w)
+
+  pub line-refused : {q : ℕ} → initIn u x ≡ refuse q → varsRefused ns (laidOn s r) ≡ some (record { number = q; line = r })
   line-refused {q} k =
       let z : suc (r - 1) ≡ r = omega arith in
-      sym (refused-settled (suc (r - 1)) (varValue ns (varOn s r)) none) ∙ ap (λ (y : Result Init). refusedBy (suc (r - 1)) y none) (sym (a .result) ∙ k) ∙ rw z
+      ap (varsRefused ns) on ∙ sym (refused-settled (suc (r - 1)) (varValue ns (varOn s r)) none) ∙ ap (λ (y : Result Init). refusedBy (suc (r - 1)) y none) (sym (a .result) ∙ k) ∙ rw z
 
-  pub quiet-none : x ≡ NoValue → {d : Bytes} {at : ℕ} {e : Bytes} {p : ℕ} → Wrote d at [] e p → Pended ns (locatedAt s (r - 1) ∷ []) d at (Written p) e
+  pub quiet-none : x ≡ NoValue → {d : Bytes} {at : ℕ} {e : Bytes} {p : ℕ} → Wrote d at [] e p → Pended ns (laidOn s r) d at (Written p) e
   quiet-none k = line-quiet noInit (rw k) (λ y. refl)
 
-  pub quiet-value : {v : ConstVal} → x ≡ Value v → {d : Bytes} {at : ℕ} {e : Bytes} {p : ℕ} → Wrote d at [] e p → Pended ns (locatedAt s (r - 1) ∷ []) d at (Written p) e
+  pub quiet-value : {v : ConstVal} → x ≡ Value v → {d : Bytes} {at : ℕ} {e : Bytes} {p : ℕ} → Wrote d at [] e p → Pended ns (laidOn s r) d at (Written p) e
   quiet-value {v} k = line-quiet (constInit (valueIn u v)) (rw k) (λ y. refl)
 
-  pub quiet-alloc : {k c : ℕ} → x ≡ Alloc k c → {d : Bytes} {at : ℕ} {e : Bytes} {p : ℕ} → Wrote d at [] e p → Pended ns (locatedAt s (r - 1) ∷ []) d at (Written p) e
+  pub quiet-alloc : {k c : ℕ} → x ≡ Alloc k c → {d : Bytes} {at : ℕ} {e : Bytes} {p : ℕ} → Wrote d at [] e p → Pended ns (laidOn s r) d at (Written p) e
   quiet-alloc {k} {c} q = line-quiet (arrayInit (record { kind = kindAt k; count = c; values = [] })) (rw q) (λ y. refl)
 
-  pub quiet-literal : {k c : ℕ} → x ≡ Literal k c → {d : Bytes} {at : ℕ} {e : Bytes} {p : ℕ} → Wrote d at [] e p → Pended ns (locatedAt s (r - 1) ∷ []) d at (Written p) e
+  pub quiet-literal : {k c : ℕ} → x ≡ Literal k c → {d : Bytes} {at : ℕ} {e : Bytes} {p : ℕ} → Wrote d at [] e p → Pended ns (laidOn s r) d at (Written p) e
   quiet-literal {k} {c} q = line-quiet (arrayInit (record { kind = kindAt k; count = c; values = valuesIn u 0 c })) (rw q) (λ y. refl)

@@ -27,6 +27,7 @@ use Rattle.checks.specs.Checks.{Checked}
 use Rattle.checks.proofs.Kept.{checked-kept}
 use Rattle.source.specs.Walk.{openAt}
 use Rattle.implement.specs.Modules.{moduleAt, Open}
+use Rattle.names.specs.Table.{Logged, ConstTable}
 use Rattle.placements.specs.Placements.{Keeps}
 use Rattle.placements.proofs.Same.{keeps-all, keeps-then}
 use Rattle.literals.specs.Literals.{namesIn}
@@ -36,7 +37,7 @@ use Rattle.globals.specs.Vars.{locatedAt, laidAt, laidVarsTo, varPends}
 use Rattle.globals.proofs.Vars.{pends-by, laid-lines}
 use Rattle.pends.specs.declared.Pends.{Pends}
 use Rattle.pends.specs.declared.Pends.the-variants.{Written, Refused}
-use Rattle.vars.specs.Lines.{Ready, LineTask}
+use Rattle.vars.specs.Lines.{laidOn}
 use Rattle.vars.proofs.Items.{refused-append}
 use Rattle.pends.specs.Pends.{pendsOf, Pended, AllPended}
 use Rattle.pends.proofs.Pends.{the-type}
@@ -91,13 +92,10 @@ module _ (ns : Names) (s : Bytes) where
           b .1 ∙ w .1 .bytes ∙ ap (λ (j : ℕ). over d a (concatMap pendRow (pendsOf ns (laidVarsTo s j)))) y,
         )
 
--- ---- one line
+-- ---- no line
 
-pub none-laid : (ns : Names) (s : Bytes) (i : ℕ) → laidAt s i ≡ [] → {d : Bytes} {a : ℕ} {e : Bytes} {p : ℕ} → Wrote d a [] e p → Pended ns (laidAt s i) d a (Written p) e
-none-laid ns s i q w = (ap (varsRefused ns) q, wrote-as (ap (λ (vs : List (Located VarDecl)). concatMap pendRow (pendsOf ns vs)) (sym q)) w)
-
-pub as-laid : (ns : Names) (d : Bytes) (a : ℕ) (y : Pends) (e : Bytes) {vs ws : List (Located VarDecl)} → vs ≡ ws → Pended ns vs d a y e → Pended ns ws d a y e
-as-laid ns d a y e q p = subst (λ (xs : List (Located VarDecl)). Pended ns xs d a y e) q p
+pub none-laid : (ns : Names) (s : Bytes) {r : ℕ} → r ≡ 0 → {d : Bytes} {a : ℕ} {e : Bytes} {p : ℕ} → Wrote d a [] e p → Pended ns (laidOn s r) d a (Written p) e
+none-laid ns s z w = rw z (refl, w)
 
 -- ---- all lines
 
@@ -116,33 +114,33 @@ pub record Walking (s t : Bytes) (n m : ℕ) (d : Bytes) (a : ℕ) (u : Bytes) (
   pub long : length e ≡ length d
   pub rows : Pended (namesIn s t m) (laidVarsTo s i) d a (Written p) e
 
-module _ {s t : Bytes} {n m : ℕ} (r : Ready s t n m) where
+module _ {s t : Bytes} {n m : ℕ} (r : ConstTable s t n m) where
   pub walk-start : {d : Bytes} {a p : ℕ} → Wrote d a [] d p → Walking s t n m d a t 0 0 d p
   unfolding laidVarsTo openAt moduleAt
   walk-start w = record { here = record { checked = r .checked; within = omega arith; low = omega arith; here = refl }; keeps = keeps-all; long = refl; rows = (refl, w) }
 
   module _ {d : Bytes} {a : ℕ} {u : Bytes} {k i : ℕ} {e : Bytes} {p : ℕ} (w : Walking s t n m d a u k i e p) where
-    pub walk-task : i < n → LineTask s u n m i k
-    walk-task h = record { ready = record { checked = w .here .checked; log = logged-kept (w .keeps) (r .log) }; here = w .here; low = h }
+    pub walk-log : Logged s u n m
+    walk-log = logged-kept (w .keeps) (r .logged)
 
     pub walk-end : n ≤ i → AllPended (namesIn s t m) s d a (Written p) e × Keeps 16384 49152 t u
     walk-end h =
         let z : i ≡ n = omega (arith, w .here .within) in
         (all-pended (namesIn s t m) s (r .checked) (subst (λ (j : ℕ). Pended (namesIn s t m) (laidVarsTo s j) d a (Written p) e) z (w .rows)), w .keeps)
 
-    module _ {v : Bytes} (y : Pends) (f : Bytes) (b : Pended (namesIn s u m) (laidAt s i) e p y f × Keeps 16384 49152 u v) where
+    module _ (q : ℕ) (g : laidOn s q ≡ laidAt s i) {v : Bytes} (y : Pends) (f : Bytes) (b : Pended (namesIn s u m) (laidOn s q) e p y f × Keeps 16384 49152 u v) where
       line-pended : Pended (namesIn s t m) (laidAt s i) e p y f
-      line-pended = rw (log-kept (w .keeps) (r .log)) at (b .0)
+      line-pended = subst (λ (xs : List (Located VarDecl)). Pended (namesIn s t m) xs e p y f) g (rw (log-kept (w .keeps) (r .logged)) at (b .0))
 
       pub walk-open : Open s v n i k
       walk-open = record { checked = checked-kept (kept-low (b .1) 3072 (omega arith)) (w .here .checked); within = w .here .within; low = w .here .low; here = w .here .here }
 
-      pub walk-next : {q k′ : ℕ} → y ≡ Written q → length f ≡ length e → Open s v n (i + 1) k′ → Walking s t n m d a v k′ (i + 1) f q
+      pub walk-next : {z k′ : ℕ} → y ≡ Written z → length f ≡ length e → Open s v n (i + 1) k′ → Walking s t n m d a v k′ (i + 1) f z
       unfolding laidVarsTo
-      walk-next {q} c g o = record {
+      walk-next {z} c l o = record {
         here = o;
         keeps = keeps-then (w .keeps) (b .1);
-        long = g ∙ w .long;
+        long = l ∙ w .long;
         rows = rw add-one (pended-then (namesIn s t m) (laidVarsTo s i) (laidAt s i) (w .rows) (subst (λ (x : Pends). Pended (namesIn s t m) (laidAt s i) e p x f) c line-pended));
       }
 

@@ -23,6 +23,7 @@ use Rattle.ints.proofs.Widths.{held}
 use Rattle.values.specs.declared.ConstVal.the-variants.{Int}
 use Rattle.values.specs.Values.{valueIn}
 use Rattle.slots.specs.Slots.{Stored}
+use Rattle.placements.specs.declared.Extent.{Extent}
 use Rattle.placements.specs.declared.Placed.{Placed}
 use Rattle.placements.specs.declared.Placed.the-variants.{Into, Negative}
 use Rattle.placements.specs.Placements.{entryAt, slotAt, elementAt, Keeps, Painted, Filling, Step, stopped, Places}
@@ -65,25 +66,25 @@ module _ (t u w : Bytes) (room : 65536 ≤ length t) (p : Painted t 0 1023 0 u) 
 
 -- ---- a span
 
-module _ (t : Bytes) (e next reach : ℕ) (act : Tree.ConstVal → Filled → Result Filled) where
+module _ (t : Bytes) (e : ℕ) (a : Extent) (act : Tree.ConstVal → Filled → Result Filled) where
   -- nothing changes
-  places-none : (r : Placed) → stopped r ≡ false → ((top k : ℕ) (f : Filled) → Filling t top k next reach f → Step t top k r (act (elementAt t e) f)) → Places t e next reach act r t
+  places-none : (r : Placed) → stopped r ≡ false → ((top k : ℕ) (f : Filled) → Filling t top k (a .next) (a .reach) f → Step t top k r (act (elementAt t e) f)) → Places t e a act r t
   places-none r o h = record { keeps = λ b. keeps-all; ongoing = o; step = λ top k f x y z p. h top k f p }
 
   module _ (u : Bytes) (l h : ℕ) (p : Painted t l h e u) (low : h < 2 ^ 63) where
-    places-span : (r : Placed) → r ≡ Into (h + 1) (max reach (h + 1)) → ((v : Tree.ConstVal) (f : Filled) → f .nextIndex ≡ next → act v f ≡ ok (placeSpan v l h f)) → Places t e next reach act r u
-    places-span r q g = record {
+    places-span : (r : Extent) → r .next ≡ h + 1 → r .reach ≡ max (a .reach) (h + 1) → ((v : Tree.ConstVal) (f : Filled) → f .nextIndex ≡ a .next → act v f ≡ ok (placeSpan v l h f)) → Places t e a act (Into r) u
+    places-span r q d g = record {
       keeps = λ b. record { long = p .long; below = λ j x. p .others j (inl x); above = λ j x y. p .others j (inr x) };
-      ongoing = rw q;
-      step = λ top k f one le few fl. rw (q, add-one) (record { literal = placeSpan (elementAt t e) l h f; result = g (elementAt t e) f (sym (fl .next-is)); filling = filling-span fl u l h e one le few low p });
+      ongoing = refl;
+      step = λ top k f one le few fl. rw (q, d, add-one) (record { literal = placeSpan (elementAt t e) l h f; result = g (elementAt t e) f (sym (fl .next-is)); filling = filling-span fl u l h e one le few low p });
     }
 
-module _ (t : Bytes) (e next reach : ℕ) where
-  pub next-placed : (u : Bytes) (r : Placed) → next < 2 ^ 63 → Painted t next next e u → r ≡ Into (next + 1) (max reach (next + 1)) → Places t e next reach placeNext r u
-  next-placed u r h p q = places-span t e next reach placeNext u next next p h r q (λ v f z. rw (z, lt-ltb next 9223372036854775808 h, le-leb next next (omega arith)))
+module _ (t : Bytes) (e : ℕ) (a : Extent) where
+  pub next-placed : (u : Bytes) (r : Extent) → a .next < 2 ^ 63 → Painted t (a .next) (a .next) e u → r .next ≡ a .next + 1 → r .reach ≡ max (a .reach) (a .next + 1) → Places t e a placeNext (Into r) u
+  next-placed u r h p q d = places-span t e a placeNext u (a .next) (a .next) p h r q d (λ v f z. rw (z, lt-ltb (a .next) 9223372036854775808 h, le-leb (a .next) (a .next) (omega arith)))
 
-  pub next-beyond : 2 ^ 63 ≤ next → Places t e next reach placeNext Negative t
-  next-beyond h = places-none t e next reach placeNext Negative refl (λ top k f p. rw (← p .next-is, le-ltb next 9223372036854775808 h))
+  pub next-beyond : 2 ^ 63 ≤ a .next → Places t e a placeNext Negative t
+  next-beyond h = places-none t e a placeNext Negative refl (λ top k f p. rw (← p .next-is, le-ltb (a .next) 9223372036854775808 h))
 
 -- ---- indices of a selector
 
@@ -120,16 +121,16 @@ non-negative {z} f e = rw (toZ-ofZ f) (go z f e)
     go (pos n) f e = let h : n < 9223372036854775808 = f .sfits in (tt, record { fits = omega arith }, h)
     go (negsuc n) f e = never cc
 
-module _ (t : Bytes) (e next reach : ℕ) {low high : ℤ} (fl : SFits w64 low) (fh : SFits w64 high) where
+module _ (t : Bytes) (e : ℕ) (a : Extent) {low high : ℤ} (fl : SFits w64 low) (fh : SFits w64 high) where
   abbrev Act : Tree.ConstVal → Filled → Result Filled
   Act v = placeIndices v low high
 
-  pub indices-none : ltZ (held w64 high) (held w64 low) ≡ true → Places t e next reach Act (Into next reach) t
-  indices-none h = places-none t e next reach Act (Into next reach) refl (λ top k f p. record { literal = f; result = empty-span low high (rw (toZ-ofZ fl, toZ-ofZ fh) at h) (elementAt t e) f; filling = p })
+  pub indices-none : ltZ (held w64 high) (held w64 low) ≡ true → Places t e a Act (Into a) t
+  indices-none h = places-none t e a Act (Into a) refl (λ top k f p. record { literal = f; result = empty-span low high (rw (toZ-ofZ fl, toZ-ofZ fh) at h) (elementAt t e) f; filling = p })
 
   module _ (h : ltZ (held w64 high) (held w64 low) ≡ false) where
-    pub indices-negative : ltZ (held w64 low) (pos 0) ≡ true → Places t e next reach Act Negative t
-    indices-negative d = places-none t e next reach Act Negative refl (λ top k f p. below-zero low high (rw (toZ-ofZ fl, toZ-ofZ fh) at h) (rw (toZ-ofZ fl) at d) (elementAt t e) f)
+    pub indices-negative : ltZ (held w64 low) (pos 0) ≡ true → Places t e a Act Negative t
+    indices-negative d = places-none t e a Act Negative refl (λ top k f p. below-zero low high (rw (toZ-ofZ fl, toZ-ofZ fh) at h) (rw (toZ-ofZ fl) at d) (elementAt t e) f)
 
     module _ (d : ltZ (held w64 low) (pos 0) ≡ false) where
       pub low-fits : T (nonNeg (held w64 low)) × Fits w64 (natAbs (held w64 low)) × (natAbs (held w64 low) < 2 ^ 63)
@@ -138,7 +139,7 @@ module _ (t : Bytes) (e next reach : ℕ) {low high : ℤ} (fl : SFits w64 low) 
       pub high-fits : T (nonNeg (held w64 high)) × Fits w64 (natAbs (held w64 high)) × (natAbs (held w64 high) < 2 ^ 63)
       high-fits = non-negative fh (unsigned-above low high (rw (toZ-ofZ fl, toZ-ofZ fh) at h) (rw (toZ-ofZ fl) at d))
 
-      pub indices-placed : (u : Bytes) (r : Placed) → Painted t (natAbs (held w64 low)) (natAbs (held w64 high)) e u → r ≡ Into (natAbs (held w64 high) + 1) (max reach (natAbs (held w64 high) + 1)) → Places t e next reach Act r u
-      indices-placed u r p q =
-          places-span t e next reach Act u (natAbs (held w64 low)) (natAbs (held w64 high)) p (high-fits .2) r q
+      pub indices-placed : (u : Bytes) (r : Extent) → Painted t (natAbs (held w64 low)) (natAbs (held w64 high)) e u → r .next ≡ natAbs (held w64 high) + 1 → r .reach ≡ max (a .reach) (natAbs (held w64 high) + 1) → Places t e a Act (Into r) u
+      indices-placed u r p q b =
+          places-span t e a Act u (natAbs (held w64 low)) (natAbs (held w64 high)) p (high-fits .2) r q b
           (λ v f z. rw (toZ-ofZ fl, toZ-ofZ fh) (whole-span low high (rw (toZ-ofZ fl, toZ-ofZ fh) at h) (rw (toZ-ofZ fl) at d) v f))

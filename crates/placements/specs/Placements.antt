@@ -18,6 +18,7 @@ use Rattle.values.specs.declared.ConstVal.{ConstVal}
 use Rattle.values.specs.declared.ConstVal.the-variants.{Int, Real, Str}
 use Rattle.values.specs.Values.{valueIn}
 use Rattle.slots.specs.Slots.{slotOf}
+use Rattle.placements.specs.declared.Extent.{Extent}
 use Rattle.placements.specs.declared.Placed.{Placed}
 use Rattle.placements.specs.declared.Placed.the-variants.{Into, Negative, Failed, TooLong}
 
@@ -82,23 +83,23 @@ pub record Goes (t : Bytes) (top k next reach : ℕ) (r : Result Filled) : Type 
 
 -- what a step answers where its result is r
 abbrev pub Step : Bytes → ℕ → ℕ → Placed → Result Filled → Type 0
-Step t top k (Into next reach) r = Goes t top k next reach r
+Step t top k (Into x) r = Goes t top k (x .next) (x .reach) r
 Step t top k Negative r = r ≡ failed
 Step t top k Failed r = r ≡ failed
 Step t top k TooLong r = r ≡ refuse 8
 
 -- a literal ends here, and nothing behind is folded; behind a negative index selectors are still folded
 abbrev pub stopped : Placed → Bool
-stopped (Into next reach) = false
+stopped (Into x) = false
 stopped Negative = false
 stopped Failed = true
 stopped TooLong = true
 
 -- t has become u by placing the value of element e: r is what `act` gives of it
-pub record Places (t : Bytes) (e next reach : ℕ) (act : Tree.ConstVal → Filled → Result Filled) (r : Placed) (u : Bytes) : Type 0 where
+pub record Places (t : Bytes) (e : ℕ) (x : Extent) (act : Tree.ConstVal → Filled → Result Filled) (r : Placed) (u : Bytes) : Type 0 where
   pub keeps : (b : ℕ) → Keeps 12288 b t u
   pub ongoing : stopped r ≡ false
-  pub step : (top k : ℕ) (f : Filled) → 0 < e → e ≤ k → k ≤ 16 → Filling t top k next reach f → Step u top k r (act (elementAt t e) f)
+  pub step : (top k : ℕ) (f : Filled) → 0 < e → e ≤ k → k ≤ 16 → Filling t top k (x .next) (x .reach) f → Step u top k r (act (elementAt t e) f)
 
 -- ---- kinds of values
 

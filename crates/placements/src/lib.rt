@@ -11,7 +11,6 @@ ghost use Rattle.semantics.specs.Tree.{ConstVal};
 ghost use Rattle.semantics.specs.Array.{noneFilled, placeIndices, placeNext, kindNumber, kindOfValues};
 ghost use Rattle.values.specs.Values.{valueIn};
 ghost use Rattle.slots.specs.Slots.{Small, Stored};
-ghost use Rattle.placements.specs.declared.Placed.the-variants.{Into};
 ghost use Rattle.placements.specs.Placements.{entryAt, slotAt, valuesIn, Keeps, Painted, Filling, Places, rankOf, hasRank};
 
 const INDICES: u64 = 1024;
@@ -19,9 +18,15 @@ const INDICES: u64 = 1024;
 // 2^63, the first index that counts as negative.
 const BEYOND: u64 = 9223372036854775808;
 
-// A literal so far, with the next plain index and the end of its indices; or how it ends.
+// How far a literal goes: the next plain index, and the end of its indices.
+pub struct Extent {
+    pub next: u64,
+    pub reach: u64,
+}
+
+// A literal so far, or how it ends.
 pub enum Placed {
-    Into(u64, u64),
+    Into(Extent),
     Negative,
     Failed,
     TooLong,
@@ -75,44 +80,40 @@ pub fn put_value(work: &mut [u8], j: usize, v: values::ConstVal)
     slots::put_value(work, area::ELEMENTS + 16 * j, v);
 }
 
-fn place_span(work: &mut [u8], e: usize, low: u64, high: u64, reach: u64) -> Placed
+fn place_span(work: &mut [u8], e: usize, low: u64, high: u64, reach: u64) -> Extent
     requires { ⌜ (high < 2 ^ 63) × (e ≤ 16) × (65536 ≤ length (now work)) ⌝ }
-    ensures { λ r. ⌜ (r ≡ Into (high + 1) (max reach (high + 1))) × (Painted (now (work .entry)) low high e (now (work .exit))) ⌝ }
+    ensures { λ r. ⌜ (r .next ≡ high + 1) × (r .reach ≡ max reach (high + 1)) × (Painted (now (work .entry)) low high e (now (work .exit))) ⌝ }
 {
     paint(work, low, high, e as u8);
-    Placed::Into(high + 1, larger(reach, high + 1))
+    Extent {
+        next: high + 1,
+        reach: larger(reach, high + 1),
+    }
 }
 
 // A plain element.
-pub fn place_next(work: &mut [u8], e: usize, next: u64, reach: u64) -> Placed
+pub fn place_next(work: &mut [u8], e: usize, x: Extent) -> Placed
     requires { ⌜ (e ≤ 16) × (65536 ≤ length (now work)) ⌝ }
-    ensures { λ r. ⌜ Places (now (work .entry)) e next reach placeNext r (now (work .exit)) ⌝ }
+    ensures { λ r. ⌜ Places (now (work .entry)) e x placeNext r (now (work .exit)) ⌝ }
 {
-    if next < BEYOND {
-        return place_span(work, e, next, next, reach);
+    if x.next < BEYOND {
+        return Placed::Into(place_span(work, e, x.next, x.next, x.reach));
     }
     Placed::Negative
 }
 
 // Indices low to high of a selector.
-pub fn place_indices(
-    work: &mut [u8],
-    e: usize,
-    low: i64,
-    high: i64,
-    next: u64,
-    reach: u64,
-) -> Placed
+pub fn place_indices(work: &mut [u8], e: usize, low: i64, high: i64, x: Extent) -> Placed
     requires { ⌜ (e ≤ 16) × (65536 ≤ length (now work)) ⌝ }
-    ensures { λ r. ⌜ Places (now (work .entry)) e next reach (λ (v : ConstVal). placeIndices v low high) r (now (work .exit)) ⌝ }
+    ensures { λ r. ⌜ Places (now (work .entry)) e x (λ (v : ConstVal). placeIndices v low high) r (now (work .exit)) ⌝ }
 {
     if high < low {
-        return Placed::Into(next, reach);
+        return Placed::Into(x);
     }
     if low < 0 {
         return Placed::Negative;
     }
-    place_span(work, e, low as u64, high as u64, reach)
+    Placed::Into(place_span(work, e, low as u64, high as u64, x.reach))
 }
 
 // The value at index i.

@@ -12,11 +12,15 @@ use Rattle.semantics.specs.Form.Kind.{kTy}
 use Rattle.decimal.specs.Number as Number
 use Rattle.form.specs.Table.{rowNode}
 use Rattle.lines.specs.Lines.{readsIn, readAt, nodesIn, formAt}
+use Rattle.checks.proofs.Kept.{checked-kept}
+use Rattle.names.specs.Table.{Logged}
+use Rattle.placements.specs.Placements.{Keeps}
 use Rattle.sizes.specs.Sizes.{typeAt, TypeLine}
 use Rattle.sizes.proofs.Types.{ref-head}
 use Rattle.leaf.specs.Folds.{exAt, Foldable}
 use Rattle.literals.specs.Literals.{Line}
 use Rattle.sizes.proofs.Forms.{type-form}
+use Rattle.literals.proofs.Names.{kept-low}
 use Rattle.literals.proofs.Lines.{line-form, parts-at, makes, good-line, may-line}
 use Rattle.literals.proofs.Selectors.{foldable}
 use Rattle.arrays.specs.Arrays.{typeOf}
@@ -43,17 +47,20 @@ value-given : (ns : List Node) (r : ℕ) → (r ≡ 0 → ⊥) → exOf (perhaps
 value-given ns zero h = absurd (h refl)
 value-given ns (suc r) h = refl
 
-module _ {s t : Bytes} {n m r : ℕ} (l : Line 72 s t n m r) where
-  pub var-line : VarLine s t n r
-  var-line = record { checked = l .checked; first = l .first; last = l .last; kind = l .kind }
+pub var-kept : {s t u : Bytes} {n r : ℕ} → Keeps 16384 49152 t u → VarLine s t n r → VarLine s u n r
+var-kept k l = record { checked = checked-kept (kept-low k 3072 (omega arith)) (l .checked); first = l .first; last = l .last; kind = l .kind }
+
+module _ {s t : Bytes} {n r : ℕ} (l : VarLine s t n r) where
+  line : Line 72 s t n r
+  line = record { checked = l .checked; first = l .first; last = l .last; kind = l .kind }
 
   -- ---- the type
 
   module _ {ty : ℕ} (ht : ty ≡ Number.numberOf 65536 (getD (readAt s (r - 1) .fields) 0 [])) where
-    type-ref : (ty ≡ numberOf (getD (readAt s (r - 1) .fields) 0 [])) × Line 75 s t n m ty
-    type-ref = good-line l 75 (getD (readAt s (r - 1) .fields) 0 []) ty ht (parts-good s t n r var-line .0)
+    type-ref : (ty ≡ numberOf (getD (readAt s (r - 1) .fields) 0 [])) × Line 75 s t n ty
+    type-ref = good-line line 75 (getD (readAt s (r - 1) .fields) 0 []) ty ht (parts-good s t n r l .0)
 
-    pub type-line : Line 75 s t n m ty
+    pub type-line : Line 75 s t n ty
     type-line = type-ref .1
 
     type-is : varOn s r .ty ≡ typeAt s ty
@@ -67,7 +74,7 @@ module _ {s t : Bytes} {n m r : ℕ} (l : Line 72 s t n m r) where
           ∙ ap (λ (x : Node). elemOf (x .ty)) (sym (makes type-line (sym hf))) ∙ ap elemOf (sym type-is)
 
       module _ (e : f ≡ 6) {d : ℕ} (hd : d ≡ Number.numberOf 65536 (getD (readAt s (ty - 1) .fields) 0 [])) where
-        element-ref : (d ≡ numberOf (getD (readAt s (ty - 1) .fields) 0 [])) × Line 75 s t n m d
+        element-ref : (d ≡ numberOf (getD (readAt s (ty - 1) .fields) 0 [])) × Line 75 s t n d
         unfolding forms
         element-ref =
             let w = parts-at type-line (sym hf ∙ e) in
@@ -85,18 +92,18 @@ module _ {s t : Bytes} {n m r : ℕ} (l : Line 72 s t n m r) where
   -- ---- the value
 
   module _ {q : ℕ} (hq : q ≡ Number.numberOf 65536 (getD (readAt s (r - 1) .fields) 1 [])) where
-    value-ref : (q ≡ numberOf (getD (readAt s (r - 1) .fields) 1 [])) × ((q ≡ 0 → ⊥) → Line 69 s t n m q)
-    value-ref = may-line l 69 (getD (readAt s (r - 1) .fields) 1 []) q hq (parts-good s t n r var-line .1)
+    value-ref : (q ≡ numberOf (getD (readAt s (r - 1) .fields) 1 [])) × ((q ≡ 0 → ⊥) → Line 69 s t n q)
+    value-ref = may-line line 69 (getD (readAt s (r - 1) .fields) 1 []) q hq (parts-good s t n r l .1)
 
     pub init-none : q ≡ 0 → varOn s r .init ≡ none
     init-none z = rw (sym (value-ref .0) ∙ z)
 
     module _ (z : q ≡ 0 → ⊥) where
-      pub value-line : Line 69 s t n m q
+      pub value-line : Line 69 s t n q
       value-line = value-ref .1 z
 
-      pub value-foldable : Foldable s t n m q 49152
-      value-foldable = foldable {e = 0} (record { line = value-line; few = omega arith })
+      pub value-foldable : {m : ℕ} → Logged s t n m → Foldable s t n m q 49152
+      value-foldable g = foldable {e = 0} (record { line = value-line; log = g; few = omega arith })
 
       pub init-some : varOn s r .init ≡ some (exAt s q)
       init-some = rw (← value-ref .0) (value-given (nodesIn s) q z)

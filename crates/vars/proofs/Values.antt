@@ -19,21 +19,22 @@ use Rattle.values.specs.declared.ConstVal.{ConstVal}
 use Rattle.values.specs.declared.Folded.{Folded}
 use Rattle.values.specs.declared.Folded.the-variants as Folded
 use Rattle.values.specs.Values.{resultIn, ResultAt}
+use Rattle.names.specs.Table.{Logged}
 use Rattle.placements.specs.Placements.{Keeps}
 use Rattle.placements.proofs.Same.{keeps-all, keeps-then, keeps-less, keeps-kept}
 use Rattle.leaf.specs.Folds.{exAt, Folds}
-use Rattle.literals.specs.Literals.{namesIn, Line}
-use Rattle.literals.proofs.Names.{log-kept, line-kept}
+use Rattle.literals.specs.Literals.{namesIn}
+use Rattle.literals.proofs.Names.{log-kept, logged-kept, line-kept}
 use Rattle.literals.proofs.Selectors.{folds-to}
 use Rattle.arrays.specs.declared.Arrayed.{Arrayed}
 use Rattle.arrays.specs.declared.Arrayed.the-variants as Arrayed
 use Rattle.arrays.specs.Arrays as Arrays
 use Rattle.arrays.specs.Arrays.{arrayedIn, typeOf, ArrayLine, Declared}
-use Rattle.global_table.specs.Table.{namesOn}
+use Rattle.global_table.specs.Table.{VarLine, namesOn}
 use Rattle.vars.specs.declared.First.{First}
 use Rattle.vars.specs.declared.First.the-variants.{NoValue, Value, Alloc, Literal, Pending, Refused}
 use Rattle.vars.specs.First.{initIn, Stands, Inits, varOn, Valued, plain, settled}
-use Rattle.vars.proofs.Lines.{init-none, init-some, value-line}
+use Rattle.vars.proofs.Lines.{var-kept, init-none, init-some, value-line}
 
 -- ---- arrays
 
@@ -54,13 +55,13 @@ module _ {x : Arrayed} where
   pub array-refused : {r : ℕ} → x ≡ Arrayed.Refused r → IsArray x (Refused r)
   array-refused e t h = (rw e, tt)
 
-module _ {s t : Bytes} {n m r q d : ℕ} (k : Valued s t n m r q) (e : typeOf s d ≡ elemOf (varOn s r .ty)) (h : Declared s t n d) where
-  pub array-line : ArrayLine s t n m d q
+module _ {s t : Bytes} {n r q d : ℕ} (k : Valued s t n r q) (e : typeOf s d ≡ elemOf (varOn s r .ty)) (h : Declared s t n d) where
+  pub array-line : ArrayLine s t n d q
   array-line = record { line = k .value; declares = h }
 
-  pub array-is : {x : Arrayed} {u : Bytes} → Arrays.Answers t (constArray (namesIn s t m) (typeOf s d) (exAt s q)) x u → (y : First) → IsArray x y
+  pub array-is : (m : ℕ) {x : Arrayed} {u : Bytes} → Arrays.Answers t (constArray (namesIn s t m) (typeOf s d) (exAt s q)) x u → (y : First) → IsArray x y
       → Inits t (arrayValue (constArray (namesIn s t m) (elemOf (varOn s r .ty)) (exAt s q))) y u
-  array-is {x} {u} a y i = let w = i u (a .stands) in record {
+  array-is m {x} {u} a y i = let w = i u (a .stands) in record {
     result = w .0 ∙ ap arrayValue (a .result) ∙ rw e;
     stands = w .1;
     keeps = a .keeps;
@@ -68,14 +69,14 @@ module _ {s t : Bytes} {n m r q d : ℕ} (k : Valued s t n m r q) (e : typeOf s 
 
 -- ---- by what a fold gives
 
-module _ {s t : Bytes} {n m r : ℕ} (l : Line 72 s t n m r) {q : ℕ} (hq : q ≡ Number.numberOf 65536 (getD (readAt s (r - 1) .fields) 1 [])) where
+module _ {s t : Bytes} {n r : ℕ} (l : VarLine s t n r) {q : ℕ} (hq : q ≡ Number.numberOf 65536 (getD (readAt s (r - 1) .fields) 1 [])) where
   pub first-none : (ns : Names) → q ≡ 0 → Inits t (initOf ns (varOn s r .ty) (varOn s r .init)) NoValue t
   first-none ns z = record { result = sym (rw (init-none l hq z)); stands = tt; keeps = keeps-all }
 
   pub plain-none : (ns : Names) → q ≡ 0 → Inits t (settled (plain ns (varOn s r .init))) NoValue t
   plain-none ns z = record { result = sym (rw (init-none l hq z)); stands = tt; keeps = keeps-all }
 
-  module _ (z : q ≡ 0 → ⊥) {u : Bytes} {x : Folded} (g : Folds s t m 0 q 49152 u x) where
+  module _ (z : q ≡ 0 → ⊥) {m : ℕ} (o : Logged s t n m) {u : Bytes} {x : Folded} (g : Folds s t m 0 q 49152 u x) where
     keeps-fold : Keeps 16384 49152 t u
     keeps-fold = keeps-less (omega arith) (omega arith) (keeps-kept {a = 0} (omega arith) (g .kept))
 
@@ -112,13 +113,13 @@ module _ {s t : Bytes} {n m r : ℕ} (l : Line 72 s t n m r) {q : ℕ} (hq : q �
       unfolding resultIn
       plain-failed = record { result = sym (rw (init-some l hq z, folded, d)); stands = tt; keeps = keeps-fold }
 
-      pub array-task : Valued s u n m r q
-      array-task = record { line = line-kept keeps-fold l; value = line-kept keeps-fold (value-line l hq z) }
+      pub array-task : (Valued s u n r q) × (Logged s u n m)
+      array-task = (record { line = var-kept keeps-fold l; value = line-kept keeps-fold (value-line l hq z) }, logged-kept keeps-fold o)
 
       pub first-array : {y : First} {w : Bytes} → Inits u (arrayValue (constArray (namesIn s u m) (elemOf (varOn s r .ty)) (exAt s q))) y w → Inits t (initOf (namesIn s t m) (varOn s r .ty) (varOn s r .init)) y w
       unfolding resultIn
       first-array a = record {
-        result = rw (log-kept keeps-fold (l .log)) at (a .result) ∙ sym (rw (init-some l hq z, folded, d));
+        result = rw (log-kept keeps-fold o) at (a .result) ∙ sym (rw (init-some l hq z, folded, d));
         stands = a .stands;
         keeps = keeps-then keeps-fold (a .keeps);
       }

@@ -15,6 +15,7 @@ use Rattle.values.specs.declared.ConstVal.{ConstVal}
 use Rattle.values.specs.Values.{valueIn, At}
 use Rattle.placements.specs.Placements.{valuesIn, Keeps}
 use Rattle.literals.specs.Literals.{Line}
+use Rattle.global_table.specs.Table.{VarLine}
 use Rattle.arrays.specs.Arrays.{kindAt, ValuesStand}
 use Rattle.vars.specs.declared.First.{First}
 use Rattle.vars.specs.declared.First.the-variants.{NoValue, Value, Alloc, Literal, Pending, Refused}
@@ -51,10 +52,10 @@ pub record Inits (t : Bytes) (r : Result Init) (x : First) (u : Bytes) : Type 0 
 abbrev pub varOn : Bytes → ℕ → VarDecl
 varOn s r = varOf (nodesIn s) (readAt s (r - 1) .fields)
 
--- line r is a `var` line, 72, and has its value in line q, 69
-pub record Valued (s t : Bytes) (n m r q : ℕ) : Type 0 where
-  pub line : Line 72 s t n m r
-  pub value : Line 69 s t n m q
+-- line r is a `var` line, and has its value in line q, 69
+pub record Valued (s t : Bytes) (n r q : ℕ) : Type 0 where
+  pub line : VarLine s t n r
+  pub value : Line 69 s t n q
 
 -- a value that is folded where no name is laid out
 abbrev pub plain : Names → Option Ex → Result Init

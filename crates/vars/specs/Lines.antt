@@ -1,17 +1,18 @@
--- What a pass over `var` lines (`pends`, `data_rows`) has at hand.
-use Prim.Native.Nat.{ℕ, _<_}
+-- The lines that a pass over `var` lines (`pends`, `data_rows`) works on.
+use Prim.Native.Nat.{ℕ, zero, suc}
+use mathlib.Core.Path.{_≡_}
+use mathlib.Core.List.{List, [], _∷_}
 use Rattle.semantics.specs.Text.{Bytes}
-use Rattle.checks.specs.Checks.{Checked}
-use Rattle.implement.specs.Modules.{Open}
-use Rattle.names.specs.Table.{Logged}
+use Rattle.semantics.specs.Tree.{VarDecl}
+use Rattle.semantics.specs.Sheet.{Located}
+use Rattle.global_table.specs.Table.{VarLine}
+use Rattle.globals.specs.Vars.{locatedAt}
 
--- a checked sheet, and the first m constants in their table
-pub record Ready (s t : Bytes) (n m : ℕ) : Type 0 where
-  pub checked : Checked s t n
-  pub log : Logged s t n m
+-- the `var` line r, none for 0
+abbrev pub laidOn : Bytes → ℕ → List (Located VarDecl)
+laidOn s zero = []
+laidOn s (suc i) = locatedAt s i ∷ []
 
--- line i, from 0, where the module of line k is open before it
-pub record LineTask (s t : Bytes) (n m i k : ℕ) : Type 0 where
-  pub ready : Ready s t n m
-  pub here : Open s t n i k
-  pub low : i < n
+-- r is 0 or a `var` line
+abbrev pub MayLay : Bytes → Bytes → ℕ → ℕ → Type 0
+MayLay s t n r = (r ≡ 0 → ⊥) → VarLine s t n r

@@ -1,20 +1,27 @@
-// First values of globals.
+// First values of globals, and the lines that have them.
 use arrays::Arrayed;
 use codes::area;
+use codes::decl;
 use codes::ty;
+use names::Known;
 use values::ConstVal;
 use values::Folded;
 ghost use mathlib.Core.Path.{_≡_};
 ghost use mathlib.Core.Bool.{not};
+ghost use Prim.Native.Nat.{_<_};
 ghost use Rattle.semantics.specs.Text.{Bytes};
 ghost use Rattle.semantics.specs.Tree.{elemOf};
 ghost use Rattle.semantics.specs.Array.{constArray};
 ghost use Rattle.semantics.specs.Global.{arrayValue, initOf, laidNames, noneOf, varValue};
+ghost use Rattle.implement.specs.Modules.{Open};
+ghost use Rattle.names.specs.Table.{Logged};
 ghost use Rattle.leaf.specs.Folds.{exAt};
-ghost use Rattle.literals.specs.Literals.{namesIn, Line};
+ghost use Rattle.literals.specs.Literals.{namesIn};
 ghost use Rattle.arrays.specs.Arrays as Arrays;
 ghost use Rattle.arrays.specs.Arrays.{arrayedIn, typeOf, Declared};
 ghost use Rattle.global_table.specs.Table.{VarLine, namesOn};
+ghost use Rattle.globals.specs.Vars.{laidAt};
+ghost use Rattle.vars.specs.Lines.{laidOn, MayLay};
 ghost use Rattle.vars.specs.First.{initIn, Stands, Inits, varOn, Valued, plain, settled};
 
 // The first value of a global: none, a folded one, the kind and the number of an array's elements, or one that is left pending.
@@ -41,8 +48,8 @@ fn of_array(x: Arrayed) -> First
 }
 
 // The line of the element type that the type of the `var` line r has, 0 where it is no array.
-fn element_type(sheet: &[u8], work: &[u8], n: usize, m: usize, r: usize) -> usize
-    requires { ⌜ Line 72 (now sheet) (now work) n m r ⌝ }
+fn element_type(sheet: &[u8], work: &[u8], n: usize, r: usize) -> usize
+    requires { ⌜ VarLine (now sheet) (now work) n r ⌝ }
     ensures { λ d. ⌜ (typeOf (now (sheet .entry)) d ≡ elemOf (varOn (now (sheet .entry)) r .ty)) × (Declared (now (sheet .entry)) (now (work .entry)) n d) ⌝ }
 {
     let ty = lines::number_at(sheet, work, n, r - 1, 0);
@@ -53,26 +60,26 @@ fn element_type(sheet: &[u8], work: &[u8], n: usize, m: usize, r: usize) -> usiz
 }
 
 // The value of line q as an array.
-fn array_value(sheet: &[u8], work: &mut [u8], n: usize, m: usize, r: usize, q: usize) -> First
-    requires { ⌜ Valued (now sheet) (now work) n m r q ⌝ }
-    ensures { λ x. ⌜ Inits (now (work .entry)) (arrayValue (constArray (namesIn (now (sheet .entry)) (now (work .entry)) m) (elemOf (varOn (now (sheet .entry)) r .ty)) (exAt (now (sheet .entry)) q))) x (now (work .exit)) ⌝ }
+fn array_value(sheet: &[u8], work: &mut [u8], c: Known, r: usize, q: usize) -> First
+    requires { ⌜ (Valued (now sheet) (now work) (c .lines) r q) × (Logged (now sheet) (now work) (c .lines) (c .consts)) ⌝ }
+    ensures { λ x. ⌜ Inits (now (work .entry)) (arrayValue (constArray (namesIn (now (sheet .entry)) (now (work .entry)) (c .consts)) (elemOf (varOn (now (sheet .entry)) r .ty)) (exAt (now (sheet .entry)) q))) x (now (work .exit)) ⌝ }
 {
-    let declared = element_type(sheet, work, n, m, r);
-    of_array(arrays::const_array(sheet, work, n, m, declared, q))
+    let declared = element_type(sheet, work, c.lines, r);
+    of_array(arrays::const_array(sheet, work, c, declared, q))
 }
 
 // The first value of the `var` line r: only one that does not fold is looked at as an array.
-pub fn first_value(sheet: &[u8], work: &mut [u8], n: usize, m: usize, r: usize) -> First
-    requires { ⌜ Line 72 (now sheet) (now work) n m r ⌝ }
-    ensures { λ x. ⌜ Inits (now (work .entry)) (initOf (namesIn (now (sheet .entry)) (now (work .entry)) m) (varOn (now (sheet .entry)) r .ty) (varOn (now (sheet .entry)) r .init)) x (now (work .exit)) ⌝ }
+pub fn first_value(sheet: &[u8], work: &mut [u8], c: Known, r: usize) -> First
+    requires { ⌜ (VarLine (now sheet) (now work) (c .lines) r) × (Logged (now sheet) (now work) (c .lines) (c .consts)) ⌝ }
+    ensures { λ x. ⌜ Inits (now (work .entry)) (initOf (namesIn (now (sheet .entry)) (now (work .entry)) (c .consts)) (varOn (now (sheet .entry)) r .ty) (varOn (now (sheet .entry)) r .init)) x (now (work .exit)) ⌝ }
 {
-    let q = lines::number_at(sheet, work, n, r - 1, 1);
+    let q = lines::number_at(sheet, work, c.lines, r - 1, 1);
     if q == 0 {
         return First::NoValue;
     }
-    match fold::fold_const(sheet, work, n, m, 0, q, area::STACK) {
+    match fold::fold_const(sheet, work, c, 0, q, area::STACK) {
         Folded::Value(v) => First::Value(v),
-        Folded::Failed => array_value(sheet, work, n, m, r, q),
+        Folded::Failed => array_value(sheet, work, c, r, q),
         Folded::TooLong => First::Refused(8),
     }
 }
@@ -94,15 +101,15 @@ fn has_names(sheet: &[u8], work: &[u8], n: usize, r: usize) -> bool
 }
 
 // The value of line r without regard to arrays.
-fn plain_value(sheet: &[u8], work: &mut [u8], n: usize, m: usize, r: usize) -> First
-    requires { ⌜ Line 72 (now sheet) (now work) n m r ⌝ }
-    ensures { λ x. ⌜ Inits (now (work .entry)) (settled (plain (namesIn (now (sheet .entry)) (now (work .entry)) m) (varOn (now (sheet .entry)) r .init))) x (now (work .exit)) ⌝ }
+fn plain_value(sheet: &[u8], work: &mut [u8], c: Known, r: usize) -> First
+    requires { ⌜ (VarLine (now sheet) (now work) (c .lines) r) × (Logged (now sheet) (now work) (c .lines) (c .consts)) ⌝ }
+    ensures { λ x. ⌜ Inits (now (work .entry)) (settled (plain (namesIn (now (sheet .entry)) (now (work .entry)) (c .consts)) (varOn (now (sheet .entry)) r .init))) x (now (work .exit)) ⌝ }
 {
-    let q = lines::number_at(sheet, work, n, r - 1, 1);
+    let q = lines::number_at(sheet, work, c.lines, r - 1, 1);
     if q == 0 {
         return First::NoValue;
     }
-    match fold::fold_const(sheet, work, n, m, 0, q, area::STACK) {
+    match fold::fold_const(sheet, work, c, 0, q, area::STACK) {
         Folded::Value(v) => First::Value(v),
         Folded::Failed => First::Pending,
         Folded::TooLong => First::Refused(8), // met without a name too
@@ -110,12 +117,26 @@ fn plain_value(sheet: &[u8], work: &mut [u8], n: usize, m: usize, r: usize) -> F
 }
 
 // What the work on line r meets: a value is folded once for the line, and arrays are looked at only for a name.
-pub fn var_value(sheet: &[u8], work: &mut [u8], n: usize, m: usize, r: usize) -> First
-    requires { ⌜ Line 72 (now sheet) (now work) n m r ⌝ }
-    ensures { λ x. ⌜ Inits (now (work .entry)) (settled (varValue (namesIn (now (sheet .entry)) (now (work .entry)) m) (varOn (now (sheet .entry)) r))) x (now (work .exit)) ⌝ }
+pub fn var_value(sheet: &[u8], work: &mut [u8], c: Known, r: usize) -> First
+    requires { ⌜ (VarLine (now sheet) (now work) (c .lines) r) × (Logged (now sheet) (now work) (c .lines) (c .consts)) ⌝ }
+    ensures { λ x. ⌜ Inits (now (work .entry)) (settled (varValue (namesIn (now (sheet .entry)) (now (work .entry)) (c .consts)) (varOn (now (sheet .entry)) r))) x (now (work .exit)) ⌝ }
 {
-    if has_names(sheet, work, n, r) {
-        return first_value(sheet, work, n, m, r);
+    if has_names(sheet, work, c.lines, r) {
+        return first_value(sheet, work, c, r);
     }
-    plain_value(sheet, work, n, m, r)
+    plain_value(sheet, work, c, r)
+}
+
+// Line i, from 0, where the module of line k is open before it: its number from 1 where it is a `var` line that counts, else 0.
+pub fn laid_line(sheet: &[u8], work: &[u8], n: usize, i: usize, k: usize) -> usize
+    requires { ⌜ (Open (now sheet) (now work) n i k) × (i < n) ⌝ }
+    ensures { λ r. ⌜ (laidOn (now (sheet .entry)) r ≡ laidAt (now (sheet .entry)) i) × (MayLay (now (sheet .entry)) (now (work .entry)) n r) ⌝ }
+{
+    if lines::form_at(work, i) != decl::VAR {
+        return 0;
+    }
+    if !implement::is_own(sheet, work, n, k) {
+        return 0;
+    }
+    i + 1
 }

@@ -4,7 +4,7 @@ use Rattle.arrays.proofs.const_array.Statement.{statement}
 use Rattle.arrays.proofs.const_array.Tie as tie
 
 returns-3 : tie.Need-returns-3
-returns-3 c = other-line (c .before .before .before .before .before .before .pre) (c .before .before .form-at .ensures) (c .before .if1 .left) (c .if2 .left)
+returns-3 c = other-line (c .before .before .before .before .before .before .pre .0) (c .before .before .before .before .before .before .args .c .consts) (c .before .before .form-at .ensures) (c .before .if1 .left) (c .if2 .left)
 
 pub const-array-spec : {M : Type 1} → statement M
 const-array-spec =

@@ -10,10 +10,10 @@ use Rattle.arrays.proofs.is_byte_literal.Statement.{statement}
 use Rattle.arrays.proofs.is_byte_literal.Tie as tie
 
 abbrev Inv-loop : tie.InvT-loop
-Inv-loop sheet work n m r count j₀ j = Casting sheet r count j
+Inv-loop sheet work n r count j₀ j = Casting sheet r count j
 
 abbrev μ-loop : tie.MeasureT-loop
-μ-loop sheet work n m r count j₀ j = count - j
+μ-loop sheet work n r count j₀ j = count - j
 
 sub-number-at : tie.Need-sub-number-at Inv-loop μ-loop
 sub-number-at c = c .before .before .pre .line .first

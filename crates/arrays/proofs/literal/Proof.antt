@@ -6,22 +6,22 @@ use Rattle.arrays.proofs.literal.Statement.{statement}
 use Rattle.arrays.proofs.literal.Tie as tie
 
 fill-requires : tie.Need-fill-requires
-fill-requires c κs = c .before .before .before .pre .literal
+fill-requires c κs = (c .before .before .before .pre .0 .literal, c .before .before .before .pre .1)
 
 sized-requires : tie.Need-sized-requires
-sized-requires c κs = literal-kept (c .before .before .before .before .before .before .before .before .before .before .pre) (c .before .before .before .before .before .before .fill .result) (c .before .before .before .before .before .before .fill .ensures)
+sized-requires c κs = literal-kept (c .before .before .before .before .before .before .before .before .before .before .pre .0) (c .before .before .before .before .before .before .before .before .before .before .pre .1) (c .before .before .before .before .before .before .fill .result) (c .before .before .before .before .before .before .fill .ensures)
 
 returns : tie.Need-returns
-returns c = literal-well (c .before .before .before .before .before .before .before .before .before .before .before .before .before .pre) (c .before .before .before .before .before .before .before .before .before .fill .result) (c .before .before .before .before .before .before .before .before .before .fill .ensures) (c .before .before .before .before .before .reach .given .1) (c .before .before .sized .ensures)
+returns c = literal-well (c .before .before .before .before .before .before .before .before .before .before .before .before .before .pre .0) (c .before .before .before .before .before .before .before .before .before .before .before .before .before .pre .1) (c .before .before .before .before .before .before .before .before .before .fill .result) (c .before .before .before .before .before .before .before .before .before .fill .ensures) (c .before .before .before .before .before .x .given .1) (c .before .before .sized .ensures)
 
 returns-2 : tie.Need-returns-2
-returns-2 c = literal-ended (c .before .before .before .before .before .before .before .before .pre) (c .before .before .before .before .fill .result) (c .before .before .before .before .fill .ensures) Negative (c .enum-told .given .1) refl
+returns-2 c = literal-ended (c .before .before .before .before .before .before .before .before .pre .0) (c .before .before .before .before .before .before .before .before .pre .1) (c .before .before .before .before .fill .result) (c .before .before .before .before .fill .ensures) Negative (c .enum-told .given .1) refl
 
 returns-3 : tie.Need-returns-3
-returns-3 c = literal-ended (c .before .before .before .before .before .before .before .before .pre) (c .before .before .before .before .fill .result) (c .before .before .before .before .fill .ensures) Failed (c .enum-told2 .given .1) refl
+returns-3 c = literal-ended (c .before .before .before .before .before .before .before .before .pre .0) (c .before .before .before .before .before .before .before .before .pre .1) (c .before .before .before .before .fill .result) (c .before .before .before .before .fill .ensures) Failed (c .enum-told2 .given .1) refl
 
 returns-4 : tie.Need-returns-4
-returns-4 c = literal-ended (c .before .before .before .before .before .before .before .before .pre) (c .before .before .before .before .fill .result) (c .before .before .before .before .fill .ensures) TooLong (c .enum-told3 .given .1) refl
+returns-4 c = literal-ended (c .before .before .before .before .before .before .before .before .pre .0) (c .before .before .before .before .before .before .before .before .pre .1) (c .before .before .before .before .fill .result) (c .before .before .before .before .fill .ensures) TooLong (c .enum-told3 .given .1) refl
 
 pub literal-spec : {M : Type 1} → statement M
 literal-spec =

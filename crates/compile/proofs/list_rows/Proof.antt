@@ -1,7 +1,7 @@
 -- `compile::list_rows` meets its contract.
 use native.Mathlib.Omega.{arith}
 use Rattle.compile.proofs.Laws.{pends-written, pends-refused, lays, outgrows, value-refused}
-use Rattle.parts.proofs.Kept.{known-keeps}
+use Rattle.parts.proofs.Kept.{listable-keeps}
 use Rattle.write.proofs.Wrote.{wrote-length}
 use lib.ListN.{length}
 use denote.Ref.{now}
@@ -11,7 +11,7 @@ use Rattle.compile.proofs.list_rows.Statement.{statement}
 use Rattle.compile.proofs.list_rows.Tie as tie
 
 put-types-requires : tie.Need-put-types-requires
-put-types-requires c κs = known-keeps (c .before .before .before .before .before .before .before .before .before .pend-rows .ensures .1) (c .before .before .before .before .before .before .before .before .before .before .before .before .before .before .before .before .put-declared .ensures .1)
+put-types-requires c κs = listable-keeps (c .before .before .before .before .before .before .before .before .before .pend-rows .ensures .1) (c .before .before .before .before .before .before .before .before .before .before .before .before .before .before .before .before .put-declared .ensures .1)
 
 returns : tie.Need-returns
 returns c = let k = c .before .before .before .before .before .before .before .before .before .before .before .before .before .before .before .before .before .before .before .before .before .before .put-declared .ensures .1 in let w = pends-written k _ _ _ (c .before .before .before .before .before .before .before .before .before .before .before .before .before .before .before .pend-rows .result) (c .before .before .before .before .before .before .before .before .before .before .before .before .before .before .before .pend-rows .ensures .0) (c .before .before .before .before .before .before .before .before .before .q2 .given .1) in let a = c .before .before .before .before .before .before .before .before .before .before .before .before .before .before .before .before .before .before .before .before .before .before .put-declared .ensures .0 in let b = c .before .before .before .before .before .put-types .ensures .0 in lays k (length (now (c .before .before .before .before .before .before .before .before .before .before .before .before .before .before .before .before .before .before .before .before .before .before .before .before .before .before .before .before .args .listing))) (c .before .before .before .before .before .before .before .before .before .before .before .before .before .before .before .before .before .before .before .before .before .before .before .before .before .before .before .before .pre .1) refl a (w .0) (w .1) b (omega (arith, c .if1 .taken, wrote-length a, wrote-length (w .1), wrote-length b)) refl (c .before .before .before .before .before .before .before .before .before .before .before .before .before .before .before .before .before .before .before .before .before .before .before .before .before .before .before .before .pre .0 .held .checked .whole .room) (c .before .before .before .before .before .put-types .ensures .1)

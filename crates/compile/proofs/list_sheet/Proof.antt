@@ -1,5 +1,5 @@
 -- `compile::list_sheet` meets its contract.
-use Rattle.compile.proofs.Laws.{tables-known, constant-refused, tries-as}
+use Rattle.compile.proofs.Laws.{tables-listable, constant-refused, tries-as}
 use Rattle.semantics.specs.Refusal.{worked}
 use Rattle.semantics.specs.Sheet.{sheetSource}
 use lib.ListN.{length}
@@ -9,7 +9,7 @@ use Rattle.compile.proofs.list_sheet.Statement.{statement}
 use Rattle.compile.proofs.list_sheet.Tie as tie
 
 list-rows-requires : tie.Need-list-rows-requires
-list-rows-requires c κs = (tables-known (now (c .before .before .before .before .before .before .before .before .before .before .before .before .args .sheet)) _ (c .before .before .before .before .before .before .before .before .before .before .before .before .args .n) (c .before .before .before .before .before .before .before .make-tables .ensures .0) (c .before .before .before .x .given .1), c .before .before .before .before .before .before .before .before .before .before .before .before .pre .1)
+list-rows-requires c κs = (tables-listable (now (c .before .before .before .before .before .before .before .before .before .before .before .before .args .sheet)) _ (c .before .before .before .before .before .before .before .before .before .before .before .before .args .n) (c .before .before .before .before .before .before .before .make-tables .ensures .0) (c .before .before .before .x .given .1), c .before .before .before .before .before .before .before .before .before .before .before .before .pre .1)
 
 returns : tie.Need-returns
 returns c = constant-refused (now (c .before .before .before .before .before .before .before .before .before .before .args .sheet)) _ (c .before .before .before .before .before .before .before .before .before .before .args .n) (c .before .before .before .before .before .make-tables .ensures .0) (length (now (c .before .before .before .before .before .before .before .before .before .before .args .listing))) (c .before .k .given .1)

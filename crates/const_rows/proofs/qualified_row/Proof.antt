@@ -7,7 +7,7 @@ use Rattle.const_rows.proofs.qualified_row.Statement.{statement}
 use Rattle.const_rows.proofs.qualified_row.Tie as tie
 
 returns : tie.Need-returns
-returns c = Laws.no-module (now (c .before .before .before .before .before .args .sheet)) (now (c .before .before .before .before .before .args .work)) (c .before .before .before .before .before .args .m) (c .before .before .before .before .before .args .i) (c .before .module-line-of .ensures) (c .if1 .taken) (c .before .before .before .before .before .pre .2)
+returns c = Laws.no-module (now (c .before .before .before .before .before .args .sheet)) (now (c .before .before .before .before .before .args .work)) (c .before .before .before .before .before .args .c .consts) (c .before .before .before .before .before .args .i) (c .before .module-line-of .ensures) (c .if1 .taken) (c .before .before .before .before .before .pre .2)
 
 field-at-requires : tie.Need-field-at-requires
 field-at-requires c κs = (c .before .before .before .before .before .pre .0 .checked .whole, omega (arith, Laws.module-in (c .before .before .before .before .before .pre .0) (c .before .before .before .before .before .pre .1) (c .before .module-line-of .ensures), c .if1 .left))
@@ -19,16 +19,16 @@ field-at-requires-2 : tie.Need-field-at-requires-2
 field-at-requires-2 c κs = let h = Laws.line-in (c .before .before .before .before .before .before .before .pre .0) (c .before .before .before .before .before .before .before .pre .1) (c .line-of .ensures) in (c .before .before .before .before .before .before .before .pre .0 .checked .whole, omega arith)
 
 look-up-in-requires : tie.Need-look-up-in-requires
-look-up-in-requires c κs = (c .before .before .before .before .before .before .before .before .pre .0 .checked, Laws.fewer (c .before .before .before .before .before .before .before .before .pre .0) (c .before .before .before .before .before .before .before .before .pre .1))
+look-up-in-requires c κs = Laws.fewer (c .before .before .before .before .before .before .before .before .pre .0) (c .before .before .before .before .before .before .before .before .pre .1)
 
 returns-2 : tie.Need-returns-2
-returns-2 c = Laws.qualified-old (now (c .before .before .before .before .before .before .before .before .before .before .args .sheet)) (now (c .before .before .before .before .before .before .before .before .before .before .args .work)) (c .before .before .before .before .before .before .before .before .before .before .args .m) (c .before .before .before .before .before .before .before .before .before .before .args .i) (c .before .before .before .before .before .before .module-line-of .ensures) (c .before .before .before .before .before .if1 .left) (c .before .before .before .before .field-at .ensures) (c .before .before .before .line-of .ensures) (c .before .before .field-at2 .ensures) (c .before .look-up-in .result) (c .before .look-up-in .ensures .2) (c .if2 .taken) (c .before .before .before .before .before .before .before .before .before .before .pre .2)
+returns-2 c = Laws.qualified-old (now (c .before .before .before .before .before .before .before .before .before .before .args .sheet)) (now (c .before .before .before .before .before .before .before .before .before .before .args .work)) (c .before .before .before .before .before .before .before .before .before .before .args .c .consts) (c .before .before .before .before .before .before .before .before .before .before .args .i) (c .before .before .before .before .before .before .module-line-of .ensures) (c .before .before .before .before .before .if1 .left) (c .before .before .before .before .field-at .ensures) (c .before .before .before .line-of .ensures) (c .before .before .field-at2 .ensures) (c .before .look-up-in .result) (c .before .look-up-in .ensures .2) (c .if2 .taken) (c .before .before .before .before .before .before .before .before .before .before .pre .2)
 
 put-rest-requires : tie.Need-put-rest-requires
 put-rest-requires c κs = Laws.shown (c .before .before .before .before .before .before .before .before .before .before .before .before .before .before .before .before .before .before .before .before .before .before .before .before .before .before .pre .0) (c .before .before .before .before .before .before .before .before .before .before .before .before .before .before .before .look-up-in2 .ensures .1)
 
 returns-3 : tie.Need-returns-3
-returns-3 c = Laws.qualified-new (now (c .before .before .before .before .before .before .before .before .before .before .before .before .before .before .before .before .before .before .before .before .before .before .before .before .before .before .before .before .before .args .sheet)) (now (c .before .before .before .before .before .before .before .before .before .before .before .before .before .before .before .before .before .before .before .before .before .before .before .before .before .before .before .before .before .args .work)) (c .before .before .before .before .before .before .before .before .before .before .before .before .before .before .before .before .before .before .before .before .before .before .before .before .before .before .before .before .before .args .m) (c .before .before .before .before .before .before .before .before .before .before .before .before .before .before .before .before .before .before .before .before .before .before .before .before .before .before .before .before .before .args .i) (c .before .before .before .before .before .before .before .before .before .before .before .before .before .before .before .before .before .before .before .before .before .before .before .before .before .module-line-of .ensures) (c .before .before .before .before .before .before .before .before .before .before .before .before .before .before .before .before .before .before .before .before .before .before .before .before .if1 .left) (c .before .before .before .before .before .before .before .before .before .before .before .before .before .before .before .before .before .before .before .before .before .before .before .field-at .ensures) (c .before .before .before .before .before .before .before .before .before .before .before .before .before .before .before .before .before .before .before .before .before .before .line-of .ensures) (c .before .before .before .before .before .before .before .before .before .before .before .before .before .before .before .before .before .before .before .before .before .field-at2 .ensures) (c .before .before .before .before .before .before .before .before .before .before .before .before .before .before .before .before .before .before .before .before .look-up-in .result) (c .before .before .before .before .before .before .before .before .before .before .before .before .before .before .before .before .before .before .look-up-in2 .result) (c .before .before .before .before .before .before .before .before .before .before .before .before .before .before .before .before .before .before .before .before .look-up-in .ensures .2) (c .before .before .before .before .before .before .before .before .before .before .before .before .before .before .before .before .before .before .before .if2 .left) (c .before .before .before .before .before .before .before .before .before .before .before .before .before .before .before .before .before .before .look-up-in2 .ensures .0) (c .before .before .before .before .before .before .before .before .before .before .before .before .before .before .before .put-part .ensures) (c .before .before .before .before .before .before .before .before .before .before .before .put-part2 .ensures) (c .before .before .before .before .before .before .put-part3 .ensures) (c .before .before .put-rest .ensures)
+returns-3 c = Laws.qualified-new (now (c .before .before .before .before .before .before .before .before .before .before .before .before .before .before .before .before .before .before .before .before .before .before .before .before .before .before .before .before .before .args .sheet)) (now (c .before .before .before .before .before .before .before .before .before .before .before .before .before .before .before .before .before .before .before .before .before .before .before .before .before .before .before .before .before .args .work)) (c .before .before .before .before .before .before .before .before .before .before .before .before .before .before .before .before .before .before .before .before .before .before .before .before .before .before .before .before .before .args .c .consts) (c .before .before .before .before .before .before .before .before .before .before .before .before .before .before .before .before .before .before .before .before .before .before .before .before .before .before .before .before .before .args .i) (c .before .before .before .before .before .before .before .before .before .before .before .before .before .before .before .before .before .before .before .before .before .before .before .before .before .module-line-of .ensures) (c .before .before .before .before .before .before .before .before .before .before .before .before .before .before .before .before .before .before .before .before .before .before .before .before .if1 .left) (c .before .before .before .before .before .before .before .before .before .before .before .before .before .before .before .before .before .before .before .before .before .before .before .field-at .ensures) (c .before .before .before .before .before .before .before .before .before .before .before .before .before .before .before .before .before .before .before .before .before .before .line-of .ensures) (c .before .before .before .before .before .before .before .before .before .before .before .before .before .before .before .before .before .before .before .before .before .field-at2 .ensures) (c .before .before .before .before .before .before .before .before .before .before .before .before .before .before .before .before .before .before .before .before .look-up-in .result) (c .before .before .before .before .before .before .before .before .before .before .before .before .before .before .before .before .before .before .look-up-in2 .result) (c .before .before .before .before .before .before .before .before .before .before .before .before .before .before .before .before .before .before .before .before .look-up-in .ensures .2) (c .before .before .before .before .before .before .before .before .before .before .before .before .before .before .before .before .before .before .before .if2 .left) (c .before .before .before .before .before .before .before .before .before .before .before .before .before .before .before .before .before .before .look-up-in2 .ensures .0) (c .before .before .before .before .before .before .before .before .before .before .before .before .before .before .before .put-part .ensures) (c .before .before .before .before .before .before .before .before .before .before .before .put-part2 .ensures) (c .before .before .before .before .before .before .put-part3 .ensures) (c .before .before .put-rest .ensures)
 
 pub qualified-row-spec : {M : Type 1} → statement M
 qualified-row-spec =

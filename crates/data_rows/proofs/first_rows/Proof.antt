@@ -1,43 +1,47 @@
 -- `data_rows::first_rows` meets its contract.
-use Rattle.data_rows.proofs.Firsts.{held-keyed, first-within, first-filled, first-none, first-value, first-alloc, first-literal, first-pending, first-refused}
-use Rattle.data_rows.proofs.Printed.{printed-none}
+use Rattle.data_rows.proofs.Firsts.{first-within, first-filled, first-none, first-value, first-alloc, first-literal, first-pending, first-refused}
+use Rattle.data_rows.proofs.Printed.{printed-none, printed-value, printed-array}
+use Rattle.data_rows.proofs.Keys.{arrayBy}
+use Rattle.data_rows.proofs.Kept.{literal-filled, filled-still, values-still}
 use Rattle.type_keys.proofs.Table.{outside-all}
-use Rattle.global_table.specs.Table.{typeOn}
+use Rattle.placements.specs.Placements.{valuesIn}
+use Rattle.values.specs.Values.{valueIn}
+use mathlib.Core.List.{[]}
+use mathlib.Core.Path.{refl, sym}
 use denote.Ref.{now}
+use native.Mathlib.Omega.{arith}
 use borrow.Author.Needs.{needs}
 use Rattle.data_rows.proofs.first_rows.Statement.{statement}
 use Rattle.data_rows.proofs.first_rows.Tie as tie
 
-value-rows-requires : tie.Need-value-rows-requires
-value-rows-requires c κs = ((c .before .before .before .before .before .before .before .before .pre) .line, first-within (c .before .before .before .before .before .before .before .before .pre) (c .before .before .before .x .given .1))
+value-item-requires : tie.Need-value-item-requires
+value-item-requires c κs = first-within (now (c .before .before .before .before .before .before .before .args .work)) (c .before .before .before .before .before .before .before .args .x .first) (c .before .before .before .before .before .before .before .pre .1) (c .before .before .before .first .given .1) (c .before .before .before .before .before .before .before .pre .0 .long)
 
-alloc-rows-requires : tie.Need-alloc-rows-requires
-alloc-rows-requires c κs = held-keyed ((c .before .before .before .before .before .before .before .before .pre) .held)
-
-literal-rows-requires : tie.Need-literal-rows-requires
-literal-rows-requires c κs = (held-keyed ((c .before .before .before .before .before .before .before .before .pre) .held), first-filled (c .before .before .before .before .before .before .before .before .pre) (c .before .before .before .x3 .given .1))
+array-items-requires : tie.Need-array-items-requires
+array-items-requires c κs = literal-filled (omega (arith, c .before .before .before .before .element-id2 .ensures .1 .kept .long, c .before .before .before .before .before .before .before .before .before .before .before .before .pre .0 .long)) (filled-still (c .before .before .before .before .element-id2 .ensures .1) (first-filled (now (c .before .before .before .before .before .before .before .before .before .before .before .before .args .work)) (c .before .before .before .before .before .before .before .before .before .before .before .before .args .x .first) (c .before .before .before .before .before .before .before .before .before .before .before .before .pre .1) (c .before .before .before .before .before .before .before .before .first3 .given .1)))
 
 returns : tie.Need-returns
-returns c = (first-none (typeOn (now (c .before .before .before .before .before .before .before .before .before .args .sheet)) (c .before .before .before .before .before .before .before .before .before .args .r)) (c .before .before .before .before .before .before .before .before .before .args .off) (c .before .before .before .before .enum-told .given .1) (printed-none (c .before .before .no-rows .ensures .0) (c .before .before .no-rows .ensures .1)), outside-all)
+returns c = (λ s ty hf h. first-none ty (c .before .before .before .before .before .before .args .off) (c .before .before .enum-told .given .1) (printed-none (c .no-rows .ensures .0) (c .no-rows .ensures .1)), outside-all)
 
 returns-2 : tie.Need-returns-2
-returns-2 c = (first-value (typeOn (now (c .before .before .before .before .before .before .before .before .before .before .before .args .sheet)) (c .before .before .before .before .before .before .before .before .before .before .before .args .r)) (c .before .before .before .before .before .before .before .before .before .before .before .args .off) (c .before .before .before .before .before .before .x .given .1) (c .before .before .value-rows .ensures), outside-all)
+returns-2 c = (λ s ty hf h. first-value ty (c .before .before .before .before .before .before .before .before .before .before .args .off) (c .before .before .before .before .before .before .first .given .1) (printed-value (c .before .before .before .before .before .before .before .before .before .before .args .off) ty (valueIn (now (c .before .before .before .before .before .before .before .before .before .before .args .work)) (c .before .before .before .before .before .before .first .given .0 .0)) (λ id. c .before .before .value-item .ensures id ty h) refl), outside-all)
 
 returns-3 : tie.Need-returns-3
-returns-3 c = (first-alloc (typeOn (now (c .before .before .before .before .before .before .before .before .before .before .before .before .before .args .sheet)) (c .before .before .before .before .before .before .before .before .before .before .before .before .before .args .r)) (c .before .before .before .before .before .before .before .before .before .before .before .before .before .args .off) (c .before .before .before .before .before .before .before .before .x2 .given .1) (c .before .before .before .before .alloc-rows .ensures .0 (now (c .before .before .before .before .before .before .before .before .before .before .before .before .before .args .sheet)) ((c .before .before .before .before .before .before .before .before .before .before .before .before .before .pre) .held .framed)), c .before .before .before .before .alloc-rows .ensures .1)
+returns-3 c = (λ s ty hf h. first-alloc ty (c .before .before .before .before .before .before .before .before .before .before .before .before .before .before .args .off) (c .before .before .before .before .before .before .before .before .before .before .first2 .given .1) (printed-array (c .before .before .before .before .before .before .before .before .before .before .before .before .before .before .args .off) (arrayBy (c .before .before .before .before .before .before .before .before .before .before .first2 .given .0 .0) (c .before .before .before .before .before .before .before .before .before .before .first2 .given .0 .1 .0) []) (c .before .before .before .before .before .before .element-id .ensures .0) (c .before .before .before .before .before .before .before .kind-number .ensures .0) hf refl (λ f g. c .before .before .alloc-item .ensures f (arrayBy (c .before .before .before .before .before .before .before .before .before .before .first2 .given .0 .0) (c .before .before .before .before .before .before .before .before .before .before .first2 .given .0 .1 .0) []) g refl refl)), c .before .before .before .before .before .before .element-id .ensures .1)
 
 returns-4 : tie.Need-returns-4
-returns-4 c = (first-literal (typeOn (now (c .before .before .before .before .before .before .before .before .before .before .before .before .before .args .sheet)) (c .before .before .before .before .before .before .before .before .before .before .before .before .before .args .r)) (c .before .before .before .before .before .before .before .before .before .before .before .before .before .args .off) (c .before .before .before .before .before .before .before .before .x3 .given .1) (c .before .before .before .before .literal-rows .ensures .0 (now (c .before .before .before .before .before .before .before .before .before .before .before .before .before .args .sheet)) ((c .before .before .before .before .before .before .before .before .before .before .before .before .before .pre) .held .framed)), c .before .before .before .before .literal-rows .ensures .1)
+returns-4 c = (λ s ty hf h. first-literal ty (c .before .before .before .before .before .before .before .before .before .before .before .before .before .before .before .args .off) (c .before .before .before .before .before .before .before .before .before .before .before .first3 .given .1) (printed-array (c .before .before .before .before .before .before .before .before .before .before .before .before .before .before .before .args .off) (arrayBy (c .before .before .before .before .before .before .before .before .before .before .before .first3 .given .0 .0) (c .before .before .before .before .before .before .before .before .before .before .before .first3 .given .0 .1 .0) (valuesIn (now (c .before .before .before .before .before .before .before .before .before .before .before .before .before .before .before .args .work)) 0 (c .before .before .before .before .before .before .before .before .before .before .before .first3 .given .0 .1 .0))) (c .before .before .before .before .before .before .before .element-id2 .ensures .0) (c .before .before .before .before .before .before .before .before .before .kind-number2 .ensures .0) hf refl (λ f g. c .before .before .array-items .ensures f (arrayBy (c .before .before .before .before .before .before .before .before .before .before .before .first3 .given .0 .0) (c .before .before .before .before .before .before .before .before .before .before .before .first3 .given .0 .1 .0) (valuesIn (now (c .before .before .before .before .before .before .before .before .before .before .before .before .before .before .before .args .work)) 0 (c .before .before .before .before .before .before .before .before .before .before .before .first3 .given .0 .1 .0))) g (sym (c .before .before .before .before .before .before .before .before .before .kind-number2 .ensures .0)) refl (sym (values-still (c .before .before .before .before .before .before .before .element-id2 .ensures .1) (c .before .before .before .before .before .before .before .before .before .before .before .first3 .given .0 .1 .0) (first-filled (now (c .before .before .before .before .before .before .before .before .before .before .before .before .before .before .before .args .work)) (c .before .before .before .before .before .before .before .before .before .before .before .before .before .before .before .args .x .first) (c .before .before .before .before .before .before .before .before .before .before .before .before .before .before .before .pre .1) (c .before .before .before .before .before .before .before .before .before .before .before .first3 .given .1)))))), c .before .before .before .before .before .before .before .element-id2 .ensures .1)
 
 returns-5 : tie.Need-returns-5
-returns-5 c = (first-pending (typeOn (now (c .before .before .before .before .before .before .before .before .before .args .sheet)) (c .before .before .before .before .before .before .before .before .before .args .r)) (c .before .before .before .before .before .before .before .before .before .args .off) (c .before .before .before .before .enum-told2 .given .1) (printed-none (c .before .before .no-rows2 .ensures .0) (c .before .before .no-rows2 .ensures .1)), outside-all)
+returns-5 c = (λ s ty hf h. first-pending ty (c .before .before .before .before .before .before .args .off) (c .before .before .enum-told2 .given .1) (printed-none (c .no-rows2 .ensures .0) (c .no-rows2 .ensures .1)), outside-all)
 
 returns-6 : tie.Need-returns-6
-returns-6 c = (first-refused (typeOn (now (c .before .before .before .before .before .before .before .before .before .args .sheet)) (c .before .before .before .before .before .before .before .before .before .args .r)) (c .before .before .before .before .before .before .before .before .before .args .off) (c .before .before .before .before .enum-told3 .given .1) (printed-none (c .before .before .no-rows3 .ensures .0) (c .before .before .no-rows3 .ensures .1)), outside-all)
+returns-6 c = (λ s ty hf h. first-refused ty (c .before .before .before .before .before .before .args .off) (c .before .before .enum-told3 .given .1) (printed-none (c .no-rows3 .ensures .0) (c .no-rows3 .ensures .1)), outside-all)
 
 pub first-rows-spec : {M : Type 1} → statement M
 first-rows-spec =
-    tie.close (tie.spec (λ c. search needs) (λ c κs. search needs) (λ c. search needs) value-rows-requires (λ c. search needs) alloc-rows-requires
-    (λ c. search needs) literal-rows-requires (λ c. search needs) (λ c κs. search needs) (λ c. search needs) (λ c κs. search needs)
+    tie.close (tie.spec (λ c. search needs) (λ c κs. search needs) (λ c. search needs) value-item-requires (λ c. search needs)
+    (λ c κs. search needs) (λ c κs. search needs) (λ c. search needs) (λ c κs. search needs) (λ c. search needs) (λ c κs. search needs)
+    (λ c κs. search needs) array-items-requires (λ c. search needs) (λ c κs. search needs) (λ c. search needs) (λ c κs. search needs)
     (λ c. search needs) returns (λ c. search needs) (λ c. search needs) returns-2 (λ c. search needs) (λ c. search needs) returns-3
     (λ c. search needs) (λ c. search needs) returns-4 (λ c. search needs) returns-5 (λ c. search needs) returns-6)

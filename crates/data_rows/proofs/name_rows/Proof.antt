@@ -1,22 +1,25 @@
 -- `data_rows::name_rows` meets its contract.
 use Rattle.data_rows.proofs.Names.{name-nil, name-items}
+use Rattle.data_rows.proofs.Firsts.{held-keyed}
 use Rattle.data_rows.proofs.Printed.{printed-as, printed-none}
 use Rattle.type_keys.proofs.Table.{outside-all}
 use Rattle.vars.specs.First.{initIn}
-use Rattle.global_table.specs.Table.{typeOn, placesIn}
+use Rattle.global_table.specs.Table.{placesIn}
 use denote.Ref.{now}
 use borrow.Author.Needs.{needs}
 use Rattle.data_rows.proofs.name_rows.Statement.{statement}
 use Rattle.data_rows.proofs.name_rows.Tie as tie
 
 returns : tie.Need-returns
-returns c = (printed-as (name-nil (typeOn (now (c .before .before .before .before .before .before .before .before .before .before .before .before .args .sheet)) (c .before .before .before .before .before .before .before .before .before .before .before .before .args .r)) (placesIn (now (c .before .before .before .before .before .before .before .before .before .before .before .before .args .sheet)) (now (c .before .before .before .before .before .before .before .before .before .before .before .before .args .work)) (c .before .before .before .before .before .before .before .before .before .before .before .before .args .c .globals)) (initIn (now (c .before .before .before .before .before .before .before .before .before .before .before .before .args .work)) (c .before .before .before .before .before .before .before .before .before .before .before .before .args .x)) (c .before .before .before .before .before .before .before .field-at .ensures) (c .before .before .before .before .before .same .ensures) (c .before .before .before .before .if1 .taken)) (printed-none (c .before .before .no-rows .ensures .0) (c .before .before .no-rows .ensures .1)), outside-all)
+returns c = (λ ty h. printed-as (name-nil ty (placesIn (now (c .before .before .before .before .before .before .before .before .before .args .sheet)) (now (c .before .before .before .before .before .before .before .before .before .args .work)) (c .before .before .before .before .before .before .before .before .before .args .c .globals)) (initIn (now (c .before .before .before .before .before .before .before .before .before .args .work)) (c .before .before .before .before .before .before .before .before .before .args .x .first)) (now (c .before .before .before .before .before .before .before .before .before .args .name)) (c .before .before .before .same .ensures) (c .before .before .if1 .taken)) (printed-none (c .no-rows .ensures .0) (c .no-rows .ensures .1)), outside-all)
+
+first-rows-requires : tie.Need-first-rows-requires
+first-rows-requires c κs = (held-keyed (c .before .before .before .before .before .before .before .before .before .before .before .pre .held), c .before .before .before .before .before .before .before .before .before .before .before .pre .stands)
 
 returns-2 : tie.Need-returns-2
-returns-2 c = (printed-as (name-items (typeOn (now (c .before .before .before .before .before .before .before .before .before .before .before .before .before .before .before .before .before .args .sheet)) (c .before .before .before .before .before .before .before .before .before .before .before .before .before .before .before .before .before .args .r)) (placesIn (now (c .before .before .before .before .before .before .before .before .before .before .before .before .before .before .before .before .before .args .sheet)) (now (c .before .before .before .before .before .before .before .before .before .before .before .before .before .before .before .before .before .args .work)) (c .before .before .before .before .before .before .before .before .before .before .before .before .before .before .before .before .before .args .c .globals)) (initIn (now (c .before .before .before .before .before .before .before .before .before .before .before .before .before .before .before .before .before .args .work)) (c .before .before .before .before .before .before .before .before .before .before .before .before .before .before .before .before .before .args .x)) (c .before .before .before .before .before .before .before .before .before .before .before .before .field-at .ensures) (c .before .before .before .before .before .before .before .before .before .before .same .ensures) (c .before .before .before .before .before .before .before .before .before .if1 .left) (c .before .before .before .before .before .before .before .offset-in .ensures .0)) (c .before .before .before .before .first-rows .ensures .0), c .before .before .before .before .first-rows .ensures .1)
+returns-2 c = (λ ty h. printed-as (name-items ty (placesIn (now (c .before .before .before .before .before .before .before .before .before .before .before .before .before .before .before .before .args .sheet)) (now (c .before .before .before .before .before .before .before .before .before .before .before .before .before .before .before .before .args .work)) (c .before .before .before .before .before .before .before .before .before .before .before .before .before .before .before .before .args .c .globals)) (initIn (now (c .before .before .before .before .before .before .before .before .before .before .before .before .before .before .before .before .args .work)) (c .before .before .before .before .before .before .before .before .before .before .before .before .before .before .before .before .args .x .first)) (now (c .before .before .before .before .before .before .before .before .before .before .before .before .before .before .before .before .args .name)) (c .before .before .before .before .before .before .before .before .before .before .same .ensures) (c .before .before .before .before .before .before .before .before .before .if1 .left) (c .before .before .before .before .before .before .before .offset-in .ensures .0)) (c .before .before .before .before .first-rows .ensures .0 (now (c .before .before .before .before .before .before .before .before .before .before .before .before .before .before .before .before .args .sheet)) ty (c .before .before .before .before .before .before .before .before .before .before .before .before .before .before .before .before .pre .held .framed) h), c .before .before .before .before .first-rows .ensures .1)
 
 pub name-rows-spec : {M : Type 1} → statement M
 name-rows-spec =
-    tie.close (tie.spec (λ c. search needs) (λ c. search needs) (λ c κs. search needs) (λ c. search needs) (λ c κs. search needs)
-    (λ c κs. search needs) (λ c. search needs) (λ c. search needs) returns (λ c κs. search needs) (λ c κs. search needs) (λ c. search needs)
-    (λ c. search needs) returns-2)
+    tie.close (tie.spec (λ c. search needs) (λ c κs. search needs) (λ c κs. search needs) (λ c. search needs) returns (λ c κs. search needs)
+    first-rows-requires (λ c. search needs) (λ c. search needs) returns-2)

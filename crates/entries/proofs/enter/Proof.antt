@@ -10,9 +10,9 @@ use Rattle.entries.proofs.enter.Tie as tie
 returns : tie.Need-returns
 returns c =
     let a = c .before .before .before .before .before .before .before .before .before .before .before .args in
-    Laws.entered-value (now (a .work)) _ (a .m) (a .line) (a .within) (a .d) (c .before .before .before .before .before .before .before .before .before .before .before .pre .0) (a .v) (c .before .before .before .before .before .before .before .before .before .before .before .pre .1) (omega arith) (c .before .before .before .bits-of .ensures) (c .before .before .put-entry .ensures ∙ rw (c .before .before .before .before .before .before .before .before .keep-string .ensures, c .before .before .before .before .kind-of .ensures))
+    Laws.entered-value (now (a .work)) _ (a .m) (a .line) (a .within) (a .d) (c .before .before .before .before .before .before .before .before .before .before .before .pre .0) (a .v) (c .before .before .before .before .before .before .before .before .before .before .before .pre .1) (omega arith) (c .before .before .before .before .before .bits-of .ensures) (c .before .before .put-entry .ensures ∙ rw (c .before .before .before .before .before .before .before .before .keep-string .ensures, c .before .before .before .kind-of .ensures))
 
 pub enter-spec : {M : Type 1} → statement M
 enter-spec =
-    tie.close (tie.spec (λ c κs. search needs) (λ c κs. search needs) (λ c. search needs) (λ c. search needs) (λ c κs. search needs)
+    tie.close (tie.spec (λ c κs. search needs) (λ c. search needs) (λ c. search needs) (λ c κs. search needs) (λ c κs. search needs)
     (λ c κs. search needs) (λ c. search needs) returns)

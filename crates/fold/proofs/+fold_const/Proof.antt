@@ -20,7 +20,7 @@ use Rattle.fold.proofs.+fold_const.{statement}
 use Rattle.fold.proofs.+fold_const.Tie.{close}
 
 abbrev μ-fold-const : Measures 2 fold-const-kinds.ps ℕ
-μ-fold-const κs a = a .1 .1 .1 .1 .1 .0
+μ-fold-const κs a = a .1 .1 .1 .1 .0
 
 abbrev fold-const-at : ℕ → In 2 fold-const-kinds.ps
 fold-const-at t =

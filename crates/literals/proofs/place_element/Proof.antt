@@ -5,19 +5,19 @@ use Rattle.literals.proofs.place_element.Statement.{statement}
 use Rattle.literals.proofs.place_element.Tie as tie
 
 returns : tie.Need-returns
-returns c = element-next (c .before .before .before .before .before .before .before .before .before .pre) (c .before .before .before .before .before .before .before .before .before .args .next) (c .before .before .before .before .before .before .before .before .before .args .reach) (c .before .before .before .before .before .form-at .ensures) (c .before .before .before .before .if1 .taken) (c .before .before .place-next .ensures)
+returns c = element-next (c .before .before .before .before .before .before .before .before .before .pre) (c .before .before .before .before .before .before .before .before .before .args .x) (c .before .before .before .before .before .form-at .ensures) (c .before .before .before .before .if1 .taken) (c .before .before .place-next .ensures)
 
 put-value-requires : tie.Need-put-value-requires
-put-value-requires c κs = (omega arith, c .before .before .before .before .before .before .before .pre .task .line .checked .whole .room, element-small (c .before .before .before .before .before .before .before .pre) (c .before .before .before .before .before .before .before .args .next) (c .before .before .before .before .before .before .before .args .reach))
+put-value-requires c κs = (omega arith, c .before .before .before .before .before .before .before .pre .task .line .checked .whole .room, element-small (c .before .before .before .before .before .before .before .pre) (c .before .before .before .before .before .before .before .args .x))
 
 returns-2 : tie.Need-returns-2
-returns-2 c = element-star (c .before .before .before .before .before .before .before .before .before .before .pre) (c .before .before .before .before .before .before .before .before .before .before .args .next) (c .before .before .before .before .before .before .before .before .before .before .args .reach) (c .before .before .before .before .before .before .form-at .ensures) (c .before .before .before .before .if2 .taken) (c .before .before .put-value .ensures)
+returns-2 c = element-star (c .before .before .before .before .before .before .before .before .before .before .pre) (c .before .before .before .before .before .before .before .before .before .before .args .x) (c .before .before .before .before .before .before .form-at .ensures) (c .before .before .before .before .if2 .taken) (c .before .before .put-value .ensures)
 
 place-selectors-requires : tie.Need-place-selectors-requires
-place-selectors-requires c κs = element-at (c .before .before .before .before .before .before .before .pre) (c .before .before .before .before .before .before .before .args .next) (c .before .before .before .before .before .before .before .args .reach) (c .before .before .before .form-at .ensures) (c .before .before .if1 .left) (c .before .if2 .left)
+place-selectors-requires c κs = element-at (c .before .before .before .before .before .before .before .pre) (c .before .before .before .before .before .before .before .args .x) (c .before .before .before .form-at .ensures) (c .before .before .if1 .left) (c .before .if2 .left)
 
 returns-3 : tie.Need-returns-3
-returns-3 c = element-spans (c .before .before .before .before .before .before .before .before .before .before .pre) (c .before .before .before .before .before .before .before .before .before .before .args .next) (c .before .before .before .before .before .before .before .before .before .before .args .reach) (c .before .before .before .before .before .before .form-at .ensures) (c .before .before .before .before .before .if1 .left) (c .before .before .before .before .if2 .left) (c .before .before .place-selectors .ensures)
+returns-3 c = element-spans (c .before .before .before .before .before .before .before .before .before .before .pre) (c .before .before .before .before .before .before .before .before .before .before .args .x) (c .before .before .before .before .before .before .form-at .ensures) (c .before .before .before .before .before .if1 .left) (c .before .before .before .before .if2 .left) (c .before .before .place-selectors .ensures)
 
 pub place-element-spec : {M : Type 1} → statement M
 place-element-spec =

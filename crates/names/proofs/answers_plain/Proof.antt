@@ -13,8 +13,8 @@ returns c =
 
 is-own-requires : tie.Need-is-own-requires
 is-own-requires c κs =
-    let e = c .before .before .before .before .before .before .pre .1 .each (c .before .before .before .before .before .before .args .i) (c .before .before .before .before .before .before .pre .2) in
-    (c .before .before .before .before .before .before .pre .0, omega (arith, c .module-line-of .ensures, e .within))
+    let e = c .before .before .before .before .before .before .pre .0 .entry in
+    (c .before .before .before .before .before .before .pre .0 .checked, omega (arith, c .module-line-of .ensures, e .within))
 
 returns-2 : tie.Need-returns-2
 returns-2 c =

@@ -18,8 +18,8 @@ returns-2 c =
 
 is-named-requires : tie.Need-is-named-requires
 is-named-requires c κs =
-    let e = c .before .before .before .before .before .before .before .before .pre .1 .each (c .before .before .before .before .before .before .before .before .args .i) (c .before .before .before .before .before .before .before .before .pre .2) in
-    (c .before .before .before .before .before .before .before .before .pre .0, omega arith, omega (arith, c .before .module-line-of .ensures, e .within))
+    let e = c .before .before .before .before .before .before .before .before .pre .0 .entry in
+    (c .before .before .before .before .before .before .before .before .pre .0 .checked, omega arith, omega (arith, c .before .module-line-of .ensures, e .within))
 
 returns-3 : tie.Need-returns-3
 returns-3 c =

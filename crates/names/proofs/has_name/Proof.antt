@@ -11,12 +11,12 @@ use Rattle.names.proofs.has_name.Statement.{statement}
 use Rattle.names.proofs.has_name.Tie as tie
 
 returns : tie.Need-returns
-returns c = named-apart (now (c .before .before .before .before .before .args .name)) (c .before .before .before .before .before .pre .1) (c .before .before .before .before .before .pre .2) (c .before .before .before .before .before .pre .3) (λ e. c .if1 .taken (c .before .digest-of .ensures ∙ e))
+returns c = named-apart (now (c .before .before .before .before .before .args .name)) (c .before .before .before .before .before .pre .0) (c .before .before .before .before .before .pre .1) (λ e. c .if1 .taken (c .before .digest-of .ensures ∙ e))
 
 is-named-requires : tie.Need-is-named-requires
 is-named-requires c κs =
-    let e = c .before .before .before .before .before .before .pre .1 .each (c .before .before .before .before .before .before .args .i) (c .before .before .before .before .before .before .pre .2) in
-    (c .before .before .before .before .before .before .pre .0, omega (arith, c .line-of .ensures, e .first), omega (arith, c .line-of .ensures, e .last))
+    let e = c .before .before .before .before .before .before .pre .0 .entry in
+    (c .before .before .before .before .before .before .pre .0 .checked, omega (arith, c .line-of .ensures, e .first), omega (arith, c .line-of .ensures, e .last))
 
 returns-2 : tie.Need-returns-2
 returns-2 c = c .is-named .ensures ∙ ap (λ (k : ℕ). same (now (c .before .before .before .before .before .before .before .args .name)) (firstField (now (c .before .before .before .before .before .before .before .args .sheet)) k)) (c .before .line-of .ensures)

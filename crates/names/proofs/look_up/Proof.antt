@@ -1,44 +1,44 @@
 -- `names::look_up` meets its contract.
 use Rattle.names.proofs.Laws as Laws
-use Rattle.names.specs.Table.{answersPlain}
-use Rattle.semantics.specs.Fold.{plain}
+use Rattle.names.specs.Table.{answersPlain, newestPlain}
 use borrow.Author.Needs.{needs}
 use denote.Ref.{now}
+use mathlib.Core.Path.{_≡_, refl, sym, _∙_}
 use native.Mathlib.Omega.{arith}
 use Prim.Native.Nat.{ℕ, _≤_}
 use Rattle.names.proofs.look_up.Statement.{statement}
 use Rattle.names.proofs.look_up.Tie as tie
 
 abbrev Inv-loop : tie.InvT-loop
-Inv-loop sheet work n m name d i₀ i = (i ≤ m) × Laws.Looking sheet work (plain name) m i
+Inv-loop sheet work c name d i₀ i = (i ≤ c .consts) × (newestPlain sheet work (c .consts) name ≡ newestPlain sheet work i name)
 
 abbrev μ-loop : tie.MeasureT-loop
-μ-loop sheet work n m name d i₀ i = i
+μ-loop sheet work c name d i₀ i = i
 
 loop-holds : tie.Need-loop-holds Inv-loop μ-loop
-loop-holds c =
-    let a = c .before .before .before .before .args in
-    (omega arith, Laws.looking (now (a .sheet)) (now (a .work)) (plain (now (a .name))) (a .m))
+loop-holds c = (omega arith, refl)
 
 answers-plain-requires : tie.Need-answers-plain-requires Inv-loop μ-loop
-answers-plain-requires c κs = (c .before .before .before .before .before .before .pre .0, c .before .before .before .before .before .before .pre .1, omega (arith, c .before .loop .inv .0, c .loop-test .taken), c .before .before .digest .ensures .0)
+answers-plain-requires c κs = (Laws.table-entry (c .before .before .before .before .before .before .pre) (omega (arith, c .before .loop .inv .0, c .loop-test .taken)), c .before .before .digest .ensures .0)
 
 returns : tie.Need-returns Inv-loop μ-loop
 returns c =
     let a = c .before .before .before .before .before .before .before .before .args in
-    let w = Laws.look-hit (now (a .sheet)) (now (a .work)) (plain (now (a .name))) (λ (j : ℕ). answersPlain (now (a .sheet)) (now (a .work)) j (now (a .name))) (Laws.answers-plain (now (a .sheet)) (now (a .work)) (now (a .name))) (a .m) (c .before .before .before .loop .i) (c .before .before .before .loop .inv .1) (omega arith) (c .before .answers-plain .ensures) (c .if1 .taken) in
-    (w .value, c .before .before .before .loop .inv .0, w .has)
+    let e = Laws.newest-hit (λ (j : ℕ). answersPlain (now (a .sheet)) (now (a .work)) j (now (a .name))) (c .before .before .before .loop .i) (omega arith) (c .before .answers-plain .ensures) (c .if1 .taken) ∙ sym (c .before .before .before .loop .inv .1) in
+    let w = Laws.looked (Laws.answers-plain (now (a .sheet)) (now (a .work)) (now (a .name))) e in
+    (w .value, w .low, w .has, e)
 
 loop-again : tie.Need-loop-again Inv-loop μ-loop
 loop-again c =
     let a = c .before .before .before .before .before .before .before .before .args in
-    (omega arith, Laws.look-on (now (a .sheet)) (now (a .work)) (plain (now (a .name))) (λ (j : ℕ). answersPlain (now (a .sheet)) (now (a .work)) j (now (a .name))) (Laws.answers-plain (now (a .sheet)) (now (a .work)) (now (a .name))) (a .m) (c .before .before .before .loop .i) (c .before .before .before .loop .inv .1) (omega arith) (c .before .answers-plain .ensures) (c .if1 .left))
+    (omega arith, c .before .before .before .loop .inv .1 ∙ Laws.newest-on (λ (j : ℕ). answersPlain (now (a .sheet)) (now (a .work)) j (now (a .name))) (c .before .before .before .loop .i) (omega arith) (c .before .answers-plain .ensures) (c .if1 .left))
 
 returns-2 : tie.Need-returns-2 Inv-loop μ-loop
 returns-2 c =
     let a = c .before .before .before .before .before .before .args in
-    let w = Laws.look-end (now (a .sheet)) (now (a .work)) (plain (now (a .name))) (a .m) (c .before .loop .i) (c .before .loop .inv .1) (omega arith) in
-    (w .value, omega arith, w .has)
+    let e = Laws.newest-end (λ (j : ℕ). answersPlain (now (a .sheet)) (now (a .work)) j (now (a .name))) (c .before .loop .i) (omega arith) ∙ sym (c .before .loop .inv .1) in
+    let w = Laws.looked (Laws.answers-plain (now (a .sheet)) (now (a .work)) (now (a .name))) e in
+    (w .value, w .low, w .has, e)
 
 pub look-up-spec : {M : Type 1} → statement M
 look-up-spec =

@@ -1,44 +1,44 @@
 -- `names::look_up_in` meets its contract.
 use Rattle.names.proofs.Laws as Laws
-use Rattle.names.specs.Table.{answersQualified}
-use Rattle.semantics.specs.Fold.{qualified}
+use Rattle.names.specs.Table.{answersQualified, newestQualified}
 use borrow.Author.Needs.{needs}
 use denote.Ref.{now}
+use mathlib.Core.Path.{_≡_, refl, sym, _∙_}
 use native.Mathlib.Omega.{arith}
 use Prim.Native.Nat.{ℕ, _≤_}
 use Rattle.names.proofs.look_up_in.Statement.{statement}
 use Rattle.names.proofs.look_up_in.Tie as tie
 
 abbrev Inv-loop : tie.InvT-loop
-Inv-loop sheet work n m within name d i₀ i = (i ≤ m) × Laws.Looking sheet work (qualified within name) m i
+Inv-loop sheet work c within name d i₀ i = (i ≤ c .consts) × (newestQualified sheet work (c .consts) within name ≡ newestQualified sheet work i within name)
 
 abbrev μ-loop : tie.MeasureT-loop
-μ-loop sheet work n m within name d i₀ i = i
+μ-loop sheet work c within name d i₀ i = i
 
 loop-holds : tie.Need-loop-holds Inv-loop μ-loop
-loop-holds c =
-    let a = c .before .before .before .before .before .args in
-    (omega arith, Laws.looking (now (a .sheet)) (now (a .work)) (qualified (now (a .within)) (now (a .name))) (a .m))
+loop-holds c = (omega arith, refl)
 
 answers-qualified-requires : tie.Need-answers-qualified-requires Inv-loop μ-loop
-answers-qualified-requires c κs = (c .before .before .before .before .before .before .before .pre .0, c .before .before .before .before .before .before .before .pre .1, omega (arith, c .before .loop .inv .0, c .loop-test .taken), c .before .before .digest .ensures .0)
+answers-qualified-requires c κs = (Laws.table-entry (c .before .before .before .before .before .before .before .pre) (omega (arith, c .before .loop .inv .0, c .loop-test .taken)), c .before .before .digest .ensures .0)
 
 returns : tie.Need-returns Inv-loop μ-loop
 returns c =
     let a = c .before .before .before .before .before .before .before .before .before .args in
-    let w = Laws.look-hit (now (a .sheet)) (now (a .work)) (qualified (now (a .within)) (now (a .name))) (λ (j : ℕ). answersQualified (now (a .sheet)) (now (a .work)) j (now (a .within)) (now (a .name))) (Laws.answers-qualified (now (a .sheet)) (now (a .work)) (now (a .within)) (now (a .name))) (a .m) (c .before .before .before .loop .i) (c .before .before .before .loop .inv .1) (omega arith) (c .before .answers-qualified .ensures) (c .if1 .taken) in
-    (w .value, c .before .before .before .loop .inv .0, w .has)
+    let e = Laws.newest-hit (λ (j : ℕ). answersQualified (now (a .sheet)) (now (a .work)) j (now (a .within)) (now (a .name))) (c .before .before .before .loop .i) (omega arith) (c .before .answers-qualified .ensures) (c .if1 .taken) ∙ sym (c .before .before .before .loop .inv .1) in
+    let w = Laws.looked (Laws.answers-qualified (now (a .sheet)) (now (a .work)) (now (a .within)) (now (a .name))) e in
+    (w .value, w .low, w .has, e)
 
 loop-again : tie.Need-loop-again Inv-loop μ-loop
 loop-again c =
     let a = c .before .before .before .before .before .before .before .before .before .args in
-    (omega arith, Laws.look-on (now (a .sheet)) (now (a .work)) (qualified (now (a .within)) (now (a .name))) (λ (j : ℕ). answersQualified (now (a .sheet)) (now (a .work)) j (now (a .within)) (now (a .name))) (Laws.answers-qualified (now (a .sheet)) (now (a .work)) (now (a .within)) (now (a .name))) (a .m) (c .before .before .before .loop .i) (c .before .before .before .loop .inv .1) (omega arith) (c .before .answers-qualified .ensures) (c .if1 .left))
+    (omega arith, c .before .before .before .loop .inv .1 ∙ Laws.newest-on (λ (j : ℕ). answersQualified (now (a .sheet)) (now (a .work)) j (now (a .within)) (now (a .name))) (c .before .before .before .loop .i) (omega arith) (c .before .answers-qualified .ensures) (c .if1 .left))
 
 returns-2 : tie.Need-returns-2 Inv-loop μ-loop
 returns-2 c =
     let a = c .before .before .before .before .before .before .before .args in
-    let w = Laws.look-end (now (a .sheet)) (now (a .work)) (qualified (now (a .within)) (now (a .name))) (a .m) (c .before .loop .i) (c .before .loop .inv .1) (omega arith) in
-    (w .value, omega arith, w .has)
+    let e = Laws.newest-end (λ (j : ℕ). answersQualified (now (a .sheet)) (now (a .work)) j (now (a .within)) (now (a .name))) (c .before .loop .i) (omega arith) ∙ sym (c .before .loop .inv .1) in
+    let w = Laws.looked (Laws.answers-qualified (now (a .sheet)) (now (a .work)) (now (a .within)) (now (a .name))) e in
+    (w .value, w .low, w .has, e)
 
 pub look-up-in-spec : {M : Type 1} → statement M
 look-up-in-spec =

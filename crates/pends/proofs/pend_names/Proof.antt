@@ -18,11 +18,11 @@ abbrev μ-loop : tie.MeasureT-loop
 loop-holds : tie.Need-loop-holds Inv-loop μ-loop
 loop-holds c = naming-start (now (c .before .before .before .before .before .before .args .sheet)) (now (c .before .before .before .before .before .before .args .work)) (c .before .before .before .before .before .before .args .n) (c .before .before .before .before .before .before .args .r) (c .before .before .before .before .before .before .pre) (c .before .before .number-at .ensures .0) (c .nothing .ensures)
 
-pend-name-requires : tie.Need-pend-name-requires Inv-loop μ-loop
-pend-name-requires c κs = (c .before .before .before .before .before .before .before .before .before .pre, omega (arith, few-names (now (c .before .before .before .before .before .before .before .before .before .args .sheet)) (now (c .before .before .before .before .before .before .before .before .before .args .work)) (c .before .before .before .before .before .before .before .before .before .args .n) (c .before .before .before .before .before .before .before .before .before .args .r) (c .before .before .before .before .before .before .before .before .before .pre) (c .before .before .before .before .before .number-at .ensures .0), c .before .loop-test .taken))
+add-field-at : tie.Need-add-field-at Inv-loop μ-loop
+add-field-at c = record { fits = omega (arith, few-names (now (c .before .before .before .before .before .before .before .before .args .sheet)) (now (c .before .before .before .before .before .before .before .before .args .work)) (c .before .before .before .before .before .before .before .before .args .n) (c .before .before .before .before .before .before .before .before .args .r) (c .before .before .before .before .before .before .before .before .pre) (c .before .before .before .before .number-at .ensures .0), c .loop-test .taken) }
 
 loop-again : tie.Need-loop-again Inv-loop μ-loop
-loop-again c = naming-next (c .before .before .before .before .before .loop .inv) (c .before .before .before .before .loop-test .taken) (wrote-length (c .before .before .pend-name .ensures)) (c .before .before .pend-name .ensures)
+loop-again c = naming-next (c .before .before .before .before .before .before .loop .inv) (c .before .before .before .before .before .loop-test .taken) (wrote-length (c .before .before .pend-name .ensures)) (c .before .before .before .before .field-at .ensures) (c .before .before .pend-name .ensures)
 
 same-length : tie.Need-same-length Inv-loop μ-loop
 same-length c = c .before .loop .inv .long
@@ -32,5 +32,5 @@ returns c = naming-end (c .before .loop .inv) (c .loop-test .left)
 
 pub pend-names-spec : {M : Type 1} → statement M
 pend-names-spec =
-    tie.close (tie.spec Inv-loop μ-loop (λ c. search needs) (λ c κs. search needs) (λ c κs. search needs) loop-holds pend-name-requires
-    (λ c. search needs) (λ c. search needs) loop-again same-length returns)
+    tie.close (tie.spec Inv-loop μ-loop (λ c. search needs) (λ c κs. search needs) (λ c κs. search needs) loop-holds (λ c. search needs)
+    add-field-at (λ c κs. search needs) (λ c κs. search needs) (λ c. search needs) (λ c. search needs) loop-again same-length returns)

@@ -5,10 +5,10 @@ use Rattle.vars.proofs.array_value.Statement.{statement}
 use Rattle.vars.proofs.array_value.Tie as tie
 
 const-array-requires : tie.Need-const-array-requires
-const-array-requires c κs = array-line (c .before .before .before .before .before .pre) (c .before .element-type .ensures .0) (c .before .element-type .ensures .1)
+const-array-requires c κs = (array-line (c .before .before .before .before .before .pre .0) (c .before .element-type .ensures .0) (c .before .element-type .ensures .1), c .before .before .before .before .before .pre .1)
 
 returns : tie.Need-returns
-returns c = array-is (c .before .before .before .before .before .before .before .before .before .pre) (c .before .before .before .before .before .element-type .ensures .0) (c .before .before .before .before .before .element-type .ensures .1) (c .before .before .before .const-array .ensures) (c .of-array .result) (c .of-array .ensures)
+returns c = array-is (c .before .before .before .before .before .before .before .before .before .pre .0) (c .before .before .before .before .before .element-type .ensures .0) (c .before .before .before .before .before .element-type .ensures .1) (c .before .before .before .before .before .before .before .before .before .args .c .consts) (c .before .before .before .const-array .ensures) (c .of-array .result) (c .of-array .ensures)
 
 pub array-value-spec : {M : Type 1} → statement M
 array-value-spec =

@@ -6,22 +6,22 @@ use Rattle.vars.proofs.first_value.Statement.{statement}
 use Rattle.vars.proofs.first_value.Tie as tie
 
 returns : tie.Need-returns
-returns c = first-none (c .before .before .before .before .before .pre) (c .before .number-at .ensures .0) _ (c .if1 .taken)
+returns c = first-none (c .before .before .before .before .before .pre .0) (c .before .number-at .ensures .0) _ (c .if1 .taken)
 
 fold-const-requires : tie.Need-fold-const-requires
-fold-const-requires c κs = value-foldable (c .before .before .before .before .before .before .pre) (c .before .before .number-at .ensures .0) (c .before .if1 .left)
+fold-const-requires c κs = value-foldable (c .before .before .before .before .before .before .pre .0) (c .before .before .number-at .ensures .0) (c .before .if1 .left) (c .before .before .before .before .before .before .pre .1)
 
 array-value-requires : tie.Need-array-value-requires
-array-value-requires c κs = array-task (c .before .before .before .before .before .before .before .before .before .before .before .before .pre) (c .before .before .before .before .before .before .before .before .number-at .ensures .0) (c .before .before .before .before .before .before .before .if1 .left) (c .before .before .before .before .before .fold-const .ensures) (c .before .enum-told .given .1)
+array-value-requires c κs = array-task (c .before .before .before .before .before .before .before .before .before .before .before .before .pre .0) (c .before .before .before .before .before .before .before .before .number-at .ensures .0) (c .before .before .before .before .before .before .before .if1 .left) (c .before .before .before .before .before .before .before .before .before .before .before .before .pre .1) (c .before .before .before .before .before .fold-const .ensures) (c .before .enum-told .given .1)
 
 returns-2 : tie.Need-returns-2
-returns-2 c = first-folded (c .before .before .before .before .before .before .before .before .before .before .before .before .pre) (c .before .before .before .before .before .before .before .before .number-at .ensures .0) (c .before .before .before .before .before .before .before .if1 .left) (c .before .before .before .before .before .fold-const .ensures) (c .before .v .given .1)
+returns-2 c = first-folded (c .before .before .before .before .before .before .before .before .before .before .before .before .pre .0) (c .before .before .before .before .before .before .before .before .number-at .ensures .0) (c .before .before .before .before .before .before .before .if1 .left) (c .before .before .before .before .before .before .before .before .before .before .before .before .pre .1) (c .before .before .before .before .before .fold-const .ensures) (c .before .v .given .1)
 
 returns-3 : tie.Need-returns-3
-returns-3 c = first-array (c .before .before .before .before .before .before .before .before .before .before .before .before .before .before .before .pre) (c .before .before .before .before .before .before .before .before .before .before .before .number-at .ensures .0) (c .before .before .before .before .before .before .before .before .before .before .if1 .left) (c .before .before .before .before .before .before .before .before .fold-const .ensures) (c .before .before .before .before .enum-told .given .1) (c .before .before .array-value .ensures)
+returns-3 c = first-array (c .before .before .before .before .before .before .before .before .before .before .before .before .before .before .before .pre .0) (c .before .before .before .before .before .before .before .before .before .before .before .number-at .ensures .0) (c .before .before .before .before .before .before .before .before .before .before .if1 .left) (c .before .before .before .before .before .before .before .before .before .before .before .before .before .before .before .pre .1) (c .before .before .before .before .before .before .before .before .fold-const .ensures) (c .before .before .before .before .enum-told .given .1) (c .before .before .array-value .ensures)
 
 returns-4 : tie.Need-returns-4
-returns-4 c = first-long (c .before .before .before .before .before .before .before .before .before .before .before .pre) (c .before .before .before .before .before .before .before .number-at .ensures .0) (c .before .before .before .before .before .before .if1 .left) (c .before .before .before .before .fold-const .ensures) (c .enum-told2 .given .1)
+returns-4 c = first-long (c .before .before .before .before .before .before .before .before .before .before .before .pre .0) (c .before .before .before .before .before .before .before .number-at .ensures .0) (c .before .before .before .before .before .before .if1 .left) (c .before .before .before .before .before .before .before .before .before .before .before .pre .1) (c .before .before .before .before .fold-const .ensures) (c .enum-told2 .given .1)
 
 pub first-value-spec : {M : Type 1} → statement M
 first-value-spec =
