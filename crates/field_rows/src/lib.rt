@@ -1,6 +1,5 @@
 // `fld` rows: where each field of a record lies, and its size.
 use sizes::place::Refs;
-ghost use mathlib.Core.Path.{_≡_};
 ghost use Prim.Native.Nat.{_+_, _≤_};
 ghost use lib.ListN.{length};
 ghost use Rattle.write.specs.Wrote.{Wrote};
