@@ -1,5 +1,7 @@
 // The listing of a checked sheet in two parts; `pend` rows come between them.
+use records::key::Log;
 use tables::Tables;
+use type_rows::Keys;
 ghost use Rattle.write.specs.Wrote.{Wrote};
 ghost use Rattle.checks.specs.Checks.{Checked};
 ghost use Rattle.parts.specs.Parts.{Known, declaredText, typesText};
@@ -9,7 +11,11 @@ pub fn put_declared(sheet: &[u8], work: &mut [u8], n: usize, x: Tables, out: &mu
     requires { ⌜ Known (now sheet) (now work) n x ⌝ }
     ensures { λ p. ⌜ (Wrote (now (out .entry)) 0 (declaredText (now (sheet .entry))) (now (out .exit)) p) × (Known (now (sheet .entry)) (now (work .exit)) n x) ⌝ }
 {
-    let p = record_rows::record_rows(sheet, work, n, x.records, out, 0);
+    let log = Log {
+        lines: n,
+        entries: x.records,
+    };
+    let p = record_rows::record_rows(sheet, work, log, out, 0);
     let q = const_rows::const_rows(sheet, work, n, x.consts, out, p);
     global_rows::global_rows(sheet, work, n, x.globals, out, q)
 }
@@ -28,6 +34,14 @@ pub fn put_types(
 {
     let frames = type_lines::frame::frame_count(sheet, work, n);
     let d = data_rows::data_rows(sheet, work, n, x.consts, x.globals, frames, x.keys, out, at);
-    let p = type_rows::type_rows(sheet, work, n, x.records, x.needs, d.keys, out, d.at);
-    uses::use_rows(sheet, work, n, x.needs, frames, out, p)
+    let log = Log {
+        lines: n,
+        entries: x.records,
+    };
+    let keys = Keys {
+        needs: x.needs,
+        keys: d.keys,
+    };
+    let p = type_rows::type_rows(sheet, work, log, keys, out, d.at);
+    uses::use_rows(work, x.needs, frames, out, p)
 }
