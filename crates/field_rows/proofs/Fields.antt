@@ -16,14 +16,15 @@ use Rattle.decimal.specs.Number as Number
 use Rattle.write.specs.Wrote.{Wrote}
 use Rattle.write.proofs.Wrote.{wrote-none, wrote-as, then}
 use Rattle.lines.specs.Lines.{readAt, nodesIn}
-use Rattle.sizes.specs.declared.place.Reached.{Reached}
+use Rattle.sizes.specs.declared.place.Refs.{Refs}
 use Rattle.sizes.specs.Sizes.{typeAt, Measures}
-use Rattle.sizes.specs.Places.{fieldAt, fieldsAt, FieldLine, FieldRefs, LinePlaced}
+use Rattle.sizes.specs.Places.{fieldAt, fieldsAt, fieldsOf, FieldLine, FieldRefs}
 use Rattle.refs.proofs.Fields.{values-length}
-use Rattle.sizes.proofs.Places.{fd-is, untyped, typed, fields-next}
+use Rattle.sizes.proofs.Places.{fd-is, names-end, untyped, typed, fields-next}
 use Rattle.records.proofs.Picks.{names-at}
 use Rattle.laws.proofs.Lists.{concat-append}
-use Rattle.field_rows.specs.Rows.{fieldText, nameRows, placedRows, lineRows, fieldRows}
+use Rattle.field_rows.specs.declared.Next.{Next}
+use Rattle.field_rows.specs.Rows.{fieldText, nameRows, placedRows, lineRows, fieldRows, LineWrote, AllWrote}
 
 pub placed-append : (ps qs : List Placed) → placedRows (ps ++ qs) ≡ placedRows ps ++ placedRows qs
 unfolding placedRows
@@ -71,20 +72,29 @@ module _ (size start : ℕ) (ns : List Bytes) (d : Bytes) (a : ℕ) where
           rest = append-assoc (g .done) (fieldText (getD ns j []) off size) (nameRows size (off + size) (drop (j + 1) ns)) ∙ rw (add-one j) (rw (drop-cons ns j [] h) at (g .rest));
         }
 
-    pub naming-end : length ns ≤ j → Wrote d a (nameRows size start ns) e b
+    pub naming-end : length ns ≤ j → (Wrote d a (nameRows size start ns) e b) × (off ≡ start + length ns * size)
     unfolding nameRows
-    naming-end h = wrote-as (sym (append-nil (g .done)) ∙ rw (drop-of-length-le ns {i = j} h) at (g .rest)) (g .wrote)
+    naming-end h =
+        let z : j ≡ length ns = omega (arith, g .within) in
+        (wrote-as (sym (append-nil (g .done)) ∙ rw (drop-of-length-le ns {i = j} h) at (g .rest)) (g .wrote), rw z at (g .small))
 
 -- ---- an `fd` line
 
-module _ (s t : List ℕ) (n r : ℕ) (l : FieldLine s t n r) (v : ℕ) (hv : v ≡ Number.numberOf 65536 (getD (readAt s (r - 1) .fields) 0 [])) (off : ℕ) where
-  pub rows-untyped : v ≡ 0 → [] ≡ lineRows (fieldAt s r) off
+module _ (s t : List ℕ) (n r : ℕ) (l : FieldLine s t n r) (v : ℕ) (hv : v ≡ Number.numberOf 65536 (getD (readAt s (r - 1) .fields) 0 [])) (p : Next) (d : Bytes) where
+  pub line-untyped : v ≡ 0 → p .at ≤ length d + 1 → LineWrote (fieldAt s r) p p d d
   unfolding lineRows placedRows
-  rows-untyped z = rw (untyped s t n r l v hv z)
+  line-untyped z h = let e = untyped s t n r l v hv z in record { wrote = rw e (wrote-none d (p .at) h); end = rw e }
 
-  pub rows-typed : (z : v ≡ 0 → ⊥) {size align at : ℕ} → Measures (typeAt s v) size align → at ≡ alignUp align off → nameRows size at (fieldAt s r .names) ≡ lineRows (fieldAt s r) off
+  pub line-typed : (z : v ≡ 0 → ⊥) {size align at : ℕ} → Measures (typeAt s v) size align → at ≡ alignUp align (p .end) → {e : Bytes} (q : Next)
+      → (Wrote d (p .at) (nameRows size at (fieldAt s r .names)) e (q .at)) × (q .end ≡ at + length (fieldAt s r .names) * size) → LineWrote (fieldAt s r) p q d e
   unfolding lineRows
-  rows-typed z m e = rw (typed s t n r l v hv z, e, m .whole, m .step) (names-rows (typeAt s v) (alignUp (alignOf (typeAt s v)) off) (fieldAt s r .names))
+  line-typed z m k q w =
+      let a = alignUp (alignOf (typeAt s v)) (p .end) in
+      let ns = fieldAt s r .names in
+      record {
+        wrote = wrote-as (rw (typed s t n r l v hv z, k, m .whole, m .step) (names-rows (typeAt s v) a ns)) (w .0);
+        end = rw (typed s t n r l v hv z, names-end (typeAt s v) a ns, w .1, k, m .whole, m .step);
+      }
 
 -- ---- several
 
@@ -92,33 +102,41 @@ rows-cons : (off : ℕ) (f : Fd) (fs : List Fd) → fieldRows off (f ∷ fs) ≡
 unfolding fieldRows lineRows
 rows-cons off f fs = placed-append (placeLine (f .ty) (f .names) off .placed) (place (placeLine (f .ty) (f .names) off .end) fs .placed)
 
-pub record Fielding (s : List ℕ) (r from count : ℕ) (p : Reached) (d : Bytes) (a : ℕ) (e : Bytes) (b : ℕ) (q : Reached) (j : ℕ) : Type 0 where
-  pub within : j ≤ count
+-- the rows of the first j lines are written, from p to q
+pub record Fielding (s : List ℕ) (f : Refs) (p : Next) (d e : Bytes) (q : Next) (j : ℕ) : Type 0 where
+  pub within : j ≤ f .count
   pub small : q .end ≤ p .end + 131080 * j
+  pub end : place (q .end) (fieldsAt s (f .line) (f .from + j) (f .count - j)) .end ≡ place (p .end) (fieldsOf s f) .end
   pub done : Bytes
-  pub wrote : Wrote d a done e b
-  pub rest : done ++ fieldRows (q .end) (fieldsAt s r (from + j) (count - j)) ≡ fieldRows (p .end) (fieldsAt s r from count)
+  pub wrote : Wrote d (p .at) done e (q .at)
+  pub rest : done ++ fieldRows (q .end) (fieldsAt s (f .line) (f .from + j) (f .count - j)) ≡ fieldRows (p .end) (fieldsOf s f)
 
-module _ (s t : List ℕ) (n r from count : ℕ) (l : FieldRefs s t n r from count) (p : Reached) (d : Bytes) (a : ℕ) where
-  pub fielding-start : a ≤ length d + 1 → Fielding s r from count p d a d a p 0
+module _ (s t : List ℕ) (n : ℕ) (f : Refs) (l : FieldRefs s t n f) (p : Next) (d : Bytes) where
+  pub fielding-start : p .at ≤ length d + 1 → Fielding s f p d d p 0
   fielding-start h =
-      let z : from + 0 ≡ from = omega arith in
-      let y : count - 0 ≡ count = omega arith in
-      record { within = omega arith; small = omega arith; done = []; wrote = wrote-none d a h; rest = rw (z, y) }
+      let z : f .from + 0 ≡ f .from = omega arith in
+      let y : f .count - 0 ≡ f .count = omega arith in
+      record { within = omega arith; small = omega arith; end = rw (z, y); done = []; wrote = wrote-none d (p .at) h; rest = rw (z, y) }
 
-  module _ (e : Bytes) (b : ℕ) (q : Reached) (j : ℕ) (g : Fielding s r from count p d a e b q j) where
-    pub fielding-end : count ≤ j → Wrote d a (fieldRows (p .end) (fieldsAt s r from count)) e b
+  module _ (e : Bytes) (q : Next) (j : ℕ) (g : Fielding s f p d e q j) where
+    pub fielding-end : f .count ≤ j → AllWrote (fieldsOf s f) p q d e
     unfolding fieldRows placedRows
-    fielding-end h = let z : count - j ≡ 0 = omega arith in wrote-as (sym (append-nil (g .done)) ∙ rw z at (g .rest)) (g .wrote)
+    fielding-end h =
+        let z : f .count - j ≡ 0 = omega arith in
+        record { wrote = wrote-as (sym (append-nil (g .done)) ∙ rw z at (g .rest)) (g .wrote); end = rw z at (g .end) }
 
-    pub fielding-next : (h : j < count) (v : ℕ) (hv : v ≡ Number.numberOf 65536 (getD (readAt s (r - 1) .fields) (from + j) [])) (f : Bytes) (c : ℕ) → Wrote e b (lineRows (fieldAt s v) (q .end)) f c
-        → (u : Reached) → LinePlaced (fieldAt s v .ty) (fieldAt s v .names) q u → u .end ≤ q .end + 131080 → Fielding s r from count p d a f c u (j + 1)
-    fielding-next h v hv f c w u x k = record {
-      within = omega arith;
-      small = omega (arith, g .small);
-      done = g .done ++ lineRows (fieldAt s v) (q .end);
-      wrote = then (g .wrote) w;
-      rest =
-          append-assoc (g .done) (lineRows (fieldAt s v) (q .end)) (fieldRows (u .end) (fieldsAt s r (from + (j + 1)) (count - (j + 1))))
-          ∙ rw (x .end, ← rows-cons (q .end) (fieldAt s v) (fieldsAt s r (from + (j + 1)) (count - (j + 1)))) (rw (fields-next s t n r from count l j h v hv) at (g .rest));
-    }
+    pub fielding-next : (h : j < f .count) (v : ℕ) (hv : v ≡ Number.numberOf 65536 (getD (readAt s (f .line - 1) .fields) (f .from + j) [])) (b : Bytes) (u : Next)
+        → LineWrote (fieldAt s v) q u e b → u .end ≤ q .end + 131080 → Fielding s f p d b u (j + 1)
+    fielding-next h v hv b u w k =
+        let x = fields-next s t n f l j h v hv in
+        let more = fieldsAt s (f .line) (f .from + (j + 1)) (f .count - (j + 1)) in
+        record {
+          within = omega arith;
+          small = omega (arith, g .small);
+          end = rw (w .end) (rw x at (g .end));
+          done = g .done ++ lineRows (fieldAt s v) (q .end);
+          wrote = then (g .wrote) (w .wrote);
+          rest =
+              append-assoc (g .done) (lineRows (fieldAt s v) (q .end)) (fieldRows (u .end) more)
+              ∙ rw (w .end, ← rows-cons (q .end) (fieldAt s v) more) (rw x at (g .rest));
+        }

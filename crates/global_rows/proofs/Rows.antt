@@ -14,7 +14,7 @@ use Rattle.lines.specs.Lines.{readAt}
 use Rattle.write.specs.Wrote.{Wrote}
 use Rattle.write.proofs.Wrote.{then, wrote-as}
 use Rattle.sizes.specs.Sizes.{typeAt, TypeLine}
-use Rattle.global_table.specs.Table.{VarLine, lineOf, offsetOf, entryAt, placesIn, Tabled}
+use Rattle.global_table.specs.Table.{VarLine, lineOf, offsetOf, entryAt, placesIn, EntryIn}
 use Rattle.global_table.proofs.Line.{var-in, type-line, type-on}
 use Rattle.global_table.proofs.Table.{places-more}
 
@@ -28,9 +28,9 @@ unfolding entryAt
 entry-offset s t i = refl
 
 -- the `var` line of an entry, and its type
-module _ (s t : Bytes) (n g i : ℕ) (d : Tabled s t n g) (h : i < g) (r : ℕ) (hr : r ≡ lineOf t i) where
+module _ (s t : Bytes) (n i : ℕ) (d : EntryIn s t n i) (r : ℕ) (hr : r ≡ lineOf t i) where
   entry-line : VarLine s t n r
-  entry-line = rw hr (d .each i h)
+  entry-line = rw hr (d .line)
 
   pub entry-in : (0 < r) × (r - 1 < n)
   entry-in = (entry-line .first, var-in s t n r entry-line)

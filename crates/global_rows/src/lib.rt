@@ -8,29 +8,20 @@ use rows::put_comma_nat;
 use rows::put_comma_part;
 use rows::put_lf;
 use write::put_part;
-ghost use Prim.Native.Nat.{_<_};
 ghost use Rattle.semantics.specs.Sheet.{concatMap};
 ghost use Rattle.semantics.specs.Listing.{globalRow};
 ghost use Rattle.write.specs.Wrote.{Wrote};
-ghost use Rattle.global_table.specs.Table.{entryAt, placesIn, Tabled};
+ghost use Rattle.global_table.specs.Table.{entryAt, placesIn, EntryIn, Tabled};
 
-// The row of entry i of g.
-fn global_row(
-    sheet: &[u8],
-    work: &[u8],
-    n: usize,
-    g: usize,
-    i: usize,
-    out: &mut [u8],
-    at: usize,
-) -> usize
-    requires { ⌜ (Tabled (now sheet) (now work) n g) × (i < g) ⌝ }
+// The row of entry i.
+fn global_row(sheet: &[u8], work: &[u8], n: usize, i: usize, out: &mut [u8], at: usize) -> usize
+    requires { ⌜ EntryIn (now sheet) (now work) n i ⌝ }
     ensures { λ r. ⌜ Wrote (now (out .entry)) at (globalRow (entryAt (now (sheet .entry)) (now (work .entry)) i)) (now (out .exit)) r ⌝ }
 {
     let line = line_of(work, i);
     let ty = lines::number_at(sheet, work, n, line - 1, 0);
     let name = put_part(out, at, b"glo");
-    let offset = put_comma_part(out, name, name_of(sheet, work, n, g, i));
+    let offset = put_comma_part(out, name, name_of(sheet, work, n, i));
     let size = put_comma_nat(out, offset, offset_of(work, i) as u64);
     let flag = put_comma_nat(out, size, global_size(sheet, work, n, ty) as u64);
     let end = put_comma_flag(out, flag, sizes::is_pointer(sheet, work, n, ty));
@@ -52,7 +43,7 @@ pub fn global_rows(
     let mut p = write::nothing(out, at);
     let mut i = 0;
     while i < g {
-        p = global_row(sheet, work, n, g, i, out, p);
+        p = global_row(sheet, work, n, i, out, p);
         i += 1;
     }
     p

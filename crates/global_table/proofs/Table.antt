@@ -14,7 +14,7 @@ use Rattle.words.specs.Words.{digest, u16At}
 use Rattle.words.proofs.Laws.{digest-apart}
 use Rattle.checks.specs.Checks.{Checked, Kept}
 use Rattle.checks.proofs.Kept.{kept-all, kept-then, kept-less, kept-at, checked-kept}
-use Rattle.global_table.specs.Table.{VarLine, lineOf, positionOf, offsetOf, digestOf, entered, entryAt, entriesFrom, placesIn, Tabled, offsetBy, Around}
+use Rattle.global_table.specs.Table.{VarLine, lineOf, positionOf, offsetOf, digestOf, entered, entryAt, entriesFrom, placesIn, EntryIn, Tabled, offsetBy, numberFrom, numberIn, Around}
 
 -- ---- a run of stores
 
@@ -139,28 +139,42 @@ places-entered s t g line position offset d hg hl ho room = entries-same s t (en
 -- ---- search for a name
 
 -- names with different digests are different
-pub named-apart : {s t : Bytes} {n g i d : ℕ} (x : Bytes) → Tabled s t n g → i < g → d ≡ digest x → (digestOf t i ≡ d → ⊥) → false ≡ same x (entryAt s t i .name)
-named-apart {s} {t} {i = i} x b h e z = digest-apart x (entryAt s t i .name) (λ q. z (b .digests i h ∙ sym (e ∙ q)))
+pub named-apart : {s t : Bytes} {n i d : ℕ} (x : Bytes) → EntryIn s t n i → d ≡ digest x → (digestOf t i ≡ d → ⊥) → false ≡ same x (entryAt s t i .name)
+named-apart {s} {t} {i = i} x b e z = digest-apart x (entryAt s t i .name) (λ q. z (b .digest ∙ sym (e ∙ q)))
+
+-- the first i entries have other names
+pub record Searching (s t : Bytes) (g : ℕ) (x : Bytes) (i : ℕ) : Type 0 where
+  pub within : i ≤ g
+  pub place : placeOf x (placesIn s t g) ≡ placeOf x (entriesFrom s t i (g - i))
+  pub number : numberIn x (placesIn s t g) ≡ numberFrom (suc i) x (entriesFrom s t i (g - i))
 
 module _ (s t : Bytes) (g : ℕ) (x : Bytes) where
-  pub place-start : placeOf x (placesIn s t g) ≡ placeOf x (entriesFrom s t 0 (g - 0))
-  place-start = let e : g - 0 ≡ g = omega arith in rw e
+  pub search-start : Searching s t g x 0
+  search-start = let e : g - 0 ≡ g = omega arith in record { within = omega arith; place = rw e; number = rw e }
 
-  module _ (i : ℕ) (h : i < g) (b : Bool) (hb : b ≡ same x (entryAt s t i .name)) (inv : placeOf x (placesIn s t g) ≡ placeOf x (entriesFrom s t i (g - i))) where
+  module _ (i : ℕ) (w : Searching s t g x i) (h : i < g) (b : Bool) (hb : b ≡ same x (entryAt s t i .name)) where
     first : placeOf x (entriesFrom s t i (g - i)) ≡ cond (same x (entryAt s t i .name)) (some (entryAt s t i .offset)) (placeOf x (entriesFrom s t (suc i) (g - suc i)))
     unfolding entriesFrom
     first = let e : g - i ≡ suc (g - suc i) = omega arith in rw e
 
-    pub place-found : b ≡ true → offsetBy t (i + 1) ≡ placeOf x (placesIn s t g)
+    first-number : numberFrom (suc i) x (entriesFrom s t i (g - i)) ≡ cond (same x (entryAt s t i .name)) (suc i) (numberFrom (suc (suc i)) x (entriesFrom s t (suc i) (g - suc i)))
+    unfolding entriesFrom
+    first-number = let e : g - i ≡ suc (g - suc i) = omega arith in rw e
+
+    pub search-found : b ≡ true → (offsetBy t (i + 1) ≡ placeOf x (placesIn s t g)) × (i + 1 ≤ g) × (i + 1 ≡ numberIn x (placesIn s t g))
     unfolding offsetBy entryAt
-    place-found q = rw add-one (sym (inv ∙ first ∙ rw (← hb, q)))
+    search-found q = (rw add-one (sym (w .place ∙ first ∙ rw (← hb, q))), omega arith, rw add-one (sym (w .number ∙ first-number ∙ rw (← hb, q))))
 
-    pub place-next : b ≡ false → placeOf x (placesIn s t g) ≡ placeOf x (entriesFrom s t (i + 1) (g - (i + 1)))
-    place-next q = rw add-one (inv ∙ first ∙ rw (← hb, q))
+    pub search-next : b ≡ false → Searching s t g x (i + 1)
+    search-next q = record {
+      within = omega arith;
+      place = rw add-one (w .place ∙ first ∙ rw (← hb, q));
+      number = rw add-one (w .number ∙ first-number ∙ rw (← hb, q));
+    }
 
-  pub place-end : (i : ℕ) → g ≤ i → placeOf x (placesIn s t g) ≡ placeOf x (entriesFrom s t i (g - i)) → offsetBy t 0 ≡ placeOf x (placesIn s t g)
+  pub search-end : (i : ℕ) → Searching s t g x i → g ≤ i → (offsetBy t 0 ≡ placeOf x (placesIn s t g)) × (0 ≤ g) × (0 ≡ numberIn x (placesIn s t g))
   unfolding offsetBy entriesFrom
-  place-end i h inv = let e : g - i ≡ 0 = omega arith in sym (inv ∙ rw e)
+  search-end i w h = let e : g - i ≡ 0 = omega arith in (sym (w .place ∙ rw e), omega arith, sym (w .number ∙ rw e))
 
 -- the offset of the entry that a search finds
 pub offset-none : (t : Bytes) (p : ℕ) (o : Option ℕ) → offsetBy t p ≡ o → p ≡ 0 → 0 ≡ orElse 0 o
@@ -217,6 +231,9 @@ module _ {t u : Bytes} (a : Kept 9216 t u) where
   tabled-kept {s} d = record {
     checked = checked-kept (kept-less (omega arith) a) (d .checked);
     few = d .few;
-    digests = λ i h. rw (digest-kept i (omega (arith, d .few)), entry-kept s i (omega (arith, d .few))) (d .digests i h);
-    each = λ i h. rw (line-kept i (omega (arith, d .few))) (var-kept (kept-less (omega arith) a) (d .each i h));
+    entries = λ i h. let x = d .entries i h in record {
+      low = x .low;
+      line = rw (line-kept i (x .low)) (var-kept (kept-less (omega arith) a) (x .line));
+      digest = rw (digest-kept i (x .low), entry-kept s i (x .low)) (x .digest);
+    };
   }

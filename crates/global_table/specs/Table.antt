@@ -3,11 +3,12 @@
 -- line's names, from 0; the offset, as the line; the name's digest; two are free.
 use Prim.Native.Nat.{ℕ, zero, suc, _+_, _-_, _*_, _/_, _%_, _≤_, _<_}
 use mathlib.Core.Path.{_≡_}
+use mathlib.Core.Bool.{cond}
 use mathlib.Core.List.{List, [], _∷_}
 use mathlib.Core.Option.{Option, none, some}
 use lib.ListN.{drop, getD}
 use lib.Seq.{sets}
-use Rattle.semantics.specs.Text.{Bytes, orElse}
+use Rattle.semantics.specs.Text.{Bytes, orElse, same}
 use Rattle.semantics.specs.Tree.{Ty}
 use Rattle.semantics.specs.Form.{letter}
 use Rattle.semantics.specs.Global.{Global, placeOf}
@@ -65,17 +66,30 @@ entriesFrom s t i (suc k) = entryAt s t i ∷ entriesFrom s t (suc i) k
 abbrev pub placesIn : Bytes → Bytes → ℕ → List Global
 placesIn s t g = entriesFrom s t 0 g
 
--- g entries, each of a `var` line
+-- entry i is of a `var` line, and holds its name's digest
+pub record EntryIn (s t : Bytes) (n i : ℕ) : Type 0 where
+  pub low : i < 256
+  pub line : VarLine s t n (lineOf t i)
+  pub digest : digestOf t i ≡ digest (entryAt s t i .name)
+
+-- g entries
 pub record Tabled (s t : Bytes) (n g : ℕ) : Type 0 where
   pub checked : Checked s t n
   pub few : g ≤ 256
-  pub each : (i : ℕ) → i < g → VarLine s t n (lineOf t i)
-  pub digests : (i : ℕ) → i < g → digestOf t i ≡ digest (entryAt s t i .name)
+  pub entries : (i : ℕ) → i < g → EntryIn s t n i
 
 -- the offset of an entry by its number from 1; 0 is none
 unfoldable pub offsetBy : Bytes → ℕ → Option ℕ
 offsetBy t zero = none
 offsetBy t (suc i) = some (offsetOf t i)
+
+-- the number of the first place with a name, where the first of all has the number k; 0 where there is none
+abbrev pub numberFrom : ℕ → Bytes → List Global → ℕ
+numberFrom k x [] = 0
+numberFrom k x (p ∷ ps) = cond (same x (p .name)) k (numberFrom (suc k) x ps)
+
+abbrev pub numberIn : Bytes → List Global → ℕ
+numberIn x ps = numberFrom 1 x ps
 
 -- where a name lies among places, 0 where it has none
 abbrev pub offsetIn : Bytes → List Global → ℕ

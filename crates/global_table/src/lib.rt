@@ -7,7 +7,7 @@ ghost use Rattle.semantics.specs.Text.{same};
 ghost use Rattle.semantics.specs.Global.{globalSize, placeOf};
 ghost use Rattle.sizes.specs.Sizes.{typeAt, TypeLine};
 ghost use Rattle.words.specs.Words.{digest};
-ghost use Rattle.global_table.specs.Table.{lineOf, positionOf, offsetOf, digestOf, entered, entryAt, placesIn, Tabled, offsetBy, offsetIn};
+ghost use Rattle.global_table.specs.Table.{lineOf, positionOf, offsetOf, digestOf, entered, entryAt, placesIn, EntryIn, Tabled, offsetBy, numberIn, offsetIn};
 
 // The `var` line of entry i, from 1.
 pub fn line_of(work: &[u8], i: usize) -> usize
@@ -55,9 +55,9 @@ pub fn enter(work: &mut [u8], i: usize, line: usize, position: usize, offset: us
     work[a + 5] = digest as u8;
 }
 
-// The name of entry i of g, as that part of the sheet.
-pub fn name_of<'a>(sheet: &'a [u8], work: &[u8], n: usize, g: usize, i: usize) -> &'a [u8]
-    requires { ⌜ (Tabled (now sheet) (now work) n g) × (i < g) ⌝ }
+// The name of entry i, as that part of the sheet.
+pub fn name_of<'a>(sheet: &'a [u8], work: &[u8], n: usize, i: usize) -> &'a [u8]
+    requires { ⌜ EntryIn (now sheet) (now work) n i ⌝ }
     ensures { λ r. ⌜ now r ≡ entryAt (now (sheet .entry)) (now (work .entry)) i .name ⌝ }
 {
     let r = line_of(work, i);
@@ -65,25 +65,25 @@ pub fn name_of<'a>(sheet: &'a [u8], work: &[u8], n: usize, g: usize, i: usize) -
 }
 
 // Whether entry i has this name, which has the digest d.
-fn is_named(sheet: &[u8], work: &[u8], n: usize, g: usize, i: usize, name: &[u8], d: usize) -> bool
-    requires { ⌜ (Tabled (now sheet) (now work) n g) × (i < g) × (d ≡ digest (now name)) ⌝ }
+fn is_named(sheet: &[u8], work: &[u8], n: usize, i: usize, name: &[u8], d: usize) -> bool
+    requires { ⌜ (EntryIn (now sheet) (now work) n i) × (d ≡ digest (now name)) ⌝ }
     ensures { λ r. ⌜ r ≡ same (now (name .entry)) (entryAt (now (sheet .entry)) (now (work .entry)) i .name) ⌝ }
 {
     if digest_of(work, i) != d {
         return false; // before the name is looked for
     }
-    words::same(name, name_of(sheet, work, n, g, i))
+    words::same(name, name_of(sheet, work, n, i))
 }
 
-// The number of the entry with this name, from 1; 0 is none.
+// The number of the first entry with this name, from 1; 0 is none.
 pub fn place_of(sheet: &[u8], work: &[u8], n: usize, g: usize, name: &[u8]) -> usize
     requires { ⌜ Tabled (now sheet) (now work) n g ⌝ }
-    ensures { λ r. ⌜ (offsetBy (now (work .entry)) r ≡ placeOf (now (name .entry)) (placesIn (now (sheet .entry)) (now (work .entry)) g)) × (r ≤ g) ⌝ }
+    ensures { λ r. ⌜ (offsetBy (now (work .entry)) r ≡ placeOf (now (name .entry)) (placesIn (now (sheet .entry)) (now (work .entry)) g)) × (r ≤ g) × (r ≡ numberIn (now (name .entry)) (placesIn (now (sheet .entry)) (now (work .entry)) g)) ⌝ }
 {
     let d = words::digest(name);
     let mut i = 0;
     while i < g {
-        if is_named(sheet, work, n, g, i, name, d) {
+        if is_named(sheet, work, n, i, name, d) {
             return i + 1;
         }
         i += 1;

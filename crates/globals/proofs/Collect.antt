@@ -101,7 +101,7 @@ module _ (s t : Bytes) (n : ℕ) (c : Checked s t n) where
   unfolding laidTo locatedTo layVars entriesFrom openAt moduleAt
   collecting-start {g} e f =
       record {
-        laid = laid-same (record { tabled = record { checked = c; few = omega arith; each = λ i h. absurd (omega arith); digests = λ i h. absurd (omega arith) }; low = omega arith }) (rw (e, f)) (omega arith);
+        laid = laid-same (record { tabled = record { checked = c; few = omega arith; entries = λ i h. absurd (omega arith) }; low = omega arith }) (rw (e, f)) (omega arith);
         here = record { checked = c; within = omega arith; low = omega arith; here = refl };
       }
 

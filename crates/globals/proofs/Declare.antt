@@ -22,7 +22,7 @@ use Rattle.lines.specs.Lines.{readAt, nodesIn}
 use Rattle.sizes.specs.Sizes.{typeAt}
 use Rattle.globals.specs.declared.Globals.{Globals}
 use Rattle.globals.specs.Laying.{Laying, lay, layNames}
-use Rattle.global_table.specs.Table.{VarLine, nameOn, typeOn, namesOn, lineOf, digestOf, entered, entryAt, placesIn, offsetBy, Around}
+use Rattle.global_table.specs.Table.{VarLine, nameOn, typeOn, namesOn, entered, entryAt, placesIn, EntryIn, offsetBy, Around}
 use Rattle.globals.specs.Collect.{layingIn, Standing, Laid}
 use Rattle.globals.proofs.Laying.{names-next}
 use Rattle.global_table.proofs.Line.{type-on, count-on}
@@ -82,16 +82,6 @@ module _ (s t : Bytes) (n r j : ℕ) (g : Globals) (st : Standing s t n g) (l : 
   unfolding new
   around-new = around-entered t (g .count) r j off d full line-low (omega (arith, off-low)) (l .checked .whole .room)
 
-  each-new : (i : ℕ) → i < g .count + 1 → VarLine s new n (lineOf new i)
-  unfolding new
-  each-new i h = let w : i ≤ g .count = omega arith in ⊎-elim (λ (e : i ≡ g .count). subst (λ (k : ℕ). VarLine s new n (lineOf new k)) (sym e) last) (λ (q : i < g .count). old q) (eq-or-lt-of-le w)
-    where
-      last : VarLine s new n (lineOf new (g .count))
-      last = rw (line-new t (g .count) r j off d full line-low (omega (arith, off-low)) (l .checked .whole .room)) (var-around around-new l)
-
-      old : i < g .count → VarLine s new n (lineOf new i)
-      old q = rw (line-old t (g .count) r j off d full line-low (omega (arith, off-low)) (l .checked .whole .room) i q) (var-around around-new (st .tabled .each i q))
-
   entry-new : entryAt s new (g .count) ≡ record { name = nameOn s r j; offset = newOffset (typeOn s r) (g .end); ty = typeOn s r }
   unfolding new entryAt
   entry-new =
@@ -102,19 +92,28 @@ module _ (s t : Bytes) (n r j : ℕ) (g : Globals) (st : Standing s t n g) (l : 
         off-is,
       )
 
-  digests-new : (i : ℕ) → i < g .count + 1 → digestOf new i ≡ digest (entryAt s new i .name)
+  entries-new : (i : ℕ) → i < g .count + 1 → EntryIn s new n i
   unfolding new
-  digests-new i h = let w : i ≤ g .count = omega arith in ⊎-elim (λ (e : i ≡ g .count). subst (λ (k : ℕ). digestOf new k ≡ digest (entryAt s new k .name)) (sym e) last) (λ (q : i < g .count). old q) (eq-or-lt-of-le w)
+  entries-new i h = let w : i ≤ g .count = omega arith in ⊎-elim (λ (e : i ≡ g .count). subst (EntryIn s new n) (sym e) last) (λ (q : i < g .count). old q) (eq-or-lt-of-le w)
     where
-      last : digestOf new (g .count) ≡ digest (entryAt s new (g .count) .name)
-      last = digest-new t (g .count) r j off d full line-low (omega (arith, off-low)) (l .checked .whole .room) ∙ hd ∙ ap (λ (e : Global). digest (e .name)) (sym entry-new)
+      last : EntryIn s new n (g .count)
+      last = record {
+        low = full;
+        line = rw (line-new t (g .count) r j off d full line-low (omega (arith, off-low)) (l .checked .whole .room)) (var-around around-new l);
+        digest = digest-new t (g .count) r j off d full line-low (omega (arith, off-low)) (l .checked .whole .room) ∙ hd ∙ ap (λ (e : Global). digest (e .name)) (sym entry-new);
+      }
 
-      old : i < g .count → digestOf new i ≡ digest (entryAt s new i .name)
+      old : i < g .count → EntryIn s new n i
       old q =
-          rw (
-            digest-old t (g .count) r j off d full line-low (omega (arith, off-low)) (l .checked .whole .room) i q,
-            entry-old t (g .count) r j off d full line-low (omega (arith, off-low)) (l .checked .whole .room) i q s,
-          ) (st .tabled .digests i q)
+          let x = st .tabled .entries i q in
+          record {
+            low = x .low;
+            line = rw (line-old t (g .count) r j off d full line-low (omega (arith, off-low)) (l .checked .whole .room) i q) (var-around around-new (x .line));
+            digest = rw (
+              digest-old t (g .count) r j off d full line-low (omega (arith, off-low)) (l .checked .whole .room) i q,
+              entry-old t (g .count) r j off d full line-low (omega (arith, off-low)) (l .checked .whole .room) i q s,
+            ) (x .digest);
+          }
 
   places-old : placesIn s new (g .count) ≡ placesIn s t (g .count)
   unfolding new
@@ -136,7 +135,7 @@ module _ (s t : Bytes) (n r j : ℕ) (g : Globals) (st : Standing s t n g) (l : 
     laid-new : Laid s t new n (lay (typeOn s r) (nameOn s r j) (layingIn s t g)) h (g .count + 1)
     laid-new = record {
       standing = record {
-        tabled = record { checked = checked-around around-new (l .checked); few = omega arith; each = λ i q. each-new i (omega arith); digests = λ i q. digests-new i (omega arith) };
+        tabled = record { checked = checked-around around-new (l .checked); few = omega arith; entries = λ i q. entries-new i (omega arith) };
         low = omega (arith, off-low, size-low);
       };
       around = around-new;

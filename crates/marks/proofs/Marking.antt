@@ -15,7 +15,8 @@ use Rattle.field_list.proofs.Laws.{line-take}
 use Rattle.decimal.specs.Number as Number
 use Rattle.lines.specs.Lines.{readAt}
 use Rattle.sizes.specs.Sizes.{typeAt, Measures}
-use Rattle.sizes.specs.Places.{fieldAt, fieldsAt, FieldLine, FieldRefs}
+use Rattle.sizes.specs.declared.place.Refs.{Refs}
+use Rattle.sizes.specs.Places.{fieldAt, fieldsAt, fieldsOf, FieldLine, FieldRefs}
 use Rattle.sizes.proofs.Places.{names-end, untyped, typed, names-are, fields-next}
 use Rattle.maps.specs.Maps.{Marks}
 use Rattle.marks.specs.Fields.{LineMarked, AllMarked}
@@ -33,9 +34,9 @@ names-pointers ty off [] = refl
 names-pointers ty off (n ∷ ns) = ap (λ (l : List ℤ). marksOf ty off ++ l) (names-pointers ty (off + sizeOf ty) ns)
 
 -- the first fields of an array are those of the line
-pub names-marked : (size off step names : ℕ) (ty : Ty) {pointer : Bool} {a : List Field} {t u : List ℕ} → a ≡ lineFields off step pointer names → pointer ≡ isPtr ty → Marks size (pointersIn (take names a)) t u
-    → Marks size (pointersIn (fieldsFrom off step (isPtr ty) names)) t u
-names-marked size off step names ty {pointer} e p m = rw (← p) (rw (e, line-take step pointer off names) at m)
+pub names-marked : (size off step names : ℕ) (pointer : Bool) {a : List Field} {t u : List ℕ} → a ≡ lineFields off step pointer names → Marks size (pointersIn (take names a)) t u
+    → Marks size (pointersIn (fieldsFrom off step pointer names)) t u
+names-marked size off step names pointer e m = rw (e, line-take step pointer off names) at m
 
 -- ---- an `fd` line
 
@@ -44,14 +45,14 @@ module _ (s t : List ℕ) (n r : ℕ) (l : FieldLine s t n r) (v : ℕ) (hv : v 
   line-untyped z = rw (untyped s t n r l v hv z) (record { end = refl; marks = marks-none })
 
   pub line-typed : (z : v ≡ 0 → ⊥) (w : ℕ) → w ≡ Number.numberOf 65536 (getD (readAt s (r - 1) .fields) 1 []) → (a b at q : ℕ) (u : List ℕ) → Measures (typeAt s v) a b → at ≡ alignUp b off
-      → q ≡ at + w * a → Marks size (pointersIn (fieldsFrom at a (isPtr (typeAt s v)) w)) t u → LineMarked (fieldAt s r .ty) (fieldAt s r .names) size off q t u
-  line-typed z w hw a b at q u m ha hq x =
+      → q ≡ at + w * a → {pointer : Bool} → pointer ≡ isPtr (typeAt s v) → Marks size (pointersIn (fieldsFrom at a pointer w)) t u → LineMarked (fieldAt s r .ty) (fieldAt s r .names) size off q t u
+  line-typed z w hw a b at q u m ha hq hp x =
       let ns = fieldAt s r .names in
       let c : w ≡ length ns = names-are s t n r l v hv z w hw in
       let e : at ≡ alignUp (alignOf (typeAt s v)) off = rw (← m .step) ha in
       rw (typed s t n r l v hv z) (record {
         end = hq ∙ rw (e, c, m .whole) (sym (names-end (typeAt s v) (alignUp (alignOf (typeAt s v)) off) ns));
-        marks = rw (names-pointers (typeAt s v) (alignUp (alignOf (typeAt s v)) off) ns) (rw (e, c, m .whole) at x);
+        marks = rw (names-pointers (typeAt s v) (alignUp (alignOf (typeAt s v)) off) ns) (rw (e, c, m .whole, hp) at x);
       })
 
 -- ---- several lines
@@ -60,39 +61,39 @@ pub pointers-append : (ps qs : List Placed) → pointersOf (ps ++ qs) ≡ pointe
 pointers-append [] qs = refl
 pointers-append (p ∷ ps) qs = rw (pointers-append ps qs) (sym (append-assoc (marksOf (p .ty) (p .offset)) (pointersOf ps) (pointersOf qs)))
 
--- the first j of `count` lines are marked, and end at q
-pub record LinesMarked (s : List ℕ) (r from count size off q j : ℕ) (t u : List ℕ) : Type 0 where
+-- the first j lines are marked, and end at q
+pub record LinesMarked (s : List ℕ) (f : Refs) (size off q j : ℕ) (t u : List ℕ) : Type 0 where
   pub done : List ℤ
-  pub within : j ≤ count
-  pub end : place q (fieldsAt s r (from + j) (count - j)) .end ≡ place off (fieldsAt s r from count) .end
+  pub within : j ≤ f .count
+  pub end : place q (fieldsAt s (f .line) (f .from + j) (f .count - j)) .end ≡ place off (fieldsOf s f) .end
   pub marks : Marks size done t u
-  pub rest : done ++ pointersOf (place q (fieldsAt s r (from + j) (count - j)) .placed) ≡ pointersOf (place off (fieldsAt s r from count) .placed)
+  pub rest : done ++ pointersOf (place q (fieldsAt s (f .line) (f .from + j) (f .count - j)) .placed) ≡ pointersOf (place off (fieldsOf s f) .placed)
   pub small : q ≤ off + 131080 * j
 
-module _ (s t : List ℕ) (n r from count : ℕ) (l : FieldRefs s t n r from count) (size off : ℕ) where
-  pub lines-marked-start : LinesMarked s r from count size off off 0 t t
+module _ (s t : List ℕ) (n : ℕ) (f : Refs) (l : FieldRefs s t n f) (size off : ℕ) where
+  pub lines-marked-start : LinesMarked s f size off off 0 t t
   lines-marked-start =
-      let z : from + 0 ≡ from = omega arith in
-      let y : count - 0 ≡ count = omega arith in
+      let z : f .from + 0 ≡ f .from = omega arith in
+      let y : f .count - 0 ≡ f .count = omega arith in
       record { done = []; within = omega arith; end = rw (z, y); marks = marks-none; rest = rw (z, y); small = omega arith }
 
-  pub lines-marked-next : {q j p v : ℕ} {u w : List ℕ} → LinesMarked s r from count size off q j t u → j < count → v ≡ Number.numberOf 65536 (getD (readAt s (r - 1) .fields) (from + j) [])
-      → LineMarked (fieldAt s v .ty) (fieldAt s v .names) size q p u w → p ≤ q + 131080 → LinesMarked s r from count size off p (j + 1) t w
+  pub lines-marked-next : {q j p v : ℕ} {u w : List ℕ} → LinesMarked s f size off q j t u → j < f .count → v ≡ Number.numberOf 65536 (getD (readAt s (f .line - 1) .fields) (f .from + j) [])
+      → LineMarked (fieldAt s v .ty) (fieldAt s v .names) size q p u w → p ≤ q + 131080 → LinesMarked s f size off p (j + 1) t w
   lines-marked-next {q} {j} {p} {v} {u} {w} m h hv x b =
-      let f = fields-next s t n r from count l j h v hv in
+      let e = fields-next s t n f l j h v hv in
       let g = placeLine (fieldAt s v .ty) (fieldAt s v .names) q in
-      let more = fieldsAt s r (from + (j + 1)) (count - (j + 1)) in
+      let more = fieldsAt s (f .line) (f .from + (j + 1)) (f .count - (j + 1)) in
       record {
         done = m .done ++ pointersOf (g .placed);
         within = omega arith;
-        end = rw (x .end) (rw f at (m .end));
+        end = rw (x .end) (rw e at (m .end));
         marks = marks-then (m .marks) (x .marks);
-        rest = rw (x .end, append-assoc, ← pointers-append (g .placed) (place (g .end) more .placed)) (rw f at (m .rest));
+        rest = rw (x .end, append-assoc, ← pointers-append (g .placed) (place (g .end) more .placed)) (rw e at (m .rest));
         small = omega (arith, m .small);
       }
 
-  pub lines-marked-end : {q j : ℕ} {u : List ℕ} → LinesMarked s r from count size off q j t u → count ≤ j → AllMarked (fieldsAt s r from count) size off q t u
+  pub lines-marked-end : {q j : ℕ} {u : List ℕ} → LinesMarked s f size off q j t u → f .count ≤ j → AllMarked (fieldsOf s f) size off q t u
   lines-marked-end {q} {j} {u} m h =
-      let z : count - j ≡ 0 = omega arith in
-      let e : m .done ≡ pointersOf (place off (fieldsAt s r from count) .placed) = sym (append-none (m .done)) ∙ (rw z at (m .rest)) in
+      let z : f .count - j ≡ 0 = omega arith in
+      let e : m .done ≡ pointersOf (place off (fieldsOf s f) .placed) = sym (append-none (m .done)) ∙ (rw z at (m .rest)) in
       record { end = rw z at (m .end); marks = rw e at (m .marks) }

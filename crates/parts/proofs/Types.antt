@@ -12,7 +12,7 @@ use Rattle.semantics.specs.Types.{idOf, descriptors}
 use Rattle.semantics.specs.Listing.{typeRows, useRow}
 use Rattle.write.specs.Wrote.{Wrote}
 use Rattle.write.proofs.Wrote.{wrote-as, then}
-use Rattle.checks.specs.Checks.{Kept}
+use Rattle.checks.specs.Checks.{Checked, Kept}
 use Rattle.checks.proofs.Kept.{kept-less, checked-kept}
 use Rattle.records.proofs.Kept.{logged-kept}
 use Rattle.type_rows.specs.Rows as Types
@@ -25,17 +25,15 @@ use Rattle.parts.proofs.Laws.{names-are}
 
 module _ {s t : Bytes} {n frames : ℕ} {x : Tables} (k : Listable s t n x) (fr : (frames ≡ length (sheetSource s .frames)) × (frames ≤ 128)) where
   module _ {u : Bytes} (h : Kept 10624 t u) where
-    pub types-ready : Types.Ready s u n (x .records) (x .needs)
-    types-ready = record { log = logged-kept (kept-less (omega arith) h) (k .held .records); table = needs-stay h (k .held .needs); count = k .held .count }
+    pub types-ready : Types.Ready s u (record { lines = n; entries = x .records })
+    types-ready = record { log = logged-kept (kept-less (omega arith) h) (k .held .records); table = needs-stay h (k .held .needs) }
 
-    pub uses-ready : {v : Bytes} → Kept 49152 u v → NeedIds s v n (x .needs) frames
-    uses-ready m = record {
-      checked = checked-kept (kept-less (omega arith) m) (checked-kept (kept-less (omega arith) h) (k .held .checked));
-      table = needs-stay (kept-less (omega arith) m) (needs-stay h (k .held .needs));
-      count = k .held .count;
-      framed = fr .0;
-      few = fr .1;
-    }
+    module _ {v : Bytes} (m : Kept 49152 u v) where
+      pub still-checked : Checked s v n
+      still-checked = checked-kept (kept-less (omega arith) m) (checked-kept (kept-less (omega arith) h) (k .held .checked))
+
+      pub uses-ready : NeedIds s v (x .needs) frames
+      uses-ready = record { n = n; table = needs-stay (kept-less (omega arith) m) (needs-stay h (k .held .needs)); count = k .held .count; framed = fr .0 }
 
 abbrev textOf : Bytes → List Item → Bytes
 textOf s is = (rowsOf s is ++ typeRows 0 (descriptors (sheetSource s) is)) ++ concatMap (useRow (idOf (sheetSource s) is)) (sheetSource s .needs)

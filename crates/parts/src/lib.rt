@@ -2,7 +2,9 @@
 use data_rows::Counts;
 use data_rows::Next;
 use names::Known;
+use records::key::Log;
 use tables::Tables;
+use type_rows::Keys;
 ghost use Rattle.write.specs.Wrote.{Wrote};
 ghost use Rattle.checks.specs.Checks.{Checked};
 ghost use Rattle.parts.specs.Parts.{Listable, declaredText, typesText};
@@ -12,7 +14,11 @@ pub fn put_declared(sheet: &[u8], work: &mut [u8], n: usize, x: Tables, out: &mu
     requires { ⌜ Listable (now sheet) (now work) n x ⌝ }
     ensures { λ p. ⌜ (Wrote (now (out .entry)) 0 (declaredText (now (sheet .entry))) (now (out .exit)) p) × (Listable (now (sheet .entry)) (now (work .exit)) n x) ⌝ }
 {
-    let p = record_rows::record_rows(sheet, work, n, x.records, out, 0);
+    let log = Log {
+        lines: n,
+        entries: x.records,
+    };
+    let p = record_rows::record_rows(sheet, work, log, out, 0);
     let c = Known {
         lines: n,
         consts: x.consts,
@@ -42,6 +48,14 @@ pub fn put_types(
     };
     let q = Next { at, keys: x.keys };
     let d = data_rows::data_rows(sheet, work, c, out, q);
-    let p = type_rows::type_rows(sheet, work, n, x.records, x.needs, d.keys, out, d.at);
-    uses::use_rows(sheet, work, n, x.needs, frames, out, p)
+    let log = Log {
+        lines: n,
+        entries: x.records,
+    };
+    let keys = Keys {
+        needs: x.needs,
+        keys: d.keys,
+    };
+    let p = type_rows::type_rows(sheet, work, log, keys, out, d.at);
+    uses::use_rows(work, x.needs, frames, out, p)
 }

@@ -16,19 +16,18 @@ use Rattle.write.specs.Wrote.{Wrote}
 use Rattle.write.proofs.Wrote.{then}
 use Rattle.layout.proofs.Bounds.{Sized}
 use Rattle.lines.specs.Lines.{formAt}
-use Rattle.sizes.specs.Places.{commonAt, caseAt, RecordLine, AllPlaced}
-use Rattle.sizes.specs.declared.place.Reached.{Reached}
+use Rattle.sizes.specs.Places.{commonAt, caseAt, RecordLine}
 use Rattle.sizes.proofs.Records.{checked-records-bound}
 use Rattle.maps.specs.Maps.{mapIn, mapLength, Mapped, MapRoom}
 use Rattle.shapes.proofs.Cases.{fields-are}
 use Rattle.shapes.specs.Shapes.{firstDecl, declAt, firstShape, shapeAt, casesIn, casesAt, variantAt, VariantLine, CaseOf}
-use Rattle.records.specs.Log.{firstRecord, ownRecord, caseIn, variantRecord, recordIn, entryAt, recordedAt, nameOf, tagOf, logOf, noRecord, EntryIn, Logged}
+use Rattle.records.specs.Log.{firstRecord, ownRecord, caseIn, variantRecord, recordIn, entryAt, recordedAt, nameOf, tagOf, logOf, noRecord, EntryIn, Logged, LogEntry}
 use Rattle.records.specs.Lines.{caseOf}
 use Rattle.records.proofs.Picks.{adt-decl, pick-decl, record-form, case-is}
 use Rattle.records.proofs.Keys.{plain-key, variant-key, entry-line, entry-variant}
 use Rattle.field_rows.specs.Rows.{placedRows, fieldRows}
 use Rattle.field_rows.proofs.Fields.{placed-append}
-use Rattle.record_rows.specs.Rows.{tagText, headText, shapeText, LogEntry}
+use Rattle.record_rows.specs.Rows.{tagText, headText, shapeText}
 use Rattle.laws.proofs.Every.{every-at}
 
 -- ---- T's own record
@@ -109,14 +108,14 @@ module _ (s t : Bytes) (n i : ℕ) (l : EntryIn s t n i) where
 
 -- ---- the size is small
 
-entry-small : (s t : Bytes) (n m i : ℕ) → LogEntry s t n m i → recordedAt s t i .shape .size ≤ 131080
+entry-small : (s t : Bytes) (n i : ℕ) → LogEntry s t n i → recordedAt s t i .shape .size ≤ 131080
 unfolding logOf
-entry-small s t n m i l =
+entry-small s t n i l =
     let g = l .log in
     rw (g .each i (l .low)) (every-at (Sized 131080) (logOf s) (checked-records-bound s t n (g .checked)) noRecord i (omega (arith, g .count, l .low)))
 
-pub sized : (s t : Bytes) (n m i : ℕ) → LogEntry s t n m i → {x : ℕ} → x ≡ recordedAt s t i .shape .size → (x ≡ recordedAt s t i .shape .size) × (x ≤ 131080)
-sized s t n m i l e = (e, omega (arith, e, entry-small s t n m i l))
+pub sized : (s t : Bytes) (n i : ℕ) → LogEntry s t n i → {x : ℕ} → x ≡ recordedAt s t i .shape .size → (x ≡ recordedAt s t i .shape .size) × (x ≤ 131080)
+sized s t n i l e = (e, omega (arith, e, entry-small s t n i l))
 
 pub map-room : {s t : Bytes} {n m size : ℕ} → Logged s t n m → size ≤ 131080 → MapRoom t size
 map-room g h = record { room = g .checked .whole .room; small = h }
@@ -157,12 +156,11 @@ module _ (s t : Bytes) (n i : ℕ) (l : EntryIn s t n i) {r : ℕ} (hr : r ≡ e
         let w : recordedAt s t i ≡ ownRecord (declAt s r) = plain-is s t i (sym hc ∙ e) ∙ ap (λ (x : ℕ). ownRecord (declAt s x)) (sym hr) in
         sym (ap (λ (x : Recorded). placedRows (x .fields)) w ∙ ap placedRows (own-fields-some (declAt s r) _ p) ∙ ap (λ (fs : List Fd). placedRows (place 4 fs .placed)) (same-fields s r))
 
-  pub fields-variant : {c : ℕ} → c ≡ entryAt t i .case → (c ≡ 0 → ⊥) → (v : ℕ) → CaseOf s t n r (c - 1) v → (p q : Reached) → p .end ≡ 4 → AllPlaced (commonAt s r) p q
-      → fieldRows 4 (commonAt s r) ++ fieldRows (q .end) (caseAt s v) ≡ placedRows (recordedAt s t i .fields)
+  pub fields-variant : {c : ℕ} → c ≡ entryAt t i .case → (c ≡ 0 → ⊥) → (v : ℕ) → CaseOf s t n r (c - 1) v → {end : ℕ} → end ≡ place 4 (commonAt s r) .end
+      → fieldRows 4 (commonAt s r) ++ fieldRows end (caseAt s v) ≡ placedRows (recordedAt s t i .fields)
   unfolding variantRecord caseOf fieldRows
-  fields-variant {c} hc e v x p q hp w =
+  fields-variant {c} hc e v x y =
       let k : caseAt s v ≡ caseIn (declAt s r) (c - 1) .fields = ap (λ (y : Case). y .fields) (case-is x) in
-      let y : q .end ≡ place 4 (commonAt s r) .end = w .end ∙ ap (λ (b : ℕ). place b (commonAt s r) .end) hp in
       let z : recordedAt s t i .fields ≡ variantFields (declAt s r .fields) (caseIn (declAt s r) (c - 1)) = ap (λ (m : Recorded). m .fields) (variant-is s t i (λ z. e (hc ∙ z))) ∙ rw (← hr, ← hc) in
       sym (ap placedRows (z ∙ ap (λ (fs : List Fd). variantFields fs (caseIn (declAt s r) (c - 1))) (same-fields s r))
       ∙ placed-append (place 4 (commonAt s r) .placed) (place (place 4 (commonAt s r) .end) (caseIn (declAt s r) (c - 1) .fields) .placed)

@@ -18,13 +18,13 @@ use Rattle.write.specs.Wrote.{Wrote}
 use Rattle.write.proofs.Wrote.{wrote-none, wrote-as, then}
 use Rattle.checks.specs.Checks.{Kept}
 use Rattle.checks.proofs.Kept.{kept-all, kept-then, kept-less}
-use Rattle.records.specs.Log.{recordedAt, logOf, noRecord, Logged, NewestOf}
+use Rattle.records.specs.Log.{recordedAt, logOf, noRecord, Logged, LogEntry, NewestOf}
 use Rattle.records.proofs.Kept.{logged-kept}
-use Rattle.record_rows.specs.Rows.{keyRows, allRows, LogEntry, Printed}
+use Rattle.record_rows.specs.Rows.{keyRows, allRows, Printed}
 
 -- ---- one entry
 
-module _ (s t : Bytes) (n m i : ℕ) (l : LogEntry s t n m i) where
+module _ (s t : Bytes) (n i : ℕ) (l : LogEntry s t n i) where
   in-log : i < length (logOf s)
   in-log = omega (arith, l .log .count, l .low)
 
@@ -35,7 +35,7 @@ module _ (s t : Bytes) (n m i : ℕ) (l : LogEntry s t n m i) where
       ap (lastOf (r .key) d) (split-at (logOf s) i noRecord in-log) ∙ last-append (r .key) d (take i (logOf s)) (r ∷ drop (suc i) (logOf s))
       ∙ ap (λ (b : Bool). lastOf (r .key) (cond b r (lastOf (r .key) d (take i (logOf s)))) (drop (suc i) (logOf s))) (same-refl (r .key))
 
-  pub rows-first : {b : Bool} → b ≡ not (seen (recordedAt s t i .key) (take i (logOf s))) → b ≡ true → (j : ℕ) → NewestOf s t m i j → recordRows (recordedAt s t j) ≡ keyRows s i
+  pub rows-first : {b : Bool} → b ≡ not (seen (recordedAt s t i .key) (take i (logOf s))) → b ≡ true → {m : ℕ} (j : ℕ) → NewestOf s t m i j → recordRows (recordedAt s t j) ≡ keyRows s i
   unfolding keyRows
   rows-first e q j w =
       let r = l .log .each i (l .low) in
@@ -77,8 +77,8 @@ module _ (s t : Bytes) (n m : ℕ) (g : Logged s t n m) (d : Bytes) (a : ℕ) wh
   keying-start h = record { within = omega arith; done = []; wrote = wrote-none d a h; kept = kept-all; before = []; met = λ k. refl; rest = refl }
 
   module _ (e : Bytes) (b : ℕ) (u : Bytes) (i : ℕ) (w : Keying s m d a e b t u i) where
-    pub entry-now : i < m → LogEntry s u n m i
-    entry-now h = record { log = logged-kept (kept-less (omega arith) (w .kept)) g; low = h }
+    pub log-now : Logged s u n m
+    log-now = logged-kept (kept-less (omega arith) (w .kept)) g
 
     pub keying-end : m ≤ i → {v : Bytes} → u ≡ v → Printed d a (allRows s) e b t v
     keying-end h q = rw (← q) (record {

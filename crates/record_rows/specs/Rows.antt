@@ -1,5 +1,5 @@
 -- The rows of a record in parts, and the rows that an entry of the log stands for.
-use Prim.Native.Nat.{ℕ, suc, _<_}
+use Prim.Native.Nat.{ℕ, suc}
 use mathlib.Core.Bool.{cond}
 use mathlib.Core.List.{[], _∷_, _++_}
 use lib.ListN.{getD, take, drop}
@@ -10,7 +10,7 @@ use Rattle.semantics.specs.Layout.{Recorded, recordedAdts, records, lastOf, see
 use Rattle.semantics.specs.Listing.{recordRows}
 use Rattle.write.specs.Wrote.{Wrote}
 use Rattle.checks.specs.Checks.{Kept}
-use Rattle.records.specs.Log.{recordedAt, logOf, noRecord, Logged}
+use Rattle.records.specs.Log.{recordedAt, logOf, noRecord}
 
 -- TAG and GROUP, each behind its comma
 unfoldable pub tagText : Recorded → Bytes
@@ -36,11 +36,6 @@ keyRows s i =
 
 unfoldable pub allRows : Bytes → Bytes
 allRows s = concatMap recordRows (records (recordedAdts (sheetSource s)))
-
--- entry i of a log
-pub record LogEntry (s t : Bytes) (n m i : ℕ) : Type 0 where
-  pub log : Logged s t n m
-  pub low : i < m
 
 -- text was written, while the working space t became u, which is changed above 49152 alone
 pub record Printed (d : Bytes) (a : ℕ) (x e : Bytes) (b : ℕ) (t u : Bytes) : Type 0 where

@@ -1,7 +1,9 @@
 // The rows of records: `rec`, and `fld` for each field.
 use codes::area;
 use codes::decl;
+use field_rows::Next;
 use layout::map::map_bytes;
+use records::key::Log;
 use records::key::case_of;
 use records::key::is_first;
 use records::key::line_of;
@@ -10,7 +12,6 @@ use records::key::newest_of;
 use records::key::number_of;
 use records::key::tag_of;
 use shapes::TAG_BYTES;
-use sizes::place::Reached;
 ghost use mathlib.Core.Path.{_≡_};
 ghost use mathlib.Core.List.{_∷_};
 ghost use Prim.Native.Nat.{_+_, _≤_, _<_};
@@ -18,9 +19,9 @@ ghost use lib.ListN.{length};
 ghost use Rattle.semantics.specs.Listing.{recordRows};
 ghost use Rattle.write.specs.Wrote.{Wrote};
 ghost use Rattle.maps.specs.Maps.{MapRoom, Made};
-ghost use Rattle.records.specs.Log.{recordedAt, EntryIn, Logged};
+ghost use Rattle.records.specs.Log.{recordedAt, EntryIn, Logged, LogEntry};
 ghost use Rattle.field_rows.specs.Rows.{placedRows};
-ghost use Rattle.record_rows.specs.Rows.{TagWrote, headText, shapeText, keyRows, allRows, LogEntry, Printed};
+ghost use Rattle.record_rows.specs.Rows.{TagWrote, headText, shapeText, keyRows, allRows, Printed};
 
 // KEY, with its comma: T, or T.tag.
 fn put_key(sheet: &[u8], work: &[u8], n: usize, i: usize, out: &mut [u8], at: usize) -> usize
@@ -58,8 +59,8 @@ fn put_head(sheet: &[u8], work: &[u8], n: usize, i: usize, out: &mut [u8], at: u
 }
 
 // The size of the record of entry i.
-pub fn entry_size(sheet: &[u8], work: &[u8], n: usize, m: usize, i: usize) -> u32
-    requires { ⌜ LogEntry (now sheet) (now work) n m i ⌝ }
+pub fn entry_size(sheet: &[u8], work: &[u8], n: usize, i: usize) -> u32
+    requires { ⌜ LogEntry (now sheet) (now work) n i ⌝ }
     ensures { λ x. ⌜ (x ≡ recordedAt (now (sheet .entry)) (now (work .entry)) i .shape .size) × (x ≤ 131080) ⌝ }
 {
     let r = line_of(work, i);
@@ -85,19 +86,11 @@ pub fn map_entry(sheet: &[u8], work: &mut [u8], n: usize, i: usize, size: u32)
 }
 
 // SIZE and MAP, and the end of the row.
-fn put_shape(
-    sheet: &[u8],
-    work: &mut [u8],
-    n: usize,
-    m: usize,
-    i: usize,
-    out: &mut [u8],
-    at: usize,
-) -> usize
-    requires { ⌜ LogEntry (now sheet) (now work) n m i ⌝ }
+fn put_shape(sheet: &[u8], work: &mut [u8], n: usize, i: usize, out: &mut [u8], at: usize) -> usize
+    requires { ⌜ LogEntry (now sheet) (now work) n i ⌝ }
     ensures { λ p. ⌜ Printed (now (out .entry)) at (shapeText (recordedAt (now (sheet .entry)) (now (work .entry)) i .shape)) (now (out .exit)) p (now (work .entry)) (now (work .exit)) ⌝ }
 {
-    let size = entry_size(sheet, work, n, m, i);
+    let size = entry_size(sheet, work, n, i);
     map_entry(sheet, work, n, i, size);
     let p = rows::put_comma_nat(out, at, size as u64);
     let end = area::MAP + map_bytes(size);
@@ -112,87 +105,54 @@ fn put_fields(sheet: &[u8], work: &[u8], n: usize, i: usize, out: &mut [u8], at:
 {
     let r = line_of(work, i);
     if lines::form_at(work, r - 1) == decl::ADT {
-        return field_rows::put_common(
-            sheet,
-            work,
-            n,
-            r,
-            Reached {
-                end: 0,
-                furthest: 0,
-            },
-            out,
-            at,
-        );
+        let q = field_rows::put_common(sheet, work, n, r, out, Next { at: at, end: 0 });
+        return q.at;
     }
-    let tag = Reached {
+    let start = Next {
+        at: at,
         end: TAG_BYTES,
-        furthest: TAG_BYTES,
     };
-    let p = field_rows::put_common(sheet, work, n, r, tag, out, at);
+    let p = field_rows::put_common(sheet, work, n, r, out, start);
     let c = case_of(work, i);
     if c == 0 {
-        return p;
+        return p.at;
     }
-    let q = sizes::place::place_common(sheet, work, n, r, tag);
     let v = shapes::case_line(sheet, work, n, r, c - 1);
-    field_rows::put_case(sheet, work, n, v, q, out, p)
+    let q = field_rows::put_case(sheet, work, n, v, out, p);
+    q.at
 }
 
 // The rows of the record of entry i.
-fn put_record(
-    sheet: &[u8],
-    work: &mut [u8],
-    n: usize,
-    m: usize,
-    i: usize,
-    out: &mut [u8],
-    at: usize,
-) -> usize
-    requires { ⌜ LogEntry (now sheet) (now work) n m i ⌝ }
+fn put_record(sheet: &[u8], work: &mut [u8], n: usize, i: usize, out: &mut [u8], at: usize) -> usize
+    requires { ⌜ LogEntry (now sheet) (now work) n i ⌝ }
     ensures { λ p. ⌜ Printed (now (out .entry)) at (recordRows (recordedAt (now (sheet .entry)) (now (work .entry)) i)) (now (out .exit)) p (now (work .entry)) (now (work .exit)) ⌝ }
 {
     let p = put_head(sheet, work, n, i, out, at);
-    let q = put_shape(sheet, work, n, m, i, out, p);
+    let q = put_shape(sheet, work, n, i, out, p);
     put_fields(sheet, work, n, i, out, q)
 }
 
 // The rows of entry i's key, where entry i is the first of that key: those of its newest entry.
-fn put_newest(
-    sheet: &[u8],
-    work: &mut [u8],
-    n: usize,
-    m: usize,
-    i: usize,
-    out: &mut [u8],
-    at: usize,
-) -> usize
-    requires { ⌜ (LogEntry (now sheet) (now work) n m i) × (at ≤ length (now out) + 1) ⌝ }
+fn put_newest(sheet: &[u8], work: &mut [u8], c: Log, i: usize, out: &mut [u8], at: usize) -> usize
+    requires { ⌜ (Logged (now sheet) (now work) (c .lines) (c .entries)) × (i < c .entries) × (at ≤ length (now out) + 1) ⌝ }
     ensures { λ p. ⌜ Printed (now (out .entry)) at (keyRows (now (sheet .entry)) i) (now (out .exit)) p (now (work .entry)) (now (work .exit)) ⌝ }
 {
-    if is_first(sheet, work, n, m, i) {
-        let j = newest_of(sheet, work, n, m, i);
-        return put_record(sheet, work, n, m, j, out, at);
+    if is_first(sheet, work, c.lines, i) {
+        let j = newest_of(sheet, work, c, i);
+        return put_record(sheet, work, c.lines, j, out, at);
     }
     at
 }
 
-// The rows of all records, of which the log has m: each key once, where it was first recorded.
-pub fn record_rows(
-    sheet: &[u8],
-    work: &mut [u8],
-    n: usize,
-    m: usize,
-    out: &mut [u8],
-    at: usize,
-) -> usize
-    requires { ⌜ (Logged (now sheet) (now work) n m) × (at ≤ length (now out) + 1) ⌝ }
+// The rows of all records: each key once, where it was first recorded.
+pub fn record_rows(sheet: &[u8], work: &mut [u8], c: Log, out: &mut [u8], at: usize) -> usize
+    requires { ⌜ (Logged (now sheet) (now work) (c .lines) (c .entries)) × (at ≤ length (now out) + 1) ⌝ }
     ensures { λ p. ⌜ Printed (now (out .entry)) at (allRows (now (sheet .entry))) (now (out .exit)) p (now (work .entry)) (now (work .exit)) ⌝ }
 {
     let mut p = at;
     let mut i = 0;
-    while i < m {
-        p = put_newest(sheet, work, n, m, i, out, p);
+    while i < c.entries {
+        p = put_newest(sheet, work, c, i, out, p);
         i += 1;
     }
     p

@@ -115,6 +115,12 @@ pub record Digested (s t : Bytes) (n m d : ℕ) : Type 0 where
 abbrev pub Logged : Bytes → Bytes → ℕ → ℕ → Type 0
 Logged s t n m = Digested s t n m m
 
+-- entry i of such a log
+pub record LogEntry (s t : Bytes) (n i : ℕ) : Type 0 where
+  pub m : ℕ
+  pub log : Logged s t n m
+  pub low : i < m
+
 -- ---- the entries of a key
 
 -- record i of a log where j is i + 1, and else d

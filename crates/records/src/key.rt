@@ -10,7 +10,13 @@ ghost use lib.ListN.{length, take};
 ghost use Rattle.semantics.specs.Text.{same};
 ghost use Rattle.semantics.specs.Layout.{seen};
 ghost use Rattle.words.specs.Words.{digest};
-ghost use Rattle.records.specs.Log.{byteOf, entryAt, recordedAt, nameOf, tagOf, digestOf, logOf, EntryIn, Logged, Newest, NewestOf};
+ghost use Rattle.records.specs.Log.{byteOf, entryAt, recordedAt, nameOf, tagOf, digestOf, logOf, EntryIn, Logged, LogEntry, Newest, NewestOf};
+
+// How many lines the sheet has, and how many entries its log.
+pub struct Log {
+    pub lines: usize,
+    pub entries: usize,
+}
 
 // Byte k of entry i.
 fn byte_at(work: &[u8], i: usize, k: usize) -> usize
@@ -147,15 +153,15 @@ fn same_key(sheet: &[u8], work: &[u8], n: usize, i: usize, j: usize) -> bool
 }
 
 // The last entry with this key, plus 1; 0 where there is none.
-pub fn newest(sheet: &[u8], work: &[u8], n: usize, m: usize, key: &[u8]) -> usize
-    requires { ⌜ Logged (now sheet) (now work) n m ⌝ }
+pub fn newest(sheet: &[u8], work: &[u8], c: Log, key: &[u8]) -> usize
+    requires { ⌜ Logged (now sheet) (now work) (c .lines) (c .entries) ⌝ }
     ensures { λ r. ⌜ Newest (now (sheet .entry)) (now (key .entry)) r ⌝ }
 {
     let d = words::digest(key);
-    let mut i = m;
+    let mut i = c.entries;
     while 0 < i {
         i -= 1;
-        if key_is(sheet, work, n, i, key, d) {
+        if key_is(sheet, work, c.lines, i, key, d) {
             return i + 1;
         }
     }
@@ -163,14 +169,14 @@ pub fn newest(sheet: &[u8], work: &[u8], n: usize, m: usize, key: &[u8]) -> usiz
 }
 
 // The last entry with the key of entry i.
-pub fn newest_of(sheet: &[u8], work: &[u8], n: usize, m: usize, i: usize) -> usize
-    requires { ⌜ (Logged (now sheet) (now work) n m) × (i < m) ⌝ }
-    ensures { λ r. ⌜ NewestOf (now (sheet .entry)) (now (work .entry)) m i r ⌝ }
+pub fn newest_of(sheet: &[u8], work: &[u8], c: Log, i: usize) -> usize
+    requires { ⌜ (Logged (now sheet) (now work) (c .lines) (c .entries)) × (i < c .entries) ⌝ }
+    ensures { λ r. ⌜ NewestOf (now (sheet .entry)) (now (work .entry)) (c .entries) i r ⌝ }
 {
-    let mut j = m;
+    let mut j = c.entries;
     while i + 1 < j {
         j -= 1;
-        if same_key(sheet, work, n, i, j) {
+        if same_key(sheet, work, c.lines, i, j) {
             return j;
         }
     }
@@ -178,8 +184,8 @@ pub fn newest_of(sheet: &[u8], work: &[u8], n: usize, m: usize, i: usize) -> usi
 }
 
 // Whether no earlier entry has the key of entry i.
-pub fn is_first(sheet: &[u8], work: &[u8], n: usize, m: usize, i: usize) -> bool
-    requires { ⌜ (Logged (now sheet) (now work) n m) × (i < m) ⌝ }
+pub fn is_first(sheet: &[u8], work: &[u8], n: usize, i: usize) -> bool
+    requires { ⌜ LogEntry (now sheet) (now work) n i ⌝ }
     ensures { λ r. ⌜ r ≡ not (seen (recordedAt (now (sheet .entry)) (now (work .entry)) i .key) (take i (logOf (now (sheet .entry))))) ⌝ }
 {
     let mut j = 0;

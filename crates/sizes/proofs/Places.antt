@@ -33,8 +33,9 @@ use Rattle.refs.proofs.Nodes.{node-at}
 use Rattle.refs.proofs.Fields.{number-exact, count-exact, first-count, head-drop, tail-drop, values-length}
 use Rattle.checks.specs.Checks.{Checked}
 use Rattle.sizes.specs.declared.place.Reached.{Reached}
+use Rattle.sizes.specs.declared.place.Refs.{Refs}
 use Rattle.sizes.specs.Sizes.{typeAt, TypeLine, Measures}
-use Rattle.sizes.specs.Places.{fieldAt, fieldsAt, ownFields, commonAt, caseAt, FieldLine, FieldRefs, RecordLine, CaseLine, LinePlaced, AllPlaced}
+use Rattle.sizes.specs.Places.{fieldAt, fieldsAt, fieldsOf, ownFields, commonAt, caseAt, FieldLine, FieldRefs, RecordLine, CaseLine, LinePlaced, AllPlaced}
 use Rattle.sizes.proofs.Forms.{field-form, case-form, adt-form, pick-form}
 use Rattle.sizes.proofs.Types.{given-ref, May, maybe-head, Group, group-at}
 
@@ -135,42 +136,42 @@ furthest-append f [] qs = refl
 furthest-append f (p ∷ ps) qs = furthest-append (max f (p .offset + sizeOf (p .ty))) ps qs
 
 -- q is behind the first j lines
-pub record Passing (s : List ℕ) (r from count : ℕ) (p q : Reached) (j : ℕ) : Type 0 where
-  pub within : j ≤ count
-  pub end : place (q .end) (fieldsAt s r (from + j) (count - j)) .end ≡ place (p .end) (fieldsAt s r from count) .end
-  pub furthest : furthest (q .furthest) (place (q .end) (fieldsAt s r (from + j) (count - j)) .placed) ≡ furthest (p .furthest) (place (p .end) (fieldsAt s r from count) .placed)
+pub record Passing (s : List ℕ) (f : Refs) (p q : Reached) (j : ℕ) : Type 0 where
+  pub within : j ≤ f .count
+  pub end : place (q .end) (fieldsAt s (f .line) (f .from + j) (f .count - j)) .end ≡ place (p .end) (fieldsOf s f) .end
+  pub furthest : furthest (q .furthest) (place (q .end) (fieldsAt s (f .line) (f .from + j) (f .count - j)) .placed) ≡ furthest (p .furthest) (place (p .end) (fieldsOf s f) .placed)
   pub small : q .end ≤ p .end + 131080 * j
 
-module _ (s t : List ℕ) (n r from count : ℕ) (l : FieldRefs s t n r from count) where
-  pub refs-in : r - 1 < n
+module _ (s t : List ℕ) (n : ℕ) (f : Refs) (l : FieldRefs s t n f) where
+  pub refs-in : f .line - 1 < n
   refs-in = omega (arith, l .first, l .last)
 
-  module _ (j : ℕ) (h : j < count) (v : ℕ) (hv : v ≡ Number.numberOf 65536 (getD (readAt s (r - 1) .fields) (from + j) [])) where
-    line-number : v ≡ numberOf (getD (readAt s (r - 1) .fields) (from + j) [])
-    line-number = hv ∙ number-exact (getD (readAt s (r - 1) .fields) (from + j) []) (l .number j h) (omega (arith, l .each j h .last, l .checked .whole .lined .few))
+  module _ (j : ℕ) (h : j < f .count) (v : ℕ) (hv : v ≡ Number.numberOf 65536 (getD (readAt s (f .line - 1) .fields) (f .from + j) [])) where
+    line-number : v ≡ numberOf (getD (readAt s (f .line - 1) .fields) (f .from + j) [])
+    line-number = hv ∙ number-exact (getD (readAt s (f .line - 1) .fields) (f .from + j) []) (l .number j h) (omega (arith, l .each j h .last, l .checked .whole .lined .few))
 
     pub passing-line : FieldLine s t n v
     passing-line = rw line-number (l .each j h)
 
-    pub fields-next : fieldsAt s r (from + j) (count - j) ≡ fieldAt s v ∷ fieldsAt s r (from + (j + 1)) (count - (j + 1))
+    pub fields-next : fieldsAt s (f .line) (f .from + j) (f .count - j) ≡ fieldAt s v ∷ fieldsAt s (f .line) (f .from + (j + 1)) (f .count - (j + 1))
     fields-next =
-        let z : count - j ≡ suc (count - (j + 1)) = omega arith in
-        let y : from + (j + 1) ≡ suc (from + j) = omega arith in
-        rw (z, y, head-drop (from + j) (readAt s (r - 1) .fields), tail-drop (from + j) (readAt s (r - 1) .fields), line-number)
+        let z : f .count - j ≡ suc (f .count - (j + 1)) = omega arith in
+        let y : f .from + (j + 1) ≡ suc (f .from + j) = omega arith in
+        rw (z, y, head-drop (f .from + j) (readAt s (f .line - 1) .fields), tail-drop (f .from + j) (readAt s (f .line - 1) .fields), line-number)
 
   module _ (p : Reached) where
-    pub passing-start : Passing s r from count p p 0
+    pub passing-start : Passing s f p p 0
     passing-start =
-        let z : from + 0 ≡ from = omega arith in
-        let y : count - 0 ≡ count = omega arith in
+        let z : f .from + 0 ≡ f .from = omega arith in
+        let y : f .count - 0 ≡ f .count = omega arith in
         record { within = omega arith; end = rw (z, y); furthest = rw (z, y); small = omega arith }
 
-    module _ (q : Reached) (j : ℕ) (m : Passing s r from count p q j) where
-      pub passing-end : count ≤ j → AllPlaced (fieldsAt s r from count) p q
-      passing-end h = let z : count - j ≡ 0 = omega arith in record { end = rw z at (m .end); furthest = rw z at (m .furthest) }
+    module _ (q : Reached) (j : ℕ) (m : Passing s f p q j) where
+      pub passing-end : f .count ≤ j → AllPlaced (fieldsOf s f) p q
+      passing-end h = let z : f .count - j ≡ 0 = omega arith in record { end = rw z at (m .end); furthest = rw z at (m .furthest) }
 
-      pub passing-next : (h : j < count) (v : ℕ) → v ≡ Number.numberOf 65536 (getD (readAt s (r - 1) .fields) (from + j) []) → (u : Reached)
-          → LinePlaced (fieldAt s v .ty) (fieldAt s v .names) q u → u .end ≤ q .end + 131080 → Passing s r from count p u (j + 1)
+      pub passing-next : (h : j < f .count) (v : ℕ) → v ≡ Number.numberOf 65536 (getD (readAt s (f .line - 1) .fields) (f .from + j) []) → (u : Reached)
+          → LinePlaced (fieldAt s v .ty) (fieldAt s v .names) q u → u .end ≤ q .end + 131080 → Passing s f p u (j + 1)
       passing-next h v hv u x b = record {
         within = omega arith;
         end = rw (x .end) (rw (fields-next j h v hv) at (m .end));
@@ -190,7 +191,7 @@ module _ (s t : List ℕ) (n r : ℕ) (c : Checked s t n) (first : 0 < r) (last 
   group-count : (count ≡ numberOf (getD (readAt s (r - 1) .fields) at [])) × (count ≤ 16)
   group-count = count-exact (getD (readAt s (r - 1) .fields) at []) (group .count) hc
 
-  group-refs : FieldRefs s t n r (at + 1) count
+  group-refs : FieldRefs s t n (record { line = r; from = at + 1; count = count })
   group-refs = record {
     checked = c;
     first = first;
@@ -254,7 +255,7 @@ module _ (s t : List ℕ) (n r : ℕ) (l : RecordLine s t n r) where
       (rw (record-row .parts) at (l .checked .fine (r - 1) record-in))
 
   module _ (count : ℕ) (hc : count ≡ Number.numberOf 65536 (getD (readAt s (r - 1) .fields) 1 [])) where
-    pub common-refs : FieldRefs s t n r 2 count
+    pub common-refs : FieldRefs s t n (record { line = r; from = 2; count = count })
     common-refs = group-refs s t n r (l .checked) (l .first) (l .last) 1 (omega arith) (record-row .behind) (record-fits .0) (record-fits .1) count hc
 
     pub common-is : commonAt s r ≡ fieldsAt s r 2 count
@@ -302,7 +303,7 @@ module _ (s t : List ℕ) (n r : ℕ) (l : CaseLine s t n r) where
     tags-few = tags-exact .1
 
     module _ (count : ℕ) (hc : count ≡ Number.numberOf 65536 (getD (readAt s (r - 1) .fields) (tags + 1) [])) where
-      pub case-refs : FieldRefs s t n r (tags + 1 + 1) count
+      pub case-refs : FieldRefs s t n (record { line = r; from = tags + 1 + 1; count = count })
       case-refs =
           group-refs s t n r (l .checked) (l .first) (l .last) (tags + 1) (omega (arith, tags-few)) [] (rw (tags-exact .0) at (case-good .1)) (rw (tags-exact .0) at (case-good .2)) count hc
 

@@ -16,6 +16,7 @@ use Rattle.semantics.specs.Layout.{placeLine, place}
 use Rattle.lines.specs.Lines.{readAt, nodesIn}
 use Rattle.checks.specs.Checks.{Checked}
 use Rattle.sizes.specs.declared.place.Reached.{Reached}
+use Rattle.sizes.specs.declared.place.Refs.{Refs}
 
 -- what line r makes, from 1
 abbrev pub fieldAt : Bytes → ℕ → Fd
@@ -32,15 +33,18 @@ pub record FieldLine (s t : Bytes) (n r : ℕ) : Type 0 where
 abbrev pub fieldsAt : Bytes → ℕ → ℕ → ℕ → List Fd
 fieldsAt s r from count = fdsOf (values (ref kFd) (nodesIn s) count (drop from (readAt s (r - 1) .fields)))
 
+abbrev pub fieldsOf : Bytes → Refs → List Fd
+fieldsOf s f = fieldsAt s (f .line) (f .from) (f .count)
+
 -- they refer to `fd` lines
-pub record FieldRefs (s t : Bytes) (n r from count : ℕ) : Type 0 where
+pub record FieldRefs (s t : Bytes) (n : ℕ) (f : Refs) : Type 0 where
   pub checked : Checked s t n
-  pub first : 0 < r
-  pub last : r ≤ n
-  pub near : from ≤ 255
-  pub few : count ≤ 16
-  pub number : (j : ℕ) → j < count → isNumber (getD (readAt s (r - 1) .fields) (from + j) []) ≡ true
-  pub each : (j : ℕ) → j < count → FieldLine s t n (numberOf (getD (readAt s (r - 1) .fields) (from + j) []))
+  pub first : 0 < f .line
+  pub last : f .line ≤ n
+  pub near : f .from ≤ 255
+  pub few : f .count ≤ 16
+  pub number : (j : ℕ) → j < f .count → isNumber (getD (readAt s (f .line - 1) .fields) (f .from + j) []) ≡ true
+  pub each : (j : ℕ) → j < f .count → FieldLine s t n (numberOf (getD (readAt s (f .line - 1) .fields) (f .from + j) []))
 
 -- the fields of what line r declares, apart from cases
 abbrev pub ownFields : List AdtDecl → List Fd

@@ -11,7 +11,41 @@ ghost use lib.ListN.{length};
 ghost use Rattle.semantics.specs.Text.{Bytes};
 ghost use Rattle.semantics.specs.Tree.{Ty};
 ghost use Rattle.sizes.specs.Sizes.{Measures};
-ghost use Rattle.sizes.specs.Places.{fieldAt, fieldsAt, commonAt, caseAt, FieldLine, FieldRefs, RecordLine, CaseLine, LinePlaced, AllPlaced};
+ghost use Rattle.sizes.specs.Places.{fieldAt, fieldsOf, commonAt, caseAt, FieldLine, FieldRefs, RecordLine, CaseLine, LinePlaced, AllPlaced};
+
+// The `count` fields of a line from field `from` on, which refer to `fd` lines.
+pub struct Refs {
+    pub line: usize,
+    pub from: usize,
+    pub count: usize,
+}
+
+// Those of the `adt` or `pick` line r that are no case's.
+pub fn common_refs(sheet: &[u8], work: &[u8], n: usize, r: usize) -> Refs
+    requires { ⌜ RecordLine (now sheet) (now work) n r ⌝ }
+    ensures { λ f. ⌜ (FieldRefs (now (sheet .entry)) (now (work .entry)) n f) × (fieldsOf (now (sheet .entry)) f ≡ commonAt (now (sheet .entry)) r) ⌝ }
+{
+    let count = lines::number_at(sheet, work, n, r - 1, 1);
+    Refs {
+        line: r,
+        from: 2,
+        count: count,
+    }
+}
+
+// Those of the `pc` line r, which follow its tags.
+pub fn case_refs(sheet: &[u8], work: &[u8], n: usize, r: usize) -> Refs
+    requires { ⌜ CaseLine (now sheet) (now work) n r ⌝ }
+    ensures { λ f. ⌜ (FieldRefs (now (sheet .entry)) (now (work .entry)) n f) × (fieldsOf (now (sheet .entry)) f ≡ caseAt (now (sheet .entry)) r) ⌝ }
+{
+    let at = lines::number_at(sheet, work, n, r - 1, 0) + 1;
+    let count = lines::number_at(sheet, work, n, r - 1, at);
+    Refs {
+        line: r,
+        from: at + 1,
+        count: count,
+    }
+}
 
 // Where the fields placed so far end, and the furthest end of one of them: a line without names aligns, and places none.
 pub struct Reached {
@@ -47,29 +81,16 @@ pub fn place_field(sheet: &[u8], work: &[u8], n: usize, r: usize, p: Reached) ->
     place_line(p, x, pointer, lines::number_at(sheet, work, n, r - 1, 1))
 }
 
-// Behind the `fd` lines to which `count` fields of line r refer, from field `from` on.
-fn place_fields(
-    sheet: &[u8],
-    work: &[u8],
-    n: usize,
-    r: usize,
-    from: usize,
-    count: usize,
-    p: Reached,
-) -> Reached
-    requires { ⌜ (FieldRefs (now sheet) (now work) n r from count) × (p .end ≤ 2200000) ⌝ }
-    ensures { λ q. ⌜ (AllPlaced (fieldsAt (now (sheet .entry)) r from count) p q) × (q .end ≤ p .end + 2097280) ⌝ }
+// Behind the `fd` lines to which these fields refer.
+fn place_fields(sheet: &[u8], work: &[u8], n: usize, f: Refs, p: Reached) -> Reached
+    requires { ⌜ (FieldRefs (now sheet) (now work) n f) × (p .end ≤ 2200000) ⌝ }
+    ensures { λ q. ⌜ (AllPlaced (fieldsOf (now (sheet .entry)) f) p q) × (q .end ≤ p .end + 2097280) ⌝ }
 {
     let mut q = p;
     let mut j = 0;
-    while j < count {
-        q = place_field(
-            sheet,
-            work,
-            n,
-            lines::number_at(sheet, work, n, r - 1, from + j),
-            q,
-        );
+    while j < f.count {
+        let r = lines::number_at(sheet, work, n, f.line - 1, f.from + j);
+        q = place_field(sheet, work, n, r, q);
         j += 1;
     }
     q
@@ -80,16 +101,15 @@ pub fn place_common(sheet: &[u8], work: &[u8], n: usize, r: usize, p: Reached) -
     requires { ⌜ (RecordLine (now sheet) (now work) n r) × (p .end ≤ 4) ⌝ }
     ensures { λ q. ⌜ (AllPlaced (commonAt (now (sheet .entry)) r) p q) × (q .end ≤ 2097284) ⌝ }
 {
-    let count = lines::number_at(sheet, work, n, r - 1, 1);
-    place_fields(sheet, work, n, r, 2, count, p)
+    let f = common_refs(sheet, work, n, r);
+    place_fields(sheet, work, n, f, p)
 }
 
-// Behind the fields of the `pc` line r, which follow its tags.
+// Behind the fields of the `pc` line r.
 pub fn place_case(sheet: &[u8], work: &[u8], n: usize, r: usize, p: Reached) -> Reached
     requires { ⌜ (CaseLine (now sheet) (now work) n r) × (p .end ≤ 2097284) ⌝ }
     ensures { λ q. ⌜ (AllPlaced (caseAt (now (sheet .entry)) r) p q) × (q .end ≤ 4194564) ⌝ }
 {
-    let at = lines::number_at(sheet, work, n, r - 1, 0) + 1;
-    let count = lines::number_at(sheet, work, n, r - 1, at);
-    place_fields(sheet, work, n, r, at + 1, count, p)
+    let f = case_refs(sheet, work, n, r);
+    place_fields(sheet, work, n, f, p)
 }

@@ -1,5 +1,6 @@
 -- One row of a type, and the map that it prints.
-use Prim.Native.Nat.{ℕ, zero, suc, _*_}
+use Prim.Native.Nat.{ℕ, zero, suc, _+_, _*_}
+use mathlib.Core.Path.{_≡_}
 use mathlib.Core.List.{List, [], _∷_, _++_}
 use lib.IntN.{ℤ, pos}
 use Rattle.semantics.specs.Text.{Bytes}
@@ -7,13 +8,15 @@ use Rattle.semantics.specs.Tree.{Shape}
 use Rattle.semantics.specs.Listing.{typeRows}
 use Rattle.checks.specs.Checks.{Kept}
 use Rattle.write.specs.Wrote.{Wrote}
+use Rattle.type_row.specs.declared.Next.{Next}
 
 -- the offsets of the first k words
 unfoldable pub words : ℕ → List ℤ
 words zero = []
 words (suc k) = words k ++ (pos (4 * k) ∷ [])
 
--- one row, of a shape whose map was made in the working space, was written
-pub record Rowed (id : ℕ) (x : Shape) (t u d : Bytes) (a : ℕ) (e : Bytes) (b : ℕ) : Type 0 where
-  pub wrote : Wrote d a (typeRows id (x ∷ [])) e b
+-- one row, of a shape whose map was made in the working space, was written, from p to q
+pub record Rowed (x : Shape) (p q : Next) (t u d e : Bytes) : Type 0 where
+  pub wrote : Wrote d (p .at) (typeRows (p .id) (x ∷ [])) e (q .at)
+  pub id : q .id ≡ p .id + 1
   pub kept : Kept 49152 t u

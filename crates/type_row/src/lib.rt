@@ -3,7 +3,7 @@ use codes::area;
 ghost use mathlib.Core.Path.{_≡_};
 ghost use mathlib.Core.Bool.{true};
 ghost use mathlib.Core.List.{List, [], _∷_};
-ghost use Prim.Native.Nat.{_≤_};
+ghost use Prim.Native.Nat.{_+_, _≤_, _<_};
 ghost use lib.IntN.{ℤ};
 ghost use lib.ListN.{length};
 ghost use Rattle.semantics.specs.Tree.{ElemKind};
@@ -17,18 +17,28 @@ ghost use Rattle.maps.specs.Maps.{MapRoom, Mapped, Marks, Made};
 ghost use Rattle.type_lines.specs.Shapes.{shapeAt, ShapeLine, raised};
 ghost use Rattle.type_row.specs.Row.{words, Rowed};
 
+// Where the next row goes, and its ID.
+pub struct Next {
+    pub at: usize,
+    pub id: usize,
+}
+
 // The row of a block of this size whose map stands in the working space.
-pub fn put_type(work: &[u8], id: usize, size: u32, out: &mut [u8], at: usize) -> usize
-    requires { ⌜ MapRoom (now work) size ⌝ }
-    ensures { λ r. ⌜ ((offs : List ℤ) → Mapped (now (work .entry)) size offs → Wrote (now (out .entry)) at (typeRows id (record { size = size; pointers = offs } ∷ [])) (now (out .exit)) r) ⌝ }
+pub fn put_type(work: &[u8], size: u32, out: &mut [u8], p: Next) -> Next
+    requires { ⌜ (MapRoom (now work) size) × (p .id < 2048) ⌝ }
+    ensures { λ q. ⌜ ((offs : List ℤ) → Mapped (now (work .entry)) size offs → Wrote (now (out .entry)) (p .at) (typeRows (p .id) (record { size = size; pointers = offs } ∷ [])) (now (out .exit)) (q .at)) × (q .id ≡ p .id + 1) ⌝ }
 {
     let end = area::MAP + layout::map::map_bytes(size);
-    let mut p = write::put_part(out, at, b"typ");
-    p = rows::put_comma_nat(out, p, id as u64);
-    p = rows::put_comma_nat(out, p, size as u64);
-    p = rows::put_comma_nat(out, p, maps::map_ones(work, size) as u64);
-    p = rows::put_comma_hex(out, p, &work[area::MAP..end]);
-    rows::put_lf(out, p)
+    let mut at = write::put_part(out, p.at, b"typ");
+    at = rows::put_comma_nat(out, at, p.id as u64);
+    at = rows::put_comma_nat(out, at, size as u64);
+    at = rows::put_comma_nat(out, at, maps::map_ones(work, size) as u64);
+    at = rows::put_comma_hex(out, at, &work[area::MAP..end]);
+    at = rows::put_lf(out, at);
+    Next {
+        at: at,
+        id: p.id + 1,
+    }
 }
 
 // ---- blocks that begin with pointers
@@ -47,27 +57,20 @@ fn map_words(work: &mut [u8], size: u32, count: u32)
 }
 
 // The row of such a block.
-pub fn put_words(
-    work: &mut [u8],
-    id: usize,
-    size: u32,
-    count: u32,
-    out: &mut [u8],
-    at: usize,
-) -> usize
-    requires { ⌜ (MapRoom (now work) size) × (count ≤ 12) ⌝ }
-    ensures { λ r. ⌜ Rowed id (record { size = size; pointers = words count }) (now (work .entry)) (now (work .exit)) (now (out .entry)) at (now (out .exit)) r ⌝ }
+pub fn put_words(work: &mut [u8], size: u32, count: u32, out: &mut [u8], p: Next) -> Next
+    requires { ⌜ (MapRoom (now work) size) × (count ≤ 12) × (p .id < 2048) ⌝ }
+    ensures { λ q. ⌜ Rowed (record { size = size; pointers = words count }) p q (now (work .entry)) (now (work .exit)) (now (out .entry)) (now (out .exit)) ⌝ }
 {
     map_words(work, size, count);
-    put_type(work, id, size, out, at)
+    put_type(work, size, out, p)
 }
 
 // An opaque record: 12 words, all pointers.
-pub fn put_opaque(work: &mut [u8], id: usize, out: &mut [u8], at: usize) -> usize
-    requires { ⌜ 65536 ≤ length (now work) ⌝ }
-    ensures { λ r. ⌜ Rowed id opaqueShape (now (work .entry)) (now (work .exit)) (now (out .entry)) at (now (out .exit)) r ⌝ }
+pub fn put_opaque(work: &mut [u8], out: &mut [u8], p: Next) -> Next
+    requires { ⌜ (65536 ≤ length (now work)) × (p .id < 2048) ⌝ }
+    ensures { λ q. ⌜ Rowed opaqueShape p q (now (work .entry)) (now (work .exit)) (now (out .entry)) (now (out .exit)) ⌝ }
 {
-    put_words(work, id, 48, 12, out, at)
+    put_words(work, 48, 12, out, p)
 }
 
 fn elem_size(kind: usize) -> u32
@@ -96,11 +99,11 @@ fn elem_pointers(kind: usize) -> u32
 }
 
 // An array's elements.
-pub fn put_elem(work: &mut [u8], id: usize, kind: usize, out: &mut [u8], at: usize) -> usize
-    requires { ⌜ 65536 ≤ length (now work) ⌝ }
-    ensures { λ r. ⌜ ((k : ElemKind) → kind ≡ kindNumber k → Rowed id (elemShape k) (now (work .entry)) (now (work .exit)) (now (out .entry)) at (now (out .exit)) r) × (Kept 49152 (now (work .entry)) (now (work .exit))) ⌝ }
+pub fn put_elem(work: &mut [u8], kind: usize, out: &mut [u8], p: Next) -> Next
+    requires { ⌜ (65536 ≤ length (now work)) × (p .id < 2048) ⌝ }
+    ensures { λ q. ⌜ ((k : ElemKind) → kind ≡ kindNumber k → Rowed (elemShape k) p q (now (work .entry)) (now (work .exit)) (now (out .entry)) (now (out .exit))) × (q .id ≡ p .id + 1) × (Kept 49152 (now (work .entry)) (now (work .exit))) ⌝ }
 {
-    put_words(work, id, elem_size(kind), elem_pointers(kind), out, at)
+    put_words(work, elem_size(kind), elem_pointers(kind), out, p)
 }
 
 // ---- what a line writes out
@@ -132,19 +135,11 @@ fn map_line(sheet: &[u8], work: &mut [u8], n: usize, i: usize, size: u32)
 }
 
 // A frame, or a block that a need writes out.
-pub fn put_line(
-    sheet: &[u8],
-    work: &mut [u8],
-    n: usize,
-    i: usize,
-    id: usize,
-    out: &mut [u8],
-    at: usize,
-) -> usize
-    requires { ⌜ ShapeLine (now sheet) (now work) n i ⌝ }
-    ensures { λ r. ⌜ Rowed id (shapeAt (now (sheet .entry)) i) (now (work .entry)) (now (work .exit)) (now (out .entry)) at (now (out .exit)) r ⌝ }
+pub fn put_line(sheet: &[u8], work: &mut [u8], n: usize, i: usize, out: &mut [u8], p: Next) -> Next
+    requires { ⌜ (ShapeLine (now sheet) (now work) n i) × (p .id < 2048) ⌝ }
+    ensures { λ q. ⌜ Rowed (shapeAt (now (sheet .entry)) i) p q (now (work .entry)) (now (work .exit)) (now (out .entry)) (now (out .exit)) ⌝ }
 {
     let size = type_lines::shape::size_at(sheet, work, n, i);
     map_line(sheet, work, n, i, size);
-    put_type(work, id, size, out, at)
+    put_type(work, size, out, p)
 }

@@ -17,9 +17,8 @@ use Rattle.checks.specs.Checks.{Checked}
 use Rattle.records.specs.Log.{logOf}
 use Rattle.type_keys.proofs.Distinct.{newKey, distinct-more}
 use Rattle.type_lines.proofs.Frames.{frames-all, frames-few}
-use Rattle.type_rows.specs.declared.Next.{Next}
+use Rattle.type_row.specs.declared.Next.{Next}
 use Rattle.type_rows.specs.Rows.{Wrotes, shapesOf}
-use Rattle.type_row.proofs.Rows.{rows-then}
 use Rattle.type_rows.proofs.Wrotes.{wrotes-then}
 
 -- keys keep their positions when more come
@@ -46,15 +45,16 @@ descriptors-are s is =
     ap (λ (xs : List Shape). opaqueShape ∷ (opaqueShape ∷ (sheetSource s .frames ++ xs)))
     (ap (map (keyShape (logOf s))) (keys-split (sheetSource s .needs) (concatMap arrayKey is)) ∙ map-append (keyShape (logOf s)) (distinct [] (sheetSource s .needs)) (drop (length (distinct [] (sheetSource s .needs))) (distinct [] (sheetSource s .needs ++ concatMap arrayKey is))))
 
-pub all-rows : (s : List ℕ) (is : List Item) {p q r : Next} {d0 d1 d2 d3 d4 t1 t2 t3 t4 : List ℕ} {at : ℕ} → p .id ≡ 2
-    → Wrote d0 at (typeRows 0 (opaqueShape ∷ opaqueShape ∷ [])) d1 (p .at) → Wrotes (sheetSource s .frames) p q t1 t2 d1 d2 → Wrotes (shapesOf s (distinct [] (sheetSource s .needs))) q r t2 t3 d2 d3
-    → (z : Next) → Wrotes (shapesOf s (drop (length (distinct [] (sheetSource s .needs))) (distinct [] (sheetSource s .needs ++ concatMap arrayKey is)))) r z t3 t4 d3 d4
+pub all-rows : (s : List ℕ) (is : List Item) {p q r z : Next} {at : ℕ} {d0 d1 d2 d3 d4 t0 t1 t2 t3 t4 : List ℕ}
+    → Wrotes (opaqueShape ∷ opaqueShape ∷ []) (record { at = at; id = 0 }) p t0 t1 d0 d1 → Wrotes (sheetSource s .frames) p q t1 t2 d1 d2
+    → Wrotes (shapesOf s (distinct [] (sheetSource s .needs))) q r t2 t3 d2 d3
+    → Wrotes (shapesOf s (drop (length (distinct [] (sheetSource s .needs))) (distinct [] (sheetSource s .needs ++ concatMap arrayKey is)))) r z t3 t4 d3 d4
     → Wrote d0 at (typeRows 0 (descriptors (sheetSource s) is)) d4 (z .at)
-all-rows s is {p} h w0 w1 w2 z w3 =
+all-rows s is w0 w1 w2 w3 =
     let a = shapesOf s (distinct [] (sheetSource s .needs)) in
     let b = shapesOf s (drop (length (distinct [] (sheetSource s .needs))) (distinct [] (sheetSource s .needs ++ concatMap arrayKey is))) in
-    wrote-as (ap (typeRows 0) (sym (descriptors-are s is)))
-    (rows-then 0 (opaqueShape ∷ opaqueShape ∷ []) (sheetSource s .frames ++ (a ++ b)) (p .id) h w0 (wrotes-then (sheetSource s .frames) (a ++ b) w1 (wrotes-then a b w2 w3) .wrote))
+    let fs = sheetSource s .frames in
+    wrote-as (ap (typeRows 0) (sym (descriptors-are s is))) (wrotes-then (opaqueShape ∷ opaqueShape ∷ []) (fs ++ (a ++ b)) w0 (wrotes-then fs (a ++ b) w1 (wrotes-then a b w2 w3)) .wrote)
 
 pub frames-low : (s t : List ℕ) (n : ℕ) → Checked s t n → length (sheetSource s .frames) ≤ 128
 frames-low s t n c = rw (← frames-all s t n c) (frames-few s t n c n (omega arith))

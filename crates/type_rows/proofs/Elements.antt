@@ -24,7 +24,7 @@ use Rattle.type_keys.specs.Table.{kindOf, positionFromOne, Kinds}
 use Rattle.type_keys.proofs.Distinct.{newKey, position-none, position-new, position-known, distinct-more, from-one-some}
 use Rattle.type_keys.proofs.Table.{kind-kept}
 use Rattle.type_lines.proofs.Codes.{kind-low, elems-are}
-use Rattle.type_rows.specs.declared.Next.{Next}
+use Rattle.type_row.specs.declared.Next.{Next}
 use Rattle.type_row.specs.Row.{Rowed}
 use Rattle.type_rows.specs.Rows.{Wrotes, shapesOf}
 use Rattle.type_rows.proofs.Wrotes.{wrotes-none, wrotes-one, keys-then}
@@ -178,39 +178,39 @@ module _ (t : List ℕ) (ls : List TypeKey) (is : List Item) (keys : ℕ) (x : K
       e ∙ eqb-true (kindNumber m) (kindNumber (at .kind)) (sym (elems-are m (at .kind)) ∙ (rw (at .is) at w))
 
   -- so the row that is written is that of the key there
-  pub elem-row : (s : List ℕ) {id : ℕ} {b u d : List ℕ} {a : ℕ} {e : List ℕ} {c : ℕ} → ((m : ElemKind) → r ≡ kindNumber m → Rowed id (elemShape m) b u d a e c) → Rowed id (keyShape (logOf s) (getD (distinct [] (ls ++ concatMap arrayKey is)) p opaqueKey)) b u d a e c
+  pub elem-row : (s : List ℕ) {y z : Next} {b u d e : List ℕ} → ((m : ElemKind) → r ≡ kindNumber m → Rowed (elemShape m) y z b u d e) → Rowed (keyShape (logOf s) (getD (distinct [] (ls ++ concatMap arrayKey is)) p opaqueKey)) y z b u d e
   elem-row s w = rowed-as (sym (ap (keyShape (logOf s)) (at .is))) (w (at .kind) r-is)
 
 -- ---- row by row
 
--- the first rows of keys behind those of ls, up to the ID `id`
-abbrev pub KindRows : ℕ → Next → ℕ → ℕ → List ℕ → List ℕ → List ℕ → List ℕ → ℕ → Type 0
-KindRows base p at id t u d e keys =
+-- the first rows of keys behind those of ls, from p to q
+abbrev pub KindRows : ℕ → Next → Next → List ℕ → List ℕ → List ℕ → List ℕ → ℕ → Type 0
+KindRows base p q t u d e keys =
     (s : List ℕ) (ls : List TypeKey) (is : List Item) → p .id ≡ base + length (distinct [] ls) → Kinds t (ls ++ concatMap arrayKey is) keys
-    → Wrotes (shapesOf s (take (id - p .id) (drop (length (distinct [] ls)) (distinct [] (ls ++ concatMap arrayKey is))))) p (record { at = at; id = id }) t u d e
+    → Wrotes (shapesOf s (take (q .id - p .id) (drop (length (distinct [] ls)) (distinct [] (ls ++ concatMap arrayKey is))))) p q t u d e
 
-pub kinds-start : (base keys : ℕ) (p : Next) {t d : List ℕ} → p .at ≤ length d + 1 → KindRows base p (p .at) (p .id) t t d d keys
+pub kinds-start : (base keys : ℕ) (p : Next) {t d : List ℕ} → p .at ≤ length d + 1 → KindRows base p p t t d d keys
 kinds-start base keys p h s ls is e x = let z : p .id - p .id ≡ 0 = omega arith in rw z (wrotes-none h)
 
-module _ (base keys : ℕ) (p : Next) (at id : ℕ) {t u d e : List ℕ} (lo : p .id ≤ id) (hi : id < base + keys) (b : base ≤ p .id) (w : KindRows base p at id t u d e keys) (kept : Kept 49152 t u) where
-  pub kinds-next : (r at2 : ℕ) {v f : List ℕ} → (r < 5 → kindOf u r ≡ id - base + 1) → ((j : ℕ) → j < 5 → kindOf u j ≡ id - base + 1 → r ≤ j)
-      → ((m : ElemKind) → r ≡ kindNumber m → Rowed id (elemShape m) u v e at f at2) → KindRows base p at2 (id + 1) t v d f keys
-  kinds-next r at2 found first row s ls is g x =
+module _ (base keys : ℕ) (p q : Next) {t u d e : List ℕ} (lo : p .id ≤ q .id) (hi : q .id < base + keys) (b : base ≤ p .id) (w : KindRows base p q t u d e keys) (kept : Kept 49152 t u) where
+  pub kinds-next : (r : ℕ) (n : Next) {v f : List ℕ} → (r < 5 → kindOf u r ≡ q .id - base + 1) → ((j : ℕ) → j < 5 → kindOf u j ≡ q .id - base + 1 → r ≤ j)
+      → ((m : ElemKind) → r ≡ kindNumber m → Rowed (elemShape m) q n u v e f) → n .id ≡ q .id + 1 → KindRows base p n t v d f keys
+  kinds-next r n found first row next s ls is g x =
       let l = length (distinct [] ls) in
       let K = distinct [] (ls ++ concatMap arrayKey is) in
-      let j = id - p .id in
-      let z : id + 1 - p .id ≡ suc j = omega (arith, lo) in
-      let y : l + j ≡ id - base = omega (arith, lo, g) in
+      let j = q .id - p .id in
+      let z : n .id - p .id ≡ suc j = omega (arith, lo, next) in
+      let y : l + j ≡ q .id - base = omega (arith, lo, g) in
       let low-kept : Kept 10629 t u = kept-less (omega arith) kept in
       let low : j < length (drop l K) = omega (arith, length-drop l K, x .count, lo, g, hi) in
-      let q : getD (drop l K) j opaqueKey ≡ getD K (id - base) opaqueKey = getD-drop l K j opaqueKey ∙ ap (λ (i : ℕ). getD K i opaqueKey) y in
-      let one = elem-row t ls is keys x (id - base) (omega (arith, lo, g)) (omega (arith, hi, b, lo)) r (λ h. sym (kind-kept low-kept r h) ∙ found h) (λ i h c. first i h (kind-kept low-kept i h ∙ c)) s row in
-      rw (z, take-suc (drop l K) j opaqueKey low, q) (keys-then s (take j (drop l K)) (getD K (id - base) opaqueKey) (w s ls is g x) (wrotes-one refl one))
+      let o : getD (drop l K) j opaqueKey ≡ getD K (q .id - base) opaqueKey = getD-drop l K j opaqueKey ∙ ap (λ (i : ℕ). getD K i opaqueKey) y in
+      let one = elem-row t ls is keys x (q .id - base) (omega (arith, lo, g)) (omega (arith, hi, b, lo)) r (λ h. sym (kind-kept low-kept r h) ∙ found h) (λ i h c. first i h (kind-kept low-kept i h ∙ c)) s row in
+      rw (z, take-suc (drop l K) j opaqueKey low, o) (keys-then s (take j (drop l K)) (getD K (q .id - base) opaqueKey) (w s ls is g x) (wrotes-one one))
 
-pub kinds-end : (base keys : ℕ) (p : Next) (at id : ℕ) {t u d e : List ℕ} → p .id ≤ id → base + keys ≤ id → KindRows base p at id t u d e keys
+pub kinds-end : (base keys : ℕ) (p q : Next) {t u d e : List ℕ} → p .id ≤ q .id → base + keys ≤ q .id → KindRows base p q t u d e keys
     → (s : List ℕ) (ls : List TypeKey) (is : List Item) → p .id ≡ base + length (distinct [] ls) → Kinds t (ls ++ concatMap arrayKey is) keys
-    → Wrotes (shapesOf s (drop (length (distinct [] ls)) (distinct [] (ls ++ concatMap arrayKey is)))) p (record { at = at; id = id }) t u d e
-kinds-end base keys p at id lo hi w s ls is g x =
+    → Wrotes (shapesOf s (drop (length (distinct [] ls)) (distinct [] (ls ++ concatMap arrayKey is)))) p q t u d e
+kinds-end base keys p q lo hi w s ls is g x =
     let l = length (distinct [] ls) in
     let K = distinct [] (ls ++ concatMap arrayKey is) in
-    rw (take-all (id - p .id) (drop l K) (omega (arith, length-drop l K, x .count, lo, g, hi))) at (w s ls is g x)
+    rw (take-all (q .id - p .id) (drop l K) (omega (arith, length-drop l K, x .count, lo, g, hi))) at (w s ls is g x)

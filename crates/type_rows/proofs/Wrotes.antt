@@ -14,7 +14,6 @@ use Rattle.semantics.specs.Sheet.{sheetSource}
 use Rattle.semantics.specs.Types.{sameTypeKey, distinct, position, keyShape}
 use Rattle.semantics.specs.Listing.{typeRows}
 use Rattle.laws.proofs.Lists.{map-append}
-use Rattle.write.specs.Wrote.{Wrote}
 use Rattle.write.proofs.Wrote.{wrote-none}
 use Rattle.checks.specs.Checks.{Kept}
 use Rattle.checks.proofs.Kept.{kept-all, kept-then, kept-less, kept-at}
@@ -23,7 +22,8 @@ use Rattle.records.proofs.Kept.{logged-kept}
 use Rattle.type_lines.specs.Needs.{needAt, NeedLine}
 use Rattle.type_keys.specs.Table.{lineOf, positionOf}
 use Rattle.type_keys.proofs.Distinct.{newKey, position-none, position-low, position-more, distinct-more, key-member, known-more}
-use Rattle.type_rows.specs.declared.Next.{Next}
+use Rattle.records.specs.declared.key.Log.{Log}
+use Rattle.type_row.specs.declared.Next.{Next}
 use Rattle.type_row.specs.Row.{Rowed}
 use Rattle.type_rows.specs.Rows.{Wrotes, keysTo, shapesOf, Ready}
 use Rattle.type_row.proofs.Rows.{rows-then}
@@ -32,8 +32,8 @@ pub wrotes-none : {p : Next} {t d : List ℕ} → p .at ≤ length d + 1 → Wro
 unfolding typeRows
 wrotes-none {p} {t} {d} h = record { wrote = wrote-none d (p .at) h; id = omega arith; kept = kept-all }
 
-pub wrotes-one : {x : Shape} {p q : Next} {t u d e : List ℕ} → q .id ≡ p .id + 1 → Rowed (p .id) x t u d (p .at) e (q .at) → Wrotes (x ∷ []) p q t u d e
-wrotes-one h w = record { wrote = w .wrote; id = h; kept = w .kept }
+pub wrotes-one : {x : Shape} {p q : Next} {t u d e : List ℕ} → Rowed x p q t u d e → Wrotes (x ∷ []) p q t u d e
+wrotes-one w = record { wrote = w .wrote; id = w .id; kept = w .kept }
 
 pub wrotes-then : (xs ys : List Shape) {p q r : Next} {t u v d e f : List ℕ} → Wrotes xs p q t u d e → Wrotes ys q r u v e f → Wrotes (xs ++ ys) p r t v d f
 wrotes-then xs ys {p} {q} {r} a b = record {
@@ -42,15 +42,12 @@ wrotes-then xs ys {p} {q} {r} a b = record {
   kept = kept-then (a .kept) (b .kept);
 }
 
-pub two-rows : (x y : Shape) {t u v d e f : List ℕ} {a b c : ℕ} → Rowed 0 x t u d a e b → Rowed 1 y u v e b f c → Wrote d a (typeRows 0 (x ∷ y ∷ [])) f c
-two-rows x y v w = rows-then 0 (x ∷ []) (y ∷ []) 1 refl (v .wrote) (w .wrote)
-
 -- ---- needs
 
 -- a store behind the tables leaves them
-pub ready-kept : {s t u : List ℕ} {n m needs : ℕ} → Kept 49152 t u → Ready s t n m needs → Ready s u n m needs
+pub ready-kept : {s t u : List ℕ} {c : Log} → Kept 49152 t u → Ready s t c → Ready s u c
 unfolding lineOf positionOf
-ready-kept {s} {t} {u} {n} {m} k x =
+ready-kept {s} {t} {u} k x =
     let at : (j : ℕ) → j < 49152 → getD u j 0 ≡ getD t j 0 = λ j h. kept-at k j h in
     let low : (q : ℕ) → q < length (sheetSource s .needs) → q < 128 = λ q h. omega (arith, x .table .few) in
     let line : (q : ℕ) → q < length (sheetSource s .needs) → lineOf u q ≡ lineOf t q = λ q h. rw (at (10240 + q) (omega (arith, low q h)), at (10368 + q) (omega (arith, low q h))) in
@@ -63,17 +60,13 @@ ready-kept {s} {t} {u} {n} {m} k x =
         key = λ q h. rw (line q h) (x .table .key q h);
         position = λ q h. at (10496 + q) (omega (arith, low q h)) ∙ x .table .position q h;
       };
-      count = x .count;
     }
 
-module _ (s t : List ℕ) (n m needs : ℕ) (x : Ready s t n m needs) (q : ℕ) (h : q < needs) where
+module _ (s t : List ℕ) (c : Log) (x : Ready s t c) (q : ℕ) (low : q < length (sheetSource s .needs)) where
   k : TypeKey
   k = getD (sheetSource s .needs) q opaqueKey
 
-  low : q < length (sheetSource s .needs)
-  low = omega (arith, x .count)
-
-  pub need-at : NeedLine s t n (lineOf t q)
+  pub need-at : NeedLine s t (c .lines) (lineOf t q)
   need-at = record { checked = x .log .checked; within = x .table .within q low; kind = x .table .kind q low }
 
   pub need-low : q < 128

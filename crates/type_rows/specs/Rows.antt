@@ -10,7 +10,8 @@ use Rattle.semantics.specs.Types.{distinct, keyShape}
 use Rattle.semantics.specs.Listing.{typeRows}
 use Rattle.records.specs.Log.{logOf, Logged}
 use Rattle.type_keys.specs.Table.{Needs}
-use Rattle.type_rows.specs.declared.Next.{Next}
+use Rattle.records.specs.declared.key.Log.{Log}
+use Rattle.type_row.specs.declared.Next.{Next}
 use Rattle.checks.specs.Checks.{Kept}
 use Rattle.write.specs.Wrote.{Wrote}
 
@@ -28,8 +29,7 @@ keysTo s q = distinct [] (take q (sheetSource s .needs))
 abbrev pub shapesOf : Bytes → List TypeKey → List Shape
 shapesOf s ks = map (keyShape (logOf s)) ks
 
--- the tables of a checked sheet that rows are made from: m records, and the needs
-pub record Ready (s t : Bytes) (n m needs : ℕ) : Type 0 where
-  pub log : Logged s t n m
-  pub table : Needs s t n (sheetSource s .needs)
-  pub count : needs ≡ length (sheetSource s .needs)
+-- the tables of a checked sheet that rows are made from: the records, and the needs
+pub record Ready (s t : Bytes) (c : Log) : Type 0 where
+  pub log : Logged s t (c .lines) (c .entries)
+  pub table : Needs s t (c .lines) (sheetSource s .needs)

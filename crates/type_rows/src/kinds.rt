@@ -1,6 +1,6 @@
 // The rows of array elements that no need asked for.
-use crate::Next;
 use type_keys::kind_position;
+use type_row::Next;
 use type_row::put_elem;
 ghost use mathlib.Core.Path.{_≡_};
 ghost use mathlib.Core.List.{List, [], _++_};
@@ -36,12 +36,10 @@ pub fn kind_rows(work: &mut [u8], base: usize, keys: usize, out: &mut [u8], p: N
     ensures { λ r. ⌜ ((s : Bytes) (ls : List TypeKey) (is : List Item) → p .id ≡ base + length (distinct [] ls) → Kinds (now (work .entry)) (ls ++ concatMap arrayKey is) keys → Wrotes (shapesOf s (drop (length (distinct [] ls)) (distinct [] (ls ++ concatMap arrayKey is)))) p r (now (work .entry)) (now (work .exit)) (now (out .entry)) (now (out .exit))) × (Kept 49152 (now (work .entry)) (now (work .exit))) ⌝ }
 {
     let end = base + keys;
-    let mut at = p.at;
-    let mut id = p.id;
-    while id < end {
-        let kind = kind_at(work, id - base + 1);
-        at = put_elem(work, id, kind, out, at);
-        id += 1;
+    let mut r = p;
+    while r.id < end {
+        let kind = kind_at(work, r.id - base + 1);
+        r = put_elem(work, kind, out, r);
     }
-    Next { at: at, id: id }
+    r
 }

@@ -3,6 +3,8 @@ pub mod kinds;
 pub mod record;
 
 use codes::need;
+use records::key::Log;
+use type_row::Next;
 ghost use mathlib.Core.Path.{_≡_};
 ghost use mathlib.Core.List.{List, [], _∷_, _++_};
 ghost use Prim.Native.Nat.{_+_, _≤_, _<_};
@@ -19,23 +21,23 @@ ghost use Rattle.lines.specs.Lines.{nodesIn};
 ghost use Rattle.records.specs.Log.{logOf, Logged};
 ghost use Rattle.type_lines.specs.Needs.{needAt, NeedLine};
 ghost use Rattle.type_keys.specs.Table.{Kinds};
-ghost use Rattle.type_rows.specs.declared.Next.{Next};
+ghost use Rattle.type_row.specs.declared.Next.{Next};
 ghost use Rattle.type_row.specs.Row.{Rowed};
 ghost use Rattle.type_rows.specs.Rows.{Wrotes, keysTo, shapesOf, Ready};
 
-// Where the next row goes, and its ID.
-pub struct Next {
-    pub at: usize,
-    pub id: usize,
+// How many needs there are, and how many keys: those of needs, then those of array elements.
+pub struct Keys {
+    pub needs: usize,
+    pub keys: usize,
 }
 
 // Two opaque records.
-fn opaque_rows(work: &mut [u8], out: &mut [u8], at: usize) -> usize
+fn opaque_rows(work: &mut [u8], out: &mut [u8], at: usize) -> Next
     requires { ⌜ 65536 ≤ length (now work) ⌝ }
-    ensures { λ r. ⌜ (Wrote (now (out .entry)) at (typeRows 0 (opaqueShape ∷ opaqueShape ∷ [])) (now (out .exit)) r) × (Kept 49152 (now (work .entry)) (now (work .exit))) ⌝ }
+    ensures { λ q. ⌜ Wrotes (opaqueShape ∷ opaqueShape ∷ []) (record { at = at; id = 0 }) q (now (work .entry)) (now (work .exit)) (now (out .entry)) (now (out .exit)) ⌝ }
 {
-    let p = type_row::put_opaque(work, 0, out, at);
-    type_row::put_opaque(work, 1, out, p)
+    let p = type_row::put_opaque(work, out, Next { at: at, id: 0 });
+    type_row::put_opaque(work, out, p)
 }
 
 // ---- frames
@@ -46,19 +48,17 @@ fn next_frame(sheet: &[u8], work: &mut [u8], n: usize, i: usize, out: &mut [u8],
     ensures { λ q. ⌜ Wrotes (declaresAt (nodesIn (now (sheet .entry))) i .frames) r q (now (work .entry)) (now (work .exit)) (now (out .entry)) (now (out .exit)) ⌝ }
 {
     if type_lines::frame::is_frame(sheet, work, n, i) {
-        let id = r.id;
-        let at = type_row::put_line(sheet, work, n, i, id, out, r.at);
-        return Next { at: at, id: id + 1 };
+        return type_row::put_line(sheet, work, n, i, out, r);
     }
     r
 }
 
 // Frames are never shared.
-fn frame_rows(sheet: &[u8], work: &mut [u8], n: usize, out: &mut [u8], at: usize) -> Next
-    requires { ⌜ (Checked (now sheet) (now work) n) × (at ≤ length (now out) + 1) ⌝ }
-    ensures { λ q. ⌜ Wrotes (sheetSource (now (sheet .entry)) .frames) (record { at = at; id = 2 }) q (now (work .entry)) (now (work .exit)) (now (out .entry)) (now (out .exit)) ⌝ }
+fn frame_rows(sheet: &[u8], work: &mut [u8], n: usize, out: &mut [u8], p: Next) -> Next
+    requires { ⌜ (Checked (now sheet) (now work) n) × (p .id ≤ 2) × (p .at ≤ length (now out) + 1) ⌝ }
+    ensures { λ q. ⌜ Wrotes (sheetSource (now (sheet .entry)) .frames) p q (now (work .entry)) (now (work .exit)) (now (out .entry)) (now (out .exit)) ⌝ }
 {
-    let mut r = Next { at: at, id: 2 };
+    let mut r = p;
     let mut i = 0;
     while i < n {
         r = next_frame(sheet, work, n, i, out, r);
@@ -70,74 +70,53 @@ fn frame_rows(sheet: &[u8], work: &mut [u8], n: usize, out: &mut [u8], at: usize
 // ---- needs
 
 // The row of what the `need` line i asks for.
-fn put_need(
-    sheet: &[u8],
-    work: &mut [u8],
-    n: usize,
-    m: usize,
-    i: usize,
-    id: usize,
-    out: &mut [u8],
-    at: usize,
-) -> usize
-    requires { ⌜ (Logged (now sheet) (now work) n m) × (NeedLine (now sheet) (now work) n i) ⌝ }
-    ensures { λ r. ⌜ Rowed id (keyShape (logOf (now (sheet .entry))) (needAt (now (sheet .entry)) i)) (now (work .entry)) (now (work .exit)) (now (out .entry)) at (now (out .exit)) r ⌝ }
+fn put_need(sheet: &[u8], work: &mut [u8], c: Log, i: usize, out: &mut [u8], p: Next) -> Next
+    requires { ⌜ (Logged (now sheet) (now work) (c .lines) (c .entries)) × (NeedLine (now sheet) (now work) (c .lines) i) × (p .id < 2048) ⌝ }
+    ensures { λ q. ⌜ Rowed (keyShape (logOf (now (sheet .entry))) (needAt (now (sheet .entry)) i)) p q (now (work .entry)) (now (work .exit)) (now (out .entry)) (now (out .exit)) ⌝ }
 {
     let f = lines::form_at(work, i);
     if f == need::ADT {
-        return record::put_record(sheet, work, n, m, i, id, out, at);
+        return record::put_record(sheet, work, c, i, out, p);
     }
     if f == need::BLOCK {
-        return type_row::put_line(sheet, work, n, i, id, out, at);
+        return type_row::put_line(sheet, work, c.lines, i, out, p);
     }
     if f == need::OPAQUE {
-        return type_row::put_opaque(work, id, out, at);
+        return type_row::put_opaque(work, out, p);
     }
-    type_row::put_elem(work, id, type_lines::kind_needed(f), out, at)
+    type_row::put_elem(work, type_lines::kind_needed(f), out, p)
 }
 
 // The row of need q, where its key is new; `base` is the ID of the first key.
 fn next_need(
     sheet: &[u8],
     work: &mut [u8],
-    n: usize,
-    m: usize,
-    needs: usize,
+    c: Log,
     q: usize,
     base: usize,
     out: &mut [u8],
     r: Next,
 ) -> Next
-    requires { ⌜ (Ready (now sheet) (now work) n m needs) × (q < needs) × (base < 1024) × (r .id ≡ base + length (keysTo (now sheet) q)) × (r .at ≤ length (now out) + 1) ⌝ }
+    requires { ⌜ (Ready (now sheet) (now work) c) × (q < length (sheetSource (now sheet) .needs)) × (base < 1024) × (r .id ≡ base + length (keysTo (now sheet) q)) × (r .at ≤ length (now out) + 1) ⌝ }
     ensures { λ z. ⌜ ((p : Next) (t d : Bytes) → Wrotes (shapesOf (now (sheet .entry)) (keysTo (now (sheet .entry)) q)) p r t (now (work .entry)) d (now (out .entry)) → Wrotes (shapesOf (now (sheet .entry)) (keysTo (now (sheet .entry)) (q + 1))) p z t (now (work .exit)) d (now (out .exit))) × (z .id ≡ base + length (keysTo (now (sheet .entry)) (q + 1))) ⌝ }
 {
-    let id = r.id;
-    if base + type_keys::need_position(work, q) != id {
+    if base + type_keys::need_position(work, q) != r.id {
         return r;
     }
     let i = type_keys::need_line(work, q);
-    let at = put_need(sheet, work, n, m, i, id, out, r.at);
-    Next { at: at, id: id + 1 }
+    put_need(sheet, work, c, i, out, r)
 }
 
 // Each key of a need once, where it first comes.
-fn need_rows(
-    sheet: &[u8],
-    work: &mut [u8],
-    n: usize,
-    m: usize,
-    needs: usize,
-    out: &mut [u8],
-    p: Next,
-) -> Next
-    requires { ⌜ (Ready (now sheet) (now work) n m needs) × (p .id < 1024) × (p .at ≤ length (now out) + 1) ⌝ }
+fn need_rows(sheet: &[u8], work: &mut [u8], c: Log, needs: usize, out: &mut [u8], p: Next) -> Next
+    requires { ⌜ (Ready (now sheet) (now work) c) × (needs ≡ length (sheetSource (now sheet) .needs)) × (p .id < 1024) × (p .at ≤ length (now out) + 1) ⌝ }
     ensures { λ r. ⌜ Wrotes (shapesOf (now (sheet .entry)) (distinct [] (sheetSource (now (sheet .entry)) .needs))) p r (now (work .entry)) (now (work .exit)) (now (out .entry)) (now (out .exit)) ⌝ }
 {
     let base = p.id;
     let mut r = p;
     let mut q = 0;
     while q < needs {
-        r = next_need(sheet, work, n, m, needs, q, base, out, r);
+        r = next_need(sheet, work, c, q, base, out, r);
         q += 1;
     }
     r
@@ -145,24 +124,15 @@ fn need_rows(
 
 // ---- all types
 
-// Two opaque records, the frames, and the keys: those of needs, then those of array elements, which are entered before.
-pub fn type_rows(
-    sheet: &[u8],
-    work: &mut [u8],
-    n: usize,
-    m: usize,
-    needs: usize,
-    keys: usize,
-    out: &mut [u8],
-    at: usize,
-) -> usize
-    requires { ⌜ (Ready (now sheet) (now work) n m needs) × (keys < 1024) × (at ≤ length (now out) + 1) ⌝ }
-    ensures { λ r. ⌜ ((is : List Item) → Kinds (now (work .entry)) (sheetSource (now (sheet .entry)) .needs ++ concatMap arrayKey is) keys → Wrote (now (out .entry)) at (typeRows 0 (descriptors (sheetSource (now (sheet .entry))) is)) (now (out .exit)) r) × (Kept 49152 (now (work .entry)) (now (work .exit))) ⌝ }
+// Two opaque records, the frames, and the keys, those of array elements, which are entered before, last.
+pub fn type_rows(sheet: &[u8], work: &mut [u8], c: Log, k: Keys, out: &mut [u8], at: usize) -> usize
+    requires { ⌜ (Ready (now sheet) (now work) c) × (k .needs ≡ length (sheetSource (now sheet) .needs)) × (k .keys < 1024) × (at ≤ length (now out) + 1) ⌝ }
+    ensures { λ r. ⌜ ((is : List Item) → Kinds (now (work .entry)) (sheetSource (now (sheet .entry)) .needs ++ concatMap arrayKey is) (k .keys) → Wrote (now (out .entry)) at (typeRows 0 (descriptors (sheetSource (now (sheet .entry))) is)) (now (out .exit)) r) × (Kept 49152 (now (work .entry)) (now (work .exit))) ⌝ }
 {
     let p = opaque_rows(work, out, at);
-    let f = frame_rows(sheet, work, n, out, p);
+    let f = frame_rows(sheet, work, c.lines, out, p);
     let base = f.id;
-    let r = need_rows(sheet, work, n, m, needs, out, f);
-    let z = kinds::kind_rows(work, base, keys, out, r);
+    let r = need_rows(sheet, work, c, k.needs, out, f);
+    let z = kinds::kind_rows(work, base, k.keys, out, r);
     z.at
 }

@@ -2,7 +2,7 @@
 ghost use mathlib.Core.List.{List, _∷_, []};
 ghost use Prim.Native.Nat.{_+_, _≤_};
 ghost use lib.ListN.{length};
-ghost use Rattle.semantics.specs.Text.{bytes, decimal};
+ghost use Rattle.semantics.specs.Text.{Bytes, bytes, decimal};
 ghost use Rattle.semantics.specs.Sheet.{sheetSource, concatMap};
 ghost use Rattle.semantics.specs.Global.{Item};
 ghost use Rattle.semantics.specs.Types.{idOf};
@@ -19,17 +19,9 @@ fn put_use(out: &mut [u8], at: usize, id: usize) -> usize
 }
 
 // The ID of what each `need` line asks for, whatever arrays there are.
-pub fn use_rows(
-    sheet: &[u8],
-    work: &[u8],
-    n: usize,
-    needs: usize,
-    frames: usize,
-    out: &mut [u8],
-    at: usize,
-) -> usize
-    requires { ⌜ (NeedIds (now sheet) (now work) n needs frames) × (at ≤ length (now out) + 1) ⌝ }
-    ensures { λ r. ⌜ ((is : List Item) → Wrote (now (out .entry)) at (concatMap (useRow (idOf (sheetSource (now (sheet .entry))) is)) (sheetSource (now (sheet .entry)) .needs)) (now (out .exit)) r) ⌝ }
+pub fn use_rows(work: &[u8], needs: usize, frames: usize, out: &mut [u8], at: usize) -> usize
+    requires { ⌜ (needs ≤ 128) × (frames ≤ 128) × (65536 ≤ length (now work)) × (at ≤ length (now out) + 1) ⌝ }
+    ensures { λ r. ⌜ ((s : Bytes) (is : List Item) → NeedIds s (now (work .entry)) needs frames → Wrote (now (out .entry)) at (concatMap (useRow (idOf (sheetSource s) is)) (sheetSource s .needs)) (now (out .exit)) r) ⌝ }
 {
     let mut p = at;
     let mut q = 0;

@@ -27,7 +27,7 @@ unfolding entriesFrom
 loop-holds c = (search needs, refl, c .nothing .ensures)
 
 global-row-requires : tie.Need-global-row-requires Inv-loop μ-loop
-global-row-requires c κs = (c .before .before .before .before .before .before .before .before .pre, c .before .loop-test .taken)
+global-row-requires c κs = c .before .before .before .before .before .before .before .before .pre .entries _ (c .before .loop-test .taken)
 
 loop-again : tie.Need-loop-again Inv-loop μ-loop
 loop-again c =

@@ -6,7 +6,7 @@ use Rattle.global_table.proofs.is_named.Statement.{statement}
 use Rattle.global_table.proofs.is_named.Tie as tie
 
 returns : tie.Need-returns
-returns c = named-apart (now (c .before .before .before .before .before .args .name)) (c .before .before .before .before .before .pre .0) (c .before .before .before .before .before .pre .1) (c .before .before .before .before .before .pre .2) (λ e. c .if1 .taken (c .before .digest-of .ensures ∙ e))
+returns c = named-apart (now (c .before .before .before .before .before .args .name)) (c .before .before .before .before .before .pre .0) (c .before .before .before .before .before .pre .1) (λ e. c .if1 .taken (c .before .digest-of .ensures ∙ e))
 
 returns-2 : tie.Need-returns-2
 returns-2 c = c .same .ensures ∙ rw (c .before .name-of .ensures)

@@ -8,12 +8,12 @@ use Rattle.global_table.proofs.name_of.Statement.{statement}
 use Rattle.global_table.proofs.name_of.Tie as tie
 
 sub-field-at : tie.Need-sub-field-at
-sub-field-at c = rw (c .line-of .ensures) (c .before .before .before .pre .0 .each (c .before .before .before .args .i) (c .before .before .before .pre .1) .first)
+sub-field-at c = rw (c .line-of .ensures) (c .before .before .before .pre .line .first)
 
 field-at-requires : tie.Need-field-at-requires
 field-at-requires c κs =
     let a = c .before .before .before .before .args in
-    (c .before .before .before .before .pre .0 .checked .whole, rw (c .before .line-of .ensures) (var-in (now (a .sheet)) (now (a .work)) (a .n) _ (c .before .before .before .before .pre .0 .each (a .i) (c .before .before .before .before .pre .1))))
+    (c .before .before .before .before .pre .line .checked .whole, rw (c .before .line-of .ensures) (var-in (now (a .sheet)) (now (a .work)) (a .n) _ (c .before .before .before .before .pre .line)))
 
 returns : tie.Need-returns
 unfolding entryAt

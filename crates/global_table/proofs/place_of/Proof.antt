@@ -1,17 +1,13 @@
 -- `global_table::place_of` meets its contract.
-use native.Mathlib.Omega.{arith}
-use Prim.Native.Nat.{_-_, _≤_}
-use mathlib.Core.Path.{_≡_}
+use Prim.Native.Nat.{_-_}
 use borrow.Author.Needs.{needs}
 use denote.Ref.{now}
-use Rattle.semantics.specs.Global.{placeOf}
-use Rattle.global_table.proofs.Table.{place-start, place-found, place-next, place-end}
-use Rattle.global_table.specs.Table.{placesIn, entriesFrom}
+use Rattle.global_table.proofs.Table.{Searching, search-start, search-found, search-next, search-end}
 use Rattle.global_table.proofs.place_of.Statement.{statement}
 use Rattle.global_table.proofs.place_of.Tie as tie
 
 abbrev Inv-loop : tie.InvT-loop
-Inv-loop sheet work n g name d i₀ i = (i ≤ g) × (placeOf name (placesIn sheet work g) ≡ placeOf name (entriesFrom sheet work i (g - i)))
+Inv-loop sheet work n g name d i₀ i = Searching sheet work g name i
 
 abbrev μ-loop : tie.MeasureT-loop
 μ-loop sheet work n g name d i₀ i = g - i
@@ -19,25 +15,25 @@ abbrev μ-loop : tie.MeasureT-loop
 loop-holds : tie.Need-loop-holds Inv-loop μ-loop
 loop-holds c =
     let a = c .before .before .before .before .args in
-    (search needs, place-start (now (a .sheet)) (now (a .work)) (a .g) (now (a .name)))
+    search-start (now (a .sheet)) (now (a .work)) (a .g) (now (a .name))
 
 is-named-requires : tie.Need-is-named-requires Inv-loop μ-loop
-is-named-requires c κs = (c .before .before .before .before .before .before .pre, c .loop-test .taken, c .before .before .digest .ensures .0)
+is-named-requires c κs = (c .before .before .before .before .before .before .pre .entries _ (c .loop-test .taken), c .before .before .digest .ensures .0)
 
 returns : tie.Need-returns Inv-loop μ-loop
 returns c =
     let a = c .before .before .before .before .before .before .before .before .args in
-    (place-found (now (a .sheet)) (now (a .work)) (a .g) (now (a .name)) (c .before .before .before .loop .i) (c .before .before .loop-test .taken) _ (c .before .is-named .ensures) (c .before .before .before .loop .inv .1) (c .if1 .taken), omega arith)
+    search-found (now (a .sheet)) (now (a .work)) (a .g) (now (a .name)) (c .before .before .before .loop .i) (c .before .before .before .loop .inv) (c .before .before .loop-test .taken) _ (c .before .is-named .ensures) (c .if1 .taken)
 
 loop-again : tie.Need-loop-again Inv-loop μ-loop
 loop-again c =
     let a = c .before .before .before .before .before .before .before .before .args in
-    (search needs, place-next (now (a .sheet)) (now (a .work)) (a .g) (now (a .name)) (c .before .before .before .loop .i) (c .before .before .loop-test .taken) _ (c .before .is-named .ensures) (c .before .before .before .loop .inv .1) (c .if1 .left))
+    search-next (now (a .sheet)) (now (a .work)) (a .g) (now (a .name)) (c .before .before .before .loop .i) (c .before .before .before .loop .inv) (c .before .before .loop-test .taken) _ (c .before .is-named .ensures) (c .if1 .left)
 
 returns-2 : tie.Need-returns-2 Inv-loop μ-loop
 returns-2 c =
     let a = c .before .before .before .before .before .before .args in
-    (place-end (now (a .sheet)) (now (a .work)) (a .g) (now (a .name)) (c .before .loop .i) (c .loop-test .left) (c .before .loop .inv .1), omega arith)
+    search-end (now (a .sheet)) (now (a .work)) (a .g) (now (a .name)) (c .before .loop .i) (c .before .loop .inv) (c .loop-test .left)
 
 pub place-of-spec : {M : Type 1} → statement M
 place-of-spec =

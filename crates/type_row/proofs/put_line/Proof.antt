@@ -9,13 +9,13 @@ use Rattle.type_row.proofs.put_line.Statement.{statement}
 use Rattle.type_row.proofs.put_line.Tie as tie
 
 map-line-requires : tie.Need-map-line-requires
-map-line-requires c κs = (c .before .before .before .before .before .before .pre, record { room = c .before .before .before .before .before .before .pre .checked .whole .room; small = omega (arith, c .before .size-at .ensures .1) })
+map-line-requires c κs = (c .before .before .before .before .before .before .pre .0, record { room = c .before .before .before .before .before .before .pre .0 .checked .whole .room; small = omega (arith, c .before .size-at .ensures .1) })
 
 put-type-requires : tie.Need-put-type-requires
-put-type-requires c κs = room-kept (c .before .before .before .before .map-line .ensures .kept) (record { room = c .before .before .before .before .before .before .before .before .before .before .before .pre .checked .whole .room; small = omega (arith, c .before .before .before .before .before .before .size-at .ensures .1) })
+put-type-requires c κs = (room-kept (c .before .before .before .before .map-line .ensures .kept) (record { room = c .before .before .before .before .before .before .before .before .before .before .before .pre .0 .checked .whole .room; small = omega (arith, c .before .before .before .before .before .before .size-at .ensures .1) }), c .before .before .before .before .before .before .before .before .before .before .before .pre .1)
 
 returns : tie.Need-returns
-returns c = rowed-as (shape-is (shapeAt (now (c .before .before .before .before .before .before .before .before .before .before .before .before .before .before .args .sheet)) (c .before .before .before .before .before .before .before .before .before .before .before .before .before .before .args .i)) (c .before .before .before .before .before .before .before .before .before .size-at .result) (shapeAt (now (c .before .before .before .before .before .before .before .before .before .before .before .before .before .before .args .sheet)) (c .before .before .before .before .before .before .before .before .before .before .before .before .before .before .args .i) .pointers) (c .before .before .before .before .before .before .before .before .before .size-at .ensures .0) refl) (record { wrote = c .before .before .put-type .ensures _ (c .before .before .before .before .before .before .before .map-line .ensures .map); kept = c .before .before .before .before .before .before .before .map-line .ensures .kept })
+returns c = rowed-as (shape-is (shapeAt (now (c .before .before .before .before .before .before .before .before .before .before .before .before .before .before .args .sheet)) (c .before .before .before .before .before .before .before .before .before .before .before .before .before .before .args .i)) (c .before .before .before .before .before .before .before .before .before .size-at .result) (shapeAt (now (c .before .before .before .before .before .before .before .before .before .before .before .before .before .before .args .sheet)) (c .before .before .before .before .before .before .before .before .before .before .before .before .before .before .args .i) .pointers) (c .before .before .before .before .before .before .before .before .before .size-at .ensures .0) refl) (record { wrote = c .before .before .put-type .ensures .0 _ (c .before .before .before .before .before .before .before .map-line .ensures .map); id = c .before .before .put-type .ensures .1; kept = c .before .before .before .before .before .before .before .map-line .ensures .kept })
 
 pub put-line-spec : {M : Type 1} → statement M
 put-line-spec =

@@ -7,7 +7,7 @@ use Rattle.type_row.proofs.put_opaque.Statement.{statement}
 use Rattle.type_row.proofs.put_opaque.Tie as tie
 
 put-words-requires : tie.Need-put-words-requires
-put-words-requires c κs = (record { room = c .before .before .before .before .pre; small = omega arith }, omega arith)
+put-words-requires c κs = (record { room = c .before .before .before .before .pre .0; small = omega arith }, omega arith, c .before .before .before .before .pre .1)
 
 returns : tie.Need-returns
 returns c = rowed-as (shape-is opaqueShape 48 (words 12) opaque-size opaque-words) (c .before .before .before .before .put-words .ensures)

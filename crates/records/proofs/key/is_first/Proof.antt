@@ -11,31 +11,31 @@ use Rattle.records.proofs.key.is_first.Statement.{statement}
 use Rattle.records.proofs.key.is_first.Tie as tie
 
 abbrev Inv-loop : tie.InvT-loop
-Inv-loop sheet work n m i j₀ j = (j ≤ i) × (seen (recordedAt sheet work i .key) (take i (logOf sheet)) ≡ seen (recordedAt sheet work i .key) (drop j (take i (logOf sheet))))
+Inv-loop sheet work n i j₀ j = (j ≤ i) × (seen (recordedAt sheet work i .key) (take i (logOf sheet)) ≡ seen (recordedAt sheet work i .key) (drop j (take i (logOf sheet))))
 
 abbrev μ-loop : tie.MeasureT-loop
-μ-loop sheet work n m i j₀ j = i - j
+μ-loop sheet work n i j₀ j = i - j
 
 loop-holds : tie.Need-loop-holds Inv-loop μ-loop
 loop-holds c = (omega arith, refl)
 
 same-key-requires : tie.Need-same-key-requires Inv-loop μ-loop
 same-key-requires c κs =
-    let g = c .before .before .before .before .pre .0 in
-    let h : c .before .loop .j < c .before .before .before .before .args .m = omega (arith, c .before .before .before .before .pre .1, c .loop-test .taken) in
-    (g .entries _ (c .before .before .before .before .pre .1), g .entries _ h, g .digests _ (c .before .before .before .before .pre .1), g .digests _ h)
+    let g = c .before .before .before .before .pre .log in
+    let h : c .before .loop .j < c .before .before .before .before .pre .m = omega (arith, c .before .before .before .before .pre .low, c .loop-test .taken) in
+    (g .entries _ (c .before .before .before .before .pre .low), g .entries _ h, g .digests _ (c .before .before .before .before .pre .low), g .digests _ h)
 
 returns : tie.Need-returns Inv-loop μ-loop
-returns c = seen-found (now (c .before .before .before .before .before .before .args .sheet)) (now (c .before .before .before .before .before .before .args .work)) (c .before .before .before .before .before .before .args .n) (c .before .before .before .before .before .before .args .m) (c .before .before .before .before .before .before .pre .0) (recordedAt (now (c .before .before .before .before .before .before .args .sheet)) (now (c .before .before .before .before .before .before .args .work)) (c .before .before .before .before .before .before .args .i) .key) (c .before .before .before .before .before .before .args .i) (c .before .before .before .loop .j) (c .before .before .before .before .before .before .pre .1) (c .before .before .loop-test .taken) (c .before .before .before .loop .inv .1) (c .before .same-key .ensures) (c .if1 .taken)
+returns c = seen-found (now (c .before .before .before .before .before .before .args .sheet)) (now (c .before .before .before .before .before .before .args .work)) (c .before .before .before .before .before .before .args .n) (c .before .before .before .before .before .before .pre .m) (c .before .before .before .before .before .before .pre .log) (recordedAt (now (c .before .before .before .before .before .before .args .sheet)) (now (c .before .before .before .before .before .before .args .work)) (c .before .before .before .before .before .before .args .i) .key) (c .before .before .before .before .before .before .args .i) (c .before .before .before .loop .j) (c .before .before .before .before .before .before .pre .low) (c .before .before .loop-test .taken) (c .before .before .before .loop .inv .1) (c .before .same-key .ensures) (c .if1 .taken)
 
 loop-less : tie.Need-loop-less Inv-loop μ-loop
 loop-less c = omega (arith, c .before .before .loop-test .taken)
 
 loop-again : tie.Need-loop-again Inv-loop μ-loop
-loop-again c = (omega (arith, c .before .before .loop-test .taken), seen-next (now (c .before .before .before .before .before .before .args .sheet)) (now (c .before .before .before .before .before .before .args .work)) (c .before .before .before .before .before .before .args .n) (c .before .before .before .before .before .before .args .m) (c .before .before .before .before .before .before .pre .0) (recordedAt (now (c .before .before .before .before .before .before .args .sheet)) (now (c .before .before .before .before .before .before .args .work)) (c .before .before .before .before .before .before .args .i) .key) (c .before .before .before .before .before .before .args .i) (c .before .before .before .loop .j) (c .before .before .before .before .before .before .pre .1) (c .before .before .loop-test .taken) (c .before .before .before .loop .inv .1) (c .before .same-key .ensures) (c .if1 .left))
+loop-again c = (omega (arith, c .before .before .loop-test .taken), seen-next (now (c .before .before .before .before .before .before .args .sheet)) (now (c .before .before .before .before .before .before .args .work)) (c .before .before .before .before .before .before .args .n) (c .before .before .before .before .before .before .pre .m) (c .before .before .before .before .before .before .pre .log) (recordedAt (now (c .before .before .before .before .before .before .args .sheet)) (now (c .before .before .before .before .before .before .args .work)) (c .before .before .before .before .before .before .args .i) .key) (c .before .before .before .before .before .before .args .i) (c .before .before .before .loop .j) (c .before .before .before .before .before .before .pre .low) (c .before .before .loop-test .taken) (c .before .before .before .loop .inv .1) (c .before .same-key .ensures) (c .if1 .left))
 
 returns-2 : tie.Need-returns-2 Inv-loop μ-loop
-returns-2 c = seen-none (now (c .before .before .before .before .args .sheet)) (now (c .before .before .before .before .args .work)) (c .before .before .before .before .args .n) (c .before .before .before .before .args .m) (c .before .before .before .before .pre .0) (recordedAt (now (c .before .before .before .before .args .sheet)) (now (c .before .before .before .before .args .work)) (c .before .before .before .before .args .i) .key) (c .before .before .before .before .args .i) (c .before .loop .j) (c .before .before .before .before .pre .1) (c .loop-test .left) (c .before .loop .inv .1)
+returns-2 c = seen-none (now (c .before .before .before .before .args .sheet)) (now (c .before .before .before .before .args .work)) (c .before .before .before .before .args .n) (c .before .before .before .before .pre .m) (c .before .before .before .before .pre .log) (recordedAt (now (c .before .before .before .before .args .sheet)) (now (c .before .before .before .before .args .work)) (c .before .before .before .before .args .i) .key) (c .before .before .before .before .args .i) (c .before .loop .j) (c .before .before .before .before .pre .low) (c .loop-test .left) (c .before .loop .inv .1)
 
 pub is-first-spec : {M : Type 1} → statement M
 is-first-spec =

@@ -8,13 +8,13 @@ use Rattle.type_rows.proofs.record.put_entry.Statement.{statement}
 use Rattle.type_rows.proofs.record.put_entry.Tie as tie
 
 map-entry-requires : tie.Need-map-entry-requires
-map-entry-requires c κs = (c .before .before .before .before .before .before .pre .log .entries (c .before .before .before .before .before .before .args .e) (c .before .before .before .before .before .before .pre .low), record { room = c .before .before .before .before .before .before .pre .log .checked .whole .room; small = c .before .entry-size .ensures .1 })
+map-entry-requires c κs = (c .before .before .before .before .before .before .pre .0 .log .entries (c .before .before .before .before .before .before .args .e) (c .before .before .before .before .before .before .pre .0 .low), record { room = c .before .before .before .before .before .before .pre .0 .log .checked .whole .room; small = c .before .entry-size .ensures .1 })
 
 put-type-requires : tie.Need-put-type-requires
-put-type-requires c κs = room-kept (c .before .before .before .before .map-entry .ensures .kept) (record { room = c .before .before .before .before .before .before .before .before .before .before .before .pre .log .checked .whole .room; small = c .before .before .before .before .before .before .entry-size .ensures .1 })
+put-type-requires c κs = (room-kept (c .before .before .before .before .map-entry .ensures .kept) (record { room = c .before .before .before .before .before .before .before .before .before .before .before .pre .0 .log .checked .whole .room; small = c .before .before .before .before .before .before .entry-size .ensures .1 }), c .before .before .before .before .before .before .before .before .before .before .before .pre .1)
 
 returns : tie.Need-returns
-returns c = rowed-as (shape-is (recordedAt (now (c .before .before .before .before .before .before .before .before .before .before .before .before .before .before .args .sheet)) (now (c .before .before .before .before .before .before .before .before .before .before .before .before .before .before .args .work)) (c .before .before .before .before .before .before .before .before .before .before .before .before .before .before .args .e) .shape) (c .before .before .before .before .before .before .before .before .before .entry-size .result) (recordedAt (now (c .before .before .before .before .before .before .before .before .before .before .before .before .before .before .args .sheet)) (now (c .before .before .before .before .before .before .before .before .before .before .before .before .before .before .args .work)) (c .before .before .before .before .before .before .before .before .before .before .before .before .before .before .args .e) .shape .pointers) (c .before .before .before .before .before .before .before .before .before .entry-size .ensures .0) refl) (record { wrote = c .before .before .put-type .ensures _ (c .before .before .before .before .before .before .before .map-entry .ensures .map); kept = c .before .before .before .before .before .before .before .map-entry .ensures .kept })
+returns c = rowed-as (shape-is (recordedAt (now (c .before .before .before .before .before .before .before .before .before .before .before .before .before .before .args .sheet)) (now (c .before .before .before .before .before .before .before .before .before .before .before .before .before .before .args .work)) (c .before .before .before .before .before .before .before .before .before .before .before .before .before .before .args .e) .shape) (c .before .before .before .before .before .before .before .before .before .entry-size .result) (recordedAt (now (c .before .before .before .before .before .before .before .before .before .before .before .before .before .before .args .sheet)) (now (c .before .before .before .before .before .before .before .before .before .before .before .before .before .before .args .work)) (c .before .before .before .before .before .before .before .before .before .before .before .before .before .before .args .e) .shape .pointers) (c .before .before .before .before .before .before .before .before .before .entry-size .ensures .0) refl) (record { wrote = c .before .before .put-type .ensures .0 _ (c .before .before .before .before .before .before .before .map-entry .ensures .map); id = c .before .before .put-type .ensures .1; kept = c .before .before .before .before .before .before .before .map-entry .ensures .kept })
 
 pub put-entry-spec : {M : Type 1} → statement M
 put-entry-spec =
