@@ -88,7 +88,6 @@ module _ {s t : Bytes} {n declared r : ℕ} (k : AllocLine s t n declared r) whe
     pub alloc-answers : {m kind : ℕ} → kind ≡ kindNumber (elemKind (allocType s declared r)) → {u : Bytes} {x : Folded} → Folds s t m 0 q 49152 u x
         → (y : Arrayed) → arrayedIn u y ≡ bind (resultIn u x) (allocated (kindAt kind)) → Stands u y → Answers t (constArray (namesIn s t m) (typeOf s declared) (exAt s r)) y u
     alloc-answers {m} {kind} e {u} {x} g y h st = record {
-      result = rw (folds-to g, e, kind-back (elemKind (allocType s declared r))) at h ∙ sym (rw (alloc-is, ← length-line .0));
-      stands = st;
+      array = record { result = rw (folds-to g, e, kind-back (elemKind (allocType s declared r))) at h ∙ sym (rw (alloc-is, ← length-line .0)); stands = st };
       keeps = keeps-less (omega arith) (omega arith) (keeps-kept {a = 0} (omega arith) (g .kept));
     }

@@ -162,7 +162,7 @@ module _ {s t u : Bytes} {n m declared r : ℕ} (l : LitLine s t n declared r) (
 
   -- one that has ended
   pub literal-ended : (z : Placed) → y ≡ z → isInto z ≡ false → Answers t (constArray (namesIn s t m) (typeOf s declared) (exAt s r)) (endedAs z) u
-  literal-ended z d h = record { result = sym (literal-by ∙ go z h (subst (λ (b : Placed). Step u (above 16) (a .count) b (fill (namesIn s t m) (elsAt s r) noneFilled)) d (a .step))); stands = ended-stands z; keeps = a .keeps }
+  literal-ended z d h = record { array = record { result = sym (literal-by ∙ go z h (subst (λ (b : Placed). Step u (above 16) (a .count) b (fill (namesIn s t m) (elsAt s r) noneFilled)) d (a .step))); stands = ended-stands z }; keeps = a .keeps }
     where
       go : (b : Placed) → isInto b ≡ false → Step u (above 16) (a .count) b (fill (namesIn s t m) (elsAt s r) noneFilled) → bind (fill (namesIn s t m) (elsAt s r) noneFilled) (rest s t m declared r) ≡ arrayedIn u (endedAs b)
       go (Into x) e g = never (sym e)
@@ -180,7 +180,7 @@ module _ {s t u : Bytes} {n m declared r : ℕ} (l : LitLine s t n declared r) (
   literal-well {b} d {x} {w} z =
       let g : Goes u (above 16) (a .count) (b .next) (b .reach) (fill (namesIn s t m) (elsAt s r) noneFilled) = subst (λ (v : Placed). Step u (above 16) (a .count) v (fill (namesIn s t m) (elsAt s r) noneFilled)) d (a .step) in
       let q = rw (log-kept (a .keeps) o) at (z .answers (a .count) (b .next) (g .literal) (a .few) (g .filling)) in
-      record { result = q .result ∙ sym (literal-by ∙ ap (λ (v : Result Filled). bind v (rest s t m declared r)) (g .result)); stands = q .stands; keeps = keeps-then (a .keeps) (z .keeps) }
+      record { array = record { result = q .result ∙ sym (literal-by ∙ ap (λ (v : Result Filled). bind v (rest s t m declared r)) (g .result)); stands = q .stands }; keeps = keeps-then (a .keeps) (z .keeps) }
 
 -- ---- other lines
 
@@ -197,8 +197,7 @@ module _ (ns : List Node) (fs : List Bytes) (names : Names) (o : Option Ty) wher
 
 pub other-line : {s t : Bytes} {n declared r : ℕ} → ArrayLine s t n declared r → (m : ℕ) {f : ℕ} → f ≡ formAt t (r - 1) → (f ≡ 17 → ⊥) → (f ≡ 18 → ⊥) → Answers t (constArray (namesIn s t m) (typeOf s declared) (exAt s r)) Pending t
 other-line {s} {t} {n} {declared} {r} k m {f} e a b = record {
-  result = sym (ap (λ (x : Node). constArray (namesIn s t m) (typeOf s declared) (x .ex)) (makes (k .line) refl) ∙ no-array (nodesIn s) (readAt s (r - 1) .fields) (namesIn s t m) (typeOf s declared) (formAt t (r - 1)) (line-form (k .line) .0) (go (ltb (formAt t (r - 1)) 17) refl));
-  stands = tt;
+  array = record { result = sym (ap (λ (x : Node). constArray (namesIn s t m) (typeOf s declared) (x .ex)) (makes (k .line) refl) ∙ no-array (nodesIn s) (readAt s (r - 1) .fields) (namesIn s t m) (typeOf s declared) (formAt t (r - 1)) (line-form (k .line) .0) (go (ltb (formAt t (r - 1)) 17) refl)); stands = tt };
   keeps = keeps-all;
 }
   where

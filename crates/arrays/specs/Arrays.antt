@@ -49,16 +49,15 @@ Stands t (Literal k n) = ValuesStand t n
 Stands t Pending = Unit {0}
 Stands t (Refused r) = Unit {0}
 
--- t has become u, where x is the result r
-pub record Answers (t : Bytes) (r : Result ConstArray) (x : Arrayed) (u : Bytes) : Type 0 where
-  pub result : arrayedIn u x ≡ r
-  pub stands : Stands u x
-  pub keeps : Keeps 16384 49152 t u
-
 -- x is the result r, with its values in t
 pub record Measured (t : Bytes) (r : Result ConstArray) (x : Arrayed) : Type 0 where
   pub result : arrayedIn t x ≡ r
   pub stands : Stands t x
+
+-- and t has become u
+pub record Answers (t : Bytes) (r : Result ConstArray) (x : Arrayed) (u : Bytes) : Type 0 where
+  pub array : Measured u r x
+  pub keeps : Keeps 16384 49152 t u
 
 -- ---- lines
 

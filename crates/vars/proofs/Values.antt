@@ -61,8 +61,8 @@ module _ {s t : Bytes} {n r q d : ℕ} (k : Valued s t n r q) (e : typeOf s d �
 
   pub array-is : (m : ℕ) {x : Arrayed} {u : Bytes} → Arrays.Answers t (constArray (namesIn s t m) (typeOf s d) (exAt s q)) x u → (y : First) → IsArray x y
       → Inits t (arrayValue (constArray (namesIn s t m) (elemOf (varOn s r .ty)) (exAt s q))) y u
-  array-is m {x} {u} a y i = let w = i u (a .stands) in record {
-    result = w .0 ∙ ap arrayValue (a .result) ∙ rw e;
+  array-is m {x} {u} a y i = let w = i u (a .array .stands) in record {
+    result = w .0 ∙ ap arrayValue (a .array .result) ∙ rw e;
     stands = w .1;
     keeps = a .keeps;
   }
