@@ -67,7 +67,7 @@ fn collect_need(sheet: &[u8], work: &mut [u8], n: usize, i: usize, d: NeedCounts
     let p = position_for(sheet, work, n, i, h, d);
     let f = lines::form_at(work, i);
     type_keys::enter_need(work, d.needs, i, p);
-    type_keys::enter_kind(work, type_lines::kind_needed(f), p);
+    type_keys::enter_kind(work, type_lines::kind_needed(f) as usize, p);
     type_keys::enter_digest(work, d.needs, h);
     NeedCounts {
         needs: d.needs + 1,

@@ -2,6 +2,7 @@
 pub mod frame;
 pub mod shape;
 
+use codes::element;
 use codes::need;
 ghost use mathlib.Core.Path.{_≡_};
 ghost use Rattle.semantics.specs.Types.{sameTypeKey};
@@ -17,14 +18,14 @@ pub fn same_need(sheet: &[u8], work: &[u8], n: usize, a: usize, b: usize) -> boo
 }
 
 // The kind of element that form f needs, 5 for none. The forms of big, real and string are as far apart as their kinds.
-pub fn kind_needed(f: usize) -> usize
+pub fn kind_needed(f: usize) -> u8
     ensures { λ r. ⌜ r ≡ kindBy f ⌝ }
 {
     if f == need::INT {
-        return 1;
+        return element::WORD;
     }
     if f == need::BYTE {
-        return 0;
+        return element::BYTE;
     }
     if f < need::BIG {
         return 5;
@@ -32,5 +33,5 @@ pub fn kind_needed(f: usize) -> usize
     if need::STRING < f {
         return 5;
     }
-    f - 35
+    (f - need::BIG) as u8 + element::BIG
 }

@@ -1,5 +1,6 @@
 // One `typ` row: the map is made in the working space, and what is printed is that map and its ones.
 use codes::area;
+use codes::element;
 ghost use mathlib.Core.Path.{_≡_};
 ghost use mathlib.Core.Bool.{true};
 ghost use mathlib.Core.List.{List, [], _∷_};
@@ -73,33 +74,33 @@ pub fn put_opaque(work: &mut [u8], out: &mut [u8], p: Next) -> Next
     put_words(work, 48, 12, out, p)
 }
 
-fn elem_size(kind: usize) -> u32
+fn elem_size(kind: u8) -> u32
     ensures { λ r. ⌜ ((k : ElemKind) → kind ≡ kindNumber k → r ≡ elemShape k .size) × (r ≤ 8) ⌝ }
 {
-    if kind == 0 {
+    if kind == element::BYTE {
         return 1;
     }
-    if kind == 2 {
+    if kind == element::BIG {
         return 8;
     }
-    if kind == 3 {
+    if kind == element::REAL {
         return 8;
     }
     4
 }
 
 // Whether elements of this kind are pointers.
-fn elem_pointers(kind: usize) -> u32
+fn elem_pointers(kind: u8) -> u32
     ensures { λ r. ⌜ ((k : ElemKind) → kind ≡ kindNumber k → words r ≡ elemShape k .pointers) × (r ≤ 1) ⌝ }
 {
-    if kind == 4 {
+    if kind == element::POINTER {
         return 1;
     }
     0
 }
 
 // An array's elements.
-pub fn put_elem(work: &mut [u8], kind: usize, out: &mut [u8], p: Next) -> Next
+pub fn put_elem(work: &mut [u8], kind: u8, out: &mut [u8], p: Next) -> Next
     requires { ⌜ (65536 ≤ length (now work)) × (p .id < 2048) ⌝ }
     ensures { λ q. ⌜ ((k : ElemKind) → kind ≡ kindNumber k → Rowed (elemShape k) p q (now (work .entry)) (now (work .exit)) (now (out .entry)) (now (out .exit))) × (q .id ≡ p .id + 1) × (Kept 49152 (now (work .entry)) (now (work .exit))) ⌝ }
 {

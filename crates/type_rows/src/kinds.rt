@@ -16,13 +16,13 @@ ghost use Rattle.type_keys.specs.Table.{kindOf, Kinds};
 ghost use Rattle.type_rows.specs.Rows.{Wrotes, shapesOf};
 
 // The kind of element whose key has position p - 1; 5 where there is none.
-fn kind_at(work: &[u8], p: usize) -> usize
+fn kind_at(work: &[u8], p: usize) -> u8
     requires { ⌜ 65536 ≤ length (now work) ⌝ }
     ensures { λ r. ⌜ (r < 5 → kindOf (now (work .entry)) r ≡ p) × ((k : ℕ) → k < 5 → kindOf (now (work .entry)) k ≡ p → r ≤ k) ⌝ }
 {
     let mut k = 0;
     while k < 5 {
-        if kind_position(work, k) == p {
+        if kind_position(work, k as usize) == p {
             return k;
         }
         k += 1;

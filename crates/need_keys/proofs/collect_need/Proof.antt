@@ -23,8 +23,8 @@ enter-kind-requires c κs = let x = c .before .before .before .before .before .b
 enter-digest-requires : tie.Need-enter-digest-requires
 enter-digest-requires c κs = let x = c .before .before .before .before .before .before .before .before .before .before .before .before .before .before .before .before .before .before .before .pre in (needs-room x .0, omega (arith, c .before .before .before .before .before .before .before .before .before .before .before .before .before .before .digest .ensures .1), omega (arith, c .before .before .before .enter-kind .kept .0, c .before .before .before .before .before .before .before .before .enter-need .kept .0, x .line .checked .whole .room))
 
-add-t21 : tie.Need-add-t21
-add-t21 c = record { fits = omega (arith, needs-room (c .before .before .before .before .before .before .before .before .before .before .before .before .before .before .before .before .before .before .before .before .before .before .before .pre) .0) }
+add-t22 : tie.Need-add-t22
+add-t22 c = record { fits = omega (arith, needs-room (c .before .before .before .before .before .before .before .before .before .before .before .before .before .before .before .before .before .before .before .before .before .before .before .pre) .0) }
 
 with-key-requires : tie.Need-with-key-requires
 with-key-requires c κs = omega (arith, needs-room (c .before .before .before .before .before .before .before .before .before .before .before .before .before .before .before .before .before .before .before .before .before .before .before .pre) .2)
@@ -38,4 +38,4 @@ returns c = let x = c .before .before .before .before .before .before .before .b
 pub collect-need-spec : {M : Type 1} → statement M
 collect-need-spec =
     tie.close (tie.spec (λ c κs. search needs) (λ c κs. search needs) position-for-requires (λ c κs. search needs) enter-need-requires (λ c κs. search needs)
-    enter-kind-requires enter-digest-requires add-t21 with-key-requires (λ c. search needs) returns)
+    (λ c. search needs) enter-kind-requires enter-digest-requires add-t22 with-key-requires (λ c. search needs) returns)

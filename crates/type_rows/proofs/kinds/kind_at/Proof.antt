@@ -28,4 +28,4 @@ returns-2 c = (λ h. absurd (omega (arith, h, c .loop-test .left)), λ j h e. no
 
 pub kind-at-spec : {M : Type 1} → statement M
 kind-at-spec =
-    tie.close (tie.spec Inv-loop μ-loop loop-holds (λ c κs. search needs) returns (λ c. search needs) (λ c. search needs) loop-again returns-2)
+    tie.close (tie.spec Inv-loop μ-loop loop-holds (λ c. search needs) (λ c κs. search needs) returns (λ c. search needs) (λ c. search needs) loop-again returns-2)
