@@ -1,7 +1,7 @@
 -- The rows of constants, entry by entry: an entry adds the row of its key where no entry before it has the key.
 use Prim.Native.Nat.{ℕ, suc, _≤_}
 use mathlib.Core.Path.{_≡_}
-use mathlib.Core.Bool.{cond, not, _||_}
+use mathlib.Core.Bool.{Bool, true, false, cond, not, _||_}
 use mathlib.Core.List.{[]}
 use lib.Dec.{eqb}
 use lib.ListN.{length}
@@ -32,6 +32,15 @@ qualifiedPart s t m i = cond (eqb (moduleLineOf t i) 0 || hasKey (qualifiedKey s
 
 unfoldable pub plainPart : Bytes → Bytes → ℕ → ℕ → Bytes
 plainPart s t m i = cond (not (isOwn s (moduleLineOf t i)) || hasKey (plainKey s t i) (logIn s t i)) [] (constRow (logIn s t m) (plainKey s t i))
+
+-- the plain ones, or those of M->NAME
+abbrev pub rowsTo : Bool → Bytes → Bytes → ℕ → ℕ → Bytes
+rowsTo true s t m i = plainTo s t m i
+rowsTo false s t m i = qualifiedTo s t m i
+
+abbrev pub partOf : Bool → Bytes → Bytes → ℕ → ℕ → Bytes
+partOf true s t m i = plainPart s t m i
+partOf false s t m i = qualifiedPart s t m i
 
 -- what a look-up answered can be shown: r is 0, or one more than the number of an entry
 pub record Shown (t : Bytes) (r : ℕ) : Type 0 where

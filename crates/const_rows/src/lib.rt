@@ -7,7 +7,7 @@ ghost use lib.ListN.{length};
 ghost use Rattle.semantics.specs.Listing.{row, valueFields, constRows};
 ghost use Rattle.write.specs.Wrote.{Wrote};
 ghost use Rattle.names.specs.Table.{found, logIn, ConstTable};
-ghost use Rattle.const_rows.specs.Rows.{qualifiedPart, plainPart, Shown};
+ghost use Rattle.const_rows.specs.Rows.{qualifiedPart, plainPart, rowsTo, partOf, Shown};
 
 // The fields of the value that a look-up found, to the row's end.
 fn put_value(work: &[u8], out: &mut [u8], at: usize, r: usize) -> usize
@@ -87,21 +87,44 @@ fn plain_row(sheet: &[u8], work: &[u8], c: Known, out: &mut [u8], at: usize, i: 
     put_rest(work, out, p, name, r)
 }
 
-// All rows.
+// The row that entry i adds among the plain names, or among M->NAME.
+fn entry_row(
+    sheet: &[u8],
+    work: &[u8],
+    c: Known,
+    out: &mut [u8],
+    at: usize,
+    i: usize,
+    plain: bool,
+) -> usize
+    requires { ⌜ (ConstTable (now sheet) (now work) (c .lines) (c .consts)) × (i < c .consts) × (at ≤ length (now out) + 1) ⌝ }
+    ensures { λ p. ⌜ Wrote (now (out .entry)) at (partOf plain (now (sheet .entry)) (now (work .entry)) (c .consts) i) (now (out .exit)) p ⌝ }
+{
+    if plain {
+        return plain_row(sheet, work, c, out, at, i);
+    }
+    qualified_row(sheet, work, c, out, at, i)
+}
+
+// All of them.
+fn rows(sheet: &[u8], work: &[u8], c: Known, out: &mut [u8], at: usize, plain: bool) -> usize
+    requires { ⌜ (ConstTable (now sheet) (now work) (c .lines) (c .consts)) × (at ≤ length (now out) + 1) ⌝ }
+    ensures { λ p. ⌜ Wrote (now (out .entry)) at (rowsTo plain (now (sheet .entry)) (now (work .entry)) (c .consts) (c .consts)) (now (out .exit)) p ⌝ }
+{
+    let mut p = at;
+    let mut i = 0;
+    while i < c.consts {
+        p = entry_row(sheet, work, c, out, p, i, plain);
+        i += 1;
+    }
+    p
+}
+
 pub fn const_rows(sheet: &[u8], work: &[u8], c: Known, out: &mut [u8], at: usize) -> usize
     requires { ⌜ ConstTable (now sheet) (now work) (c .lines) (c .consts) ⌝ }
     ensures { λ p. ⌜ Wrote (now (out .entry)) at (constRows (logIn (now (sheet .entry)) (now (work .entry)) (c .consts))) (now (out .exit)) p ⌝ }
 {
-    let mut p = write::nothing(out, at); // a place past the end is one past it from here on
-    let mut i = 0;
-    while i < c.consts {
-        p = qualified_row(sheet, work, c, out, p, i);
-        i += 1;
-    }
-    let mut j = 0;
-    while j < c.consts {
-        p = plain_row(sheet, work, c, out, p, j);
-        j += 1;
-    }
-    p
+    let p = write::nothing(out, at); // a place past the end is one past it from here on
+    let q = rows(sheet, work, c, out, p, false);
+    rows(sheet, work, c, out, q, true)
 }
