@@ -82,8 +82,8 @@ module _ {s t : Bytes} {c : Counts} {keys : ℕ} (r : Ready s t c keys) where
   pub walk-start : {at : ℕ} {d e : Bytes} {q : Next} → Wrote d at [] e (q .at) → q .keys ≡ keys → Walking s t c q e t e q 0 0
   unfolding laidVarsTo openAt moduleAt
   walk-start {at} {d} {e} {q} w h = record {
-    here = record { checked = r .checked; within = omega arith; low = omega arith; here = refl };
-    held = record { log = r .log; places = r .places; framed = r .framed; few = r .few; printed = []; kinds = rw h needs-kinds };
+    here = record { checked = r .table .checked; within = omega arith; low = omega arith; here = refl };
+    held = record { log = r .table .logged; places = r .places; framed = r .framed; few = r .few; printed = []; kinds = rw h needs-kinds };
     keeping = keeping-all;
     names = refl;
     places = refl;
@@ -121,7 +121,7 @@ module _ {s t : Bytes} {c : Counts} {keys : ℕ} (r : Ready s t c keys) where
         let is = itemsIn s t (c .consts) in
         let z : i ≡ c .lines = omega (arith, w .here .within) in
         let y : lineItems ns (placesIn s t (c .globals)) (laidVarsTo s i) ≡ is =
-        ap (λ (j : ℕ). lineItems ns (placesIn s t (c .globals)) (laidVarsTo s j)) z ∙ ap (λ (ps : List Global). lineItems ns ps (laidVarsTo s (c .lines))) (r .laid ns) ∙ items-all ns s (r .checked) in
+        ap (λ (j : ℕ). lineItems ns (placesIn s t (c .globals)) (laidVarsTo s j)) z ∙ ap (λ (ps : List Global). lineItems ns ps (laidVarsTo s (c .lines))) (r .laid ns) ∙ items-all ns s (r .table .checked) in
         let o : Next = record { at = at; keys = keys } in
         let a : ItemsPrinted s is o q t u b e = printed-then [] is (printed-none {p = o} v k) (printed-as y (w .printed)) in
         let x = a .kinds [] needs-kinds in

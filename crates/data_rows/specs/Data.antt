@@ -13,8 +13,8 @@ use Rattle.semantics.specs.Array.{kindNumber}
 use Rattle.semantics.specs.Types.{arrayKey, distinct, keys, idOf}
 use Rattle.semantics.specs.Listing.{itemRow}
 use Rattle.write.specs.Wrote.{Wrote}
-use Rattle.checks.specs.Checks.{Checked, Kept}
-use Rattle.names.specs.Table.{Logged}
+use Rattle.checks.specs.Checks.{Kept}
+use Rattle.names.specs.Table.{Logged, ConstTable}
 use Rattle.placements.specs.Placements.{entryAt, slotAt, Standing}
 use Rattle.literals.specs.Literals.{namesIn, above}
 use Rattle.global_table.specs.Table.{placesIn, offsetIn, Tabled}
@@ -41,8 +41,7 @@ rowsOf s is = concatMap (itemRow (idOf (sheetSource s) is)) is
 
 -- the tables of a checked sheet: constants, globals, and the keys of needs
 pub record Ready (s t : Bytes) (c : Counts) (keys : ℕ) : Type 0 where
-  pub checked : Checked s t (c .lines)
-  pub log : Logged s t (c .lines) (c .consts)
+  pub table : ConstTable s t (c .lines) (c .consts)
   pub places : Tabled s t (c .lines) (c .globals)
   pub laid : (ns : Names) → placesIn s t (c .globals) ≡ globals ns (sheetSource s) .places
   pub kinds : Kinds t (sheetSource s .needs) keys
