@@ -1,8 +1,9 @@
 // Items laid in image and area.
 use row_fields::values;
+use words::larger;
 ghost use mathlib.Core.Path.{_≡_};
 ghost use mathlib.Core.Option.{some};
-ghost use Prim.Native.Nat.{_+_, _*_, _≤_, _<_, max, min};
+ghost use Prim.Native.Nat.{_+_, _*_, _≤_, _<_, min};
 ghost use lib.ListN.{length};
 ghost use Rattle.semantics.specs.Image.{handle, partAt};
 ghost use Rattle.stored.specs.Reading.{valuesIn};
@@ -21,15 +22,6 @@ pub struct State {
     pub inside: bool,
     pub long: usize,
     pub full: bool,
-}
-
-fn larger(a: usize, b: usize) -> usize
-    ensures { λ r. ⌜ r ≡ max a b ⌝ }
-{
-    if a < b {
-        return b;
-    }
-    a
 }
 
 fn outgrown(s: State) -> State

@@ -1,24 +1,16 @@
 // Refusal 5: nesting.
 use codes::area;
+use words::larger;
 use words::wide;
 ghost use mathlib.Core.Path.{_≡_};
 ghost use mathlib.Core.List.{List, []};
-ghost use Prim.Native.Nat.{ℕ, _≤_, _<_, max};
+ghost use Prim.Native.Nat.{ℕ, _≤_, _<_};
 ghost use lib.ListN.{length};
 ghost use Rattle.semantics.specs.Refusal.{refsOf, deepest, tooDeepFrom};
 ghost use Rattle.lines.specs.Lines.{readsIn, readAt, Whole};
 ghost use Rattle.nesting.specs.Nesting.{refDepth, Depths};
 
 const DEEPEST: usize = 32;
-
-fn larger(a: usize, b: usize) -> usize
-    ensures { λ r. ⌜ r ≡ max a b ⌝ }
-{
-    if a < b {
-        return b;
-    }
-    a
-}
 
 // How deep the line is that a field of line i refers to; 0 where it refers to none.
 fn ref_depth(work: &[u8], i: usize, x: u8, v: usize) -> usize
