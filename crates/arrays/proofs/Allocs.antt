@@ -24,16 +24,16 @@ use Rattle.refs.proofs.Fields.{head-drop, tail-drop}
 use Rattle.sizes.proofs.Types.{Good, ref-head}
 use Rattle.values.specs.declared.Folded.{Folded}
 use Rattle.values.specs.Values.{resultIn}
-use Rattle.names.specs.Table.{Logged}
+use Rattle.names.specs.Table.{ConstsLogged}
 use Rattle.placements.proofs.Same.{keeps-less, keeps-kept}
 use Rattle.leaf.specs.Folds.{exAt, Foldable, Folds}
 use Rattle.literals.specs.Literals.{namesIn, Line}
 use Rattle.literals.proofs.Lines.{parts-at, makes, good-line}
 use Rattle.literals.proofs.Selectors.{foldable, folds-to}
 use Rattle.arrays.specs.declared.Arrayed.{Arrayed}
-use Rattle.arrays.specs.Arrays.{kindAt, arrayedIn, Stands, Answers, typeOf, allocType, AllocLine}
+use Rattle.arrays.specs.Arrays.{kindOfNumber, arrayedIn, ArrayStands, ArrayAnswers, typeOf, allocType, AllocLine}
 
-pub kind-back : (k : ElemKind) → kindAt (kindNumber k) ≡ k
+pub kind-back : (k : ElemKind) → kindOfNumber (kindNumber k) ≡ k
 kind-back kByte = refl
 kind-back kWord = refl
 kind-back kBig = refl
@@ -71,22 +71,22 @@ module _ {s t : Bytes} {n declared r : ℕ} (k : AllocLine s t n declared r) whe
   pub declared-kind : {x : ℕ} → (declared ≡ 0 → ⊥) → x ≡ kindNumber (elemKind (typeAt s declared)) → x ≡ kindNumber (elemKind (allocType s declared r))
   declared-kind h e = rw (type-given s declared h) e
 
-  module _ {v : ℕ} (hv : v ≡ Number.numberOf 65536 (getD (readAt s (r - 1) .fields) 1 [])) where
+  module _ {v : ℕ} (hv : v ≡ Number.numberUpTo 65536 (getD (readAt s (r - 1) .fields) 1 [])) where
     pub own-line : TypeLine s t n v
     own-line = type-line (good-line l 75 (getD (readAt s (r - 1) .fields) 1 []) v hv (alloc-refs .1) .1)
 
     pub own-kind : {x : ℕ} → declared ≡ 0 → x ≡ kindNumber (elemKind (typeAt s v)) → x ≡ kindNumber (elemKind (allocType s declared r))
     own-kind h e = rw h (rw (good-line l 75 (getD (readAt s (r - 1) .fields) 1 []) v hv (alloc-refs .1) .0) at e)
 
-  module _ {q : ℕ} (hq : q ≡ Number.numberOf 65536 (getD (readAt s (r - 1) .fields) 0 [])) where
+  module _ {q : ℕ} (hq : q ≡ Number.numberUpTo 65536 (getD (readAt s (r - 1) .fields) 0 [])) where
     length-line : (q ≡ numberOf (getD (readAt s (r - 1) .fields) 0 [])) × Line 69 s t n q
     length-line = good-line l 69 (getD (readAt s (r - 1) .fields) 0 []) q hq (alloc-refs .0)
 
-    pub length-foldable : {m : ℕ} → Logged s t n m → Foldable s t n m q 49152
+    pub length-foldable : {m : ℕ} → ConstsLogged s t n m → Foldable s t n m q 49152
     length-foldable g = foldable {e = 0} (record { line = length-line .1; log = g; few = omega arith })
 
     pub alloc-answers : {m kind : ℕ} → kind ≡ kindNumber (elemKind (allocType s declared r)) → {u : Bytes} {x : Folded} → Folds s t m 0 q 49152 u x
-        → (y : Arrayed) → arrayedIn u y ≡ bind (resultIn u x) (allocated (kindAt kind)) → Stands u y → Answers t (constArray (namesIn s t m) (typeOf s declared) (exAt s r)) y u
+        → (y : Arrayed) → arrayedIn u y ≡ bind (resultIn u x) (allocated (kindOfNumber kind)) → ArrayStands u y → ArrayAnswers t (constArray (namesIn s t m) (typeOf s declared) (exAt s r)) y u
     alloc-answers {m} {kind} e {u} {x} g y h st = record {
       array = record { result = rw (folds-to g, e, kind-back (elemKind (allocType s declared r))) at h ∙ sym (rw (alloc-is, ← length-line .0)); stands = st };
       keeps = keeps-less (omega arith) (omega arith) (keeps-kept {a = 0} (omega arith) (g .kept));

@@ -101,7 +101,7 @@ module _ {s t : Bytes} {n r : ℕ} (l : Line 69 s t n r) where
       go true d = inl (ltb-true (formAt t (r - 1)) 15 d)
       go false d = let x : 15 ≤ formAt t (r - 1) = ltb-false (formAt t (r - 1)) 15 d in inr (omega (arith, h))
 
-  module _ {f : ℕ} (e : f ≡ formAt t (r - 1)) (h : f ≡ 15) {v : ℕ} (hv : v ≡ Number.numberOf 65536 (getD (readAt s (r - 1) .fields) 0 [])) where
+  module _ {f : ℕ} (e : f ≡ formAt t (r - 1)) (h : f ≡ 15) {v : ℕ} (hv : v ≡ Number.numberUpTo 65536 (getD (readAt s (r - 1) .fields) 0 [])) where
     cast-good : (v ≡ numberOf (getD (readAt s (r - 1) .fields) 0 [])) × Line 75 s t n v
     unfolding forms
     cast-good =
@@ -132,7 +132,7 @@ some-elements s r (suc c) h = let z : suc c - 0 ≡ suc c = omega arith in rw z
 no-elements : (s : Bytes) (r count : ℕ) → count ≤ 0 → isByteLiteral (elsFrom s r count 0) ≡ false
 no-elements s r count h = let z : count - 0 ≡ 0 = omega arith in rw z
 
-module _ {s t : Bytes} {n r : ℕ} (k : LiteralLine s t n r) {count : ℕ} (hc : count ≡ Number.numberOf 65536 (getD (readAt s (r - 1) .fields) 2 [])) {j : ℕ} (c : Casting s r count j) where
+module _ {s t : Bytes} {n r : ℕ} (k : LiteralLine s t n r) {count : ℕ} (hc : count ≡ Number.numberUpTo 65536 (getD (readAt s (r - 1) .fields) 2 [])) {j : ℕ} (c : Casting s r count j) where
   pub casting-end : count ≤ j → ltb 0 count ≡ isByteLiteral (elsAt s r)
   casting-end h = go (ltb 0 count) refl
     where
@@ -143,11 +143,11 @@ module _ {s t : Bytes} {n r : ℕ} (k : LiteralLine s t n r) {count : ℕ} (hc :
       go true e = sym (ap isByteLiteral (sym (all-elements k hc)) ∙ some-elements s r count (ltb-true 0 count e) ∙ sym (rw z at (c .rest)))
       go false e = sym (ap isByteLiteral (sym (all-elements k hc)) ∙ no-elements s r count (ltb-false 0 count e))
 
-  module _ (h : j < count) {q : ℕ} (hq : q ≡ Number.numberOf 65536 (getD (readAt s (r - 1) .fields) (3 + j) [])) where
+  module _ (h : j < count) {q : ℕ} (hq : q ≡ Number.numberUpTo 65536 (getD (readAt s (r - 1) .fields) (3 + j) [])) where
     pub element-at : Line 76 s t n q
     element-at = element-line k hc h hq
 
-    module _ {v : ℕ} (hv : v ≡ Number.numberOf 65536 (getD (readAt s (q - 1) .fields) 0 [])) where
+    module _ {v : ℕ} (hv : v ≡ Number.numberUpTo 65536 (getD (readAt s (q - 1) .fields) 0 [])) where
       element-value : (v ≡ numberOf (getD (readAt s (q - 1) .fields) 0 [])) × Line 69 s t n v
       element-value = good-line element-at 69 (getD (readAt s (q - 1) .fields) 0 []) v hv (value-ref element-at)
 

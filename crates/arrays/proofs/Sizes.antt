@@ -13,24 +13,24 @@ use Rattle.decimal.specs.Number as Number
 use Rattle.lines.specs.Lines.{readAt, nodesIn}
 use Rattle.values.specs.declared.Folded.{Folded}
 use Rattle.values.specs.Values.{resultIn}
-use Rattle.names.specs.Table.{Logged}
+use Rattle.names.specs.Table.{ConstsLogged}
 use Rattle.leaf.specs.Folds.{Foldable, Folds}
 use Rattle.literals.specs.Literals.{namesIn, Line, LiteralLine, above}
 use Rattle.literals.proofs.Lines.{may-line, maybe-given, maybe-absent}
 use Rattle.literals.proofs.Selectors.{foldable, folds-to}
 use Rattle.literals.proofs.Turns.{literal-refs}
 use Rattle.arrays.specs.declared.Size.{Size}
-use Rattle.arrays.specs.Arrays.{sizeResult, sizeAt}
+use Rattle.arrays.specs.Arrays.{sizeResult, litSize}
 
-module _ {s t : Bytes} {n r : ℕ} (k : LiteralLine s t n r) {q : ℕ} (hq : q ≡ Number.numberOf 65536 (getD (readAt s (r - 1) .fields) 0 [])) where
+module _ {s t : Bytes} {n r : ℕ} (k : LiteralLine s t n r) {q : ℕ} (hq : q ≡ Number.numberUpTo 65536 (getD (readAt s (r - 1) .fields) 0 [])) where
   size-line : (q ≡ numberOf (getD (readAt s (r - 1) .fields) 0 [])) × ((q ≡ 0 → ⊥) → Line 69 s t n q)
   size-line = may-line (k .line) 69 (getD (readAt s (r - 1) .fields) 0 []) q hq (literal-refs k .0)
 
-  pub size-foldable : {m : ℕ} → Logged s t n m → (q ≡ 0 → ⊥) → Foldable s t n m q (above 16)
+  pub size-foldable : {m : ℕ} → ConstsLogged s t n m → (q ≡ 0 → ⊥) → Foldable s t n m q (above 16)
   size-foldable g z = foldable {e = 16} (record { line = size-line .1 z; log = g; few = omega arith })
 
-  pub size-none : (ns : Names) {reach : ℕ} → q ≡ 0 → (f : Filled) → reach ≡ f .reach → ok reach ≡ literalSize ns (sizeAt s r) f
+  pub size-none : (ns : Names) {reach : ℕ} → q ≡ 0 → (f : Filled) → reach ≡ f .reach → ok reach ≡ literalSize ns (litSize s r) f
   size-none ns z f e = rw (← size-line .0, maybe-absent (nodesIn s) q z, e)
 
-  pub size-given : (q ≡ 0 → ⊥) → {m : ℕ} {u : Bytes} {x : Folded} → Folds s t m 0 q (above 16) u x → (y : Size) → sizeResult y ≡ bind (resultIn u x) asSize → (f : Filled) → sizeResult y ≡ literalSize (namesIn s t m) (sizeAt s r) f
+  pub size-given : (q ≡ 0 → ⊥) → {m : ℕ} {u : Bytes} {x : Folded} → Folds s t m 0 q (above 16) u x → (y : Size) → sizeResult y ≡ bind (resultIn u x) asSize → (f : Filled) → sizeResult y ≡ literalSize (namesIn s t m) (litSize s r) f
   size-given z g y h f = rw (folds-to g) at h ∙ sym (rw (← size-line .0, maybe-given (nodesIn s) q z))

@@ -25,7 +25,7 @@ use Rattle.lines.specs.Lines.{readAt, nodesIn, formAt}
 use Rattle.sizes.specs.Sizes.{typeAt, TypeLine}
 use Rattle.checks.specs.Checks.{Kept}
 use Rattle.checks.proofs.Kept.{checked-kept}
-use Rattle.names.specs.Table.{Logged}
+use Rattle.names.specs.Table.{ConstsLogged}
 use Rattle.placements.specs.declared.Extent.{Extent}
 use Rattle.placements.specs.declared.Placed.{Placed}
 use Rattle.placements.specs.declared.Placed.the-variants.{Into, Negative, Failed, TooLong}
@@ -43,7 +43,7 @@ use Rattle.arrays.specs.declared.Size.{Size}
 use Rattle.arrays.specs.declared.Size.the-variants as Size
 use Rattle.arrays.specs.declared.Arrayed.{Arrayed}
 use Rattle.arrays.specs.declared.Arrayed.the-variants.{Literal, Pending, Refused}
-use Rattle.arrays.specs.Arrays.{arrayedIn, sizeResult, Stands, Measured, Answers, typeOf, sizeAt, ownType, ArrayLine, LitLine, Counted, Sized}
+use Rattle.arrays.specs.Arrays.{arrayedIn, sizeResult, ArrayStands, Measured, ArrayAnswers, typeOf, litSize, ownType, ArrayLine, LitLine, Counted, Sized}
 use Rattle.arrays.proofs.Allocs.{kind-back, type-line, type-given}
 use Rattle.arrays.proofs.Elements.{outside-forms}
 
@@ -56,7 +56,7 @@ module _ {s t : Bytes} {n declared r count : ℕ} (c : Counted s t n declared r 
   pub kind-declared : {x : ℕ} → (declared ≡ 0 → ⊥) → x ≡ kindNumber (elemKind (typeAt s declared)) → x ≡ kindNumber Kind
   kind-declared h e = rw (type-given s declared h) e
 
-  module _ (z : declared ≡ 0) {v : ℕ} (hv : v ≡ Number.numberOf 65536 (getD (readAt s (r - 1) .fields) 1 [])) where
+  module _ (z : declared ≡ 0) {v : ℕ} (hv : v ≡ Number.numberUpTo 65536 (getD (readAt s (r - 1) .fields) 1 [])) where
     own-may : (v ≡ numberOf (getD (readAt s (r - 1) .fields) 1 [])) × ((v ≡ 0 → ⊥) → Line 75 s t n v)
     own-may = may-line (c .lit .literal .line) 75 (getD (readAt s (r - 1) .fields) 1 []) v hv (literal-refs (c .lit .literal) .1)
 
@@ -109,22 +109,22 @@ module _ {s t u : Bytes} {n declared r : ℕ} (k : Keeps 16384 49152 t u) (l : L
 pub size-keeps : {t u : Bytes} → Kept (above 16) t u → Keeps 16384 49152 t u
 size-keeps c = keeps-less (omega arith) (omega arith) (keeps-kept {a = 0} (omega arith) c)
 
-module _ {s t u : Bytes} {n m declared r : ℕ} (l : LitLine s t n declared r) (o : Logged s t n m) (c : Kept (above 16) t u) where
-  module _ {reach : ℕ} (x : Size) (h : (f : Filled) → reach ≡ f .reach → sizeResult x ≡ literalSize (namesIn s t m) (sizeAt s r) f) where
+module _ {s t u : Bytes} {n m declared r : ℕ} (l : LitLine s t n declared r) (o : ConstsLogged s t n m) (c : Kept (above 16) t u) where
+  module _ {reach : ℕ} (x : Size) (h : (f : Filled) → reach ≡ f .reach → sizeResult x ≡ literalSize (namesIn s t m) (litSize s r) f) where
     pub sized-failed : x ≡ Size.Failed → Sized s t m declared r reach Pending u
     sized-failed d = record {
-      answers = λ k next f few p. let e : literalSize (namesIn s t m) (sizeAt s r) f ≡ failed = sym (h f (p .reach-is)) ∙ ap sizeResult d in record { result = sym (rw e); stands = tt };
+      answers = λ k next f few p. let e : literalSize (namesIn s t m) (litSize s r) f ≡ failed = sym (h f (p .reach-is)) ∙ ap sizeResult d in record { result = sym (rw e); stands = tt };
       keeps = size-keeps c;
     }
 
     pub sized-long : x ≡ Size.TooLong → Sized s t m declared r reach (Refused 8) u
     sized-long d = record {
-      answers = λ k next f few p. let e : literalSize (namesIn s t m) (sizeAt s r) f ≡ refuse 8 = sym (h f (p .reach-is)) ∙ ap sizeResult d in record { result = sym (rw e); stands = tt };
+      answers = λ k next f few p. let e : literalSize (namesIn s t m) (litSize s r) f ≡ refuse 8 = sym (h f (p .reach-is)) ∙ ap sizeResult d in record { result = sym (rw e); stands = tt };
       keeps = size-keeps c;
     }
 
     module _ {size : ℕ} (d : x ≡ Size.Of size) where
-      size-is : (k next : ℕ) (f : Filled) → Filling t (above 16) k next reach f → literalSize (namesIn s t m) (sizeAt s r) f ≡ ok size
+      size-is : (k next : ℕ) (f : Filled) → Filling t (above 16) k next reach f → literalSize (namesIn s t m) (litSize s r) f ≡ ok size
       size-is k next f p = sym (h f (p .reach-is)) ∙ ap sizeResult d
 
       pub sized-outside : size < reach → Sized s t m declared r reach (Refused 11) u
@@ -151,17 +151,17 @@ endedAs Failed = Pending
 endedAs TooLong = Refused 8
 
 abbrev rest : Bytes → Bytes → ℕ → ℕ → ℕ → Filled → Result Array.ConstArray
-rest s t m declared r f = bind (literalSize (namesIn s t m) (sizeAt s r) f) (Array.measured (typeOf s declared) (ownType s r) (elsAt s r) f)
+rest s t m declared r f = bind (literalSize (namesIn s t m) (litSize s r) f) (Array.measured (typeOf s declared) (ownType s r) (elsAt s r) f)
 
-module _ {s t u : Bytes} {n m declared r : ℕ} (l : LitLine s t n declared r) (o : Logged s t n m) (y : Placed) (a : AllFilled t (fill (namesIn s t m) (elsAt s r) noneFilled) y u) where
+module _ {s t u : Bytes} {n m declared r : ℕ} (l : LitLine s t n declared r) (o : ConstsLogged s t n m) (y : Placed) (a : AllFilled t (fill (namesIn s t m) (elsAt s r) noneFilled) y u) where
   literal-by : constArray (namesIn s t m) (typeOf s declared) (exAt s r) ≡ bind (fill (namesIn s t m) (elsAt s r) noneFilled) (rest s t m declared r)
   literal-by = rw (literal-is (l .literal))
 
-  pub literal-kept : (LitLine s u n declared r) × (Logged s u n m)
+  pub literal-kept : (LitLine s u n declared r) × (ConstsLogged s u n m)
   literal-kept = (lit-kept (a .keeps) l, logged-kept (a .keeps) o)
 
   -- one that has ended
-  pub literal-ended : (z : Placed) → y ≡ z → isInto z ≡ false → Answers t (constArray (namesIn s t m) (typeOf s declared) (exAt s r)) (endedAs z) u
+  pub literal-ended : (z : Placed) → y ≡ z → isInto z ≡ false → ArrayAnswers t (constArray (namesIn s t m) (typeOf s declared) (exAt s r)) (endedAs z) u
   literal-ended z d h = record { array = record { result = sym (literal-by ∙ go z h (subst (λ (b : Placed). Step u (above 16) (a .count) b (fill (namesIn s t m) (elsAt s r) noneFilled)) d (a .step))); stands = ended-stands z }; keeps = a .keeps }
     where
       go : (b : Placed) → isInto b ≡ false → Step u (above 16) (a .count) b (fill (namesIn s t m) (elsAt s r) noneFilled) → bind (fill (namesIn s t m) (elsAt s r) noneFilled) (rest s t m declared r) ≡ arrayedIn u (endedAs b)
@@ -170,13 +170,13 @@ module _ {s t u : Bytes} {n m declared r : ℕ} (l : LitLine s t n declared r) (
       go Failed e g = ap (λ (q : Result Filled). bind q (rest s t m declared r)) g
       go TooLong e g = ap (λ (q : Result Filled). bind q (rest s t m declared r)) g
 
-      ended-stands : (b : Placed) → Stands u (endedAs b)
+      ended-stands : (b : Placed) → ArrayStands u (endedAs b)
       ended-stands (Into x) = tt
       ended-stands Negative = tt
       ended-stands Failed = tt
       ended-stands TooLong = tt
 
-  pub literal-well : {b : Extent} → y ≡ Into b → {x : Arrayed} {w : Bytes} → Sized s u m declared r (b .reach) x w → Answers t (constArray (namesIn s t m) (typeOf s declared) (exAt s r)) x w
+  pub literal-well : {b : Extent} → y ≡ Into b → {x : Arrayed} {w : Bytes} → Sized s u m declared r (b .reach) x w → ArrayAnswers t (constArray (namesIn s t m) (typeOf s declared) (exAt s r)) x w
   literal-well {b} d {x} {w} z =
       let g : Goes u (above 16) (a .count) (b .next) (b .reach) (fill (namesIn s t m) (elsAt s r) noneFilled) = subst (λ (v : Placed). Step u (above 16) (a .count) v (fill (namesIn s t m) (elsAt s r) noneFilled)) d (a .step) in
       let q = rw (log-kept (a .keeps) o) at (z .answers (a .count) (b .next) (g .literal) (a .few) (g .filling)) in
@@ -195,7 +195,7 @@ module _ (ns : List Node) (fs : List Bytes) (names : Names) (o : Option Ty) wher
       (refl also refl also refl also refl also refl also refl also refl also refl also refl also refl also refl also refl also refl also refl also refl also refl also refl also done)
       (refl also refl also refl also refl also refl also refl also refl also refl also refl also refl also refl also refl also refl also refl also refl also refl also refl also refl also refl also refl also refl also refl also refl also done)
 
-pub other-line : {s t : Bytes} {n declared r : ℕ} → ArrayLine s t n declared r → (m : ℕ) {f : ℕ} → f ≡ formAt t (r - 1) → (f ≡ 17 → ⊥) → (f ≡ 18 → ⊥) → Answers t (constArray (namesIn s t m) (typeOf s declared) (exAt s r)) Pending t
+pub other-line : {s t : Bytes} {n declared r : ℕ} → ArrayLine s t n declared r → (m : ℕ) {f : ℕ} → f ≡ formAt t (r - 1) → (f ≡ 17 → ⊥) → (f ≡ 18 → ⊥) → ArrayAnswers t (constArray (namesIn s t m) (typeOf s declared) (exAt s r)) Pending t
 other-line {s} {t} {n} {declared} {r} k m {f} e a b = record {
   array = record { result = sym (ap (λ (x : Node). constArray (namesIn s t m) (typeOf s declared) (x .ex)) (makes (k .line) refl) ∙ no-array (nodesIn s) (readAt s (r - 1) .fields) (namesIn s t m) (typeOf s declared) (formAt t (r - 1)) (line-form (k .line) .0) (go (ltb (formAt t (r - 1)) 17) refl)); stands = tt };
   keeps = keeps-all;

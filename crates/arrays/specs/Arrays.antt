@@ -13,7 +13,7 @@ use Rattle.semantics.specs.Fold.Result.{ok, failed, refuse}
 use Rattle.semantics.specs.Array.{ConstArray, Filled, literalSize, measured}
 use Rattle.lines.specs.Lines.{readAt, nodesIn, formAt}
 use Rattle.sizes.specs.Sizes.{typeAt, TypeLine}
-use Rattle.placements.specs.Placements.{entryAt, slotAt, valuesIn, Keeps, Standing, Filling}
+use Rattle.placements.specs.Placements.{entryAt, slotAt, valuesIn, Keeps, StringStands, Filling}
 use Rattle.literals.specs.Literals.{namesIn, elsAt, Line, LiteralLine, above}
 use Rattle.arrays.specs.declared.Size.{Size}
 use Rattle.arrays.specs.declared.Size.the-variants as Size
@@ -23,13 +23,13 @@ use Rattle.arrays.specs.declared.Arrayed.the-variants.{Alloc, Literal, P
 -- ---- answers
 
 -- the kind that a number stands for
-abbrev pub kindAt : ℕ → ElemKind
-kindAt k = getD (kByte ∷ kWord ∷ kBig ∷ kReal ∷ kPtr ∷ []) k kPtr
+abbrev pub kindOfNumber : ℕ → ElemKind
+kindOfNumber k = getD (kByte ∷ kWord ∷ kBig ∷ kReal ∷ kPtr ∷ []) k kPtr
 
 -- the values of a literal stand in the working space t
 abbrev pub arrayedIn : Bytes → Arrayed → Result ConstArray
-arrayedIn t (Alloc k n) = ok (record { kind = kindAt k; count = n; values = [] })
-arrayedIn t (Literal k n) = ok (record { kind = kindAt k; count = n; values = valuesIn t 0 n })
+arrayedIn t (Alloc k n) = ok (record { kind = kindOfNumber k; count = n; values = [] })
+arrayedIn t (Literal k n) = ok (record { kind = kindOfNumber k; count = n; values = valuesIn t 0 n })
 arrayedIn t Pending = failed
 arrayedIn t (Refused r) = refuse r
 
@@ -40,22 +40,22 @@ sizeResult Size.TooLong = refuse 8
 
 -- a literal has at most 1,024 values, and their strings stand on the stack
 abbrev pub ValuesStand : Bytes → ℕ → Type 0
-ValuesStand t n = (n ≤ 1024) × ((i : ℕ) → i < n → Standing (above 16) (slotAt t (entryAt t i)))
+ValuesStand t n = (n ≤ 1024) × ((i : ℕ) → i < n → StringStands (above 16) (slotAt t (entryAt t i)))
 
 -- what stands in t for an array: the values of a literal
-abbrev pub Stands : Bytes → Arrayed → Type 0
-Stands t (Alloc k n) = Unit {0}
-Stands t (Literal k n) = ValuesStand t n
-Stands t Pending = Unit {0}
-Stands t (Refused r) = Unit {0}
+abbrev pub ArrayStands : Bytes → Arrayed → Type 0
+ArrayStands t (Alloc k n) = Unit {0}
+ArrayStands t (Literal k n) = ValuesStand t n
+ArrayStands t Pending = Unit {0}
+ArrayStands t (Refused r) = Unit {0}
 
 -- x is the result r, with its values in t
 pub record Measured (t : Bytes) (r : Result ConstArray) (x : Arrayed) : Type 0 where
   pub result : arrayedIn t x ≡ r
-  pub stands : Stands t x
+  pub stands : ArrayStands t x
 
 -- and t has become u
-pub record Answers (t : Bytes) (r : Result ConstArray) (x : Arrayed) (u : Bytes) : Type 0 where
+pub record ArrayAnswers (t : Bytes) (r : Result ConstArray) (x : Arrayed) (u : Bytes) : Type 0 where
   pub array : Measured u r x
   pub keeps : Keeps 16384 49152 t u
 
@@ -66,8 +66,8 @@ abbrev pub typeOf : Bytes → ℕ → Option Ty
 typeOf s r = tyOf (perhapsAt (nodesIn s) r)
 
 -- SIZE and TY of an `ex,lit` line
-abbrev pub sizeAt : Bytes → ℕ → MaybeEx
-sizeAt s r = maybeEx (perhapsAt (nodesIn s) (numberOf (getD (readAt s (r - 1) .fields) 0 [])))
+abbrev pub litSize : Bytes → ℕ → MaybeEx
+litSize s r = maybeEx (perhapsAt (nodesIn s) (numberOf (getD (readAt s (r - 1) .fields) 0 [])))
 
 abbrev pub ownType : Bytes → ℕ → Option Ty
 ownType s r = typeOf s (numberOf (getD (readAt s (r - 1) .fields) 1 []))
@@ -77,13 +77,13 @@ abbrev pub allocType : Bytes → ℕ → ℕ → Ty
 allocType s declared r = orElse (typeAt s (numberOf (getD (readAt s (r - 1) .fields) 1 []))) (typeOf s declared)
 
 -- `declared` is 0 or a `ty` line
-abbrev pub Declared : Bytes → Bytes → ℕ → ℕ → Type 0
-Declared s t n declared = (declared ≡ 0 → ⊥) → TypeLine s t n declared
+abbrev pub DeclaredElement : Bytes → Bytes → ℕ → ℕ → Type 0
+DeclaredElement s t n declared = (declared ≡ 0 → ⊥) → TypeLine s t n declared
 
 -- line r is an `ex` line, for a global whose type declares its elements' type in a line, or 0
 pub record ArrayLine (s t : Bytes) (n declared r : ℕ) : Type 0 where
   pub line : Line 69 s t n r
-  pub declares : Declared s t n declared
+  pub declares : DeclaredElement s t n declared
 
 -- and an `ex,alloc` line, form 17
 pub record AllocLine (s t : Bytes) (n declared r : ℕ) : Type 0 where
@@ -93,7 +93,7 @@ pub record AllocLine (s t : Bytes) (n declared r : ℕ) : Type 0 where
 -- line r is an `ex,lit` line, for such a global
 pub record LitLine (s t : Bytes) (n declared r : ℕ) : Type 0 where
   pub literal : LiteralLine s t n r
-  pub declares : Declared s t n declared
+  pub declares : DeclaredElement s t n declared
 
 -- and has `count` values
 pub record Counted (s t : Bytes) (n declared r count : ℕ) : Type 0 where
@@ -102,5 +102,5 @@ pub record Counted (s t : Bytes) (n declared r count : ℕ) : Type 0 where
 
 -- t has become u, where x is what the literal of line r is whose elements t holds
 pub record Sized (s t : Bytes) (m declared r reach : ℕ) (x : Arrayed) (u : Bytes) : Type 0 where
-  pub answers : (k next : ℕ) (f : Filled) → k ≤ 16 → Filling t (above 16) k next reach f → Measured u (bind (literalSize (namesIn s t m) (sizeAt s r) f) (measured (typeOf s declared) (ownType s r) (elsAt s r) f)) x
+  pub answers : (k next : ℕ) (f : Filled) → k ≤ 16 → Filling t (above 16) k next reach f → Measured u (bind (literalSize (namesIn s t m) (litSize s r) f) (measured (typeOf s declared) (ownType s r) (elsAt s r) f)) x
   pub keeps : Keeps 16384 49152 t u

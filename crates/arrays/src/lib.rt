@@ -17,11 +17,11 @@ ghost use Rattle.semantics.specs.Array.{Filled, kindNumber, elemKind, isByteCas
 ghost use Rattle.checks.specs.Checks.{Kept};
 ghost use Rattle.sizes.specs.Sizes.{typeAt, TypeLine};
 ghost use Rattle.values.specs.Values.{resultIn};
-ghost use Rattle.names.specs.Table.{Logged};
+ghost use Rattle.names.specs.Table.{ConstsLogged};
 ghost use Rattle.placements.specs.Placements.{valuesIn, Filling};
 ghost use Rattle.leaf.specs.Folds.{exAt};
 ghost use Rattle.literals.specs.Literals.{namesIn, elsAt, Line, LiteralLine, above};
-ghost use Rattle.arrays.specs.Arrays.{kindAt, arrayedIn, sizeResult, Stands, Measured, Answers, typeOf, sizeAt, ownType, allocType, ArrayLine, AllocLine, LitLine, Counted, Sized};
+ghost use Rattle.arrays.specs.Arrays.{kindOfNumber, arrayedIn, sizeResult, ArrayStands, Measured, ArrayAnswers, typeOf, litSize, ownType, allocType, ArrayLine, AllocLine, LitLine, Counted, Sized};
 
 // Above the strings of 16 elements.
 const ABOVE: usize = area::STACK + 256 * 16;
@@ -67,7 +67,7 @@ pub fn elem_kind(sheet: &[u8], work: &[u8], n: usize, r: usize) -> u8
 
 // An `alloc` of a length.
 fn allocated_int(kind: u8, z: i64) -> Arrayed
-    ensures { λ x. ⌜ ((t : Bytes) → (arrayedIn t x ≡ Array.allocated (kindAt kind) (vInt z)) × (Stands t x)) ⌝ }
+    ensures { λ x. ⌜ ((t : Bytes) → (arrayedIn t x ≡ Array.allocated (kindOfNumber kind) (vInt z)) × (ArrayStands t x)) ⌝ }
 {
     if z > LONGEST_ALLOC {
         return Arrayed::Refused(9);
@@ -82,7 +82,7 @@ fn allocated_int(kind: u8, z: i64) -> Arrayed
 }
 
 fn allocated(kind: u8, x: Folded) -> Arrayed
-    ensures { λ y. ⌜ ((t : Bytes) → (arrayedIn t y ≡ bind (resultIn t x) (Array.allocated (kindAt kind))) × (Stands t y)) ⌝ }
+    ensures { λ y. ⌜ ((t : Bytes) → (arrayedIn t y ≡ bind (resultIn t x) (Array.allocated (kindOfNumber kind))) × (ArrayStands t y)) ⌝ }
 {
     match x {
         Folded::Value(v) => match v {
@@ -107,8 +107,8 @@ fn alloc_kind(sheet: &[u8], work: &[u8], n: usize, declared: usize, r: usize) ->
 }
 
 fn alloc(sheet: &[u8], work: &mut [u8], c: Known, declared: usize, r: usize) -> Arrayed
-    requires { ⌜ (AllocLine (now sheet) (now work) (c .lines) declared r) × (Logged (now sheet) (now work) (c .lines) (c .consts)) ⌝ }
-    ensures { λ x. ⌜ Answers (now (work .entry)) (constArray (namesIn (now (sheet .entry)) (now (work .entry)) (c .consts)) (typeOf (now (sheet .entry)) declared) (exAt (now (sheet .entry)) r)) x (now (work .exit)) ⌝ }
+    requires { ⌜ (AllocLine (now sheet) (now work) (c .lines) declared r) × (ConstsLogged (now sheet) (now work) (c .lines) (c .consts)) ⌝ }
+    ensures { λ x. ⌜ ArrayAnswers (now (work .entry)) (constArray (namesIn (now (sheet .entry)) (now (work .entry)) (c .consts)) (typeOf (now (sheet .entry)) declared) (exAt (now (sheet .entry)) r)) x (now (work .exit)) ⌝ }
 {
     let kind = alloc_kind(sheet, work, c.lines, declared, r);
     let q = lines::number_at(sheet, work, c.lines, r - 1, 0);
@@ -138,8 +138,8 @@ fn as_size(x: Folded) -> Size
 
 // The size of a literal: its own, or as many as its indices reach.
 fn literal_size(sheet: &[u8], work: &mut [u8], c: Known, r: usize, reach: u64) -> Size
-    requires { ⌜ (LiteralLine (now sheet) (now work) (c .lines) r) × (Logged (now sheet) (now work) (c .lines) (c .consts)) ⌝ }
-    ensures { λ x. ⌜ ((f : Filled) → reach ≡ f .reach → sizeResult x ≡ Array.literalSize (namesIn (now (sheet .entry)) (now (work .entry)) (c .consts)) (sizeAt (now (sheet .entry)) r) f) × (Kept (above 16) (now (work .entry)) (now (work .exit))) ⌝ }
+    requires { ⌜ (LiteralLine (now sheet) (now work) (c .lines) r) × (ConstsLogged (now sheet) (now work) (c .lines) (c .consts)) ⌝ }
+    ensures { λ x. ⌜ ((f : Filled) → reach ≡ f .reach → sizeResult x ≡ Array.literalSize (namesIn (now (sheet .entry)) (now (work .entry)) (c .consts)) (litSize (now (sheet .entry)) r) f) × (Kept (above 16) (now (work .entry)) (now (work .exit))) ⌝ }
 {
     let q = lines::number_at(sheet, work, c.lines, r - 1, 0);
     if q == 0 {
@@ -208,7 +208,7 @@ fn measured(sheet: &[u8], work: &[u8], n: usize, declared: usize, r: usize, size
 
 // A literal whose elements are placed, with indices that end at `reach`.
 fn sized(sheet: &[u8], work: &mut [u8], c: Known, declared: usize, r: usize, reach: u64) -> Arrayed
-    requires { ⌜ (LitLine (now sheet) (now work) (c .lines) declared r) × (Logged (now sheet) (now work) (c .lines) (c .consts)) ⌝ }
+    requires { ⌜ (LitLine (now sheet) (now work) (c .lines) declared r) × (ConstsLogged (now sheet) (now work) (c .lines) (c .consts)) ⌝ }
     ensures { λ x. ⌜ Sized (now (sheet .entry)) (now (work .entry)) (c .consts) declared r reach x (now (work .exit)) ⌝ }
 {
     match literal_size(sheet, work, c, r, reach) {
@@ -224,8 +224,8 @@ fn sized(sheet: &[u8], work: &mut [u8], c: Known, declared: usize, r: usize, rea
 }
 
 fn literal(sheet: &[u8], work: &mut [u8], c: Known, declared: usize, r: usize) -> Arrayed
-    requires { ⌜ (LitLine (now sheet) (now work) (c .lines) declared r) × (Logged (now sheet) (now work) (c .lines) (c .consts)) ⌝ }
-    ensures { λ x. ⌜ Answers (now (work .entry)) (constArray (namesIn (now (sheet .entry)) (now (work .entry)) (c .consts)) (typeOf (now (sheet .entry)) declared) (exAt (now (sheet .entry)) r)) x (now (work .exit)) ⌝ }
+    requires { ⌜ (LitLine (now sheet) (now work) (c .lines) declared r) × (ConstsLogged (now sheet) (now work) (c .lines) (c .consts)) ⌝ }
+    ensures { λ x. ⌜ ArrayAnswers (now (work .entry)) (constArray (namesIn (now (sheet .entry)) (now (work .entry)) (c .consts)) (typeOf (now (sheet .entry)) declared) (exAt (now (sheet .entry)) r)) x (now (work .exit)) ⌝ }
 {
     match literals::fill(sheet, work, c, r) {
         Placed::Into(x) => sized(sheet, work, c, declared, r, x.reach),
@@ -237,8 +237,8 @@ fn literal(sheet: &[u8], work: &mut [u8], c: Known, declared: usize, r: usize) -
 
 // The constant array that line r is, where `declared` is the line of the type that the global's type declares for elements, or 0.
 pub fn const_array(sheet: &[u8], work: &mut [u8], c: Known, declared: usize, r: usize) -> Arrayed
-    requires { ⌜ (ArrayLine (now sheet) (now work) (c .lines) declared r) × (Logged (now sheet) (now work) (c .lines) (c .consts)) ⌝ }
-    ensures { λ x. ⌜ Answers (now (work .entry)) (constArray (namesIn (now (sheet .entry)) (now (work .entry)) (c .consts)) (typeOf (now (sheet .entry)) declared) (exAt (now (sheet .entry)) r)) x (now (work .exit)) ⌝ }
+    requires { ⌜ (ArrayLine (now sheet) (now work) (c .lines) declared r) × (ConstsLogged (now sheet) (now work) (c .lines) (c .consts)) ⌝ }
+    ensures { λ x. ⌜ ArrayAnswers (now (work .entry)) (constArray (namesIn (now (sheet .entry)) (now (work .entry)) (c .consts)) (typeOf (now (sheet .entry)) declared) (exAt (now (sheet .entry)) r)) x (now (work .exit)) ⌝ }
 {
     let f = lines::form_at(work, r - 1);
     if f == ex::ALLOC {

@@ -22,7 +22,7 @@ use Rattle.nesting.proofs.Depths.{depth-low, refs-lower}
 use Rattle.counts.proofs.Bounds.{within-bounds}
 use Rattle.checks.specs.declared.Checks.{Checks}
 use Rattle.checks.specs.declared.Checks.the-variants.{Lines}
-use Rattle.checks.specs.Checks.{settled, ruled, tested, Checked, Passes}
+use Rattle.checks.specs.Checks.{settled, ruled, tested, Checked, PassesChecks}
 
 -- ---- zeros
 
@@ -102,8 +102,8 @@ compiled-by s work r h listing = h (worked listing (sheetSource s))
 
 -- ---- an answer by its case
 
-pub passes-lines : (s t : List ℕ) (r : Checks) (n : ℕ) → r ≡ Lines n → Passes s t r → Checked s t n
-passes-lines s t r n e p = subst (λ (x : Checks). Passes s t x) e p
+pub passes-lines : (s t : List ℕ) (r : Checks) (n : ℕ) → r ≡ Lines n → PassesChecks s t r → Checked s t n
+passes-lines s t r n e p = subst (λ (x : Checks). PassesChecks s t x) e p
 
 -- ---- what a sheet that passes declares
 

@@ -48,11 +48,11 @@ pub record Kept (k : ℕ) (t u : Bytes) : Type 0 where
   pub long : length u ≡ length t
 
 -- the tables of a sheet that passes, and zeros where it is refused
-abbrev pub Tables : Bytes → Bytes → Checks → Type 0
-Tables s t (Lines n) = Checked s t n
-Tables s t (Refused r k) = t ≡ zeros (length t)
+abbrev pub CheckedTables : Bytes → Bytes → Checks → Type 0
+CheckedTables s t (Lines n) = Checked s t n
+CheckedTables s t (Refused r k) = t ≡ zeros (length t)
 
 -- the same before the zeros are written
-abbrev pub Passes : Bytes → Bytes → Checks → Type 0
-Passes s t (Lines n) = Checked s t n
-Passes s t (Refused r k) = Unit {0}
+abbrev pub PassesChecks : Bytes → Bytes → Checks → Type 0
+PassesChecks s t (Lines n) = Checked s t n
+PassesChecks s t (Refused r k) = Unit {0}

@@ -7,7 +7,7 @@ ghost use Rattle.semantics.specs.Text.{lineParts};
 ghost use Rattle.semantics.specs.Refusal.{Outcome, zeros, checked};
 ghost use Rattle.lines.specs.Lines.{Whole};
 ghost use Rattle.refs.specs.Refs.{Used};
-ghost use Rattle.checks.specs.Checks.{settled, ruled, tested, Tables, Passes};
+ghost use Rattle.checks.specs.Checks.{settled, ruled, tested, CheckedTables, PassesChecks};
 
 const LONGEST: usize = 65535;
 
@@ -22,7 +22,7 @@ pub enum Checks {
 // Refusals 4 to 7, where all n lines have a form and none is used.
 fn rules(sheet: &[u8], work: &mut [u8], n: usize) -> Checks
     requires { ⌜ (Whole (now sheet) (now work) n) × (Used (now work) []) ⌝ }
-    ensures { λ r. ⌜ ((o : Outcome) → ruled (now (sheet .entry)) o ≡ settled r o) × (Passes (now (sheet .entry)) (now (work .exit)) r) ⌝ }
+    ensures { λ r. ⌜ ((o : Outcome) → ruled (now (sheet .entry)) o ≡ settled r o) × (PassesChecks (now (sheet .entry)) (now (work .exit)) r) ⌝ }
 {
     let a = refs::bad_ref(sheet, work, n);
     if a != 0 {
@@ -46,7 +46,7 @@ fn rules(sheet: &[u8], work: &mut [u8], n: usize) -> Checks
 // Refusals 3 to 7, in a working space of zeros.
 fn passes(sheet: &[u8], work: &mut [u8]) -> Checks
     requires { ⌜ (length (now sheet) ≤ 65535) × (65536 ≤ length (now work)) × (now work ≡ zeros (length (now work))) ⌝ }
-    ensures { λ r. ⌜ ((o : Outcome) → checked (lineParts (now (sheet .entry))) o ≡ settled r o) × (Passes (now (sheet .entry)) (now (work .exit)) r) ⌝ }
+    ensures { λ r. ⌜ ((o : Outcome) → checked (lineParts (now (sheet .entry))) o ≡ settled r o) × (PassesChecks (now (sheet .entry)) (now (work .exit)) r) ⌝ }
 {
     match lines::index(sheet, work) {
         lines::Formed::NoForm(k) => Checks::Refused(3, k),
@@ -56,7 +56,7 @@ fn passes(sheet: &[u8], work: &mut [u8]) -> Checks
 
 // The number of lines of a sheet that passes, with its tables in the working space; or its refusal, and zeros there.
 pub fn check(sheet: &[u8], work: &mut [u8]) -> Checks
-    ensures { λ r. ⌜ ((o : Outcome) → tested (length (now (work .entry))) (now (sheet .entry)) o ≡ settled r o) × (Tables (now (sheet .entry)) (now (work .exit)) r) ⌝ }
+    ensures { λ r. ⌜ ((o : Outcome) → tested (length (now (work .entry))) (now (sheet .entry)) o ≡ settled r o) × (CheckedTables (now (sheet .entry)) (now (work .exit)) r) ⌝ }
 {
     write::zero(work);
     if LONGEST < sheet.len() {

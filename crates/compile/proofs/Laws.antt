@@ -24,9 +24,9 @@ use Rattle.pends.specs.Pends.{AllPended}
 use Rattle.tables.specs.declared.Tables.{Tables}
 use Rattle.tables.specs.declared.Made.{Made}
 use Rattle.tables.specs.declared.Made.the-variants as Made
-use Rattle.tables.specs.Tables.{Makes}
+use Rattle.tables.specs.Tables.{MakesTables}
 use Rattle.compile.specs.declared.Listed.{Listed}
-use Rattle.compile.specs.Compile.{Lays, Stops, Tries}
+use Rattle.compile.specs.Compile.{ListingStands, Stops, Tries}
 use Rattle.parts.proofs.Laws.{names-are}
 use Rattle.parts.specs.Parts.{declaredText, typesText, Listable}
 use Rattle.compile.proofs.Numbers.{with-line, without-line, vars-numbered}
@@ -62,7 +62,7 @@ module _ {s t : Bytes} {n : ℕ} {x : Tables} (k : Listable s t n x) where
       whole : Wrote (zeros L) 0 (sourceListing (sheetSource s)) g r
       whole = subst (λ (y : Bytes). Wrote y 0 (sourceListing (sheetSource s)) g r) (z ∙ ap zeros l) (listing-rows a b c)
 
-      pub lays : {u : Bytes} {W end : ℕ} → r ≤ L → end ≡ x .end → 65536 ≤ W → Checked s u n → Lays s (worked L (sheetSource s)) L W r end g u
+      pub lays : {u : Bytes} {W end : ℕ} → r ≤ L → end ≡ x .end → 65536 ≤ W → Checked s u n → ListingStands s (worked L (sheetSource s)) L W r end g u
       lays h e w y =
           let o = on-zeros whole .0 h in
           record {
@@ -84,12 +84,12 @@ module _ {s t : Bytes} {n : ℕ} {x : Tables} (k : Listable s t n x) where
 
 -- ---- tables, or a constant that is refused
 
-module _ (s t : Bytes) (n : ℕ) {y : Made} (h : Makes s t n y) where
+module _ (s t : Bytes) (n : ℕ) {y : Made} (h : MakesTables s t n y) where
   pub tables-listable : {x : Tables} → y ≡ Made.Whole x → Listable s t n x
-  tables-listable q = let w = subst (Makes s t n) q h in record { held = w .0; folded = w .1; log = w .2 }
+  tables-listable q = let w = subst (MakesTables s t n) q h in record { held = w .0; folded = w .1; log = w .2 }
 
   pub constant-refused : (L : ℕ) {l : ℕ} → y ≡ Made.Refused l → Stops (worked L (sheetSource s)) 8 l
-  constant-refused L q = record { outcome = rw (subst (Makes s t n) q h); numbered = with-line (omega arith) (omega arith) }
+  constant-refused L q = record { outcome = rw (subst (MakesTables s t n) q h); numbered = with-line (omega arith) (omega arith) }
 
 -- the same where the working space is as long
 pub tries-as : (s : Bytes) (o : Outcome) (L : ℕ) {W X : ℕ} (r : Listed) (d u : Bytes) → X ≡ W → Tries s o L X r d u → Tries s o L W r d u

@@ -7,7 +7,7 @@ use lib.Seq.{take-at}
 use Rattle.semantics.specs.Text.{Bytes}
 use Rattle.semantics.specs.Sheet.{sheetSource}
 use Rattle.semantics.specs.Refusal.{Outcome, listed, zeros, padded, listingBytes, worked, compiled, sourceListing}
-use Rattle.checks.specs.Checks.{settled, tested, Checked, Tables}
+use Rattle.checks.specs.Checks.{settled, tested, Checked, CheckedTables}
 use Rattle.checks.specs.declared.Checks.{Checks}
 use Rattle.checks.specs.declared.Checks.the-variants as Answer
 use Rattle.checks.proofs.Laws.{compiled-by}
@@ -16,13 +16,13 @@ use Rattle.answers.specs.Answers.{refusalNumber, refusalLine, RefusalAt}
 use Rattle.compile.specs.declared.Listed.{Listed}
 use Rattle.compile.specs.declared.Listed.the-variants.{Written, Refused}
 use Rattle.compile.specs.declared.Answer.the-variants as Answers
-use Rattle.compile.specs.Compile.{Lays, Refuses, Tries, Settles, Works, Lists, Compiles}
+use Rattle.compile.specs.Compile.{ListingStands, Refuses, Tries, Settles, Works, Lists, Compiles}
 use Rattle.compile.proofs.Numbers.{tested-numbered}
 
 -- ---- the buffers of a refused sheet are zeroed
 
 module _ (s : Bytes) (o : Outcome) (L W : ℕ) (d u : Bytes) {r : Listed} where
-  pub tried-written : {p end : ℕ} → r ≡ Written p end → Tries s o L W r d u → Lays s o L W p end d u
+  pub tried-written : {p end : ℕ} → r ≡ Written p end → Tries s o L W r d u → ListingStands s o L W p end d u
   tried-written e h = subst (λ (x : Listed). Tries s o L W x d u) e h
 
   pub tried-refused : {q k : ℕ} → r ≡ Refused q k → Tries s o L W r d u → {e v : Bytes} → e ≡ zeros L → v ≡ zeros W → Refuses o L W q k e v
@@ -30,17 +30,17 @@ module _ (s : Bytes) (o : Outcome) (L W : ℕ) (d u : Bytes) {r : Listed} where
 
 -- ---- the checks before
 
-pub tables-lines : (s t : Bytes) {r : Checks} {n : ℕ} → r ≡ Answer.Lines n → Tables s t r → Checked s t n
-tables-lines s t e h = subst (Tables s t) e h
+pub tables-lines : (s t : Bytes) {r : Checks} {n : ℕ} → r ≡ Answer.Lines n → CheckedTables s t r → Checked s t n
+tables-lines s t e h = subst (CheckedTables s t) e h
 
 module _ (s : Bytes) (W : ℕ) {r : Checks} (h : (o : Outcome) → tested W s o ≡ settled r o) where
-  pub check-refused : (L : ℕ) {q k : ℕ} {d u : Bytes} → r ≡ Answer.Refused q k → d ≡ zeros L → length u ≡ W → Tables s u r → Lists s L W (Refused q k) d u
+  pub check-refused : (L : ℕ) {q k : ℕ} {d u : Bytes} → r ≡ Answer.Refused q k → d ≡ zeros L → length u ≡ W → CheckedTables s u r → Lists s L W (Refused q k) d u
   check-refused L {q} {k} {d} {u} e z l x = record {
     settles = record {
       outcome = compiled-by s W r h L ∙ ap (λ (x : Checks). settled x (worked L (sheetSource s))) e;
       numbered = tested-numbered W s (λ o. h o ∙ ap (λ (x : Checks). settled x o) e);
       bytes = z;
-      work = subst (Tables s u) e x ∙ ap zeros l;
+      work = subst (CheckedTables s u) e x ∙ ap zeros l;
     };
   }
 

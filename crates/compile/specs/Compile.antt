@@ -13,7 +13,7 @@ use Rattle.compile.specs.declared.Answer.{Answer}
 use Rattle.compile.specs.declared.Answer.the-variants as Answer
 
 -- o is what compiling gives: the listing of p bytes stands on L bytes, and the sheet's tables in the working space u of W bytes
-pub record Lays (s : Bytes) (o : Outcome) (L W p end : ℕ) (d u : Bytes) : Type 0 where
+pub record ListingStands (s : Bytes) (o : Outcome) (L W p end : ℕ) (d u : Bytes) : Type 0 where
   pub outcome : o ≡ listed (sourceListing (sheetSource s))
   pub long : p ≡ length (sourceListing (sheetSource s))
   pub room : p ≤ L
@@ -37,11 +37,11 @@ pub record Refuses (o : Outcome) (L W q k : ℕ) (d u : Bytes) : Type 0 where
 
 -- the answer where o is the outcome, before the buffers of a refused sheet are zeroed, and after
 abbrev pub Tries : Bytes → Outcome → ℕ → ℕ → Listed → Bytes → Bytes → Type 0
-Tries s o L W (Written p end) d u = Lays s o L W p end d u
+Tries s o L W (Written p end) d u = ListingStands s o L W p end d u
 Tries s o L W (Refused q k) d u = Stops o q k
 
 abbrev pub Settles : Bytes → Outcome → ℕ → ℕ → Listed → Bytes → Bytes → Type 0
-Settles s o L W (Written p end) d u = Lays s o L W p end d u
+Settles s o L W (Written p end) d u = ListingStands s o L W p end d u
 Settles s o L W (Refused q k) d u = Refuses o L W q k d u
 
 -- that of a checked sheet

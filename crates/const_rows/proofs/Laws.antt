@@ -25,7 +25,7 @@ use Rattle.write.proofs.Wrote.{wrote-none, wrote-as, then}
 use Rattle.implement.specs.Modules.{firstField, isOwn}
 use Rattle.names.specs.Table.{lineOf, moduleLineOf, valueBy, kindOf, bitsOf, logIn, ConstTable, found, hasKey}
 use Rattle.names.proofs.Laws.{slot-is, value-failed, value-int, value-real, value-text}
-use Rattle.const_rows.specs.Rows.{plainKey, qualifiedKey, qualifiedTo, plainTo, qualifiedPart, plainPart, rowsTo, partOf, Shown}
+use Rattle.const_rows.specs.Rows.{plainKey, qualifiedKey, qualifiedTo, plainTo, qualifiedPart, plainPart, rowsTo, entryRows, Shown}
 use Rattle.const_rows.proofs.Keys.{qualified-none, plain-none, qualified-more, plain-more}
 
 -- ---- values
@@ -181,17 +181,17 @@ module _ (s t : Bytes) (m : ℕ) {d : Bytes} {at : ℕ} where
   rows-start true h = nothing (plainTo s t m 0) (plain-none s t m) h
   rows-start false h = nothing (qualifiedTo s t m 0) (qualified-none s t m) h
 
-  pub rows-next : (b : Bool) (i : ℕ) {e f : Bytes} {p q : ℕ} → Wrote d at (rowsTo b s t m i) e p → Wrote e p (partOf b s t m i) f q → Wrote d at (rowsTo b s t m (i + 1)) f q
+  pub rows-next : (b : Bool) (i : ℕ) {e f : Bytes} {p q : ℕ} → Wrote d at (rowsTo b s t m i) e p → Wrote e p (entryRows b s t m i) f q → Wrote d at (rowsTo b s t m (i + 1)) f q
   rows-next true i v w = rw (add-one, plain-more s t m i) (then v w)
   rows-next false i v w = rw (add-one, qualified-more s t m i) (then v w)
 
   pub rows-end : (b : Bool) (i : ℕ) → i ≤ m → m ≤ i → {e : Bytes} {p : ℕ} → Wrote d at (rowsTo b s t m i) e p → Wrote d at (rowsTo b s t m m) e p
   rows-end b i h k w = let x : i ≡ m = omega arith in wrote-as (ap (rowsTo b s t m) x) w
 
-  pub row-plain : {b : Bool} → b ≡ true → {e : Bytes} {p : ℕ} (i : ℕ) → Wrote d at (plainPart s t m i) e p → Wrote d at (partOf b s t m i) e p
+  pub row-plain : {b : Bool} → b ≡ true → {e : Bytes} {p : ℕ} (i : ℕ) → Wrote d at (plainPart s t m i) e p → Wrote d at (entryRows b s t m i) e p
   row-plain h i w = rw h w
 
-  pub row-other : {b : Bool} → b ≡ false → {e : Bytes} {p : ℕ} (i : ℕ) → Wrote d at (qualifiedPart s t m i) e p → Wrote d at (partOf b s t m i) e p
+  pub row-other : {b : Bool} → b ≡ false → {e : Bytes} {p : ℕ} (i : ℕ) → Wrote d at (qualifiedPart s t m i) e p → Wrote d at (entryRows b s t m i) e p
   row-other h i w = rw h w
 
   pub all-rows : {e f g : Bytes} {p q o : ℕ} → Wrote d at [] e p → Wrote e p (qualifiedTo s t m m) f q → Wrote f q (plainTo s t m m) g o → Wrote d at (constRows (logIn s t m)) g o

@@ -38,9 +38,9 @@ abbrev pub rowsTo : Bool → Bytes → Bytes → ℕ → ℕ → Bytes
 rowsTo true s t m i = plainTo s t m i
 rowsTo false s t m i = qualifiedTo s t m i
 
-abbrev pub partOf : Bool → Bytes → Bytes → ℕ → ℕ → Bytes
-partOf true s t m i = plainPart s t m i
-partOf false s t m i = qualifiedPart s t m i
+abbrev pub entryRows : Bool → Bytes → Bytes → ℕ → ℕ → Bytes
+entryRows true s t m i = plainPart s t m i
+entryRows false s t m i = qualifiedPart s t m i
 
 -- what a look-up answered can be shown: r is 0, or one more than the number of an entry
 pub record Shown (t : Bytes) (r : ℕ) : Type 0 where

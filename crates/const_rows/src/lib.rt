@@ -7,7 +7,7 @@ ghost use lib.ListN.{length};
 ghost use Rattle.semantics.specs.Listing.{row, valueFields, constRows};
 ghost use Rattle.write.specs.Wrote.{Wrote};
 ghost use Rattle.names.specs.Table.{found, logIn, ConstTable};
-ghost use Rattle.const_rows.specs.Rows.{qualifiedPart, plainPart, rowsTo, partOf, Shown};
+ghost use Rattle.const_rows.specs.Rows.{qualifiedPart, plainPart, rowsTo, entryRows, Shown};
 
 // The fields of the value that a look-up found, to the row's end.
 fn put_value(work: &[u8], out: &mut [u8], at: usize, r: usize) -> usize
@@ -98,7 +98,7 @@ fn entry_row(
     plain: bool,
 ) -> usize
     requires { ⌜ (ConstTable (now sheet) (now work) (c .lines) (c .consts)) × (i < c .consts) × (at ≤ length (now out) + 1) ⌝ }
-    ensures { λ p. ⌜ Wrote (now (out .entry)) at (partOf plain (now (sheet .entry)) (now (work .entry)) (c .consts) i) (now (out .exit)) p ⌝ }
+    ensures { λ p. ⌜ Wrote (now (out .entry)) at (entryRows plain (now (sheet .entry)) (now (work .entry)) (c .consts) i) (now (out .exit)) p ⌝ }
 {
     if plain {
         return plain_row(sheet, work, c, out, at, i);

@@ -57,8 +57,8 @@ fields-good ls i (a ∷ (b ∷ (d ∷ (e ∷ fs)))) h k =
     }
 
 -- a number as it is read
-place-exact : (f : List ℕ) → upTo 65535 f ≡ true → Number.numberOf 65536 f ≡ numberOf f
-unfolding Number.numberOf
+place-exact : (f : List ℕ) → upTo 65535 f ≡ true → Number.numberUpTo 65536 f ≡ numberOf f
+unfolding Number.numberUpTo
 place-exact f = go (Text.natOf f)
   where
     go : (o : Option ℕ) → Text.holdsOf (λ (m : ℕ). leb m 65535) o ≡ true → Number.capped 65536 o ≡ Text.orElse 0 o
@@ -75,13 +75,13 @@ module _ (s t : List ℕ) (n i : ℕ) (c : Checked s t n) (h : i < n) (con : let
       let p : readAt s i .form .parts ≡ constParts = ap (λ (x : Row). x .parts) (form-is s t n (c .whole) i h) ∙ ap (λ (g : ℕ). rowAt g .parts) form-con in
       fields-good (readsIn s) i (readAt s i .fields) (rw form-con at (read-fits s t n (c .whole) i h)) (rw p at (c .fine i h))
 
-  pub line-number : Number.numberOf 65536 (getD (readAt s i .fields) 1 []) ≡ numberOf (getD (readAt s i .fields) 1 [])
+  pub line-number : Number.numberUpTo 65536 (getD (readAt s i .fields) 1 []) ≡ numberOf (getD (readAt s i .fields) 1 [])
   line-number = place-exact (getD (readAt s i .fields) 1 []) (fields-are .line)
 
-  pub col-number : Number.numberOf 65536 (getD (readAt s i .fields) 2 []) ≡ numberOf (getD (readAt s i .fields) 2 [])
+  pub col-number : Number.numberUpTo 65536 (getD (readAt s i .fields) 2 []) ≡ numberOf (getD (readAt s i .fields) 2 [])
   col-number = place-exact (getD (readAt s i .fields) 2 []) (fields-are .col)
 
-  module _ (r : ℕ) (is : r ≡ Number.numberOf 65536 (getD (readAt s i .fields) 3 [])) where
+  module _ (r : ℕ) (is : r ≡ Number.numberUpTo 65536 (getD (readAt s i .fields) 3 [])) where
     ex-ref : (numberOf (getD (readAt s i .fields) 3 []) ≡ 0 → ⊥) × (numberOf (getD (readAt s i .fields) 3 []) < i + 1)
         × (letter (readAt s (numberOf (getD (readAt s i .fields) 3 []) - 1) .form .kind) ≡ 69)
     ex-ref = needed-ref (readsIn s) (i + 1) 69 (numberOf (getD (readAt s i .fields) 3 [])) (fields-are .fine)

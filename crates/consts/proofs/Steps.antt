@@ -9,7 +9,7 @@ use lib.IntN.{pos}
 use lib.ListN.{getD}
 use Rattle.semantics.specs.Text.{Bytes}
 use Rattle.semantics.specs.Tree as Tree
-use Rattle.semantics.specs.Form.{nodeAt, numberOf}
+use Rattle.semantics.specs.Form.{nodeAt}
 use Rattle.semantics.specs.Sheet.{sheetSource}
 use Rattle.semantics.specs.Fold.{fold}
 use Rattle.semantics.specs.Const.{entries}
@@ -19,7 +19,7 @@ use Rattle.implement.specs.Modules.{firstField, moduleAt}
 use Rattle.words.specs.Words.{digest}
 use Rattle.checks.specs.Checks.{Kept}
 use Rattle.checks.proofs.Kept.{kept-then, kept-less}
-use Rattle.names.specs.Table.{logIn, Logged}
+use Rattle.names.specs.Table.{logIn, ConstsLogged}
 use Rattle.names.proofs.Laws.{logged-kept, log-kept}
 use Rattle.values.specs.declared.ConstVal.{ConstVal}
 use Rattle.values.specs.declared.Folded.{Folded}
@@ -37,7 +37,7 @@ name-is s i = let e : i + 1 - 1 ≡ i = omega arith in rw e
 pub digest-is : (s : Bytes) (i : ℕ) {d : ℕ} {x : Bytes} → x ≡ getD (readAt s i .fields) 0 [] → d ≡ digest x → d ≡ digest (firstField s (i + 1))
 digest-is s i h e = e ∙ ap digest (h ∙ sym (name-is s i))
 
-module _ (s t : Bytes) (n m k i : ℕ) (l : ConstLine s t n m k i) (r : ℕ) (is : r ≡ Number.numberOf 65536 (getD (readAt s i .fields) 3 [])) where
+module _ (s t : Bytes) (n m k i : ℕ) (l : ConstLine s t n m k i) (r : ℕ) (is : r ≡ Number.numberUpTo 65536 (getD (readAt s i .fields) 3 [])) where
   pub value-foldable : Foldable s t n m r 49152
   value-foldable = foldable (ex-line s t n i (l .checked) (l .line) (l .kind) r is) (l .logged) (omega arith) (omega arith)
 
@@ -74,5 +74,5 @@ module _ (s t : Bytes) (n m k i : ℕ) (l : ConstLine s t n m k i) (r : ℕ) (is
     unfolding resultIn
     took-none q = (kept-less (omega arith) (f .kept), λ go. rw (fold-is q))
 
-    pub log-after : Logged s u n m
+    pub log-after : ConstsLogged s u n m
     log-after = logged-kept (f .kept) (l .logged)

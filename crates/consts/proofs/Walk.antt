@@ -12,7 +12,7 @@ use borrow.Author.Tests.{eqb-false, not-true}
 use Rattle.semantics.proofs.Common.{both}
 use Rattle.semantics.specs.Text.{Bytes}
 use Rattle.semantics.specs.Tree.{ConstDecl}
-use Rattle.semantics.specs.Form.{letter, numberOf}
+use Rattle.semantics.specs.Form.{letter}
 use Rattle.semantics.specs.Sheet.{Located, sheetSource}
 use Rattle.semantics.specs.Fold.{Const}
 use Rattle.semantics.specs.Const.{Refusal, Folding, iotaAt, iotaNext, newCounter, pass, passesFrom, constants}
@@ -34,7 +34,7 @@ use Rattle.consts.specs.declared.Visited.{Visited}
 use Rattle.consts.specs.declared.Visited.the-variants as Visited
 use Rattle.consts.specs.declared.Collected.{Collected}
 use Rattle.consts.specs.declared.Collected.the-variants as Collected
-use Rattle.consts.specs.Passes.{groupFrom, passesAfter, constAt, ConstLine, step, tooLong, Steps, AtConstant, Standing, goes, Moves, Visits, Group, Logs, Passes, Before, rest, Past, Collects, left}
+use Rattle.consts.specs.Passes.{groupFrom, passesAfter, constAt, ConstLine, step, tooLong, Steps, AtConstant, PassAt, goes, PassMoves, Visits, Group, Logs, PassDone, Before, rest, Past, Collects, left}
 use Rattle.consts.proofs.Passes.{open-mod, open-other, group-other, group-in, group-out, group-end, passes-start, passes-mod, passes-other, passes-end, count-mod, count-top}
 use Rattle.consts.proofs.Group.{group-start, group-left}
 use Rattle.consts.proofs.Lines.{line-number, col-number}
@@ -47,13 +47,13 @@ module _ {s t : Bytes} {n : ℕ} (c : Checked s t n) {i : ℕ} (h : i < n) where
   pub kind-read : {f x : ℕ} → f ≡ formAt t i → x ≡ kindAt f → letter (readAt s i .form .kind) ≡ x
   kind-read e d = kind-is s t n (c .whole) i h ∙ ap kindAt (sym e) ∙ sym d
 
-module _ (s t : Bytes) (n k : ℕ) (p : Pass) (st : Standing s t n k p) (h : p .line < n) where
+module _ (s t : Bytes) (n k : ℕ) (p : Pass) (st : PassAt s t n k p) (h : p .line < n) where
   pub open-here : Open s t n (p .line) (p .within)
   open-here = record { checked = st .checked; within = st .inside; low = st .low; here = sym (st .opened) }
 
   -- where the group goes on behind the line
   moves-past : (w : ℕ) → w ≤ n → openAt (nodesIn s) (suc (p .line)) ≡ moduleAt s w → groupFrom s k (p .line) ≡ groupFrom s k (suc (p .line))
-      → Moves s t t n k p (record { line = p .line + 1; within = w; count = p .count; iota = p .iota })
+      → PassMoves s t t n k p (record { line = p .line + 1; within = w; count = p .count; iota = p .iota })
   unfolding goes
   moves-past w l o g = record {
     stands = record {
@@ -72,14 +72,14 @@ module _ (s t : Bytes) (n k : ℕ) (p : Pass) (st : Standing s t n k p) (h : p .
   }
 
   module _ {x : ℕ} (kind : letter (readAt s (p .line) .form .kind) ≡ x) where
-    pub moves-other : (x ≡ 68 → ⊥) → {w : ℕ} → Open s t n (p .line + 1) w → Moves s t t n k p (record { line = p .line + 1; within = w; count = p .count; iota = p .iota })
+    pub moves-other : (x ≡ 68 → ⊥) → {w : ℕ} → Open s t n (p .line + 1) w → PassMoves s t t n k p (record { line = p .line + 1; within = w; count = p .count; iota = p .iota })
     moves-other z {w} o = moves-past w (o .low) (sym (rw add-one at (o .here))) (group-other s t n (st .checked) (p .line) h k (λ q. z (sym kind ∙ q)))
 
     module _ (con : x ≡ 68) where
       still : openAt (nodesIn s) (suc (p .line)) ≡ moduleAt s (p .within)
       still = open-other s t n (st .checked) (p .line) h (λ q. omega (arith, kind)) (λ q. omega (arith, kind)) ∙ st .opened
 
-      pub moves-out : (p .within ≡ k → ⊥) → Moves s t t n k p (record { line = p .line + 1; within = p .within; count = p .count; iota = p .iota })
+      pub moves-out : (p .within ≡ k → ⊥) → PassMoves s t t n k p (record { line = p .line + 1; within = p .within; count = p .count; iota = p .iota })
       moves-out z = moves-past (p .within) (st .low) still (group-out s t n (st .checked) (p .line) h (p .within) (st .opened) k (kind ∙ con) z)
 
       pub at-constant : p .within ≡ k → AtConstant s n k p
@@ -87,7 +87,7 @@ module _ (s t : Bytes) (n k : ℕ) (p : Pass) (st : Standing s t n k p) (h : p .
 
 -- ---- a constant of the group
 
-module _ (s t : Bytes) (n k : ℕ) (p : Pass) (st : Standing s t n k p) (a : AtConstant s n k p) where
+module _ (s t : Bytes) (n k : ℕ) (p : Pass) (st : PassAt s t n k p) (a : AtConstant s n k p) where
   group-is : groupFrom s k (p .line) ≡ constAt s k (p .line) ∷ groupFrom s k (suc (p .line))
   group-is = group-in s t n (st .checked) (p .line) (a .line) (p .within) (st .opened) k (a .kind) (a .own) ∙ ap (λ (o : ℕ). constAt s o (p .line) ∷ groupFrom s k (suc (p .line))) (a .own)
 
@@ -104,7 +104,7 @@ module _ (s t : Bytes) (n k : ℕ) (p : Pass) (st : Standing s t n k p) (a : AtC
     group = st .group;
   }
 
-  module _ (line col : ℕ) (hl : line ≡ Number.numberOf 65536 (getD (readAt s (p .line) .fields) 1 [])) (hc : col ≡ Number.numberOf 65536 (getD (readAt s (p .line) .fields) 2 []))
+  module _ (line col : ℕ) (hl : line ≡ Number.numberUpTo 65536 (getD (readAt s (p .line) .fields) 1 [])) (hc : col ≡ Number.numberUpTo 65536 (getD (readAt s (p .line) .fields) 2 []))
       (x : Stepped) (hx : x ≡ steppedOf (p .iota) line col) where
     line-is : line ≡ constAt s k (p .line) .it .line
     line-is = hl ∙ line-number s t n (p .line) (st .checked) (a .line) (a .kind)
@@ -129,7 +129,7 @@ module _ (s t : Bytes) (n k : ℕ) (p : Pass) (st : Standing s t n k p) (a : AtC
       pub visit-refused : Steps s t u n (p .count) k (p .line) (x .value) false → goes s t k p .refused ≡ some (tooLong (p .line + 1))
       visit-refused f = ap (λ (g : Folding). g .refused) (goes-is ∙ f (pass (sheetSource s .implement) (groupFrom s k (suc (p .line))) (iotaNext line col (counterOf (p .iota))))) ∙ rw add-one
 
-      pub visit-on : Steps s t u n (p .count) k (p .line) (x .value) true → Moves s t u n k p (record { line = p .line + 1; within = p .within; count = p .count + 1; iota = x .next })
+      pub visit-on : Steps s t u n (p .count) k (p .line) (x .value) true → PassMoves s t u n k p (record { line = p .line + 1; within = p .within; count = p .count + 1; iota = x .next })
       unfolding goes
       visit-on f = record {
         stands = record {
@@ -150,7 +150,7 @@ module _ (s t : Bytes) (n k : ℕ) (p : Pass) (st : Standing s t n k p) (a : AtC
 -- ---- a pass
 
 module _ (s t u : Bytes) (n k : ℕ) (p : Pass) where
-  pub went-on : {r : Visited} {q : Pass} → r ≡ Visited.On q → Visits s t u n k p r → Moves s t u n k p q
+  pub went-on : {r : Visited} {q : Pass} → r ≡ Visited.On q → Visits s t u n k p r → PassMoves s t u n k p q
   went-on e v = rw e at v
 
   pub stopped : {r : Visited} {j : ℕ} → r ≡ Visited.Refused j → Visits s t u n k p r → goes s t k p .refused ≡ some (tooLong j)
@@ -163,7 +163,7 @@ module _ (s t : Bytes) (n m k : ℕ) (g : Group s t n m k) where
   start-is : groupFrom s k k ≡ groupFrom s k 0
   start-is = group-start s t n (g .checked) k (g .group)
 
-  pub begins : Standing s t n k (beginning k m)
+  pub begins : PassAt s t n k (beginning k m)
   begins = record {
     checked = g .checked;
     logged = g .logged;
@@ -182,7 +182,7 @@ module _ (s t : Bytes) (n m k : ℕ) (g : Group s t n m k) where
   unfolding goes counterOf
   begin-is = rw start-is
 
-  module _ (u : Bytes) (p : Pass) (st : Standing s u n k p) (same : goes s u k p ≡ goes s t k (beginning k m)) where
+  module _ (u : Bytes) (p : Pass) (st : PassAt s u n k p) (same : goes s u k p ≡ goes s t k (beginning k m)) where
     pub pass-refused : {j : ℕ} → goes s u k p .refused ≡ some (tooLong j) → pass (sheetSource s .implement) (groupFrom s k 0) newCounter (logIn s t m) .refused ≡ some (tooLong j)
     pass-refused e = ap (λ (f : Folding). f .refused) (sym begin-is ∙ sym same) ∙ e
 
@@ -227,7 +227,7 @@ module _ (s t : Bytes) (n m i : ℕ) (b : Before s t n m i) where
     room = rw add-one (omega (arith, b .few, count-mod s t n (b .checked) i, count-top s t n (b .checked) (suc i), few-consts (b .checked)));
   }
 
-  pub past-module : i < n → letter (readAt s i .form .kind) ≡ 77 → (u : Bytes) → Kept 5120 t u → (r : Collected) → Passes s t u n m (i + 1) r → Past s t u n m i r
+  pub past-module : i < n → letter (readAt s i .form .kind) ≡ 77 → (u : Bytes) → Kept 5120 t u → (r : Collected) → PassDone s t u n m (i + 1) r → Past s t u n m i r
   unfolding rest
   past-module h e u kept (Collected.Count c) (l, q) = (
     record {
@@ -250,7 +250,7 @@ module _ (s t : Bytes) (n m i : ℕ) (b : Before s t n m i) where
     room = omega (arith, b .few, count-top s t n (b .checked) i, few-consts (b .checked));
   }
 
-  pub past-all : n ≤ i → rest s t m i ≡ constants (sheetSource s) → (u : Bytes) → (r : Collected) → Passes s t u n m 0 r → Collects s u n r
+  pub past-all : n ≤ i → rest s t m i ≡ constants (sheetSource s) → (u : Bytes) → (r : Collected) → PassDone s t u n m 0 r → Collects s u n r
   unfolding rest
   past-all h same u (Collected.Count c) (l, q) =
       let e : constants (sheetSource s) ≡ record { log = logIn s u c; refused = none } =

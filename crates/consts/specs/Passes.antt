@@ -17,7 +17,7 @@ use Rattle.lines.specs.Lines.{readAt, nodesIn}
 use Rattle.implement.specs.Modules.{moduleAt}
 use Rattle.checks.specs.Checks.{Checked}
 use Rattle.source.specs.Walk.{openAt, conOf}
-use Rattle.names.specs.Table.{logIn, Logged}
+use Rattle.names.specs.Table.{logIn, ConstsLogged}
 use Rattle.iota.specs.Iota.{counterOf}
 use Rattle.consts.specs.declared.Pass.{Pass}
 use Rattle.consts.specs.declared.Visited.{Visited}
@@ -65,7 +65,7 @@ left k within = not (eqb k 0) && not (eqb within k)
 -- line i of a checked sheet is a `con` line, 68, in the module of line k, and there is room for an entry m
 pub record ConstLine (s t : Bytes) (n m k i : ℕ) : Type 0 where
   pub checked : Checked s t n
-  pub logged : Logged s t n m
+  pub logged : ConstsLogged s t n m
   pub few : m < 128
   pub line : i < n
   pub kind : letter (readAt s i .form .kind) ≡ 68
@@ -83,15 +83,15 @@ tooLong j = record { number = 8; line = j }
 
 -- it is entered, or its string is too long
 abbrev pub Steps : Bytes → Bytes → Bytes → ℕ → ℕ → ℕ → ℕ → ℕ → Bool → Type 0
-Steps s t u n m k i iota true = Logged s u n (m + 1) × ((go : List Const → Folding) → step s t m k i iota go ≡ go (logIn s u (m + 1)))
+Steps s t u n m k i iota true = ConstsLogged s u n (m + 1) × ((go : List Const → Folding) → step s t m k i iota go ≡ go (logIn s u (m + 1)))
 Steps s t u n m k i iota false = (go : List Const → Folding) → step s t m k i iota go ≡ record { log = logIn s t m; refused = some (tooLong (suc i)) }
 
 -- ---- a pass
 
 -- where a pass over the group k stands
-pub record Standing (s t : Bytes) (n k : ℕ) (p : Pass) : Type 0 where
+pub record PassAt (s t : Bytes) (n k : ℕ) (p : Pass) : Type 0 where
   pub checked : Checked s t n
-  pub logged : Logged s t n (p .count)
+  pub logged : ConstsLogged s t n (p .count)
   pub inside : p .line ≤ n
   pub low : p .within ≤ n
   pub group : k ≤ n
@@ -110,42 +110,42 @@ unfoldable pub goes : Bytes → Bytes → ℕ → Pass → Folding
 goes s t k p = pass (sheetSource s .implement) (groupFrom s k (p .line)) (counterOf (p .iota)) (logIn s t (p .count))
 
 -- from p one line on to q
-pub record Moves (s t u : Bytes) (n k : ℕ) (p q : Pass) : Type 0 where
-  pub stands : Standing s u n k q
+pub record PassMoves (s t u : Bytes) (n k : ℕ) (p q : Pass) : Type 0 where
+  pub stands : PassAt s u n k q
   pub next : q .line ≡ p .line + 1
   pub same : goes s u k q ≡ goes s t k p
   pub count : q .count + length (groupFrom s k (q .line)) ≡ p .count + length (groupFrom s k (p .line))
 
 -- a line is visited: the pass moves on, or the line is refused
 abbrev pub Visits : Bytes → Bytes → Bytes → ℕ → ℕ → Pass → Visited → Type 0
-Visits s t u n k p (Visited.On q) = Moves s t u n k p q
+Visits s t u n k p (Visited.On q) = PassMoves s t u n k p q
 Visits s t u n k p (Visited.Refused j) = goes s t k p .refused ≡ some (tooLong j)
 
 -- a group whose constants are to be entered from entry m on
 pub record Group (s t : Bytes) (n m k : ℕ) : Type 0 where
   pub checked : Checked s t n
-  pub logged : Logged s t n m
+  pub logged : ConstsLogged s t n m
   pub group : k ≤ n
   pub opened : openAt (nodesIn s) k ≡ moduleAt s k
   pub room : m + length (groupFrom s k 0) ≤ 128
 
 -- they are entered, up to entry m
 pub record Logs (s u : Bytes) (n m : ℕ) (f : Folding) : Type 0 where
-  pub logged : Logged s u n m
+  pub logged : ConstsLogged s u n m
   pub same : f ≡ record { log = logIn s u m; refused = none }
 
 -- a pass over the group of line k is done: c entries stand then, or line j is refused
-abbrev pub Passes : Bytes → Bytes → Bytes → ℕ → ℕ → ℕ → Collected → Type 0
-Passes s t u n m k (Collected.Count c) =
+abbrev pub PassDone : Bytes → Bytes → Bytes → ℕ → ℕ → ℕ → Collected → Type 0
+PassDone s t u n m k (Collected.Count c) =
     Logs s u n c (pass (sheetSource s .implement) (groupFrom s k 0) newCounter (logIn s t m)) × (c ≡ m + length (groupFrom s k 0))
-Passes s t u n m k (Collected.Refused j) = pass (sheetSource s .implement) (groupFrom s k 0) newCounter (logIn s t m) .refused ≡ some (tooLong j)
+PassDone s t u n m k (Collected.Refused j) = pass (sheetSource s .implement) (groupFrom s k 0) newCounter (logIn s t m) .refused ≡ some (tooLong j)
 
 -- ---- all passes
 
 -- the passes of the modules that open before line i are done, and their constants are the first m
 pub record Before (s t : Bytes) (n m i : ℕ) : Type 0 where
   pub checked : Checked s t n
-  pub logged : Logged s t n m
+  pub logged : ConstsLogged s t n m
   pub few : m ≤ countBefore s i
 
 -- what the passes from line i on give
@@ -159,5 +159,5 @@ Past s t u n m i (Collected.Refused j) = rest s t m i .refused ≡ some (tooLong
 
 -- the constants are the first m of the table, or line j is refused
 abbrev pub Collects : Bytes → Bytes → ℕ → Collected → Type 0
-Collects s u n (Collected.Count m) = (constants (sheetSource s) .refused ≡ none) × (constants (sheetSource s) .log ≡ logIn s u m) × Logged s u n m
+Collects s u n (Collected.Count m) = (constants (sheetSource s) .refused ≡ none) × (constants (sheetSource s) .log ≡ logIn s u m) × ConstsLogged s u n m
 Collects s u n (Collected.Refused j) = constants (sheetSource s) .refused ≡ some (tooLong j)

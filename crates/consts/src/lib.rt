@@ -7,7 +7,7 @@ use values::Folded;
 ghost use mathlib.Core.Path.{_≡_};
 ghost use Prim.Native.Nat.{_+_, _<_};
 ghost use Rattle.checks.specs.Checks.{Checked, Kept};
-ghost use Rattle.consts.specs.Passes.{ConstLine, Steps, AtConstant, Standing, Visits, Group, Passes, Before, Past, Collects, left};
+ghost use Rattle.consts.specs.Passes.{ConstLine, Steps, AtConstant, PassAt, Visits, Group, PassDone, Before, Past, Collects, left};
 
 // How many constants there are, or the line whose string grows too long.
 pub enum Collected {
@@ -52,7 +52,7 @@ fn take_constant(sheet: &[u8], work: &mut [u8], c: Known, k: usize, i: usize, io
 
 // The constant of the line at which a pass stands.
 fn visit_constant(sheet: &[u8], work: &mut [u8], n: usize, k: usize, p: Pass) -> Visited
-    requires { ⌜ (Standing (now sheet) (now work) n k p) × (AtConstant (now sheet) n k p) ⌝ }
+    requires { ⌜ (PassAt (now sheet) (now work) n k p) × (AtConstant (now sheet) n k p) ⌝ }
     ensures { λ r. ⌜ (Kept 5120 (now (work .entry)) (now (work .exit))) × (Visits (now (sheet .entry)) (now (work .entry)) (now (work .exit)) n k p r) ⌝ }
 {
     let i = p.line;
@@ -78,7 +78,7 @@ fn visit_constant(sheet: &[u8], work: &mut [u8], n: usize, k: usize, p: Pass) ->
 
 // One line of a pass over the constants of the module of line k, or of the top level, 0.
 fn visit(sheet: &[u8], work: &mut [u8], n: usize, k: usize, p: Pass) -> Visited
-    requires { ⌜ (Standing (now sheet) (now work) n k p) × (p .line < n) ⌝ }
+    requires { ⌜ (PassAt (now sheet) (now work) n k p) × (p .line < n) ⌝ }
     ensures { λ r. ⌜ (Kept 5120 (now (work .entry)) (now (work .exit))) × (Visits (now (sheet .entry)) (now (work .entry)) (now (work .exit)) n k p r) ⌝ }
 {
     let i = p.line;
@@ -116,7 +116,7 @@ fn is_left(k: usize, within: usize) -> bool
 // A pass, with entries from m on: from the line behind the one that opens the group to where the group is left.
 fn pass_consts(sheet: &[u8], work: &mut [u8], n: usize, m: usize, k: usize) -> Collected
     requires { ⌜ Group (now sheet) (now work) n m k ⌝ }
-    ensures { λ r. ⌜ (Kept 5120 (now (work .entry)) (now (work .exit))) × (Passes (now (sheet .entry)) (now (work .entry)) (now (work .exit)) n m k r) ⌝ }
+    ensures { λ r. ⌜ (Kept 5120 (now (work .entry)) (now (work .exit))) × (PassDone (now (sheet .entry)) (now (work .entry)) (now (work .exit)) n m k r) ⌝ }
 {
     let mut p = Pass {
         line: k,

@@ -7,7 +7,7 @@ use native.Mathlib.Omega.{arith}
 use lib.ListN.{length, length-append}
 use Rattle.semantics.specs.Tree.{AdtDecl, VarDecl, Declares, Node}
 use Rattle.semantics.specs.Sheet.{declared}
-use Rattle.semantics.specs.Refusal.{Counts, noCounts, counted, over, sumOf, recordCount, tooManyFrom}
+use Rattle.semantics.specs.Refusal.{Counts, noCounts, counted, overLimits, sumOf, recordCount, tooManyFrom}
 use Rattle.counts.specs.Counts.{Bounded}
 use Rattle.counts.proofs.Laws.{bounded}
 
@@ -20,13 +20,13 @@ total : Counts → List Node → Counts
 total c [] = c
 total c (n ∷ ns) = total (counted (n .declares) c) ns
 
-pass-total : (ns : List Node) (k : ℕ) (c : Counts) → 0 < k → over c ≡ false → tooManyFrom k c ns ≡ 0 → over (total c ns) ≡ false
+pass-total : (ns : List Node) (k : ℕ) (c : Counts) → 0 < k → overLimits c ≡ false → tooManyFrom k c ns ≡ 0 → overLimits (total c ns) ≡ false
 unfolding tooManyFrom total
 pass-total [] k c p h e = h
-pass-total (n ∷ ns) k c p h e = go (over (counted (n .declares) c)) refl (λ q x. pass-total ns (suc k) (counted (n .declares) c) (omega arith) q x)
+pass-total (n ∷ ns) k c p h e = go (overLimits (counted (n .declares) c)) refl (λ q x. pass-total ns (suc k) (counted (n .declares) c) (omega arith) q x)
   where
-    go : (b : Bool) → over (counted (n .declares) c) ≡ b → (over (counted (n .declares) c) ≡ false → tooManyFrom (suc k) (counted (n .declares) c) ns ≡ 0 → over (total (counted (n .declares) c) ns) ≡ false)
-        → over (total (counted (n .declares) c) ns) ≡ false
+    go : (b : Bool) → overLimits (counted (n .declares) c) ≡ b → (overLimits (counted (n .declares) c) ≡ false → tooManyFrom (suc k) (counted (n .declares) c) ns ≡ 0 → overLimits (total (counted (n .declares) c) ns) ≡ false)
+        → overLimits (total (counted (n .declares) c) ns) ≡ false
     go true q ih = let z : k ≡ 0 = ap (λ (b : Bool). cond b k (tooManyFrom (suc k) (counted (n .declares) c) ns)) (sym q) ∙ e in absurd (omega arith)
     go false q ih = ih q (ap (λ (b : Bool). cond b k (tooManyFrom (suc k) (counted (n .declares) c) ns)) (sym q) ∙ e)
 

@@ -16,11 +16,11 @@ use Rattle.semantics.specs.Form.{Read, letter, forms, values, numberOf, nodeAt,
 use Rattle.semantics.specs.Form.Kind.{kFd, kPc}
 use Rattle.semantics.specs.Form.Atom.{ref}
 use Rattle.semantics.specs.Form.Part.{one, many}
-use Rattle.semantics.specs.Refusal.{Ref, Counts, noCounts, lineAt, refsIn, refsOf, counted, over, badRefFrom, tooManyFrom}
+use Rattle.semantics.specs.Refusal.{Ref, Counts, noCounts, lineAt, refsIn, refsOf, counted, overLimits, badRefFrom, tooManyFrom}
 use Rattle.decimal.specs.Number as Number
 use Rattle.form.specs.declared.Walk.{Walk}
 use Rattle.form.specs.Table.{rowAt, rowNode}
-use Rattle.form.specs.Letters.{lettersFrom, fieldsLeft, beginning, Standing, Stepped}
+use Rattle.form.specs.Letters.{lettersFrom, fieldsLeft, beginning, WalkAt, WalkStepped}
 use Rattle.semantics.proofs.Common.{never, both}
 use Rattle.form.proofs.Table.{row-count, Only, only-pc, only-pick, only-var, form-of-kind, each-at}
 use Rattle.lines.specs.Lines.{textAt, readsIn, readAt, nodesIn, formAt, Whole}
@@ -31,7 +31,7 @@ use Rattle.refs.proofs.Letters.{ref-number, refs-begin, stands, refs-step, refs
 use Rattle.refs.proofs.Fine.{needed-ref, refs-fine}
 use Rattle.refs.proofs.Nodes.{node-count, node-at}
 use Rattle.refs.proofs.Fields.{count-exact, first-count, third-count, head-drop, tail-drop, values-length}
-use Rattle.counts.specs.Counts.{fieldNumber, oneOf, tagsIn, recordsOf, varNames, added}
+use Rattle.counts.specs.Counts.{fieldNumber, oneOf, tagsIn, recordsOn, varNames, added}
 use Rattle.counts.proofs.Forms.{fromCases, caseTags, CountsAs, all-count}
 
 -- ---- the lines of a sheet by their kinds
@@ -40,13 +40,13 @@ module _ (s t : List ℕ) (n : ℕ) (w : Whole s t n) where
   form-for : {k f : ℕ} → Only k f → (i : ℕ) → i < n → letter (readAt s i .form .kind) ≡ k → formAt t i ≡ f
   form-for o i h e = form-of-kind o (formAt t i) (form-low s t n w i h) (sym (kind-is s t n w i h) ∙ e)
 
-  pub tags-exact : (i : ℕ) → i < n → letter (readAt s i .form .kind) ≡ 67 → Number.numberOf 65536 (getD (readAt s i .fields) 0 []) ≡ fieldNumber (readAt s i) 0
+  pub tags-exact : (i : ℕ) → i < n → letter (readAt s i .form .kind) ≡ 67 → Number.numberUpTo 65536 (getD (readAt s i .fields) 0 []) ≡ fieldNumber (readAt s i) 0
   unfolding forms
   tags-exact i h e =
       let f : formAt t i ≡ 25 = form-for only-pc i h e in
       count-exact (getD (readAt s i .fields) 0 []) (first-count Form.Atom.name (many (ref kFd) ∷ []) (readAt s i .fields) (rw f at (read-fits s t n w i h))) refl .0
 
-  pub names-exact : (i : ℕ) → i < n → letter (readAt s i .form .kind) ≡ 72 → Number.numberOf 65536 (getD (readAt s i .fields) 2 []) ≡ fieldNumber (readAt s i) 2
+  pub names-exact : (i : ℕ) → i < n → letter (readAt s i .form .kind) ≡ 72 → Number.numberUpTo 65536 (getD (readAt s i .fields) 2 []) ≡ fieldNumber (readAt s i) 2
   unfolding forms
   names-exact i h e =
       let f : formAt t i ≡ 29 = form-for only-var i h e in
@@ -118,8 +118,8 @@ module _ (s t : List ℕ) (n : ℕ) (w : Whole s t n) where
           ap (λ (ps : List Form.Part). tagsIn (readsIn s) (refsIn ps (readAt s i .fields))) p
           ∙ pick-fields (readAt s i .fields) (rw f at (read-fits s t n w i hi)) (rw p at (refs-fine s t n w good i hi))
 
-      records-are : cond (eqb (letter (readAt s i .form .kind)) 65) 1 (cond (eqb (letter (readAt s i .form .kind)) 66) (1 + caseTags (nodesIn s) (numberOf (headPart (fromCases (readAt s i .fields)))) (tailParts (fromCases (readAt s i .fields))) + 0) 0) ≡ recordsOf (readsIn s) (readAt s i)
-      unfolding recordsOf
+      records-are : cond (eqb (letter (readAt s i .form .kind)) 65) 1 (cond (eqb (letter (readAt s i .form .kind)) 66) (1 + caseTags (nodesIn s) (numberOf (headPart (fromCases (readAt s i .fields)))) (tailParts (fromCases (readAt s i .fields))) + 0) 0) ≡ recordsOn (readsIn s) (readAt s i)
+      unfolding recordsOn
       records-are = go (eqb (letter (readAt s i .form .kind)) 66) refl
         where
           go : (b : Bool) → eqb (letter (readAt s i .form .kind)) 66 ≡ b
@@ -147,9 +147,9 @@ module _ (s t : List ℕ) (n : ℕ) (w : Whole s t n) where
 
 -- d are the tags of the cases to which the fields up to w refer
 pub record Tagging (s : List ℕ) (i f : ℕ) (l : List ℕ) (w : Walk) (d : ℕ) : Type 0 where
-  pub standing : Standing f l w
-  pub fine : fineRefs (readsIn s) i (Refs.refsIn (lettersFrom f w) (fieldsLeft l w)) ≡ true
-  pub same : tagsIn (readsIn s) (refsOf (readAt s i)) ≡ d + tagsIn (readsIn s) (Refs.refsIn (lettersFrom f w) (fieldsLeft l w))
+  pub standing : WalkAt f l w
+  pub fine : fineRefs (readsIn s) i (Refs.refsBy (lettersFrom f w) (fieldsLeft l w)) ≡ true
+  pub same : tagsIn (readsIn s) (refsOf (readAt s i)) ≡ d + tagsIn (readsIn s) (Refs.refsBy (lettersFrom f w) (fieldsLeft l w))
   pub small : d ≤ 65537 * min (w .at) 256
 
 pub tagging-start : (s t : List ℕ) (n i : ℕ) → Whole s t n → badRefFrom (readsIn s) 1 [] (readsIn s) ≡ 0 → i < n → (l : List ℕ) (f : ℕ) → l ≡ textAt s i → f ≡ formAt t i → (w : Walk) → w ≡ beginning f → Tagging s i f l w 0
@@ -162,8 +162,8 @@ tagging-start s t n i w good h l f hl hf u hu =
       small = omega arith;
     })
 
-tags-case : (ls : List Read) (f : List ℕ) (rs : List Ref) → tagsIn ls (Refs.refOf 67 f rs) ≡ fieldNumber (lineAt ls (numberOf f)) 0 + tagsIn ls rs
-unfolding Refs.refOf
+tags-case : (ls : List Read) (f : List ℕ) (rs : List Ref) → tagsIn ls (Refs.refBy 67 f rs) ≡ fieldNumber (lineAt ls (numberOf f)) 0 + tagsIn ls rs
+unfolding Refs.refBy
 tags-case ls f rs = refl
 
 no-case : (x : ℕ) → (x ≡ 67 → ⊥) → eqb (wantedBy x) 67 && not (ltb x 64) ≡ false
@@ -173,19 +173,19 @@ no-case x n = go (ltb x 64) refl
     go true q = rw q (and-false (eqb (x + 32) 67))
     go false q = rw (q, ne-eqb x 67 n)
 
-tags-other : (ls : List Read) (x : ℕ) (f : List ℕ) (rs : List Ref) → (x ≡ 67 → ⊥) → tagsIn ls (Refs.refOf x f rs) ≡ 0 + tagsIn ls rs
-unfolding Refs.refOf
+tags-other : (ls : List Read) (x : ℕ) (f : List ℕ) (rs : List Ref) → (x ≡ 67 → ⊥) → tagsIn ls (Refs.refBy x f rs) ≡ 0 + tagsIn ls rs
+unfolding Refs.refBy
 tags-other ls x f rs n = go (isRef x) refl
   where
     go : (b : Bool) → isRef x ≡ b → tagsIn ls (cond (isRef x) (record { kind = wantedBy x; optional = ltb x 64; line = numberOf f } ∷ rs) rs) ≡ 0 + tagsIn ls rs
     go true e = rw (e, no-case x n)
     go false e = rw e (omega arith)
 
-module _ (s : List ℕ) (n i : ℕ) (few : n ≤ 1024) (hi : i < n) (f : ℕ) (l : List ℕ) (w u : Walk) (x v d : ℕ) (q : Stepped f l w x v u) (g : Tagging s i f l w d) where
+module _ (s : List ℕ) (n i : ℕ) (few : n ≤ 1024) (hi : i < n) (f : ℕ) (l : List ℕ) (w u : Walk) (x v d : ℕ) (q : WalkStepped f l w x v u) (g : Tagging s i f l w d) where
   rest : List Ref
-  rest = Refs.refsIn (lettersFrom f u) (fieldsLeft l u)
+  rest = Refs.refsBy (lettersFrom f u) (fieldsLeft l u)
 
-  fine-here : fineRefs (readsIn s) i (Refs.refOf x (q .field) rest) ≡ true
+  fine-here : fineRefs (readsIn s) i (Refs.refBy x (q .field) rest) ≡ true
   unfolding rest
   fine-here = rw (refs-step f l w u x v q) at (g .fine)
 
@@ -194,11 +194,11 @@ module _ (s : List ℕ) (n i : ℕ) (few : n ≤ 1024) (hi : i < n) (f : ℕ) (l
 
   module _ (e : isRef x ≡ true) where
     fine-both : (fineRef (readsIn s) (i + 1) asRef ≡ true) × (fineRefs (readsIn s) i rest ≡ true)
-    unfolding asRef Refs.refOf fineRefs
+    unfolding asRef Refs.refBy fineRefs
     fine-both = both (fineRef (readsIn s) (i + 1) asRef) (fineRefs (readsIn s) i rest) (rw e at fine-here)
 
   fine-rest : fineRefs (readsIn s) i rest ≡ true
-  unfolding Refs.refOf
+  unfolding Refs.refBy
   fine-rest = go (isRef x) refl
     where
       go : (b : Bool) → isRef x ≡ b → fineRefs (readsIn s) i rest ≡ true
@@ -223,13 +223,13 @@ module _ (s : List ℕ) (n i : ℕ) (few : n ≤ 1024) (hi : i < n) (f : ℕ) (l
     tagging-case = let k = case-ref in (omega (arith, number-is, k .0), omega (arith, number-is, k .1), rw number-is (k .2))
 
   -- the tags of this field
-  tags-here : tagsIn (readsIn s) (Refs.refOf x (q .field) rest) ≡ cond (eqb x 67) (fieldNumber (readAt s (v - 1)) 0) 0 + tagsIn (readsIn s) rest
+  tags-here : tagsIn (readsIn s) (Refs.refBy x (q .field) rest) ≡ cond (eqb x 67) (fieldNumber (readAt s (v - 1)) 0) 0 + tagsIn (readsIn s) rest
   tags-here = go (eqb x 67) refl
     where
-      go : (b : Bool) → eqb x 67 ≡ b → tagsIn (readsIn s) (Refs.refOf x (q .field) rest) ≡ cond (eqb x 67) (fieldNumber (readAt s (v - 1)) 0) 0 + tagsIn (readsIn s) rest
+      go : (b : Bool) → eqb x 67 ≡ b → tagsIn (readsIn s) (Refs.refBy x (q .field) rest) ≡ cond (eqb x 67) (fieldNumber (readAt s (v - 1)) 0) 0 + tagsIn (readsIn s) rest
       go true p =
           let e = eqb-true x 67 p in
-          ap (λ (y : ℕ). tagsIn (readsIn s) (Refs.refOf y (q .field) rest)) e ∙ tags-case (readsIn s) (q .field) rest
+          ap (λ (y : ℕ). tagsIn (readsIn s) (Refs.refBy y (q .field) rest)) e ∙ tags-case (readsIn s) (q .field) rest
           ∙ ap (λ (m : ℕ). fieldNumber (lineAt (readsIn s) m) 0 + tagsIn (readsIn s) rest) (sym (number-is e))
           ∙ ap (λ (b : Bool). cond b (fieldNumber (readAt s (v - 1)) 0) 0 + tagsIn (readsIn s) rest) (sym p)
       go false p = tags-other (readsIn s) x (q .field) rest (eqb-false x 67 p) ∙ rw p
@@ -252,16 +252,16 @@ length-line s t n i w h l e = rw e (line-short (i + 1) (textAt s i) (w .lined .g
 -- ---- what the readers of a line answer, by its kind
 
 module _ (s : List ℕ) (i k : ℕ) (hk : k ≡ letter (readAt s i .form .kind)) where
-  pub records-adt : k ≡ 65 → 1 ≡ recordsOf (readsIn s) (readAt s i)
-  unfolding recordsOf
+  pub records-adt : k ≡ 65 → 1 ≡ recordsOn (readsIn s) (readAt s i)
+  unfolding recordsOn
   records-adt e = rw (← hk, eq-eqb k 65 e)
 
-  pub records-pick : {d : ℕ} → (k ≡ 65 → ⊥) → k ≡ 66 → d ≡ tagsIn (readsIn s) (refsOf (readAt s i)) → 1 + d ≡ recordsOf (readsIn s) (readAt s i)
-  unfolding recordsOf
+  pub records-pick : {d : ℕ} → (k ≡ 65 → ⊥) → k ≡ 66 → d ≡ tagsIn (readsIn s) (refsOf (readAt s i)) → 1 + d ≡ recordsOn (readsIn s) (readAt s i)
+  unfolding recordsOn
   records-pick n e h = rw (← hk, ne-eqb k 65 n, eq-eqb k 66 e, h)
 
-  pub records-none : (k ≡ 65 → ⊥) → (k ≡ 66 → ⊥) → 0 ≡ recordsOf (readsIn s) (readAt s i)
-  unfolding recordsOf
+  pub records-none : (k ≡ 65 → ⊥) → (k ≡ 66 → ⊥) → 0 ≡ recordsOn (readsIn s) (readAt s i)
+  unfolding recordsOn
   records-none n m = rw (← hk, ne-eqb k 65 n, ne-eqb k 66 m)
 
   pub names-var : {r : ℕ} → k ≡ 72 → r ≡ fieldNumber (readAt s i) 2 → r ≡ varNames (readAt s i)
@@ -273,7 +273,7 @@ module _ (s : List ℕ) (i k : ℕ) (hk : k ≡ letter (readAt s i .form .kind))
   names-none n = rw (← hk, ne-eqb k 72 n)
 
   -- the counts with those of the line
-  pub counts-are : (c : Counts) (a b e r v : ℕ) → a ≡ oneOf k 68 → b ≡ oneOf k 78 → e ≡ oneOf k 71 → r ≡ recordsOf (readsIn s) (readAt s i) → v ≡ varNames (readAt s i)
+  pub counts-are : (c : Counts) (a b e r v : ℕ) → a ≡ oneOf k 68 → b ≡ oneOf k 78 → e ≡ oneOf k 71 → r ≡ recordsOn (readsIn s) (readAt s i) → v ≡ varNames (readAt s i)
       → record { consts = c .consts + a; needs = c .needs + b; frames = c .frames + e; records = c .records + r; names = c .names + v } ≡ added (readsIn s) (readAt s i) c
   unfolding added
   counts-are c a b e r v ha hb he hr hv = rw (ha, hb, he, hr, hv, hk)
@@ -288,7 +288,7 @@ or-parts false false true d e h = never (sym h)
 or-parts false true c d e h = never (sym h)
 or-parts true b c d e h = never (sym h)
 
-pub bounded : (c : Counts) → over c ≡ false → (c .consts ≤ 128) × (c .needs ≤ 128) × (c .frames ≤ 128) × (c .records ≤ 128) × (c .names ≤ 256)
+pub bounded : (c : Counts) → overLimits c ≡ false → (c .consts ≤ 128) × (c .needs ≤ 128) × (c .frames ≤ 128) × (c .records ≤ 128) × (c .names ≤ 256)
 bounded c h =
     let p = or-parts (ltb 128 (c .consts)) (ltb 128 (c .needs)) (ltb 128 (c .frames)) (ltb 128 (c .records)) (ltb 256 (c .names)) h in
     (ltb-false _ _ (p .0), ltb-false _ _ (p .1), ltb-false _ _ (p .2), ltb-false _ _ (p .3), ltb-false _ _ (p .4))
@@ -296,13 +296,13 @@ bounded c h =
 -- ---- the pass over all lines
 
 pub record Counting (s : List ℕ) (i : ℕ) (c : Counts) : Type 0 where
-  pub small : over c ≡ false
+  pub small : overLimits c ≡ false
   pub same : tooManyFrom 1 noCounts (nodesIn s) ≡ tooManyFrom (i + 1) c (drop i (nodesIn s))
 
 pub counting-start : (s : List ℕ) → Counting s 0 noCounts
 counting-start s = record { small = refl; same = refl }
 
-many-cons : (k : ℕ) (c : Counts) (m : Node) (ms : List Node) → tooManyFrom k c (m ∷ ms) ≡ cond (over (counted (m .declares) c)) k (tooManyFrom (suc k) (counted (m .declares) c) ms)
+many-cons : (k : ℕ) (c : Counts) (m : Node) (ms : List Node) → tooManyFrom k c (m ∷ ms) ≡ cond (overLimits (counted (m .declares) c)) k (tooManyFrom (suc k) (counted (m .declares) c) ms)
 unfolding tooManyFrom
 many-cons k c m ms = refl
 
@@ -315,16 +315,16 @@ module _ (s t : List ℕ) (n : ℕ) (w : Whole s t n) (good : badRefFrom (readsI
   counting-end h = sym (g .same ∙ rw (drop-of-length-le (nodesIn s) {i = i} (omega (arith, node-count s t n w))) (many-nil (i + 1) c))
 
   module _ (h : i < n) (d : Counts) (hd : d ≡ added (readsIn s) (readAt s i) c) where
-    opened : tooManyFrom 1 noCounts (nodesIn s) ≡ cond (over d) (i + 1) (tooManyFrom (i + 1 + 1) d (drop (i + 1) (nodesIn s)))
+    opened : tooManyFrom 1 noCounts (nodesIn s) ≡ cond (overLimits d) (i + 1) (tooManyFrom (i + 1 + 1) d (drop (i + 1) (nodesIn s)))
     opened =
         g .same
         ∙ ap (tooManyFrom (i + 1) c) (drop-cons (nodesIn s) i noNode (omega (arith, node-count s t n w)))
         ∙ many-cons (i + 1) c (getD (nodesIn s) i noNode) (drop (suc i) (nodesIn s))
-        ∙ ap (λ (e : Counts). cond (over e) (i + 1) (tooManyFrom (suc (i + 1)) e (drop (suc i) (nodesIn s)))) (line-adds s t n w good i h c ∙ sym hd)
+        ∙ ap (λ (e : Counts). cond (overLimits e) (i + 1) (tooManyFrom (suc (i + 1)) e (drop (suc i) (nodesIn s)))) (line-adds s t n w good i h c ∙ sym hd)
         ∙ rw (← add-one (i + 1), ← add-one i)
 
-    pub counting-over : {b : Bool} → b ≡ over d → b ≡ true → i + 1 ≡ tooManyFrom 1 noCounts (nodesIn s)
+    pub counting-over : {b : Bool} → b ≡ overLimits d → b ≡ true → i + 1 ≡ tooManyFrom 1 noCounts (nodesIn s)
     counting-over p e = sym (opened ∙ rw (sym p ∙ e))
 
-    pub counting-next : {b : Bool} → b ≡ over d → b ≡ false → Counting s (i + 1) d
+    pub counting-next : {b : Bool} → b ≡ overLimits d → b ≡ false → Counting s (i + 1) d
     counting-next p e = record { small = sym p ∙ e; same = opened ∙ rw (sym p ∙ e) }

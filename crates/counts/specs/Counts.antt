@@ -26,8 +26,8 @@ abbrev pub oneOf : ℕ → ℕ → ℕ
 oneOf k j = cond (eqb k j) 1 0
 
 -- an `adt` line, 65, is one record; a `pick` line, 66, one and one for each tag
-unfoldable pub recordsOf : List Read → Read → ℕ
-recordsOf ls l = cond (eqb (letter (l .form .kind)) 65) 1 (cond (eqb (letter (l .form .kind)) 66) (1 + tagsIn ls (refsOf l)) 0)
+unfoldable pub recordsOn : List Read → Read → ℕ
+recordsOn ls l = cond (eqb (letter (l .form .kind)) 65) 1 (cond (eqb (letter (l .form .kind)) 66) (1 + tagsIn ls (refsOf l)) 0)
 
 -- the names of a `var` line, 72
 unfoldable pub varNames : Read → ℕ
@@ -39,7 +39,7 @@ added ls l c = record {
   consts = c .consts + oneOf (letter (l .form .kind)) 68;
   needs = c .needs + oneOf (letter (l .form .kind)) 78;
   frames = c .frames + oneOf (letter (l .form .kind)) 71;
-  records = c .records + recordsOf ls l;
+  records = c .records + recordsOn ls l;
   names = c .names + varNames l;
 }
 

@@ -6,9 +6,9 @@ ghost use mathlib.Core.List.{[]};
 ghost use Prim.Native.Nat.{_-_, _≤_, _<_};
 ghost use lib.Dec.{eqb};
 ghost use Rattle.semantics.specs.Form.{letter};
-ghost use Rattle.semantics.specs.Refusal.{over, noCounts, refsOf, badRefFrom, tooManyFrom};
+ghost use Rattle.semantics.specs.Refusal.{overLimits, noCounts, refsOf, badRefFrom, tooManyFrom};
 ghost use Rattle.lines.specs.Lines.{readsIn, readAt, nodesIn, Whole};
-ghost use Rattle.counts.specs.Counts.{countsOf, fieldNumber, oneOf, tagsIn, recordsOf, varNames, added};
+ghost use Rattle.counts.specs.Counts.{countsOf, fieldNumber, oneOf, tagsIn, recordsOn, varNames, added};
 
 // `con`, `need` and `frame` lines, records plus tags, and `var` names.
 pub struct Tally {
@@ -60,7 +60,7 @@ fn tags(sheet: &[u8], work: &[u8], n: usize, i: usize) -> usize
 // The records that line i, of kind k, declares.
 fn records(sheet: &[u8], work: &[u8], n: usize, i: usize, k: u8) -> usize
     requires { ⌜ (Whole (now sheet) (now work) n) × (badRefFrom (readsIn (now sheet)) 1 [] (readsIn (now sheet)) ≡ 0) × (i < n) × (k ≡ letter (readAt (now sheet) i .form .kind)) ⌝ }
-    ensures { λ r. ⌜ (r ≡ recordsOf (readsIn (now (sheet .entry))) (readAt (now (sheet .entry)) i)) × (r ≤ 16777473) ⌝ }
+    ensures { λ r. ⌜ (r ≡ recordsOn (readsIn (now (sheet .entry))) (readAt (now (sheet .entry)) i)) × (r ≤ 16777473) ⌝ }
 {
     if k == kind::ADT {
         return 1;
@@ -84,7 +84,7 @@ fn names(sheet: &[u8], work: &[u8], n: usize, i: usize, k: u8) -> usize
 
 // The counts with those of line i.
 fn count(sheet: &[u8], work: &[u8], n: usize, i: usize, t: Tally) -> Tally
-    requires { ⌜ (Whole (now sheet) (now work) n) × (badRefFrom (readsIn (now sheet)) 1 [] (readsIn (now sheet)) ≡ 0) × (i < n) × (over (countsOf t) ≡ false) ⌝ }
+    requires { ⌜ (Whole (now sheet) (now work) n) × (badRefFrom (readsIn (now sheet)) 1 [] (readsIn (now sheet)) ≡ 0) × (i < n) × (overLimits (countsOf t) ≡ false) ⌝ }
     ensures { λ r. ⌜ countsOf r ≡ added (readsIn (now (sheet .entry))) (readAt (now (sheet .entry)) i) (countsOf t) ⌝ }
 {
     let k = form::kind(lines::form_at(work, i));
@@ -100,7 +100,7 @@ fn count(sheet: &[u8], work: &[u8], n: usize, i: usize, t: Tally) -> Tally
 }
 
 fn is_over(t: Tally) -> bool
-    ensures { λ r. ⌜ r ≡ over (countsOf t) ⌝ }
+    ensures { λ r. ⌜ r ≡ overLimits (countsOf t) ⌝ }
 {
     if 128 < t.consts {
         return true;

@@ -6,24 +6,24 @@ use lib.ListN.{length}
 use Rattle.semantics.specs.Text.{Bytes}
 use Rattle.checks.specs.Checks.{Checked}
 use Rattle.checks.proofs.Kept.{kept-all, kept-then, kept-less, checked-kept}
-use Rattle.names.specs.Table.{bitsOf, logIn, Logged}
+use Rattle.names.specs.Table.{bitsOf, logIn, ConstsLogged}
 use Rattle.names.proofs.Laws.{logged-same, log-same}
 use Rattle.values.specs.declared.ConstVal.{ConstVal}
 use Rattle.values.specs.declared.ConstVal.the-variants.{Int, Real, Str}
 use Rattle.values.specs.Values.{At, Within}
-use Rattle.placements.specs.Placements.{entryAt, slotAt, elementAt, valuesIn, Keeps, Standing}
+use Rattle.placements.specs.Placements.{entryAt, slotAt, elementIn, valuesIn, Keeps, StringStands}
 use Rattle.placements.proofs.Same.{part-same, value-same, slot-kept, element-same}
 use Rattle.literals.specs.Literals.{above}
 use Rattle.literals.proofs.Names.{kept-low}
 use Rattle.global_table.specs.Table.{VarLine, placesIn, Tabled}
 use Rattle.global_table.proofs.Table.{places-kept, tabled-kept}
-use Rattle.items.specs.Items.{Literal}
+use Rattle.items.specs.Items.{LiteralIn}
 use Rattle.type_keys.specs.Table.{Outside}
 use Rattle.type_keys.proofs.Table.{outside-above}
 use Rattle.vars.specs.declared.First.{First}
 use Rattle.vars.specs.declared.First.the-variants as First
-use Rattle.vars.specs.First.{initIn, Stands}
-use Rattle.data_rows.specs.Data.{Keeping, Filled}
+use Rattle.vars.specs.First.{initIn, FirstStands}
+use Rattle.data_rows.specs.Data.{Keeping, HoldsLiteral}
 
 -- ---- tables
 
@@ -52,8 +52,8 @@ module _ {t u : Bytes} (k : Keeping t u) where
   pub places-still : (s : Bytes) {n g : ℕ} → Tabled s t n g → placesIn s u g ≡ placesIn s t g
   places-still s {n} {g} d = places-kept (kept-less (omega arith) (k .below)) s g (d .few)
 
-  module _ {s : Bytes} {n m : ℕ} (l : Logged s t n m) where
-    pub logged-still : Logged s u n m
+  module _ {s : Bytes} {n m : ℕ} (l : ConstsLogged s t n m) where
+    pub logged-still : ConstsLogged s u n m
     logged-still = logged-same (kept-less (omega (arith, l .few)) (k .below)) l
 
     pub log-still : logIn s u m ≡ logIn s t m
@@ -63,7 +63,7 @@ module _ {t u : Bytes} (k : Keeping t u) where
 
 -- ---- the first value of a line
 
-standing-at : (v : ConstVal) → At 49152 v → Standing (above 16) v
+standing-at : (v : ConstVal) → At 49152 v → StringStands (above 16) v
 standing-at (Int z) h = tt
 standing-at (Real x) h = tt
 standing-at (Str p l) h = (omega (arith, h .0), omega (arith, h .0, h .1), h .1)
@@ -73,12 +73,12 @@ within-at n (Int z) l h = tt
 within-at n (Real x) l h = tt
 within-at n (Str p q) l h = (omega (arith, h .0, h .1), h .1)
 
-within-standing : (n : ℕ) (v : ConstVal) → 65536 ≤ n → Standing (above 16) v → Within n v
+within-standing : (n : ℕ) (v : ConstVal) → 65536 ≤ n → StringStands (above 16) v → Within n v
 within-standing n (Int z) l h = tt
 within-standing n (Real x) l h = tt
 within-standing n (Str p q) l h = (omega (arith, h .1), h .2)
 
-pub literal-filled : {t : Bytes} {count : ℕ} → 65536 ≤ length t → Filled t count → Literal t count
+pub literal-filled : {t : Bytes} {count : ℕ} → 65536 ≤ length t → HoldsLiteral t count → LiteralIn t count
 literal-filled {t} l f = record { long = l; few = f .few; strings = λ i h. within-standing (length t) (slotAt t (entryAt t i)) l (f .strings i h) }
 
 -- storing positions of elements leaves it
@@ -90,25 +90,25 @@ module _ {t u : Bytes} (o : Outside 10624 10629 t u) where
   slot-still : (j : ℕ) → slotAt u j ≡ slotAt t j
   slot-still j = slot-kept t u (o .kept .long) j (λ i x y. outside-above o i (omega arith))
 
-  values-from : (n i : ℕ) → ((j : ℕ) → j < i + n → Standing (above 16) (slotAt t (entryAt t j))) → valuesIn u i n ≡ valuesIn t i n
+  values-from : (n i : ℕ) → ((j : ℕ) → j < i + n → StringStands (above 16) (slotAt t (entryAt t j))) → valuesIn u i n ≡ valuesIn t i n
   unfolding valuesIn
   values-from zero i h = refl
   values-from (suc n) i h =
-      let e : elementAt u (entryAt t i) ≡ elementAt t (entryAt t i) = element-same t u (o .kept .long) (above 16) (entryAt t i) (h i (omega arith)) (λ j x y. outside-above o j (omega arith)) (λ j x y. outside-above o j (omega arith)) in
+      let e : elementIn u (entryAt t i) ≡ elementIn t (entryAt t i) = element-same t u (o .kept .long) (above 16) (entryAt t i) (h i (omega arith)) (λ j x y. outside-above o j (omega arith)) (λ j x y. outside-above o j (omega arith)) in
       rw (entry-still i, e, values-from n (suc i) (λ j l. h j (omega arith)))
 
-  pub values-still : (n : ℕ) → Filled t n → valuesIn u 0 n ≡ valuesIn t 0 n
+  pub values-still : (n : ℕ) → HoldsLiteral t n → valuesIn u 0 n ≡ valuesIn t 0 n
   values-still n f = values-from n 0 (λ j h. f .strings j (omega arith))
 
-  pub filled-still : {n : ℕ} → Filled t n → Filled u n
+  pub filled-still : {n : ℕ} → HoldsLiteral t n → HoldsLiteral u n
   filled-still f = record { few = f .few; strings = λ i h. rw (entry-still i, slot-still (entryAt t i)) (f .strings i h) }
 
-  pub first-still : (x : First) → Stands t x → (initIn u x ≡ initIn t x) × Stands u x
+  pub first-still : (x : First) → FirstStands t x → (initIn u x ≡ initIn t x) × FirstStands u x
   first-still First.NoValue h = (refl, tt)
   first-still (First.Value v) h = (rw (value-same t u (o .kept .long) (above 16) v (standing-at v h) (λ j x y. outside-above o j (omega arith))), h)
   first-still (First.Alloc k n) h = (refl, tt)
   first-still (First.Literal k n) h =
-      let f : Filled t n = record { few = h .0; strings = h .1 } in
+      let f : HoldsLiteral t n = record { few = h .0; strings = h .1 } in
       (rw (values-still n f), (h .0, filled-still f .strings))
   first-still First.Pending h = (refl, tt)
   first-still (First.Refused r) h = (refl, tt)

@@ -16,15 +16,15 @@ use Rattle.semantics.specs.Global.{Item, strItems, elementItems, contents, arra
 use Rattle.semantics.specs.Global.Item.{backItem}
 use Rattle.semantics.specs.Types.{arrayKey, distinct, position}
 use Rattle.laws.proofs.Lists.{concat-append}
-use Rattle.arrays.specs.Arrays.{kindAt}
-use Rattle.type_keys.specs.Table.{kindOf, isUsed, kindsUsed, Kinds}
+use Rattle.arrays.specs.Arrays.{kindOfNumber}
+use Rattle.type_keys.specs.Table.{kindFromOne, isUsed, kindsUsed, Kinds}
 use Rattle.type_lines.proofs.Codes.{same-self}
 use Rattle.type_keys.proofs.Distinct.{distinct-more, from-one-more}
 use Rattle.data_rows.specs.Data.{keysOf}
 
 -- ---- kinds
 
-pub kind-own : (k : ℕ) → k < 5 → k ≡ kindNumber (kindAt k)
+pub kind-own : (k : ℕ) → k < 5 → k ≡ kindNumber (kindOfNumber k)
 kind-own zero h = refl
 kind-own (suc zero) h = refl
 kind-own (suc (suc zero)) h = refl
@@ -32,7 +32,7 @@ kind-own (suc (suc (suc zero))) h = refl
 kind-own (suc (suc (suc (suc zero)))) h = refl
 kind-own (suc (suc (suc (suc (suc k))))) h = absurd (omega arith)
 
-pub kind-pointer : (k : ℕ) → 4 ≤ k → 4 ≡ kindNumber (kindAt k)
+pub kind-pointer : (k : ℕ) → 4 ≤ k → 4 ≡ kindNumber (kindOfNumber k)
 kind-pointer zero h = absurd (omega arith)
 kind-pointer (suc zero) h = absurd (omega arith)
 kind-pointer (suc (suc zero)) h = absurd (omega arith)
@@ -42,7 +42,7 @@ kind-pointer (suc (suc (suc (suc (suc k))))) h = refl
 
 -- an array of a kind
 abbrev pub arrayBy : ℕ → ℕ → List ConstVal → ConstArray
-arrayBy k n vs = record { kind = kindAt k; count = n; values = vs }
+arrayBy k n vs = record { kind = kindOfNumber k; count = n; values = vs }
 
 -- ---- how many keys there are
 
@@ -55,14 +55,14 @@ used-one p = go (eqb p 0)
 
 pub kinds-few : {t : Bytes} {ks : List TypeKey} {count : ℕ} → Kinds t ks count → count ≤ 133
 unfolding kindsUsed
-kinds-few {t} x = omega (arith, x .few, used-one (kindOf t 0), used-one (kindOf t 1), used-one (kindOf t 2), used-one (kindOf t 3), used-one (kindOf t 4))
+kinds-few {t} x = omega (arith, x .few, used-one (kindFromOne t 0), used-one (kindFromOne t 1), used-one (kindFromOne t 2), used-one (kindFromOne t 3), used-one (kindFromOne t 4))
 
 -- ---- one more kind
 
 -- it is used then
-pub kind-used : {t : Bytes} (ks : List TypeKey) {count : ℕ} (k : ElemKind) → Kinds t (ks ++ (elemKey k ∷ [])) count → {kind : ℕ} → kind ≡ kindNumber k → 0 < kindOf t kind
+pub kind-used : {t : Bytes} (ks : List TypeKey) {count : ℕ} (k : ElemKind) → Kinds t (ks ++ (elemKey k ∷ [])) count → {kind : ℕ} → kind ≡ kindNumber k → 0 < kindFromOne t kind
 kind-used {t} ks k x e =
-    let w : kindOf t (kindNumber k) ≡ suc (position (elemKey k) (distinct [] ks)) = x .position k ∙ rw (distinct-more (elemKey k) ks) (from-one-more (elemKey k) (distinct [] ks) (elemKey k) ∙ rw (same-self (elemKey k))) in
+    let w : kindFromOne t (kindNumber k) ≡ suc (position (elemKey k) (distinct [] ks)) = x .position k ∙ rw (distinct-more (elemKey k) ks) (from-one-more (elemKey k) (distinct [] ks) (elemKey k) ∙ rw (same-self (elemKey k))) in
     rw e (omega (arith, w))
 
 -- ---- keys of items

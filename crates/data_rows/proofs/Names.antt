@@ -24,7 +24,7 @@ use Rattle.vars.specs.First.{initIn}
 use Rattle.vars.proofs.Names.{namesFrom, names-step, names-over, names-all}
 use Rattle.data_rows.specs.declared.Next.{Next}
 use Rattle.data_rows.specs.declared.Counts.{Counts}
-use Rattle.data_rows.specs.Data.{Keeping, ItemsPrinted, Held, NameTask, firstItems, nameItems}
+use Rattle.data_rows.specs.Data.{Keeping, ItemsPrinted, PrintTables, NameTask, firstItems, nameItems}
 use Rattle.data_rows.proofs.Kept.{keeping-first, keeping-outside, var-still, tabled-still, places-still, logged-still, first-still}
 use Rattle.data_rows.proofs.Printed.{printed-as, printed-none, printed-then}
 
@@ -32,7 +32,7 @@ use Rattle.data_rows.proofs.Printed.{printed-as, printed-none, printed-
 
 module _ {s t u : Bytes} {c : Counts} where
   -- while items are printed
-  pub held-printed : {xs : List Item} {p q : Next} {d e : Bytes} → Held s t c (p .keys) → Keeping t u → ItemsPrinted s xs p q t u d e → Held s u c (q .keys)
+  pub held-printed : {xs : List Item} {p q : Next} {d e : Bytes} → PrintTables s t c (p .keys) → Keeping t u → ItemsPrinted s xs p q t u d e → PrintTables s u c (q .keys)
   held-printed {xs} h k l = record {
     log = logged-still k (h .log);
     places = tabled-still k (h .places);
@@ -43,7 +43,7 @@ module _ {s t u : Bytes} {c : Counts} where
   }
 
   -- and while a first value is worked out
-  pub held-first : {keys : ℕ} → Held s t c keys → Keeps 16384 49152 t u → Held s u c keys
+  pub held-first : {keys : ℕ} → PrintTables s t c keys → Keeps 16384 49152 t u → PrintTables s u c keys
   held-first h k = record {
     log = logged-still (keeping-first k) (h .log);
     places = tabled-still (keeping-first k) (h .places);
@@ -92,7 +92,7 @@ pub record Naming (s t : Bytes) (c : Counts) (r : ℕ) (x : First) (count : ℕ)
   pub printed : ItemsPrinted s done p q t u d e
   pub rest : done ++ nameItems (typeOn s r) (placesIn s t (c .globals)) (initIn t x) (namesFrom s r count j) ≡ nameItems (typeOn s r) (placesIn s t (c .globals)) (initIn t x) (namesOn s r)
 
-module _ {s t : Bytes} {c : Counts} {r : ℕ} {x : First} {p : Next} (k : NameTask s t c x (p .keys)) (l : VarLine s t (c .lines) r) {count : ℕ} (hc : count ≡ Number.numberOf 65536 (getD (readAt s (r - 1) .fields) 2 [])) where
+module _ {s t : Bytes} {c : Counts} {r : ℕ} {x : First} {p : Next} (k : NameTask s t c x (p .keys)) (l : VarLine s t (c .lines) r) {count : ℕ} (hc : count ≡ Number.numberUpTo 65536 (getD (readAt s (r - 1) .fields) 2 [])) where
   pub naming-start : {q : Next} {d e : Bytes} → Wrote d (p .at) [] e (q .at) → q .keys ≡ p .keys → Naming s t c r x count q e t e q 0
   naming-start {q} {d} {e} w h = record {
     task = rw h k;

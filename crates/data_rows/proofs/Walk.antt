@@ -32,7 +32,7 @@ use Rattle.vars.specs.Lines.{laidOn}
 use Rattle.vars.proofs.Items.{items-all}
 use Rattle.data_rows.specs.declared.Next.{Next}
 use Rattle.data_rows.specs.declared.Counts.{Counts}
-use Rattle.data_rows.specs.Data.{itemsIn, keysOf, rowsOf, Ready, Keeping, ItemsPrinted, Held, NameTask, nameItems}
+use Rattle.data_rows.specs.Data.{itemsIn, keysOf, rowsOf, DataTables, Keeping, ItemsPrinted, PrintTables, NameTask, nameItems}
 use Rattle.data_rows.proofs.Kept.{keeping-all, keeping-then, keeping-first, keeping-outside, checked-still, places-still, log-still}
 use Rattle.data_rows.proofs.Keys.{kinds-few}
 use Rattle.data_rows.proofs.Printed.{printed-as, printed-none, printed-then}
@@ -44,7 +44,7 @@ var-items : (s : Bytes) (r : ℕ) → 0 < r → (ns : Names) (ps : List Global) 
 var-items s zero h ns ps = absurd (omega arith)
 var-items s (suc i) h ns ps = let z : suc i - 1 ≡ i = omega arith in sym (append-nil (varItems ns ps (varOn s (suc i)))) ∙ ap (λ (j : ℕ). lineItems ns ps (locatedAt s j ∷ [])) z
 
-module _ {s t u : Bytes} {c : Counts} {r : ℕ} {x : First} {keys : ℕ} (h : Held s t c keys) (l : VarLine s t (c .lines) r)
+module _ {s t u : Bytes} {c : Counts} {r : ℕ} {x : First} {keys : ℕ} (h : PrintTables s t c keys) (l : VarLine s t (c .lines) r)
     (a : Inits t (initOf (namesIn s t (c .consts)) (varOn s r .ty) (varOn s r .init)) x u)
   where
     pub line-task : NameTask s u c x keys
@@ -68,14 +68,14 @@ none-laid s ns ps z w k = (printed-as (ap (λ (j : ℕ). lineItems ns ps (laidOn
 -- the items of the first i lines are printed
 pub record Walking (s t : Bytes) (c : Counts) (p : Next) (d u e : Bytes) (q : Next) (k i : ℕ) : Type 0 where
   pub here : Open s u (c .lines) i k
-  pub held : Held s u c (q .keys)
+  pub held : PrintTables s u c (q .keys)
   pub keeping : Keeping t u
   pub names : logIn s u (c .consts) ≡ logIn s t (c .consts)
   pub places : placesIn s u (c .globals) ≡ placesIn s t (c .globals)
   pub long : length e ≡ length d
   pub printed : ItemsPrinted s (lineItems (namesIn s t (c .consts)) (placesIn s t (c .globals)) (laidVarsTo s i)) p q t u d e
 
-module _ {s t : Bytes} {c : Counts} {keys : ℕ} (r : Ready s t c keys) where
+module _ {s t : Bytes} {c : Counts} {keys : ℕ} (r : DataTables s t c keys) where
   needs-kinds : Kinds t (keysOf s []) keys
   needs-kinds = rw (append-nil (sheetSource s .needs)) (r .kinds)
 

@@ -14,14 +14,14 @@ use Rattle.semantics.specs.Types.{arrayKey, distinct, keys, idOf}
 use Rattle.semantics.specs.Listing.{itemRow}
 use Rattle.write.specs.Wrote.{Wrote}
 use Rattle.checks.specs.Checks.{Kept}
-use Rattle.names.specs.Table.{Logged, ConstTable}
-use Rattle.placements.specs.Placements.{entryAt, slotAt, Standing}
+use Rattle.names.specs.Table.{ConstsLogged, ConstTable}
+use Rattle.placements.specs.Placements.{entryAt, slotAt, StringStands}
 use Rattle.literals.specs.Literals.{namesIn, above}
 use Rattle.global_table.specs.Table.{placesIn, offsetIn, Tabled}
 use Rattle.items.specs.Items.{itemRows}
 use Rattle.type_keys.specs.Table.{Kinds}
 use Rattle.vars.specs.declared.First.{First}
-use Rattle.vars.specs.First.{Stands}
+use Rattle.vars.specs.First.{FirstStands}
 use Rattle.data_rows.specs.declared.Next.{Next}
 use Rattle.data_rows.specs.declared.Counts.{Counts}
 use Rattle.data_rows.specs.declared.ElementId.{ElementId}
@@ -40,7 +40,7 @@ abbrev pub rowsOf : Bytes → List Item → Bytes
 rowsOf s is = concatMap (itemRow (idOf (sheetSource s) is)) is
 
 -- the tables of a checked sheet: constants, globals, and the keys of needs
-pub record Ready (s t : Bytes) (c : Counts) (keys : ℕ) : Type 0 where
+pub record DataTables (s t : Bytes) (c : Counts) (keys : ℕ) : Type 0 where
   pub table : ConstTable s t (c .lines) (c .consts)
   pub places : Tabled s t (c .lines) (c .globals)
   pub laid : (ns : Names) → placesIn s t (c .globals) ≡ globals ns (sheetSource s) .places
@@ -73,8 +73,8 @@ pub record Keyed (t : Bytes) (frames keys : ℕ) : Type 0 where
   pub kinds : Kinds t known keys
 
 -- the tables that lines are printed from, where the keys of the items printed so far have IDs
-pub record Held (s t : Bytes) (c : Counts) (keys : ℕ) : Type 0 where
-  pub log : Logged s t (c .lines) (c .consts)
+pub record PrintTables (s t : Bytes) (c : Counts) (keys : ℕ) : Type 0 where
+  pub log : ConstsLogged s t (c .lines) (c .consts)
   pub places : Tabled s t (c .lines) (c .globals)
   pub framed : c .frames ≡ length (sheetSource s .frames)
   pub few : c .frames ≤ 128
@@ -82,14 +82,14 @@ pub record Held (s t : Bytes) (c : Counts) (keys : ℕ) : Type 0 where
   pub kinds : Kinds t (keysOf s printed) keys
 
 -- the working space holds a literal of `count` values
-pub record Filled (t : Bytes) (count : ℕ) : Type 0 where
+pub record HoldsLiteral (t : Bytes) (count : ℕ) : Type 0 where
   pub few : count ≤ 1024
-  pub strings : (i : ℕ) → i < count → Standing (above 16) (slotAt t (entryAt t i))
+  pub strings : (i : ℕ) → i < count → StringStands (above 16) (slotAt t (entryAt t i))
 
 -- the tables, and in the working space the first value x
 pub record NameTask (s t : Bytes) (c : Counts) (x : First) (keys : ℕ) : Type 0 where
-  pub held : Held s t c keys
-  pub stands : Stands t x
+  pub held : PrintTables s t c keys
+  pub stands : FirstStands t x
 
 -- ---- the items of a name at an offset, of names at their places, and of lines
 

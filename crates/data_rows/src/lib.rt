@@ -14,13 +14,13 @@ ghost use Rattle.semantics.specs.Array.{kindNumber, isOfKind};
 ghost use Rattle.write.specs.Wrote.{Wrote};
 ghost use Rattle.checks.specs.Checks.{Kept};
 ghost use Rattle.literals.specs.Literals.{namesIn};
-ghost use Rattle.arrays.specs.Arrays.{kindAt};
+ghost use Rattle.arrays.specs.Arrays.{kindOfNumber};
 ghost use Rattle.global_table.specs.Table.{VarLine, typeOn, namesOn, placesIn};
 ghost use Rattle.globals.specs.Vars.{lineItems};
 ghost use Rattle.type_keys.specs.Table.{Kinds, Outside};
-ghost use Rattle.vars.specs.First.{initIn, Stands};
+ghost use Rattle.vars.specs.First.{initIn, FirstStands};
 ghost use Rattle.vars.specs.Lines.{laidOn, MayLay};
-ghost use Rattle.data_rows.specs.Data.{itemsIn, keysOf, rowsOf, Ready, Identified, Keeping, ItemsPrinted, Keyed, Held, NameTask, firstItems, nameItems};
+ghost use Rattle.data_rows.specs.Data.{itemsIn, keysOf, rowsOf, DataTables, Identified, Keeping, ItemsPrinted, Keyed, PrintTables, NameTask, firstItems, nameItems};
 
 // Where the next row goes, and how many keys have an ID.
 pub struct Next {
@@ -36,8 +36,8 @@ pub struct Counts {
     pub frames: usize,
 }
 
-// A first value, and whether its type is big.
-pub struct Typed {
+// What a global holds first, and whether its type is big.
+pub struct Held {
     pub first: First,
     pub big: bool,
 }
@@ -59,7 +59,7 @@ fn is_big(sheet: &[u8], work: &[u8], n: usize, r: usize) -> bool
 
 // The number of a kind of elements, from 0 to 4.
 fn kind_number(kind: u8) -> u8
-    ensures { λ k. ⌜ (k ≡ kindNumber (kindAt kind)) × (k < 5) ⌝ }
+    ensures { λ k. ⌜ (k ≡ kindNumber (kindOfNumber kind)) × (k < 5) ⌝ }
 {
     if kind < element::POINTER {
         return kind;
@@ -93,8 +93,8 @@ fn element_id(work: &mut [u8], frames: usize, kind: u8, keys: usize) -> ElementI
 // ---- one first value, at an offset
 
 // The rows of a first value at an offset.
-fn first_rows(work: &mut [u8], frames: usize, off: usize, x: Typed, out: &mut [u8], p: Next) -> Next
-    requires { ⌜ (Keyed (now work) frames (p .keys)) × (Stands (now work) (x .first)) ⌝ }
+fn first_rows(work: &mut [u8], frames: usize, off: usize, x: Held, out: &mut [u8], p: Next) -> Next
+    requires { ⌜ (Keyed (now work) frames (p .keys)) × (FirstStands (now work) (x .first)) ⌝ }
     ensures { λ q. ⌜ ((s : Bytes) (ty : Ty) → frames ≡ length (sheetSource s .frames) → isOfKind kBig ty ≡ x .big → ItemsPrinted s (firstItems ty off (initIn (now (work .entry)) (x .first))) p q (now (work .entry)) (now (work .exit)) (now (out .entry)) (now (out .exit))) × (Outside 10624 10629 (now (work .entry)) (now (work .exit))) ⌝ }
 {
     let first = x.first;
@@ -132,7 +132,7 @@ fn name_rows(
     work: &mut [u8],
     c: Counts,
     name: &[u8],
-    x: Typed,
+    x: Held,
     out: &mut [u8],
     p: Next,
 ) -> Next
@@ -152,7 +152,7 @@ fn names_rows(
     work: &mut [u8],
     c: Counts,
     r: usize,
-    x: Typed,
+    x: Held,
     out: &mut [u8],
     p: Next,
 ) -> Next
@@ -172,7 +172,7 @@ fn names_rows(
 
 // The rows of the `var` line r, none where r is 0. Its first value stands in the working space while they are printed.
 fn line_rows(sheet: &[u8], work: &mut [u8], c: Counts, r: usize, out: &mut [u8], p: Next) -> Next
-    requires { ⌜ (Held (now sheet) (now work) c (p .keys)) × (MayLay (now sheet) (now work) (c .lines) r) ⌝ }
+    requires { ⌜ (PrintTables (now sheet) (now work) c (p .keys)) × (MayLay (now sheet) (now work) (c .lines) r) ⌝ }
     ensures { λ q. ⌜ (ItemsPrinted (now (sheet .entry)) (lineItems (namesIn (now (sheet .entry)) (now (work .entry)) (c .consts)) (placesIn (now (sheet .entry)) (now (work .entry)) (c .globals)) (laidOn (now (sheet .entry)) r)) p q (now (work .entry)) (now (work .exit)) (now (out .entry)) (now (out .exit))) × (Keeping (now (work .entry)) (now (work .exit))) ⌝ }
 {
     if r == 0 {
@@ -183,7 +183,7 @@ fn line_rows(sheet: &[u8], work: &mut [u8], c: Counts, r: usize, out: &mut [u8],
         consts: c.consts,
     };
     let first = vars::first_value(sheet, work, known, r);
-    let x = Typed {
+    let x = Held {
         first: first,
         big: is_big(sheet, work, c.lines, r),
     };
@@ -192,7 +192,7 @@ fn line_rows(sheet: &[u8], work: &mut [u8], c: Counts, r: usize, out: &mut [u8],
 
 // The rows of all data items of a sheet. Work goes on where the listing is full.
 pub fn data_rows(sheet: &[u8], work: &mut [u8], c: Counts, out: &mut [u8], p: Next) -> Next
-    requires { ⌜ Ready (now sheet) (now work) c (p .keys) ⌝ }
+    requires { ⌜ DataTables (now sheet) (now work) c (p .keys) ⌝ }
     ensures { λ r. ⌜ (Wrote (now (out .entry)) (p .at) (rowsOf (now (sheet .entry)) (itemsIn (now (sheet .entry)) (now (work .entry)) (c .consts))) (now (out .exit)) (r .at)) × (Kinds (now (work .exit)) (keysOf (now (sheet .entry)) (itemsIn (now (sheet .entry)) (now (work .entry)) (c .consts))) (r .keys)) × (r .keys < 1024) × (Kept 10624 (now (work .entry)) (now (work .exit))) ⌝ }
 {
     let mut q = no_rows(out, p);

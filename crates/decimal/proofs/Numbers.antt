@@ -20,7 +20,7 @@ use Rattle.semantics.proofs.Common.{never}
 use Rattle.decimal.specs.declared.Signed.{Signed}
 use Rattle.decimal.specs.declared.Signed.the-variants.{Plus, Minus, NoInteger}
 use Rattle.decimal.specs.declared.Integer.the-variants.{Is, Bad}
-use Rattle.decimal.specs.Number.{most, capped, digitsOf, numberOf, signed, signedOf, whole, integerOf, isBetween}
+use Rattle.decimal.specs.Number.{most, capped, digitsOf, numberUpTo, signed, signedOf, whole, integerOf, isBetween}
 
 -- ---- digits behind others, where all that is known of a large number is that it is large
 
@@ -84,38 +84,38 @@ module _ (cap i : ℕ) (s : Bytes) where
   first : i < length s → getD (drop i s) 0 0 ≡ getD s i 0
   first h = rw (drop-cons s i 0 h)
 
-  pub number-none : length s ≤ i → cap + 1 ≡ numberOf cap (drop i s)
-  unfolding numberOf natOf
+  pub number-none : length s ≤ i → cap + 1 ≡ numberUpTo cap (drop i s)
+  unfolding numberUpTo natOf
   number-none h = rw (drop-of-length-le s h)
 
-  pub number-leading : getD s i 0 ≡ 48 → i + 1 < length s → cap + 1 ≡ numberOf cap (drop i s)
-  unfolding numberOf
+  pub number-leading : getD s i 0 ≡ 48 → i + 1 < length s → cap + 1 ≡ numberUpTo cap (drop i s)
+  unfolding numberUpTo
   number-leading e h = rw (nat-leading (drop i s) (first (omega arith) ∙ e) (omega (arith, length-drop i s)))
 
-  pub number-zero : getD s i 0 ≡ 48 → i < length s → length s ≤ i + 1 → 0 ≡ numberOf cap (drop i s)
-  unfolding numberOf
+  pub number-zero : getD s i 0 ≡ 48 → i < length s → length s ≤ i + 1 → 0 ≡ numberUpTo cap (drop i s)
+  unfolding numberUpTo
   number-zero e h k = rw (nat-zero (drop i s) (first h ∙ e) (omega (arith, length-drop i s))) (omega arith)
 
-  pub number-digits : (getD s i 0 ≡ 48 → ⊥) → i < length s → digitsOf cap 0 (drop i s) ≡ numberOf cap (drop i s)
-  unfolding numberOf digitsOf
+  pub number-digits : (getD s i 0 ≡ 48 → ⊥) → i < length s → digitsOf cap 0 (drop i s) ≡ numberUpTo cap (drop i s)
+  unfolding numberUpTo digitsOf
   number-digits n h = rw (nat-digits (drop i s) (λ e. n (sym (first h) ∙ e)) (omega (arith, length-drop i s)))
 
 -- a smaller cap, by what is known at `most`
-module _ (cap : ℕ) (s : Bytes) (small : cap < most) {n : ℕ} (is : n ≡ numberOf most (drop 0 s)) where
+module _ (cap : ℕ) (s : Bytes) (small : cap < most) {n : ℕ} (is : n ≡ numberUpTo most (drop 0 s)) where
   recap : (o : Option ℕ) → n ≡ capped most o → (most < n → cap + 1 ≡ capped cap o) × (n ≤ most → cap < n → cap ≡ capped cap o) × (n ≤ cap → n ≡ capped cap o)
   recap none e = (λ h. refl, λ h k. absurd (omega arith), λ h. absurd (omega arith))
   recap (some m) e = (λ h. absurd (omega arith), λ h k. omega arith, λ h. omega arith)
 
-  pub cap-none : most < n → cap + 1 ≡ numberOf cap s
-  unfolding numberOf
+  pub cap-none : most < n → cap + 1 ≡ numberUpTo cap s
+  unfolding numberUpTo
   cap-none h = recap (natOf s) is .0 h
 
-  pub cap-large : n ≤ most → cap < n → cap ≡ numberOf cap s
-  unfolding numberOf
+  pub cap-large : n ≤ most → cap < n → cap ≡ numberUpTo cap s
+  unfolding numberUpTo
   cap-large h k = recap (natOf s) is .1 h k
 
-  pub cap-small : n ≤ cap → n ≡ numberOf cap s
-  unfolding numberOf
+  pub cap-small : n ≤ cap → n ≡ numberUpTo cap s
+  unfolding numberUpTo
   cap-small h = recap (natOf s) is .2 h
 
 -- ---- integers: `-` stands only before a number other than 0
@@ -136,7 +136,7 @@ int-plus [] e h = absurd (omega arith)
 int-plus (b ∷ bs) e h = simp (ne-eqb b 45 e)
 
 module _ (s : Bytes) (h : 0 < length s) {m : ℕ} where
-  module _ (e : getD s 0 0 ≡ 45) (is : m ≡ numberOf most (drop 1 s)) where
+  module _ (e : getD s 0 0 ≡ 45) (is : m ≡ numberUpTo most (drop 1 s)) where
     minus-by : (o : Option ℕ) → m ≡ capped most o
         → (m ≡ 0 → NoInteger ≡ signed (negative o)) × (most < m → NoInteger ≡ signed (negative o)) × ((m ≡ 0 → ⊥) → m ≤ most → Minus m ≡ signed (negative o))
     minus-by none p = (λ z. refl, λ l. refl, λ z l. absurd (omega arith))
@@ -144,28 +144,28 @@ module _ (s : Bytes) (h : 0 < length s) {m : ℕ} where
     minus-by (some (suc n)) p = (λ z. absurd (omega arith), λ l. absurd (omega arith), λ z l. ap Minus p)
 
     pub minus-zero : m ≡ 0 → NoInteger ≡ signedOf s
-    unfolding signedOf numberOf
+    unfolding signedOf numberUpTo
     minus-zero z = rw (int-minus s e h) (minus-by (natOf (drop 1 s)) is .0 z)
 
     pub minus-none : most < m → NoInteger ≡ signedOf s
-    unfolding signedOf numberOf
+    unfolding signedOf numberUpTo
     minus-none l = rw (int-minus s e h) (minus-by (natOf (drop 1 s)) is .1 l)
 
     pub minus-some : (m ≡ 0 → ⊥) → m ≤ most → Minus m ≡ signedOf s
-    unfolding signedOf numberOf
+    unfolding signedOf numberUpTo
     minus-some z l = rw (int-minus s e h) (minus-by (natOf (drop 1 s)) is .2 z l)
 
-  module _ (e : getD s 0 0 ≡ 45 → ⊥) (is : m ≡ numberOf most (drop 0 s)) where
+  module _ (e : getD s 0 0 ≡ 45 → ⊥) (is : m ≡ numberUpTo most (drop 0 s)) where
     plus-by : (o : Option ℕ) → m ≡ capped most o → (most < m → NoInteger ≡ signed (mapOption pos o)) × (m ≤ most → Plus m ≡ signed (mapOption pos o))
     plus-by none p = (λ l. refl, λ l. absurd (omega arith))
     plus-by (some n) p = (λ l. absurd (omega arith), λ l. ap Plus p)
 
     pub plus-none : most < m → NoInteger ≡ signedOf s
-    unfolding signedOf numberOf
+    unfolding signedOf numberUpTo
     plus-none l = rw (int-plus s e h) (plus-by (natOf s) is .0 l)
 
     pub plus-some : m ≤ most → Plus m ≡ signedOf s
-    unfolding signedOf numberOf
+    unfolding signedOf numberUpTo
     plus-some l = rw (int-plus s e h) (plus-by (natOf s) is .1 l)
 
 -- what sign and size say of the integer

@@ -22,8 +22,8 @@ capped cap (some n) = min n cap
 unfoldable pub digitsOf : ℕ → ℕ → Bytes → ℕ
 digitsOf cap n s = capped cap (digitsValue n s)
 
-unfoldable pub numberOf : ℕ → Bytes → ℕ
-numberOf cap s = capped cap (natOf s)
+unfoldable pub numberUpTo : ℕ → Bytes → ℕ
+numberUpTo cap s = capped cap (natOf s)
 
 -- an integer's sign and its size, no further than `most`
 abbrev pub signed : Option ℤ → Signed

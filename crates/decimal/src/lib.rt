@@ -3,7 +3,7 @@ use text::wide;
 ghost use mathlib.Core.Path.{_≡_};
 ghost use Prim.Native.Nat.{_+_, _*_, _≤_, min};
 ghost use lib.ListN.{drop};
-ghost use Rattle.decimal.specs.Number.{most, digitsOf, numberOf, signedOf, integerOf, isBetween};
+ghost use Rattle.decimal.specs.Number.{most, digitsOf, numberUpTo, signedOf, integerOf, isBetween};
 
 // One more than the size of the lowest i64: a number that is larger need not be told from it.
 pub const MOST: u64 = 9223372036854775809;
@@ -54,7 +54,7 @@ fn digits(s: &[u8], from: usize) -> u64
 
 // The number that the bytes from `from` on write, MOST where it is larger, MOST + 1 where there is none: a zero stands alone.
 pub fn natural(s: &[u8], from: usize) -> u64
-    ensures { λ r. ⌜ r ≡ numberOf most (drop from (now (s .entry))) ⌝ }
+    ensures { λ r. ⌜ r ≡ numberUpTo most (drop from (now (s .entry))) ⌝ }
 {
     if s.len() <= from {
         return MOST + 1;
@@ -70,7 +70,7 @@ pub fn natural(s: &[u8], from: usize) -> u64
 
 // A number, cap where it is larger, and cap + 1 where there is none.
 pub fn read_number(s: &[u8], cap: u32) -> u64
-    ensures { λ r. ⌜ (r ≡ numberOf cap (now (s .entry))) × (r ≤ cap + 1) ⌝ }
+    ensures { λ r. ⌜ (r ≡ numberUpTo cap (now (s .entry))) × (r ≤ cap + 1) ⌝ }
 {
     let n = natural(s, 0);
     let c = cap as u64;

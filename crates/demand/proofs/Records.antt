@@ -12,7 +12,7 @@ use borrow.Author.Tests.{eqb-true, le-leb, eq-eqb}
 use Rattle.semantics.specs.Text.{Bytes, same, any}
 use Rattle.semantics.specs.Tree.{Ty, Fd, Case, AdtDecl}
 use Rattle.semantics.specs.Tree.Ty.{basic, ptr, array, tuple}
-use Rattle.semantics.specs.Layout.{alignUp, roundedSize, alignOf, sizeOf, isPtr, marks, marked, Placed, placeNames, placeLine, place, furthest, pointersOf, shapeOf, Recorded, withoutPick, withPick, recordsFor, recordsOf, recordLog, lastOf, seen, recordsByKey, records}
+use Rattle.semantics.specs.Layout.{alignUp, roundedSize, alignOf, sizeOf, isPtr, marks, marked, PlacedField, placeNames, placeLine, place, furthest, pointersOf, shapeOf, Recorded, withoutPick, withPick, recordsFor, recordsOf, recordLog, lastOf, seen, recordsByKey, records}
 use Rattle.semantics.specs.Demand.{filledBy, filling, typedNames, typedFields, typedOf, InOrder, pointerAt, Apart, AllApart}
 use Rattle.laws.proofs.Tests.{or-left, or-right, tests-agree, same-refl, same-eq}
 use Rattle.laws.proofs.Lists.{last-append}
@@ -30,20 +30,20 @@ sized (tuple ts) = omega arith
 -- ---- the fields lie in order
 
 -- each begins at a word, where the one before it has ended, or later
-abbrev Laid : ℕ → List Placed → Type 0
+abbrev Laid : ℕ → List PlacedField → Type 0
 Laid end [] = Unit {0}
 Laid end (p ∷ ps) = (end ≤ p .offset) × (p .offset % 4 ≡ 0) × Laid (p .offset + sizeOf (p .ty)) ps
 
-laid-from : (d e : ℕ) (ps : List Placed) → d ≤ e → Laid e ps → Laid d ps
+laid-from : (d e : ℕ) (ps : List PlacedField) → d ≤ e → Laid e ps → Laid d ps
 laid-from d e [] h l = tt
 laid-from d e (p ∷ ps) h l = (le-trans h (l .0), l .1, l .2)
 
-names-laid : (t : Ty) (off : ℕ) (ns : List Bytes) (ps : List Placed) → off % 4 ≡ 0 → Laid (placeNames t off ns .end) ps
+names-laid : (t : Ty) (off : ℕ) (ns : List Bytes) (ps : List PlacedField) → off % 4 ≡ 0 → Laid (placeNames t off ns .end) ps
     → Laid off (placeNames t off ns .placed ++ ps)
 names-laid t off [] ps h l = l
 names-laid t off (n ∷ ns) ps h l = (le-refl off, h, names-laid t (off + sizeOf t) ns ps (omega (arith, sized t)) l)
 
-line-laid : (t : Option Ty) (off : ℕ) (ns : List Bytes) (ps : List Placed) → Laid (placeLine t ns off .end) ps
+line-laid : (t : Option Ty) (off : ℕ) (ns : List Bytes) (ps : List PlacedField) → Laid (placeLine t ns off .end) ps
     → Laid off (placeLine t ns off .placed ++ ps)
 line-laid none off ns ps l = l
 line-laid (some t) off ns ps l =
@@ -57,11 +57,11 @@ fields-laid (f ∷ fs) off =
     let end = placeLine (f .ty) (f .names) off .end in
     line-laid (f .ty) off (f .names) (place end fs .placed) (fields-laid fs end)
 
-furthest-above : (e : ℕ) (ps : List Placed) → e ≤ furthest e ps
+furthest-above : (e : ℕ) (ps : List PlacedField) → e ≤ furthest e ps
 furthest-above e [] = le-refl e
 furthest-above e (p ∷ ps) = omega (arith, furthest-above (max e (p .offset + sizeOf (p .ty))) ps)
 
-in-order : (e f size : ℕ) (ps : List Placed) → Laid e ps → furthest f ps ≤ size → InOrder e size ps
+in-order : (e f size : ℕ) (ps : List PlacedField) → Laid e ps → furthest f ps ≤ size → InOrder e size ps
 in-order e f size [] l h = tt
 in-order e f size (p ∷ ps) l h =
     let x = p .offset + sizeOf (p .ty) in
@@ -89,7 +89,7 @@ word-marked size off w h f =
     rw (le-leb (off + 4) size)
     (tests-agree (eqb (off / 4) w) (eqb off (w * 4)) (λ e. eq-eqb off (w * 4) (omega (arith, eqb-true))) (λ e. eq-eqb (off / 4) w (omega (arith, eqb-true))))
 
-pointers-marked : (e size w : ℕ) (ps : List Placed) → Laid e ps → InOrder e size ps → marked size (pointersOf ps) w ≡ any (pointerAt (w * 4)) ps
+pointers-marked : (e size w : ℕ) (ps : List PlacedField) → Laid e ps → InOrder e size ps → marked size (pointersOf ps) w ≡ any (pointerAt (w * 4)) ps
 pointers-marked e size w [] l o = refl
 pointers-marked e size w (p ∷ ps) l o = go (isPtr (p .ty)) (pointers-marked (p .offset + sizeOf (p .ty)) size w ps (l .2) (o .2))
   where

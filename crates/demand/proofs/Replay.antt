@@ -24,7 +24,7 @@ use Rattle.semantics.specs.Global.{Item, Init, Declared, globalSize, newOffset,
 use Rattle.semantics.specs.Global.Item.{valuesItem, strItem, arrayItem, setItem, backItem}
 use Rattle.semantics.specs.Global.Init.{noInit, constInit, arrayInit, pendingInit}
 use Rattle.semantics.specs.Image.{written, wordBytes, bigBytes, realBytes, handle, elemSize, partAt, endAfter, areaAfter, ArrayPart, Replay, startOf, lay, replayItem, replayAll}
-use Rattle.semantics.specs.Demand.{isOf, ofKind, kindsFit, Laid, afterPart, laidFrom, valueBytes, firstBytes, imageByte, stringBytes, elementBytes, afterString, elementsBytes, partByte, areaByte}
+use Rattle.semantics.specs.Demand.{isOf, ofKind, kindsFit, LaidGlobal, afterPart, laidFrom, valueBytes, firstBytes, imageByte, stringBytes, elementBytes, afterString, elementsBytes, partByte, areaByte}
 use Rattle.semantics.proofs.Common.{never}
 use Rattle.laws.proofs.Tests.{and-left, and-right}
 use Rattle.demand.proofs.Bytes.{shifted, shifted-below, shifted-at, shifted-past, shifted-nil, shifted-append, length-written, written-adds, layer, lies-below, getD-zeros, word-bytes}
@@ -425,7 +425,7 @@ items-end (d ∷ ds) e a =
     ∙ items-end ds (endAt d e) (afterPart a (d .first))
 
 -- what a replay of all items adds to image and area
-pub record Replayed (r : Replay) (im ar : Bytes) (ls : List Laid) : Type 0 where
+pub record Replayed (r : Replay) (im ar : Bytes) (ls : List LaidGlobal) : Type 0 where
   pub imageLong : length (r .image) ≡ length im
   pub areaLong : length (r .area) ≡ length ar
   pub image : (p : ℕ) → getD (r .image) p 0 ≡ getD im p 0 + imageByte ls p

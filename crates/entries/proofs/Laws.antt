@@ -30,7 +30,7 @@ use Rattle.words.specs.Words.{digest, u16At, bitsAt}
 use Rattle.implement.specs.Modules.{firstField}
 use Rattle.checks.specs.Checks.{Kept}
 use Rattle.checks.proofs.Kept.{kept-then, kept-less}
-use Rattle.names.specs.Table.{lineOf, moduleLineOf, valueBy, kindOf, bitsOf, digestOf, entriesAt, logIn, Entry, Logged}
+use Rattle.names.specs.Table.{lineOf, moduleLineOf, valueBy, kindOf, bitsOf, digestOf, entriesAt, logIn, EntryBounds, ConstsLogged}
 use Rattle.names.proofs.Laws.{slot-is, value-failed, value-int, value-real, value-text, part-low, part-kept, SameText, logged-same, log-same}
 use Rattle.values.specs.declared.ConstVal.{ConstVal}
 use Rattle.values.specs.declared.ConstVal.the-variants.{Int, Real, Str}
@@ -154,7 +154,7 @@ module _ (t u : Bytes) (m line within kind bits d : ℕ) (f : Free t m line with
   unfolding entryOf
   digest-here = byte-here (5133 + 16 * m) 13 (omega arith) (omega arith) ∙ getD-at (bigEndian 8 bits) d [] 0 8 (big-length 8 bits)
 
-  entry-new : (n : ℕ) → line ≤ n → within ≤ n → Entry u n m
+  entry-new : (n : ℕ) → line ≤ n → within ≤ n → EntryBounds u n m
   entry-new n p q = record {
     first = rw line-here (f .first);
     last = rw line-here p;
@@ -172,26 +172,26 @@ module _ (t u : Bytes) (m line within kind bits d : ℕ) (f : Free t m line with
 
   -- ---- the earlier ones
 
-  texts-same : (s : Bytes) (n : ℕ) → Logged s t n m → (i : ℕ) → i < m → SameText t u i
+  texts-same : (s : Bytes) (n : ℕ) → ConstsLogged s t n m → (i : ℕ) → i < m → SameText t u i
   texts-same s n l i h k =
       let g = l .each i h .own k in
       let e = l .each i h .text k in
       rw (behind (bitsOf t i % 65536) (omega arith)) (part-kept string-kept (bitsOf t i % 65536) (bitsOf t i / 65536) (omega (arith, e .short)))
 
-  entered : (v : Option Tree.ConstVal) → valueBy u kind bits ≡ v → (s : Bytes) (n : ℕ) → line ≤ n → within ≤ n → d ≡ digest (firstField s line) → Logged s t n m → Entered s t n m line within v u
+  entered : (v : Option Tree.ConstVal) → valueBy u kind bits ≡ v → (s : Bytes) (n : ℕ) → line ≤ n → within ≤ n → d ≡ digest (firstField s line) → ConstsLogged s t n m → Entered s t n m line within v u
   unfolding logIn entriesAt
   entered v e s n p q hd l = record {
     log = rw (add-one, line-here, within-here, slot-is u m, kind-here, bits-here, e, log-same table-kept l (texts-same s n l));
     logged = record {
       few = omega (arith, f .few);
-      each = λ i h. ⊎-elim (λ (x : i ≡ m). subst (Entry u n) (sym x) (entry-new n p q)) (λ (x : i < m). logged-same table-kept l .each i x) (eq-or-lt-of-le (omega arith));
+      each = λ i h. ⊎-elim (λ (x : i ≡ m). subst (EntryBounds u n) (sym x) (entry-new n p q)) (λ (x : i < m). logged-same table-kept l .each i x) (eq-or-lt-of-le (omega arith));
       digests = λ i h. ⊎-elim (λ (x : i ≡ m). rw (x, digest-here, line-here) hd) (λ (x : i < m). logged-same table-kept l .digests i x) (eq-or-lt-of-le (omega arith));
     };
     kept = kept-less (omega arith) table-kept;
   }
 
 module _ (t u : Bytes) (m line within d : ℕ) (f : Free t m line within) where
-  pub entered-failed : u ≡ over t (5120 + 16 * m) (entryOf line within 0 0 d) → (s : Bytes) (n : ℕ) → line ≤ n → within ≤ n → d ≡ digest (firstField s line) → Logged s t n m → Entered s t n m line within none u
+  pub entered-failed : u ≡ over t (5120 + 16 * m) (entryOf line within 0 0 d) → (s : Bytes) (n : ℕ) → line ≤ n → within ≤ n → d ≡ digest (firstField s line) → ConstsLogged s t n m → Entered s t n m line within none u
   entered-failed e =
       entered t u m line within 0 0 d f [] (omega arith) (e ∙ ap (λ (x : Bytes). over x (5120 + 16 * m) (entryOf line within 0 0 d)) (over-none t (16384 + 256 * m))) (omega arith) (omega arith) (λ k. absurd (omega arith))
       none (value-failed u 0 0 (λ k. omega arith) (λ k. omega arith) (λ k. omega arith))
@@ -199,7 +199,7 @@ module _ (t u : Bytes) (m line within d : ℕ) (f : Free t m line within) where
   -- a value, by its variant
   pub entered-value : (v : ConstVal) → At 49152 v → {b : ℕ} → b < 18446744073709551616 → Says v (16384 + 256 * m) b
       → u ≡ over (over t (16384 + 256 * m) (stringOf t v)) (5120 + 16 * m) (entryOf line within (kindFor v) b d)
-      → (s : Bytes) (n : ℕ) → line ≤ n → within ≤ n → d ≡ digest (firstField s line) → Logged s t n m → Entered s t n m line within (some (valueIn t v)) u
+      → (s : Bytes) (n : ℕ) → line ≤ n → within ≤ n → d ≡ digest (firstField s line) → ConstsLogged s t n m → Entered s t n m line within (some (valueIn t v)) u
   unfolding valueIn
   entered-value (Int z) a {b} h says e =
       entered t u m line within 1 b d f [] (omega arith) e (omega arith) h (λ k. absurd (omega arith))

@@ -12,7 +12,7 @@ use Rattle.semantics.specs.Fold.{signed64}
 use Rattle.semantics.specs.Const.{entries}
 use Rattle.implement.specs.Modules.{firstField, moduleAt}
 use Rattle.checks.specs.Checks.{Kept}
-use Rattle.names.specs.Table.{logIn, Logged}
+use Rattle.names.specs.Table.{logIn, ConstsLogged}
 use Rattle.values.specs.declared.ConstVal.{ConstVal}
 use Rattle.values.specs.declared.ConstVal.the-variants.{Int, Real, Str}
 use Rattle.values.specs.Values.{stringIn}
@@ -48,5 +48,5 @@ pub record Free (t : Bytes) (m line within : ℕ) : Type 0 where
 -- entry m holds a constant with this value, and the entries before it what they held
 pub record Entered (s t : Bytes) (n m line within : ℕ) (v : Option Tree.ConstVal) (u : Bytes) : Type 0 where
   pub log : logIn s u (m + 1) ≡ entries (sheetSource s .implement) (moduleAt s within) (firstField s line) v ++ logIn s t m
-  pub logged : Logged s u n (m + 1)
+  pub logged : ConstsLogged s u n (m + 1)
   pub kept : Kept 5120 t u

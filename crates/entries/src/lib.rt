@@ -10,7 +10,7 @@ ghost use Rattle.semantics.specs.Text.{Bytes};
 ghost use Rattle.write.specs.Wrote.{over};
 ghost use Rattle.words.specs.Words.{digest};
 ghost use Rattle.implement.specs.Modules.{firstField};
-ghost use Rattle.names.specs.Table.{Logged};
+ghost use Rattle.names.specs.Table.{ConstsLogged};
 ghost use Rattle.values.specs.Values.{valueIn, At};
 ghost use Rattle.entries.specs.Entering.{entryOf, kindFor, Says, stringOf, Free, Entered};
 
@@ -65,7 +65,7 @@ fn keep_string(work: &mut [u8], v: ConstVal, m: usize)
 // A constant that has a value; d is the digest of its name.
 pub fn enter(work: &mut [u8], m: usize, line: usize, within: usize, v: ConstVal, d: usize)
     requires { ⌜ (Free (now work) m line within) × (At 49152 v) × (d < 256) ⌝ }
-    ensures { λ _. ⌜ ((s : Bytes) (n : ℕ) → line ≤ n → within ≤ n → d ≡ digest (firstField s line) → Logged s (now (work .entry)) n m → Entered s (now (work .entry)) n m line within (some (valueIn (now (work .entry)) v)) (now (work .exit))) ⌝ }
+    ensures { λ _. ⌜ ((s : Bytes) (n : ℕ) → line ≤ n → within ≤ n → d ≡ digest (firstField s line) → ConstsLogged s (now (work .entry)) n m → Entered s (now (work .entry)) n m line within (some (valueIn (now (work .entry)) v)) (now (work .exit))) ⌝ }
 {
     keep_string(work, v, m);
     let bits = bits_of(v, area::STRINGS + 256 * m);
@@ -75,7 +75,7 @@ pub fn enter(work: &mut [u8], m: usize, line: usize, within: usize, v: ConstVal,
 // One that failed.
 pub fn enter_failed(work: &mut [u8], m: usize, line: usize, within: usize, d: usize)
     requires { ⌜ (Free (now work) m line within) × (d < 256) ⌝ }
-    ensures { λ _. ⌜ ((s : Bytes) (n : ℕ) → line ≤ n → within ≤ n → d ≡ digest (firstField s line) → Logged s (now (work .entry)) n m → Entered s (now (work .entry)) n m line within none (now (work .exit))) ⌝ }
+    ensures { λ _. ⌜ ((s : Bytes) (n : ℕ) → line ≤ n → within ≤ n → d ≡ digest (firstField s line) → ConstsLogged s (now (work .entry)) n m → Entered s (now (work .entry)) n m line within none (now (work .exit))) ⌝ }
 {
     put_entry(work, m, line, within, 0, 0, d);
 }

@@ -7,16 +7,16 @@ use lib.ListN.{replicate}
 use Rattle.field_list.specs.declared.Field.{Field}
 
 -- so many fields of one size, one behind the other
-unfoldable pub fieldsFrom : ℕ → ℕ → Bool → ℕ → List Field
-fieldsFrom off size pointer zero = []
-fieldsFrom off size pointer (suc n) = record { offset = off; size = size; pointer = pointer } ∷ fieldsFrom (off + size) size pointer n
+unfoldable pub lineFieldsFrom : ℕ → ℕ → Bool → ℕ → List Field
+lineFieldsFrom off size pointer zero = []
+lineFieldsFrom off size pointer (suc n) = record { offset = off; size = size; pointer = pointer } ∷ lineFieldsFrom (off + size) size pointer n
 
 -- what stands behind the last one
 abbrev pub noField : Field
 noField = record { offset = 0; size = 0; pointer = false }
 
 unfoldable pub lineFields : ℕ → ℕ → Bool → ℕ → List Field
-lineFields off size pointer n = fieldsFrom off size pointer n ++ replicate (16 - n) noField
+lineFields off size pointer n = lineFieldsFrom off size pointer n ++ replicate (16 - n) noField
 
 -- the furthest end, and at least `end`
 abbrev pub furthestIn : ℕ → List Field → ℕ

@@ -3,11 +3,11 @@ use sizes::place::Refs;
 ghost use Prim.Native.Nat.{_+_, _≤_};
 ghost use lib.ListN.{length};
 ghost use Rattle.write.specs.Wrote.{Wrote};
-ghost use Rattle.sizes.specs.Places.{fieldAt, fieldsOf, commonAt, caseAt, FieldLine, FieldRefs, RecordLine, CaseLine};
+ghost use Rattle.sizes.specs.Places.{fdAt, fdsOfRefs, commonFields, caseFields, FieldLine, FieldRefs, RecordLine, CaseLine};
 ghost use Rattle.field_rows.specs.Rows.{fieldText, LineWrote, AllWrote};
 
 // Where the next row goes, and where the fields so far end.
-pub struct Next {
+pub struct Ends {
     pub at: usize,
     pub end: u32,
 }
@@ -23,9 +23,9 @@ fn put_row(out: &mut [u8], at: usize, name: &[u8], offset: u32, size: u32) -> us
 }
 
 // The names of the `fd` line r, one behind the other. An untyped line has no fields.
-fn put_line(sheet: &[u8], work: &[u8], n: usize, r: usize, out: &mut [u8], p: Next) -> Next
+fn put_line(sheet: &[u8], work: &[u8], n: usize, r: usize, out: &mut [u8], p: Ends) -> Ends
     requires { ⌜ (FieldLine (now sheet) (now work) n r) × (p .end ≤ 4500000) × (p .at ≤ length (now out) + 1) ⌝ }
-    ensures { λ q. ⌜ (LineWrote (fieldAt (now (sheet .entry)) r) p q (now (out .entry)) (now (out .exit))) × (q .end ≤ p .end + 131080) ⌝ }
+    ensures { λ q. ⌜ (LineWrote (fdAt (now (sheet .entry)) r) p q (now (out .entry)) (now (out .exit))) × (q .end ≤ p .end + 131080) ⌝ }
 {
     let t = lines::number_at(sheet, work, n, r - 1, 0);
     if t == 0 {
@@ -43,13 +43,13 @@ fn put_line(sheet: &[u8], work: &[u8], n: usize, r: usize, out: &mut [u8], p: Ne
         end += size;
         j += 1;
     }
-    Next { at: at, end: end }
+    Ends { at: at, end: end }
 }
 
 // Those of the `fd` lines to which these fields refer.
-fn put_fields(sheet: &[u8], work: &[u8], n: usize, f: Refs, out: &mut [u8], p: Next) -> Next
+fn put_fields(sheet: &[u8], work: &[u8], n: usize, f: Refs, out: &mut [u8], p: Ends) -> Ends
     requires { ⌜ (FieldRefs (now sheet) (now work) n f) × (p .end ≤ 2200000) × (p .at ≤ length (now out) + 1) ⌝ }
-    ensures { λ q. ⌜ (AllWrote (fieldsOf (now (sheet .entry)) f) p q (now (out .entry)) (now (out .exit))) × (q .end ≤ p .end + 2097280) ⌝ }
+    ensures { λ q. ⌜ (AllWrote (fdsOfRefs (now (sheet .entry)) f) p q (now (out .entry)) (now (out .exit))) × (q .end ≤ p .end + 2097280) ⌝ }
 {
     let mut q = p;
     let mut j = 0;
@@ -62,18 +62,18 @@ fn put_fields(sheet: &[u8], work: &[u8], n: usize, f: Refs, out: &mut [u8], p: N
 }
 
 // The fields of the `adt` or `pick` line r that are no case's.
-pub fn put_common(sheet: &[u8], work: &[u8], n: usize, r: usize, out: &mut [u8], p: Next) -> Next
+pub fn put_common(sheet: &[u8], work: &[u8], n: usize, r: usize, out: &mut [u8], p: Ends) -> Ends
     requires { ⌜ (RecordLine (now sheet) (now work) n r) × (p .end ≤ 4) × (p .at ≤ length (now out) + 1) ⌝ }
-    ensures { λ q. ⌜ (AllWrote (commonAt (now (sheet .entry)) r) p q (now (out .entry)) (now (out .exit))) × (q .end ≤ 2097284) ⌝ }
+    ensures { λ q. ⌜ (AllWrote (commonFields (now (sheet .entry)) r) p q (now (out .entry)) (now (out .exit))) × (q .end ≤ 2097284) ⌝ }
 {
     let f = sizes::place::common_refs(sheet, work, n, r);
     put_fields(sheet, work, n, f, out, p)
 }
 
 // The fields of the `pc` line r.
-pub fn put_case(sheet: &[u8], work: &[u8], n: usize, r: usize, out: &mut [u8], p: Next) -> Next
+pub fn put_case(sheet: &[u8], work: &[u8], n: usize, r: usize, out: &mut [u8], p: Ends) -> Ends
     requires { ⌜ (CaseLine (now sheet) (now work) n r) × (p .end ≤ 2097284) × (p .at ≤ length (now out) + 1) ⌝ }
-    ensures { λ q. ⌜ AllWrote (caseAt (now (sheet .entry)) r) p q (now (out .entry)) (now (out .exit)) ⌝ }
+    ensures { λ q. ⌜ AllWrote (caseFields (now (sheet .entry)) r) p q (now (out .entry)) (now (out .exit)) ⌝ }
 {
     let f = sizes::place::case_refs(sheet, work, n, r);
     put_fields(sheet, work, n, f, out, p)

@@ -32,7 +32,7 @@ use denote.Enum.Declared.{tagOf}
 use types.Run.{OneOf}
 use Rattle.values.specs.Values.{stringIn, valueIn, resultIn, unaryAt, binaryAt, basicAt, sizeOf, At, ResultAt, Within, Answers, Casts}
 use Rattle.values.proofs.Values.{answers-as, answers-failed}
-use Rattle.names.specs.Table.{logIn, Logged}
+use Rattle.names.specs.Table.{logIn, ConstsLogged}
 use Rattle.names.proofs.Laws.{part-kept, logged-kept, log-kept}
 use Rattle.leaf.specs.Folds.{exAt, foldAt, ExLine, Foldable, Folds}
 use Rattle.fold.specs.Operators.{OperatorLine, operandOf, onOne, Applies}
@@ -98,14 +98,14 @@ module _ {s t : Bytes} {n r : ℕ} (l : OperatorLine s t n r) where
   unfolding forms
   right-line e = ref-good (l .line) 14 2 e kEx refl
 
-  binary-number : form ≡ 14 → {o : ℕ} → o ≡ Number.numberOf 65536 (getD fields 0 []) → o ≡ numberOf (getD fields 0 [])
+  binary-number : form ≡ 14 → {o : ℕ} → o ≡ Number.numberUpTo 65536 (getD fields 0 []) → o ≡ numberOf (getD fields 0 [])
   unfolding forms
   binary-number e h = h ∙ small-number 18 (getD fields 0 []) (omega arith) (field-good (l .line) 14 0 e Atom.binaryOp refl)
 
-  pub operand-first : {v : ℕ} → form ≡ 16 → v ≡ Number.numberOf 65536 (getD fields 0 []) → v ≡ operandOf s t r
+  pub operand-first : {v : ℕ} → form ≡ 16 → v ≡ Number.numberUpTo 65536 (getD fields 0 []) → v ≡ operandOf s t r
   operand-first e h = h ∙ (rw e at (operand-line .exact))
 
-  pub operand-second : {v : ℕ} → (form ≡ 16 → ⊥) → v ≡ Number.numberOf 65536 (getD fields 1 []) → v ≡ operandOf s t r
+  pub operand-second : {v : ℕ} → (form ≡ 16 → ⊥) → v ≡ Number.numberUpTo 65536 (getD fields 1 []) → v ≡ operandOf s t r
   operand-second e h = h ∙ (rw (ne-eqb form 16 e) at (operand-line .exact))
 
   -- a fold of a line with one operand goes on from the operand's value
@@ -139,7 +139,7 @@ module _ {s t : Bytes} {n r : ℕ} {v : ConstVal} {top : ℕ} (a : Applies s t n
   made : {f : ℕ} → formAt t (r - 1) ≡ f → exAt s r ≡ rowNode (nodesIn s) f (readAt s (r - 1) .fields) .ex
   made e = ex-is (a .line .line) ∙ ap (λ (f : ℕ). rowNode (nodesIn s) f (readAt s (r - 1) .fields) .ex) e
 
-  pub applies-unary : formAt t (r - 1) ≡ 13 → {o : ℕ} {x : Folded} → o ≡ Number.numberOf 65536 (getD (readAt s (r - 1) .fields) 0 []) → ((u : Bytes) (p : ℕ) → Answers u p x (foldUnary (unaryAt o) (valueIn u v)))
+  pub applies-unary : formAt t (r - 1) ≡ 13 → {o : ℕ} {x : Folded} → o ≡ Number.numberUpTo 65536 (getD (readAt s (r - 1) .fields) 0 []) → ((u : Bytes) (p : ℕ) → Answers u p x (foldUnary (unaryAt o) (valueIn u v)))
       → Answers t top x (onOne (exAt s r) (valueIn t v)) × Kept top t t
   unfolding forms
   applies-unary e {o} h b =
@@ -152,7 +152,7 @@ module _ {s t : Bytes} {n r : ℕ} {v : ConstVal} {top : ℕ} (a : Applies s t n
   unfolding forms
   cast-line e = ref-good (a .line .line) 15 0 e kTy refl
 
-  pub applies-cast : formAt t (r - 1) ≡ 15 → {k code : ℕ} → k ≡ Number.numberOf 65536 (getD (readAt s (r - 1) .fields) 0 []) → code ≡ formAt t (k - 1) → {u : Bytes} {w : ConstVal}
+  pub applies-cast : formAt t (r - 1) ≡ 15 → {k code : ℕ} → k ≡ Number.numberUpTo 65536 (getD (readAt s (r - 1) .fields) 0 []) → code ≡ formAt t (k - 1) → {u : Bytes} {w : ConstVal}
       → Casts t top (foldCast (basicAt code) (valueIn t v)) u w → Answers u top (Value w) (onOne (exAt s r) (valueIn t v)) × Kept top t u
   unfolding resultIn
   applies-cast e {k} {code} h g b =
@@ -279,7 +279,7 @@ module _ {s t : Bytes} {n m r top : ℕ} (a : Foldable s t n m r top) where
           kept = kept-then (f .kept) (b .1);
         }
 
-        module _ (e : formAt t (r - 1) ≡ 14) {g p : ℕ} (hg : g ≡ Number.numberOf 65536 (getD (readAt s (r - 1) .fields) 2 [])) (hp : p ≡ sizeOf v) where
+        module _ (e : formAt t (r - 1) ≡ 14) {g p : ℕ} (hg : g ≡ Number.numberUpTo 65536 (getD (readAt s (r - 1) .fields) 2 [])) (hp : p ≡ sizeOf v) where
           right-is : g ≡ numberOf (getD (readAt s (r - 1) .fields) 2 [])
           right-is = hg ∙ right-line operator-line e .exact
 
@@ -308,7 +308,7 @@ module _ {s t : Bytes} {n m r top : ℕ} (a : Foldable s t n m r top) where
             pub right-stops : Stops y → Folds s t m iota r top w y
             right-stops h = record { answer = record { value = sym (both-results ∙ stopped w y h _); at = stopped-at (top + p) top y h (b .answer .at) }; kept = right-kept }
 
-            pub binary-folds : {z : ConstVal} → y ≡ Value z → {o : ℕ} → o ≡ Number.numberOf 65536 (getD (readAt s (r - 1) .fields) 0 []) → {q : Folded}
+            pub binary-folds : {z : ConstVal} → y ≡ Value z → {o : ℕ} → o ≡ Number.numberUpTo 65536 (getD (readAt s (r - 1) .fields) 0 []) → {q : Folded}
                 → ((t : Bytes) (top : ℕ) → At top v → At (top + sizeOf v) z → top + 512 ≤ length t → Answers t top q (foldBinary (binaryAt o) (valueIn t v) (valueIn t z)))
                 → Folds s t m iota r top w q
             unfolding resultIn
@@ -326,5 +326,5 @@ module _ {s t : Bytes} {n m r top : ℕ} (a : Foldable s t n m r top) where
 -- ---- where the fold of a checked sheet's line begins
 
 -- between the constants' strings and 32 strings below the end there is always room
-pub foldable : {s t : Bytes} {n m r top : ℕ} → ExLine s t n r → Logged s t n m → 49152 ≤ top → top ≤ 57344 → Foldable s t n m r top
+pub foldable : {s t : Bytes} {n m r top : ℕ} → ExLine s t n r → ConstsLogged s t n m → 49152 ≤ top → top ≤ 57344 → Foldable s t n m r top
 foldable {r = r} l g h k = record { line = l; log = g; low = h; room = omega (arith, l .checked .low (r - 1) (in-sheet l), l .checked .whole .room) }

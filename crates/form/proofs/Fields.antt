@@ -21,7 +21,7 @@ use Rattle.decimal.specs.declared.Integer.the-variants as Integer
 use Rattle.hex.specs.declared.Bits64.{Bits64}
 use Rattle.hex.specs.declared.Bits64.the-variants as Bits64
 use Rattle.text.proofs.Parts.{until-take, parts-step, parts-one}
-use Rattle.form.specs.Letters.{isKeyField, isReal}
+use Rattle.form.specs.Letters.{isKeyField, isRealField}
 
 -- ---- NAME or NAME.NAME
 
@@ -96,8 +96,8 @@ module _ (s : List ℕ) where
 
   -- ---- reals
 
-  pub real-bits : {n : ℕ} → bits64Of s ≡ Bits64.Bits n → leb (n % 9223372036854775808) 9218868437227405312 ≡ isReal s
-  unfolding bits64Of isReal
+  pub real-bits : {n : ℕ} → bits64Of s ≡ Bits64.Bits n → leb (n % 9223372036854775808) 9218868437227405312 ≡ isRealField s
+  unfolding bits64Of isRealField
   real-bits {n} = go (unhex s)
     where
       of : (b : Bool) (m : ℕ) → cond b (Bits64.Bits m) Bits64.Bad ≡ Bits64.Bits n → leb (n % 9223372036854775808) 9218868437227405312 ≡ b && Form.notNaN m
@@ -108,8 +108,8 @@ module _ (s : List ℕ) where
       go none e = never cc
       go (some bs) e = of (eqb (length bs) 8) (fromBigEndian 0 bs) e
 
-  pub real-bad : bits64Of s ≡ Bits64.Bad → false ≡ isReal s
-  unfolding bits64Of isReal
+  pub real-bad : bits64Of s ≡ Bits64.Bad → false ≡ isRealField s
+  unfolding bits64Of isRealField
   real-bad = go (unhex s)
     where
       of : (b : Bool) (m : ℕ) → cond b (Bits64.Bits m) Bits64.Bad ≡ Bits64.Bad → false ≡ b && Form.notNaN m

@@ -21,7 +21,7 @@ use Rattle.utf8.specs.Utf8 as Utf8
 use Rattle.text.proofs.Parts.{until-take, parts-step, parts-one}
 use Rattle.form.specs.Table.{code, codes, rowAt, keywordsAt, kindAt, codesAt, fieldsBehind, formOf}
 use Rattle.form.specs.declared.Walk.{Walk}
-use Rattle.form.specs.Letters.{isKeyField, isReal, limitOf, holds, after, fits, pending, Ready, lettersFrom, fieldsLeft, Standing, Stepped, beginning}
+use Rattle.form.specs.Letters.{isKeyField, isRealField, limitOf, letterHolds, after, lettersFit, pending, WalkBounds, lettersFrom, fieldsLeft, WalkAt, WalkStepped, beginning}
 use Rattle.semantics.proofs.Common.{never, both}
 use Rattle.form.proofs.Table.{fine, row-count, keywords-plain, codes-plain, parts-fine}
 
@@ -112,8 +112,8 @@ module _ (f j c e : ℕ) where
       let w : j + 0 ≡ j = omega arith in
       rw z (sym (getD-drop j (codesAt f) 0 32 ∙ ap (λ (i : ℕ). getD (codesAt f) i 32) w))
 
-  module _ (x n : ℕ) (ready : Ready f j c e) (hx : x ≡ getD (pending f j c e) 0 32) (nb : x ≡ 32 → ⊥) where
-    pub step-within : 0 < c → Ready f j (c - 1) e × (pending f j (c - 1) e ≡ after n (pending f j c e))
+  module _ (x n : ℕ) (ready : WalkBounds f j c e) (hx : x ≡ getD (pending f j c e) 0 32) (nb : x ≡ 32 → ⊥) where
+    pub step-within : 0 < c → WalkBounds f j (c - 1) e × (pending f j (c - 1) e ≡ after n (pending f j c e))
     unfolding pending after
     step-within h = (record { form = ready .form; within = ready .within; single = ready .single }, go c h)
       where
@@ -134,14 +134,14 @@ module _ (f j c e : ℕ) where
           let z : c ≡ 0 = omega arith in
           rw z (drop-cons (codesAt f) j 32 j-in ∙ ap (λ (y : ℕ). y ∷ drop (suc j) (codesAt f)) (sym x-is))
 
-      pub step-many : 97 ≤ x → Ready f (j + 1) n (x - 32) × (pending f (j + 1) n (x - 32) ≡ after n (pending f j c e))
+      pub step-many : 97 ≤ x → WalkBounds f (j + 1) n (x - 32) × (pending f (j + 1) n (x - 32) ≡ after n (pending f j c e))
       unfolding pending after
       step-many k = (
         record { form = ready .form; within = omega (arith, j-in); single = omega (arith, x-is, codes-plain f (ready .form) j j-in .1) },
         sym (ap (after n) split ∙ rw (le-leb 97 x k, ← add-one j)),
       )
 
-      pub step-one : x < 97 → Ready f (j + 1) 0 e × (pending f (j + 1) 0 e ≡ after n (pending f j c e))
+      pub step-one : x < 97 → WalkBounds f (j + 1) 0 e × (pending f (j + 1) 0 e ≡ after n (pending f j c e))
       unfolding pending after
       step-one k = (
         record { form = ready .form; within = omega (arith, j-in); single = ready .single },
@@ -176,15 +176,15 @@ module _ (l : List ℕ) (at e : ℕ) (h : at ≤ length l) (he : e ≡ at + leng
 
 -- ---- letters and fields
 
-blank-bad : (s : List ℕ) → holds 32 s ≡ false
-unfolding holds limitOf
-blank-bad s = le-ltb (Number.numberOf 65536 s) 0 (omega arith)
+blank-bad : (s : List ℕ) → letterHolds 32 s ≡ false
+unfolding letterHolds limitOf
+blank-bad s = le-ltb (Number.numberUpTo 65536 s) 0 (omega arith)
 
-pub not-blank : (x : ℕ) (s : List ℕ) → holds x s ≡ true → x ≡ 32 → ⊥
+pub not-blank : (x : ℕ) (s : List ℕ) → letterHolds x s ≡ true → x ≡ 32 → ⊥
 not-blank x s h e = let p : true ≡ false = sym h ∙ rw e (blank-bad s) in never (sym p)
 
-holds-count : (x : ℕ) (s : List ℕ) → 97 ≤ x → holds x s ≡ ltb (Number.numberOf 65536 s) 17
-unfolding holds limitOf
+holds-count : (x : ℕ) (s : List ℕ) → 97 ≤ x → letterHolds x s ≡ ltb (Number.numberUpTo 65536 s) 17
+unfolding letterHolds limitOf
 holds-count x s h =
     simp (ne-eqb x 87 (λ q. omega arith), ne-eqb x 81 (λ q. omega arith), ne-eqb x 88 (λ q. omega arith), ne-eqb x 89 (λ q. omega arith), ne-eqb x 82 (λ q. omega arith), ne-eqb x 84 (λ q. omega arith), le-leb 97 x h)
 
@@ -193,8 +193,8 @@ exact none h = absurd (omega arith)
 exact (some n) h = omega arith
 
 -- the number that the code hands over is the field's own where it counts
-after-number : (x n : ℕ) (xs s : List ℕ) → x ≡ getD xs 0 32 → holds x s ≡ true → n ≡ Number.numberOf 65536 s → after n xs ≡ after (Form.numberOf s) xs
-unfolding after Number.numberOf
+after-number : (x n : ℕ) (xs s : List ℕ) → x ≡ getD xs 0 32 → letterHolds x s ≡ true → n ≡ Number.numberUpTo 65536 s → after n xs ≡ after (Form.numberOf s) xs
+unfolding after Number.numberUpTo
 after-number x n [] s e h p = refl
 after-number x n (y ∷ ys) s e h p = go (leb 97 y) refl
   where
@@ -206,25 +206,25 @@ after-number x n (y ∷ ys) s e h p = go (leb 97 y) refl
     go false q = rw q
 
 module _ (l : List ℕ) (at e : ℕ) (h : at ≤ length l) (he : e ≡ at + length (until 44 (drop at l))) (x : ℕ) (xs : List ℕ) (hx : x ≡ getD xs 0 32) where
-  turn : fits xs (Form.fieldsFrom at l) ≡ holds x (take (e - at) (drop at l)) && fits (after (Form.numberOf (take (e - at) (drop at l))) xs) (Form.fieldsFrom (e + 1) l)
-  unfolding fits
+  turn : lettersFit xs (Form.fieldsFrom at l) ≡ letterHolds x (take (e - at) (drop at l)) && lettersFit (after (Form.numberOf (take (e - at) (drop at l))) xs) (Form.fieldsFrom (e + 1) l)
+  unfolding lettersFit
   turn = rw (fields-step l at e h he, ← hx)
 
-  pub fits-bad : holds x (take (e - at) (drop at l)) ≡ false → fits xs (Form.fieldsFrom at l) ≡ false
+  pub fits-bad : letterHolds x (take (e - at) (drop at l)) ≡ false → lettersFit xs (Form.fieldsFrom at l) ≡ false
   fits-bad b = turn ∙ rw b
 
-  pub fits-turn : (n : ℕ) (ys : List ℕ) → holds x (take (e - at) (drop at l)) ≡ true → n ≡ Number.numberOf 65536 (take (e - at) (drop at l)) → ys ≡ after n xs → fits xs (Form.fieldsFrom at l) ≡ fits ys (Form.fieldsFrom (e + 1) l)
+  pub fits-turn : (n : ℕ) (ys : List ℕ) → letterHolds x (take (e - at) (drop at l)) ≡ true → n ≡ Number.numberUpTo 65536 (take (e - at) (drop at l)) → ys ≡ after n xs → lettersFit xs (Form.fieldsFrom at l) ≡ lettersFit ys (Form.fieldsFrom (e + 1) l)
   fits-turn n ys b p q = turn ∙ rw (b, ← after-number x n xs (take (e - at) (drop at l)) hx b p, ← q)
 
-pub fits-end : (at : ℕ) (l xs : List ℕ) → length l < at → fits xs (Form.fieldsFrom at l) ≡ eqb (getD xs 0 32) 32
-unfolding fits
+pub fits-end : (at : ℕ) (l xs : List ℕ) → length l < at → lettersFit xs (Form.fieldsFrom at l) ≡ eqb (getD xs 0 32) 32
+unfolding lettersFit
 fits-end at l xs h = rw (fields-end at l h)
 
 pub walk-start : (f e : ℕ) → pending f 0 0 e ≡ codesAt f
 unfolding pending
 walk-start f e = refl
 
-pub ready-start : (f : ℕ) → f < 42 → Ready f 0 0 65
+pub ready-start : (f : ℕ) → f < 42 → WalkBounds f 0 0 65
 ready-start f h = record { form = h; within = omega arith; single = omega arith }
 
 -- ---- letters say what the table's parts say
@@ -260,8 +260,8 @@ kind-letter kFrame = (lit< tt, lit< tt)
 kind-letter kNeed = (lit< tt, lit< tt)
 
 -- a reference may be any number
-pub ref-holds : (x : ℕ) (f : List ℕ) → 32 < x → x < 80 → holds x f ≡ ltb (Number.numberOf 65536 f) 65537
-unfolding holds limitOf
+pub ref-holds : (x : ℕ) (f : List ℕ) → 32 < x → x < 80 → letterHolds x f ≡ ltb (Number.numberUpTo 65536 f) 65537
+unfolding letterHolds limitOf
 ref-holds x f low high =
     simp (
       ne-eqb x 87 (λ q. omega arith),
@@ -278,12 +278,12 @@ ref-holds x f low high =
       ne-eqb x 32 (λ q. omega arith),
     )
 
-number-holds : (x : ℕ) (f : List ℕ) → 32 < x → x < 80 → holds x f ≡ Form.isNumber f
-unfolding Number.numberOf
+number-holds : (x : ℕ) (f : List ℕ) → 32 < x → x < 80 → letterHolds x f ≡ Form.isNumber f
+unfolding Number.numberUpTo
 number-holds x f low high = ref-holds x f low high ∙ is-number (Text.natOf f)
 
-code-holds : (a : Form.Atom) (f : List ℕ) → holds (code a) f ≡ Form.holds a f
-unfolding holds limitOf Number.numberOf Number.isBetween isKeyField isReal Utf8.isText
+code-holds : (a : Form.Atom) (f : List ℕ) → letterHolds (code a) f ≡ Form.holds a f
+unfolding letterHolds limitOf Number.numberUpTo Number.isBetween isKeyField isRealField Utf8.isText
 code-holds name f = refl
 code-holds key f = refl
 code-holds (ref k) f = number-holds (Form.letter k) f (omega (arith, kind-letter k)) (kind-letter k .1)
@@ -312,8 +312,8 @@ code-range offset = (lit< tt, lit< tt)
 code-range real = (lit< tt, lit< tt)
 code-range text = (lit< tt, lit< tt)
 
-many-holds : (a : Form.Atom) (f : List ℕ) → leb 65 (code a) ≡ true → holds (code a + 32) f ≡ Form.isCount f
-unfolding Number.numberOf
+many-holds : (a : Form.Atom) (f : List ℕ) → leb 65 (code a) ≡ true → letterHolds (code a + 32) f ≡ Form.isCount f
+unfolding Number.numberUpTo
 many-holds a f h = holds-count (code a + 32) f (omega (arith, leb-true 65 (code a) h)) ∙ up-to 16 (Text.natOf f) (omega arith)
 
 ones-codes : (n : ℕ) (a : Form.Atom) (ps : List Form.Part) → codes (Form.ones n a ++ ps) ≡ replicate n (code a) ++ codes ps
@@ -336,8 +336,8 @@ many-after n a ps h =
     let e : code a + 32 - 32 ≡ code a = omega arith in
     rw (le-leb 97 (code a + 32) (omega (arith, leb-true 65 (code a) h)), e) (sym (ones-codes n a ps))
 
-fits-codes : (fs : List (List ℕ)) (ps : List Form.Part) → Text.all fine ps ≡ true → fits (codes ps) fs ≡ Form.fits ps fs
-unfolding fits fine
+fits-codes : (fs : List (List ℕ)) (ps : List Form.Part) → Text.all fine ps ≡ true → lettersFit (codes ps) fs ≡ Form.fits ps fs
+unfolding lettersFit fine
 fits-codes [] [] h = refl
 fits-codes [] (one a ∷ ps) h = ne-eqb (code a) 32 (λ q. omega (arith, code-range a))
 fits-codes [] (many a ∷ ps) h = ne-eqb (code a + 32) 32 (λ q. omega (arith, leb-true 65 (code a) (both (leb 65 (code a)) (Text.all fine ps) h .0)))
@@ -381,13 +381,13 @@ module _ (k : ℕ) (l : List ℕ) where
       at-is : at ≡ length (keywordsAt f) + 1
       at-is = hat ∙ rw chosen-begins
 
-      form-fields : formOf k l ≡ cond (fits (codesAt f) (Form.fieldsFrom at l) && (eqb k 1 || not (eqb (kindAt f) 73))) f 42
+      form-fields : formOf k l ≡ cond (lettersFit (codesAt f) (Form.fieldsFrom at l) && (eqb k 1 || not (eqb (kindAt f) 73))) f 42
       form-fields = form-row ∙ rw (lt-ltb f 42 low, at-is, fits-codes (Form.fieldsFrom (length (keywordsAt f) + 1) l) (rowAt f .parts) (parts-fine f low))
 
-      pub form-unfit : fits (codesAt f) (Form.fieldsFrom at l) ≡ false → 42 ≡ formOf k l
+      pub form-unfit : lettersFit (codesAt f) (Form.fieldsFrom at l) ≡ false → 42 ≡ formOf k l
       form-unfit e = sym (form-fields ∙ rw e)
 
-      module _ (fit : fits (codesAt f) (Form.fieldsFrom at l) ≡ true) where
+      module _ (fit : lettersFit (codesAt f) (Form.fieldsFrom at l) ≡ true) where
         pub form-other : (kindAt f ≡ 73 → ⊥) → f ≡ formOf k l
         form-other n = sym (form-fields ∙ simp (fit, ne-eqb (kindAt f) 73 n, or-true))
 
@@ -414,7 +414,7 @@ field-start l f i w e = let z : i - 0 ≡ i = omega arith in rw (e, z)
 
 -- ---- the walk over a line that fits
 
-module _ (f : ℕ) (l : List ℕ) (w : Walk) (st : Standing f l w) (e : ℕ) (within : w .at ≤ length l) (he : e ≡ w .at + length (until 44 (drop (w .at) l))) (x : ℕ) (hx : x ≡ getD (lettersFrom f w) 0 32) where
+module _ (f : ℕ) (l : List ℕ) (w : Walk) (st : WalkAt f l w) (e : ℕ) (within : w .at ≤ length l) (he : e ≡ w .at + length (until 44 (drop (w .at) l))) (x : ℕ) (hx : x ≡ getD (lettersFrom f w) 0 32) where
   pub here : List ℕ
   here = take (e - w .at) (drop (w .at) l)
 
@@ -423,14 +423,14 @@ module _ (f : ℕ) (l : List ℕ) (w : Walk) (st : Standing f l w) (e : ℕ) (wi
   open-field = fields-step l (w .at) e within he
 
   -- this field is good, and those behind it fit
-  good-rest : (holds x here ≡ true) × (fits (after (Form.numberOf here) (lettersFrom f w)) (Form.fieldsFrom (e + 1) l) ≡ true)
-  unfolding fits here
-  good-rest = both (holds x here) _ (rw (open-field, ← hx) at (st .fit))
+  good-rest : (letterHolds x here ≡ true) × (lettersFit (after (Form.numberOf here) (lettersFrom f w)) (Form.fieldsFrom (e + 1) l) ≡ true)
+  unfolding lettersFit here
+  good-rest = both (letterHolds x here) _ (rw (open-field, ← hx) at (st .fit))
 
   pub not-ended : x ≡ 32 → ⊥
   not-ended = not-blank x here (good-rest .0)
 
-  pub walk-stepped : (v : ℕ) (u : Walk) → v ≡ Number.numberOf 65536 (take (e - w .at) (drop (w .at) l)) → Ready f (u .j) (u .c) (u .e) → lettersFrom f u ≡ after v (lettersFrom f w) → u .at ≡ e + 1 → Stepped f l w x v u
+  pub walk-stepped : (v : ℕ) (u : Walk) → v ≡ Number.numberUpTo 65536 (take (e - w .at) (drop (w .at) l)) → WalkBounds f (u .j) (u .c) (u .e) → lettersFrom f u ≡ after v (lettersFrom f w) → u .at ≡ e + 1 → WalkStepped f l w x v u
   unfolding here
   walk-stepped v u hv r q p =
       let k : lettersFrom f u ≡ after (Form.numberOf here) (lettersFrom f w) = q ∙ after-number x v (lettersFrom f w) here hx (good-rest .0) hv in
@@ -442,11 +442,11 @@ module _ (f : ℕ) (l : List ℕ) (w : Walk) (st : Standing f l w) (e : ℕ) (wi
         good = good-rest .0;
         number = hv;
         letters = k;
-        standing = record { ready = r; fit = ap (λ (j : List (List ℕ)). fits (lettersFrom f u) j) o ∙ rw k (good-rest .1) };
+        standing = record { ready = r; fit = ap (λ (j : List (List ℕ)). lettersFit (lettersFrom f u) j) o ∙ rw k (good-rest .1) };
         further = omega arith;
       }
 
 -- it begins at the fields behind the keywords
-pub walk-begins : (f : ℕ) (l : List ℕ) → f < 42 → Form.fits (rowAt f .parts) (fieldsBehind f l) ≡ true → Standing f l (beginning f)
+pub walk-begins : (f : ℕ) (l : List ℕ) → f < 42 → Form.fits (rowAt f .parts) (fieldsBehind f l) ≡ true → WalkAt f l (beginning f)
 unfolding pending
 walk-begins f l h fit = record { ready = ready-start f h; fit = fits-codes (fieldsBehind f l) (rowAt f .parts) (parts-fine f h) ∙ fit }

@@ -12,14 +12,14 @@ use Rattle.semantics.specs.Text as Text
 use Rattle.semantics.specs.Form as Form
 use Rattle.semantics.specs.Form.Part.{one, many}
 use Rattle.semantics.proofs.Common.{both}
-use Rattle.form.specs.Table.{code, codes, fill, encode, table, rowAt, keywordsAt, kindAt, codesAt}
+use Rattle.form.specs.Table.{code, codes, padTo, encode, table, rowAt, keywordsAt, kindAt, codesAt}
 
-fill-length : (n : ℕ) (xs : List ℕ) → length (fill n xs) ≡ n
+fill-length : (n : ℕ) (xs : List ℕ) → length (padTo n xs) ≡ n
 fill-length zero xs = refl
 fill-length (suc n) [] = ap suc (fill-length n [])
 fill-length (suc n) (x ∷ xs) = ap suc (fill-length n xs)
 
-fill-at : (n : ℕ) (xs : List ℕ) (i : ℕ) → i < n → getD (fill n xs) i 0 ≡ getD xs i 32
+fill-at : (n : ℕ) (xs : List ℕ) (i : ℕ) → i < n → getD (padTo n xs) i 0 ≡ getD xs i 32
 fill-at zero xs i h = absurd (omega arith)
 fill-at (suc n) [] zero h = refl
 fill-at (suc n) [] (suc i) h = fill-at n [] i (omega arith)
@@ -28,7 +28,7 @@ fill-at (suc n) (x ∷ xs) (suc i) h = fill-at n xs i (omega arith)
 
 encode-length : (r : Form.Row) → length (encode r) ≡ 24
 encode-length r =
-    ap suc (length-append (fill 17 (r .words)) (Form.letter (r .kind) ∷ fill 5 (codes (r .parts)))
+    ap suc (length-append (padTo 17 (r .words)) (Form.letter (r .kind) ∷ padTo 5 (codes (r .parts)))
     ∙ simp (fill-length))
 
 -- a byte of the table is a byte of its row
@@ -53,7 +53,7 @@ module _ (f : ℕ) (h : f < 42) where
   keyword-cell i k =
       let e : 24 * f + 1 + i ≡ 24 * f + suc i = omega arith in
       rw e (row-bytes (suc i) (omega arith)
-      ∙ List·getD-append (fill 17 (rowAt f .words)) _ 0 i (omega (arith, fill-length 17 (rowAt f .words))) ∙ fill-at 17 (rowAt f .words) i k)
+      ∙ List·getD-append (padTo 17 (rowAt f .words)) _ 0 i (omega (arith, fill-length 17 (rowAt f .words))) ∙ fill-at 17 (rowAt f .words) i k)
 
 -- a byte for each row
 unfoldable pub column : (Form.Row → ℕ) → List Form.Row → Text.Bytes
@@ -72,17 +72,17 @@ kind-cell f h = column-at (λ (r : Form.Row). Form.letter (r .kind)) Form.forms 
 -- five letters for each row
 unfoldable pub letters : List Form.Row → Text.Bytes
 letters [] = []
-letters (r ∷ rs) = fill 5 (codes (r .parts)) ++ letters rs
+letters (r ∷ rs) = padTo 5 (codes (r .parts)) ++ letters rs
 
 letters-at : (rs : List Form.Row) (f j : ℕ) → f < length rs → j < 5 → getD (letters rs) (5 * f + j) 0 ≡ getD (codes (getD rs f Form.noRow .parts)) j 32
 unfolding letters
 letters-at [] f j h k = absurd (omega arith)
 letters-at (r ∷ rs) zero j h k =
     let e : 5 * 0 + j ≡ j = omega arith in
-    rw e (List·getD-append (fill 5 (codes (r .parts))) (letters rs) 0 j (omega (arith, fill-length 5 (codes (r .parts))))) ∙ fill-at 5 (codes (r .parts)) j k
+    rw e (List·getD-append (padTo 5 (codes (r .parts))) (letters rs) 0 j (omega (arith, fill-length 5 (codes (r .parts))))) ∙ fill-at 5 (codes (r .parts)) j k
 letters-at (r ∷ rs) (suc f) j h k =
-    let e : 5 * suc f + j ≡ length (fill 5 (codes (r .parts))) + (5 * f + j) = omega (arith, fill-length 5 (codes (r .parts))) in
-    ap (λ (i : ℕ). getD (fill 5 (codes (r .parts)) ++ letters rs) i 0) e ∙ getD-append-add (fill 5 (codes (r .parts))) (letters rs) (5 * f + j) 0 ∙ letters-at rs f j (omega arith) k
+    let e : 5 * suc f + j ≡ length (padTo 5 (codes (r .parts))) + (5 * f + j) = omega (arith, fill-length 5 (codes (r .parts))) in
+    ap (λ (i : ℕ). getD (padTo 5 (codes (r .parts)) ++ letters rs) i 0) e ∙ getD-append-add (padTo 5 (codes (r .parts))) (letters rs) (5 * f + j) 0 ∙ letters-at rs f j (omega arith) k
 
 pub atom-cell : (f : ℕ) → f < 42 → (j : ℕ) → j < 5 → getD (letters Form.forms) (5 * f + j) 0 ≡ getD (codesAt f) j 32
 atom-cell f h j k = letters-at Form.forms f j (omega (arith, row-count)) k

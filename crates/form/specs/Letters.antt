@@ -15,8 +15,8 @@ use Rattle.form.specs.Table.{rowCount, keywordsAt, codesAt}
 unfoldable pub isKeyField : Bytes → Bool
 isKeyField f = Form.isKey (partsAt 46 f)
 
-unfoldable pub isReal : Bytes → Bool
-isReal f = holdsOf Form.isRealBytes (unhex f)
+unfoldable pub isRealField : Bytes → Bool
+isRealField f = holdsOf Form.isRealBytes (unhex f)
 
 -- what a number must be below where its letter is x; 65,537 where it may be any number
 unfoldable pub limitOf : ℕ → ℕ
@@ -29,15 +29,15 @@ limitOf x =
     (cond (eqb x 32) 0 65537)))))
 
 -- whether a field holds what the letter x says
-unfoldable pub holds : ℕ → Bytes → Bool
-holds x f =
+unfoldable pub letterHolds : ℕ → Bytes → Bool
+letterHolds x f =
     cond (eqb x 87) (isName f)
     (cond (eqb x 81) (isKeyField f)
     (cond (eqb x 88) (Number.isBetween 9223372036854775808 9223372036854775807 f)
     (cond (eqb x 89) (Number.isBetween 4096 4096 f)
-    (cond (eqb x 82) (isReal f)
+    (cond (eqb x 82) (isRealField f)
     (cond (eqb x 84) (Utf8.isText f)
-    (ltb (Number.numberOf 65536 f) (limitOf x)))))))
+    (ltb (Number.numberUpTo 65536 f) (limitOf x)))))))
 
 -- the letters after a field, where n is its number
 unfoldable pub after : ℕ → Bytes → Bytes
@@ -45,16 +45,16 @@ after n [] = []
 after n (x ∷ xs) = cond (leb 97 x) (replicate n (x - 32) ++ xs) xs
 
 -- whether fields are those of letters; 32 stands behind the last of them
-unfoldable pub fits : Bytes → List Bytes → Bool
-fits xs [] = eqb (getD xs 0 32) 32
-fits xs (f ∷ fs) = holds (getD xs 0 32) f && fits (after (Form.numberOf f) xs) fs
+unfoldable pub lettersFit : Bytes → List Bytes → Bool
+lettersFit xs [] = eqb (getD xs 0 32) 32
+lettersFit xs (f ∷ fs) = letterHolds (getD xs 0 32) f && lettersFit (after (Form.numberOf f) xs) fs
 
 -- the letters still to come: c times e, and then the form's letters from j on
 unfoldable pub pending : ℕ → ℕ → ℕ → ℕ → Bytes
 pending f j c e = replicate c e ++ drop j (codesAt f)
 
 -- a walk may stand there: e is no letter of a count
-pub record Ready (f j c e : ℕ) : Type 0 where
+pub record WalkBounds (f j c e : ℕ) : Type 0 where
   pub form : f < rowCount
   pub within : j ≤ length (codesAt f)
   pub single : e < 97
@@ -68,19 +68,19 @@ abbrev pub fieldsLeft : Bytes → Walk → List Bytes
 fieldsLeft l w = Form.fieldsFrom (w .at) l
 
 -- the fields from where it stands are those of the letters still to come
-pub record Standing (f : ℕ) (l : Bytes) (w : Walk) : Type 0 where
-  pub ready : Ready f (w .j) (w .c) (w .e)
-  pub fit : fits (lettersFrom f w) (fieldsLeft l w) ≡ true
+pub record WalkAt (f : ℕ) (l : Bytes) (w : Walk) : Type 0 where
+  pub ready : WalkBounds f (w .j) (w .c) (w .e)
+  pub fit : lettersFit (lettersFrom f w) (fieldsLeft l w) ≡ true
 
 -- it went past a field with the letter x, whose number is v
-pub record Stepped (f : ℕ) (l : Bytes) (w : Walk) (x v : ℕ) (u : Walk) : Type 0 where
+pub record WalkStepped (f : ℕ) (l : Bytes) (w : Walk) (x v : ℕ) (u : Walk) : Type 0 where
   pub field : Bytes
   pub letter : x ≡ getD (lettersFrom f w) 0 32
   pub fields : fieldsLeft l w ≡ field ∷ fieldsLeft l u
-  pub good : holds x field ≡ true
-  pub number : v ≡ Number.numberOf 65536 field
+  pub good : letterHolds x field ≡ true
+  pub number : v ≡ Number.numberUpTo 65536 field
   pub letters : lettersFrom f u ≡ after (Form.numberOf field) (lettersFrom f w)
-  pub standing : Standing f l u
+  pub standing : WalkAt f l u
   pub further : w .at < u .at
 
 -- a walk over the fields behind the keywords of form f

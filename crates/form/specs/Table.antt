@@ -31,13 +31,13 @@ codes (one a ∷ ps) = code a ∷ codes ps
 codes (many a ∷ ps) = (code a + 32) ∷ codes ps
 
 -- n places, blank behind the list
-abbrev pub fill : ℕ → Bytes → Bytes
-fill zero xs = []
-fill (suc n) [] = 32 ∷ fill n []
-fill (suc n) (x ∷ xs) = x ∷ fill n xs
+abbrev pub padTo : ℕ → Bytes → Bytes
+padTo zero xs = []
+padTo (suc n) [] = 32 ∷ padTo n []
+padTo (suc n) (x ∷ xs) = x ∷ padTo n xs
 
 abbrev pub encode : Row → Bytes
-encode r = 10 ∷ (fill 17 (r .words) ++ (letter (r .kind) ∷ fill 5 (codes (r .parts))))
+encode r = 10 ∷ (padTo 17 (r .words) ++ (letter (r .kind) ∷ padTo 5 (codes (r .parts))))
 
 abbrev pub table : List Row → Bytes
 table [] = []

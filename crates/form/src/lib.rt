@@ -7,10 +7,10 @@ ghost use Prim.Native.Nat.{_+_, _≤_, _<_};
 ghost use lib.ListN.{length, drop, getD};
 ghost use Rattle.semantics.specs.Text.{same};
 ghost use Rattle.semantics.specs.Form.{forms, begins, rowOf, fieldsFrom};
-ghost use Rattle.decimal.specs.Number.{numberOf, isBetween};
+ghost use Rattle.decimal.specs.Number.{numberUpTo, isBetween};
 ghost use Rattle.text.specs.Parts.{until};
 ghost use Rattle.form.specs.Table.{table, rowCount, keywordsAt, kindAt, codesAt, fieldsBehind, formOf};
-ghost use Rattle.form.specs.Letters.{isKeyField, isReal, limitOf, holds, after, fits, lettersFrom, Ready, Standing, Stepped, beginning};
+ghost use Rattle.form.specs.Letters.{isKeyField, isRealField, limitOf, letterHolds, after, lettersFit, lettersFrom, WalkBounds, WalkAt, WalkStepped, beginning};
 
 // A row: keywords, the kind's letter, and a letter for each field behind the keywords. A to O are kinds, and references to lines of
 // that kind; 32 lower, `!` to `/`, may be 0 too. P to Y are other fields. A small letter is a count and as many fields.
@@ -239,7 +239,7 @@ fn is_i64(s: &[u8]) -> bool
 
 // 16 digits of a real that is no NaN: without its sign, it is not above infinity.
 fn is_real(s: &[u8]) -> bool
-    ensures { λ r. ⌜ r ≡ isReal (now (s .entry)) ⌝ }
+    ensures { λ r. ⌜ r ≡ isRealField (now (s .entry)) ⌝ }
 {
     let w = hex::read_bits(s);
     match w {
@@ -250,7 +250,7 @@ fn is_real(s: &[u8]) -> bool
 
 // Whether a field holds what its letter says.
 fn is_good(s: &[u8], x: u8) -> bool
-    ensures { λ r. ⌜ r ≡ holds x (now (s .entry)) ⌝ }
+    ensures { λ r. ⌜ r ≡ letterHolds x (now (s .entry)) ⌝ }
 {
     if x == NAME {
         return name::is_name(s);
@@ -285,7 +285,7 @@ pub struct Walk {
 
 // The letter of the field at which a walk stands.
 fn letter(f: usize, w: Walk) -> u8
-    requires { ⌜ Ready f (w .j) (w .c) (w .e) ⌝ }
+    requires { ⌜ WalkBounds f (w .j) (w .c) (w .e) ⌝ }
     ensures { λ r. ⌜ r ≡ getD (lettersFrom f w) 0 32 ⌝ }
 {
     let c = w.c;
@@ -298,8 +298,8 @@ fn letter(f: usize, w: Walk) -> u8
 
 // Past a field with the letter x, whose number is n, to the one that begins at `at`.
 fn step(f: usize, w: Walk, x: u8, n: usize, at: usize) -> Walk
-    requires { ⌜ (Ready f (w .j) (w .c) (w .e)) × (x ≡ getD (lettersFrom f w) 0 32) × (x ≡ 32 → ⊥) ⌝ }
-    ensures { λ r. ⌜ (Ready f (r .j) (r .c) (r .e)) × (lettersFrom f r ≡ after n (lettersFrom f w)) × (r .at ≡ at) ⌝ }
+    requires { ⌜ (WalkBounds f (w .j) (w .c) (w .e)) × (x ≡ getD (lettersFrom f w) 0 32) × (x ≡ 32 → ⊥) ⌝ }
+    ensures { λ r. ⌜ (WalkBounds f (r .j) (r .c) (r .e)) × (lettersFrom f r ≡ after n (lettersFrom f w)) × (r .at ≡ at) ⌝ }
 {
     let j = w.j;
     let c = w.c;
@@ -332,7 +332,7 @@ fn step(f: usize, w: Walk, x: u8, n: usize, at: usize) -> Walk
 
 // A field as a number: 65536 where it is larger, 65537 where it is none.
 pub fn number(s: &[u8]) -> usize
-    ensures { λ r. ⌜ (r ≡ numberOf 65536 (now (s .entry))) × (r ≤ 65537) ⌝ }
+    ensures { λ r. ⌜ (r ≡ numberUpTo 65536 (now (s .entry))) × (r ≤ 65537) ⌝ }
 {
     decimal::read_number(s, 65536) as usize
 }
@@ -340,7 +340,7 @@ pub fn number(s: &[u8]) -> usize
 // Whether the fields from `from` on are those of form f.
 fn fits_form(l: &[u8], from: usize, f: usize) -> bool
     requires { ⌜ (f < rowCount) × (length (now l) ≤ 255) ⌝ }
-    ensures { λ r. ⌜ r ≡ fits (codesAt f) (fieldsFrom from (now (l .entry))) ⌝ }
+    ensures { λ r. ⌜ r ≡ lettersFit (codesAt f) (fieldsFrom from (now (l .entry))) ⌝ }
 {
     let mut w = Walk {
         at: from,
@@ -483,8 +483,8 @@ pub struct Seen {
 
 // One field of a walk.
 pub fn next(l: &[u8], f: usize, w: Walk) -> Seen
-    requires { ⌜ (Standing f (now l) w) × (w .at ≤ length (now l)) ⌝ }
-    ensures { λ r. ⌜ Stepped f (now (l .entry)) w (r .letter) (r .number) (r .next) ⌝ }
+    requires { ⌜ (WalkAt f (now l) w) × (w .at ≤ length (now l)) ⌝ }
+    ensures { λ r. ⌜ WalkStepped f (now (l .entry)) w (r .letter) (r .number) (r .next) ⌝ }
 {
     let at = w.at;
     let x = letter(f, w);

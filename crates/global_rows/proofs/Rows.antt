@@ -14,7 +14,7 @@ use Rattle.lines.specs.Lines.{readAt}
 use Rattle.write.specs.Wrote.{Wrote}
 use Rattle.write.proofs.Wrote.{then, wrote-as}
 use Rattle.sizes.specs.Sizes.{typeAt, TypeLine}
-use Rattle.global_table.specs.Table.{VarLine, lineOf, offsetOf, entryAt, placesIn, EntryIn}
+use Rattle.global_table.specs.Table.{VarLine, lineOf, offsetOf, entryAt, placesIn, GlobalEntry}
 use Rattle.global_table.proofs.Line.{var-in, type-line, type-on}
 use Rattle.global_table.proofs.Table.{places-more}
 
@@ -28,14 +28,14 @@ unfolding entryAt
 entry-offset s t i = refl
 
 -- the `var` line of an entry, and its type
-module _ (s t : Bytes) (n i : ℕ) (d : EntryIn s t n i) (r : ℕ) (hr : r ≡ lineOf t i) where
+module _ (s t : Bytes) (n i : ℕ) (d : GlobalEntry s t n i) (r : ℕ) (hr : r ≡ lineOf t i) where
   entry-line : VarLine s t n r
   entry-line = rw hr (d .line)
 
   pub entry-in : (0 < r) × (r - 1 < n)
   entry-in = (entry-line .first, var-in s t n r entry-line)
 
-  module _ (v : ℕ) (hv : v ≡ Number.numberOf 65536 (getD (readAt s (r - 1) .fields) 0 [])) where
+  module _ (v : ℕ) (hv : v ≡ Number.numberUpTo 65536 (getD (readAt s (r - 1) .fields) 0 [])) where
     pub entry-type-line : TypeLine s t n v
     entry-type-line = type-line s t n r entry-line v hv
 

@@ -11,11 +11,11 @@ use write::put_part;
 ghost use Rattle.semantics.specs.Sheet.{concatMap};
 ghost use Rattle.semantics.specs.Listing.{globalRow};
 ghost use Rattle.write.specs.Wrote.{Wrote};
-ghost use Rattle.global_table.specs.Table.{entryAt, placesIn, EntryIn, Tabled};
+ghost use Rattle.global_table.specs.Table.{entryAt, placesIn, GlobalEntry, Tabled};
 
 // The row of entry i.
 fn global_row(sheet: &[u8], work: &[u8], n: usize, i: usize, out: &mut [u8], at: usize) -> usize
-    requires { ⌜ EntryIn (now sheet) (now work) n i ⌝ }
+    requires { ⌜ GlobalEntry (now sheet) (now work) n i ⌝ }
     ensures { λ r. ⌜ Wrote (now (out .entry)) at (globalRow (entryAt (now (sheet .entry)) (now (work .entry)) i)) (now (out .exit)) r ⌝ }
 {
     let line = line_of(work, i);

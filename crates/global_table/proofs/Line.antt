@@ -89,7 +89,7 @@ module _ (s t : Bytes) (n r : ℕ) (l : VarLine s t n r) where
       × (letter (readAt s (numberOf (getD (readAt s (r - 1) .fields) 0 []) - 1) .form .kind) ≡ 75)
   ref-is = needed-ref (readsIn s) (r - 1 + 1) 75 (numberOf (getD (readAt s (r - 1) .fields) 0 [])) (parts-good .0 .fine)
 
-  module _ (v : ℕ) (hv : v ≡ Number.numberOf 65536 (getD (readAt s (r - 1) .fields) 0 [])) where
+  module _ (v : ℕ) (hv : v ≡ Number.numberUpTo 65536 (getD (readAt s (r - 1) .fields) 0 [])) where
     type-number : v ≡ numberOf (getD (readAt s (r - 1) .fields) 0 [])
     type-number = hv ∙ number-exact (getD (readAt s (r - 1) .fields) 0 []) (parts-good .0 .number) (omega (arith, ref-is .1, l .last, l .checked .whole .lined .few))
 
@@ -104,7 +104,7 @@ module _ (s t : Bytes) (n r : ℕ) (l : VarLine s t n r) where
     pub type-on : typeAt s v ≡ typeOn s r
     type-on = ap (typeAt s) type-number
 
-  module _ (v : ℕ) (hv : v ≡ Number.numberOf 65536 (getD (readAt s (r - 1) .fields) 2 [])) where
+  module _ (v : ℕ) (hv : v ≡ Number.numberUpTo 65536 (getD (readAt s (r - 1) .fields) 2 [])) where
     pub count-on : (v ≡ numberOf (getD (readAt s (r - 1) .fields) 2 [])) × (v ≤ 16) × (v ≡ length (namesOn s r))
     count-on =
         let q = count-exact (getD (readAt s (r - 1) .fields) 2 []) (parts-good .2) hv in

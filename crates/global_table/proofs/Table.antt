@@ -14,7 +14,7 @@ use Rattle.words.specs.Words.{digest, u16At}
 use Rattle.words.proofs.Laws.{digest-apart}
 use Rattle.checks.specs.Checks.{Checked, Kept}
 use Rattle.checks.proofs.Kept.{kept-all, kept-then, kept-less, kept-at, checked-kept}
-use Rattle.global_table.specs.Table.{VarLine, lineOf, positionOf, offsetOf, digestOf, entered, entryAt, entriesFrom, placesIn, EntryIn, Tabled, offsetBy, numberFrom, numberIn, Around}
+use Rattle.global_table.specs.Table.{VarLine, lineOf, positionOf, offsetOf, digestOf, globalEntered, entryAt, entriesFrom, placesIn, GlobalEntry, Tabled, offsetBy, numberFrom, entryNumber, Around}
 
 -- ---- a run of stores
 
@@ -45,8 +45,8 @@ sets-above t a (x ∷ xs) n h = sets-above (set t a x) (suc a) xs n (omega arith
 
 pub entered-by : (t : Bytes) (i line position offset d : ℕ)
     → set (set (set (set (set (set t (7168 + 8 * i) (line % 256)) (7168 + 8 * i + 1) (line / 256)) (7168 + 8 * i + 2) position) (7168 + 8 * i + 3) (offset % 256)) (7168 + 8 * i + 4) (offset / 256)) (7168 + 8 * i + 5) d
-    ≡ entered t i line position offset d
-unfolding entered
+    ≡ globalEntered t i line position offset d
+unfolding globalEntered
 entered-by t i line position offset d =
     let e1 : 7168 + 8 * i + 1 ≡ suc (7168 + 8 * i) = omega arith in
     let e2 : 7168 + 8 * i + 2 ≡ suc (suc (7168 + 8 * i)) = omega arith in
@@ -59,54 +59,54 @@ module _ (t : Bytes) (i line position offset d : ℕ) (hi : i < 256) (hl : line 
   cells : Bytes
   cells = line % 256 ∷ line / 256 ∷ position ∷ offset % 256 ∷ offset / 256 ∷ d ∷ []
 
-  cell-at : (k j : ℕ) → k < 6 → j ≡ 7168 + 8 * i + k → getD (entered t i line position offset d) j 0 ≡ getD cells k 0
-  unfolding entered cells
+  cell-at : (k j : ℕ) → k < 6 → j ≡ 7168 + 8 * i + k → getD (globalEntered t i line position offset d) j 0 ≡ getD cells k 0
+  unfolding globalEntered cells
   cell-at k j h e = rw e (sets-at t (7168 + 8 * i) cells k h (omega arith))
 
-  pub line-new : lineOf (entered t i line position offset d) i ≡ line
+  pub line-new : lineOf (globalEntered t i line position offset d) i ≡ line
   unfolding u16At cells
   line-new = rw (cell-at 0 (7168 + 8 * i) (omega arith) (omega arith), cell-at 1 (7168 + 8 * i + 1) (omega arith) refl) (omega arith)
 
-  pub position-new : positionOf (entered t i line position offset d) i ≡ position
+  pub position-new : positionOf (globalEntered t i line position offset d) i ≡ position
   unfolding positionOf cells
   position-new = cell-at 2 (7170 + 8 * i) (omega arith) (omega arith)
 
-  pub offset-new : offsetOf (entered t i line position offset d) i ≡ offset
+  pub offset-new : offsetOf (globalEntered t i line position offset d) i ≡ offset
   unfolding u16At cells
   offset-new = rw (cell-at 3 (7171 + 8 * i) (omega arith) (omega arith), cell-at 4 (7171 + 8 * i + 1) (omega arith) (omega arith)) (omega arith)
 
-  pub digest-new : digestOf (entered t i line position offset d) i ≡ d
+  pub digest-new : digestOf (globalEntered t i line position offset d) i ≡ d
   unfolding digestOf cells
   digest-new = cell-at 5 (7173 + 8 * i) (omega arith) (omega arith)
 
   -- the entries before it
   module _ (j : ℕ) (hj : j < i) where
-    cell-old : (k : ℕ) → k < 6 → (m : ℕ) → m ≡ 7168 + 8 * j + k → getD (entered t i line position offset d) m 0 ≡ getD t m 0
-    unfolding entered cells
+    cell-old : (k : ℕ) → k < 6 → (m : ℕ) → m ≡ 7168 + 8 * j + k → getD (globalEntered t i line position offset d) m 0 ≡ getD t m 0
+    unfolding globalEntered cells
     cell-old k h m e = sets-other t (7168 + 8 * i) cells m (λ x l q. omega arith)
 
-    pub line-old : lineOf (entered t i line position offset d) j ≡ lineOf t j
+    pub line-old : lineOf (globalEntered t i line position offset d) j ≡ lineOf t j
     unfolding u16At
     line-old = rw (cell-old 0 (omega arith) (7168 + 8 * j) (omega arith), cell-old 1 (omega arith) (7168 + 8 * j + 1) refl)
 
-    position-old : positionOf (entered t i line position offset d) j ≡ positionOf t j
+    position-old : positionOf (globalEntered t i line position offset d) j ≡ positionOf t j
     unfolding positionOf
     position-old = cell-old 2 (omega arith) (7170 + 8 * j) (omega arith)
 
-    offset-old : offsetOf (entered t i line position offset d) j ≡ offsetOf t j
+    offset-old : offsetOf (globalEntered t i line position offset d) j ≡ offsetOf t j
     unfolding u16At
     offset-old = rw (cell-old 3 (omega arith) (7171 + 8 * j) (omega arith), cell-old 4 (omega arith) (7171 + 8 * j + 1) (omega arith))
 
-    pub digest-old : digestOf (entered t i line position offset d) j ≡ digestOf t j
+    pub digest-old : digestOf (globalEntered t i line position offset d) j ≡ digestOf t j
     unfolding digestOf
     digest-old = cell-old 5 (omega arith) (7173 + 8 * j) (omega arith)
 
-    pub entry-old : (s : Bytes) → entryAt s (entered t i line position offset d) j ≡ entryAt s t j
+    pub entry-old : (s : Bytes) → entryAt s (globalEntered t i line position offset d) j ≡ entryAt s t j
     unfolding entryAt
     entry-old s = rw (line-old, position-old, offset-old)
 
-  pub around-entered : Around t (entered t i line position offset d)
-  unfolding entered cells
+  pub around-entered : Around t (globalEntered t i line position offset d)
+  unfolding globalEntered cells
   around-entered = record {
     below = record { below = sets-below t (7168 + 8 * i) cells 7168 (omega arith); long = length-sets t (7168 + 8 * i) cells };
     above = sets-above t (7168 + 8 * i) cells 9216 (omega arith);
@@ -133,20 +133,20 @@ places-count s t i zero = refl
 places-count s t i (suc g) = ap suc (places-count s t (suc i) g)
 
 pub places-entered : (s t : Bytes) (g line position offset d : ℕ) → g < 256 → line < 65536 → offset < 65536 → 65536 ≤ length t
-    → placesIn s (entered t g line position offset d) g ≡ placesIn s t g
-places-entered s t g line position offset d hg hl ho room = entries-same s t (entered t g line position offset d) 0 g (λ j l. entry-old t g line position offset d hg hl ho room j (omega arith) s)
+    → placesIn s (globalEntered t g line position offset d) g ≡ placesIn s t g
+places-entered s t g line position offset d hg hl ho room = entries-same s t (globalEntered t g line position offset d) 0 g (λ j l. entry-old t g line position offset d hg hl ho room j (omega arith) s)
 
 -- ---- search for a name
 
 -- names with different digests are different
-pub named-apart : {s t : Bytes} {n i d : ℕ} (x : Bytes) → EntryIn s t n i → d ≡ digest x → (digestOf t i ≡ d → ⊥) → false ≡ same x (entryAt s t i .name)
+pub named-apart : {s t : Bytes} {n i d : ℕ} (x : Bytes) → GlobalEntry s t n i → d ≡ digest x → (digestOf t i ≡ d → ⊥) → false ≡ same x (entryAt s t i .name)
 named-apart {s} {t} {i = i} x b e z = digest-apart x (entryAt s t i .name) (λ q. z (b .digest ∙ sym (e ∙ q)))
 
 -- the first i entries have other names
 pub record Searching (s t : Bytes) (g : ℕ) (x : Bytes) (i : ℕ) : Type 0 where
   pub within : i ≤ g
   pub place : placeOf x (placesIn s t g) ≡ placeOf x (entriesFrom s t i (g - i))
-  pub number : numberIn x (placesIn s t g) ≡ numberFrom (suc i) x (entriesFrom s t i (g - i))
+  pub number : entryNumber x (placesIn s t g) ≡ numberFrom (suc i) x (entriesFrom s t i (g - i))
 
 module _ (s t : Bytes) (g : ℕ) (x : Bytes) where
   pub search-start : Searching s t g x 0
@@ -161,7 +161,7 @@ module _ (s t : Bytes) (g : ℕ) (x : Bytes) where
     unfolding entriesFrom
     first-number = let e : g - i ≡ suc (g - suc i) = omega arith in rw e
 
-    pub search-found : b ≡ true → (offsetBy t (i + 1) ≡ placeOf x (placesIn s t g)) × (i + 1 ≤ g) × (i + 1 ≡ numberIn x (placesIn s t g))
+    pub search-found : b ≡ true → (offsetBy t (i + 1) ≡ placeOf x (placesIn s t g)) × (i + 1 ≤ g) × (i + 1 ≡ entryNumber x (placesIn s t g))
     unfolding offsetBy entryAt
     search-found q = (rw add-one (sym (w .place ∙ first ∙ rw (← hb, q))), omega arith, rw add-one (sym (w .number ∙ first-number ∙ rw (← hb, q))))
 
@@ -172,7 +172,7 @@ module _ (s t : Bytes) (g : ℕ) (x : Bytes) where
       number = rw add-one (w .number ∙ first-number ∙ rw (← hb, q));
     }
 
-  pub search-end : (i : ℕ) → Searching s t g x i → g ≤ i → (offsetBy t 0 ≡ placeOf x (placesIn s t g)) × (0 ≤ g) × (0 ≡ numberIn x (placesIn s t g))
+  pub search-end : (i : ℕ) → Searching s t g x i → g ≤ i → (offsetBy t 0 ≡ placeOf x (placesIn s t g)) × (0 ≤ g) × (0 ≡ entryNumber x (placesIn s t g))
   unfolding offsetBy entriesFrom
   search-end i w h = let e : g - i ≡ 0 = omega arith in (sym (w .place ∙ rw e), omega arith, sym (w .number ∙ rw e))
 

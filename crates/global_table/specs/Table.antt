@@ -51,8 +51,8 @@ unfoldable pub digestOf : Bytes → ℕ → ℕ
 digestOf t i = getD t (7173 + 8 * i) 0
 
 -- entry i made
-unfoldable pub entered : Bytes → ℕ → ℕ → ℕ → ℕ → ℕ → Bytes
-entered t i line position offset d = sets t (7168 + 8 * i) (line % 256 ∷ line / 256 ∷ position ∷ offset % 256 ∷ offset / 256 ∷ d ∷ [])
+unfoldable pub globalEntered : Bytes → ℕ → ℕ → ℕ → ℕ → ℕ → Bytes
+globalEntered t i line position offset d = sets t (7168 + 8 * i) (line % 256 ∷ line / 256 ∷ position ∷ offset % 256 ∷ offset / 256 ∷ d ∷ [])
 
 -- the global of entry i
 unfoldable pub entryAt : Bytes → Bytes → ℕ → Global
@@ -67,7 +67,7 @@ abbrev pub placesIn : Bytes → Bytes → ℕ → List Global
 placesIn s t g = entriesFrom s t 0 g
 
 -- entry i is of a `var` line, and holds its name's digest
-pub record EntryIn (s t : Bytes) (n i : ℕ) : Type 0 where
+pub record GlobalEntry (s t : Bytes) (n i : ℕ) : Type 0 where
   pub low : i < 256
   pub line : VarLine s t n (lineOf t i)
   pub digest : digestOf t i ≡ digest (entryAt s t i .name)
@@ -76,7 +76,7 @@ pub record EntryIn (s t : Bytes) (n i : ℕ) : Type 0 where
 pub record Tabled (s t : Bytes) (n g : ℕ) : Type 0 where
   pub checked : Checked s t n
   pub few : g ≤ 256
-  pub entries : (i : ℕ) → i < g → EntryIn s t n i
+  pub entries : (i : ℕ) → i < g → GlobalEntry s t n i
 
 -- the offset of an entry by its number from 1; 0 is none
 unfoldable pub offsetBy : Bytes → ℕ → Option ℕ
@@ -88,8 +88,8 @@ abbrev pub numberFrom : ℕ → Bytes → List Global → ℕ
 numberFrom k x [] = 0
 numberFrom k x (p ∷ ps) = cond (same x (p .name)) k (numberFrom (suc k) x ps)
 
-abbrev pub numberIn : Bytes → List Global → ℕ
-numberIn x ps = numberFrom 1 x ps
+abbrev pub entryNumber : Bytes → List Global → ℕ
+entryNumber x ps = numberFrom 1 x ps
 
 -- where a name lies among places, 0 where it has none
 abbrev pub offsetIn : Bytes → List Global → ℕ

@@ -7,7 +7,7 @@ ghost use Rattle.semantics.specs.Text.{same};
 ghost use Rattle.semantics.specs.Global.{globalSize, placeOf};
 ghost use Rattle.sizes.specs.Sizes.{typeAt, TypeLine};
 ghost use Rattle.words.specs.Words.{digest};
-ghost use Rattle.global_table.specs.Table.{lineOf, positionOf, offsetOf, digestOf, entered, entryAt, placesIn, EntryIn, Tabled, offsetBy, numberIn, offsetIn};
+ghost use Rattle.global_table.specs.Table.{lineOf, positionOf, offsetOf, digestOf, globalEntered, entryAt, placesIn, GlobalEntry, Tabled, offsetBy, entryNumber, offsetIn};
 
 // The `var` line of entry i, from 1.
 pub fn line_of(work: &[u8], i: usize) -> usize
@@ -44,7 +44,7 @@ fn digest_of(work: &[u8], i: usize) -> usize
 // Makes entry i.
 pub fn enter(work: &mut [u8], i: usize, line: usize, position: usize, offset: usize, digest: usize)
     requires { ⌜ (i < 256) × (line < 65536) × (position < 256) × (offset < 65536) × (digest < 256) × (65536 ≤ length (now work)) ⌝ }
-    ensures { λ _. ⌜ now (work .exit) ≡ entered (now (work .entry)) i line position offset digest ⌝ }
+    ensures { λ _. ⌜ now (work .exit) ≡ globalEntered (now (work .entry)) i line position offset digest ⌝ }
 {
     let a = area::GLOBALS + 8 * i;
     work[a] = (line % 256) as u8;
@@ -57,7 +57,7 @@ pub fn enter(work: &mut [u8], i: usize, line: usize, position: usize, offset: us
 
 // The name of entry i, as that part of the sheet.
 pub fn name_of<'a>(sheet: &'a [u8], work: &[u8], n: usize, i: usize) -> &'a [u8]
-    requires { ⌜ EntryIn (now sheet) (now work) n i ⌝ }
+    requires { ⌜ GlobalEntry (now sheet) (now work) n i ⌝ }
     ensures { λ r. ⌜ now r ≡ entryAt (now (sheet .entry)) (now (work .entry)) i .name ⌝ }
 {
     let r = line_of(work, i);
@@ -66,7 +66,7 @@ pub fn name_of<'a>(sheet: &'a [u8], work: &[u8], n: usize, i: usize) -> &'a [u8]
 
 // Whether entry i has this name, which has the digest d.
 fn is_named(sheet: &[u8], work: &[u8], n: usize, i: usize, name: &[u8], d: usize) -> bool
-    requires { ⌜ (EntryIn (now sheet) (now work) n i) × (d ≡ digest (now name)) ⌝ }
+    requires { ⌜ (GlobalEntry (now sheet) (now work) n i) × (d ≡ digest (now name)) ⌝ }
     ensures { λ r. ⌜ r ≡ same (now (name .entry)) (entryAt (now (sheet .entry)) (now (work .entry)) i .name) ⌝ }
 {
     if digest_of(work, i) != d {
@@ -78,7 +78,7 @@ fn is_named(sheet: &[u8], work: &[u8], n: usize, i: usize, name: &[u8], d: usize
 // The number of the first entry with this name, from 1; 0 is none.
 pub fn place_of(sheet: &[u8], work: &[u8], n: usize, g: usize, name: &[u8]) -> usize
     requires { ⌜ Tabled (now sheet) (now work) n g ⌝ }
-    ensures { λ r. ⌜ (offsetBy (now (work .entry)) r ≡ placeOf (now (name .entry)) (placesIn (now (sheet .entry)) (now (work .entry)) g)) × (r ≤ g) × (r ≡ numberIn (now (name .entry)) (placesIn (now (sheet .entry)) (now (work .entry)) g)) ⌝ }
+    ensures { λ r. ⌜ (offsetBy (now (work .entry)) r ≡ placeOf (now (name .entry)) (placesIn (now (sheet .entry)) (now (work .entry)) g)) × (r ≤ g) × (r ≡ entryNumber (now (name .entry)) (placesIn (now (sheet .entry)) (now (work .entry)) g)) ⌝ }
 {
     let d = words::digest(name);
     let mut i = 0;

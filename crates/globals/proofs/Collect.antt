@@ -22,9 +22,9 @@ use Rattle.source.proofs.Declares.{line-declares}
 use Rattle.implement.specs.Modules.{moduleAt, isOwn, Open}
 use Rattle.implement.proofs.Modules.{own-open}
 use Rattle.globals.specs.declared.Globals.{Globals}
-use Rattle.globals.specs.Laying.{Laying, layingOf, layNames, layVars, laidTo}
+use Rattle.globals.specs.Laying.{Allocation, allocationOf, layNames, layVars, laidTo}
 use Rattle.global_table.specs.Table.{VarLine, typeOn, namesOn, entriesFrom, Around}
-use Rattle.globals.specs.Collect.{layingIn, Standing, Laid, namesAt, namesTo, layLine, Collected}
+use Rattle.globals.specs.Collect.{allocationIn, PlacesEntered, PlacesLaid, namesAt, namesTo, layLine, GlobalsCollected}
 use Rattle.globals.proofs.Laying.{laid-all, laid-next}
 use Rattle.global_table.proofs.Line.{kind-other, kind-var}
 use Rattle.global_table.proofs.Table.{places-count, checked-around, places-kept, tabled-kept}
@@ -32,8 +32,8 @@ use Rattle.globals.proofs.Declare.{laid-same, laid-then}
 
 -- ---- one line
 
-module _ (s t : Bytes) (n i k : ℕ) (g : Globals) (st : Standing s t n g) (o : Open s t n i k) (h : i < n) (f : ℕ) (hf : f ≡ formAt t i) where
-  pub line-other : (f ≡ 29 → ⊥) → Laid s t t n (layLine s i (layingIn s t g)) g (g .count + namesAt s i)
+module _ (s t : Bytes) (n i k : ℕ) (g : Globals) (st : PlacesEntered s t n g) (o : Open s t n i k) (h : i < n) (f : ℕ) (hf : f ≡ formAt t i) where
+  pub line-other : (f ≡ 29 → ⊥) → PlacesLaid s t t n (layLine s i (allocationIn s t g)) g (g .count + namesAt s i)
   unfolding layLine
   line-other z = laid-same st (rw (kind-other s t n (o .checked .whole) i h hf z)) (omega arith)
 
@@ -53,12 +53,12 @@ module _ (s t : Bytes) (n i k : ℕ) (g : Globals) (st : Standing s t n g) (o : 
     pub line-room : g .count + namesAt s i ≤ 256 → g .count + length (namesOn s (i + 1)) ≤ 256
     line-room l = omega (arith, names-are)
 
-    pub line-skipped : {b : Bool} → b ≡ isOwn s k → b ≡ false → Laid s t t n (layLine s i (layingIn s t g)) g (g .count + namesAt s i)
+    pub line-skipped : {b : Bool} → b ≡ isOwn s k → b ≡ false → PlacesLaid s t t n (layLine s i (allocationIn s t g)) g (g .count + namesAt s i)
     unfolding layLine
     line-skipped p q = laid-same st (rw (is-var, own-open o p, q)) (omega arith)
 
     pub line-laid : {b : Bool} {u : Bytes} {x : Globals} → b ≡ isOwn s k → b ≡ true
-        → Laid s t u n (layNames (typeOn s (i + 1)) (namesOn s (i + 1)) (layingIn s t g)) x (g .count + length (namesOn s (i + 1))) → Laid s t u n (layLine s i (layingIn s t g)) x (g .count + namesAt s i)
+        → PlacesLaid s t u n (layNames (typeOn s (i + 1)) (namesOn s (i + 1)) (allocationIn s t g)) x (g .count + length (namesOn s (i + 1))) → PlacesLaid s t u n (layLine s i (allocationIn s t g)) x (g .count + namesAt s i)
     unfolding layLine
     line-laid p q l = record { standing = l .standing; around = l .around; laying = l .laying ∙ rw (is-var, own-open o p, q); most = omega (arith, l .most, names-are) }
 
@@ -93,7 +93,7 @@ open-around a o = record { checked = checked-around a (o .checked); within = o .
 
 -- the globals of the first i lines have places
 pub record Collecting (s t u : Bytes) (n : ℕ) (g : Globals) (k i : ℕ) : Type 0 where
-  pub laid : Laid s t u n (laidTo s i) g (namesTo s i)
+  pub laid : PlacesLaid s t u n (laidTo s i) g (namesTo s i)
   pub here : Open s u n i k
 
 module _ (s t : Bytes) (n : ℕ) (c : Checked s t n) where
@@ -106,30 +106,30 @@ module _ (s t : Bytes) (n : ℕ) (c : Checked s t n) where
       }
 
   module _ (u : Bytes) (g : Globals) (k i : ℕ) (m : Collecting s t u n g k i) where
-    pub collecting-here : i < n → (Standing s u n g) × (Open s u n i k) × (i < n) × (g .count + namesAt s i ≤ 256)
+    pub collecting-here : i < n → (PlacesEntered s u n g) × (Open s u n i k) × (i < n) × (g .count + namesAt s i ≤ 256)
     collecting-here h = (m .laid .standing, m .here, h, omega (arith, m .laid .most, names-few s t n c i h))
 
-    pub collecting-next : {v : Bytes} {x : Globals} {q : ℕ} → i < n → Laid s u v n (layLine s i (layingIn s u g)) x (g .count + namesAt s i) → Open s v n (i + 1) q → Collecting s t v n x q (i + 1)
+    pub collecting-next : {v : Bytes} {x : Globals} {q : ℕ} → i < n → PlacesLaid s u v n (layLine s i (allocationIn s u g)) x (g .count + namesAt s i) → Open s v n (i + 1) q → Collecting s t v n x q (i + 1)
     collecting-next h a o =
         let b = laid-then (layLine s i) (namesAt s i) (m .laid) a in
         record { laid = record { standing = b .standing; around = b .around; laying = b .laying ∙ sym (laid-next s t n c i h); most = omega (arith, b .most, names-more s i, ap (namesTo s) (add-one i)) }; here = o }
 
-    pub collecting-end : n ≤ i → (Collected s u n g) × (Around t u)
+    pub collecting-end : n ≤ i → (GlobalsCollected s u n g) × (Around t u)
     collecting-end h =
         let z : i ≡ n = omega (arith, m .here .within) in
-        let e : (ns : Names) → layingIn s u g ≡ layingOf (globals ns (sheetSource s)) = λ ns. m .laid .laying ∙ ap (laidTo s) z ∙ sym (laid-all s t n c ns) in (
+        let e : (ns : Names) → allocationIn s u g ≡ allocationOf (globals ns (sheetSource s)) = λ ns. m .laid .laying ∙ ap (laidTo s) z ∙ sym (laid-all s t n c ns) in (
           record {
             tabled = m .laid .standing .tabled;
-            places = λ ns. ap (λ (l : Laying). l .places) (e ns);
-            end = λ ns. ap (λ (l : Laying). l .end) (e ns);
-            count = λ ns. sym (places-count s u 0 (g .count)) ∙ ap (λ (l : Laying). length (l .places)) (e ns);
+            places = λ ns. ap (λ (l : Allocation). l .places) (e ns);
+            end = λ ns. ap (λ (l : Allocation). l .end) (e ns);
+            count = λ ns. sym (places-count s u 0 (g .count)) ∙ ap (λ (l : Allocation). length (l .places)) (e ns);
             low = m .laid .standing .low;
           },
           m .laid .around,
         )
 
 -- they stay collected where all that stands up to the table's end is kept
-pub collected-kept : {s t u : Bytes} {n : ℕ} {g : Globals} → Kept 9216 t u → Collected s t n g → Collected s u n g
+pub collected-kept : {s t u : Bytes} {n : ℕ} {g : Globals} → Kept 9216 t u → GlobalsCollected s t n g → GlobalsCollected s u n g
 collected-kept {s} {t} {u} {n} {g} a c = record {
   tabled = tabled-kept a (c .tabled);
   places = λ ns. places-kept a s (g .count) (c .tabled .few) ∙ c .places ns;

@@ -21,9 +21,9 @@ use Rattle.words.specs.Words.{digest}
 use Rattle.lines.specs.Lines.{readAt, nodesIn}
 use Rattle.sizes.specs.Sizes.{typeAt}
 use Rattle.globals.specs.declared.Globals.{Globals}
-use Rattle.globals.specs.Laying.{Laying, lay, layNames}
-use Rattle.global_table.specs.Table.{VarLine, nameOn, typeOn, namesOn, entered, entryAt, placesIn, EntryIn, offsetBy, Around}
-use Rattle.globals.specs.Collect.{layingIn, Standing, Laid}
+use Rattle.globals.specs.Laying.{Allocation, layName, layNames}
+use Rattle.global_table.specs.Table.{VarLine, nameOn, typeOn, namesOn, globalEntered, entryAt, placesIn, GlobalEntry, offsetBy, Around}
+use Rattle.globals.specs.Collect.{allocationIn, PlacesEntered, PlacesLaid}
 use Rattle.globals.proofs.Laying.{names-next}
 use Rattle.global_table.proofs.Line.{type-on, count-on}
 use Rattle.global_table.proofs.Table.{line-new, position-new, offset-new, digest-new, line-old, digest-old, entry-old, around-entered, places-more, places-entered, around-all, around-then, checked-around, var-around}
@@ -34,26 +34,26 @@ place-low t end count h = global-size (λ a. alignUp a end ≤ 8 * count) (omega
 
 -- ---- places as they were
 
-pub laid-same : {s t : Bytes} {n : ℕ} {l : Laying} {g : Globals} {m : ℕ} → Standing s t n g → layingIn s t g ≡ l → g .count ≤ m → Laid s t t n l g m
+pub laid-same : {s t : Bytes} {n : ℕ} {l : Allocation} {g : Globals} {m : ℕ} → PlacesEntered s t n g → allocationIn s t g ≡ l → g .count ≤ m → PlacesLaid s t t n l g m
 laid-same st e h = record { standing = st; around = around-all; laying = e; most = h }
 
 -- the test for `nil`, of a name that was read
 pub nil-test : {x y : Bytes} {b : Bool} → y ≡ x → b ≡ same y (bytes "nil") → same x (bytes "nil") ≡ b
 nil-test e h = rw (← e) (sym h)
 
-pub lay-nil : (t : Ty) (x : Bytes) (l : Laying) → same x (bytes "nil") ≡ true → l ≡ lay t x l
-unfolding lay
+pub lay-nil : (t : Ty) (x : Bytes) (l : Allocation) → same x (bytes "nil") ≡ true → l ≡ layName t x l
+unfolding layName
 lay-nil t x l e = rw e
 
-pub lay-again : (t : Ty) (x : Bytes) (l : Laying) (w : Bytes) (p : ℕ) → same x (bytes "nil") ≡ false → offsetBy w p ≡ placeOf x (l .places) → (p ≡ 0 → ⊥) → l ≡ lay t x l
-unfolding lay offsetBy
+pub lay-again : (t : Ty) (x : Bytes) (l : Allocation) (w : Bytes) (p : ℕ) → same x (bytes "nil") ≡ false → offsetBy w p ≡ placeOf x (l .places) → (p ≡ 0 → ⊥) → l ≡ layName t x l
+unfolding layName offsetBy
 lay-again t x l w zero e h z = absurd (z refl)
 lay-again t x l w (suc p) e h z = rw (e, ← h)
 
 -- ---- a new place
 
-module _ (s t : Bytes) (n r j : ℕ) (g : Globals) (st : Standing s t n g) (l : VarLine s t n r) (hj : j < 16) (full : g .count < 256)
-    (v : ℕ) (hv : v ≡ Number.numberOf 65536 (getD (readAt s (r - 1) .fields) 0 [])) (size : ℕ) (hs : size ≡ globalSize (typeAt s v)) (off : ℕ) (ho : off ≡ alignUp size (g .end)) (d : ℕ) (hd : d ≡ digest (nameOn s r j)) (small : d < 256) where
+module _ (s t : Bytes) (n r j : ℕ) (g : Globals) (st : PlacesEntered s t n g) (l : VarLine s t n r) (hj : j < 16) (full : g .count < 256)
+    (v : ℕ) (hv : v ≡ Number.numberUpTo 65536 (getD (readAt s (r - 1) .fields) 0 [])) (size : ℕ) (hs : size ≡ globalSize (typeAt s v)) (off : ℕ) (ho : off ≡ alignUp size (g .end)) (d : ℕ) (hd : d ≡ digest (nameOn s r j)) (small : d < 256) where
   size-is : size ≡ globalSize (typeOn s r)
   size-is = hs ∙ ap globalSize (type-on s t n r l v hv)
 
@@ -76,7 +76,7 @@ module _ (s t : Bytes) (n r j : ℕ) (g : Globals) (st : Standing s t n g) (l : 
   end-fits = omega (arith, off-low, size-low)
 
   new : Bytes
-  new = entered t (g .count) r j off d
+  new = globalEntered t (g .count) r j off d
 
   around-new : Around t new
   unfolding new
@@ -92,18 +92,18 @@ module _ (s t : Bytes) (n r j : ℕ) (g : Globals) (st : Standing s t n g) (l : 
         off-is,
       )
 
-  entries-new : (i : ℕ) → i < g .count + 1 → EntryIn s new n i
+  entries-new : (i : ℕ) → i < g .count + 1 → GlobalEntry s new n i
   unfolding new
-  entries-new i h = let w : i ≤ g .count = omega arith in ⊎-elim (λ (e : i ≡ g .count). subst (EntryIn s new n) (sym e) last) (λ (q : i < g .count). old q) (eq-or-lt-of-le w)
+  entries-new i h = let w : i ≤ g .count = omega arith in ⊎-elim (λ (e : i ≡ g .count). subst (GlobalEntry s new n) (sym e) last) (λ (q : i < g .count). old q) (eq-or-lt-of-le w)
     where
-      last : EntryIn s new n (g .count)
+      last : GlobalEntry s new n (g .count)
       last = record {
         low = full;
         line = rw (line-new t (g .count) r j off d full line-low (omega (arith, off-low)) (l .checked .whole .room)) (var-around around-new l);
         digest = digest-new t (g .count) r j off d full line-low (omega (arith, off-low)) (l .checked .whole .room) ∙ hd ∙ ap (λ (e : Global). digest (e .name)) (sym entry-new);
       }
 
-      old : i < g .count → EntryIn s new n i
+      old : i < g .count → GlobalEntry s new n i
       old q =
           let x = st .tabled .entries i q in
           record {
@@ -125,14 +125,14 @@ module _ (s t : Bytes) (n r j : ℕ) (g : Globals) (st : Standing s t n g) (l : 
         ap (placesIn s new) hc ∙ places-more s new (g .count)
         ∙ ap (λ (e : Global). placesIn s new (g .count) ++ (e ∷ [])) entry-new ∙ ap (λ (l : List Global). l ++ (record { name = nameOn s r j; offset = newOffset (typeOn s r) (g .end); ty = typeOn s r } ∷ [])) places-old
 
-    laying-new : layingIn s new h ≡ lay (typeOn s r) (nameOn s r j) (layingIn s t g)
-    unfolding lay offsetBy
+    laying-new : allocationIn s new h ≡ layName (typeOn s r) (nameOn s r j) (allocationIn s t g)
+    unfolding layName offsetBy
     laying-new =
         let q : placeOf (nameOn s r j) (placesIn s t (g .count)) ≡ none = sym hp ∙ ap (offsetBy t) hz in
         let f : h .end ≡ newOffset (typeOn s r) (g .end) + globalSize (typeOn s r) = he ∙ rw (off-is, size-is) in
         rw (hn, q, places-new, f)
 
-    laid-new : Laid s t new n (lay (typeOn s r) (nameOn s r j) (layingIn s t g)) h (g .count + 1)
+    laid-new : PlacesLaid s t new n (layName (typeOn s r) (nameOn s r j) (allocationIn s t g)) h (g .count + 1)
     laid-new = record {
       standing = record {
         tabled = record { checked = checked-around around-new (l .checked); few = omega arith; entries = λ i q. entries-new i (omega arith) };
@@ -143,13 +143,13 @@ module _ (s t : Bytes) (n r j : ℕ) (g : Globals) (st : Standing s t n g) (l : 
       most = omega arith;
     }
 
-    pub laid-entered : {u : Bytes} → u ≡ entered t (g .count) r j off d → Laid s t u n (lay (typeOn s r) (nameOn s r j) (layingIn s t g)) h (g .count + 1)
+    pub laid-entered : {u : Bytes} → u ≡ globalEntered t (g .count) r j off d → PlacesLaid s t u n (layName (typeOn s r) (nameOn s r j) (allocationIn s t g)) h (g .count + 1)
     unfolding new
     laid-entered e = rw e laid-new
 
 -- ---- one after the other
 
-pub laid-then : (F : Laying → Laying) {s t u v : Bytes} {n : ℕ} {l : Laying} {g h : Globals} {m : ℕ} (k : ℕ) → Laid s t u n l g m → Laid s u v n (F (layingIn s u g)) h (g .count + k) → Laid s t v n (F l) h (m + k)
+pub laid-then : (F : Allocation → Allocation) {s t u v : Bytes} {n : ℕ} {l : Allocation} {g h : Globals} {m : ℕ} (k : ℕ) → PlacesLaid s t u n l g m → PlacesLaid s u v n (F (allocationIn s u g)) h (g .count + k) → PlacesLaid s t v n (F l) h (m + k)
 laid-then F k a b = record { standing = b .standing; around = around-then (a .around) (b .around); laying = b .laying ∙ ap F (a .laying); most = omega (arith, a .most, b .most) }
 
 -- ---- the names of a line
@@ -157,34 +157,34 @@ laid-then F k a b = record { standing = b .standing; around = around-then (a .ar
 -- the first j names have places
 pub record Naming (s t u : Bytes) (n r count : ℕ) (g h : Globals) (j : ℕ) : Type 0 where
   pub within : j ≤ count
-  pub laid : Laid s t u n (layNames (typeOn s r) (values name (nodesIn s) j (drop 3 (readAt s (r - 1) .fields))) (layingIn s t g)) h (g .count + j)
+  pub laid : PlacesLaid s t u n (layNames (typeOn s r) (values name (nodesIn s) j (drop 3 (readAt s (r - 1) .fields))) (allocationIn s t g)) h (g .count + j)
 
 module _ (s t : Bytes) (n r : ℕ) (g : Globals) (count : ℕ) where
-  pub naming-start : Standing s t n g → Naming s t t n r count g g 0
+  pub naming-start : PlacesEntered s t n g → Naming s t t n r count g g 0
   unfolding layNames
   naming-start st = record { within = omega arith; laid = laid-same st refl (omega arith) }
 
-  module _ (l : VarLine s t n r) (hc : count ≡ Number.numberOf 65536 (getD (readAt s (r - 1) .fields) 2 [])) (u : Bytes) (h : Globals) (j : ℕ) (m : Naming s t u n r count g h j) where
-    pub naming-here : j < count → g .count + length (namesOn s r) ≤ 256 → (Standing s u n h) × (VarLine s u n r) × (j < 16) × (h .count < 256)
+  module _ (l : VarLine s t n r) (hc : count ≡ Number.numberUpTo 65536 (getD (readAt s (r - 1) .fields) 2 [])) (u : Bytes) (h : Globals) (j : ℕ) (m : Naming s t u n r count g h j) where
+    pub naming-here : j < count → g .count + length (namesOn s r) ≤ 256 → (PlacesEntered s u n h) × (VarLine s u n r) × (j < 16) × (h .count < 256)
     naming-here k full =
         let q = count-on s t n r l count hc in
         (m .laid .standing, var-around (m .laid .around) l, omega (arith, q .1), omega (arith, q .2, m .laid .most))
 
-    pub naming-next : {v : Bytes} {h′ : Globals} → j < count → Laid s u v n (lay (typeOn s r) (nameOn s r j) (layingIn s u h)) h′ (h .count + 1) → Naming s t v n r count g h′ (j + 1)
+    pub naming-next : {v : Bytes} {h′ : Globals} → j < count → PlacesLaid s u v n (layName (typeOn s r) (nameOn s r j) (allocationIn s u h)) h′ (h .count + 1) → Naming s t v n r count g h′ (j + 1)
     naming-next {v} {h′} k a =
         let fs = readAt s (r - 1) .fields in
-        let e : layNames (typeOn s r) (values name (nodesIn s) (j + 1) (drop 3 fs)) (layingIn s t g) ≡ lay (typeOn s r) (nameOn s r j) (layNames (typeOn s r) (values name (nodesIn s) j (drop 3 fs)) (layingIn s t g))
-        = names-next (typeOn s r) (nodesIn s) (drop 3 fs) j (layingIn s t g) ∙ rw (getD-drop 3 fs j []) in
-        let b = laid-then (lay (typeOn s r) (nameOn s r j)) 1 (m .laid) a in
+        let e : layNames (typeOn s r) (values name (nodesIn s) (j + 1) (drop 3 fs)) (allocationIn s t g) ≡ layName (typeOn s r) (nameOn s r j) (layNames (typeOn s r) (values name (nodesIn s) j (drop 3 fs)) (allocationIn s t g))
+        = names-next (typeOn s r) (nodesIn s) (drop 3 fs) j (allocationIn s t g) ∙ rw (getD-drop 3 fs j []) in
+        let b = laid-then (layName (typeOn s r) (nameOn s r j)) 1 (m .laid) a in
         record { within = omega arith; laid = record { standing = b .standing; around = b .around; laying = b .laying ∙ sym e; most = omega (arith, b .most) } }
 
-    pub naming-end : count ≤ j → Laid s t u n (layNames (typeOn s r) (namesOn s r) (layingIn s t g)) h (g .count + length (namesOn s r))
+    pub naming-end : count ≤ j → PlacesLaid s t u n (layNames (typeOn s r) (namesOn s r) (allocationIn s t g)) h (g .count + length (namesOn s r))
     naming-end k =
         let q = count-on s t n r l count hc in
         let z : j ≡ numberOf (getD (readAt s (r - 1) .fields) 2 []) = omega (arith, q .0, m .within) in
         record {
           standing = m .laid .standing;
           around = m .laid .around;
-          laying = m .laid .laying ∙ ap (λ (x : ℕ). layNames (typeOn s r) (values name (nodesIn s) x (drop 3 (readAt s (r - 1) .fields))) (layingIn s t g)) z;
+          laying = m .laid .laying ∙ ap (λ (x : ℕ). layNames (typeOn s r) (values name (nodesIn s) x (drop 3 (readAt s (r - 1) .fields))) (allocationIn s t g)) z;
           most = omega (arith, m .laid .most, q .2, m .within);
         }

@@ -23,50 +23,50 @@ use Rattle.source.proofs.Walk.{located-all, source-of}
 use Rattle.source.proofs.Declares.{line-declares}
 use Rattle.implement.specs.Modules.{ownIn}
 use Rattle.globals.specs.Collect.{layLine}
-use Rattle.globals.specs.Laying.{Laying, noLaying, layingOf, layAt, lay, layNames, layVars, laidTo}
+use Rattle.globals.specs.Laying.{Allocation, noLaying, allocationOf, layAt, layName, layNames, layVars, laidTo}
 
 -- ---- what is declared, without first values
 
-layAll : List Declared → Laying → Laying
+layAll : List Declared → Allocation → Allocation
 layAll [] l = l
 layAll (d ∷ ds) l = layAll ds (layAt (d .ty) (d .name) (placeOf (d .name) (l .places)) l)
 
-place-only : (d : Declared) (o : Option ℕ) (g : Globals) → layingOf (declareAt d o g) ≡ layAt (d .ty) (d .name) o (layingOf g)
+place-only : (d : Declared) (o : Option ℕ) (g : Globals) → allocationOf (declareAt d o g) ≡ layAt (d .ty) (d .name) o (allocationOf g)
 place-only d none g = refl
 place-only d (some off) g = refl
 
-places-only : (ds : List Declared) (g : Globals) → layingOf (globalsFrom g ds) ≡ layAll ds (layingOf g)
+places-only : (ds : List Declared) (g : Globals) → allocationOf (globalsFrom g ds) ≡ layAll ds (allocationOf g)
 unfolding layAll
 places-only [] g = refl
 places-only (d ∷ ds) g =
     let o = placeOf (d .name) (g .places) in
     places-only ds (declareAt d o g) ∙ ap (layAll ds) (place-only d o g)
 
-all-append : (ds es : List Declared) (l : Laying) → layAll (ds ++ es) l ≡ layAll es (layAll ds l)
+all-append : (ds es : List Declared) (l : Allocation) → layAll (ds ++ es) l ≡ layAll es (layAll ds l)
 unfolding layAll
 all-append [] es l = refl
 all-append (d ∷ ds) es l = all-append ds es (layAt (d .ty) (d .name) (placeOf (d .name) (l .places)) l)
 
 module _ (ns : Names) where
   -- a line's names
-  by-names : (f : Bytes → Declared) (t : Ty) → ((n : Bytes) → f n .name ≡ n) → ((n : Bytes) → f n .ty ≡ t) → (xs : List Bytes) (l : Laying) → layAll (map f (laidNames xs)) l ≡ layNames t xs l
-  unfolding layAll layNames lay
+  by-names : (f : Bytes → Declared) (t : Ty) → ((n : Bytes) → f n .name ≡ n) → ((n : Bytes) → f n .ty ≡ t) → (xs : List Bytes) (l : Allocation) → layAll (map f (laidNames xs)) l ≡ layNames t xs l
+  unfolding layAll layNames layName
   by-names f t hn ht [] l = refl
-  by-names f t hn ht (x ∷ xs) l = go (same x (bytes "nil")) (λ (m : Laying). by-names f t hn ht xs m)
+  by-names f t hn ht (x ∷ xs) l = go (same x (bytes "nil")) (λ (m : Allocation). by-names f t hn ht xs m)
     where
-      go : (b : Bool) → ((m : Laying) → layAll (map f (laidNames xs)) m ≡ layNames t xs m)
+      go : (b : Bool) → ((m : Allocation) → layAll (map f (laidNames xs)) m ≡ layNames t xs m)
           → layAll (map f (cond (not b) (x ∷ laidNames xs) (laidNames xs))) l ≡ layNames t xs (cond b l (layAt t x (placeOf x (l .places)) l))
       go true ih = ih l
       go false ih = rw (hn x, ht x) (ih (layAt t x (placeOf x (l .places)) l))
 
   -- all lines
-  by-lines : (impl : Option Bytes) (vs : List (Located VarDecl)) (l : Laying)
+  by-lines : (impl : Option Bytes) (vs : List (Located VarDecl)) (l : Allocation)
       → layAll (concatMap (declaredBy ns) (filter (λ (v : Located VarDecl). ownIn impl (v .within)) vs)) l ≡ layVars impl vs l
   unfolding layAll layVars
   by-lines impl [] l = refl
-  by-lines impl (v ∷ vs) l = go (ownIn impl (v .within)) (λ (m : Laying). by-lines impl vs m)
+  by-lines impl (v ∷ vs) l = go (ownIn impl (v .within)) (λ (m : Allocation). by-lines impl vs m)
     where
-      go : (b : Bool) → ((m : Laying) → layAll (concatMap (declaredBy ns) (filter (λ (w : Located VarDecl). ownIn impl (w .within)) vs)) m ≡ layVars impl vs m)
+      go : (b : Bool) → ((m : Allocation) → layAll (concatMap (declaredBy ns) (filter (λ (w : Located VarDecl). ownIn impl (w .within)) vs)) m ≡ layVars impl vs m)
           → layAll (concatMap (declaredBy ns) (cond b (v ∷ filter (λ (w : Located VarDecl). ownIn impl (w .within)) vs) (filter (λ (w : Located VarDecl). ownIn impl (w .within)) vs))) l
           ≡ layVars impl vs (cond b (layNames (v .it .ty) (v .it .names) l) l)
       go true ih =
@@ -75,33 +75,33 @@ module _ (ns : Names) where
           ∙ ap (layVars impl vs) (by-names (λ (n : Bytes). record { name = n; ty = v .it .ty; first = orNoInit (initOf ns (v .it .ty) (v .it .init)) }) (v .it .ty) (λ n. refl) (λ n. refl) (v .it .names) l)
       go false ih = ih l
 
-  source-places : (s : Source) → layingOf (globals ns s) ≡ layVars (s .implement) (s .vars) noLaying
+  source-places : (s : Source) → allocationOf (globals ns s) ≡ layVars (s .implement) (s .vars) noLaying
   source-places s = places-only (declaredIn ns s) noGlobals ∙ by-lines (s .implement) (s .vars) noLaying
 
 -- ---- line by line
 
-vars-append : (impl : Option Bytes) (vs ws : List (Located VarDecl)) (l : Laying) → layVars impl (vs ++ ws) l ≡ layVars impl ws (layVars impl vs l)
+vars-append : (impl : Option Bytes) (vs ws : List (Located VarDecl)) (l : Allocation) → layVars impl (vs ++ ws) l ≡ layVars impl ws (layVars impl vs l)
 unfolding layVars
 vars-append impl [] ws l = refl
 vars-append impl (v ∷ vs) ws l = vars-append impl vs ws (cond (ownIn impl (v .within)) (layNames (v .it .ty) (v .it .names) l) l)
 
 -- one more name
-pub names-next : (t : Ty) (ns : List Node) (fs : List Bytes) (j : ℕ) (l : Laying) → layNames t (values name ns (j + 1) fs) l ≡ lay t (getD fs j []) (layNames t (values name ns j fs) l)
+pub names-next : (t : Ty) (ns : List Node) (fs : List Bytes) (j : ℕ) (l : Allocation) → layNames t (values name ns (j + 1) fs) l ≡ layName t (getD fs j []) (layNames t (values name ns j fs) l)
 unfolding layNames
 names-next t ns fs j l = rw add-one (go j fs l)
   where
-    go : (k : ℕ) (gs : List Bytes) (m : Laying) → layNames t (values name ns (suc k) gs) m ≡ lay t (getD gs k []) (layNames t (values name ns k gs) m)
+    go : (k : ℕ) (gs : List Bytes) (m : Allocation) → layNames t (values name ns (suc k) gs) m ≡ layName t (getD gs k []) (layNames t (values name ns k gs) m)
     go zero [] m = refl
     go zero (g ∷ gs) m = refl
-    go (suc k) [] m = go k [] (lay t [] m)
-    go (suc k) (g ∷ gs) m = go k gs (lay t g m)
+    go (suc k) [] m = go k [] (layName t [] m)
+    go (suc k) (g ∷ gs) m = go k gs (layName t g m)
 
 module _ (s t : Bytes) (n : ℕ) (c : Checked s t n) where
   -- the `var` lines of the sheet
   pub vars-are : sheetSource s .vars ≡ locatedTo (λ (d : Declares). d .vars) (nodesIn s) n
   vars-are = ap (λ (o : Source). o .vars) (source-of s) ∙ located-all (λ (d : Declares). d .vars) (nodesIn s) ∙ ap (locatedTo (λ (d : Declares). d .vars) (nodesIn s)) (node-count s t n (c .whole))
 
-  pub laid-all : (ns : Names) → layingOf (globals ns (sheetSource s)) ≡ laidTo s n
+  pub laid-all : (ns : Names) → allocationOf (globals ns (sheetSource s)) ≡ laidTo s n
   unfolding laidTo
   laid-all ns = source-places ns (sheetSource s) ∙ ap (λ (vs : List (Located VarDecl)). layVars (sheetSource s .implement) vs noLaying) vars-are
 

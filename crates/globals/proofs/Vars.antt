@@ -21,7 +21,7 @@ use Rattle.source.proofs.Declares.{line-declares}
 use Rattle.implement.specs.Modules.{ownIn}
 use Rattle.global_table.specs.Table.{offsetIn}
 use Rattle.globals.proofs.Laying.{vars-are}
-use Rattle.globals.specs.Vars.{locatedAt, laidVarsTo, firstOf, varItems, lineItems, varPends}
+use Rattle.globals.specs.Vars.{locatedAt, laidVarsTo, firstInit, varItems, lineItems, varPends}
 
 -- ---- a place stays
 
@@ -99,14 +99,14 @@ module _ (ns : Names) (s : Source) where
       let f : Declared → List Item = λ (d : Declared). initItems (offsetIn (d .name) ps) (d .ty) (d .first) in
       items-from ps (declaredIn ns s) noGlobals refl ∙ concat-concat f (declaredBy ns) (laidVars s)
       ∙ concat-same (λ (v : Located VarDecl). concatMap f (declaredBy ns v)) (λ (v : Located VarDecl). varItems ns ps (v .it))
-      (λ v. concat-map f (λ (x : Bytes). record { name = x; ty = v .it .ty; first = firstOf ns (v .it) }) (laidNames (v .it .names))) (laidVars s)
+      (λ v. concat-map f (λ (x : Bytes). record { name = x; ty = v .it .ty; first = firstInit ns (v .it) }) (laidNames (v .it .names))) (laidVars s)
 
   pub pends-by : globals ns s .pends ≡ concatMap (λ (v : Located VarDecl). varPends ns (v .it)) (laidVars s)
   pends-by =
       let f : Declared → List Bytes = λ (d : Declared). pendOf (d .name) (d .first) in
       pends-from (declaredIn ns s) noGlobals ∙ concat-concat f (declaredBy ns) (laidVars s)
       ∙ concat-same (λ (v : Located VarDecl). concatMap f (declaredBy ns v)) (λ (v : Located VarDecl). varPends ns (v .it))
-      (λ v. concat-map f (λ (x : Bytes). record { name = x; ty = v .it .ty; first = firstOf ns (v .it) }) (laidNames (v .it .names))) (laidVars s)
+      (λ v. concat-map f (λ (x : Bytes). record { name = x; ty = v .it .ty; first = firstInit ns (v .it) }) (laidNames (v .it .names))) (laidVars s)
 
 -- ---- the lines that count, line by line
 

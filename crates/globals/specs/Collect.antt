@@ -16,22 +16,22 @@ use Rattle.source.specs.Walk.{declaresAt, openAt, declaredTo}
 use Rattle.implement.specs.Modules.{ownIn}
 use Rattle.global_table.specs.Table.{typeOn, namesOn, placesIn, Tabled, Around}
 use Rattle.globals.specs.declared.Globals.{Globals}
-use Rattle.globals.specs.Laying.{Laying, layNames}
+use Rattle.globals.specs.Laying.{Allocation, layNames}
 
 -- the places in the table, and the end of allocation
-abbrev pub layingIn : Bytes → Bytes → Globals → Laying
-layingIn s t g = record { places = placesIn s t (g .count); end = g .end }
+abbrev pub allocationIn : Bytes → Bytes → Globals → Allocation
+allocationIn s t g = record { places = placesIn s t (g .count); end = g .end }
 
 -- g places are entered, and end within 8 bytes for each
-pub record Standing (s t : Bytes) (n : ℕ) (g : Globals) : Type 0 where
+pub record PlacesEntered (s t : Bytes) (n : ℕ) (g : Globals) : Type 0 where
   pub tabled : Tabled s t n (g .count)
   pub low : g .end ≤ 8 * g .count
 
 -- the working space t has become u, which holds the places l, at most m
-pub record Laid (s t u : Bytes) (n : ℕ) (l : Laying) (g : Globals) (m : ℕ) : Type 0 where
-  pub standing : Standing s u n g
+pub record PlacesLaid (s t u : Bytes) (n : ℕ) (l : Allocation) (g : Globals) (m : ℕ) : Type 0 where
+  pub standing : PlacesEntered s u n g
   pub around : Around t u
-  pub laying : layingIn s u g ≡ l
+  pub laying : allocationIn s u g ≡ l
   pub most : g .count ≤ m
 
 -- how many names line i declares, from 0, and the first i lines
@@ -42,11 +42,11 @@ unfoldable pub namesTo : Bytes → ℕ → ℕ
 namesTo s i = sumOf (λ (v : VarDecl). length (v .names)) (declaredTo (λ (d : Declares). d .vars) (nodesIn s) i)
 
 -- what line i, from 0, adds where it is a `var` line, 72, that counts
-unfoldable pub layLine : Bytes → ℕ → Laying → Laying
+unfoldable pub layLine : Bytes → ℕ → Allocation → Allocation
 layLine s i l = cond (eqb (letter (readAt s i .form .kind)) 72) (cond (ownIn (sheetSource s .implement) (openAt (nodesIn s) i)) (layNames (typeOn s (i + 1)) (namesOn s (i + 1)) l) l) l
 
 -- all globals of a sheet are entered, whatever names are known to their first values
-pub record Collected (s t : Bytes) (n : ℕ) (g : Globals) : Type 0 where
+pub record GlobalsCollected (s t : Bytes) (n : ℕ) (g : Globals) : Type 0 where
   pub tabled : Tabled s t n (g .count)
   pub places : (ns : Names) → placesIn s t (g .count) ≡ globals ns (sheetSource s) .places
   pub end : (ns : Names) → g .end ≡ globals ns (sheetSource s) .end

@@ -12,34 +12,34 @@ use Rattle.source.specs.Walk.{locatedTo}
 use Rattle.implement.specs.Modules.{ownIn}
 
 -- places in order, and the end of allocation
-pub record Laying : Type 0 where
+pub record Allocation : Type 0 where
   pub places : List Global
   pub end : ℕ
 
-abbrev pub noLaying : Laying
+abbrev pub noLaying : Allocation
 noLaying = record { places = []; end = 0 }
 
-abbrev pub layingOf : Globals → Laying
-layingOf g = record { places = g .places; end = g .end }
+abbrev pub allocationOf : Globals → Allocation
+allocationOf g = record { places = g .places; end = g .end }
 
 -- one more name of a type: a name met again keeps its place
-abbrev pub layAt : Ty → Bytes → Option ℕ → Laying → Laying
+abbrev pub layAt : Ty → Bytes → Option ℕ → Allocation → Allocation
 layAt t n (some off) l = l
 layAt t n none l = record { places = l .places ++ (record { name = n; offset = newOffset t (l .end); ty = t } ∷ []); end = newOffset t (l .end) + globalSize t }
 
 -- `nil` has no place
-unfoldable pub lay : Ty → Bytes → Laying → Laying
-lay t n l = cond (same n (bytes "nil")) l (layAt t n (placeOf n (l .places)) l)
+unfoldable pub layName : Ty → Bytes → Allocation → Allocation
+layName t n l = cond (same n (bytes "nil")) l (layAt t n (placeOf n (l .places)) l)
 
-unfoldable pub layNames : Ty → List Bytes → Laying → Laying
+unfoldable pub layNames : Ty → List Bytes → Allocation → Allocation
 layNames t [] l = l
-layNames t (n ∷ ns) l = layNames t ns (lay t n l)
+layNames t (n ∷ ns) l = layNames t ns (layName t n l)
 
 -- lines outside modules and in the implemented one count
-unfoldable pub layVars : Option Bytes → List (Located VarDecl) → Laying → Laying
+unfoldable pub layVars : Option Bytes → List (Located VarDecl) → Allocation → Allocation
 layVars impl [] l = l
 layVars impl (v ∷ vs) l = layVars impl vs (cond (ownIn impl (v .within)) (layNames (v .it .ty) (v .it .names) l) l)
 
 -- those of a sheet's first i lines
-unfoldable pub laidTo : Bytes → ℕ → Laying
+unfoldable pub laidTo : Bytes → ℕ → Allocation
 laidTo s i = layVars (sheetSource s .implement) (locatedTo (λ (d : Declares). d .vars) (nodesIn s) i) noLaying

@@ -28,12 +28,12 @@ laidVarsTo s zero = []
 laidVarsTo s (suc i) = laidVarsTo s i ++ laidAt s i
 
 -- the first value of a line
-abbrev pub firstOf : Names → VarDecl → Init
-firstOf ns v = orNoInit (initOf ns (v .ty) (v .init))
+abbrev pub firstInit : Names → VarDecl → Init
+firstInit ns v = orNoInit (initOf ns (v .ty) (v .init))
 
 -- the items of a line's names
 abbrev pub varItems : Names → List Global → VarDecl → List Item
-varItems ns ps v = concatMap (λ (x : Bytes). initItems (offsetIn x ps) (v .ty) (firstOf ns v)) (laidNames (v .names))
+varItems ns ps v = concatMap (λ (x : Bytes). initItems (offsetIn x ps) (v .ty) (firstInit ns v)) (laidNames (v .names))
 
 -- those of lines
 abbrev pub lineItems : Names → List Global → List (Located VarDecl) → List Item
@@ -41,4 +41,4 @@ lineItems ns ps vs = concatMap (λ (v : Located VarDecl). varItems ns ps (v .it)
 
 -- the names of a line that are pending
 abbrev pub varPends : Names → VarDecl → List Bytes
-varPends ns v = concatMap (λ (x : Bytes). pendOf x (firstOf ns v)) (laidNames (v .names))
+varPends ns v = concatMap (λ (x : Bytes). pendOf x (firstInit ns v)) (laidNames (v .names))

@@ -6,8 +6,8 @@ ghost use lib.ListN.{length};
 ghost use Rattle.checks.specs.Checks.{Checked};
 ghost use Rattle.implement.specs.Modules.{Open};
 ghost use Rattle.global_table.specs.Table.{VarLine, nameOn, typeOn, namesOn, Around};
-ghost use Rattle.globals.specs.Laying.{lay, layNames};
-ghost use Rattle.globals.specs.Collect.{layingIn, Standing, Laid, namesAt, layLine, Collected};
+ghost use Rattle.globals.specs.Laying.{layName, layNames};
+ghost use Rattle.globals.specs.Collect.{allocationIn, PlacesEntered, PlacesLaid, namesAt, layLine, GlobalsCollected};
 
 // How many globals have a place, and where allocation ends.
 pub struct Globals {
@@ -17,8 +17,8 @@ pub struct Globals {
 
 // Name j of the `var` line r gets a place, unless it is `nil` or has one.
 fn declare_name(sheet: &[u8], work: &mut [u8], n: usize, r: usize, j: usize, g: Globals) -> Globals
-    requires { ⌜ (Standing (now sheet) (now work) n g) × (VarLine (now sheet) (now work) n r) × (j < 16) × (g .count < 256) ⌝ }
-    ensures { λ h. ⌜ Laid (now (sheet .entry)) (now (work .entry)) (now (work .exit)) n (lay (typeOn (now (sheet .entry)) r) (nameOn (now (sheet .entry)) r j) (layingIn (now (sheet .entry)) (now (work .entry)) g)) h (g .count + 1) ⌝ }
+    requires { ⌜ (PlacesEntered (now sheet) (now work) n g) × (VarLine (now sheet) (now work) n r) × (j < 16) × (g .count < 256) ⌝ }
+    ensures { λ h. ⌜ PlacesLaid (now (sheet .entry)) (now (work .entry)) (now (work .exit)) n (layName (typeOn (now (sheet .entry)) r) (nameOn (now (sheet .entry)) r j) (allocationIn (now (sheet .entry)) (now (work .entry)) g)) h (g .count + 1) ⌝ }
 {
     let name = lines::field_at(sheet, work, n, r - 1, 3 + j);
     if words::same(name, b"nil") {
@@ -39,8 +39,8 @@ fn declare_name(sheet: &[u8], work: &mut [u8], n: usize, r: usize, j: usize, g: 
 
 // The names of the `var` line r.
 fn declare_global(sheet: &[u8], work: &mut [u8], n: usize, r: usize, g: Globals) -> Globals
-    requires { ⌜ (Standing (now sheet) (now work) n g) × (VarLine (now sheet) (now work) n r) × (g .count + length (namesOn (now sheet) r) ≤ 256) ⌝ }
-    ensures { λ h. ⌜ Laid (now (sheet .entry)) (now (work .entry)) (now (work .exit)) n (layNames (typeOn (now (sheet .entry)) r) (namesOn (now (sheet .entry)) r) (layingIn (now (sheet .entry)) (now (work .entry)) g)) h (g .count + length (namesOn (now (sheet .entry)) r)) ⌝ }
+    requires { ⌜ (PlacesEntered (now sheet) (now work) n g) × (VarLine (now sheet) (now work) n r) × (g .count + length (namesOn (now sheet) r) ≤ 256) ⌝ }
+    ensures { λ h. ⌜ PlacesLaid (now (sheet .entry)) (now (work .entry)) (now (work .exit)) n (layNames (typeOn (now (sheet .entry)) r) (namesOn (now (sheet .entry)) r) (allocationIn (now (sheet .entry)) (now (work .entry)) g)) h (g .count + length (namesOn (now (sheet .entry)) r)) ⌝ }
 {
     let count = lines::number_at(sheet, work, n, r - 1, 2);
     let mut h = g;
@@ -54,8 +54,8 @@ fn declare_global(sheet: &[u8], work: &mut [u8], n: usize, r: usize, g: Globals)
 
 // What line i declares, from 0, where the module of line k is open before it; 0 is none.
 fn declare_line(sheet: &[u8], work: &mut [u8], n: usize, i: usize, k: usize, g: Globals) -> Globals
-    requires { ⌜ (Standing (now sheet) (now work) n g) × (Open (now sheet) (now work) n i k) × (i < n) × (g .count + namesAt (now sheet) i ≤ 256) ⌝ }
-    ensures { λ h. ⌜ Laid (now (sheet .entry)) (now (work .entry)) (now (work .exit)) n (layLine (now (sheet .entry)) i (layingIn (now (sheet .entry)) (now (work .entry)) g)) h (g .count + namesAt (now (sheet .entry)) i) ⌝ }
+    requires { ⌜ (PlacesEntered (now sheet) (now work) n g) × (Open (now sheet) (now work) n i k) × (i < n) × (g .count + namesAt (now sheet) i ≤ 256) ⌝ }
+    ensures { λ h. ⌜ PlacesLaid (now (sheet .entry)) (now (work .entry)) (now (work .exit)) n (layLine (now (sheet .entry)) i (allocationIn (now (sheet .entry)) (now (work .entry)) g)) h (g .count + namesAt (now (sheet .entry)) i) ⌝ }
 {
     if lines::form_at(work, i) != decl::VAR {
         return g;
@@ -69,7 +69,7 @@ fn declare_line(sheet: &[u8], work: &mut [u8], n: usize, i: usize, k: usize, g: 
 // A place for every global, in the order of lines and names.
 pub fn collect_globals(sheet: &[u8], work: &mut [u8], n: usize) -> Globals
     requires { ⌜ Checked (now sheet) (now work) n ⌝ }
-    ensures { λ g. ⌜ (Collected (now (sheet .entry)) (now (work .exit)) n g) × (Around (now (work .entry)) (now (work .exit))) ⌝ }
+    ensures { λ g. ⌜ (GlobalsCollected (now (sheet .entry)) (now (work .exit)) n g) × (Around (now (work .entry)) (now (work .exit))) ⌝ }
 {
     let mut g = Globals { count: 0, end: 0 };
     let mut k = 0;

@@ -26,7 +26,7 @@ use Rattle.answers.specs.declared.Refusal.{Refusal}
 use Rattle.answers.specs.Answers.{refusalNumber, refusalLine}
 use Rattle.compile.specs.declared.Listed.{Listed}
 use Rattle.compile.specs.declared.Listed.the-variants as Listed
-use Rattle.compile.specs.Compile.{Lays, Refuses, Lists}
+use Rattle.compile.specs.Compile.{ListingStands, Refuses, Lists}
 use Rattle.image.specs.declared.ImageAnswer.{ImageAnswer}
 use Rattle.image.specs.declared.ImageAnswer.the-variants.{Laid, Refused}
 use Rattle.image.specs.Image.{Pictures}
@@ -44,7 +44,7 @@ blank n h = h ∙ ap zeros (sym (sub-zero n))
 
 -- ---- what compiling has answered
 
-pub has-listed : (s : Bytes) (L W : ℕ) {l end : ℕ} {listing u : Bytes} {r : Listed} → r ≡ Listed.Written l end → Lists s L W r listing u → Lays s (compiled L W s) L W l end listing u
+pub has-listed : (s : Bytes) (L W : ℕ) {l end : ℕ} {listing u : Bytes} {r : Listed} → r ≡ Listed.Written l end → Lists s L W r listing u → ListingStands s (compiled L W s) L W l end listing u
 has-listed s L W {l} {end} {listing} {u} e h = subst (λ (r : Listed). Lists s L W r listing u) e h .settles
 
 pub has-refused : (s : Bytes) (L W : ℕ) (u : Bytes) {q k : ℕ} {listing : Bytes} {r : Listed} → r ≡ Listed.Refused q k → Lists s L W r listing u → Refuses (compiled L W s) L W q k listing u
@@ -103,7 +103,7 @@ module _ (s : Bytes) (b : Buffers) where
   replays c = ap (afterListing b items) c
 
   abbrev Listing : ℕ → ℕ → Bytes → Bytes → Type 0
-  Listing l end listing u = Lays s (compiled (b .listing) (b .work) s) (b .listing) (b .work) l end listing u
+  Listing l end listing u = ListingStands s (compiled (b .listing) (b .work) s) (b .listing) (b .work) l end listing u
 
   -- the items of the sheet's listing are replayed, so that the definition's image and area stand there
   met : {l end : ℕ} {listing u t t′ image image′ area area′ : Bytes} {r : Replayed} → Listing l end listing u → length image ≡ b .image → length area ≡ b .area

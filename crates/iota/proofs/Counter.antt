@@ -8,20 +8,20 @@ use lib.Dec.{leb}
 use borrow.Author.Tests.{eq-eqb, ne-eqb, leb-false, le-leb, lt-leb, not-true, not-false}
 use Rattle.semantics.specs.Const.{sameGroup, iotaAt, iotaNext}
 use Rattle.iota.specs.declared.IotaCounter.{IotaCounter}
-use Rattle.iota.specs.Iota.{counterOf, capped, movedOf, steppedOf}
+use Rattle.iota.specs.Iota.{counterOf, cappedCount, movedOf, steppedOf}
 
 -- ---- the greatest count
 
-pub capped-small : (v : ℕ) → v ≤ 4294967295 → v ≡ capped v
-unfolding capped
+pub capped-small : (v : ℕ) → v ≤ 4294967295 → v ≡ cappedCount v
+unfolding cappedCount
 capped-small v h = rw (le-leb v 4294967295 h)
 
-pub capped-greatest : (v : ℕ) → 4294967295 ≤ v → v < 4294967296 → v ≡ capped (v + 1)
-unfolding capped
+pub capped-greatest : (v : ℕ) → 4294967295 ≤ v → v < 4294967296 → v ≡ cappedCount (v + 1)
+unfolding cappedCount
 capped-greatest v h k = rw (lt-leb (v + 1) 4294967295 (omega (arith, h))) (omega (arith, h, k))
 
-capped-least : (v : ℕ) → capped v ≤ v
-unfolding capped
+capped-least : (v : ℕ) → cappedCount v ≤ v
+unfolding cappedCount
 capped-least v = go (leb v 4294967295) refl
   where
     go : (b : Bool) → leb v 4294967295 ≡ b → cond b v 4294967295 ≤ v
@@ -55,7 +55,7 @@ module _ (c : IotaCounter) (line col : ℕ) where
 
   -- ---- the step
 
-  pub stepped-is : {v w : ℕ} → v ≡ iotaAt line col (counterOf c) → w ≡ capped (v + 1) → record { value = v; next = record { started = true; line = line; col = col; value = w } } ≡ steppedOf c line col
+  pub stepped-is : {v w : ℕ} → v ≡ iotaAt line col (counterOf c) → w ≡ cappedCount (v + 1) → record { value = v; next = record { started = true; line = line; col = col; value = w } } ≡ steppedOf c line col
   unfolding movedOf iotaNext
   stepped-is e f = rw (f, add-one, e)
 

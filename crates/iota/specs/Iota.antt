@@ -12,12 +12,12 @@ unfoldable pub counterOf : IotaCounter → Const.IotaCounter
 counterOf c = record { group = cond (c .started) (some (c .line, c .col)) none; value = c .value }
 
 -- a count stays at the greatest u32
-unfoldable pub capped : ℕ → ℕ
-capped v = cond (leb v 4294967295) v 4294967295
+unfoldable pub cappedCount : ℕ → ℕ
+cappedCount v = cond (leb v 4294967295) v 4294967295
 
 -- the counter, moved on
 unfoldable pub movedOf : IotaCounter → ℕ → ℕ → IotaCounter
-movedOf c line col = record { started = true; line = line; col = col; value = capped (iotaNext line col (counterOf c) .value) }
+movedOf c line col = record { started = true; line = line; col = col; value = cappedCount (iotaNext line col (counterOf c) .value) }
 
 abbrev pub steppedOf : IotaCounter → ℕ → ℕ → Stepped
 steppedOf c line col = record { value = iotaAt line col (counterOf c); next = movedOf c line col }

@@ -2,7 +2,7 @@
 ghost use mathlib.Core.Path.{_≡_};
 ghost use Prim.Native.Nat.{_+_};
 ghost use Rattle.semantics.specs.Const.{iotaAt};
-ghost use Rattle.iota.specs.Iota.{counterOf, capped, movedOf, steppedOf};
+ghost use Rattle.iota.specs.Iota.{counterOf, cappedCount, movedOf, steppedOf};
 
 // LINE and COL of the previous constant, and the next value of `iota` there.
 pub struct IotaCounter {
@@ -36,7 +36,7 @@ fn value_at(c: IotaCounter, line: usize, col: usize) -> u32
 
 // The count behind v, which stays at the greatest.
 fn behind(v: u32) -> u32
-    ensures { λ r. ⌜ r ≡ capped (v + 1) ⌝ }
+    ensures { λ r. ⌜ r ≡ cappedCount (v + 1) ⌝ }
 {
     if v < 4294967295 {
         return v + 1;

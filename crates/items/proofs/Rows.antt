@@ -22,7 +22,7 @@ use Rattle.write.proofs.Wrote.{wrote-as}
 use Rattle.values.specs.declared.ConstVal.{ConstVal}
 use Rattle.values.specs.declared.ConstVal.the-variants.{Int, Real, Str}
 use Rattle.values.specs.Values.{stringIn, valueIn, Within}
-use Rattle.placements.specs.Placements.{slotAt, elementAt}
+use Rattle.placements.specs.Placements.{slotAt, elementIn}
 use Rattle.items.specs.Items.{itemRows}
 use Rattle.elements.specs.Elements.{elementText, kindName, valuesRow}
 
@@ -65,14 +65,14 @@ module _ (id : TypeKey → ℕ) (off : ℕ) (ty : Ty) (t : Bytes) {v : ConstVal}
 -- ---- a value among strings
 
 module _ (id : TypeKey → ℕ) (off : ℕ) (t : Bytes) (j : ℕ) {v : ConstVal} (q : v ≡ slotAt t j) {d : Bytes} {a : ℕ} {e : Bytes} {b : ℕ} where
-  pub no-int-row : {z : ℤ} → v ≡ Int z → Wrote d a [] e b → Wrote d a (itemRows id (strElement off (elementAt t j))) e b
-  unfolding elementAt valueIn itemRows
+  pub no-int-row : {z : ℤ} → v ≡ Int z → Wrote d a [] e b → Wrote d a (itemRows id (strElement off (elementIn t j))) e b
+  unfolding elementIn valueIn itemRows
   no-int-row h w = rw (sym q ∙ h) w
 
-  pub no-real-row : {x : Float} → v ≡ Real x → Wrote d a [] e b → Wrote d a (itemRows id (strElement off (elementAt t j))) e b
-  unfolding elementAt valueIn itemRows
+  pub no-real-row : {x : Float} → v ≡ Real x → Wrote d a [] e b → Wrote d a (itemRows id (strElement off (elementIn t j))) e b
+  unfolding elementIn valueIn itemRows
   no-real-row h w = rw (sym q ∙ h) w
 
-  pub one-row : {p l : ℕ} → v ≡ Str p l → Wrote d a (itemRow id (strItem off (stringIn t p l))) e b → Wrote d a (itemRows id (strElement off (elementAt t j))) e b
-  unfolding elementAt valueIn itemRows
+  pub one-row : {p l : ℕ} → v ≡ Str p l → Wrote d a (itemRow id (strItem off (stringIn t p l))) e b → Wrote d a (itemRows id (strElement off (elementIn t j))) e b
+  unfolding elementIn valueIn itemRows
   one-row {p} {l} h w = rw (sym q ∙ h) (wrote-as (sym (append-nil (itemRow id (strItem off (stringIn t p l))))) w)

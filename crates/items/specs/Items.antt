@@ -14,7 +14,7 @@ unfoldable pub itemRows : (TypeKey → ℕ) → List Item → Bytes
 itemRows id is = concatMap (itemRow id) is
 
 -- a working space t that holds a literal of `count` values, with the strings among them
-pub record Literal (t : Bytes) (count : ℕ) : Type 0 where
+pub record LiteralIn (t : Bytes) (count : ℕ) : Type 0 where
   pub long : 65536 ≤ length t
   pub few : count ≤ 1024
   pub strings : (i : ℕ) → i < count → Within (length t) (slotAt t (entryAt t i))

@@ -16,8 +16,8 @@ ghost use Rattle.semantics.specs.Listing.{itemRow};
 ghost use Rattle.write.specs.Wrote.{Wrote};
 ghost use Rattle.rows.specs.Rows.{commaed};
 ghost use Rattle.values.specs.Values.{stringIn, valueIn, Within};
-ghost use Rattle.placements.specs.Placements.{entryAt, slotAt, elementAt, valuesIn};
-ghost use Rattle.items.specs.Items.{itemRows, Literal};
+ghost use Rattle.placements.specs.Placements.{entryAt, slotAt, elementIn, valuesIn};
+ghost use Rattle.items.specs.Items.{itemRows, LiteralIn};
 ghost use Rattle.elements.specs.Elements.{elementTexts, valuesRow};
 
 // The row of the string of l bytes at p.
@@ -61,7 +61,7 @@ pub fn value_item(
 
 // Elements as numbers, each behind its comma.
 fn put_elements(work: &[u8], out: &mut [u8], at: usize, kind: u8, count: usize) -> usize
-    requires { ⌜ Literal (now work) count ⌝ }
+    requires { ⌜ LiteralIn (now work) count ⌝ }
     ensures { λ r. ⌜ Wrote (now (out .entry)) at (commaed (elementTexts kind (valuesIn (now (work .entry)) 0 count))) (now (out .exit)) r ⌝ }
 {
     let mut p = write::nothing(out, at);
@@ -75,7 +75,7 @@ fn put_elements(work: &[u8], out: &mut [u8], at: usize, kind: u8, count: usize) 
 
 // One row for all elements of an array of numbers.
 fn elements_row(work: &[u8], out: &mut [u8], at: usize, kind: u8, count: usize) -> usize
-    requires { ⌜ Literal (now work) count ⌝ }
+    requires { ⌜ LiteralIn (now work) count ⌝ }
     ensures { λ r. ⌜ Wrote (now (out .entry)) at (valuesRow kind 0 (valuesIn (now (work .entry)) 0 count)) (now (out .exit)) r ⌝ }
 {
     let p = elements::put_head(out, at, kind, 0, count);
@@ -86,7 +86,7 @@ fn elements_row(work: &[u8], out: &mut [u8], at: usize, kind: u8, count: usize) 
 // The row of the string at index i; a number among strings leaves none.
 fn string_row(work: &[u8], out: &mut [u8], at: usize, i: usize) -> usize
     requires { ⌜ (i < 1024) × (65536 ≤ length (now work)) × (Within (length (now work)) (slotAt (now work) (entryAt (now work) i))) ⌝ }
-    ensures { λ r. ⌜ ((id : TypeKey → ℕ) → Wrote (now (out .entry)) at (itemRows id (strElement (4 * i) (elementAt (now (work .entry)) (entryAt (now (work .entry)) i)))) (now (out .exit)) r) ⌝ }
+    ensures { λ r. ⌜ ((id : TypeKey → ℕ) → Wrote (now (out .entry)) at (itemRows id (strElement (4 * i) (elementIn (now (work .entry)) (entryAt (now (work .entry)) i)))) (now (out .exit)) r) ⌝ }
 {
     let v = placements::element(work, i);
     match v {
@@ -97,7 +97,7 @@ fn string_row(work: &[u8], out: &mut [u8], at: usize, i: usize) -> usize
 }
 
 fn string_rows(work: &[u8], out: &mut [u8], at: usize, count: usize) -> usize
-    requires { ⌜ Literal (now work) count ⌝ }
+    requires { ⌜ LiteralIn (now work) count ⌝ }
     ensures { λ r. ⌜ ((id : TypeKey → ℕ) → Wrote (now (out .entry)) at (itemRows id (strItems 0 (valuesIn (now (work .entry)) 0 count))) (now (out .exit)) r) ⌝ }
 {
     let mut p = write::nothing(out, at);
@@ -111,7 +111,7 @@ fn string_rows(work: &[u8], out: &mut [u8], at: usize, count: usize) -> usize
 
 // The rows of a literal's elements: one for all numbers, or one for each string.
 fn element_items(work: &[u8], out: &mut [u8], at: usize, kind: u8, count: usize) -> usize
-    requires { ⌜ Literal (now work) count ⌝ }
+    requires { ⌜ LiteralIn (now work) count ⌝ }
     ensures { λ r. ⌜ ((id : TypeKey → ℕ) (k : ElemKind) → kindNumber k ≡ kind → Wrote (now (out .entry)) at (itemRows id (elementItems k (valuesIn (now (work .entry)) 0 count))) (now (out .exit)) r) ⌝ }
 {
     if kind < element::POINTER {
@@ -140,7 +140,7 @@ fn set_row(out: &mut [u8], at: usize, off: usize) -> usize
 
 // The elements of a literal, written into the array at an offset.
 fn contents(work: &[u8], out: &mut [u8], at: usize, off: usize, kind: u8, count: usize) -> usize
-    requires { ⌜ Literal (now work) count ⌝ }
+    requires { ⌜ LiteralIn (now work) count ⌝ }
     ensures { λ r. ⌜ ((f : TypeKey → ℕ) (k : ElemKind) → kindNumber k ≡ kind → Wrote (now (out .entry)) at (itemRows f (setItem off ∷ (elementItems k (valuesIn (now (work .entry)) 0 count) ++ (backItem ∷ [])))) (now (out .exit)) r) ⌝ }
 {
     let p = set_row(out, at, off);
@@ -158,7 +158,7 @@ pub fn array_items(
     kind: u8,
     count: usize,
 ) -> usize
-    requires { ⌜ Literal (now work) count ⌝ }
+    requires { ⌜ LiteralIn (now work) count ⌝ }
     ensures { λ r. ⌜ ((f : TypeKey → ℕ) (a : ConstArray) → f (elemKey (a .kind)) ≡ id → kindNumber (a .kind) ≡ kind → a .count ≡ count → a .values ≡ valuesIn (now (work .entry)) 0 count → Wrote (now (out .entry)) at (itemRows f (arrayItems off a)) (now (out .exit)) r) ⌝ }
 {
     let p = array_row(out, at, off, id, count as u64);

@@ -16,7 +16,7 @@ use Rattle.write.specs.Wrote.{Wrote, over}
 use Rattle.write.proofs.Wrote.{wrote-length, wrote-as}
 use Rattle.stored.specs.Laying.{Laying, layImage, layPart, layBytes, layArray, newPart}
 use Rattle.laying.specs.declared.State.{State}
-use Rattle.laying.specs.Steps.{layingOf, seen, Ready, Lays, Went, Outgrown}
+use Rattle.laying.specs.Steps.{layingOf, seenLaying, MoreFits, Lays, Went, Outgrown}
 
 pub went-out : {n p long : ℕ} {s r : State} → n < p → Outgrown s r → Went n p long s r
 went-out {n} {p} h o = record { is = λ im ar. rw (lt-ltb n p h) (o .is im ar); start = o .start; end = o .end; item = omega (arith, o .item) }
@@ -25,7 +25,7 @@ went-out {n} {p} h o = record { is = λ im ar. rw (lt-ltb n p h) (o .is im ar); 
 
 module _ (o : ℕ) (ys : Bytes) (im ar : Bytes) (s r : State) {p : ℕ} where
   -- in the image
-  image-laid : {im′ : Bytes} → Wrote im o ys im′ p → Went (length im′) p (max (s .long) p) s r → seen r im′ ar ≡ layImage o ys (layingOf s im ar)
+  image-laid : {im′ : Bytes} → Wrote im o ys im′ p → Went (length im′) p (max (s .long) p) s r → seenLaying r im′ ar ≡ layImage o ys (layingOf s im ar)
   unfolding layImage layingOf
   image-laid {im′} w g = g .is im′ ar ∙ go (ltb (length im) (o + length ys)) refl
     where
@@ -48,7 +48,7 @@ module _ (o : ℕ) (ys : Bytes) (im ar : Bytes) (s r : State) {p : ℕ} where
 
   -- in the newest array's part
   part-laid : {part : Bytes} → s .end ≤ length ar → Wrote (midOf (s .start) (s .end - s .start) ar) o ys part p → Went (s .end - s .start) p (s .long) s r
-      → seen r im (putMid (s .start) (s .end - s .start) ar part) ≡ layPart o ys (layingOf s im ar)
+      → seenLaying r im (putMid (s .start) (s .end - s .start) ar part) ≡ layPart o ys (layingOf s im ar)
   unfolding layPart layingOf
   part-laid {part} fits w g = g .is im (putMid (s .start) n ar part) ∙ go (ltb n (o + length ys)) refl
     where
@@ -74,7 +74,7 @@ module _ (o : ℕ) (ys : Bytes) (im ar : Bytes) (s r : State) {p : ℕ} where
           rw (le-ltb n p (omega (arith, w .place)))
           (λ i. some (record { item = suc (s .item); image = im; area = putMid (s .start) n ar (w .bytes i); start = s .start; end = s .end; inside = s .inside; long = s .long }))
 
-module _ (o : ℕ) (ys : Bytes) (im ar : Bytes) (s r : State) {p : ℕ} (ready : Ready s (length ar)) where
+module _ (o : ℕ) (ys : Bytes) (im ar : Bytes) (s r : State) {p : ℕ} (ready : MoreFits s (length ar)) where
   pub lays-image : {im′ : Bytes} → s .inside ≡ false → Wrote im o ys im′ p → Went (length im′) p (max (s .long) p) s r → Lays (layBytes o ys (layingOf s im ar)) s r im′ ar
   unfolding layBytes layingOf
   lays-image {im′} out w g =
@@ -132,7 +132,7 @@ module _ (size n room : ℕ) (some : size ≡ 0 → ⊥) where
 abbrev pub withPartAt : State → ℕ → ℕ → State
 withPartAt s a k = record { item = s .item; start = a; end = a + k; inside = s .inside; long = s .long; full = false }
 
-module _ (off n : ℕ) (im ar : Bytes) (s r : State) (ready : Ready s (length ar)) where
+module _ (off n : ℕ) (im ar : Bytes) (s r : State) (ready : MoreFits s (length ar)) where
   pub array-out : length ar < partAt (s .end) + n → Outgrown s r → Lays (layArray off n (layingOf s im ar)) s r im ar
   unfolding layArray layingOf
   array-out h o =

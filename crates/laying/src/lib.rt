@@ -6,10 +6,10 @@ ghost use mathlib.Core.Option.{some};
 ghost use Prim.Native.Nat.{_+_, _*_, _≤_, _<_, min};
 ghost use lib.ListN.{length};
 ghost use Rattle.semantics.specs.Image.{handle, partAt};
-ghost use Rattle.stored.specs.Reading.{valuesIn};
+ghost use Rattle.stored.specs.Reading.{rowValues};
 ghost use Rattle.stored.specs.Laying.{layBytes, layArray, moveTo};
 ghost use Rattle.row_fields.specs.Rest.{fieldsAt};
-ghost use Rattle.laying.specs.Steps.{layingOf, Ready, Lays, Went, Outgrown};
+ghost use Rattle.laying.specs.Steps.{layingOf, MoreFits, Lays, Went, Outgrown};
 
 const HANDLE: usize = 4;
 
@@ -57,7 +57,7 @@ fn went_on(s: State, n: usize, p: usize, long: usize) -> State
 
 // `set` and `back`.
 pub fn moved(s: State, image: &[u8], area: &[u8], inside: bool) -> State
-    requires { ⌜ Ready s (length (now area)) ⌝ }
+    requires { ⌜ MoreFits s (length (now area)) ⌝ }
     ensures { λ r. ⌜ Lays (some (moveTo inside (layingOf s (now (image .entry)) (now (area .entry))))) s r (now (image .entry)) (now (area .entry)) ⌝ }
 {
     State {
@@ -81,8 +81,8 @@ pub fn lay_values(
     w: usize,
     reals: bool,
 ) -> State
-    requires { ⌜ Ready s (length (now area)) × (w ≤ 8) ⌝ }
-    ensures { λ r. ⌜ Lays (layBytes off (valuesIn w reals (fieldsAt (now (row .entry)) from)) (layingOf s (now (image .entry)) (now (area .entry)))) s r (now (image .exit)) (now (area .exit)) ⌝ }
+    requires { ⌜ MoreFits s (length (now area)) × (w ≤ 8) ⌝ }
+    ensures { λ r. ⌜ Lays (layBytes off (rowValues w reals (fieldsAt (now (row .entry)) from)) (layingOf s (now (image .entry)) (now (area .entry)))) s r (now (image .exit)) (now (area .exit)) ⌝ }
 {
     if s.inside {
         let a = s.start;
@@ -96,7 +96,7 @@ pub fn lay_values(
 
 // A handle: the item's number plus 1.
 pub fn lay_handle(s: State, image: &mut [u8], area: &mut [u8], off: usize) -> State
-    requires { ⌜ Ready s (length (now area)) ⌝ }
+    requires { ⌜ MoreFits s (length (now area)) ⌝ }
     ensures { λ r. ⌜ Lays (layBytes off (handle (s .item)) (layingOf s (now (image .entry)) (now (area .entry)))) s r (now (image .exit)) (now (area .exit)) ⌝ }
 {
     if s.inside {
@@ -133,7 +133,7 @@ fn part_bytes(size: usize, n: u64, room: usize) -> usize
 
 // An array: its part of the area behind the newest one's, and its handle in the image.
 pub fn lay_array(s: State, image: &mut [u8], area: &[u8], off: usize, size: usize, n: u64) -> State
-    requires { ⌜ Ready s (length (now area)) ⌝ }
+    requires { ⌜ MoreFits s (length (now area)) ⌝ }
     ensures { λ r. ⌜ Lays (layArray off (size * n) (layingOf s (now (image .entry)) (now (area .entry)))) s r (now (image .exit)) (now (area .entry)) ⌝ }
 {
     let a = part_at(s.end);

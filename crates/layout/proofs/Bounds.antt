@@ -10,7 +10,7 @@ use Rattle.semantics.specs.Text.{Bytes}
 use Rattle.semantics.specs.Tree.{Ty, Tys, Fd, Case, AdtDecl, Shape}
 use Rattle.semantics.specs.Tree.Ty.{basic, ptr, array, tuple}
 use Rattle.semantics.specs.Tree.Tys.{noTys, andTy}
-use Rattle.semantics.specs.Layout.{alignUp, alignOf, sizeOf, endOfAll, Placed, placeNames, placeLine, place, furthest, shapeOf, pickShape, Recorded, behindTag, variantFields, variantShape, variantsOf, casesFrom, recordsFor, recordsOf}
+use Rattle.semantics.specs.Layout.{alignUp, alignOf, sizeOf, endOfAll, PlacedField, placeNames, placeLine, place, furthest, shapeOf, pickShape, Recorded, behindTag, variantFields, variantShape, variantsOf, casesFrom, recordsFor, recordsOf}
 use Rattle.laws.proofs.Alignments.{four-or-eight, aligned}
 use Rattle.layout.specs.Lines.{linesOf, linesOfAll, typeLines, fieldLines, caseLines, pickLines, declLines, FewNames, FewInPick}
 use Rattle.laws.specs.Every.{Every}
@@ -58,11 +58,11 @@ pub place-above : (fs : List Fd) (off : ℕ) → off ≤ place off fs .end
 place-above [] off = le-refl off
 place-above (f ∷ fs) off = let end = placeLine (f .ty) (f .names) off .end in omega (arith, line-above (f .ty) off (f .names), place-above fs end)
 
-abbrev Ends : ℕ → Placed → Type 0
+abbrev Ends : ℕ → PlacedField → Type 0
 Ends end p = p .offset + sizeOf (p .ty) ≤ end
 
 -- no field passes an end
-abbrev pub Within : ℕ → List Placed → Type 0
+abbrev pub Within : ℕ → List PlacedField → Type 0
 Within end ps = Every (Ends end) ps
 
 names-within : (t : Ty) (off end : ℕ) (ns : List Bytes) → placeNames t off ns .end ≤ end → Within end (placeNames t off ns .placed)
@@ -82,7 +82,7 @@ place-within (f ∷ fs) off end h =
 
 -- ---- the size of a record
 
-pub furthest-within : (e end : ℕ) (ps : List Placed) → e ≤ end → Within end ps → furthest e ps ≤ end
+pub furthest-within : (e end : ℕ) (ps : List PlacedField) → e ≤ end → Within end ps → furthest e ps ≤ end
 furthest-within e end [] h u = h
 furthest-within e end (p ∷ ps) h u = furthest-within (max e (p .offset + sizeOf (p .ty))) end ps (omega arith) (u .1)
 
@@ -115,7 +115,7 @@ largest-bound : (n : ℕ) (fs : List Fd) (s : Shape) (ks : List Case) → s .siz
 largest-bound n fs s [] h u = h
 largest-bound n fs s (k ∷ ks) h u = largest-bound n fs _ ks (omega arith) (u .1)
 
-variants-bound : (n : ℕ) (t : Bytes) (s : Shape) (ps : List Placed) (g tag : ℕ) (xs : List Bytes) → s .size ≤ n → Every (Sized n) (variantsOf t s ps g tag xs)
+variants-bound : (n : ℕ) (t : Bytes) (s : Shape) (ps : List PlacedField) (g tag : ℕ) (xs : List Bytes) → s .size ≤ n → Every (Sized n) (variantsOf t s ps g tag xs)
 variants-bound n t s ps g tag [] h = tt
 variants-bound n t s ps g tag (x ∷ xs) h = (h, variants-bound n t s ps g (suc tag) xs h)
 

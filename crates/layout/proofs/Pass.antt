@@ -12,7 +12,7 @@ use lib.Count.{onesIn, ones, ones-step}
 use Rattle.semantics.specs.Text.{Bytes}
 use Rattle.semantics.specs.Layout.{mapBits, mapBytes, wordsOf, pointerMap, pointerCount}
 use Rattle.laws.proofs.Maps.{byte-at}
-use Rattle.layout.specs.Pass.{over, Pass}
+use Rattle.layout.specs.Pass.{laidOver, MapPass}
 
 bytes-length : (size : ℕ) (zs : List ℤ) (n w : ℕ) → length (mapBytes size zs n w) ≡ n
 bytes-length size zs zero w = refl
@@ -25,15 +25,15 @@ map-length size zs = bytes-length size zs ((wordsOf size + 7) / 8) 0
 -- ---- bytes over a buffer
 
 -- one more byte goes behind those that are laid
-over-more : (l d : Bytes) (b : ℕ) → set (over l d) (length l) b ≡ over (l ++ b ∷ []) d
-unfolding over
+over-more : (l d : Bytes) (b : ℕ) → set (laidOver l d) (length l) b ≡ laidOver (l ++ b ∷ []) d
+unfolding laidOver
 over-more [] [] b = refl
 over-more [] (x ∷ d) b = refl
 over-more (a ∷ l) [] b = refl
 over-more (a ∷ l) (x ∷ d) b = ap (λ (m : Bytes). a ∷ m) (over-more l d b)
 
-over-length : (l d : Bytes) → length (over l d) ≡ length d
-unfolding over
+over-length : (l d : Bytes) → length (laidOver l d) ≡ length d
+unfolding laidOver
 over-length [] d = refl
 over-length (a ∷ l) [] = refl
 over-length (a ∷ l) (x ∷ d) = ap suc (over-length l d)
@@ -54,13 +54,13 @@ count-more (a ∷ l) b = omega (arith, count-more l b)
 -- ---- the pass
 
 module _ (size : ℕ) (zs : List ℤ) (came : Bytes) where
-  pub start : Pass size zs came 0 came 0
-  unfolding over pointerCount
+  pub start : MapPass size zs came 0 came 0
+  unfolding laidOver pointerCount
   start = record { bytes = refl; ones = refl }
 
   -- byte n is finished: stored behind the n before it, and its ones are counted
   pub step : (n : ℕ) (d : Bytes) (count b ones : ℕ) → n < length (pointerMap size zs) → b ≡ mapBits size zs 8 (n * 8) → ones ≡ onesIn 8 b
-      → Pass size zs came n d count → Pass size zs came (n + 1) (set d n b) (count + ones)
+      → MapPass size zs came n d count → MapPass size zs came (n + 1) (set d n b) (count + ones)
   step n d count b ones h e f p =
       let m = pointerMap size zs in
       let w : 8 * n ≡ n * 8 = omega arith in
@@ -72,9 +72,9 @@ module _ (size : ℕ) (zs : List ℤ) (came : Bytes) where
         ones = rw more (omega (arith, count-more (take n m) b, p .ones));
       }
 
-  pub done : (n : ℕ) (d : Bytes) (count : ℕ) → length (pointerMap size zs) ≤ n → Pass size zs came n d count
-      → (d ≡ over (pointerMap size zs) came) × (count ≡ pointerCount (pointerMap size zs))
+  pub done : (n : ℕ) (d : Bytes) (count : ℕ) → length (pointerMap size zs) ≤ n → MapPass size zs came n d count
+      → (d ≡ laidOver (pointerMap size zs) came) × (count ≡ pointerCount (pointerMap size zs))
   done n d count h p = rw (← take-all n (pointerMap size zs) h) (p .bytes, p .ones)
 
-  pub pass-length : (n : ℕ) (d : Bytes) (count : ℕ) → Pass size zs came n d count → length d ≡ length came
+  pub pass-length : (n : ℕ) (d : Bytes) (count : ℕ) → MapPass size zs came n d count → length d ≡ length came
   pass-length n d count p = rw (p .bytes) (over-length (take n (pointerMap size zs)) came)

@@ -8,12 +8,12 @@ use Rattle.semantics.specs.Text.{Bytes}
 use Rattle.semantics.specs.Layout.{pointerMap, pointerCount}
 
 -- bytes laid over a buffer: as far as it goes, and behind them what stood there
-unfoldable pub over : Bytes → Bytes → Bytes
-over [] d = d
-over (b ∷ bs) [] = []
-over (b ∷ bs) (x ∷ d) = b ∷ over bs d
+unfoldable pub laidOver : Bytes → Bytes → Bytes
+laidOver [] d = d
+laidOver (b ∷ bs) [] = []
+laidOver (b ∷ bs) (x ∷ d) = b ∷ laidOver bs d
 
 -- what the pass holds after n finished bytes: the map's first n bytes, laid over the buffer as it came, and the count of ones in them
-pub record Pass (size : ℕ) (offs : List ℤ) (came : Bytes) (n : ℕ) (buffer : Bytes) (count : ℕ) : Type 0 where
-  pub bytes : buffer ≡ over (take n (pointerMap size offs)) came
+pub record MapPass (size : ℕ) (offs : List ℤ) (came : Bytes) (n : ℕ) (buffer : Bytes) (count : ℕ) : Type 0 where
+  pub bytes : buffer ≡ laidOver (take n (pointerMap size offs)) came
   pub ones : count ≡ pointerCount (take n (pointerMap size offs))

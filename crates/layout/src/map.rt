@@ -6,7 +6,7 @@ ghost use lib.IntN.{ℤ};
 ghost use lib.Count.{onesIn};
 ghost use mathlib.Core.List.{List};
 ghost use Rattle.semantics.specs.Layout.{marks, marked, mapBits, pointerMap, pointerCount};
-ghost use Rattle.layout.specs.Pass.{over};
+ghost use Rattle.layout.specs.Pass.{laidOver};
 
 // How many bytes the map of a block of this size has: one for each 8 words of 4 bytes, both rounded up.
 pub fn map_bytes(size: u32) -> usize
@@ -79,7 +79,7 @@ fn put(d: &mut [u8], at: usize, b: u8)
 // Makes the map and counts its ones in one pass: a byte's ones are counted as it is finished. The map is laid over the buffer as far as that
 // goes, and what stands behind it stays; the count is the whole map's also where the buffer is short, so that a caller needs no test before.
 pub fn pointer_map_for(size: u32, offsets: &[i32], map: &mut [u8]) -> u32
-    ensures bytes { λ _. ⌜ now (map .exit) ≡ over (pointerMap size (now (offsets .entry))) (now (map .entry)) ⌝ }
+    ensures bytes { λ _. ⌜ now (map .exit) ≡ laidOver (pointerMap size (now (offsets .entry))) (now (map .entry)) ⌝ }
     ensures count { λ r. ⌜ r ≡ pointerCount (pointerMap size (now (offsets .entry))) ⌝ }
 {
     let end = map_bytes(size);

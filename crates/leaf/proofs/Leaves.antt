@@ -42,12 +42,12 @@ use Rattle.values.specs.declared.ConstVal.{ConstVal}
 use Rattle.values.specs.declared.ConstVal.the-variants.{Int, Real, Str}
 use Rattle.values.specs.declared.Folded.{Folded}
 use Rattle.values.specs.declared.Folded.the-variants.{Value, Failed}
-use Rattle.values.specs.Values.{stringIn, valueIn, resultIn, At, Answers, Casts, Apart}
+use Rattle.values.specs.Values.{stringIn, valueIn, resultIn, At, Answers, Casts, RunsApart}
 use Rattle.values.proofs.Values.{answers-as, answers-int, answers-real, answers-failed}
 use Rattle.values.proofs.Written.{wrote-kept, wrote-there}
 use Rattle.names.specs.Table.{valueBy, kindOf, bitsOf, logIn, found, StringPlace}
 use Rattle.names.proofs.Laws.{slot-is, value-int, value-real, value-text, value-failed}
-use Rattle.leaf.specs.Folds.{exAt, foldAt, literalOf, ExLine, Foldable, Folds, Leaf, Literal, Slot}
+use Rattle.leaf.specs.Folds.{exAt, foldAt, literalOf, ExLine, Foldable, Folds, Leaf, LiteralEx, Slot}
 use Rattle.leaf.proofs.Lines.{RefTo, in-sheet, ex-is, form-span, depth-some, field-good, ref-good, made-literal, made-ident, made-qualified, made-nameless}
 
 -- ---- integers and reals
@@ -184,7 +184,7 @@ module _ (x : Bytes) where
   literal-text e = rw e
 
 -- what is neither `ex,int` nor `ex,real`
-pub text-form : {s t : Bytes} {n r top : ℕ} → Literal s t n r top → {f : ℕ} → f ≡ formAt t (r - 1) → (f ≡ 8 → ⊥) → (f ≡ 9 → ⊥) → formAt t (r - 1) ≡ 10
+pub text-form : {s t : Bytes} {n r top : ℕ} → LiteralEx s t n r top → {f : ℕ} → f ≡ formAt t (r - 1) → (f ≡ 8 → ⊥) → (f ≡ 9 → ⊥) → formAt t (r - 1) ≡ 10
 text-form l e a b = omega (arith, l .form, form-span (l .line) .0, a, b, e)
 
 pub literal-casts : (t : Bytes) (top : ℕ) {v : ConstVal} {e g : Tree.ConstVal} → e ≡ g → ((t : Bytes) (top : ℕ) → (valueIn t v ≡ e) × At top v) → Casts t top g t v
@@ -219,7 +219,7 @@ module _ {t : Bytes} {k top : ℕ} (w : Slot t k top) where
         let i : k ≡ suc (k - 1) = omega (arith, some-k) in
         rw hb (w .text (k - 1) i (sym hk ∙ e))
 
-    pub found-apart : kind ≡ 3 → Apart (length t) (b % 65536) top (b / 65536)
+    pub found-apart : kind ≡ 3 → RunsApart (length t) (b % 65536) top (b / 65536)
     found-apart e =
         let x = found-text e in
         record { source = omega (arith, x .high, w .long); target = omega (arith, x .short, w .room); apart = inl (omega (arith, x .high, w .low)) }
@@ -267,7 +267,7 @@ module _ {s t : Bytes} {n m r top : ℕ} (a : Foldable s t n m r top) where
     name-found {iota} q k p b = record { answer = answers-as (sym (fold-name iota e ∙ rw (← hx, q, p))) (b .0); kept = b .1 }
 
   -- the line of the module
-  module _ (e : formAt t (r - 1) ≡ 12) {k : ℕ} (hk : k ≡ Number.numberOf 65536 (getD (readAt s (r - 1) .fields) 0 [])) where
+  module _ (e : formAt t (r - 1) ≡ 12) {k : ℕ} (hk : k ≡ Number.numberUpTo 65536 (getD (readAt s (r - 1) .fields) 0 [])) where
     module-ref : RefTo s n r 69 (getD (readAt s (r - 1) .fields) 0 []) (numberOf (getD (readAt s (r - 1) .fields) 0 []))
     unfolding forms
     module-ref = ref-good (a .line) 12 0 e kEx refl

@@ -109,7 +109,7 @@ up-to m f = go (Text.natOf f)
     go none h = never h
     go (some k) h = (refl, leb-true k m h)
 
-pub small-number : (m : ℕ) (f : Bytes) → m ≤ 65536 → Text.holdsOf (λ (k : ℕ). leb k m) (Text.natOf f) ≡ true → Number.numberOf 65536 f ≡ numberOf f
+pub small-number : (m : ℕ) (f : Bytes) → m ≤ 65536 → Text.holdsOf (λ (k : ℕ). leb k m) (Text.natOf f) ≡ true → Number.numberUpTo 65536 f ≡ numberOf f
 small-number m f l h = let w = up-to m f h in number-exact f (w .0) (omega (arith, w .1))
 
 -- ---- a line
@@ -121,7 +121,7 @@ pub record RefTo (s : Bytes) (n r k : ℕ) (x : Bytes) (v : ℕ) : Type 0 where
   pub last : v ≤ n
   pub kind : letter (readAt s (v - 1) .form .kind) ≡ k
   pub lower : depthOf (readsIn s) (v - 1) < depthOf (readsIn s) (r - 1)
-  pub exact : Number.numberOf 65536 x ≡ v
+  pub exact : Number.numberUpTo 65536 x ≡ v
 
 module _ {s t : Bytes} {n r : ℕ} (l : ExLine s t n r) where
   pub in-sheet : r - 1 < n

@@ -19,7 +19,7 @@ use Rattle.checks.specs.Checks.{Checked, Kept}
 use Rattle.values.specs.declared.ConstVal.{ConstVal}
 use Rattle.values.specs.declared.Folded.{Folded}
 use Rattle.values.specs.Values.{Answers}
-use Rattle.names.specs.Table.{kindOf, bitsOf, logIn, Logged, StringPlace}
+use Rattle.names.specs.Table.{kindOf, bitsOf, logIn, ConstsLogged, StringPlace}
 
 -- the expression of line r, from 1
 abbrev pub exAt : Bytes → ℕ → Ex
@@ -39,7 +39,7 @@ pub record ExLine (s t : Bytes) (n r : ℕ) : Type 0 where
 -- what a fold of line r asks: constants in their table, and from `top` on room for a string at each step down
 pub record Foldable (s t : Bytes) (n m r top : ℕ) : Type 0 where
   pub line : ExLine s t n r
-  pub log : Logged s t n m
+  pub log : ConstsLogged s t n m
   pub low : 49152 ≤ top
   pub room : top + 256 * depthOf (readsIn s) (r - 1) ≤ length t
 
@@ -66,7 +66,7 @@ pub record Qualified (s t : Bytes) (n m r top : ℕ) : Type 0 where
   pub form : formAt t (r - 1) ≡ 12
 
 -- line r is `ex,int`, `ex,real` or `ex,str`
-pub record Literal (s t : Bytes) (n r top : ℕ) : Type 0 where
+pub record LiteralEx (s t : Bytes) (n r top : ℕ) : Type 0 where
   pub line : ExLine s t n r
   pub form : formAt t (r - 1) < 11
   pub room : top + 256 ≤ length t

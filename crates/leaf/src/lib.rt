@@ -16,7 +16,7 @@ ghost use Rattle.lines.specs.Lines.{readAt, formAt};
 ghost use Rattle.checks.specs.Checks.{Kept};
 ghost use Rattle.values.specs.Values.{valueIn, At, Answers, Casts};
 ghost use Rattle.names.specs.Table.{found};
-ghost use Rattle.leaf.specs.Folds.{literalOf, Folds, Leaf, Literal, Ident, Qualified, Slot};
+ghost use Rattle.leaf.specs.Folds.{literalOf, Folds, Leaf, LiteralEx, Ident, Qualified, Slot};
 use names::Known;
 use values::ConstVal;
 use values::Folded;
@@ -59,7 +59,7 @@ fn string(x: &[u8], work: &mut [u8], top: usize) -> ConstVal
 }
 
 fn literal(sheet: &[u8], work: &mut [u8], n: usize, r: usize, top: usize) -> ConstVal
-    requires { ⌜ Literal (now sheet) (now work) n r top ⌝ }
+    requires { ⌜ LiteralEx (now sheet) (now work) n r top ⌝ }
     ensures { λ v. ⌜ Casts (now (work .entry)) top (literalOf (formAt (now (work .entry)) (r - 1)) (getD (readAt (now (sheet .entry)) (r - 1) .fields) 0 [])) (now (work .exit)) v ⌝ }
 {
     let f = lines::form_at(work, r - 1);

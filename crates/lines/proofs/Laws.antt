@@ -18,7 +18,7 @@ use Rattle.semantics.specs.Refusal as Refusal
 use Rattle.semantics.proofs.Common.{never}
 use Rattle.text.proofs.Parts.{until-take, parts-step, parts-one}
 use Rattle.form.specs.Table.{formOf}
-use Rattle.lines.specs.Lines.{textAt, start, formAt, entered, Lined, Whole, Above}
+use Rattle.lines.specs.Lines.{textAt, start, formAt, lineEntered, Lined, Whole, Above}
 use Rattle.lines.proofs.Line.{row-below}
 
 -- ---- the tables
@@ -49,39 +49,39 @@ module _ (t u : List ℕ) (alike : (i : ℕ) → i < 3072 → getD u i 0 ≡ get
       }
 
 module _ (t : List ℕ) (i a f : ℕ) (hi : i < 1024) (ha : a < 65536) (room : 65536 ≤ length t) where
-  other : (j : ℕ) → (j ≡ i → ⊥) → (j ≡ 1024 + i → ⊥) → (j ≡ 2048 + i → ⊥) → getD (entered t i a f) j 0 ≡ getD t j 0
-  unfolding entered
+  other : (j : ℕ) → (j ≡ i → ⊥) → (j ≡ 1024 + i → ⊥) → (j ≡ 2048 + i → ⊥) → getD (lineEntered t i a f) j 0 ≡ getD t j 0
+  unfolding lineEntered
   other j p q r =
       getD-set-other (set (set t i (a % 256)) (1024 + i) (a / 256)) (2048 + i) j f 0 r
       ∙ getD-set-other (set t i (a % 256)) (1024 + i) j (a / 256) 0 q ∙ getD-set-other t i j (a % 256) 0 p
 
-  low : getD (entered t i a f) i 0 ≡ a % 256
-  unfolding entered
+  low : getD (lineEntered t i a f) i 0 ≡ a % 256
+  unfolding lineEntered
   low =
       getD-set-other (set (set t i (a % 256)) (1024 + i) (a / 256)) (2048 + i) i f 0 (omega arith)
       ∙ getD-set-other (set t i (a % 256)) (1024 + i) i (a / 256) 0 (omega arith) ∙ getD-set-same t i (a % 256) 0 (omega arith)
 
-  high : getD (entered t i a f) (1024 + i) 0 ≡ a / 256
-  unfolding entered
+  high : getD (lineEntered t i a f) (1024 + i) 0 ≡ a / 256
+  unfolding lineEntered
   high =
       getD-set-other (set (set t i (a % 256)) (1024 + i) (a / 256)) (2048 + i) (1024 + i) f 0 (omega arith)
       ∙ getD-set-same (set t i (a % 256)) (1024 + i) (a / 256) 0 (omega (arith, length-set t i (a % 256)))
 
-  start-same : start (entered t i a f) i ≡ a
+  start-same : start (lineEntered t i a f) i ≡ a
   unfolding start
   start-same = rw (low, high) (omega arith)
 
-  start-other : (j : ℕ) → j < i → start (entered t i a f) j ≡ start t j
+  start-other : (j : ℕ) → j < i → start (lineEntered t i a f) j ≡ start t j
   unfolding start
   start-other j h = rw (other j (omega arith) (omega arith) (omega arith), other (1024 + j) (omega arith) (omega arith) (omega arith))
 
-  form-same : formAt (entered t i a f) i ≡ f
-  unfolding formAt entered
+  form-same : formAt (lineEntered t i a f) i ≡ f
+  unfolding formAt lineEntered
   form-same =
       getD-set-same (set (set t i (a % 256)) (1024 + i) (a / 256)) (2048 + i) f 0
       (omega (arith, length-set (set t i (a % 256)) (1024 + i) (a / 256), length-set t i (a % 256)))
 
-  form-other : (j : ℕ) → j < i → formAt (entered t i a f) j ≡ formAt t j
+  form-other : (j : ℕ) → j < i → formAt (lineEntered t i a f) j ≡ formAt t j
   unfolding formAt
   form-other j h = other (2048 + j) (omega arith) (omega arith) (omega arith)
 
@@ -239,7 +239,7 @@ lined-none s t = record {
   good = λ i h. absurd (omega arith);
 }
 
-module _ (s t u : List ℕ) (n a f : ℕ) (l : Lined s t n) (room : 65536 ≤ length t) (hu : u ≡ entered t n a f) (full : n < 1024) (small : a < 65536)
+module _ (s t u : List ℕ) (n a f : ℕ) (l : Lined s t n) (room : 65536 ≤ length t) (hu : u ≡ lineEntered t n a f) (full : n < 1024) (small : a < 65536)
     (here : Text.lineParts (drop a s) ≡ drop n (Text.lineParts s)) (within : a ≤ length s) (hf : f ≡ Form.rowOf Form.forms (textAt s n)) (good : Form.formed (n + 1) (textAt s n) ≡ true) where
   cases : (i m : ℕ) → i ≤ m → (i ≡ m) ⊎ (i < m)
   cases i m h = eq-or-lt-of-le h
@@ -296,7 +296,7 @@ module _ (s t : List ℕ) (at n e : ℕ) (g : Going s t at n) (he : e ≡ at + l
       pub going-none : f ≡ 42 → (Refusal.badForm 1 (Text.lineParts s) ≡ n + 1) × (0 < n + 1)
       going-none z = (form-bad s at n e (g .low) (g .here) he more (g .same) less (has-no-form (n + 1) f (textAt s n) hf′ z), omega arith)
 
-      pub going-on : (u : List ℕ) → (f ≡ 42 → ⊥) → length s ≤ 65535 → 65536 ≤ length t → u ≡ entered t n at f → Going s u (e + 1) (n + 1)
+      pub going-on : (u : List ℕ) → (f ≡ 42 → ⊥) → length s ≤ 65535 → 65536 ≤ length t → u ≡ lineEntered t n at f → Going s u (e + 1) (n + 1)
       going-on u z small room hu =
           let w = has-form (n + 1) f (textAt s n) hf′ z in
           record {
@@ -306,5 +306,5 @@ module _ (s t : List ℕ) (at n e : ℕ) (g : Going s t at n) (he : e ≡ at + l
             same = form-good s at n e (g .low) (g .here) he more (g .same) less (w .0);
           }
 
-pub above-entered : (t u v : List ℕ) (i a f : ℕ) → i < 1024 → a < 65536 → 65536 ≤ length u → Above t u → v ≡ entered u i a f → Above t v
+pub above-entered : (t u v : List ℕ) (i a f : ℕ) → i < 1024 → a < 65536 → 65536 ≤ length u → Above t u → v ≡ lineEntered u i a f → Above t v
 above-entered t u v i a f hi ha room h e j k = rw e (other u i a f hi ha room j (omega arith) (omega arith) (omega arith) ∙ h j k)

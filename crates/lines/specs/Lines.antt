@@ -34,8 +34,8 @@ start t i = getD t i 0 + 256 * getD t (1024 + i) 0
 unfoldable pub formAt : Bytes → ℕ → ℕ
 formAt t i = getD t (2048 + i) 0
 
-unfoldable pub entered : Bytes → ℕ → ℕ → ℕ → Bytes
-entered t i a f = set (set (set t i (a % 256)) (1024 + i) (a / 256)) (2048 + i) f
+unfoldable pub lineEntered : Bytes → ℕ → ℕ → ℕ → Bytes
+lineEntered t i a f = set (set (set t i (a % 256)) (1024 + i) (a / 256)) (2048 + i) f
 
 -- the tables hold the first n lines
 pub record Lined (s t : Bytes) (n : ℕ) : Type 0 where

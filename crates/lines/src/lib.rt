@@ -7,8 +7,8 @@ ghost use Prim.Native.Nat.{_+_, _≤_, _<_};
 ghost use mathlib.Core.List.{[]};
 ghost use lib.ListN.{length, getD};
 ghost use Rattle.semantics.specs.Text.{same};
-ghost use Rattle.decimal.specs.Number.{numberOf};
-ghost use Rattle.lines.specs.Lines.{textAt, readAt, start, formAt, entered, Whole, Passed, Above};
+ghost use Rattle.decimal.specs.Number.{numberUpTo};
+ghost use Rattle.lines.specs.Lines.{textAt, readAt, start, formAt, lineEntered, Whole, Passed, Above};
 
 // How many lines there are, all with a form; or the first line that is refused by 3.
 pub enum Formed {
@@ -19,7 +19,7 @@ pub enum Formed {
 // Line i starts at `at` and has form f.
 fn enter(work: &mut [u8], i: usize, at: usize, f: usize)
     requires { ⌜ (i < 1024) × (at < 65536) × (f < 256) × (65536 ≤ length (now work)) ⌝ }
-    ensures { λ _. ⌜ now (work .exit) ≡ entered (now (work .entry)) i at f ⌝ }
+    ensures { λ _. ⌜ now (work .exit) ≡ lineEntered (now (work .entry)) i at f ⌝ }
 {
     work[i] = (at % 256) as u8;
     work[area::LINE_HIGH + i] = (at / 256) as u8;
@@ -77,7 +77,7 @@ pub fn first_is(sheet: &[u8], work: &[u8], n: usize, i: usize, name: &[u8]) -> b
 // The field as a number: 65536 where it is larger, 65537 where it is none.
 pub fn number_at(sheet: &[u8], work: &[u8], n: usize, i: usize, j: usize) -> usize
     requires { ⌜ (Whole (now sheet) (now work) n) × (i < n) ⌝ }
-    ensures { λ r. ⌜ (r ≡ numberOf 65536 (getD (readAt (now (sheet .entry)) i .fields) j [])) × (r ≤ 65537) ⌝ }
+    ensures { λ r. ⌜ (r ≡ numberUpTo 65536 (getD (readAt (now (sheet .entry)) i .fields) j [])) × (r ≤ 65537) ⌝ }
 {
     form::number(field_at(sheet, work, n, i, j))
 }

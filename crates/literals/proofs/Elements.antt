@@ -20,11 +20,11 @@ use Rattle.values.specs.declared.ConstVal.the-variants.{Int, Real, Str}
 use Rattle.values.specs.declared.Folded.{Folded}
 use Rattle.values.specs.declared.Folded.the-variants as Folded
 use Rattle.values.specs.Values.{valueIn, resultIn, At, ResultAt}
-use Rattle.slots.specs.Slots.{Small, Stored}
+use Rattle.slots.specs.Slots.{Small, SlotStored}
 use Rattle.placements.specs.declared.Extent.{Extent}
 use Rattle.placements.specs.declared.Placed.{Placed}
 use Rattle.placements.specs.declared.Placed.the-variants.{Into, Failed, TooLong}
-use Rattle.placements.specs.Placements.{slotAt, elementAt, Keeps, Standing, Filling, Step, Places}
+use Rattle.placements.specs.Placements.{slotAt, elementIn, Keeps, StringStands, Filling, Step, Places}
 use Rattle.placements.proofs.Same.{keeps-then, keeps-less, keeps-kept}
 use Rattle.placements.proofs.Fillings.{filling-kept, filling-value, filling-star, stored-element}
 use Rattle.leaf.specs.Folds.{exAt, Foldable, Folds}
@@ -35,12 +35,12 @@ use Rattle.literals.proofs.Selectors.{foldable, folds-to}
 
 -- ---- a value that stands in its slot
 
-standing-small : (top : ℕ) (v : ConstVal) → top ≤ 65535 → Standing top v → Small v
+standing-small : (top : ℕ) (v : ConstVal) → top ≤ 65535 → StringStands top v → Small v
 standing-small top (Int z) h s = tt
 standing-small top (Real x) h s = tt
 standing-small top (Str p l) h s = (omega (arith, s .1, s .0), omega (arith, s .1))
 
-stored-keeps : {t u : Bytes} (n : ℕ) {v : ConstVal} → n ≤ 16 → Stored t (12288 + 16 * n) v u → Keeps 16384 49152 t u
+stored-keeps : {t u : Bytes} (n : ℕ) {v : ConstVal} → n ≤ 16 → SlotStored t (12288 + 16 * n) v u → Keeps 16384 49152 t u
 stored-keeps n h q = record { long = q .long; below = λ j x. q .others j (inl (omega arith)); above = λ j x y. q .others j (inr (omega arith)) }
 
 module _ {s t : Bytes} {n m r e : ℕ} {v : ConstVal} (k : ValuedTask s t n m r e v) (far : Extent) where
@@ -50,8 +50,8 @@ module _ {s t : Bytes} {n m r e : ℕ} {v : ConstVal} (k : ValuedTask s t n m r 
   pub element-small : Small v
   element-small = standing-small (49152 + 256 * e) v (omega (arith, k .task .few)) (k .stands)
 
-  element-is : elementAt t e ≡ valueIn t v
-  unfolding elementAt
+  element-is : elementIn t e ≡ valueIn t v
+  unfolding elementIn
   element-is = rw (k .value)
 
   module _ {f : ℕ} (hf : f ≡ formAt t (r - 1)) where
@@ -61,7 +61,7 @@ module _ {s t : Bytes} {n m r e : ℕ} {v : ConstVal} (k : ValuedTask s t n m r 
       step = λ g one few q. rw (el-next l (sym hf ∙ d)) (p .step (above e) e g one (omega arith) few q);
     }
 
-    pub element-star : f ≡ 21 → {u : Bytes} → Stored t (12288 + 16 * 0) v u → Fills t e far (placed (namesIn s t m) (elAt s r)) (Into far) u
+    pub element-star : f ≡ 21 → {u : Bytes} → SlotStored t (12288 + 16 * 0) v u → Fills t e far (placed (namesIn s t m) (elAt s r)) (Into far) u
     element-star d {u} p = record {
       keeps = stored-keeps 0 (omega arith) p;
       step = λ g one few q. rw (el-star l (sym hf ∙ d)) (record { literal = setWildcard (valueIn t v) g; result = rw element-is; filling = filling-star q u (above e) (omega arith) 0 v (k .stands) p (omega arith) refl });
@@ -81,12 +81,12 @@ fills-as ns (nextEl e) f = refl
 fills-as ns (star e) f = refl
 fills-as ns (at e ss) f = refl
 
-at-stands : (k : ℕ) (v : ConstVal) → At (49152 + 256 * k) v → Standing (49152 + 256 * (k + 1)) v
+at-stands : (k : ℕ) (v : ConstVal) → At (49152 + 256 * k) v → StringStands (49152 + 256 * (k + 1)) v
 at-stands k (Int z) h = tt
 at-stands k (Real x) h = tt
 at-stands k (Str p l) h = (omega (arith, h .0), omega (arith, h .0, h .1), h .1)
 
-module _ {s t : Bytes} {n m r k : ℕ} (c : Turn s t n m r k) (far : Extent) {q : ℕ} (hq : q ≡ Number.numberOf 65536 (getD (readAt s (r - 1) .fields) 0 [])) where
+module _ {s t : Bytes} {n m r k : ℕ} (c : Turn s t n m r k) (far : Extent) {q : ℕ} (hq : q ≡ Number.numberUpTo 65536 (getD (readAt s (r - 1) .fields) 0 [])) where
   value-line : (q ≡ numberOf (getD (readAt s (r - 1) .fields) 0 [])) × Line 69 s t n q
   value-line = good-line (c .line) 69 (getD (readAt s (r - 1) .fields) 0 []) q hq (value-ref (c .line))
 
@@ -112,13 +112,13 @@ module _ {s t : Bytes} {n m r k : ℕ} (c : Turn s t n m r k) (far : Extent) {q 
     turn-long d = record { keeps = keeps-fold; step = λ f p. fills-to f ∙ rw d }
 
     module _ {v : ConstVal} (d : x ≡ Folded.Value v) where
-      value-stands : Standing (49152 + 256 * (k + 1)) v
+      value-stands : StringStands (49152 + 256 * (k + 1)) v
       value-stands = at-stands k v (subst (λ (z : Folded). ResultAt (49152 + 256 * k) z) d (g .answer .at))
 
       pub value-small : Small v
       value-small = standing-small (49152 + 256 * (k + 1)) v (omega (arith, c .few)) value-stands
 
-      module _ {w : Bytes} (p : Stored u (12288 + 16 * (k + 1)) v w) where
+      module _ {w : Bytes} (p : SlotStored u (12288 + 16 * (k + 1)) v w) where
         keeps-value : Keeps 16384 49152 t w
         keeps-value = keeps-then keeps-fold (stored-keeps (k + 1) (omega (arith, c .few)) p)
 

@@ -49,7 +49,7 @@ module _ {k : ℕ} {s t : Bytes} {n r : ℕ} (l : Line k s t n r) where
   pub makes : {f : ℕ} → formAt t (r - 1) ≡ f → nodeAt (nodesIn s) r ≡ rowNode (nodesIn s) f (readAt s (r - 1) .fields)
   makes e = node-at s t n (l .checked .whole) (l .checked .good) (r - 1) line-in ∙ ap (λ (g : ℕ). rowNode (nodesIn s) g (readAt s (r - 1) .fields)) e
 
-  module _ (q : ℕ) (f : Bytes) (v : ℕ) (hv : v ≡ Number.numberOf 65536 f) where
+  module _ (q : ℕ) (f : Bytes) (v : ℕ) (hv : v ≡ Number.numberUpTo 65536 f) where
     pub good-line : Good (readsIn s) (r - 1) q f → (v ≡ numberOf f) × Line q s t n v
     good-line g =
         let w = needed-ref (readsIn s) (r - 1 + 1) q (numberOf f) (g .fine) in
@@ -70,7 +70,7 @@ module _ {k : ℕ} {s t : Bytes} {n r : ℕ} (l : Line k s t n r) where
             let e : v ≡ numberOf f = hv ∙ number-exact f (g .number) (omega (arith, w .0, l .last, l .checked .whole .lined .few)) in
             (e, λ y. rw e (record { checked = l .checked; first = omega (arith, z); last = omega (arith, w .0, l .first, l .last); kind = w .1 }))
 
-  pub count-is : {j q : ℕ} {v : ℕ} → Group (readsIn s) (r - 1) q j (readAt s (r - 1) .fields) → v ≡ Number.numberOf 65536 (getD (readAt s (r - 1) .fields) j []) → (v ≡ numberOf (getD (readAt s (r - 1) .fields) j [])) × (v ≤ 16)
+  pub count-is : {j q : ℕ} {v : ℕ} → Group (readsIn s) (r - 1) q j (readAt s (r - 1) .fields) → v ≡ Number.numberUpTo 65536 (getD (readAt s (r - 1) .fields) j []) → (v ≡ numberOf (getD (readAt s (r - 1) .fields) j [])) × (v ≤ 16)
   count-is {j} g = count-exact (getD (readAt s (r - 1) .fields) j []) (g .count)
 
 -- an optional expression

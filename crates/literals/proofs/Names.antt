@@ -7,7 +7,7 @@ use lib.Seq.{getD-take, ext-getD}
 use Rattle.semantics.specs.Text.{Bytes}
 use Rattle.checks.specs.Checks.{Kept}
 use Rattle.checks.proofs.Kept.{checked-kept}
-use Rattle.names.specs.Table.{bitsOf, logIn, Logged}
+use Rattle.names.specs.Table.{bitsOf, logIn, ConstsLogged}
 use Rattle.names.proofs.Laws.{SameText, logged-same, log-same}
 use Rattle.placements.specs.Placements.{Keeps}
 use Rattle.placements.proofs.Same.{part-same}
@@ -18,7 +18,7 @@ module _ {t u : Bytes} (k : Keeps 16384 49152 t u) where
   pub kept-low : (a : ℕ) → a ≤ 11264 → Kept a t u
   kept-low a h = record { below = ext-getD 0 (take a u) (take a t) (simp (length-take, k .long) refl) (λ i x. let y : i < a = omega (arith, length-take a u) in getD-take a u i 0 y ∙ k .below i (omega arith) ∙ sym (getD-take a t i 0 y)); long = k .long }
 
-  module _ {s : Bytes} {n m : ℕ} (l : Logged s t n m) where
+  module _ {s : Bytes} {n m : ℕ} (l : ConstsLogged s t n m) where
     table-kept : Kept (5120 + 16 * m) t u
     table-kept = kept-low (5120 + 16 * m) (omega (arith, l .few))
 
@@ -31,7 +31,7 @@ module _ {t u : Bytes} (k : Keeps 16384 49152 t u) where
     pub log-kept : logIn s u m ≡ logIn s t m
     log-kept = log-same table-kept l texts-kept
 
-    pub logged-kept : Logged s u n m
+    pub logged-kept : ConstsLogged s u n m
     logged-kept = logged-same table-kept l
 
   pub line-kept : {q : ℕ} {s : Bytes} {n r : ℕ} → Line q s t n r → Line q s u n r

@@ -17,7 +17,7 @@ use Rattle.checks.specs.Checks.{Kept}
 use Rattle.placements.specs.declared.Extent.{Extent}
 use Rattle.placements.specs.declared.Placed.{Placed}
 use Rattle.placements.specs.declared.Placed.the-variants.{Into, Negative, Failed, TooLong}
-use Rattle.placements.specs.Placements.{elementAt, Goes, Step, stopped, Places}
+use Rattle.placements.specs.Placements.{elementIn, Goes, Step, stopped, Places}
 use Rattle.placements.proofs.Same.{keeps-all, keeps-then, keeps-kept}
 use Rattle.placements.proofs.Fillings.{element-kept, filling-kept}
 use Rattle.literals.specs.declared.Span.{Span}
@@ -54,11 +54,11 @@ module _ (t : Bytes) (e : ℕ) (low high : ℤ) where
     step = λ r one few s. go r one few (subst (λ (z : Placed). Step t (above e) e z r) d s);
   }
     where
-      go : (r : Result Filled) → 0 < e → e ≤ 16 → Goes t (above e) e (a .next) (a .reach) r → Step u (above e) e y (onto low high (elementAt t e) r)
+      go : (r : Result Filled) → 0 < e → e ≤ 16 → Goes t (above e) e (a .next) (a .reach) r → Step u (above e) e y (onto low high (elementIn t e) r)
       go r one few g = rw (g .result) (rw (toZ-ofZ fl, toZ-ofZ fh) at (p .step (above e) e (g .literal) one (omega arith) few (g .filling)))
 
   pub moves-ended : {x : Placed} (y : Placed) → x ≡ y → isInto y ≡ false → Moves t e x (onto low high) y t
-  moves-ended {x} y d h = record { keeps = keeps-all; ongoing = ap stopped (sym d); step = λ r one few s. step-ends y h t (above e) (above e) e r (placeIndices (elementAt t e) low high) (subst (λ (z : Placed). Step t (above e) e z r) d s) }
+  moves-ended {x} y d h = record { keeps = keeps-all; ongoing = ap stopped (sym d); step = λ r one few s. step-ends y h t (above e) (above e) e r (placeIndices (elementIn t e) low high) (subst (λ (z : Placed). Step t (above e) e z r) d s) }
 
 -- ---- a selector
 
@@ -75,7 +75,7 @@ module _ (t : Bytes) (e : ℕ) {u : Bytes} (c : Kept (above e) t u) where
   step-kept Failed r few g = g
   step-kept TooLong r few g = g
 
-  value-kept : (x : Placed) (r : Result Filled) (a b : ℤ) → e ≤ 16 → stopped x ≡ false → Step t (above e) e x r → bind r (placeIndices (elementAt u e) a b) ≡ bind r (placeIndices (elementAt t e) a b)
+  value-kept : (x : Placed) (r : Result Filled) (a b : ℤ) → e ≤ 16 → stopped x ≡ false → Step t (above e) e x r → bind r (placeIndices (elementIn u e) a b) ≡ bind r (placeIndices (elementIn t e) a b)
   value-kept (Into q) r a b few h g = rw (element-kept (g .filling) u few (omega arith) c e (omega arith))
   value-kept Negative r a b few h g = rw g
   value-kept Failed r a b few h g = never (sym h)
@@ -87,7 +87,7 @@ module _ (t : Bytes) (e : ℕ) {u : Bytes} (c : Kept (above e) t u) where
     selects-span {a} {b} d fa fb {y} {w} m = record {
       keeps = keeps-then (keeps-kept (omega arith) c) (m .keeps);
       chose = λ r one few h g.
-          took w e span (elementAt t e) r y (m .ongoing ∙ h)
+          took w e span (elementIn t e) r y (m .ongoing ∙ h)
           (record { low = a; high = b; is = sym hz ∙ ap spanResult d; step = subst (λ (q : Result Filled). Step w (above e) e y q) (value-kept x r a b few h g) (rw (toZ-ofZ fa, toZ-ofZ fb) at (m .step r one few (step-kept x r few g))) });
     }
 

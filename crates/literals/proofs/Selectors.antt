@@ -75,13 +75,13 @@ index-is i f h = rw (folds-to f) at h
 -- ---- the ends of a selector
 
 module _ {s t : Bytes} {n m r e : ℕ} (k : Task 74 s t n m r e) where
-  pub low-task : {v : ℕ} → v ≡ Number.numberOf 65536 (getD (readAt s (r - 1) .fields) 0 []) → Task 69 s t n m v e
+  pub low-task : {v : ℕ} → v ≡ Number.numberUpTo 65536 (getD (readAt s (r - 1) .fields) 0 []) → Task 69 s t n m v e
   low-task {v} h = record { line = good-line (k .line) 69 (getD (readAt s (r - 1) .fields) 0 []) v h (se-refs (k .line) .0) .1; log = k .log; few = k .few }
 
-  low-is : {v : ℕ} → v ≡ Number.numberOf 65536 (getD (readAt s (r - 1) .fields) 0 []) → seAt s r .low ≡ exAt s v
+  low-is : {v : ℕ} → v ≡ Number.numberUpTo 65536 (getD (readAt s (r - 1) .fields) 0 []) → seAt s r .low ≡ exAt s v
   low-is {v} h = rw (se-is (k .line), good-line (k .line) 69 (getD (readAt s (r - 1) .fields) 0 []) v h (se-refs (k .line) .0) .0)
 
-  module _ {v : ℕ} (h : v ≡ Number.numberOf 65536 (getD (readAt s (r - 1) .fields) 1 [])) where
+  module _ {v : ℕ} (h : v ≡ Number.numberUpTo 65536 (getD (readAt s (r - 1) .fields) 1 [])) where
     pub high-task : (v ≡ 0 → ⊥) → Task 69 s t n m v e
     high-task z = record { line = may-line (k .line) 69 (getD (readAt s (r - 1) .fields) 1 []) v h (se-refs (k .line) .1) .1 z; log = k .log; few = k .few }
 
@@ -95,7 +95,7 @@ module _ {s t : Bytes} {n m r e : ℕ} (k : Task 74 s t n m r e) where
     high-some ns low i z d = d ∙ sym (rw (se-is (k .line), number-is, maybe-given (nodesIn s) v z))
 
   -- the low end is folded, and u is the working space then
-  module _ {v : ℕ} (h : v ≡ Number.numberOf 65536 (getD (readAt s (r - 1) .fields) 0 [])) (x : Index) (hx : indexResult x ≡ indexOf (namesIn s t m) (exAt s v)) where
+  module _ {v : ℕ} (h : v ≡ Number.numberUpTo 65536 (getD (readAt s (r - 1) .fields) 0 [])) (x : Index) (hx : indexResult x ≡ indexOf (namesIn s t m) (exAt s v)) where
     low-found : indexResult x ≡ indexOf (namesIn s t m) (seAt s r .low)
     low-found = rw (low-is h) hx
 

@@ -23,7 +23,7 @@ use Rattle.refs.proofs.Fields.{head-drop, tail-drop}
 use Rattle.placements.specs.declared.Extent.{Extent}
 use Rattle.placements.specs.declared.Placed.{Placed}
 use Rattle.placements.specs.declared.Placed.the-variants.{Into, Negative, Failed, TooLong}
-use Rattle.placements.specs.Placements.{elementAt, Keeps, Filling, Step, stopped}
+use Rattle.placements.specs.Placements.{elementIn, Keeps, Filling, Step, stopped}
 use Rattle.placements.proofs.Same.{keeps-all, keeps-then, keeps-less, element-same}
 use Rattle.literals.specs.Literals.{seAt, sesAt, namesIn, Line, Task, AtTask, above, Chose, Selects, Fills}
 use Rattle.literals.proofs.Names.{log-kept, logged-kept, line-kept}
@@ -87,9 +87,9 @@ pub record Selecting (s t : Bytes) (m r e : ℕ) (a : Extent) (count : ℕ) (u :
   pub within : j ≤ count
   pub keeps : Keeps 12288 (above e) t u
   pub ongoing : stopped x ≡ false
-  pub on : (f : Filled) → 0 < e → e ≤ 16 → Filling t (above e) e (a .next) (a .reach) f → On u e x (namesIn s t m) (elementAt t e) (sesFrom s r count j) (sesFrom s r count 0) f
+  pub on : (f : Filled) → 0 < e → e ≤ 16 → Filling t (above e) e (a .next) (a .reach) f → On u e x (namesIn s t m) (elementIn t e) (sesFrom s r count j) (sesFrom s r count 0) f
 
-module _ {s t : Bytes} {n m r e : ℕ} (k : AtTask s t n m r e) (a : Extent) {count : ℕ} (hc : count ≡ Number.numberOf 65536 (getD (readAt s (r - 1) .fields) 1 [])) where
+module _ {s t : Bytes} {n m r e : ℕ} (k : AtTask s t n m r e) (a : Extent) {count : ℕ} (hc : count ≡ Number.numberUpTo 65536 (getD (readAt s (r - 1) .fields) 1 [])) where
   l : Line 76 s t n r
   l = k .task .line
 
@@ -109,10 +109,10 @@ module _ {s t : Bytes} {n m r e : ℕ} (k : AtTask s t n m r e) (a : Extent) {co
   selecting-start = record { within = omega arith; keeps = keeps-all; ongoing = refl; on = λ f one few p. record { result = ok f; step = record { literal = f; result = refl; filling = p }; left = refl } }
 
   filled : (y : Placed) (w : Bytes) → Keeps 12288 (above e) t w
-      → ((f : Filled) → 0 < e → e ≤ 16 → Filling t (above e) e (a .next) (a .reach) f → Step w (above e) e y (placeAll (namesIn s t m) (elementAt t e) (sesFrom s r count 0) (ok f))) → Fills t e a Act y w
+      → ((f : Filled) → 0 < e → e ≤ 16 → Filling t (above e) e (a .next) (a .reach) f → Step w (above e) e y (placeAll (namesIn s t m) (elementIn t e) (sesFrom s r count 0) (ok f))) → Fills t e a Act y w
   filled y w c h = record {
     keeps = keeps-less (omega arith) (omega arith) c;
-    step = λ f one few p. subst (λ (q : Result Filled). Step w (above e) e y q) (ap (λ (ss : Ses). placeAll (namesIn s t m) (elementAt t e) ss (ok f)) all-selectors ∙ sym (all-spans (namesIn s t m) (elementAt t e) (sesAt s r) (ok f))) (h f one few p);
+    step = λ f one few p. subst (λ (q : Result Filled). Step w (above e) e y q) (ap (λ (ss : Ses). placeAll (namesIn s t m) (elementIn t e) ss (ok f)) all-selectors ∙ sym (all-spans (namesIn s t m) (elementIn t e) (sesAt s r) (ok f))) (h f one few p);
   }
 
   module _ {u : Bytes} {x : Placed} {j : ℕ} (c : Selecting s t m r e a count u x j) where
@@ -128,7 +128,7 @@ module _ {s t : Bytes} {n m r e : ℕ} (k : AtTask s t n m r e) (a : Extent) {co
         let z : count - j ≡ 0 = omega arith in
         filled x u (c .keeps) (λ f one few p. let o = c .on f one few p in subst (λ (q : Result Filled). Step u (above e) e x q) (rw z at (o .left)) (o .step))
 
-    module _ (h : j < count) {q : ℕ} (hq : q ≡ Number.numberOf 65536 (getD (readAt s (r - 1) .fields) (2 + j) [])) where
+    module _ (h : j < count) {q : ℕ} (hq : q ≡ Number.numberUpTo 65536 (getD (readAt s (r - 1) .fields) (2 + j) [])) where
       selector-line : (q ≡ numberOf (getD (readAt s (r - 1) .fields) (2 + j) [])) × Line 74 s u n q
       selector-line = good-line selecting-line 74 (getD (readAt s (r - 1) .fields) (2 + j) []) q hq (selectors l (k .form) .each j (omega (arith, count-exact)))
 
@@ -143,10 +143,10 @@ module _ {s t : Bytes} {n m r e : ℕ} (k : AtTask s t n m r e) (a : Extent) {co
 
       module _ (y : Placed) {w : Bytes} (d : Selects u e x (spanOf (namesIn s u m) (seAt s q .low) (seAt s q .high)) y w) where
         chosen : (f : Filled) (one : 0 < e) (few : e ≤ 16) (p : Filling t (above e) e (a .next) (a .reach) f)
-            → Chose w e (spanOf (namesIn s t m) (seAt s q .low) (seAt s q .high)) (elementAt t e) (c .on f one few p .result) y
+            → Chose w e (spanOf (namesIn s t m) (seAt s q .low) (seAt s q .high)) (elementIn t e) (c .on f one few p .result) y
         chosen f one few p =
             let o = c .on f one few p in
-            let v : elementAt u e ≡ elementAt t e = element-same t u (c .keeps .long) (above e) e (p .strings e (omega arith)) (λ i a b. c .keeps .above i (omega arith) (omega arith)) (λ i a b. c .keeps .above i (omega arith) b) in
+            let v : elementIn u e ≡ elementIn t e = element-same t u (c .keeps .long) (above e) e (p .strings e (omega arith)) (λ i a b. c .keeps .above i (omega arith) (omega arith)) (λ i a b. c .keeps .above i (omega arith) b) in
             rw (v, log-kept keeps-names (k .task .log)) at (d .chose (o .result) one few (c .ongoing) (o .step))
 
         keeps-next : Keeps 12288 (above e) t w
@@ -161,7 +161,7 @@ module _ {s t : Bytes} {n m r e : ℕ} (k : AtTask s t n m r e) (a : Extent) {co
 
         pub selecting-stop : stopped y ≡ true → Fills t e a Act y w
         selecting-stop z =
-            filled y w keeps-next (λ f one few p. let o = c .on f one few p in subst (λ (a : Result Filled). Step w (above e) e y a) (o .left) (stops y (elementAt t e) (o .result) z (chosen f one few p)))
+            filled y w keeps-next (λ f one few p. let o = c .on f one few p in subst (λ (a : Result Filled). Step w (above e) e y a) (o .left) (stops y (elementIn t e) (o .result) z (chosen f one few p)))
 
         goes : (z : Placed) (v : Tree.ConstVal) (f : Filled) (o : On u e x (namesIn s t m) v (sesFrom s r count j) (sesFrom s r count 0) f) → stopped z ≡ false
             → Chose w e (spanOf (namesIn s t m) (seAt s q .low) (seAt s q .high)) v (o .result) z → On w e z (namesIn s t m) v (sesFrom s r count (j + 1)) (sesFrom s r count 0) f
@@ -172,4 +172,4 @@ module _ {s t : Bytes} {n m r e : ℕ} (k : AtTask s t n m r e) (a : Extent) {co
         goes TooLong v f o g z = never (sym g)
 
         pub selecting-next : stopped y ≡ false → Selecting s t m r e a count w y (j + 1)
-        selecting-next z = record { within = omega arith; keeps = keeps-next; ongoing = z; on = λ f one few p. goes y (elementAt t e) f (c .on f one few p) z (chosen f one few p) }
+        selecting-next z = record { within = omega arith; keeps = keeps-next; ongoing = z; on = λ f one few p. goes y (elementIn t e) f (c .on f one few p) z (chosen f one few p) }

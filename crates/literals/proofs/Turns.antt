@@ -33,7 +33,7 @@ use Rattle.placements.proofs.Same.{keeps-all, keeps-then}
 use Rattle.placements.proofs.Fillings.{filling-wider}
 use Rattle.leaf.specs.Folds.{exAt}
 use Rattle.literals.specs.Literals.{elAt, elsAt, namesIn, Line, Turn, LiteralLine, above, Turns, AllFilled}
-use Rattle.names.specs.Table.{Logged}
+use Rattle.names.specs.Table.{ConstsLogged}
 use Rattle.literals.proofs.Names.{log-kept, logged-kept, line-kept}
 use Rattle.literals.proofs.Placing.{isInto, step-ends}
 use Rattle.literals.proofs.Lines.{parts-at, makes, good-line, count-is}
@@ -60,7 +60,7 @@ module _ {s t : Bytes} {n r : ℕ} (k : LiteralLine s t n r) where
 abbrev pub elsFrom : Bytes → ℕ → ℕ → ℕ → Els
 elsFrom s r count j = elsOf (values (ref kEl) (nodesIn s) (count - j) (drop (3 + j) (readAt s (r - 1) .fields)))
 
-module _ {s t : Bytes} {n r : ℕ} (k : LiteralLine s t n r) {count : ℕ} (hc : count ≡ Number.numberOf 65536 (getD (readAt s (r - 1) .fields) 2 [])) where
+module _ {s t : Bytes} {n r : ℕ} (k : LiteralLine s t n r) {count : ℕ} (hc : count ≡ Number.numberUpTo 65536 (getD (readAt s (r - 1) .fields) 2 [])) where
   pub few-elements : count ≤ 16
   few-elements = count-is (k .line) (literal-refs k .2) hc .1
 
@@ -70,7 +70,7 @@ module _ {s t : Bytes} {n r : ℕ} (k : LiteralLine s t n r) {count : ℕ} (hc :
   pub all-elements : elsFrom s r count 0 ≡ elsAt s r
   all-elements = let z : count - 0 ≡ numberOf (getD (readAt s (r - 1) .fields) 2 []) = omega (arith, count-exact) in rw z
 
-  module _ {j : ℕ} (h : j < count) {q : ℕ} (hq : q ≡ Number.numberOf 65536 (getD (readAt s (r - 1) .fields) (3 + j) [])) where
+  module _ {j : ℕ} (h : j < count) {q : ℕ} (hq : q ≡ Number.numberUpTo 65536 (getD (readAt s (r - 1) .fields) (3 + j) [])) where
     element-good : (q ≡ numberOf (getD (readAt s (r - 1) .fields) (3 + j) [])) × Line 76 s t n q
     element-good = good-line (k .line) 76 (getD (readAt s (r - 1) .fields) (3 + j) []) q hq (literal-refs k .2 .each j (omega (arith, count-exact)))
 
@@ -101,11 +101,11 @@ into-not Negative h = refl
 into-not Failed h = refl
 into-not TooLong h = refl
 
-module _ {s t₀ : Bytes} {n m r : ℕ} (k : LiteralLine s t₀ n r) (g : Logged s t₀ n m) {t : Bytes} (a : (Filling t 49152 0 0 0 noneFilled) × ((b : ℕ) → Keeps 16384 b t₀ t)) where
+module _ {s t₀ : Bytes} {n m r : ℕ} (k : LiteralLine s t₀ n r) (g : ConstsLogged s t₀ n m) {t : Bytes} (a : (Filling t 49152 0 0 0 noneFilled) × ((b : ℕ) → Keeps 16384 b t₀ t)) where
   pub begun : Line 69 s t n r
   begun = line-kept (a .1 49152) (k .line)
 
-  module _ {count : ℕ} (hc : count ≡ Number.numberOf 65536 (getD (readAt s (r - 1) .fields) 2 [])) where
+  module _ {count : ℕ} (hc : count ≡ Number.numberUpTo 65536 (getD (readAt s (r - 1) .fields) 2 [])) where
     few : count ≤ 16
     few = few-elements k hc
 
@@ -130,7 +130,7 @@ module _ {s t₀ : Bytes} {n m r : ℕ} (k : LiteralLine s t₀ n r) (g : Logged
             step = record { literal = c .literal; result = sym (rw z at (c .left) ∙ whole-is); filling = filling-wider (c .filling) (above 16) (omega (arith, c .within, few)) };
           }
 
-      module _ (h : j < count) {q : ℕ} (hq : q ≡ Number.numberOf 65536 (getD (readAt s (r - 1) .fields) (3 + j) [])) where
+      module _ (h : j < count) {q : ℕ} (hq : q ≡ Number.numberUpTo 65536 (getD (readAt s (r - 1) .fields) (3 + j) [])) where
         keeps-both : Keeps 16384 49152 t₀ u
         keeps-both = keeps-then (a .1 49152) (c .keeps)
 

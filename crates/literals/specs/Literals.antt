@@ -17,12 +17,12 @@ use Rattle.semantics.specs.Tree.El.{next as nextEl, star, at}
 use Rattle.semantics.specs.Array.{Filled, placeIndices, placeNext, placeSpans, spansOf, setWildcard}
 use Rattle.lines.specs.Lines.{readAt, nodesIn, formAt}
 use Rattle.checks.specs.Checks.{Checked}
-use Rattle.names.specs.Table.{logIn, Logged}
+use Rattle.names.specs.Table.{logIn, ConstsLogged}
 use Rattle.values.specs.declared.ConstVal.{ConstVal}
 use Rattle.placements.specs.declared.Extent.{Extent}
 use Rattle.placements.specs.declared.Placed.{Placed}
 use Rattle.placements.specs.declared.Placed.the-variants.{Into, Negative, Failed, TooLong}
-use Rattle.placements.specs.Placements.{slotAt, elementAt, Keeps, Standing, Filling, Step, stopped}
+use Rattle.placements.specs.Placements.{slotAt, elementIn, Keeps, StringStands, Filling, Step, stopped}
 use Rattle.literals.specs.declared.Index.{Index}
 use Rattle.literals.specs.declared.Index.the-variants as Index
 use Rattle.literals.specs.declared.Span.{Span}
@@ -59,7 +59,7 @@ pub record Line (k : ℕ) (s t : Bytes) (n r : ℕ) : Type 0 where
 -- it is to be worked on by the first m constants, after e elements, each with 256 bytes for its string
 pub record Task (k : ℕ) (s t : Bytes) (n m r e : ℕ) : Type 0 where
   pub line : Line k s t n r
-  pub log : Logged s t n m
+  pub log : ConstsLogged s t n m
   pub few : e ≤ 16
 
 -- and is an `el,at` line, form 22
@@ -70,13 +70,13 @@ pub record AtTask (s t : Bytes) (n m r e : ℕ) : Type 0 where
 -- and the value v of element e stands in its slot
 pub record ValuedTask (s t : Bytes) (n m r e : ℕ) (v : ConstVal) : Type 0 where
   pub task : Task 76 s t n m r e
-  pub stands : Standing (49152 + 256 * e) v
+  pub stands : StringStands (49152 + 256 * e) v
   pub value : slotAt t e ≡ v
 
 -- it is an `el` line, 76, to be worked on after k elements
 pub record Turn (s t : Bytes) (n m r k : ℕ) : Type 0 where
   pub line : Line 76 s t n r
-  pub log : Logged s t n m
+  pub log : ConstsLogged s t n m
   pub few : k < 16
 
 -- it is an `ex,lit` line, form 18
@@ -104,7 +104,7 @@ spanResult Span.TooLong = refuse 8
 pub record Moves (t : Bytes) (e : ℕ) (x : Placed) (act : Tree.ConstVal → Result Filled → Result Filled) (y : Placed) (u : Bytes) : Type 0 where
   pub keeps : Keeps 12288 (above e) t u
   pub ongoing : stopped y ≡ stopped x
-  pub step : (r : Result Filled) → 0 < e → e ≤ 16 → Step t (above e) e x r → Step u (above e) e y (act (elementAt t e) r)
+  pub step : (r : Result Filled) → 0 < e → e ≤ 16 → Step t (above e) e x r → Step u (above e) e y (act (elementIn t e) r)
 
 -- a selector is a span, whose indices take the value v
 pub record Took (u : Bytes) (e : ℕ) (span : Result (ℤ × ℤ)) (v : Tree.ConstVal) (r : Result Filled) (y : Placed) : Type 0 where
@@ -122,12 +122,12 @@ Chose u e span v r TooLong = span ≡ refuse 8
 -- t has become u by a selector's span, which x goes before
 pub record Selects (t : Bytes) (e : ℕ) (x : Placed) (span : Result (ℤ × ℤ)) (y : Placed) (u : Bytes) : Type 0 where
   pub keeps : Keeps 12288 (above e) t u
-  pub chose : (r : Result Filled) → 0 < e → e ≤ 16 → stopped x ≡ false → Step t (above e) e x r → Chose u e span (elementAt t e) r y
+  pub chose : (r : Result Filled) → 0 < e → e ≤ 16 → stopped x ≡ false → Step t (above e) e x r → Chose u e span (elementIn t e) r y
 
 -- t has become u by placing the value of element e: y is what `act` gives of it
 pub record Fills (t : Bytes) (e : ℕ) (x : Extent) (act : Tree.ConstVal → Filled → Result Filled) (y : Placed) (u : Bytes) : Type 0 where
   pub keeps : Keeps 16384 49152 t u
-  pub step : (f : Filled) → 0 < e → e ≤ 16 → Filling t (above e) e (x .next) (x .reach) f → Step u (above e) e y (act (elementAt t e) f)
+  pub step : (f : Filled) → 0 < e → e ≤ 16 → Filling t (above e) e (x .next) (x .reach) f → Step u (above e) e y (act (elementIn t e) f)
 
 -- what an element makes of its value
 abbrev pub placed : Names → El → Tree.ConstVal → Filled → Result Filled

@@ -16,7 +16,7 @@ ghost use Rattle.semantics.specs.Tree as Tree;
 ghost use Rattle.semantics.specs.Fold.{Result, bind};
 ghost use Rattle.semantics.specs.Array.{Filled, fill, asInt, indexOf, highOf, spanOf, spansOf, placeIndices, placeSpans, noneFilled, fillElement};
 ghost use Rattle.checks.specs.Checks.{Kept};
-ghost use Rattle.names.specs.Table.{Logged};
+ghost use Rattle.names.specs.Table.{ConstsLogged};
 ghost use Rattle.placements.specs.Placements.{stopped};
 ghost use Rattle.values.specs.Values.{resultIn};
 ghost use Rattle.leaf.specs.Folds.{exAt};
@@ -183,7 +183,7 @@ fn fill_element(sheet: &[u8], work: &mut [u8], c: Known, r: usize, k: usize, x: 
 
 // The elements of a literal of line r, in order; the first that ends it ends the work.
 pub fn fill(sheet: &[u8], work: &mut [u8], c: Known, r: usize) -> Placed
-    requires { ⌜ (LiteralLine (now sheet) (now work) (c .lines) r) × (Logged (now sheet) (now work) (c .lines) (c .consts)) ⌝ }
+    requires { ⌜ (LiteralLine (now sheet) (now work) (c .lines) r) × (ConstsLogged (now sheet) (now work) (c .lines) (c .consts)) ⌝ }
     ensures { λ y. ⌜ AllFilled (now (work .entry)) (fill (namesIn (now (sheet .entry)) (now (work .entry)) (c .consts)) (elsAt (now (sheet .entry)) r) noneFilled) y (now (work .exit)) ⌝ }
 {
     placements::empty(work);

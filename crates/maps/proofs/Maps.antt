@@ -16,7 +16,7 @@ use Rattle.semantics.specs.Layout.{marks, pointerMap, pointerCount}
 use Rattle.layout.proofs.Pass.{map-length, count-more}
 use Rattle.checks.specs.Checks.{Kept}
 use Rattle.checks.proofs.Kept.{kept-all, kept-then}
-use Rattle.maps.specs.Maps.{mapLength, mapIn, MapRoom, Mapped, Marks, Made}
+use Rattle.maps.specs.Maps.{mapLength, mapIn, MapRoom, Mapped, Marks, MapMade}
 use Rattle.maps.proofs.Bits.{or-assoc, byte-append, byte-none, byte-one, byte-other}
 
 pub map-fits : {t : List ℕ} {size : ℕ} → MapRoom t size → mapLength size ≤ 4097
@@ -82,7 +82,7 @@ module _ {size : ℕ} where
   mapped-then {a} {b} {t} {u} m p q =
       mapped-from u size (room-kept (q .kept) m) (a ++ b) (λ j h. q .bytes j ∙ rw (mapped-at t size m a p j h) (sym (byte-append size a b j)))
 
-  pub made-then : {a b : List ℤ} {t u v : List ℕ} → MapRoom t size → Made size a t u → Marks size b u v → Made size (a ++ b) t v
+  pub made-then : {a b : List ℤ} {t u v : List ℕ} → MapRoom t size → MapMade size a t u → Marks size b u v → MapMade size (a ++ b) t v
   made-then {a} {b} {t} {u} {v} m p q = record {
     map = mapped-then (room-kept (p .kept) m) (p .map) q;
     behind = λ j h. q .bytes j ∙ rw (past j h) (or-zero-r (getD u (49152 + j) 0)) ∙ p .behind j h;
@@ -140,7 +140,7 @@ clearing-next {t} {u} {i} c h = record {
         again true r = rw (r, lt-ltb j (i + 1) (omega (arith, ltb-true j i r)))
         again false r = rw (r, le-ltb j (i + 1) (omega (arith, ltb-false j i r, eqb-false j i q)))
 
-pub clearing-end : {t u : List ℕ} {i size : ℕ} → MapRoom t size → i ≡ mapLength size → Clearing t u i → Made size [] t u
+pub clearing-end : {t u : List ℕ} {i size : ℕ} → MapRoom t size → i ≡ mapLength size → Clearing t u i → MapMade size [] t u
 clearing-end {t} {u} {i} {size} m e c = record {
   map = mapped-from u size (room-kept (c .kept) m) [] (λ j h. c .bytes j ∙ rw (e, lt-ltb j (mapLength size) h) (sym (byte-none size [] (λ x. refl) j)));
   behind = λ j h. c .bytes j ∙ rw (e, le-ltb j (mapLength size) h);

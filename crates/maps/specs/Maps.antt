@@ -32,7 +32,7 @@ pub record Marks (size : ℕ) (offs : List ℤ) (t u : Bytes) : Type 0 where
   pub kept : Kept 49152 t u
 
 -- from t to u the map of these offsets was made, and nothing else was changed
-pub record Made (size : ℕ) (offs : List ℤ) (t u : Bytes) : Type 0 where
+pub record MapMade (size : ℕ) (offs : List ℤ) (t u : Bytes) : Type 0 where
   pub map : Mapped u size offs
   pub behind : (j : ℕ) → mapLength size ≤ j → getD u (49152 + j) 0 ≡ getD t (49152 + j) 0
   pub kept : Kept 49152 t u

@@ -6,12 +6,12 @@ ghost use mathlib.Core.List.{[], _∷_};
 ghost use Prim.Native.Nat.{_+_, _^_, _-_, _%_, _<_};
 ghost use lib.IntN.{pos};
 ghost use Rattle.semantics.specs.Layout.{pointerCount};
-ghost use Rattle.maps.specs.Maps.{mapIn, MapRoom, Marks, Made};
+ghost use Rattle.maps.specs.Maps.{mapIn, MapRoom, Marks, MapMade};
 
 // Makes the map of a block of this size that has no pointers.
 pub fn clear_map(work: &mut [u8], size: u32)
     requires { ⌜ MapRoom (now work) size ⌝ }
-    ensures { λ _. ⌜ Made size [] (now (work .entry)) (now (work .exit)) ⌝ }
+    ensures { λ _. ⌜ MapMade size [] (now (work .entry)) (now (work .exit)) ⌝ }
 {
     let end = layout::map::map_bytes(size);
     let mut i = 0;

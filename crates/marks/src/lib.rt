@@ -5,8 +5,8 @@ use sizes::place::Refs;
 ghost use Prim.Native.Nat.{_+_, _*_, _≤_};
 ghost use mathlib.Core.Path.{_≡_};
 ghost use lib.ListN.{take};
-ghost use Rattle.sizes.specs.Places.{fieldAt, fieldsOf, commonAt, caseAt, FieldLine, FieldRefs, RecordLine, CaseLine};
-ghost use Rattle.field_list.specs.Fields.{fieldsFrom, pointersIn};
+ghost use Rattle.sizes.specs.Places.{fdAt, fdsOfRefs, commonFields, caseFields, FieldLine, FieldRefs, RecordLine, CaseLine};
+ghost use Rattle.field_list.specs.Fields.{lineFieldsFrom, pointersIn};
 ghost use Rattle.maps.specs.Maps.{MapRoom, Marks};
 ghost use Rattle.marks.specs.Fields.{LineMarked, AllMarked};
 
@@ -34,7 +34,7 @@ fn mark_first(size: u32, a: [Field; 16], count: usize, work: &mut [u8])
 // So many fields of size `step`, one behind the other. Returns where they end.
 fn mark_names(work: &mut [u8], size: u32, off: u32, step: u32, pointer: bool, names: usize) -> u32
     requires { ⌜ (MapRoom (now work) size) × (step ≤ 8192) × (names ≤ 16) × (off ≤ 4600000) ⌝ }
-    ensures { λ q. ⌜ (q ≡ off + names * step) × (Marks size (pointersIn (fieldsFrom off step pointer names)) (now (work .entry)) (now (work .exit))) ⌝ }
+    ensures { λ q. ⌜ (q ≡ off + names * step) × (Marks size (pointersIn (lineFieldsFrom off step pointer names)) (now (work .entry)) (now (work .exit))) ⌝ }
 {
     let a = field_list::line_fields(off, step, pointer, names);
     mark_first(size, a, names, work);
@@ -44,7 +44,7 @@ fn mark_names(work: &mut [u8], size: u32, off: u32, step: u32, pointer: bool, na
 // The fields of the `fd` line r, from `off` on. An untyped line has none.
 fn mark_field(sheet: &[u8], work: &mut [u8], n: usize, r: usize, size: u32, off: u32) -> u32
     requires { ⌜ (FieldLine (now sheet) (now work) n r) × (MapRoom (now work) size) × (off ≤ 4500000) ⌝ }
-    ensures { λ q. ⌜ (LineMarked (fieldAt (now (sheet .entry)) r .ty) (fieldAt (now (sheet .entry)) r .names) size off q (now (work .entry)) (now (work .exit))) × (q ≤ off + 131080) ⌝ }
+    ensures { λ q. ⌜ (LineMarked (fdAt (now (sheet .entry)) r .ty) (fdAt (now (sheet .entry)) r .names) size off q (now (work .entry)) (now (work .exit))) × (q ≤ off + 131080) ⌝ }
 {
     let t = lines::number_at(sheet, work, n, r - 1, 0);
     if t == 0 {
@@ -60,7 +60,7 @@ fn mark_field(sheet: &[u8], work: &mut [u8], n: usize, r: usize, size: u32, off:
 // The fields of the `fd` lines to which these fields refer.
 fn mark_fields(sheet: &[u8], work: &mut [u8], n: usize, f: Refs, size: u32, off: u32) -> u32
     requires { ⌜ (FieldRefs (now sheet) (now work) n f) × (MapRoom (now work) size) × (off ≤ 2200000) ⌝ }
-    ensures { λ q. ⌜ (AllMarked (fieldsOf (now (sheet .entry)) f) size off q (now (work .entry)) (now (work .exit))) × (q ≤ off + 2097280) ⌝ }
+    ensures { λ q. ⌜ (AllMarked (fdsOfRefs (now (sheet .entry)) f) size off q (now (work .entry)) (now (work .exit))) × (q ≤ off + 2097280) ⌝ }
 {
     let mut q = off;
     let mut j = 0;
@@ -75,7 +75,7 @@ fn mark_fields(sheet: &[u8], work: &mut [u8], n: usize, f: Refs, size: u32, off:
 // The fields of the `adt` or `pick` line r that are no case's.
 pub fn mark_common(sheet: &[u8], work: &mut [u8], n: usize, r: usize, size: u32, off: u32) -> u32
     requires { ⌜ (RecordLine (now sheet) (now work) n r) × (MapRoom (now work) size) × (off ≤ 4) ⌝ }
-    ensures { λ q. ⌜ (AllMarked (commonAt (now (sheet .entry)) r) size off q (now (work .entry)) (now (work .exit))) × (q ≤ 2097284) ⌝ }
+    ensures { λ q. ⌜ (AllMarked (commonFields (now (sheet .entry)) r) size off q (now (work .entry)) (now (work .exit))) × (q ≤ 2097284) ⌝ }
 {
     let f = sizes::place::common_refs(sheet, work, n, r);
     mark_fields(sheet, work, n, f, size, off)
@@ -84,7 +84,7 @@ pub fn mark_common(sheet: &[u8], work: &mut [u8], n: usize, r: usize, size: u32,
 // The fields of the `pc` line r.
 pub fn mark_case(sheet: &[u8], work: &mut [u8], n: usize, r: usize, size: u32, off: u32) -> u32
     requires { ⌜ (CaseLine (now sheet) (now work) n r) × (MapRoom (now work) size) × (off ≤ 2097284) ⌝ }
-    ensures { λ q. ⌜ AllMarked (caseAt (now (sheet .entry)) r) size off q (now (work .entry)) (now (work .exit)) ⌝ }
+    ensures { λ q. ⌜ AllMarked (caseFields (now (sheet .entry)) r) size off q (now (work .entry)) (now (work .exit)) ⌝ }
 {
     let f = sizes::place::case_refs(sheet, work, n, r);
     mark_fields(sheet, work, n, f, size, off)

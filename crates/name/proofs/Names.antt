@@ -10,10 +10,10 @@ use lib.ListN.{length, drop, getD, drop-of-length-le}
 use lib.Seq.{drop-cons}
 use borrow.Author.Tests.{le-leb, lt-leb}
 use Rattle.semantics.specs.Text.{Bytes, isName}
-use Rattle.name.specs.Name.{letter, mark, marks}
+use Rattle.name.specs.Name.{nameLetter, mark, nameMarks}
 
-name-parts : (s : Bytes) → 0 < length s → isName s ≡ letter (getD s 0 0) && marks (drop 1 s) && leb (length s) 32
-unfolding isName letter marks
+name-parts : (s : Bytes) → 0 < length s → isName s ≡ nameLetter (getD s 0 0) && nameMarks (drop 1 s) && leb (length s) 32
+unfolding isName nameLetter nameMarks
 name-parts [] h = absurd (omega arith)
 name-parts (b ∷ bs) h = refl
 
@@ -26,21 +26,21 @@ module _ (s : Bytes) (h : 0 < length s) where
   pub name-long : 32 < length s → false ≡ isName s
   name-long l = sym (name-parts s h ∙ rw (lt-leb (length s) 32 l) (simp and-false))
 
-  pub name-first : letter (getD s 0 0) ≡ false → false ≡ isName s
+  pub name-first : nameLetter (getD s 0 0) ≡ false → false ≡ isName s
   name-first e = sym (name-parts s h ∙ rw e)
 
-  pub name-rest : length s ≤ 32 → letter (getD s 0 0) ≡ true → isName s ≡ marks (drop 1 s)
+  pub name-rest : length s ≤ 32 → nameLetter (getD s 0 0) ≡ true → isName s ≡ nameMarks (drop 1 s)
   name-rest l e = name-parts s h ∙ simp (e, le-leb (length s) 32 l, and-true)
 
 module _ (s : Bytes) (i : ℕ) (h : i < length s) where
-  pub mark-bad : mark (getD s i 0) ≡ false → marks (drop i s) ≡ false
-  unfolding mark marks
+  pub mark-bad : mark (getD s i 0) ≡ false → nameMarks (drop i s) ≡ false
+  unfolding mark nameMarks
   mark-bad e = rw (drop-cons s i 0 h) (rw e)
 
-  pub mark-next : mark (getD s i 0) ≡ true → marks (drop i s) ≡ marks (drop (i + 1) s)
-  unfolding mark marks
+  pub mark-next : mark (getD s i 0) ≡ true → nameMarks (drop i s) ≡ nameMarks (drop (i + 1) s)
+  unfolding mark nameMarks
   mark-next e = rw (drop-cons s i 0 h) (rw (e, add-one))
 
-pub mark-end : (s : Bytes) (i : ℕ) → length s ≤ i → marks (drop i s) ≡ true
-unfolding marks
+pub mark-end : (s : Bytes) (i : ℕ) → length s ≤ i → nameMarks (drop i s) ≡ true
+unfolding nameMarks
 mark-end s i h = rw (drop-of-length-le s h)

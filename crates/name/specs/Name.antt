@@ -4,12 +4,12 @@ use mathlib.Core.Bool.{Bool, _||_}
 use Rattle.semantics.specs.Text.{Bytes, all, isLetter, isDigit}
 
 -- a letter, or `_`
-unfoldable pub letter : ℕ → Bool
-letter b = isLetter b
+unfoldable pub nameLetter : ℕ → Bool
+nameLetter b = isLetter b
 
 -- a letter or a digit
 unfoldable pub mark : ℕ → Bool
 mark b = isLetter b || isDigit b
 
-unfoldable pub marks : Bytes → Bool
-marks s = all (λ (x : ℕ). isLetter x || isDigit x) s
+unfoldable pub nameMarks : Bytes → Bool
+nameMarks s = all (λ (x : ℕ). isLetter x || isDigit x) s

@@ -2,10 +2,10 @@
 use text::is_within;
 ghost use mathlib.Core.Path.{_≡_};
 ghost use Rattle.semantics.specs.Text.{isName};
-ghost use Rattle.name.specs.Name.{letter, mark};
+ghost use Rattle.name.specs.Name.{nameLetter, mark};
 
 fn is_letter(b: u8) -> bool
-    ensures { λ r. ⌜ r ≡ letter b ⌝ }
+    ensures { λ r. ⌜ r ≡ nameLetter b ⌝ }
 {
     if is_within(b, 65, 90) {
         return true;

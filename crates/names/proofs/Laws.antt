@@ -21,7 +21,7 @@ use Rattle.words.proofs.Laws.{digest-apart}
 use Rattle.implement.specs.Modules.{firstField, moduleAt, ownIn, isOwn}
 use Rattle.checks.specs.Checks.{Kept}
 use Rattle.checks.proofs.Kept.{kept-at, kept-less}
-use Rattle.names.specs.Table.{lineOf, moduleLineOf, valueBy, slotAt, kindOf, bitsOf, digestOf, entriesAt, logIn, Entry, Logged, ConstTable, TableEntry, found, hasKey, answersPlain, answersQualified, newestOf}
+use Rattle.names.specs.Table.{lineOf, moduleLineOf, valueBy, slotAt, kindOf, bitsOf, digestOf, entriesAt, logIn, EntryBounds, ConstsLogged, ConstTable, ConstEntry, found, hasKey, answersPlain, answersQualified, newestOf}
 
 -- ---- a slot by its kind and bits
 
@@ -203,11 +203,11 @@ answers-qualified s t q x = record {
   has = λ i rest. qualified-has (sheetSource s .implement) s x (firstField s (lineOf t i)) (slotAt t (5124 + 16 * i)) rest q (moduleLineOf t i);
 }
 
-pub table-entry : {s t : Bytes} {n m i : ℕ} → ConstTable s t n m → i < m → TableEntry s t n i
+pub table-entry : {s t : Bytes} {n m i : ℕ} → ConstTable s t n m → i < m → ConstEntry s t n i
 table-entry {i = i} c h = record { checked = c .checked; low = omega (arith, c .logged .few); entry = c .logged .each i h; digested = c .logged .digests i h }
 
 -- names with different digests are different
-pub named-apart : {s t : Bytes} {n i d : ℕ} (x : Bytes) → TableEntry s t n i → d ≡ digest x → (digestOf t i ≡ d → ⊥) → false ≡ same x (firstField s (lineOf t i))
+pub named-apart : {s t : Bytes} {n i d : ℕ} (x : Bytes) → ConstEntry s t n i → d ≡ digest x → (digestOf t i ≡ d → ⊥) → false ≡ same x (firstField s (lineOf t i))
 named-apart {s} {t} {i = i} x k e z = digest-apart x (firstField s (lineOf t i)) (λ q. z (k .digested ∙ sym (e ∙ q)))
 
 -- which entries answer, as it is tested
@@ -258,7 +258,7 @@ abbrev pub SameText : Bytes → Bytes → ℕ → Type 0
 SameText t u i = kindOf t i ≡ 3 → take (bitsOf t i / 65536) (drop (bitsOf t i % 65536) u) ≡ take (bitsOf t i / 65536) (drop (bitsOf t i % 65536) t)
 
 -- an entry stays as it is where it and its string are kept
-module _ {t u : Bytes} (n i : ℕ) (w : Kept (5136 + 16 * i) t u) (e : Entry t n i) where
+module _ {t u : Bytes} (n i : ℕ) (w : Kept (5136 + 16 * i) t u) (e : EntryBounds t n i) where
   line-kept : lineOf u i ≡ lineOf t i
   line-kept = u16-kept w (5120 + 16 * i) (omega arith)
 
@@ -274,7 +274,7 @@ module _ {t u : Bytes} (n i : ℕ) (w : Kept (5136 + 16 * i) t u) (e : Entry t n
   digest-kept : digestOf u i ≡ digestOf t i
   digest-kept = kept-at w (5133 + 16 * i) (omega arith)
 
-  entry-kept : Entry u n i
+  entry-kept : EntryBounds u n i
   entry-kept = record {
     first = rw line-kept (e .first);
     last = rw line-kept (e .last);
@@ -298,11 +298,11 @@ module _ {t u : Bytes} (n i : ℕ) (w : Kept (5136 + 16 * i) t u) (e : Entry t n
     entries-kept s = rw (line-kept, module-kept, slot-kept)
 
 -- and so does a table
-module _ {s t u : Bytes} {n m : ℕ} (w : Kept (5120 + 16 * m) t u) (l : Logged s t n m) where
+module _ {s t u : Bytes} {n m : ℕ} (w : Kept (5120 + 16 * m) t u) (l : ConstsLogged s t n m) where
   own-part : (i : ℕ) → i < m → Kept (5136 + 16 * i) t u
   own-part i h = kept-less (omega arith) w
 
-  pub logged-same : Logged s u n m
+  pub logged-same : ConstsLogged s u n m
   logged-same = record {
     few = l .few;
     each = λ i h. entry-kept n i (own-part i h) (l .each i h);
@@ -319,14 +319,14 @@ module _ {s t u : Bytes} {n m : ℕ} (w : Kept (5120 + 16 * m) t u) (l : Logged 
     log-same = log-upto m (omega arith)
 
 -- where all below the stack of folds is kept
-module _ {s t u : Bytes} {n m : ℕ} (w : Kept 49152 t u) (l : Logged s t n m) where
+module _ {s t u : Bytes} {n m : ℕ} (w : Kept 49152 t u) (l : ConstsLogged s t n m) where
   table-part : Kept (5120 + 16 * m) t u
   table-part = kept-less (omega (arith, l .few)) w
 
   texts-kept : (i : ℕ) → i < m → SameText t u i
   texts-kept i h q = part-kept w (bitsOf t i % 65536) (bitsOf t i / 65536) (l .each i h .text q .high)
 
-  pub logged-kept : Logged s u n m
+  pub logged-kept : ConstsLogged s u n m
   logged-kept = logged-same table-part l
 
   pub log-kept : logIn s u m ≡ logIn s t m

@@ -67,7 +67,7 @@ pub record StringPlace (b : ℕ) : Type 0 where
   pub short : b / 65536 ≤ 256
 
 -- an entry of a table for a sheet of n lines; its string lies at a place of its own
-pub record Entry (t : Bytes) (n i : ℕ) : Type 0 where
+pub record EntryBounds (t : Bytes) (n i : ℕ) : Type 0 where
   pub first : 0 < lineOf t i
   pub last : lineOf t i ≤ n
   pub within : moduleLineOf t i ≤ n
@@ -76,21 +76,21 @@ pub record Entry (t : Bytes) (n i : ℕ) : Type 0 where
   pub own : kindOf t i ≡ 3 → bitsOf t i % 65536 ≡ 16384 + 256 * i
 
 -- the table's first m entries, each with the digest of its constant's name
-pub record Logged (s t : Bytes) (n m : ℕ) : Type 0 where
+pub record ConstsLogged (s t : Bytes) (n m : ℕ) : Type 0 where
   pub few : m ≤ 128
-  pub each : (i : ℕ) → i < m → Entry t n i
+  pub each : (i : ℕ) → i < m → EntryBounds t n i
   pub digests : (i : ℕ) → i < m → digestOf t i ≡ digest (firstField s (lineOf t i))
 
 -- the table of a checked sheet has m entries
 pub record ConstTable (s t : Bytes) (n m : ℕ) : Type 0 where
   pub checked : Checked s t n
-  pub logged : Logged s t n m
+  pub logged : ConstsLogged s t n m
 
 -- i is one of them
-pub record TableEntry (s t : Bytes) (n i : ℕ) : Type 0 where
+pub record ConstEntry (s t : Bytes) (n i : ℕ) : Type 0 where
   pub checked : Checked s t n
   pub low : i < 128
-  pub entry : Entry t n i
+  pub entry : EntryBounds t n i
   pub digested : digestOf t i ≡ digest (firstField s (lineOf t i))
 
 -- what a look-up answers: 0 for no constant, else the entry's number from 1

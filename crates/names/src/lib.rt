@@ -9,7 +9,7 @@ ghost use Rattle.semantics.specs.Fold.{plain, qualified, lookUp, valueOf};
 ghost use Rattle.words.specs.Words.{digest};
 ghost use Rattle.implement.specs.Modules.{firstField};
 ghost use Rattle.checks.specs.Checks.{Checked};
-ghost use Rattle.names.specs.Table.{lineOf, moduleLineOf, bitsOf, kindOf, digestOf, logIn, found, hasKey, answersPlain, answersQualified, newestPlain, newestQualified, ConstTable, TableEntry};
+ghost use Rattle.names.specs.Table.{lineOf, moduleLineOf, bitsOf, kindOf, digestOf, logIn, found, hasKey, answersPlain, answersQualified, newestPlain, newestQualified, ConstTable, ConstEntry};
 
 // How many lines the sheet has, and how many constants are known.
 pub struct Known {
@@ -67,7 +67,7 @@ fn is_named(sheet: &[u8], work: &[u8], n: usize, k: usize, name: &[u8]) -> bool
 
 // Whether the constant of entry i has this name, which has the digest d.
 fn has_name(sheet: &[u8], work: &[u8], n: usize, i: usize, name: &[u8], d: usize) -> bool
-    requires { ⌜ (TableEntry (now sheet) (now work) n i) × (d ≡ digest (now name)) ⌝ }
+    requires { ⌜ (ConstEntry (now sheet) (now work) n i) × (d ≡ digest (now name)) ⌝ }
     ensures { λ r. ⌜ r ≡ Text.same (now (name .entry)) (firstField (now (sheet .entry)) (lineOf (now (work .entry)) i)) ⌝ }
 {
     if digest_of(work, i) != d {
@@ -78,7 +78,7 @@ fn has_name(sheet: &[u8], work: &[u8], n: usize, i: usize, name: &[u8], d: usize
 
 // Whether entry i enters a constant by the plain name.
 fn answers_plain(sheet: &[u8], work: &[u8], n: usize, i: usize, name: &[u8], d: usize) -> bool
-    requires { ⌜ (TableEntry (now sheet) (now work) n i) × (d ≡ digest (now name)) ⌝ }
+    requires { ⌜ (ConstEntry (now sheet) (now work) n i) × (d ≡ digest (now name)) ⌝ }
     ensures { λ r. ⌜ r ≡ answersPlain (now (sheet .entry)) (now (work .entry)) i (now (name .entry)) ⌝ }
 {
     if !has_name(sheet, work, n, i, name, d) {
@@ -97,7 +97,7 @@ fn answers_qualified(
     name: &[u8],
     d: usize,
 ) -> bool
-    requires { ⌜ (TableEntry (now sheet) (now work) n i) × (d ≡ digest (now name)) ⌝ }
+    requires { ⌜ (ConstEntry (now sheet) (now work) n i) × (d ≡ digest (now name)) ⌝ }
     ensures { λ r. ⌜ r ≡ answersQualified (now (sheet .entry)) (now (work .entry)) i (now (within .entry)) (now (name .entry)) ⌝ }
 {
     if !has_name(sheet, work, n, i, name, d) {

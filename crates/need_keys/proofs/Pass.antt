@@ -26,7 +26,7 @@ use Rattle.type_lines.specs.Needs.{needAt, needsTo, kindBy}
 use Rattle.type_lines.proofs.Codes.{kind-low}
 use Rattle.type_lines.proofs.ByForm.{elem-is}
 use Rattle.type_lines.proofs.Needs.{needs-all, needs-few, needs-next, needs-stay}
-use Rattle.type_keys.specs.Table.{lineOf, positionOf, kindOf, digestOf, entered, kindEntered, Needs, Kinds, Outside}
+use Rattle.type_keys.specs.Table.{needLineOf, positionOf, kindFromOne, digestOf, needEntered, kindEntered, Needs, Kinds, Outside}
 use Rattle.type_keys.proofs.Distinct.{position-same, position-within, position-none, position-more, distinct-more, distinct-few, key-member, none-distinct, known-more}
 use Rattle.type_keys.proofs.Table.{outside-then, outside-less, outside-set, line-below, position-below, kind-above, kind-kept, entered-outside, entered-line, entered-position, other-line, other-position, kind-outside, kind-entered, digest-above, digest-same, digest-other}
 use Rattle.type_keys.proofs.Elements.{kinds-more}
@@ -50,7 +50,7 @@ module _ {s t : List ℕ} {n i needs keys : ℕ} (x : NeedNext s t n i needs key
         digest = x .collecting .digests q h;
       }
 
-  module _ (q : ℕ) (h : q < needs) (b : Bool) (e : b ≡ sameTypeKey (needAt s i) (needAt s (lineOf t q))) where
+  module _ (q : ℕ) (h : q < needs) (b : Bool) (e : b ≡ sameTypeKey (needAt s i) (needAt s (needLineOf t q))) where
     low : q < length (needsTo s i)
     low = omega (arith, x .collecting .count)
 
@@ -78,7 +78,7 @@ each (x ∷ l) k P a b zero h = a 0 (omega arith)
 each (x ∷ l) k P a b (suc q) h = each l k (λ q. P (suc q)) (λ q h. a (suc q) (omega arith)) b q (omega arith)
 
 module _ {s t : List ℕ} {n i needs keys : ℕ} (x : NeedNext s t n i needs keys) {f p d : ℕ} (hf : f ≡ formAt t i) (hp : p ≡ position (needAt s i) (distinct [] (needsTo s i))) (hd : d ≡ digest (textAt s i))
-    {u v w : List ℕ} (hu : u ≡ entered t needs i p) (hv : v ≡ kindEntered u (kindBy f) p) (hw : w ≡ set v (10752 + needs) d) where
+    {u v w : List ℕ} (hu : u ≡ needEntered t needs i p) (hv : v ≡ kindEntered u (kindBy f) p) (hw : w ≡ set v (10752 + needs) d) where
   room : 65536 ≤ length t
   room = x .collecting .checked .whole .room
 
@@ -97,10 +97,10 @@ module _ {s t : List ℕ} {n i needs keys : ℕ} (x : NeedNext s t n i needs key
   pub collected-outside : Outside 10240 11264 t w
   collected-outside = outside-then (outside-less 10240 11264 (omega arith) (omega arith) first) (outside-less 10240 11264 (omega arith) (omega arith) later)
 
-  line-at : (q : ℕ) → q < 128 → lineOf w q ≡ lineOf (entered t needs i p) q
-  line-at q h = line-below later q h ∙ ap (λ (l : List ℕ). lineOf l q) hu
+  line-at : (q : ℕ) → q < 128 → needLineOf w q ≡ needLineOf (needEntered t needs i p) q
+  line-at q h = line-below later q h ∙ ap (λ (l : List ℕ). needLineOf l q) hu
 
-  position-at : (q : ℕ) → q < 128 → positionOf w q ≡ positionOf (entered t needs i p) q
+  position-at : (q : ℕ) → q < 128 → positionOf w q ≡ positionOf (needEntered t needs i p) q
   position-at q h = position-below later q h ∙ ap (λ (l : List ℕ). positionOf l q) hu
 
   module _ (q : ℕ) (h : q < length (needsTo s i)) where
@@ -110,13 +110,13 @@ module _ {s t : List ℕ} {n i needs keys : ℕ} (x : NeedNext s t n i needs key
     apart : q ≡ needs → ⊥
     apart e = omega (arith, x .collecting .count)
 
-    old-line : lineOf w q ≡ lineOf t q
+    old-line : needLineOf w q ≡ needLineOf t q
     old-line = line-at q few ∙ other-line t room needs i p (needs-room x .0) q few apart
 
     old-position : positionOf w q ≡ positionOf t q
     old-position = position-at q few ∙ other-position t room needs i p (needs-room x .0) q few apart
 
-  new-line : lineOf w (length (needsTo s i)) ≡ i
+  new-line : needLineOf w (length (needsTo s i)) ≡ i
   new-line = rw (← x .collecting .count) (line-at needs (needs-room x .0) ∙ entered-line t room needs i p (needs-room x .0))
 
   new-position : positionOf w (length (needsTo s i)) ≡ p
@@ -132,20 +132,20 @@ module _ {s t : List ℕ} {n i needs keys : ℕ} (x : NeedNext s t n i needs key
       let old = x .collecting .table in
       record {
         few = omega (arith, length-append (needsTo s i) (needAt s i ∷ []), needs-room x .0, x .collecting .count);
-        within = λ q h. each (needsTo s i) (needAt s i) (λ q k. lineOf w q < n) (λ q h. rw (old-line q h) (old .within q h)) (rw new-line (x .line .within)) q h;
-        kind = λ q h. each (needsTo s i) (needAt s i) (λ q k. letter (readAt s (lineOf w q) .form .kind) ≡ 78) (λ q h. rw (old-line q h) (old .kind q h)) (rw new-line (x .line .kind)) q h;
-        key = λ q h. each (needsTo s i) (needAt s i) (λ q k. needAt s (lineOf w q) ≡ k) (λ q h. rw (old-line q h) (old .key q h)) (ap (needAt s) new-line) q h;
+        within = λ q h. each (needsTo s i) (needAt s i) (λ q k. needLineOf w q < n) (λ q h. rw (old-line q h) (old .within q h)) (rw new-line (x .line .within)) q h;
+        kind = λ q h. each (needsTo s i) (needAt s i) (λ q k. letter (readAt s (needLineOf w q) .form .kind) ≡ 78) (λ q h. rw (old-line q h) (old .kind q h)) (rw new-line (x .line .kind)) q h;
+        key = λ q h. each (needsTo s i) (needAt s i) (λ q k. needAt s (needLineOf w q) ≡ k) (λ q h. rw (old-line q h) (old .key q h)) (ap (needAt s) new-line) q h;
         position = λ q h. each (needsTo s i) (needAt s i) (λ q k. positionOf w q ≡ position k (distinct [] (needsTo s i ++ (needAt s i ∷ [])))) positions-stay (new-position ∙ hp ∙ rw (distinct-more (needAt s i) (needsTo s i)) (sym (position-more (needAt s i) (distinct [] (needsTo s i))))) q h;
       }
 
-  kinds-are : (e : ElemKind) → kindOf w (kindNumber e) ≡ cond (sameTypeKey (elemKey e) (needAt s i)) (suc (position (needAt s i) (distinct [] (needsTo s i)))) (kindOf t (kindNumber e))
+  kinds-are : (e : ElemKind) → kindFromOne w (kindNumber e) ≡ cond (sameTypeKey (elemKey e) (needAt s i)) (suc (position (needAt s i) (distinct [] (needsTo s i)))) (kindFromOne t (kindNumber e))
   kinds-are e =
       kind-kept (kept-less (omega arith) (third .kept)) (kindNumber e) (kind-low e)
-      ∙ ap (λ (l : List ℕ). kindOf l (kindNumber e)) hv
+      ∙ ap (λ (l : List ℕ). kindFromOne l (kindNumber e)) hv
       ∙ kind-entered u (omega (arith, room, first .kept .long)) (kindBy f) p (kindNumber e) (kind-low e)
       ∙ rw (elem-is s t n i (x .line) e, ← hf, ← hp, kind-above first (kindNumber e))
 
-  digests-are : (q : ℕ) → q < needs + 1 → digestOf w q ≡ digest (textAt s (lineOf w q))
+  digests-are : (q : ℕ) → q < needs + 1 → digestOf w q ≡ digest (textAt s (needLineOf w q))
   digests-are q h = go (eqb q needs) refl
     where
       low : needs < 128
@@ -154,11 +154,11 @@ module _ {s t : List ℕ} {n i needs keys : ℕ} (x : NeedNext s t n i needs key
       long : 65536 ≤ length v
       long = omega (arith, room, first .kept .long, second .kept .long)
 
-      go : (b : Bool) → eqb q needs ≡ b → digestOf w q ≡ digest (textAt s (lineOf w q))
+      go : (b : Bool) → eqb q needs ≡ b → digestOf w q ≡ digest (textAt s (needLineOf w q))
       go true e =
           let z : q ≡ needs = eqb-true q needs e in
           ap (digestOf w) z ∙ ap (λ (l : List ℕ). digestOf l needs) hw ∙ digest-same v long needs d low ∙ hd
-          ∙ ap (λ (l : ℕ). digest (textAt s l)) (sym new-line ∙ ap (lineOf w) (sym (x .collecting .count) ∙ sym z))
+          ∙ ap (λ (l : ℕ). digest (textAt s l)) (sym new-line ∙ ap (needLineOf w) (sym (x .collecting .count) ∙ sym z))
       go false e =
           let ne = eqb-false q needs e in
           let k : q < length (needsTo s i) = omega (arith, x .collecting .count) in
@@ -196,7 +196,7 @@ module _ (s t : List ℕ) (n i needs keys : ℕ) (x : Collecting s t n i needs k
       let e : needsTo s i ≡ sheetSource s .needs = ap (needsTo s) z ∙ needs-all s t n (x .checked) in
       (x .count ∙ ap length e, rw e at (x .table), rw e at (x .kinds))
 
-pub collecting-start : (s t : List ℕ) (n : ℕ) → Checked s t n → ((k : ℕ) → k < 5 → kindOf t k ≡ 0) → Collecting s t n 0 0 0
+pub collecting-start : (s t : List ℕ) (n : ℕ) → Checked s t n → ((k : ℕ) → k < 5 → kindFromOne t k ≡ 0) → Collecting s t n 0 0 0
 unfolding declaredTo
 collecting-start s t n c z = record {
   checked = c;

@@ -7,13 +7,13 @@ use Rattle.lines.specs.Lines.{textAt}
 use Rattle.checks.specs.Checks.{Checked}
 use Rattle.words.specs.Words.{digest}
 use Rattle.type_lines.specs.Needs.{NeedLine, needsTo}
-use Rattle.type_keys.specs.Table.{lineOf, digestOf, Needs, Kinds}
+use Rattle.type_keys.specs.Table.{needLineOf, digestOf, Needs, Kinds}
 
 -- need q is in the table, with its digest
 pub record NeedEntry (s t : Bytes) (n q : ℕ) : Type 0 where
   pub low : q < 128
-  pub line : NeedLine s t n (lineOf t q)
-  pub digest : digestOf t q ≡ digest (textAt s (lineOf t q))
+  pub line : NeedLine s t n (needLineOf t q)
+  pub digest : digestOf t q ≡ digest (textAt s (needLineOf t q))
 
 -- the table has what the first i lines need
 pub record Collecting (s t : Bytes) (n i needs keys : ℕ) : Type 0 where
@@ -22,7 +22,7 @@ pub record Collecting (s t : Bytes) (n i needs keys : ℕ) : Type 0 where
   pub count : needs ≡ length (needsTo s i)
   pub table : Needs s t n (needsTo s i)
   pub kinds : Kinds t (needsTo s i) keys
-  pub digests : (q : ℕ) → q < needs → digestOf t q ≡ digest (textAt s (lineOf t q))
+  pub digests : (q : ℕ) → q < needs → digestOf t q ≡ digest (textAt s (needLineOf t q))
 
 -- and line i, which is to be entered next, is a `need` line
 pub record NeedNext (s t : Bytes) (n i needs keys : ℕ) : Type 0 where

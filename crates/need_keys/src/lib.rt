@@ -11,7 +11,7 @@ ghost use Rattle.lines.specs.Lines.{textAt};
 ghost use Rattle.checks.specs.Checks.{Checked};
 ghost use Rattle.words.specs.Words.{digest};
 ghost use Rattle.type_lines.specs.Needs.{needAt, NeedLine, needsTo};
-ghost use Rattle.type_keys.specs.Table.{lineOf, Needs, Kinds, Outside};
+ghost use Rattle.type_keys.specs.Table.{needLineOf, Needs, Kinds, Outside};
 ghost use Rattle.need_keys.specs.Pass.{NeedEntry, Collecting, NeedNext};
 
 // How many needs there are, and how many of their keys are distinct.
@@ -23,7 +23,7 @@ pub struct NeedCounts {
 // Whether need q has the key of the `need` line i, whose text has the digest h.
 fn is_need(sheet: &[u8], work: &[u8], n: usize, i: usize, h: usize, q: usize) -> bool
     requires { ⌜ (NeedLine (now sheet) (now work) n i) × (h ≡ digest (textAt (now sheet) i)) × (NeedEntry (now sheet) (now work) n q) ⌝ }
-    ensures { λ r. ⌜ r ≡ sameTypeKey (needAt (now (sheet .entry)) i) (needAt (now (sheet .entry)) (lineOf (now (work .entry)) q)) ⌝ }
+    ensures { λ r. ⌜ r ≡ sameTypeKey (needAt (now (sheet .entry)) i) (needAt (now (sheet .entry)) (needLineOf (now (work .entry)) q)) ⌝ }
 {
     if type_keys::need_digest(work, q) != h {
         return false; // before its line is looked at

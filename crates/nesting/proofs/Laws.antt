@@ -15,10 +15,10 @@ use Rattle.semantics.specs.Form as Form
 use Rattle.semantics.specs.Refusal.{Ref, noRead, refsOf, deepest, tooDeepFrom}
 use Rattle.decimal.specs.Number as Number
 use Rattle.form.specs.declared.Walk.{Walk}
-use Rattle.form.specs.Letters.{holds, lettersFrom, fieldsLeft, beginning, Standing, Stepped}
+use Rattle.form.specs.Letters.{letterHolds, lettersFrom, fieldsLeft, beginning, WalkAt, WalkStepped}
 use Rattle.lines.specs.Lines.{textAt, readsIn, readAt, formAt, Whole}
 use Rattle.lines.proofs.Line.{line-count}
-use Rattle.refs.specs.Refs.{isRef, refOf, refsIn}
+use Rattle.refs.specs.Refs.{isRef, refBy, refsBy}
 use Rattle.refs.proofs.Letters.{ref-number, refs-begin, stands, refs-step, refs-end, whole-set}
 use Rattle.nesting.specs.Nesting.{depthAt, refDepth, Depths}
 
@@ -50,15 +50,15 @@ depth-get : (t : List ℕ) (j : ℕ) → depthAt t j ≡ getD t (4096 + j) 0
 unfolding depthAt
 depth-get t j = refl
 
-deepest-plain : (ds : List ℕ) (x : ℕ) (f : List ℕ) (rs : List Ref) → isRef x ≡ false → deepest ds (refOf x f rs) ≡ deepest ds rs
-unfolding refOf
+deepest-plain : (ds : List ℕ) (x : ℕ) (f : List ℕ) (rs : List Ref) → isRef x ≡ false → deepest ds (refBy x f rs) ≡ deepest ds rs
+unfolding refBy
 deepest-plain ds x f rs e = rw e
 
-deepest-ref : (ds : List ℕ) (x : ℕ) (f : List ℕ) (rs : List Ref) → isRef x ≡ true → deepest ds (refOf x f rs) ≡ max (cond (eqb (Form.numberOf f) 0) 0 (getD ds (Form.numberOf f - 1) 0)) (deepest ds rs)
-unfolding refOf
+deepest-ref : (ds : List ℕ) (x : ℕ) (f : List ℕ) (rs : List Ref) → isRef x ≡ true → deepest ds (refBy x f rs) ≡ max (cond (eqb (Form.numberOf f) 0) 0 (getD ds (Form.numberOf f - 1) 0)) (deepest ds rs)
+unfolding refBy
 deepest-ref ds x f rs e = rw e
 
-module _ (t ds : List ℕ) (i : ℕ) (small : i < 1024) (d : Depths t ds i) (x : ℕ) (f : List ℕ) (v : ℕ) (hv : v ≡ Number.numberOf 65536 f) (good : holds x f ≡ true) (rs : List Ref) where
+module _ (t ds : List ℕ) (i : ℕ) (small : i < 1024) (d : Depths t ds i) (x : ℕ) (f : List ℕ) (v : ℕ) (hv : v ≡ Number.numberUpTo 65536 f) (good : letterHolds x f ≡ true) (rs : List Ref) where
   m : ℕ
   m = Form.numberOf f
 
@@ -77,11 +77,11 @@ module _ (t ds : List ℕ) (i : ℕ) (small : i < 1024) (d : Depths t ds i) (x :
           let c : v ≡ m = omega (arith, v-is) in
           rw p (sym (d .each (m - 1) (omega (arith, e))) ∙ depth-get t (m - 1) ∙ ap (λ (j : ℕ). getD t (4096 + (j - 1)) 0) (sym c) ∙ depth-line t i x v low high (λ z. e (omega arith)) (omega arith))
 
-  deepest-turn : deepest ds (refOf x f rs) ≡ max (refDepth t i x v) (deepest ds rs)
+  deepest-turn : deepest ds (refBy x f rs) ≡ max (refDepth t i x v) (deepest ds rs)
   unfolding m
   deepest-turn = go (ltb 32 x) (ltb x 80) refl refl
     where
-      go : (y z : Bool) → ltb 32 x ≡ y → ltb x 80 ≡ z → deepest ds (refOf x f rs) ≡ max (refDepth t i x v) (deepest ds rs)
+      go : (y z : Bool) → ltb 32 x ≡ y → ltb x 80 ≡ z → deepest ds (refBy x f rs) ≡ max (refDepth t i x v) (deepest ds rs)
       go false z p q = rw (← depth-low t i x v (ltb-false 32 x p), deepest-plain ds x f rs (rw p)) (omega arith)
       go true false p q = rw (← depth-high t i x v (ltb-false x 80 q), deepest-plain ds x f rs (rw (p, q))) (omega arith)
       go true true p q =
@@ -93,8 +93,8 @@ module _ (t ds : List ℕ) (i : ℕ) (small : i < 1024) (d : Depths t ds i) (x :
 
 -- the deepest of the lines that the fields up to w refer to is acc
 pub record Walking (s t : List ℕ) (i f : ℕ) (l : List ℕ) (w : Walk) (acc : ℕ) : Type 0 where
-  pub standing : Standing f l w
-  pub same : (ds : List ℕ) → Depths t ds i → deepest ds (refsOf (readAt s i)) ≡ max acc (deepest ds (refsIn (lettersFrom f w) (fieldsLeft l w)))
+  pub standing : WalkAt f l w
+  pub same : (ds : List ℕ) → Depths t ds i → deepest ds (refsOf (readAt s i)) ≡ max acc (deepest ds (refsBy (lettersFrom f w) (fieldsLeft l w)))
 
 pub walking-start : (s t : List ℕ) (n i : ℕ) → Whole s t n → i < n → (l : List ℕ) (f : ℕ) → l ≡ textAt s i → f ≡ formAt t i → (w : Walk) → w ≡ beginning f → Walking s t i f l w 0
 walking-start s t n i w h l f hl hf u hu = rw hu (record {
@@ -105,13 +105,13 @@ walking-start s t n i w h l f hl hf u hu = rw hu (record {
 assoc : (a b c : ℕ) → max a (max b c) ≡ max (max a b) c
 assoc a b c = omega arith
 
-pub walking-on : (s t : List ℕ) (i : ℕ) → i < 1024 → (f : ℕ) (l : List ℕ) (w u : Walk) (x v acc : ℕ) → Stepped f l w x v u → Walking s t i f l w acc
+pub walking-on : (s t : List ℕ) (i : ℕ) → i < 1024 → (f : ℕ) (l : List ℕ) (w u : Walk) (x v acc : ℕ) → WalkStepped f l w x v u → Walking s t i f l w acc
     → (r k : ℕ) → r ≡ refDepth t i x v → k ≡ max acc r → Walking s t i f l u k
 walking-on s t i small f l w u x v acc q g r k hr hk = record {
   standing = q .standing;
   same = λ ds d.
-      g .same ds d ∙ rw (refs-step f l w u x v q, deepest-turn t ds i small d x (q .field) v (q .number) (q .good) (refsIn (lettersFrom f u) (fieldsLeft l u)))
-      (assoc acc (refDepth t i x v) _ ∙ ap (λ (j : ℕ). max j (deepest ds (refsIn (lettersFrom f u) (fieldsLeft l u)))) (sym (hk ∙ ap (max acc) hr)));
+      g .same ds d ∙ rw (refs-step f l w u x v q, deepest-turn t ds i small d x (q .field) v (q .number) (q .good) (refsBy (lettersFrom f u) (fieldsLeft l u)))
+      (assoc acc (refDepth t i x v) _ ∙ ap (λ (j : ℕ). max j (deepest ds (refsBy (lettersFrom f u) (fieldsLeft l u)))) (sym (hk ∙ ap (max acc) hr)));
 }
 
 pub walking-end : (s t : List ℕ) (i f : ℕ) (l : List ℕ) (w : Walk) (acc : ℕ) → length l < w .at → Walking s t i f l w acc

@@ -17,7 +17,7 @@ use Rattle.type_keys.specs.Table.{Needs}
 use Rattle.type_keys.proofs.Table.{kinds-kept}
 use Rattle.type_keys.proofs.Positions.{needs-kept}
 use Rattle.tables.specs.declared.Tables.{Tables}
-use Rattle.tables.specs.Tables.{Held}
+use Rattle.tables.specs.Tables.{TablesHeld}
 use Rattle.parts.specs.Parts.{Listable}
 
 -- lines and positions of needs end at 10624; their digests serve only while needs are collected
@@ -27,7 +27,7 @@ needs-stay {s} {t} {u} {n} {ks} k x =
 
 module _ {s t u : Bytes} {n : ℕ} {x : Tables} where
   -- but for the constants' strings
-  held-kept : Kept 11264 t u → Names.Logged s u n (x .consts) → Held s t n x → Held s u n x
+  held-kept : Kept 11264 t u → Names.ConstsLogged s u n (x .consts) → TablesHeld s t n x → TablesHeld s u n x
   held-kept k l h = record {
     checked = checked-kept (kept-less (omega arith) k) (h .checked);
     consts = l;

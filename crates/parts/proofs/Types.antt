@@ -25,7 +25,7 @@ use Rattle.parts.proofs.Laws.{names-are}
 
 module _ {s t : Bytes} {n frames : ℕ} {x : Tables} (k : Listable s t n x) (fr : (frames ≡ length (sheetSource s .frames)) × (frames ≤ 128)) where
   module _ {u : Bytes} (h : Kept 10624 t u) where
-    pub types-ready : Types.Ready s u (record { lines = n; entries = x .records })
+    pub types-ready : Types.TypeTables s u (record { lines = n; entries = x .records })
     types-ready = record { log = logged-kept (kept-less (omega arith) h) (k .held .records); table = needs-stay h (k .held .needs) }
 
     module _ {v : Bytes} (m : Kept 49152 u v) where

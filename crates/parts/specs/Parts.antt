@@ -12,7 +12,7 @@ use Rattle.semantics.specs.Listing.{recordRows, constRows, globalRow, itemRow, 
 use Rattle.semantics.specs.Refusal.{sourceGlobals}
 use Rattle.names.specs.Table.{logIn}
 use Rattle.tables.specs.declared.Tables.{Tables}
-use Rattle.tables.specs.Tables.{Held}
+use Rattle.tables.specs.Tables.{TablesHeld}
 
 -- the first part: records, constants and globals
 unfoldable pub declaredText : Bytes → Bytes
@@ -31,6 +31,6 @@ typesText s =
 
 -- the tables stand, and no constant is refused
 pub record Listable (s t : Bytes) (n : ℕ) (x : Tables) : Type 0 where
-  pub held : Held s t n x
+  pub held : TablesHeld s t n x
   pub folded : constants (sheetSource s) .refused ≡ none
   pub log : constants (sheetSource s) .log ≡ logIn s t (x .consts)

@@ -20,16 +20,16 @@ use Rattle.write.specs.Wrote.{Wrote}
 use Rattle.write.proofs.Wrote.{then, wrote-as}
 use Rattle.lines.specs.Lines.{readAt}
 use Rattle.global_table.specs.Table.{VarLine, nameOn, namesOn}
-use Rattle.globals.specs.Vars.{locatedAt, varPends, firstOf}
+use Rattle.globals.specs.Vars.{locatedAt, varPends, firstInit}
 use Rattle.values.specs.declared.ConstVal.{ConstVal}
 use Rattle.values.specs.Values.{valueIn}
 use Rattle.placements.specs.Placements.{valuesIn}
-use Rattle.arrays.specs.Arrays.{kindAt}
+use Rattle.arrays.specs.Arrays.{kindOfNumber}
 use Rattle.vars.specs.declared.First.{First}
 use Rattle.vars.specs.declared.First.the-variants.{NoValue, Value, Alloc, Literal}
 use Rattle.pends.specs.declared.Pends.the-variants.{Written}
 use Rattle.vars.specs.Lines.{laidOn}
-use Rattle.vars.specs.First.{initIn, Inits, varOn, settled}
+use Rattle.vars.specs.First.{initIn, Inits, varOn, orPending}
 use Rattle.pends.specs.Pends.{Pended}
 use Rattle.vars.proofs.Values.{settled-init}
 use Rattle.vars.proofs.Names.{namesFrom, names-step, names-over, names-all}
@@ -60,7 +60,7 @@ pub record Naming (s : Bytes) (r count : ℕ) (d : Bytes) (a j : ℕ) (e : Bytes
   pub wrote : Wrote d a text e p
   pub rest : text ++ rowsOf (namesFrom s r count j) ≡ rowsOf (namesOn s r)
 
-module _ (s t : Bytes) (n r : ℕ) (l : VarLine s t n r) {count : ℕ} (hc : count ≡ Number.numberOf 65536 (getD (readAt s (r - 1) .fields) 2 [])) where
+module _ (s t : Bytes) (n r : ℕ) (l : VarLine s t n r) {count : ℕ} (hc : count ≡ Number.numberUpTo 65536 (getD (readAt s (r - 1) .fields) 2 [])) where
   pub naming-start : {d : Bytes} {a p : ℕ} → Wrote d a [] d p → Naming s r count d a 0 d p
   naming-start w = record { long = refl; text = []; wrote = w; rest = ap rowsOf (names-all s t n r l hc) }
 
@@ -79,24 +79,24 @@ module _ {s : Bytes} {r count : ℕ} {d : Bytes} {a j : ℕ} {e : Bytes} {p : �
 
 -- ---- a line by its value
 
-refused-settled : (k : ℕ) (x : Result Init) (o : Option Refusal) → refusedBy k (settled x) o ≡ refusedBy k x o
+refused-settled : (k : ℕ) (x : Result Init) (o : Option Refusal) → refusedBy k (orPending x) o ≡ refusedBy k x o
 refused-settled k (ok i) o = refl
 refused-settled k failed o = refl
 refused-settled k (refuse r) o = refl
 
 module _ (ns : Names) (v : VarDecl) where
-  first-is : {i : Init} → noneOf (laidNames (v .names)) ≡ false → settled (varValue ns v) ≡ ok i → firstOf ns v ≡ i
+  first-is : {i : Init} → noneOf (laidNames (v .names)) ≡ false → orPending (varValue ns v) ≡ ok i → firstInit ns v ≡ i
   first-is {i} h e = let q : initOf ns (v .ty) (v .init) ≡ ok i = sym (settled-init ns (v .ty) (v .init)) ∙ (rw h at e) in rw q
 
   -- what each name leaves, by the value
-  pub by-first : {A : Type 0} (f : Bytes → Init → List A) {i : Init} → settled (varValue ns v) ≡ ok i → concatMap (λ (x : Bytes). f x (firstOf ns v)) (laidNames (v .names)) ≡ concatMap (λ (x : Bytes). f x i) (laidNames (v .names))
+  pub by-first : {A : Type 0} (f : Bytes → Init → List A) {i : Init} → orPending (varValue ns v) ≡ ok i → concatMap (λ (x : Bytes). f x (firstInit ns v)) (laidNames (v .names)) ≡ concatMap (λ (x : Bytes). f x i) (laidNames (v .names))
   by-first {A} f {i} e = go (laidNames (v .names)) (λ h. first-is h e)
     where
-      go : (xs : List Bytes) → (noneOf xs ≡ false → firstOf ns v ≡ i) → concatMap (λ (x : Bytes). f x (firstOf ns v)) xs ≡ concatMap (λ (x : Bytes). f x i) xs
+      go : (xs : List Bytes) → (noneOf xs ≡ false → firstInit ns v ≡ i) → concatMap (λ (x : Bytes). f x (firstInit ns v)) xs ≡ concatMap (λ (x : Bytes). f x i) xs
       go [] h = refl
       go (x ∷ xs) h = rw (h refl)
 
-  pends-are : {i : Init} → settled (varValue ns v) ≡ ok i → varPends ns v ≡ concatMap (λ (x : Bytes). pendOf x i) (laidNames (v .names))
+  pends-are : {i : Init} → orPending (varValue ns v) ≡ ok i → varPends ns v ≡ concatMap (λ (x : Bytes). pendOf x i) (laidNames (v .names))
   pends-are e = by-first pendOf e
 
 no-pends : (i : Init) → ((x : Bytes) → pendOf x i ≡ []) → (xs : List Bytes) → concatMap (λ (x : Bytes). pendOf x i) xs ≡ []
@@ -107,7 +107,7 @@ all-pend : (xs : List Bytes) → concatMap (λ (x : Bytes). pendOf x pendingInit
 all-pend [] = refl
 all-pend (x ∷ xs) = rw (all-pend xs)
 
-module _ (s : Bytes) (r : ℕ) (ns : Names) (h : 0 < r) {x : First} {t u : Bytes} (a : Inits t (settled (varValue ns (varOn s r))) x u) where
+module _ (s : Bytes) (r : ℕ) (ns : Names) (h : 0 < r) {x : First} {t u : Bytes} (a : Inits t (orPending (varValue ns (varOn s r))) x u) where
   on : laidOn s r ≡ locatedAt s (r - 1) ∷ []
   on = go r h
     where
@@ -136,7 +136,7 @@ module _ (s : Bytes) (r : ℕ) (ns : Names) (h : 0 < r) {x : First} {t u : Bytes
   quiet-value {v} k = line-quiet (constInit (valueIn u v)) (rw k) (λ y. refl)
 
   pub quiet-alloc : {k c : ℕ} → x ≡ Alloc k c → {d : Bytes} {at : ℕ} {e : Bytes} {p : ℕ} → Wrote d at [] e p → Pended ns (laidOn s r) d at (Written p) e
-  quiet-alloc {k} {c} q = line-quiet (arrayInit (record { kind = kindAt k; count = c; values = [] })) (rw q) (λ y. refl)
+  quiet-alloc {k} {c} q = line-quiet (arrayInit (record { kind = kindOfNumber k; count = c; values = [] })) (rw q) (λ y. refl)
 
   pub quiet-literal : {k c : ℕ} → x ≡ Literal k c → {d : Bytes} {at : ℕ} {e : Bytes} {p : ℕ} → Wrote d at [] e p → Pended ns (laidOn s r) d at (Written p) e
-  quiet-literal {k} {c} q = line-quiet (arrayInit (record { kind = kindAt k; count = c; values = valuesIn u 0 c })) (rw q) (λ y. refl)
+  quiet-literal {k} {c} q = line-quiet (arrayInit (record { kind = kindOfNumber k; count = c; values = valuesIn u 0 c })) (rw q) (λ y. refl)

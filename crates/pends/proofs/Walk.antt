@@ -27,7 +27,7 @@ use Rattle.checks.specs.Checks.{Checked}
 use Rattle.checks.proofs.Kept.{checked-kept}
 use Rattle.source.specs.Walk.{openAt}
 use Rattle.implement.specs.Modules.{moduleAt, Open}
-use Rattle.names.specs.Table.{Logged, ConstTable}
+use Rattle.names.specs.Table.{ConstsLogged, ConstTable}
 use Rattle.placements.specs.Placements.{Keeps}
 use Rattle.placements.proofs.Same.{keeps-all, keeps-then}
 use Rattle.literals.specs.Literals.{namesIn}
@@ -120,7 +120,7 @@ module _ {s t : Bytes} {n m : ℕ} (r : ConstTable s t n m) where
   walk-start w = record { here = record { checked = r .checked; within = omega arith; low = omega arith; here = refl }; keeps = keeps-all; long = refl; rows = (refl, w) }
 
   module _ {d : Bytes} {a : ℕ} {u : Bytes} {k i : ℕ} {e : Bytes} {p : ℕ} (w : Walking s t n m d a u k i e p) where
-    pub walk-log : Logged s u n m
+    pub walk-log : ConstsLogged s u n m
     walk-log = logged-kept (w .keeps) (r .logged)
 
     pub walk-end : n ≤ i → AllPended (namesIn s t m) s d a (Written p) e × Keeps 16384 49152 t u

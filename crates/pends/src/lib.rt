@@ -7,7 +7,7 @@ ghost use Rattle.semantics.specs.Sheet.{concatMap};
 ghost use Rattle.semantics.specs.Global.{laidNames};
 ghost use Rattle.semantics.specs.Listing.{pendRow};
 ghost use Rattle.write.specs.Wrote.{Wrote};
-ghost use Rattle.names.specs.Table.{Logged, ConstTable};
+ghost use Rattle.names.specs.Table.{ConstsLogged, ConstTable};
 ghost use Rattle.placements.specs.Placements.{Keeps};
 ghost use Rattle.literals.specs.Literals.{namesIn};
 ghost use Rattle.global_table.specs.Table.{VarLine, namesOn};
@@ -48,7 +48,7 @@ fn pend_names(sheet: &[u8], work: &[u8], n: usize, r: usize, out: &mut [u8], at:
 
 // The rows of the `var` line r, one for each name where its value is pending; none where r is 0.
 fn pend_line(sheet: &[u8], work: &mut [u8], c: Known, r: usize, out: &mut [u8], at: usize) -> Pends
-    requires { ⌜ (MayLay (now sheet) (now work) (c .lines) r) × (Logged (now sheet) (now work) (c .lines) (c .consts)) ⌝ }
+    requires { ⌜ (MayLay (now sheet) (now work) (c .lines) r) × (ConstsLogged (now sheet) (now work) (c .lines) (c .consts)) ⌝ }
     ensures { λ x. ⌜ (Pended (namesIn (now (sheet .entry)) (now (work .entry)) (c .consts)) (laidOn (now (sheet .entry)) r) (now (out .entry)) at x (now (out .exit))) × (Keeps 16384 49152 (now (work .entry)) (now (work .exit))) ⌝ }
 {
     if r == 0 {

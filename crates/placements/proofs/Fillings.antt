@@ -14,10 +14,10 @@ use Rattle.semantics.specs.Array.{Placement, Filled, placeSpan, setWildcard, va
 use Rattle.values.specs.declared.ConstVal.{ConstVal}
 use Rattle.values.specs.declared.ConstVal.the-variants.{Int, Real, Str}
 use Rattle.values.specs.Values.{valueIn}
-use Rattle.slots.specs.Slots.{Stored}
+use Rattle.slots.specs.Slots.{SlotStored}
 use Rattle.checks.specs.Checks.{Kept}
 use Rattle.checks.proofs.Kept.{kept-at}
-use Rattle.placements.specs.Placements.{entryAt, slotAt, elementAt, Painted, Standing, entered, Filling}
+use Rattle.placements.specs.Placements.{entryAt, slotAt, elementIn, Painted, StringStands, valueNamed, Filling}
 use Rattle.placements.proofs.Same.{Alike, slot-kept, value-same, element-same}
 
 -- ---- placements, one more behind others
@@ -42,12 +42,12 @@ either-end n a b = go (ltb n a) refl (leb n b) refl
         let k : b < n = leb-false n b d in
         sym (le-ltb n (max a (suc b)) (omega arith))
 
-cond-entered : (t : Bytes) (v w : Tree.ConstVal) (c : Bool) (e b : ℕ) → 0 < e → w ≡ elementAt t e → cond c w (entered t v b) ≡ entered t v (cond c e b)
+cond-entered : (t : Bytes) (v w : Tree.ConstVal) (c : Bool) (e b : ℕ) → 0 < e → w ≡ elementIn t e → cond c w (valueNamed t v b) ≡ valueNamed t v (cond c e b)
 cond-entered t v w true zero b h q = absurd (omega arith)
 cond-entered t v w true (suc e) b h q = q
 cond-entered t v w false e b h q = refl
 
-standing-more : {a b : ℕ} → a ≤ b → (v : ConstVal) → Standing a v → Standing b v
+standing-more : {a b : ℕ} → a ≤ b → (v : ConstVal) → StringStands a v → StringStands b v
 standing-more h (Int z) s = s
 standing-more h (Real x) s = s
 standing-more h (Str p l) s = (s .0, omega (arith, s .1), s .2)
@@ -61,8 +61,8 @@ module _ {t : Bytes} {top k next reach : ℕ} {f : Filled} (p : Filling t top k 
     entry-same i h = table (11264 + i) (omega arith) (omega arith)
 
     -- where the table is kept, and so are the values of elements
-    filling-on : (m : ℕ) → k ≤ m → (g : Filled) → g .nextIndex ≡ f .nextIndex → g .reach ≡ f .reach → g .placements ≡ f .placements → elementAt u 0 ≡ filler (g .wildcard)
-        → ((j : ℕ) → 0 < j → j ≤ k → elementAt u j ≡ elementAt t j) → ((j : ℕ) → j ≤ m → Standing more (slotAt u j)) → Filling u more m next reach g
+    filling-on : (m : ℕ) → k ≤ m → (g : Filled) → g .nextIndex ≡ f .nextIndex → g .reach ≡ f .reach → g .placements ≡ f .placements → elementIn u 0 ≡ filler (g .wildcard)
+        → ((j : ℕ) → 0 < j → j ≤ k → elementIn u j ≡ elementIn t j) → ((j : ℕ) → j ≤ m → StringStands more (slotAt u j)) → Filling u more m next reach g
     filling-on m le g e1 e2 e3 w same st = record {
       next-is = p .next-is ∙ sym e1;
       reach-is = p .reach-is ∙ sym e2;
@@ -74,7 +74,7 @@ module _ {t : Bytes} {top k next reach : ℕ} {f : Filled} (p : Filling t top k 
       strings = st;
     }
       where
-        go : (v : Tree.ConstVal) (b : ℕ) → b ≤ k → entered t v b ≡ entered u v b
+        go : (v : Tree.ConstVal) (b : ℕ) → b ≤ k → valueNamed t v b ≡ valueNamed u v b
         go v zero h = refl
         go v (suc j) h = sym (same (suc j) (omega arith) h)
 
@@ -83,7 +83,7 @@ module _ {t : Bytes} {top k next reach : ℕ} {f : Filled} (p : Filling t top k 
 
   -- bytes below top are the same
   module _ (u : Bytes) (few : k ≤ 16) (high : 49152 ≤ top) (q : Kept top t u) where
-    pub element-kept : (j : ℕ) → j ≤ k → elementAt u j ≡ elementAt t j
+    pub element-kept : (j : ℕ) → j ≤ k → elementIn u j ≡ elementIn t j
     element-kept j h = element-same t u (q .long) top j (p .strings j h) (λ i x y. kept-at q i (omega arith)) (λ i x y. kept-at q i y)
 
     pub filling-kept : Filling u top k next reach f
@@ -91,7 +91,7 @@ module _ {t : Bytes} {top k next reach : ℕ} {f : Filled} (p : Filling t top k 
         filling-on u (q .long) (λ i x y. kept-at q i (omega arith)) top (omega arith) k (omega arith) f refl refl refl (element-kept 0 (omega arith) ∙ p .fills) (λ j x y. element-kept j y)
         (λ j h. rw (slot-kept t u (q .long) j (λ i x y. kept-at q i (omega arith))) (p .strings j h))
 
-  module _ (u : Bytes) (more : ℕ) (wider : top ≤ more) (n : ℕ) (v : ConstVal) (st : Standing more v) (q : Stored t (12288 + 16 * n) v u) (few : n ≤ 16) where
+  module _ (u : Bytes) (more : ℕ) (wider : top ≤ more) (n : ℕ) (v : ConstVal) (st : StringStands more v) (q : SlotStored t (12288 + 16 * n) v u) (few : n ≤ 16) where
     other-slot : (j : ℕ) → (j ≡ n → ⊥) → Alike (12288 + 16 * j) (12297 + 16 * j) t u
     other-slot j h i x y = q .others i (go (ltb i (12288 + 16 * n)) refl)
       where
@@ -102,21 +102,21 @@ module _ {t : Bytes} {top k next reach : ℕ} {f : Filled} (p : Filling t top k 
     stack-same : Alike 49152 more t u
     stack-same i x y = q .others i (inr (omega arith))
 
-    other-same : (j : ℕ) → j ≤ k → (j ≡ n → ⊥) → elementAt u j ≡ elementAt t j
+    other-same : (j : ℕ) → j ≤ k → (j ≡ n → ⊥) → elementIn u j ≡ elementIn t j
     other-same j h d = element-same t u (q .long) top j (p .strings j h) (other-slot j d) (λ i x y. stack-same i x (omega arith))
 
     stored-slot : slotAt u n ≡ v
     unfolding slotAt
     stored-slot = q .value
 
-    pub stored-element : elementAt u n ≡ valueIn t v
-    unfolding elementAt
+    pub stored-element : elementIn u n ≡ valueIn t v
+    unfolding elementIn
     stored-element = rw stored-slot (value-same t u (q .long) more v st stack-same)
 
-    stands : (j : ℕ) → (j ≤ k) ⊎ (j ≡ n) → Standing more (slotAt u j)
+    stands : (j : ℕ) → (j ≤ k) ⊎ (j ≡ n) → StringStands more (slotAt u j)
     stands j h = go (eqb j n) refl h
       where
-        go : (b : Bool) → eqb j n ≡ b → (j ≤ k) ⊎ (j ≡ n) → Standing more (slotAt u j)
+        go : (b : Bool) → eqb j n ≡ b → (j ≤ k) ⊎ (j ≡ n) → StringStands more (slotAt u j)
         go true e h = rw (eqb-true j n e, stored-slot) st
         go false e (inl h) = rw (slot-kept t u (q .long) j (other-slot j (eqb-false j n e))) (standing-more wider (slotAt t j) (p .strings j h))
         go false e (inr h) = absurd (eqb-false j n e h)
@@ -144,14 +144,14 @@ module _ {t : Bytes} {top k next reach : ℕ} {f : Filled} (p : Filling t top k 
         (λ j x y. other-same j y (λ z. omega arith)) (λ j h. stands j (inl h))
 
   -- indices that take the value of element e
-  pub filling-span : (u : Bytes) (l h e : ℕ) → 0 < e → e ≤ k → k ≤ 16 → h < 2 ^ 63 → Painted t l h e u → Filling u top k (suc h) (max reach (suc h)) (placeSpan (elementAt t e) l h f)
+  pub filling-span : (u : Bytes) (l h e : ℕ) → 0 < e → e ≤ k → k ≤ 16 → h < 2 ^ 63 → Painted t l h e u → Filling u top k (suc h) (max reach (suc h)) (placeSpan (elementIn t e) l h f)
   filling-span u l h e one le few low q = record {
     next-is = refl;
     reach-is = rw (p .reach-is);
     low = omega (arith, p .low);
     ends = λ n. any-last n (f .placements) _ ∙ rw (p .ends n) (either-end n reach h);
     known = λ i x. rw (q .at i x) (bounded (leb l i && leb i h) (p .known i x));
-    values = λ i x v. value-last (f .placements) _ v i ∙ rw (q .at i x, p .values i x v) (cond-entered t v (elementAt t e) (leb l i && leb i h) e (entryAt t i) one refl ∙ moved v (cond (leb l i && leb i h) e (entryAt t i)) (bounded (leb l i && leb i h) (p .known i x)));
+    values = λ i x v. value-last (f .placements) _ v i ∙ rw (q .at i x, p .values i x v) (cond-entered t v (elementIn t e) (leb l i && leb i h) e (entryAt t i) one refl ∙ moved v (cond (leb l i && leb i h) e (entryAt t i)) (bounded (leb l i && leb i h) (p .known i x)));
     fills = same 0 (omega arith) ∙ p .fills;
     strings = λ j x. rw (slot-kept t u (q .long) j (λ i y z. q .others i (inr (omega arith)))) (p .strings j x);
   }
@@ -160,9 +160,9 @@ module _ {t : Bytes} {top k next reach : ℕ} {f : Filled} (p : Filling t top k 
       bounded true x = le
       bounded false x = x
 
-      same : (j : ℕ) → j ≤ k → elementAt u j ≡ elementAt t j
+      same : (j : ℕ) → j ≤ k → elementIn u j ≡ elementIn t j
       same j x = element-same t u (q .long) top j (p .strings j x) (λ i y z. q .others i (inr (omega arith))) (λ i y z. q .others i (inr (omega arith)))
 
-      moved : (v : Tree.ConstVal) (b : ℕ) → b ≤ k → entered t v b ≡ entered u v b
+      moved : (v : Tree.ConstVal) (b : ℕ) → b ≤ k → valueNamed t v b ≡ valueNamed u v b
       moved v zero x = refl
       moved v (suc j) x = sym (same (suc j) x)

@@ -12,7 +12,7 @@ use Rattle.words.specs.Words.{bitsAt}
 use Rattle.slots.specs.Slots.{slotOf}
 use Rattle.checks.specs.Checks.{Kept}
 use Rattle.checks.proofs.Kept.{kept-at}
-use Rattle.placements.specs.Placements.{slotAt, elementAt, Keeps, Standing}
+use Rattle.placements.specs.Placements.{slotAt, elementIn, Keeps, StringStands}
 
 -- bytes from a up to b are the same
 abbrev pub Alike : ℕ → ℕ → Bytes → Bytes → Type 0
@@ -32,7 +32,7 @@ module _ (t u : Bytes) (long : length u ≡ length t) where
       let p : take 8 (drop (a + 1) u) ≡ take 8 (drop (a + 1) t) = part-same 8 (a + 1) (λ j x y. h j (omega arith) (omega arith)) in
       rw (h a (omega arith) (omega arith), p)
 
-  pub value-same : (top : ℕ) (v : ConstVal) → Standing top v → Alike 49152 top t u → valueIn u v ≡ valueIn t v
+  pub value-same : (top : ℕ) (v : ConstVal) → StringStands top v → Alike 49152 top t u → valueIn u v ≡ valueIn t v
   unfolding valueIn stringIn
   value-same top (Int z) s h = refl
   value-same top (Real x) s h = refl
@@ -42,8 +42,8 @@ module _ (t u : Bytes) (long : length u ≡ length t) where
   unfolding slotAt
   slot-kept j h = slot-same (12288 + 16 * j) (λ i x y. h i x (omega arith))
 
-  pub element-same : (top j : ℕ) → Standing top (slotAt t j) → Alike (12288 + 16 * j) (12297 + 16 * j) t u → Alike 49152 top t u → elementAt u j ≡ elementAt t j
-  unfolding elementAt
+  pub element-same : (top j : ℕ) → StringStands top (slotAt t j) → Alike (12288 + 16 * j) (12297 + 16 * j) t u → Alike 49152 top t u → elementIn u j ≡ elementIn t j
+  unfolding elementIn
   element-same top j s h k = ap (valueIn u) (slot-kept j h) ∙ value-same top (slotAt t j) s k
 
 -- ---- what is kept

@@ -22,17 +22,17 @@ use Rattle.semantics.proofs.Common.{never}
 use Rattle.ints.proofs.Widths.{held}
 use Rattle.values.specs.declared.ConstVal.the-variants.{Int}
 use Rattle.values.specs.Values.{valueIn}
-use Rattle.slots.specs.Slots.{Stored}
+use Rattle.slots.specs.Slots.{SlotStored}
 use Rattle.placements.specs.declared.Extent.{Extent}
 use Rattle.placements.specs.declared.Placed.{Placed}
 use Rattle.placements.specs.declared.Placed.the-variants.{Into, Negative}
-use Rattle.placements.specs.Placements.{entryAt, slotAt, elementAt, Keeps, Painted, Filling, Step, stopped, Places}
+use Rattle.placements.specs.Placements.{entryAt, slotAt, elementIn, Keeps, Painted, Filling, Step, stopped, Places}
 use Rattle.placements.proofs.Same.{keeps-all}
 use Rattle.placements.proofs.Fillings.{filling-span}
 
 -- ---- the empty literal
 
-module _ (t u w : Bytes) (room : 65536 ≤ length t) (p : Painted t 0 1023 0 u) (q : Stored u 12288 (Int (pos 0)) w) where
+module _ (t u w : Bytes) (room : 65536 ≤ length t) (p : Painted t 0 1023 0 u) (q : SlotStored u 12288 (Int (pos 0)) w) where
   blank : (i : ℕ) → i < 1024 → entryAt w i ≡ 0
   unfolding entryAt
   blank i h = q .others (11264 + i) (inl (omega arith)) ∙ p .at i h ∙ rw (le-leb 0 i (omega arith), le-leb i 1023 (omega arith))
@@ -42,7 +42,7 @@ module _ (t u w : Bytes) (room : 65536 ≤ length t) (p : Painted t 0 1023 0 u) 
   zero-slot = q .value
 
   empty : Filling w 49152 0 0 0 noneFilled
-  unfolding elementAt valueIn
+  unfolding elementIn valueIn
   empty = record {
     next-is = refl;
     reach-is = refl;
@@ -68,7 +68,7 @@ module _ (t u w : Bytes) (room : 65536 ≤ length t) (p : Painted t 0 1023 0 u) 
 
 module _ (t : Bytes) (e : ℕ) (a : Extent) (act : Tree.ConstVal → Filled → Result Filled) where
   -- nothing changes
-  places-none : (r : Placed) → stopped r ≡ false → ((top k : ℕ) (f : Filled) → Filling t top k (a .next) (a .reach) f → Step t top k r (act (elementAt t e) f)) → Places t e a act r t
+  places-none : (r : Placed) → stopped r ≡ false → ((top k : ℕ) (f : Filled) → Filling t top k (a .next) (a .reach) f → Step t top k r (act (elementIn t e) f)) → Places t e a act r t
   places-none r o h = record { keeps = λ b. keeps-all; ongoing = o; step = λ top k f x y z p. h top k f p }
 
   module _ (u : Bytes) (l h : ℕ) (p : Painted t l h e u) (low : h < 2 ^ 63) where
@@ -76,7 +76,7 @@ module _ (t : Bytes) (e : ℕ) (a : Extent) (act : Tree.ConstVal → Filled → 
     places-span r q d g = record {
       keeps = λ b. record { long = p .long; below = λ j x. p .others j (inl x); above = λ j x y. p .others j (inr x) };
       ongoing = refl;
-      step = λ top k f one le few fl. rw (q, d, add-one) (record { literal = placeSpan (elementAt t e) l h f; result = g (elementAt t e) f (sym (fl .next-is)); filling = filling-span fl u l h e one le few low p });
+      step = λ top k f one le few fl. rw (q, d, add-one) (record { literal = placeSpan (elementIn t e) l h f; result = g (elementIn t e) f (sym (fl .next-is)); filling = filling-span fl u l h e one le few low p });
     }
 
 module _ (t : Bytes) (e : ℕ) (a : Extent) where
@@ -126,11 +126,11 @@ module _ (t : Bytes) (e : ℕ) (a : Extent) {low high : ℤ} (fl : SFits w64 low
   Act v = placeIndices v low high
 
   pub indices-none : ltZ (held w64 high) (held w64 low) ≡ true → Places t e a Act (Into a) t
-  indices-none h = places-none t e a Act (Into a) refl (λ top k f p. record { literal = f; result = empty-span low high (rw (toZ-ofZ fl, toZ-ofZ fh) at h) (elementAt t e) f; filling = p })
+  indices-none h = places-none t e a Act (Into a) refl (λ top k f p. record { literal = f; result = empty-span low high (rw (toZ-ofZ fl, toZ-ofZ fh) at h) (elementIn t e) f; filling = p })
 
   module _ (h : ltZ (held w64 high) (held w64 low) ≡ false) where
     pub indices-negative : ltZ (held w64 low) (pos 0) ≡ true → Places t e a Act Negative t
-    indices-negative d = places-none t e a Act Negative refl (λ top k f p. below-zero low high (rw (toZ-ofZ fl, toZ-ofZ fh) at h) (rw (toZ-ofZ fl) at d) (elementAt t e) f)
+    indices-negative d = places-none t e a Act Negative refl (λ top k f p. below-zero low high (rw (toZ-ofZ fl, toZ-ofZ fh) at h) (rw (toZ-ofZ fl) at d) (elementIn t e) f)
 
     module _ (d : ltZ (held w64 low) (pos 0) ≡ false) where
       pub low-fits : T (nonNeg (held w64 low)) × Fits w64 (natAbs (held w64 low)) × (natAbs (held w64 low) < 2 ^ 63)

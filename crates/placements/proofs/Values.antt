@@ -13,13 +13,13 @@ use Rattle.semantics.specs.Array.{Filled, valueAt, valuesFrom, filler, isStr, i
 use Rattle.values.specs.declared.ConstVal.{ConstVal}
 use Rattle.values.specs.declared.ConstVal.the-variants.{Int, Real, Str}
 use Rattle.values.specs.Values.{valueIn}
-use Rattle.placements.specs.Placements.{entryAt, slotAt, elementAt, valuesIn, Standing, entered, Filling, rankOf, hasRank}
+use Rattle.placements.specs.Placements.{entryAt, slotAt, elementIn, valuesIn, StringStands, valueNamed, Filling, rankOf, hasRank}
 
 module _ {t : Bytes} {top k next reach : ℕ} {f : Filled} (p : Filling t top k next reach f) where
-  value-is : (i : ℕ) → i < 1024 → valueAt (f .placements) (filler (f .wildcard)) i ≡ elementAt t (entryAt t i)
+  value-is : (i : ℕ) → i < 1024 → valueAt (f .placements) (filler (f .wildcard)) i ≡ elementIn t (entryAt t i)
   value-is i h = p .values i h (filler (f .wildcard)) ∙ go (entryAt t i)
     where
-      go : (b : ℕ) → entered t (filler (f .wildcard)) b ≡ elementAt t b
+      go : (b : ℕ) → valueNamed t (filler (f .wildcard)) b ≡ elementIn t b
       go zero = sym (p .fills)
       go (suc j) = refl
 
@@ -28,7 +28,7 @@ module _ {t : Bytes} {top k next reach : ℕ} {f : Filled} (p : Filling t top k 
   values-are zero i h = refl
   values-are (suc n) i h = rw (value-is i (omega arith), values-are n (suc i) (omega arith))
 
-  pub value-stands : (i : ℕ) → i < 1024 → Standing top (slotAt t (entryAt t i))
+  pub value-stands : (i : ℕ) → i < 1024 → StringStands top (slotAt t (entryAt t i))
   value-stands i h = p .strings (entryAt t i) (p .known i h)
 
 -- ---- ranks
@@ -54,20 +54,20 @@ pub passing-start : (t : Bytes) (count wanted : ℕ) → Passing t count wanted 
 passing-start t count wanted = let z : count - 0 ≡ count = omega arith in record { within = omega arith; rest = rw z }
 
 module _ {t : Bytes} {count wanted i : ℕ} (p : Passing t count wanted i) where
-  next-value : i < count → any (hasRank wanted) (valuesIn t i (count - i)) ≡ hasRank wanted (elementAt t (entryAt t i)) || any (hasRank wanted) (valuesIn t (i + 1) (count - (i + 1)))
+  next-value : i < count → any (hasRank wanted) (valuesIn t i (count - i)) ≡ hasRank wanted (elementIn t (entryAt t i)) || any (hasRank wanted) (valuesIn t (i + 1) (count - (i + 1)))
   unfolding valuesIn
   next-value h = let z : count - i ≡ suc (count - (i + 1)) = omega arith in rw (z, add-one)
 
   module _ (h : i < count) (v : ConstVal) (e : v ≡ slotAt t (entryAt t i)) {r : ℕ} (q : r ≡ rankOf (valueIn t v)) where
-    rank-is : r ≡ rankOf (elementAt t (entryAt t i))
-    unfolding elementAt
+    rank-is : r ≡ rankOf (elementIn t (entryAt t i))
+    unfolding elementIn
     rank-is = rw e at q
 
     pub passing-found : r ≡ wanted → true ≡ any (hasRank wanted) (valuesIn t 0 count)
-    passing-found d = sym (sym (p .rest) ∙ next-value h ∙ rw (eq-eqb (rankOf (elementAt t (entryAt t i))) wanted (sym rank-is ∙ d)))
+    passing-found d = sym (sym (p .rest) ∙ next-value h ∙ rw (eq-eqb (rankOf (elementIn t (entryAt t i))) wanted (sym rank-is ∙ d)))
 
     pub passing-next : (r ≡ wanted → ⊥) → Passing t count wanted (i + 1)
-    passing-next d = record { within = omega arith; rest = sym (next-value h ∙ rw (ne-eqb (rankOf (elementAt t (entryAt t i))) wanted (λ x. d (rank-is ∙ x)))) ∙ p .rest }
+    passing-next d = record { within = omega arith; rest = sym (next-value h ∙ rw (ne-eqb (rankOf (elementIn t (entryAt t i))) wanted (λ x. d (rank-is ∙ x)))) ∙ p .rest }
 
   pub passing-end : count ≤ i → false ≡ any (hasRank wanted) (valuesIn t 0 count)
   unfolding valuesIn

@@ -29,13 +29,13 @@ entryAt t i = getD t (11264 + i) 0
 unfoldable pub slotAt : Bytes → ℕ → ConstVal
 slotAt t j = slotOf t (12288 + 16 * j)
 
-unfoldable pub elementAt : Bytes → ℕ → Tree.ConstVal
-elementAt t j = valueIn t (slotAt t j)
+unfoldable pub elementIn : Bytes → ℕ → Tree.ConstVal
+elementIn t j = valueIn t (slotAt t j)
 
 -- `count` values from index i on
 unfoldable pub valuesIn : Bytes → ℕ → ℕ → List Tree.ConstVal
 valuesIn t i zero = []
-valuesIn t i (suc n) = elementAt t (entryAt t i) ∷ valuesIn t (suc i) n
+valuesIn t i (suc n) = elementIn t (entryAt t i) ∷ valuesIn t (suc i) n
 
 -- ---- what changes, and what does not
 
@@ -54,15 +54,15 @@ pub record Painted (t : Bytes) (l h e : ℕ) (u : Bytes) : Type 0 where
 -- ---- a literal so far
 
 -- a string stands between 49152 and top
-abbrev pub Standing : ℕ → ConstVal → Type 0
-Standing top (Int z) = Unit {0}
-Standing top (Real x) = Unit {0}
-Standing top (Str p l) = (49152 ≤ p) × (p + l ≤ top) × (l ≤ 256)
+abbrev pub StringStands : ℕ → ConstVal → Type 0
+StringStands top (Int z) = Unit {0}
+StringStands top (Real x) = Unit {0}
+StringStands top (Str p l) = (49152 ≤ p) × (p + l ≤ top) × (l ≤ 256)
 
 -- the value that an entry of the table names, where v is the filler
-abbrev pub entered : Bytes → Tree.ConstVal → ℕ → Tree.ConstVal
-entered t v zero = v
-entered t v (suc j) = elementAt t (suc j)
+abbrev pub valueNamed : Bytes → Tree.ConstVal → ℕ → Tree.ConstVal
+valueNamed t v zero = v
+valueNamed t v (suc j) = elementIn t (suc j)
 
 -- the working space t holds what f is after k elements, with their strings below top
 pub record Filling (t : Bytes) (top k next reach : ℕ) (f : Filled) : Type 0 where
@@ -71,9 +71,9 @@ pub record Filling (t : Bytes) (top k next reach : ℕ) (f : Filled) : Type 0 wh
   pub low : reach ≤ 2 ^ 63
   pub ends : (n : ℕ) → any (outside n) (f .placements) ≡ ltb n reach
   pub known : (i : ℕ) → i < 1024 → entryAt t i ≤ k
-  pub values : (i : ℕ) → i < 1024 → (v : Tree.ConstVal) → valueAt (f .placements) v i ≡ entered t v (entryAt t i)
-  pub fills : elementAt t 0 ≡ filler (f .wildcard)
-  pub strings : (j : ℕ) → j ≤ k → Standing top (slotAt t j)
+  pub values : (i : ℕ) → i < 1024 → (v : Tree.ConstVal) → valueAt (f .placements) v i ≡ valueNamed t v (entryAt t i)
+  pub fills : elementIn t 0 ≡ filler (f .wildcard)
+  pub strings : (j : ℕ) → j ≤ k → StringStands top (slotAt t j)
 
 -- the result r is a literal that t holds
 pub record Goes (t : Bytes) (top k next reach : ℕ) (r : Result Filled) : Type 0 where
@@ -99,7 +99,7 @@ stopped TooLong = true
 pub record Places (t : Bytes) (e : ℕ) (x : Extent) (act : Tree.ConstVal → Filled → Result Filled) (r : Placed) (u : Bytes) : Type 0 where
   pub keeps : (b : ℕ) → Keeps 12288 b t u
   pub ongoing : stopped r ≡ false
-  pub step : (top k : ℕ) (f : Filled) → 0 < e → e ≤ k → k ≤ 16 → Filling t top k (x .next) (x .reach) f → Step u top k r (act (elementAt t e) f)
+  pub step : (top k : ℕ) (f : Filled) → 0 < e → e ≤ k → k ≤ 16 → Filling t top k (x .next) (x .reach) f → Step u top k r (act (elementIn t e) f)
 
 -- ---- kinds of values
 

@@ -10,7 +10,7 @@ ghost use Rattle.semantics.specs.Text.{Bytes, any};
 ghost use Rattle.semantics.specs.Tree.{ConstVal};
 ghost use Rattle.semantics.specs.Array.{noneFilled, placeIndices, placeNext, kindNumber, kindOfValues};
 ghost use Rattle.values.specs.Values.{valueIn};
-ghost use Rattle.slots.specs.Slots.{Small, Stored};
+ghost use Rattle.slots.specs.Slots.{Small, SlotStored};
 ghost use Rattle.placements.specs.Placements.{entryAt, slotAt, valuesIn, Keeps, Painted, Filling, Places, rankOf, hasRank};
 
 const INDICES: u64 = 1024;
@@ -75,7 +75,7 @@ pub fn empty(work: &mut [u8])
 // The value of element j, from 1, or of the filler, 0.
 pub fn put_value(work: &mut [u8], j: usize, v: values::ConstVal)
     requires { ⌜ (j ≤ 16) × (65536 ≤ length (now work)) × (Small v) ⌝ }
-    ensures { λ _. ⌜ Stored (now (work .entry)) (12288 + 16 * j) v (now (work .exit)) ⌝ }
+    ensures { λ _. ⌜ SlotStored (now (work .entry)) (12288 + 16 * j) v (now (work .exit)) ⌝ }
 {
     slots::put_value(work, area::ELEMENTS + 16 * j, v);
 }

@@ -12,7 +12,7 @@ use Rattle.semantics.specs.Text.{Bytes, orElse}
 use Rattle.semantics.specs.Tree.{AdtDecl, Case, noCase, Fd, Shape}
 use Rattle.semantics.specs.Form.{letter}
 use Rattle.semantics.specs.Refusal.{sumOf, recordCount}
-use Rattle.semantics.specs.Layout.{Placed, variantsOf, casesFrom, recordsFor, recordsOf, recordLog, variantShape, variantFields}
+use Rattle.semantics.specs.Layout.{PlacedField, variantsOf, casesFrom, recordsFor, recordsOf, recordLog, variantShape, variantFields}
 use Rattle.laws.specs.Every.{Every}
 use Rattle.laws.proofs.Lists.{map-append}
 use Rattle.laws.proofs.Every.{every-append}
@@ -68,7 +68,7 @@ module _ (s : Bytes) (r : ℕ) where
 
 -- ---- how many
 
-variants-length : (t : Bytes) (h : Shape) (ps : List Placed) (g k : ℕ) (xs : List Bytes) → length (variantsOf t h ps g k xs) ≡ length xs
+variants-length : (t : Bytes) (h : Shape) (ps : List PlacedField) (g k : ℕ) (xs : List Bytes) → length (variantsOf t h ps g k xs) ≡ length xs
 variants-length t h ps g k [] = refl
 variants-length t h ps g k (x ∷ xs) = ap suc (variants-length t h ps g (suc k) xs)
 

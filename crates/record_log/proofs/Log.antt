@@ -29,7 +29,7 @@ use Rattle.source.proofs.Walk.{located-all, located-its, declared-all, source-o
 use Rattle.shapes.specs.Shapes.{declAt, casesIn}
 use Rattle.records.specs.Log.{caseIn, Entry, recordOf, entryAt, recordedAt, logOf, noRecord, Sound}
 use Rattle.record_log.specs.Entries.{entryBytes, tagEntries, caseEntries, lineEntries, entriesOf, entriesTo, logBytes, CollectedTo}
-use Rattle.records.specs.Lines.{caseOf}
+use Rattle.records.specs.Lines.{caseAt}
 use Rattle.records.proofs.Keys.{default-same}
 use Rattle.shapes.specs.Shapes.{firstDecl, PickLine, CaseOf}
 use Rattle.record_log.proofs.Lists.{line-log, log-length, line-sound}
@@ -66,7 +66,7 @@ module _ (s : Bytes) (r : ℕ) (d : Bytes) (a : ℕ) where
     unfolding logBytes
     casing-end h = wrote-as (sym (append-nil (g .done)) ∙ rw (drop-of-length-le (casesIn (declAt s r)) {i = c} h) at (g .rest)) (g .wrote)
 
-    module _ (h : c < length (casesIn (declAt s r))) (t : Bytes) (n v : ℕ) (x : CaseOf s t n r c v) (m : ℕ) (hm : m ≡ length (caseOf s v .tags)) (few : m ≤ 16) where
+    module _ (h : c < length (casesIn (declAt s r))) (t : Bytes) (n v : ℕ) (x : CaseOf s t n r c v) (m : ℕ) (hm : m ≡ length (caseAt s v .tags)) (few : m ≤ 16) where
       tags-are : m ≡ length (caseIn (declAt s r) c .tags)
       tags-are = hm ∙ ap (λ (y : Case). length (y .tags)) (case-is x)
 

@@ -60,5 +60,5 @@ pub record CollectedTo (s t u : Bytes) (n m d : ℕ) : Type 0 where
   pub kept : Kept 9216 t u
   pub above : (j : ℕ) → 10240 ≤ j → getD u j 0 ≡ getD t j 0
 
-abbrev pub Collected : Bytes → Bytes → Bytes → ℕ → ℕ → Type 0
-Collected s t u n m = CollectedTo s t u n m m
+abbrev pub RecordsCollected : Bytes → Bytes → Bytes → ℕ → ℕ → Type 0
+RecordsCollected s t u n m = CollectedTo s t u n m m

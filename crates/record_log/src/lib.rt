@@ -8,7 +8,7 @@ ghost use Rattle.write.specs.Wrote.{Wrote};
 ghost use Rattle.checks.specs.Checks.{Checked};
 ghost use Rattle.shapes.specs.Shapes.{declAt, casesIn, PickLine};
 ghost use Rattle.records.specs.Log.{Digested};
-ghost use Rattle.record_log.specs.Entries.{entryBytes, tagEntries, caseEntries, entriesOf, logBytes, CollectedTo, Collected};
+ghost use Rattle.record_log.specs.Entries.{entryBytes, tagEntries, caseEntries, entriesOf, logBytes, CollectedTo, RecordsCollected};
 
 // One entry: a line, 0 or a case from 1, the position of a tag in it, and the tag's number.
 fn put_entry(
@@ -109,7 +109,7 @@ fn enter_digest(work: &mut [u8], i: usize, d: usize)
 // The digests of all keys, into their entries.
 fn enter_digests(sheet: &[u8], work: &mut [u8], n: usize, m: usize)
     requires { ⌜ Digested (now sheet) (now work) n m 0 ⌝ }
-    ensures { λ _. ⌜ Collected (now (sheet .entry)) (now (work .entry)) (now (work .exit)) n m ⌝ }
+    ensures { λ _. ⌜ RecordsCollected (now (sheet .entry)) (now (work .entry)) (now (work .exit)) n m ⌝ }
 {
     let mut i = 0;
     while i < m {
@@ -122,7 +122,7 @@ fn enter_digests(sheet: &[u8], work: &mut [u8], n: usize, m: usize)
 // The log of all records, with the digests of their keys; returns how many there are.
 pub fn collect_adts(sheet: &[u8], work: &mut [u8], n: usize) -> usize
     requires { ⌜ Checked (now sheet) (now work) n ⌝ }
-    ensures { λ m. ⌜ Collected (now (sheet .entry)) (now (work .entry)) (now (work .exit)) n m ⌝ }
+    ensures { λ m. ⌜ RecordsCollected (now (sheet .entry)) (now (work .entry)) (now (work .exit)) n m ⌝ }
 {
     let m = log_adts(sheet, work, n);
     enter_digests(sheet, work, n, m);

@@ -16,18 +16,18 @@ use Rattle.write.specs.Wrote.{Wrote}
 use Rattle.write.proofs.Wrote.{then}
 use Rattle.layout.proofs.Bounds.{Sized}
 use Rattle.lines.specs.Lines.{formAt}
-use Rattle.sizes.specs.Places.{commonAt, caseAt, RecordLine}
+use Rattle.sizes.specs.Places.{commonFields, caseFields, RecordLine}
 use Rattle.sizes.proofs.Records.{checked-records-bound}
 use Rattle.maps.specs.Maps.{mapIn, mapLength, Mapped, MapRoom}
 use Rattle.shapes.proofs.Cases.{fields-are}
 use Rattle.shapes.specs.Shapes.{firstDecl, declAt, firstShape, shapeAt, casesIn, casesAt, variantAt, VariantLine, CaseOf}
-use Rattle.records.specs.Log.{firstRecord, ownRecord, caseIn, variantRecord, recordIn, entryAt, recordedAt, nameOf, tagOf, logOf, noRecord, EntryIn, Logged, LogEntry}
-use Rattle.records.specs.Lines.{caseOf}
+use Rattle.records.specs.Log.{firstRecord, ownRecord, caseIn, variantRecord, recordIn, entryAt, recordedAt, nameOf, tagOf, logOf, noRecord, EntryIn, RecordsLogged, LogEntry}
+use Rattle.records.specs.Lines.{caseAt}
 use Rattle.records.proofs.Picks.{adt-decl, pick-decl, record-form, case-is}
 use Rattle.records.proofs.Keys.{plain-key, variant-key, entry-line, entry-variant}
 use Rattle.field_rows.specs.Rows.{placedRows, fieldRows}
 use Rattle.field_rows.proofs.Fields.{placed-append}
-use Rattle.record_rows.specs.Rows.{tagText, headText, shapeText}
+use Rattle.record_rows.specs.Rows.{tagText, recText, shapeText}
 use Rattle.laws.proofs.Every.{every-at}
 
 -- ---- T's own record
@@ -48,7 +48,7 @@ own-shape s r = go (declAt s r .pick)
     go none = refl
     go (some ks) = refl
 
-same-fields : (s : Bytes) (r : ℕ) → declAt s r .fields ≡ commonAt s r
+same-fields : (s : Bytes) (r : ℕ) → declAt s r .fields ≡ commonFields s r
 same-fields s r = sym (fields-are s r)
 
 own-fields-none : (d : AdtDecl) → d .pick ≡ none → ownRecord d .fields ≡ place 0 (d .fields) .placed
@@ -117,7 +117,7 @@ entry-small s t n i l =
 pub sized : (s t : Bytes) (n i : ℕ) → LogEntry s t n i → {x : ℕ} → x ≡ recordedAt s t i .shape .size → (x ≡ recordedAt s t i .shape .size) × (x ≤ 131080)
 sized s t n i l e = (e, omega (arith, e, entry-small s t n i l))
 
-pub map-room : {s t : Bytes} {n m size : ℕ} → Logged s t n m → size ≤ 131080 → MapRoom t size
+pub map-room : {s t : Bytes} {n m size : ℕ} → RecordsLogged s t n m → size ≤ 131080 → MapRoom t size
 map-room g h = record { room = g .checked .whole .room; small = h }
 
 -- ---- fields
@@ -136,7 +136,7 @@ module _ (s t : Bytes) (n i : ℕ) (l : EntryIn s t n i) {r : ℕ} (hr : r ≡ e
       go zero e = refl
       go (suc c) e = let w = l .sound .case c e in absurd (omega (arith, rw (← hr, z) at w))
 
-  pub fields-adt : formAt t (r - 1) ≡ 26 → fieldRows 0 (commonAt s r) ≡ placedRows (recordedAt s t i .fields)
+  pub fields-adt : formAt t (r - 1) ≡ 26 → fieldRows 0 (commonFields s r) ≡ placedRows (recordedAt s t i .fields)
   unfolding declAt fieldRows
   fields-adt e =
       let q = adt-decl s t n (l .checked) (r - 1) r-in e in
@@ -149,21 +149,21 @@ module _ (s t : Bytes) (n i : ℕ) (l : EntryIn s t n i) {r : ℕ} (hr : r ≡ e
     form-27 : formAt t (r - 1) ≡ 27
     form-27 = ⊎-elim (λ (e : formAt t (r - 1) ≡ 26). absurd (a e)) (λ (e : formAt t (r - 1) ≡ 27). e) (record-form s t n r r-line)
 
-    pub fields-plain : {c : ℕ} → c ≡ entryAt t i .case → c ≡ 0 → fieldRows 4 (commonAt s r) ≡ placedRows (recordedAt s t i .fields)
+    pub fields-plain : {c : ℕ} → c ≡ entryAt t i .case → c ≡ 0 → fieldRows 4 (commonFields s r) ≡ placedRows (recordedAt s t i .fields)
     unfolding declAt fieldRows
     fields-plain hc e =
         let p = ap (λ (ds : List AdtDecl). firstDecl ds .pick) (pick-decl s t n (l .checked) (r - 1) r-in form-27) in
         let w : recordedAt s t i ≡ ownRecord (declAt s r) = plain-is s t i (sym hc ∙ e) ∙ ap (λ (x : ℕ). ownRecord (declAt s x)) (sym hr) in
         sym (ap (λ (x : Recorded). placedRows (x .fields)) w ∙ ap placedRows (own-fields-some (declAt s r) _ p) ∙ ap (λ (fs : List Fd). placedRows (place 4 fs .placed)) (same-fields s r))
 
-  pub fields-variant : {c : ℕ} → c ≡ entryAt t i .case → (c ≡ 0 → ⊥) → (v : ℕ) → CaseOf s t n r (c - 1) v → {end : ℕ} → end ≡ place 4 (commonAt s r) .end
-      → fieldRows 4 (commonAt s r) ++ fieldRows end (caseAt s v) ≡ placedRows (recordedAt s t i .fields)
-  unfolding variantRecord caseOf fieldRows
+  pub fields-variant : {c : ℕ} → c ≡ entryAt t i .case → (c ≡ 0 → ⊥) → (v : ℕ) → CaseOf s t n r (c - 1) v → {end : ℕ} → end ≡ place 4 (commonFields s r) .end
+      → fieldRows 4 (commonFields s r) ++ fieldRows end (caseFields s v) ≡ placedRows (recordedAt s t i .fields)
+  unfolding variantRecord caseAt fieldRows
   fields-variant {c} hc e v x y =
-      let k : caseAt s v ≡ caseIn (declAt s r) (c - 1) .fields = ap (λ (y : Case). y .fields) (case-is x) in
+      let k : caseFields s v ≡ caseIn (declAt s r) (c - 1) .fields = ap (λ (y : Case). y .fields) (case-is x) in
       let z : recordedAt s t i .fields ≡ variantFields (declAt s r .fields) (caseIn (declAt s r) (c - 1)) = ap (λ (m : Recorded). m .fields) (variant-is s t i (λ z. e (hc ∙ z))) ∙ rw (← hr, ← hc) in
       sym (ap placedRows (z ∙ ap (λ (fs : List Fd). variantFields fs (caseIn (declAt s r) (c - 1))) (same-fields s r))
-      ∙ placed-append (place 4 (commonAt s r) .placed) (place (place 4 (commonAt s r) .end) (caseIn (declAt s r) (c - 1) .fields) .placed)
+      ∙ placed-append (place 4 (commonFields s r) .placed) (place (place 4 (commonFields s r) .end) (caseIn (declAt s r) (c - 1) .fields) .placed)
       ∙ rw (k, y))
 
 -- ---- the row
@@ -183,8 +183,8 @@ six-fields c k t g z h =
     append-assoc (c ++ (44 ∷ k)) ((44 ∷ t) ++ (44 ∷ g)) shape ∙ append-assoc c (44 ∷ k) (((44 ∷ t) ++ (44 ∷ g)) ++ shape)
     ∙ ap (λ (x : Bytes). c ++ (44 ∷ (k ++ x))) (append-assoc (44 ∷ t) (44 ∷ g) shape ∙ ap (λ (x : Bytes). 44 ∷ (t ++ (44 ∷ (g ++ x)))) (append-assoc (44 ∷ z) (44 ∷ h) (10 ∷ [])))
 
-pub record-text : (r : Recorded) → (headText r ++ shapeText (r .shape)) ++ placedRows (r .fields) ≡ recordRows r
-unfolding headText tagText shapeText placedRows recordRows row
+pub record-text : (r : Recorded) → (recText r ++ shapeText (r .shape)) ++ placedRows (r .fields) ≡ recordRows r
+unfolding recText tagText shapeText placedRows recordRows row
 record-text r =
     ap (λ (x : Bytes). x ++ concatMap fieldRow (r .fields))
     (six-fields (bytes "rec") (r .key) (decimalℤ (r .tag)) (decimalℤ (r .group)) (decimal (r .shape .size)) (hexOf (mapOf (r .shape))))
@@ -195,6 +195,6 @@ key-plain s t i e h z = rw (plain-key s t i (sym h ∙ z), e)
 pub key-variant : (s t : Bytes) (i : ℕ) {x y : Bytes} → x ≡ nameOf s (entryAt t i) → {c : ℕ} → c ≡ entryAt t i .case → (c ≡ 0 → ⊥) → y ≡ tagOf s (entryAt t i) → ((44 ∷ x) ++ (46 ∷ [])) ++ y ≡ 44 ∷ recordedAt s t i .key
 key-variant s t i {x} {y} e h z f = rw (variant-key s t i (λ q. z (h ∙ q)), e, f) (append-assoc (44 ∷ nameOf s (entryAt t i)) (46 ∷ []) (tagOf s (entryAt t i)))
 
-pub head-text : (r : Recorded) {d : Bytes} {a : ℕ} {e : Bytes} {b : ℕ} {f : Bytes} {c : ℕ} {g : Bytes} {x : ℕ} → Wrote d a (bytes "rec") e b → Wrote e b (44 ∷ r .key) f c → Wrote f c (tagText r) g x → Wrote d a (headText r) g x
-unfolding headText
+pub head-text : (r : Recorded) {d : Bytes} {a : ℕ} {e : Bytes} {b : ℕ} {f : Bytes} {c : ℕ} {g : Bytes} {x : ℕ} → Wrote d a (bytes "rec") e b → Wrote e b (44 ∷ r .key) f c → Wrote f c (tagText r) g x → Wrote d a (recText r) g x
+unfolding recText
 head-text r u v w = then (then u v) w

@@ -18,7 +18,7 @@ use Rattle.write.specs.Wrote.{Wrote}
 use Rattle.write.proofs.Wrote.{wrote-none, wrote-as, then}
 use Rattle.checks.specs.Checks.{Kept}
 use Rattle.checks.proofs.Kept.{kept-all, kept-then, kept-less}
-use Rattle.records.specs.Log.{recordedAt, logOf, noRecord, Logged, LogEntry, NewestOf}
+use Rattle.records.specs.Log.{recordedAt, logOf, noRecord, RecordsLogged, LogEntry, NewestOf}
 use Rattle.records.proofs.Kept.{logged-kept}
 use Rattle.record_rows.specs.Rows.{keyRows, allRows, Printed}
 
@@ -71,13 +71,13 @@ pub record Keying (s : Bytes) (m : ℕ) (d : Bytes) (a : ℕ) (e : Bytes) (b : �
   pub met : (k : Bytes) → seen k before ≡ seen k (take i (logOf s))
   pub rest : done ++ concatMap recordRows (recordsByKey before (drop i (logOf s))) ≡ allRows s
 
-module _ (s t : Bytes) (n m : ℕ) (g : Logged s t n m) (d : Bytes) (a : ℕ) where
+module _ (s t : Bytes) (n m : ℕ) (g : RecordsLogged s t n m) (d : Bytes) (a : ℕ) where
   pub keying-start : a ≤ length d + 1 → Keying s m d a d a t t 0
   unfolding allRows records logOf
   keying-start h = record { within = omega arith; done = []; wrote = wrote-none d a h; kept = kept-all; before = []; met = λ k. refl; rest = refl }
 
   module _ (e : Bytes) (b : ℕ) (u : Bytes) (i : ℕ) (w : Keying s m d a e b t u i) where
-    pub log-now : Logged s u n m
+    pub log-now : RecordsLogged s u n m
     log-now = logged-kept (kept-less (omega arith) (w .kept)) g
 
     pub keying-end : m ≤ i → {v : Bytes} → u ≡ v → Printed d a (allRows s) e b t v

@@ -21,8 +21,8 @@ abbrev pub TagWrote : Bytes → ℕ → Bytes → ℕ → Bytes → ℕ → Type
 TagWrote t i d a e b = (s : Bytes) → Wrote d a (tagText (recordedAt s t i)) e b
 
 -- rec,KEY,TAG,GROUP
-unfoldable pub headText : Recorded → Bytes
-headText r = (bytes "rec" ++ (44 ∷ r .key)) ++ tagText r
+unfoldable pub recText : Recorded → Bytes
+recText r = (bytes "rec" ++ (44 ∷ r .key)) ++ tagText r
 
 -- SIZE and MAP, and the end of the row
 unfoldable pub shapeText : Shape → Bytes

@@ -1,7 +1,7 @@
 // The rows of records: `rec`, and `fld` for each field.
 use codes::area;
 use codes::decl;
-use field_rows::Next;
+use field_rows::Ends;
 use layout::map::map_bytes;
 use records::key::Log;
 use records::key::case_of;
@@ -18,10 +18,10 @@ ghost use Prim.Native.Nat.{_+_, _≤_, _<_};
 ghost use lib.ListN.{length};
 ghost use Rattle.semantics.specs.Listing.{recordRows};
 ghost use Rattle.write.specs.Wrote.{Wrote};
-ghost use Rattle.maps.specs.Maps.{MapRoom, Made};
-ghost use Rattle.records.specs.Log.{recordedAt, EntryIn, Logged, LogEntry};
+ghost use Rattle.maps.specs.Maps.{MapRoom, MapMade};
+ghost use Rattle.records.specs.Log.{recordedAt, EntryIn, RecordsLogged, LogEntry};
 ghost use Rattle.field_rows.specs.Rows.{placedRows};
-ghost use Rattle.record_rows.specs.Rows.{TagWrote, headText, shapeText, keyRows, allRows, Printed};
+ghost use Rattle.record_rows.specs.Rows.{TagWrote, recText, shapeText, keyRows, allRows, Printed};
 
 // KEY, with its comma: T, or T.tag.
 fn put_key(sheet: &[u8], work: &[u8], n: usize, i: usize, out: &mut [u8], at: usize) -> usize
@@ -51,7 +51,7 @@ fn put_tag(work: &[u8], i: usize, out: &mut [u8], at: usize) -> usize
 
 fn put_head(sheet: &[u8], work: &[u8], n: usize, i: usize, out: &mut [u8], at: usize) -> usize
     requires { ⌜ EntryIn (now sheet) (now work) n i ⌝ }
-    ensures { λ p. ⌜ Wrote (now (out .entry)) at (headText (recordedAt (now (sheet .entry)) (now (work .entry)) i)) (now (out .exit)) p ⌝ }
+    ensures { λ p. ⌜ Wrote (now (out .entry)) at (recText (recordedAt (now (sheet .entry)) (now (work .entry)) i)) (now (out .exit)) p ⌝ }
 {
     let p = write::put_part(out, at, b"rec");
     let q = put_key(sheet, work, n, i, out, p);
@@ -74,7 +74,7 @@ pub fn entry_size(sheet: &[u8], work: &[u8], n: usize, i: usize) -> u32
 // Makes its pointer map, for a block of this size.
 pub fn map_entry(sheet: &[u8], work: &mut [u8], n: usize, i: usize, size: u32)
     requires { ⌜ (EntryIn (now sheet) (now work) n i) × (MapRoom (now work) size) ⌝ }
-    ensures { λ _. ⌜ Made size (recordedAt (now (sheet .entry)) (now (work .entry)) i .shape .pointers) (now (work .entry)) (now (work .exit)) ⌝ }
+    ensures { λ _. ⌜ MapMade size (recordedAt (now (sheet .entry)) (now (work .entry)) i .shape .pointers) (now (work .entry)) (now (work .exit)) ⌝ }
 {
     let r = line_of(work, i);
     let c = case_of(work, i);
@@ -105,10 +105,10 @@ fn put_fields(sheet: &[u8], work: &[u8], n: usize, i: usize, out: &mut [u8], at:
 {
     let r = line_of(work, i);
     if lines::form_at(work, r - 1) == decl::ADT {
-        let q = field_rows::put_common(sheet, work, n, r, out, Next { at: at, end: 0 });
+        let q = field_rows::put_common(sheet, work, n, r, out, Ends { at: at, end: 0 });
         return q.at;
     }
-    let start = Next {
+    let start = Ends {
         at: at,
         end: TAG_BYTES,
     };
@@ -134,7 +134,7 @@ fn put_record(sheet: &[u8], work: &mut [u8], n: usize, i: usize, out: &mut [u8],
 
 // The rows of entry i's key, where entry i is the first of that key: those of its newest entry.
 fn put_newest(sheet: &[u8], work: &mut [u8], c: Log, i: usize, out: &mut [u8], at: usize) -> usize
-    requires { ⌜ (Logged (now sheet) (now work) (c .lines) (c .entries)) × (i < c .entries) × (at ≤ length (now out) + 1) ⌝ }
+    requires { ⌜ (RecordsLogged (now sheet) (now work) (c .lines) (c .entries)) × (i < c .entries) × (at ≤ length (now out) + 1) ⌝ }
     ensures { λ p. ⌜ Printed (now (out .entry)) at (keyRows (now (sheet .entry)) i) (now (out .exit)) p (now (work .entry)) (now (work .exit)) ⌝ }
 {
     if is_first(sheet, work, c.lines, i) {
@@ -146,7 +146,7 @@ fn put_newest(sheet: &[u8], work: &mut [u8], c: Log, i: usize, out: &mut [u8], a
 
 // The rows of all records: each key once, where it was first recorded.
 pub fn record_rows(sheet: &[u8], work: &mut [u8], c: Log, out: &mut [u8], at: usize) -> usize
-    requires { ⌜ (Logged (now sheet) (now work) (c .lines) (c .entries)) × (at ≤ length (now out) + 1) ⌝ }
+    requires { ⌜ (RecordsLogged (now sheet) (now work) (c .lines) (c .entries)) × (at ≤ length (now out) + 1) ⌝ }
     ensures { λ p. ⌜ Printed (now (out .entry)) at (allRows (now (sheet .entry))) (now (out .exit)) p (now (work .entry)) (now (work .exit)) ⌝ }
 {
     let mut p = at;

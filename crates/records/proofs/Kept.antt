@@ -5,7 +5,7 @@ use Prim.Native.Nat.{ℕ, _+_, _*_, _<_}
 use native.Mathlib.Omega.{arith}
 use Rattle.checks.specs.Checks.{Kept}
 use Rattle.checks.proofs.Kept.{kept-at, kept-less, checked-kept}
-use Rattle.records.specs.Log.{byteOf, entryAt, recordOf, recordedAt, Logged}
+use Rattle.records.specs.Log.{byteOf, entryAt, recordOf, recordedAt, RecordsLogged}
 
 module _ {t u : List ℕ} (k : Kept 10240 t u) where
   byte-kept : (i : ℕ) → i < 128 → (j : ℕ) → j < 8 → byteOf u i j ≡ byteOf t i j
@@ -19,7 +19,7 @@ module _ {t u : List ℕ} (k : Kept 10240 t u) where
   unfolding recordedAt
   recorded-kept s i h = ap (recordOf s) (entry-kept i h)
 
-  pub logged-kept : {s : List ℕ} {n m : ℕ} → Logged s t n m → Logged s u n m
+  pub logged-kept : {s : List ℕ} {n m : ℕ} → RecordsLogged s t n m → RecordsLogged s u n m
   logged-kept {s} g =
       let c = checked-kept (kept-less (omega arith) k) (g .checked) in
       record {

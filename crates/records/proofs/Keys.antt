@@ -18,8 +18,8 @@ use Rattle.laws.proofs.Lists.{last-append}
 use Rattle.words.proofs.Laws.{same-length}
 use Rattle.sizes.specs.Places.{RecordLine}
 use Rattle.shapes.specs.Shapes.{declAt, casesIn}
-use Rattle.records.specs.Log.{firstRecord, ownRecord, caseIn, variantRecord, recordIn, entryAt, recordedAt, nameOf, tagOf, logOf, noRecord, EntryIn, Logged, Newest}
-use Rattle.records.specs.Lines.{caseOf}
+use Rattle.records.specs.Log.{firstRecord, ownRecord, caseIn, variantRecord, recordIn, entryAt, recordedAt, nameOf, tagOf, logOf, noRecord, EntryIn, RecordsLogged, Newest}
+use Rattle.records.specs.Lines.{caseAt}
 use Rattle.shapes.specs.Shapes.{VariantLine, CaseOf}
 use Rattle.records.proofs.Picks.{name-good, pick-line, variant-line, case-is}
 
@@ -152,10 +152,10 @@ module _ (s t : Bytes) (n i : ℕ) (l : EntryIn s t n i) where
     pub entry-variant : VariantLine s t n (entryAt t i .line) (entryAt t i .case - 1)
     entry-variant = variant-line (pick-line s t n (entryAt t i .line) entry-line entry-case) entry-case
 
-    pub entry-tag : (v : ℕ) → CaseOf s t n (entryAt t i .line) (entryAt t i .case - 1) v → entryAt t i .position < length (caseOf s v .tags)
+    pub entry-tag : (v : ℕ) → CaseOf s t n (entryAt t i .line) (entryAt t i .case - 1) v → entryAt t i .position < length (caseAt s v .tags)
     entry-tag v x = rw (case-is x) (l .sound .tag (entryAt t i .case - 1) before)
 
-    pub tag-read : (v : ℕ) → CaseOf s t n (entryAt t i .line) (entryAt t i .case - 1) v → getD (caseOf s v .tags) (entryAt t i .position) [] ≡ tagOf s (entryAt t i)
+    pub tag-read : (v : ℕ) → CaseOf s t n (entryAt t i .line) (entryAt t i .case - 1) v → getD (caseAt s v .tags) (entryAt t i .position) [] ≡ tagOf s (entryAt t i)
     unfolding tagOf
     tag-read v x = rw (case-is x)
 
@@ -233,7 +233,7 @@ default-same (r ∷ l) (suc i) x y h = default-same l i x y (omega arith)
 abbrev pub Deciding : Bytes → Bytes → ℕ → Type 0
 Deciding s k i = (d : Recorded) → lastOf k d (logOf s) ≡ lastOf k d (take i (logOf s))
 
-module _ (s t : Bytes) (n m : ℕ) (g : Logged s t n m) (k : Bytes) where
+module _ (s t : Bytes) (n m : ℕ) (g : RecordsLogged s t n m) (k : Bytes) where
   pub deciding-start : Deciding s k m
   deciding-start d = rw (take-all m (logOf s) (omega (arith, g .count)))
 

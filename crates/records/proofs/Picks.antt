@@ -31,7 +31,7 @@ use Rattle.sizes.proofs.Forms.{adt-form, pick-form}
 use Rattle.sizes.proofs.Places.{case-in, form-pc, case-good}
 use Rattle.shapes.specs.Shapes.{declAt, casesIn}
 use Rattle.records.specs.Log.{caseIn}
-use Rattle.records.specs.Lines.{caseOf}
+use Rattle.records.specs.Lines.{caseAt}
 use Rattle.shapes.specs.Shapes.{firstDecl, casesAt, PickLine, VariantLine, CaseOf}
 
 -- ---- what line i declares, from 0
@@ -139,31 +139,31 @@ cases-count s r e = e ∙ ap length (same-cases s r)
 pub variant-line : {s t : List ℕ} {n r c : ℕ} → PickLine s t n r → c < length (casesIn (declAt s r)) → VariantLine s t n r c
 variant-line {s} {t} {n} {r} l h = record { line = l; case = rw (same-cases s r) h }
 
-pub case-is : {s t : List ℕ} {n r c v : ℕ} → CaseOf s t n r c v → caseOf s v ≡ caseIn (declAt s r) c
-unfolding caseOf
+pub case-is : {s t : List ℕ} {n r c v : ℕ} → CaseOf s t n r c v → caseAt s v ≡ caseIn (declAt s r) c
+unfolding caseAt
 case-is {s} {t} {n} {r} {c} x = x .case ∙ ap (λ (ks : List Case). getD ks c noCase) (same-cases s r)
 
 -- ---- the tags of a case
 
 module _ (s t : List ℕ) (n v : ℕ) (l : CaseLine s t n v) where
-  tags-are : caseOf s v .tags ≡ values name (nodesIn s) (numberOf (getD (readAt s (v - 1) .fields) 0 [])) (drop 1 (readAt s (v - 1) .fields))
-  unfolding forms caseOf
+  tags-are : caseAt s v .tags ≡ values name (nodesIn s) (numberOf (getD (readAt s (v - 1) .fields) 0 [])) (drop 1 (readAt s (v - 1) .fields))
+  unfolding forms caseAt
   tags-are =
       ap (λ (m : Node). m .case .tags) (node-at s t n (l .checked .whole) (l .checked .good) (v - 1) (case-in s t n v l))
       ∙ rw (form-pc s t n v l, head-drop 0 (readAt s (v - 1) .fields), tail-drop 0 (readAt s (v - 1) .fields))
 
-  tags-number : length (caseOf s v .tags) ≡ numberOf (getD (readAt s (v - 1) .fields) 0 [])
+  tags-number : length (caseAt s v .tags) ≡ numberOf (getD (readAt s (v - 1) .fields) 0 [])
   tags-number = ap length tags-are ∙ values-length name (nodesIn s) _ _
 
-  pub tags-count : (k : ℕ) → k ≡ Number.numberOf 65536 (getD (readAt s (v - 1) .fields) 0 []) → (k ≡ length (caseOf s v .tags)) × (k ≤ 16)
+  pub tags-count : (k : ℕ) → k ≡ Number.numberUpTo 65536 (getD (readAt s (v - 1) .fields) 0 []) → (k ≡ length (caseAt s v .tags)) × (k ≤ 16)
   tags-count k h =
       let q = count-exact (getD (readAt s (v - 1) .fields) 0 []) (case-good s t n v l .0) h in
       (omega (arith, q .0, tags-number), q .1)
 
-  pub tags-few : length (caseOf s v .tags) ≤ 16
-  tags-few = let q = tags-count (Number.numberOf 65536 (getD (readAt s (v - 1) .fields) 0 [])) refl in omega (arith, q .0, q .1)
+  pub tags-few : length (caseAt s v .tags) ≤ 16
+  tags-few = let q = tags-count (Number.numberUpTo 65536 (getD (readAt s (v - 1) .fields) 0 [])) refl in omega (arith, q .0, q .1)
 
-  pub tag-is : (p : ℕ) → p < length (caseOf s v .tags) → getD (caseOf s v .tags) p [] ≡ getD (readAt s (v - 1) .fields) (1 + p) []
+  pub tag-is : (p : ℕ) → p < length (caseAt s v .tags) → getD (caseAt s v .tags) p [] ≡ getD (readAt s (v - 1) .fields) (1 + p) []
   tag-is p h =
       ap (λ (xs : List (List ℕ)). getD xs p []) tags-are ∙ names-at (nodesIn s) (numberOf (getD (readAt s (v - 1) .fields) 0 [])) (drop 1 (readAt s (v - 1) .fields)) p (omega (arith, tags-number))
       ∙ getD-drop 1 (readAt s (v - 1) .fields) p []

@@ -6,5 +6,5 @@ use Rattle.semantics.specs.Form.{nodeAt}
 use Rattle.lines.specs.Lines.{nodesIn}
 
 -- the case that line v makes, from 1
-unfoldable pub caseOf : Bytes → ℕ → Case
-caseOf s v = nodeAt (nodesIn s) v .case
+unfoldable pub caseAt : Bytes → ℕ → Case
+caseAt s v = nodeAt (nodesIn s) v .case

@@ -112,13 +112,13 @@ pub record Digested (s t : Bytes) (n m d : ℕ) : Type 0 where
   pub digests : (i : ℕ) → i < d → digestOf t i ≡ digest (recordedAt s t i .key)
 
 -- the log of all records of the sheet, m of them, with all digests
-abbrev pub Logged : Bytes → Bytes → ℕ → ℕ → Type 0
-Logged s t n m = Digested s t n m m
+abbrev pub RecordsLogged : Bytes → Bytes → ℕ → ℕ → Type 0
+RecordsLogged s t n m = Digested s t n m m
 
 -- entry i of such a log
 pub record LogEntry (s t : Bytes) (n i : ℕ) : Type 0 where
   pub m : ℕ
-  pub log : Logged s t n m
+  pub log : RecordsLogged s t n m
   pub low : i < m
 
 -- ---- the entries of a key

@@ -10,7 +10,7 @@ ghost use lib.ListN.{length, take};
 ghost use Rattle.semantics.specs.Text.{same};
 ghost use Rattle.semantics.specs.Layout.{seen};
 ghost use Rattle.words.specs.Words.{digest};
-ghost use Rattle.records.specs.Log.{byteOf, entryAt, recordedAt, nameOf, tagOf, digestOf, logOf, EntryIn, Logged, LogEntry, Newest, NewestOf};
+ghost use Rattle.records.specs.Log.{byteOf, entryAt, recordedAt, nameOf, tagOf, digestOf, logOf, EntryIn, RecordsLogged, LogEntry, Newest, NewestOf};
 
 // How many lines the sheet has, and how many entries its log.
 pub struct Log {
@@ -154,7 +154,7 @@ fn same_key(sheet: &[u8], work: &[u8], n: usize, i: usize, j: usize) -> bool
 
 // The last entry with this key, plus 1; 0 where there is none.
 pub fn newest(sheet: &[u8], work: &[u8], c: Log, key: &[u8]) -> usize
-    requires { ⌜ Logged (now sheet) (now work) (c .lines) (c .entries) ⌝ }
+    requires { ⌜ RecordsLogged (now sheet) (now work) (c .lines) (c .entries) ⌝ }
     ensures { λ r. ⌜ Newest (now (sheet .entry)) (now (key .entry)) r ⌝ }
 {
     let d = words::digest(key);
@@ -170,7 +170,7 @@ pub fn newest(sheet: &[u8], work: &[u8], c: Log, key: &[u8]) -> usize
 
 // The last entry with the key of entry i.
 pub fn newest_of(sheet: &[u8], work: &[u8], c: Log, i: usize) -> usize
-    requires { ⌜ (Logged (now sheet) (now work) (c .lines) (c .entries)) × (i < c .entries) ⌝ }
+    requires { ⌜ (RecordsLogged (now sheet) (now work) (c .lines) (c .entries)) × (i < c .entries) ⌝ }
     ensures { λ r. ⌜ NewestOf (now (sheet .entry)) (now (work .entry)) (c .entries) i r ⌝ }
 {
     let mut j = c.entries;

@@ -5,7 +5,7 @@ ghost use Prim.Native.Nat.{_≤_, _<_};
 ghost use lib.ListN.{length, getD};
 ghost use Rattle.sizes.specs.Places.{RecordLine, CaseLine};
 ghost use Rattle.shapes.specs.Shapes.{declAt};
-ghost use Rattle.records.specs.Lines.{caseOf};
+ghost use Rattle.records.specs.Lines.{caseAt};
 
 // T, of the `adt` or `pick` line r.
 pub fn record_name<'a>(sheet: &'a [u8], work: &[u8], n: usize, r: usize) -> &'a [u8]
@@ -18,15 +18,15 @@ pub fn record_name<'a>(sheet: &'a [u8], work: &[u8], n: usize, r: usize) -> &'a 
 // How many tags the `pc` line v has.
 pub fn tag_count(sheet: &[u8], work: &[u8], n: usize, v: usize) -> usize
     requires { ⌜ CaseLine (now sheet) (now work) n v ⌝ }
-    ensures { λ k. ⌜ (k ≡ length (caseOf (now (sheet .entry)) v .tags)) × (k ≤ 16) ⌝ }
+    ensures { λ k. ⌜ (k ≡ length (caseAt (now (sheet .entry)) v .tags)) × (k ≤ 16) ⌝ }
 {
     lines::number_at(sheet, work, n, v - 1, 0)
 }
 
 // Its tag p, from 0.
 pub fn tag_at<'a>(sheet: &'a [u8], work: &[u8], n: usize, v: usize, p: usize) -> &'a [u8]
-    requires { ⌜ (CaseLine (now sheet) (now work) n v) × (p < length (caseOf (now sheet) v .tags)) ⌝ }
-    ensures { λ x. ⌜ now x ≡ getD (caseOf (now (sheet .entry)) v .tags) p [] ⌝ }
+    requires { ⌜ (CaseLine (now sheet) (now work) n v) × (p < length (caseAt (now sheet) v .tags)) ⌝ }
+    ensures { λ x. ⌜ now x ≡ getD (caseAt (now (sheet .entry)) v .tags) p [] ⌝ }
 {
     lines::field_at(sheet, work, n, v - 1, 1 + p)
 }

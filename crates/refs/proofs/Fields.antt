@@ -19,8 +19,8 @@ use Rattle.semantics.proofs.Common.{never, both}
 
 -- ---- numbers
 
-pub number-exact : (f : List ℕ) → isNumber f ≡ true → numberOf f ≤ 65536 → Number.numberOf 65536 f ≡ numberOf f
-unfolding Number.numberOf
+pub number-exact : (f : List ℕ) → isNumber f ≡ true → numberOf f ≤ 65536 → Number.numberUpTo 65536 f ≡ numberOf f
+unfolding Number.numberUpTo
 number-exact f = go (Text.natOf f)
   where
     go : (o : Option ℕ) → Text.holdsOf (λ (m : ℕ). true) o ≡ true → Text.orElse 0 o ≤ 65536 → Number.capped 65536 o ≡ Text.orElse 0 o
@@ -34,7 +34,7 @@ count-number f = go (Text.natOf f)
     go none h = never h
     go (some m) h = (refl, leb-true m 16 h)
 
-pub count-exact : (f : List ℕ) → isCount f ≡ true → {v : ℕ} → v ≡ Number.numberOf 65536 f → (v ≡ numberOf f) × (v ≤ 16)
+pub count-exact : (f : List ℕ) → isCount f ≡ true → {v : ℕ} → v ≡ Number.numberUpTo 65536 f → (v ≡ numberOf f) × (v ≤ 16)
 count-exact f h {v} hv =
     let q = count-number f h in
     let e : v ≡ numberOf f = hv ∙ number-exact f (q .0) (omega (arith, q .1)) in

@@ -18,30 +18,30 @@ use Rattle.decimal.specs.Number as Number
 use Rattle.form.specs.declared.Walk.{Walk}
 use Rattle.form.specs.Table.{kindAt}
 use Rattle.semantics.proofs.Common.{never}
-use Rattle.form.specs.Letters.{holds, lettersFrom, fieldsLeft, beginning, Standing, Stepped}
+use Rattle.form.specs.Letters.{letterHolds, lettersFrom, fieldsLeft, beginning, WalkAt, WalkStepped}
 use Rattle.lines.specs.Lines.{textAt, readsIn, readAt, formAt, Whole}
 use Rattle.lines.proofs.Line.{line-count, kind-is, form-low}
-use Rattle.refs.specs.Refs.{isRef, wantedBy, refOf, refsIn, usedAt, claims, marked, flag, Used, Uses, Outcome}
+use Rattle.refs.specs.Refs.{isRef, wantedBy, refBy, refsBy, usedAt, claims, usedMarked, asBit, Used, Uses, RefsOutcome}
 use Rattle.refs.proofs.Letters.{ref-number, refs-begin, stands, refs-step, refs-end, whole-set}
 
 -- ---- a claim, by the tests that lead to its answer
 
 module _ (t : List ℕ) (k x r : ℕ) where
-  pub claim-low : x ≤ 32 → (true ≡ claims t k x r) × (t ≡ marked t x r)
-  unfolding claims marked
+  pub claim-low : x ≤ 32 → (true ≡ claims t k x r) × (t ≡ usedMarked t x r)
+  unfolding claims usedMarked
   claim-low h = (rw (le-ltb 32 x h), rw (le-ltb 32 x h))
 
-  pub claim-high : 80 ≤ x → (true ≡ claims t k x r) × (t ≡ marked t x r)
-  unfolding claims marked
+  pub claim-high : 80 ≤ x → (true ≡ claims t k x r) × (t ≡ usedMarked t x r)
+  unfolding claims usedMarked
   claim-high h = (rw (lt-ltb 32 x (omega arith), le-ltb x 80 h), rw (lt-ltb 32 x (omega arith), le-ltb x 80 h))
 
   module _ (low : 32 < x) (high : x < 80) where
-    same-either : (b : Bool) → r ≡ 0 → t ≡ cond b (marked t x r) t
-    unfolding marked
+    same-either : (b : Bool) → r ≡ 0 → t ≡ cond b (usedMarked t x r) t
+    unfolding usedMarked
     same-either true z = rw (lt-ltb 32 x low, lt-ltb x 80 high, eq-eqb r 0 z)
     same-either false z = refl
 
-    pub claim-zero : r ≡ 0 → (ltb x 64 ≡ claims t k x r) × (t ≡ cond (ltb x 64) (marked t x r) t)
+    pub claim-zero : r ≡ 0 → (ltb x 64 ≡ claims t k x r) × (t ≡ cond (ltb x 64) (usedMarked t x r) t)
     unfolding claims
     claim-zero z = (rw (lt-ltb 32 x low, lt-ltb x 80 high, eq-eqb r 0 z), same-either (ltb x 64) z)
 
@@ -61,12 +61,12 @@ module _ (t : List ℕ) (k x r : ℕ) where
           pub claim-used : (usedAt t (r - 1) ≡ 0 → ⊥) → (false ≡ claims t k x r) × (t ≡ t)
           claim-used n = (sym (open-claim ∙ rw (lt-ltb r k early, eq-eqb _ _ kind, ne-eqb _ _ n)), refl)
 
-          pub claim-good : usedAt t (r - 1) ≡ 0 → (true ≡ claims t k x r) × (set t (3072 + (r - 1)) 1 ≡ marked t x r)
-          unfolding marked
+          pub claim-good : usedAt t (r - 1) ≡ 0 → (true ≡ claims t k x r) × (set t (3072 + (r - 1)) 1 ≡ usedMarked t x r)
+          unfolding usedMarked
           claim-good e = (sym (open-claim ∙ rw (lt-ltb r k early, eq-eqb _ _ kind, eq-eqb _ _ e)), rw (lt-ltb 32 x low, lt-ltb x 80 high, ne-eqb r 0 some))
 
-whole-marked : (s t : List ℕ) (n x r : ℕ) → Whole s t n → Whole s (marked t x r) n
-unfolding marked
+whole-marked : (s t : List ℕ) (n x r : ℕ) → Whole s t n → Whole s (usedMarked t x r) n
+unfolding usedMarked
 whole-marked s t n x r w = go (isRef x && not (eqb r 0))
   where
     go : (b : Bool) → Whole s (cond b (set t (3072 + (r - 1)) 1) t) n
@@ -75,7 +75,7 @@ whole-marked s t n x r w = go (isRef x && not (eqb r 0))
 
 -- ---- one field
 
-not-flag : (b : Bool) → not b ≡ eqb (flag b) 0
+not-flag : (b : Bool) → not b ≡ eqb (asBit b) 0
 not-flag true = refl
 not-flag false = refl
 
@@ -90,7 +90,7 @@ pub asRef : ℕ → List ℕ → Refusal.Ref
 asRef x f = record { kind = wantedBy x; optional = ltb x 64; line = Form.numberOf f }
 
 module _ (s t : List ℕ) (n k : ℕ) (w : Whole s t n) (hk : k ≤ n) (us : List ℕ) (used : Used t us) (x : ℕ) (f : List ℕ) (v : ℕ)
-    (hv : v ≡ Number.numberOf 65536 f) (good : holds x f ≡ true) (rs : List Refusal.Ref) where
+    (hv : v ≡ Number.numberUpTo 65536 f) (good : letterHolds x f ≡ true) (rs : List Refusal.Ref) where
   few : n ≤ 1024
   few = w .lined .few
 
@@ -120,7 +120,7 @@ module _ (s t : List ℕ) (n k : ℕ) (w : Whole s t n) (hk : k ≤ n) (us : Lis
             let d : v ≡ m = omega (arith, v-is) in
             let c : suc (m - 1) ≡ m = omega (arith, e) in
             let h : m - 1 < n = omega (arith, e) in
-            let u : not (any (eqb m) us) ≡ eqb (usedAt t (m - 1)) 0 = not-flag (any (eqb m) us) ∙ ap (λ (j : ℕ). eqb j 0) (sym (used (m - 1) (omega arith) ∙ ap (λ (j : ℕ). flag (any (eqb j) us)) c)) in
+            let u : not (any (eqb m) us) ≡ eqb (usedAt t (m - 1)) 0 = not-flag (any (eqb m) us) ∙ ap (λ (j : ℕ). eqb j 0) (sym (used (m - 1) (omega arith) ∙ ap (λ (j : ℕ). asBit (any (eqb j) us)) c)) in
             rw d (simp (p, q, lt-ltb 32 x low, lt-ltb x 80 high, kind-is s t n w (m - 1) h, u))
 
     claim-early : claims t k x v ≡ true → (v ≡ 0 → ⊥) → v < k
@@ -130,11 +130,11 @@ module _ (s t : List ℕ) (n k : ℕ) (w : Whole s t n) (hk : k ≤ n) (us : Lis
         go true q = ltb-true v k q
         go false q = never (sym (open-claim t k x v low high z ∙ rw q) ∙ c)
 
-    used-after : claims t k x v ≡ true → Used (marked t x v) (m ∷ us)
-    unfolding marked usedAt m
+    used-after : claims t k x v ≡ true → Used (usedMarked t x v) (m ∷ us)
+    unfolding usedMarked usedAt m
     used-after c i h = go (eqb v 0) refl
       where
-        go : (y : Bool) → eqb v 0 ≡ y → getD (marked t x v) (3072 + i) 0 ≡ flag (any (eqb (suc i)) (m ∷ us))
+        go : (y : Bool) → eqb v 0 ≡ y → getD (usedMarked t x v) (3072 + i) 0 ≡ asBit (any (eqb (suc i)) (m ∷ us))
         go true q =
             let z : v ≡ 0 = eqb-true v 0 q in
             simp (lt-ltb 32 x low, lt-ltb x 80 high, q, ne-eqb (suc i) m (λ y. omega (arith, v-is))) (used i h)
@@ -144,7 +144,7 @@ module _ (s t : List ℕ) (n k : ℕ) (w : Whole s t n) (hk : k ≤ n) (us : Lis
             let d : v ≡ m = omega (arith, v-is) in
             simp (lt-ltb 32 x low, lt-ltb x 80 high, q) (on (eqb (suc i) m) refl z d e)
           where
-            on : (y : Bool) → eqb (suc i) m ≡ y → (v ≡ 0 → ⊥) → v ≡ m → v < k → getD (set t (3072 + (v - 1)) 1) (3072 + i) 0 ≡ flag (eqb (suc i) m || any (eqb (suc i)) us)
+            on : (y : Bool) → eqb (suc i) m ≡ y → (v ≡ 0 → ⊥) → v ≡ m → v < k → getD (set t (3072 + (v - 1)) 1) (3072 + i) 0 ≡ asBit (eqb (suc i) m || any (eqb (suc i)) us)
             on true p z d e =
                 let a : suc i ≡ m = eqb-true (suc i) m p in
                 let b : 3072 + (v - 1) ≡ 3072 + i = omega arith in
@@ -153,23 +153,23 @@ module _ (s t : List ℕ) (n k : ℕ) (w : Whole s t n) (hk : k ≤ n) (us : Lis
                 let a : (suc i ≡ m → ⊥) = eqb-false (suc i) m p in
                 rw p (getD-set-other t (3072 + (v - 1)) (3072 + i) 1 0 (λ y. a (omega (arith, z, d))) ∙ used i h)
 
-    ref-open : useAll (readsIn s) k (refOf x f rs) us ≡ cond (claims t k x v) (useAll (readsIn s) k rs (m ∷ us)) none
-    unfolding refOf m asRef
+    ref-open : useAll (readsIn s) k (refBy x f rs) us ≡ cond (claims t k x v) (useAll (readsIn s) k rs (m ∷ us)) none
+    unfolding refBy m asRef
     ref-open = simp (lt-ltb 32 x low, lt-ltb x 80 high) (ap (λ (b : Bool). cond b (useAll (readsIn s) k rs (Form.numberOf f ∷ us)) none) same-good)
 
   -- no reference
-  plain-open : isRef x ≡ false → useAll (readsIn s) k (refOf x f rs) us ≡ useAll (readsIn s) k rs us
-  unfolding refOf
+  plain-open : isRef x ≡ false → useAll (readsIn s) k (refBy x f rs) us ≡ useAll (readsIn s) k rs us
+  unfolding refBy
   plain-open e = rw e
 
-  plain-claims : isRef x ≡ false → (claims t k x v ≡ true) × (marked t x v ≡ t)
-  unfolding claims marked
+  plain-claims : isRef x ≡ false → (claims t k x v ≡ true) × (usedMarked t x v ≡ t)
+  unfolding claims usedMarked
   plain-claims e = (rw e, rw e)
 
-  turn-good : claims t k x v ≡ true → Turn (readsIn s) k (useAll (readsIn s) k (refOf x f rs) us) rs (marked t x v)
+  turn-good : claims t k x v ≡ true → Turn (readsIn s) k (useAll (readsIn s) k (refBy x f rs) us) rs (usedMarked t x v)
   turn-good c = go (ltb 32 x) (ltb x 80) refl refl
     where
-      go : (y z : Bool) → ltb 32 x ≡ y → ltb x 80 ≡ z → Turn (readsIn s) k (useAll (readsIn s) k (refOf x f rs) us) rs (marked t x v)
+      go : (y z : Bool) → ltb 32 x ≡ y → ltb x 80 ≡ z → Turn (readsIn s) k (useAll (readsIn s) k (refBy x f rs) us) rs (usedMarked t x v)
       go false z p q =
           let e : isRef x ≡ false = rw p in
           record { us = us; same = plain-open e; table = rw (plain-claims e .1) used }
@@ -181,13 +181,13 @@ module _ (s t : List ℕ) (n k : ℕ) (w : Whole s t n) (hk : k ≤ n) (us : Lis
           let h = ltb-true x 80 q in
           record { us = m ∷ us; same = ref-open l h ∙ rw c; table = used-after l h c }
 
-  turn-bad : claims t k x v ≡ false → useAll (readsIn s) k (refOf x f rs) us ≡ none
+  turn-bad : claims t k x v ≡ false → useAll (readsIn s) k (refBy x f rs) us ≡ none
   turn-bad c = go (ltb 32 x) (ltb x 80) refl refl
     where
-      no : isRef x ≡ false → useAll (readsIn s) k (refOf x f rs) us ≡ none
+      no : isRef x ≡ false → useAll (readsIn s) k (refBy x f rs) us ≡ none
       no e = never (sym c ∙ plain-claims e .0)
 
-      go : (y z : Bool) → ltb 32 x ≡ y → ltb x 80 ≡ z → useAll (readsIn s) k (refOf x f rs) us ≡ none
+      go : (y z : Bool) → ltb 32 x ≡ y → ltb x 80 ≡ z → useAll (readsIn s) k (refBy x f rs) us ≡ none
       go false z p q = no (rw p)
       go true false p q = no (rw (p, q))
       go true true p q = ref-open (ltb-true 32 x p) (ltb-true x 80 q) ∙ rw c
@@ -197,8 +197,8 @@ module _ (s t : List ℕ) (n k : ℕ) (w : Whole s t n) (hk : k ≤ n) (us : Lis
 -- the lines used before are those of t₀, and the fields up to w are done
 pub record Going (s t : List ℕ) (n i f : ℕ) (l : List ℕ) (w : Walk) (t₀ : List ℕ) : Type 0 where
   pub whole : Whole s t n
-  pub standing : Standing f l w
-  pub turns : (us : List ℕ) → Used t₀ us → Turn (readsIn s) (i + 1) (useAll (readsIn s) (i + 1) (refsOf (readAt s i)) us) (refsIn (lettersFrom f w) (fieldsLeft l w)) t
+  pub standing : WalkAt f l w
+  pub turns : (us : List ℕ) → Used t₀ us → Turn (readsIn s) (i + 1) (useAll (readsIn s) (i + 1) (refsOf (readAt s i)) us) (refsBy (lettersFrom f w) (fieldsLeft l w)) t
 
 pub going-start : (s t : List ℕ) (n i : ℕ) → Whole s t n → i < n → (l : List ℕ) (f : ℕ) → l ≡ textAt s i → f ≡ formAt t i → (w : Walk) → w ≡ beginning f → Going s t n i f l w t
 going-start s t n i w h l f hl hf u hu = rw hu (record {
@@ -207,11 +207,11 @@ going-start s t n i w h l f hl hf u hu = rw hu (record {
   turns = λ us r. record { us = us; same = ap (λ (rs : List Refusal.Ref). useAll (readsIn s) (i + 1) rs us) (refs-begin s t n i w h l f hl hf); table = r };
 })
 
-module _ (s t t₀ : List ℕ) (n i : ℕ) (hi : i < n) (f : ℕ) (l : List ℕ) (w u : Walk) (x v : ℕ) (q : Stepped f l w x v u) (g : Going s t n i f l w t₀) where
+module _ (s t t₀ : List ℕ) (n i : ℕ) (hi : i < n) (f : ℕ) (l : List ℕ) (w u : Walk) (x v : ℕ) (q : WalkStepped f l w x v u) (g : Going s t n i f l w t₀) where
   rest : List Refusal.Ref
-  rest = refsIn (lettersFrom f u) (fieldsLeft l u)
+  rest = refsBy (lettersFrom f u) (fieldsLeft l u)
 
-  pub going-stop : {b : Bool} (y : List ℕ) → b ≡ claims t (i + 1) x v → b ≡ false → y ≡ cond b (marked t x v) t
+  pub going-stop : {b : Bool} (y : List ℕ) → b ≡ claims t (i + 1) x v → b ≡ false → y ≡ cond b (usedMarked t x v) t
       → Whole s y n × ((us : List ℕ) → Used t₀ us → useAll (readsIn s) (i + 1) (refsOf (readAt s i)) us ≡ none)
   unfolding rest
   going-stop y p c hy =
@@ -222,10 +222,10 @@ module _ (s t t₀ : List ℕ) (n i : ℕ) (hi : i < n) (f : ℕ) (l : List ℕ)
             k .same ∙ rw (refs-step f l w u x v q) (turn-bad s t n (i + 1) (g .whole) (omega arith) (k .us) (k .table) x (q .field) v (q .number) (q .good) rest (sym p ∙ c)),
       )
 
-  pub going-on : {b : Bool} (y : List ℕ) → b ≡ claims t (i + 1) x v → b ≡ true → y ≡ cond b (marked t x v) t → Going s y n i f l u t₀
+  pub going-on : {b : Bool} (y : List ℕ) → b ≡ claims t (i + 1) x v → b ≡ true → y ≡ cond b (usedMarked t x v) t → Going s y n i f l u t₀
   unfolding rest
   going-on y p c hy =
-      let d : y ≡ marked t x v = hy ∙ rw c in
+      let d : y ≡ usedMarked t x v = hy ∙ rw c in
       rw d (record {
         whole = whole-marked s t n x v (g .whole);
         standing = q .standing;
@@ -286,10 +286,10 @@ module _ (s t : List ℕ) (n i : ℕ) (p : Passing s t n i) where
 
 -- ---- an outcome by its answer
 
-pub outcome-bad : (t : List ℕ) (o : Option (List ℕ)) (b : Bool) → b ≡ false → Outcome t o b → o ≡ none
+pub outcome-bad : (t : List ℕ) (o : Option (List ℕ)) (b : Bool) → b ≡ false → RefsOutcome t o b → o ≡ none
 outcome-bad t o true e h = never (sym e)
 outcome-bad t o false e h = h
 
-pub outcome-good : (t : List ℕ) (o : Option (List ℕ)) (b : Bool) → b ≡ true → Outcome t o b → Uses t o
+pub outcome-good : (t : List ℕ) (o : Option (List ℕ)) (b : Bool) → b ≡ true → RefsOutcome t o b → Uses t o
 outcome-good t o true e h = h
 outcome-good t o false e h = never e

@@ -17,34 +17,34 @@ use Rattle.semantics.specs.Refusal as Refusal
 use Rattle.decimal.specs.Number as Number
 use Rattle.form.specs.declared.Walk.{Walk}
 use Rattle.form.specs.Table.{code, codes, rowAt}
-use Rattle.form.specs.Letters.{after, pending, holds, lettersFrom, fieldsLeft, beginning, Standing, Stepped}
+use Rattle.form.specs.Letters.{after, pending, letterHolds, lettersFrom, fieldsLeft, beginning, WalkAt, WalkStepped}
 use Rattle.semantics.proofs.Common.{both}
 use Rattle.form.proofs.Table.{fine, parts-fine}
 use Rattle.form.proofs.Laws.{fields-end, one-after, many-after, ones-fine, kind-letter, ref-holds, walk-begins}
 use Rattle.lines.specs.Lines.{textAt, readAt, formAt, Whole}
 use Rattle.lines.proofs.Line.{form-low, form-is, fields-are, read-fits}
 use Rattle.lines.proofs.Laws.{whole-kept}
-use Rattle.refs.specs.Refs.{refOf, refsIn}
+use Rattle.refs.specs.Refs.{refBy, refsBy}
 
 -- ---- letters say what the table's parts say
 
-not-ref : (x : ℕ) (f : List ℕ) (rs : List Refusal.Ref) → 80 ≤ x → refOf x f rs ≡ rs
-unfolding refOf
+not-ref : (x : ℕ) (f : List ℕ) (rs : List Refusal.Ref) → 80 ≤ x → refBy x f rs ≡ rs
+unfolding refBy
 not-ref x f rs h = rw (lt-ltb 32 x (omega arith), le-ltb x 80 h)
 
-ref-code : (k : Form.Kind) (f : List ℕ) (rs : List Refusal.Ref) → refOf (Form.letter k) f rs ≡ Refusal.refOf (ref k) f rs
-unfolding refOf
+ref-code : (k : Form.Kind) (f : List ℕ) (rs : List Refusal.Ref) → refBy (Form.letter k) f rs ≡ Refusal.refOf (ref k) f rs
+unfolding refBy
 ref-code k f rs = let h = kind-letter k in simp (lt-ltb 32 (Form.letter k) (omega arith), lt-ltb (Form.letter k) 80 (h .1), le-ltb (Form.letter k) 64 (omega arith))
 
-maybe-code : (k : Form.Kind) (f : List ℕ) (rs : List Refusal.Ref) → refOf (Form.letter k - 32) f rs ≡ Refusal.refOf (maybe k) f rs
-unfolding refOf
+maybe-code : (k : Form.Kind) (f : List ℕ) (rs : List Refusal.Ref) → refBy (Form.letter k - 32) f rs ≡ Refusal.refOf (maybe k) f rs
+unfolding refBy
 maybe-code k f rs =
     let h = kind-letter k in
     let e : Form.letter k - 32 + 32 ≡ Form.letter k = omega arith in
     simp (lt-ltb 32 (Form.letter k - 32) (omega arith), lt-ltb (Form.letter k - 32) 80 (omega arith), lt-ltb (Form.letter k - 32) 64 (omega arith), e)
 
-atom-code : (a : Form.Atom) (f : List ℕ) (rs : List Refusal.Ref) → refOf (code a) f rs ≡ Refusal.refOf a f rs
-unfolding refOf
+atom-code : (a : Form.Atom) (f : List ℕ) (rs : List Refusal.Ref) → refBy (code a) f rs ≡ Refusal.refOf a f rs
+unfolding refBy
 atom-code name f rs = refl
 atom-code key f rs = refl
 atom-code (ref k) f rs = ref-code k f rs
@@ -58,13 +58,13 @@ atom-code offset f rs = refl
 atom-code real f rs = refl
 atom-code text f rs = refl
 
-no-letters : (fs : List (List ℕ)) → refsIn [] fs ≡ []
-unfolding refsIn refOf after
+no-letters : (fs : List (List ℕ)) → refsBy [] fs ≡ []
+unfolding refsBy refBy after
 no-letters [] = refl
 no-letters (f ∷ fs) = no-letters fs
 
-refs-codes : (fs : List (List ℕ)) (ps : List Form.Part) → Text.all fine ps ≡ true → refsIn (codes ps) fs ≡ Refusal.refsIn ps fs
-unfolding refsIn fine
+refs-codes : (fs : List (List ℕ)) (ps : List Form.Part) → Text.all fine ps ≡ true → refsBy (codes ps) fs ≡ Refusal.refsIn ps fs
+unfolding refsBy fine
 refs-codes [] [] h = refl
 refs-codes [] (one a ∷ ps) h = refl
 refs-codes [] (many a ∷ ps) h = refl
@@ -77,8 +77,8 @@ refs-codes (f ∷ fs) (many a ∷ ps) h =
     (not-ref (code a + 32) f _ (omega arith))
 
 -- the number of a reference, as it is read
-pub ref-number : (x : ℕ) (f : List ℕ) → 32 < x → x < 80 → holds x f ≡ true → Number.numberOf 65536 f ≡ min (Form.numberOf f) 65536
-unfolding Number.numberOf
+pub ref-number : (x : ℕ) (f : List ℕ) → 32 < x → x < 80 → letterHolds x f ≡ true → Number.numberUpTo 65536 f ≡ min (Form.numberOf f) 65536
+unfolding Number.numberUpTo
 ref-number x f low high h = go (Text.natOf f) (ltb-true _ _ (sym (ref-holds x f low high) ∙ h))
   where
     go : (o : Option ℕ) → Number.capped 65536 o < 65537 → Number.capped 65536 o ≡ min (Text.orElse 0 o) 65536
@@ -88,21 +88,21 @@ ref-number x f low high h = go (Text.natOf f) (ltb-true _ _ (sym (ref-holds x f 
 -- ---- the walk over a line
 
 module _ (s t : List ℕ) (n i : ℕ) (w : Whole s t n) (h : i < n) (l : List ℕ) (f : ℕ) (hl : l ≡ textAt s i) (hf : f ≡ formAt t i) where
-  pub refs-begin : Refusal.refsOf (readAt s i) ≡ refsIn (lettersFrom f (beginning f)) (fieldsLeft l (beginning f))
+  pub refs-begin : Refusal.refsOf (readAt s i) ≡ refsBy (lettersFrom f (beginning f)) (fieldsLeft l (beginning f))
   unfolding pending
   refs-begin =
       rw (form-is s t n w i h, fields-are s t n w i h, hf, hl)
       (sym (refs-codes _ (rowAt (formAt t i) .parts) (parts-fine (formAt t i) (form-low s t n w i h))))
 
-  pub stands : Standing f l (beginning f)
+  pub stands : WalkAt f l (beginning f)
   stands = rw (hf, hl) (walk-begins (formAt t i) (textAt s i) (form-low s t n w i h) (rw (fields-are s t n w i h) at (read-fits s t n w i h)))
 
-pub refs-step : (f : ℕ) (l : List ℕ) (w u : Walk) (x v : ℕ) (q : Stepped f l w x v u) → refsIn (lettersFrom f w) (fieldsLeft l w) ≡ refOf x (q .field) (refsIn (lettersFrom f u) (fieldsLeft l u))
-unfolding refsIn
-refs-step f l w u x v q = ap (refsIn (lettersFrom f w)) (q .fields) ∙ rw (← q .letter, ← q .letters)
+pub refs-step : (f : ℕ) (l : List ℕ) (w u : Walk) (x v : ℕ) (q : WalkStepped f l w x v u) → refsBy (lettersFrom f w) (fieldsLeft l w) ≡ refBy x (q .field) (refsBy (lettersFrom f u) (fieldsLeft l u))
+unfolding refsBy
+refs-step f l w u x v q = ap (refsBy (lettersFrom f w)) (q .fields) ∙ rw (← q .letter, ← q .letters)
 
-pub refs-end : (f : ℕ) (l : List ℕ) (w : Walk) → length l < w .at → refsIn (lettersFrom f w) (fieldsLeft l w) ≡ []
-unfolding refsIn
+pub refs-end : (f : ℕ) (l : List ℕ) (w : Walk) → length l < w .at → refsBy (lettersFrom f w) (fieldsLeft l w) ≡ []
+unfolding refsBy
 refs-end f l w h = rw (fields-end (w .at) l h)
 
 -- ---- bytes above the tables of lines may change

@@ -23,12 +23,12 @@ isRef x = ltb 32 x && ltb x 80
 abbrev pub wantedBy : ℕ → ℕ
 wantedBy x = cond (ltb x 64) (x + 32) x
 
-unfoldable pub refOf : ℕ → Bytes → List Ref → List Ref
-refOf x f rs = cond (isRef x) (record { kind = wantedBy x; optional = ltb x 64; line = numberOf f } ∷ rs) rs
+unfoldable pub refBy : ℕ → Bytes → List Ref → List Ref
+refBy x f rs = cond (isRef x) (record { kind = wantedBy x; optional = ltb x 64; line = numberOf f } ∷ rs) rs
 
-unfoldable pub refsIn : Bytes → List Bytes → List Ref
-refsIn xs [] = []
-refsIn xs (f ∷ fs) = refOf (getD xs 0 32) f (refsIn (after (numberOf f) xs) fs)
+unfoldable pub refsBy : Bytes → List Bytes → List Ref
+refsBy xs [] = []
+refsBy xs (f ∷ fs) = refBy (getD xs 0 32) f (refsBy (after (numberOf f) xs) fs)
 
 -- ---- by the tables
 
@@ -43,16 +43,16 @@ claims t k x r =
     (ltb r k && eqb (kindAt (formAt t (r - 1))) (wantedBy x) && eqb (usedAt t (r - 1)) 0))
     true
 
-unfoldable pub marked : Bytes → ℕ → ℕ → Bytes
-marked t x r = cond (isRef x && not (eqb r 0)) (set t (3072 + (r - 1)) 1) t
+unfoldable pub usedMarked : Bytes → ℕ → ℕ → Bytes
+usedMarked t x r = cond (isRef x && not (eqb r 0)) (set t (3072 + (r - 1)) 1) t
 
-abbrev pub flag : Bool → ℕ
-flag true = 1
-flag false = 0
+abbrev pub asBit : Bool → ℕ
+asBit true = 1
+asBit false = 0
 
 -- the table says which lines are used
 abbrev pub Used : Bytes → List ℕ → Type 0
-Used t us = (i : ℕ) → i < 1024 → usedAt t i ≡ flag (any (eqb (suc i)) us)
+Used t us = (i : ℕ) → i < 1024 → usedAt t i ≡ asBit (any (eqb (suc i)) us)
 
 pub record Uses (t : Bytes) (o : Option (List ℕ)) : Type 0 where
   pub us : List ℕ
@@ -60,9 +60,9 @@ pub record Uses (t : Bytes) (o : Option (List ℕ)) : Type 0 where
   pub table : Used t us
 
 -- what a line's references make of the lines used
-abbrev pub Outcome : Bytes → Option (List ℕ) → Bool → Type 0
-Outcome t o false = o ≡ none
-Outcome t o true = Uses t o
+abbrev pub RefsOutcome : Bytes → Option (List ℕ) → Bool → Type 0
+RefsOutcome t o false = o ≡ none
+RefsOutcome t o true = Uses t o
 
 -- ---- what good references are, apart from whether they are the first
 

@@ -8,7 +8,7 @@ ghost use lib.ListN.{length};
 ghost use Rattle.semantics.specs.Refusal.{refsOf, useAll, badRefFrom};
 ghost use Rattle.form.specs.Table.{rowCount};
 ghost use Rattle.lines.specs.Lines.{readsIn, readAt, formAt, Whole};
-ghost use Rattle.refs.specs.Refs.{wantedBy, claims, marked, Used, Outcome};
+ghost use Rattle.refs.specs.Refs.{wantedBy, claims, usedMarked, Used, RefsOutcome};
 
 // The kind that a reference's letter asks for.
 fn wanted(x: u8) -> u8
@@ -24,7 +24,7 @@ fn wanted(x: u8) -> u8
 // Whether the field with letter x and number r is no reference of line k, or a good one, which is then marked.
 fn claim(work: &mut [u8], k: usize, x: u8, r: usize) -> bool
     requires { ⌜ (k ≤ 1024) × (65536 ≤ length (now work)) × ((i : ℕ) → i + 1 < k → formAt (now work) i < rowCount) ⌝ }
-    ensures { λ b. ⌜ (b ≡ claims (now (work .entry)) k x r) × (now (work .exit) ≡ cond b (marked (now (work .entry)) x r) (now (work .entry))) ⌝ }
+    ensures { λ b. ⌜ (b ≡ claims (now (work .entry)) k x r) × (now (work .exit) ≡ cond b (usedMarked (now (work .entry)) x r) (now (work .entry))) ⌝ }
 {
     if x <= 32 {
         return true;
@@ -52,7 +52,7 @@ fn claim(work: &mut [u8], k: usize, x: u8, r: usize) -> bool
 // Whether the references of line i, from 0, are good; they are marked.
 fn use_refs(sheet: &[u8], work: &mut [u8], n: usize, i: usize) -> bool
     requires { ⌜ (Whole (now sheet) (now work) n) × (i < n) ⌝ }
-    ensures { λ b. ⌜ (Whole (now (sheet .entry)) (now (work .exit)) n) × ((us : List ℕ) → Used (now (work .entry)) us → Outcome (now (work .exit)) (useAll (readsIn (now (sheet .entry))) (i + 1) (refsOf (readAt (now (sheet .entry)) i)) us) b) ⌝ }
+    ensures { λ b. ⌜ (Whole (now (sheet .entry)) (now (work .exit)) n) × ((us : List ℕ) → Used (now (work .entry)) us → RefsOutcome (now (work .exit)) (useAll (readsIn (now (sheet .entry))) (i + 1) (refsOf (readAt (now (sheet .entry)) i)) us) b) ⌝ }
 {
     let l = lines::line_at(sheet, work, n, i);
     let f = lines::form_at(work, i);

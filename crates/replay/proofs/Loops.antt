@@ -16,15 +16,15 @@ use Rattle.text.specs.Parts.{until}
 use Rattle.decimal.specs.Number.{most}
 use Rattle.text.proofs.Parts.{parts-step, parts-one, until-take}
 use Rattle.stored.specs.Stored.{Stored}
-use Rattle.stored.specs.Reading.{numberIn, readRow, readRows, readAll, largestSize, sizeBy, sizeRows, mostTypes, sizeIn}
-use Rattle.stored.specs.Laying.{Laying, layOne, andThen, layAll}
+use Rattle.stored.specs.Reading.{numberRead, readRow, readRows, readAll, largestSize, sizeBy, sizeRows, mostTypes, sizeIn}
+use Rattle.stored.specs.Laying.{Laying, layOne, layThen, layAll}
 use Rattle.semantics.proofs.Common.{zeros-at}
 use Rattle.stored.proofs.Laying.{lay-none}
 use Rattle.stored.proofs.Others.{items-end, sizes-end}
 use Rattle.stored.proofs.Written.{laid-below, laid-in, laid-past, mid-at}
 use Rattle.laying.specs.declared.State.{State}
-use Rattle.laying.specs.Steps.{layingOf, seen, Lays}
-use Rattle.replay.specs.Rows.{tableAt, sizeAt, laidRow, laidText, OutOfTable, Noted, Sizes}
+use Rattle.laying.specs.Steps.{layingOf, seenLaying, Lays}
+use Rattle.replay.specs.Rows.{tableAt, elementSizeAt, laidRow, laidText, OutOfTable, Noted, Sizes}
 
 -- ---- the next line of a text: it ends at e
 
@@ -68,21 +68,21 @@ module _ (t : Bytes) (at e : ℕ) (within : at < length t) (found : e ≡ at + l
 
 lay-append : (xs ys : List Stored) (m : Option Laying) → layAll (xs ++ ys) m ≡ layAll ys (layAll xs m)
 lay-append [] ys m = refl
-lay-append (x ∷ xs) ys m = lay-append xs ys (andThen (layOne x) m)
+lay-append (x ∷ xs) ys m = lay-append xs ys (layThen (layOne x) m)
 
 module _ (sizes : ℕ → ℕ) (t : Bytes) (at : ℕ) where
   pub text-turn : (e : ℕ) (s : State) {r : State} (im ar : Bytes) {im′ ar′ : Bytes} → at < length t → e ≡ at + length (until 10 (drop at t)) → s .full ≡ false
       → Lays (laidRow sizes (take (e - at) (drop at t)) (layingOf s im ar)) s r im′ ar′
-      → laidText sizes (drop at t) (seen s im ar) ≡ laidText sizes (drop (e + 1) t) (seen r im′ ar′)
-  unfolding laidText laidRow seen
+      → laidText sizes (drop at t) (seenLaying s im ar) ≡ laidText sizes (drop (e + 1) t) (seenLaying r im′ ar′)
+  unfolding laidText laidRow seenLaying
   text-turn e s {r} im ar {im′} {ar′} h f fitted l =
-      ap (λ (xs : List Stored). layAll xs (seen s im ar)) (items-turn t at e h f sizes)
-      ∙ lay-append (readRow sizes (fieldsOf (take (e - at) (drop at t)))) (readAll sizes (drop (e + 1) t)) (seen s im ar)
+      ap (λ (xs : List Stored). layAll xs (seenLaying s im ar)) (items-turn t at e h f sizes)
+      ∙ lay-append (readRow sizes (fieldsOf (take (e - at) (drop at t)))) (readAll sizes (drop (e + 1) t)) (seenLaying s im ar)
       ∙ ap (λ (b : Bool). layAll (readAll sizes (drop (e + 1) t)) (layAll (readRow sizes (fieldsOf (take (e - at) (drop at t)))) (cond b none (some (layingOf s im ar))))) fitted
       ∙ ap (layAll (readAll sizes (drop (e + 1) t))) (sym (l .is))
 
-  pub text-full : (s : State) (im ar : Bytes) → s .full ≡ true → laidText sizes (drop at t) (seen s im ar) ≡ seen s im ar
-  unfolding laidText seen
+  pub text-full : (s : State) (im ar : Bytes) → s .full ≡ true → laidText sizes (drop at t) (seenLaying s im ar) ≡ seenLaying s im ar
+  unfolding laidText seenLaying
   text-full s im ar full = rw full (lay-none (readAll sizes (drop at t)))
 
   pub text-end : (m : Option Laying) → length t ≤ at → laidText sizes (drop at t) m ≡ m
@@ -102,17 +102,17 @@ module _ (row t : Bytes) {f : Bytes} (word : f ≡ getD (fieldsOf row) 0 []) whe
   unfolding sizeBy
   noted-other e = record { sizes = λ i h. rw (← word, e); rest = table-same t }
 
-  module _ (typ : same f (bytes "typ") ≡ true) {id : ℕ} {g : Bytes} (number : id ≡ min (numberIn g) most) (field : g ≡ getD (fieldsOf row) 1 []) where
-    number-is : id ≡ min (numberIn (getD (fieldsOf row) 1 [])) most
-    number-is = number ∙ ap (λ (x : Bytes). min (numberIn x) most) field
+  module _ (typ : same f (bytes "typ") ≡ true) {id : ℕ} {g : Bytes} (number : id ≡ min (numberRead g) most) (field : g ≡ getD (fieldsOf row) 1 []) where
+    number-is : id ≡ min (numberRead (getD (fieldsOf row) 1 [])) most
+    number-is = number ∙ ap (λ (x : Bytes). min (numberRead x) most) field
 
     pub noted-far : mostTypes ≤ id → Noted row t t
     unfolding sizeBy
     noted-far h =
         let q = number-is in
-        record { sizes = λ i l. rw (← word, typ, ne-eqb (numberIn (getD (fieldsOf row) 1 [])) i (λ (e : numberIn (getD (fieldsOf row) 1 []) ≡ i). omega arith)); rest = table-same t }
+        record { sizes = λ i l. rw (← word, typ, ne-eqb (numberRead (getD (fieldsOf row) 1 [])) i (λ (e : numberRead (getD (fieldsOf row) 1 []) ≡ i). omega arith)); rest = table-same t }
 
-    pub noted-at : {v n : ℕ} {k : Bytes} → id < mostTypes → tableAt + mostTypes ≤ length t → v ≡ min n largestSize → n ≡ min (numberIn k) most → k ≡ getD (fieldsOf row) 2 []
+    pub noted-at : {v n : ℕ} {k : Bytes} → id < mostTypes → tableAt + mostTypes ≤ length t → v ≡ min n largestSize → n ≡ min (numberRead k) most → k ≡ getD (fieldsOf row) 2 []
         → Noted row t (set t (tableAt + id) v)
     unfolding sizeBy
     noted-at {v} {n} {k} h fits hv hn hk = record {
@@ -124,11 +124,11 @@ module _ (row t : Bytes) {f : Bytes} (word : f ≡ getD (fieldsOf row) 0 []) whe
       };
     }
       where
-        same-number : numberIn (getD (fieldsOf row) 1 []) ≡ id
+        same-number : numberRead (getD (fieldsOf row) 1 []) ≡ id
         same-number = let q = number-is in omega arith
 
-        value : v ≡ min (numberIn (getD (fieldsOf row) 2 [])) largestSize
-        value = let q : n ≡ min (numberIn (getD (fieldsOf row) 2 [])) most = hn ∙ ap (λ (x : Bytes). min (numberIn x) most) hk in omega arith
+        value : v ≡ min (numberRead (getD (fieldsOf row) 2 [])) largestSize
+        value = let q : n ≡ min (numberRead (getD (fieldsOf row) 2 [])) most = hn ∙ ap (λ (x : Bytes). min (numberRead x) most) hk in omega arith
 
         go : (i : ℕ) → i < mostTypes → (b : Bool) → eqb id i ≡ b → getD (set t (tableAt + id) v) (tableAt + i) 0 ≡ sizeBy i (fieldsOf row) (getD t (tableAt + i) 0)
         go i l true e =
@@ -176,7 +176,7 @@ sizes-on listing at e {u} {v} h f n s i l =
     s i l ∙ sizes-turn listing at e h f i (getD u (tableAt + i) 0) ∙ ap (λ (d : ℕ). sizeRows i d (lineParts (drop (e + 1) listing))) (sym (n .sizes i l))
 
 pub sizes-all : (listing : Bytes) (at : ℕ) {t u : Bytes} → length listing ≤ at → SizesAt listing at u → OutOfTable t u → Sizes listing t u
-unfolding sizeAt sizeIn
+unfolding elementSizeAt sizeIn
 sizes-all listing at {t} {u} h s o = record { sizes = λ i. go i (ltb i mostTypes) refl; rest = o }
   where
     go : (i : ℕ) (b : Bool) → ltb i mostTypes ≡ b → cond b (getD u (tableAt + i) 0) 0 ≡ cond b (sizeRows i 0 (lineParts listing)) 0

@@ -17,7 +17,7 @@ use Rattle.semantics.specs.Refusal.{Buffers, Imaged, laid, notLaid, zeros, padd
 use Rattle.semantics.specs.Const.{constants, namesOf}
 use Rattle.stored.specs.Stored.{Stored, storedOf}
 use Rattle.stored.specs.Reading.{sizeIn}
-use Rattle.stored.specs.Laying.{Laying, layAll, beginning, InPlace}
+use Rattle.stored.specs.Laying.{Laying, layAll, layingStart, InPlace}
 use Rattle.stored.proofs.Items.{Readable}
 use Rattle.stored.proofs.Others.{PlainNames, listing-read}
 use Rattle.stored.proofs.Laying.{Answer, replayed-by}
@@ -27,7 +27,7 @@ use Rattle.stored.proofs.Sizes.{few-types, listing-readable}
 use Rattle.stored.proofs.Ranges.{SoundFirst, globals-ranged}
 use Rattle.replay.specs.declared.Replayed.{Replayed}
 use Rattle.replay.specs.declared.Replayed.the-variants.{Laid, Outgrown}
-use Rattle.replay.specs.Whole.{laidListing, answerOf, imageOf, areaOf, Replays}
+use Rattle.replay.specs.Whole.{laidListing, answerOf, laidImage, areaOf, Replays}
 use Rattle.laws.specs.Every.{Every}
 
 abbrev pub lengthsOf : Imaged → Replayed
@@ -39,7 +39,7 @@ pub record Meets (q : Imaged) (image area : ℕ) (r : Replayed) (image′ area�
   pub imageIs : image′ ≡ padded image (imageBytes q)
   pub areaIs : area′ ≡ padded area (areaBytes q)
 
-by-answer : (q : Imaged) (b : Buffers) (m : Option Laying) → Answer q (b .image) (b .area) m → Meets q (b .image) (b .area) (answerOf m) (imageOf (b .image) m) (areaOf (b .area) m)
+by-answer : (q : Imaged) (b : Buffers) (m : Option Laying) → Answer q (b .image) (b .area) m → Meets q (b .image) (b .area) (answerOf m) (laidImage (b .image) m) (areaOf (b .area) m)
 by-answer q b none h = rw h (record { answer = refl; imageIs = ap zeros (sym (sub-zero (b .image))); areaIs = ap zeros (sym (sub-zero (b .area))) })
 by-answer q b (some m) h = record {
   answer = (λ j. Laid (h .long j) (h .end j)) ∙ sym (ap lengthsOf (h .is));
@@ -49,18 +49,18 @@ by-answer q b (some m) h = record {
 
 module _ (s : Source) (cs : List Const) (g : Globals) (b : Buffers) (plain : PlainNames s cs g) (readable : Every (Readable (sizeIn (listing s cs g)) (idOf s (g .items))) (g .items))
     (place : InPlace 0 0 false (map storedOf (g .items))) where
-  laid-items : laidListing (listing s cs g) (g .end) (b .image) (b .area) ≡ layAll (map storedOf (g .items)) (beginning (g .end) (b .image) (b .area))
+  laid-items : laidListing (listing s cs g) (g .end) (b .image) (b .area) ≡ layAll (map storedOf (g .items)) (layingStart (g .end) (b .image) (b .area))
   unfolding laidListing
-  laid-items = ap (λ (xs : List Stored). layAll xs (beginning (g .end) (b .image) (b .area))) (listing-read s cs g plain (sizeIn (listing s cs g)) readable)
+  laid-items = ap (λ (xs : List Stored). layAll xs (layingStart (g .end) (b .image) (b .area))) (listing-read s cs g plain (sizeIn (listing s cs g)) readable)
 
   pub replay-meets : {t u image image′ area area′ : Bytes} {r : Replayed} → length image ≡ b .image → length area ≡ b .area
       → Replays (listing s cs g) (g .end) t u image image′ area area′ r → Meets (replayed b g) (b .image) (b .area) r image′ area′
   replay-meets hi ha h =
       let e = laid-items in
-      let m = by-answer (replayed b g) b (layAll (map storedOf (g .items)) (beginning (g .end) (b .image) (b .area))) (replayed-by b g place) in
+      let m = by-answer (replayed b g) b (layAll (map storedOf (g .items)) (layingStart (g .end) (b .image) (b .area))) (replayed-by b g place) in
       record {
         answer = h .answer ∙ (λ j. answerOf (laidListing (listing s cs g) (g .end) (hi j) (ha j))) ∙ ap answerOf e ∙ m .answer;
-        imageIs = h .imageIs ∙ (λ j. imageOf (hi j) (laidListing (listing s cs g) (g .end) (hi j) (ha j))) ∙ ap (imageOf (b .image)) e ∙ m .imageIs;
+        imageIs = h .imageIs ∙ (λ j. laidImage (hi j) (laidListing (listing s cs g) (g .end) (hi j) (ha j))) ∙ ap (laidImage (b .image)) e ∙ m .imageIs;
         areaIs = h .areaIs ∙ (λ j. areaOf (ha j) (laidListing (listing s cs g) (g .end) (hi j) (ha j))) ∙ ap (areaOf (b .area)) e ∙ m .areaIs;
       }
 

@@ -11,15 +11,15 @@ use lib.ListN.{length, drop, getD, List·getD-eq-default}
 use borrow.Author.Tests.{lt-ltb, le-ltb, eq-eqb, ne-eqb, leb-true, leb-false}
 use Rattle.semantics.specs.Text.{Bytes, bytes, same, fieldsOf}
 use Rattle.semantics.specs.Image.{handle, partAt}
-use Rattle.text.specs.Parts.{startOf}
+use Rattle.text.specs.Parts.{partStartAt}
 use Rattle.decimal.specs.Number.{most}
 use Rattle.stored.specs.Stored.{Stored}
-use Rattle.stored.specs.Reading.{numberIn, keywordOf, widthOf, valuesIn, readRow, mostTypes}
+use Rattle.stored.specs.Reading.{numberRead, keywordOf, widthOf, rowValues, readRow, mostTypes}
 use Rattle.stored.specs.Laying.{Laying, layImage, layPart, layBytes, layArray, moveTo, layAll}
 use Rattle.laying.specs.declared.State.{State}
 use Rattle.row_fields.specs.Rest.{fieldsAt}
-use Rattle.laying.specs.Steps.{layingOf, seen, Ready, Lays}
-use Rattle.replay.specs.Rows.{tableAt, sizeAt, width, laidItem, laidRow}
+use Rattle.laying.specs.Steps.{layingOf, seenLaying, MoreFits, Lays}
+use Rattle.replay.specs.Rows.{tableAt, elementSizeAt, width, laidItem, laidRow}
 use Rattle.row_fields.proofs.Writes.{fields-from}
 
 -- ---- the same step said otherwise
@@ -27,8 +27,8 @@ use Rattle.row_fields.proofs.Writes.{fields-from}
 pub lays-as : {q q′ : Option Laying} {s r : State} {im ar : Bytes} → q ≡ q′ → Lays q s r im ar → Lays q′ s r im ar
 lays-as e l = record { is = l .is ∙ e; low = l .low; high = l .high; item = l .item }
 
-pub lays-none : {q : Option Laying} {s : State} (im ar : Bytes) → Ready s (length ar) → some (layingOf s im ar) ≡ q → Lays q s s im ar
-unfolding seen
+pub lays-none : {q : Option Laying} {s : State} (im ar : Bytes) → MoreFits s (length ar) → some (layingOf s im ar) ≡ q → Lays q s s im ar
+unfolding seenLaying
 lays-none {q} {s} im ar h e = record { is = ap (λ (b : Bool). cond b none (some (layingOf s im ar))) (h .fitted) ∙ e; low = h .low; high = h .high; item = omega arith }
 
 -- ---- numbers that are cut off at a size that no buffer has
@@ -80,28 +80,28 @@ module _ (m : Laying) (image : length (m .image) < most) where
 
 -- ---- the item of a row
 
-pub no-size : (work : Bytes) (i : ℕ) → mostTypes ≤ i → 0 ≡ sizeAt work i
-unfolding sizeAt
+pub no-size : (work : Bytes) (i : ℕ) → mostTypes ≤ i → 0 ≡ elementSizeAt work i
+unfolding elementSizeAt
 no-size work i h = rw (le-ltb i mostTypes h)
 
-pub short-table : (work : Bytes) (i : ℕ) → length work ≤ tableAt + i → 0 ≡ sizeAt work i
-unfolding sizeAt
+pub short-table : (work : Bytes) (i : ℕ) → length work ≤ tableAt + i → 0 ≡ elementSizeAt work i
+unfolding elementSizeAt
 short-table work i h = rw (List·getD-eq-default work 0 h) (go (ltb i mostTypes))
   where
     go : (b : Bool) → _≡_ {A = ℕ} 0 (cond b 0 0)
     go true = refl
     go false = refl
 
-pub a-size : (work : Bytes) (i : ℕ) → i < mostTypes → getD work (tableAt + i) 0 ≡ sizeAt work i
-unfolding sizeAt
+pub a-size : (work : Bytes) (i : ℕ) → i < mostTypes → getD work (tableAt + i) 0 ≡ elementSizeAt work i
+unfolding elementSizeAt
 a-size work i h = rw (lt-ltb i mostTypes h)
 
-cut-size : (work : Bytes) (i : ℕ) → sizeAt work (min i most) ≡ sizeAt work i
-cut-size work i = cut-off (λ (x : ℕ). sizeAt work x ≡ sizeAt work i) i refl (λ l. sym (no-size work most (omega arith)) ∙ no-size work i (omega arith))
+cut-size : (work : Bytes) (i : ℕ) → elementSizeAt work (min i most) ≡ elementSizeAt work i
+cut-size work i = cut-off (λ (x : ℕ). elementSizeAt work x ≡ elementSizeAt work i) i refl (λ l. sym (no-size work most (omega arith)) ∙ no-size work i (omega arith))
 
 module _ (work : Bytes) (k : ℕ) (row im ar : Bytes) (s : State) where
   abbrev sizes : ℕ → ℕ
-  sizes = sizeAt work
+  sizes = elementSizeAt work
 
   abbrev m : Laying
   m = layingOf s im ar
@@ -113,45 +113,45 @@ module _ (work : Bytes) (k : ℕ) (row im ar : Bytes) (s : State) where
   unfolding laidItem
   item-none e = rw (eq-eqb k 0 e)
 
-  module _ (some-item : k ≡ 0 → ⊥) (image : length im < most) (area : length ar < most) (ready : Ready s (length ar)) {off : ℕ} {f : Bytes}
-      (offset : off ≡ min (numberIn f) most) (field : f ≡ getD fs 2 []) where
-    at : off ≡ min (numberIn (getD fs 2 [])) most
-    at = offset ∙ ap (λ (g : Bytes). min (numberIn g) most) field
+  module _ (some-item : k ≡ 0 → ⊥) (image : length im < most) (area : length ar < most) (ready : MoreFits s (length ar)) {off : ℕ} {f : Bytes}
+      (offset : off ≡ min (numberRead f) most) (field : f ≡ getD fs 2 []) where
+    at : off ≡ min (numberRead (getD fs 2 [])) most
+    at = offset ∙ ap (λ (g : Bytes). min (numberRead g) most) field
 
     part : s .end - s .start < most
     part = let h = ready .high in omega arith
 
-    pub item-values : {from w : ℕ} → k < 5 → from ≡ startOf 44 4 row → w ≡ width k
-        → layBytes off (valuesIn w (eqb k 4) (fieldsAt row from)) m ≡ laidItem sizes k row m
+    pub item-values : {from w : ℕ} → k < 5 → from ≡ partStartAt 44 4 row → w ≡ width k
+        → layBytes off (rowValues w (eqb k 4) (fieldsAt row from)) m ≡ laidItem sizes k row m
     unfolding laidItem width layingOf
     item-values h hf hw =
         rw (ne-eqb k 0 some-item, lt-ltb k 5 h, at, hf, hw, fields-from 4 row)
-        (cut-bytes m image part (numberIn (getD fs 2 [])) (valuesIn (widthOf k) (eqb k 4) (drop 4 fs)))
+        (cut-bytes m image part (numberRead (getD fs 2 [])) (rowValues (widthOf k) (eqb k 4) (drop 4 fs)))
 
     pub item-string : 5 ≤ k → k ≡ 5 → layBytes off (handle (s .item)) m ≡ laidItem sizes k row m
     unfolding laidItem layingOf
     item-string h e =
         rw (ne-eqb k 0 some-item, le-ltb k 5 h, eq-eqb k 5 e, at)
-        (cut-bytes m image part (numberIn (getD fs 2 [])) (handle (s .item)))
+        (cut-bytes m image part (numberRead (getD fs 2 [])) (handle (s .item)))
 
-    pub item-array : {size id n : ℕ} {g j : Bytes} → 5 ≤ k → (k ≡ 5 → ⊥) → k ≡ 6 → id ≡ min (numberIn g) most → g ≡ getD fs 3 [] → n ≡ min (numberIn j) most → j ≡ getD fs 4 []
-        → size ≡ sizeAt work id → layArray off (size * n) m ≡ laidItem sizes k row m
+    pub item-array : {size id n : ℕ} {g j : Bytes} → 5 ≤ k → (k ≡ 5 → ⊥) → k ≡ 6 → id ≡ min (numberRead g) most → g ≡ getD fs 3 [] → n ≡ min (numberRead j) most → j ≡ getD fs 4 []
+        → size ≡ elementSizeAt work id → layArray off (size * n) m ≡ laidItem sizes k row m
     unfolding laidItem layingOf
     item-array {size} {id} {n} h d e hi hg hn hj hs =
-        let q : size ≡ sizeAt work (numberIn (getD fs 3 [])) = hs ∙ ap (sizeAt work) (hi ∙ ap (λ (x : Bytes). min (numberIn x) most) hg) ∙ cut-size work (numberIn (getD fs 3 [])) in
-        let r : n ≡ min (numberIn (getD fs 4 [])) most = hn ∙ ap (λ (x : Bytes). min (numberIn x) most) hj in
+        let q : size ≡ elementSizeAt work (numberRead (getD fs 3 [])) = hs ∙ ap (elementSizeAt work) (hi ∙ ap (λ (x : Bytes). min (numberRead x) most) hg) ∙ cut-size work (numberRead (getD fs 3 [])) in
+        let r : n ≡ min (numberRead (getD fs 4 [])) most = hn ∙ ap (λ (x : Bytes). min (numberRead x) most) hj in
         rw (ne-eqb k 0 some-item, le-ltb k 5 h, ne-eqb k 5 d, eq-eqb k 6 e)
         (ap (λ (x : ℕ). layArray off (size * x) m) r
-        ∙ cut-length m image off size (numberIn (getD fs 4 [])) area
-        ∙ ap (λ (x : ℕ). layArray off (x * numberIn (getD fs 4 [])) m) q
-        ∙ ap (λ (x : ℕ). layArray x (sizeAt work (numberIn (getD fs 3 [])) * numberIn (getD fs 4 [])) m) at
-        ∙ cut-array m image (numberIn (getD fs 2 [])) (sizeAt work (numberIn (getD fs 3 [])) * numberIn (getD fs 4 [])))
+        ∙ cut-length m image off size (numberRead (getD fs 4 [])) area
+        ∙ ap (λ (x : ℕ). layArray off (x * numberRead (getD fs 4 [])) m) q
+        ∙ ap (λ (x : ℕ). layArray x (elementSizeAt work (numberRead (getD fs 3 [])) * numberRead (getD fs 4 [])) m) at
+        ∙ cut-array m image (numberRead (getD fs 2 [])) (elementSizeAt work (numberRead (getD fs 3 [])) * numberRead (getD fs 4 [])))
 
     pub item-moved : 5 ≤ k → (k ≡ 5 → ⊥) → (k ≡ 6 → ⊥) → some (moveTo (eqb k 7) m) ≡ laidItem sizes k row m
     unfolding laidItem
     item-moved h d e = rw (ne-eqb k 0 some-item, le-ltb k 5 h, ne-eqb k 5 d, ne-eqb k 6 e) (go (eqb k 7))
       where
-        go : (b : Bool) → some (moveTo b m) ≡ layAll (cond b (Stored.setAt (numberIn (getD fs 2 [])) ∷ []) (Stored.goBack ∷ [])) (some m)
+        go : (b : Bool) → some (moveTo b m) ≡ layAll (cond b (Stored.setAt (numberRead (getD fs 2 [])) ∷ []) (Stored.goBack ∷ [])) (some m)
         go true = refl
         go false = refl
 

@@ -7,15 +7,15 @@ use mathlib.Core.Option.{Option, none, some}
 use lib.ListN.{length, drop, getD}
 use lib.Dec.{ltb}
 use Rattle.semantics.specs.Text.{Bytes, fieldsOf}
-use Rattle.stored.specs.Reading.{numberIn, widthOf, itemBy, readRow, readAll, sizeBy, mostTypes, sizeIn}
+use Rattle.stored.specs.Reading.{numberRead, widthOf, itemBy, readRow, readAll, sizeBy, mostTypes, sizeIn}
 use Rattle.stored.specs.Laying.{Laying, layAll}
 
 -- where the table begins; it has a byte for each ID
 abbrev pub tableAt : ℕ
 tableAt = 5120
 
-unfoldable pub sizeAt : Bytes → ℕ → ℕ
-sizeAt work i = cond (ltb i mostTypes) (getD work (tableAt + i) 0) 0
+unfoldable pub elementSizeAt : Bytes → ℕ → ℕ
+elementSizeAt work i = cond (ltb i mostTypes) (getD work (tableAt + i) 0) 0
 
 -- the bytes of a value by its keyword
 unfoldable pub width : ℕ → ℕ
@@ -25,7 +25,7 @@ width k = widthOf k
 unfoldable pub laidItem : (ℕ → ℕ) → ℕ → Bytes → Laying → Option Laying
 laidItem sizes k row m =
     let fs = fieldsOf row in
-    layAll (itemBy sizes k (numberIn (getD fs 2 [])) (numberIn (getD fs 3 [])) (numberIn (getD fs 4 [])) (drop 4 fs)) (some m)
+    layAll (itemBy sizes k (numberRead (getD fs 2 [])) (numberRead (getD fs 3 [])) (numberRead (getD fs 4 [])) (drop 4 fs)) (some m)
 
 unfoldable pub laidRow : (ℕ → ℕ) → Bytes → Laying → Option Laying
 laidRow sizes row m = layAll (readRow sizes (fieldsOf row)) (some m)
@@ -52,5 +52,5 @@ pub record Noted (row t u : Bytes) : Type 0 where
 
 -- u is t with the sizes of all descriptors
 pub record Sizes (listing t u : Bytes) : Type 0 where
-  pub sizes : (i : ℕ) → sizeAt u i ≡ sizeIn listing i
+  pub sizes : (i : ℕ) → elementSizeAt u i ≡ sizeIn listing i
   pub rest : OutOfTable t u

@@ -6,23 +6,23 @@ use lib.ListN.{length}
 use Rattle.semantics.specs.Text.{Bytes}
 use Rattle.semantics.specs.Refusal.{zeros}
 use Rattle.stored.specs.Reading.{readAll, sizeIn}
-use Rattle.stored.specs.Laying.{Laying, layAll, beginning}
+use Rattle.stored.specs.Laying.{Laying, layAll, layingStart}
 use Rattle.replay.specs.declared.Replayed.{Replayed}
 use Rattle.replay.specs.declared.Replayed.the-variants.{Laid, Outgrown}
 use Rattle.replay.specs.Rows.{Sizes}
 
 -- the items of a listing over zeros
 unfoldable pub laidListing : Bytes → ℕ → ℕ → ℕ → Option Laying
-laidListing listing end image area = layAll (readAll (sizeIn listing) listing) (beginning end image area)
+laidListing listing end image area = layAll (readAll (sizeIn listing) listing) (layingStart end image area)
 
 -- the lengths of image and area
 abbrev pub answerOf : Option Laying → Replayed
 answerOf none = Outgrown
 answerOf (some m) = Laid (m .long) (m .end)
 
-abbrev pub imageOf : ℕ → Option Laying → Bytes
-imageOf n none = zeros n
-imageOf n (some m) = m .image
+abbrev pub laidImage : ℕ → Option Laying → Bytes
+laidImage n none = zeros n
+laidImage n (some m) = m .image
 
 abbrev pub areaOf : ℕ → Option Laying → Bytes
 areaOf n none = zeros n
@@ -31,6 +31,6 @@ areaOf n (some m) = m .area
 -- what comes of a listing, with the working space t and u before and after, in the buffers
 pub record Replays (listing : Bytes) (end : ℕ) (t u image image′ area area′ : Bytes) (r : Replayed) : Type 0 where
   pub answer : r ≡ answerOf (laidListing listing end (length image) (length area))
-  pub imageIs : image′ ≡ imageOf (length image) (laidListing listing end (length image) (length area))
+  pub imageIs : image′ ≡ laidImage (length image) (laidListing listing end (length image) (length area))
   pub areaIs : area′ ≡ areaOf (length area) (laidListing listing end (length image) (length area))
   pub table : Sizes listing t u

@@ -5,15 +5,15 @@ ghost use mathlib.Core.Path.{_≡_};
 ghost use Prim.Native.Nat.{_+_, _≤_, min};
 ghost use lib.ListN.{length};
 ghost use Rattle.stored.specs.Reading.{largestSize};
-ghost use Rattle.laying.specs.Steps.{layingOf, seen, Ready, Lays};
-ghost use Rattle.replay.specs.Rows.{sizeAt, width, laidItem, laidRow, begun, laidText, Noted, Sizes};
-ghost use Rattle.replay.specs.Firsts.{First};
+ghost use Rattle.laying.specs.Steps.{layingOf, seenLaying, MoreFits, Lays};
+ghost use Rattle.replay.specs.Rows.{elementSizeAt, width, laidItem, laidRow, begun, laidText, Noted, Sizes};
+ghost use Rattle.replay.specs.Firsts.{FirstState};
 
 const TYPES: u64 = 1024;
 
 // The size of a descriptor, 0 where it is not known.
 fn size_of(work: &[u8], id: u64) -> usize
-    ensures { λ r. ⌜ r ≡ sizeAt (now (work .entry)) id ⌝ }
+    ensures { λ r. ⌜ r ≡ elementSizeAt (now (work .entry)) id ⌝ }
 {
     if TYPES <= id {
         return 0;
@@ -39,8 +39,8 @@ fn width_of(k: usize) -> usize
 
 // The item of a row by its keyword's number.
 fn lay_item(s: State, k: usize, row: &[u8], work: &[u8], image: &mut [u8], area: &mut [u8]) -> State
-    requires { ⌜ Ready s (length (now area)) ⌝ }
-    ensures { λ r. ⌜ Lays (laidItem (sizeAt (now (work .entry))) k (now (row .entry)) (layingOf s (now (image .entry)) (now (area .entry)))) s r (now (image .exit)) (now (area .exit)) ⌝ }
+    requires { ⌜ MoreFits s (length (now area)) ⌝ }
+    ensures { λ r. ⌜ Lays (laidItem (elementSizeAt (now (work .entry))) k (now (row .entry)) (layingOf s (now (image .entry)) (now (area .entry)))) s r (now (image .exit)) (now (area .exit)) ⌝ }
 {
     if k == 0 {
         return s;
@@ -63,8 +63,8 @@ fn lay_item(s: State, k: usize, row: &[u8], work: &[u8], image: &mut [u8], area:
 
 // A row: its item where it is a `dat` row.
 fn step(s: State, row: &[u8], work: &[u8], image: &mut [u8], area: &mut [u8]) -> State
-    requires { ⌜ Ready s (length (now area)) ⌝ }
-    ensures { λ r. ⌜ Lays (laidRow (sizeAt (now (work .entry))) (now (row .entry)) (layingOf s (now (image .entry)) (now (area .entry)))) s r (now (image .exit)) (now (area .exit)) ⌝ }
+    requires { ⌜ MoreFits s (length (now area)) ⌝ }
+    ensures { λ r. ⌜ Lays (laidRow (elementSizeAt (now (work .entry))) (now (row .entry)) (layingOf s (now (image .entry)) (now (area .entry)))) s r (now (image .exit)) (now (area .exit)) ⌝ }
 {
     if words::same(row_fields::field(row, 0), b"dat") {
         return lay_item(
@@ -81,7 +81,7 @@ fn step(s: State, row: &[u8], work: &[u8], image: &mut [u8], area: &mut [u8]) ->
 
 // Before the first row: n is the image buffer's length, and `end` where allocation ends.
 fn first(n: usize, end: usize) -> State
-    ensures { λ r. ⌜ First n end r ⌝ }
+    ensures { λ r. ⌜ FirstState n end r ⌝ }
 {
     State {
         item: 0,
@@ -95,7 +95,7 @@ fn first(n: usize, end: usize) -> State
 
 // All rows, until something does not fit.
 pub fn lay_rows(listing: &[u8], work: &[u8], image: &mut [u8], area: &mut [u8], end: usize) -> State
-    ensures { λ r. ⌜ seen r (now (image .exit)) (now (area .exit)) ≡ laidText (sizeAt (now (work .entry))) (now (listing .entry)) (begun end (now (image .entry)) (now (area .entry))) ⌝ }
+    ensures { λ r. ⌜ seenLaying r (now (image .exit)) (now (area .exit)) ≡ laidText (elementSizeAt (now (work .entry))) (now (listing .entry)) (begun end (now (image .entry)) (now (area .entry))) ⌝ }
 {
     let mut s = first(image.len(), end);
     let mut at = 0;

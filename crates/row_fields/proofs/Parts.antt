@@ -16,13 +16,13 @@ use Rattle.semantics.specs.Text.{Bytes, bytes, same, orElse, natOf, intOf, unhe
 use Rattle.semantics.specs.Form.{between}
 use Rattle.semantics.specs.Fold.{bits64}
 use Rattle.semantics.proofs.Common.{never}
-use Rattle.text.specs.Parts.{until, startOf}
-use Rattle.decimal.specs.Number.{most, capped, numberOf, whole, integerOf}
+use Rattle.text.specs.Parts.{until, partStartAt}
+use Rattle.decimal.specs.Number.{most, capped, numberUpTo, whole, integerOf}
 use Rattle.hex.specs.Hex.{eightBytes, bits64Of}
 use Rattle.decimal.specs.declared.Integer.the-variants.{Is, Bad}
 use Rattle.hex.specs.declared.Bits64.the-variants.{Bits, Bad as NoBits}
 use Rattle.text.proofs.Parts.{part-view, part-absent}
-use Rattle.stored.specs.Reading.{numberIn, keywordOf, integerBits, realBits, bitsIn}
+use Rattle.stored.specs.Reading.{numberRead, keywordOf, integerBits, realBits, bitsIn}
 use Rattle.row_fields.specs.Keywords.{whichOf}
 
 -- ---- keywords
@@ -76,25 +76,25 @@ module _ (k : Bytes) {v : ℕ} (is : v ≡ whichOf k (bytes "bytes") (bytes "wor
 
 -- ---- fields
 
-pub a-field : (row : Bytes) (i a e : ℕ) → a ≡ startOf 44 i row → a ≤ length row → e ≡ a + length (until 44 (drop a row)) → take (e - a) (drop a row) ≡ getD (fieldsOf row) i []
+pub a-field : (row : Bytes) (i a e : ℕ) → a ≡ partStartAt 44 i row → a ≤ length row → e ≡ a + length (until 44 (drop a row)) → take (e - a) (drop a row) ≡ getD (fieldsOf row) i []
 a-field row i a e ha h he = part-view 44 i a e row ha h he
 
-pub no-field : (row : Bytes) (i a : ℕ) → a ≡ startOf 44 i row → length row < a → [] ≡ getD (fieldsOf row) i []
+pub no-field : (row : Bytes) (i a : ℕ) → a ≡ partStartAt 44 i row → length row < a → [] ≡ getD (fieldsOf row) i []
 no-field row i a ha h = sym (List·getD-eq-default (fieldsOf row) [] (ltb-false i (length (fieldsOf row)) (part-absent 44 i row (omega arith))))
 
 -- ---- numbers
 
-module _ (f : Bytes) {n : ℕ} (is : n ≡ numberOf most (drop 0 f)) where
+module _ (f : Bytes) {n : ℕ} (is : n ≡ numberUpTo most (drop 0 f)) where
   by-number : (o : Option ℕ) → n ≡ capped most o → (most < n → 0 ≡ min (orElse 0 o) most) × (n ≤ most → n ≡ min (orElse 0 o) most)
   by-number none e = (λ h. omega arith, λ h. absurd (omega arith))
   by-number (some m) e = (λ h. absurd (omega arith), λ h. e)
 
-  pub no-number : most < n → 0 ≡ min (numberIn f) most
-  unfolding numberIn numberOf
+  pub no-number : most < n → 0 ≡ min (numberRead f) most
+  unfolding numberRead numberUpTo
   no-number h = by-number (natOf f) is .0 h
 
-  pub a-number : n ≤ most → n ≡ min (numberIn f) most
-  unfolding numberIn numberOf
+  pub a-number : n ≤ most → n ≡ min (numberRead f) most
+  unfolding numberRead numberUpTo
   a-number h = by-number (natOf f) is .1 h
 
 -- ---- values

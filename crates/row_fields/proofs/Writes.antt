@@ -10,12 +10,12 @@ use lib.ListN.{length, take, drop, length-drop}
 use lib.Seq.{drop-drop, take-all}
 use borrow.Author.Tests.{lt-ltb, le-ltb, ltb-true, ltb-false}
 use Rattle.semantics.specs.Text.{Bytes, bigEndian, partsAt, fieldsOf}
-use Rattle.text.specs.Parts.{until, startOf}
+use Rattle.text.specs.Parts.{until, partStartAt}
 use Rattle.text.proofs.Parts.{parts-step, parts-one, until-take, start-step, start-none, start-zero}
 use Rattle.write.specs.Wrote.{Wrote}
 use Rattle.write.proofs.Wrote.{then, wrote-none}
 use Rattle.write.proofs.Hex.{power}
-use Rattle.stored.specs.Reading.{bitsIn, valuesIn}
+use Rattle.stored.specs.Reading.{bitsIn, rowValues}
 use Rattle.row_fields.specs.Rest.{fieldsAt}
 
 -- ---- what is still to be written: u at p of out completes t at a of d
@@ -100,17 +100,17 @@ fields-shift row u k h = go (ltb (length row) (u + 1 + k)) refl
         ∙ sym (fields-some (drop (suc u) row) k (omega (arith, length-drop (suc u) row)))
 
 -- the fields from where field n begins
-pub fields-from : (n : ℕ) (row : Bytes) → fieldsAt row (startOf 44 n row) ≡ drop n (fieldsOf row)
+pub fields-from : (n : ℕ) (row : Bytes) → fieldsAt row (partStartAt 44 n row) ≡ drop n (fieldsOf row)
 fields-from zero row = rw (start-zero 44 row) (fields-some row 0 (omega arith))
 fields-from (suc n) row = go (ltb (length (until 44 row)) (length row)) refl (fields-from n (drop (suc (length (until 44 row))) row))
   where
     u : ℕ
     u = length (until 44 row)
 
-    go : (b : Bool) → ltb u (length row) ≡ b → fieldsAt (drop (suc u) row) (startOf 44 n (drop (suc u) row)) ≡ drop n (fieldsOf (drop (suc u) row)) → fieldsAt row (startOf 44 (suc n) row) ≡ drop (suc n) (fieldsOf row)
+    go : (b : Bool) → ltb u (length row) ≡ b → fieldsAt (drop (suc u) row) (partStartAt 44 n (drop (suc u) row)) ≡ drop n (fieldsOf (drop (suc u) row)) → fieldsAt row (partStartAt 44 (suc n) row) ≡ drop (suc n) (fieldsOf row)
     go true k ih =
         let l = ltb-true u (length row) k in
-        ap (fieldsAt row) (start-step 44 n row l) ∙ fields-shift row u (startOf 44 n (drop (suc u) row)) l ∙ ih ∙ sym (ap (drop (suc n)) (parts-step 44 row l))
+        ap (fieldsAt row) (start-step 44 n row l) ∙ fields-shift row u (partStartAt 44 n (drop (suc u) row)) l ∙ ih ∙ sym (ap (drop (suc n)) (parts-step 44 row l))
     go false k ih =
         let l = ltb-false u (length row) k in
         ap (fieldsAt row) (start-none 44 n row l) ∙ fields-none row (length row + 1) (omega arith) ∙ sym (ap (drop (suc n)) (parts-one 44 row l) ∙ drop-nil n)
@@ -118,10 +118,10 @@ fields-from (suc n) row = go (ltb (length (until 44 row)) (length row)) refl (fi
 -- ---- values
 
 pub values-next : (w : ℕ) (reals : Bool) (row : Bytes) (i e : ℕ) {v : ℕ} → i ≤ length row → e ≡ i + length (until 44 (drop i row)) → v ≡ bitsIn reals (take (e - i) (drop i row))
-    → valuesIn w reals (fieldsAt row i) ≡ bigEndian w v ++ valuesIn w reals (fieldsAt row (e + 1))
-unfolding valuesIn
+    → rowValues w reals (fieldsAt row i) ≡ bigEndian w v ++ rowValues w reals (fieldsAt row (e + 1))
+unfolding rowValues
 values-next w reals row i e h he hv = rw (fields-next row i e h he, hv)
 
-pub values-none : (w : ℕ) (reals : Bool) (row : Bytes) (i : ℕ) → length row < i → valuesIn w reals (fieldsAt row i) ≡ []
-unfolding valuesIn
+pub values-none : (w : ℕ) (reals : Bool) (row : Bytes) (i : ℕ) → length row < i → rowValues w reals (fieldsAt row i) ≡ []
+unfolding rowValues
 values-none w reals row i h = rw (fields-none row i h)

@@ -11,7 +11,7 @@ ghost use Prim.Native.Nat.{_≤_, min};
 ghost use lib.ListN.{getD};
 ghost use Rattle.semantics.specs.Text.{fieldsOf};
 ghost use Rattle.decimal.specs.Number.{most};
-ghost use Rattle.stored.specs.Reading.{numberIn, bitsIn, keywordOf};
+ghost use Rattle.stored.specs.Reading.{numberRead, bitsIn, keywordOf};
 ghost use Rattle.row_fields.specs.Keywords.{whichOf};
 
 // Which of four words a field is, from 1 on, 0 where it is none.
@@ -62,7 +62,7 @@ pub fn field(row: &[u8], i: usize) -> &[u8]
 
 // The number that a field writes, MOST where it is larger, and 0 where there is none.
 pub fn number(f: &[u8]) -> u64
-    ensures { λ r. ⌜ (r ≡ min (numberIn (now (f .entry))) most) × (r ≤ most) ⌝ }
+    ensures { λ r. ⌜ (r ≡ min (numberRead (now (f .entry))) most) × (r ≤ most) ⌝ }
 {
     let n = decimal::natural(f, 0);
     if MOST < n {

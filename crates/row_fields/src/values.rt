@@ -5,7 +5,7 @@ ghost use mathlib.Core.Path.{_≡_};
 ghost use Prim.Native.Nat.{_≤_, _<_, _/_, _%_, _^_};
 ghost use Rattle.semantics.specs.Text.{bigEndian};
 ghost use Rattle.write.specs.Wrote.{Wrote};
-ghost use Rattle.stored.specs.Reading.{bitsIn, valuesIn};
+ghost use Rattle.stored.specs.Reading.{bitsIn, rowValues};
 ghost use Rattle.row_fields.specs.Rest.{fieldsAt};
 
 // Byte j of n, from the lowest.
@@ -50,7 +50,7 @@ pub fn put_values(
     reals: bool,
 ) -> usize
     requires { ⌜ w ≤ 8 ⌝ }
-    ensures { λ r. ⌜ Wrote (now (out .entry)) at (valuesIn w reals (fieldsAt (now (row .entry)) from)) (now (out .exit)) r ⌝ }
+    ensures { λ r. ⌜ Wrote (now (out .entry)) at (rowValues w reals (fieldsAt (now (row .entry)) from)) (now (out .exit)) r ⌝ }
 {
     let mut p = write::nothing(out, at);
     let mut i = from;

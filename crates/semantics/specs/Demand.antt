@@ -20,7 +20,7 @@ use Rattle.semantics.specs.Tree.El.{next, star, at}
 use Rattle.semantics.specs.Tree.Els.{noEls, andEl}
 use Rattle.semantics.specs.Tree.ElemKind.{kByte, kWord, kBig, kReal, kPtr}
 use Rattle.semantics.specs.Sheet.{Located, Source, sheetSource, concatMap}
-use Rattle.semantics.specs.Layout.{sizeOf, isPtr, mapOf, Placed, Recorded, recordedAdts, records, recordsOf, seen}
+use Rattle.semantics.specs.Layout.{sizeOf, isPtr, mapOf, PlacedField, Recorded, recordedAdts, records, recordsOf, seen}
 use Rattle.semantics.specs.Fold.{Result, Names, foldAt0, bits64}
 use Rattle.semantics.specs.Fold.Result.{ok, failed, refuse}
 use Rattle.semantics.specs.Const.{namesOf}
@@ -78,7 +78,7 @@ kindsFit ds = all (λ (d : Declared). ofKind (d .ty) (d .first)) ds
 -- ---- where the globals lie
 
 -- a global's place, the number of its first item, and the start of its part of the area
-pub record Laid : Type 0 where
+pub record LaidGlobal : Type 0 where
   pub global : Declared
   pub offset : ℕ
   pub item : ℕ
@@ -92,7 +92,7 @@ afterPart end (arrayInit a) = partAt end + elemSize (a .kind) * a .count
 afterPart end pendingInit = end
 
 -- globals one after the other, with the end of the places so far, the number of the next item, and the end of the parts so far
-abbrev pub laidFrom : ℕ → ℕ → ℕ → List Declared → List Laid
+abbrev pub laidFrom : ℕ → ℕ → ℕ → List Declared → List LaidGlobal
 laidFrom end k area [] = []
 laidFrom end k area (d ∷ ds) =
     let off = newOffset (d .ty) end in
@@ -103,7 +103,7 @@ laidFrom end k area (d ∷ ds) =
 abbrev pub sourceDeclared : Source → List Declared
 sourceDeclared s = declaredIn (namesOf s) s
 
-abbrev pub laidOf : Source → List Laid
+abbrev pub laidOf : Source → List LaidGlobal
 laidOf s = laidFrom 0 0 0 (sourceDeclared s)
 
 -- ---- what a global's place holds
@@ -126,7 +126,7 @@ abbrev pub liesIn : ℕ → ℕ → ℕ → Bool
 liesIn p off n = leb off p && ltb p (off + n)
 
 -- byte p of the image: of the value of the global that has it in its place, else 0
-abbrev pub imageByte : List Laid → ℕ → ℕ
+abbrev pub imageByte : List LaidGlobal → ℕ → ℕ
 imageByte [] p = 0
 imageByte (l ∷ ls) p =
     cond (liesIn p (l .offset) (globalSize (l .global .ty)))
@@ -168,17 +168,17 @@ partByte p k start (arrayInit a) rest =
     cond (liesIn p start (elemSize (a .kind) * a .count)) (getD (elementsBytes (a .kind) (suc (suc k)) (a .values)) (p - start) 0) rest
 partByte p k start pendingInit rest = rest
 
-abbrev pub areaByte : List Laid → ℕ → ℕ
+abbrev pub areaByte : List LaidGlobal → ℕ → ℕ
 areaByte [] p = 0
 areaByte (l ∷ ls) p = partByte p (l .item) (l .start) (l .global .first) (areaByte ls p)
 
 -- the ends of the last place and of the last part
 
-abbrev pub imageEnd : ℕ → List Laid → ℕ
+abbrev pub imageEnd : ℕ → List LaidGlobal → ℕ
 imageEnd end [] = end
 imageEnd end (l ∷ ls) = imageEnd (l .offset + globalSize (l .global .ty)) ls
 
-abbrev pub areaEnd : ℕ → List Laid → ℕ
+abbrev pub areaEnd : ℕ → List LaidGlobal → ℕ
 areaEnd end [] = end
 areaEnd end (l ∷ ls) = areaEnd (afterPart end (l .global .first)) ls
 
@@ -309,7 +309,7 @@ ItemAt is off k start (arrayInit a) =
     Put is k none (arrayItem off (a .kind) (a .count)) × (partOf is k ≡ start) × ElementsAt is off (suc (suc k)) (a .kind) (a .values)
 ItemAt is off k start pendingInit = Unit {0}
 
-abbrev pub ItemsAt : List Item → List Laid → Type 0
+abbrev pub ItemsAt : List Item → List LaidGlobal → Type 0
 ItemsAt is [] = Unit {0}
 ItemsAt is (l ∷ ls) = ItemAt is (l .offset) (l .item) (l .start) (l .global .first) × ItemsAt is ls
 
@@ -328,11 +328,11 @@ pub record DeclaredAt (ns : Names) (vs : List (Located VarDecl)) (d : Declared) 
   pub sameType : d .ty ≡ line .it .ty
   pub value : initOf ns (line .it .ty) (line .it .init) ≡ ok (d .first)
 
-abbrev pub AllDeclared : Names → List (Located VarDecl) → List Laid → Type 0
+abbrev pub AllDeclared : Names → List (Located VarDecl) → List LaidGlobal → Type 0
 AllDeclared ns vs [] = Unit {0}
 AllDeclared ns vs (l ∷ ls) = DeclaredAt ns vs (l .global) × AllDeclared ns vs ls
 
-abbrev pub globalOf : Laid → Global
+abbrev pub globalOf : LaidGlobal → Global
 globalOf l = record { name = l .global .name; offset = l .offset; ty = l .global .ty }
 
 -- ---- records
@@ -372,16 +372,16 @@ typedNames (some t) ns = map (λ (n : Bytes). record { name = n; ty = t }) ns
 abbrev pub typedFields : List Fd → List Typed
 typedFields fs = concatMap (λ (f : Fd). typedNames (f .ty) (f .names)) fs
 
-abbrev pub typedOf : Placed → Typed
+abbrev pub typedOf : PlacedField → Typed
 typedOf p = record { name = p .name; ty = p .ty }
 
 -- each field begins where the one before it has ended, or later, and ends inside size
-abbrev pub InOrder : ℕ → ℕ → List Placed → Type 0
+abbrev pub InOrder : ℕ → ℕ → List PlacedField → Type 0
 InOrder end size [] = Unit {0}
 InOrder end size (p ∷ ps) = (end ≤ p .offset) × (p .offset + sizeOf (p .ty) ≤ size) × InOrder (p .offset + sizeOf (p .ty)) size ps
 
 -- whether a pointer starts at an offset
-abbrev pub pointerAt : ℕ → Placed → Bool
+abbrev pub pointerAt : ℕ → PlacedField → Bool
 pointerAt off p = isPtr (p .ty) && eqb (p .offset) off
 
 -- bit w of a map, bit 7 first

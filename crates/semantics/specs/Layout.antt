@@ -113,17 +113,17 @@ pointerCount (b ∷ bs) = onesIn 8 b + pointerCount bs
 -- ---- the fields of a record
 
 -- a field, and where it begins
-pub record Placed : Type 0 where
+pub record PlacedField : Type 0 where
   pub name : Bytes
   pub ty : Ty
   pub offset : ℕ
 
 -- fields, and where they end
 pub record Placing : Type 0 where
-  pub placed : List Placed
+  pub placed : List PlacedField
   pub end : ℕ
 
-abbrev pub withField : Placed → Placing → Placing
+abbrev pub withField : PlacedField → Placing → Placing
 withField p r = record { placed = p ∷ r .placed; end = r .end }
 
 -- the names of an `fd` line, one behind the other
@@ -146,15 +146,15 @@ place off (f ∷ fs) = let r = placeLine (f .ty) (f .names) off in joined r (pla
 -- ---- size and pointers
 
 -- the furthest end of fields, at least `end`
-abbrev pub furthest : ℕ → List Placed → ℕ
+abbrev pub furthest : ℕ → List PlacedField → ℕ
 furthest end [] = end
 furthest end (p ∷ ps) = furthest (max end (p .offset + sizeOf (p .ty))) ps
 
-abbrev pub pointersOf : List Placed → List ℤ
-pointersOf ps = concatMap (λ (p : Placed). marksOf (p .ty) (p .offset)) ps
+abbrev pub pointersOf : List PlacedField → List ℤ
+pointersOf ps = concatMap (λ (p : PlacedField). marksOf (p .ty) (p .offset)) ps
 
 -- the shape of a record whose fields begin at `base`
-unfoldable pub shapeOf : ℕ → List Placed → Shape
+unfoldable pub shapeOf : ℕ → List PlacedField → Shape
 shapeOf base ps = record { size = roundedSize (furthest base ps); pointers = pointersOf ps }
 
 -- a record with pick takes the largest size and all variants' pointers
@@ -170,9 +170,9 @@ pub record Recorded : Type 0 where
   pub tag : ℤ
   pub group : ℤ
   pub shape : Shape
-  pub fields : List Placed
+  pub fields : List PlacedField
 
-abbrev pub plainRecord : Bytes → Shape → List Placed → Recorded
+abbrev pub plainRecord : Bytes → Shape → List PlacedField → Recorded
 plainRecord t s ps = record { key = t; tag = negsuc 0; group = negsuc 0; shape = s; fields = ps }
 
 -- where fields begin that stand behind the tag word of a record with pick
@@ -180,14 +180,14 @@ abbrev pub behindTag : ℕ
 behindTag = 4
 
 -- a variant's fields: the common ones, then its own
-abbrev pub variantFields : List Fd → Case → List Placed
+abbrev pub variantFields : List Fd → Case → List PlacedField
 variantFields common k = let r = place behindTag common in r .placed ++ place (r .end) (k .fields) .placed
 
 abbrev pub variantShape : List Fd → Case → Shape
 variantShape common k = shapeOf behindTag (variantFields common k)
 
 -- a variant of case g for each tag, numbered from n on
-abbrev pub variantsOf : Bytes → Shape → List Placed → ℕ → ℕ → List Bytes → List Recorded
+abbrev pub variantsOf : Bytes → Shape → List PlacedField → ℕ → ℕ → List Bytes → List Recorded
 variantsOf t s ps g n [] = []
 variantsOf t s ps g n (x ∷ xs) = record { key = t ++ (46 ∷ x); tag = pos n; group = pos g; shape = s; fields = ps } ∷ variantsOf t s ps g (suc n) xs
 

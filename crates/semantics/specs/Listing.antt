@@ -10,7 +10,7 @@ use Rattle.semantics.specs.Tree.{ConstVal, Shape, TypeKey}
 use Rattle.semantics.specs.Tree.ConstVal.{vInt, vReal, vStr}
 use Rattle.semantics.specs.Tree.TypeKey.{elemKey}
 use Rattle.semantics.specs.Sheet.{Source, concatMap}
-use Rattle.semantics.specs.Layout.{Placed, Recorded, recordedAdts, records, sizeOf, isPtr, mapOf, pointerCount}
+use Rattle.semantics.specs.Layout.{PlacedField, Recorded, recordedAdts, records, sizeOf, isPtr, mapOf, pointerCount}
 use Rattle.semantics.specs.Fold.{Key, Const, sameKey, lookUp, valueOf}
 use Rattle.semantics.specs.Global.{Values, Item, Global, Globals, globalSize}
 use Rattle.semantics.specs.Global.Values.{byteValues, wordValues, bigValues, realValues}
@@ -33,7 +33,7 @@ mapText s = hexOf (mapOf s)
 
 -- ---- records: rec,KEY,TAG,GROUP,SIZE,MAP, then fld,NAME,OFFSET,SIZE each
 
-abbrev pub fieldRow : Placed → Bytes
+abbrev pub fieldRow : PlacedField → Bytes
 fieldRow p = row (bytes "fld" ∷ p .name ∷ decimal (p .offset) ∷ decimal (sizeOf (p .ty)) ∷ [])
 
 unfoldable pub recordRows : Recorded → Bytes

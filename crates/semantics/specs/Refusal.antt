@@ -145,14 +145,14 @@ counted d c = record {
   names = c .names + sumOf (λ (v : VarDecl). length (v .names)) (d .vars);
 }
 
-abbrev pub over : Counts → Bool
-over c = ltb 128 (c .consts) || ltb 128 (c .needs) || ltb 128 (c .frames) || ltb 128 (c .records) || ltb 256 (c .names)
+abbrev pub overLimits : Counts → Bool
+overLimits c = ltb 128 (c .consts) || ltb 128 (c .needs) || ltb 128 (c .frames) || ltb 128 (c .records) || ltb 256 (c .names)
 
 unfoldable pub tooManyFrom : ℕ → Counts → List Node → ℕ
 tooManyFrom k c [] = 0
 tooManyFrom k c (n ∷ ns) =
     let d = counted (n .declares) c in
-    cond (over d) k (tooManyFrom (suc k) d ns)
+    cond (overLimits d) k (tooManyFrom (suc k) d ns)
 
 -- ---- the outcome of compiling
 
@@ -281,9 +281,6 @@ listingOf s = compiled lent lent s
 
 abbrev pub programBuffers : Buffers
 programBuffers = record { listing = lent; work = lent; image = lent; area = lent }
-
-abbrev pub imageOf : Bytes → Imaged
-imageOf s = imaged programBuffers s
 
 -- what the listing program prints; a refusal prints `no,NUMBER,LINE`
 abbrev pub printed : Outcome → Bytes

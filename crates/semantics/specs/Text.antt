@@ -90,9 +90,9 @@ partStart (p ∷ ps) (suc n) = length p + 1 + partStart ps n
 
 -- line n, the empty line where it isn't there: what stands behind the last LF counts, for where that is nothing its one field
 -- is the empty part at the sheet's end too
-abbrev pub lineOf : Bytes → ℕ → Bytes
-lineOf s zero = []
-lineOf s (suc n) = getD (lineParts s) n []
+abbrev pub lineText : Bytes → ℕ → Bytes
+lineText s zero = []
+lineText s (suc n) = getD (lineParts s) n []
 
 abbrev pub hasLine : Bytes → ℕ → Bool
 hasLine s zero = false
@@ -100,15 +100,15 @@ hasLine s (suc n) = ltb n (length (lineParts s))
 
 -- whether field i of line n is there
 abbrev pub hasField : Bytes → ℕ → ℕ → Bool
-hasField s n i = hasLine s n && ltb i (length (fieldsOf (lineOf s n)))
+hasField s n i = hasLine s n && ltb i (length (fieldsOf (lineText s n)))
 
 -- the field's bytes: none where it isn't there
 unfoldable pub fieldOf : Bytes → ℕ → ℕ → Bytes
-fieldOf s n i = cond (hasField s n i) (getD (fieldsOf (lineOf s n)) i []) []
+fieldOf s n i = cond (hasField s n i) (getD (fieldsOf (lineText s n)) i []) []
 
 -- where it stands in the sheet: at the sheet's end where it isn't there
 unfoldable pub fieldStart : Bytes → ℕ → ℕ → ℕ
-fieldStart s n i = cond (hasField s n i) (partStart (lineParts s) (n - 1) + partStart (fieldsOf (lineOf s n)) i) (length s)
+fieldStart s n i = cond (hasField s n i) (partStart (lineParts s) (n - 1) + partStart (fieldsOf (lineText s n)) i) (length s)
 
 -- ---- decimal numbers
 

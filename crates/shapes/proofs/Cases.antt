@@ -25,7 +25,7 @@ use Rattle.refs.specs.Refs.{fineRef, fineRefs}
 use Rattle.refs.proofs.Fine.{needed-ref}
 use Rattle.refs.proofs.Nodes.{node-at}
 use Rattle.checks.specs.Checks.{Checked}
-use Rattle.sizes.specs.Places.{ownFields, commonAt, RecordLine}
+use Rattle.sizes.specs.Places.{ownFields, commonFields, RecordLine}
 use Rattle.sizes.proofs.Forms.{adt-form, pick-form}
 use Rattle.refs.proofs.Fields.{number-exact, head-drop, tail-drop, count-number}
 use Rattle.sizes.proofs.Types.{Good, group-good}
@@ -65,7 +65,7 @@ own-fields : (ds : List AdtDecl) → ownFields ds ≡ firstDecl ds .fields
 own-fields [] = refl
 own-fields (d ∷ ds) = refl
 
-pub fields-are : (s : List ℕ) (r : ℕ) → commonAt s r ≡ declAt s r .fields
+pub fields-are : (s : List ℕ) (r : ℕ) → commonFields s r ≡ declAt s r .fields
 unfolding declAt
 fields-are s r = own-fields (nodeAt (nodesIn s) r .declares .adts)
 
@@ -168,7 +168,7 @@ module _ (s t : List ℕ) (n r : ℕ) (l : PickLine s t n r) where
   pub cases-few : length (casesAt s r) ≤ 16
   cases-few = omega (arith, cases-length, count-number (getD parts (common + 2) []) (cases-good .0) .1)
 
-  module _ (fields : ℕ) (hf : fields ≡ Number.numberOf 65536 (getD parts 1 [])) where
+  module _ (fields : ℕ) (hf : fields ≡ Number.numberUpTo 65536 (getD parts 1 [])) where
     common-exact : fields ≡ common
     common-exact = let q = count-number (getD parts 1 []) common-count in hf ∙ number-exact (getD parts 1 []) (q .0) (omega (arith, q .1))
 
@@ -176,13 +176,13 @@ module _ (s t : List ℕ) (n r : ℕ) (l : PickLine s t n r) where
     fields-length =
         ap length (sym (fields-are s r) ∙ common-is s t n r pick-record fields hf) ∙ group-length (λ (m : Node). m .fd) kFd (nodesIn s) fields (drop 2 parts) ∙ common-exact
 
-    pub case-count : (k : ℕ) → k ≡ Number.numberOf 65536 (getD parts (fields + 2) []) → (k ≡ length (casesAt s r)) × (k ≤ 16)
+    pub case-count : (k : ℕ) → k ≡ Number.numberUpTo 65536 (getD parts (fields + 2) []) → (k ≡ length (casesAt s r)) × (k ≤ 16)
     case-count k hk =
         let q = count-number (getD parts (common + 2) []) (cases-good .0) in
         let e = (rw common-exact at hk) ∙ number-exact (getD parts (common + 2) []) (q .0) (omega (arith, q .1)) ∙ sym cases-length in
         (e, omega (arith, e, cases-few))
 
-    pub case-line : (c v : ℕ) → c < length (casesAt s r) → v ≡ Number.numberOf 65536 (getD parts (fields + 3 + c) []) → CaseOf s t n r c v
+    pub case-line : (c v : ℕ) → c < length (casesAt s r) → v ≡ Number.numberUpTo 65536 (getD parts (fields + 3 + c) []) → CaseOf s t n r c v
     case-line c v h hv =
         let m : c < numberOf (getD parts (common + 2) []) = omega (arith, cases-length) in
         let g = cases-good .1 c m in

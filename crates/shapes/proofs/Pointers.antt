@@ -11,7 +11,7 @@ use Rattle.semantics.specs.Tree.{Fd, Case, Shape, noCase}
 use Rattle.semantics.specs.Sheet.{concatMap}
 use Rattle.semantics.specs.Layout.{marked, pointerMap, place, pointersOf, shapeOf, pickShape, behindTag, variantShape}
 use Rattle.lines.specs.Lines.{formAt}
-use Rattle.sizes.specs.Places.{commonAt, caseAt, RecordLine}
+use Rattle.sizes.specs.Places.{commonFields, caseFields, RecordLine}
 use Rattle.maps.specs.Maps.{Marks}
 use Rattle.shapes.specs.Shapes.{declAt, shapeAt, casesAt, variantAt, PickLine, CaseOf}
 use Rattle.marks.specs.Fields.{AllMarked}
@@ -77,7 +77,7 @@ module _ (s : List ℕ) (r size : ℕ) where
   pub cases-marked-start : {end : ℕ} {t : List ℕ} → CasesMarked s r size end 0 t t
   cases-marked-start = record { done = []; marks = marks-none; rest = refl }
 
-  pub cases-marked-next : {n end c v p : ℕ} {t u w : List ℕ} → CasesMarked s r size end c t u → c < length (casesAt s r) → CaseOf s u n r c v → AllMarked (caseAt s v) size end p u w
+  pub cases-marked-next : {n end c v p : ℕ} {t u w : List ℕ} → CasesMarked s r size end c t u → c < length (casesAt s r) → CaseOf s u n r c v → AllMarked (caseFields s v) size end p u w
       → CasesMarked s r size end (c + 1) t w
   cases-marked-next {n} {end} {c} {v} {p} {t} {u} {w} m h k a =
       let own = pointersOf (place end (getD (casesAt s r) c noCase .fields) .placed) in
@@ -89,10 +89,10 @@ module _ (s : List ℕ) (r size : ℕ) where
 
 module _ (s t : List ℕ) (n r size : ℕ) where
   -- behind the common fields
-  common-end : {q : ℕ} {u : List ℕ} → AllMarked (commonAt s r) size behindTag q t u → q ≡ place behindTag (declAt s r .fields) .end
+  common-end : {q : ℕ} {u : List ℕ} → AllMarked (commonFields s r) size behindTag q t u → q ≡ place behindTag (declAt s r .fields) .end
   common-end a = rw (← fields-are s r) (a .end)
 
-  pub cases-marked-end : {end c : ℕ} {u w : List ℕ} → PickLine s t n r → AllMarked (commonAt s r) size behindTag end t u → CasesMarked s r size end c u w → length (casesAt s r) ≤ c
+  pub cases-marked-end : {end c : ℕ} {u w : List ℕ} → PickLine s t n r → AllMarked (commonFields s r) size behindTag end t u → CasesMarked s r size end c u w → length (casesAt s r) ≤ c
       → Marks size (shapeAt s r .pointers) t w
   cases-marked-end {end} {c} {u} {w} l a m h =
       let e : m .done ≡ ownMarks end (casesAt s r) = sym (append-none (m .done)) ∙ (rw (drop-of-length-le (casesAt s r) h) at (m .rest)) in
@@ -101,11 +101,11 @@ module _ (s t : List ℕ) (n r size : ℕ) where
 
   -- ---- an `adt` line, and one case
 
-  pub adt-marks : {q : ℕ} {u : List ℕ} → RecordLine s t n r → formAt t (r - 1) ≡ 26 → AllMarked (commonAt s r) size 0 q t u → Marks size (shapeAt s r .pointers) t u
+  pub adt-marks : {q : ℕ} {u : List ℕ} → RecordLine s t n r → formAt t (r - 1) ≡ 26 → AllMarked (commonFields s r) size 0 q t u → Marks size (shapeAt s r .pointers) t u
   unfolding shapeOf
   adt-marks l e a = rw (adt-shape s t n r l e, ← fields-are s r) (a .marks)
 
-  pub variant-marks : {c v q p : ℕ} {u w : List ℕ} → AllMarked (commonAt s r) size behindTag q t u → CaseOf s u n r c v → AllMarked (caseAt s v) size q p u w
+  pub variant-marks : {c v q p : ℕ} {u w : List ℕ} → AllMarked (commonFields s r) size behindTag q t u → CaseOf s u n r c v → AllMarked (caseFields s v) size q p u w
       → Marks size (variantAt s r c .pointers) t w
   unfolding variantAt
   variant-marks {c} a k b =

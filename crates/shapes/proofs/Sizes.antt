@@ -13,7 +13,7 @@ use Rattle.semantics.specs.Layout.{roundedSize, place, furthest, shapeOf, pickS
 use Rattle.layout.proofs.Bounds.{place-above, place-within, furthest-within}
 use Rattle.lines.specs.Lines.{formAt}
 use Rattle.sizes.specs.declared.place.Reached.{Reached}
-use Rattle.sizes.specs.Places.{commonAt, caseAt, RecordLine, AllPlaced}
+use Rattle.sizes.specs.Places.{commonFields, caseFields, RecordLine, AllPlaced}
 use Rattle.sizes.proofs.Places.{furthest-append}
 use Rattle.shapes.specs.Shapes.{declAt, firstShape, shapeAt, casesAt, variantAt, PickLine, CaseOf, BehindCommon}
 use Rattle.shapes.proofs.Cases.{fields-are, adt-plain, pick-some}
@@ -44,22 +44,22 @@ furthest-low fs p q a h =
     rw (a .furthest, a .end) (furthest-within (p .furthest) e (place (p .end) fs .placed) (omega (arith, place-above fs (p .end))) (place-within fs (p .end) e (le-refl e)))
 
 pub adt-size : (s t : List ℕ) (n r x : ℕ) (p q : Reached) → RecordLine s t n r → formAt t (r - 1) ≡ 26 → p .end ≡ 0 → p .furthest ≡ 0
-    → AllPlaced (commonAt s r) p q → x ≡ roundedSize (q .furthest) → x ≡ shapeAt s r .size
+    → AllPlaced (commonFields s r) p q → x ≡ roundedSize (q .furthest) → x ≡ shapeAt s r .size
 unfolding shapeOf
 adt-size s t n r x p q l e h k a g =
     g ∙ rw (adt-shape s t n r l e, a .furthest, h, k, fields-are s r)
 
 -- ---- variants
 
-pub behind-common : (s : List ℕ) (r : ℕ) (p q : Reached) → p .end ≡ 4 → p .furthest ≡ 4 → AllPlaced (commonAt s r) p q → q .end ≤ 2097284 → BehindCommon s r q
+pub behind-common : (s : List ℕ) (r : ℕ) (p q : Reached) → p .end ≡ 4 → p .furthest ≡ 4 → AllPlaced (commonFields s r) p q → q .end ≤ 2097284 → BehindCommon s r q
 behind-common s r p q h k a b = record {
   end = a .end ∙ rw (h, fields-are s r);
   furthest = a .furthest ∙ rw (h, k, fields-are s r);
-  within = furthest-low (commonAt s r) p q a (omega arith);
+  within = furthest-low (commonFields s r) p q a (omega arith);
   small = b;
 }
 
-pub variant-size : (s t : List ℕ) (n r c v x : ℕ) (p : Reached) → BehindCommon s r p → CaseOf s t n r c v → x ≡ roundedSize (furthest (p .furthest) (place (p .end) (caseAt s v) .placed))
+pub variant-size : (s t : List ℕ) (n r c v x : ℕ) (p : Reached) → BehindCommon s r p → CaseOf s t n r c v → x ≡ roundedSize (furthest (p .furthest) (place (p .end) (caseFields s v) .placed))
     → x ≡ variantAt s r c .size
 unfolding variantAt shapeOf
 variant-size s t n r c v x p b k e =

@@ -6,8 +6,8 @@ ghost use Prim.Native.Nat.{_-_, _≤_};
 ghost use lib.ListN.{length};
 ghost use Rattle.semantics.specs.Layout.{roundedSize, furthest, place};
 ghost use Rattle.lines.specs.Lines.{formAt};
-ghost use Rattle.sizes.specs.Places.{caseAt, CaseLine, RecordLine};
-ghost use Rattle.maps.specs.Maps.{MapRoom, Marks, Made};
+ghost use Rattle.sizes.specs.Places.{caseFields, CaseLine, RecordLine};
+ghost use Rattle.maps.specs.Maps.{MapRoom, Marks, MapMade};
 ghost use Rattle.shapes.specs.Shapes.{shapeAt, casesAt, variantAt, PickLine, VariantLine, CaseOf, BehindCommon};
 
 // The bytes of the tag word of a record with `pick`: fields begin behind it.
@@ -46,7 +46,7 @@ fn behind_common(sheet: &[u8], work: &[u8], n: usize, r: usize) -> Reached
 // The size of the variants of the `pc` line k, whose common fields end at p.
 fn case_size(sheet: &[u8], work: &[u8], n: usize, k: usize, p: Reached) -> u32
     requires { ⌜ (CaseLine (now sheet) (now work) n k) × (p .furthest ≤ p .end) × (p .end ≤ 2097284) ⌝ }
-    ensures { λ x. ⌜ x ≡ roundedSize (furthest (p .furthest) (place (p .end) (caseAt (now (sheet .entry)) k) .placed)) ⌝ }
+    ensures { λ x. ⌜ x ≡ roundedSize (furthest (p .furthest) (place (p .end) (caseFields (now (sheet .entry)) k) .placed)) ⌝ }
 {
     let v = sizes::place::place_case(sheet, work, n, k, p);
     sizes::rounded_size(v.furthest)
@@ -120,7 +120,7 @@ fn mark_pick(sheet: &[u8], work: &mut [u8], n: usize, r: usize, size: u32)
 // Makes the pointer map of the record T of the `adt` or `pick` line r, for a block of this size.
 pub fn map_record(sheet: &[u8], work: &mut [u8], n: usize, r: usize, size: u32)
     requires { ⌜ (RecordLine (now sheet) (now work) n r) × (MapRoom (now work) size) ⌝ }
-    ensures { λ _. ⌜ Made size (shapeAt (now (sheet .entry)) r .pointers) (now (work .entry)) (now (work .exit)) ⌝ }
+    ensures { λ _. ⌜ MapMade size (shapeAt (now (sheet .entry)) r .pointers) (now (work .entry)) (now (work .exit)) ⌝ }
 {
     maps::clear_map(work, size);
     if lines::form_at(work, r - 1) == decl::ADT {
@@ -133,7 +133,7 @@ pub fn map_record(sheet: &[u8], work: &mut [u8], n: usize, r: usize, size: u32)
 // Makes the pointer map of the variants of case c, from 0, of the `pick` line r, for a block of this size.
 pub fn map_variant(sheet: &[u8], work: &mut [u8], n: usize, r: usize, c: usize, size: u32)
     requires { ⌜ (VariantLine (now sheet) (now work) n r c) × (MapRoom (now work) size) ⌝ }
-    ensures { λ _. ⌜ Made size (variantAt (now (sheet .entry)) r c .pointers) (now (work .entry)) (now (work .exit)) ⌝ }
+    ensures { λ _. ⌜ MapMade size (variantAt (now (sheet .entry)) r c .pointers) (now (work .entry)) (now (work .exit)) ⌝ }
 {
     maps::clear_map(work, size);
     let behind = marks::mark_common(sheet, work, n, r, size, TAG_BYTES);

@@ -163,7 +163,7 @@ pub record Measuring (s : List ℕ) (r count size align j : ℕ) : Type 0 where
   pub small : size ≤ 8192
   pub word : 4 ≤ align
 
-module _ {s t : List ℕ} {n r : ℕ} (l : TupleLine s t n r) {count : ℕ} (hc : count ≡ Number.numberOf 65536 (getD (readAt s (r - 1) .fields) 0 [])) where
+module _ {s t : List ℕ} {n r : ℕ} (l : TupleLine s t n r) {count : ℕ} (hc : count ≡ Number.numberUpTo 65536 (getD (readAt s (r - 1) .fields) 0 [])) where
   fields-good : (isCount (getD (readAt s (r - 1) .fields) 0 []) ≡ true) × ((j : ℕ) → j < numberOf (getD (readAt s (r - 1) .fields) 0 []) → Good (readsIn s) (r - 1) 75 (getD (readAt s (r - 1) .fields) (suc j) []))
   unfolding forms
   fields-good =
@@ -198,7 +198,7 @@ module _ {s t : List ℕ} {n r : ℕ} (l : TupleLine s t n r) {count : ℕ} (hc 
         let d : align ≡ max align 4 = omega (arith, m .word) in
         measured (l .line) (ha ∙ rw (tuple-is, e)) (hb ∙ d ∙ g ∙ sym (ap alignOf tuple-is))
 
-    module _ (h : j < count) {v : ℕ} (hv : v ≡ Number.numberOf 65536 (getD (readAt s (r - 1) .fields) (j + 1) [])) where
+    module _ (h : j < count) {v : ℕ} (hv : v ≡ Number.numberUpTo 65536 (getD (readAt s (r - 1) .fields) (j + 1) [])) where
       ref-good : Good (readsIn s) (r - 1) 75 (getD (readAt s (r - 1) .fields) (j + 1) [])
       ref-good = rw add-one (fields-good .1 j (omega (arith, count-is)))
 

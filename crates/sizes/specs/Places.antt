@@ -19,8 +19,8 @@ use Rattle.sizes.specs.declared.place.Reached.{Reached}
 use Rattle.sizes.specs.declared.place.Refs.{Refs}
 
 -- what line r makes, from 1
-abbrev pub fieldAt : Bytes → ℕ → Fd
-fieldAt s r = nodeAt (nodesIn s) r .fd
+abbrev pub fdAt : Bytes → ℕ → Fd
+fdAt s r = nodeAt (nodesIn s) r .fd
 
 -- line r of a checked sheet is an `fd` line, 70
 pub record FieldLine (s t : Bytes) (n r : ℕ) : Type 0 where
@@ -30,11 +30,11 @@ pub record FieldLine (s t : Bytes) (n r : ℕ) : Type 0 where
   pub kind : letter (readAt s (r - 1) .form .kind) ≡ 70
 
 -- what `count` fields of line r from field `from` on refer to
-abbrev pub fieldsAt : Bytes → ℕ → ℕ → ℕ → List Fd
-fieldsAt s r from count = fdsOf (values (ref kFd) (nodesIn s) count (drop from (readAt s (r - 1) .fields)))
+abbrev pub fdsFrom : Bytes → ℕ → ℕ → ℕ → List Fd
+fdsFrom s r from count = fdsOf (values (ref kFd) (nodesIn s) count (drop from (readAt s (r - 1) .fields)))
 
-abbrev pub fieldsOf : Bytes → Refs → List Fd
-fieldsOf s f = fieldsAt s (f .line) (f .from) (f .count)
+abbrev pub fdsOfRefs : Bytes → Refs → List Fd
+fdsOfRefs s f = fdsFrom s (f .line) (f .from) (f .count)
 
 -- they refer to `fd` lines
 pub record FieldRefs (s t : Bytes) (n : ℕ) (f : Refs) : Type 0 where
@@ -51,8 +51,8 @@ abbrev pub ownFields : List AdtDecl → List Fd
 ownFields [] = []
 ownFields (d ∷ ds) = d .fields
 
-abbrev pub commonAt : Bytes → ℕ → List Fd
-commonAt s r = ownFields (nodeAt (nodesIn s) r .declares .adts)
+abbrev pub commonFields : Bytes → ℕ → List Fd
+commonFields s r = ownFields (nodeAt (nodesIn s) r .declares .adts)
 
 -- line r of a checked sheet is an `adt` line, 65, or a `pick` line, 66
 pub record RecordLine (s t : Bytes) (n r : ℕ) : Type 0 where
@@ -62,8 +62,8 @@ pub record RecordLine (s t : Bytes) (n r : ℕ) : Type 0 where
   pub kind : eqb (letter (readAt s (r - 1) .form .kind)) 65 || eqb (letter (readAt s (r - 1) .form .kind)) 66 ≡ true
 
 -- the fields of the case that line r makes
-abbrev pub caseAt : Bytes → ℕ → List Fd
-caseAt s r = nodeAt (nodesIn s) r .case .fields
+abbrev pub caseFields : Bytes → ℕ → List Fd
+caseFields s r = nodeAt (nodesIn s) r .case .fields
 
 -- line r of a checked sheet is a `pc` line, 67
 pub record CaseLine (s t : Bytes) (n r : ℕ) : Type 0 where

@@ -11,7 +11,7 @@ ghost use lib.ListN.{length};
 ghost use Rattle.semantics.specs.Text.{Bytes};
 ghost use Rattle.semantics.specs.Tree.{Ty};
 ghost use Rattle.sizes.specs.Sizes.{Measures};
-ghost use Rattle.sizes.specs.Places.{fieldAt, fieldsOf, commonAt, caseAt, FieldLine, FieldRefs, RecordLine, CaseLine, LinePlaced, AllPlaced};
+ghost use Rattle.sizes.specs.Places.{fdAt, fdsOfRefs, commonFields, caseFields, FieldLine, FieldRefs, RecordLine, CaseLine, LinePlaced, AllPlaced};
 
 // The `count` fields of a line from field `from` on, which refer to `fd` lines.
 pub struct Refs {
@@ -23,7 +23,7 @@ pub struct Refs {
 // Those of the `adt` or `pick` line r that are no case's.
 pub fn common_refs(sheet: &[u8], work: &[u8], n: usize, r: usize) -> Refs
     requires { ⌜ RecordLine (now sheet) (now work) n r ⌝ }
-    ensures { λ f. ⌜ (FieldRefs (now (sheet .entry)) (now (work .entry)) n f) × (fieldsOf (now (sheet .entry)) f ≡ commonAt (now (sheet .entry)) r) ⌝ }
+    ensures { λ f. ⌜ (FieldRefs (now (sheet .entry)) (now (work .entry)) n f) × (fdsOfRefs (now (sheet .entry)) f ≡ commonFields (now (sheet .entry)) r) ⌝ }
 {
     let count = lines::number_at(sheet, work, n, r - 1, 1);
     Refs {
@@ -36,7 +36,7 @@ pub fn common_refs(sheet: &[u8], work: &[u8], n: usize, r: usize) -> Refs
 // Those of the `pc` line r, which follow its tags.
 pub fn case_refs(sheet: &[u8], work: &[u8], n: usize, r: usize) -> Refs
     requires { ⌜ CaseLine (now sheet) (now work) n r ⌝ }
-    ensures { λ f. ⌜ (FieldRefs (now (sheet .entry)) (now (work .entry)) n f) × (fieldsOf (now (sheet .entry)) f ≡ caseAt (now (sheet .entry)) r) ⌝ }
+    ensures { λ f. ⌜ (FieldRefs (now (sheet .entry)) (now (work .entry)) n f) × (fdsOfRefs (now (sheet .entry)) f ≡ caseFields (now (sheet .entry)) r) ⌝ }
 {
     let at = lines::number_at(sheet, work, n, r - 1, 0) + 1;
     let count = lines::number_at(sheet, work, n, r - 1, at);
@@ -70,7 +70,7 @@ fn place_line(p: Reached, x: SizeAlign, pointer: bool, names: usize) -> Reached
 // Behind the `fd` line r. An untyped one is skipped.
 pub fn place_field(sheet: &[u8], work: &[u8], n: usize, r: usize, p: Reached) -> Reached
     requires { ⌜ (FieldLine (now sheet) (now work) n r) × (p .end ≤ 4500000) ⌝ }
-    ensures { λ q. ⌜ (LinePlaced (fieldAt (now (sheet .entry)) r .ty) (fieldAt (now (sheet .entry)) r .names) p q) × (q .end ≤ p .end + 131080) ⌝ }
+    ensures { λ q. ⌜ (LinePlaced (fdAt (now (sheet .entry)) r .ty) (fdAt (now (sheet .entry)) r .names) p q) × (q .end ≤ p .end + 131080) ⌝ }
 {
     let t = lines::number_at(sheet, work, n, r - 1, 0);
     if t == 0 {
@@ -84,7 +84,7 @@ pub fn place_field(sheet: &[u8], work: &[u8], n: usize, r: usize, p: Reached) ->
 // Behind the `fd` lines to which these fields refer.
 fn place_fields(sheet: &[u8], work: &[u8], n: usize, f: Refs, p: Reached) -> Reached
     requires { ⌜ (FieldRefs (now sheet) (now work) n f) × (p .end ≤ 2200000) ⌝ }
-    ensures { λ q. ⌜ (AllPlaced (fieldsOf (now (sheet .entry)) f) p q) × (q .end ≤ p .end + 2097280) ⌝ }
+    ensures { λ q. ⌜ (AllPlaced (fdsOfRefs (now (sheet .entry)) f) p q) × (q .end ≤ p .end + 2097280) ⌝ }
 {
     let mut q = p;
     let mut j = 0;
@@ -99,7 +99,7 @@ fn place_fields(sheet: &[u8], work: &[u8], n: usize, f: Refs, p: Reached) -> Rea
 // Behind the fields of the `adt` or `pick` line r that are no case's. They begin at 0, or behind a pick's tag at 4.
 pub fn place_common(sheet: &[u8], work: &[u8], n: usize, r: usize, p: Reached) -> Reached
     requires { ⌜ (RecordLine (now sheet) (now work) n r) × (p .end ≤ 4) ⌝ }
-    ensures { λ q. ⌜ (AllPlaced (commonAt (now (sheet .entry)) r) p q) × (q .end ≤ 2097284) ⌝ }
+    ensures { λ q. ⌜ (AllPlaced (commonFields (now (sheet .entry)) r) p q) × (q .end ≤ 2097284) ⌝ }
 {
     let f = common_refs(sheet, work, n, r);
     place_fields(sheet, work, n, f, p)
@@ -108,7 +108,7 @@ pub fn place_common(sheet: &[u8], work: &[u8], n: usize, r: usize, p: Reached) -
 // Behind the fields of the `pc` line r.
 pub fn place_case(sheet: &[u8], work: &[u8], n: usize, r: usize, p: Reached) -> Reached
     requires { ⌜ (CaseLine (now sheet) (now work) n r) × (p .end ≤ 2097284) ⌝ }
-    ensures { λ q. ⌜ (AllPlaced (caseAt (now (sheet .entry)) r) p q) × (q .end ≤ 4194564) ⌝ }
+    ensures { λ q. ⌜ (AllPlaced (caseFields (now (sheet .entry)) r) p q) × (q .end ≤ 4194564) ⌝ }
 {
     let f = case_refs(sheet, work, n, r);
     place_fields(sheet, work, n, f, p)

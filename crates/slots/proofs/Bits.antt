@@ -24,7 +24,7 @@ use Rattle.write.proofs.Back.{bits-back}
 use Rattle.values.specs.declared.ConstVal.{ConstVal}
 use Rattle.values.specs.declared.ConstVal.the-variants.{Int, Real, Str}
 use Rattle.words.specs.Words.{bitsAt}
-use Rattle.slots.specs.Slots.{slotBy, slotOf, Stored}
+use Rattle.slots.specs.Slots.{slotBy, slotOf, SlotStored}
 
 -- ---- storing
 
@@ -53,7 +53,7 @@ module _ (t : Bytes) (a k b : ℕ) (room : a + 9 ≤ length t) (fits : b < 2 ^ 6
       ∙ drop-at (take a t ++ (k ∷ [])) (bigEndian 8 b ++ rest) (a + 1) (length-append (take a t) (k ∷ []) ∙ omega (arith, length-take-le a t (omega arith))) in
       ap (λ (u : Bytes). fromBigEndian 0 (take 8 u)) d ∙ ap (fromBigEndian 0) (take-at (bigEndian 8 b) rest 8 (big-length 8 b)) ∙ bits-back b fits
 
-  pub stored : {v : ConstVal} {u : Bytes} → u ≡ over t a (k ∷ bigEndian 8 b) → slotBy k b ≡ v → Stored t a v u
+  pub stored : {v : ConstVal} {u : Bytes} → u ≡ over t a (k ∷ bigEndian 8 b) → slotBy k b ≡ v → SlotStored t a v u
   unfolding slotOf over
   stored {v} {u} e h = rw e (record {
     value = rw (kind-stored, bits-stored) h;
@@ -72,15 +72,15 @@ bits-lt (pos n) = omega arith
 bits-lt (negsuc n) = omega arith
 
 module _ (t : Bytes) (a : ℕ) (room : a + 9 ≤ length t) {v : ConstVal} {u : Bytes} {b : ℕ} where
-  pub stored-int : (z : ℤ) → SFits w64 z → b ≡ bits64 (held w64 z) → u ≡ over t a (1 ∷ bigEndian 8 b) → v ≡ Int z → Stored t a v u
+  pub stored-int : (z : ℤ) → SFits w64 z → b ≡ bits64 (held w64 z) → u ≡ over t a (1 ∷ bigEndian 8 b) → v ≡ Int z → SlotStored t a v u
   unfolding slotBy wrap
   stored-int z f e h q = let d : b ≡ bits64 z = from1 bits64 f e in stored t a 1 b room (rw d (bits-lt z)) h (ap (λ (x : ℕ). Int (signed64 x)) d ∙ ap Int (wrap-same f) ∙ sym q)
 
-  pub stored-real : (x : Float) → fits binary64 x ≡ true → b ≡ toBits binary64 x → u ≡ over t a (2 ∷ bigEndian 8 b) → v ≡ Real x → Stored t a v u
+  pub stored-real : (x : Float) → fits binary64 x ≡ true → b ≡ toBits binary64 x → u ≡ over t a (2 ∷ bigEndian 8 b) → v ≡ Real x → SlotStored t a v u
   unfolding slotBy
   stored-real x y e h q = let f : T (fits binary64 x) = subst T (sym y) tt in stored t a 2 b room (rw e (toBits-lt binary64 x f)) h (ap (λ (n : ℕ). Real (ofBits binary64 n)) e ∙ ap Real (ofBits-toBits binary64 x f) ∙ sym q)
 
-  pub stored-string : (p l : ℕ) → p < 65536 → l < 65536 → b ≡ p + 65536 * l → u ≡ over t a (3 ∷ bigEndian 8 b) → v ≡ Str p l → Stored t a v u
+  pub stored-string : (p l : ℕ) → p < 65536 → l < 65536 → b ≡ p + 65536 * l → u ≡ over t a (3 ∷ bigEndian 8 b) → v ≡ Str p l → SlotStored t a v u
   unfolding slotBy
   stored-string p l hp hl e h q =
       let x : b % 65536 ≡ p = omega arith in

@@ -27,7 +27,7 @@ Small (Real x) = Unit {0}
 Small (Str p l) = (p < 65536) × (l < 65536)
 
 -- t has become u, with v in the slot at a and nothing else changed
-pub record Stored (t : Bytes) (a : ℕ) (v : ConstVal) (u : Bytes) : Type 0 where
+pub record SlotStored (t : Bytes) (a : ℕ) (v : ConstVal) (u : Bytes) : Type 0 where
   pub value : slotOf u a ≡ v
   pub long : length u ≡ length t
   pub others : (j : ℕ) → (j < a) ⊎ (a + 9 ≤ j) → getD u j 0 ≡ getD t j 0

@@ -6,7 +6,7 @@ ghost use Prim.Native.Nat.{_+_, _≤_};
 ghost use lib.ListN.{length};
 ghost use Rattle.semantics.specs.Text.{bigEndian};
 ghost use Rattle.write.specs.Wrote.{over};
-ghost use Rattle.slots.specs.Slots.{slotOf, Small, Stored};
+ghost use Rattle.slots.specs.Slots.{slotOf, Small, SlotStored};
 
 fn store(work: &mut [u8], a: usize, kind: u8, bits: u64)
     ensures { λ _. ⌜ now (work .exit) ≡ over (now (work .entry)) a (kind ∷ bigEndian 8 bits) ⌝ }
@@ -18,7 +18,7 @@ fn store(work: &mut [u8], a: usize, kind: u8, bits: u64)
 // Stores a value in the slot at a.
 pub fn put_value(work: &mut [u8], a: usize, v: values::ConstVal)
     requires { ⌜ (a + 9 ≤ length (now work)) × (Small v) ⌝ }
-    ensures { λ _. ⌜ Stored (now (work .entry)) a v (now (work .exit)) ⌝ }
+    ensures { λ _. ⌜ SlotStored (now (work .entry)) a v (now (work .exit)) ⌝ }
 {
     match v {
         values::ConstVal::Int(n) => store(work, a, value::INT, ints::bits(n)),

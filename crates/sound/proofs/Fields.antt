@@ -16,7 +16,7 @@ use Rattle.semantics.specs.Form.{Atom, Part, Value, Makes, holds, between, valu
 use Rattle.semantics.specs.Form.Atom.{name, key, ref, maybe, unaryOp, binaryOp, lineOrCol, size, i64, offset, real, text}
 use Rattle.semantics.specs.Form.Part.{one, many}
 use Rattle.semantics.proofs.Common.{never, both}
-use Rattle.write.specs.Plain.{isPlain}
+use Rattle.write.specs.Plain.{isPlainText}
 use Rattle.stored.proofs.Items.{Fits64}
 use Rattle.stored.proofs.Names.{name-plain}
 use Rattle.sound.proofs.Limits.{LimitedNode}
@@ -80,7 +80,7 @@ LimitedPerhaps none = Unit {0}
 LimitedPerhaps (some m) = LimitedNode m
 
 abbrev pub LimitedField : (a : Atom) → Value a → Type 0
-LimitedField name v = isPlain v ≡ true
+LimitedField name v = isPlainText v ≡ true
 LimitedField key v = Unit {0}
 LimitedField (ref k) v = LimitedNode v
 LimitedField (maybe k) v = LimitedPerhaps v

@@ -12,7 +12,7 @@ use Rattle.semantics.specs.Tree.Ex.{constant, ident, modQual, unary, binary, ca
 use Rattle.semantics.specs.Tree.ArrayEx.{alloc, lit}
 use Rattle.semantics.specs.Tree.El.{next, star, at}
 use Rattle.semantics.specs.Tree.Els.{noEls, andEl}
-use Rattle.write.specs.Plain.{isPlain}
+use Rattle.write.specs.Plain.{isPlainText}
 use Rattle.stored.proofs.Rows.{Plain}
 use Rattle.stored.proofs.Items.{Fits64}
 use Rattle.stored.proofs.Names.{PlainFields, PlainAdt}
@@ -59,7 +59,7 @@ LimitedInit none = Unit {0}
 LimitedInit (some e) = LimitedEx e
 
 abbrev pub LimitedDecl : ConstDecl → Type 0
-LimitedDecl c = (isPlain (c .name) ≡ true) × LimitedEx (c .value)
+LimitedDecl c = (isPlainText (c .name) ≡ true) × LimitedEx (c .value)
 
 abbrev pub LimitedVar : VarDecl → Type 0
 LimitedVar v = Plain (v .names) × LimitedInit (v .init)

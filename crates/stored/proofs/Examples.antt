@@ -6,8 +6,8 @@ use mathlib.Core.List.{[], _∷_}
 use mathlib.Core.Option.{Option, none, some}
 use Rattle.semantics.specs.Text.{Bytes, bytes, natOf, intOf, unhex, bigEndian}
 use Rattle.write.specs.Wrote.{over}
-use Rattle.stored.specs.Reading.{numberIn, bitsIn, valuesIn, keywordOf, readRow, readRows, readAll, sizeBy, sizeRows, sizeIn}
-use Rattle.stored.specs.Laying.{Laying, layImage, layPart, layBytes, layArray, layAll, beginning}
+use Rattle.stored.specs.Reading.{numberRead, bitsIn, rowValues, keywordOf, readRow, readRows, readAll, sizeBy, sizeRows, sizeIn}
+use Rattle.stored.specs.Laying.{Laying, layImage, layPart, layBytes, layArray, layAll, layingStart}
 
 -- an array of three bytes, one of an int, and a real
 abbrev text : Bytes
@@ -15,7 +15,7 @@ text = bytes "glo,a,0,4,1\nglo,b,4,4,1\nglo,r,8,8,0\ndat,array,0,3,3\ndat,set,0,
 
 -- in buffers of so many bytes
 abbrev laid : ℕ → ℕ → Option Laying
-laid image area = layAll (readAll (sizeIn text) text) (beginning 16 image area)
+laid image area = layAll (readAll (sizeIn text) text) (layingStart 16 image area)
 
 -- handles of items 0 and 4, the real's bits, and a byte to spare; parts of 3 and 4 bytes, at 0 and 8, and a byte to spare
 abbrev whole : Laying
@@ -30,5 +30,5 @@ whole = record {
 }
 
 text-laid : (laid 17 13 ∷ laid 15 13 ∷ laid 17 11 ∷ []) ≡ (some whole ∷ none ∷ none ∷ [])
-unfolding natOf intOf unhex bigEndian over numberIn bitsIn valuesIn keywordOf readRow readRows readAll sizeBy sizeRows sizeIn layImage layPart layBytes layArray beginning
+unfolding natOf intOf unhex bigEndian over numberRead bitsIn rowValues keywordOf readRow readRows readAll sizeBy sizeRows sizeIn layImage layPart layBytes layArray layingStart
 text-laid = refl

@@ -19,11 +19,11 @@ use Rattle.semantics.specs.Global.Values.{byteValues, wordValues, bigValues, re
 use Rattle.semantics.specs.Global.Item.{valuesItem, strItem, arrayItem, setItem, backItem}
 use Rattle.semantics.specs.Listing.{realText, itemFields, itemRow}
 use Rattle.semantics.specs.Image.{realBytes, elemSize, Replay, replayItem, replayAll}
-use Rattle.write.specs.Plain.{isPlain}
+use Rattle.write.specs.Plain.{isPlainText}
 use Rattle.write.proofs.Back.{nat-back, int-back, hex-back, bits-back}
 use Rattle.write.proofs.Uncut.{decimal-plain, integer-plain, hex-plain}
 use Rattle.stored.specs.Stored.{Stored, storedOf, bytesAt, replayOne, replayStored}
-use Rattle.stored.specs.Reading.{numberIn, integerBits, realBits, bitsIn, valuesIn, keywordOf, readRow, readAll}
+use Rattle.stored.specs.Reading.{numberRead, integerBits, realBits, bitsIn, rowValues, keywordOf, readRow, readAll}
 use Rattle.stored.proofs.Rows.{Plain, read-row}
 use Rattle.laws.specs.Every.{Every}
 
@@ -42,8 +42,8 @@ replay-stored (i ∷ is) r = ap (replayStored (map storedOf is)) (replay-one i r
 
 -- ---- fields
 
-pub number-back : (n : ℕ) → numberIn (decimal n) ≡ n
-unfolding numberIn
+pub number-back : (n : ℕ) → numberRead (decimal n) ≡ n
+unfolding numberRead
 number-back n = ap (orElse 0) (nat-back n)
 
 abbrev pub Fits64 : ℤ → Type 0
@@ -83,18 +83,18 @@ byte-read v l =
     let e : v % 2 ^ 64 / 1 % 256 ≡ v = omega arith in
     ap (bigEndian 1) (integer-bits (pos v) (le-leb v (2 ^ 63 - 1) (omega arith))) ∙ ap (λ (n : ℕ). n ∷ []) e
 
-bytes-read : (vs : List ℕ) → Every (λ (b : ℕ). b < 256) vs → valuesIn 1 false (map decimal vs) ≡ vs
-unfolding valuesIn
+bytes-read : (vs : List ℕ) → Every (λ (b : ℕ). b < 256) vs → rowValues 1 false (map decimal vs) ≡ vs
+unfolding rowValues
 bytes-read [] h = refl
 bytes-read (v ∷ vs) h = λ i. byte-read v (h .0) i ++ bytes-read vs (h .1) i
 
-integers-read : (w : ℕ) (zs : List ℤ) → Every Fits64 zs → valuesIn w false (map decimalℤ zs) ≡ concatMap (λ (z : ℤ). bigEndian w (bits64 z)) zs
-unfolding valuesIn
+integers-read : (w : ℕ) (zs : List ℤ) → Every Fits64 zs → rowValues w false (map decimalℤ zs) ≡ concatMap (λ (z : ℤ). bigEndian w (bits64 z)) zs
+unfolding rowValues
 integers-read w [] h = refl
 integers-read w (z ∷ zs) h = λ i. bigEndian w (integer-bits z (h .0) i) ++ integers-read w zs (h .1) i
 
-reals-read : (xs : List Float) → Every (λ (x : Float). toBits binary64 x < 2 ^ 64) xs → valuesIn 8 true (map realText xs) ≡ concatMap realBytes xs
-unfolding valuesIn toBits
+reals-read : (xs : List Float) → Every (λ (x : Float). toBits binary64 x < 2 ^ 64) xs → rowValues 8 true (map realText xs) ≡ concatMap realBytes xs
+unfolding rowValues toBits
 reals-read [] h = refl
 reals-read (x ∷ xs) h = λ i. bigEndian 8 (real-bits (toBits binary64 x) (h .0) i) ++ reals-read xs (h .1) i
 
@@ -122,12 +122,12 @@ module _ (sizes : ℕ → ℕ) (id : TypeKey → ℕ) where
 
 -- ---- plain fields
 
-map-plain : {A : Type 0} (f : A → Bytes) → ((x : A) → isPlain (f x) ≡ true) → (xs : List A) → Plain (map f xs)
+map-plain : {A : Type 0} (f : A → Bytes) → ((x : A) → isPlainText (f x) ≡ true) → (xs : List A) → Plain (map f xs)
 map-plain f h [] = tt
 map-plain f h (x ∷ xs) = (h x, map-plain f h xs)
 
 pub item-plain : (id : TypeKey → ℕ) (i : Item) → Plain (itemFields id i)
-unfolding isPlain toBits
+unfolding isPlainText toBits
 item-plain id (valuesItem o (byteValues vs)) = (refl, (decimal-plain o, (decimal-plain (length vs), map-plain decimal decimal-plain vs)))
 item-plain id (valuesItem o (wordValues zs)) = (refl, (decimal-plain o, (decimal-plain (length zs), map-plain decimalℤ integer-plain zs)))
 item-plain id (valuesItem o (bigValues zs)) = (refl, (decimal-plain o, (decimal-plain (length zs), map-plain decimalℤ integer-plain zs)))
@@ -140,7 +140,7 @@ item-plain id backItem = (refl, tt)
 -- the rows of items are read as what is stored of them, in order
 pub items-read : (sizes : ℕ → ℕ) (id : TypeKey → ℕ) (is : List Item) (rest : Bytes) → Every (Readable sizes id) is
     → readAll sizes (concatMap (itemRow id) is ++ rest) ≡ map storedOf is ++ readAll sizes rest
-unfolding itemRow isPlain
+unfolding itemRow isPlainText
 items-read sizes id [] rest h = refl
 items-read sizes id (i ∷ is) rest h =
     ap (readAll sizes) (append-assoc (itemRow id i) (concatMap (itemRow id) is) rest)

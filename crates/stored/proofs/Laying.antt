@@ -21,7 +21,7 @@ use Rattle.write.proofs.Wrote.{length-over}
 use Rattle.demand.proofs.Bytes.{getD-zeros}
 use Rattle.write.specs.Wrote.{over}
 use Rattle.stored.specs.Stored.{Stored, bytesAt, stringAt, arrayAt, setAt, goBack, storedOf, replayOne, replayStored}
-use Rattle.stored.specs.Laying.{Laying, layImage, layPart, layBytes, newPart, layArray, moveTo, layAll, InPlace, beginning}
+use Rattle.stored.specs.Laying.{Laying, layImage, layPart, layBytes, newPart, layArray, moveTo, layAll, InPlace, layingStart}
 use Rattle.stored.proofs.Items.{replay-stored}
 use Rattle.stored.proofs.Written.{laidByte, written-long, written-at, over-at, part-at}
 
@@ -358,9 +358,9 @@ module _ (b : Buffers) (g : Globals) where
       let q : replayed b g ≡ laid (memoryOf g .image) (memoryOf g .area) = rw (le-ltb (b .area) e (h .room), le-ltb (b .image) (length (replay (g .end) (g .items) .image)) (h .fits)) in
       rw q (record { is = refl; imageIs = h .imageIs; areaIs = h .areaIs; long = h .long; end = h .end ∙ sym (h .areaLong) })
 
-  pub replayed-by : InPlace 0 0 false xs → Answer (replayed b g) (b .image) (b .area) (layAll xs (beginning (g .end) (b .image) (b .area)))
-  unfolding beginning
-  replayed-by place = answer-by (layAll xs (beginning (g .end) (b .image) (b .area))) (go (ltb (b .image) (g .end)) refl)
+  pub replayed-by : InPlace 0 0 false xs → Answer (replayed b g) (b .image) (b .area) (layAll xs (layingStart (g .end) (b .image) (b .area)))
+  unfolding layingStart
+  replayed-by place = answer-by (layAll xs (layingStart (g .end) (b .image) (b .area))) (go (ltb (b .image) (g .end)) refl)
     where
       start₀ : Replay
       start₀ = record { item = 0; image = replicate (g .end) 0; area = replicate e 0; end = 0; parts = []; inside = none }

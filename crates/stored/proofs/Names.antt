@@ -14,14 +14,14 @@ use Rattle.semantics.proofs.Common.{never}
 use Rattle.laws.proofs.Tests.{and-left, and-right}
 use Rattle.semantics.specs.Tree.{Ty, Fd, Case, AdtDecl, ConstDecl, VarDecl, ConstVal, Shape}
 use Rattle.semantics.specs.Sheet.{Module, Located, Source, concatMap}
-use Rattle.semantics.specs.Layout.{Placed, placeNames, placeLine, place, behindTag, variantFields, variantShape, Recorded, variantsOf, casesFrom, recordsFor, recordsOf, recordLog, lastOf, seen, recordsByKey, records, recordedAdts}
+use Rattle.semantics.specs.Layout.{PlacedField, placeNames, placeLine, place, behindTag, variantFields, variantShape, Recorded, variantsOf, casesFrom, recordsFor, recordsOf, recordLog, lastOf, seen, recordsByKey, records, recordedAdts}
 use Rattle.semantics.specs.Fold.{Result, plain, qualified, Key, Const, Names, sameKey, fold}
 use Rattle.semantics.specs.Fold.Result.{ok, failed, refuse}
 use Rattle.semantics.specs.Const.{Folding, IotaCounter, newCounter, iotaAt, iotaNext, implements, entries, entered, pass, standsIn, modulePasses, topLevel, passesOf, passesFrom, constants}
 use Rattle.semantics.specs.Global.{Init, Declared, Global, Globals, laidVars, laidNames, declaredBy, declaredIn, placeOf, pendOf, declareAt, globalsFrom, globals, noGlobals}
 use Rattle.semantics.specs.Global.Init.{noInit, constInit, arrayInit, pendingInit}
 use Rattle.semantics.specs.Listing.{keyText, keysIn}
-use Rattle.write.specs.Plain.{isPlain}
+use Rattle.write.specs.Plain.{isPlainText}
 use Rattle.write.proofs.Uncut.{plain-append}
 use Rattle.stored.proofs.Rows.{Plain}
 use Rattle.stored.proofs.Others.{PlainRecord, PlainNames}
@@ -43,15 +43,15 @@ letter-high b e =
     (λ f. either (inRange 65 90 b) (inRange 97 122 b) f (in-range 65 90 b (omega arith)) (in-range 97 122 b (omega arith)))
     (λ f. let q = eqb-true b 95 f in omega arith)
 
-marks-plain : (bs : Bytes) → all (λ (x : ℕ). isLetter x || isDigit x) bs ≡ true → isPlain bs ≡ true
-unfolding isPlain
+marks-plain : (bs : Bytes) → all (λ (x : ℕ). isLetter x || isDigit x) bs ≡ true → isPlainText bs ≡ true
+unfolding isPlainText
 marks-plain [] h = refl
 marks-plain (b ∷ bs) h =
     let t : 44 < b = either (isLetter b) (isDigit b) (and-left (isLetter b || isDigit b) _ h) (letter-high b) (in-range 48 57 b (omega arith)) in
     rw (lt-ltb 44 b t) (marks-plain bs (and-right (isLetter b || isDigit b) _ h))
 
-pub name-plain : (n : Bytes) → isName n ≡ true → isPlain n ≡ true
-unfolding isName isPlain
+pub name-plain : (n : Bytes) → isName n ≡ true → isPlainText n ≡ true
+unfolding isName isPlainText
 name-plain [] h = never h
 name-plain (b ∷ bs) h =
     let f = and-left (isLetter b && all (λ (x : ℕ). isLetter x || isDigit x) bs) (leb (length (b ∷ bs)) 32) h in
@@ -67,14 +67,14 @@ PlainPick none = Unit {0}
 PlainPick (some ks) = Every (λ (k : Case). Plain (k .tags) × PlainFields (k .fields)) ks
 
 abbrev pub PlainAdt : AdtDecl → Type 0
-PlainAdt a = (isPlain (a .name) ≡ true) × PlainFields (a .fields) × PlainPick (a .pick)
+PlainAdt a = (isPlainText (a .name) ≡ true) × PlainFields (a .fields) × PlainPick (a .pick)
 
 abbrev pub PlainWithin : Option Module → Type 0
 PlainWithin none = Unit {0}
-PlainWithin (some m) = isPlain (m .name) ≡ true
+PlainWithin (some m) = isPlainText (m .name) ≡ true
 
 abbrev pub PlainConst : Located ConstDecl → Type 0
-PlainConst c = (isPlain (c .it .name) ≡ true) × PlainWithin (c .within)
+PlainConst c = (isPlainText (c .it .name) ≡ true) × PlainWithin (c .within)
 
 pub record PlainSource (s : Source) : Type 0 where
   pub adts : Every (λ (a : Located AdtDecl). PlainAdt (a .it)) (s .adts)
@@ -83,8 +83,8 @@ pub record PlainSource (s : Source) : Type 0 where
 
 -- ---- records
 
-abbrev NamePlain : Placed → Type 0
-NamePlain p = isPlain (p .name) ≡ true
+abbrev NamePlain : PlacedField → Type 0
+NamePlain p = isPlainText (p .name) ≡ true
 
 names-placed : (t : Ty) (off : ℕ) (ns : List Bytes) → Plain ns → Every NamePlain (placeNames t off ns .placed)
 names-placed t off [] h = tt
@@ -98,12 +98,12 @@ fields-placed : (off : ℕ) (fs : List Fd) → PlainFields fs → Every NamePlai
 fields-placed off [] h = tt
 fields-placed off (f ∷ fs) h = every-append NamePlain (placeLine (f .ty) (f .names) off .placed) _ (line-placed (f .ty) (f .names) off (h .0)) (fields-placed _ fs (h .1))
 
-variants-plain : (t : Bytes) (s : Shape) (ps : List Placed) (g n : ℕ) (xs : List Bytes) → isPlain t ≡ true → Every NamePlain ps → Plain xs → Every PlainRecord (variantsOf t s ps g n xs)
-unfolding isPlain
+variants-plain : (t : Bytes) (s : Shape) (ps : List PlacedField) (g n : ℕ) (xs : List Bytes) → isPlainText t ≡ true → Every NamePlain ps → Plain xs → Every PlainRecord (variantsOf t s ps g n xs)
+unfolding isPlainText
 variants-plain t s ps g n [] h p x = tt
 variants-plain t s ps g n (y ∷ ys) h p x = ((plain-append t (46 ∷ y) h (x .0), p), variants-plain t s ps g (suc n) ys h p (x .1))
 
-cases-plain : (t : Bytes) (common : List Fd) (g n : ℕ) (ks : List Case) → isPlain t ≡ true → PlainFields common → PlainPick (some ks) → Every PlainRecord (casesFrom t common g n ks)
+cases-plain : (t : Bytes) (common : List Fd) (g n : ℕ) (ks : List Case) → isPlainText t ≡ true → PlainFields common → PlainPick (some ks) → Every PlainRecord (casesFrom t common g n ks)
 cases-plain t common g n [] h c p = tt
 cases-plain t common g n (k ∷ ks) h c p =
     every-append PlainRecord (variantsOf t (variantShape common k) (variantFields common k) g n (k .tags)) _
@@ -111,7 +111,7 @@ cases-plain t common g n (k ∷ ks) h c p =
     (every-append NamePlain (place behindTag common .placed) _ (fields-placed behindTag common c) (fields-placed _ (k .fields) (p .0 .1))) (p .0 .0))
     (cases-plain t common (suc g) _ ks h c (p .1))
 
-records-plain : (t : Bytes) (fs : List Fd) (o : Option (List Case)) → isPlain t ≡ true → PlainFields fs → PlainPick o → Every PlainRecord (recordsFor t fs o)
+records-plain : (t : Bytes) (fs : List Fd) (o : Option (List Case)) → isPlainText t ≡ true → PlainFields fs → PlainPick o → Every PlainRecord (recordsFor t fs o)
 records-plain t fs none h f p = ((h, fields-placed 0 fs f), tt)
 records-plain t fs (some ks) h f p = ((h, fields-placed behindTag fs f), cases-plain t fs 0 0 ks h f p)
 
@@ -138,10 +138,10 @@ by-key-plain before (r ∷ rs) e = go (seen (r .key) before) (by-key-plain (r �
 -- ---- constants
 
 abbrev KeyPlain : Const → Type 0
-KeyPlain c = isPlain (keyText (c .key)) ≡ true
+KeyPlain c = isPlainText (keyText (c .key)) ≡ true
 
-entries-plain : (impl : Option Bytes) (w : Option Module) (n : Bytes) (v : Option ConstVal) → PlainWithin w → isPlain n ≡ true → Every KeyPlain (entries impl w n v)
-unfolding isPlain
+entries-plain : (impl : Option Bytes) (w : Option Module) (n : Bytes) (v : Option ConstVal) → PlainWithin w → isPlainText n ≡ true → Every KeyPlain (entries impl w n v)
+unfolding isPlainText
 entries-plain impl none n v w h = (h, tt)
 entries-plain impl (some m) n v w h = go (implements impl (some m))
   where
@@ -180,21 +180,21 @@ modules-plain : (cs : List (Located ConstDecl)) (ms : List Module) → Every Pla
 modules-plain cs [] h = tt
 modules-plain cs (m ∷ ms) h = (every-filter PlainConst (standsIn m) cs h, modules-plain cs ms h)
 
-keys-plain : (cs : List Const) → Every KeyPlain cs → Every (λ (k : Key). isPlain (keyText k) ≡ true) (keysIn cs)
+keys-plain : (cs : List Const) → Every KeyPlain cs → Every (λ (k : Key). isPlainText (keyText k) ≡ true) (keysIn cs)
 keys-plain [] h = tt
 keys-plain (c ∷ cs) h = go (any (sameKey (c .key)) (keysIn cs)) (keys-plain cs (h .1))
   where
-    go : (b : Bool) → Every (λ (k : Key). isPlain (keyText k) ≡ true) (keysIn cs) → Every (λ (k : Key). isPlain (keyText k) ≡ true) (cond b (keysIn cs) (keysIn cs ++ (c .key ∷ [])))
+    go : (b : Bool) → Every (λ (k : Key). isPlainText (keyText k) ≡ true) (keysIn cs) → Every (λ (k : Key). isPlainText (keyText k) ≡ true) (cond b (keysIn cs) (keysIn cs ++ (c .key ∷ [])))
     go true e = e
-    go false e = every-append (λ (k : Key). isPlain (keyText k) ≡ true) (keysIn cs) (c .key ∷ []) e (h .0, tt)
+    go false e = every-append (λ (k : Key). isPlainText (keyText k) ≡ true) (keysIn cs) (c .key ∷ []) e (h .0, tt)
 
 -- ---- globals
 
 abbrev DeclaredPlain : Declared → Type 0
-DeclaredPlain d = isPlain (d .name) ≡ true
+DeclaredPlain d = isPlainText (d .name) ≡ true
 
 abbrev GlobalPlain : Global → Type 0
-GlobalPlain g = isPlain (g .name) ≡ true
+GlobalPlain g = isPlainText (g .name) ≡ true
 
 plain-names : (f : Bytes → Bool) (ns : List Bytes) → Plain ns → Plain (filter f ns)
 plain-names f [] h = tt
@@ -213,7 +213,7 @@ vars-plain ns [] h = tt
 vars-plain ns (v ∷ vs) h =
     every-append DeclaredPlain (declaredBy ns v) _ (declared-plain _ (λ n. refl) (laidNames (v .it .names)) (plain-names _ (v .it .names) (h .0))) (vars-plain ns vs (h .1))
 
-pend-plain : (n : Bytes) (i : Init) → isPlain n ≡ true → Plain (pendOf n i)
+pend-plain : (n : Bytes) (i : Init) → isPlainText n ≡ true → Plain (pendOf n i)
 pend-plain n noInit h = tt
 pend-plain n (constInit v) h = tt
 pend-plain n (arrayInit a) h = tt

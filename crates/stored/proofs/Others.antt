@@ -13,12 +13,12 @@ use borrow.Author.Tests.{eq-eqb, ne-eqb, lt-ltb}
 use Rattle.semantics.specs.Text.{Bytes, bytes, same, filter, decimal, decimalℤ, bigEndian, lineParts}
 use Rattle.semantics.specs.Tree.{Shape, TypeKey, ConstVal}
 use Rattle.semantics.specs.Tree.ConstVal.{vInt, vReal, vStr}
-use Rattle.semantics.specs.Layout.{Placed, Recorded, records, recordedAdts, sizeOf, isPtr, mapOf, pointerCount}
+use Rattle.semantics.specs.Layout.{PlacedField, Recorded, records, recordedAdts, sizeOf, isPtr, mapOf, pointerCount}
 use Rattle.semantics.specs.Fold.{Key, Const, lookUp, valueOf}
 use Rattle.semantics.specs.Sheet.{Source, concatMap}
 use Rattle.semantics.specs.Global.{Item, Global, Globals, globalSize}
-use Rattle.semantics.specs.Listing.{row, mapText, flag, valueFields, keysIn, itemFields, isPlain as isPlain-key, listing, fieldRow, recordRows, keyText, constRow, constRows, globalRow, pendRow, typeRows, useRow, itemRow}
-use Rattle.write.specs.Plain.{isPlain}
+use Rattle.semantics.specs.Listing.{row, mapText, flag, valueFields, keysIn, itemFields, isPlain, listing, fieldRow, recordRows, keyText, constRow, constRows, globalRow, pendRow, typeRows, useRow, itemRow}
+use Rattle.write.specs.Plain.{isPlainText}
 use Rattle.write.proofs.Uncut.{decimal-plain, integer-plain, hex-plain}
 use Rattle.stored.specs.Stored.{Stored, storedOf}
 use Rattle.stored.specs.Reading.{readRow, readRows, readAll, largestSize, sizeBy, sizeRows, mostTypes, sizeIn}
@@ -82,7 +82,7 @@ abbrev typeFields : ℕ → Shape → List Bytes
 typeFields id s = decimal id ∷ decimal (s .size) ∷ decimal (pointerCount (mapOf s)) ∷ mapText s ∷ []
 
 type-plain : (id : ℕ) (s : Shape) → Plain (bytes "typ" ∷ typeFields id s)
-unfolding isPlain
+unfolding isPlainText
 type-plain id s = (refl, (decimal-plain id, (decimal-plain (s .size), (decimal-plain (pointerCount (mapOf s)), (hex-plain (mapOf s), tt)))))
 
 type-size : (i id : ℕ) (s : Shape) (d : ℕ) → sizeBy i (bytes "typ" ∷ typeFields id s) d ≡ cond (eqb id i) (min (s .size) largestSize) d
@@ -128,7 +128,7 @@ types-size (suc j) d id (s ∷ ss) rest h =
 -- ---- the rows of each kind
 
 dat-rows : (id : TypeKey → ℕ) (is : List Item) → Rows (bytes "typ") (concatMap (itemRow id) is)
-unfolding itemRow isPlain
+unfolding itemRow isPlainText
 dat-rows id [] = noRows
 dat-rows id (i ∷ is) = rows-join (rows-one (bytes "dat") (itemFields id i) refl (refl, item-plain id i)) (dat-rows id is)
 
@@ -148,21 +148,21 @@ record Apart (w : Bytes) : Type 0 where
 
 -- records, constants and globals with plain names
 abbrev pub PlainRecord : Recorded → Type 0
-PlainRecord r = (isPlain (r .key) ≡ true) × Every (λ (p : Placed). isPlain (p .name) ≡ true) (r .fields)
+PlainRecord r = (isPlainText (r .key) ≡ true) × Every (λ (p : PlacedField). isPlainText (p .name) ≡ true) (r .fields)
 
 pub record PlainNames (s : Source) (cs : List Const) (g : Globals) : Type 0 where
   pub records : Every PlainRecord (records (recordedAdts s))
-  pub consts : Every (λ (k : Key). isPlain (keyText k) ≡ true) (keysIn cs)
-  pub places : Every (λ (p : Global). isPlain (p .name) ≡ true) (g .places)
+  pub consts : Every (λ (k : Key). isPlainText (keyText k) ≡ true) (keysIn cs)
+  pub places : Every (λ (p : Global). isPlainText (p .name) ≡ true) (g .places)
   pub pends : Plain (g .pends)
 
-flag-plain : (b : Bool) → isPlain (flag b) ≡ true
-unfolding isPlain
+flag-plain : (b : Bool) → isPlainText (flag b) ≡ true
+unfolding isPlainText
 flag-plain true = refl
 flag-plain false = refl
 
 value-plain : (v : Option ConstVal) → Plain (valueFields v)
-unfolding isPlain toBits
+unfolding isPlainText toBits
 value-plain none = (refl, tt)
 value-plain (some (vInt z)) = (refl, (integer-plain z, tt))
 value-plain (some (vReal x)) = (refl, (hex-plain (bigEndian 8 (toBits binary64 x)), tt))
@@ -174,17 +174,17 @@ frontOf s cs g = concatMap recordRows (records (recordedAdts s)) ++ constRows cs
 
 module _ {w : Bytes} (a : Apart w) where
   use-rows : (id : TypeKey → ℕ) (ks : List TypeKey) → Rows w (concatMap (useRow id) ks)
-  unfolding useRow isPlain
+  unfolding useRow isPlainText
   use-rows id [] = noRows
   use-rows id (k ∷ ks) = rows-join (rows-one (bytes "use") (decimal (id k) ∷ []) (a .uses) (refl, (decimal-plain (id k), tt))) (use-rows id ks)
 
   pend-rows : (ns : List Bytes) → Plain ns → Rows w (concatMap pendRow ns)
-  unfolding isPlain
+  unfolding isPlainText
   pend-rows [] h = noRows
   pend-rows (n ∷ ns) h = rows-join (rows-one (bytes "pend") (n ∷ []) (a .pends) (refl, (h .0, tt))) (pend-rows ns (h .1))
 
-  global-rows : (gs : List Global) → Every (λ (g : Global). isPlain (g .name) ≡ true) gs → Rows w (concatMap globalRow gs)
-  unfolding globalRow isPlain
+  global-rows : (gs : List Global) → Every (λ (g : Global). isPlainText (g .name) ≡ true) gs → Rows w (concatMap globalRow gs)
+  unfolding globalRow isPlainText
   global-rows [] h = noRows
   global-rows (g ∷ gs) h =
       rows-join
@@ -192,21 +192,21 @@ module _ {w : Bytes} (a : Apart w) where
       (refl, (h .0, (decimal-plain (g .offset), (decimal-plain (globalSize (g .ty)), (flag-plain (isPtr (g .ty)), tt))))))
       (global-rows gs (h .1))
 
-  const-rows : (cs : List Const) (ks : List Key) → Every (λ (k : Key). isPlain (keyText k) ≡ true) ks → Rows w (concatMap (constRow cs) ks)
-  unfolding isPlain
+  const-rows : (cs : List Const) (ks : List Key) → Every (λ (k : Key). isPlainText (keyText k) ≡ true) ks → Rows w (concatMap (constRow cs) ks)
+  unfolding isPlainText
   const-rows cs [] h = noRows
   const-rows cs (k ∷ ks) h =
       rows-join (rows-one (bytes "con") (keyText k ∷ valueFields (valueOf (lookUp k cs))) (a .consts) (refl, (h .0, value-plain (valueOf (lookUp k cs))))) (const-rows cs ks (h .1))
 
-  all-consts : (cs : List Const) → Every (λ (k : Key). isPlain (keyText k) ≡ true) (keysIn cs) → Rows w (constRows cs)
+  all-consts : (cs : List Const) → Every (λ (k : Key). isPlainText (keyText k) ≡ true) (keysIn cs) → Rows w (constRows cs)
   unfolding constRows
   all-consts cs h =
       rows-join
-      (const-rows cs (filter (λ (k : Key). not (isPlain-key k)) (keysIn cs)) (every-filter _ _ (keysIn cs) h))
-      (const-rows cs (filter isPlain-key (keysIn cs)) (every-filter _ _ (keysIn cs) h))
+      (const-rows cs (filter (λ (k : Key). not (isPlain k)) (keysIn cs)) (every-filter _ _ (keysIn cs) h))
+      (const-rows cs (filter isPlain (keysIn cs)) (every-filter _ _ (keysIn cs) h))
 
-  field-rows : (ps : List Placed) → Every (λ (p : Placed). isPlain (p .name) ≡ true) ps → Rows w (concatMap fieldRow ps)
-  unfolding isPlain
+  field-rows : (ps : List PlacedField) → Every (λ (p : PlacedField). isPlainText (p .name) ≡ true) ps → Rows w (concatMap fieldRow ps)
+  unfolding isPlainText
   field-rows [] h = noRows
   field-rows (p ∷ ps) h =
       rows-join
@@ -214,7 +214,7 @@ module _ {w : Bytes} (a : Apart w) where
       (field-rows ps (h .1))
 
   record-rows : (rs : List Recorded) → Every PlainRecord rs → Rows w (concatMap recordRows rs)
-  unfolding recordRows isPlain
+  unfolding recordRows isPlainText
   record-rows [] h = noRows
   record-rows (r ∷ rs) h =
       rows-join

@@ -10,23 +10,23 @@ use Rattle.semantics.specs.Text.{Bytes, cut, headPart, tailParts, partsAt, line
 use Rattle.semantics.specs.Sheet.{concatMap}
 use Rattle.semantics.specs.Listing.{row}
 use Rattle.semantics.proofs.Common.{never}
-use Rattle.write.specs.Plain.{isPlain}
+use Rattle.write.specs.Plain.{isPlainText}
 use Rattle.write.proofs.Uncut.{plain-part, plain-last}
 use Rattle.stored.specs.Reading.{readRow, readRows, readAll, sizeBy, sizeRows}
 
 -- fields without separators
 abbrev pub Plain : List Bytes → Type 0
 Plain [] = Unit {0}
-Plain (f ∷ fs) = (isPlain f ≡ true) × Plain fs
+Plain (f ∷ fs) = (isPlainText f ≡ true) × Plain fs
 
 -- a row without its LF
-abbrev pub lineOf : Bytes → List Bytes → Bytes
-lineOf f [] = f
-lineOf f (g ∷ fs) = f ++ (44 ∷ lineOf g fs)
+abbrev pub rowText : Bytes → List Bytes → Bytes
+rowText f [] = f
+rowText f (g ∷ fs) = f ++ (44 ∷ rowText g fs)
 
 -- a plain text stands before the first part of what follows
-plain-ahead : (t u : Bytes) → isPlain t ≡ true → partsAt 10 (t ++ u) ≡ (t ++ headPart (partsAt 10 u)) ∷ tailParts (partsAt 10 u)
-unfolding isPlain
+plain-ahead : (t u : Bytes) → isPlainText t ≡ true → partsAt 10 (t ++ u) ≡ (t ++ headPart (partsAt 10 u)) ∷ tailParts (partsAt 10 u)
+unfolding isPlainText
 plain-ahead [] u h = go u
   where
     go : (u : Bytes) → partsAt 10 u ≡ headPart (partsAt 10 u) ∷ tailParts (partsAt 10 u)
@@ -38,13 +38,13 @@ plain-ahead [] u h = go u
         cut-one false b ps = refl
 plain-ahead (b ∷ t) u h = go (ltb 44 b) refl h (λ l. plain-ahead t u l)
   where
-    go : (x : Bool) → ltb 44 b ≡ x → x && isPlain t ≡ true → (isPlain t ≡ true → partsAt 10 (t ++ u) ≡ (t ++ headPart (partsAt 10 u)) ∷ tailParts (partsAt 10 u))
+    go : (x : Bool) → ltb 44 b ≡ x → x && isPlainText t ≡ true → (isPlainText t ≡ true → partsAt 10 (t ++ u) ≡ (t ++ headPart (partsAt 10 u)) ∷ tailParts (partsAt 10 u))
         → partsAt 10 (b ∷ (t ++ u)) ≡ (b ∷ (t ++ headPart (partsAt 10 u))) ∷ tailParts (partsAt 10 u)
     go true e h ih = let l = ltb-true 44 b e in rw (ne-eqb b 10 (λ (q : b ≡ 10). omega arith), ih h)
     go false e h ih = never cc
 
 -- a row is the first line, and its fields are those that it was made of
-pub row-line : (f : Bytes) (fs : List Bytes) (rest : Bytes) → Plain (f ∷ fs) → lineParts (row (f ∷ fs) ++ rest) ≡ lineOf f fs ∷ lineParts rest
+pub row-line : (f : Bytes) (fs : List Bytes) (rest : Bytes) → Plain (f ∷ fs) → lineParts (row (f ∷ fs) ++ rest) ≡ rowText f fs ∷ lineParts rest
 unfolding row
 row-line f [] rest h = ap lineParts (append-assoc f (10 ∷ []) rest) ∙ plain-part 10 (omega arith) f rest (h .0)
 row-line f (g ∷ fs) rest h =
@@ -52,9 +52,9 @@ row-line f (g ∷ fs) rest h =
     ∙ plain-ahead f (44 ∷ (row (g ∷ fs) ++ rest)) (h .0)
     ∙ rw (row-line g fs rest (h .1))
 
-pub line-fields : (f : Bytes) (fs : List Bytes) → Plain (f ∷ fs) → fieldsOf (lineOf f fs) ≡ f ∷ fs
+pub line-fields : (f : Bytes) (fs : List Bytes) → Plain (f ∷ fs) → fieldsOf (rowText f fs) ≡ f ∷ fs
 line-fields f [] h = plain-last 44 (omega arith) f (h .0)
-line-fields f (g ∷ fs) h = plain-part 44 (omega arith) f (lineOf g fs) (h .0) ∙ ap (λ (ps : List Bytes). f ∷ ps) (line-fields g fs (h .1))
+line-fields f (g ∷ fs) h = plain-part 44 (omega arith) f (rowText g fs) (h .0) ∙ ap (λ (ps : List Bytes). f ∷ ps) (line-fields g fs (h .1))
 
 -- so a row is read before the rest
 pub read-row : (sizes : ℕ → ℕ) (f : Bytes) (fs : List Bytes) (rest : Bytes) → Plain (f ∷ fs)

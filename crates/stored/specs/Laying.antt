@@ -31,17 +31,17 @@ layImage o ys m =
     (some (record { item = suc (m .item); image = over (m .image) o ys; area = m .area; start = m .start; end = m .end; inside = m .inside; long = max (m .long) (o + length ys) }))
 
 -- the newest array's part, and the area with it written anew
-abbrev pub partOf : Laying → Bytes
-partOf m = midOf (m .start) (m .end - m .start) (m .area)
+abbrev pub newestPart : Laying → Bytes
+newestPart m = midOf (m .start) (m .end - m .start) (m .area)
 
-abbrev pub withPart : Laying → Bytes → Bytes
-withPart m ys = putMid (m .start) (m .end - m .start) (m .area) ys
+abbrev pub withNewestPart : Laying → Bytes → Bytes
+withNewestPart m ys = putMid (m .start) (m .end - m .start) (m .area) ys
 
 -- bytes at an offset of the newest array's part
 unfoldable pub layPart : ℕ → Bytes → Laying → Option Laying
 layPart o ys m =
     cond (ltb (m .end - m .start) (o + length ys)) none
-    (some (record { item = suc (m .item); image = m .image; area = withPart m (over (partOf m) o ys); start = m .start; end = m .end; inside = m .inside; long = m .long }))
+    (some (record { item = suc (m .item); image = m .image; area = withNewestPart m (over (newestPart m) o ys); start = m .start; end = m .end; inside = m .inside; long = m .long }))
 
 unfoldable pub layBytes : ℕ → Bytes → Laying → Option Laying
 layBytes o ys m = cond (m .inside) (layPart o ys m) (layImage o ys m)
@@ -64,18 +64,18 @@ layOne (arrayAt o size n) m = layArray o (size * n) m
 layOne (setAt o) m = some (moveTo true m)
 layOne goBack m = some (moveTo false m)
 
-abbrev pub andThen : (Laying → Option Laying) → Option Laying → Option Laying
-andThen f none = none
-andThen f (some m) = f m
+abbrev pub layThen : (Laying → Option Laying) → Option Laying → Option Laying
+layThen f none = none
+layThen f (some m) = f m
 
 -- all of it; none as soon as one doesn't fit
 abbrev pub layAll : List Stored → Option Laying → Option Laying
 layAll [] m = m
-layAll (x ∷ xs) m = layAll xs (andThen (layOne x) m)
+layAll (x ∷ xs) m = layAll xs (layThen (layOne x) m)
 
 -- over zeros, with an image up to the end of allocation
-unfoldable pub beginning : ℕ → ℕ → ℕ → Option Laying
-beginning end image area =
+unfoldable pub layingStart : ℕ → ℕ → ℕ → Option Laying
+layingStart end image area =
     cond (ltb image end) none
     (some (record { item = 0; image = zeros image; area = zeros area; start = 0; end = 0; inside = false; long = end }))
 

@@ -14,8 +14,8 @@ use Rattle.stored.specs.Stored.{Stored, bytesAt, stringAt, arrayAt, setA
 
 -- ---- fields
 
-unfoldable pub numberIn : Bytes → ℕ
-numberIn f = orElse 0 (natOf f)
+unfoldable pub numberRead : Bytes → ℕ
+numberRead f = orElse 0 (natOf f)
 
 -- the bits of an integer of 64 bits
 abbrev pub integerBits : Option ℤ → ℕ
@@ -33,9 +33,9 @@ bitsIn true f = realBits (unhex f)
 bitsIn false f = integerBits (intOf f)
 
 -- values one after the other, each in w bytes
-unfoldable pub valuesIn : ℕ → Bool → List Bytes → Bytes
-valuesIn w isReal [] = []
-valuesIn w isReal (f ∷ fs) = bigEndian w (bitsIn isReal f) ++ valuesIn w isReal fs
+unfoldable pub rowValues : ℕ → Bool → List Bytes → Bytes
+rowValues w isReal [] = []
+rowValues w isReal (f ∷ fs) = bigEndian w (bitsIn isReal f) ++ rowValues w isReal fs
 
 -- ---- items
 
@@ -59,7 +59,7 @@ widthOf k = cond (eqb k 1) 1 (cond (eqb k 2) 4 8)
 abbrev pub itemBy : (ℕ → ℕ) → ℕ → ℕ → ℕ → ℕ → List Bytes → List Stored
 itemBy sizes k o id n fs =
     cond (eqb k 0) []
-    (cond (ltb k 5) (bytesAt o (valuesIn (widthOf k) (eqb k 4) fs) ∷ [])
+    (cond (ltb k 5) (bytesAt o (rowValues (widthOf k) (eqb k 4) fs) ∷ [])
     (cond (eqb k 5) (stringAt o ∷ [])
     (cond (eqb k 6) (arrayAt o (sizes id) n ∷ [])
     (cond (eqb k 7) (setAt o ∷ []) (goBack ∷ [])))))
@@ -68,7 +68,7 @@ itemBy sizes k o id n fs =
 unfoldable pub readRow : (ℕ → ℕ) → List Bytes → List Stored
 readRow sizes fs =
     cond (same (getD fs 0 []) (bytes "dat"))
-    (itemBy sizes (keywordOf (getD fs 1 [])) (numberIn (getD fs 2 [])) (numberIn (getD fs 3 [])) (numberIn (getD fs 4 [])) (drop 4 fs)) []
+    (itemBy sizes (keywordOf (getD fs 1 [])) (numberRead (getD fs 2 [])) (numberRead (getD fs 3 [])) (numberRead (getD fs 4 [])) (drop 4 fs)) []
 
 -- the items of rows
 unfoldable pub readRows : (ℕ → ℕ) → List Bytes → List Stored
@@ -85,7 +85,7 @@ largestSize = 255
 
 -- the size of descriptor i behind a row, d before it
 unfoldable pub sizeBy : ℕ → List Bytes → ℕ → ℕ
-sizeBy i fs d = cond (same (getD fs 0 []) (bytes "typ") && eqb (numberIn (getD fs 1 [])) i) (min (numberIn (getD fs 2 [])) largestSize) d
+sizeBy i fs d = cond (same (getD fs 0 []) (bytes "typ") && eqb (numberRead (getD fs 1 [])) i) (min (numberRead (getD fs 2 [])) largestSize) d
 
 unfoldable pub sizeRows : ℕ → ℕ → List Bytes → ℕ
 sizeRows i d [] = d

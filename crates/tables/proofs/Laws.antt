@@ -22,8 +22,8 @@ use Rattle.record_log.specs.Entries as Records
 use Rattle.records.proofs.Kept.{logged-kept}
 use Rattle.need_keys.specs.declared.NeedCounts.{NeedCounts}
 use Rattle.type_keys.specs.Table.{Needs, Kinds, Outside}
-use Rattle.tables.specs.Tables.{Held}
-use Rattle.names.specs.Table.{bitsOf, logIn, Logged}
+use Rattle.tables.specs.Tables.{TablesHeld}
+use Rattle.names.specs.Table.{bitsOf, logIn, ConstsLogged}
 use Rattle.names.proofs.Laws.{SameText, logged-same, log-same}
 
 drop-from : (a b : ℕ) (t u : Bytes) → a ≤ b → drop a u ≡ drop a t → drop b u ≡ drop b t
@@ -36,34 +36,34 @@ pub drop-same : (a : ℕ) (t u : Bytes) → length u ≡ length t → ((j : ℕ)
 drop-same a t u l f = ext-getD 0 (drop a u) (drop a t) (length-drop a u ∙ ap (λ (j : ℕ). j - a) l ∙ sym (length-drop a t)) (λ i h. getD-drop a u i 0 ∙ f (a + i) (omega arith) ∙ sym (getD-drop a t i 0))
 
 -- constants stay where their table and what stands from 16384 on are kept
-module _ {s t u : Bytes} {n m a : ℕ} (low : a ≤ 16384) (k : Kept 7168 t u) (e : drop a u ≡ drop a t) (l : Logged s t n m) where
+module _ {s t u : Bytes} {n m a : ℕ} (low : a ≤ 16384) (k : Kept 7168 t u) (e : drop a u ≡ drop a t) (l : ConstsLogged s t n m) where
   table-kept : Kept (5120 + 16 * m) t u
   table-kept = kept-less (omega (arith, l .few)) k
 
   texts : (i : ℕ) → i < m → SameText t u i
   texts i h q = ap (take (bitsOf t i / 65536)) (drop-from a (bitsOf t i % 65536) t u (omega (arith, low, l .each i h .text q .low)) e)
 
-  pub constants-logged : Logged s u n m
+  pub constants-logged : ConstsLogged s u n m
   constants-logged = logged-same table-kept l
 
   pub constants-log : logIn s u m ≡ logIn s t m
   constants-log = log-same table-kept l texts
 
-module _ {s t t2 t3 t4 : Bytes} {n m r : ℕ} {g : Globals} {d : NeedCounts} (l : Logged s t n m)
-    (a : Around t t2) (places : Globals.Collected s t2 n g)
-    (log : Records.Collected s t2 t3 n r)
+module _ {s t t2 t3 t4 : Bytes} {n m r : ℕ} {g : Globals} {d : NeedCounts} (l : ConstsLogged s t n m)
+    (a : Around t t2) (places : Globals.GlobalsCollected s t2 n g)
+    (log : Records.RecordsCollected s t2 t3 n r)
     (o : Outside 10240 11264 t3 t4) (needs : Needs s t4 n (sheetSource s .needs)) (kinds : Kinds t4 (sheetSource s .needs) (d .keys)) (count : d .needs ≡ length (sheetSource s .needs))
   where
-    first : Logged s t2 n m
+    first : ConstsLogged s t2 n m
     first = constants-logged {a = 9216} (omega arith) (a .below) (a .above) l
 
     above : drop 10240 t3 ≡ drop 10240 t2
     above = drop-same 10240 t2 t3 (log .kept .long) (log .above)
 
-    second : Logged s t3 n m
+    second : ConstsLogged s t3 n m
     second = constants-logged {a = 10240} (omega arith) (kept-less (omega arith) (log .kept)) above first
 
-    pub tables-held : Held s t4 n (record { consts = m; globals = g .count; end = g .end; records = r; needs = d .needs; keys = d .keys })
+    pub tables-held : TablesHeld s t4 n (record { consts = m; globals = g .count; end = g .end; records = r; needs = d .needs; keys = d .keys })
     tables-held = record {
       checked = checked-kept (kept-less (omega arith) (o .kept)) (log .log .checked);
       consts = constants-logged {a = 11264} (omega arith) (kept-less (omega arith) (o .kept)) (o .above) second;
@@ -85,7 +85,7 @@ module _ {s t t2 t3 t4 : Bytes} {n m r : ℕ} {g : Globals} {d : NeedCounts} (l 
 
 -- ---- with the constants
 
-pub constants-there : (s u : Bytes) (n : ℕ) {m : ℕ} {r : Collected} → r ≡ Count m → Collects s u n r → (constants (sheetSource s) .refused ≡ none) × (constants (sheetSource s) .log ≡ logIn s u m) × Logged s u n m
+pub constants-there : (s u : Bytes) (n : ℕ) {m : ℕ} {r : Collected} → r ≡ Count m → Collects s u n r → (constants (sheetSource s) .refused ≡ none) × (constants (sheetSource s) .log ≡ logIn s u m) × ConstsLogged s u n m
 constants-there s u n e h = rw e at h
 
 pub constants-refused : (s u : Bytes) (n : ℕ) {k : ℕ} {r : Collected} → r ≡ Collected.Refused k → Collects s u n r → constants (sheetSource s) .refused ≡ some (tooLong k)

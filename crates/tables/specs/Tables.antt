@@ -18,16 +18,16 @@ use Rattle.tables.specs.declared.Made.{Made}
 use Rattle.tables.specs.declared.Made.the-variants.{Whole, Refused}
 
 -- the working space t has all tables of the checked sheet s, of as many entries as x counts
-pub record Held (s t : Bytes) (n : ℕ) (x : Tables) : Type 0 where
+pub record TablesHeld (s t : Bytes) (n : ℕ) (x : Tables) : Type 0 where
   pub checked : Checked s t n
-  pub consts : Names.Logged s t n (x .consts)
-  pub globals : Globals.Collected s t n (record { count = x .globals; end = x .end })
-  pub records : Records.Logged s t n (x .records)
+  pub consts : Names.ConstsLogged s t n (x .consts)
+  pub globals : Globals.GlobalsCollected s t n (record { count = x .globals; end = x .end })
+  pub records : Records.RecordsLogged s t n (x .records)
   pub count : x .needs ≡ length (sheetSource s .needs)
   pub needs : Needs s t n (sheetSource s .needs)
   pub kinds : Kinds t (sheetSource s .needs) (x .keys)
 
 -- the constants are those of the sheet, or line k is refused by 8
-abbrev pub Makes : Bytes → Bytes → ℕ → Made → Type 0
-Makes s t n (Whole x) = Held s t n x × (constants (sheetSource s) .refused ≡ none) × (constants (sheetSource s) .log ≡ logIn s t (x .consts))
-Makes s t n (Refused k) = constants (sheetSource s) .refused ≡ some (tooLong k)
+abbrev pub MakesTables : Bytes → Bytes → ℕ → Made → Type 0
+MakesTables s t n (Whole x) = TablesHeld s t n x × (constants (sheetSource s) .refused ≡ none) × (constants (sheetSource s) .log ≡ logIn s t (x .consts))
+MakesTables s t n (Refused k) = constants (sheetSource s) .refused ≡ some (tooLong k)

@@ -10,8 +10,8 @@ use lib.ListN.{length, take, drop, getD, drop-of-length-le, length-drop}
 use lib.Seq.{drop-cons, drop-drop, drop-length, take-nil, length-take-le, take-take}
 use lib.Dec.{eqb, ltb, leb·suc-suc}
 use borrow.Author.Tests.{eq-eqb, ne-eqb, lt-ltb, le-ltb, ltb-true, ltb-false}
-use Rattle.semantics.specs.Text.{Bytes, headPart, partsAt, partStart, lineParts, lineOf, hasLine, hasField, fieldOf, fieldStart}
-use Rattle.text.specs.Parts.{until, startOf, StandsAt}
+use Rattle.semantics.specs.Text.{Bytes, headPart, partsAt, partStart, lineParts, lineText, hasLine, hasField, fieldOf, fieldStart}
+use Rattle.text.specs.Parts.{until, partStartAt, StandsAt}
 
 -- ---- the first part
 
@@ -82,8 +82,8 @@ parts-one c (b ∷ bs) h = go (eqb b c) refl (λ k. parts-one c bs k)
 
 -- ---- where parts begin
 
-pub start-step : (c m : ℕ) (s : Bytes) → length (until c s) < length s → startOf c (suc m) s ≡ length (until c s) + 1 + startOf c m (drop (suc (length (until c s))) s)
-unfolding startOf
+pub start-step : (c m : ℕ) (s : Bytes) → length (until c s) < length s → partStartAt c (suc m) s ≡ length (until c s) + 1 + partStartAt c m (drop (suc (length (until c s))) s)
+unfolding partStartAt
 start-step c m s h =
     rw (parts-step c s h) (rw leb·suc-suc (go (drop (suc (length (until c s))) s) (length-drop (suc (length (until c s))) s) (ltb m (length (partsAt c (drop (suc (length (until c s))) s))))))
   where
@@ -92,12 +92,12 @@ start-step c m s h =
     go r e true = refl
     go r e false = omega arith
 
-pub start-none : (c m : ℕ) (s : Bytes) → length s ≤ length (until c s) → startOf c (suc m) s ≡ length s + 1
-unfolding startOf
+pub start-none : (c m : ℕ) (s : Bytes) → length s ≤ length (until c s) → partStartAt c (suc m) s ≡ length s + 1
+unfolding partStartAt
 start-none c m s h = rw (parts-one c s h) (simp (le-ltb (suc m) 1 (omega arith)))
 
-pub start-zero : (c : ℕ) (s : Bytes) → startOf c 0 s ≡ 0
-unfolding startOf
+pub start-zero : (c : ℕ) (s : Bytes) → partStartAt c 0 s ≡ 0
+unfolding partStartAt
 start-zero c s = go (ltb (length (until c s)) (length s)) refl
   where
     go : (t : Bool) → ltb (length (until c s)) (length s) ≡ t → cond (ltb 0 (length (partsAt c s))) 0 (length s + 1) ≡ 0
@@ -105,13 +105,13 @@ start-zero c s = go (ltb (length (until c s)) (length s)) refl
     go false e = rw (parts-one c s (ltb-false (length (until c s)) (length s) e))
 
 -- a part begins within the text, or is absent
-start-le : (c n : ℕ) (s : Bytes) → n < length (partsAt c s) → startOf c n s ≤ length s
+start-le : (c n : ℕ) (s : Bytes) → n < length (partsAt c s) → partStartAt c n s ≤ length s
 start-le c zero s h = rw start-zero (omega arith)
 start-le c (suc n) s h = go (ltb (length (until c s)) (length s)) refl (λ k. start-le c n (drop (suc (length (until c s))) s) k)
   where
     go : (t : Bool) → ltb (length (until c s)) (length s) ≡ t
-        → (n < length (partsAt c (drop (suc (length (until c s))) s)) → startOf c n (drop (suc (length (until c s))) s) ≤ length (drop (suc (length (until c s))) s))
-        → startOf c (suc n) s ≤ length s
+        → (n < length (partsAt c (drop (suc (length (until c s))) s)) → partStartAt c n (drop (suc (length (until c s))) s) ≤ length (drop (suc (length (until c s))) s))
+        → partStartAt c (suc n) s ≤ length s
     go true e ih =
         let l : length (until c s) < length s = ltb-true (length (until c s)) (length s) e in
         rw (start-step c n s l) (omega (arith, ih (omega (arith, ap length (parts-step c s l))), length-drop (suc (length (until c s))) s))
@@ -119,23 +119,23 @@ start-le c (suc n) s h = go (ltb (length (until c s)) (length s)) refl (λ k. st
 
 module _ (c n : ℕ) (s : Bytes) where
   -- what a start within the text, or past it, says of the part
-  part-there : startOf c n s ≤ length s → ltb n (length (partsAt c s)) ≡ true
-  unfolding startOf
+  part-there : partStartAt c n s ≤ length s → ltb n (length (partsAt c s)) ≡ true
+  unfolding partStartAt
   part-there h = go (ltb n (length (partsAt c s))) refl
     where
       go : (t : Bool) → ltb n (length (partsAt c s)) ≡ t → ltb n (length (partsAt c s)) ≡ true
       go true e = e
       go false e = absurd (omega (arith, simp e at h))
 
-  pub part-absent : length s < startOf c n s → ltb n (length (partsAt c s)) ≡ false
+  pub part-absent : length s < partStartAt c n s → ltb n (length (partsAt c s)) ≡ false
   part-absent h = go (ltb n (length (partsAt c s))) refl
     where
       go : (t : Bool) → ltb n (length (partsAt c s)) ≡ t → ltb n (length (partsAt c s)) ≡ false
       go false e = e
       go true e = absurd (omega (arith, start-le c n s (ltb-true n (length (partsAt c s)) e)))
 
-  start-there : startOf c n s ≤ length s → partStart (partsAt c s) n ≡ startOf c n s
-  unfolding startOf
+  start-there : partStartAt c n s ≤ length s → partStart (partsAt c s) n ≡ partStartAt c n s
+  unfolding partStartAt
   start-there h = rw (part-there h)
 
 first : (ps : List Bytes) → getD ps 0 [] ≡ headPart ps
@@ -147,26 +147,26 @@ unfolding until
 part-zero c s = first (partsAt c s)
 
 -- part n is what stands before the next c from where it begins
-part-at : (c n : ℕ) (s : Bytes) → n < length (partsAt c s) → getD (partsAt c s) n [] ≡ until c (drop (startOf c n s) s)
+part-at : (c n : ℕ) (s : Bytes) → n < length (partsAt c s) → getD (partsAt c s) n [] ≡ until c (drop (partStartAt c n s) s)
 part-at c zero s h = rw start-zero (part-zero c s)
 part-at c (suc n) s h = go (ltb (length (until c s)) (length s)) refl (λ k. part-at c n (drop (suc (length (until c s))) s) k)
   where
     go : (t : Bool) → ltb (length (until c s)) (length s) ≡ t
-        → (n < length (partsAt c (drop (suc (length (until c s))) s)) → getD (partsAt c (drop (suc (length (until c s))) s)) n [] ≡ until c (drop (startOf c n (drop (suc (length (until c s))) s)) (drop (suc (length (until c s))) s)))
-        → getD (partsAt c s) (suc n) [] ≡ until c (drop (startOf c (suc n) s) s)
+        → (n < length (partsAt c (drop (suc (length (until c s))) s)) → getD (partsAt c (drop (suc (length (until c s))) s)) n [] ≡ until c (drop (partStartAt c n (drop (suc (length (until c s))) s)) (drop (suc (length (until c s))) s)))
+        → getD (partsAt c s) (suc n) [] ≡ until c (drop (partStartAt c (suc n) s) s)
     go true e ih =
         let l : length (until c s) < length s = ltb-true (length (until c s)) (length s) e in
         rw (start-step c n s l)
         (ap (λ (ps : List Bytes). getD ps (suc n) []) (parts-step c s l)
         ∙ ih (omega (arith, ap length (parts-step c s l)))
-        ∙ ap (until c) (drop-drop (startOf c n (drop (suc (length (until c s))) s)) (suc (length (until c s))) s ∙ rw add-one))
+        ∙ ap (until c) (drop-drop (partStartAt c n (drop (suc (length (until c s))) s)) (suc (length (until c s))) s ∙ rw add-one))
     go false e ih = absurd (omega (arith, ap length (parts-one c s (ltb-false (length (until c s)) (length s) e))))
 
 -- the part as a view: from where it begins to the next c
-pub part-view : (c n a z : ℕ) (s : Bytes) → a ≡ startOf c n s → a ≤ length s → z ≡ a + length (until c (drop a s)) → take (z - a) (drop a s) ≡ getD (partsAt c s) n []
+pub part-view : (c n a z : ℕ) (s : Bytes) → a ≡ partStartAt c n s → a ≤ length s → z ≡ a + length (until c (drop a s)) → take (z - a) (drop a s) ≡ getD (partsAt c s) n []
 part-view c n a z s ha h hz =
     let q : z - a ≡ length (until c (drop a s)) = omega arith in
-    let l : startOf c n s ≤ length s = omega arith in
+    let l : partStartAt c n s ≤ length s = omega arith in
     rw q (until-take c (drop a s) ∙ ap (λ (j : ℕ). until c (drop j s)) ha ∙ sym (part-at c n s (ltb-true n (length (partsAt c s)) (part-there c n s l))))
 
 -- ---- a turn of `skip`: e is where the next c stands
@@ -175,19 +175,19 @@ module _ (c n k at : ℕ) (s : Bytes) {e : ℕ} (more : k < n) (inRange : at ≤
   left : n - k ≡ suc (n - (k + 1))
   left = omega arith
 
-  pub skip-turn : (e ≡ length s → ⊥) → at + startOf c (n - k) (drop at s) ≡ e + 1 + startOf c (n - (k + 1)) (drop (e + 1) s)
+  pub skip-turn : (e ≡ length s → ⊥) → at + partStartAt c (n - k) (drop at s) ≡ e + 1 + partStartAt c (n - (k + 1)) (drop (e + 1) s)
   skip-turn ne =
       let h : length (until c (drop at s)) < length (drop at s) = omega (arith, until-le c (drop at s), length-drop at s) in
       let q : at + suc (length (until c (drop at s))) ≡ e + 1 = omega arith in
       let d : drop (suc (length (until c (drop at s)))) (drop at s) ≡ drop (e + 1) s = drop-drop (suc (length (until c (drop at s)))) at s ∙ ap (λ (j : ℕ). drop j s) q in
       rw left (rw (start-step c (n - (k + 1)) (drop at s) h) (rw d (omega arith)))
 
-  pub skip-stop : e ≡ length s → at + startOf c (n - k) (drop at s) ≡ e + 1
+  pub skip-stop : e ≡ length s → at + partStartAt c (n - k) (drop at s) ≡ e + 1
   skip-stop eq =
       let h : length (drop at s) ≤ length (until c (drop at s)) = omega (arith, length-drop at s) in
       rw left (rw (start-none c (n - (k + 1)) (drop at s) h) (omega (arith, length-drop at s)))
 
-pub skip-end : (c n k at : ℕ) (s : Bytes) → startOf c n s ≡ at + startOf c (n - k) (drop at s) → k ≤ n → n ≤ k → at ≡ startOf c n s
+pub skip-end : (c n k at : ℕ) (s : Bytes) → partStartAt c n s ≡ at + partStartAt c (n - k) (drop at s) → k ≤ n → n ≤ k → at ≡ partStartAt c n s
 skip-end c n k at s h l g =
     let z : n - k ≡ 0 = omega arith in
     sym (h ∙ rw (z, start-zero) (rw add-zero))
@@ -218,7 +218,7 @@ absent s n i h = record { starts = simp h; ordered = omega arith; within = omega
 pub no-line-zero : (s : Bytes) (n i : ℕ) → n ≡ 0 → Absent s n i
 no-line-zero s n i e = absent s n i (rw e)
 
-module _ (s : Bytes) (n i : ℕ) {a : ℕ} (some : n ≡ 0 → ⊥) (ha : a ≡ startOf 10 (n - 1) s) where
+module _ (s : Bytes) (n i : ℕ) {a : ℕ} (some : n ≡ 0 → ⊥) (ha : a ≡ partStartAt 10 (n - 1) s) where
   has-line : hasLine s n ≡ ltb (n - 1) (length (lineParts s))
   has-line = go n some
     where
@@ -226,10 +226,10 @@ module _ (s : Bytes) (n i : ℕ) {a : ℕ} (some : n ≡ 0 → ⊥) (ha : a ≡ 
       go zero h = absurd (h refl)
       go (suc m) h = let q : suc m - 1 ≡ m = omega arith in rw q
 
-  line-is : lineOf s n ≡ getD (lineParts s) (n - 1) []
+  line-is : lineText s n ≡ getD (lineParts s) (n - 1) []
   line-is = go n some
     where
-      go : (n : ℕ) → (n ≡ 0 → ⊥) → lineOf s n ≡ getD (lineParts s) (n - 1) []
+      go : (n : ℕ) → (n ≡ 0 → ⊥) → lineText s n ≡ getD (lineParts s) (n - 1) []
       go zero h = absurd (h refl)
       go (suc m) h = let q : suc m - 1 ≡ m = omega arith in rw q
 
@@ -241,20 +241,20 @@ module _ (s : Bytes) (n i : ℕ) {a : ℕ} (some : n ≡ 0 → ⊥) (ha : a ≡ 
     abbrev line : Bytes
     line = take (e - a) (drop a s)
 
-    line-view : line ≡ lineOf s n
+    line-view : line ≡ lineText s n
     line-view = part-view 10 (n - 1) a e s ha h he ∙ sym line-is
 
-    begins : startOf 10 (n - 1) s ≤ length s
+    begins : partStartAt 10 (n - 1) s ≤ length s
     begins = omega arith
 
-    module _ {x : ℕ} (hx : x ≡ startOf 44 i line) where
+    module _ {x : ℕ} (hx : x ≡ partStartAt 44 i line) where
       pub no-field : length line < x → Absent s n i
       no-field l = absent s n i (rw (has-line, part-there 10 (n - 1) s begins, ← line-view, part-absent 44 i line (omega arith)))
 
       pub a-field : {y : ℕ} → e ≤ length s → x ≤ length line → y ≡ x + length (until 44 (drop x line)) → y ≤ length line → StandsAt s n i (a + x) (a + y)
       unfolding fieldOf fieldStart
       a-field {y} w l hy m =
-          let k : startOf 44 i line ≤ length line = omega arith in
+          let k : partStartAt 44 i line ≤ length line = omega arith in
           let there : hasField s n i ≡ true = rw (has-line, part-there 10 (n - 1) s begins, ← line-view, part-there 44 i line k) in
           let lengths : length line ≡ e - a = length-take-le (e - a) (drop a s) (omega (arith, length-drop a s)) in
           record {

@@ -11,8 +11,8 @@ unfoldable pub until : ℕ → Bytes → Bytes
 until c s = headPart (partsAt c s)
 
 -- where part n begins: one past the end where there is no part n
-unfoldable pub startOf : ℕ → ℕ → Bytes → ℕ
-startOf c n s = cond (ltb n (length (partsAt c s))) (partStart (partsAt c s) n) (length s + 1)
+unfoldable pub partStartAt : ℕ → ℕ → Bytes → ℕ
+partStartAt c n s = cond (ltb n (length (partsAt c s))) (partStart (partsAt c s) n) (length s + 1)
 
 -- field i of line n of s stands from a to e
 pub record StandsAt (s : Bytes) (n i a e : ℕ) : Type 0 where

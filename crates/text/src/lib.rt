@@ -3,7 +3,7 @@ ghost use mathlib.Core.Path.{_≡_};
 ghost use Prim.Native.Nat.{_+_, _≤_, _<_};
 ghost use lib.ListN.{length, drop};
 ghost use Rattle.semantics.specs.Text.{inRange, fieldOf, fieldStart};
-ghost use Rattle.text.specs.Parts.{until, startOf, StandsAt};
+ghost use Rattle.text.specs.Parts.{until, partStartAt, StandsAt};
 
 // The place of the first byte b at or after `at`, or the length where there is none.
 pub fn find(s: &[u8], at: usize, b: u8) -> usize
@@ -22,7 +22,7 @@ pub fn find(s: &[u8], at: usize, b: u8) -> usize
 
 // Where part n begins, of those that b parts; one past the length where there is none, which is the start of no part.
 pub fn skip(s: &[u8], n: usize, b: u8) -> usize
-    ensures { λ r. ⌜ r ≡ startOf b n (now (s .entry)) ⌝ }
+    ensures { λ r. ⌜ r ≡ partStartAt b n (now (s .entry)) ⌝ }
 {
     let mut at = 0;
     let mut k = 0;

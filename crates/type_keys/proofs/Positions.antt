@@ -10,7 +10,7 @@ use Rattle.semantics.specs.Sheet.{sheetSource, concatMap}
 use Rattle.semantics.specs.Array.{kindNumber}
 use Rattle.semantics.specs.Global.{Item}
 use Rattle.semantics.specs.Types.{arrayKey, distinct, position, keys}
-use Rattle.type_keys.specs.Table.{positionOf, kindOf, Needs, Kinds, Outside}
+use Rattle.type_keys.specs.Table.{positionOf, kindFromOne, Needs, Kinds, Outside}
 use Rattle.type_keys.proofs.Distinct.{key-member, known-more, from-one-some}
 use Rattle.type_keys.proofs.Table.{line-below, position-below}
 
@@ -35,10 +35,10 @@ module _ (s t : List ℕ) (n : ℕ) (ks : List TypeKey) (x : Needs s t n ks) whe
       }
 
 module _ (t : List ℕ) (ks ms : List TypeKey) (count : ℕ) (k : ElemKind) (x : Kinds t ks count) where
-  kind-position-stays : 0 < kindOf t (kindNumber k) → kindOf t (kindNumber k) ≡ suc (position (elemKey k) (distinct [] (ks ++ ms)))
-  kind-position-stays h =
+  kind-from-one-stays : 0 < kindFromOne t (kindNumber k) → kindFromOne t (kindNumber k) ≡ suc (position (elemKey k) (distinct [] (ks ++ ms)))
+  kind-from-one-stays h =
       let a = from-one-some (elemKey k) (distinct [] ks) (λ z. omega (arith, x .position k)) in
       x .position k ∙ rw (a, known-more (elemKey k) ks ms a .1)
 
-  pub kind-behind : (kind p : ℕ) → kind ≡ kindNumber k → p ≡ kindOf t kind → 0 < kindOf t kind → p - 1 ≡ position (elemKey k) (distinct [] (ks ++ ms))
-  kind-behind kind p hk hp h = let e = kind-position-stays (rw hk at h) in let g = hp ∙ ap (kindOf t) hk in omega (arith, e, g)
+  pub kind-behind : (kind p : ℕ) → kind ≡ kindNumber k → p ≡ kindFromOne t kind → 0 < kindFromOne t kind → p - 1 ≡ position (elemKey k) (distinct [] (ks ++ ms))
+  kind-behind kind p hk hp h = let e = kind-from-one-stays (rw hk at h) in let g = hp ∙ ap (kindFromOne t) hk in omega (arith, e, g)

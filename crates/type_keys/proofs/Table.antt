@@ -13,7 +13,7 @@ use Rattle.semantics.specs.Tree.{TypeKey}
 use Rattle.semantics.specs.Array.{kindNumber}
 use Rattle.checks.specs.Checks.{Kept}
 use Rattle.checks.proofs.Kept.{kept-all, kept-then, kept-less, kept-at}
-use Rattle.type_keys.specs.Table.{lineOf, positionOf, kindOf, digestOf, kindsUsed, entered, kindEntered, Kinds, Outside}
+use Rattle.type_keys.specs.Table.{needLineOf, positionOf, kindFromOne, digestOf, kindsUsed, needEntered, kindEntered, Kinds, Outside}
 use Rattle.type_lines.proofs.Codes.{kind-low}
 
 -- ---- what is kept
@@ -41,8 +41,8 @@ outside-above {a} {b} {t} {u} x j h =
 
 module _ {t u : List ℕ} where
   -- a store among the kinds of elements leaves the needs
-  pub line-below : {b : ℕ} → Outside 10624 b t u → (q : ℕ) → q < 128 → lineOf u q ≡ lineOf t q
-  unfolding lineOf
+  pub line-below : {b : ℕ} → Outside 10624 b t u → (q : ℕ) → q < 128 → needLineOf u q ≡ needLineOf t q
+  unfolding needLineOf
   line-below x q h = rw (kept-at (x .kept) (10240 + q) (omega arith), kept-at (x .kept) (10368 + q) (omega arith))
 
   pub position-below : {b : ℕ} → Outside 10624 b t u → (q : ℕ) → q < 128 → positionOf u q ≡ positionOf t q
@@ -50,8 +50,8 @@ module _ {t u : List ℕ} where
   position-below x q h = kept-at (x .kept) (10496 + q) (omega arith)
 
   -- and one among the needs the kinds
-  pub kind-above : {a : ℕ} → Outside a 10624 t u → (k : ℕ) → kindOf u k ≡ kindOf t k
-  unfolding kindOf
+  pub kind-above : {a : ℕ} → Outside a 10624 t u → (k : ℕ) → kindFromOne u k ≡ kindFromOne t k
+  unfolding kindFromOne
   kind-above x k = outside-above x (10624 + k) (omega arith)
 
   -- both leave the digests
@@ -60,8 +60,8 @@ module _ {t u : List ℕ} where
   digest-above h x q = outside-above x (10752 + q) (omega arith)
 
   -- a store behind the kinds leaves them
-  pub kind-kept : Kept 10629 t u → (k : ℕ) → k < 5 → kindOf u k ≡ kindOf t k
-  unfolding kindOf
+  pub kind-kept : Kept 10629 t u → (k : ℕ) → k < 5 → kindFromOne u k ≡ kindFromOne t k
+  unfolding kindFromOne
   kind-kept x k h = kept-at x (10624 + k) (omega arith)
 
   pub kinds-kept : {l : List TypeKey} {keys : ℕ} → Kept 10629 t u → Kinds t l keys → Kinds u l keys
@@ -75,8 +75,8 @@ module _ {t u : List ℕ} where
 -- ---- a need
 
 module _ (t : List ℕ) (room : 65536 ≤ length t) (q i p : ℕ) (hq : q < 128) where
-  pub entered-outside : Outside 10240 10624 t (entered t q i p)
-  unfolding entered
+  pub entered-outside : Outside 10240 10624 t (needEntered t q i p)
+  unfolding needEntered
   entered-outside =
       let a = set t (10240 + q) (i % 256) in
       let b = set a (10368 + q) (i / 256) in
@@ -90,8 +90,8 @@ module _ (t : List ℕ) (room : 65536 ≤ length t) (q i p : ℕ) (hq : q < 128)
   long-2 : length (set (set t (10240 + q) (i % 256)) (10368 + q) (i / 256)) ≡ length t
   long-2 = length-set (set t (10240 + q) (i % 256)) (10368 + q) (i / 256) ∙ long-1
 
-  pub entered-line : lineOf (entered t q i p) q ≡ i
-  unfolding lineOf entered
+  pub entered-line : needLineOf (needEntered t q i p) q ≡ i
+  unfolding needLineOf needEntered
   entered-line =
       let a = set t (10240 + q) (i % 256) in
       let b = set a (10368 + q) (i / 256) in
@@ -104,13 +104,13 @@ module _ (t : List ℕ) (room : 65536 ≤ length t) (q i p : ℕ) (hq : q < 128)
       )
       (omega (arith, div-add-mod' i 256))
 
-  pub entered-position : positionOf (entered t q i p) q ≡ p
-  unfolding positionOf entered
+  pub entered-position : positionOf (needEntered t q i p) q ≡ p
+  unfolding positionOf needEntered
   entered-position = getD-set-same (set (set t (10240 + q) (i % 256)) (10368 + q) (i / 256)) (10496 + q) p 0 (omega (arith, long-2))
 
   module _ (j : ℕ) (hj : j < 128) (ne : j ≡ q → ⊥) where
-    pub other-line : lineOf (entered t q i p) j ≡ lineOf t j
-    unfolding lineOf entered
+    pub other-line : needLineOf (needEntered t q i p) j ≡ needLineOf t j
+    unfolding needLineOf needEntered
     other-line =
         let a = set t (10240 + q) (i % 256) in
         let b = set a (10368 + q) (i / 256) in
@@ -123,8 +123,8 @@ module _ (t : List ℕ) (room : 65536 ≤ length t) (q i p : ℕ) (hq : q < 128)
           getD-set-other t (10240 + q) (10368 + j) (i % 256) 0 (λ e. absurd (omega arith)),
         )
 
-    pub other-position : positionOf (entered t q i p) j ≡ positionOf t j
-    unfolding positionOf entered
+    pub other-position : positionOf (needEntered t q i p) j ≡ positionOf t j
+    unfolding positionOf needEntered
     other-position =
         let a = set t (10240 + q) (i % 256) in
         let b = set a (10368 + q) (i / 256) in
@@ -141,8 +141,8 @@ module _ (t : List ℕ) (room : 65536 ≤ length t) (k p : ℕ) where
       go true e = outside-set 10624 10629 t (10624 + k) (p + 1) (omega arith) (omega (arith, ltb-true k 5 e))
       go false e = outside-all
 
-  pub kind-entered : (j : ℕ) → j < 5 → kindOf (kindEntered t k p) j ≡ cond (eqb j k) (suc p) (kindOf t j)
-  unfolding kindEntered kindOf
+  pub kind-entered : (j : ℕ) → j < 5 → kindFromOne (kindEntered t k p) j ≡ cond (eqb j k) (suc p) (kindFromOne t j)
+  unfolding kindEntered kindFromOne
   kind-entered j h = go (ltb k 5) refl (eqb j k) refl
     where
       go : (b : Bool) → ltb k 5 ≡ b → (e : Bool) → eqb j k ≡ e → getD (cond b (set t (10624 + k) (p + 1)) t) (10624 + j) 0 ≡ cond e (suc p) (getD t (10624 + j) 0)
@@ -165,8 +165,8 @@ module _ (t : List ℕ) (room : 65536 ≤ length t) (q d : ℕ) (hq : q < 128) w
   digest-other j ne = getD-set-other t (10752 + q) (10752 + j) d 0 (λ e. ne (omega arith))
 
 -- one more kind cleared
-pub cleared-next : (t : List ℕ) (k : ℕ) → k < 5 → 65536 ≤ length t → ((j : ℕ) → j < k → kindOf t j ≡ 0) → (j : ℕ) → j < k + 1 → kindOf (set t (10624 + k) 0) j ≡ 0
-unfolding kindOf
+pub cleared-next : (t : List ℕ) (k : ℕ) → k < 5 → 65536 ≤ length t → ((j : ℕ) → j < k → kindFromOne t j ≡ 0) → (j : ℕ) → j < k + 1 → kindFromOne (set t (10624 + k) 0) j ≡ 0
+unfolding kindFromOne
 cleared-next t k h room z j l = go (eqb j k) refl
   where
     go : (e : Bool) → eqb j k ≡ e → getD (set t (10624 + k) 0) (10624 + j) 0 ≡ 0

@@ -16,15 +16,15 @@ use Rattle.checks.specs.Checks.{Kept}
 use Rattle.type_lines.specs.Needs.{needAt}
 
 -- 128 bytes each: the line, from 0, of need q, low and high byte, and the position of its key among the distinct keys
-unfoldable pub lineOf : Bytes → ℕ → ℕ
-lineOf t q = getD t (10240 + q) 0 + 256 * getD t (10368 + q) 0
+unfoldable pub needLineOf : Bytes → ℕ → ℕ
+needLineOf t q = getD t (10240 + q) 0 + 256 * getD t (10368 + q) 0
 
 unfoldable pub positionOf : Bytes → ℕ → ℕ
 positionOf t q = getD t (10496 + q) 0
 
 -- for each kind of element 0 where its key is not used, or its position plus 1
-unfoldable pub kindOf : Bytes → ℕ → ℕ
-kindOf t k = getD t (10624 + k) 0
+unfoldable pub kindFromOne : Bytes → ℕ → ℕ
+kindFromOne t k = getD t (10624 + k) 0
 
 -- 128 bytes: the digest of the text of need q
 unfoldable pub digestOf : Bytes → ℕ → ℕ
@@ -37,9 +37,9 @@ positionFromOne k js = cond (any (sameTypeKey k) js) (suc (position k js)) 0
 -- the table has the lines of the needs ks, which are `need` lines, 78, and the positions of their keys
 pub record Needs (s t : Bytes) (n : ℕ) (ks : List TypeKey) : Type 0 where
   pub few : length ks ≤ 128
-  pub within : (q : ℕ) → q < length ks → lineOf t q < n
-  pub kind : (q : ℕ) → q < length ks → letter (readAt s (lineOf t q) .form .kind) ≡ 78
-  pub key : (q : ℕ) → q < length ks → needAt s (lineOf t q) ≡ getD ks q opaqueKey
+  pub within : (q : ℕ) → q < length ks → needLineOf t q < n
+  pub kind : (q : ℕ) → q < length ks → letter (readAt s (needLineOf t q) .form .kind) ≡ 78
+  pub key : (q : ℕ) → q < length ks → needAt s (needLineOf t q) ≡ getD ks q opaqueKey
   pub position : (q : ℕ) → q < length ks → positionOf t q ≡ position (getD ks q opaqueKey) (distinct [] ks)
 
 -- 1 where a kind of element is used
@@ -48,12 +48,12 @@ isUsed p = cond (eqb p 0) 0 1
 
 -- how many kinds of elements are used
 unfoldable pub kindsUsed : Bytes → ℕ
-kindsUsed t = isUsed (kindOf t 0) + isUsed (kindOf t 1) + isUsed (kindOf t 2) + isUsed (kindOf t 3) + isUsed (kindOf t 4)
+kindsUsed t = isUsed (kindFromOne t 0) + isUsed (kindFromOne t 1) + isUsed (kindFromOne t 2) + isUsed (kindFromOne t 3) + isUsed (kindFromOne t 4)
 
 -- `keys` keys are distinct among ks, at most 128 besides those of elements, and the table has the positions of elements' keys
 pub record Kinds (t : Bytes) (ks : List TypeKey) (keys : ℕ) : Type 0 where
   pub count : keys ≡ length (distinct [] ks)
-  pub position : (k : ElemKind) → kindOf t (kindNumber k) ≡ positionFromOne (elemKey k) (distinct [] ks)
+  pub position : (k : ElemKind) → kindFromOne t (kindNumber k) ≡ positionFromOne (elemKey k) (distinct [] ks)
   pub few : keys ≤ 128 + kindsUsed t
 
 -- u is as long as t and holds the same bytes but from a up to b
@@ -64,8 +64,8 @@ pub record Outside (a b : ℕ) (t u : Bytes) : Type 0 where
 -- ---- what is stored
 
 -- need q is on line i, from 0, and its key has position p
-unfoldable pub entered : Bytes → ℕ → ℕ → ℕ → Bytes
-entered t q i p = set (set (set t (10240 + q) (i % 256)) (10368 + q) (i / 256)) (10496 + q) p
+unfoldable pub needEntered : Bytes → ℕ → ℕ → ℕ → Bytes
+needEntered t q i p = set (set (set t (10240 + q) (i % 256)) (10368 + q) (i / 256)) (10496 + q) p
 
 -- the key of element kind k has position p; 5 is no kind
 unfoldable pub kindEntered : Bytes → ℕ → ℕ → Bytes

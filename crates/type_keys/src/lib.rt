@@ -9,12 +9,12 @@ ghost use lib.ListN.{length, set};
 ghost use Rattle.semantics.specs.Tree.{ElemKind, TypeKey};
 ghost use Rattle.semantics.specs.Tree.TypeKey.{elemKey};
 ghost use Rattle.semantics.specs.Array.{kindNumber};
-ghost use Rattle.type_keys.specs.Table.{lineOf, positionOf, kindOf, digestOf, entered, kindEntered, Kinds, Outside};
+ghost use Rattle.type_keys.specs.Table.{needLineOf, positionOf, kindFromOne, digestOf, needEntered, kindEntered, Kinds, Outside};
 
 // The line of need q; both are counted from 0.
 pub fn need_line(work: &[u8], q: usize) -> usize
     requires { ⌜ (q < 128) × (65536 ≤ length (now work)) ⌝ }
-    ensures { λ r. ⌜ r ≡ lineOf (now (work .entry)) q ⌝ }
+    ensures { λ r. ⌜ r ≡ needLineOf (now (work .entry)) q ⌝ }
 {
     words::wide(work[area::NEED_LOW + q]) + 256 * words::wide(work[area::NEED_HIGH + q])
 }
@@ -36,9 +36,9 @@ pub fn need_digest(work: &[u8], q: usize) -> usize
 }
 
 // The position of the key of a kind of element plus 1, 0 where it is not used.
-pub fn kind_position(work: &[u8], kind: usize) -> usize
+pub fn kind_from_one(work: &[u8], kind: usize) -> usize
     requires { ⌜ (kind < 5) × (65536 ≤ length (now work)) ⌝ }
-    ensures { λ r. ⌜ (r ≡ kindOf (now (work .entry)) kind) × (r < 256) ⌝ }
+    ensures { λ r. ⌜ (r ≡ kindFromOne (now (work .entry)) kind) × (r < 256) ⌝ }
 {
     words::wide(work[area::KIND_POSITIONS + kind])
 }
@@ -46,7 +46,7 @@ pub fn kind_position(work: &[u8], kind: usize) -> usize
 // Need q is on line i, from 0, and its key has position p.
 pub fn enter_need(work: &mut [u8], q: usize, i: usize, p: usize)
     requires { ⌜ (q < 128) × (i < 1024) × (p < 256) × (65536 ≤ length (now work)) ⌝ }
-    ensures { λ _. ⌜ now (work .exit) ≡ entered (now (work .entry)) q i p ⌝ }
+    ensures { λ _. ⌜ now (work .exit) ≡ needEntered (now (work .entry)) q i p ⌝ }
 {
     work[area::NEED_LOW + q] = (i % 256) as u8;
     work[area::NEED_HIGH + q] = (i / 256) as u8;
@@ -74,7 +74,7 @@ pub fn enter_kind(work: &mut [u8], kind: usize, p: usize)
 // No kind of element is used.
 pub fn clear_kinds(work: &mut [u8])
     requires { ⌜ 65536 ≤ length (now work) ⌝ }
-    ensures { λ _. ⌜ (Outside 10624 10629 (now (work .entry)) (now (work .exit))) × ((k : ℕ) → k < 5 → kindOf (now (work .exit)) k ≡ 0) ⌝ }
+    ensures { λ _. ⌜ (Outside 10624 10629 (now (work .entry)) (now (work .exit))) × ((k : ℕ) → k < 5 → kindFromOne (now (work .exit)) k ≡ 0) ⌝ }
 {
     let mut k = 0;
     while k < 5 {
@@ -88,7 +88,7 @@ pub fn collect_kind(work: &mut [u8], kind: usize, keys: usize) -> usize
     requires { ⌜ (kind < 5) × (keys < 255) × (65536 ≤ length (now work)) ⌝ }
     ensures { λ r. ⌜ ((k : ElemKind) (ks : List TypeKey) → kind ≡ kindNumber k → Kinds (now (work .entry)) ks keys → Kinds (now (work .exit)) (ks ++ (elemKey k ∷ [])) r) × (Outside 10624 10629 (now (work .entry)) (now (work .exit))) ⌝ }
 {
-    if kind_position(work, kind) != 0 {
+    if kind_from_one(work, kind) != 0 {
         return keys;
     }
     enter_kind(work, kind, keys);

@@ -13,7 +13,7 @@ use Rattle.semantics.specs.Types.{sameTypeKey}
 use Rattle.lines.specs.Lines.{readAt, nodesIn, formAt}
 use Rattle.source.specs.Walk.{fieldAt}
 use Rattle.type_lines.specs.Needs.{needAt, NeedLine, kindBy}
-use Rattle.type_lines.specs.Shapes.{shapeAt, ShapeLine}
+use Rattle.type_lines.specs.Shapes.{writtenShape, ShapeLine}
 use Rattle.type_lines.proofs.Codes.{kind-low, elems-are}
 use Rattle.type_lines.proofs.Forms.{elemBy, keyBy, key-is, form-from}
 
@@ -21,8 +21,8 @@ module _ (s t : List ℕ) (n i : ℕ) (l : NeedLine s t n i) where
   pub name-key : formAt t i ≡ 34 → needAt s i ≡ adtKey (fieldAt (readAt s i .fields) 0)
   name-key e = key-is s t n i l ∙ rw e
 
-  pub block-key : formAt t i ≡ 40 → needAt s i ≡ blockKey (shapeAt s i)
-  unfolding shapeAt
+  pub block-key : formAt t i ≡ 40 → needAt s i ≡ blockKey (writtenShape s i)
+  unfolding writtenShape
   block-key e = key-is s t n i l ∙ rw e
 
   pub opaque-key : formAt t i ≡ 41 → needAt s i ≡ opaqueKey

@@ -18,7 +18,7 @@ use Rattle.checks.specs.Checks.{Checked}
 use Rattle.source.specs.Walk.{declaresAt, declaredTo, byKind}
 use Rattle.source.proofs.Walk.{declared-all, source-of, declared-more}
 use Rattle.source.proofs.Declares.{line-declares}
-use Rattle.type_lines.specs.Shapes.{shapeAt, ShapeLine, framesTo}
+use Rattle.type_lines.specs.Shapes.{writtenShape, ShapeLine, framesTo}
 
 module _ (s t : List ℕ) (n : ℕ) (c : Checked s t n) where
   pub frames-all : framesTo s n ≡ sheetSource s .frames
@@ -32,11 +32,11 @@ module _ (s t : List ℕ) (n : ℕ) (c : Checked s t n) where
       omega (arith, e, ap length g, c .bounds .frames)
 
   module _ (i : ℕ) (h : i < n) where
-    frames-at : declaresAt (nodesIn s) i .frames ≡ cond (eqb (letter (readAt s i .form .kind)) 71) (shapeAt s i ∷ []) []
-    unfolding byKind shapeAt
+    frames-at : declaresAt (nodesIn s) i .frames ≡ cond (eqb (letter (readAt s i .form .kind)) 71) (writtenShape s i ∷ []) []
+    unfolding byKind writtenShape
     frames-at = ap (λ (d : Declares). d .frames) (line-declares s t n c i h)
 
-    pub frames-by : (b : Bool) → b ≡ eqb (letter (readAt s i .form .kind)) 71 → declaresAt (nodesIn s) i .frames ≡ cond b (shapeAt s i ∷ []) []
+    pub frames-by : (b : Bool) → b ≡ eqb (letter (readAt s i .form .kind)) 71 → declaresAt (nodesIn s) i .frames ≡ cond b (writtenShape s i ∷ []) []
     frames-by b e = frames-at ∙ rw (← e)
 
     pub frames-more : framesTo s (i + 1) ≡ framesTo s i ++ declaresAt (nodesIn s) i .frames
@@ -46,7 +46,7 @@ module _ (s t : List ℕ) (n : ℕ) (c : Checked s t n) where
     pub frames-count : (b : Bool) → b ≡ eqb (letter (readAt s i .form .kind)) 71 → cond b 1 0 ≡ length (declaresAt (nodesIn s) i .frames)
     frames-count b e = rw (frames-by b e) (go b)
       where
-        go : (b : Bool) → cond b 1 0 ≡ length (cond b (shapeAt s i ∷ []) [])
+        go : (b : Bool) → cond b 1 0 ≡ length (cond b (writtenShape s i ∷ []) [])
         go true = refl
         go false = refl
 

@@ -21,7 +21,7 @@ use Rattle.decimal.specs.declared.Signed.the-variants as Signed
 use Rattle.form.specs.Table.{rowAt}
 use Rattle.lines.specs.Lines.{readAt, nodesIn, formAt}
 use Rattle.lines.proofs.Line.{read-fits}
-use Rattle.type_lines.specs.Shapes.{shapeAt, ShapeLine, raised}
+use Rattle.type_lines.specs.Shapes.{writtenShape, ShapeLine, raised}
 use Rattle.semantics.proofs.Common.{never, both}
 use Rattle.refs.proofs.Fields.{number-exact, count-number, values-length}
 
@@ -81,37 +81,37 @@ module _ (s t : List ℕ) (n i : ℕ) (l : ShapeLine s t n i) where
       or-cases (λ f. fits (rowAt f .parts) (readAt s i .fields) ≡ true → Fields (readAt s i .fields)) (formAt t i) 33 40 (l .form)
       (shape-fields (readAt s i .fields)) (shape-fields (readAt s i .fields)) (read-fits s t n (l .checked .whole) i (l .within))
 
-  pub size-is : Number.numberOf 65536 (getD (readAt s i .fields) 0 []) ≡ shapeAt s i .size
-  unfolding shapeAt
+  pub size-is : Number.numberUpTo 65536 (getD (readAt s i .fields) 0 []) ≡ writtenShape s i .size
+  unfolding writtenShape
   size-is = let q = size-number (getD (readAt s i .fields) 0 []) (shape-fit .size) in number-exact (getD (readAt s i .fields) 0 []) (q .0) (omega (arith, q .1))
 
-  pub size-low : shapeAt s i .size ≤ 4096
-  unfolding shapeAt
+  pub size-low : writtenShape s i .size ≤ 4096
+  unfolding writtenShape
   size-low = size-number (getD (readAt s i .fields) 0 []) (shape-fit .size) .1
 
-  pub count-is : Number.numberOf 65536 (getD (readAt s i .fields) 1 []) ≡ length (shapeAt s i .pointers)
-  unfolding shapeAt
+  pub count-is : Number.numberUpTo 65536 (getD (readAt s i .fields) 1 []) ≡ length (writtenShape s i .pointers)
+  unfolding writtenShape
   count-is =
       let q = count-number (getD (readAt s i .fields) 1 []) (shape-fit .count) in
       number-exact (getD (readAt s i .fields) 1 []) (q .0) (omega (arith, q .1)) ∙ sym (values-length offset (nodesIn s) (numberOf (getD (readAt s i .fields) 1 [])) (drop 2 (readAt s i .fields)))
 
-  pub count-low : length (shapeAt s i .pointers) ≤ 16
-  unfolding shapeAt
+  pub count-low : length (writtenShape s i .pointers) ≤ 16
+  unfolding writtenShape
   count-low = omega (arith, values-length offset (nodesIn s) (numberOf (getD (readAt s i .fields) 1 [])) (drop 2 (readAt s i .fields)), count-number (getD (readAt s i .fields) 1 []) (shape-fit .count) .1)
 
-  module _ (j : ℕ) (h : j < length (shapeAt s i .pointers)) where
+  module _ (j : ℕ) (h : j < length (writtenShape s i .pointers)) where
     low : j < numberOf (getD (readAt s i .fields) 1 [])
-    unfolding shapeAt
+    unfolding writtenShape
     low = omega (arith, values-length offset (nodesIn s) (numberOf (getD (readAt s i .fields) 1 [])) (drop 2 (readAt s i .fields)))
 
     pub offset-holds : holds offset (getD (readAt s i .fields) (2 + j) []) ≡ true
     offset-holds = shape-fit .each j low
 
-    pub offset-is : Text.orElse (pos 0) (Text.intOf (getD (readAt s i .fields) (2 + j) [])) ≡ getD (shapeAt s i .pointers) j (pos 0)
-    unfolding shapeAt
+    pub offset-is : Text.orElse (pos 0) (Text.intOf (getD (readAt s i .fields) (2 + j) [])) ≡ getD (writtenShape s i .pointers) j (pos 0)
+    unfolding writtenShape
     offset-is = sym (values-at (nodesIn s) (numberOf (getD (readAt s i .fields) 1 [])) (drop 2 (readAt s i .fields)) j low ∙ ap (λ (f : List ℕ). Text.orElse (pos 0) (Text.intOf f)) (getD-drop 2 (readAt s i .fields) j []))
 
-    pub offset-near : between 4096 4096 (getD (shapeAt s i .pointers) j (pos 0)) ≡ true
+    pub offset-near : between 4096 4096 (getD (writtenShape s i .pointers) j (pos 0)) ≡ true
     offset-near = rw (← offset-is) (go (Text.intOf (getD (readAt s i .fields) (2 + j) [])) offset-holds)
       where
         go : (o : Option ℤ) → Text.holdsOf (between 4096 4096) o ≡ true → between 4096 4096 (Text.orElse (pos 0) o) ≡ true

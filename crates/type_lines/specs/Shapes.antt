@@ -12,8 +12,8 @@ use Rattle.checks.specs.Checks.{Checked}
 use Rattle.source.specs.Walk.{declaredTo, frameOf}
 
 -- the size and the offsets that line i writes out
-unfoldable pub shapeAt : Bytes → ℕ → Shape
-shapeAt s i = frameOf (nodesIn s) (readAt s i .fields)
+unfoldable pub writtenShape : Bytes → ℕ → Shape
+writtenShape s i = frameOf (nodesIn s) (readAt s i .fields)
 
 -- line i is a `frame` line, 33, or a `need,block` line, 40
 pub record ShapeLine (s t : Bytes) (n i : ℕ) : Type 0 where

@@ -8,7 +8,7 @@ ghost use lib.ListN.{length, getD};
 ghost use Rattle.semantics.specs.Text.{orElse, intOf};
 ghost use Rattle.semantics.specs.Form.{holds};
 ghost use Rattle.semantics.specs.Form.Atom.{offset};
-ghost use Rattle.type_lines.specs.Shapes.{shapeAt, ShapeLine, raised};
+ghost use Rattle.type_lines.specs.Shapes.{writtenShape, ShapeLine, raised};
 
 // An offset, from -4096 on, plus 4096.
 fn read_offset(f: &[u8]) -> usize
@@ -26,7 +26,7 @@ fn read_offset(f: &[u8]) -> usize
 // The size that line i, from 0, writes out.
 pub fn size_at(sheet: &[u8], work: &[u8], n: usize, i: usize) -> u32
     requires { ⌜ ShapeLine (now sheet) (now work) n i ⌝ }
-    ensures { λ r. ⌜ (r ≡ shapeAt (now (sheet .entry)) i .size) × (r ≤ 4096) ⌝ }
+    ensures { λ r. ⌜ (r ≡ writtenShape (now (sheet .entry)) i .size) × (r ≤ 4096) ⌝ }
 {
     lines::number_at(sheet, work, n, i, 0) as u32
 }
@@ -34,15 +34,15 @@ pub fn size_at(sheet: &[u8], work: &[u8], n: usize, i: usize) -> u32
 // How many offsets it has.
 pub fn offset_count(sheet: &[u8], work: &[u8], n: usize, i: usize) -> usize
     requires { ⌜ ShapeLine (now sheet) (now work) n i ⌝ }
-    ensures { λ r. ⌜ (r ≡ length (shapeAt (now (sheet .entry)) i .pointers)) × (r ≤ 16) ⌝ }
+    ensures { λ r. ⌜ (r ≡ length (writtenShape (now (sheet .entry)) i .pointers)) × (r ≤ 16) ⌝ }
 {
     lines::number_at(sheet, work, n, i, 1)
 }
 
 // Offset j, plus 4096.
 pub fn offset_at(sheet: &[u8], work: &[u8], n: usize, i: usize, j: usize) -> usize
-    requires { ⌜ (ShapeLine (now sheet) (now work) n i) × (j < length (shapeAt (now sheet) i .pointers)) ⌝ }
-    ensures { λ r. ⌜ (r ≡ raised (getD (shapeAt (now (sheet .entry)) i .pointers) j (pos 0))) × (r ≤ 8192) ⌝ }
+    requires { ⌜ (ShapeLine (now sheet) (now work) n i) × (j < length (writtenShape (now sheet) i .pointers)) ⌝ }
+    ensures { λ r. ⌜ (r ≡ raised (getD (writtenShape (now (sheet .entry)) i .pointers) j (pos 0))) × (r ≤ 8192) ⌝ }
 {
     read_offset(lines::field_at(sheet, work, n, i, 2 + j))
 }

@@ -18,7 +18,7 @@ use Rattle.semantics.specs.Types.{opaqueShape, elemShape}
 use Rattle.maps.specs.Maps.{Marks}
 use Rattle.maps.proofs.Maps.{marks-none, marks-then, marks-skip}
 use Rattle.type_lines.specs.Shapes.{raised}
-use Rattle.type_row.specs.declared.Next.{Next}
+use Rattle.type_row.specs.declared.Spot.{Spot}
 use Rattle.type_row.specs.Row.{words, Rowed}
 
 pub opaque-words : words 12 ≡ opaqueShape .pointers
@@ -77,5 +77,5 @@ words-by kind kPtr e = rw e
 pub shape-is : (x : Shape) (a : ℕ) (l : List ℤ) → a ≡ x .size → l ≡ x .pointers → record { size = a; pointers = l } ≡ x
 shape-is x a l e f = rw (e, f)
 
-pub rowed-as : {x y : Shape} {p q : Next} {t u d e : List ℕ} → x ≡ y → Rowed x p q t u d e → Rowed y p q t u d e
+pub rowed-as : {x y : Shape} {p q : Spot} {t u d e : List ℕ} → x ≡ y → Rowed x p q t u d e → Rowed y p q t u d e
 rowed-as q w = rw (← q) w

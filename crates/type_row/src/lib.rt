@@ -14,18 +14,18 @@ ghost use Rattle.semantics.specs.Types.{opaqueShape, elemShape};
 ghost use Rattle.semantics.specs.Listing.{typeRows};
 ghost use Rattle.write.specs.Wrote.{Wrote};
 ghost use Rattle.checks.specs.Checks.{Kept};
-ghost use Rattle.maps.specs.Maps.{MapRoom, Mapped, Marks, Made};
-ghost use Rattle.type_lines.specs.Shapes.{shapeAt, ShapeLine, raised};
+ghost use Rattle.maps.specs.Maps.{MapRoom, Mapped, Marks, MapMade};
+ghost use Rattle.type_lines.specs.Shapes.{writtenShape, ShapeLine, raised};
 ghost use Rattle.type_row.specs.Row.{words, Rowed};
 
 // Where the next row goes, and its ID.
-pub struct Next {
+pub struct Spot {
     pub at: usize,
     pub id: usize,
 }
 
 // The row of a block of this size whose map stands in the working space.
-pub fn put_type(work: &[u8], size: u32, out: &mut [u8], p: Next) -> Next
+pub fn put_type(work: &[u8], size: u32, out: &mut [u8], p: Spot) -> Spot
     requires { ⌜ (MapRoom (now work) size) × (p .id < 2048) ⌝ }
     ensures { λ q. ⌜ ((offs : List ℤ) → Mapped (now (work .entry)) size offs → Wrote (now (out .entry)) (p .at) (typeRows (p .id) (record { size = size; pointers = offs } ∷ [])) (now (out .exit)) (q .at)) × (q .id ≡ p .id + 1) ⌝ }
 {
@@ -36,7 +36,7 @@ pub fn put_type(work: &[u8], size: u32, out: &mut [u8], p: Next) -> Next
     at = rows::put_comma_nat(out, at, maps::map_ones(work, size) as u64);
     at = rows::put_comma_hex(out, at, &work[area::MAP..end]);
     at = rows::put_lf(out, at);
-    Next {
+    Spot {
         at: at,
         id: p.id + 1,
     }
@@ -47,7 +47,7 @@ pub fn put_type(work: &[u8], size: u32, out: &mut [u8], p: Next) -> Next
 // Makes the map of a block whose first `count` words are pointers.
 fn map_words(work: &mut [u8], size: u32, count: u32)
     requires { ⌜ (MapRoom (now work) size) × (count ≤ 12) ⌝ }
-    ensures { λ _. ⌜ Made size (words count) (now (work .entry)) (now (work .exit)) ⌝ }
+    ensures { λ _. ⌜ MapMade size (words count) (now (work .entry)) (now (work .exit)) ⌝ }
 {
     maps::clear_map(work, size);
     let mut k = 0;
@@ -58,7 +58,7 @@ fn map_words(work: &mut [u8], size: u32, count: u32)
 }
 
 // The row of such a block.
-pub fn put_words(work: &mut [u8], size: u32, count: u32, out: &mut [u8], p: Next) -> Next
+pub fn put_words(work: &mut [u8], size: u32, count: u32, out: &mut [u8], p: Spot) -> Spot
     requires { ⌜ (MapRoom (now work) size) × (count ≤ 12) × (p .id < 2048) ⌝ }
     ensures { λ q. ⌜ Rowed (record { size = size; pointers = words count }) p q (now (work .entry)) (now (work .exit)) (now (out .entry)) (now (out .exit)) ⌝ }
 {
@@ -67,7 +67,7 @@ pub fn put_words(work: &mut [u8], size: u32, count: u32, out: &mut [u8], p: Next
 }
 
 // An opaque record: 12 words, all pointers.
-pub fn put_opaque(work: &mut [u8], out: &mut [u8], p: Next) -> Next
+pub fn put_opaque(work: &mut [u8], out: &mut [u8], p: Spot) -> Spot
     requires { ⌜ (65536 ≤ length (now work)) × (p .id < 2048) ⌝ }
     ensures { λ q. ⌜ Rowed opaqueShape p q (now (work .entry)) (now (work .exit)) (now (out .entry)) (now (out .exit)) ⌝ }
 {
@@ -100,7 +100,7 @@ fn elem_pointers(kind: u8) -> u32
 }
 
 // An array's elements.
-pub fn put_elem(work: &mut [u8], kind: u8, out: &mut [u8], p: Next) -> Next
+pub fn put_elem(work: &mut [u8], kind: u8, out: &mut [u8], p: Spot) -> Spot
     requires { ⌜ (65536 ≤ length (now work)) × (p .id < 2048) ⌝ }
     ensures { λ q. ⌜ ((k : ElemKind) → kind ≡ kindNumber k → Rowed (elemShape k) p q (now (work .entry)) (now (work .exit)) (now (out .entry)) (now (out .exit))) × (q .id ≡ p .id + 1) × (Kept 49152 (now (work .entry)) (now (work .exit))) ⌝ }
 {
@@ -123,7 +123,7 @@ fn mark_raised(work: &mut [u8], size: u32, z: usize)
 // Makes the map of the offsets of line i, for a block of this size.
 fn map_line(sheet: &[u8], work: &mut [u8], n: usize, i: usize, size: u32)
     requires { ⌜ (ShapeLine (now sheet) (now work) n i) × (MapRoom (now work) size) ⌝ }
-    ensures { λ _. ⌜ Made size (shapeAt (now (sheet .entry)) i .pointers) (now (work .entry)) (now (work .exit)) ⌝ }
+    ensures { λ _. ⌜ MapMade size (writtenShape (now (sheet .entry)) i .pointers) (now (work .entry)) (now (work .exit)) ⌝ }
 {
     maps::clear_map(work, size);
     let count = type_lines::shape::offset_count(sheet, work, n, i);
@@ -136,9 +136,9 @@ fn map_line(sheet: &[u8], work: &mut [u8], n: usize, i: usize, size: u32)
 }
 
 // A frame, or a block that a need writes out.
-pub fn put_line(sheet: &[u8], work: &mut [u8], n: usize, i: usize, out: &mut [u8], p: Next) -> Next
+pub fn put_line(sheet: &[u8], work: &mut [u8], n: usize, i: usize, out: &mut [u8], p: Spot) -> Spot
     requires { ⌜ (ShapeLine (now sheet) (now work) n i) × (p .id < 2048) ⌝ }
-    ensures { λ q. ⌜ Rowed (shapeAt (now (sheet .entry)) i) p q (now (work .entry)) (now (work .exit)) (now (out .entry)) (now (out .exit)) ⌝ }
+    ensures { λ q. ⌜ Rowed (writtenShape (now (sheet .entry)) i) p q (now (work .entry)) (now (work .exit)) (now (out .entry)) (now (out .exit)) ⌝ }
 {
     let size = type_lines::shape::size_at(sheet, work, n, i);
     map_line(sheet, work, n, i, size);

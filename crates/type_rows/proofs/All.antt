@@ -17,7 +17,7 @@ use Rattle.checks.specs.Checks.{Checked}
 use Rattle.records.specs.Log.{logOf}
 use Rattle.type_keys.proofs.Distinct.{newKey, distinct-more}
 use Rattle.type_lines.proofs.Frames.{frames-all, frames-few}
-use Rattle.type_row.specs.declared.Next.{Next}
+use Rattle.type_row.specs.declared.Spot.{Spot}
 use Rattle.type_rows.specs.Rows.{Wrotes, shapesOf}
 use Rattle.type_rows.proofs.Wrotes.{wrotes-then}
 
@@ -45,7 +45,7 @@ descriptors-are s is =
     ap (λ (xs : List Shape). opaqueShape ∷ (opaqueShape ∷ (sheetSource s .frames ++ xs)))
     (ap (map (keyShape (logOf s))) (keys-split (sheetSource s .needs) (concatMap arrayKey is)) ∙ map-append (keyShape (logOf s)) (distinct [] (sheetSource s .needs)) (drop (length (distinct [] (sheetSource s .needs))) (distinct [] (sheetSource s .needs ++ concatMap arrayKey is))))
 
-pub all-rows : (s : List ℕ) (is : List Item) {p q r z : Next} {at : ℕ} {d0 d1 d2 d3 d4 t0 t1 t2 t3 t4 : List ℕ}
+pub all-rows : (s : List ℕ) (is : List Item) {p q r z : Spot} {at : ℕ} {d0 d1 d2 d3 d4 t0 t1 t2 t3 t4 : List ℕ}
     → Wrotes (opaqueShape ∷ opaqueShape ∷ []) (record { at = at; id = 0 }) p t0 t1 d0 d1 → Wrotes (sheetSource s .frames) p q t1 t2 d1 d2
     → Wrotes (shapesOf s (distinct [] (sheetSource s .needs))) q r t2 t3 d2 d3
     → Wrotes (shapesOf s (drop (length (distinct [] (sheetSource s .needs))) (distinct [] (sheetSource s .needs ++ concatMap arrayKey is)))) r z t3 t4 d3 d4

@@ -11,10 +11,10 @@ use Rattle.semantics.specs.Array.{kindNumber}
 use Rattle.semantics.specs.Types.{opaqueShape, elemShape, keyShape, unknown}
 use Rattle.lines.specs.Lines.{readAt, formAt}
 use Rattle.source.specs.Walk.{fieldAt}
-use Rattle.records.specs.Log.{recordedAt, logOf, noRecord, Logged, Newest}
+use Rattle.records.specs.Log.{recordedAt, logOf, noRecord, RecordsLogged, Newest}
 use Rattle.records.proofs.Keys.{default-same}
 use Rattle.type_lines.specs.Needs.{needAt, NeedLine, kindBy}
-use Rattle.type_lines.specs.Shapes.{shapeAt}
+use Rattle.type_lines.specs.Shapes.{writtenShape}
 use Rattle.type_lines.proofs.Forms.{elemBy, form-from}
 use Rattle.type_lines.proofs.ByForm.{name-key, block-key, opaque-key, plain-key}
 use Rattle.type_row.specs.Row.{words}
@@ -35,7 +35,7 @@ elem-range f lo hi a b c =
     (omega (arith, x), omega (arith, x, z))
 
 module _ (s t : List ℕ) (n i : ℕ) (l : NeedLine s t n i) (f : ℕ) (hf : f ≡ formAt t i) (rs : List Recorded) where
-  pub block-shape : f ≡ 40 → shapeAt s i ≡ keyShape rs (needAt s i)
+  pub block-shape : f ≡ 40 → writtenShape s i ≡ keyShape rs (needAt s i)
   block-shape e = sym (ap (keyShape rs) (block-key s t n i l (sym hf ∙ e)))
 
   pub opaque-shape : f ≡ 41 → opaqueShape ≡ keyShape rs (needAt s i)
@@ -66,7 +66,7 @@ module _ (s t : List ℕ) (n i : ℕ) (l : NeedLine s t n i) (e : formAt t i ≡
   unfolding words
   unknown-words z = sym (rw (named, x .last (unknown key), z))
 
-  module _ (m : ℕ) (g : Logged s t n m) (z : j ≡ 0 → ⊥) where
+  module _ (m : ℕ) (g : RecordsLogged s t n m) (z : j ≡ 0 → ⊥) where
     pub known-low : j - 1 < m
     known-low = omega (arith, x .low, g .count, z)
 

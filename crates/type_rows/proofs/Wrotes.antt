@@ -20,22 +20,22 @@ use Rattle.checks.proofs.Kept.{kept-all, kept-then, kept-less, kept-at}
 use Rattle.records.specs.Log.{logOf}
 use Rattle.records.proofs.Kept.{logged-kept}
 use Rattle.type_lines.specs.Needs.{needAt, NeedLine}
-use Rattle.type_keys.specs.Table.{lineOf, positionOf}
+use Rattle.type_keys.specs.Table.{needLineOf, positionOf}
 use Rattle.type_keys.proofs.Distinct.{newKey, position-none, position-low, position-more, distinct-more, key-member, known-more}
 use Rattle.records.specs.declared.key.Log.{Log}
-use Rattle.type_row.specs.declared.Next.{Next}
+use Rattle.type_row.specs.declared.Spot.{Spot}
 use Rattle.type_row.specs.Row.{Rowed}
-use Rattle.type_rows.specs.Rows.{Wrotes, keysTo, shapesOf, Ready}
+use Rattle.type_rows.specs.Rows.{Wrotes, keysTo, shapesOf, TypeTables}
 use Rattle.type_row.proofs.Rows.{rows-then}
 
-pub wrotes-none : {p : Next} {t d : List ℕ} → p .at ≤ length d + 1 → Wrotes [] p p t t d d
+pub wrotes-none : {p : Spot} {t d : List ℕ} → p .at ≤ length d + 1 → Wrotes [] p p t t d d
 unfolding typeRows
 wrotes-none {p} {t} {d} h = record { wrote = wrote-none d (p .at) h; id = omega arith; kept = kept-all }
 
-pub wrotes-one : {x : Shape} {p q : Next} {t u d e : List ℕ} → Rowed x p q t u d e → Wrotes (x ∷ []) p q t u d e
+pub wrotes-one : {x : Shape} {p q : Spot} {t u d e : List ℕ} → Rowed x p q t u d e → Wrotes (x ∷ []) p q t u d e
 wrotes-one w = record { wrote = w .wrote; id = w .id; kept = w .kept }
 
-pub wrotes-then : (xs ys : List Shape) {p q r : Next} {t u v d e f : List ℕ} → Wrotes xs p q t u d e → Wrotes ys q r u v e f → Wrotes (xs ++ ys) p r t v d f
+pub wrotes-then : (xs ys : List Shape) {p q r : Spot} {t u v d e f : List ℕ} → Wrotes xs p q t u d e → Wrotes ys q r u v e f → Wrotes (xs ++ ys) p r t v d f
 wrotes-then xs ys {p} {q} {r} a b = record {
   wrote = rows-then (p .id) xs ys (q .id) (a .id) (a .wrote) (b .wrote);
   id = omega (arith, a .id, b .id, length-append xs ys);
@@ -45,12 +45,12 @@ wrotes-then xs ys {p} {q} {r} a b = record {
 -- ---- needs
 
 -- a store behind the tables leaves them
-pub ready-kept : {s t u : List ℕ} {c : Log} → Kept 49152 t u → Ready s t c → Ready s u c
-unfolding lineOf positionOf
+pub ready-kept : {s t u : List ℕ} {c : Log} → Kept 49152 t u → TypeTables s t c → TypeTables s u c
+unfolding needLineOf positionOf
 ready-kept {s} {t} {u} k x =
     let at : (j : ℕ) → j < 49152 → getD u j 0 ≡ getD t j 0 = λ j h. kept-at k j h in
     let low : (q : ℕ) → q < length (sheetSource s .needs) → q < 128 = λ q h. omega (arith, x .table .few) in
-    let line : (q : ℕ) → q < length (sheetSource s .needs) → lineOf u q ≡ lineOf t q = λ q h. rw (at (10240 + q) (omega (arith, low q h)), at (10368 + q) (omega (arith, low q h))) in
+    let line : (q : ℕ) → q < length (sheetSource s .needs) → needLineOf u q ≡ needLineOf t q = λ q h. rw (at (10240 + q) (omega (arith, low q h)), at (10368 + q) (omega (arith, low q h))) in
     record {
       log = logged-kept (kept-less (omega arith) k) (x .log);
       table = record {
@@ -62,11 +62,11 @@ ready-kept {s} {t} {u} k x =
       };
     }
 
-module _ (s t : List ℕ) (c : Log) (x : Ready s t c) (q : ℕ) (low : q < length (sheetSource s .needs)) where
+module _ (s t : List ℕ) (c : Log) (x : TypeTables s t c) (q : ℕ) (low : q < length (sheetSource s .needs)) where
   k : TypeKey
   k = getD (sheetSource s .needs) q opaqueKey
 
-  pub need-at : NeedLine s t (c .lines) (lineOf t q)
+  pub need-at : NeedLine s t (c .lines) (needLineOf t q)
   need-at = record { checked = x .log .checked; within = x .table .within q low; kind = x .table .kind q low }
 
   pub need-low : q < 128
@@ -97,7 +97,7 @@ module _ (s t : List ℕ) (c : Log) (x : Ready s t c) (q : ℕ) (low : q < lengt
         go true e = append-nil (keysTo s q)
         go false e = absurd (ne (omega (arith, position-is, hid, position-none (getD (sheetSource s .needs) q opaqueKey) (keysTo s q) e)))
 
-    pub keys-next : base + positionOf t q ≡ id → keysTo s (q + 1) ≡ keysTo s q ++ (needAt s (lineOf t q) ∷ [])
+    pub keys-next : base + positionOf t q ≡ id → keysTo s (q + 1) ≡ keysTo s q ++ (needAt s (needLineOf t q) ∷ [])
     keys-next eq = keys-more ∙ rw (x .table .key q low) (go (any (sameTypeKey (getD (sheetSource s .needs) q opaqueKey)) (keysTo s q)) refl)
       where
         go : (b : Bool) → any (sameTypeKey (getD (sheetSource s .needs) q opaqueKey)) (keysTo s q) ≡ b → keysTo s q ++ cond b [] (getD (sheetSource s .needs) q opaqueKey ∷ []) ≡ keysTo s q ++ (getD (sheetSource s .needs) q opaqueKey ∷ [])
@@ -105,7 +105,7 @@ module _ (s t : List ℕ) (c : Log) (x : Ready s t c) (q : ℕ) (low : q < lengt
         go false e = refl
 
 -- one more key's row
-pub keys-then : (s : List ℕ) (l : List TypeKey) (y : TypeKey) {p q r : Next} {t u v d e f : List ℕ} → Wrotes (shapesOf s l) p q t u d e → Wrotes (keyShape (logOf s) y ∷ []) q r u v e f → Wrotes (shapesOf s (l ++ (y ∷ []))) p r t v d f
+pub keys-then : (s : List ℕ) (l : List TypeKey) (y : TypeKey) {p q r : Spot} {t u v d e f : List ℕ} → Wrotes (shapesOf s l) p q t u d e → Wrotes (keyShape (logOf s) y ∷ []) q r u v e f → Wrotes (shapesOf s (l ++ (y ∷ []))) p r t v d f
 keys-then s l y a b = rw (map-append (keyShape (logOf s)) l (y ∷ [])) (wrotes-then (shapesOf s l) (keyShape (logOf s) y ∷ []) a b)
 
 pub shapes-length : (s : List ℕ) (l : List TypeKey) → length (shapesOf s l) ≡ length l

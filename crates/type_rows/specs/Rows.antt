@@ -8,15 +8,15 @@ use Rattle.semantics.specs.Tree.{Shape, TypeKey}
 use Rattle.semantics.specs.Sheet.{sheetSource}
 use Rattle.semantics.specs.Types.{distinct, keyShape}
 use Rattle.semantics.specs.Listing.{typeRows}
-use Rattle.records.specs.Log.{logOf, Logged}
+use Rattle.records.specs.Log.{logOf, RecordsLogged}
 use Rattle.type_keys.specs.Table.{Needs}
 use Rattle.records.specs.declared.key.Log.{Log}
-use Rattle.type_row.specs.declared.Next.{Next}
+use Rattle.type_row.specs.declared.Spot.{Spot}
 use Rattle.checks.specs.Checks.{Kept}
 use Rattle.write.specs.Wrote.{Wrote}
 
 -- rows of these shapes were written, from p to q
-pub record Wrotes (xs : List Shape) (p q : Next) (t u d e : Bytes) : Type 0 where
+pub record Wrotes (xs : List Shape) (p q : Spot) (t u d e : Bytes) : Type 0 where
   pub wrote : Wrote d (p .at) (typeRows (p .id) xs) e (q .at)
   pub id : q .id ≡ p .id + length xs
   pub kept : Kept 49152 t u
@@ -30,6 +30,6 @@ abbrev pub shapesOf : Bytes → List TypeKey → List Shape
 shapesOf s ks = map (keyShape (logOf s)) ks
 
 -- the tables of a checked sheet that rows are made from: the records, and the needs
-pub record Ready (s t : Bytes) (c : Log) : Type 0 where
-  pub log : Logged s t (c .lines) (c .entries)
+pub record TypeTables (s t : Bytes) (c : Log) : Type 0 where
+  pub log : RecordsLogged s t (c .lines) (c .entries)
   pub table : Needs s t (c .lines) (sheetSource s .needs)

@@ -1,6 +1,6 @@
 // The rows of array elements that no need asked for.
-use type_keys::kind_position;
-use type_row::Next;
+use type_keys::kind_from_one;
+use type_row::Spot;
 use type_row::put_elem;
 ghost use mathlib.Core.Path.{_≡_};
 ghost use mathlib.Core.List.{List, [], _++_};
@@ -12,17 +12,17 @@ ghost use Rattle.semantics.specs.Sheet.{concatMap};
 ghost use Rattle.semantics.specs.Global.{Item};
 ghost use Rattle.semantics.specs.Types.{distinct, arrayKey};
 ghost use Rattle.checks.specs.Checks.{Kept};
-ghost use Rattle.type_keys.specs.Table.{kindOf, Kinds};
+ghost use Rattle.type_keys.specs.Table.{kindFromOne, Kinds};
 ghost use Rattle.type_rows.specs.Rows.{Wrotes, shapesOf};
 
 // The kind of element whose key has position p - 1; 5 where there is none.
 fn kind_at(work: &[u8], p: usize) -> u8
     requires { ⌜ 65536 ≤ length (now work) ⌝ }
-    ensures { λ r. ⌜ (r < 5 → kindOf (now (work .entry)) r ≡ p) × ((k : ℕ) → k < 5 → kindOf (now (work .entry)) k ≡ p → r ≤ k) ⌝ }
+    ensures { λ r. ⌜ (r < 5 → kindFromOne (now (work .entry)) r ≡ p) × ((k : ℕ) → k < 5 → kindFromOne (now (work .entry)) k ≡ p → r ≤ k) ⌝ }
 {
     let mut k = 0;
     while k < 5 {
-        if kind_position(work, k as usize) == p {
+        if kind_from_one(work, k as usize) == p {
             return k;
         }
         k += 1;
@@ -31,7 +31,7 @@ fn kind_at(work: &[u8], p: usize) -> u8
 }
 
 // The rows of the keys behind those of needs, up to the last of `keys`; `base` is the ID of the first key.
-pub fn kind_rows(work: &mut [u8], base: usize, keys: usize, out: &mut [u8], p: Next) -> Next
+pub fn kind_rows(work: &mut [u8], base: usize, keys: usize, out: &mut [u8], p: Spot) -> Spot
     requires { ⌜ (65536 ≤ length (now work)) × (base ≤ p .id) × (base < 1024) × (keys < 1024) × (p .at ≤ length (now out) + 1) ⌝ }
     ensures { λ r. ⌜ ((s : Bytes) (ls : List TypeKey) (is : List Item) → p .id ≡ base + length (distinct [] ls) → Kinds (now (work .entry)) (ls ++ concatMap arrayKey is) keys → Wrotes (shapesOf s (drop (length (distinct [] ls)) (distinct [] (ls ++ concatMap arrayKey is)))) p r (now (work .entry)) (now (work .exit)) (now (out .entry)) (now (out .exit))) × (Kept 49152 (now (work .entry)) (now (work .exit))) ⌝ }
 {

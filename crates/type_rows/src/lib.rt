@@ -4,7 +4,7 @@ pub mod record;
 
 use codes::need;
 use records::key::Log;
-use type_row::Next;
+use type_row::Spot;
 ghost use mathlib.Core.Path.{_≡_};
 ghost use mathlib.Core.List.{List, [], _∷_, _++_};
 ghost use Prim.Native.Nat.{_+_, _≤_, _<_};
@@ -18,12 +18,12 @@ ghost use Rattle.write.specs.Wrote.{Wrote};
 ghost use Rattle.checks.specs.Checks.{Checked, Kept};
 ghost use Rattle.source.specs.Walk.{declaresAt};
 ghost use Rattle.lines.specs.Lines.{nodesIn};
-ghost use Rattle.records.specs.Log.{logOf, Logged};
+ghost use Rattle.records.specs.Log.{logOf, RecordsLogged};
 ghost use Rattle.type_lines.specs.Needs.{needAt, NeedLine};
 ghost use Rattle.type_keys.specs.Table.{Kinds};
-ghost use Rattle.type_row.specs.declared.Next.{Next};
+ghost use Rattle.type_row.specs.declared.Spot.{Spot};
 ghost use Rattle.type_row.specs.Row.{Rowed};
-ghost use Rattle.type_rows.specs.Rows.{Wrotes, keysTo, shapesOf, Ready};
+ghost use Rattle.type_rows.specs.Rows.{Wrotes, keysTo, shapesOf, TypeTables};
 
 // How many needs there are, and how many keys: those of needs, then those of array elements.
 pub struct Keys {
@@ -32,18 +32,18 @@ pub struct Keys {
 }
 
 // Two opaque records.
-fn opaque_rows(work: &mut [u8], out: &mut [u8], at: usize) -> Next
+fn opaque_rows(work: &mut [u8], out: &mut [u8], at: usize) -> Spot
     requires { ⌜ 65536 ≤ length (now work) ⌝ }
     ensures { λ q. ⌜ Wrotes (opaqueShape ∷ opaqueShape ∷ []) (record { at = at; id = 0 }) q (now (work .entry)) (now (work .exit)) (now (out .entry)) (now (out .exit)) ⌝ }
 {
-    let p = type_row::put_opaque(work, out, Next { at: at, id: 0 });
+    let p = type_row::put_opaque(work, out, Spot { at: at, id: 0 });
     type_row::put_opaque(work, out, p)
 }
 
 // ---- frames
 
 // The row of line i, where it is a frame.
-fn next_frame(sheet: &[u8], work: &mut [u8], n: usize, i: usize, out: &mut [u8], r: Next) -> Next
+fn next_frame(sheet: &[u8], work: &mut [u8], n: usize, i: usize, out: &mut [u8], r: Spot) -> Spot
     requires { ⌜ (Checked (now sheet) (now work) n) × (i < n) × (r .id < 1024) × (r .at ≤ length (now out) + 1) ⌝ }
     ensures { λ q. ⌜ Wrotes (declaresAt (nodesIn (now (sheet .entry))) i .frames) r q (now (work .entry)) (now (work .exit)) (now (out .entry)) (now (out .exit)) ⌝ }
 {
@@ -54,7 +54,7 @@ fn next_frame(sheet: &[u8], work: &mut [u8], n: usize, i: usize, out: &mut [u8],
 }
 
 // Frames are never shared.
-fn frame_rows(sheet: &[u8], work: &mut [u8], n: usize, out: &mut [u8], p: Next) -> Next
+fn frame_rows(sheet: &[u8], work: &mut [u8], n: usize, out: &mut [u8], p: Spot) -> Spot
     requires { ⌜ (Checked (now sheet) (now work) n) × (p .id ≤ 2) × (p .at ≤ length (now out) + 1) ⌝ }
     ensures { λ q. ⌜ Wrotes (sheetSource (now (sheet .entry)) .frames) p q (now (work .entry)) (now (work .exit)) (now (out .entry)) (now (out .exit)) ⌝ }
 {
@@ -70,8 +70,8 @@ fn frame_rows(sheet: &[u8], work: &mut [u8], n: usize, out: &mut [u8], p: Next) 
 // ---- needs
 
 // The row of what the `need` line i asks for.
-fn put_need(sheet: &[u8], work: &mut [u8], c: Log, i: usize, out: &mut [u8], p: Next) -> Next
-    requires { ⌜ (Logged (now sheet) (now work) (c .lines) (c .entries)) × (NeedLine (now sheet) (now work) (c .lines) i) × (p .id < 2048) ⌝ }
+fn put_need(sheet: &[u8], work: &mut [u8], c: Log, i: usize, out: &mut [u8], p: Spot) -> Spot
+    requires { ⌜ (RecordsLogged (now sheet) (now work) (c .lines) (c .entries)) × (NeedLine (now sheet) (now work) (c .lines) i) × (p .id < 2048) ⌝ }
     ensures { λ q. ⌜ Rowed (keyShape (logOf (now (sheet .entry))) (needAt (now (sheet .entry)) i)) p q (now (work .entry)) (now (work .exit)) (now (out .entry)) (now (out .exit)) ⌝ }
 {
     let f = lines::form_at(work, i);
@@ -95,10 +95,10 @@ fn next_need(
     q: usize,
     base: usize,
     out: &mut [u8],
-    r: Next,
-) -> Next
-    requires { ⌜ (Ready (now sheet) (now work) c) × (q < length (sheetSource (now sheet) .needs)) × (base < 1024) × (r .id ≡ base + length (keysTo (now sheet) q)) × (r .at ≤ length (now out) + 1) ⌝ }
-    ensures { λ z. ⌜ ((p : Next) (t d : Bytes) → Wrotes (shapesOf (now (sheet .entry)) (keysTo (now (sheet .entry)) q)) p r t (now (work .entry)) d (now (out .entry)) → Wrotes (shapesOf (now (sheet .entry)) (keysTo (now (sheet .entry)) (q + 1))) p z t (now (work .exit)) d (now (out .exit))) × (z .id ≡ base + length (keysTo (now (sheet .entry)) (q + 1))) ⌝ }
+    r: Spot,
+) -> Spot
+    requires { ⌜ (TypeTables (now sheet) (now work) c) × (q < length (sheetSource (now sheet) .needs)) × (base < 1024) × (r .id ≡ base + length (keysTo (now sheet) q)) × (r .at ≤ length (now out) + 1) ⌝ }
+    ensures { λ z. ⌜ ((p : Spot) (t d : Bytes) → Wrotes (shapesOf (now (sheet .entry)) (keysTo (now (sheet .entry)) q)) p r t (now (work .entry)) d (now (out .entry)) → Wrotes (shapesOf (now (sheet .entry)) (keysTo (now (sheet .entry)) (q + 1))) p z t (now (work .exit)) d (now (out .exit))) × (z .id ≡ base + length (keysTo (now (sheet .entry)) (q + 1))) ⌝ }
 {
     if base + type_keys::need_position(work, q) != r.id {
         return r;
@@ -108,8 +108,8 @@ fn next_need(
 }
 
 // Each key of a need once, where it first comes.
-fn need_rows(sheet: &[u8], work: &mut [u8], c: Log, needs: usize, out: &mut [u8], p: Next) -> Next
-    requires { ⌜ (Ready (now sheet) (now work) c) × (needs ≡ length (sheetSource (now sheet) .needs)) × (p .id < 1024) × (p .at ≤ length (now out) + 1) ⌝ }
+fn need_rows(sheet: &[u8], work: &mut [u8], c: Log, needs: usize, out: &mut [u8], p: Spot) -> Spot
+    requires { ⌜ (TypeTables (now sheet) (now work) c) × (needs ≡ length (sheetSource (now sheet) .needs)) × (p .id < 1024) × (p .at ≤ length (now out) + 1) ⌝ }
     ensures { λ r. ⌜ Wrotes (shapesOf (now (sheet .entry)) (distinct [] (sheetSource (now (sheet .entry)) .needs))) p r (now (work .entry)) (now (work .exit)) (now (out .entry)) (now (out .exit)) ⌝ }
 {
     let base = p.id;
@@ -126,7 +126,7 @@ fn need_rows(sheet: &[u8], work: &mut [u8], c: Log, needs: usize, out: &mut [u8]
 
 // Two opaque records, the frames, and the keys, those of array elements, which are entered before, last.
 pub fn type_rows(sheet: &[u8], work: &mut [u8], c: Log, k: Keys, out: &mut [u8], at: usize) -> usize
-    requires { ⌜ (Ready (now sheet) (now work) c) × (k .needs ≡ length (sheetSource (now sheet) .needs)) × (k .keys < 1024) × (at ≤ length (now out) + 1) ⌝ }
+    requires { ⌜ (TypeTables (now sheet) (now work) c) × (k .needs ≡ length (sheetSource (now sheet) .needs)) × (k .keys < 1024) × (at ≤ length (now out) + 1) ⌝ }
     ensures { λ r. ⌜ ((is : List Item) → Kinds (now (work .entry)) (sheetSource (now (sheet .entry)) .needs ++ concatMap arrayKey is) (k .keys) → Wrote (now (out .entry)) at (typeRows 0 (descriptors (sheetSource (now (sheet .entry))) is)) (now (out .exit)) r) × (Kept 49152 (now (work .entry)) (now (work .exit))) ⌝ }
 {
     let p = opaque_rows(work, out, at);

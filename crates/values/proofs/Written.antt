@@ -18,7 +18,7 @@ use Rattle.write.specs.Wrote.{over, Wrote}
 use Rattle.write.proofs.Wrote.{wrote-length, wrote-as, wrote-next}
 use Rattle.write.proofs.Decimal.{decimal-one, decimal-more}
 use Rattle.checks.specs.Checks.{Kept}
-use Rattle.values.specs.Values.{stringIn, Apart}
+use Rattle.values.specs.Values.{stringIn, RunsApart}
 
 -- ---- bytes stored over others
 
@@ -60,7 +60,7 @@ module _ {d : Bytes} {a : ℕ} {t e : Bytes} {b : ℕ} (w : Wrote d a t e b) whe
 -- ---- a copy
 
 -- one more byte of the part that is copied
-module _ {d : Bytes} {from to len k : ℕ} {e : Bytes} {p : ℕ} (x : Apart (length d) from to len) (h : k < len) (w : Wrote d to (take k (drop from d)) e p) where
+module _ {d : Bytes} {from to len k : ℕ} {e : Bytes} {p : ℕ} (x : RunsApart (length d) from to len) (h : k < len) (w : Wrote d to (take k (drop from d)) e p) where
   same-byte : getD e (from + k) 0 ≡ getD (drop from d) k 0
   same-byte =
       let l : length (take k (drop from d)) ≤ k = omega (arith, length-take k (drop from d)) in

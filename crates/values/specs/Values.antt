@@ -83,7 +83,7 @@ basicAt f = getD (some int ∷ some byte ∷ some big ∷ some real ∷ some str
 -- ---- copies
 
 -- l bytes from a and from b, within n bytes and apart
-pub record Apart (n a b l : ℕ) : Type 0 where
+pub record RunsApart (n a b l : ℕ) : Type 0 where
   pub source : a + l ≤ n
   pub target : b + l ≤ n
   pub apart : (a + l ≤ b) ⊎ (b + l ≤ a)

@@ -8,7 +8,7 @@ ghost use Rattle.semantics.specs.Tree.ConstVal.{vInt, vReal};
 ghost use Rattle.semantics.specs.Fold.{intUnary, realUnary, foldUnary, intBinary, realBinary, strBinary, foldBinary, foldCast, foldLen};
 ghost use Rattle.ints.specs.Quotients.{folded};
 ghost use Rattle.write.specs.Wrote.{over};
-ghost use Rattle.values.specs.Values.{valueIn, stringIn, unaryAt, binaryAt, basicAt, sizeOf, At, Within, Answers, Casts, Apart};
+ghost use Rattle.values.specs.Values.{valueIn, stringIn, unaryAt, binaryAt, basicAt, sizeOf, At, Within, Answers, Casts, RunsApart};
 
 // The longest string that a fold may build.
 const LONGEST: usize = 256;
@@ -29,7 +29,7 @@ pub enum Folded {
 
 // Bytes copied inside the working space.
 pub fn copy(work: &mut [u8], from: usize, to: usize, len: usize)
-    requires { ⌜ Apart (length (now work)) from to len ⌝ }
+    requires { ⌜ RunsApart (length (now work)) from to len ⌝ }
     ensures { λ _. ⌜ now (work .exit) ≡ over (now (work .entry)) to (take len (drop from (now (work .entry)))) ⌝ }
 {
     let mut p = to;

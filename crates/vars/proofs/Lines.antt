@@ -13,7 +13,7 @@ use Rattle.decimal.specs.Number as Number
 use Rattle.form.specs.Table.{rowNode}
 use Rattle.lines.specs.Lines.{readsIn, readAt, nodesIn, formAt}
 use Rattle.checks.proofs.Kept.{checked-kept}
-use Rattle.names.specs.Table.{Logged}
+use Rattle.names.specs.Table.{ConstsLogged}
 use Rattle.placements.specs.Placements.{Keeps}
 use Rattle.sizes.specs.Sizes.{typeAt, TypeLine}
 use Rattle.sizes.proofs.Types.{ref-head}
@@ -56,7 +56,7 @@ module _ {s t : Bytes} {n r : ℕ} (l : VarLine s t n r) where
 
   -- ---- the type
 
-  module _ {ty : ℕ} (ht : ty ≡ Number.numberOf 65536 (getD (readAt s (r - 1) .fields) 0 [])) where
+  module _ {ty : ℕ} (ht : ty ≡ Number.numberUpTo 65536 (getD (readAt s (r - 1) .fields) 0 [])) where
     type-ref : (ty ≡ numberOf (getD (readAt s (r - 1) .fields) 0 [])) × Line 75 s t n ty
     type-ref = good-line line 75 (getD (readAt s (r - 1) .fields) 0 []) ty ht (parts-good s t n r l .0)
 
@@ -73,7 +73,7 @@ module _ {s t : Bytes} {n r : ℕ} (l : VarLine s t n r) where
           elem-of-form (nodesIn s) (readAt s (ty - 1) .fields) f (rw hf (type-form (formAt t (ty - 1)) (w .0) (w .1))) z
           ∙ ap (λ (x : Node). elemOf (x .ty)) (sym (makes type-line (sym hf))) ∙ ap elemOf (sym type-is)
 
-      module _ (e : f ≡ 6) {d : ℕ} (hd : d ≡ Number.numberOf 65536 (getD (readAt s (ty - 1) .fields) 0 [])) where
+      module _ (e : f ≡ 6) {d : ℕ} (hd : d ≡ Number.numberUpTo 65536 (getD (readAt s (ty - 1) .fields) 0 [])) where
         element-ref : (d ≡ numberOf (getD (readAt s (ty - 1) .fields) 0 [])) × Line 75 s t n d
         unfolding forms
         element-ref =
@@ -91,7 +91,7 @@ module _ {s t : Bytes} {n r : ℕ} (l : VarLine s t n r) where
 
   -- ---- the value
 
-  module _ {q : ℕ} (hq : q ≡ Number.numberOf 65536 (getD (readAt s (r - 1) .fields) 1 [])) where
+  module _ {q : ℕ} (hq : q ≡ Number.numberUpTo 65536 (getD (readAt s (r - 1) .fields) 1 [])) where
     value-ref : (q ≡ numberOf (getD (readAt s (r - 1) .fields) 1 [])) × ((q ≡ 0 → ⊥) → Line 69 s t n q)
     value-ref = may-line line 69 (getD (readAt s (r - 1) .fields) 1 []) q hq (parts-good s t n r l .1)
 
@@ -102,7 +102,7 @@ module _ {s t : Bytes} {n r : ℕ} (l : VarLine s t n r) where
       pub value-line : Line 69 s t n q
       value-line = value-ref .1 z
 
-      pub value-foldable : {m : ℕ} → Logged s t n m → Foldable s t n m q 49152
+      pub value-foldable : {m : ℕ} → ConstsLogged s t n m → Foldable s t n m q 49152
       value-foldable g = foldable {e = 0} (record { line = value-line; log = g; few = omega arith })
 
       pub init-some : varOn s r .init ≡ some (exAt s q)

@@ -29,7 +29,7 @@ names-step s r count j h =
 pub names-over : (s : Bytes) (r count j : ℕ) → count ≤ j → namesFrom s r count j ≡ []
 names-over s r count j h = let e : count - j ≡ 0 = omega arith in rw e
 
-module _ (s t : Bytes) (n r : ℕ) (l : VarLine s t n r) {count : ℕ} (hc : count ≡ Number.numberOf 65536 (getD (readAt s (r - 1) .fields) 2 [])) where
+module _ (s t : Bytes) (n r : ℕ) (l : VarLine s t n r) {count : ℕ} (hc : count ≡ Number.numberUpTo 65536 (getD (readAt s (r - 1) .fields) 2 [])) where
   pub few-names : count ≤ 16
   few-names = count-on s t n r l count hc .1
 

@@ -16,7 +16,7 @@ use Rattle.values.specs.Values.{valueIn, At}
 use Rattle.placements.specs.Placements.{valuesIn, Keeps}
 use Rattle.literals.specs.Literals.{Line}
 use Rattle.global_table.specs.Table.{VarLine}
-use Rattle.arrays.specs.Arrays.{kindAt, ValuesStand}
+use Rattle.arrays.specs.Arrays.{kindOfNumber, ValuesStand}
 use Rattle.vars.specs.declared.First.{First}
 use Rattle.vars.specs.declared.First.the-variants.{NoValue, Value, Alloc, Literal, Pending, Refused}
 
@@ -26,24 +26,24 @@ use Rattle.vars.specs.declared.First.the-variants.{NoValue, Value, Alloc
 abbrev pub initIn : Bytes → First → Result Init
 initIn t NoValue = ok noInit
 initIn t (Value v) = ok (constInit (valueIn t v))
-initIn t (Alloc k n) = ok (arrayInit (record { kind = kindAt k; count = n; values = [] }))
-initIn t (Literal k n) = ok (arrayInit (record { kind = kindAt k; count = n; values = valuesIn t 0 n }))
+initIn t (Alloc k n) = ok (arrayInit (record { kind = kindOfNumber k; count = n; values = [] }))
+initIn t (Literal k n) = ok (arrayInit (record { kind = kindOfNumber k; count = n; values = valuesIn t 0 n }))
 initIn t Pending = ok pendingInit
 initIn t (Refused r) = refuse r
 
 -- where the strings of a value stand
-abbrev pub Stands : Bytes → First → Type 0
-Stands t NoValue = Unit {0}
-Stands t (Value v) = At 49152 v
-Stands t (Alloc k n) = Unit {0}
-Stands t (Literal k n) = ValuesStand t n
-Stands t Pending = Unit {0}
-Stands t (Refused r) = Unit {0}
+abbrev pub FirstStands : Bytes → First → Type 0
+FirstStands t NoValue = Unit {0}
+FirstStands t (Value v) = At 49152 v
+FirstStands t (Alloc k n) = Unit {0}
+FirstStands t (Literal k n) = ValuesStand t n
+FirstStands t Pending = Unit {0}
+FirstStands t (Refused r) = Unit {0}
 
 -- t has become u, where x is the result r
 pub record Inits (t : Bytes) (r : Result Init) (x : First) (u : Bytes) : Type 0 where
   pub result : initIn u x ≡ r
-  pub stands : Stands u x
+  pub stands : FirstStands u x
   pub keeps : Keeps 16384 49152 t u
 
 -- ---- lines
@@ -58,12 +58,12 @@ pub record Valued (s t : Bytes) (n r q : ℕ) : Type 0 where
   pub value : Line 69 s t n q
 
 -- a value that is folded where no name is laid out
-abbrev pub plain : Names → Option Ex → Result Init
-plain ns none = ok noInit
-plain ns (some e) = bind (foldAt0 ns e) (λ (v : Tree.ConstVal). ok (constInit v))
+abbrev pub plainInit : Names → Option Ex → Result Init
+plainInit ns none = ok noInit
+plainInit ns (some e) = bind (foldAt0 ns e) (λ (v : Tree.ConstVal). ok (constInit v))
 
 -- one that fails is taken as pending
-abbrev pub settled : Result Init → Result Init
-settled (ok i) = ok i
-settled failed = ok pendingInit
-settled (refuse r) = refuse r
+abbrev pub orPending : Result Init → Result Init
+orPending (ok i) = ok i
+orPending failed = ok pendingInit
+orPending (refuse r) = refuse r

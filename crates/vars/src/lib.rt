@@ -14,15 +14,15 @@ ghost use Rattle.semantics.specs.Tree.{elemOf};
 ghost use Rattle.semantics.specs.Array.{constArray};
 ghost use Rattle.semantics.specs.Global.{arrayValue, initOf, laidNames, noneOf, varValue};
 ghost use Rattle.implement.specs.Modules.{Open};
-ghost use Rattle.names.specs.Table.{Logged};
+ghost use Rattle.names.specs.Table.{ConstsLogged};
 ghost use Rattle.leaf.specs.Folds.{exAt};
 ghost use Rattle.literals.specs.Literals.{namesIn};
 ghost use Rattle.arrays.specs.Arrays as Arrays;
-ghost use Rattle.arrays.specs.Arrays.{arrayedIn, typeOf, Declared};
+ghost use Rattle.arrays.specs.Arrays.{arrayedIn, typeOf, DeclaredElement};
 ghost use Rattle.global_table.specs.Table.{VarLine, namesOn};
 ghost use Rattle.globals.specs.Vars.{laidAt};
 ghost use Rattle.vars.specs.Lines.{laidOn, MayLay};
-ghost use Rattle.vars.specs.First.{initIn, Stands, Inits, varOn, Valued, plain, settled};
+ghost use Rattle.vars.specs.First.{initIn, FirstStands, Inits, varOn, Valued, plainInit, orPending};
 
 // The first value of a global: none, a folded one, the kind and the number of an array's elements, or one that is left pending.
 // Strings and the values of a literal stand in the working space.
@@ -37,7 +37,7 @@ pub enum First {
 
 // An array as a first value.
 fn of_array(x: Arrayed) -> First
-    ensures { λ y. ⌜ ((t : Bytes) → Arrays.Stands t x → (initIn t y ≡ arrayValue (arrayedIn t x)) × (Stands t y)) ⌝ }
+    ensures { λ y. ⌜ ((t : Bytes) → Arrays.ArrayStands t x → (initIn t y ≡ arrayValue (arrayedIn t x)) × (FirstStands t y)) ⌝ }
 {
     match x {
         Arrayed::Alloc(k, n) => First::Alloc(k, n),
@@ -50,7 +50,7 @@ fn of_array(x: Arrayed) -> First
 // The line of the element type that the type of the `var` line r has, 0 where it is no array.
 fn element_type(sheet: &[u8], work: &[u8], n: usize, r: usize) -> usize
     requires { ⌜ VarLine (now sheet) (now work) n r ⌝ }
-    ensures { λ d. ⌜ (typeOf (now (sheet .entry)) d ≡ elemOf (varOn (now (sheet .entry)) r .ty)) × (Declared (now (sheet .entry)) (now (work .entry)) n d) ⌝ }
+    ensures { λ d. ⌜ (typeOf (now (sheet .entry)) d ≡ elemOf (varOn (now (sheet .entry)) r .ty)) × (DeclaredElement (now (sheet .entry)) (now (work .entry)) n d) ⌝ }
 {
     let ty = lines::number_at(sheet, work, n, r - 1, 0);
     if lines::form_at(work, ty - 1) != ty::ARRAY {
@@ -61,7 +61,7 @@ fn element_type(sheet: &[u8], work: &[u8], n: usize, r: usize) -> usize
 
 // The value of line q as an array.
 fn array_value(sheet: &[u8], work: &mut [u8], c: Known, r: usize, q: usize) -> First
-    requires { ⌜ (Valued (now sheet) (now work) (c .lines) r q) × (Logged (now sheet) (now work) (c .lines) (c .consts)) ⌝ }
+    requires { ⌜ (Valued (now sheet) (now work) (c .lines) r q) × (ConstsLogged (now sheet) (now work) (c .lines) (c .consts)) ⌝ }
     ensures { λ x. ⌜ Inits (now (work .entry)) (arrayValue (constArray (namesIn (now (sheet .entry)) (now (work .entry)) (c .consts)) (elemOf (varOn (now (sheet .entry)) r .ty)) (exAt (now (sheet .entry)) q))) x (now (work .exit)) ⌝ }
 {
     let declared = element_type(sheet, work, c.lines, r);
@@ -70,7 +70,7 @@ fn array_value(sheet: &[u8], work: &mut [u8], c: Known, r: usize, q: usize) -> F
 
 // The first value of the `var` line r: only one that does not fold is looked at as an array.
 pub fn first_value(sheet: &[u8], work: &mut [u8], c: Known, r: usize) -> First
-    requires { ⌜ (VarLine (now sheet) (now work) (c .lines) r) × (Logged (now sheet) (now work) (c .lines) (c .consts)) ⌝ }
+    requires { ⌜ (VarLine (now sheet) (now work) (c .lines) r) × (ConstsLogged (now sheet) (now work) (c .lines) (c .consts)) ⌝ }
     ensures { λ x. ⌜ Inits (now (work .entry)) (initOf (namesIn (now (sheet .entry)) (now (work .entry)) (c .consts)) (varOn (now (sheet .entry)) r .ty) (varOn (now (sheet .entry)) r .init)) x (now (work .exit)) ⌝ }
 {
     let q = lines::number_at(sheet, work, c.lines, r - 1, 1);
@@ -102,8 +102,8 @@ fn has_names(sheet: &[u8], work: &[u8], n: usize, r: usize) -> bool
 
 // The value of line r without regard to arrays.
 fn plain_value(sheet: &[u8], work: &mut [u8], c: Known, r: usize) -> First
-    requires { ⌜ (VarLine (now sheet) (now work) (c .lines) r) × (Logged (now sheet) (now work) (c .lines) (c .consts)) ⌝ }
-    ensures { λ x. ⌜ Inits (now (work .entry)) (settled (plain (namesIn (now (sheet .entry)) (now (work .entry)) (c .consts)) (varOn (now (sheet .entry)) r .init))) x (now (work .exit)) ⌝ }
+    requires { ⌜ (VarLine (now sheet) (now work) (c .lines) r) × (ConstsLogged (now sheet) (now work) (c .lines) (c .consts)) ⌝ }
+    ensures { λ x. ⌜ Inits (now (work .entry)) (orPending (plainInit (namesIn (now (sheet .entry)) (now (work .entry)) (c .consts)) (varOn (now (sheet .entry)) r .init))) x (now (work .exit)) ⌝ }
 {
     let q = lines::number_at(sheet, work, c.lines, r - 1, 1);
     if q == 0 {
@@ -118,8 +118,8 @@ fn plain_value(sheet: &[u8], work: &mut [u8], c: Known, r: usize) -> First
 
 // What the work on line r meets: a value is folded once for the line, and arrays are looked at only for a name.
 pub fn var_value(sheet: &[u8], work: &mut [u8], c: Known, r: usize) -> First
-    requires { ⌜ (VarLine (now sheet) (now work) (c .lines) r) × (Logged (now sheet) (now work) (c .lines) (c .consts)) ⌝ }
-    ensures { λ x. ⌜ Inits (now (work .entry)) (settled (varValue (namesIn (now (sheet .entry)) (now (work .entry)) (c .consts)) (varOn (now (sheet .entry)) r))) x (now (work .exit)) ⌝ }
+    requires { ⌜ (VarLine (now sheet) (now work) (c .lines) r) × (ConstsLogged (now sheet) (now work) (c .lines) (c .consts)) ⌝ }
+    ensures { λ x. ⌜ Inits (now (work .entry)) (orPending (varValue (namesIn (now (sheet .entry)) (now (work .entry)) (c .consts)) (varOn (now (sheet .entry)) r))) x (now (work .exit)) ⌝ }
 {
     if has_names(sheet, work, c.lines, r) {
         return first_value(sheet, work, c, r);

@@ -5,5 +5,5 @@ use lib.Dec.{ltb}
 use Rattle.semantics.specs.Text.{Bytes, all}
 
 -- every byte lies above the comma, which lies above LF
-unfoldable pub isPlain : Bytes → Bool
-isPlain t = all (λ (b : ℕ). ltb 44 b) t
+unfoldable pub isPlainText : Bytes → Bool
+isPlainText t = all (λ (b : ℕ). ltb 44 b) t

@@ -2,7 +2,7 @@
 use mathlib.Core.Path.{_≡_, refl}
 use Prim.Native.Nat.{_+_, _-_, _*_, _≤_}
 use native.Mathlib.Omega.{arith}
-use Rattle.field_list.specs.Fields.{fieldsFrom, lineFields}
+use Rattle.field_list.specs.Fields.{lineFieldsFrom, lineFields}
 use Rattle.field_list.proofs.Laws.{line-set, next-offset, next-low}
 use Rattle.field_list.proofs.line_fields.Statement.{statement}
 use Rattle.field_list.proofs.line_fields.Tie as tie
@@ -14,7 +14,7 @@ abbrev μ-loop : tie.MeasureT-loop
 μ-loop off size pointer count a₀ at₀ i₀ a at i = count - i
 
 loop-holds : tie.Need-loop-holds Inv-loop μ-loop
-unfolding fieldsFrom lineFields
+unfolding lineFieldsFrom lineFields
 loop-holds c = (omega arith, omega arith, refl)
 
 mul-a : tie.Need-mul-a Inv-loop μ-loop

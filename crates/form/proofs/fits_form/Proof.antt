@@ -8,7 +8,7 @@ use lib.ListN.{length}
 use lib.Dec.{eqb}
 use denote.Ref.{now}
 use borrow.Author.Tests.{not-true, not-false}
-use Rattle.form.specs.Letters.{fits, lettersFrom, fieldsLeft, Ready}
+use Rattle.form.specs.Letters.{lettersFit, lettersFrom, fieldsLeft, WalkBounds}
 use Rattle.form.specs.Table.{codesAt}
 use Rattle.form.proofs.Laws.{ready-start, fits-bad, fits-turn, fits-end, not-blank, walk-start}
 use Rattle.semantics.specs.Form.{fieldsFrom}
@@ -16,13 +16,13 @@ use Rattle.form.proofs.fits_form.Statement.{statement}
 use Rattle.form.proofs.fits_form.Tie as tie
 
 abbrev Inv-loop : tie.InvT-loop
-Inv-loop l from f w₀ w = (Ready f (w .j) (w .c) (w .e)) × (fits (codesAt f) (fieldsFrom from l) ≡ fits (lettersFrom f w) (fieldsLeft l w))
+Inv-loop l from f w₀ w = (WalkBounds f (w .j) (w .c) (w .e)) × (lettersFit (codesAt f) (fieldsFrom from l) ≡ lettersFit (lettersFrom f w) (fieldsLeft l w))
 
 abbrev μ-loop : tie.MeasureT-loop
 μ-loop l from f w₀ w = length l + 1 - w .at
 
 loop-holds : tie.Need-loop-holds Inv-loop μ-loop
-loop-holds c = (ready-start (c .before .args .f) (c .before .pre .0), ap (λ (xs : List ℕ). fits xs (fieldsFrom (c .before .args .from) (now (c .before .args .l)))) (sym (walk-start (c .before .args .f) 65)))
+loop-holds c = (ready-start (c .before .args .f) (c .before .pre .0), ap (λ (xs : List ℕ). lettersFit xs (fieldsFrom (c .before .args .from) (now (c .before .args .l)))) (sym (walk-start (c .before .args .f) 65)))
 
 letter-requires : tie.Need-letter-requires Inv-loop μ-loop
 letter-requires c κs = c .before .before .loop .inv .0
@@ -37,7 +37,7 @@ loop-less : tie.Need-loop-less Inv-loop μ-loop
 loop-less c = omega (arith, c .step .ensures .2, c .before .before .before .before .before .find .ensures, c .before .before .before .before .before .before .before .if1 .taken)
 
 loop-again : tie.Need-loop-again Inv-loop μ-loop
-loop-again c = (c .step .ensures .0, c .before .before .before .before .before .before .before .before .before .loop .inv .1 ∙ fits-turn (now (c .before .before .before .before .before .before .before .before .before .before .before .args .l)) (c .before .before .before .before .before .before .before .before .before .loop .w .at) (c .before .before .before .before .before .find .result) (c .before .before .before .before .before .before .before .if1 .taken) (c .before .before .before .before .before .find .ensures .0) (c .before .before .before .before .before .before .letter .result) _ (c .before .before .before .before .before .before .letter .ensures) (c .before .number .result) _ (sym (c .before .before .before .is-good .ensures) ∙ not-false (c .before .before .before .is-good .result) (c .before .before .if2 .left)) (c .before .number .ensures .0) (c .step .ensures .1) ∙ ap (λ (j : ℕ). fits (lettersFrom (c .before .before .before .before .before .before .before .before .before .before .before .args .f) (c .step .result)) (fieldsFrom j (now (c .before .before .before .before .before .before .before .before .before .before .before .args .l)))) (sym (c .step .ensures .2)))
+loop-again c = (c .step .ensures .0, c .before .before .before .before .before .before .before .before .before .loop .inv .1 ∙ fits-turn (now (c .before .before .before .before .before .before .before .before .before .before .before .args .l)) (c .before .before .before .before .before .before .before .before .before .loop .w .at) (c .before .before .before .before .before .find .result) (c .before .before .before .before .before .before .before .if1 .taken) (c .before .before .before .before .before .find .ensures .0) (c .before .before .before .before .before .before .letter .result) _ (c .before .before .before .before .before .before .letter .ensures) (c .before .number .result) _ (sym (c .before .before .before .is-good .ensures) ∙ not-false (c .before .before .before .is-good .result) (c .before .before .if2 .left)) (c .before .number .ensures .0) (c .step .ensures .1) ∙ ap (λ (j : ℕ). lettersFit (lettersFrom (c .before .before .before .before .before .before .before .before .before .before .before .args .f) (c .step .result)) (fieldsFrom j (now (c .before .before .before .before .before .before .before .before .before .before .before .args .l)))) (sym (c .step .ensures .2)))
 
 letter-requires-2 : tie.Need-letter-requires-2 Inv-loop μ-loop
 letter-requires-2 c κs = c .before .before .loop .inv .0

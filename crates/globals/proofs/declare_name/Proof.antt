@@ -6,7 +6,7 @@ use borrow.Author.Needs.{needs}
 use Rattle.globals.proofs.Declare.{laid-same, nil-test, lay-nil, lay-again, enter-fits, end-fits, laid-entered}
 use Rattle.global_table.proofs.Line.{type-line}
 use Rattle.global_table.specs.Table.{nameOn, typeOn}
-use Rattle.globals.specs.Collect.{layingIn}
+use Rattle.globals.specs.Collect.{allocationIn}
 use Rattle.globals.proofs.declare_name.Statement.{statement}
 use Rattle.globals.proofs.declare_name.Tie as tie
 
@@ -14,14 +14,14 @@ returns : tie.Need-returns
 returns c =
     let a = c .before .before .before .before .before .before .before .args in
     let e = nil-test (c .before .before .before .field-at .ensures) (c .before .same .ensures) in
-    laid-same (c .before .before .before .before .before .before .before .pre .0) (lay-nil (typeOn (now (a .sheet)) (a .r)) (nameOn (now (a .sheet)) (a .r) (a .j)) (layingIn (now (a .sheet)) (now (a .work)) (a .g)) (e ∙ c .if1 .taken)) (omega arith)
+    laid-same (c .before .before .before .before .before .before .before .pre .0) (lay-nil (typeOn (now (a .sheet)) (a .r)) (nameOn (now (a .sheet)) (a .r) (a .j)) (allocationIn (now (a .sheet)) (now (a .work)) (a .g)) (e ∙ c .if1 .taken)) (omega arith)
 
 returns-2 : tie.Need-returns-2
 returns-2 c =
     let a = c .before .before .before .before .before .before .before .before .before .before .args in
     let e = nil-test (c .before .before .before .before .before .before .field-at .ensures) (c .before .before .before .before .same .ensures) in
     laid-same (c .before .before .before .before .before .before .before .before .before .before .pre .0)
-    (lay-again (typeOn (now (a .sheet)) (a .r)) (nameOn (now (a .sheet)) (a .r) (a .j)) (layingIn (now (a .sheet)) (now (a .work)) (a .g)) (now (a .work)) _ (e ∙ c .before .before .before .if1 .left) (rw (← c .before .before .before .before .before .before .field-at .ensures) (c .before .place-of .ensures .0)) (c .if2 .taken))
+    (lay-again (typeOn (now (a .sheet)) (a .r)) (nameOn (now (a .sheet)) (a .r) (a .j)) (allocationIn (now (a .sheet)) (now (a .work)) (a .g)) (now (a .work)) _ (e ∙ c .before .before .before .if1 .left) (rw (← c .before .before .before .before .before .before .field-at .ensures) (c .before .place-of .ensures .0)) (c .if2 .taken))
     (omega arith)
 
 global-size-requires : tie.Need-global-size-requires

@@ -1,13 +1,13 @@
 -- `laying::moved` meets its contract.
 use native.Mathlib.Omega.{arith}
-use Rattle.laying.specs.Steps.{seen, layingOf}
+use Rattle.laying.specs.Steps.{seenLaying, layingOf}
 use native.Mathlib.Numerals.{add-one}
 use borrow.Author.Needs.{needs}
 use Rattle.laying.proofs.moved.Statement.{statement}
 use Rattle.laying.proofs.moved.Tie as tie
 
 returns : tie.Need-returns
-unfolding seen layingOf
+unfolding seenLaying layingOf
 returns c = record { is = rw add-one; low = c .before .pre .low; high = c .before .pre .high; item = omega arith }
 
 pub moved-spec : {M : Type 1} → statement M

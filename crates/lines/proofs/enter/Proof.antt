@@ -1,6 +1,6 @@
 -- `lines::enter` meets its contract.
 use native.Mathlib.Omega.{arith}
-use Rattle.lines.specs.Lines.{entered}
+use Rattle.lines.specs.Lines.{lineEntered}
 use lib.ListN.{length-set}
 use mathlib.Core.Path.{refl}
 use borrow.Author.Needs.{needs}
@@ -8,7 +8,7 @@ use Rattle.lines.proofs.enter.Statement.{statement}
 use Rattle.lines.proofs.enter.Tie as tie
 
 returns : tie.Need-returns
-unfolding entered
+unfolding lineEntered
 returns c = refl
 
 pub enter-spec : {M : Type 1} → statement M

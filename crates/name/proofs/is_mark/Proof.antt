@@ -1,16 +1,16 @@
 -- `name::is_mark` meets its contract.
 use mathlib.Core.Path.{_∙_, sym}
 use borrow.Author.Needs.{needs}
-use Rattle.name.specs.Name.{letter, mark}
+use Rattle.name.specs.Name.{nameLetter, mark}
 use Rattle.name.proofs.is_mark.Statement.{statement}
 use Rattle.name.proofs.is_mark.Tie as tie
 
 returns : tie.Need-returns
-unfolding letter mark
+unfolding nameLetter mark
 returns c = simp (sym (c .before .is-letter .ensures) ∙ c .if1 .taken)
 
 returns-2 : tie.Need-returns-2
-unfolding letter mark
+unfolding nameLetter mark
 returns-2 c = simp (sym (c .before .before .is-letter .ensures) ∙ c .before .if1 .left) (c .is-within .ensures)
 
 pub is-mark-spec : {M : Type 1} → statement M

@@ -7,13 +7,13 @@ use denote.Ref.{now}
 use borrow.Author.Needs.{needs}
 use borrow.Author.Tests.{not-true, not-false}
 use Rattle.semantics.specs.Text.{isName}
-use Rattle.name.specs.Name.{marks}
+use Rattle.name.specs.Name.{nameMarks}
 use Rattle.name.proofs.Names.{name-nil, name-long, name-first, name-rest, mark-bad, mark-next, mark-end}
 use Rattle.name.proofs.is_name.Statement.{statement}
 use Rattle.name.proofs.is_name.Tie as tie
 
 abbrev Inv-loop : tie.InvT-loop
-Inv-loop s i₀ i = isName s ≡ marks (drop i s)
+Inv-loop s i₀ i = isName s ≡ nameMarks (drop i s)
 
 abbrev μ-loop : tie.MeasureT-loop
 μ-loop s i₀ i = length s - i

@@ -5,13 +5,13 @@ use native.Mathlib.Nat.{zero-add, sub-zero}
 use lib.ListN.{length, drop}
 use denote.Ref.{now}
 use borrow.Author.Needs.{needs}
-use Rattle.text.specs.Parts.{startOf}
+use Rattle.text.specs.Parts.{partStartAt}
 use Rattle.text.proofs.Parts.{skip-turn, skip-stop, skip-end}
 use Rattle.text.proofs.skip.Statement.{statement}
 use Rattle.text.proofs.skip.Tie as tie
 
 abbrev Inv-loop : tie.InvT-loop
-Inv-loop s n b at₀ k₀ at k = (at ≤ length s) × (k ≤ n) × (startOf b n s ≡ at + startOf b (n - k) (drop at s))
+Inv-loop s n b at₀ k₀ at k = (at ≤ length s) × (k ≤ n) × (partStartAt b n s ≡ at + partStartAt b (n - k) (drop at s))
 
 abbrev μ-loop : tie.MeasureT-loop
 μ-loop s n b at₀ k₀ at k = n - k

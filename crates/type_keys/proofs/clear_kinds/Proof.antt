@@ -4,12 +4,12 @@ use borrow.Author.Needs.{needs}
 use mathlib.Core.Path.{_≡_}
 use Prim.Native.Nat.{ℕ, _-_, _<_, _≤_}
 use Rattle.type_keys.proofs.Table.{outside-all, outside-then, outside-set, cleared-next}
-use Rattle.type_keys.specs.Table.{kindOf, Outside}
+use Rattle.type_keys.specs.Table.{kindFromOne, Outside}
 use Rattle.type_keys.proofs.clear_kinds.Statement.{statement}
 use Rattle.type_keys.proofs.clear_kinds.Tie as tie
 
 abbrev Inv-loop : tie.InvT-loop
-Inv-loop work₀ k₀ work k = (k ≤ 5) × (Outside 10624 10629 work₀ work) × ((j : ℕ) → j < k → kindOf work j ≡ 0)
+Inv-loop work₀ k₀ work k = (k ≤ 5) × (Outside 10624 10629 work₀ work) × ((j : ℕ) → j < k → kindFromOne work j ≡ 0)
 
 abbrev μ-loop : tie.MeasureT-loop
 μ-loop work₀ k₀ work k = 5 - k

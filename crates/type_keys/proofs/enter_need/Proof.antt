@@ -1,7 +1,7 @@
 use native.Mathlib.Omega.{arith}
 use mathlib.Core.Path.{refl}
 use lib.ListN.{length-set}
-use Rattle.type_keys.specs.Table.{entered}
+use Rattle.type_keys.specs.Table.{needEntered}
 use borrow.Author.Needs.{needs}
 use Rattle.type_keys.proofs.enter_need.Statement.{statement}
 use Rattle.type_keys.proofs.enter_need.Tie as tie
@@ -13,7 +13,7 @@ slice-write-work-3 : tie.Need-slice-write-work-3
 slice-write-work-3 c = simp length-set (omega arith)
 
 returns : tie.Need-returns
-unfolding entered
+unfolding needEntered
 returns c = refl
 
 pub enter-need-spec : {M : Type 1} → statement M

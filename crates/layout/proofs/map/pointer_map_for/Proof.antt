@@ -4,13 +4,13 @@ use Prim.Native.Nat.{_*_, _-_, _≤_, _<_}
 use native.Mathlib.Omega.{arith}
 use lib.ListN.{length}
 use Rattle.semantics.specs.Layout.{pointerMap}
-use Rattle.layout.specs.Pass.{Pass}
+use Rattle.layout.specs.Pass.{MapPass}
 use Rattle.layout.proofs.Pass.{start, step, done, pass-length}
 use Rattle.layout.proofs.map.pointer_map_for.Statement.{statement}
 use Rattle.layout.proofs.map.pointer_map_for.Tie as tie
 
 abbrev Inv-loop : tie.InvT-loop
-Inv-loop size offsets map₀ end count₀ n₀ map count n = (count ≤ 8 * n) × Pass size offsets map₀ n map count
+Inv-loop size offsets map₀ end count₀ n₀ map count n = (count ≤ 8 * n) × MapPass size offsets map₀ n map count
 
 abbrev μ-loop : tie.MeasureT-loop
 μ-loop size offsets map₀ end count₀ n₀ map count n = end - n

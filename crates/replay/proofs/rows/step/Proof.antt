@@ -1,6 +1,6 @@
 -- `replay::rows::step` meets its contract.
 use Rattle.replay.proofs.Texts.{lays-as, lays-none, row-other, row-item}
-use Rattle.replay.specs.Rows.{sizeAt}
+use Rattle.replay.specs.Rows.{elementSizeAt}
 use mathlib.Core.Path.{_∙_, sym}
 use denote.Ref.{now}
 use borrow.Author.Needs.{needs}
@@ -16,14 +16,14 @@ returns c =
     let field2 = c .before .before .before .before .before .before .before .before .field2 in
     let keyword = c .before .before .before .before .before .before .before .keyword in
     let lay-item = c .before .before .before .before .lay-item in
-    lays-as (row-item (sizeAt (now (a .work))) (now (a .row)) _ (f .ensures) (sym (same .ensures) ∙ if1 .taken) (keyword .ensures) (field2 .ensures)) (lay-item .ensures)
+    lays-as (row-item (elementSizeAt (now (a .work))) (now (a .row)) _ (f .ensures) (sym (same .ensures) ∙ if1 .taken) (keyword .ensures) (field2 .ensures)) (lay-item .ensures)
 
 returns-2 : tie.Need-returns-2
 returns-2 c =
     let a = c .before .before .before .before .before .before .before .before .args in
     let h = c .before .before .before .before .before .before .before .before .pre in
     let f = c .before .before .before .field in
-    lays-none (now (a .image)) (now (a .area)) (h) (row-other (sizeAt (now (a .work))) (now (a .row)) _ (f .ensures) (sym (c .before .same .ensures) ∙ c .if1 .left))
+    lays-none (now (a .image)) (now (a .area)) (h) (row-other (elementSizeAt (now (a .work))) (now (a .row)) _ (f .ensures) (sym (c .before .same .ensures) ∙ c .if1 .left))
 
 pub step-spec : {M : Type 1} → statement M
 step-spec =

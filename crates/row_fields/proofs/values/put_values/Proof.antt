@@ -3,7 +3,7 @@ use native.Mathlib.Omega.{arith}
 use borrow.Author.Needs.{needs}
 use Rattle.row_fields.proofs.Writes.{Left, left-all, left-next, left-none, values-next, values-none}
 use Rattle.row_fields.specs.Rest.{fieldsAt}
-use Rattle.stored.specs.Reading.{valuesIn}
+use Rattle.stored.specs.Reading.{rowValues}
 use denote.Ref.{now}
 use lib.ListN.{length}
 use mathlib.Core.Path.{_≡_, _∙_, refl}
@@ -12,7 +12,7 @@ use Rattle.row_fields.proofs.values.put_values.Statement.{statement}
 use Rattle.row_fields.proofs.values.put_values.Tie as tie
 
 abbrev Inv-loop : tie.InvT-loop
-Inv-loop out₀ at row from w reals p₀ i₀ out p i = (length out ≡ length out₀) × (p ≤ length out + 1) × Left out₀ at (valuesIn w reals (fieldsAt row from)) out p (valuesIn w reals (fieldsAt row i))
+Inv-loop out₀ at row from w reals p₀ i₀ out p i = (length out ≡ length out₀) × (p ≤ length out + 1) × Left out₀ at (rowValues w reals (fieldsAt row from)) out p (rowValues w reals (fieldsAt row i))
 
 abbrev μ-loop : tie.MeasureT-loop
 μ-loop out₀ at row from w reals p₀ i₀ out p i = length row + 1 - i
