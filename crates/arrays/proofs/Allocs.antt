@@ -6,6 +6,7 @@ use Prim.Native.Nat.{ℕ, zero, suc, _-_}
 use native.Mathlib.Omega.{arith}
 use lib.ListN.{getD, drop}
 use lib.Seq.{getD-drop}
+use Rattle.checks.specs.Checks.{KindLine}
 use Rattle.semantics.specs.Text.{Bytes}
 use Rattle.semantics.specs.Tree.{Node, ElemKind}
 use Rattle.semantics.specs.Tree.Ex.{arrayEx}
@@ -27,7 +28,7 @@ use Rattle.values.specs.Values.{resultIn}
 use Rattle.names.specs.Table.{ConstsLogged}
 use Rattle.placements.proofs.Same.{keeps-less, keeps-kept}
 use Rattle.leaf.specs.Folds.{exAt, Foldable, Folds}
-use Rattle.literals.specs.Literals.{namesIn, Line}
+use Rattle.literals.specs.Literals.{namesIn}
 use Rattle.literals.proofs.Lines.{parts-at, makes, good-line}
 use Rattle.literals.proofs.Selectors.{foldable, folds-to}
 use Rattle.arrays.specs.declared.Arrayed.{Arrayed}
@@ -40,15 +41,12 @@ kind-back kBig = refl
 kind-back kReal = refl
 kind-back kPtr = refl
 
-pub type-line : {s t : Bytes} {n r : ℕ} → Line 75 s t n r → TypeLine s t n r
-type-line l = record { checked = l .checked; first = l .first; last = l .last; kind = l .kind }
-
 pub type-given : (s : Bytes) (r : ℕ) → (r ≡ 0 → ⊥) → typeOf s r ≡ some (typeAt s r)
 type-given s zero h = absurd (h refl)
 type-given s (suc r) h = refl
 
 module _ {s t : Bytes} {n declared r : ℕ} (k : AllocLine s t n declared r) where
-  l : Line 69 s t n r
+  l : KindLine 69 s t n r
   l = k .array .line
 
   alloc-refs : Good (readsIn s) (r - 1) 69 (getD (readAt s (r - 1) .fields) 0 []) × Good (readsIn s) (r - 1) 75 (getD (readAt s (r - 1) .fields) 1 [])
@@ -73,13 +71,13 @@ module _ {s t : Bytes} {n declared r : ℕ} (k : AllocLine s t n declared r) whe
 
   module _ {v : ℕ} (hv : v ≡ Number.numberUpTo 65536 (getD (readAt s (r - 1) .fields) 1 [])) where
     pub own-line : TypeLine s t n v
-    own-line = type-line (good-line l 75 (getD (readAt s (r - 1) .fields) 1 []) v hv (alloc-refs .1) .1)
+    own-line = good-line l 75 (getD (readAt s (r - 1) .fields) 1 []) v hv (alloc-refs .1) .1
 
     pub own-kind : {x : ℕ} → declared ≡ 0 → x ≡ kindNumber (elemKind (typeAt s v)) → x ≡ kindNumber (elemKind (allocType s declared r))
     own-kind h e = rw h (rw (good-line l 75 (getD (readAt s (r - 1) .fields) 1 []) v hv (alloc-refs .1) .0) at e)
 
   module _ {q : ℕ} (hq : q ≡ Number.numberUpTo 65536 (getD (readAt s (r - 1) .fields) 0 [])) where
-    length-line : (q ≡ numberOf (getD (readAt s (r - 1) .fields) 0 [])) × Line 69 s t n q
+    length-line : (q ≡ numberOf (getD (readAt s (r - 1) .fields) 0 [])) × KindLine 69 s t n q
     length-line = good-line l 69 (getD (readAt s (r - 1) .fields) 0 []) q hq (alloc-refs .0)
 
     pub length-foldable : {m : ℕ} → ConstsLogged s t n m → Foldable s t n m q 49152

@@ -9,6 +9,7 @@ use lib.Dec.{ltb, eqb}
 use lib.ListN.{take, drop, getD, length-take, length-drop}
 use lib.Seq.{getD-take, getD-drop}
 use borrow.Author.Tests.{ltb-true, ltb-false}
+use Rattle.checks.specs.Checks.{KindLine}
 use Rattle.semantics.specs.Text.{Bytes}
 use Rattle.semantics.specs.Tree.{Node}
 use Rattle.semantics.specs.Form.{Row, forms, noRow, numberOf, make}
@@ -27,10 +28,9 @@ use Rattle.sizes.proofs.Forms.{type-form, of-types}
 use Rattle.refs.proofs.Fields.{head-drop}
 use Rattle.sizes.proofs.Types.{ref-head}
 use Rattle.leaf.specs.Folds.{exAt}
-use Rattle.literals.specs.Literals.{elsAt, Line, LiteralLine}
+use Rattle.literals.specs.Literals.{elsAt, LiteralLine}
 use Rattle.literals.proofs.Lines.{line-form, parts-at, makes, good-line, el-value, value-ref}
 use Rattle.literals.proofs.Turns.{elsFrom, all-elements, element-line, elements-split}
-use Rattle.arrays.proofs.Allocs.{type-line}
 
 -- ---- a type's line
 
@@ -93,7 +93,7 @@ module _ (ns : List Node) (fs : List Bytes) where
       (refl also refl also refl also refl also refl also refl also refl also refl also refl also refl also refl also refl also refl also refl also refl also done)
       (refl also refl also refl also refl also refl also refl also refl also refl also refl also refl also refl also refl also refl also refl also refl also refl also refl also refl also refl also refl also refl also refl also refl also refl also refl also refl also done)
 
-module _ {s t : Bytes} {n r : ℕ} (l : Line 69 s t n r) where
+module _ {s t : Bytes} {n r : ℕ} (l : KindLine 69 s t n r) where
   pub cast-not : {f : ℕ} → f ≡ formAt t (r - 1) → (f ≡ 15 → ⊥) → false ≡ isByteCast (exAt s r)
   cast-not {f} e h = sym (ap (λ (x : Node). isByteCast (x .ex)) (makes l refl) ∙ no-cast (nodesIn s) (readAt s (r - 1) .fields) (formAt t (r - 1)) (line-form l .0) (go (ltb (formAt t (r - 1)) 15) refl))
     where
@@ -102,14 +102,14 @@ module _ {s t : Bytes} {n r : ℕ} (l : Line 69 s t n r) where
       go false d = let x : 15 ≤ formAt t (r - 1) = ltb-false (formAt t (r - 1)) 15 d in inr (omega (arith, h))
 
   module _ {f : ℕ} (e : f ≡ formAt t (r - 1)) (h : f ≡ 15) {v : ℕ} (hv : v ≡ Number.numberUpTo 65536 (getD (readAt s (r - 1) .fields) 0 [])) where
-    cast-good : (v ≡ numberOf (getD (readAt s (r - 1) .fields) 0 [])) × Line 75 s t n v
+    cast-good : (v ≡ numberOf (getD (readAt s (r - 1) .fields) 0 [])) × KindLine 75 s t n v
     unfolding forms
     cast-good =
         let w = parts-at l (sym e ∙ h) in
         good-line l 75 (getD (readAt s (r - 1) .fields) 0 []) v hv (ref-head (readsIn s) (r - 1) kTy (one (ref kEx) ∷ []) (readAt s (r - 1) .fields) (w .0) (w .1) .0)
 
     pub cast-line : TypeLine s t n v
-    cast-line = type-line (cast-good .1)
+    cast-line = cast-good .1
 
     pub cast-is : {x : ℕ} → x ≡ kindNumber (elemKind (typeAt s v)) → eqb x 0 ≡ isByteCast (exAt s r)
     unfolding forms
@@ -144,14 +144,14 @@ module _ {s t : Bytes} {n r : ℕ} (k : LiteralLine s t n r) {count : ℕ} (hc :
       go false e = sym (ap isByteLiteral (sym (all-elements k hc)) ∙ no-elements s r count (ltb-false 0 count e))
 
   module _ (h : j < count) {q : ℕ} (hq : q ≡ Number.numberUpTo 65536 (getD (readAt s (r - 1) .fields) (3 + j) [])) where
-    pub element-at : Line 76 s t n q
+    pub element-at : KindLine 76 s t n q
     element-at = element-line k hc h hq
 
     module _ {v : ℕ} (hv : v ≡ Number.numberUpTo 65536 (getD (readAt s (q - 1) .fields) 0 [])) where
-      element-value : (v ≡ numberOf (getD (readAt s (q - 1) .fields) 0 [])) × Line 69 s t n v
+      element-value : (v ≡ numberOf (getD (readAt s (q - 1) .fields) 0 [])) × KindLine 69 s t n v
       element-value = good-line element-at 69 (getD (readAt s (q - 1) .fields) 0 []) v hv (value-ref element-at)
 
-      pub value-line : Line 69 s t n v
+      pub value-line : KindLine 69 s t n v
       value-line = element-value .1
 
       split-casts : allByteCasts (elsFrom s r count j) ≡ isByteCast (exAt s v) && allByteCasts (elsFrom s r count (j + 1))

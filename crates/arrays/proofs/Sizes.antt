@@ -4,6 +4,7 @@ use mathlib.Core.List.{[]}
 use Prim.Native.Nat.{ℕ, _-_}
 use native.Mathlib.Omega.{arith}
 use lib.ListN.{getD}
+use Rattle.checks.specs.Checks.{KindLine}
 use Rattle.semantics.specs.Text.{Bytes}
 use Rattle.semantics.specs.Form.{numberOf}
 use Rattle.semantics.specs.Fold.{bind, Names}
@@ -15,7 +16,7 @@ use Rattle.values.specs.declared.Folded.{Folded}
 use Rattle.values.specs.Values.{resultIn}
 use Rattle.names.specs.Table.{ConstsLogged}
 use Rattle.leaf.specs.Folds.{Foldable, Folds}
-use Rattle.literals.specs.Literals.{namesIn, Line, LiteralLine, above}
+use Rattle.literals.specs.Literals.{namesIn, LiteralLine, above}
 use Rattle.literals.proofs.Lines.{may-line, maybe-given, maybe-absent}
 use Rattle.literals.proofs.Selectors.{foldable, folds-to}
 use Rattle.literals.proofs.Turns.{literal-refs}
@@ -23,7 +24,7 @@ use Rattle.arrays.specs.declared.Size.{Size}
 use Rattle.arrays.specs.Arrays.{sizeResult, litSize}
 
 module _ {s t : Bytes} {n r : ℕ} (k : LiteralLine s t n r) {q : ℕ} (hq : q ≡ Number.numberUpTo 65536 (getD (readAt s (r - 1) .fields) 0 [])) where
-  size-line : (q ≡ numberOf (getD (readAt s (r - 1) .fields) 0 [])) × ((q ≡ 0 → ⊥) → Line 69 s t n q)
+  size-line : (q ≡ numberOf (getD (readAt s (r - 1) .fields) 0 [])) × ((q ≡ 0 → ⊥) → KindLine 69 s t n q)
   size-line = may-line (k .line) 69 (getD (readAt s (r - 1) .fields) 0 []) q hq (literal-refs k .0)
 
   pub size-foldable : {m : ℕ} → ConstsLogged s t n m → (q ≡ 0 → ⊥) → Foldable s t n m q (above 16)

@@ -23,8 +23,7 @@ use Rattle.semantics.proofs.Common.{never}
 use Rattle.form.proofs.Table.{done, _also_}
 use Rattle.lines.specs.Lines.{readAt, nodesIn, formAt}
 use Rattle.sizes.specs.Sizes.{typeAt, TypeLine}
-use Rattle.checks.specs.Checks.{Kept}
-use Rattle.checks.proofs.Kept.{checked-kept}
+use Rattle.checks.specs.Checks.{Kept, KindLine}
 use Rattle.names.specs.Table.{ConstsLogged}
 use Rattle.placements.specs.declared.Extent.{Extent}
 use Rattle.placements.specs.declared.Placed.{Placed}
@@ -34,8 +33,8 @@ use Rattle.placements.proofs.Same.{keeps-all, keeps-then, keeps-less, keeps-kep
 use Rattle.placements.proofs.Fillings.{filling-kept}
 use Rattle.placements.proofs.Values.{values-are, value-stands}
 use Rattle.leaf.specs.Folds.{exAt}
-use Rattle.literals.specs.Literals.{namesIn, elsAt, Line, above, AllFilled}
-use Rattle.literals.proofs.Names.{kept-low, log-kept, logged-kept, line-kept}
+use Rattle.literals.specs.Literals.{namesIn, elsAt, above, AllFilled}
+use Rattle.literals.proofs.Names.{log-kept, logged-kept, line-kept}
 use Rattle.literals.proofs.Placing.{isInto}
 use Rattle.literals.proofs.Lines.{line-in, line-form, makes, may-line}
 use Rattle.literals.proofs.Turns.{literal-refs, literal-is}
@@ -44,7 +43,7 @@ use Rattle.arrays.specs.declared.Size.the-variants as Size
 use Rattle.arrays.specs.declared.Arrayed.{Arrayed}
 use Rattle.arrays.specs.declared.Arrayed.the-variants.{Literal, Pending, Refused}
 use Rattle.arrays.specs.Arrays.{arrayedIn, sizeResult, ArrayStands, Measured, ArrayAnswers, typeOf, litSize, ownType, ArrayLine, LitLine, Counted, Sized}
-use Rattle.arrays.proofs.Allocs.{kind-back, type-line, type-given}
+use Rattle.arrays.proofs.Allocs.{kind-back, type-given}
 use Rattle.arrays.proofs.Elements.{outside-forms}
 
 -- ---- the kind
@@ -57,14 +56,14 @@ module _ {s t : Bytes} {n declared r count : ℕ} (c : Counted s t n declared r 
   kind-declared h e = rw (type-given s declared h) e
 
   module _ (z : declared ≡ 0) {v : ℕ} (hv : v ≡ Number.numberUpTo 65536 (getD (readAt s (r - 1) .fields) 1 [])) where
-    own-may : (v ≡ numberOf (getD (readAt s (r - 1) .fields) 1 [])) × ((v ≡ 0 → ⊥) → Line 75 s t n v)
+    own-may : (v ≡ numberOf (getD (readAt s (r - 1) .fields) 1 [])) × ((v ≡ 0 → ⊥) → KindLine 75 s t n v)
     own-may = may-line (c .lit .literal .line) 75 (getD (readAt s (r - 1) .fields) 1 []) v hv (literal-refs (c .lit .literal) .1)
 
     own-is : ownType s r ≡ typeOf s v
     own-is = rw (← own-may .0)
 
     pub own-type-line : (v ≡ 0 → ⊥) → TypeLine s t n v
-    own-type-line h = type-line (own-may .1 h)
+    own-type-line h = own-may .1 h
 
     pub kind-own : {x : ℕ} → (v ≡ 0 → ⊥) → x ≡ kindNumber (elemKind (typeAt s v)) → x ≡ kindNumber Kind
     kind-own h e = rw (own-is, z, type-given s v h) e
@@ -101,7 +100,7 @@ module _ {s t u : Bytes} {n declared r : ℕ} (k : Keeps 16384 49152 t u) (l : L
   pub lit-kept : LitLine s u n declared r
   lit-kept = record {
     literal = record { line = line-kept k (l .literal .line); form = form-same ∙ l .literal .form };
-    declares = λ h. let d = l .declares h in record { checked = checked-kept (kept-low k 3072 (omega arith)) (d .checked); first = d .first; last = d .last; kind = d .kind };
+    declares = λ h. line-kept k (l .declares h);
   }
 
 -- ---- the size

@@ -4,6 +4,7 @@ use mathlib.Core.Path.{_≡_}
 use mathlib.Core.List.{[], _∷_}
 use mathlib.Core.Option.{Option}
 use lib.ListN.{getD}
+use Rattle.checks.specs.Checks.{KindLine}
 use Rattle.semantics.specs.Text.{Bytes, orElse}
 use Rattle.semantics.specs.Tree.{Ty, MaybeEx, ElemKind}
 use Rattle.semantics.specs.Tree.ElemKind.{kByte, kWord, kBig, kReal, kPtr}
@@ -14,7 +15,7 @@ use Rattle.semantics.specs.Array.{ConstArray, Filled, literalSize, measured}
 use Rattle.lines.specs.Lines.{readAt, nodesIn, formAt}
 use Rattle.sizes.specs.Sizes.{typeAt, TypeLine}
 use Rattle.placements.specs.Placements.{entryAt, slotAt, valuesIn, Keeps, StringStands, Filling}
-use Rattle.literals.specs.Literals.{namesIn, elsAt, Line, LiteralLine, above}
+use Rattle.literals.specs.Literals.{namesIn, elsAt, LiteralLine, above}
 use Rattle.arrays.specs.declared.Size.{Size}
 use Rattle.arrays.specs.declared.Size.the-variants as Size
 use Rattle.arrays.specs.declared.Arrayed.{Arrayed}
@@ -82,7 +83,7 @@ DeclaredElement s t n declared = (declared ≡ 0 → ⊥) → TypeLine s t n dec
 
 -- line r is an `ex` line, for a global whose type declares its elements' type in a line, or 0
 pub record ArrayLine (s t : Bytes) (n declared r : ℕ) : Type 0 where
-  pub line : Line 69 s t n r
+  pub line : KindLine 69 s t n r
   pub declares : DeclaredElement s t n declared
 
 -- and an `ex,alloc` line, form 17

@@ -14,13 +14,13 @@ ghost use Rattle.semantics.specs.Fold.{bind};
 ghost use Rattle.semantics.specs.Tree.ConstVal.{vInt};
 ghost use Rattle.semantics.specs.Array as Array;
 ghost use Rattle.semantics.specs.Array.{Filled, kindNumber, elemKind, isByteCast, isByteLiteral, asSize, literalKind, constArray};
-ghost use Rattle.checks.specs.Checks.{Kept};
+ghost use Rattle.checks.specs.Checks.{Kept, KindLine};
 ghost use Rattle.sizes.specs.Sizes.{typeAt, TypeLine};
 ghost use Rattle.values.specs.Values.{resultIn};
 ghost use Rattle.names.specs.Table.{ConstsLogged};
 ghost use Rattle.placements.specs.Placements.{valuesIn, Filling};
 ghost use Rattle.leaf.specs.Folds.{exAt};
-ghost use Rattle.literals.specs.Literals.{namesIn, elsAt, Line, LiteralLine, above};
+ghost use Rattle.literals.specs.Literals.{namesIn, elsAt, LiteralLine, above};
 ghost use Rattle.arrays.specs.Arrays.{kindOfNumber, arrayedIn, sizeResult, ArrayStands, Measured, ArrayAnswers, typeOf, litSize, ownType, allocType, ArrayLine, AllocLine, LitLine, Counted, Sized};
 
 // Above the strings of 16 elements.
@@ -150,7 +150,7 @@ fn literal_size(sheet: &[u8], work: &mut [u8], c: Known, r: usize, reach: u64) -
 
 // Whether the expression of line r is itself a cast to byte.
 fn is_byte_cast(sheet: &[u8], work: &[u8], n: usize, r: usize) -> bool
-    requires { ⌜ Line 69 (now sheet) (now work) n r ⌝ }
+    requires { ⌜ KindLine 69 (now sheet) (now work) n r ⌝ }
     ensures { λ b. ⌜ b ≡ isByteCast (exAt (now (sheet .entry)) r) ⌝ }
 {
     if lines::form_at(work, r - 1) != ex::CAST {

@@ -5,7 +5,7 @@ use Prim.Native.Nat.{ℕ, _≤_, _<_}
 use lib.ListN.{take, getD}
 use lib.Seq.{getD-take, take-take}
 use Rattle.lines.proofs.Laws.{whole-kept}
-use Rattle.checks.specs.Checks.{Kept, Checked}
+use Rattle.checks.specs.Checks.{Kept, Checked, KindLine}
 
 pub kept-all : {k : ℕ} {t : List ℕ} → Kept k t t
 kept-all = record { below = refl; long = refl }
@@ -31,3 +31,6 @@ module _ {t u : List ℕ} (a : Kept 3072 t u) where
     modules = c .modules;
     bounds = c .bounds;
   }
+
+  pub kind-kept : {k : ℕ} {s : List ℕ} {n r : ℕ} → KindLine k s t n r → KindLine k s u n r
+  kind-kept l = record { checked = checked-kept (l .checked); first = l .first; last = l .last; kind = l .kind }

@@ -1,11 +1,12 @@
 -- Refusals 1 to 7 together, and what holds of a sheet that passes them.
-use Prim.Native.Nat.{ℕ, _≤_, _<_}
+use Prim.Native.Nat.{ℕ, _-_, _≤_, _<_}
 use mathlib.Core.Path.{_≡_}
 use mathlib.Core.Bool.{true, false}
 use mathlib.Core.List.{[]}
 use lib.ListN.{length, take}
 use lib.Dec.{ltb}
 use Rattle.semantics.specs.Text.{Bytes, lineParts}
+use Rattle.semantics.specs.Form.{letter}
 use Rattle.semantics.specs.Refusal.{Outcome, refused, refuseIf, refuseAt, longestSheet, leastWork, zeros, noCounts, refsOf, badRefFrom, tooDeepFrom, badModuleFrom, tooManyFrom, checked}
 use Rattle.lines.specs.Lines.{readsIn, readAt, nodesIn, Whole}
 use Rattle.refs.specs.Refs.{fineRefs, usesIn}
@@ -41,6 +42,13 @@ pub record Checked (s t : Bytes) (n : ℕ) : Type 0 where
   pub falls : (i : ℕ) → i < n → lowerRefs (readsIn s) i (refsOf (readAt s i)) ≡ true
   pub modules : badModuleFrom 1 false (readsIn s) ≡ 0
   pub bounds : Bounded (nodesIn s)
+
+-- line r, from 1, of a checked sheet has the kind whose letter is k
+pub record KindLine (k : ℕ) (s t : Bytes) (n r : ℕ) : Type 0 where
+  pub checked : Checked s t n
+  pub first : 0 < r
+  pub last : r ≤ n
+  pub kind : letter (readAt s (r - 1) .form .kind) ≡ k
 
 -- of the working space t what stands below k is kept in u
 pub record Kept (k : ℕ) (t u : Bytes) : Type 0 where

@@ -13,13 +13,13 @@ use Rattle.sizes.specs.Sizes.{typeAt}
 use Rattle.values.specs.declared.ConstVal.{ConstVal}
 use Rattle.values.specs.Values.{valueIn, Within}
 use Rattle.placements.specs.Placements.{valuesIn}
-use Rattle.arrays.specs.Arrays.{kindOfNumber}
+use Rattle.arrays.specs.Arrays.{kindOfNumber, ValuesStand}
 use Rattle.vars.specs.declared.First.{First}
 use Rattle.vars.specs.declared.First.the-variants.{NoValue, Value, Alloc, Literal, Pending, Refused}
 use Rattle.vars.specs.First.{initIn, FirstStands}
 use Rattle.data_rows.specs.declared.Next.{Next}
 use Rattle.data_rows.specs.declared.Counts.{Counts}
-use Rattle.data_rows.specs.Data.{ItemsPrinted, Keyed, PrintTables, HoldsLiteral, firstItems}
+use Rattle.data_rows.specs.Data.{ItemsPrinted, Keyed, PrintTables, firstItems}
 use Rattle.data_rows.proofs.Kept.{within-at}
 use Rattle.data_rows.proofs.Printed.{printed-as}
 
@@ -36,8 +36,8 @@ module _ (t : Bytes) (x : First) (h : FirstStands t x) where
   pub first-within : {v : ConstVal} → x ≡ Value v → 65536 ≤ length t → Within (length t) v
   first-within {v} e l = within-at (length t) v l (subst (FirstStands t) e h)
 
-  pub first-filled : {kind n : ℕ} → x ≡ Literal kind n → HoldsLiteral t n
-  first-filled e = let w = subst (FirstStands t) e h in record { few = w .0; strings = w .1 }
+  pub first-filled : {kind n : ℕ} → x ≡ Literal kind n → ValuesStand t n
+  first-filled e = subst (FirstStands t) e h
 
 module _ {s t : Bytes} {x : First} (ty : Ty) (off : ℕ) {p q : Next} {u d e : Bytes} where
   pub first-none : x ≡ NoValue → ItemsPrinted s [] p q t u d e → ItemsPrinted s (firstItems ty off (initIn t x)) p q t u d e

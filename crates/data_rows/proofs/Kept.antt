@@ -5,7 +5,7 @@ use native.Mathlib.Omega.{arith}
 use lib.ListN.{length}
 use Rattle.semantics.specs.Text.{Bytes}
 use Rattle.checks.specs.Checks.{Checked}
-use Rattle.checks.proofs.Kept.{kept-all, kept-then, kept-less, checked-kept}
+use Rattle.checks.proofs.Kept.{kept-all, kept-then, kept-less, checked-kept, kind-kept}
 use Rattle.names.specs.Table.{bitsOf, logIn, ConstsLogged}
 use Rattle.names.proofs.Laws.{logged-same, log-same}
 use Rattle.values.specs.declared.ConstVal.{ConstVal}
@@ -23,7 +23,8 @@ use Rattle.type_keys.proofs.Table.{outside-above}
 use Rattle.vars.specs.declared.First.{First}
 use Rattle.vars.specs.declared.First.the-variants as First
 use Rattle.vars.specs.First.{initIn, FirstStands}
-use Rattle.data_rows.specs.Data.{Keeping, HoldsLiteral}
+use Rattle.arrays.specs.Arrays.{ValuesStand}
+use Rattle.data_rows.specs.Data.{Keeping}
 
 -- ---- tables
 
@@ -44,7 +45,7 @@ module _ {t u : Bytes} (k : Keeping t u) where
   checked-still c = checked-kept (kept-less (omega arith) (k .below)) c
 
   pub var-still : {s : Bytes} {n r : ℕ} → VarLine s t n r → VarLine s u n r
-  var-still l = record { checked = checked-still (l .checked); first = l .first; last = l .last; kind = l .kind }
+  var-still l = kind-kept (kept-less (omega arith) (k .below)) l
 
   pub tabled-still : {s : Bytes} {n g : ℕ} → Tabled s t n g → Tabled s u n g
   tabled-still d = tabled-kept (kept-less (omega arith) (k .below)) d
@@ -78,8 +79,8 @@ within-standing n (Int z) l h = tt
 within-standing n (Real x) l h = tt
 within-standing n (Str p q) l h = (omega (arith, h .1), h .2)
 
-pub literal-filled : {t : Bytes} {count : ℕ} → 65536 ≤ length t → HoldsLiteral t count → LiteralIn t count
-literal-filled {t} l f = record { long = l; few = f .few; strings = λ i h. within-standing (length t) (slotAt t (entryAt t i)) l (f .strings i h) }
+pub literal-filled : {t : Bytes} {count : ℕ} → 65536 ≤ length t → ValuesStand t count → LiteralIn t count
+literal-filled {t} l f = record { long = l; few = f .0; strings = λ i h. within-standing (length t) (slotAt t (entryAt t i)) l (f .1 i h) }
 
 -- storing positions of elements leaves it
 module _ {t u : Bytes} (o : Outside 10624 10629 t u) where
@@ -97,18 +98,16 @@ module _ {t u : Bytes} (o : Outside 10624 10629 t u) where
       let e : elementIn u (entryAt t i) ≡ elementIn t (entryAt t i) = element-same t u (o .kept .long) (above 16) (entryAt t i) (h i (omega arith)) (λ j x y. outside-above o j (omega arith)) (λ j x y. outside-above o j (omega arith)) in
       rw (entry-still i, e, values-from n (suc i) (λ j l. h j (omega arith)))
 
-  pub values-still : (n : ℕ) → HoldsLiteral t n → valuesIn u 0 n ≡ valuesIn t 0 n
-  values-still n f = values-from n 0 (λ j h. f .strings j (omega arith))
+  pub values-still : (n : ℕ) → ValuesStand t n → valuesIn u 0 n ≡ valuesIn t 0 n
+  values-still n f = values-from n 0 (λ j h. f .1 j (omega arith))
 
-  pub filled-still : {n : ℕ} → HoldsLiteral t n → HoldsLiteral u n
-  filled-still f = record { few = f .few; strings = λ i h. rw (entry-still i, slot-still (entryAt t i)) (f .strings i h) }
+  pub filled-still : {n : ℕ} → ValuesStand t n → ValuesStand u n
+  filled-still f = (f .0, λ i h. rw (entry-still i, slot-still (entryAt t i)) (f .1 i h))
 
   pub first-still : (x : First) → FirstStands t x → (initIn u x ≡ initIn t x) × FirstStands u x
   first-still First.NoValue h = (refl, tt)
   first-still (First.Value v) h = (rw (value-same t u (o .kept .long) (above 16) v (standing-at v h) (λ j x y. outside-above o j (omega arith))), h)
   first-still (First.Alloc k n) h = (refl, tt)
-  first-still (First.Literal k n) h =
-      let f : HoldsLiteral t n = record { few = h .0; strings = h .1 } in
-      (rw (values-still n f), (h .0, filled-still f .strings))
+  first-still (First.Literal k n) h = (rw (values-still n h), filled-still {n = n} h)
   first-still First.Pending h = (refl, tt)
   first-still (First.Refused r) h = (refl, tt)

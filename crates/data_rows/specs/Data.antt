@@ -15,8 +15,7 @@ use Rattle.semantics.specs.Listing.{itemRow}
 use Rattle.write.specs.Wrote.{Wrote}
 use Rattle.checks.specs.Checks.{Kept}
 use Rattle.names.specs.Table.{ConstsLogged, ConstTable}
-use Rattle.placements.specs.Placements.{entryAt, slotAt, StringStands}
-use Rattle.literals.specs.Literals.{namesIn, above}
+use Rattle.literals.specs.Literals.{namesIn}
 use Rattle.global_table.specs.Table.{placesIn, offsetIn, Tabled}
 use Rattle.items.specs.Items.{itemRows}
 use Rattle.type_keys.specs.Table.{Kinds}
@@ -80,11 +79,6 @@ pub record PrintTables (s t : Bytes) (c : Counts) (keys : ℕ) : Type 0 where
   pub few : c .frames ≤ 128
   pub printed : List Item
   pub kinds : Kinds t (keysOf s printed) keys
-
--- the working space holds a literal of `count` values
-pub record HoldsLiteral (t : Bytes) (count : ℕ) : Type 0 where
-  pub few : count ≤ 1024
-  pub strings : (i : ℕ) → i < count → StringStands (above 16) (slotAt t (entryAt t i))
 
 -- the tables, and in the working space the first value x
 pub record NameTask (s t : Bytes) (c : Counts) (x : First) (keys : ℕ) : Type 0 where

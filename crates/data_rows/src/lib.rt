@@ -184,7 +184,7 @@ fn line_rows(sheet: &[u8], work: &mut [u8], c: Counts, r: usize, out: &mut [u8],
     };
     let first = vars::first_value(sheet, work, known, r);
     let x = Held {
-        first: first,
+        first,
         big: is_big(sheet, work, c.lines, r),
     };
     names_rows(sheet, work, c, r, x, out, p)

@@ -43,7 +43,7 @@ fn put_line(sheet: &[u8], work: &[u8], n: usize, r: usize, out: &mut [u8], p: En
         end += size;
         j += 1;
     }
-    Ends { at: at, end: end }
+    Ends { at, end }
 }
 
 // Those of the `fd` lines to which these fields refer.

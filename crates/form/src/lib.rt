@@ -305,26 +305,21 @@ fn step(f: usize, w: Walk, x: u8, n: usize, at: usize) -> Walk
     let c = w.c;
     let e = w.e;
     if 0 < c {
-        return Walk {
-            at: at,
-            j: j,
-            c: c - 1,
-            e: e,
-        };
+        return Walk { at, j, c: c - 1, e };
     }
     if MANY <= x {
         return Walk {
-            at: at,
+            at,
             j: j + 1,
             c: n,
             e: x - 32,
         };
     }
     Walk {
-        at: at,
+        at,
         j: j + 1,
         c: 0,
-        e: e,
+        e,
     }
 }
 

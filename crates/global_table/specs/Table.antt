@@ -10,21 +10,17 @@ use lib.ListN.{drop, getD}
 use lib.Seq.{sets}
 use Rattle.semantics.specs.Text.{Bytes, orElse, same}
 use Rattle.semantics.specs.Tree.{Ty}
-use Rattle.semantics.specs.Form.{letter}
 use Rattle.semantics.specs.Global.{Global, placeOf}
 use Rattle.lines.specs.Lines.{readAt, nodesIn}
 use Rattle.words.specs.Words.{digest, u16At}
-use Rattle.checks.specs.Checks.{Checked, Kept}
+use Rattle.checks.specs.Checks.{Checked, Kept, KindLine}
 use Rattle.source.specs.Walk.{varOf}
 
 -- ---- a `var` line: the type's line, the value's, and a count with as many names
 
 -- line r of a checked sheet is a `var` line, 72
-pub record VarLine (s t : Bytes) (n r : ℕ) : Type 0 where
-  pub checked : Checked s t n
-  pub first : 0 < r
-  pub last : r ≤ n
-  pub kind : letter (readAt s (r - 1) .form .kind) ≡ 72
+abbrev pub VarLine : Bytes → Bytes → ℕ → ℕ → Type 0
+VarLine s t n r = KindLine 72 s t n r
 
 -- name j, the type and the names of line r
 abbrev pub nameOn : Bytes → ℕ → ℕ → Bytes

@@ -11,11 +11,11 @@ use Rattle.semantics.specs.Text.{Bytes, orElse, intOf, unhex, fromBigEndian}
 use Rattle.semantics.specs.Tree as Tree
 use Rattle.semantics.specs.Tree.{Ex}
 use Rattle.semantics.specs.Tree.ConstVal.{vInt, vReal, vStr}
-use Rattle.semantics.specs.Form.{letter, nodeAt}
+use Rattle.semantics.specs.Form.{nodeAt}
 use Rattle.semantics.specs.Fold.{Result, fold}
-use Rattle.lines.specs.Lines.{readsIn, readAt, nodesIn, formAt}
+use Rattle.lines.specs.Lines.{readsIn, nodesIn, formAt}
 use Rattle.nesting.specs.Nesting.{depthOf}
-use Rattle.checks.specs.Checks.{Checked, Kept}
+use Rattle.checks.specs.Checks.{Kept, KindLine}
 use Rattle.values.specs.declared.ConstVal.{ConstVal}
 use Rattle.values.specs.declared.Folded.{Folded}
 use Rattle.values.specs.Values.{Answers}
@@ -30,11 +30,8 @@ unfoldable pub foldAt : Bytes → Bytes → ℕ → ℕ → ℕ → Result Tree.
 foldAt s t m iota r = fold (record { log = logIn s t m }) (pos iota) (exAt s r)
 
 -- line r of a checked sheet is an `ex` line, 69
-pub record ExLine (s t : Bytes) (n r : ℕ) : Type 0 where
-  pub checked : Checked s t n
-  pub first : 0 < r
-  pub last : r ≤ n
-  pub kind : letter (readAt s (r - 1) .form .kind) ≡ 69
+abbrev pub ExLine : Bytes → Bytes → ℕ → ℕ → Type 0
+ExLine s t n r = KindLine 69 s t n r
 
 -- what a fold of line r asks: constants in their table, and from `top` on room for a string at each step down
 pub record Foldable (s t : Bytes) (n m r top : ℕ) : Type 0 where

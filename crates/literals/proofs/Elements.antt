@@ -5,6 +5,7 @@ use mathlib.Core.Logic.{inl, inr}
 use Prim.Native.Nat.{ℕ, _+_, _-_, _*_, _≤_}
 use native.Mathlib.Omega.{arith}
 use lib.ListN.{getD}
+use Rattle.checks.specs.Checks.{KindLine}
 use Rattle.semantics.specs.Text.{Bytes}
 use Rattle.semantics.specs.Tree as Tree
 use Rattle.semantics.specs.Tree.{El}
@@ -28,7 +29,7 @@ use Rattle.placements.specs.Placements.{slotAt, elementIn, Keeps, StringStands,
 use Rattle.placements.proofs.Same.{keeps-then, keeps-less, keeps-kept}
 use Rattle.placements.proofs.Fillings.{filling-kept, filling-value, filling-star, stored-element}
 use Rattle.leaf.specs.Folds.{exAt, Foldable, Folds}
-use Rattle.literals.specs.Literals.{elAt, sesAt, namesIn, Line, AtTask, ValuedTask, Turn, above, Fills, placed, Turns}
+use Rattle.literals.specs.Literals.{elAt, sesAt, namesIn, AtTask, ValuedTask, Turn, above, Fills, placed, Turns}
 use Rattle.literals.proofs.Names.{log-kept, logged-kept, line-kept}
 use Rattle.literals.proofs.Lines.{good-line, last-form, el-next, el-star, el-at, el-value, value-ref}
 use Rattle.literals.proofs.Selectors.{foldable, folds-to}
@@ -44,7 +45,7 @@ stored-keeps : {t u : Bytes} (n : ℕ) {v : ConstVal} → n ≤ 16 → SlotStore
 stored-keeps n h q = record { long = q .long; below = λ j x. q .others j (inl (omega arith)); above = λ j x y. q .others j (inr (omega arith)) }
 
 module _ {s t : Bytes} {n m r e : ℕ} {v : ConstVal} (k : ValuedTask s t n m r e v) (far : Extent) where
-  l : Line 76 s t n r
+  l : KindLine 76 s t n r
   l = k .task .line
 
   pub element-small : Small v
@@ -87,7 +88,7 @@ at-stands k (Real x) h = tt
 at-stands k (Str p l) h = (omega (arith, h .0), omega (arith, h .0, h .1), h .1)
 
 module _ {s t : Bytes} {n m r k : ℕ} (c : Turn s t n m r k) (far : Extent) {q : ℕ} (hq : q ≡ Number.numberUpTo 65536 (getD (readAt s (r - 1) .fields) 0 [])) where
-  value-line : (q ≡ numberOf (getD (readAt s (r - 1) .fields) 0 [])) × Line 69 s t n q
+  value-line : (q ≡ numberOf (getD (readAt s (r - 1) .fields) 0 [])) × KindLine 69 s t n q
   value-line = good-line (c .line) 69 (getD (readAt s (r - 1) .fields) 0 []) q hq (value-ref (c .line))
 
   pub value-foldable : Foldable s t n m q (49152 + 256 * k)

@@ -8,6 +8,7 @@ use lib.Dec.{eqb}
 use lib.ListN.{drop, getD}
 use lib.Seq.{getD-drop}
 use borrow.Author.Tests.{eqb-true, eqb-false}
+use Rattle.checks.specs.Checks.{KindLine}
 use Rattle.semantics.specs.Text.{Bytes}
 use Rattle.semantics.specs.Tree.{Ex, Node}
 use Rattle.semantics.specs.Tree.MaybeEx.{absent, given}
@@ -29,11 +30,11 @@ use Rattle.refs.proofs.Fields.{number-exact, count-exact, head-drop, tail-drop}
 use Rattle.sizes.proofs.Forms.{element-form, selector-form}
 use Rattle.sizes.proofs.Types.{given-ref, Good, May, ref-head, maybe-head, Group, group-at}
 use Rattle.leaf.specs.Folds.{exAt}
-use Rattle.literals.specs.Literals.{elAt, seAt, Line}
+use Rattle.literals.specs.Literals.{elAt, seAt}
 
 -- ---- the lines that are referred to
 
-module _ {k : ℕ} {s t : Bytes} {n r : ℕ} (l : Line k s t n r) where
+module _ {k : ℕ} {s t : Bytes} {n r : ℕ} (l : KindLine k s t n r) where
   pub line-in : r - 1 < n
   line-in = omega (arith, l .first, l .last)
 
@@ -50,16 +51,16 @@ module _ {k : ℕ} {s t : Bytes} {n r : ℕ} (l : Line k s t n r) where
   makes e = node-at s t n (l .checked .whole) (l .checked .good) (r - 1) line-in ∙ ap (λ (g : ℕ). rowNode (nodesIn s) g (readAt s (r - 1) .fields)) e
 
   module _ (q : ℕ) (f : Bytes) (v : ℕ) (hv : v ≡ Number.numberUpTo 65536 f) where
-    pub good-line : Good (readsIn s) (r - 1) q f → (v ≡ numberOf f) × Line q s t n v
+    pub good-line : Good (readsIn s) (r - 1) q f → (v ≡ numberOf f) × KindLine q s t n v
     good-line g =
         let w = needed-ref (readsIn s) (r - 1 + 1) q (numberOf f) (g .fine) in
         let e : v ≡ numberOf f = hv ∙ number-exact f (g .number) (omega (arith, w .1, l .last, l .checked .whole .lined .few)) in
         (e, rw e (record { checked = l .checked; first = omega (arith, w .0); last = omega (arith, w .1, l .first, l .last); kind = w .2 }))
 
-    pub may-line : May (readsIn s) (r - 1) q f → (v ≡ numberOf f) × ((v ≡ 0 → ⊥) → Line q s t n v)
+    pub may-line : May (readsIn s) (r - 1) q f → (v ≡ numberOf f) × ((v ≡ 0 → ⊥) → KindLine q s t n v)
     may-line g = go (eqb (numberOf f) 0) refl
       where
-        go : (b : Bool) → eqb (numberOf f) 0 ≡ b → (v ≡ numberOf f) × ((v ≡ 0 → ⊥) → Line q s t n v)
+        go : (b : Bool) → eqb (numberOf f) 0 ≡ b → (v ≡ numberOf f) × ((v ≡ 0 → ⊥) → KindLine q s t n v)
         go true d =
             let z = eqb-true (numberOf f) 0 d in
             let e : v ≡ numberOf f = hv ∙ number-exact f (g .number) (omega arith) in
@@ -83,7 +84,7 @@ maybe-absent ns v e = rw e
 
 -- ---- selectors
 
-module _ {s t : Bytes} {n r : ℕ} (l : Line 74 s t n r) where
+module _ {s t : Bytes} {n r : ℕ} (l : KindLine 74 s t n r) where
   se-form : formAt t (r - 1) ≡ 23
   se-form = let w = line-form l in selector-form (formAt t (r - 1)) (w .0) (w .1)
 
@@ -101,7 +102,7 @@ module _ {s t : Bytes} {n r : ℕ} (l : Line 74 s t n r) where
 
 -- ---- elements
 
-module _ {s t : Bytes} {n r : ℕ} (l : Line 76 s t n r) where
+module _ {s t : Bytes} {n r : ℕ} (l : KindLine 76 s t n r) where
   -- 20 a plain element, 21 a wildcard, 22 one with selectors
   by-form : {P : Type 0} → (formAt t (r - 1) ≡ 20 → P) → (formAt t (r - 1) ≡ 21 → P) → (formAt t (r - 1) ≡ 22 → P) → P
   by-form {P} a b c = let w = line-form l in let x = element-form (formAt t (r - 1)) (w .0) (w .1) in go (eqb (formAt t (r - 1)) 20) refl (eqb (formAt t (r - 1)) 21) refl (x .0) (x .1)

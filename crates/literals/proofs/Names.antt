@@ -5,13 +5,12 @@ use native.Mathlib.Omega.{arith}
 use lib.ListN.{take, length-take}
 use lib.Seq.{getD-take, ext-getD}
 use Rattle.semantics.specs.Text.{Bytes}
-use Rattle.checks.specs.Checks.{Kept}
-use Rattle.checks.proofs.Kept.{checked-kept}
+use Rattle.checks.specs.Checks.{Kept, KindLine}
+use Rattle.checks.proofs.Kept.{kind-kept}
 use Rattle.names.specs.Table.{bitsOf, logIn, ConstsLogged}
 use Rattle.names.proofs.Laws.{SameText, logged-same, log-same}
 use Rattle.placements.specs.Placements.{Keeps}
 use Rattle.placements.proofs.Same.{part-same}
-use Rattle.literals.specs.Literals.{Line}
 
 module _ {t u : Bytes} (k : Keeps 16384 49152 t u) where
   -- what stands below 11264
@@ -34,5 +33,5 @@ module _ {t u : Bytes} (k : Keeps 16384 49152 t u) where
     pub logged-kept : ConstsLogged s u n m
     logged-kept = logged-same table-kept l
 
-  pub line-kept : {q : ℕ} {s : Bytes} {n r : ℕ} → Line q s t n r → Line q s u n r
-  line-kept l = record { checked = checked-kept (kept-low 3072 (omega arith)) (l .checked); first = l .first; last = l .last; kind = l .kind }
+  pub line-kept : {q : ℕ} {s : Bytes} {n r : ℕ} → KindLine q s t n r → KindLine q s u n r
+  line-kept l = kind-kept (kept-low 3072 (omega arith)) l

@@ -62,7 +62,7 @@ module _ (t : Bytes) {x : Folded} where
 -- ---- folds
 
 pub foldable : {s t : Bytes} {n m r e : ℕ} → Task 69 s t n m r e → Foldable s t n m r (49152 + 256 * e)
-foldable k = let l = k .line in Steps.foldable (record { checked = l .checked; first = l .first; last = l .last; kind = l .kind }) (k .log) (omega arith) (omega (arith, k .few))
+foldable k = Steps.foldable (k .line) (k .log) (omega arith) (omega (arith, k .few))
 
 -- what a fold gives, where iota is 0
 pub folds-to : {s t : Bytes} {m r top : ℕ} {u : Bytes} {x : Folded} → Folds s t m 0 r top u x → resultIn u x ≡ fold (namesIn s t m) (pos 0) (exAt s r)

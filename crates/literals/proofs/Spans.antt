@@ -6,6 +6,7 @@ use Prim.Native.Nat.{ℕ, suc, _+_, _-_, _≤_, _<_}
 use native.Mathlib.Omega.{arith}
 use lib.IntN.{ℤ}
 use lib.ListN.{drop, getD}
+use Rattle.checks.specs.Checks.{KindLine}
 use Rattle.semantics.specs.Text.{Bytes}
 use Rattle.semantics.specs.Tree as Tree
 use Rattle.semantics.specs.Tree.{Ses}
@@ -25,7 +26,7 @@ use Rattle.placements.specs.declared.Placed.{Placed}
 use Rattle.placements.specs.declared.Placed.the-variants.{Into, Negative, Failed, TooLong}
 use Rattle.placements.specs.Placements.{elementIn, Keeps, Filling, Step, stopped}
 use Rattle.placements.proofs.Same.{keeps-all, keeps-then, keeps-less, element-same}
-use Rattle.literals.specs.Literals.{seAt, sesAt, namesIn, Line, Task, AtTask, above, Chose, Selects, Fills}
+use Rattle.literals.specs.Literals.{seAt, sesAt, namesIn, Task, AtTask, above, Chose, Selects, Fills}
 use Rattle.literals.proofs.Names.{log-kept, logged-kept, line-kept}
 use Rattle.literals.proofs.Lines.{good-line, count-is, selectors}
 
@@ -90,7 +91,7 @@ pub record Selecting (s t : Bytes) (m r e : ℕ) (a : Extent) (count : ℕ) (u :
   pub on : (f : Filled) → 0 < e → e ≤ 16 → Filling t (above e) e (a .next) (a .reach) f → On u e x (namesIn s t m) (elementIn t e) (sesFrom s r count j) (sesFrom s r count 0) f
 
 module _ {s t : Bytes} {n m r e : ℕ} (k : AtTask s t n m r e) (a : Extent) {count : ℕ} (hc : count ≡ Number.numberUpTo 65536 (getD (readAt s (r - 1) .fields) 1 [])) where
-  l : Line 76 s t n r
+  l : KindLine 76 s t n r
   l = k .task .line
 
   pub few-selectors : count ≤ 16
@@ -119,7 +120,7 @@ module _ {s t : Bytes} {n m r e : ℕ} (k : AtTask s t n m r e) (a : Extent) {co
     keeps-names : Keeps 16384 49152 t u
     keeps-names = keeps-less (omega arith) (omega arith) (c .keeps)
 
-    pub selecting-line : Line 76 s u n r
+    pub selecting-line : KindLine 76 s u n r
     selecting-line = line-kept keeps-names l
 
     pub selecting-end : count ≤ j → Fills t e a Act x u
@@ -129,7 +130,7 @@ module _ {s t : Bytes} {n m r e : ℕ} (k : AtTask s t n m r e) (a : Extent) {co
         filled x u (c .keeps) (λ f one few p. let o = c .on f one few p in subst (λ (q : Result Filled). Step u (above e) e x q) (rw z at (o .left)) (o .step))
 
     module _ (h : j < count) {q : ℕ} (hq : q ≡ Number.numberUpTo 65536 (getD (readAt s (r - 1) .fields) (2 + j) [])) where
-      selector-line : (q ≡ numberOf (getD (readAt s (r - 1) .fields) (2 + j) [])) × Line 74 s u n q
+      selector-line : (q ≡ numberOf (getD (readAt s (r - 1) .fields) (2 + j) [])) × KindLine 74 s u n q
       selector-line = good-line selecting-line 74 (getD (readAt s (r - 1) .fields) (2 + j) []) q hq (selectors l (k .form) .each j (omega (arith, count-exact)))
 
       pub selector-task : Task 74 s u n m q e

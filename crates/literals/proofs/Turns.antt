@@ -9,6 +9,7 @@ use denote.Enum.Declared.{tagOf}
 use types.Run.{OneOf}
 use lib.ListN.{drop, getD}
 use lib.Seq.{getD-drop, drop-drop}
+use Rattle.checks.specs.Checks.{KindLine}
 use Rattle.semantics.specs.Text.{Bytes}
 use Rattle.semantics.specs.Tree.{Node, Els}
 use Rattle.semantics.specs.Tree.Ex.{arrayEx}
@@ -32,7 +33,7 @@ use Rattle.placements.proofs.Placed.{the-type}
 use Rattle.placements.proofs.Same.{keeps-all, keeps-then}
 use Rattle.placements.proofs.Fillings.{filling-wider}
 use Rattle.leaf.specs.Folds.{exAt}
-use Rattle.literals.specs.Literals.{elAt, elsAt, namesIn, Line, Turn, LiteralLine, above, Turns, AllFilled}
+use Rattle.literals.specs.Literals.{elAt, elsAt, namesIn, Turn, LiteralLine, above, Turns, AllFilled}
 use Rattle.names.specs.Table.{ConstsLogged}
 use Rattle.literals.proofs.Names.{log-kept, logged-kept, line-kept}
 use Rattle.literals.proofs.Placing.{isInto, step-ends}
@@ -71,10 +72,10 @@ module _ {s t : Bytes} {n r : ℕ} (k : LiteralLine s t n r) {count : ℕ} (hc :
   all-elements = let z : count - 0 ≡ numberOf (getD (readAt s (r - 1) .fields) 2 []) = omega (arith, count-exact) in rw z
 
   module _ {j : ℕ} (h : j < count) {q : ℕ} (hq : q ≡ Number.numberUpTo 65536 (getD (readAt s (r - 1) .fields) (3 + j) [])) where
-    element-good : (q ≡ numberOf (getD (readAt s (r - 1) .fields) (3 + j) [])) × Line 76 s t n q
+    element-good : (q ≡ numberOf (getD (readAt s (r - 1) .fields) (3 + j) [])) × KindLine 76 s t n q
     element-good = good-line (k .line) 76 (getD (readAt s (r - 1) .fields) (3 + j) []) q hq (literal-refs k .2 .each j (omega (arith, count-exact)))
 
-    pub element-line : Line 76 s t n q
+    pub element-line : KindLine 76 s t n q
     element-line = element-good .1
 
     pub elements-split : elsFrom s r count j ≡ andEl (elAt s q) (elsFrom s r count (j + 1))
@@ -102,7 +103,7 @@ into-not Failed h = refl
 into-not TooLong h = refl
 
 module _ {s t₀ : Bytes} {n m r : ℕ} (k : LiteralLine s t₀ n r) (g : ConstsLogged s t₀ n m) {t : Bytes} (a : (Filling t 49152 0 0 0 noneFilled) × ((b : ℕ) → Keeps 16384 b t₀ t)) where
-  pub begun : Line 69 s t n r
+  pub begun : KindLine 69 s t n r
   begun = line-kept (a .1 49152) (k .line)
 
   module _ {count : ℕ} (hc : count ≡ Number.numberUpTo 65536 (getD (readAt s (r - 1) .fields) 2 [])) where
@@ -117,7 +118,7 @@ module _ {s t₀ : Bytes} {n m r : ℕ} (k : LiteralLine s t₀ n r) (g : Consts
     turning-start = record { within = omega arith; keeps = keeps-all; literal = noneFilled; filling = a .0; left = refl }
 
     module _ {u : Bytes} {x : Extent} {j : ℕ} (c : Turning s t m r count u x j) where
-      pub turning-line : Line 69 s u n r
+      pub turning-line : KindLine 69 s u n r
       turning-line = line-kept (c .keeps) begun
 
       pub turning-end : count ≤ j → AllFilled t₀ (fill (namesIn s t₀ m) (elsAt s r) noneFilled) (Into x) u

@@ -8,7 +8,7 @@ use lib.ListN.{drop, getD}
 use Rattle.semantics.specs.Text.{Bytes}
 use Rattle.semantics.specs.Tree as Tree
 use Rattle.semantics.specs.Tree.{El, Els, Se, Ses}
-use Rattle.semantics.specs.Form.{letter, nodeAt, numberOf, values, elsOf, sesOf}
+use Rattle.semantics.specs.Form.{nodeAt, numberOf, values, elsOf, sesOf}
 use Rattle.semantics.specs.Form.Kind.{kEl, kSe}
 use Rattle.semantics.specs.Form.Atom.{ref}
 use Rattle.semantics.specs.Fold.{Result, bind, Names}
@@ -16,7 +16,7 @@ use Rattle.semantics.specs.Fold.Result.{ok, failed, refuse}
 use Rattle.semantics.specs.Tree.El.{next as nextEl, star, at}
 use Rattle.semantics.specs.Array.{Filled, placeIndices, placeNext, placeSpans, spansOf, setWildcard}
 use Rattle.lines.specs.Lines.{readAt, nodesIn, formAt}
-use Rattle.checks.specs.Checks.{Checked}
+use Rattle.checks.specs.Checks.{KindLine}
 use Rattle.names.specs.Table.{logIn, ConstsLogged}
 use Rattle.values.specs.declared.ConstVal.{ConstVal}
 use Rattle.placements.specs.declared.Extent.{Extent}
@@ -49,16 +49,9 @@ elsAt s r = elsOf (values (ref kEl) (nodesIn s) (numberOf (getD (readAt s (r - 1
 abbrev pub namesIn : Bytes → Bytes → ℕ → Names
 namesIn s t m = record { log = logIn s t m }
 
--- line r of a checked sheet has kind k
-pub record Line (k : ℕ) (s t : Bytes) (n r : ℕ) : Type 0 where
-  pub checked : Checked s t n
-  pub first : 0 < r
-  pub last : r ≤ n
-  pub kind : letter (readAt s (r - 1) .form .kind) ≡ k
-
--- it is to be worked on by the first m constants, after e elements, each with 256 bytes for its string
+-- line r, of kind k, is to be worked on by the first m constants, after e elements, each with 256 bytes for its string
 pub record Task (k : ℕ) (s t : Bytes) (n m r e : ℕ) : Type 0 where
-  pub line : Line k s t n r
+  pub line : KindLine k s t n r
   pub log : ConstsLogged s t n m
   pub few : e ≤ 16
 
@@ -75,13 +68,13 @@ pub record ValuedTask (s t : Bytes) (n m r e : ℕ) (v : ConstVal) : Type 0 wher
 
 -- it is an `el` line, 76, to be worked on after k elements
 pub record Turn (s t : Bytes) (n m r k : ℕ) : Type 0 where
-  pub line : Line 76 s t n r
+  pub line : KindLine 76 s t n r
   pub log : ConstsLogged s t n m
   pub few : k < 16
 
 -- it is an `ex,lit` line, form 18
 pub record LiteralLine (s t : Bytes) (n r : ℕ) : Type 0 where
-  pub line : Line 69 s t n r
+  pub line : KindLine 69 s t n r
   pub form : formAt t (r - 1) ≡ 18
 
 -- where the strings of e elements end

@@ -105,13 +105,10 @@ fn put_fields(sheet: &[u8], work: &[u8], n: usize, i: usize, out: &mut [u8], at:
 {
     let r = line_of(work, i);
     if lines::form_at(work, r - 1) == decl::ADT {
-        let q = field_rows::put_common(sheet, work, n, r, out, Ends { at: at, end: 0 });
+        let q = field_rows::put_common(sheet, work, n, r, out, Ends { at, end: 0 });
         return q.at;
     }
-    let start = Ends {
-        at: at,
-        end: TAG_BYTES,
-    };
+    let start = Ends { at, end: TAG_BYTES };
     let p = field_rows::put_common(sheet, work, n, r, out, start);
     let c = case_of(work, i);
     if c == 0 {

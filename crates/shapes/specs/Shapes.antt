@@ -6,11 +6,11 @@ use mathlib.Core.Option.{none}
 use lib.ListN.{length, getD}
 use Rattle.semantics.specs.Text.{Bytes, orElse}
 use Rattle.semantics.specs.Tree.{Case, AdtDecl, Shape, noCase}
-use Rattle.semantics.specs.Form.{letter, nodeAt, numberOf}
+use Rattle.semantics.specs.Form.{nodeAt, numberOf}
 use Rattle.semantics.specs.Layout as Layout
 use Rattle.semantics.specs.Layout.{place, behindTag, variantShape, Recorded, recordsOf}
 use Rattle.lines.specs.Lines.{readAt, nodesIn}
-use Rattle.checks.specs.Checks.{Checked}
+use Rattle.checks.specs.Checks.{KindLine}
 use Rattle.sizes.specs.declared.place.Reached.{Reached}
 use Rattle.sizes.specs.Places.{CaseLine}
 
@@ -42,11 +42,8 @@ unfoldable pub variantAt : Bytes → ℕ → ℕ → Shape
 variantAt s r c = variantShape (declAt s r .fields) (getD (casesAt s r) c noCase)
 
 -- line r of a checked sheet is a `pick` line, 66
-pub record PickLine (s t : Bytes) (n r : ℕ) : Type 0 where
-  pub checked : Checked s t n
-  pub first : 0 < r
-  pub last : r ≤ n
-  pub kind : letter (readAt s (r - 1) .form .kind) ≡ 66
+abbrev pub PickLine : Bytes → Bytes → ℕ → ℕ → Type 0
+PickLine s t n r = KindLine 66 s t n r
 
 -- and has a case c
 pub record VariantLine (s t : Bytes) (n r c : ℕ) : Type 0 where

@@ -14,7 +14,7 @@ use Rattle.semantics.specs.Form.Atom.{ref}
 use Rattle.semantics.specs.Layout as Layout
 use Rattle.semantics.specs.Layout.{placeLine, place}
 use Rattle.lines.specs.Lines.{readAt, nodesIn}
-use Rattle.checks.specs.Checks.{Checked}
+use Rattle.checks.specs.Checks.{Checked, KindLine}
 use Rattle.sizes.specs.declared.place.Reached.{Reached}
 use Rattle.sizes.specs.declared.place.Refs.{Refs}
 
@@ -23,11 +23,8 @@ abbrev pub fdAt : Bytes → ℕ → Fd
 fdAt s r = nodeAt (nodesIn s) r .fd
 
 -- line r of a checked sheet is an `fd` line, 70
-pub record FieldLine (s t : Bytes) (n r : ℕ) : Type 0 where
-  pub checked : Checked s t n
-  pub first : 0 < r
-  pub last : r ≤ n
-  pub kind : letter (readAt s (r - 1) .form .kind) ≡ 70
+abbrev pub FieldLine : Bytes → Bytes → ℕ → ℕ → Type 0
+FieldLine s t n r = KindLine 70 s t n r
 
 -- what `count` fields of line r from field `from` on refer to
 abbrev pub fdsFrom : Bytes → ℕ → ℕ → ℕ → List Fd
@@ -66,11 +63,8 @@ abbrev pub caseFields : Bytes → ℕ → List Fd
 caseFields s r = nodeAt (nodesIn s) r .case .fields
 
 -- line r of a checked sheet is a `pc` line, 67
-pub record CaseLine (s t : Bytes) (n r : ℕ) : Type 0 where
-  pub checked : Checked s t n
-  pub first : 0 < r
-  pub last : r ≤ n
-  pub kind : letter (readAt s (r - 1) .form .kind) ≡ 67
+abbrev pub CaseLine : Bytes → Bytes → ℕ → ℕ → Type 0
+CaseLine s t n r = KindLine 67 s t n r
 
 -- from p to q by one line
 pub record LinePlaced (t : Option Ty) (ns : List Bytes) (p q : Reached) : Type 0 where

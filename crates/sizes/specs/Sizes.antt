@@ -1,14 +1,14 @@
 -- The types of a checked sheet's lines, and what is measured of them.
-use Prim.Native.Nat.{ℕ, _-_, _≤_, _<_}
+use Prim.Native.Nat.{ℕ, _-_, _≤_}
 use mathlib.Core.Path.{_≡_}
 use mathlib.Core.Bool.{Bool, _||_}
 use lib.Dec.{eqb}
 use Rattle.semantics.specs.Text.{Bytes}
 use Rattle.semantics.specs.Tree.{Ty}
-use Rattle.semantics.specs.Form.{letter, nodeAt}
+use Rattle.semantics.specs.Form.{nodeAt}
 use Rattle.semantics.specs.Layout.{sizeOf, alignOf}
-use Rattle.lines.specs.Lines.{readAt, nodesIn, formAt}
-use Rattle.checks.specs.Checks.{Checked}
+use Rattle.lines.specs.Lines.{nodesIn, formAt}
+use Rattle.checks.specs.Checks.{KindLine}
 
 -- form 2 is big, and 3 real
 abbrev pub isLong : ℕ → Bool
@@ -19,11 +19,8 @@ abbrev pub typeAt : Bytes → ℕ → Ty
 typeAt s r = nodeAt (nodesIn s) r .ty
 
 -- line r of a checked sheet is a `ty` line, 75
-pub record TypeLine (s t : Bytes) (n r : ℕ) : Type 0 where
-  pub checked : Checked s t n
-  pub first : 0 < r
-  pub last : r ≤ n
-  pub kind : letter (readAt s (r - 1) .form .kind) ≡ 75
+abbrev pub TypeLine : Bytes → Bytes → ℕ → ℕ → Type 0
+TypeLine s t n r = KindLine 75 s t n r
 
 -- and a tuple's
 pub record TupleLine (s t : Bytes) (n r : ℕ) : Type 0 where

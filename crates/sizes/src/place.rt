@@ -29,7 +29,7 @@ pub fn common_refs(sheet: &[u8], work: &[u8], n: usize, r: usize) -> Refs
     Refs {
         line: r,
         from: 2,
-        count: count,
+        count,
     }
 }
 
@@ -43,7 +43,7 @@ pub fn case_refs(sheet: &[u8], work: &[u8], n: usize, r: usize) -> Refs
     Refs {
         line: r,
         from: at + 1,
-        count: count,
+        count,
     }
 }
 
@@ -68,7 +68,7 @@ fn place_line(p: Reached, x: SizeAlign, pointer: bool, names: usize) -> Reached
 }
 
 // Behind the `fd` line r. An untyped one is skipped.
-pub fn place_field(sheet: &[u8], work: &[u8], n: usize, r: usize, p: Reached) -> Reached
+fn place_field(sheet: &[u8], work: &[u8], n: usize, r: usize, p: Reached) -> Reached
     requires { ⌜ (FieldLine (now sheet) (now work) n r) × (p .end ≤ 4500000) ⌝ }
     ensures { λ q. ⌜ (LinePlaced (fdAt (now (sheet .entry)) r .ty) (fdAt (now (sheet .entry)) r .names) p q) × (q .end ≤ p .end + 131080) ⌝ }
 {

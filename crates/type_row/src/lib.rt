@@ -36,10 +36,7 @@ pub fn put_type(work: &[u8], size: u32, out: &mut [u8], p: Spot) -> Spot
     at = rows::put_comma_nat(out, at, maps::map_ones(work, size) as u64);
     at = rows::put_comma_hex(out, at, &work[area::MAP..end]);
     at = rows::put_lf(out, at);
-    Spot {
-        at: at,
-        id: p.id + 1,
-    }
+    Spot { at, id: p.id + 1 }
 }
 
 // ---- blocks that begin with pointers

@@ -36,7 +36,7 @@ fn opaque_rows(work: &mut [u8], out: &mut [u8], at: usize) -> Spot
     requires { ⌜ 65536 ≤ length (now work) ⌝ }
     ensures { λ q. ⌜ Wrotes (opaqueShape ∷ opaqueShape ∷ []) (record { at = at; id = 0 }) q (now (work .entry)) (now (work .exit)) (now (out .entry)) (now (out .exit)) ⌝ }
 {
-    let p = type_row::put_opaque(work, out, Spot { at: at, id: 0 });
+    let p = type_row::put_opaque(work, out, Spot { at, id: 0 });
     type_row::put_opaque(work, out, p)
 }
 

@@ -5,6 +5,7 @@ use mathlib.Core.Option.{none, some}
 use Prim.Native.Nat.{ℕ, zero, suc, _-_, _<_}
 use native.Mathlib.Omega.{arith}
 use lib.ListN.{getD}
+use Rattle.checks.specs.Checks.{KindLine}
 use Rattle.semantics.specs.Text.{Bytes}
 use Rattle.semantics.specs.Tree.{Node, elemOf}
 use Rattle.semantics.specs.Form.{forms, numberOf, nodeAt, perhapsAt, exOf}
@@ -12,15 +13,11 @@ use Rattle.semantics.specs.Form.Kind.{kTy}
 use Rattle.decimal.specs.Number as Number
 use Rattle.form.specs.Table.{rowNode}
 use Rattle.lines.specs.Lines.{readsIn, readAt, nodesIn, formAt}
-use Rattle.checks.proofs.Kept.{checked-kept}
 use Rattle.names.specs.Table.{ConstsLogged}
-use Rattle.placements.specs.Placements.{Keeps}
 use Rattle.sizes.specs.Sizes.{typeAt, TypeLine}
 use Rattle.sizes.proofs.Types.{ref-head}
 use Rattle.leaf.specs.Folds.{exAt, Foldable}
-use Rattle.literals.specs.Literals.{Line}
 use Rattle.sizes.proofs.Forms.{type-form}
-use Rattle.literals.proofs.Names.{kept-low}
 use Rattle.literals.proofs.Lines.{line-form, parts-at, makes, good-line, may-line}
 use Rattle.literals.proofs.Selectors.{foldable}
 use Rattle.arrays.specs.Arrays.{typeOf}
@@ -47,20 +44,14 @@ value-given : (ns : List Node) (r : ℕ) → (r ≡ 0 → ⊥) → exOf (perhaps
 value-given ns zero h = absurd (h refl)
 value-given ns (suc r) h = refl
 
-pub var-kept : {s t u : Bytes} {n r : ℕ} → Keeps 16384 49152 t u → VarLine s t n r → VarLine s u n r
-var-kept k l = record { checked = checked-kept (kept-low k 3072 (omega arith)) (l .checked); first = l .first; last = l .last; kind = l .kind }
-
 module _ {s t : Bytes} {n r : ℕ} (l : VarLine s t n r) where
-  line : Line 72 s t n r
-  line = record { checked = l .checked; first = l .first; last = l .last; kind = l .kind }
-
   -- ---- the type
 
   module _ {ty : ℕ} (ht : ty ≡ Number.numberUpTo 65536 (getD (readAt s (r - 1) .fields) 0 [])) where
-    type-ref : (ty ≡ numberOf (getD (readAt s (r - 1) .fields) 0 [])) × Line 75 s t n ty
-    type-ref = good-line line 75 (getD (readAt s (r - 1) .fields) 0 []) ty ht (parts-good s t n r l .0)
+    type-ref : (ty ≡ numberOf (getD (readAt s (r - 1) .fields) 0 [])) × KindLine 75 s t n ty
+    type-ref = good-line l 75 (getD (readAt s (r - 1) .fields) 0 []) ty ht (parts-good s t n r l .0)
 
-    pub type-line : Line 75 s t n ty
+    pub type-line : KindLine 75 s t n ty
     type-line = type-ref .1
 
     type-is : varOn s r .ty ≡ typeAt s ty
@@ -74,14 +65,14 @@ module _ {s t : Bytes} {n r : ℕ} (l : VarLine s t n r) where
           ∙ ap (λ (x : Node). elemOf (x .ty)) (sym (makes type-line (sym hf))) ∙ ap elemOf (sym type-is)
 
       module _ (e : f ≡ 6) {d : ℕ} (hd : d ≡ Number.numberUpTo 65536 (getD (readAt s (ty - 1) .fields) 0 [])) where
-        element-ref : (d ≡ numberOf (getD (readAt s (ty - 1) .fields) 0 [])) × Line 75 s t n d
+        element-ref : (d ≡ numberOf (getD (readAt s (ty - 1) .fields) 0 [])) × KindLine 75 s t n d
         unfolding forms
         element-ref =
             let w = parts-at type-line (sym hf ∙ e) in
             good-line type-line 75 (getD (readAt s (ty - 1) .fields) 0 []) d hd (ref-head (readsIn s) (ty - 1) kTy [] (readAt s (ty - 1) .fields) (w .0) (w .1) .0)
 
         pub element-line : TypeLine s t n d
-        element-line = let q = element-ref .1 in record { checked = q .checked; first = q .first; last = q .last; kind = q .kind }
+        element-line = element-ref .1
 
         pub element-some : typeOf s d ≡ elemOf (varOn s r .ty)
         unfolding forms
@@ -92,14 +83,14 @@ module _ {s t : Bytes} {n r : ℕ} (l : VarLine s t n r) where
   -- ---- the value
 
   module _ {q : ℕ} (hq : q ≡ Number.numberUpTo 65536 (getD (readAt s (r - 1) .fields) 1 [])) where
-    value-ref : (q ≡ numberOf (getD (readAt s (r - 1) .fields) 1 [])) × ((q ≡ 0 → ⊥) → Line 69 s t n q)
-    value-ref = may-line line 69 (getD (readAt s (r - 1) .fields) 1 []) q hq (parts-good s t n r l .1)
+    value-ref : (q ≡ numberOf (getD (readAt s (r - 1) .fields) 1 [])) × ((q ≡ 0 → ⊥) → KindLine 69 s t n q)
+    value-ref = may-line l 69 (getD (readAt s (r - 1) .fields) 1 []) q hq (parts-good s t n r l .1)
 
     pub init-none : q ≡ 0 → varOn s r .init ≡ none
     init-none z = rw (sym (value-ref .0) ∙ z)
 
     module _ (z : q ≡ 0 → ⊥) where
-      pub value-line : Line 69 s t n q
+      pub value-line : KindLine 69 s t n q
       value-line = value-ref .1 z
 
       pub value-foldable : {m : ℕ} → ConstsLogged s t n m → Foldable s t n m q 49152

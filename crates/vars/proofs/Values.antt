@@ -34,7 +34,7 @@ use Rattle.global_table.specs.Table.{VarLine, namesOn}
 use Rattle.vars.specs.declared.First.{First}
 use Rattle.vars.specs.declared.First.the-variants.{NoValue, Value, Alloc, Literal, Pending, Refused}
 use Rattle.vars.specs.First.{initIn, FirstStands, Inits, varOn, Valued, plainInit, orPending}
-use Rattle.vars.proofs.Lines.{var-kept, init-none, init-some, value-line}
+use Rattle.vars.proofs.Lines.{init-none, init-some, value-line}
 
 -- ---- arrays
 
@@ -114,7 +114,7 @@ module _ {s t : Bytes} {n r : ℕ} (l : VarLine s t n r) {q : ℕ} (hq : q ≡ N
       plain-failed = record { result = sym (rw (init-some l hq z, folded, d)); stands = tt; keeps = keeps-fold }
 
       pub array-task : (Valued s u n r q) × (ConstsLogged s u n m)
-      array-task = (record { line = var-kept keeps-fold l; value = line-kept keeps-fold (value-line l hq z) }, logged-kept keeps-fold o)
+      array-task = (record { line = line-kept keeps-fold l; value = line-kept keeps-fold (value-line l hq z) }, logged-kept keeps-fold o)
 
       pub first-array : {y : First} {w : Bytes} → Inits u (arrayValue (constArray (namesIn s u m) (elemOf (varOn s r .ty)) (exAt s q))) y w → Inits t (initOf (namesIn s t m) (varOn s r .ty) (varOn s r .init)) y w
       unfolding resultIn

@@ -3,6 +3,7 @@ use Prim.Native.Nat.{ℕ, _-_}
 use mathlib.Core.Path.{_≡_}
 use mathlib.Core.List.{[]}
 use mathlib.Core.Option.{Option, none, some}
+use Rattle.checks.specs.Checks.{KindLine}
 use Rattle.semantics.specs.Text.{Bytes}
 use Rattle.semantics.specs.Tree as Tree
 use Rattle.semantics.specs.Tree.{Ex, VarDecl}
@@ -14,7 +15,6 @@ use Rattle.source.specs.Walk.{varOf}
 use Rattle.values.specs.declared.ConstVal.{ConstVal}
 use Rattle.values.specs.Values.{valueIn, At}
 use Rattle.placements.specs.Placements.{valuesIn, Keeps}
-use Rattle.literals.specs.Literals.{Line}
 use Rattle.global_table.specs.Table.{VarLine}
 use Rattle.arrays.specs.Arrays.{kindOfNumber, ValuesStand}
 use Rattle.vars.specs.declared.First.{First}
@@ -55,7 +55,7 @@ varOn s r = varOf (nodesIn s) (readAt s (r - 1) .fields)
 -- line r is a `var` line, and has its value in line q, 69
 pub record Valued (s t : Bytes) (n r q : ℕ) : Type 0 where
   pub line : VarLine s t n r
-  pub value : Line 69 s t n q
+  pub value : KindLine 69 s t n q
 
 -- a value that is folded where no name is laid out
 abbrev pub plainInit : Names → Option Ex → Result Init

@@ -3,7 +3,7 @@ use Rattle.data_rows.proofs.Walk.{none-laid, line-task, line-items}
 use Rattle.global_table.specs.Table.{placesIn}
 use Rattle.literals.specs.Literals.{namesIn}
 use denote.Ref.{now}
-use Rattle.vars.proofs.Lines.{var-kept}
+use Rattle.literals.proofs.Names.{line-kept}
 use borrow.Author.Needs.{needs}
 use Rattle.data_rows.proofs.line_rows.Statement.{statement}
 use Rattle.data_rows.proofs.line_rows.Tie as tie
@@ -15,10 +15,10 @@ first-value-requires : tie.Need-first-value-requires
 first-value-requires c κs = (c .before .before .before .before .before .pre .1 (c .before .if1 .left), c .before .before .before .before .before .pre .0 .log)
 
 is-big-requires : tie.Need-is-big-requires
-is-big-requires c κs = var-kept (c .before .before .before .first-value .ensures .keeps) (c .before .before .before .before .before .before .before .before .before .pre .1 (c .before .before .before .before .before .if1 .left))
+is-big-requires c κs = line-kept (c .before .before .before .first-value .ensures .keeps) (c .before .before .before .before .before .before .before .before .before .pre .1 (c .before .before .before .before .before .if1 .left))
 
 names-rows-requires : tie.Need-names-rows-requires
-names-rows-requires c κs = (line-task (c .before .before .before .before .before .before .before .before .before .before .before .before .pre .0) (c .before .before .before .before .before .before .before .before .before .before .before .before .pre .1 (c .before .before .before .before .before .before .before .before .if1 .left)) (c .before .before .before .before .before .before .first-value .ensures), var-kept (c .before .before .before .before .before .before .first-value .ensures .keeps) (c .before .before .before .before .before .before .before .before .before .before .before .before .pre .1 (c .before .before .before .before .before .before .before .before .if1 .left)), c .before .before .is-big .ensures)
+names-rows-requires c κs = (line-task (c .before .before .before .before .before .before .before .before .before .before .before .before .pre .0) (c .before .before .before .before .before .before .before .before .before .before .before .before .pre .1 (c .before .before .before .before .before .before .before .before .if1 .left)) (c .before .before .before .before .before .before .first-value .ensures), line-kept (c .before .before .before .before .before .before .first-value .ensures .keeps) (c .before .before .before .before .before .before .before .before .before .before .before .before .pre .1 (c .before .before .before .before .before .before .before .before .if1 .left)), c .before .before .is-big .ensures)
 
 returns-2 : tie.Need-returns-2
 returns-2 c = line-items (c .before .before .before .before .before .before .before .before .before .before .before .before .before .before .before .before .before .pre .0) (c .before .before .before .before .before .before .before .before .before .before .before .before .before .before .before .before .before .pre .1 (c .before .before .before .before .before .before .before .before .before .before .before .before .before .if1 .left)) (c .before .before .before .before .before .before .before .before .before .before .before .first-value .ensures) (c .before .before .before .before .names-rows .ensures)

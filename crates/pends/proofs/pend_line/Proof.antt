@@ -1,6 +1,6 @@
 -- `pends::pend_line` meets its contract.
 use Rattle.pends.proofs.Rows.{line-pending, line-refused, quiet-none, quiet-value, quiet-alloc, quiet-literal}
-use Rattle.vars.proofs.Lines.{var-kept}
+use Rattle.literals.proofs.Names.{line-kept}
 use Rattle.pends.proofs.Walk.{none-laid}
 use Rattle.placements.proofs.Same.{keeps-all}
 use Rattle.vars.specs.First.{initIn}
@@ -14,7 +14,7 @@ var-value-requires : tie.Need-var-value-requires
 var-value-requires c κs = (c .before .before .before .before .before .pre .0 (c .before .if1 .left), c .before .before .before .before .before .pre .1)
 
 pend-names-requires : tie.Need-pend-names-requires
-pend-names-requires c κs = var-kept (c .before .before .before .before .before .before .var-value .ensures .keeps) (c .before .before .before .before .before .before .before .before .before .before .before .before .pre .0 (c .before .before .before .before .before .before .before .before .if1 .left))
+pend-names-requires c κs = line-kept (c .before .before .before .before .before .before .var-value .ensures .keeps) (c .before .before .before .before .before .before .before .before .before .before .before .before .pre .0 (c .before .before .before .before .before .before .before .before .if1 .left))
 
 returns : tie.Need-returns
 returns c = (none-laid _ (now (c .before .before .before .before .before .before .args .sheet)) (c .before .before .if1 .taken) (c .nothing .ensures), keeps-all)
