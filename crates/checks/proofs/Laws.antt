@@ -8,7 +8,7 @@ use native.Mathlib.Omega.{arith}
 use lib.ListN.{length, getD, length-append, length-map, length-replicate}
 use borrow.Author.Tests.{lt-ltb, le-ltb, ne-eqb}
 use Rattle.semantics.specs.Text.{lineParts}
-use Rattle.semantics.specs.Refusal.{Outcome, refused, zeros, noCounts, badForm, badRefFrom, tooDeepFrom, badModuleFrom, tooManyFrom, checked, worked, compiled}
+use Rattle.semantics.specs.Refusal.{Outcome, refused, zeros, noCounts, badForm, badRefFrom, tooDeepFrom, badModuleFrom, tooManyFrom, ruled, checked, tested, worked, compiled}
 use Rattle.semantics.specs.Tree.{Declares, Node}
 use Rattle.semantics.specs.Sheet.{Module, Located, openAfter, locatedFrom, declared, sheetSource}
 use Rattle.semantics.proofs.Common.{zeros-at}
@@ -22,7 +22,7 @@ use Rattle.nesting.proofs.Depths.{depth-low, refs-lower}
 use Rattle.counts.proofs.Bounds.{within-bounds}
 use Rattle.checks.specs.declared.Checks.{Checks}
 use Rattle.checks.specs.declared.Checks.the-variants.{Lines}
-use Rattle.checks.specs.Checks.{settled, ruled, tested, Checked, PassesChecks}
+use Rattle.checks.specs.Checks.{settled, Checked, PassesChecks}
 
 -- ---- zeros
 
@@ -37,23 +37,23 @@ unused t u z a i h = a (3072 + i) (omega arith) ∙ ap (λ (l : List ℕ). getD 
 -- ---- refusals 4 to 7
 
 module _ (s : List ℕ) where
-  pub ruled-4 : {a : ℕ} → a ≡ badRefFrom (readsIn s) 1 [] (readsIn s) → (a ≡ 0 → ⊥) → (o : Outcome) → ruled s o ≡ refused 4 a
+  pub ruled-4 : {a : ℕ} → a ≡ badRefFrom (readsIn s) 1 [] (readsIn s) → (a ≡ 0 → ⊥) → (o : Outcome) → ruled (readsIn s) o ≡ refused 4 a
   ruled-4 {a} e n o = rw (← e, ne-eqb a 0 n)
 
   module _ {a : ℕ} (ha : a ≡ badRefFrom (readsIn s) 1 [] (readsIn s)) (a0 : a ≡ 0) where
-    pub ruled-5 : {b : ℕ} → b ≡ tooDeepFrom 1 [] (readsIn s) → (b ≡ 0 → ⊥) → (o : Outcome) → ruled s o ≡ refused 5 b
+    pub ruled-5 : {b : ℕ} → b ≡ tooDeepFrom 1 [] (readsIn s) → (b ≡ 0 → ⊥) → (o : Outcome) → ruled (readsIn s) o ≡ refused 5 b
     ruled-5 {b} e n o = rw (sym ha ∙ a0, ← e, ne-eqb b 0 n)
 
     module _ {b : ℕ} (hb : b ≡ tooDeepFrom 1 [] (readsIn s)) (b0 : b ≡ 0) where
-      pub ruled-6 : {c : ℕ} → c ≡ badModuleFrom 1 false (readsIn s) → (c ≡ 0 → ⊥) → (o : Outcome) → ruled s o ≡ refused 6 c
+      pub ruled-6 : {c : ℕ} → c ≡ badModuleFrom 1 false (readsIn s) → (c ≡ 0 → ⊥) → (o : Outcome) → ruled (readsIn s) o ≡ refused 6 c
       ruled-6 {c} e n o = rw (sym ha ∙ a0, sym hb ∙ b0, ← e, ne-eqb c 0 n)
 
       module _ {c : ℕ} (hc : c ≡ badModuleFrom 1 false (readsIn s)) (c0 : c ≡ 0) where
-        pub ruled-7 : {d : ℕ} → d ≡ tooManyFrom 1 noCounts (nodesIn s) → (d ≡ 0 → ⊥) → (o : Outcome) → ruled s o ≡ refused 7 d
+        pub ruled-7 : {d : ℕ} → d ≡ tooManyFrom 1 noCounts (nodesIn s) → (d ≡ 0 → ⊥) → (o : Outcome) → ruled (readsIn s) o ≡ refused 7 d
         ruled-7 {d} e n o = rw (sym ha ∙ a0, sym hb ∙ b0, sym hc ∙ c0, ← e, ne-eqb d 0 n)
 
         module _ {d : ℕ} (hd : d ≡ tooManyFrom 1 noCounts (nodesIn s)) (d0 : d ≡ 0) where
-          pub ruled-well : (o : Outcome) → ruled s o ≡ o
+          pub ruled-well : (o : Outcome) → ruled (readsIn s) o ≡ o
           ruled-well o = rw (sym ha ∙ a0, sym hb ∙ b0, sym hc ∙ c0, sym hd ∙ d0)
 
           pub all-checked : (t : List ℕ) (n : ℕ) → Whole s t n → Checked s t n
@@ -79,7 +79,7 @@ passed-none s t r k e p = subst (λ (x : Formed). Passed s t x) e p
 pub formless : (s : List ℕ) (k : ℕ) → (badForm 1 (lineParts s) ≡ k) × (0 < k) → (o : Outcome) → checked (lineParts s) o ≡ refused 3 k
 formless s k p o = rw (p .0, ne-eqb k 0 (λ q. omega (arith, p .1)))
 
-pub formed-well : (s : List ℕ) (r : Checks) → badForm 1 (lineParts s) ≡ 0 → ((o : Outcome) → ruled s o ≡ settled r o) → (o : Outcome) → checked (lineParts s) o ≡ settled r o
+pub formed-well : (s : List ℕ) (r : Checks) → badForm 1 (lineParts s) ≡ 0 → ((o : Outcome) → ruled (readsIn s) o ≡ settled r o) → (o : Outcome) → checked (lineParts s) o ≡ settled r o
 formed-well s r e h o = rw e (h o)
 
 -- ---- 1 and 2 before all

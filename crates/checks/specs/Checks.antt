@@ -3,11 +3,10 @@ use Prim.Native.Nat.{ℕ, _-_, _≤_, _<_}
 use mathlib.Core.Path.{_≡_}
 use mathlib.Core.Bool.{true, false}
 use mathlib.Core.List.{[]}
-use lib.ListN.{length, take}
-use lib.Dec.{ltb}
-use Rattle.semantics.specs.Text.{Bytes, lineParts}
+use lib.ListN.{length, take, drop}
+use Rattle.semantics.specs.Text.{Bytes}
 use Rattle.semantics.specs.Form.{letter}
-use Rattle.semantics.specs.Refusal.{Outcome, refused, refuseIf, refuseAt, longestSheet, leastWork, zeros, noCounts, refsOf, badRefFrom, tooDeepFrom, badModuleFrom, tooManyFrom, checked}
+use Rattle.semantics.specs.Refusal.{Outcome, refused, zeros, refsOf, badRefFrom, badModuleFrom}
 use Rattle.lines.specs.Lines.{readsIn, readAt, nodesIn, Whole}
 use Rattle.refs.specs.Refs.{fineRefs, usesIn}
 use Rattle.nesting.specs.Nesting.{depthOf, lowerRefs}
@@ -19,18 +18,6 @@ use Rattle.checks.specs.declared.Checks.the-variants.{Lines, Refused}
 abbrev pub settled : Checks → Outcome → Outcome
 settled (Lines n) o = o
 settled (Refused r k) o = refused r k
-
--- refusals 4 to 7
-abbrev pub ruled : Bytes → Outcome → Outcome
-ruled s o =
-    refuseAt 4 (badRefFrom (readsIn s) 1 [] (readsIn s))
-    (refuseAt 5 (tooDeepFrom 1 [] (readsIn s))
-    (refuseAt 6 (badModuleFrom 1 false (readsIn s))
-    (refuseAt 7 (tooManyFrom 1 noCounts (nodesIn s)) o)))
-
--- and 1 and 2 before them, where the working space has so many bytes
-abbrev pub tested : ℕ → Bytes → Outcome → Outcome
-tested work s o = refuseIf 1 (ltb longestSheet (length s)) (refuseIf 2 (ltb work leastWork) (checked (lineParts s) o))
 
 -- what holds of a sheet of n lines that passes, with its tables
 pub record Checked (s t : Bytes) (n : ℕ) : Type 0 where
@@ -54,6 +41,11 @@ pub record KindLine (k : ℕ) (s t : Bytes) (n r : ℕ) : Type 0 where
 pub record Kept (k : ℕ) (t u : Bytes) : Type 0 where
   pub below : take k u ≡ take k t
   pub long : length u ≡ length t
+
+-- u is as long as t and holds the same bytes but from a up to b
+pub record Outside (a b : ℕ) (t u : Bytes) : Type 0 where
+  pub kept : Kept a t u
+  pub above : drop b u ≡ drop b t
 
 -- the tables of a sheet that passes, and zeros where it is refused
 abbrev pub CheckedTables : Bytes → Bytes → Checks → Type 0

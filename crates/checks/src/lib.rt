@@ -4,14 +4,14 @@ ghost use mathlib.Core.List.{[]};
 ghost use Prim.Native.Nat.{_≤_};
 ghost use lib.ListN.{length};
 ghost use Rattle.semantics.specs.Text.{lineParts};
-ghost use Rattle.semantics.specs.Refusal.{Outcome, zeros, checked};
-ghost use Rattle.lines.specs.Lines.{Whole};
+ghost use Rattle.semantics.specs.Refusal.{Outcome, ruled, checked, tested, zeros};
+ghost use Rattle.lines.specs.Lines.{readsIn, Whole};
 ghost use Rattle.refs.specs.Refs.{Used};
-ghost use Rattle.checks.specs.Checks.{settled, ruled, tested, CheckedTables, PassesChecks};
+ghost use Rattle.checks.specs.Checks.{settled, CheckedTables, PassesChecks};
 
-const LONGEST: usize = 65535;
+const LONGEST_SHEET: usize = 65535;
 
-const LEAST: usize = 65536;
+const LEAST_WORK: usize = 65536;
 
 // The number of lines, or a refusal's number and line.
 pub enum Checks {
@@ -22,7 +22,7 @@ pub enum Checks {
 // Refusals 4 to 7, where all n lines have a form and none is used.
 fn rules(sheet: &[u8], work: &mut [u8], n: usize) -> Checks
     requires { ⌜ (Whole (now sheet) (now work) n) × (Used (now work) []) ⌝ }
-    ensures { λ r. ⌜ ((o : Outcome) → ruled (now (sheet .entry)) o ≡ settled r o) × (PassesChecks (now (sheet .entry)) (now (work .exit)) r) ⌝ }
+    ensures { λ r. ⌜ ((o : Outcome) → ruled (readsIn (now (sheet .entry))) o ≡ settled r o) × (PassesChecks (now (sheet .entry)) (now (work .exit)) r) ⌝ }
 {
     let a = refs::bad_ref(sheet, work, n);
     if a != 0 {
@@ -59,10 +59,10 @@ pub fn check(sheet: &[u8], work: &mut [u8]) -> Checks
     ensures { λ r. ⌜ ((o : Outcome) → tested (length (now (work .entry))) (now (sheet .entry)) o ≡ settled r o) × (CheckedTables (now (sheet .entry)) (now (work .exit)) r) ⌝ }
 {
     write::zero(work);
-    if LONGEST < sheet.len() {
+    if LONGEST_SHEET < sheet.len() {
         return Checks::Refused(1, 0);
     }
-    if work.len() < LEAST {
+    if work.len() < LEAST_WORK {
         return Checks::Refused(2, 0);
     }
     match passes(sheet, work) {

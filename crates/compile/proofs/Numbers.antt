@@ -30,8 +30,7 @@ use Rattle.semantics.specs.Fold.{Result, bind, fromOption, toReal, valueOf, loo
 use Rattle.semantics.specs.Fold.Result.{ok, failed, refuse}
 use Rattle.semantics.specs.Array.{Filled, elemKind, outside, ConstArray, noneFilled, placeIndices, placeSpans, asInt, indexOf, highOf, spanOf, spansOf, fillElement, fill, asSize, literalSize, allocated, arrayOf, constArray}
 use Rattle.semantics.specs.Global.{varValue, initOf, firstValue, laidNames, noneOf, refusedBy, varsRefused}
-use Rattle.semantics.specs.Refusal.{Outcome, listed, refused, refuseIf, refuseAt, noCounts, badForm, badRefFrom, tooDeepFrom, badModuleFrom, tooManyFrom}
-use Rattle.checks.specs.Checks.{tested}
+use Rattle.semantics.specs.Refusal.{Outcome, listed, refused, refuseIf, refuseAt, noCounts, badForm, badRefFrom, tooDeepFrom, badModuleFrom, tooManyFrom, tested}
 use Rattle.answers.specs.Answers.{RefusalAt}
 
 -- a refusal while the work goes on

@@ -6,8 +6,8 @@ use lib.ListN.{length, take}
 use lib.Seq.{take-at}
 use Rattle.semantics.specs.Text.{Bytes}
 use Rattle.semantics.specs.Sheet.{sheetSource}
-use Rattle.semantics.specs.Refusal.{Outcome, listed, zeros, padded, listingBytes, worked, compiled, sourceListing}
-use Rattle.checks.specs.Checks.{settled, tested, Checked, CheckedTables}
+use Rattle.semantics.specs.Refusal.{Outcome, listed, zeros, padded, listingBytes, tested, worked, compiled, sourceListing}
+use Rattle.checks.specs.Checks.{settled, Checked, CheckedTables}
 use Rattle.checks.specs.declared.Checks.{Checks}
 use Rattle.checks.specs.declared.Checks.the-variants as Answer
 use Rattle.checks.proofs.Laws.{compiled-by}

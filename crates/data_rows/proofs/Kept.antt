@@ -4,8 +4,8 @@ use Prim.Native.Nat.{ℕ, zero, suc, _+_, _/_, _%_, _≤_, _<_}
 use native.Mathlib.Omega.{arith}
 use lib.ListN.{length}
 use Rattle.semantics.specs.Text.{Bytes}
-use Rattle.checks.specs.Checks.{Checked}
-use Rattle.checks.proofs.Kept.{kept-all, kept-then, kept-less, checked-kept, kind-kept}
+use Rattle.checks.specs.Checks.{Checked, Outside}
+use Rattle.checks.proofs.Kept.{kept-all, kept-then, kept-less, checked-kept, kind-line-kept, outside-above}
 use Rattle.names.specs.Table.{bitsOf, logIn, ConstsLogged}
 use Rattle.names.proofs.Laws.{logged-same, log-same}
 use Rattle.values.specs.declared.ConstVal.{ConstVal}
@@ -18,8 +18,6 @@ use Rattle.literals.proofs.Names.{kept-low}
 use Rattle.global_table.specs.Table.{VarLine, placesIn, Tabled}
 use Rattle.global_table.proofs.Table.{places-kept, tabled-kept}
 use Rattle.items.specs.Items.{LiteralIn}
-use Rattle.type_keys.specs.Table.{Outside}
-use Rattle.type_keys.proofs.Table.{outside-above}
 use Rattle.vars.specs.declared.First.{First}
 use Rattle.vars.specs.declared.First.the-variants as First
 use Rattle.vars.specs.First.{initIn, FirstStands}
@@ -45,7 +43,7 @@ module _ {t u : Bytes} (k : Keeping t u) where
   checked-still c = checked-kept (kept-less (omega arith) (k .below)) c
 
   pub var-still : {s : Bytes} {n r : ℕ} → VarLine s t n r → VarLine s u n r
-  var-still l = kind-kept (kept-less (omega arith) (k .below)) l
+  var-still l = kind-line-kept (kept-less (omega arith) (k .below)) l
 
   pub tabled-still : {s : Bytes} {n g : ℕ} → Tabled s t n g → Tabled s u n g
   tabled-still d = tabled-kept (kept-less (omega arith) (k .below)) d

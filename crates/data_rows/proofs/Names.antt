@@ -17,8 +17,9 @@ use Rattle.lines.specs.Lines.{readAt}
 use Rattle.placements.specs.Placements.{Keeps}
 use Rattle.literals.proofs.Names.{kept-low}
 use Rattle.global_table.specs.Table.{VarLine, placesIn, offsetIn, typeOn, nameOn, namesOn}
-use Rattle.type_keys.specs.Table.{Outside}
-use Rattle.type_keys.proofs.Table.{outside-all, outside-then, kinds-kept}
+use Rattle.checks.specs.Checks.{Outside}
+use Rattle.checks.proofs.Kept.{outside-all, outside-then}
+use Rattle.type_keys.proofs.Table.{kinds-kept}
 use Rattle.vars.specs.declared.First.{First}
 use Rattle.vars.specs.First.{initIn}
 use Rattle.vars.proofs.Names.{namesFrom, names-step, names-over, names-all}

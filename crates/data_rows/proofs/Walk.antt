@@ -15,7 +15,7 @@ use Rattle.semantics.specs.Listing.{itemRow}
 use Rattle.laws.proofs.Lists.{concat-append}
 use Rattle.write.specs.Wrote.{Wrote}
 use Rattle.write.proofs.Wrote.{wrote-none, wrote-length}
-use Rattle.checks.specs.Checks.{Kept}
+use Rattle.checks.specs.Checks.{Kept, Outside}
 use Rattle.source.specs.Walk.{openAt}
 use Rattle.implement.specs.Modules.{moduleAt, Open}
 use Rattle.names.specs.Table.{logIn}
@@ -24,7 +24,7 @@ use Rattle.literals.proofs.Names.{kept-low}
 use Rattle.global_table.specs.Table.{VarLine, placesIn, typeOn, namesOn}
 use Rattle.globals.specs.Vars.{locatedAt, laidAt, laidVarsTo, varItems, lineItems}
 use Rattle.items.specs.Items.{itemRows}
-use Rattle.type_keys.specs.Table.{Kinds, Outside}
+use Rattle.type_keys.specs.Table.{Kinds}
 use Rattle.type_keys.proofs.Table.{kinds-kept}
 use Rattle.vars.specs.declared.First.{First}
 use Rattle.vars.specs.First.{initIn, Inits, varOn}

@@ -31,7 +31,7 @@ round = bytes "impl,Round\nty,string\nty,big\nfd,2,1,tag\nfd,3,1,at\nadt,Scan,2,
 
 round-found : EveryByte (sheetSource round) (0 ∷ 0 ∷ 0 ∷ 1 ∷ []) (0 ∷ 0 ∷ 0 ∷ 7 ∷ replicate 8 0)
 unfolding computed
-round-found = demand programBuffers round (0 ∷ 0 ∷ 0 ∷ 1 ∷ []) (0 ∷ 0 ∷ 0 ∷ 7 ∷ replicate 8 0) refl .bytes refl refl
+round-found = demand programBuffers round (0 ∷ 0 ∷ 0 ∷ 1 ∷ []) (0 ∷ 0 ∷ 0 ∷ 7 ∷ replicate 8 0) refl .everyByte refl refl
 
 -- a byte array of 3, an int, a string for two names, an array of 3 strings the second of which is a number, a big, an `alloc`,
 -- an array of bigs with a wildcard, a real
@@ -83,9 +83,9 @@ cleared xs n = take n xs ++ replicate (length xs - n) 0
 -- an image of zeros: byte 3 is that of the handle of a
 pub no-zero-image : WholeImage many (cleared image 0) area → ⊥
 unfolding computed
-no-zero-image w = let h = w .bytes refl refl .imageBytes 3 in absurd (omega (arith, h))
+no-zero-image w = let h = w .everyByte refl refl .imageAt 3 in absurd (omega (arith, h))
 
 -- an area whose first array is filled and whose others are skipped: byte 11 is that of the handle of the first string of u
 pub no-first-array-only : WholeImage many image (cleared area 8) → ⊥
 unfolding computed
-no-first-array-only w = let h = w .bytes refl refl .areaBytes 11 in absurd (omega (arith, h))
+no-first-array-only w = let h = w .everyByte refl refl .areaAt 11 in absurd (omega (arith, h))

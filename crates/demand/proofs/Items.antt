@@ -35,15 +35,15 @@ record Split (is pre rest : List Item) (k : ℕ) (w : Option ℕ) : Type 0 where
 -- the first of the rest has number k
 here : (is pre : List Item) (y : Item) (ys : List Item) (k : ℕ) (w : Option ℕ) → Split is pre (y ∷ ys) k w → Put is k w y
 here is pre y ys k w s =
-    subst (λ (xs : List Item). Put xs k w y) (sym (s .whole)) (subst (λ (n : ℕ). Put (pre ++ (y ∷ ys)) n w y) (s .count) (record { item = item pre; place = place pre none ∙ s .put }))
+    subst (λ (xs : List Item). Put xs k w y) (sym (s .whole)) (subst (λ (n : ℕ). Put (pre ++ (y ∷ ys)) n w y) (s .count) (record { item = item pre; into = into pre none ∙ s .put }))
   where
     item : (xs : List Item) → getElem? (xs ++ (y ∷ ys)) (length xs) ≡ some y
     item [] = refl
     item (x ∷ xs) = item xs
 
-    place : (xs : List Item) (v : Option ℕ) → putIn v (xs ++ (y ∷ ys)) (length xs) ≡ putBehind v xs
-    place [] v = refl
-    place (x ∷ xs) v = place xs (putAfter x v)
+    into : (xs : List Item) (v : Option ℕ) → putIn v (xs ++ (y ∷ ys)) (length xs) ≡ putBehind v xs
+    into [] v = refl
+    into (x ∷ xs) v = into xs (putAfter x v)
 
 -- some items further
 past : (is pre xs rest : List Item) (k : ℕ) (w : Option ℕ) → Split is pre (xs ++ rest) k w → Split is (pre ++ xs) rest (k + length xs) (putBehind w xs)

@@ -1,8 +1,8 @@
--- Each global's first value is that of its own `var` line, where no line is refused.
+-- The globals are the names of the `var` lines that count, and each one's first value is that of its own line, where no line is refused.
 use Prim.Native.Nat.{ℕ, suc}
-use mathlib.Core.Path.{_≡_, refl}
+use mathlib.Core.Path.{_≡_, refl, ap, _∙_}
 use mathlib.Core.Bool.{Bool, true, false, cond}
-use mathlib.Core.List.{List, [], _∷_, map}
+use mathlib.Core.List.{List, [], _∷_, map, map-append}
 use mathlib.Core.Option.{Option, none, some}
 use lib.ListN.{length}
 use lib.Dec.{ltb, eqb}
@@ -13,10 +13,11 @@ use Rattle.semantics.specs.Fold.{Result, Names, foldAt0}
 use Rattle.semantics.specs.Fold.Result.{ok, failed, refuse}
 use Rattle.semantics.specs.Const.{Refusal, constants, namesOf}
 use Rattle.semantics.specs.Array.{ConstArray, constArray}
-use Rattle.semantics.specs.Global.{Declared, firstValue, initOf, orNoInit, declaredBy, laidVars, laidNames, noneOf, varValue, refusedBy, varsRefused}
+use Rattle.semantics.specs.Global.{Init, Declared, firstValue, initOf, orNoInit, declaredBy, laidVars, laidNames, noneOf, varValue, refusedBy, varsRefused}
+use Rattle.semantics.specs.Global.Init.{noInit, constInit, arrayInit, pendingInit}
 use Rattle.semantics.specs.Refusal.{Outcome, badForm, badRefFrom, tooDeepFrom, badModuleFrom, tooManyFrom, noCounts, refuseAt, listedIn, orRefused, refuseWork, checked, longestSheet, leastWork, workRefused, sourceListing, worked, compiled}
 use Rattle.semantics.specs.Refusal.Outcome.{listed, refused}
-use Rattle.semantics.specs.Demand.{In, DeclaredAt, AllDeclared, sourceDeclared, laidFrom, laidOf}
+use Rattle.semantics.specs.Demand.{LaidGlobal, In, DeclaredAt, AllDeclared, sourceDeclared, laidFrom, laidOf}
 use Rattle.semantics.proofs.Common.{never}
 use Rattle.laws.specs.Every.{Every}
 use Rattle.laws.proofs.Every.{every-append, every-map}
@@ -134,3 +135,42 @@ all-declared L W s out h =
     let src = sheetSource s in
     let ns = namesOf src in
     laid-declared ns (laidVars src) (sourceDeclared src) 0 0 0 (vars-declared ns (laidVars src) (listed-done L W s out h))
+
+-- ---- their names
+
+names-laid : (ds : List Declared) (e k a : ℕ) → map (λ (l : LaidGlobal). l .global .name) (laidFrom e k a ds) ≡ map (λ (d : Declared). d .name) ds
+names-laid [] e k a = refl
+names-laid (d ∷ ds) e k a = ap (λ (xs : List Bytes). d .name ∷ xs) (names-laid ds _ _ _)
+
+names-on : (ns : Names) (d : VarDecl) (xs : List Bytes) → map (λ (x : Declared). x .name) (map (namedOn ns d) xs) ≡ xs
+names-on ns d [] = refl
+names-on ns d (x ∷ xs) = ap (λ (ys : List Bytes). x ∷ ys) (names-on ns d xs)
+
+names-declared : (ns : Names) (vs : List (Located VarDecl))
+    → map (λ (d : Declared). d .name) (concatMap (declaredBy ns) vs) ≡ concatMap (λ (v : Located VarDecl). laidNames (v .it .names)) vs
+names-declared ns [] = refl
+names-declared ns (v ∷ vs) = rw (map-append, names-on ns (v .it) (laidNames (v .it .names)), names-declared ns vs)
+
+pub laid-names : (ns : Names) (vs : List (Located VarDecl))
+    → map (λ (l : LaidGlobal). l .global .name) (laidFrom 0 0 0 (concatMap (declaredBy ns) vs)) ≡ concatMap (λ (v : Located VarDecl). laidNames (v .it .names)) vs
+laid-names ns vs = names-laid (concatMap (declaredBy ns) vs) 0 0 0 ∙ names-declared ns vs
+
+-- ---- values that are no arrays
+
+abbrev valueIn : Result Init → Result ConstVal
+valueIn (ok noInit) = failed
+valueIn (ok (constInit v)) = ok v
+valueIn (ok (arrayInit a)) = failed
+valueIn (ok pendingInit) = failed
+valueIn failed = failed
+valueIn (refuse r) = refuse r
+
+pub value-folded : (ns : Names) (t : Ty) (e : Ex) (v : ConstVal) → initOf ns t (some e) ≡ ok (constInit v) → foldAt0 ns e ≡ ok v
+value-folded ns t e v = go (foldAt0 ns e) (constArray ns (elemOf t) e)
+  where
+    go : (r : Result ConstVal) (a : Result ConstArray) → firstValue r a ≡ ok (constInit v) → r ≡ ok v
+    go (ok w) a h = ap valueIn h
+    go failed (ok a) h = ap valueIn h
+    go failed failed h = ap valueIn h
+    go failed (refuse r) h = never cc
+    go (refuse r) a h = ap valueIn h

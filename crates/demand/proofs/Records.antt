@@ -110,7 +110,7 @@ adt-apart t fs =
     record {
       sameFields = fields-theirs fs 0;
       inOrder = o;
-      marks = λ _ w. rw (map-bits size (pointersOf ps) w, pointers-marked 0 size w ps l o);
+      marks = λ w. rw (map-bits size (pointersOf ps) w, pointers-marked 0 size w ps l o);
     }
 
 -- ---- the last record of a key is that of the line that fills it

@@ -18,12 +18,12 @@ use Rattle.semantics.specs.Tree.ConstVal.{vInt, vReal, vStr}
 use Rattle.semantics.specs.Tree.ElemKind.{kByte, kWord, kBig, kReal, kPtr}
 use Rattle.semantics.specs.Sheet.{concatMap}
 use Rattle.semantics.specs.Layout.{alignUp}
-use Rattle.semantics.specs.Fold.{bits64}
+use Rattle.semantics.specs.Fold.{bits64, realBytes}
 use Rattle.semantics.specs.Array.{constByte, constWord, constBig, constReal, lowest}
 use Rattle.semantics.specs.Global.{Item, Init, Declared, globalSize, newOffset, elementItems, strItems, contents, initItems}
 use Rattle.semantics.specs.Global.Item.{valuesItem, strItem, arrayItem, setItem, backItem}
 use Rattle.semantics.specs.Global.Init.{noInit, constInit, arrayInit, pendingInit}
-use Rattle.semantics.specs.Image.{written, wordBytes, bigBytes, realBytes, handle, elemSize, partAt, endAfter, areaAfter, ArrayPart, Replay, startOf, lay, replayItem, replayAll}
+use Rattle.semantics.specs.Image.{written, wordBytes, bigBytes, handle, elemSize, partAt, endAfter, areaAfter, ArrayPart, Replay, startOf, lay, replayItem, replayAll}
 use Rattle.semantics.specs.Demand.{isOf, ofKind, kindsFit, LaidGlobal, afterPart, laidFrom, valueBytes, firstBytes, imageByte, stringBytes, elementBytes, afterString, elementsBytes, partByte, areaByte}
 use Rattle.semantics.proofs.Common.{never}
 use Rattle.laws.proofs.Tests.{and-left, and-right}

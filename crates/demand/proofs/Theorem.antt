@@ -21,7 +21,7 @@ use Rattle.semantics.proofs.Common.{never, zeros-at}
 use Rattle.semantics.specs.Demand.{namesDistinct, kindsFit, sourceDeclared, laidFrom, laidOf, AllDeclared, imageEnd, areaEnd, EveryByte, Demand}
 use Rattle.demand.proofs.Records.{records-apart}
 use Rattle.demand.proofs.Elements.{Sized, array-given, init-sized}
-use Rattle.demand.proofs.Lines.{every-declared, all-declared}
+use Rattle.demand.proofs.Lines.{every-declared, all-declared, laid-names, value-folded}
 use Rattle.demand.proofs.Places.{endFrom, itemsFrom, made}
 use Rattle.demand.proofs.Replay.{AllSized, partsFrom, items-end, replayed as replay-adds}
 use Rattle.demand.proofs.Items.{all-items}
@@ -90,8 +90,8 @@ every-byte s distinct kinds =
     record {
       imageLong = ap (λ (x : Memory). length (x .image)) is ∙ r .imageLong ∙ length-replicate {A = ℕ} end 0 ∙ end-laid ds 0 0 0;
       areaLong = ap (λ (x : Memory). length (x .area)) is ∙ r .areaLong ∙ length-replicate {A = ℕ} parts 0 ∙ items-end ds 0 0 ∙ parts-laid ds 0 0 0;
-      imageBytes = λ p. ap (λ (x : Memory). getD (x .image) p 0) is ∙ r .image p ∙ rw (zeros-at end p, zero-add);
-      areaBytes = λ p. ap (λ (x : Memory). getD (x .area) p 0) is ∙ r .area p ∙ rw (zeros-at parts p, zero-add);
+      imageAt = λ p. ap (λ (x : Memory). getD (x .image) p 0) is ∙ r .image p ∙ rw (zeros-at end p, zero-add);
+      areaAt = λ p. ap (λ (x : Memory). getD (x .area) p 0) is ∙ r .area p ∙ rw (zeros-at parts p, zero-add);
       places = m .places;
       items = all-items ds (sourceGlobals s .items) (m .items);
     }
@@ -102,9 +102,11 @@ demand b s image area accepted =
     let src = sheetSource s in
     let l = memory-laid image area b (sourceGlobals src) (compiled (b .listing) (b .work) s) accepted in
     record {
-      bytes = λ distinct kinds.
+      everyByte = λ distinct kinds.
           subst (λ (x : Bytes). EveryByte src x area) (ap imageBytes l) (subst (EveryByte src (memoryOf (sourceGlobals src) .image)) (ap areaBytes l) (every-byte src distinct kinds));
       lines = lines-laid image area b s (sourceGlobals src) (compiled (b .listing) (b .work) s) refl accepted;
+      names = laid-names (namesOf src) (laidVars src);
+      folded = value-folded (namesOf src);
       elements = array-given (namesOf src);
-      records = records-apart (recordedAdts src);
+      recordsApart = records-apart (recordedAdts src);
     }

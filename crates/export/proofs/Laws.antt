@@ -13,11 +13,11 @@ use Rattle.answers.specs.declared.Refusal.the-variants.{LongSheet, SmallSpace, 
 use Rattle.answers.specs.Answers.{refusalNumber, refusalLine}
 use Rattle.compile.specs.declared.Answer.{Answer}
 use Rattle.compile.specs.declared.Answer.the-variants as Answer
-use Rattle.compile.specs.Compile as of-compile
+use Rattle.compile.specs.Compile.{Compiles}
 use Rattle.image.specs.declared.ImageAnswer.{ImageAnswer}
 use Rattle.image.specs.declared.ImageAnswer.the-variants as ImageAnswer
 use Rattle.image.specs.Image.{Pictures}
-use Rattle.export.specs.Export.{Compiles, Images, compiledNumbers, laidNumbers}
+use Rattle.export.specs.Export.{CompilesForC, ImagesForC, compiledNumbers, laidNumbers}
 
 -- a field has as many bytes as lie between its start and its end
 pub field-length : (s : Bytes) (n i a e : ℕ) → StandsAt s n i a e → e - a ≡ length (fieldOf s n i)
@@ -42,10 +42,10 @@ never-0 Outgrown e = omega arith
 -- ---- compiling
 
 module _ (s : Bytes) (L W : ℕ) (d u : Bytes) {x : Answer} where
-  told : {y : Answer} → x ≡ y → of-compile.Compiles s L W x d u → of-compile.Compiles s L W y d u
-  told e h = subst (λ (y : Answer). of-compile.Compiles s L W y d u) e h
+  told : {y : Answer} → x ≡ y → Compiles s L W x d u → Compiles s L W y d u
+  told e h = subst (λ (y : Answer). Compiles s L W y d u) e h
 
-  pub listed-as : {n : ℕ} → length d ≡ L → x ≡ Answer.Listed n → of-compile.Compiles s L W x d u → Compiles s L W (record { number = 0; line = 0; listing = n }) d u
+  pub listed-as : {n : ℕ} → length d ≡ L → x ≡ Answer.Listed n → Compiles s L W x d u → CompilesForC s L W (record { number = 0; line = 0; listing = n }) d u
   listed-as {n} len e g =
       let h = told e g in
       record {
@@ -56,7 +56,7 @@ module _ (s : Bytes) (L W : ℕ) (d u : Bytes) {x : Answer} where
         workIs = h .workIs;
       }
 
-  pub refused-as : {r : Refusal} {q k : ℕ} → x ≡ Answer.Refused r → q ≡ refusalNumber r → k ≡ refusalLine r → of-compile.Compiles s L W x d u → Compiles s L W (record { number = q; line = k; listing = 0 }) d u
+  pub refused-as : {r : Refusal} {q k : ℕ} → x ≡ Answer.Refused r → q ≡ refusalNumber r → k ≡ refusalLine r → Compiles s L W x d u → CompilesForC s L W (record { number = q; line = k; listing = 0 }) d u
   refused-as {r} e hq hk g =
       let h = told e g in
       rw (hq, hk) (record {
@@ -74,7 +74,7 @@ module _ (s : Bytes) (b : Buffers) (listing image area work : Bytes) {x : ImageA
   seen e h = subst (λ (y : ImageAnswer). Pictures s b y listing image area) e h
 
   pub laid-as : {l i a : ℕ} → length image ≡ b .image → length area ≡ b .area → x ≡ ImageAnswer.Laid l i a → Pictures s b x listing image area → work ≡ zeros (b .work)
-      → Images s b (record { number = 0; line = 0; listing = l; image = i; area = a }) listing image area work
+      → ImagesForC s b (record { number = 0; line = 0; listing = l; image = i; area = a }) listing image area work
   laid-as {l} {i} {a} hi ha e g z =
       let h = seen e g in
       record {
@@ -89,7 +89,7 @@ module _ (s : Bytes) (b : Buffers) (listing image area work : Bytes) {x : ImageA
       }
 
   pub not-laid-as : {r : Refusal} {q k : ℕ} → x ≡ ImageAnswer.Refused r → q ≡ refusalNumber r → k ≡ refusalLine r → Pictures s b x listing image area → work ≡ zeros (b .work)
-      → Images s b (record { number = q; line = k; listing = 0; image = 0; area = 0 }) listing image area work
+      → ImagesForC s b (record { number = q; line = k; listing = 0; image = 0; area = 0 }) listing image area work
   not-laid-as {r} e hq hk g z =
       let h = seen e g in
       rw (hq, hk) (record {

@@ -23,7 +23,7 @@ abbrev pub outcomeOf : Compiled → Bytes → Outcome
 outcomeOf r d = cond (eqb (r .number) 0) (listed (take (r .listing) d)) (refused (r .number) (r .line))
 
 -- of the sheet s, with L and W bytes lent: the answer r, the listing's bytes d and those of the working space u
-pub record Compiles (s : Bytes) (L W : ℕ) (r : Compiled) (d u : Bytes) : Type 0 where
+pub record CompilesForC (s : Bytes) (L W : ℕ) (r : Compiled) (d u : Bytes) : Type 0 where
   pub answer : r ≡ compiledNumbers (compiled L W s)
   pub outcome : outcomeOf r d ≡ compiled L W s
   pub within : r .listing ≤ L
@@ -42,7 +42,7 @@ abbrev pub imagedOf : Laid → Bytes → Bytes → Imaged
 imagedOf r image area = cond (eqb (r .number) 0) (laid (take (r .image) image) (take (r .area) area)) (notLaid (r .number) (r .line))
 
 -- of the sheet s, with b bytes lent: the answer r, every lent byte, and demand 3
-pub record Images (s : Bytes) (b : Buffers) (r : Laid) (listing image area work : Bytes) : Type 0 where
+pub record ImagesForC (s : Bytes) (b : Buffers) (r : Laid) (listing image area work : Bytes) : Type 0 where
   pub answer : r ≡ laidNumbers (compiled (b .listing) (b .work) s) (imaged b s)
   pub outcome : imagedOf r image area ≡ imaged b s
   pub within : (r .listing ≤ b .listing) × (r .image ≤ b .image) × (r .area ≤ b .area)

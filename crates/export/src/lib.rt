@@ -5,7 +5,7 @@ ghost use mathlib.Core.Path.{_≡_};
 ghost use lib.ListN.{length};
 ghost use Rattle.semantics.specs.Text.{fieldOf, fieldStart};
 ghost use Rattle.image.specs.Image.{lentOf};
-ghost use Rattle.export.specs.Export.{Compiles, Images};
+ghost use Rattle.export.specs.Export.{CompilesForC, ImagesForC};
 
 // A part of a sheet.
 #[repr(C)]
@@ -47,7 +47,7 @@ pub extern "C" fn limbo_sheet_field(sheet: &[u8], line: usize, i: usize) -> Part
 // The sheet's listing.
 #[no_mangle]
 pub extern "C" fn limbo_sheet_compile(sheet: &[u8], listing: &mut [u8], work: &mut [u8]) -> Compiled
-    ensures { λ r. ⌜ Compiles (now (sheet .entry)) (length (now (listing .entry))) (length (now (work .entry))) r (now (listing .exit)) (now (work .exit)) ⌝ }
+    ensures { λ r. ⌜ CompilesForC (now (sheet .entry)) (length (now (listing .entry))) (length (now (work .entry))) r (now (listing .exit)) (now (work .exit)) ⌝ }
 {
     match compile::compile(sheet, listing, work) {
         Answer::Listed(n) => Compiled {
@@ -72,7 +72,7 @@ pub extern "C" fn limbo_sheet_image(
     area: &mut [u8],
     work: &mut [u8],
 ) -> Laid
-    ensures { λ r. ⌜ Images (now (sheet .entry)) (lentOf (now (listing .entry)) (now (image .entry)) (now (area .entry)) (now (work .entry))) r (now (listing .exit)) (now (image .exit)) (now (area .exit)) (now (work .exit)) ⌝ }
+    ensures { λ r. ⌜ ImagesForC (now (sheet .entry)) (lentOf (now (listing .entry)) (now (image .entry)) (now (area .entry)) (now (work .entry))) r (now (listing .exit)) (now (image .exit)) (now (area .exit)) (now (work .exit)) ⌝ }
 {
     match image::image(sheet, listing, image, area, work) {
         ImageAnswer::Laid(l, i, a) => Laid {

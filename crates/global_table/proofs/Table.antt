@@ -13,7 +13,7 @@ use Rattle.semantics.specs.Global.{Global, placeOf}
 use Rattle.words.specs.Words.{digest, u16At}
 use Rattle.words.proofs.Laws.{digest-apart}
 use Rattle.checks.specs.Checks.{Checked, Kept}
-use Rattle.checks.proofs.Kept.{kept-all, kept-then, kept-less, kept-at, checked-kept, kind-kept}
+use Rattle.checks.proofs.Kept.{kept-all, kept-then, kept-less, kept-at, checked-kept, kind-line-kept}
 use Rattle.global_table.specs.Table.{VarLine, lineOf, positionOf, offsetOf, digestOf, globalEntered, entryAt, entriesFrom, placesIn, GlobalEntry, Tabled, offsetBy, numberFrom, entryNumber, Around}
 
 -- ---- a run of stores
@@ -198,7 +198,7 @@ pub checked-around : {s t u : Bytes} {n : ℕ} → Around t u → Checked s t n 
 checked-around a c = checked-kept (kept-less (omega arith) (a .below)) c
 
 pub var-around : {s t u : Bytes} {n r : ℕ} → Around t u → VarLine s t n r → VarLine s u n r
-var-around a l = kind-kept (kept-less (omega arith) (a .below)) l
+var-around a l = kind-line-kept (kept-less (omega arith) (a .below)) l
 
 -- ---- the table stays where all that stands up to its end is kept
 
@@ -230,7 +230,7 @@ module _ {t u : Bytes} (a : Kept 9216 t u) where
     few = d .few;
     entries = λ i h. let x = d .entries i h in record {
       low = x .low;
-      line = rw (line-kept i (x .low)) (kind-kept (kept-less (omega arith) a) (x .line));
+      line = rw (line-kept i (x .low)) (kind-line-kept (kept-less (omega arith) a) (x .line));
       digest = rw (digest-kept i (x .low), entry-kept s i (x .low)) (x .digest);
     };
   }

@@ -16,7 +16,7 @@ use Rattle.lines.specs.declared.Formed.the-variants.{Lines, NoForm}
 abbrev pub textAt : Bytes → ℕ → Bytes
 textAt s i = getD (lineParts s) i []
 
--- the lines with their rows, and line i among them
+-- the lines, each read by its form, and line i among them
 abbrev pub readsIn : Bytes → List Read
 readsIn s = readsOf (lineParts s)
 

@@ -6,7 +6,7 @@ use lib.ListN.{take, length-take}
 use lib.Seq.{getD-take, ext-getD}
 use Rattle.semantics.specs.Text.{Bytes}
 use Rattle.checks.specs.Checks.{Kept, KindLine}
-use Rattle.checks.proofs.Kept.{kind-kept}
+use Rattle.checks.proofs.Kept.{kind-line-kept}
 use Rattle.names.specs.Table.{bitsOf, logIn, ConstsLogged}
 use Rattle.names.proofs.Laws.{SameText, logged-same, log-same}
 use Rattle.placements.specs.Placements.{Keeps}
@@ -34,4 +34,4 @@ module _ {t u : Bytes} (k : Keeps 16384 49152 t u) where
     logged-kept = logged-same table-kept l
 
   pub line-kept : {q : ℕ} {s : Bytes} {n r : ℕ} → KindLine q s t n r → KindLine q s u n r
-  line-kept l = kind-kept (kept-low 3072 (omega arith)) l
+  line-kept l = kind-line-kept (kept-low 3072 (omega arith)) l

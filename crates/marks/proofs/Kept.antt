@@ -3,7 +3,7 @@ use Prim.Native.Nat.{ℕ}
 use native.Mathlib.Omega.{arith}
 use mathlib.Core.List.{List}
 use Rattle.checks.specs.Checks.{Kept, Checked}
-use Rattle.checks.proofs.Kept.{kept-less, checked-kept, kind-kept}
+use Rattle.checks.proofs.Kept.{kept-less, checked-kept, kind-line-kept}
 use Rattle.sizes.specs.declared.place.Refs.{Refs}
 use Rattle.sizes.specs.Places.{FieldRefs}
 
@@ -19,5 +19,5 @@ module _ {t u : List ℕ} (k : Kept 49152 t u) where
     near = l .near;
     few = l .few;
     number = l .number;
-    each = λ j h. kind-kept (kept-less (omega arith) k) (l .each j h);
+    each = λ j h. kind-line-kept (kept-less (omega arith) k) (l .each j h);
   }

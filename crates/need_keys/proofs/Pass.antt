@@ -17,8 +17,8 @@ use Rattle.semantics.specs.Sheet.{sheetSource}
 use Rattle.semantics.specs.Array.{kindNumber}
 use Rattle.semantics.specs.Types.{sameTypeKey, distinct, position}
 use Rattle.lines.specs.Lines.{textAt, readAt, formAt}
-use Rattle.checks.specs.Checks.{Checked}
-use Rattle.checks.proofs.Kept.{kept-less, checked-kept}
+use Rattle.checks.specs.Checks.{Checked, Outside}
+use Rattle.checks.proofs.Kept.{kept-less, checked-kept, outside-then, outside-less, outside-set}
 use Rattle.words.specs.Words.{digest}
 use Rattle.source.specs.Walk.{declaredTo}
 use Rattle.laws.proofs.Lists.{any-append}
@@ -26,9 +26,9 @@ use Rattle.type_lines.specs.Needs.{needAt, needsTo, kindBy}
 use Rattle.type_lines.proofs.Codes.{kind-low}
 use Rattle.type_lines.proofs.ByForm.{elem-is}
 use Rattle.type_lines.proofs.Needs.{needs-all, needs-few, needs-next, needs-stay}
-use Rattle.type_keys.specs.Table.{needLineOf, positionOf, kindFromOne, digestOf, needEntered, kindEntered, Needs, Kinds, Outside}
+use Rattle.type_keys.specs.Table.{needLineOf, positionOf, kindFromOne, digestOf, needEntered, kindEntered, Needs, Kinds}
 use Rattle.type_keys.proofs.Distinct.{position-same, position-within, position-none, position-more, distinct-more, distinct-few, key-member, none-distinct, known-more}
-use Rattle.type_keys.proofs.Table.{outside-then, outside-less, outside-set, line-below, position-below, kind-above, kind-kept, entered-outside, entered-line, entered-position, other-line, other-position, kind-outside, kind-entered, digest-above, digest-same, digest-other}
+use Rattle.type_keys.proofs.Table.{line-below, position-below, kind-above, kind-kept, entered-outside, entered-line, entered-position, other-line, other-position, kind-outside, kind-entered, digest-above, digest-same, digest-other}
 use Rattle.type_keys.proofs.Elements.{kinds-more}
 use Rattle.need_keys.specs.Pass.{NeedEntry, Collecting, NeedNext}
 

@@ -8,10 +8,10 @@ ghost use Rattle.semantics.specs.Tree.{TypeKey};
 ghost use Rattle.semantics.specs.Sheet.{sheetSource};
 ghost use Rattle.semantics.specs.Types.{sameTypeKey, distinct, position};
 ghost use Rattle.lines.specs.Lines.{textAt};
-ghost use Rattle.checks.specs.Checks.{Checked};
+ghost use Rattle.checks.specs.Checks.{Checked, Outside};
 ghost use Rattle.words.specs.Words.{digest};
 ghost use Rattle.type_lines.specs.Needs.{needAt, NeedLine, needsTo};
-ghost use Rattle.type_keys.specs.Table.{needLineOf, Needs, Kinds, Outside};
+ghost use Rattle.type_keys.specs.Table.{needLineOf, Needs, Kinds};
 ghost use Rattle.need_keys.specs.Pass.{NeedEntry, Collecting, NeedNext};
 
 // How many needs there are, and how many of their keys are distinct.

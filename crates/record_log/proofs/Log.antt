@@ -23,7 +23,7 @@ use Rattle.lines.specs.Lines.{readAt, nodesIn, formAt}
 use Rattle.lines.proofs.Line.{kind-is}
 use Rattle.refs.proofs.Nodes.{node-count}
 use Rattle.checks.specs.Checks.{Checked}
-use Rattle.checks.proofs.Kept.{checked-kept, kind-kept}
+use Rattle.checks.proofs.Kept.{checked-kept, kind-line-kept}
 use Rattle.source.specs.Walk.{declaresAt, declaredTo}
 use Rattle.source.proofs.Walk.{located-all, located-its, declared-all, source-of}
 use Rattle.shapes.specs.Shapes.{declAt, casesIn}
@@ -45,7 +45,7 @@ pub checked-wrote : {s d : Bytes} {n a : ℕ} {t e : Bytes} {b : ℕ} → Wrote 
 checked-wrote w h c = checked-kept (wrote-kept w 3072 (omega arith)) c
 
 pub pick-wrote : {s d : Bytes} {n r a : ℕ} {t e : Bytes} {b : ℕ} → Wrote d a t e b → 9216 ≤ a → PickLine s d n r → PickLine s e n r
-pick-wrote w h l = kind-kept (wrote-kept w 3072 (omega arith)) l
+pick-wrote w h l = kind-line-kept (wrote-kept w 3072 (omega arith)) l
 
 -- ---- the cases of a `pick` line, one by one
 

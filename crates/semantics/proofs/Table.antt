@@ -88,6 +88,8 @@ rows =
     ∷ lists "impl,Main\nmod,M\nex,int,5\ncon,A,1,1,3\nex,id,A\ncon,B,1,1,5\nex,id,M\nex,qual,7,A\ncon,C,1,1,8\nend\nmod,Main\nex,int,6\ncon,D,1,1,12\nex,id,D\ncon,E,1,1,14\nend\n" "con,M->A,i,5\ncon,M->B,x\ncon,M->C,i,5\ncon,Main->D,i,6\ncon,Main->E,i,6\ncon,D,i,6\ncon,E,i,6\n"
     -- masking `byte 300`
     ∷ lists "ex,int,300\nty,byte\nex,cast,2,1\ncon,A,1,1,3\nex,int,300\nty,byte\nex,cast,6,5\nty,byte\nvar,8,7,1,b\n" "con,A,i,300\nglo,b,0,4,0\ndat,words,0,1,300\n"
+    -- each name of a `var` line has its place and its value, but `nil`
+    ∷ lists "ty,int\nex,int,5\nvar,1,2,3,a,nil,b\n" "glo,a,0,4,0\nglo,b,4,4,0\ndat,words,0,1,5\ndat,words,4,1,5\n"
     -- a repeated index takes the last value, and the last wildcard fills
     ∷ record {
       sheet = bytes "ex,int,7\nel,star,1\nex,int,8\nel,star,3\nex,int,1\nel,next,5\nex,int,2\nex,int,0\nse,8,0\nel,at,7,1,9\nex,int,3\nex,lit,11,0,4,2,4,6,10\nty,int\nty,array,13\nvar,14,12,1,a\n";

@@ -86,7 +86,7 @@ pub record ConstArray : Type 0 where
 abbrev pub longestAlloc : ℕ
 longestAlloc = 2 ^ 31 - 1
 
--- an `alloc` of a length: no values are given
+-- an `alloc` of a length: 9 where it passes 32 bits, and else 10 where it is negative; no values are given
 abbrev pub allocated : ElemKind → ConstVal → Result ConstArray
 allocated k (vInt (pos n)) = cond (leb n longestAlloc) (ok (record { kind = k; count = n; values = [] })) (refuse 9)
 allocated k (vInt (negsuc n)) = cond (leb n longestAlloc) (refuse 10) (refuse 9)

@@ -21,14 +21,14 @@ use Rattle.semantics.specs.Tree.Els.{noEls, andEl}
 use Rattle.semantics.specs.Tree.ElemKind.{kByte, kWord, kBig, kReal, kPtr}
 use Rattle.semantics.specs.Sheet.{Located, Source, sheetSource, concatMap}
 use Rattle.semantics.specs.Layout.{sizeOf, isPtr, mapOf, PlacedField, Recorded, recordedAdts, records, recordsOf, seen}
-use Rattle.semantics.specs.Fold.{Result, Names, foldAt0, bits64}
+use Rattle.semantics.specs.Fold.{Result, Names, foldAt0, bits64, realBytes}
 use Rattle.semantics.specs.Fold.Result.{ok, failed, refuse}
 use Rattle.semantics.specs.Const.{namesOf}
 use Rattle.semantics.specs.Array.{ConstArray, elemKind, spansOf, isReal, isStr, constByte, constWord, constBig, constReal}
 use Rattle.semantics.specs.Global.{Item, Init, Declared, declaredIn, laidVars, laidNames, initOf, initItems, globalSize, newOffset, Global}
 use Rattle.semantics.specs.Global.Item.{valuesItem, strItem, arrayItem, setItem, backItem}
 use Rattle.semantics.specs.Global.Init.{noInit, constInit, arrayInit, pendingInit}
-use Rattle.semantics.specs.Image.{wordBytes, bigBytes, realBytes, handle, elemSize, partAt, areaAfter}
+use Rattle.semantics.specs.Image.{wordBytes, bigBytes, handle, elemSize, partAt, areaAfter}
 use Rattle.semantics.specs.Refusal.{Buffers, imaged, sourceGlobals}
 use Rattle.semantics.specs.Refusal.Imaged.{laid}
 
@@ -221,12 +221,12 @@ lastStar ns v (andEl (at e ss) es) = lastStar ns v es
 abbrev pub elementAt : Names → Els → ℕ → Result ConstVal
 elementAt ns es i = lastGiven ns i 0 (lastStar ns (ok (vInt (pos 0))) es) es
 
--- where spans end that reach further than r
+-- the furthest end of spans that are not empty, at least r
 abbrev pub spansReach : ℕ → List (ℤ × ℤ) → ℕ
 spansReach r [] = r
 spansReach r (s ∷ ss) = spansReach (cond (leZ (s .0) (s .1)) (max r (afterHigh (s .1))) r) ss
 
--- where the indices of elements end that reach further than r; n is the index that the next plain element has
+-- the furthest end of the indices of elements, at least r; n is the index that the next plain element has
 abbrev pub reachOf : Names → ℕ → ℕ → Els → ℕ
 reachOf ns n r noEls = r
 reachOf ns n r (andEl (next e) es) = reachOf ns (suc n) (max r (suc n)) es
@@ -258,7 +258,7 @@ pub record GivenBy (ns : Names) (declared : Option Ty) (e : Ex) (a : ConstArray)
 abbrev pub partOf : List Item → ℕ → ℕ
 partOf is k = partAt (areaAfter 0 (take k is))
 
--- where items are put behind an item: in the part of the array at a place, or, where there is none, in the image
+-- what the items behind an item are put into: the array at a place of the image, or, where there is none, the image
 abbrev pub putAfter : Item → Option ℕ → Option ℕ
 putAfter (valuesItem o vs) w = w
 putAfter (strItem o s) w = w
@@ -266,7 +266,7 @@ putAfter (arrayItem o k n) w = w
 putAfter (setItem o) w = some o
 putAfter backItem w = none
 
--- where item k is put, when the first is put at w
+-- what item k is put into, where the first is put into w
 abbrev pub putIn : Option ℕ → List Item → ℕ → Option ℕ
 putIn w [] k = w
 putIn w (i ∷ is) zero = w
@@ -275,7 +275,7 @@ putIn w (i ∷ is) (suc k) = putIn (putAfter i w) is k
 -- item k is x, and is put into the image, or into the array at a place of the image
 pub record Put (is : List Item) (k : ℕ) (w : Option ℕ) (x : Item) : Type 0 where
   pub item : getElem? is k ≡ some x
-  pub place : putIn none is k ≡ w
+  pub into : putIn none is k ≡ w
 
 -- item k is that of a string element at o of the part of the array at off
 abbrev pub StringAt : List Item → ℕ → ℕ → ℕ → ConstVal → Type 0
@@ -339,25 +339,15 @@ globalOf l = record { name = l .global .name; offset = l .offset; ty = l .global
 
 -- the fields of the `adt` line that fills a key, none where a `pick` line does, or o where this line does not
 abbrev pub filledBy : Bytes → Option (List Fd) → AdtDecl → Option (List Fd)
-filledBy k o d = cond (seen k (recordsOf d)) (fieldsOf (d .pick)) o
+filledBy k o d = cond (seen k (recordsOf d)) (adtFields (d .pick)) o
   where
-    fieldsOf : Option (List Case) → Option (List Fd)
-    fieldsOf none = some (d .fields)
-    fieldsOf (some ks) = none
+    adtFields : Option (List Case) → Option (List Fd)
+    adtFields none = some (d .fields)
+    adtFields (some ks) = none
 
 abbrev pub filling : Bytes → Option (List Fd) → List AdtDecl → Option (List Fd)
 filling k o [] = o
 filling k o (d ∷ ds) = filling k (filledBy k o d) ds
-
-abbrev pub plainTy : Option Ty → Bool
-plainTy none = true
-plainTy (some (basic b)) = true
-plainTy (some ptr) = true
-plainTy (some (array t)) = true
-plainTy (some (tuple ts)) = false
-
-abbrev pub noTuple : List Fd → Bool
-noTuple fs = all (λ (f : Fd). plainTy (f .ty)) fs
 
 -- a name with its type
 pub record Typed : Type 0 where
@@ -380,7 +370,7 @@ abbrev pub InOrder : ℕ → ℕ → List PlacedField → Type 0
 InOrder end size [] = Unit {0}
 InOrder end size (p ∷ ps) = (end ≤ p .offset) × (p .offset + sizeOf (p .ty) ≤ size) × InOrder (p .offset + sizeOf (p .ty)) size ps
 
--- whether a pointer starts at an offset
+-- whether a pointer starts at an offset; a tuple counts as one
 abbrev pub pointerAt : ℕ → PlacedField → Bool
 pointerAt off p = isPtr (p .ty) && eqb (p .offset) off
 
@@ -388,11 +378,11 @@ pointerAt off p = isPtr (p .ty) && eqb (p .offset) off
 abbrev pub bitAt : Bytes → ℕ → ℕ
 bitAt m w = getD m (w / 8) 0 / 2 ^ (7 - w % 8) % 2
 
--- fields lie apart, in order, inside the size, and where none is a tuple a word is marked exactly where a pointer starts
+-- fields lie apart, in order, inside the size, and a word is marked exactly where a pointer starts
 pub record Apart (fs : List Fd) (r : Recorded) : Type 0 where
   pub sameFields : map typedOf (r .fields) ≡ typedFields fs
   pub inOrder : InOrder 0 (r .shape .size) (r .fields)
-  pub marks : noTuple fs ≡ true → (w : ℕ) → bitAt (mapOf (r .shape)) w ≡ cond (any (pointerAt (w * 4)) (r .fields)) 1 0
+  pub marks : (w : ℕ) → bitAt (mapOf (r .shape)) w ≡ cond (any (pointerAt (w * 4)) (r .fields)) 1 0
 
 abbrev pub AllApart : List AdtDecl → List Recorded → Type 0
 AllApart ds [] = Unit {0}
@@ -405,20 +395,25 @@ AllApart ds (r ∷ rs) = ((fs : List Fd) → filling (r .key) none ds ≡ some f
 pub record EveryByte (s : Source) (image area : Bytes) : Type 0 where
   pub imageLong : length image ≡ imageEnd 0 (laidOf s)
   pub areaLong : length area ≡ areaEnd 0 (laidOf s)
-  pub imageBytes : (p : ℕ) → getD image p 0 ≡ imageByte (laidOf s) p
-  pub areaBytes : (p : ℕ) → getD area p 0 ≡ areaByte (laidOf s) p
+  pub imageAt : (p : ℕ) → getD image p 0 ≡ imageByte (laidOf s) p
+  pub areaAt : (p : ℕ) → getD area p 0 ≡ areaByte (laidOf s) p
   pub places : sourceGlobals s .places ≡ map globalOf (laidOf s)
   pub items : ItemsAt (sourceGlobals s .items) (laidOf s)
 
 pub record WholeImage (s : Source) (image area : Bytes) : Type 0 where
   -- where no global's name stands twice and each first value is of its type's kind
-  pub bytes : namesDistinct (sourceDeclared s) ≡ true → kindsFit (sourceDeclared s) ≡ true → EveryByte s image area
+  pub everyByte : namesDistinct (sourceDeclared s) ≡ true → kindsFit (sourceDeclared s) ≡ true → EveryByte s image area
   -- each place is of a name of a `var` line that counts, with the first value of that line's own expression
   pub lines : AllDeclared (namesOf s) (laidVars s) (laidOf s)
-  -- of any first value that is an array: its values are, index by index, those last given, or else the filler
+  -- and every name of these lines but `nil` has its place, in order
+  pub names : map (λ (l : LaidGlobal). l .global .name) (laidOf s) ≡ concatMap (λ (v : Located VarDecl). laidNames (v .it .names)) (laidVars s)
+  -- a first value that is no array is what its expression folds to
+  pub folded : (t : Ty) (e : Ex) (v : ConstVal) → initOf (namesOf s) t (some e) ≡ ok (constInit v) → foldAt0 (namesOf s) e ≡ ok v
+  -- one that is an array has its length, its elements' kind where the type declares one, and index by index the value last given, or
+  -- else the filler
   pub elements : (t : Ty) (e : Ex) (a : ConstArray) → initOf (namesOf s) t (some e) ≡ ok (arrayInit a) → GivenBy (namesOf s) (elemOf t) e a
   -- each record that an `adt` line fills
-  pub records : AllApart (recordedAdts s) (records (recordedAdts s))
+  pub recordsApart : AllApart (recordedAdts s) (records (recordedAdts s))
 
 -- of a sheet that neither compiling nor replay refuses
 abbrev pub Demand : Type 0

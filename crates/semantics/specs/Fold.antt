@@ -10,7 +10,7 @@ use lib.Bits.{bitAnd, bitOr, bitXor}
 use lib.Dec.{leb, ltb, eqb}
 use lib.Ieee as F
 use lib.Ieee.{Float, binary64}
-use Rattle.semantics.specs.Text.{Bytes, bytes, same, decimalℤ, characters}
+use Rattle.semantics.specs.Text.{Bytes, bytes, same, decimalℤ, bigEndian, characters}
 use Rattle.semantics.specs.Tree.{Basic, Ty, Ex, ArrayEx, ConstVal, UnaryOp, Arith, IntOp, BinOp, basicOf, byForm}
 use Rattle.semantics.specs.Tree.Basic.{int, byte, big, real, string}
 use Rattle.semantics.specs.Tree.ConstVal.{vInt, vReal, vStr}
@@ -73,13 +73,14 @@ bitwise f x y = intOk (signed64 (f (bits64 x) (bits64 y)))
 abbrev pub shiftCount : ℤ → ℕ
 shiftCount y = bits64 y % 64
 
--- +, − and times wrap; division truncates toward zero, and a zero divisor fails
+-- +, − and times wrap, as −2^63 / −1 does; division truncates toward zero, and a zero divisor fails
 abbrev pub intArith : Arith → ℤ → ℤ → Result ConstVal
 intArith add x y = intOk (wrap (x +ℤ y))
 intArith sub x y = intOk (wrap (x +ℤ negℤ y))
 intArith mul x y = intOk (wrap (x *ℤ y))
 intArith div x y = cond (isZero y) failed (intOk (wrap (quotZ x y)))
 
+-- the remainder has the dividend's sign; a right shift keeps the sign, since it divides by 2 ^ count and rounds down
 abbrev pub intOnly : IntOp → ℤ → ℤ → Result ConstVal
 intOnly rem x y = cond (isZero y) failed (intOk (remZ x y))
 intOnly and x y = bitwise bitAnd x y
@@ -127,6 +128,11 @@ toReal z = F.ofInt binary64 z
 unfoldable pub toWhole : ℕ → Float → ℤ
 unfolding F.toSigned
 toWhole h x = F.toSigned h x
+
+-- a real in eight bytes; there is one NaN, whose bits are 7FF8000000000000
+abbrev pub realBytes : Float → Bytes
+unfolding F.toBits
+realBytes x = bigEndian 8 (F.toBits binary64 x)
 
 -- ---- strings
 

@@ -270,7 +270,7 @@ abbrev pub rowOf : List Row → Bytes → ℕ
 rowOf [] l = 0
 rowOf (r ∷ rs) l = cond (begins (r .words) l) 0 (suc (rowOf rs l))
 
--- the fields of a line from a place on, where one begins
+-- the fields of a line from place n on, none where the line ends before it
 abbrev pub fieldsFrom : ℕ → Bytes → List Bytes
 fieldsFrom n l = cond (ltb (length l) n) [] (fieldsOf (drop n l))
 

@@ -86,6 +86,7 @@ firstValue (ok v) a = ok (constInit v)
 firstValue failed a = arrayValue a
 firstValue (refuse r) a = refuse r
 
+-- that of a `var` line of type t, whose array type alone says what elements are
 abbrev pub initOf : Names → Ty → Option Ex → Result Init
 initOf ns t none = ok noInit
 initOf ns t (some e) = firstValue (foldAt0 ns e) (constArray ns (elemOf t) e)
@@ -132,13 +133,14 @@ abbrev pub noneOf : {A : Type 0} → List A → Bool
 noneOf [] = true
 noneOf (x ∷ xs) = false
 
+-- a value that is folded where no name is laid out
+abbrev pub plainInit : Names → Option Ex → Result Init
+plainInit ns none = ok noInit
+plainInit ns (some e) = bind (foldAt0 ns e) (λ (v : ConstVal). ok (constInit v))
+
 -- a value is folded once per line, also where no name is laid out; arrays are looked at only for a name
 abbrev pub varValue : Names → VarDecl → Result Init
-varValue ns d = cond (noneOf (laidNames (d .names))) (plainValue (d .init)) (initOf ns (d .ty) (d .init))
-  where
-    plainValue : Option Ex → Result Init
-    plainValue none = ok noInit
-    plainValue (some e) = bind (foldAt0 ns e) (λ (v : ConstVal). ok (constInit v))
+varValue ns d = cond (noneOf (laidNames (d .names))) (plainInit ns (d .init)) (initOf ns (d .ty) (d .init))
 
 abbrev pub refusedBy : {A : Type 0} → ℕ → Result A → Option Refusal → Option Refusal
 refusedBy k (ok a) o = o

@@ -5,13 +5,12 @@ use mathlib.Core.List.{List, [], _∷_, _++_}
 use mathlib.Core.Option.{Option, none, some}
 use lib.ListN.{length, take, drop, replicate}
 use lib.IntN.{ℤ}
-use lib.Ieee.{Float, binary64, toBits}
 use lib.Dec.{eqb}
 use Rattle.semantics.specs.Text.{Bytes, bigEndian}
 use Rattle.semantics.specs.Tree.{ElemKind}
 use Rattle.semantics.specs.Sheet.{concatMap}
 use Rattle.semantics.specs.Layout.{alignUp}
-use Rattle.semantics.specs.Fold.{bits64}
+use Rattle.semantics.specs.Fold.{bits64, realBytes}
 use Rattle.semantics.specs.Global.{Values, Item, Globals}
 use Rattle.semantics.specs.Global.Values.{byteValues, wordValues, bigValues, realValues}
 use Rattle.semantics.specs.Global.Item.{valuesItem, strItem, arrayItem, setItem, backItem}
@@ -24,10 +23,6 @@ wordBytes z = bigEndian 4 (bits64 z)
 
 abbrev pub bigBytes : ℤ → Bytes
 bigBytes z = bigEndian 8 (bits64 z)
-
-abbrev pub realBytes : Float → Bytes
-unfolding toBits
-realBytes x = bigEndian 8 (toBits binary64 x)
 
 abbrev pub valuesBytes : Values → Bytes
 valuesBytes (byteValues vs) = vs

@@ -118,7 +118,7 @@ pub record PlacedField : Type 0 where
   pub ty : Ty
   pub offset : ℕ
 
--- fields, and where they end
+-- fields, and where the next one may begin, which a line without names moves on too
 pub record Placing : Type 0 where
   pub placed : List PlacedField
   pub end : ℕ

@@ -4,14 +4,14 @@ use mathlib.Core.Bool.{Bool, true, false, not, cond}
 use mathlib.Core.List.{List, [], _∷_, _++_, map}
 use mathlib.Core.Option.{Option, none, some}
 use lib.ListN.{length}
-use lib.Ieee.{Float, binary64, toBits}
-use Rattle.semantics.specs.Text.{Bytes, bytes, any, filter, isNone, decimal, decimalℤ, hexOf, bigEndian}
+use lib.Ieee.{Float}
+use Rattle.semantics.specs.Text.{Bytes, bytes, any, filter, isNone, decimal, decimalℤ, hexOf}
 use Rattle.semantics.specs.Tree.{ConstVal, Shape, TypeKey}
 use Rattle.semantics.specs.Tree.ConstVal.{vInt, vReal, vStr}
 use Rattle.semantics.specs.Tree.TypeKey.{elemKey}
 use Rattle.semantics.specs.Sheet.{Source, concatMap}
 use Rattle.semantics.specs.Layout.{PlacedField, Recorded, recordedAdts, records, sizeOf, isPtr, mapOf, pointerCount}
-use Rattle.semantics.specs.Fold.{Key, Const, sameKey, lookUp, valueOf}
+use Rattle.semantics.specs.Fold.{Key, Const, sameKey, lookUp, valueOf, realBytes}
 use Rattle.semantics.specs.Global.{Values, Item, Global, Globals, globalSize}
 use Rattle.semantics.specs.Global.Values.{byteValues, wordValues, bigValues, realValues}
 use Rattle.semantics.specs.Global.Item.{valuesItem, strItem, arrayItem, setItem, backItem}
@@ -25,8 +25,7 @@ row (f ∷ (g ∷ fs)) = f ++ (44 ∷ row (g ∷ fs))
 
 -- 16 hex digits
 abbrev pub realText : Float → Bytes
-unfolding toBits
-realText x = hexOf (bigEndian 8 (toBits binary64 x))
+realText x = hexOf (realBytes x)
 
 abbrev pub mapText : Shape → Bytes
 mapText s = hexOf (mapOf s)

@@ -160,15 +160,15 @@ pub data Outcome : Type 0 where
   listed : Bytes → Outcome
   refused : ℕ → ℕ → Outcome
 
--- a refusal with a line, tried where there is one
+-- refusal n at line k, or o where k is 0
 abbrev pub refuseAt : ℕ → ℕ → Outcome → Outcome
 refuseAt n k o = cond (eqb k 0) o (refused n k)
 
--- a refusal with line 0
+-- refusal n with line 0 where b holds, or else o
 abbrev pub refuseIf : ℕ → Bool → Outcome → Outcome
 refuseIf n b o = cond b (refused n 0) o
 
--- a listing that fits its buffer
+-- a listing in a buffer of n bytes
 abbrev pub listedIn : ℕ → Bytes → Outcome
 listedIn n out = refuseIf 13 (ltb n (length out)) (listed out)
 
@@ -180,21 +180,27 @@ abbrev pub refuseWork : Option Refusal → Outcome → Outcome
 refuseWork none o = o
 refuseWork (some r) o = refused (r .number) (r .line)
 
--- 3 to 7
-abbrev pub checked : List Bytes → Outcome → Outcome
-checked ls o =
-    let rs = readsOf ls in
-    refuseAt 3 (badForm 1 ls)
-    (refuseAt 4 (badRefFrom rs 1 [] rs)
+-- 4 to 7
+abbrev pub ruled : List Read → Outcome → Outcome
+ruled rs o =
+    refuseAt 4 (badRefFrom rs 1 [] rs)
     (refuseAt 5 (tooDeepFrom 1 [] rs)
     (refuseAt 6 (badModuleFrom 1 false rs)
-    (refuseAt 7 (tooManyFrom 1 noCounts (nodesFrom [] rs)) o))))
+    (refuseAt 7 (tooManyFrom 1 noCounts (nodesFrom [] rs)) o)))
+
+-- 3 to 7
+abbrev pub checked : List Bytes → Outcome → Outcome
+checked ls o = refuseAt 3 (badForm 1 ls) (ruled (readsOf ls) o)
 
 abbrev pub longestSheet : ℕ
 longestSheet = 65535
 
 abbrev pub leastWork : ℕ
 leastWork = 65536
+
+-- 1 to 7, where the working space has so many bytes
+abbrev pub tested : ℕ → Bytes → Outcome → Outcome
+tested work s o = refuseIf 1 (ltb longestSheet (length s)) (refuseIf 2 (ltb work leastWork) (checked (lineParts s) o))
 
 -- 8 to 12, as the work meets them: constants, then `var` lines
 abbrev pub workRefused : Source → Option Refusal
@@ -212,9 +218,7 @@ worked n s = refuseWork (workRefused s) (listedIn n (sourceListing s))
 
 -- what compiling a sheet gives, where the listing's buffer and the working space have so many bytes
 unfoldable pub compiled : ℕ → ℕ → Bytes → Outcome
-compiled listing work s =
-    refuseIf 1 (ltb longestSheet (length s))
-    (refuseIf 2 (ltb work leastWork) (checked (lineParts s) (worked listing (sheetSource s))))
+compiled listing work s = tested work s (worked listing (sheetSource s))
 
 -- ---- the outcome of replay
 
@@ -229,10 +233,11 @@ pub data Imaged : Type 0 where
   laid : Bytes → Bytes → Imaged
   notLaid : ℕ → ℕ → Imaged
 
--- an image and an area that fit their buffers
+-- an image in its buffer
 abbrev pub laidIn : Buffers → Memory → Imaged
 laidIn b m = cond (ltb (b .image) (length (m .image))) (notLaid 13 0) (laid (m .image) (m .area))
 
+-- and before it the area in its own
 abbrev pub replayed : Buffers → Globals → Imaged
 replayed b g = cond (ltb (b .area) (areaAfter 0 (g .items))) (notLaid 13 0) (laidIn b (memoryOf g))
 

@@ -7,7 +7,7 @@ use Rattle.semantics.specs.Text.{Bytes, lineParts}
 use Rattle.semantics.specs.Tree.{AdtDecl, ConstDecl, VarDecl, Shape, TypeKey, Declares, Node}
 use Rattle.semantics.specs.Form.{Read, readOf, nodeOf}
 
--- the lines, with their rows: all parts but the last
+-- the lines, each read by its form: all parts but the last
 abbrev pub readsOf : List Bytes → List Read
 readsOf [] = []
 readsOf (l ∷ []) = []

@@ -88,8 +88,8 @@ partStart (p ∷ ps) (suc n) = length p + 1 + partStart ps n
 
 -- ---- a field of the sheet as that part of the sheet: lines from 1, fields from 0
 
--- line n, the empty line where it isn't there: what stands behind the last LF counts, for where that is nothing its one field
--- is the empty part at the sheet's end too
+-- line n, empty where it isn't there. What stands behind the last LF counts as a line: where nothing stands there, its one field is
+-- the empty part at the sheet's end, as that of a line that isn't there.
 abbrev pub lineText : Bytes → ℕ → Bytes
 lineText s zero = []
 lineText s (suc n) = getD (lineParts s) n []
@@ -139,7 +139,7 @@ unfoldable pub intOf : Bytes → Option ℤ
 intOf [] = none
 intOf (b ∷ bs) = cond (eqb b 45) (negative (natOf bs)) (mapOption pos (natOf (b ∷ bs)))
 
--- The decimal digits of n in front of acc, with fuel for at most n digits.
+-- The decimal digits of n in front of acc, at most k of them: n has no more than n + 1.
 -- The test whether n is one digit is an argument to match on: an argument of `cond` would be computed for all of the fuel.
 abbrev pub digitsFrom : ℕ → Bool → ℕ → Bytes → Bytes
 digitsFrom zero b n acc = acc

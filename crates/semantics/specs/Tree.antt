@@ -159,7 +159,7 @@ pub record Shape : Type 0 where
 pub data ElemKind : Type 0 where
   kByte kWord kBig kReal kPtr : ElemKind
 
--- what a `need` line asks a descriptor for
+-- what a descriptor is for: a `need` line asks for it, or an array for its elements
 pub data TypeKey : Type 0 where
   adtKey : Bytes → TypeKey
   elemKey : ElemKind → TypeKey
@@ -197,8 +197,8 @@ noCase = record { tags = []; fields = [] }
 abbrev pub noSe : Se
 noSe = record { low = otherEx; high = absent }
 
-abbrev pub declares : List AdtDecl → List ConstDecl → List VarDecl → List Shape → List TypeKey → List Bytes → Bool → List Bytes → Node
-declares ds cs vs fs ns os c is = record {
+abbrev pub declaring : List AdtDecl → List ConstDecl → List VarDecl → List Shape → List TypeKey → List Bytes → Bool → List Bytes → Node
+declaring ds cs vs fs ns os c is = record {
   ty = ptr;
   ex = otherEx;
   el = next otherEx;
@@ -209,7 +209,7 @@ declares ds cs vs fs ns os c is = record {
 }
 
 abbrev pub noNode : Node
-noNode = declares [] [] [] [] [] [] false []
+noNode = declaring [] [] [] [] [] [] false []
 
 abbrev pub tree : Ty → Ex → El → Se → Fd → Case → Node
 tree t e l s f k = record { ty = t; ex = e; el = l; se = s; fd = f; case = k; declares = noNode .declares }
@@ -233,25 +233,25 @@ abbrev pub aCase : List Bytes → List Fd → Node
 aCase ts fs = tree ptr otherEx (next otherEx) noSe noFd (record { tags = ts; fields = fs })
 
 abbrev pub anAdt : Bytes → List Fd → Option (List Case) → Node
-anAdt n fs ks = declares (record { name = n; fields = fs; pick = ks } ∷ []) [] [] [] [] [] false []
+anAdt n fs ks = declaring (record { name = n; fields = fs; pick = ks } ∷ []) [] [] [] [] [] false []
 
 abbrev pub aConst : Bytes → ℕ → ℕ → Ex → Node
-aConst n l c e = declares [] (record { name = n; line = l; col = c; value = e } ∷ []) [] [] [] [] false []
+aConst n l c e = declaring [] (record { name = n; line = l; col = c; value = e } ∷ []) [] [] [] [] false []
 
 abbrev pub aVar : Ty → Option Ex → List Bytes → Node
-aVar t e ns = declares [] [] (record { ty = t; init = e; names = ns } ∷ []) [] [] [] false []
+aVar t e ns = declaring [] [] (record { ty = t; init = e; names = ns } ∷ []) [] [] [] false []
 
 abbrev pub aFrame : ℕ → List ℤ → Node
-aFrame s os = declares [] [] [] (record { size = s; pointers = os } ∷ []) [] [] false []
+aFrame s os = declaring [] [] [] (record { size = s; pointers = os } ∷ []) [] [] false []
 
 abbrev pub aNeed : TypeKey → Node
-aNeed k = declares [] [] [] [] (k ∷ []) [] false []
+aNeed k = declaring [] [] [] [] (k ∷ []) [] false []
 
 abbrev pub aModule : Bytes → Node
-aModule n = declares [] [] [] [] [] (n ∷ []) false []
+aModule n = declaring [] [] [] [] [] (n ∷ []) false []
 
 abbrev pub anEnd : Node
-anEnd = declares [] [] [] [] [] [] true []
+anEnd = declaring [] [] [] [] [] [] true []
 
 abbrev pub anImpl : Bytes → Node
-anImpl n = declares [] [] [] [] [] [] false (n ∷ [])
+anImpl n = declaring [] [] [] [] [] [] false (n ∷ [])

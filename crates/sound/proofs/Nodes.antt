@@ -7,7 +7,7 @@ use mathlib.Core.List.{List, [], _∷_, _++_}
 use mathlib.Core.Option.{Option, none, some}
 use lib.ListN.{length}
 use Rattle.semantics.specs.Text.{Bytes}
-use Rattle.semantics.specs.Tree.{Ty, Ex, El, Se, Fd, Case, AdtDecl, ConstDecl, VarDecl, Shape, TypeKey, Node, noFd, noCase, tree, declares, anEx, anEl}
+use Rattle.semantics.specs.Tree.{Ty, Ex, El, Se, Fd, Case, AdtDecl, ConstDecl, VarDecl, Shape, TypeKey, Node, noFd, noCase, tree, declaring, anEx, anEl}
 use Rattle.semantics.specs.Tree.Ex.{otherEx}
 use Rattle.semantics.specs.Tree.El.{next}
 use Rattle.semantics.specs.Form.Atom.{name}
@@ -42,11 +42,11 @@ no-ex : {t : Ty} {s : Se} → LimitedNode (tree t otherEx (next otherEx) s noFd 
 no-ex = tree-node tt tt tt tt tt
 
 decl-node : {ds : List AdtDecl} {cs : List ConstDecl} {vs : List VarDecl} {fs : List Shape} {ns : List TypeKey} {os : List Bytes} {c : Bool} {is : List Bytes}
-    → Every PlainAdt ds → Every LimitedDecl cs → Every LimitedVar vs → Plain os → LimitedNode (declares ds cs vs fs ns os c is)
+    → Every PlainAdt ds → Every LimitedDecl cs → Every LimitedVar vs → Plain os → LimitedNode (declaring ds cs vs fs ns os c is)
 decl-node a c v o = record { ex = tt; el = tt; fd = tt; tags = tt; fields = tt; adts = a; consts = c; vars = v; opens = o }
 
 -- an `end`, `impl`, `frame` or `need` line
-no-decl : {fs : List Shape} {ns : List TypeKey} {c : Bool} {is : List Bytes} → LimitedNode (declares [] [] [] fs ns [] c is)
+no-decl : {fs : List Shape} {ns : List TypeKey} {c : Bool} {is : List Bytes} → LimitedNode (declaring [] [] [] fs ns [] c is)
 no-decl = decl-node tt tt tt tt
 
 -- ---- lists of values

@@ -12,13 +12,13 @@ use Rattle.semantics.specs.Text.{Bytes, bytes, orElse, decimal, decimalℤ, hex
 use Rattle.semantics.specs.Form.{between}
 use Rattle.semantics.specs.Tree.{TypeKey}
 use Rattle.semantics.specs.Tree.TypeKey.{elemKey}
-use Rattle.semantics.specs.Fold.{bits64}
+use Rattle.semantics.specs.Fold.{bits64, realBytes}
 use Rattle.semantics.specs.Sheet.{concatMap}
 use Rattle.semantics.specs.Global.{Values, Item}
 use Rattle.semantics.specs.Global.Values.{byteValues, wordValues, bigValues, realValues}
 use Rattle.semantics.specs.Global.Item.{valuesItem, strItem, arrayItem, setItem, backItem}
 use Rattle.semantics.specs.Listing.{realText, itemFields, itemRow}
-use Rattle.semantics.specs.Image.{realBytes, elemSize, Replay, replayItem, replayAll}
+use Rattle.semantics.specs.Image.{elemSize, Replay, replayItem, replayAll}
 use Rattle.write.specs.Plain.{isPlainText}
 use Rattle.write.proofs.Back.{nat-back, int-back, hex-back, bits-back}
 use Rattle.write.proofs.Uncut.{decimal-plain, integer-plain, hex-plain}

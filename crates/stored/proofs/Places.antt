@@ -13,12 +13,12 @@ use Rattle.semantics.specs.Tree.{Ty, ConstVal, ElemKind}
 use Rattle.semantics.specs.Tree.ConstVal.{vInt, vReal, vStr}
 use Rattle.semantics.specs.Tree.ElemKind.{kByte, kWord, kBig, kReal, kPtr}
 use Rattle.semantics.specs.Sheet.{Source, concatMap}
-use Rattle.semantics.specs.Fold.{Names}
+use Rattle.semantics.specs.Fold.{Names, realBytes}
 use Rattle.semantics.specs.Array.{constByte, constWord, constBig, constReal}
 use Rattle.semantics.specs.Global.{Item, Init, Declared, Globals, strItems, elementItems, contents, initItems, placeOf, declareAt, globalsFrom, globals, laidVars, declaredIn, noGlobals}
 use Rattle.semantics.specs.Global.Item.{arrayItem, backItem}
 use Rattle.semantics.specs.Global.Init.{noInit, constInit, arrayInit, pendingInit}
-use Rattle.semantics.specs.Image.{wordBytes, bigBytes, realBytes, elemSize}
+use Rattle.semantics.specs.Image.{wordBytes, bigBytes, elemSize}
 use Rattle.semantics.proofs.Common.{never}
 use Rattle.demand.proofs.Elements.{Sized}
 use Rattle.demand.proofs.Replay.{AllSized, real-long, size-le}

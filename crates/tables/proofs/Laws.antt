@@ -6,7 +6,7 @@ use native.Mathlib.Omega.{arith}
 use lib.ListN.{length, take, drop, getD, length-drop}
 use lib.Seq.{drop-drop, getD-drop, ext-getD}
 use Rattle.semantics.specs.Text.{Bytes}
-use Rattle.checks.specs.Checks.{Checked, Kept}
+use Rattle.checks.specs.Checks.{Checked, Kept, Outside}
 use Rattle.checks.proofs.Kept.{kept-less, kept-then, checked-kept}
 use Rattle.semantics.specs.Sheet.{sheetSource}
 use Rattle.semantics.specs.Const.{constants}
@@ -21,7 +21,7 @@ use Rattle.globals.proofs.Collect.{collected-kept}
 use Rattle.record_log.specs.Entries as Records
 use Rattle.records.proofs.Kept.{logged-kept}
 use Rattle.need_keys.specs.declared.NeedCounts.{NeedCounts}
-use Rattle.type_keys.specs.Table.{Needs, Kinds, Outside}
+use Rattle.type_keys.specs.Table.{Needs, Kinds}
 use Rattle.tables.specs.Tables.{TablesHeld}
 use Rattle.names.specs.Table.{bitsOf, logIn, ConstsLogged}
 use Rattle.names.proofs.Laws.{SameText, logged-same, log-same}

@@ -10,7 +10,8 @@ use Rattle.semantics.specs.Sheet.{sheetSource, concatMap}
 use Rattle.semantics.specs.Array.{kindNumber}
 use Rattle.semantics.specs.Global.{Item}
 use Rattle.semantics.specs.Types.{arrayKey, distinct, position, keys}
-use Rattle.type_keys.specs.Table.{positionOf, kindFromOne, Needs, Kinds, Outside}
+use Rattle.checks.specs.Checks.{Outside}
+use Rattle.type_keys.specs.Table.{positionOf, kindFromOne, Needs, Kinds}
 use Rattle.type_keys.proofs.Distinct.{key-member, known-more, from-one-some}
 use Rattle.type_keys.proofs.Table.{line-below, position-below}
 

@@ -1,41 +1,20 @@
 -- The table: what is read of it after a store.
-use mathlib.Core.Path.{_≡_, refl, sym, ap, _∙_}
+use mathlib.Core.Path.{_≡_, refl, _∙_}
 use mathlib.Core.Bool.{Bool, true, false, cond}
 use mathlib.Core.List.{List}
 use Prim.Native.Nat.{ℕ, suc, _+_, _-_, _/_, _%_, _≤_, _<_}
 use native.Mathlib.Omega.{arith}
 use native.Mathlib.Nat.{div-add-mod'}
 use lib.Dec.{ltb, eqb}
-use lib.ListN.{length, drop, getD, set, length-set}
-use lib.Seq.{getD-set-same, getD-set-other, take-set-le, drop-set-lt, getD-drop, drop-drop}
+use lib.ListN.{length, getD, set, length-set}
+use lib.Seq.{getD-set-same, getD-set-other}
 use borrow.Author.Tests.{ltb-true, ltb-false, eqb-true, eqb-false}
 use Rattle.semantics.specs.Tree.{TypeKey}
 use Rattle.semantics.specs.Array.{kindNumber}
-use Rattle.checks.specs.Checks.{Kept}
-use Rattle.checks.proofs.Kept.{kept-all, kept-then, kept-less, kept-at}
-use Rattle.type_keys.specs.Table.{needLineOf, positionOf, kindFromOne, digestOf, kindsUsed, needEntered, kindEntered, Kinds, Outside}
+use Rattle.checks.specs.Checks.{Kept, Outside}
+use Rattle.checks.proofs.Kept.{kept-at, outside-all, outside-then, outside-set, outside-above}
+use Rattle.type_keys.specs.Table.{needLineOf, positionOf, kindFromOne, digestOf, kindsUsed, needEntered, kindEntered, Kinds}
 use Rattle.type_lines.proofs.Codes.{kind-low}
-
--- ---- what is kept
-
-pub outside-all : {a b : ℕ} {t : List ℕ} → Outside a b t t
-outside-all = record { kept = kept-all; above = refl }
-
-pub outside-then : {a b : ℕ} {t u v : List ℕ} → Outside a b t u → Outside a b u v → Outside a b t v
-outside-then x y = record { kept = kept-then (x .kept) (y .kept); above = y .above ∙ x .above }
-
-pub outside-less : {a b : ℕ} {t u : List ℕ} (c d : ℕ) → c ≤ a → b ≤ d → Outside a b t u → Outside c d t u
-outside-less {a} {b} {t} {u} c d h k x =
-    let z : b + (d - b) ≡ d = omega arith in
-    record { kept = kept-less h (x .kept); above = rw z at (sym (drop-drop (d - b) b u) ∙ ap (drop (d - b)) (x .above) ∙ drop-drop (d - b) b t) }
-
-pub outside-set : (a b : ℕ) (t : List ℕ) (j x : ℕ) → a ≤ j → j < b → Outside a b t (set t j x)
-outside-set a b t j x h k = record { kept = record { below = take-set-le a t j x h; long = length-set t j x }; above = drop-set-lt b t j x k }
-
-pub outside-above : {a b : ℕ} {t u : List ℕ} → Outside a b t u → (j : ℕ) → b ≤ j → getD u j 0 ≡ getD t j 0
-outside-above {a} {b} {t} {u} x j h =
-    let z : b + (j - b) ≡ j = omega arith in
-    rw z at (sym (getD-drop b u (j - b) 0) ∙ ap (λ (l : List ℕ). getD l (j - b) 0) (x .above) ∙ getD-drop b t (j - b) 0)
 
 -- ---- the parts of the table
 

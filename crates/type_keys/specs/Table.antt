@@ -4,7 +4,7 @@ use mathlib.Core.Path.{_≡_}
 use mathlib.Core.Bool.{cond}
 use mathlib.Core.List.{List, []}
 use lib.Dec.{ltb, eqb}
-use lib.ListN.{length, drop, getD, set}
+use lib.ListN.{length, getD, set}
 use Rattle.semantics.specs.Text.{Bytes, any}
 use Rattle.semantics.specs.Tree.{ElemKind, TypeKey}
 use Rattle.semantics.specs.Tree.TypeKey.{elemKey, opaqueKey}
@@ -12,7 +12,6 @@ use Rattle.semantics.specs.Form.{letter}
 use Rattle.semantics.specs.Array.{kindNumber}
 use Rattle.semantics.specs.Types.{sameTypeKey, distinct, position}
 use Rattle.lines.specs.Lines.{readAt}
-use Rattle.checks.specs.Checks.{Kept}
 use Rattle.type_lines.specs.Needs.{needAt}
 
 -- 128 bytes each: the line, from 0, of need q, low and high byte, and the position of its key among the distinct keys
@@ -55,11 +54,6 @@ pub record Kinds (t : Bytes) (ks : List TypeKey) (keys : ℕ) : Type 0 where
   pub count : keys ≡ length (distinct [] ks)
   pub position : (k : ElemKind) → kindFromOne t (kindNumber k) ≡ positionFromOne (elemKey k) (distinct [] ks)
   pub few : keys ≤ 128 + kindsUsed t
-
--- u is as long as t and holds the same bytes but from a up to b
-pub record Outside (a b : ℕ) (t u : Bytes) : Type 0 where
-  pub kept : Kept a t u
-  pub above : drop b u ≡ drop b t
 
 -- ---- what is stored
 

@@ -9,7 +9,8 @@ ghost use lib.ListN.{length, set};
 ghost use Rattle.semantics.specs.Tree.{ElemKind, TypeKey};
 ghost use Rattle.semantics.specs.Tree.TypeKey.{elemKey};
 ghost use Rattle.semantics.specs.Array.{kindNumber};
-ghost use Rattle.type_keys.specs.Table.{needLineOf, positionOf, kindFromOne, digestOf, needEntered, kindEntered, Kinds, Outside};
+ghost use Rattle.checks.specs.Checks.{Outside};
+ghost use Rattle.type_keys.specs.Table.{needLineOf, positionOf, kindFromOne, digestOf, needEntered, kindEntered, Kinds};
 
 // The line of need q; both are counted from 0.
 pub fn need_line(work: &[u8], q: usize) -> usize

@@ -12,7 +12,7 @@ use Rattle.semantics.specs.Tree.{Ty, Ex, elemOf}
 use Rattle.semantics.specs.Fold.{Result, bind, Names, foldAt0}
 use Rattle.semantics.specs.Fold.Result.{ok, failed, refuse}
 use Rattle.semantics.specs.Array.{ConstArray, constArray}
-use Rattle.semantics.specs.Global.{Init, arrayValue, firstValue, initOf, laidNames, noneOf, varValue}
+use Rattle.semantics.specs.Global.{Init, arrayValue, firstValue, initOf, plainInit, laidNames, noneOf, varValue}
 use Rattle.decimal.specs.Number as Number
 use Rattle.lines.specs.Lines.{readAt}
 use Rattle.values.specs.declared.ConstVal.{ConstVal}
@@ -33,7 +33,7 @@ use Rattle.arrays.specs.Arrays.{arrayedIn, typeOf, ArrayLine, DeclaredElement}
 use Rattle.global_table.specs.Table.{VarLine, namesOn}
 use Rattle.vars.specs.declared.First.{First}
 use Rattle.vars.specs.declared.First.the-variants.{NoValue, Value, Alloc, Literal, Pending, Refused}
-use Rattle.vars.specs.First.{initIn, FirstStands, Inits, varOn, Valued, plainInit, orPending}
+use Rattle.vars.specs.First.{initIn, FirstStands, Inits, varOn, Valued, orPending}
 use Rattle.vars.proofs.Lines.{init-none, init-some, value-line}
 
 -- ---- arrays
@@ -146,8 +146,7 @@ all-named true h = refl
 all-named false h = sym h
 
 plain-is : (ns : Names) (o : Option Ex) (t : Ty) (xs : List Bytes) → noneOf (laidNames xs) ≡ true → varValue ns (record { ty = t; init = o; names = xs }) ≡ plainInit ns o
-plain-is ns none t xs h = rw h
-plain-is ns (some e) t xs h = rw h
+plain-is ns o t xs h = rw h
 
 module _ (s : Bytes) {t : Bytes} (r : ℕ) (ns : Names) {b : Bool} (h : b ≡ not (noneOf (laidNames (namesOn s r)))) {x : First} {u : Bytes} where
   pub value-named : b ≡ true → Inits t (initOf ns (varOn s r .ty) (varOn s r .init)) x u → Inits t (orPending (varValue ns (varOn s r))) x u

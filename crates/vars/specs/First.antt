@@ -2,17 +2,14 @@
 use Prim.Native.Nat.{ℕ, _-_}
 use mathlib.Core.Path.{_≡_}
 use mathlib.Core.List.{[]}
-use mathlib.Core.Option.{Option, none, some}
 use Rattle.checks.specs.Checks.{KindLine}
 use Rattle.semantics.specs.Text.{Bytes}
-use Rattle.semantics.specs.Tree as Tree
-use Rattle.semantics.specs.Tree.{Ex, VarDecl}
-use Rattle.semantics.specs.Fold.{Result, bind, Names, foldAt0}
+use Rattle.semantics.specs.Tree.{VarDecl}
+use Rattle.semantics.specs.Fold.{Result}
 use Rattle.semantics.specs.Fold.Result.{ok, failed, refuse}
 use Rattle.semantics.specs.Global.{Init, noInit, constInit, arrayInit, pendingInit}
 use Rattle.lines.specs.Lines.{readAt, nodesIn}
 use Rattle.source.specs.Walk.{varOf}
-use Rattle.values.specs.declared.ConstVal.{ConstVal}
 use Rattle.values.specs.Values.{valueIn, At}
 use Rattle.placements.specs.Placements.{valuesIn, Keeps}
 use Rattle.global_table.specs.Table.{VarLine}
@@ -56,11 +53,6 @@ varOn s r = varOf (nodesIn s) (readAt s (r - 1) .fields)
 pub record Valued (s t : Bytes) (n r q : ℕ) : Type 0 where
   pub line : VarLine s t n r
   pub value : KindLine 69 s t n q
-
--- a value that is folded where no name is laid out
-abbrev pub plainInit : Names → Option Ex → Result Init
-plainInit ns none = ok noInit
-plainInit ns (some e) = bind (foldAt0 ns e) (λ (v : Tree.ConstVal). ok (constInit v))
 
 -- one that fails is taken as pending
 abbrev pub orPending : Result Init → Result Init

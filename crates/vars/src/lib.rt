@@ -12,7 +12,7 @@ ghost use Prim.Native.Nat.{_<_};
 ghost use Rattle.semantics.specs.Text.{Bytes};
 ghost use Rattle.semantics.specs.Tree.{elemOf};
 ghost use Rattle.semantics.specs.Array.{constArray};
-ghost use Rattle.semantics.specs.Global.{arrayValue, initOf, laidNames, noneOf, varValue};
+ghost use Rattle.semantics.specs.Global.{arrayValue, initOf, plainInit, laidNames, noneOf, varValue};
 ghost use Rattle.implement.specs.Modules.{Open};
 ghost use Rattle.names.specs.Table.{ConstsLogged};
 ghost use Rattle.leaf.specs.Folds.{exAt};
@@ -22,7 +22,7 @@ ghost use Rattle.arrays.specs.Arrays.{arrayedIn, typeOf, DeclaredElement};
 ghost use Rattle.global_table.specs.Table.{VarLine, namesOn};
 ghost use Rattle.globals.specs.Vars.{laidAt};
 ghost use Rattle.vars.specs.Lines.{laidOn, MayLay};
-ghost use Rattle.vars.specs.First.{initIn, FirstStands, Inits, varOn, Valued, plainInit, orPending};
+ghost use Rattle.vars.specs.First.{initIn, FirstStands, Inits, varOn, Valued, orPending};
 
 // The first value of a global: none, a folded one, the kind and the number of an array's elements, or one that is left pending.
 // Strings and the values of a literal stand in the working space.

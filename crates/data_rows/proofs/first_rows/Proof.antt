@@ -3,7 +3,7 @@ use Rattle.data_rows.proofs.Firsts.{first-within, first-filled, first-n
 use Rattle.data_rows.proofs.Printed.{printed-none, printed-value, printed-array}
 use Rattle.data_rows.proofs.Keys.{arrayBy}
 use Rattle.data_rows.proofs.Kept.{literal-filled, filled-still, values-still}
-use Rattle.type_keys.proofs.Table.{outside-all}
+use Rattle.checks.proofs.Kept.{outside-all}
 use Rattle.placements.specs.Placements.{valuesIn}
 use Rattle.values.specs.Values.{valueIn}
 use mathlib.Core.List.{[]}

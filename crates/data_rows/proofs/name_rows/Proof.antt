@@ -2,7 +2,7 @@
 use Rattle.data_rows.proofs.Names.{name-nil, name-items}
 use Rattle.data_rows.proofs.Firsts.{held-keyed}
 use Rattle.data_rows.proofs.Printed.{printed-as, printed-none}
-use Rattle.type_keys.proofs.Table.{outside-all}
+use Rattle.checks.proofs.Kept.{outside-all}
 use Rattle.vars.specs.First.{initIn}
 use Rattle.global_table.specs.Table.{placesIn}
 use denote.Ref.{now}

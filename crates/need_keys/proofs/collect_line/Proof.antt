@@ -3,7 +3,7 @@ use denote.Ref.{now}
 use mathlib.Core.Path.{_∙_, sym, ap}
 use Rattle.form.specs.Table.{kindAt}
 use Rattle.lines.proofs.Line.{form-low, kind-is}
-use Rattle.type_keys.proofs.Table.{outside-all}
+use Rattle.checks.proofs.Kept.{outside-all}
 use Rattle.need_keys.proofs.Pass.{collecting-stay, collecting-need}
 use borrow.Author.Needs.{needs}
 use Rattle.need_keys.proofs.collect_line.Statement.{statement}

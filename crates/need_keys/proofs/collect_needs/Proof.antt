@@ -2,10 +2,9 @@ use native.Mathlib.Omega.{arith}
 use borrow.Author.Needs.{needs}
 use Prim.Native.Nat.{_-_}
 use denote.Ref.{now}
-use Rattle.checks.proofs.Kept.{checked-kept, kept-less}
-use Rattle.type_keys.specs.Table.{Outside}
+use Rattle.checks.proofs.Kept.{checked-kept, kept-less, outside-all, outside-then, outside-less}
+use Rattle.checks.specs.Checks.{Outside}
 use Rattle.need_keys.specs.Pass.{Collecting}
-use Rattle.type_keys.proofs.Table.{outside-all, outside-then, outside-less}
 use Rattle.need_keys.proofs.Pass.{collecting-start, collecting-end}
 use Rattle.need_keys.proofs.collect_needs.Statement.{statement}
 use Rattle.need_keys.proofs.collect_needs.Tie as tie

@@ -3,8 +3,10 @@ use native.Mathlib.Omega.{arith}
 use borrow.Author.Needs.{needs}
 use mathlib.Core.Path.{_≡_}
 use Prim.Native.Nat.{ℕ, _-_, _<_, _≤_}
-use Rattle.type_keys.proofs.Table.{outside-all, outside-then, outside-set, cleared-next}
-use Rattle.type_keys.specs.Table.{kindFromOne, Outside}
+use Rattle.checks.proofs.Kept.{outside-all, outside-then, outside-set}
+use Rattle.type_keys.proofs.Table.{cleared-next}
+use Rattle.checks.specs.Checks.{Outside}
+use Rattle.type_keys.specs.Table.{kindFromOne}
 use Rattle.type_keys.proofs.clear_kinds.Statement.{statement}
 use Rattle.type_keys.proofs.clear_kinds.Tie as tie
 

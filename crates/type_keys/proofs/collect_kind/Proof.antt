@@ -1,7 +1,8 @@
 use Rattle.type_keys.specs.Table.{kindFromOne}
 use denote.Ref.{now}
 use mathlib.Core.Path.{_∙_, sym, ap}
-use Rattle.type_keys.proofs.Table.{outside-all, kind-outside}
+use Rattle.checks.proofs.Kept.{outside-all}
+use Rattle.type_keys.proofs.Table.{kind-outside}
 use Rattle.type_keys.proofs.Elements.{kind-known, kind-new}
 use borrow.Author.Needs.{needs}
 use Rattle.type_keys.proofs.collect_kind.Statement.{statement}
