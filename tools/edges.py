@@ -5,8 +5,9 @@ cast, every reference, both sides of each refusal, and two faults in one sheet.
 
 `made` is the answer where it is known by construction: (number, line), or
 (listing, end of allocation); otherwise None, and tools/answer asks. It is
-given wherever the Rust cannot be asked: refusals 8, 12 and 13, spans over
-65,536 indices, and tuples nested so deep that the Rust takes too long.
+given for every refusal, and wherever the Rust cannot be asked: strings that
+might be too long, spans over 65,536 indices, and tuples nested so deep that
+the Rust takes too long.
 """
 from sheets import INTS, REALS, Build, hex_text
 

@@ -32,6 +32,10 @@ static void print_refusal(size_t length, unsigned number, size_t line)
 int main(void)
 {
     size_t length = fread(sheet, 1, sizeof sheet, stdin);
+    if (ferror(stdin)) {
+        perror("standard input");
+        return 2;
+    }
     struct limbo_sheet_compiled c = limbo_sheet_compile(sheet, length, listing, sizeof listing, work, sizeof work);
     if (c.number != 0) {
         print_refusal(length, c.number, c.line);

@@ -10,11 +10,13 @@
  * buffers only and keep nothing between calls, so that calls with other buffers may run in several threads at once.
  *
  * Every written buffer is written whole. The listing, the image and the area hold their bytes and zeros behind them, and after
- * a refusal zeros only; the working space holds zeros in any case.
- *
- * x86-64 Linux with pointers of 64 bits only: the archive has code for no other machine. */
+ * a refusal zeros only; the working space holds zeros in any case. */
 #ifndef LIMBO_SHEET_H
 #define LIMBO_SHEET_H
+
+#if !defined(__x86_64__) || !defined(__LP64__) || !defined(__linux__)
+#error "libexport.a has code for x86-64 Linux with pointers of 64 bits only"
+#endif
 
 #include <stddef.h>
 #include <stdint.h>
@@ -30,8 +32,23 @@ extern "C" {
 #define LIMBO_SHEET_WORK 65536
 
 /* number: 0, or 1 to 13 where the sheet is refused; line: the refused line, from 1, and 0 for the numbers 1, 2 and 13 and where
- * nothing is refused. Lengths are 0 after a refusal and never pass the buffer's. A listing, an image or an area that does not
- * fit its buffer is refused by 13. */
+ * nothing is refused. listing, image and area are lengths in bytes: 0 after a refusal, and never more than the buffer's. Refused is
+ * a sheet where
+ *
+ *  1  it passes 65,535 bytes
+ *  2  the working space is under 65,536 bytes
+ *  3  a line has no form, passes 255 bytes (LF not counted) or lacks LF, or is line 1,025
+ *  4  a reference has the wrong kind, is 0 where a line is needed, or is not earlier or not first
+ *  5  references nest over 32 lines, itself counted
+ *  6  `mod` stands in `mod`, `end` outside, or the last line leaves `mod` open
+ *  7  `con`, `need` or `frame` lines pass 128 each, records plus tags (at their `pick` line) 128, or `var` names 256
+ *  8  a fold builds a string over 256 bytes
+ *  9  an `alloc` length passes 2,147,483,647 or is below -2,147,483,648
+ * 10  an `alloc` length is otherwise negative
+ * 11  a literal, not pending, places an index outside its size
+ * 12  a literal's length otherwise passes 1,024
+ * 13  listing, image or area outgrows its buffer
+ */
 struct limbo_sheet_compiled {
     uint8_t number;
     size_t line;

@@ -1,9 +1,9 @@
 // A child module of codegen.rs (see build): reads a sheet of document 01,
 // builds the syntax tree, runs the functions that its paragraph 'Reference'
 // names and prints the listing. Every printed value is taken from the tables
-// of CodeGen; only the orders that a HashMap loses (records, constants) come
-// from the sheet. The sheet must pass checks 1 to 7; the driver panics on
-// others.
+// of CodeGen, but every NaN is printed as 7FF8000000000000; the orders that a
+// HashMap loses (records, constants) come from the sheet. The sheet must pass
+// checks 1 to 7; the driver panics on others.
 //
 //   harness [--mp] [--ptr KIND] < SHEET
 //   harness [--mp] [--ptr KIND] --batch < FRAMES

@@ -143,8 +143,16 @@ pub struct Lengths {
     pub area: usize,
 }
 
-/// Listing, image and area.
-pub type Image = (Vec<u8>, Vec<u8>, Vec<u8>);
+/// What `image` makes of a sheet.
+#[derive(Clone, Debug, PartialEq, Eq)]
+pub struct Image {
+    /// The listing.
+    pub listing: Vec<u8>,
+    /// The image of the sheet's data.
+    pub image: Vec<u8>,
+    /// The area of its arrays.
+    pub area: Vec<u8>,
+}
 
 /// A length that was told of a buffer.
 fn within(length: usize, buffer: &[u8]) -> usize {
@@ -234,5 +242,9 @@ pub fn image(sheet: &[u8]) -> Result<Image, Refusal> {
     listing.truncate(lengths.listing);
     image.truncate(lengths.image);
     area.truncate(lengths.area);
-    Ok((listing, image, area))
+    Ok(Image {
+        listing,
+        image,
+        area,
+    })
 }

@@ -1,6 +1,6 @@
 //! What crosses the boundary: bytes, lengths, refusals, and what the lent buffers hold afterwards.
 use limbo_sheet::{
-    field, image, image_into, listing, listing_into, Refusal, LENT, LONGEST_SHEET, WORK,
+    field, image, image_into, listing, listing_into, Image, Refusal, LENT, LONGEST_SHEET, WORK,
 };
 
 const SHEET: &[u8] = include_bytes!("../../../cases/round.sheet");
@@ -26,6 +26,14 @@ fn zeros(buffer: &[u8]) -> bool {
 
 fn refusal(number: u8, line: usize) -> Refusal {
     Refusal { number, line }
+}
+
+fn made(listing: &[u8], image: &[u8], area: &[u8]) -> Image {
+    Image {
+        listing: listing.to_vec(),
+        image: image.to_vec(),
+        area: area.to_vec(),
+    }
 }
 
 /// Lends the front of `rest`, and keeps back a byte behind it.
@@ -74,10 +82,7 @@ fn laid(sheet: &[u8], lent: [usize; 4]) -> Result<[Vec<u8>; 3], Refusal> {
 #[test]
 fn round_sheet() {
     assert_eq!(listing(SHEET).unwrap(), round_listing());
-    assert_eq!(
-        image(SHEET).unwrap(),
-        (round_listing().to_vec(), IMAGE.to_vec(), AREA.to_vec())
-    );
+    assert_eq!(image(SHEET).unwrap(), made(round_listing(), IMAGE, AREA));
     assert_eq!(compiled(SHEET, LENT, WORK).unwrap(), round_listing());
     assert_eq!(
         laid(SHEET, [LENT, LENT, LENT, WORK]).unwrap(),
@@ -88,7 +93,7 @@ fn round_sheet() {
 #[test]
 fn empty_sheet() {
     assert_eq!(listing(b"").unwrap(), EMPTY);
-    assert_eq!(image(b"").unwrap(), (EMPTY.to_vec(), vec![], vec![]));
+    assert_eq!(image(b"").unwrap(), made(EMPTY, b"", b""));
     assert_eq!(
         laid(b"", [EMPTY.len(), 0, 0, WORK]).unwrap(),
         [EMPTY, b"", b""]
@@ -116,6 +121,79 @@ fn long_sheet() {
     assert_eq!(laid(&long, [LENT, LENT, LENT, WORK]), Err(refusal(1, 0)));
     assert_eq!(compiled(&long[1..], LENT, WORK), Err(refusal(3, 1)));
     assert_eq!(compiled(&long, 0, 0), Err(refusal(1, 0)));
+}
+
+#[test]
+fn line_1025() {
+    let lines = b"ty,int\n".repeat(1025);
+    assert_eq!(compiled(&lines, LENT, WORK), Err(refusal(3, 1025)));
+    assert_eq!(compiled(&lines[7..], LENT, WORK).unwrap(), EMPTY);
+}
+
+#[test]
+fn any_bytes() {
+    for b in 0..=u8::MAX {
+        for sheet in [&[b][..], &[b, b'\n'], &[b, b',', b, b'\n']] {
+            assert_eq!(compiled(sheet, LENT, WORK), Err(refusal(3, 1)));
+            assert_eq!(laid(sheet, [LENT, LENT, LENT, WORK]), Err(refusal(3, 1)));
+        }
+        let field_of = if b == b'\n' || b == b',' {
+            &[][..]
+        } else {
+            &[b]
+        };
+        assert_eq!(field(&[b, b',', b], 1, 0), field_of);
+    }
+}
+
+#[test]
+fn empty_slices() {
+    let (mut listing, mut work) = (dirty(LENT), dirty(WORK));
+    let lengths = image_into(b"", &mut listing, &mut [], &mut [], &mut work).unwrap();
+    assert_eq!((lengths.image, lengths.area), (0, 0));
+    assert_eq!(&listing[..lengths.listing], EMPTY);
+    assert_eq!(
+        image_into(SHEET, &mut listing, &mut [], &mut [], &mut work),
+        Err(refusal(13, 0))
+    );
+    assert_eq!(listing_into(SHEET, &mut [], &mut work), Err(refusal(13, 0)));
+    assert_eq!(listing_into(b"", &mut [], &mut []), Err(refusal(2, 0)));
+    assert!(zeros(&listing) && zeros(&work));
+}
+
+/// 128 frames and 128 needs of 4,096 bytes, whose listing passes 65,536 bytes: need i has its one pointer in word i.
+fn long_listing() -> (String, String) {
+    let (mut sheet, mut types, mut uses) = (String::new(), String::new(), String::new());
+    for i in 0..128 {
+        sheet += "frame,4096,0\n";
+        types += &format!("typ,{},4096,0,{}\n", 2 + i, "00".repeat(128));
+    }
+    for i in 0..128 {
+        sheet += &format!("need,block,4096,1,{}\n", 4 * i);
+        let (before, byte) = (i / 8, 128 >> (i % 8));
+        let (front, back) = ("00".repeat(before), "00".repeat(127 - before));
+        types += &format!("typ,{},4096,1,{front}{byte:02X}{back}\n", 130 + i);
+        uses += &format!("use,{}\n", 130 + i);
+    }
+    let empty = String::from_utf8(EMPTY.to_vec()).unwrap();
+    (sheet, empty + &types + &uses)
+}
+
+#[test]
+fn listing_over_what_is_lent() {
+    let (sheet, long) = long_listing();
+    let (sheet, n) = (sheet.as_bytes(), long.len());
+    assert!(n > LENT);
+    assert_eq!(listing(sheet), Err(refusal(13, 0)));
+    assert_eq!(image(sheet), Err(refusal(13, 0)));
+    assert_eq!(compiled(sheet, n - 1, WORK), Err(refusal(13, 0)));
+    for room in [n, n + 1, 3 * LENT] {
+        assert_eq!(compiled(sheet, room, WORK).unwrap(), long.as_bytes());
+        assert_eq!(
+            laid(sheet, [room, 0, 0, WORK]).unwrap(),
+            [long.as_bytes(), b"", b""]
+        );
+    }
 }
 
 #[test]
@@ -188,11 +266,23 @@ fn refusals_say_what_they_are() {
     assert_eq!(all.len(), 13);
 }
 
+/// Each thread has a sheet of its own, and none meets what another one leaves.
 #[test]
 fn calls_at_once() {
+    let (long, _) = long_listing();
+    let cases: [(&[u8], Result<Image, Refusal>); 4] = [
+        (SHEET, Ok(made(round_listing(), IMAGE, AREA))),
+        (b"", Ok(made(EMPTY, b"", b""))),
+        (b"ty,int\nzz\n", Err(refusal(3, 2))),
+        (long.as_bytes(), Err(refusal(13, 0))),
+    ];
     std::thread::scope(|s| {
-        for _ in 0..4 {
-            s.spawn(|| assert_eq!(image(SHEET).unwrap().1, IMAGE));
+        for (sheet, answer) in &cases {
+            s.spawn(move || {
+                for _ in 0..200 {
+                    assert_eq!(&image(sheet), answer);
+                }
+            });
         }
     });
 }

@@ -1,4 +1,4 @@
-//! Stand-in for `ricevm_core`'s opcode.rs, which is not published with the rest: every variant that
+//! Stand-in for `ricevm_core`'s opcode.rs, which is not among the files that 01 names: every variant that
 //! `codegen.rs` names. The numbers are not dis(6)'s; nothing compared depends on them.
 
 #[derive(Debug, Clone, Copy, PartialEq, Eq)]

@@ -1,4 +1,4 @@
-//! Stand-in for the root of the `ricevm_core` crate, which is not published with the rest.
+//! Stand-in for the root of the `ricevm_core` crate, which is not among the files that 01 names.
 //! Only the re-exports that `codegen.rs` names; the three modules below other
 //! than `opcode` are the unmodified files.
 
