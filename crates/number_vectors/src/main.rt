@@ -1,5 +1,6 @@
-// Runs the vectors of `stdin` through ints, reals and conversions: published floating-point cases (exact sums, ties, subnormals,
-// overflow to infinity, infinities and zeros of both signs, NaNs of several patterns) and document 01's numeric rows. A vector
+// Runs the vectors of `stdin` through ints, reals and conversions: edges of floating point (exact sums, ties, subnormals, overflow
+// to infinity, infinities and zeros of both signs, NaNs of several patterns), published values (RFC 8785, appendix B; RFC 8949,
+// appendix A; the quotient 4195835 / 3145727, which a faulty divider once got wrong), and document 01's numeric rows. A vector
 // is a line of 37 bytes: an operation's number as below, in 2 hexadecimal digits, and two operands' bits, in 16 each. A line is
 // written for each: the operation, its operands and what it gives, reals by their bits and integers in decimal.
 // `stdout` is what expected.py works out from `stdin` with Python's own integers and the machine's floats.
