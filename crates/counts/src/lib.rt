@@ -19,6 +19,7 @@ pub struct Tally {
     pub names: usize,
 }
 
+// 1 where k is the kind asked for, else 0.
 fn one(k: u8, kind: u8) -> usize
     ensures { λ r. ⌜ (r ≡ oneOf k kind) × (r ≤ 1) ⌝ }
 {

@@ -1,4 +1,4 @@
--- The table's bytes are those of its Form.forms; facts of all Form.forms, by one test.
+-- The table's bytes are those of `Form.forms`; facts of all forms, by one test.
 use mathlib.Core.Path.{_≡_, refl, ap, _∙_}
 use mathlib.Core.Bool.{Bool, true, cond, not, _&&_}
 use mathlib.Core.List.{List, [], _∷_, _++_}
@@ -91,7 +91,7 @@ atom-cell f h j k = letters-at Form.forms f j (omega (arith, row-count)) k
 pub width-cell : (f : ℕ) → f < 42 → getD (column (λ (r : Form.Row). length (r .words) + 96) Form.forms) f 0 ≡ length (keywordsAt f) + 96
 width-cell f h = column-at (λ (r : Form.Row). length (r .words) + 96) Form.forms f (omega (arith, row-count))
 
--- ---- what holds of all Form.forms
+-- ---- what holds of all forms
 
 plain : ℕ → Bool
 plain b = not (eqb b 32) && ltb b 129

@@ -32,7 +32,7 @@ fn is_open(k: u8, inside: bool) -> bool
     inside
 }
 
-// The first line that a module may not have there, the last line where a module is left open, 0 where all is well.
+// The first `mod` inside a module or `end` outside one, the last line where a module is left open, 0 where all is well.
 pub fn bad_module(sheet: &[u8], work: &[u8], n: usize) -> usize
     requires { ⌜ Whole (now sheet) (now work) n ⌝ }
     ensures { λ r. ⌜ r ≡ badModuleFrom 1 false (readsIn (now (sheet .entry))) ⌝ }

@@ -25,5 +25,5 @@ returns-5 c = integer-none (now (c .before .before .before .before .args .s)) (c
 
 pub read-integer-spec : {M : Type 1} → statement M
 read-integer-spec =
-    tie.close (tie.spec (λ c κs. search needs) (λ c. search needs) returns (λ c. search needs) (λ c. search needs) returns-2 sub-t9
+    tie.close (tie.spec (λ c κs. search needs) (λ c. search needs) (λ c. search needs) returns (λ c. search needs) (λ c. search needs) (λ c. search needs) returns-2 sub-t9
     (λ c. search needs) (λ c. search needs) returns-3 returns-4 returns-5)
