@@ -84,8 +84,8 @@ letters-at (r ∷ rs) (suc f) j h k =
     let e : 5 * suc f + j ≡ length (padTo 5 (codes (r .parts))) + (5 * f + j) = omega (arith, fill-length 5 (codes (r .parts))) in
     ap (λ (i : ℕ). getD (padTo 5 (codes (r .parts)) ++ letters rs) i 0) e ∙ getD-append-add (padTo 5 (codes (r .parts))) (letters rs) (5 * f + j) 0 ∙ letters-at rs f j (omega arith) k
 
-pub atom-cell : (f : ℕ) → f < 42 → (j : ℕ) → j < 5 → getD (letters Form.forms) (5 * f + j) 0 ≡ getD (codesAt f) j 32
-atom-cell f h j k = letters-at Form.forms f j (omega (arith, row-count)) k
+pub letter-cell : (f : ℕ) → f < 42 → (j : ℕ) → j < 5 → getD (letters Form.forms) (5 * f + j) 0 ≡ getD (codesAt f) j 32
+letter-cell f h j k = letters-at Form.forms f j (omega (arith, row-count)) k
 
 -- the lengths of keywords, each a small letter
 pub width-cell : (f : ℕ) → f < 42 → getD (column (λ (r : Form.Row). length (r .words) + 96) Form.forms) f 0 ≡ length (keywordsAt f) + 96

@@ -17,7 +17,7 @@ use Rattle.semantics.specs.Refusal as Refusal
 use Rattle.decimal.specs.Number as Number
 use Rattle.form.specs.declared.Walk.{Walk}
 use Rattle.form.specs.Table.{code, codes, rowAt}
-use Rattle.form.specs.Letters.{after, pending, letterHolds, lettersFrom, fieldsLeft, beginning, WalkAt, WalkStepped}
+use Rattle.form.specs.Letters.{after, lettersLeft, letterHolds, lettersFrom, fieldsLeft, beginning, WalkAt, WalkStepped}
 use Rattle.semantics.proofs.Common.{both}
 use Rattle.form.proofs.Table.{fine, parts-fine}
 use Rattle.form.proofs.Laws.{fields-end, one-after, many-after, ones-fine, kind-letter, ref-holds, walk-begins}
@@ -89,7 +89,7 @@ ref-number x f low high h = go (Text.natOf f) (ltb-true _ _ (sym (ref-holds x f 
 
 module _ (s t : List ℕ) (n i : ℕ) (w : Whole s t n) (h : i < n) (l : List ℕ) (f : ℕ) (hl : l ≡ textAt s i) (hf : f ≡ formAt t i) where
   pub refs-begin : Refusal.refsOf (readAt s i) ≡ refsBy (lettersFrom f (beginning f)) (fieldsLeft l (beginning f))
-  unfolding pending
+  unfolding lettersLeft
   refs-begin =
       rw (form-is s t n w i h, fields-are s t n w i h, hf, hl)
       (sym (refs-codes _ (rowAt (formAt t i) .parts) (parts-fine (formAt t i) (form-low s t n w i h))))
