@@ -266,7 +266,8 @@ fn is_good(s: &[u8], x: u8) -> bool
 
 // ---- the walk
 
-// A field that begins at `at`, past the line's end where none is left: `left` more fields with this letter, then the form's from its letter `next` on.
+// A walk stands at the field that begins at `at`, past the line's end where none is left. `left` more fields have this letter, and those
+// behind them the form's letters from `next` on.
 pub struct Walk {
     pub at: usize,
     pub next: usize,
