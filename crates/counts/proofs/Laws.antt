@@ -216,7 +216,7 @@ module _ (s : List ℕ) (n i : ℕ) (few : n ≤ 1024) (hi : i < n) (f : ℕ) (l
     number-is : v ≡ numberOf (q .field)
     number-is =
         let k = case-ref in
-        let m : v ≡ min (numberOf (q .field)) 65536 = q .number ∙ ref-number x (q .field) (omega arith) (omega arith) (q .good) in
+        let m : v ≡ min (numberOf (q .field)) 65536 = q .number ∙ ref-number x (q .field) is-ref (q .good) in
         omega (arith, k .1)
 
     pub tagging-case : (0 < v) × (v ≤ n) × (letter (readAt s (v - 1) .form .kind) ≡ 67)

@@ -10,6 +10,10 @@ ghost use Rattle.semantics.specs.Refusal.{overLimits, noCounts, refsOf, badRefF
 ghost use Rattle.lines.specs.Lines.{readsIn, readAt, nodesIn, Whole};
 ghost use Rattle.counts.specs.Counts.{countsOf, fieldNumber, oneOf, tagsIn, recordsOn, varNames, added};
 
+const MOST_OF_A_KIND: usize = 128;
+
+const MOST_NAMES: usize = 256;
+
 // `con`, `need` and `frame` lines, records plus tags, and `var` names.
 pub struct Tally {
     pub consts: usize,
@@ -19,6 +23,7 @@ pub struct Tally {
     pub names: usize,
 }
 
+// 1 where k is the kind asked for, else 0.
 fn one(k: u8, kind: u8) -> usize
     ensures { λ r. ⌜ (r ≡ oneOf k kind) × (r ≤ 1) ⌝ }
 {
@@ -102,19 +107,19 @@ fn count(sheet: &[u8], work: &[u8], n: usize, i: usize, t: Tally) -> Tally
 fn is_over(t: Tally) -> bool
     ensures { λ r. ⌜ r ≡ overLimits (countsOf t) ⌝ }
 {
-    if 128 < t.consts {
+    if MOST_OF_A_KIND < t.consts {
         return true;
     }
-    if 128 < t.needs {
+    if MOST_OF_A_KIND < t.needs {
         return true;
     }
-    if 128 < t.frames {
+    if MOST_OF_A_KIND < t.frames {
         return true;
     }
-    if 128 < t.records {
+    if MOST_OF_A_KIND < t.records {
         return true;
     }
-    256 < t.names
+    MOST_NAMES < t.names
 }
 
 // The first line at which a count passes its bound, 0 where there is none.

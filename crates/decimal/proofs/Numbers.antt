@@ -168,7 +168,7 @@ module _ (s : Bytes) (h : 0 < length s) {m : ℕ} where
     unfolding signedOf numberUpTo
     plus-some l = rw (int-plus s e h) (plus-by (natOf s) is .1 l)
 
--- what sign and size say of the integer
+-- what sign and magnitude say of the integer
 data Known : Option ℤ → Signed → Type 0 where
   unknown : Known none NoInteger
   plus : {n m : ℕ} → m ≡ min n most → Known (some (pos n)) (Plus m)
@@ -200,18 +200,18 @@ module _ (s : Bytes) {r : Signed} (is : r ≡ signedOf s) where
       go (some (pos n)) r (plus p) e = never cc
       go (some (negsuc n)) r (minus p) e = never cc
 
-  -- by the size n that the code has
+  -- by the magnitude n that the code has
   module _ {n : ℕ} where
-    plus-by-size : r ≡ Plus n → (m : ℕ) × (intOf s ≡ some (pos m)) × (n ≡ min m most)
-    plus-by-size e = go (intOf s) r known-of e
+    plus-by-magnitude : r ≡ Plus n → (m : ℕ) × (intOf s ≡ some (pos m)) × (n ≡ min m most)
+    plus-by-magnitude e = go (intOf s) r known-of e
       where
         go : (o : Option ℤ) (r : Signed) → Known o r → r ≡ Plus n → (m : ℕ) × (o ≡ some (pos m)) × (n ≡ min m most)
         go none r unknown e = never cc
         go (some (pos m)) (Plus k) (plus p) e = let q : k ≡ n = cc in (m, refl, omega arith)
         go (some (negsuc m)) r (minus p) e = never cc
 
-    minus-by-size : r ≡ Minus n → (m : ℕ) × (intOf s ≡ some (negsuc m)) × (n ≡ min (suc m) most)
-    minus-by-size e = go (intOf s) r known-of e
+    minus-by-magnitude : r ≡ Minus n → (m : ℕ) × (intOf s ≡ some (negsuc m)) × (n ≡ min (suc m) most)
+    minus-by-magnitude e = go (intOf s) r known-of e
       where
         go : (o : Option ℤ) (r : Signed) → Known o r → r ≡ Minus n → (m : ℕ) × (o ≡ some (negsuc m)) × (n ≡ min (suc m) most)
         go none r unknown e = never cc
@@ -221,37 +221,37 @@ module _ (s : Bytes) {r : Signed} (is : r ≡ signedOf s) where
     module _ (e : r ≡ Plus n) where
       pub plus-large : 9223372036854775807 < n → Bad ≡ integerOf s
       unfolding integerOf
-      plus-large h = let q = plus-by-size e in rw (q .1) (simp (lt-leb (q .0) 9223372036854775807 (omega (arith, q .2))))
+      plus-large h = let q = plus-by-magnitude e in rw (q .1) (simp (lt-leb (q .0) 9223372036854775807 (omega (arith, q .2))))
 
       pub plus-is : n ≤ 9223372036854775807 → Is (toZ w64 n) ≡ integerOf s
       unfolding integerOf
       plus-is h =
-          let q = plus-by-size e in
+          let q = plus-by-magnitude e in
           let k : n ≡ q .0 = omega (arith, q .2) in
           rw (q .1) (simp (le-leb (q .0) 9223372036854775807 (omega arith)) (ap Is (toZ-pos w64 n (omega arith) ∙ ap pos k)))
 
       pub plus-within : (lo hi : ℕ) → hi < most → leb n hi ≡ isBetween lo hi s
       unfolding isBetween
-      plus-within lo hi h = let q = plus-by-size e in rw (q .1) (cut-leb hi (q .0) n (q .2) h)
+      plus-within lo hi h = let q = plus-by-magnitude e in rw (q .1) (cut-leb hi (q .0) n (q .2) h)
 
     module _ (e : r ≡ Minus n) where
-      pub minus-size : 0 < n
-      minus-size = omega (arith, minus-by-size e .2)
+      pub minus-magnitude : 0 < n
+      minus-magnitude = omega (arith, minus-by-magnitude e .2)
 
       pub minus-large : 9223372036854775808 < n → Bad ≡ integerOf s
       unfolding integerOf
-      minus-large h = let q = minus-by-size e in rw (q .1) (simp (le-ltb (q .0) 9223372036854775808 (omega (arith, q .2))))
+      minus-large h = let q = minus-by-magnitude e in rw (q .1) (simp (le-ltb (q .0) 9223372036854775808 (omega (arith, q .2))))
 
       pub minus-is : n ≤ 9223372036854775808 → Is (toZ w64 (18446744073709551615 - (n - 1))) ≡ integerOf s
       unfolding integerOf
       minus-is h =
-          let q = minus-by-size e in
+          let q = minus-by-magnitude e in
           let k : 18446744073709551615 - (n - 1) ≡ 18446744073709551616 - suc (q .0) = omega (arith, q .2) in
           rw (q .1) (simp (lt-ltb (q .0) 9223372036854775808 (omega (arith, q .2))) (ap Is (ap (toZ w64) k ∙ toZ-neg w64 (q .0) (omega (arith, q .2)))))
 
       pub minus-within : (lo hi : ℕ) → lo < most → leb n lo ≡ isBetween lo hi s
       unfolding isBetween
-      minus-within lo hi h = let q = minus-by-size e in rw (q .1) (cut-leb lo (suc (q .0)) n (q .2) h)
+      minus-within lo hi h = let q = minus-by-magnitude e in rw (q .1) (cut-leb lo (suc (q .0)) n (q .2) h)
 
   pub none-within : (lo hi : ℕ) → r ≡ NoInteger → false ≡ isBetween lo hi s
   unfolding isBetween

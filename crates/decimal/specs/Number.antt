@@ -10,7 +10,7 @@ use Rattle.decimal.specs.declared.Signed.the-variants.{Plus, Minus, NoIn
 use Rattle.decimal.specs.declared.Integer.{Integer}
 use Rattle.decimal.specs.declared.Integer.the-variants.{Is, Bad}
 
--- the largest size that is told from those below it: one more than that of the lowest i64
+-- the largest magnitude that is told from those below it: one more than that of the lowest i64
 abbrev pub most : ℕ
 most = 9223372036854775809
 
@@ -25,7 +25,7 @@ digitsOf cap n s = capped cap (digitsValue n s)
 unfoldable pub numberUpTo : ℕ → Bytes → ℕ
 numberUpTo cap s = capped cap (natOf s)
 
--- an integer's sign and its size, no further than `most`
+-- an integer's sign and its magnitude, no further than `most`
 abbrev pub signed : Option ℤ → Signed
 signed none = NoInteger
 signed (some (pos n)) = Plus (min n most)

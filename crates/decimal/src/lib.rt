@@ -5,10 +5,10 @@ ghost use Prim.Native.Nat.{_+_, _*_, _≤_, min};
 ghost use lib.ListN.{drop};
 ghost use Rattle.decimal.specs.Number.{most, digitsOf, numberUpTo, signedOf, integerOf, isBetween};
 
-// One more than the size of the lowest i64: a number that is larger need not be told from it.
+// One more than the magnitude of the lowest i64: a number that is larger need not be told from it.
 pub const MOST: u64 = 9223372036854775809;
 
-// An integer's size, no further than MOST, with its sign.
+// An integer's magnitude, no further than MOST, with its sign.
 pub enum Signed {
     Plus(u64),
     Minus(u64),
@@ -26,7 +26,7 @@ fn more(acc: u64, d: u64) -> u64
     requires { ⌜ (acc ≤ most) × (d ≤ 9) ⌝ }
     ensures { λ r. ⌜ r ≡ min (acc * 10 + d) most ⌝ }
 {
-    if 922337203685477580 < acc {
+    if MOST / 10 < acc {
         return MOST;
     }
     acc * 10 + d
@@ -83,7 +83,7 @@ pub fn read_number(s: &[u8], cap: u32) -> u64
     n
 }
 
-// An integer's sign and size: `-` stands only before a number other than 0.
+// An integer's sign and magnitude: `-` stands only before a number other than 0.
 pub fn read_signed(s: &[u8]) -> Signed
     ensures { λ r. ⌜ r ≡ signedOf (now (s .entry)) ⌝ }
 {
@@ -107,20 +107,20 @@ pub fn read_signed(s: &[u8]) -> Signed
     Signed::Plus(n)
 }
 
-// An integer from -2^63 to 2^63 - 1. The lowest has no negation, so a negative one is made from its size less 1, turned over.
+// An integer from -2^63 to 2^63 - 1. The lowest has no negation, so a negative one is made from its magnitude less 1, complemented.
 pub fn read_integer(s: &[u8]) -> Integer
     ensures { λ r. ⌜ r ≡ integerOf (now (s .entry)) ⌝ }
 {
     let r = read_signed(s);
     match r {
         Signed::Plus(n) => {
-            if 9223372036854775807 < n {
+            if MOST - 2 < n {
                 return Integer::Bad;
             }
             Integer::Is(n as i64)
         }
         Signed::Minus(n) => {
-            if 9223372036854775808 < n {
+            if MOST - 1 < n {
                 return Integer::Bad;
             }
             Integer::Is(!((n - 1) as i64))

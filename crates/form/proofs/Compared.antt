@@ -17,13 +17,17 @@ use Rattle.form.proofs.Laws.{fields-step, fields-end}
 
 -- ---- where a field ends
 
-pub ends-hit : (l : Bytes) (e : ℕ) → e < length l → eqb (getD l e 0) 44 ≡ same [] (until 44 (drop e l))
+pub begins-none : (d : Bytes) → Form.begins [] d ≡ same [] (until 44 d)
 unfolding until
-ends-hit l e h = rw (drop-cons l e 0 h) (go (eqb (getD l e 0) 44) refl)
+begins-none [] = refl
+begins-none (b ∷ d) = go (eqb b 44) refl
   where
-    go : (t : Bool) → eqb (getD l e 0) 44 ≡ t → t ≡ same [] (until 44 (getD l e 0 ∷ drop (suc e) l))
+    go : (t : Bool) → eqb b 44 ≡ t → t ≡ same [] (until 44 (b ∷ d))
     go true q = simp q
     go false q = simp q
+
+pub ends-hit : (l : Bytes) (e : ℕ) → e < length l → eqb (getD l e 0) 44 ≡ same [] (until 44 (drop e l))
+ends-hit l e h = rw (drop-cons l e 0 h) (begins-none (getD l e 0 ∷ drop (suc e) l))
 
 pub ends-end : (l : Bytes) (e : ℕ) → e ≡ length l → true ≡ same [] (until 44 (drop e l))
 ends-end l e h = rw (until-end l 44 e (omega arith))

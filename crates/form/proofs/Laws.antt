@@ -21,7 +21,7 @@ use Rattle.utf8.specs.Utf8 as Utf8
 use Rattle.text.proofs.Parts.{until-take, parts-step, parts-one}
 use Rattle.form.specs.Table.{code, codes, rowAt, keywordsAt, kindAt, codesAt, fieldsBehind, formOf}
 use Rattle.form.specs.declared.Walk.{Walk}
-use Rattle.form.specs.Letters.{isKeyField, isRealField, limitOf, letterHolds, after, lettersFit, pending, WalkBounds, lettersFrom, fieldsLeft, WalkAt, WalkStepped, beginning}
+use Rattle.form.specs.Letters.{isKeyField, isRealField, limitOf, letterHolds, after, lettersFit, lettersLeft, WalkBounds, lettersFrom, fieldsLeft, WalkAt, WalkStepped, beginning}
 use Rattle.semantics.proofs.Common.{never, both}
 use Rattle.form.proofs.Table.{fine, row-count, keywords-plain, codes-plain, parts-fine}
 
@@ -41,26 +41,17 @@ module _ (f : ℕ) (l : List ℕ) (i : ℕ) (h : f < 42) (within : i ≤ length 
       go true q = absurd (keywords-plain f h i (ltb-true _ _ q) e)
       go false q = let k = ltb-false i (length (keywordsAt f)) q in omega arith
 
-  at-end : getD (keywordsAt f) i 32 ≡ 32 → Form.begins (keywordsAt f) l ≡ Form.begins [] (drop i l)
-  at-end e = same ∙ ap (λ (w : List ℕ). Form.begins w (drop i l)) (drop-of-length-le (keywordsAt f) {i = i} (omega (arith, ended e)))
-
-  pub begins-all : getD (keywordsAt f) i 32 ≡ 32 → length l ≤ i → i + 1 ≡ cond (Form.begins (keywordsAt f) l) (length (keywordsAt f) + 1) 0
-  begins-all e k = rw (at-end e, drop-of-length-le l k) (omega (arith, ended e))
-
-  pub begins-comma : getD (keywordsAt f) i 32 ≡ 32 → i < length l → getD l i 0 ≡ 44 → i + 1 ≡ cond (Form.begins (keywordsAt f) l) (length (keywordsAt f) + 1) 0
-  begins-comma e k c = rw (at-end e, drop-cons l i 0 k, eq-eqb (getD l i 0) 44 c) (omega (arith, ended e))
-
-  pub begins-other : getD (keywordsAt f) i 32 ≡ 32 → i < length l → (getD l i 0 ≡ 44 → ⊥) → 0 ≡ cond (Form.begins (keywordsAt f) l) (length (keywordsAt f) + 1) 0
-  begins-other e k c = rw (at-end e, drop-cons l i 0 k, ne-eqb (getD l i 0) 44 c)
+  pub begins-ended : getD (keywordsAt f) i 32 ≡ 32 → Form.begins (keywordsAt f) l ≡ Form.begins [] (drop i l)
+  begins-ended e = same ∙ ap (λ (w : List ℕ). Form.begins w (drop i l)) (drop-of-length-le (keywordsAt f) {i = i} (omega (arith, ended e)))
 
   more : (getD (keywordsAt f) i 32 ≡ 32 → ⊥) → Form.begins (keywordsAt f) l ≡ Form.begins (getD (keywordsAt f) i 32 ∷ drop (suc i) (keywordsAt f)) (drop i l)
   more n = same ∙ ap (λ (w : List ℕ). Form.begins w (drop i l)) (drop-cons (keywordsAt f) i 32 (inside (keywordsAt f) i n))
 
-  pub begins-short : (getD (keywordsAt f) i 32 ≡ 32 → ⊥) → length l ≤ i → 0 ≡ cond (Form.begins (keywordsAt f) l) (length (keywordsAt f) + 1) 0
-  begins-short n k = rw (more n, drop-of-length-le l k)
+  pub begins-short : (getD (keywordsAt f) i 32 ≡ 32 → ⊥) → length l ≤ i → false ≡ Form.begins (keywordsAt f) l
+  begins-short n k = sym (more n ∙ rw (drop-of-length-le l k))
 
-  pub begins-differ : (getD (keywordsAt f) i 32 ≡ 32 → ⊥) → i < length l → (getD l i 0 ≡ getD (keywordsAt f) i 32 → ⊥) → 0 ≡ cond (Form.begins (keywordsAt f) l) (length (keywordsAt f) + 1) 0
-  begins-differ n k c = rw (more n, drop-cons l i 0 k, ne-eqb (getD l i 0) (getD (keywordsAt f) i 32) c)
+  pub begins-differ : (getD (keywordsAt f) i 32 ≡ 32 → ⊥) → i < length l → (getD l i 0 ≡ getD (keywordsAt f) i 32 → ⊥) → false ≡ Form.begins (keywordsAt f) l
+  begins-differ n k c = sym (more n ∙ rw (drop-cons l i 0 k, ne-eqb (getD l i 0) (getD (keywordsAt f) i 32) c))
 
   pub begins-next : (getD (keywordsAt f) i 32 ≡ 32 → ⊥) → i < length l → getD l i 0 ≡ getD (keywordsAt f) i 32 → Form.begins (keywordsAt f) l ≡ Form.begins (drop (i + 1) (keywordsAt f)) (drop (i + 1) l)
   begins-next n k c = more n ∙ rw (drop-cons l i 0 k, eq-eqb (getD l i 0) (getD (keywordsAt f) i 32) c, add-one)
@@ -74,19 +65,11 @@ module _ (l : List ℕ) (f : ℕ) (h : f < 42) (same : Form.rowOf Form.forms l �
   opened : Form.rowOf Form.forms l ≡ f + cond (Form.begins (keywordsAt f) l) 0 (suc (Form.rowOf (drop (suc f) Form.forms) l))
   opened = same ∙ ap (λ (r : List Form.Row). f + Form.rowOf r l) (drop-cons Form.forms f Form.noRow (omega (arith, row-count)))
 
-  chosen : (t : Bool) → cond t (length (keywordsAt f) + 1) 0 ≡ 0 → t ≡ false
-  chosen true e = absurd (omega arith)
-  chosen false e = refl
+  pub row-here : Form.begins (keywordsAt f) l ≡ true → f ≡ Form.rowOf Form.forms l
+  row-here q = sym (opened ∙ rw q (omega arith))
 
-  pub row-here : {r : ℕ} → r ≡ cond (Form.begins (keywordsAt f) l) (length (keywordsAt f) + 1) 0 → (r ≡ 0 → ⊥) → f ≡ Form.rowOf Form.forms l
-  row-here {r} p n = go (Form.begins (keywordsAt f) l) refl
-    where
-      go : (t : Bool) → Form.begins (keywordsAt f) l ≡ t → f ≡ Form.rowOf Form.forms l
-      go true q = sym (opened ∙ rw q (omega arith))
-      go false q = absurd (n (p ∙ rw q))
-
-  pub row-next : {r : ℕ} → r ≡ cond (Form.begins (keywordsAt f) l) (length (keywordsAt f) + 1) 0 → r ≡ 0 → Form.rowOf Form.forms l ≡ f + 1 + Form.rowOf (drop (f + 1) Form.forms) l
-  row-next p z = opened ∙ rw (chosen (Form.begins (keywordsAt f) l) (sym p ∙ z), add-one) (omega arith)
+  pub row-next : Form.begins (keywordsAt f) l ≡ false → Form.rowOf Form.forms l ≡ f + 1 + Form.rowOf (drop (f + 1) Form.forms) l
+  row-next q = opened ∙ rw (q, add-one) (omega arith)
 
 pub row-start : (l : List ℕ) → Form.rowOf Form.forms l ≡ 0 + Form.rowOf (drop 0 Form.forms) l
 row-start l = omega arith
@@ -97,24 +80,24 @@ row-end l f e same = sym (same ∙ rw (drop-of-length-le Form.forms {i = f} (ome
 -- ---- the walk
 
 module _ (f j c e : ℕ) where
-  pub head-many : 0 < c → e ≡ getD (pending f j c e) 0 32
-  unfolding pending
+  pub head-many : 0 < c → e ≡ getD (lettersLeft f j c e) 0 32
+  unfolding lettersLeft
   head-many h = go c h
     where
       go : (n : ℕ) → 0 < n → e ≡ getD (replicate n e ++ drop j (codesAt f)) 0 32
       go zero k = absurd (omega arith)
       go (suc n) k = refl
 
-  pub head-one : c ≤ 0 → getD (codesAt f) j 32 ≡ getD (pending f j c e) 0 32
-  unfolding pending
+  pub head-one : c ≤ 0 → getD (codesAt f) j 32 ≡ getD (lettersLeft f j c e) 0 32
+  unfolding lettersLeft
   head-one h =
       let z : c ≡ 0 = omega arith in
       let w : j + 0 ≡ j = omega arith in
       rw z (sym (getD-drop j (codesAt f) 0 32 ∙ ap (λ (i : ℕ). getD (codesAt f) i 32) w))
 
-  module _ (x n : ℕ) (ready : WalkBounds f j c e) (hx : x ≡ getD (pending f j c e) 0 32) (nb : x ≡ 32 → ⊥) where
-    pub step-within : 0 < c → WalkBounds f j (c - 1) e × (pending f j (c - 1) e ≡ after n (pending f j c e))
-    unfolding pending after
+  module _ (x n : ℕ) (ready : WalkBounds f j c e) (hx : x ≡ getD (lettersLeft f j c e) 0 32) (nb : x ≡ 32 → ⊥) where
+    pub step-within : 0 < c → WalkBounds f j (c - 1) e × (lettersLeft f j (c - 1) e ≡ after n (lettersLeft f j c e))
+    unfolding lettersLeft after
     step-within h = (record { form = ready .form; within = ready .within; single = ready .single }, go c h)
       where
         go : (m : ℕ) → 0 < m → replicate (m - 1) e ++ drop j (codesAt f) ≡ after n (replicate m e ++ drop j (codesAt f))
@@ -128,21 +111,21 @@ module _ (f j c e : ℕ) where
       j-in : j < length (codesAt f)
       j-in = inside (codesAt f) j (λ q. nb (x-is ∙ q))
 
-      split : pending f j c e ≡ x ∷ drop (suc j) (codesAt f)
-      unfolding pending
+      split : lettersLeft f j c e ≡ x ∷ drop (suc j) (codesAt f)
+      unfolding lettersLeft
       split =
           let z : c ≡ 0 = omega arith in
           rw z (drop-cons (codesAt f) j 32 j-in ∙ ap (λ (y : ℕ). y ∷ drop (suc j) (codesAt f)) (sym x-is))
 
-      pub step-many : 97 ≤ x → WalkBounds f (j + 1) n (x - 32) × (pending f (j + 1) n (x - 32) ≡ after n (pending f j c e))
-      unfolding pending after
+      pub step-many : 97 ≤ x → WalkBounds f (j + 1) n (x - 32) × (lettersLeft f (j + 1) n (x - 32) ≡ after n (lettersLeft f j c e))
+      unfolding lettersLeft after
       step-many k = (
         record { form = ready .form; within = omega (arith, j-in); single = omega (arith, x-is, codes-plain f (ready .form) j j-in .1) },
         sym (ap (after n) split ∙ rw (le-leb 97 x k, ← add-one j)),
       )
 
-      pub step-one : x < 97 → WalkBounds f (j + 1) 0 e × (pending f (j + 1) 0 e ≡ after n (pending f j c e))
-      unfolding pending after
+      pub step-one : x < 97 → WalkBounds f (j + 1) 0 e × (lettersLeft f (j + 1) 0 e ≡ after n (lettersLeft f j c e))
+      unfolding lettersLeft after
       step-one k = (
         record { form = ready .form; within = omega (arith, j-in); single = ready .single },
         sym (ap (after n) split ∙ rw (lt-leb 97 x k, ← add-one j)),
@@ -220,12 +203,12 @@ pub fits-end : (at : ℕ) (l xs : List ℕ) → length l < at → lettersFit xs 
 unfolding lettersFit
 fits-end at l xs h = rw (fields-end at l h)
 
-pub walk-start : (f e : ℕ) → pending f 0 0 e ≡ codesAt f
-unfolding pending
-walk-start f e = refl
-
-pub ready-start : (f : ℕ) → f < 42 → WalkBounds f 0 0 65
+ready-start : (f : ℕ) → f < 42 → WalkBounds f 0 0 32
 ready-start f h = record { form = h; within = omega arith; single = omega arith }
+
+pub fits-start : (f : ℕ) (l : List ℕ) → f < 42 → (w : Walk) → w ≡ beginning f → WalkBounds f (w .next) (w .left) (w .letter) × (lettersFit (codesAt f) (fieldsBehind f l) ≡ lettersFit (lettersFrom f w) (fieldsLeft l w))
+unfolding lettersLeft
+fits-start f l h w e = rw e (ready-start f h, refl)
 
 -- ---- letters say what the table's parts say
 
@@ -373,21 +356,14 @@ module _ (k : ℕ) (l : List ℕ) where
     pub form-none : f ≡ 42 → 42 ≡ formOf k l
     form-none e = sym (form-row ∙ rw (le-ltb f 42 (omega arith)))
 
-    module _ (at : ℕ) (low : f < 42) (hat : at ≡ cond (Form.begins (keywordsAt f) l) (length (keywordsAt f) + 1) 0) where
-      chosen-begins : Form.begins (keywordsAt f) l ≡ true
-      chosen-begins =
-          rw hf (begins-chosen Form.forms l (omega (arith, hf, row-count)))
+    module _ (low : f < 42) where
+      form-fields : formOf k l ≡ cond (lettersFit (codesAt f) (fieldsBehind f l) && (eqb k 1 || not (eqb (kindAt f) 73))) f 42
+      form-fields = form-row ∙ rw (lt-ltb f 42 low, fits-codes (fieldsBehind f l) (rowAt f .parts) (parts-fine f low))
 
-      at-is : at ≡ length (keywordsAt f) + 1
-      at-is = hat ∙ rw chosen-begins
-
-      form-fields : formOf k l ≡ cond (lettersFit (codesAt f) (Form.fieldsFrom at l) && (eqb k 1 || not (eqb (kindAt f) 73))) f 42
-      form-fields = form-row ∙ rw (lt-ltb f 42 low, at-is, fits-codes (Form.fieldsFrom (length (keywordsAt f) + 1) l) (rowAt f .parts) (parts-fine f low))
-
-      pub form-unfit : lettersFit (codesAt f) (Form.fieldsFrom at l) ≡ false → 42 ≡ formOf k l
+      pub form-unfit : lettersFit (codesAt f) (fieldsBehind f l) ≡ false → 42 ≡ formOf k l
       form-unfit e = sym (form-fields ∙ rw e)
 
-      module _ (fit : lettersFit (codesAt f) (Form.fieldsFrom at l) ≡ true) where
+      module _ (fit : lettersFit (codesAt f) (fieldsBehind f l) ≡ true) where
         pub form-other : (kindAt f ≡ 73 → ⊥) → f ≡ formOf k l
         form-other n = sym (form-fields ∙ simp (fit, ne-eqb (kindAt f) 73 n, or-true))
 
@@ -430,7 +406,7 @@ module _ (f : ℕ) (l : List ℕ) (w : Walk) (st : WalkAt f l w) (e : ℕ) (with
   pub not-ended : x ≡ 32 → ⊥
   not-ended = not-blank x here (good-rest .0)
 
-  pub walk-stepped : (v : ℕ) (u : Walk) → v ≡ Number.numberUpTo 65536 (take (e - w .at) (drop (w .at) l)) → WalkBounds f (u .j) (u .c) (u .e) → lettersFrom f u ≡ after v (lettersFrom f w) → u .at ≡ e + 1 → WalkStepped f l w x v u
+  pub walk-stepped : (v : ℕ) (u : Walk) → v ≡ Number.numberUpTo 65536 (take (e - w .at) (drop (w .at) l)) → WalkBounds f (u .next) (u .left) (u .letter) → lettersFrom f u ≡ after v (lettersFrom f w) → u .at ≡ e + 1 → WalkStepped f l w x v u
   unfolding here
   walk-stepped v u hv r q p =
       let k : lettersFrom f u ≡ after (Form.numberOf here) (lettersFrom f w) = q ∙ after-number x v (lettersFrom f w) here hx (good-rest .0) hv in
@@ -448,5 +424,5 @@ module _ (f : ℕ) (l : List ℕ) (w : Walk) (st : WalkAt f l w) (e : ℕ) (with
 
 -- it begins at the fields behind the keywords
 pub walk-begins : (f : ℕ) (l : List ℕ) → f < 42 → Form.fits (rowAt f .parts) (fieldsBehind f l) ≡ true → WalkAt f l (beginning f)
-unfolding pending
+unfolding lettersLeft
 walk-begins f l h fit = record { ready = ready-start f h; fit = fits-codes (fieldsBehind f l) (rowAt f .parts) (parts-fine f h) ∙ fit }

@@ -1,4 +1,4 @@
--- The table's bytes are those of its Form.forms; facts of all Form.forms, by one test.
+-- The table's bytes are those of `Form.forms`; facts of all forms, by one test.
 use mathlib.Core.Path.{_≡_, refl, ap, _∙_}
 use mathlib.Core.Bool.{Bool, true, cond, not, _&&_}
 use mathlib.Core.List.{List, [], _∷_, _++_}
@@ -84,14 +84,14 @@ letters-at (r ∷ rs) (suc f) j h k =
     let e : 5 * suc f + j ≡ length (padTo 5 (codes (r .parts))) + (5 * f + j) = omega (arith, fill-length 5 (codes (r .parts))) in
     ap (λ (i : ℕ). getD (padTo 5 (codes (r .parts)) ++ letters rs) i 0) e ∙ getD-append-add (padTo 5 (codes (r .parts))) (letters rs) (5 * f + j) 0 ∙ letters-at rs f j (omega arith) k
 
-pub atom-cell : (f : ℕ) → f < 42 → (j : ℕ) → j < 5 → getD (letters Form.forms) (5 * f + j) 0 ≡ getD (codesAt f) j 32
-atom-cell f h j k = letters-at Form.forms f j (omega (arith, row-count)) k
+pub letter-cell : (f : ℕ) → f < 42 → (j : ℕ) → j < 5 → getD (letters Form.forms) (5 * f + j) 0 ≡ getD (codesAt f) j 32
+letter-cell f h j k = letters-at Form.forms f j (omega (arith, row-count)) k
 
 -- the lengths of keywords, each a small letter
 pub width-cell : (f : ℕ) → f < 42 → getD (column (λ (r : Form.Row). length (r .words) + 96) Form.forms) f 0 ≡ length (keywordsAt f) + 96
 width-cell f h = column-at (λ (r : Form.Row). length (r .words) + 96) Form.forms f (omega (arith, row-count))
 
--- ---- what holds of all Form.forms
+-- ---- what holds of all forms
 
 plain : ℕ → Bool
 plain b = not (eqb b 32) && ltb b 129

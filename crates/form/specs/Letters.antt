@@ -49,27 +49,27 @@ unfoldable pub lettersFit : Bytes → List Bytes → Bool
 lettersFit xs [] = eqb (getD xs 0 32) 32
 lettersFit xs (f ∷ fs) = letterHolds (getD xs 0 32) f && lettersFit (after (Form.numberOf f) xs) fs
 
--- the letters still to come: c times e, and then the form's letters from j on
-unfoldable pub pending : ℕ → ℕ → ℕ → ℕ → Bytes
-pending f j c e = replicate c e ++ drop j (codesAt f)
+-- the letters still to come: this letter as often as fields are left, and then the form's letters from `next` on
+unfoldable pub lettersLeft : ℕ → ℕ → ℕ → ℕ → Bytes
+lettersLeft f next left letter = replicate left letter ++ drop next (codesAt f)
 
--- a walk may stand there: e is no letter of a count
-pub record WalkBounds (f j c e : ℕ) : Type 0 where
+-- a walk may stand there: its letter is none of a count
+pub record WalkBounds (f next left letter : ℕ) : Type 0 where
   pub form : f < rowCount
-  pub within : j ≤ length (codesAt f)
-  pub single : e < 97
+  pub within : next ≤ length (codesAt f)
+  pub single : letter < 97
 
 -- ---- a walk over the fields of a line
 
 abbrev pub lettersFrom : ℕ → Walk → Bytes
-lettersFrom f w = pending f (w .j) (w .c) (w .e)
+lettersFrom f w = lettersLeft f (w .next) (w .left) (w .letter)
 
 abbrev pub fieldsLeft : Bytes → Walk → List Bytes
 fieldsLeft l w = Form.fieldsFrom (w .at) l
 
 -- the fields from where it stands are those of the letters still to come
 pub record WalkAt (f : ℕ) (l : Bytes) (w : Walk) : Type 0 where
-  pub ready : WalkBounds f (w .j) (w .c) (w .e)
+  pub ready : WalkBounds f (w .next) (w .left) (w .letter)
   pub fit : lettersFit (lettersFrom f w) (fieldsLeft l w) ≡ true
 
 -- it went past a field with the letter x, whose number is v
@@ -85,4 +85,4 @@ pub record WalkStepped (f : ℕ) (l : Bytes) (w : Walk) (x v : ℕ) (u : Walk) :
 
 -- a walk over the fields behind the keywords of form f
 abbrev pub beginning : ℕ → Walk
-beginning f = record { at = length (keywordsAt f) + 1; j = 0; c = 0; e = 65 }
+beginning f = record { at = length (keywordsAt f) + 1; next = 0; left = 0; letter = 32 }

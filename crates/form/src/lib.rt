@@ -1,12 +1,11 @@
 // The forms of lines: a table, and one walk over a line's fields by it.
 use codes::kind;
 ghost use mathlib.Core.Path.{_≡_};
-ghost use mathlib.Core.Bool.{cond};
 ghost use mathlib.Core.List.{[]};
-ghost use Prim.Native.Nat.{_+_, _≤_, _<_};
+ghost use Prim.Native.Nat.{ℕ, _≤_, _<_};
 ghost use lib.ListN.{length, drop, getD};
 ghost use Rattle.semantics.specs.Text.{same};
-ghost use Rattle.semantics.specs.Form.{forms, begins, rowOf, fieldsFrom};
+ghost use Rattle.semantics.specs.Form.{forms, begins, rowOf};
 ghost use Rattle.decimal.specs.Number.{numberUpTo, isBetween};
 ghost use Rattle.text.specs.Parts.{until};
 ghost use Rattle.form.specs.Table.{table, rowCount, keywordsAt, kindAt, codesAt, fieldsBehind, formOf};
@@ -70,11 +69,18 @@ const WIDTHS: [u8; 42] = *b"fgfgifhhfgfegefgfhfhggebbbcdccccdehmnmnpjk";
 // Behind the last row: no form.
 pub const ROWS: usize = 42;
 
+const ROW_BYTES: usize = 24;
+
+const LONGEST_LINE: usize = 255;
+
+// Numbers above it are not told apart.
+const CAP: u32 = 65536;
+
 const SIGN: u64 = 0x8000000000000000;
 
 const INFINITY: u64 = 0x7FF0000000000000;
 
-// Letters of fields: from MANY on a count, and a LINE or COL is a PLACE.
+// Letters of fields: from MANY on a count.
 const MANY: u8 = b'a';
 
 const NAME: u8 = b'W';
@@ -85,7 +91,7 @@ const UNARY: u8 = b'U';
 
 const BINARY: u8 = b'V';
 
-const PLACE: u8 = b'P';
+const LINE_OR_COL: u8 = b'P';
 
 const SIZE: u8 = b'S';
 
@@ -102,7 +108,7 @@ fn keyword_byte(t: &[u8; 1008], f: usize, i: usize) -> u8
     requires { ⌜ (now t ≡ table forms) × (f < rowCount) × (i < 17) ⌝ }
     ensures { λ r. ⌜ r ≡ getD (keywordsAt f) i 32 ⌝ }
 {
-    t[24 * f + 1 + i]
+    t[ROW_BYTES * f + 1 + i]
 }
 
 // The letter of the kind of form f.
@@ -114,7 +120,7 @@ pub fn kind(f: usize) -> u8
 }
 
 // The letter of field j of form f, blank behind the last.
-fn atom(f: usize, j: usize) -> u8
+fn field_letter(f: usize, j: usize) -> u8
     requires { ⌜ (f < rowCount) × (j < 5) ⌝ }
     ensures { λ r. ⌜ r ≡ getD (codesAt f) j 32 ⌝ }
 {
@@ -123,49 +129,35 @@ fn atom(f: usize, j: usize) -> u8
 
 // ---- keywords
 
-// Where the fields behind the keywords of form f begin; 0 where a line begins otherwise.
-fn behind_in(t: &[u8; 1008], l: &[u8], f: usize) -> usize
-    requires { ⌜ (f < rowCount) × (length (now l) ≤ 255) × (now t ≡ table forms) ⌝ }
-    ensures { λ r. ⌜ r ≡ cond (begins (keywordsAt f) (now (l .entry))) (length (keywordsAt f) + 1) 0 ⌝ }
+// Whether a line begins with the keywords of form f.
+fn begins_with(t: &[u8; 1008], l: &[u8], f: usize) -> bool
+    requires { ⌜ (f < rowCount) × (now t ≡ table forms) ⌝ }
+    ensures { λ r. ⌜ r ≡ begins (keywordsAt f) (now (l .entry)) ⌝ }
 {
     let mut i = 0;
     loop {
         let w = keyword_byte(t, f, i);
         if w == b' ' {
-            if i == l.len() {
-                return i + 1;
-            }
-            if l[i] == b',' {
-                return i + 1;
-            }
-            return 0;
+            return ends_at(l, i);
         }
         if i == l.len() {
-            return 0;
+            return false;
         }
         if l[i] != w {
-            return 0;
+            return false;
         }
         i += 1;
     }
 }
 
-fn behind(l: &[u8], f: usize) -> usize
-    requires { ⌜ (f < rowCount) × (length (now l) ≤ 255) ⌝ }
-    ensures { λ r. ⌜ r ≡ cond (begins (keywordsAt f) (now (l .entry))) (length (keywordsAt f) + 1) 0 ⌝ }
-{
-    let t = FORMS;
-    behind_in(&t, l, f)
-}
-
 // The first form whose keywords a line begins with.
 fn row_in(t: &[u8; 1008], l: &[u8]) -> usize
-    requires { ⌜ (length (now l) ≤ 255) × (now t ≡ table forms) ⌝ }
+    requires { ⌜ now t ≡ table forms ⌝ }
     ensures { λ r. ⌜ (r ≡ rowOf forms (now (l .entry))) × (r ≤ rowCount) ⌝ }
 {
     let mut f = 0;
     while f < ROWS {
-        if behind_in(t, l, f) != 0 {
+        if begins_with(t, l, f) {
             return f;
         }
         f += 1;
@@ -174,7 +166,6 @@ fn row_in(t: &[u8; 1008], l: &[u8]) -> usize
 }
 
 fn row_of(l: &[u8]) -> usize
-    requires { ⌜ length (now l) ≤ 255 ⌝ }
     ensures { λ r. ⌜ (r ≡ rowOf forms (now (l .entry))) × (r ≤ rowCount) ⌝ }
 {
     let t = FORMS;
@@ -184,7 +175,7 @@ fn row_of(l: &[u8]) -> usize
 // ---- fields
 
 // What a number must be below where its letter is x.
-fn limit(x: u8) -> u64
+fn limit(x: u8) -> usize
     ensures { λ r. ⌜ r ≡ limitOf x ⌝ }
 {
     if MANY <= x {
@@ -196,8 +187,8 @@ fn limit(x: u8) -> u64
     if x == BINARY {
         return 19;
     }
-    if x == PLACE {
-        return 65536;
+    if x == LINE_OR_COL {
+        return CAP as usize;
     }
     if x == SIZE {
         return 4097;
@@ -205,7 +196,7 @@ fn limit(x: u8) -> u64
     if x == b' ' {
         return 0;
     }
-    65537
+    CAP as usize + 1
 }
 
 // NAME or NAME.NAME.
@@ -270,79 +261,78 @@ fn is_good(s: &[u8], x: u8) -> bool
     if x == TEXT {
         return utf8::is_text(s);
     }
-    decimal::read_number(s, 65536) < limit(x)
+    number(s) < limit(x)
 }
 
 // ---- the walk
 
-// A field that begins at `at`, past the line's end where none is left: c more fields with the letter e, then the form's letters from j on.
+// A walk stands at the field that begins at `at`, past the line's end where none is left. `left` more fields have this letter, and those
+// behind them the form's letters from `next` on.
 pub struct Walk {
     pub at: usize,
-    pub j: usize,
-    pub c: usize,
-    pub e: u8,
+    pub next: usize,
+    pub left: usize,
+    pub letter: u8,
 }
 
 // The letter of the field at which a walk stands.
 fn letter(f: usize, w: Walk) -> u8
-    requires { ⌜ WalkBounds f (w .j) (w .c) (w .e) ⌝ }
+    requires { ⌜ WalkBounds f (w .next) (w .left) (w .letter) ⌝ }
     ensures { λ r. ⌜ r ≡ getD (lettersFrom f w) 0 32 ⌝ }
 {
-    let c = w.c;
-    let j = w.j;
-    if 0 < c {
-        return w.e;
+    if 0 < w.left {
+        return w.letter;
     }
-    atom(f, j)
+    field_letter(f, w.next)
 }
 
 // Past a field with the letter x, whose number is n, to the one that begins at `at`.
-fn step(f: usize, w: Walk, x: u8, n: usize, at: usize) -> Walk
-    requires { ⌜ (WalkBounds f (w .j) (w .c) (w .e)) × (x ≡ getD (lettersFrom f w) 0 32) × (x ≡ 32 → ⊥) ⌝ }
-    ensures { λ r. ⌜ (WalkBounds f (r .j) (r .c) (r .e)) × (lettersFrom f r ≡ after n (lettersFrom f w)) × (r .at ≡ at) ⌝ }
+fn step(w: Walk, x: u8, n: usize, at: usize) -> Walk
+    requires { ⌜ w .next ≤ 5 ⌝ }
+    ensures { λ r. ⌜ ((f : ℕ) → WalkBounds f (w .next) (w .left) (w .letter) → x ≡ getD (lettersFrom f w) 0 32 → (x ≡ 32 → ⊥) → (WalkBounds f (r .next) (r .left) (r .letter)) × (lettersFrom f r ≡ after n (lettersFrom f w))) × (r .at ≡ at) ⌝ }
 {
-    let j = w.j;
-    let c = w.c;
-    let e = w.e;
-    if 0 < c {
-        return Walk { at, j, c: c - 1, e };
+    let next = w.next;
+    let left = w.left;
+    let letter = w.letter;
+    if 0 < left {
+        return Walk {
+            at,
+            next,
+            left: left - 1,
+            letter,
+        };
     }
     if MANY <= x {
         return Walk {
             at,
-            j: j + 1,
-            c: n,
-            e: x - 32,
+            next: next + 1,
+            left: n,
+            letter: x - 32,
         };
     }
     Walk {
         at,
-        j: j + 1,
-        c: 0,
-        e,
+        next: next + 1,
+        left: 0,
+        letter,
     }
 }
 
 // ---- the form of a line
 
-// A field as a number: 65536 where it is larger, 65537 where it is none.
+// A field as a number: CAP where it is larger, CAP + 1 where it is none.
 pub fn number(s: &[u8]) -> usize
     ensures { λ r. ⌜ (r ≡ numberUpTo 65536 (now (s .entry))) × (r ≤ 65537) ⌝ }
 {
-    decimal::read_number(s, 65536) as usize
+    decimal::read_number(s, CAP) as usize
 }
 
-// Whether the fields from `from` on are those of form f.
-fn fits_form(l: &[u8], from: usize, f: usize) -> bool
-    requires { ⌜ (f < rowCount) × (length (now l) ≤ 255) ⌝ }
-    ensures { λ r. ⌜ r ≡ lettersFit (codesAt f) (fieldsFrom from (now (l .entry))) ⌝ }
+// Whether the fields behind the keywords are those of form f.
+fn fits_form(l: &[u8], f: usize) -> bool
+    requires { ⌜ f < rowCount ⌝ }
+    ensures { λ r. ⌜ r ≡ lettersFit (codesAt f) (fieldsBehind f (now (l .entry))) ⌝ }
 {
-    let mut w = Walk {
-        at: from,
-        j: 0,
-        c: 0,
-        e: 65,
-    };
+    let mut w = begin(f);
     while w.at <= l.len() {
         let at = w.at;
         let x = letter(f, w);
@@ -351,7 +341,7 @@ fn fits_form(l: &[u8], from: usize, f: usize) -> bool
         if !is_good(s, x) {
             return false;
         }
-        w = step(f, w, x, number(s), e + 1);
+        w = step(w, x, number(s), e + 1);
     }
     letter(f, w) == b' '
 }
@@ -360,15 +350,14 @@ fn fits_form(l: &[u8], from: usize, f: usize) -> bool
 pub fn form_of(l: &[u8], k: usize) -> usize
     ensures { λ r. ⌜ (r ≡ formOf k (now (l .entry))) × (r ≤ rowCount) ⌝ }
 {
-    if 255 < l.len() {
+    if LONGEST_LINE < l.len() {
         return ROWS;
     }
     let f = row_of(l);
     if f == ROWS {
         return ROWS;
     }
-    let at = behind(l, f);
-    if !fits_form(l, at, f) {
+    if !fits_form(l, f) {
         return ROWS;
     }
     if kind(f) != kind::IMPL {
@@ -463,9 +452,9 @@ pub fn begin(f: usize) -> Walk
 {
     Walk {
         at: width(f) + 1,
-        j: 0,
-        c: 0,
-        e: 65,
+        next: 0,
+        left: 0,
+        letter: b' ',
     }
 }
 
@@ -485,7 +474,7 @@ pub fn next(l: &[u8], f: usize, w: Walk) -> Seen
     let x = letter(f, w);
     let e = text::find(l, at, b',');
     let v = number(&l[at..e]);
-    let u = step(f, w, x, v, e + 1);
+    let u = step(w, x, v, e + 1);
     Seen {
         letter: x,
         number: v,

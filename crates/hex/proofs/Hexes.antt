@@ -37,9 +37,9 @@ module _ (b : ℕ) where
   unfolding digitOf
   digit-low e = let w = within-yes 48 57 b e in (simp e, omega arith)
 
-  pub digit-high : inRange 48 57 b ≡ false → inRange 65 70 b ≡ true → (b - 55 ≡ digitOf b) × (b - 55 ≤ 16)
+  pub digit-high : inRange 48 57 b ≡ false → inRange 65 70 b ≡ true → (b - 65 + 10 ≡ digitOf b) × (b - 65 + 10 ≤ 16)
   unfolding digitOf
-  digit-high e f = let w = within-yes 65 70 b f in (simp (e, f), omega arith)
+  digit-high e f = let w = within-yes 65 70 b f in (simp (e, f) (omega arith), omega arith)
 
   pub digit-none : inRange 48 57 b ≡ false → inRange 65 70 b ≡ false → 16 ≡ digitOf b
   unfolding digitOf

@@ -15,11 +15,11 @@ pub enum Bits64 {
 fn digit(b: u8) -> u64
     ensures { λ r. ⌜ (r ≡ digitOf b) × (r ≤ 16) ⌝ }
 {
-    if is_within(b, 48, 57) {
-        return wide(b - 48);
+    if is_within(b, b'0', b'9') {
+        return wide(b - b'0');
     }
-    if is_within(b, 65, 70) {
-        return wide(b - 55);
+    if is_within(b, b'A', b'F') {
+        return wide(b - b'A') + 10;
     }
     16
 }

@@ -5,7 +5,7 @@ ghost use Rattle.semantics.specs.Fold.{bits64, signed64, shiftCount, intOk, tes
 ghost use Rattle.semantics.specs.Tree.{Arith, IntOp, UnaryOp};
 ghost use Rattle.ints.specs.Quotients.{folded};
 
-// The bit pattern of n. A cast may not lose the sign, so a negative n is cast with its bits turned over.
+// The bit pattern of n. A cast may not lose the sign, so a negative n is cast with its bits complemented.
 pub fn bits(n: i64) -> u64
     ensures { λ r. ⌜ r ≡ bits64 n ⌝ }
 {

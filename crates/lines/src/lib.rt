@@ -10,6 +10,8 @@ ghost use Rattle.semantics.specs.Text.{same};
 ghost use Rattle.decimal.specs.Number.{numberUpTo};
 ghost use Rattle.lines.specs.Lines.{textAt, readAt, start, formAt, lineEntered, Whole, Passed, Above};
 
+const MOST_LINES: usize = 1024;
+
 // How many lines there are, all with a form; or the first line that is refused by 3.
 pub enum Formed {
     Lines(usize),
@@ -97,7 +99,7 @@ pub fn index(sheet: &[u8], work: &mut [u8]) -> Formed
             }
             return Formed::NoForm(n + 1);
         }
-        if n == 1024 {
+        if n == MOST_LINES {
             return Formed::NoForm(n + 1);
         }
         let f = form::form_of(&sheet[at..e], n + 1);

@@ -10,10 +10,10 @@ use lib.ListN.{length, drop, getD, drop-of-length-le}
 use lib.Seq.{drop-cons}
 use borrow.Author.Tests.{le-leb, lt-leb}
 use Rattle.semantics.specs.Text.{Bytes, isName}
-use Rattle.name.specs.Name.{nameLetter, mark, nameMarks}
+use Rattle.name.specs.Name.{nameLetter, nameByte, nameBytes}
 
-name-parts : (s : Bytes) → 0 < length s → isName s ≡ nameLetter (getD s 0 0) && nameMarks (drop 1 s) && leb (length s) 32
-unfolding isName nameLetter nameMarks
+name-parts : (s : Bytes) → 0 < length s → isName s ≡ nameLetter (getD s 0 0) && nameBytes (drop 1 s) && leb (length s) 32
+unfolding isName nameLetter nameBytes
 name-parts [] h = absurd (omega arith)
 name-parts (b ∷ bs) h = refl
 
@@ -29,18 +29,18 @@ module _ (s : Bytes) (h : 0 < length s) where
   pub name-first : nameLetter (getD s 0 0) ≡ false → false ≡ isName s
   name-first e = sym (name-parts s h ∙ rw e)
 
-  pub name-rest : length s ≤ 32 → nameLetter (getD s 0 0) ≡ true → isName s ≡ nameMarks (drop 1 s)
+  pub name-rest : length s ≤ 32 → nameLetter (getD s 0 0) ≡ true → isName s ≡ nameBytes (drop 1 s)
   name-rest l e = name-parts s h ∙ simp (e, le-leb (length s) 32 l, and-true)
 
 module _ (s : Bytes) (i : ℕ) (h : i < length s) where
-  pub mark-bad : mark (getD s i 0) ≡ false → nameMarks (drop i s) ≡ false
-  unfolding mark nameMarks
-  mark-bad e = rw (drop-cons s i 0 h) (rw e)
+  pub byte-bad : nameByte (getD s i 0) ≡ false → nameBytes (drop i s) ≡ false
+  unfolding nameByte nameBytes
+  byte-bad e = rw (drop-cons s i 0 h) (rw e)
 
-  pub mark-next : mark (getD s i 0) ≡ true → nameMarks (drop i s) ≡ nameMarks (drop (i + 1) s)
-  unfolding mark nameMarks
-  mark-next e = rw (drop-cons s i 0 h) (rw (e, add-one))
+  pub byte-next : nameByte (getD s i 0) ≡ true → nameBytes (drop i s) ≡ nameBytes (drop (i + 1) s)
+  unfolding nameByte nameBytes
+  byte-next e = rw (drop-cons s i 0 h) (rw (e, add-one))
 
-pub mark-end : (s : Bytes) (i : ℕ) → length s ≤ i → nameMarks (drop i s) ≡ true
-unfolding nameMarks
-mark-end s i h = rw (drop-of-length-le s h)
+pub byte-end : (s : Bytes) (i : ℕ) → length s ≤ i → nameBytes (drop i s) ≡ true
+unfolding nameBytes
+byte-end s i h = rw (drop-of-length-le s h)

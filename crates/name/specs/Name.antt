@@ -8,8 +8,8 @@ unfoldable pub nameLetter : ℕ → Bool
 nameLetter b = isLetter b
 
 -- a letter or a digit
-unfoldable pub mark : ℕ → Bool
-mark b = isLetter b || isDigit b
+unfoldable pub nameByte : ℕ → Bool
+nameByte b = isLetter b || isDigit b
 
-unfoldable pub nameMarks : Bytes → Bool
-nameMarks s = all (λ (x : ℕ). isLetter x || isDigit x) s
+unfoldable pub nameBytes : Bytes → Bool
+nameBytes s = all (λ (x : ℕ). isLetter x || isDigit x) s

@@ -23,26 +23,22 @@ use Rattle.refs.proofs.Letters.{ref-number, refs-begin, stands, refs-step, refs
 use Rattle.nesting.specs.Nesting.{depthAt, refDepth, Depths}
 
 module _ (t : List ℕ) (i x v : ℕ) where
-  pub depth-low : x ≤ 32 → 0 ≡ refDepth t i x v
+  pub depth-plain : isRef x ≡ false → 0 ≡ refDepth t i x v
   unfolding refDepth
-  depth-low h = rw (le-ltb 32 x h)
+  depth-plain e = rw e
 
-  pub depth-high : 80 ≤ x → 0 ≡ refDepth t i x v
-  unfolding refDepth
-  depth-high h = rw (lt-ltb 32 x (omega arith), le-ltb x 80 h)
-
-  module _ (low : 32 < x) (high : x < 80) where
+  module _ (ref : isRef x ≡ true) where
     pub depth-zero : v ≡ 0 → 0 ≡ refDepth t i x v
     unfolding refDepth
-    depth-zero z = rw (lt-ltb 32 x low, lt-ltb x 80 high, eq-eqb v 0 z)
+    depth-zero z = rw (ref, eq-eqb v 0 z)
 
     pub depth-late : (v ≡ 0 → ⊥) → i < v → 0 ≡ refDepth t i x v
     unfolding refDepth
-    depth-late z h = rw (lt-ltb 32 x low, lt-ltb x 80 high, ne-eqb v 0 z, lt-ltb i v h)
+    depth-late z h = rw (ref, ne-eqb v 0 z, lt-ltb i v h)
 
     pub depth-line : (v ≡ 0 → ⊥) → v ≤ i → getD t (4096 + (v - 1)) 0 ≡ refDepth t i x v
     unfolding refDepth depthAt
-    depth-line z h = rw (lt-ltb 32 x low, lt-ltb x 80 high, ne-eqb v 0 z, le-ltb i v h)
+    depth-line z h = rw (ref, ne-eqb v 0 z, le-ltb i v h)
 
 -- ---- one field
 
@@ -62,32 +58,28 @@ module _ (t ds : List ℕ) (i : ℕ) (small : i < 1024) (d : Depths t ds i) (x :
   m : ℕ
   m = Form.numberOf f
 
-  same-depth : 32 < x → x < 80 → v ≡ min m 65536 → cond (eqb m 0) 0 (getD ds (m - 1) 0) ≡ refDepth t i x v
-  same-depth low high v-is = go (eqb m 0) (ltb i m) refl refl
+  same-depth : isRef x ≡ true → v ≡ min m 65536 → cond (eqb m 0) 0 (getD ds (m - 1) 0) ≡ refDepth t i x v
+  same-depth ref v-is = go (eqb m 0) (ltb i m) refl refl
     where
       go : (y z : Bool) → eqb m 0 ≡ y → ltb i m ≡ z → cond (eqb m 0) 0 (getD ds (m - 1) 0) ≡ refDepth t i x v
-      go true z p q = let e = eqb-true m 0 p in rw p (depth-zero t i x v low high (omega (arith, v-is)))
+      go true z p q = let e = eqb-true m 0 p in rw p (depth-zero t i x v ref (omega (arith, v-is)))
       go false true p q =
           let e : (m ≡ 0 → ⊥) = eqb-false m 0 p in
           let l : i < m = ltb-true i m q in
-          rw p (List·getD-eq-default ds 0 (omega (arith, d .count)) ∙ depth-late t i x v low high (λ z. e (omega (arith, v-is))) (omega (arith, v-is)))
+          rw p (List·getD-eq-default ds 0 (omega (arith, d .count)) ∙ depth-late t i x v ref (λ z. e (omega (arith, v-is))) (omega (arith, v-is)))
       go false false p q =
           let e : (m ≡ 0 → ⊥) = eqb-false m 0 p in
           let l : m ≤ i = ltb-false i m q in
           let c : v ≡ m = omega (arith, v-is) in
-          rw p (sym (d .each (m - 1) (omega (arith, e))) ∙ depth-get t (m - 1) ∙ ap (λ (j : ℕ). getD t (4096 + (j - 1)) 0) (sym c) ∙ depth-line t i x v low high (λ z. e (omega arith)) (omega arith))
+          rw p (sym (d .each (m - 1) (omega (arith, e))) ∙ depth-get t (m - 1) ∙ ap (λ (j : ℕ). getD t (4096 + (j - 1)) 0) (sym c) ∙ depth-line t i x v ref (λ z. e (omega arith)) (omega arith))
 
   deepest-turn : deepest ds (refBy x f rs) ≡ max (refDepth t i x v) (deepest ds rs)
   unfolding m
-  deepest-turn = go (ltb 32 x) (ltb x 80) refl refl
+  deepest-turn = go (isRef x) refl
     where
-      go : (y z : Bool) → ltb 32 x ≡ y → ltb x 80 ≡ z → deepest ds (refBy x f rs) ≡ max (refDepth t i x v) (deepest ds rs)
-      go false z p q = rw (← depth-low t i x v (ltb-false 32 x p), deepest-plain ds x f rs (rw p)) (omega arith)
-      go true false p q = rw (← depth-high t i x v (ltb-false x 80 q), deepest-plain ds x f rs (rw (p, q))) (omega arith)
-      go true true p q =
-          let low = ltb-true 32 x p in
-          let high = ltb-true x 80 q in
-          deepest-ref ds x f rs (rw (p, q)) ∙ rw (← same-depth low high (hv ∙ ref-number x f low high good)) refl
+      go : (y : Bool) → isRef x ≡ y → deepest ds (refBy x f rs) ≡ max (refDepth t i x v) (deepest ds rs)
+      go false e = rw (← depth-plain t i x v e, deepest-plain ds x f rs e) (omega arith)
+      go true e = deepest-ref ds x f rs e ∙ rw (← same-depth e (hv ∙ ref-number x f e good)) refl
 
 -- ---- the fields of a line
 

@@ -17,10 +17,7 @@ fn ref_depth(work: &[u8], i: usize, x: u8, v: usize) -> usize
     requires { ⌜ (i < 1024) × (65536 ≤ length (now work)) ⌝ }
     ensures { λ r. ⌜ (r ≡ refDepth (now (work .entry)) i x v) × (r < 256) ⌝ }
 {
-    if x <= 32 {
-        return 0;
-    }
-    if 80 <= x {
+    if !refs::is_ref(x) {
         return 0;
     }
     if v == 0 {

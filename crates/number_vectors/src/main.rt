@@ -185,12 +185,11 @@ fn int_row(op: u64, a: i64, b: i64) {
 
 // The value of an upper-case hexadecimal digit.
 fn digit(c: u8) -> u64 {
-    let d = c as u64;
-    if d >= 65 {
-        return d - 55;
+    if c >= b'A' {
+        return (c - b'A') as u64 + 10;
     }
-    if d >= 48 {
-        return d - 48;
+    if c >= b'0' {
+        return (c - b'0') as u64;
     }
     0
 }

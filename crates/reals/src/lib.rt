@@ -83,7 +83,8 @@ fn rounded(m: u64) -> u64
 }
 
 // The magnitude of an integer as a real. Its leading one is moved to place 63, and how far it was moved decides the exponent.
-// A `rounded` of 2^53 carries into the exponent's field, which makes it right again.
+// A `rounded` of 2^53 carries into the exponent's field, which makes it right again. 1085 is the bias 1023 plus 62: the leading one of
+// q, at place 52, adds 1 to the exponent.
 fn from_u64(n: u64) -> f64
     ensures { λ r. ⌜ r ≡ toReal (pos n) ⌝ }
 {

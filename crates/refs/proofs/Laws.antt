@@ -27,28 +27,24 @@ use Rattle.refs.proofs.Letters.{ref-number, refs-begin, stands, refs-st
 -- ---- a claim, by the tests that lead to its answer
 
 module _ (t : List ℕ) (k x r : ℕ) where
-  pub claim-low : x ≤ 32 → (true ≡ claims t k x r) × (t ≡ usedMarked t x r)
+  pub claim-plain : isRef x ≡ false → (true ≡ claims t k x r) × (t ≡ usedMarked t x r)
   unfolding claims usedMarked
-  claim-low h = (rw (le-ltb 32 x h), rw (le-ltb 32 x h))
+  claim-plain e = (rw e, rw e)
 
-  pub claim-high : 80 ≤ x → (true ≡ claims t k x r) × (t ≡ usedMarked t x r)
-  unfolding claims usedMarked
-  claim-high h = (rw (lt-ltb 32 x (omega arith), le-ltb x 80 h), rw (lt-ltb 32 x (omega arith), le-ltb x 80 h))
-
-  module _ (low : 32 < x) (high : x < 80) where
+  module _ (ref : isRef x ≡ true) where
     same-either : (b : Bool) → r ≡ 0 → t ≡ cond b (usedMarked t x r) t
     unfolding usedMarked
-    same-either true z = rw (lt-ltb 32 x low, lt-ltb x 80 high, eq-eqb r 0 z)
+    same-either true z = rw (ref, eq-eqb r 0 z)
     same-either false z = refl
 
     pub claim-zero : r ≡ 0 → (ltb x 64 ≡ claims t k x r) × (t ≡ cond (ltb x 64) (usedMarked t x r) t)
     unfolding claims
-    claim-zero z = (rw (lt-ltb 32 x low, lt-ltb x 80 high, eq-eqb r 0 z), same-either (ltb x 64) z)
+    claim-zero z = (rw (ref, eq-eqb r 0 z), same-either (ltb x 64) z)
 
     module _ (some : r ≡ 0 → ⊥) where
       open-claim : claims t k x r ≡ ltb r k && eqb (kindAt (formAt t (r - 1))) (wantedBy x) && eqb (usedAt t (r - 1)) 0
       unfolding claims
-      open-claim = rw (lt-ltb 32 x low, lt-ltb x 80 high, ne-eqb r 0 some)
+      open-claim = rw (ref, ne-eqb r 0 some)
 
       pub claim-late : k ≤ r → (false ≡ claims t k x r) × (t ≡ t)
       claim-late h = (sym (open-claim ∙ rw (le-ltb r k h)), refl)
@@ -63,7 +59,7 @@ module _ (t : List ℕ) (k x r : ℕ) where
 
           pub claim-good : usedAt t (r - 1) ≡ 0 → (true ≡ claims t k x r) × (set t (3072 + (r - 1)) 1 ≡ usedMarked t x r)
           unfolding usedMarked
-          claim-good e = (sym (open-claim ∙ rw (lt-ltb r k early, eq-eqb _ _ kind, eq-eqb _ _ e)), rw (lt-ltb 32 x low, lt-ltb x 80 high, ne-eqb r 0 some))
+          claim-good e = (sym (open-claim ∙ rw (lt-ltb r k early, eq-eqb _ _ kind, eq-eqb _ _ e)), rw (ref, ne-eqb r 0 some))
 
 whole-marked : (s t : List ℕ) (n x r : ℕ) → Whole s t n → Whole s (usedMarked t x r) n
 unfolding usedMarked
@@ -97,10 +93,10 @@ module _ (s t : List ℕ) (n k : ℕ) (w : Whole s t n) (hk : k ≤ n) (us : Lis
   m : ℕ
   m = Form.numberOf f
 
-  module _ (low : 32 < x) (high : x < 80) where
+  module _ (ref : isRef x ≡ true) where
     v-is : v ≡ min m 65536
     unfolding m
-    v-is = hv ∙ ref-number x f low high good
+    v-is = hv ∙ ref-number x f ref good
 
     same-good : Refusal.goodRef (readsIn s) k us (asRef x f) ≡ claims t k x v
     unfolding asRef m claims
@@ -109,11 +105,11 @@ module _ (s t : List ℕ) (n k : ℕ) (w : Whole s t n) (hk : k ≤ n) (us : Lis
         go : (y z : Bool) → eqb m 0 ≡ y → ltb m k ≡ z → Refusal.goodRef (readsIn s) k us (asRef x f) ≡ claims t k x v
         go true z p q =
             let e : m ≡ 0 = eqb-true m 0 p in
-            simp (p, lt-ltb 32 x low, lt-ltb x 80 high, eq-eqb v 0 (omega (arith, v-is)))
+            simp (p, ref, eq-eqb v 0 (omega (arith, v-is)))
         go false false p q =
             let e : (m ≡ 0 → ⊥) = eqb-false m 0 p in
             let l : k ≤ m = ltb-false m k q in
-            simp (p, q, lt-ltb 32 x low, lt-ltb x 80 high, ne-eqb v 0 (λ z. e (omega (arith, v-is))), le-ltb v k (omega (arith, v-is)))
+            simp (p, q, ref, ne-eqb v 0 (λ z. e (omega (arith, v-is))), le-ltb v k (omega (arith, v-is)))
         go false true p q =
             let e : (m ≡ 0 → ⊥) = eqb-false m 0 p in
             let l : m < k = ltb-true m k q in
@@ -121,14 +117,14 @@ module _ (s t : List ℕ) (n k : ℕ) (w : Whole s t n) (hk : k ≤ n) (us : Lis
             let c : suc (m - 1) ≡ m = omega (arith, e) in
             let h : m - 1 < n = omega (arith, e) in
             let u : not (any (eqb m) us) ≡ eqb (usedAt t (m - 1)) 0 = not-flag (any (eqb m) us) ∙ ap (λ (j : ℕ). eqb j 0) (sym (used (m - 1) (omega arith) ∙ ap (λ (j : ℕ). asBit (any (eqb j) us)) c)) in
-            rw d (simp (p, q, lt-ltb 32 x low, lt-ltb x 80 high, kind-is s t n w (m - 1) h, u))
+            rw d (simp (p, q, ref, kind-is s t n w (m - 1) h, u))
 
     claim-early : claims t k x v ≡ true → (v ≡ 0 → ⊥) → v < k
     claim-early c z = go (ltb v k) refl
       where
         go : (y : Bool) → ltb v k ≡ y → v < k
         go true q = ltb-true v k q
-        go false q = never (sym (open-claim t k x v low high z ∙ rw q) ∙ c)
+        go false q = never (sym (open-claim t k x v ref z ∙ rw q) ∙ c)
 
     used-after : claims t k x v ≡ true → Used (usedMarked t x v) (m ∷ us)
     unfolding usedMarked usedAt m
@@ -137,12 +133,12 @@ module _ (s t : List ℕ) (n k : ℕ) (w : Whole s t n) (hk : k ≤ n) (us : Lis
         go : (y : Bool) → eqb v 0 ≡ y → getD (usedMarked t x v) (3072 + i) 0 ≡ asBit (any (eqb (suc i)) (m ∷ us))
         go true q =
             let z : v ≡ 0 = eqb-true v 0 q in
-            simp (lt-ltb 32 x low, lt-ltb x 80 high, q, ne-eqb (suc i) m (λ y. omega (arith, v-is))) (used i h)
+            simp (ref, q, ne-eqb (suc i) m (λ y. omega (arith, v-is))) (used i h)
         go false q =
             let z : (v ≡ 0 → ⊥) = eqb-false v 0 q in
             let e : v < k = claim-early c z in
             let d : v ≡ m = omega (arith, v-is) in
-            simp (lt-ltb 32 x low, lt-ltb x 80 high, q) (on (eqb (suc i) m) refl z d e)
+            simp (ref, q) (on (eqb (suc i) m) refl z d e)
           where
             on : (y : Bool) → eqb (suc i) m ≡ y → (v ≡ 0 → ⊥) → v ≡ m → v < k → getD (set t (3072 + (v - 1)) 1) (3072 + i) 0 ≡ asBit (eqb (suc i) m || any (eqb (suc i)) us)
             on true p z d e =
@@ -155,42 +151,26 @@ module _ (s t : List ℕ) (n k : ℕ) (w : Whole s t n) (hk : k ≤ n) (us : Lis
 
     ref-open : useAll (readsIn s) k (refBy x f rs) us ≡ cond (claims t k x v) (useAll (readsIn s) k rs (m ∷ us)) none
     unfolding refBy m asRef
-    ref-open = simp (lt-ltb 32 x low, lt-ltb x 80 high) (ap (λ (b : Bool). cond b (useAll (readsIn s) k rs (Form.numberOf f ∷ us)) none) same-good)
+    ref-open = simp ref (ap (λ (b : Bool). cond b (useAll (readsIn s) k rs (Form.numberOf f ∷ us)) none) same-good)
 
   -- no reference
   plain-open : isRef x ≡ false → useAll (readsIn s) k (refBy x f rs) us ≡ useAll (readsIn s) k rs us
   unfolding refBy
   plain-open e = rw e
 
-  plain-claims : isRef x ≡ false → (claims t k x v ≡ true) × (usedMarked t x v ≡ t)
-  unfolding claims usedMarked
-  plain-claims e = (rw e, rw e)
-
   turn-good : claims t k x v ≡ true → Turn (readsIn s) k (useAll (readsIn s) k (refBy x f rs) us) rs (usedMarked t x v)
-  turn-good c = go (ltb 32 x) (ltb x 80) refl refl
+  turn-good c = go (isRef x) refl
     where
-      go : (y z : Bool) → ltb 32 x ≡ y → ltb x 80 ≡ z → Turn (readsIn s) k (useAll (readsIn s) k (refBy x f rs) us) rs (usedMarked t x v)
-      go false z p q =
-          let e : isRef x ≡ false = rw p in
-          record { us = us; same = plain-open e; table = rw (plain-claims e .1) used }
-      go true false p q =
-          let e : isRef x ≡ false = rw (p, q) in
-          record { us = us; same = plain-open e; table = rw (plain-claims e .1) used }
-      go true true p q =
-          let l = ltb-true 32 x p in
-          let h = ltb-true x 80 q in
-          record { us = m ∷ us; same = ref-open l h ∙ rw c; table = used-after l h c }
+      go : (y : Bool) → isRef x ≡ y → Turn (readsIn s) k (useAll (readsIn s) k (refBy x f rs) us) rs (usedMarked t x v)
+      go false e = record { us = us; same = plain-open e; table = rw (← claim-plain t k x v e .1) used }
+      go true e = record { us = m ∷ us; same = ref-open e ∙ rw c; table = used-after e c }
 
   turn-bad : claims t k x v ≡ false → useAll (readsIn s) k (refBy x f rs) us ≡ none
-  turn-bad c = go (ltb 32 x) (ltb x 80) refl refl
+  turn-bad c = go (isRef x) refl
     where
-      no : isRef x ≡ false → useAll (readsIn s) k (refBy x f rs) us ≡ none
-      no e = never (sym c ∙ plain-claims e .0)
-
-      go : (y z : Bool) → ltb 32 x ≡ y → ltb x 80 ≡ z → useAll (readsIn s) k (refBy x f rs) us ≡ none
-      go false z p q = no (rw p)
-      go true false p q = no (rw (p, q))
-      go true true p q = ref-open (ltb-true 32 x p) (ltb-true x 80 q) ∙ rw c
+      go : (y : Bool) → isRef x ≡ y → useAll (readsIn s) k (refBy x f rs) us ≡ none
+      go false e = never (sym c ∙ sym (claim-plain t k x v e .0))
+      go true e = ref-open e ∙ rw c
 
 -- ---- the fields of a line
 

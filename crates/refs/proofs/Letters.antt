@@ -5,7 +5,7 @@ use mathlib.Core.List.{List, [], _∷_, _++_}
 use mathlib.Core.Option.{Option, none, some}
 use Prim.Native.Nat.{ℕ, _+_, _-_, _≤_, _<_, min}
 use native.Mathlib.Omega.{arith}
-use lib.Dec.{leb}
+use lib.Dec.{leb, ltb}
 use lib.ListN.{length, set, length-set}
 use lib.Seq.{getD-set-other}
 use borrow.Author.Tests.{lt-ltb, le-ltb, leb-true, ltb-true}
@@ -17,14 +17,14 @@ use Rattle.semantics.specs.Refusal as Refusal
 use Rattle.decimal.specs.Number as Number
 use Rattle.form.specs.declared.Walk.{Walk}
 use Rattle.form.specs.Table.{code, codes, rowAt}
-use Rattle.form.specs.Letters.{after, pending, letterHolds, lettersFrom, fieldsLeft, beginning, WalkAt, WalkStepped}
+use Rattle.form.specs.Letters.{after, lettersLeft, letterHolds, lettersFrom, fieldsLeft, beginning, WalkAt, WalkStepped}
 use Rattle.semantics.proofs.Common.{both}
 use Rattle.form.proofs.Table.{fine, parts-fine}
 use Rattle.form.proofs.Laws.{fields-end, one-after, many-after, ones-fine, kind-letter, ref-holds, walk-begins}
 use Rattle.lines.specs.Lines.{textAt, readAt, formAt, Whole}
 use Rattle.lines.proofs.Line.{form-low, form-is, fields-are, read-fits}
 use Rattle.lines.proofs.Laws.{whole-kept}
-use Rattle.refs.specs.Refs.{refBy, refsBy}
+use Rattle.refs.specs.Refs.{isRef, refBy, refsBy}
 
 -- ---- letters say what the table's parts say
 
@@ -76,10 +76,13 @@ refs-codes (f ∷ fs) (many a ∷ ps) h =
     rw (many-after (Form.numberOf f) a ps (w .0), refs-codes fs (Form.ones (Form.numberOf f) a ++ ps) (ones-fine (Form.numberOf f) a ps (w .1)))
     (not-ref (code a + 32) f _ (omega arith))
 
+pub ref-range : (x : ℕ) → isRef x ≡ true → (32 < x) × (x < 80)
+ref-range x e = let w = both (ltb 32 x) (ltb x 80) e in (ltb-true 32 x (w .0), ltb-true x 80 (w .1))
+
 -- the number of a reference, as it is read
-pub ref-number : (x : ℕ) (f : List ℕ) → 32 < x → x < 80 → letterHolds x f ≡ true → Number.numberUpTo 65536 f ≡ min (Form.numberOf f) 65536
+pub ref-number : (x : ℕ) (f : List ℕ) → isRef x ≡ true → letterHolds x f ≡ true → Number.numberUpTo 65536 f ≡ min (Form.numberOf f) 65536
 unfolding Number.numberUpTo
-ref-number x f low high h = go (Text.natOf f) (ltb-true _ _ (sym (ref-holds x f low high) ∙ h))
+ref-number x f e h = go (Text.natOf f) (ltb-true _ _ (sym (ref-holds x f (ref-range x e .0) (ref-range x e .1)) ∙ h))
   where
     go : (o : Option ℕ) → Number.capped 65536 o < 65537 → Number.capped 65536 o ≡ min (Text.orElse 0 o) 65536
     go none k = absurd (omega arith)
@@ -89,7 +92,7 @@ ref-number x f low high h = go (Text.natOf f) (ltb-true _ _ (sym (ref-holds x f 
 
 module _ (s t : List ℕ) (n i : ℕ) (w : Whole s t n) (h : i < n) (l : List ℕ) (f : ℕ) (hl : l ≡ textAt s i) (hf : f ≡ formAt t i) where
   pub refs-begin : Refusal.refsOf (readAt s i) ≡ refsBy (lettersFrom f (beginning f)) (fieldsLeft l (beginning f))
-  unfolding pending
+  unfolding lettersLeft
   refs-begin =
       rw (form-is s t n w i h, fields-are s t n w i h, hf, hl)
       (sym (refs-codes _ (rowAt (formAt t i) .parts) (parts-fine (formAt t i) (form-low s t n w i h))))

@@ -54,7 +54,7 @@ node-step (r ∷ rs) ns (suc i) h =
 
 -- ---- a reference to an earlier line reads the same among the nodes before and among all
 
-pub same-node : (ns : List Node) (i r : ℕ) → (r ≡ 0 → ⊥) → r ≤ i → nodeAt (take i ns) r ≡ nodeAt ns r
+same-node : (ns : List Node) (i r : ℕ) → (r ≡ 0 → ⊥) → r ≤ i → nodeAt (take i ns) r ≡ nodeAt ns r
 same-node ns i r z h = getD-take i ns (r - 1) noNode (omega (arith, z))
 
 module _ (ls : List Read) (ns : List Node) (i : ℕ) where

@@ -8,14 +8,27 @@ ghost use lib.ListN.{length};
 ghost use Rattle.semantics.specs.Refusal.{refsOf, useAll, badRefFrom};
 ghost use Rattle.form.specs.Table.{rowCount};
 ghost use Rattle.lines.specs.Lines.{readsIn, readAt, formAt, Whole};
-ghost use Rattle.refs.specs.Refs.{wantedBy, claims, usedMarked, Used, RefsOutcome};
+ghost use Rattle.refs.specs.Refs.{isRef, wantedBy, claims, usedMarked, Used, RefsOutcome};
+
+// Letters of references that may be 0 lie below it.
+const NEEDED: u8 = b'@';
+
+// Whether x is the letter of a reference: it lies between the blank and P.
+pub fn is_ref(x: u8) -> bool
+    ensures { λ r. ⌜ r ≡ isRef x ⌝ }
+{
+    if x <= b' ' {
+        return false;
+    }
+    x < b'P'
+}
 
 // The kind that a reference's letter asks for.
 fn wanted(x: u8) -> u8
     requires { ⌜ x < 80 ⌝ }
     ensures { λ r. ⌜ r ≡ wantedBy x ⌝ }
 {
-    if x < 64 {
+    if x < NEEDED {
         return x + 32;
     }
     x
@@ -26,14 +39,11 @@ fn claim(work: &mut [u8], k: usize, x: u8, r: usize) -> bool
     requires { ⌜ (k ≤ 1024) × (65536 ≤ length (now work)) × ((i : ℕ) → i + 1 < k → formAt (now work) i < rowCount) ⌝ }
     ensures { λ b. ⌜ (b ≡ claims (now (work .entry)) k x r) × (now (work .exit) ≡ cond b (usedMarked (now (work .entry)) x r) (now (work .entry))) ⌝ }
 {
-    if x <= 32 {
-        return true;
-    }
-    if 80 <= x {
+    if !is_ref(x) {
         return true;
     }
     if r == 0 {
-        return x < 64;
+        return x < NEEDED;
     }
     if k <= r {
         return false;

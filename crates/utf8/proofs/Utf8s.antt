@@ -12,8 +12,6 @@ use Rattle.hex.specs.Hex.{pairOf}
 use Rattle.utf8.specs.Utf8.{followed, ends, startsOne, isText, textFrom}
 use Rattle.hex.proofs.Hexes.{unhex-bad, unhex-next, unhex-odd, unhex-end}
 
--- ---- plain bytes
-
 -- ---- hexadecimal digits
 
 pub text-start : (s : Bytes) → isText s ≡ textFrom (some (0, 0, 0)) (drop 0 s)

@@ -4,17 +4,17 @@ use mathlib.Core.Bool.{Bool, cond}
 use mathlib.Core.Option.{Option, none, some}
 use lib.Dec.{eqb}
 use Rattle.semantics.specs.Text.{Bytes, Lead, lead, follows, goesOn, holdsOf, inRange, unhex, isUtf8}
-use Rattle.utf8.specs.declared.State.{State}
+use Rattle.utf8.specs.declared.Lead as Code
 
 -- the state that the code has: none after a fault
-unfoldable pub stateOf : State → Option Lead
-stateOf a = cond (a .good) (some (a .more, a .low, a .high)) none
+unfoldable pub leadOf : Code.Lead → Option Lead
+leadOf a = cond (a .good) (some (a .more, a .low, a .high)) none
 
 abbrev pub toCome : ℕ → ℕ → ℕ → Option Lead
 toCome n lo hi = some (n, lo, hi)
 
-abbrev pub noState : Option Lead
-noState = none
+abbrev pub noLead : Option Lead
+noLead = none
 
 unfoldable pub leadAt : ℕ → Option Lead
 leadAt b = lead b

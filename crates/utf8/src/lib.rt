@@ -4,20 +4,20 @@ ghost use mathlib.Core.Path.{_≡_};
 ghost use Prim.Native.Nat.{_≤_};
 ghost use lib.ListN.{length};
 ghost use Rattle.semantics.specs.Text.{characters};
-ghost use Rattle.utf8.specs.Utf8.{stateOf, toCome, noState, leadAt, followed, ends, startsOne, isText};
+ghost use Rattle.utf8.specs.Utf8.{leadOf, toCome, noLead, leadAt, followed, ends, startsOne, isText};
 
 // Within a text: whether it is good so far, how many bytes of a character are to come, and the bounds of the first of them.
-pub struct State {
+pub struct Lead {
     pub good: bool,
     pub more: u8,
     pub low: u8,
     pub high: u8,
 }
 
-fn to_come(more: u8, low: u8, high: u8) -> State
-    ensures { λ r. ⌜ stateOf r ≡ toCome more low high ⌝ }
+fn to_come(more: u8, low: u8, high: u8) -> Lead
+    ensures { λ r. ⌜ leadOf r ≡ toCome more low high ⌝ }
 {
-    State {
+    Lead {
         good: true,
         more,
         low,
@@ -25,10 +25,10 @@ fn to_come(more: u8, low: u8, high: u8) -> State
     }
 }
 
-fn fault() -> State
-    ensures { λ r. ⌜ stateOf r ≡ noState ⌝ }
+fn fault() -> Lead
+    ensures { λ r. ⌜ leadOf r ≡ noLead ⌝ }
 {
-    State {
+    Lead {
         good: false,
         more: 0,
         low: 0,
@@ -38,8 +38,8 @@ fn fault() -> State
 
 // What a character's first byte asks of those behind it. The bounds of the second shut out overlong forms, surrogates, and what
 // lies above 10FFFF.
-fn leading(b: u8) -> State
-    ensures { λ r. ⌜ stateOf r ≡ leadAt b ⌝ }
+fn leading(b: u8) -> Lead
+    ensures { λ r. ⌜ leadOf r ≡ leadAt b ⌝ }
 {
     if is_within(b, 0x00, 0x7F) {
         return to_come(0, 0, 0);
@@ -69,8 +69,8 @@ fn leading(b: u8) -> State
 }
 
 // One byte further.
-fn next(a: State, b: u8) -> State
-    ensures { λ r. ⌜ stateOf r ≡ followed b (stateOf a) ⌝ }
+fn next(a: Lead, b: u8) -> Lead
+    ensures { λ r. ⌜ leadOf r ≡ followed b (leadOf a) ⌝ }
 {
     if !a.good {
         return a;
@@ -85,8 +85,8 @@ fn next(a: State, b: u8) -> State
 }
 
 // Whether a text may end here.
-fn may_end(a: State) -> bool
-    ensures { λ r. ⌜ r ≡ ends (stateOf a) ⌝ }
+fn may_end(a: Lead) -> bool
+    ensures { λ r. ⌜ r ≡ ends (leadOf a) ⌝ }
 {
     if !a.good {
         return false;

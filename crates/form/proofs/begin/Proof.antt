@@ -6,7 +6,7 @@ use Rattle.form.proofs.begin.Statement.{statement}
 use Rattle.form.proofs.begin.Tie as tie
 
 returns : tie.Need-returns
-returns c = ap (λ (k : ℕ). record { at = k + 1; j = 0; c = 0; e = 65 }) (c .width .ensures .0)
+returns c = ap (λ (k : ℕ). record { at = k + 1; next = 0; left = 0; letter = 32 }) (c .width .ensures .0)
 
 pub begin-spec : {M : Type 1} → statement M
 begin-spec =

@@ -31,7 +31,7 @@ returns-6 c = simp (ne-eqb _ _ (c .before .before .before .before .before .befor
 
 returns-7 : tie.Need-returns-7
 unfolding letterHolds
-returns-7 c = simp (ne-eqb _ _ (c .before .before .before .before .before .before .before .if1 .left), ne-eqb _ _ (c .before .before .before .before .before .before .if2 .left), ne-eqb _ _ (c .before .before .before .before .before .if3 .left), ne-eqb _ _ (c .before .before .before .before .if4 .left), ne-eqb _ _ (c .before .before .before .if5 .left), ne-eqb _ _ (c .before .before .if6 .left), c .before .read-number .ensures .0, c .limit .ensures)
+returns-7 c = simp (ne-eqb _ _ (c .before .before .before .before .before .before .before .if1 .left), ne-eqb _ _ (c .before .before .before .before .before .before .if2 .left), ne-eqb _ _ (c .before .before .before .before .before .if3 .left), ne-eqb _ _ (c .before .before .before .before .if4 .left), ne-eqb _ _ (c .before .before .before .if5 .left), ne-eqb _ _ (c .before .before .if6 .left), c .before .number .ensures .0, c .limit .ensures)
 
 pub is-good-spec : {M : Type 1} → statement M
 is-good-spec =

@@ -7,13 +7,13 @@ use Rattle.form.proofs.letter.Statement.{statement}
 use Rattle.form.proofs.letter.Tie as tie
 
 returns : tie.Need-returns
-returns c = head-many (c .before .args .f) (c .before .args .w .j) (c .before .args .w .c) (c .before .args .w .e) (c .if1 .taken)
+returns c = head-many (c .before .before .args .f) (c .before .before .args .w .next) (c .before .before .args .w .left) (c .before .before .args .w .letter) (c .if1 .taken)
 
-atom-requires : tie.Need-atom-requires
-atom-requires c κs = (c .before .pre .form, omega (arith, codes-short (c .before .args .f) (c .before .pre .form), c .before .pre .within))
+field-letter-requires : tie.Need-field-letter-requires
+field-letter-requires c κs = (c .before .before .pre .form, omega (arith, codes-short (c .before .before .args .f) (c .before .before .pre .form), c .before .before .pre .within))
 
 returns-2 : tie.Need-returns-2
-returns-2 c = c .atom .ensures ∙ head-one (c .before .before .args .f) (c .before .before .args .w .j) (c .before .before .args .w .c) (c .before .before .args .w .e) (c .before .if1 .left)
+returns-2 c = c .field-letter .ensures ∙ head-one (c .before .before .before .args .f) (c .before .before .before .args .w .next) (c .before .before .before .args .w .left) (c .before .before .before .args .w .letter) (c .before .if1 .left)
 
 pub letter-spec : {M : Type 1} → statement M
-letter-spec = tie.close (tie.spec returns atom-requires returns-2)
+letter-spec = tie.close (tie.spec returns field-letter-requires returns-2)

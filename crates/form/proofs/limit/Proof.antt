@@ -1,5 +1,6 @@
 -- `form::limit` meets its contract.
 use Rattle.form.specs.Letters.{limitOf}
+use borrow.Author.Needs.{needs}
 use borrow.Author.Tests.{le-leb, lt-leb, eq-eqb, ne-eqb}
 use Rattle.form.proofs.limit.Statement.{statement}
 use Rattle.form.proofs.limit.Tie as tie
@@ -33,4 +34,4 @@ unfolding limitOf
 returns-7 c = search (le-leb, lt-leb, eq-eqb, ne-eqb)
 
 pub limit-spec : {M : Type 1} → statement M
-limit-spec = tie.close (tie.spec returns returns-2 returns-3 returns-4 returns-5 returns-6 returns-7)
+limit-spec = tie.close (tie.spec returns returns-2 returns-3 (λ c. search needs) returns-4 returns-5 returns-6 (λ c. search needs) (λ c. search needs) returns-7)

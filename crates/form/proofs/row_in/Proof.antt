@@ -5,7 +5,7 @@ use Rattle.form.proofs.Laws.{row-start, row-here, row-next, row-end}
 use Rattle.semantics.specs.Form.{forms, rowOf}
 use denote.Ref.{now}
 use lib.ListN.{drop}
-use mathlib.Core.Path.{_≡_}
+use mathlib.Core.Path.{_≡_, _∙_, sym}
 use Prim.Native.Nat.{_≤_, _-_, _+_}
 use Rattle.form.proofs.row_in.Statement.{statement}
 use Rattle.form.proofs.row_in.Tie as tie
@@ -20,10 +20,10 @@ loop-holds : tie.Need-loop-holds Inv-loop μ-loop
 loop-holds c = (omega arith, row-start (now (c .before .args .l)))
 
 returns : tie.Need-returns Inv-loop μ-loop
-returns c = (row-here (now (c .before .before .before .before .before .args .l)) (c .before .before .before .loop .f) (c .before .before .loop-test .taken) (c .before .before .before .loop .inv .1) (c .before .behind-in .ensures) (c .if1 .taken), omega arith)
+returns c = (row-here (now (c .before .before .before .before .before .args .l)) (c .before .before .before .loop .f) (c .before .before .loop-test .taken) (c .before .before .before .loop .inv .1) (sym (c .before .begins-with .ensures) ∙ c .if1 .taken), omega arith)
 
 loop-again : tie.Need-loop-again Inv-loop μ-loop
-loop-again c = (omega arith, row-next (now (c .before .before .before .before .before .args .l)) (c .before .before .before .loop .f) (c .before .before .loop-test .taken) (c .before .before .before .loop .inv .1) (c .before .behind-in .ensures) (c .if1 .left))
+loop-again c = (omega arith, row-next (now (c .before .before .before .before .before .args .l)) (c .before .before .before .loop .f) (c .before .before .loop-test .taken) (c .before .before .before .loop .inv .1) (sym (c .before .begins-with .ensures) ∙ c .if1 .left))
 
 returns-2 : tie.Need-returns-2 Inv-loop μ-loop
 returns-2 c = (row-end (now (c .before .before .before .args .l)) (c .before .loop .f) (omega arith) (c .before .loop .inv .1), omega arith)

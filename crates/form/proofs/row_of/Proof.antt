@@ -7,7 +7,7 @@ use Rattle.form.proofs.row_of.Tie as tie
 
 row-in-requires : tie.Need-row-in-requires
 unfolding forms
-row-in-requires c κs = (c .before .before .pre, refl)
+row-in-requires c κs = refl
 
 pub row-of-spec : {M : Type 1} → statement M
 row-of-spec =

@@ -1,27 +1,19 @@
 -- `form::step` meets its contract.
-use native.Mathlib.Omega.{arith}
 use mathlib.Core.Path.{refl}
-use Rattle.form.proofs.Table.{codes-short}
 use Rattle.form.proofs.Laws.{step-within, step-many, step-one}
 use borrow.Author.Needs.{needs}
 use Rattle.form.proofs.step.Statement.{statement}
 use Rattle.form.proofs.step.Tie as tie
 
 returns : tie.Need-returns
-returns c = let q = step-within (c .before .args .f) (c .before .args .w .j) (c .before .args .w .c) (c .before .args .w .e) (c .before .args .x) (c .before .args .n) (c .before .pre .0) (c .before .pre .1) (c .before .pre .2) (c .if1 .taken) in (q .0, q .1, refl)
-
-add-t11 : tie.Need-add-t11
-add-t11 c = record { fits = omega (arith, codes-short (c .before .before .args .f) (c .before .before .pre .0 .form), c .before .before .pre .0 .within) }
+returns c = (λ f ready hx nb. step-within f (c .before .args .w .next) (c .before .args .w .left) (c .before .args .w .letter) (c .before .args .x) (c .before .args .n) ready hx nb (c .if1 .taken), refl)
 
 returns-2 : tie.Need-returns-2
-returns-2 c = let q = step-many (c .before .before .args .f) (c .before .before .args .w .j) (c .before .before .args .w .c) (c .before .before .args .w .e) (c .before .before .args .x) (c .before .before .args .n) (c .before .before .pre .0) (c .before .before .pre .1) (c .before .before .pre .2) (c .before .if1 .left) (c .if2 .taken) in (q .0, q .1, refl)
-
-add-t13 : tie.Need-add-t13
-add-t13 c = record { fits = omega (arith, codes-short (c .before .before .args .f) (c .before .before .pre .0 .form), c .before .before .pre .0 .within) }
+returns-2 c = (λ f ready hx nb. step-many f (c .before .before .args .w .next) (c .before .before .args .w .left) (c .before .before .args .w .letter) (c .before .before .args .x) (c .before .before .args .n) ready hx nb (c .before .if1 .left) (c .if2 .taken), refl)
 
 returns-3 : tie.Need-returns-3
-returns-3 c = let q = step-one (c .before .before .args .f) (c .before .before .args .w .j) (c .before .before .args .w .c) (c .before .before .args .w .e) (c .before .before .args .x) (c .before .before .args .n) (c .before .before .pre .0) (c .before .before .pre .1) (c .before .before .pre .2) (c .before .if1 .left) (c .if2 .left) in (q .0, q .1, refl)
+returns-3 c = (λ f ready hx nb. step-one f (c .before .before .args .w .next) (c .before .before .args .w .left) (c .before .before .args .w .letter) (c .before .before .args .x) (c .before .before .args .n) ready hx nb (c .before .if1 .left) (c .if2 .left), refl)
 
 pub step-spec : {M : Type 1} → statement M
 step-spec =
-    tie.close (tie.spec (λ c. search needs) returns add-t11 (λ c. search needs) returns-2 add-t13 returns-3)
+    tie.close (tie.spec (λ c. search needs) returns (λ c. search needs) (λ c. search needs) returns-2 (λ c. search needs) returns-3)

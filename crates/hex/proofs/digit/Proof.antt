@@ -1,5 +1,6 @@
 -- `hex::digit` meets its contract.
-use mathlib.Core.Path.{_∙_, sym}
+use Prim.Native.Nat.{ℕ, _+_}
+use mathlib.Core.Path.{_∙_, sym, ap}
 use native.Mathlib.Omega.{arith}
 use borrow.Author.Needs.{needs}
 use Rattle.hex.proofs.Hexes.{digit-low, digit-high, digit-none}
@@ -17,7 +18,7 @@ sub-wide-2 : tie.Need-sub-wide-2
 sub-wide-2 c = omega (arith, within-yes 65 70 (c .before .before .before .before .args .b) (sym (c .before .is-within2 .ensures) ∙ c .if2 .taken) .0)
 
 returns-2 : tie.Need-returns-2
-returns-2 c = let q = digit-high (c .before .before .before .before .before .args .b) (sym (c .before .before .before .before .is-within .ensures) ∙ c .before .before .before .if1 .left) (sym (c .before .before .is-within2 .ensures) ∙ c .before .if2 .taken) in (c .wide2 .ensures .0 ∙ q .0, omega (arith, c .wide2 .ensures .0, q .1))
+returns-2 c = let q = digit-high (c .before .before .before .before .before .args .b) (sym (c .before .before .before .before .is-within .ensures) ∙ c .before .before .before .if1 .left) (sym (c .before .before .is-within2 .ensures) ∙ c .before .if2 .taken) in (ap (λ (v : ℕ). v + 10) (c .wide2 .ensures .0) ∙ q .0, omega (arith, c .wide2 .ensures .0, q .1))
 
 returns-3 : tie.Need-returns-3
 returns-3 c = (digit-none (c .before .before .before .before .args .b) (sym (c .before .before .before .is-within .ensures) ∙ c .before .before .if1 .left) (sym (c .before .is-within2 .ensures) ∙ c .if2 .left), omega arith)
@@ -25,4 +26,4 @@ returns-3 c = (digit-none (c .before .before .before .before .args .b) (sym (c .
 pub digit-spec : {M : Type 1} → statement M
 digit-spec =
     tie.close (tie.spec (λ c κs. search needs) sub-wide (λ c κs. search needs) returns (λ c κs. search needs) sub-wide-2 (λ c κs. search needs)
-    returns-2 returns-3)
+    (λ c. search needs) returns-2 returns-3)

@@ -7,13 +7,13 @@ use denote.Ref.{now}
 use borrow.Author.Needs.{needs}
 use borrow.Author.Tests.{not-true, not-false}
 use Rattle.semantics.specs.Text.{isName}
-use Rattle.name.specs.Name.{nameMarks}
-use Rattle.name.proofs.Names.{name-nil, name-long, name-first, name-rest, mark-bad, mark-next, mark-end}
+use Rattle.name.specs.Name.{nameBytes}
+use Rattle.name.proofs.Names.{name-nil, name-long, name-first, name-rest, byte-bad, byte-next, byte-end}
 use Rattle.name.proofs.is_name.Statement.{statement}
 use Rattle.name.proofs.is_name.Tie as tie
 
 abbrev Inv-loop : tie.InvT-loop
-Inv-loop s i₀ i = isName s ≡ nameMarks (drop i s)
+Inv-loop s i₀ i = isName s ≡ nameBytes (drop i s)
 
 abbrev μ-loop : tie.MeasureT-loop
 μ-loop s i₀ i = length s - i
@@ -33,17 +33,17 @@ loop-holds c = name-rest (now (c .before .before .before .before .before .before
 returns-4 : tie.Need-returns-4 Inv-loop μ-loop
 returns-4 c =
     let l = c .before .before .before .before .loop in
-    sym (l .inv ∙ mark-bad (now (c .before .before .before .before .before .before .before .before .before .before .before .args .s)) (l .i) (c .before .before .before .loop-test .taken) (sym (c .before .is-mark .ensures) ∙ not-true (c .before .is-mark .result) (c .if4 .taken)))
+    sym (l .inv ∙ byte-bad (now (c .before .before .before .before .before .before .before .before .before .before .before .args .s)) (l .i) (c .before .before .before .loop-test .taken) (sym (c .before .is-name-byte .ensures) ∙ not-true (c .before .is-name-byte .result) (c .if4 .taken)))
 
 loop-again : tie.Need-loop-again Inv-loop μ-loop
 loop-again c =
     let l = c .before .before .before .before .loop in
-    l .inv ∙ mark-next (now (c .before .before .before .before .before .before .before .before .before .before .before .args .s)) (l .i) (c .before .before .before .loop-test .taken) (sym (c .before .is-mark .ensures) ∙ not-false (c .before .is-mark .result) (c .if4 .left))
+    l .inv ∙ byte-next (now (c .before .before .before .before .before .before .before .before .before .before .before .args .s)) (l .i) (c .before .before .before .loop-test .taken) (sym (c .before .is-name-byte .ensures) ∙ not-false (c .before .is-name-byte .result) (c .if4 .left))
 
 returns-5 : tie.Need-returns-5 Inv-loop μ-loop
 returns-5 c =
     let l = c .before .loop in
-    sym (l .inv ∙ mark-end (now (c .before .before .before .before .before .before .before .before .args .s)) (l .i) (c .loop-test .left))
+    sym (l .inv ∙ byte-end (now (c .before .before .before .before .before .before .before .before .args .s)) (l .i) (c .loop-test .left))
 
 pub is-name-spec : {M : Type 1} → statement M
 is-name-spec =

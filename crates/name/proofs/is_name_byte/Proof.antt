@@ -1,18 +1,18 @@
--- `name::is_mark` meets its contract.
+-- `name::is_name_byte` meets its contract.
 use mathlib.Core.Path.{_∙_, sym}
 use borrow.Author.Needs.{needs}
-use Rattle.name.specs.Name.{nameLetter, mark}
-use Rattle.name.proofs.is_mark.Statement.{statement}
-use Rattle.name.proofs.is_mark.Tie as tie
+use Rattle.name.specs.Name.{nameLetter, nameByte}
+use Rattle.name.proofs.is_name_byte.Statement.{statement}
+use Rattle.name.proofs.is_name_byte.Tie as tie
 
 returns : tie.Need-returns
-unfolding nameLetter mark
+unfolding nameLetter nameByte
 returns c = simp (sym (c .before .is-letter .ensures) ∙ c .if1 .taken)
 
 returns-2 : tie.Need-returns-2
-unfolding nameLetter mark
+unfolding nameLetter nameByte
 returns-2 c = simp (sym (c .before .before .is-letter .ensures) ∙ c .before .if1 .left) (c .is-within .ensures)
 
-pub is-mark-spec : {M : Type 1} → statement M
-is-mark-spec =
+pub is-name-byte-spec : {M : Type 1} → statement M
+is-name-byte-spec =
     tie.close (tie.spec (λ c κs. search needs) returns (λ c κs. search needs) returns-2)
