@@ -53,7 +53,16 @@ fn lay_item(s: State, k: usize, row: &[u8], work: &[u8], image: &mut [u8], area:
     let off = row_fields::number(row_fields::field(row, 2)) as usize;
     if k < item::STR {
         let from = text::skip(row, 4, b',');
-        return laying::lay_values(s, image, area, off, row, from, width_of(k), k == item::REALS);
+        return laying::lay_values(
+            s,
+            image,
+            area,
+            off,
+            row,
+            from,
+            width_of(k),
+            k == item::REALS,
+        );
     }
     if k == item::STR {
         return laying::lay_handle(s, image, area, off);
