@@ -1,5 +1,6 @@
 // Numbers that stand for something, in one place: rows of the table of forms, letters of kinds of lines, kinds of elements and of
-// values, keywords of items, and the places of tables in the working space. Contracts name the same numbers, so a wrong one here fails proofs above.
+// values, keywords of items, and the places of tables in the working space. Contracts name the same numbers, so a wrong one here fails
+// proofs above.
 pub mod area;
 pub mod decl;
 pub mod el;

@@ -203,7 +203,7 @@ fn read_header() -> Header {
     h
 }
 
-// Reads n bytes and leaves them.
+// Passes over the next n bytes.
 fn skip(n: usize) {
     let mut space = io::buffer();
     let mut left = n;
