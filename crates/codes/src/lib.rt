@@ -1,10 +1,12 @@
 // Numbers that stand for something, in one place: rows of the table of forms, letters of kinds of lines, kinds of elements and of
-// values, and the places of tables in the working space. Contracts name the same numbers, so a wrong one here fails proofs above.
+// values, keywords of items, and the places of tables in the working space. Contracts name the same numbers, so a wrong one here fails
+// proofs above.
 pub mod area;
 pub mod decl;
 pub mod el;
 pub mod element;
 pub mod ex;
+pub mod item;
 pub mod kind;
 pub mod need;
 pub mod ty;

@@ -14,6 +14,9 @@ ghost use Rattle.semantics.specs.Refusal.{imaged, printedImage};
 ghost use Rattle.write.specs.Wrote.{Wrote};
 ghost use Rattle.image.specs.Image.{lentOf};
 
+// 2 digits for each byte of image and area, and what stands around them.
+const ROWS: usize = 262208;
+
 // A row of a name and bytes.
 fn put_row(out: &mut [u8], at: usize, name: &[u8], bytes: &[u8]) -> usize
     ensures { λ r. ⌜ Wrote (now (out .entry)) at (row (now (name .entry) ∷ hexOf (now (bytes .entry)) ∷ [])) (now (out .exit)) r ⌝ }
@@ -50,7 +53,7 @@ fn main() {
     let mut picture = io::large_buffer();
     let mut area = io::large_buffer();
     let mut work = io::large_buffer();
-    let mut out = [0u8; 262208];
+    let mut out = [0u8; ROWS];
     let n = io::read_full(STDIN_FILENO, &mut sheet);
     let k = put_answer(
         &sheet[..n],

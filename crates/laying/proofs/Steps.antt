@@ -14,12 +14,15 @@ use Rattle.semantics.specs.Text.{Bytes, bigEndian}
 use Rattle.semantics.specs.Image.{handle, partAt}
 use Rattle.write.specs.Wrote.{Wrote, over}
 use Rattle.write.proofs.Wrote.{wrote-length, wrote-as}
-use Rattle.stored.specs.Laying.{Laying, layImage, layPart, layBytes, layArray, newPart}
+use Rattle.stored.specs.Laying.{Laying, layImage, layPart, layBytes, layArray, newPart, moveTo}
 use Rattle.laying.specs.declared.State.{State}
-use Rattle.laying.specs.Steps.{layingOf, seenLaying, MoreFits, Lays, Went, Outgrown}
+use Rattle.laying.specs.Steps.{layingOf, seenLaying, MoreFits, Lays, Went, Moved, Outgrown}
 
 pub went-out : {n p long : ℕ} {s r : State} → n < p → Outgrown s r → Went n p long s r
 went-out {n} {p} h o = record { is = λ im ar. rw (lt-ltb n p h) (o .is im ar); start = o .start; end = o .end; item = omega (arith, o .item) }
+
+pub moved-lays : {inside : Bool} {s r : State} (im ar : Bytes) → MoreFits s (length ar) → Moved inside s r → Lays (some (moveTo inside (layingOf s im ar))) s r im ar
+moved-lays im ar h m = record { is = m .is im ar; low = omega (arith, m .start, m .end, h .low); high = omega (arith, m .end, h .high); item = m .item }
 
 -- ---- bytes laid
 

@@ -1,12 +1,12 @@
 -- The state of a replay in the code, and what each step makes of it and of the buffers.
 use Prim.Native.Nat.{ℕ, suc, _+_, _≤_, _<_}
 use mathlib.Core.Path.{_≡_}
-use mathlib.Core.Bool.{false, cond}
+use mathlib.Core.Bool.{Bool, false, cond}
 use mathlib.Core.Option.{Option, none, some}
 use lib.ListN.{length}
 use lib.Dec.{ltb}
 use Rattle.semantics.specs.Text.{Bytes}
-use Rattle.stored.specs.Laying.{Laying}
+use Rattle.stored.specs.Laying.{Laying, moveTo}
 use Rattle.laying.specs.declared.State.{State}
 
 unfoldable pub layingOf : State → Bytes → Bytes → Laying
@@ -23,7 +23,7 @@ pub record MoreFits (s : State) (area : ℕ) : Type 0 where
   pub high : s .end ≤ area
   pub item : s .item < 9223372036854775808
 
--- the state r, with image and area, is q; it follows s
+-- the state r, with image and area, is q; it follows s. Where q is none the bytes of both are free: `replay` zeroes them.
 pub record Lays (q : Option Laying) (s r : State) (image area : Bytes) : Type 0 where
   pub is : seenLaying r image area ≡ q
   pub low : r .start ≤ r .end
@@ -33,6 +33,13 @@ pub record Lays (q : Option Laying) (s r : State) (image area : Bytes) : Type 0 
 -- s with one item more, whose bytes end at p of n; outgrown where p lies past n
 pub record Went (n p long : ℕ) (s r : State) : Type 0 where
   pub is : (image area : Bytes) → seenLaying r image area ≡ cond (ltb n p) none (some (record { item = suc (s .item); image = image; area = area; start = s .start; end = s .end; inside = s .inside; long = long }))
+  pub start : r .start ≡ s .start
+  pub end : r .end ≡ s .end
+  pub item : r .item ≤ s .item + 1
+
+-- s with one item more, and writing in the newest array or not
+pub record Moved (inside : Bool) (s r : State) : Type 0 where
+  pub is : (image area : Bytes) → seenLaying r image area ≡ some (moveTo inside (layingOf s image area))
   pub start : r .start ≡ s .start
   pub end : r .end ≡ s .end
   pub item : r .item ≤ s .item + 1

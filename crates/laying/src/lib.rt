@@ -2,14 +2,13 @@
 use row_fields::values;
 use words::larger;
 ghost use mathlib.Core.Path.{_≡_};
-ghost use mathlib.Core.Option.{some};
 ghost use Prim.Native.Nat.{_+_, _*_, _≤_, _<_, min};
 ghost use lib.ListN.{length};
 ghost use Rattle.semantics.specs.Image.{handle, partAt};
+ghost use Rattle.semantics.specs.Form.{fieldsFrom};
 ghost use Rattle.stored.specs.Reading.{rowValues};
-ghost use Rattle.stored.specs.Laying.{layBytes, layArray, moveTo};
-ghost use Rattle.row_fields.specs.Rest.{fieldsAt};
-ghost use Rattle.laying.specs.Steps.{layingOf, MoreFits, Lays, Went, Outgrown};
+ghost use Rattle.stored.specs.Laying.{layBytes, layArray};
+ghost use Rattle.laying.specs.Steps.{layingOf, MoreFits, Lays, Went, Moved, Outgrown};
 
 const HANDLE: usize = 4;
 
@@ -56,9 +55,9 @@ fn went_on(s: State, n: usize, p: usize, long: usize) -> State
 }
 
 // `set` and `back`.
-pub fn moved(s: State, image: &[u8], area: &[u8], inside: bool) -> State
-    requires { ⌜ MoreFits s (length (now area)) ⌝ }
-    ensures { λ r. ⌜ Lays (some (moveTo inside (layingOf s (now (image .entry)) (now (area .entry))))) s r (now (image .entry)) (now (area .entry)) ⌝ }
+pub fn moved(s: State, inside: bool) -> State
+    requires { ⌜ s .item < 9223372036854775808 ⌝ }
+    ensures { λ r. ⌜ Moved inside s r ⌝ }
 {
     State {
         item: s.item + 1,
@@ -82,7 +81,7 @@ pub fn lay_values(
     reals: bool,
 ) -> State
     requires { ⌜ MoreFits s (length (now area)) × (w ≤ 8) ⌝ }
-    ensures { λ r. ⌜ Lays (layBytes off (rowValues w reals (fieldsAt (now (row .entry)) from)) (layingOf s (now (image .entry)) (now (area .entry)))) s r (now (image .exit)) (now (area .exit)) ⌝ }
+    ensures { λ r. ⌜ Lays (layBytes off (rowValues w reals (fieldsFrom from (now (row .entry)))) (layingOf s (now (image .entry)) (now (area .entry)))) s r (now (image .exit)) (now (area .exit)) ⌝ }
 {
     if s.inside {
         let a = s.start;
@@ -102,14 +101,14 @@ pub fn lay_handle(s: State, image: &mut [u8], area: &mut [u8], off: usize) -> St
     if s.inside {
         let a = s.start;
         let e = s.end;
-        let p = values::put_value(&mut area[a..e], off, HANDLE, s.item + 1);
+        let p = write::put_big_endian(&mut area[a..e], off, HANDLE, s.item + 1);
         return went_on(s, e - a, p, s.long);
     }
-    let q = values::put_value(image, off, HANDLE, s.item + 1);
+    let q = write::put_big_endian(image, off, HANDLE, s.item + 1);
     went_on(s, image.len(), q, larger(s.long, q))
 }
 
-// Where the next array's part begins.
+// Where the next array's part begins: at the next multiple of 8.
 fn part_at(end: usize) -> usize
     requires { ⌜ end < 9223372036854775808 ⌝ }
     ensures { λ r. ⌜ r ≡ partAt end ⌝ }
@@ -153,6 +152,6 @@ pub fn lay_array(s: State, image: &mut [u8], area: &[u8], off: usize, size: usiz
         long: s.long,
         full: false,
     };
-    let p = values::put_value(image, off, HANDLE, s.item + 1);
+    let p = write::put_big_endian(image, off, HANDLE, s.item + 1);
     went_on(t, image.len(), p, larger(s.long, p))
 }

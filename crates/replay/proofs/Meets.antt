@@ -1,4 +1,5 @@
--- What the replay of a sheet's listing leaves is what the definition says of its items.
+-- What the replay of a source's listing leaves, where its names are plain and its values have 64 bits, is what the definition says of its
+-- items.
 use Prim.Native.Nat.{ℕ, _≤_}
 use native.Mathlib.Omega.{arith}
 use native.Mathlib.Nat.{sub-zero}
@@ -27,7 +28,7 @@ use Rattle.stored.proofs.Sizes.{few-types, listing-readable}
 use Rattle.stored.proofs.Ranges.{SoundFirst, globals-ranged}
 use Rattle.replay.specs.declared.Replayed.{Replayed}
 use Rattle.replay.specs.declared.Replayed.the-variants.{Laid, Outgrown}
-use Rattle.replay.specs.Whole.{laidListing, answerOf, laidImage, areaOf, Replays}
+use Rattle.replay.specs.Whole.{laidListing, answerOf, laidImage, laidArea, Replays}
 use Rattle.laws.specs.Every.{Every}
 
 abbrev pub lengthsOf : Imaged → Replayed
@@ -39,7 +40,7 @@ pub record Meets (q : Imaged) (image area : ℕ) (r : Replayed) (image′ area�
   pub imageIs : image′ ≡ padded image (imageBytes q)
   pub areaIs : area′ ≡ padded area (areaBytes q)
 
-by-answer : (q : Imaged) (b : Buffers) (m : Option Laying) → Answer q (b .image) (b .area) m → Meets q (b .image) (b .area) (answerOf m) (laidImage (b .image) m) (areaOf (b .area) m)
+by-answer : (q : Imaged) (b : Buffers) (m : Option Laying) → Answer q (b .image) (b .area) m → Meets q (b .image) (b .area) (answerOf m) (laidImage (b .image) m) (laidArea (b .area) m)
 by-answer q b none h = rw h (record { answer = refl; imageIs = ap zeros (sym (sub-zero (b .image))); areaIs = ap zeros (sym (sub-zero (b .area))) })
 by-answer q b (some m) h = record {
   answer = (λ j. Laid (h .long j) (h .end j)) ∙ sym (ap lengthsOf (h .is));
@@ -61,7 +62,7 @@ module _ (s : Source) (cs : List Const) (g : Globals) (b : Buffers) (plain : Pla
       record {
         answer = h .answer ∙ (λ j. answerOf (laidListing (listing s cs g) (g .end) (hi j) (ha j))) ∙ ap answerOf e ∙ m .answer;
         imageIs = h .imageIs ∙ (λ j. laidImage (hi j) (laidListing (listing s cs g) (g .end) (hi j) (ha j))) ∙ ap (laidImage (b .image)) e ∙ m .imageIs;
-        areaIs = h .areaIs ∙ (λ j. areaOf (ha j) (laidListing (listing s cs g) (g .end) (hi j) (ha j))) ∙ ap (areaOf (b .area)) e ∙ m .areaIs;
+        areaIs = h .areaIs ∙ (λ j. laidArea (ha j) (laidListing (listing s cs g) (g .end) (hi j) (ha j))) ∙ ap (laidArea (b .area)) e ∙ m .areaIs;
       }
 
 -- the same of a source whose names hold no separators, whose frames and needs are as many as a checked sheet's, and whose values have 64 bits

@@ -10,6 +10,7 @@ use lib.Dec.{ltb, leb, eqb}
 use lib.ListN.{length, drop, getD, List·getD-eq-default}
 use borrow.Author.Tests.{lt-ltb, le-ltb, eq-eqb, ne-eqb, leb-true, leb-false}
 use Rattle.semantics.specs.Text.{Bytes, bytes, same, fieldsOf}
+use Rattle.semantics.specs.Form.{fieldsFrom}
 use Rattle.semantics.specs.Image.{handle, partAt}
 use Rattle.text.specs.Parts.{partStartAt}
 use Rattle.decimal.specs.Number.{most}
@@ -17,7 +18,6 @@ use Rattle.stored.specs.Stored.{Stored}
 use Rattle.stored.specs.Reading.{numberRead, keywordOf, widthOf, rowValues, readRow, mostTypes}
 use Rattle.stored.specs.Laying.{Laying, layImage, layPart, layBytes, layArray, moveTo, layAll}
 use Rattle.laying.specs.declared.State.{State}
-use Rattle.row_fields.specs.Rest.{fieldsAt}
 use Rattle.laying.specs.Steps.{layingOf, seenLaying, MoreFits, Lays}
 use Rattle.replay.specs.Rows.{tableAt, elementSizeAt, width, laidItem, laidRow}
 use Rattle.row_fields.proofs.Writes.{fields-from}
@@ -122,7 +122,7 @@ module _ (work : Bytes) (k : ℕ) (row im ar : Bytes) (s : State) where
     part = let h = ready .high in omega arith
 
     pub item-values : {from w : ℕ} → k < 5 → from ≡ partStartAt 44 4 row → w ≡ width k
-        → layBytes off (rowValues w (eqb k 4) (fieldsAt row from)) m ≡ laidItem sizes k row m
+        → layBytes off (rowValues w (eqb k 4) (fieldsFrom from row)) m ≡ laidItem sizes k row m
     unfolding laidItem width layingOf
     item-values h hf hw =
         rw (ne-eqb k 0 some-item, lt-ltb k 5 h, at, hf, hw, fields-from 4 row)

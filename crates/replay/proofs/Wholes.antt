@@ -12,7 +12,7 @@ use Rattle.laying.specs.declared.State.{State}
 use Rattle.replay.specs.declared.Replayed.the-variants.{Laid, Outgrown}
 use Rattle.laying.specs.Steps.{layingOf, seenLaying}
 use Rattle.replay.specs.Rows.{elementSizeAt, begun, laidText, Sizes}
-use Rattle.replay.specs.Whole.{laidListing, answerOf, laidImage, areaOf, Replays}
+use Rattle.replay.specs.Whole.{laidListing, answerOf, laidImage, laidArea, Replays}
 
 -- the buffers are zeros first, then hold what the rows leave
 module _ (listing : Bytes) (end : ℕ) (t u im im₁ im₂ ar ar₁ ar₂ : Bytes) (s : State) (zi : im₁ ≡ replicate (length im) 0) (za : ar₁ ≡ replicate (length ar) 0) (sizes : Sizes listing t u)
@@ -33,7 +33,7 @@ module _ (listing : Bytes) (end : ℕ) (t u im im₁ im₂ ar ar₁ ar₂ : Byte
       record {
         answer = ap answerOf q;
         imageIs = ei ∙ ap (λ (n : ℕ). replicate n 0) li ∙ ap (laidImage (length im)) q;
-        areaIs = ea ∙ ap (λ (n : ℕ). replicate n 0) la ∙ ap (areaOf (length ar)) q;
+        areaIs = ea ∙ ap (λ (n : ℕ). replicate n 0) la ∙ ap (laidArea (length ar)) q;
         table = sizes;
       }
 
@@ -41,4 +41,4 @@ module _ (listing : Bytes) (end : ℕ) (t u im im₁ im₂ ar ar₁ ar₂ : Byte
   unfolding seenLaying layingOf
   replays-some fitted =
       let q : some (layingOf s im₂ ar₂) ≡ laidListing listing end (length im) (length ar) = sym (ap (λ (b : Bool). cond b none (some (layingOf s im₂ ar₂))) fitted) ∙ laid-is in
-      record { answer = ap answerOf q; imageIs = ap (laidImage (length im)) q; areaIs = ap (areaOf (length ar)) q; table = sizes }
+      record { answer = ap answerOf q; imageIs = ap (laidImage (length im)) q; areaIs = ap (laidArea (length ar)) q; table = sizes }

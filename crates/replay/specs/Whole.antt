@@ -15,7 +15,7 @@ use Rattle.replay.specs.Rows.{Sizes}
 unfoldable pub laidListing : Bytes → ℕ → ℕ → ℕ → Option Laying
 laidListing listing end image area = layAll (readAll (sizeIn listing) listing) (layingStart end image area)
 
--- the lengths of image and area
+-- the lengths of image and area; `Outgrown` is refusal 13, with no line
 abbrev pub answerOf : Option Laying → Replayed
 answerOf none = Outgrown
 answerOf (some m) = Laid (m .long) (m .end)
@@ -24,13 +24,13 @@ abbrev pub laidImage : ℕ → Option Laying → Bytes
 laidImage n none = zeros n
 laidImage n (some m) = m .image
 
-abbrev pub areaOf : ℕ → Option Laying → Bytes
-areaOf n none = zeros n
-areaOf n (some m) = m .area
+abbrev pub laidArea : ℕ → Option Laying → Bytes
+laidArea n none = zeros n
+laidArea n (some m) = m .area
 
--- what comes of a listing, with the working space t and u before and after, in the buffers
+-- of a listing whose allocation ends at `end`: the answer r, image and area before and after, the working space t before and u after
 pub record Replays (listing : Bytes) (end : ℕ) (t u image image′ area area′ : Bytes) (r : Replayed) : Type 0 where
   pub answer : r ≡ answerOf (laidListing listing end (length image) (length area))
   pub imageIs : image′ ≡ laidImage (length image) (laidListing listing end (length image) (length area))
-  pub areaIs : area′ ≡ areaOf (length area) (laidListing listing end (length image) (length area))
+  pub areaIs : area′ ≡ laidArea (length area) (laidListing listing end (length image) (length area))
   pub table : Sizes listing t u

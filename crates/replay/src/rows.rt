@@ -1,5 +1,6 @@
 // The rows of a listing, one after the other.
 use codes::area;
+use codes::item;
 use laying::State;
 ghost use mathlib.Core.Path.{_≡_};
 ghost use Prim.Native.Nat.{_+_, _≤_, min};
@@ -9,7 +10,11 @@ ghost use Rattle.laying.specs.Steps.{layingOf, seenLaying, MoreFits, Lays};
 ghost use Rattle.replay.specs.Rows.{elementSizeAt, width, laidItem, laidRow, begun, laidText, Noted, Sizes};
 ghost use Rattle.replay.specs.Firsts.{FirstState};
 
+// IDs of descriptors lie below this number.
 const TYPES: u64 = 1024;
+
+// Sizes are read up to this one, which stands for every larger one; elements of arrays have 1, 4 or 8 bytes.
+const LARGEST_SIZE: u64 = 255;
 
 // The size of a descriptor, 0 where it is not known.
 fn size_of(work: &[u8], id: u64) -> usize
@@ -28,10 +33,10 @@ fn size_of(work: &[u8], id: u64) -> usize
 fn width_of(k: usize) -> usize
     ensures { λ r. ⌜ (r ≡ width k) × (r ≤ 8) ⌝ }
 {
-    if k == 1 {
+    if k == item::BYTES {
         return 1;
     }
-    if k == 2 {
+    if k == item::WORDS {
         return 4;
     }
     8
@@ -46,19 +51,28 @@ fn lay_item(s: State, k: usize, row: &[u8], work: &[u8], image: &mut [u8], area:
         return s;
     }
     let off = row_fields::number(row_fields::field(row, 2)) as usize;
-    if k < 5 {
+    if k < item::STR {
         let from = text::skip(row, 4, b',');
-        return laying::lay_values(s, image, area, off, row, from, width_of(k), k == 4);
+        return laying::lay_values(
+            s,
+            image,
+            area,
+            off,
+            row,
+            from,
+            width_of(k),
+            k == item::REALS,
+        );
     }
-    if k == 5 {
+    if k == item::STR {
         return laying::lay_handle(s, image, area, off);
     }
-    if k == 6 {
+    if k == item::ARRAY {
         let id = row_fields::number(row_fields::field(row, 3));
         let n = row_fields::number(row_fields::field(row, 4));
         return laying::lay_array(s, image, area, off, size_of(work, id), n);
     }
-    laying::moved(s, image, area, k == 7)
+    laying::moved(s, k == item::SET)
 }
 
 // A row: its item where it is a `dat` row.
@@ -110,12 +124,12 @@ pub fn lay_rows(listing: &[u8], work: &[u8], image: &mut [u8], area: &mut [u8], 
     s
 }
 
-// A size no further than 255, which lies above that of every array's element.
+// A size as it is kept.
 fn small(n: u64) -> u8
     ensures { λ r. ⌜ r ≡ min n largestSize ⌝ }
 {
-    if 255 < n {
-        return 255;
+    if LARGEST_SIZE < n {
+        return LARGEST_SIZE as u8;
     }
     n as u8
 }

@@ -1,2 +1,1 @@
 pub mod Keywords
-pub mod Rest

@@ -1,6 +1,7 @@
 // The fields of a listing's row, and values written from them.
 pub mod values;
 
+use codes::item;
 use decimal::Integer;
 use decimal::MOST;
 use hex::Bits64;
@@ -45,7 +46,7 @@ pub fn keyword(s: &[u8]) -> usize
     if k == 0 {
         return 0;
     }
-    k + 4
+    k + item::REALS
 }
 
 // Field i of a row, the empty part at its end where there is none.

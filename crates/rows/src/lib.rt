@@ -59,9 +59,9 @@ pub fn put_comma_flag(out: &mut [u8], at: usize, b: bool) -> usize
 {
     let p = put(out, at, COMMA);
     if b {
-        return put(out, p, 49);
+        return put(out, p, b'1');
     }
-    put(out, p, 48)
+    put(out, p, b'0')
 }
 
 // The row of a name whose value is pending.

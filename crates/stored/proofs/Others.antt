@@ -32,12 +32,12 @@ pub data Rows (w : Bytes) : Bytes → Type 0 where
   noRows : Rows w []
   oneRow : (f : Bytes) (fs : List Bytes) (rest : Bytes) → same f w ≡ false → Plain (f ∷ fs) → Rows w rest → Rows w (row (f ∷ fs) ++ rest)
 
-pub rows-join : {w s t : Bytes} → Rows w s → Rows w t → Rows w (s ++ t)
+rows-join : {w s t : Bytes} → Rows w s → Rows w t → Rows w (s ++ t)
 rows-join noRows k = k
 rows-join {w} {s} {t} (oneRow f fs rest d h r) k = rw (append-assoc (row (f ∷ fs)) rest t) (oneRow f fs (rest ++ t) d h (rows-join r k))
 
 -- one row
-pub rows-one : {w : Bytes} (f : Bytes) (fs : List Bytes) → same f w ≡ false → Plain (f ∷ fs) → Rows w (row (f ∷ fs))
+rows-one : {w : Bytes} (f : Bytes) (fs : List Bytes) → same f w ≡ false → Plain (f ∷ fs) → Rows w (row (f ∷ fs))
 rows-one {w} f fs d h = rw append-nil at (oneRow f fs [] d h noRows)
 
 -- ---- such rows are passed over
@@ -50,7 +50,7 @@ not-typ : (i : ℕ) (f : Bytes) (fs : List Bytes) (d : ℕ) → same f (bytes "t
 unfolding sizeBy
 not-typ i f fs d h = rw h
 
-pub items-none : (sizes : ℕ → ℕ) {s : Bytes} (rest : Bytes) → Rows (bytes "dat") s → readAll sizes (s ++ rest) ≡ readAll sizes rest
+items-none : (sizes : ℕ → ℕ) {s : Bytes} (rest : Bytes) → Rows (bytes "dat") s → readAll sizes (s ++ rest) ≡ readAll sizes rest
 items-none sizes rest noRows = refl
 items-none sizes rest (oneRow f fs s d h r) =
     ap (readAll sizes) (append-assoc (row (f ∷ fs)) s rest)
@@ -58,7 +58,7 @@ items-none sizes rest (oneRow f fs s d h r) =
     ∙ ap (λ (xs : List Stored). xs ++ readAll sizes (s ++ rest)) (not-dat sizes f fs d)
     ∙ items-none sizes rest r
 
-pub sizes-none : (i d : ℕ) {s : Bytes} (rest : Bytes) → Rows (bytes "typ") s → sizeRows i d (lineParts (s ++ rest)) ≡ sizeRows i d (lineParts rest)
+sizes-none : (i d : ℕ) {s : Bytes} (rest : Bytes) → Rows (bytes "typ") s → sizeRows i d (lineParts (s ++ rest)) ≡ sizeRows i d (lineParts rest)
 sizes-none i d rest noRows = refl
 sizes-none i d rest (oneRow f fs s e h r) =
     ap (λ (t : Bytes). sizeRows i d (lineParts t)) (append-assoc (row (f ∷ fs)) s rest)

@@ -44,7 +44,7 @@ plain-ahead (b ∷ t) u h = go (ltb 44 b) refl h (λ l. plain-ahead t u l)
     go false e h ih = never cc
 
 -- a row is the first line, and its fields are those that it was made of
-pub row-line : (f : Bytes) (fs : List Bytes) (rest : Bytes) → Plain (f ∷ fs) → lineParts (row (f ∷ fs) ++ rest) ≡ rowText f fs ∷ lineParts rest
+row-line : (f : Bytes) (fs : List Bytes) (rest : Bytes) → Plain (f ∷ fs) → lineParts (row (f ∷ fs) ++ rest) ≡ rowText f fs ∷ lineParts rest
 unfolding row
 row-line f [] rest h = ap lineParts (append-assoc f (10 ∷ []) rest) ∙ plain-part 10 (omega arith) f rest (h .0)
 row-line f (g ∷ fs) rest h =
@@ -52,7 +52,7 @@ row-line f (g ∷ fs) rest h =
     ∙ plain-ahead f (44 ∷ (row (g ∷ fs) ++ rest)) (h .0)
     ∙ rw (row-line g fs rest (h .1))
 
-pub line-fields : (f : Bytes) (fs : List Bytes) → Plain (f ∷ fs) → fieldsOf (rowText f fs) ≡ f ∷ fs
+line-fields : (f : Bytes) (fs : List Bytes) → Plain (f ∷ fs) → fieldsOf (rowText f fs) ≡ f ∷ fs
 line-fields f [] h = plain-last 44 (omega arith) f (h .0)
 line-fields f (g ∷ fs) h = plain-part 44 (omega arith) f (rowText g fs) (h .0) ∙ ap (λ (ps : List Bytes). f ∷ ps) (line-fields g fs (h .1))
 

@@ -1,4 +1,5 @@
--- A replay in lent buffers: what is written has to fit, and only the newest array is filled.
+-- A replay in lent buffers: what is written has to fit. `set` means the newest array here, whatever offset it names; `InPlace` says that
+-- this is the array at that offset, and it holds of every sheet's items (`globals-in-place` in proofs/Places.antt).
 use Prim.Native.Nat.{ℕ, suc, _+_, _-_, _*_, max, _≤_}
 use mathlib.Core.Path.{_≡_}
 use mathlib.Core.Bool.{Bool, true, false, cond}

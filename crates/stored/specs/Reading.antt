@@ -6,16 +6,17 @@ use mathlib.Core.Option.{Option, none, some}
 use lib.ListN.{length, drop, getD}
 use lib.Dec.{ltb, eqb}
 use lib.IntN.{ℤ}
-use Rattle.semantics.specs.Text.{Bytes, bytes, same, orElse, natOf, intOf, unhex, bigEndian, fromBigEndian, lineParts, fieldsOf}
-use Rattle.semantics.specs.Form.{between}
+use Rattle.semantics.specs.Text.{Bytes, bytes, same, intOf, unhex, bigEndian, fromBigEndian, lineParts, fieldsOf}
+use Rattle.semantics.specs.Form.{between, numberOf}
 use Rattle.semantics.specs.Fold.{bits64}
 use Rattle.semantics.specs.Sheet.{concatMap}
 use Rattle.stored.specs.Stored.{Stored, bytesAt, stringAt, arrayAt, setAt, goBack}
 
 -- ---- fields
 
+-- a shut name of `numberOf`
 unfoldable pub numberRead : Bytes → ℕ
-numberRead f = orElse 0 (natOf f)
+numberRead f = numberOf f
 
 -- the bits of an integer of 64 bits
 abbrev pub integerBits : Option ℤ → ℕ
@@ -79,7 +80,7 @@ readAll sizes t = readRows sizes (lineParts t)
 
 -- ---- sizes of descriptors
 
--- a size is told from others up to this one, which lies above that of every array's element
+-- sizes are read up to this one, which stands for every larger one; elements of arrays have 1, 4 or 8 bytes
 abbrev pub largestSize : ℕ
 largestSize = 255
 

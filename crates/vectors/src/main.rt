@@ -6,16 +6,19 @@ use compile::Answer;
 use image::ImageAnswer;
 use libc::STDIN_FILENO;
 use libc::STDOUT_FILENO;
-
-mod parts;
+ghost use Prim.Native.Nat.{_≤_};
+ghost use lib.ListN.{length};
 
 // More cases than a list has.
-const MOST: usize = 10000000;
+const CASES: usize = 10000000;
 
 // Longer than any header, and larger than any length in one.
 const HEADER: usize = 255;
 
 const LARGE: usize = 1000000;
+
+// 2 digits for each byte of image and area, and what stands around them.
+const ROWS: usize = 262160;
 
 // What becomes of a case: an equal listing, an equal refusal by its number (1 to 13), another answer, or an equal listing and image.
 const LISTED: usize = 0;
@@ -75,7 +78,7 @@ fn put_rows(rows: &mut [u8], picture: &[u8], area: &[u8]) -> usize {
 
 // Whether a text is these rows.
 fn is_rows(text: &[u8], picture: &[u8], area: &[u8]) -> bool {
-    let mut rows = [0u8; 262160];
+    let mut rows = [0u8; ROWS];
     let p = put_rows(&mut rows, picture, area);
     are_first(text, &rows, p)
 }
@@ -156,13 +159,13 @@ fn next_byte() -> u8 {
 
 // A number with one byte more of its text: only digits count.
 fn more(n: usize, c: u8) -> usize {
-    if c < 48 || c > 57 {
+    if c < b'0' || c > b'9' {
         return n;
     }
     if n > LARGE {
         return n;
     }
-    10 * n + (c - 48) as usize
+    10 * n + (c - b'0') as usize
 }
 
 // The last three fields of a header up to here, with one byte more.
@@ -200,13 +203,36 @@ fn read_header() -> Header {
     h
 }
 
-fn add(counts: &mut [u64; 16], outcome: usize) {
+// Passes over the next n bytes.
+fn skip(n: usize) {
+    let mut space = io::buffer();
+    let mut left = n;
+    while left > 4096 {
+        io::read_full(STDIN_FILENO, &mut space);
+        left -= 4096;
+    }
+    io::read_full(STDIN_FILENO, &mut space[0..left]);
+}
+
+// Reads the next n bytes, as many of them into the buffer as it holds, and says how many those are.
+fn read_part(buf: &mut [u8], n: usize) -> usize
+    ensures { λ r. ⌜ r ≤ length (now (buf .exit)) ⌝ }
+{
+    if n <= buf.len() {
+        return io::read_full(STDIN_FILENO, &mut buf[0..n]);
+    }
+    let r = io::read_full(STDIN_FILENO, buf);
+    skip(n - buf.len());
+    r
+}
+
+fn add(counts: &mut [u64; OUTCOMES], outcome: usize) {
     if outcome < OUTCOMES {
         counts[outcome] = std::num::wrapping_add_u64(counts[outcome], 1);
     }
 }
 
-fn count(counts: &mut [u64; 16], outcome: usize, number: u64) {
+fn count(counts: &mut [u64; OUTCOMES], outcome: usize, number: u64) {
     add(counts, outcome);
     if outcome == IMAGED {
         add(counts, LISTED);
@@ -224,18 +250,18 @@ fn run_cases(
     picture: &mut [u8],
     area: &mut [u8],
     work: &mut [u8],
-    counts: &mut [u64; 16],
+    counts: &mut [u64; OUTCOMES],
 ) -> usize {
     let mut k = 0;
-    while k < MOST {
+    while k < CASES {
         let h = read_header();
         if h.answer == 0 {
             return k;
         }
         k += 1;
-        let n = parts::read_part(sheet, h.sheet);
-        let m = parts::read_part(wanted, h.answer);
-        let l = parts::read_part(text, h.image);
+        let n = read_part(sheet, h.sheet);
+        let m = read_part(wanted, h.answer);
+        let l = read_part(text, h.image);
         let o = case_outcome(
             &sheet[0..n],
             &wanted[0..m],
@@ -250,7 +276,7 @@ fn run_cases(
     k
 }
 
-fn print_refusals(counts: &[u64; 16]) {
+fn print_refusals(counts: &[u64; OUTCOMES]) {
     let mut k: usize = 1;
     while k < DIFFERS {
         io::write_all(STDOUT_FILENO, b"refused,");
@@ -263,12 +289,12 @@ fn print_refusals(counts: &[u64; 16]) {
 fn main() {
     let mut sheet = io::large_buffer();
     let mut wanted = io::large_buffer();
-    let mut text = [0u8; 262160];
+    let mut text = [0u8; ROWS];
     let mut listing = io::large_buffer();
     let mut picture = io::large_buffer();
     let mut area = io::large_buffer();
     let mut work = io::large_buffer();
-    let mut counts = [0u64; 16];
+    let mut counts = [0u64; OUTCOMES];
     let n = run_cases(
         &mut sheet,
         &mut wanted,

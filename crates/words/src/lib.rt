@@ -86,6 +86,5 @@ pub fn bits_at(work: &[u8], a: usize) -> u64
 pub fn put_bits(out: &mut [u8], at: usize, n: u64) -> usize
     ensures { λ r. ⌜ Wrote (now (out .entry)) at (bigEndian 8 n) (now (out .exit)) r ⌝ }
 {
-    let bytes = write::bytes_of(n);
-    write::put_part(out, at, &bytes)
+    write::put_big_endian(out, at, 8, n)
 }

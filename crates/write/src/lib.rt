@@ -1,9 +1,9 @@
 // Writers of text: each stores from a place on and returns the next place. Past the end nothing is stored, and the place is one past
 // the length and stays there, so that one test at the very end tells whether all fitted.
 ghost use mathlib.Core.Path.{_≡_};
-ghost use Prim.Native.Nat.{_<_};
+ghost use Prim.Native.Nat.{_≤_, _<_, _/_, _%_, _^_};
 ghost use mathlib.Core.List.{_∷_, []};
-ghost use lib.ListN.{length, getD, replicate};
+ghost use lib.ListN.{length, replicate};
 ghost use Rattle.semantics.specs.Text.{decimal, decimalℤ, hexDigit, hexOf, bigEndian};
 ghost use Rattle.write.specs.Wrote.{Wrote};
 
@@ -57,10 +57,10 @@ pub fn put_nat(out: &mut [u8], at: usize, n: u64) -> usize
     ensures { λ r. ⌜ Wrote (now (out .entry)) at (decimal n) (now (out .exit)) r ⌝ }
 {
     if n < 10 {
-        return put(out, at, 48 + n as u8);
+        return put(out, at, b'0' + n as u8);
     }
     let p = put_nat(out, at, n / 10);
-    put(out, p, 48 + (n % 10) as u8)
+    put(out, p, b'0' + (n % 10) as u8)
 }
 
 // An integer in decimal. The negation of the lowest i64 is none, so the digits of a negative n are those of !n, plus 1.
@@ -79,9 +79,9 @@ fn hex_digit(d: u8) -> u8
     ensures { λ r. ⌜ r ≡ hexDigit d ⌝ }
 {
     if d < 10 {
-        return 48 + d;
+        return b'0' + d;
     }
-    55 + d
+    b'A' + (d - 10)
 }
 
 // A byte as two hexadecimal digits.
@@ -105,31 +105,37 @@ pub fn put_hex(out: &mut [u8], at: usize, part: &[u8]) -> usize
     p
 }
 
-// Byte k of the eight of n, the highest first.
-fn byte_of(n: u64, k: usize) -> u8
-    requires { ⌜ k < 8 ⌝ }
-    ensures { λ r. ⌜ r ≡ getD (bigEndian 8 n) k 0 ⌝ }
+// Byte j of n, from the lowest.
+fn byte_at(n: u64, j: usize) -> u8
+    requires { ⌜ j < 8 ⌝ }
+    ensures { λ r. ⌜ r ≡ n / 256 ^ j % 256 ⌝ }
 {
-    ((n >> (56 - 8 * k)) & 255) as u8
+    ((n >> (8 * j)) & 255) as u8
 }
 
-// The eight bytes of n, the highest first.
-pub fn bytes_of(n: u64) -> [u8; 8]
-    ensures { λ r. ⌜ r ≡ bigEndian 8 n ⌝ }
+// The w lowest bytes of n, the highest first.
+pub fn put_big_endian(out: &mut [u8], at: usize, w: usize, n: u64) -> usize
+    requires { ⌜ w ≤ 8 ⌝ }
+    ensures { λ r. ⌜ Wrote (now (out .entry)) at (bigEndian w n) (now (out .exit)) r ⌝ }
 {
-    let mut bytes = [0; 8];
-    let mut k = 0;
-    while k < 8 {
-        bytes[k] = byte_of(n, k);
-        k += 1;
+    let mut p = nothing(out, at);
+    let mut j = w;
+    while 0 < j {
+        p = put(out, p, byte_at(n, j - 1));
+        j -= 1;
     }
-    bytes
+    p
 }
 
 // 64 bits as 16 hexadecimal digits.
 pub fn put_hex_bits(out: &mut [u8], at: usize, n: u64) -> usize
     ensures { λ r. ⌜ Wrote (now (out .entry)) at (hexOf (bigEndian 8 n)) (now (out .exit)) r ⌝ }
 {
-    let bytes = bytes_of(n);
-    put_hex(out, at, &bytes)
+    let mut p = nothing(out, at);
+    let mut j = 8;
+    while 0 < j {
+        p = put_hex_byte(out, p, byte_at(n, j - 1));
+        j -= 1;
+    }
+    p
 }

@@ -28,9 +28,9 @@ returns-3 c =
     let h = c .before .before .before .before .before .before .before .before .before .before .before .before .before .pre in
     let part-at = c .before .before .before .before .before .before .before .before .before .before .part-at in
     let part-bytes = c .before .before .before .before .before .before .before .before .part-bytes in
-    let put-value = c .before .before .before .before .put-value in
+    let put = c .before .before .before .before .put-big-endian in
     let went-on = c .went-on in
-    array-in (a .off) (a .size * a .n) (now (a .image)) (now (a .area)) (a .s) (went-on .result) (h) (part-at .ensures) (omega (arith, part-bytes .ensures)) (omega arith) (handled (a .s .item) (put-value .ensures)) (rw (c .before .larger .ensures) at (went-on .ensures))
+    array-in (a .off) (a .size * a .n) (now (a .image)) (now (a .area)) (a .s) (went-on .result) (h) (part-at .ensures) (omega (arith, part-bytes .ensures)) (omega arith) (handled (a .s .item) (put .ensures)) (rw (c .before .larger .ensures) at (went-on .ensures))
 
 pub lay-array-spec : {M : Type 1} → statement M
 lay-array-spec =

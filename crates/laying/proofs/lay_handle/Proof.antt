@@ -10,18 +10,18 @@ returns c =
     let a = c .before .before .before .before .before .before .before .before .before .args in
     let h = c .before .before .before .before .before .before .before .before .before .pre in
     let if1 = c .before .before .before .before .before .before .if1 in
-    let put-value = c .before .before .before .put-value in
+    let put = c .before .before .before .put-big-endian in
     let went-on = c .went-on in
-    lays-part (a .off) _ (now (a .image)) (now (a .area)) (a .s) (went-on .result) (h) (if1 .taken) (handled (a .s .item) (put-value .ensures)) (went-on .ensures)
+    lays-part (a .off) _ (now (a .image)) (now (a .area)) (a .s) (went-on .result) (h) (if1 .taken) (handled (a .s .item) (put .ensures)) (went-on .ensures)
 
 returns-2 : tie.Need-returns-2
 returns-2 c =
     let a = c .before .before .before .before .before .before .before .before .before .before .args in
     let h = c .before .before .before .before .before .before .before .before .before .before .pre in
     let if1 = c .before .before .before .before .before .before .before .if1 in
-    let put-value2 = c .before .before .before .before .put-value2 in
+    let put2 = c .before .before .before .before .put-big-endian2 in
     let went-on2 = c .went-on2 in
-    lays-image (a .off) _ (now (a .image)) (now (a .area)) (a .s) (went-on2 .result) (h) (if1 .left) (handled (a .s .item) (put-value2 .ensures)) (rw (c .before .larger .ensures) at (went-on2 .ensures))
+    lays-image (a .off) _ (now (a .image)) (now (a .area)) (a .s) (went-on2 .result) (h) (if1 .left) (handled (a .s .item) (put2 .ensures)) (rw (c .before .larger .ensures) at (went-on2 .ensures))
 
 pub lay-handle-spec : {M : Type 1} → statement M
 lay-handle-spec =

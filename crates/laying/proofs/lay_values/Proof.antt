@@ -1,8 +1,8 @@
 -- `laying::lay_values` meets its contract.
 use Rattle.laying.proofs.Steps.{lays-image, lays-part}
 use denote.Ref.{now}
+use Rattle.semantics.specs.Form.{fieldsFrom}
 use Rattle.stored.specs.Reading.{rowValues}
-use Rattle.row_fields.specs.Rest.{fieldsAt}
 use borrow.Author.Needs.{needs}
 use Rattle.laying.proofs.lay_values.Statement.{statement}
 use Rattle.laying.proofs.lay_values.Tie as tie
@@ -14,7 +14,7 @@ returns c =
     let if1 = c .before .before .before .before .before .if1 in
     let put-values = c .before .before .before .put-values in
     let went-on = c .went-on in
-    lays-part (a .off) (rowValues (a .w) (a .reals) (fieldsAt (now (a .row)) (a .from))) (now (a .image)) (now (a .area)) (a .s) (went-on .result) (h .0) (if1 .taken) (put-values .ensures) (went-on .ensures)
+    lays-part (a .off) (rowValues (a .w) (a .reals) (fieldsFrom (a .from) (now (a .row)))) (now (a .image)) (now (a .area)) (a .s) (went-on .result) (h .0) (if1 .taken) (put-values .ensures) (went-on .ensures)
 
 returns-2 : tie.Need-returns-2
 returns-2 c =
@@ -23,7 +23,7 @@ returns-2 c =
     let if1 = c .before .before .before .before .before .before .if1 in
     let put-values2 = c .before .before .before .before .put-values2 in
     let went-on2 = c .went-on2 in
-    lays-image (a .off) (rowValues (a .w) (a .reals) (fieldsAt (now (a .row)) (a .from))) (now (a .image)) (now (a .area)) (a .s) (went-on2 .result) (h .0) (if1 .left) (put-values2 .ensures) (rw (c .before .larger .ensures) at (went-on2 .ensures))
+    lays-image (a .off) (rowValues (a .w) (a .reals) (fieldsFrom (a .from) (now (a .row)))) (now (a .image)) (now (a .area)) (a .s) (went-on2 .result) (h .0) (if1 .left) (put-values2 .ensures) (rw (c .before .larger .ensures) at (went-on2 .ensures))
 
 pub lay-values-spec : {M : Type 1} → statement M
 lay-values-spec =

@@ -1,5 +1,6 @@
 -- `laying::moved` meets its contract.
 use native.Mathlib.Omega.{arith}
+use mathlib.Core.Path.{refl}
 use Rattle.laying.specs.Steps.{seenLaying, layingOf}
 use native.Mathlib.Numerals.{add-one}
 use borrow.Author.Needs.{needs}
@@ -8,7 +9,7 @@ use Rattle.laying.proofs.moved.Tie as tie
 
 returns : tie.Need-returns
 unfolding seenLaying layingOf
-returns c = record { is = rw add-one; low = c .before .pre .low; high = c .before .pre .high; item = omega arith }
+returns c = record { is = λ image area. rw add-one; start = refl; end = refl; item = omega arith }
 
 pub moved-spec : {M : Type 1} → statement M
 moved-spec =

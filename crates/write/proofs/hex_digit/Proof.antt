@@ -1,4 +1,5 @@
 -- `write::hex_digit` meets its contract.
+use native.Mathlib.Omega.{arith}
 use borrow.Author.Tests.{lt-ltb, le-ltb}
 use borrow.Author.Needs.{needs}
 use Rattle.write.proofs.hex_digit.Statement.{statement}
@@ -8,7 +9,7 @@ returns : tie.Need-returns
 returns c = simp (lt-ltb (c .before .args .d) 10 (c .if1 .taken))
 
 returns-2 : tie.Need-returns-2
-returns-2 c = simp (le-ltb (c .before .args .d) 10 (c .if1 .left))
+returns-2 c = rw (le-ltb (c .before .args .d) 10 (c .if1 .left)) (omega arith)
 
 pub hex-digit-spec : {M : Type 1} → statement M
 hex-digit-spec =

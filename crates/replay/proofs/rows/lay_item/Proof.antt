@@ -1,5 +1,6 @@
 -- `replay::rows::lay_item` meets its contract. Each return is one law.
 use native.Mathlib.Omega.{arith}
+use Rattle.laying.proofs.Steps.{moved-lays}
 use Rattle.replay.proofs.Texts.{lays-as, lays-none, item-none, item-values, item-string, item-array, item-moved}
 use denote.Ref.{now}
 use borrow.Author.Needs.{needs}
@@ -59,20 +60,20 @@ returns-4 c =
 
 returns-5 : tie.Need-returns-5
 returns-5 c =
-    let a = c .before .before .before .before .before .before .before .before .before .before .before .before .before .args in
-    let good = c .before .before .before .before .before .before .before .before .before .before .before .before .before .good in
-    let h = c .before .before .before .before .before .before .before .before .before .before .before .before .before .pre in
-    let if1 = c .before .before .before .before .before .before .before .before .if1 in
-    let f = c .before .before .before .before .before .before .before .field in
-    let number = c .before .before .before .before .before .before .number in
-    let if2 = c .before .before .before .before .before .if2 in
-    let if3 = c .before .before .before .before .if3 in
-    let if4 = c .before .before .before .if4 in
-    lays-as (item-moved (now (a .work)) (a .k) (now (a .row)) (now (a .image)) (now (a .area)) (a .s) (if1 .left) (omega (arith, good .1 .1 .1 .1)) (omega (arith, good .1 .1 .1 .1)) (h) (number .ensures .0) (f .ensures) (if2 .left) (if3 .left) (if4 .left)) (c .moved .ensures)
+    let a = c .before .before .before .before .before .before .before .before .before .before .before .args in
+    let good = c .before .before .before .before .before .before .before .before .before .before .before .good in
+    let h = c .before .before .before .before .before .before .before .before .before .before .before .pre in
+    let if1 = c .before .before .before .before .before .before .if1 in
+    let f = c .before .before .before .before .before .field in
+    let number = c .before .before .before .before .number in
+    let if2 = c .before .before .before .if2 in
+    let if3 = c .before .before .if3 in
+    let if4 = c .before .if4 in
+    lays-as (item-moved (now (a .work)) (a .k) (now (a .row)) (now (a .image)) (now (a .area)) (a .s) (if1 .left) (omega (arith, good .1 .1 .1 .1)) (omega (arith, good .1 .1 .1 .1)) (h) (number .ensures .0) (f .ensures) (if2 .left) (if3 .left) (if4 .left)) (moved-lays (now (a .image)) (now (a .area)) h (c .moved .ensures))
 
 pub lay-item-spec : {M : Type 1} → statement M
 lay-item-spec =
     tie.close (tie.spec returns (λ c κs. search needs) (λ c κs. search needs) (λ c κs. search needs) (λ c κs. search needs) (λ c κs. search needs)
     (λ c. search needs) (λ c. search needs) returns-2 (λ c κs. search needs) (λ c. search needs) (λ c. search needs) returns-3 (λ c κs. search needs)
     (λ c κs. search needs) (λ c κs. search needs) (λ c κs. search needs) (λ c κs. search needs) (λ c κs. search needs) (λ c. search needs)
-    (λ c. search needs) returns-4 (λ c κs. search needs) (λ c. search needs) (λ c. search needs) returns-5)
+    (λ c. search needs) returns-4 (λ c κs. search needs) returns-5)

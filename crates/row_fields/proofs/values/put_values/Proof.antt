@@ -1,8 +1,9 @@
 -- `row_fields::values::put_values` meets its contract. What is left to be written at p are the values of the fields from i on.
 use native.Mathlib.Omega.{arith}
 use borrow.Author.Needs.{needs}
-use Rattle.row_fields.proofs.Writes.{Left, left-all, left-next, left-none, values-next, values-none}
-use Rattle.row_fields.specs.Rest.{fieldsAt}
+use Rattle.write.proofs.Left.{Left, left-all, left-next, left-none}
+use Rattle.row_fields.proofs.Writes.{values-next, values-none}
+use Rattle.semantics.specs.Form.{fieldsFrom}
 use Rattle.stored.specs.Reading.{rowValues}
 use denote.Ref.{now}
 use lib.ListN.{length}
@@ -12,7 +13,7 @@ use Rattle.row_fields.proofs.values.put_values.Statement.{statement}
 use Rattle.row_fields.proofs.values.put_values.Tie as tie
 
 abbrev Inv-loop : tie.InvT-loop
-Inv-loop out₀ at row from w reals p₀ i₀ out p i = (length out ≡ length out₀) × (p ≤ length out + 1) × Left out₀ at (rowValues w reals (fieldsAt row from)) out p (rowValues w reals (fieldsAt row i))
+Inv-loop out₀ at row from w reals p₀ i₀ out p i = (length out ≡ length out₀) × (p ≤ length out + 1) × Left out₀ at (rowValues w reals (fieldsFrom from row)) out p (rowValues w reals (fieldsFrom i row))
 
 abbrev μ-loop : tie.MeasureT-loop
 μ-loop out₀ at row from w reals p₀ i₀ out p i = length row + 1 - i
@@ -26,8 +27,8 @@ loop-again c =
     let l = c .before .before .before .before .before .before .before .before .loop in
     let e = c .before .before .before .before .before .before .find in
     let v = c .before .before .before .value in
-    let put-value = c .before .before .put-value in
-    (put-value .kept .0 ∙ l .inv .0, omega (arith, put-value .ensures .place, put-value .kept .0), left-next (values-next (a .w) (a .reals) (now (a .row)) (l .i) (e .result) (omega arith) (e .ensures .0) (v .ensures)) (l .inv .2) (put-value .ensures))
+    let put = c .before .before .put-big-endian in
+    (put .kept .0 ∙ l .inv .0, omega (arith, put .ensures .place, put .kept .0), left-next (values-next (a .w) (a .reals) (now (a .row)) (l .i) (e .result) (omega arith) (e .ensures .0) (v .ensures)) (l .inv .2) (put .ensures))
 
 returns : tie.Need-returns Inv-loop μ-loop
 returns c =

@@ -3,8 +3,8 @@ use mathlib.Core.Path.{_≡_}
 use native.Mathlib.Omega.{arith}
 use lib.ListN.{length}
 use borrow.Author.Needs.{needs}
-use Rattle.vectors.proofs.parts.skip.Statement.{statement}
-use Rattle.vectors.proofs.parts.skip.Tie as tie
+use Rattle.vectors.proofs.skip.Statement.{statement}
+use Rattle.vectors.proofs.skip.Tie as tie
 
 abbrev Inv-loop : tie.InvT-loop
 Inv-loop n space₀ left₀ space left = length space ≡ 4096
