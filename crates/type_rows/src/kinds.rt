@@ -18,7 +18,7 @@ ghost use Rattle.type_rows.specs.Rows.{Wrotes, shapesOf};
 // The kind of element whose key has position p - 1; 5 where there is none.
 fn kind_at(work: &[u8], p: usize) -> u8
     requires { ⌜ 65536 ≤ length (now work) ⌝ }
-    ensures { λ r. ⌜ (r < 5 → kindFromOne (now (work .entry)) r ≡ p) × ((k : ℕ) → k < 5 → kindFromOne (now (work .entry)) k ≡ p → r ≤ k) ⌝ }
+    ensures { λ r. ⌜ (r < 5 → kindFromOne (now (work .entry)) r ≡ p) × ((k : ℕ) → k < 5 → kindFromOne (now (work .entry)) k ≡ p → r ≤ k) × (r ≤ 5) ⌝ }
 {
     let mut k = 0;
     while k < 5 {

@@ -18,13 +18,13 @@ loop-holds : tie.Need-loop-holds Inv-loop μ-loop
 loop-holds c = (omega arith, λ j h e. omega arith)
 
 returns : tie.Need-returns Inv-loop μ-loop
-returns c = (λ h. sym (c .before .kind-from-one .ensures .0) ∙ c .if1 .taken, λ j h e. not-below j (c .before .before .before .loop .k) (λ l. c .before .before .before .loop .inv .1 j l e))
+returns c = (λ h. sym (c .before .kind-from-one .ensures .0) ∙ c .if1 .taken, λ j h e. not-below j (c .before .before .before .loop .k) (λ l. c .before .before .before .loop .inv .1 j l e), c .before .before .before .loop .inv .0)
 
 loop-again : tie.Need-loop-again Inv-loop μ-loop
 loop-again c = (omega (arith, c .before .before .loop-test .taken), below-more _ _ (c .before .before .before .loop .inv .1) (λ e. c .if1 .left (c .before .kind-from-one .ensures .0 ∙ e)))
 
 returns-2 : tie.Need-returns-2 Inv-loop μ-loop
-returns-2 c = (λ h. absurd (omega (arith, h, c .loop-test .left)), λ j h e. not-below j (c .before .loop .k) (λ l. c .before .loop .inv .1 j l e))
+returns-2 c = (λ h. absurd (omega (arith, h, c .loop-test .left)), λ j h e. not-below j (c .before .loop .k) (λ l. c .before .loop .inv .1 j l e), c .before .loop .inv .0)
 
 pub kind-at-spec : {M : Type 1} → statement M
 kind-at-spec =
