@@ -140,3 +140,7 @@ module _ (s t : List ℕ) (n : ℕ) (f : Refs) (l : FieldRefs s t n f) (p : Ends
               append-assoc (g .done) (lineRows (fdAt s v) (q .end)) (fieldRows (u .end) more)
               ∙ rw (w .end, ← rows-cons (q .end) (fdAt s v) more) (rw x at (g .rest));
         }
+
+-- the place may lie behind the buffer
+pub rows-from : (p : Ends) {b : ℕ} {q : Ends} {fs : List Fd} {d e : Bytes} → Wrote d (p .at) [] d b → AllWrote fs (record { at = b; end = p .end }) q d e → AllWrote fs p q d e
+rows-from p w x = record { wrote = then w (x .wrote); end = x .end }

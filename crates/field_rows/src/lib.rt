@@ -48,10 +48,13 @@ fn put_line(sheet: &[u8], work: &[u8], n: usize, r: usize, out: &mut [u8], p: En
 
 // Those of the `fd` lines to which these fields refer.
 fn put_fields(sheet: &[u8], work: &[u8], n: usize, f: Refs, out: &mut [u8], p: Ends) -> Ends
-    requires { ⌜ (FieldRefs (now sheet) (now work) n f) × (p .end ≤ 2200000) × (p .at ≤ length (now out) + 1) ⌝ }
+    requires { ⌜ (FieldRefs (now sheet) (now work) n f) × (p .end ≤ 2200000) ⌝ }
     ensures { λ q. ⌜ (AllWrote (fdsOfRefs (now (sheet .entry)) f) p q (now (out .entry)) (now (out .exit))) × (q .end ≤ p .end + 2097280) ⌝ }
 {
-    let mut q = p;
+    let mut q = Ends {
+        at: write::nothing(out, p.at),
+        end: p.end,
+    };
     let mut j = 0;
     while j < f.count {
         let r = lines::number_at(sheet, work, n, f.line - 1, f.from + j);
@@ -63,7 +66,7 @@ fn put_fields(sheet: &[u8], work: &[u8], n: usize, f: Refs, out: &mut [u8], p: E
 
 // The fields of the `adt` or `pick` line r that are no case's.
 pub fn put_common(sheet: &[u8], work: &[u8], n: usize, r: usize, out: &mut [u8], p: Ends) -> Ends
-    requires { ⌜ (RecordLine (now sheet) (now work) n r) × (p .end ≤ 4) × (p .at ≤ length (now out) + 1) ⌝ }
+    requires { ⌜ (RecordLine (now sheet) (now work) n r) × (p .end ≤ 4) ⌝ }
     ensures { λ q. ⌜ (AllWrote (commonFields (now (sheet .entry)) r) p q (now (out .entry)) (now (out .exit))) × (q .end ≤ 2097284) ⌝ }
 {
     let f = sizes::place::common_refs(sheet, work, n, r);
@@ -72,7 +75,7 @@ pub fn put_common(sheet: &[u8], work: &[u8], n: usize, r: usize, out: &mut [u8],
 
 // The fields of the `pc` line r.
 pub fn put_case(sheet: &[u8], work: &[u8], n: usize, r: usize, out: &mut [u8], p: Ends) -> Ends
-    requires { ⌜ (CaseLine (now sheet) (now work) n r) × (p .end ≤ 2097284) × (p .at ≤ length (now out) + 1) ⌝ }
+    requires { ⌜ (CaseLine (now sheet) (now work) n r) × (p .end ≤ 2097284) ⌝ }
     ensures { λ q. ⌜ AllWrote (caseFields (now (sheet .entry)) r) p q (now (out .entry)) (now (out .exit)) ⌝ }
 {
     let f = sizes::place::case_refs(sheet, work, n, r);

@@ -13,6 +13,8 @@ ghost use Rattle.shapes.specs.Shapes.{shapeAt, casesAt, variantAt, PickL
 // The bytes of the tag word of a record with `pick`: fields begin behind it.
 pub const TAG_BYTES: u32 = 4;
 
+// A `pick` line: NAME, N, as many fields, N, as many cases.
+
 // How many cases the `pick` line r has.
 pub fn case_count(sheet: &[u8], work: &[u8], n: usize, r: usize) -> usize
     requires { ⌜ PickLine (now sheet) (now work) n r ⌝ }
