@@ -14,7 +14,8 @@ use Rattle.semantics.specs.Sheet.{sheetSource}
 use Rattle.semantics.specs.Types.{sameTypeKey, distinct, position, keyShape}
 use Rattle.semantics.specs.Listing.{typeRows}
 use Rattle.laws.proofs.Lists.{map-append}
-use Rattle.write.proofs.Wrote.{wrote-none}
+use Rattle.write.specs.Wrote.{Wrote}
+use Rattle.write.proofs.Wrote.{wrote-none, then}
 use Rattle.checks.specs.Checks.{Kept}
 use Rattle.checks.proofs.Kept.{kept-all, kept-then, kept-less, kept-at}
 use Rattle.records.specs.Log.{logOf}
@@ -31,6 +32,10 @@ use Rattle.type_row.proofs.Rows.{rows-then}
 pub types-none : {p : Spot} {t d : List ℕ} → p .at ≤ length d + 1 → TypesWrote [] p p t t d d
 unfolding typeRows
 types-none {p} {t} {d} h = record { wrote = wrote-none d (p .at) h; id = omega arith; kept = kept-all }
+
+-- the place may lie behind the buffer
+pub types-from : (p : Spot) {b : ℕ} {q : Spot} {xs : List Shape} {t u d e : List ℕ} → Wrote d (p .at) [] d b → TypesWrote xs (record { at = b; id = p .id }) q t u d e → TypesWrote xs p q t u d e
+types-from p w x = record { wrote = then w (x .wrote); id = x .id; kept = x .kept }
 
 pub types-then : (xs ys : List Shape) {p q r : Spot} {t u v d e f : List ℕ} → TypesWrote xs p q t u d e → TypesWrote ys q r u v e f → TypesWrote (xs ++ ys) p r t v d f
 types-then xs ys {p} {q} {r} a b = record {

@@ -4,6 +4,7 @@ use type_row::Spot;
 use type_row::put_type;
 use type_row::put_words;
 ghost use mathlib.Core.Path.{_≡_};
+ghost use mathlib.Core.List.{[], _∷_};
 ghost use Prim.Native.Nat.{_<_};
 ghost use Rattle.semantics.specs.Types.{keyShape};
 ghost use Rattle.lines.specs.Lines.{formAt};
