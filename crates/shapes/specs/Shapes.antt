@@ -11,7 +11,7 @@ use Rattle.semantics.specs.Layout.{place, behindTag, variantShape, Recorded, re
 use Rattle.lines.specs.Lines.{readAt, nodesIn}
 use Rattle.checks.specs.Checks.{KindLine}
 use Rattle.sizes.specs.declared.place.Reached.{Reached}
-use Rattle.sizes.specs.Places.{declAt, CaseLine}
+use Rattle.sizes.specs.Places.{declAt, CaseLine, commonEnd}
 
 -- the record of T itself is the first that a declaration makes
 abbrev pub firstShape : List Recorded → Shape
@@ -52,4 +52,4 @@ pub record BehindCommon (s : Bytes) (r : ℕ) (q : Reached) : Type 0 where
   pub end : q .end ≡ place behindTag (declAt s r .fields) .end
   pub furthest : q .furthest ≡ Layout.furthest behindTag (place behindTag (declAt s r .fields) .placed)
   pub within : q .furthest ≤ q .end
-  pub small : q .end ≤ 2097284
+  pub small : q .end ≤ commonEnd

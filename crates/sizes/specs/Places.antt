@@ -74,6 +74,24 @@ caseFields s r = nodeAt (nodesIn s) r .case .fields
 abbrev pub CaseLine : Bytes → Bytes → ℕ → ℕ → Type 0
 CaseLine s t n r = KindLine 67 s t n r
 
+-- ---- how far fields reach at most
+
+-- the bytes of an `fd` line, 16 names of 8192 bytes and what aligns them, and of 16 such lines
+abbrev pub lineBytes : ℕ
+lineBytes = 131080
+
+abbrev pub groupBytes : ℕ
+groupBytes = 2097280
+
+-- where the common fields end, behind a tag, and a case's own behind them
+abbrev pub commonEnd : ℕ
+commonEnd = 2097284
+
+abbrev pub caseEnd : ℕ
+caseEnd = 4194564
+
+-- ---- where lines are placed
+
 -- from p to q by one line
 pub record LinePlaced (t : Option Ty) (ns : List Bytes) (p q : Reached) : Type 0 where
   pub end : q .end ≡ placeLine t ns (p .end) .end
