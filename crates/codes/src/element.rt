@@ -8,3 +8,9 @@ pub const BIG: u8 = 2;
 pub const REAL: u8 = 3;
 
 pub const POINTER: u8 = 4;
+
+// No kind.
+pub const NONE: u8 = 5;
+
+// How many kinds there are.
+pub const KINDS: usize = 5;

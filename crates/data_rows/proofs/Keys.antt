@@ -17,7 +17,7 @@ use Rattle.semantics.specs.Global.Item.{backItem}
 use Rattle.semantics.specs.Types.{arrayKey, distinct, position}
 use Rattle.laws.proofs.Lists.{concat-append}
 use Rattle.arrays.specs.Arrays.{kindOfNumber}
-use Rattle.type_keys.specs.Table.{kindFromOne, isUsed, kindsUsed, Kinds}
+use Rattle.type_keys.specs.Table.{kindPosition, isUsed, kindsUsed, Kinds}
 use Rattle.type_lines.proofs.Codes.{same-self}
 use Rattle.type_keys.proofs.Distinct.{distinct-more, from-one-more}
 use Rattle.data_rows.specs.Data.{keysOf}
@@ -55,14 +55,14 @@ used-one p = go (eqb p 0)
 
 pub kinds-few : {t : Bytes} {ks : List TypeKey} {count : ℕ} → Kinds t ks count → count ≤ 133
 unfolding kindsUsed
-kinds-few {t} x = omega (arith, x .few, used-one (kindFromOne t 0), used-one (kindFromOne t 1), used-one (kindFromOne t 2), used-one (kindFromOne t 3), used-one (kindFromOne t 4))
+kinds-few {t} x = omega (arith, x .few, used-one (kindPosition t 0), used-one (kindPosition t 1), used-one (kindPosition t 2), used-one (kindPosition t 3), used-one (kindPosition t 4))
 
 -- ---- one more kind
 
 -- it is used then
-pub kind-used : {t : Bytes} (ks : List TypeKey) {count : ℕ} (k : ElemKind) → Kinds t (ks ++ (elemKey k ∷ [])) count → {kind : ℕ} → kind ≡ kindNumber k → 0 < kindFromOne t kind
+pub kind-used : {t : Bytes} (ks : List TypeKey) {count : ℕ} (k : ElemKind) → Kinds t (ks ++ (elemKey k ∷ [])) count → {kind : ℕ} → kind ≡ kindNumber k → 0 < kindPosition t kind
 kind-used {t} ks k x e =
-    let w : kindFromOne t (kindNumber k) ≡ suc (position (elemKey k) (distinct [] ks)) = x .position k ∙ rw (distinct-more (elemKey k) ks) (from-one-more (elemKey k) (distinct [] ks) (elemKey k) ∙ rw (same-self (elemKey k))) in
+    let w : kindPosition t (kindNumber k) ≡ suc (position (elemKey k) (distinct [] ks)) = x .position k ∙ rw (distinct-more (elemKey k) ks) (from-one-more (elemKey k) (distinct [] ks) (elemKey k) ∙ rw (same-self (elemKey k))) in
     rw e (omega (arith, w))
 
 -- ---- keys of items

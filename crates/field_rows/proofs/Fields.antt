@@ -18,7 +18,7 @@ use Rattle.write.proofs.Wrote.{wrote-none, wrote-as, then}
 use Rattle.lines.specs.Lines.{readAt, nodesIn}
 use Rattle.sizes.specs.declared.place.Refs.{Refs}
 use Rattle.sizes.specs.Sizes.{typeAt, Measures}
-use Rattle.sizes.specs.Places.{fdAt, fdsFrom, fdsOfRefs, FieldLine, FieldRefs}
+use Rattle.sizes.specs.Places.{fdAt, fdsFrom, fdsOfRefs, FieldLine, FieldRefs, lineBytes}
 use Rattle.refs.proofs.Fields.{values-length}
 use Rattle.sizes.proofs.Places.{fd-is, names-end, untyped, typed, fields-next}
 use Rattle.records.proofs.Picks.{names-at}
@@ -105,7 +105,7 @@ rows-cons off f fs = placed-append (placeLine (f .ty) (f .names) off .placed) (p
 -- the rows of the first j lines are written, from p to q
 pub record Fielding (s : List ℕ) (f : Refs) (p : Ends) (d e : Bytes) (q : Ends) (j : ℕ) : Type 0 where
   pub within : j ≤ f .count
-  pub small : q .end ≤ p .end + 131080 * j
+  pub small : q .end ≤ p .end + lineBytes * j
   pub end : place (q .end) (fdsFrom s (f .line) (f .from + j) (f .count - j)) .end ≡ place (p .end) (fdsOfRefs s f) .end
   pub done : Bytes
   pub wrote : Wrote d (p .at) done e (q .at)
@@ -126,7 +126,7 @@ module _ (s t : List ℕ) (n : ℕ) (f : Refs) (l : FieldRefs s t n f) (p : Ends
         record { wrote = wrote-as (sym (append-nil (g .done)) ∙ rw z at (g .rest)) (g .wrote); end = rw z at (g .end) }
 
     pub fielding-next : (h : j < f .count) (v : ℕ) (hv : v ≡ Number.numberUpTo 65536 (getD (readAt s (f .line - 1) .fields) (f .from + j) [])) (b : Bytes) (u : Ends)
-        → LineWrote (fdAt s v) q u e b → u .end ≤ q .end + 131080 → Fielding s f p d b u (j + 1)
+        → LineWrote (fdAt s v) q u e b → u .end ≤ q .end + lineBytes → Fielding s f p d b u (j + 1)
     fielding-next h v hv b u w k =
         let x = fields-next s t n f l j h v hv in
         let more = fdsFrom s (f .line) (f .from + (j + 1)) (f .count - (j + 1)) in
@@ -140,3 +140,7 @@ module _ (s t : List ℕ) (n : ℕ) (f : Refs) (l : FieldRefs s t n f) (p : Ends
               append-assoc (g .done) (lineRows (fdAt s v) (q .end)) (fieldRows (u .end) more)
               ∙ rw (w .end, ← rows-cons (q .end) (fdAt s v) more) (rw x at (g .rest));
         }
+
+-- the place may lie behind the buffer
+pub rows-from : (p : Ends) {b : ℕ} {q : Ends} {fs : List Fd} {d e : Bytes} → Wrote d (p .at) [] d b → AllWrote fs (record { at = b; end = p .end }) q d e → AllWrote fs p q d e
+rows-from p w x = record { wrote = then w (x .wrote); end = x .end }

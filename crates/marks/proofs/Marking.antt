@@ -16,7 +16,7 @@ use Rattle.decimal.specs.Number as Number
 use Rattle.lines.specs.Lines.{readAt}
 use Rattle.sizes.specs.Sizes.{typeAt, Measures}
 use Rattle.sizes.specs.declared.place.Refs.{Refs}
-use Rattle.sizes.specs.Places.{fdAt, fdsFrom, fdsOfRefs, FieldLine, FieldRefs}
+use Rattle.sizes.specs.Places.{fdAt, fdsFrom, fdsOfRefs, FieldLine, FieldRefs, lineBytes}
 use Rattle.sizes.proofs.Places.{names-end, untyped, typed, names-are, fields-next}
 use Rattle.maps.specs.Maps.{Marks}
 use Rattle.marks.specs.Fields.{LineMarked, AllMarked}
@@ -68,7 +68,7 @@ pub record LinesMarked (s : List ℕ) (f : Refs) (size off q j : ℕ) (t u : Lis
   pub end : place q (fdsFrom s (f .line) (f .from + j) (f .count - j)) .end ≡ place off (fdsOfRefs s f) .end
   pub marks : Marks size done t u
   pub rest : done ++ pointersOf (place q (fdsFrom s (f .line) (f .from + j) (f .count - j)) .placed) ≡ pointersOf (place off (fdsOfRefs s f) .placed)
-  pub small : q ≤ off + 131080 * j
+  pub small : q ≤ off + lineBytes * j
 
 module _ (s t : List ℕ) (n : ℕ) (f : Refs) (l : FieldRefs s t n f) (size off : ℕ) where
   pub lines-marked-start : LinesMarked s f size off off 0 t t
@@ -78,7 +78,7 @@ module _ (s t : List ℕ) (n : ℕ) (f : Refs) (l : FieldRefs s t n f) (size off
       record { done = []; within = omega arith; end = rw (z, y); marks = marks-none; rest = rw (z, y); small = omega arith }
 
   pub lines-marked-next : {q j p v : ℕ} {u w : List ℕ} → LinesMarked s f size off q j t u → j < f .count → v ≡ Number.numberUpTo 65536 (getD (readAt s (f .line - 1) .fields) (f .from + j) [])
-      → LineMarked (fdAt s v .ty) (fdAt s v .names) size q p u w → p ≤ q + 131080 → LinesMarked s f size off p (j + 1) t w
+      → LineMarked (fdAt s v .ty) (fdAt s v .names) size q p u w → p ≤ q + lineBytes → LinesMarked s f size off p (j + 1) t w
   lines-marked-next {q} {j} {p} {v} {u} {w} m h hv x b =
       let e = fields-next s t n f l j h v hv in
       let g = placeLine (fdAt s v .ty) (fdAt s v .names) q in

@@ -5,7 +5,7 @@ use sizes::place::Refs;
 ghost use Prim.Native.Nat.{_+_, _*_, _≤_};
 ghost use mathlib.Core.Path.{_≡_};
 ghost use lib.ListN.{take};
-ghost use Rattle.sizes.specs.Places.{fdAt, fdsOfRefs, commonFields, caseFields, FieldLine, FieldRefs, RecordLine, CaseLine};
+ghost use Rattle.sizes.specs.Places.{fdAt, fdsOfRefs, commonFields, caseFields, FieldLine, FieldRefs, RecordLine, CaseLine, caseEnd, commonEnd, groupBytes, lineBytes};
 ghost use Rattle.field_list.specs.Fields.{lineFieldsFrom, pointersIn};
 ghost use Rattle.maps.specs.Maps.{MapRoom, Marks};
 ghost use Rattle.marks.specs.Fields.{LineMarked, AllMarked};
@@ -43,8 +43,8 @@ fn mark_names(work: &mut [u8], size: u32, off: u32, step: u32, pointer: bool, na
 
 // The fields of the `fd` line r, from `off` on. An untyped line has none.
 fn mark_field(sheet: &[u8], work: &mut [u8], n: usize, r: usize, size: u32, off: u32) -> u32
-    requires { ⌜ (FieldLine (now sheet) (now work) n r) × (MapRoom (now work) size) × (off ≤ 4500000) ⌝ }
-    ensures { λ q. ⌜ (LineMarked (fdAt (now (sheet .entry)) r .ty) (fdAt (now (sheet .entry)) r .names) size off q (now (work .entry)) (now (work .exit))) × (q ≤ off + 131080) ⌝ }
+    requires { ⌜ (FieldLine (now sheet) (now work) n r) × (MapRoom (now work) size) × (off ≤ caseEnd) ⌝ }
+    ensures { λ q. ⌜ (LineMarked (fdAt (now (sheet .entry)) r .ty) (fdAt (now (sheet .entry)) r .names) size off q (now (work .entry)) (now (work .exit))) × (q ≤ off + lineBytes) ⌝ }
 {
     let t = lines::number_at(sheet, work, n, r - 1, 0);
     if t == 0 {
@@ -59,8 +59,8 @@ fn mark_field(sheet: &[u8], work: &mut [u8], n: usize, r: usize, size: u32, off:
 
 // The fields of the `fd` lines to which these fields refer.
 fn mark_fields(sheet: &[u8], work: &mut [u8], n: usize, f: Refs, size: u32, off: u32) -> u32
-    requires { ⌜ (FieldRefs (now sheet) (now work) n f) × (MapRoom (now work) size) × (off ≤ 2200000) ⌝ }
-    ensures { λ q. ⌜ (AllMarked (fdsOfRefs (now (sheet .entry)) f) size off q (now (work .entry)) (now (work .exit))) × (q ≤ off + 2097280) ⌝ }
+    requires { ⌜ (FieldRefs (now sheet) (now work) n f) × (MapRoom (now work) size) × (off ≤ commonEnd) ⌝ }
+    ensures { λ q. ⌜ (AllMarked (fdsOfRefs (now (sheet .entry)) f) size off q (now (work .entry)) (now (work .exit))) × (q ≤ off + groupBytes) ⌝ }
 {
     let mut q = off;
     let mut j = 0;
@@ -75,7 +75,7 @@ fn mark_fields(sheet: &[u8], work: &mut [u8], n: usize, f: Refs, size: u32, off:
 // The fields of the `adt` or `pick` line r that are no case's.
 pub fn mark_common(sheet: &[u8], work: &mut [u8], n: usize, r: usize, size: u32, off: u32) -> u32
     requires { ⌜ (RecordLine (now sheet) (now work) n r) × (MapRoom (now work) size) × (off ≤ 4) ⌝ }
-    ensures { λ q. ⌜ (AllMarked (commonFields (now (sheet .entry)) r) size off q (now (work .entry)) (now (work .exit))) × (q ≤ 2097284) ⌝ }
+    ensures { λ q. ⌜ (AllMarked (commonFields (now (sheet .entry)) r) size off q (now (work .entry)) (now (work .exit))) × (q ≤ commonEnd) ⌝ }
 {
     let f = sizes::place::common_refs(sheet, work, n, r);
     mark_fields(sheet, work, n, f, size, off)
@@ -83,7 +83,7 @@ pub fn mark_common(sheet: &[u8], work: &mut [u8], n: usize, r: usize, size: u32,
 
 // The fields of the `pc` line r.
 pub fn mark_case(sheet: &[u8], work: &mut [u8], n: usize, r: usize, size: u32, off: u32) -> u32
-    requires { ⌜ (CaseLine (now sheet) (now work) n r) × (MapRoom (now work) size) × (off ≤ 2097284) ⌝ }
+    requires { ⌜ (CaseLine (now sheet) (now work) n r) × (MapRoom (now work) size) × (off ≤ commonEnd) ⌝ }
     ensures { λ q. ⌜ AllMarked (caseFields (now (sheet .entry)) r) size off q (now (work .entry)) (now (work .exit)) ⌝ }
 {
     let f = sizes::place::case_refs(sheet, work, n, r);

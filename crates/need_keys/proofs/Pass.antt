@@ -26,7 +26,7 @@ use Rattle.type_lines.specs.Needs.{needAt, needsTo, kindBy}
 use Rattle.type_lines.proofs.Codes.{kind-low}
 use Rattle.type_lines.proofs.ByForm.{elem-is}
 use Rattle.type_lines.proofs.Needs.{needs-all, needs-few, needs-next, needs-stay}
-use Rattle.type_keys.specs.Table.{needLineOf, positionOf, kindFromOne, digestOf, needEntered, kindEntered, Needs, Kinds}
+use Rattle.type_keys.specs.Table.{needLineOf, positionOf, kindPosition, digestOf, needEntered, kindEntered, Needs, Kinds}
 use Rattle.type_keys.proofs.Distinct.{position-same, position-within, position-none, position-more, distinct-more, distinct-few, key-member, none-distinct, known-more}
 use Rattle.type_keys.proofs.Table.{line-below, position-below, kind-above, kind-kept, entered-outside, entered-line, entered-position, other-line, other-position, kind-outside, kind-entered, digest-above, digest-same, digest-other}
 use Rattle.type_keys.proofs.Elements.{kinds-more}
@@ -138,10 +138,10 @@ module _ {s t : List ℕ} {n i needs keys : ℕ} (x : NeedNext s t n i needs key
         position = λ q h. each (needsTo s i) (needAt s i) (λ q k. positionOf w q ≡ position k (distinct [] (needsTo s i ++ (needAt s i ∷ [])))) positions-stay (new-position ∙ hp ∙ rw (distinct-more (needAt s i) (needsTo s i)) (sym (position-more (needAt s i) (distinct [] (needsTo s i))))) q h;
       }
 
-  kinds-are : (e : ElemKind) → kindFromOne w (kindNumber e) ≡ cond (sameTypeKey (elemKey e) (needAt s i)) (suc (position (needAt s i) (distinct [] (needsTo s i)))) (kindFromOne t (kindNumber e))
+  kinds-are : (e : ElemKind) → kindPosition w (kindNumber e) ≡ cond (sameTypeKey (elemKey e) (needAt s i)) (suc (position (needAt s i) (distinct [] (needsTo s i)))) (kindPosition t (kindNumber e))
   kinds-are e =
       kind-kept (kept-less (omega arith) (third .kept)) (kindNumber e) (kind-low e)
-      ∙ ap (λ (l : List ℕ). kindFromOne l (kindNumber e)) hv
+      ∙ ap (λ (l : List ℕ). kindPosition l (kindNumber e)) hv
       ∙ kind-entered u (omega (arith, room, first .kept .long)) (kindBy f) p (kindNumber e) (kind-low e)
       ∙ rw (elem-is s t n i (x .line) e, ← hf, ← hp, kind-above first (kindNumber e))
 
@@ -196,7 +196,7 @@ module _ (s t : List ℕ) (n i needs keys : ℕ) (x : Collecting s t n i needs k
       let e : needsTo s i ≡ sheetSource s .needs = ap (needsTo s) z ∙ needs-all s t n (x .checked) in
       (x .count ∙ ap length e, rw e at (x .table), rw e at (x .kinds))
 
-pub collecting-start : (s t : List ℕ) (n : ℕ) → Checked s t n → ((k : ℕ) → k < 5 → kindFromOne t k ≡ 0) → Collecting s t n 0 0 0
+pub collecting-start : (s t : List ℕ) (n : ℕ) → Checked s t n → ((k : ℕ) → k < 5 → kindPosition t k ≡ 0) → Collecting s t n 0 0 0
 unfolding declaredTo
 collecting-start s t n c z = record {
   checked = c;

@@ -21,7 +21,7 @@ pub struct NeedCounts {
 }
 
 // Whether need q has the key of the `need` line i, whose text has the digest h.
-fn is_need(sheet: &[u8], work: &[u8], n: usize, i: usize, h: usize, q: usize) -> bool
+fn has_need_key(sheet: &[u8], work: &[u8], n: usize, i: usize, h: usize, q: usize) -> bool
     requires { ⌜ (NeedLine (now sheet) (now work) n i) × (h ≡ digest (textAt (now sheet) i)) × (NeedEntry (now sheet) (now work) n q) ⌝ }
     ensures { λ r. ⌜ r ≡ sameTypeKey (needAt (now (sheet .entry)) i) (needAt (now (sheet .entry)) (needLineOf (now (work .entry)) q)) ⌝ }
 {
@@ -39,7 +39,7 @@ fn position_for(sheet: &[u8], work: &[u8], n: usize, i: usize, h: usize, d: Need
 {
     let mut q = 0;
     while q < d.needs {
-        if is_need(sheet, work, n, i, h, q) {
+        if has_need_key(sheet, work, n, i, h, q) {
             return type_keys::need_position(work, q);
         }
         q += 1;
@@ -58,7 +58,7 @@ fn with_key(p: usize, keys: usize) -> usize
     keys
 }
 
-// Enters the `need` line i, with the position of its key.
+// Enters the `need` line i, with the position of its key: the Rust's `need_type`.
 fn collect_need(sheet: &[u8], work: &mut [u8], n: usize, i: usize, d: NeedCounts) -> NeedCounts
     requires { ⌜ NeedNext (now sheet) (now work) n i (d .needs) (d .keys) ⌝ }
     ensures { λ r. ⌜ (Collecting (now (sheet .entry)) (now (work .exit)) n (i + 1) (r .needs) (r .keys)) × (Outside 10240 11264 (now (work .entry)) (now (work .exit))) ⌝ }

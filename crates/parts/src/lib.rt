@@ -4,7 +4,7 @@ use data_rows::Next;
 use names::Known;
 use records::key::Log;
 use tables::Tables;
-use type_rows::Keys;
+use type_rows::KeyCounts;
 ghost use Rattle.write.specs.Wrote.{Wrote};
 ghost use Rattle.checks.specs.Checks.{Checked};
 ghost use Rattle.parts.specs.Parts.{Listable, declaredText, typesText};
@@ -52,7 +52,7 @@ pub fn put_types(
         lines: n,
         entries: x.records,
     };
-    let keys = Keys {
+    let keys = KeyCounts {
         needs: x.needs,
         keys: d.keys,
     };

@@ -1,15 +1,15 @@
 -- The digests of keys, entered one by one.
-use mathlib.Core.Path.{_≡_, refl, sym, ap, _∙_, subst}
+use mathlib.Core.Path.{_≡_, sym, ap, _∙_, subst}
 use mathlib.Core.Logic.{⊎-elim}
 use Prim.Native.Nat.{ℕ, _+_, _*_, _≤_, _<_}
 use native.Mathlib.Nat.{eq-or-lt-of-le}
 use native.Mathlib.Omega.{arith}
-use lib.ListN.{length, set, length-set}
-use lib.Seq.{getD-set-same, getD-set-other, take-set-le}
+use lib.ListN.{length, set}
+use lib.Seq.{getD-set-same, getD-set-other}
 use Rattle.semantics.specs.Text.{Bytes}
 use Rattle.words.specs.Words.{digest}
-use Rattle.checks.specs.Checks.{Kept}
-use Rattle.checks.proofs.Kept.{kept-all, kept-then, kept-less, checked-kept}
+use Rattle.checks.specs.Checks.{Outside}
+use Rattle.checks.proofs.Kept.{kept-less, outside-all, outside-then, outside-set, checked-kept}
 use Rattle.records.specs.Log.{byteOf, entryAt, recordOf, recordedAt, digestOf, Digested}
 use Rattle.record_log.specs.Entries.{CollectedTo}
 
@@ -38,8 +38,8 @@ module _ (t : Bytes) (i d : ℕ) (hi : i < 128) (room : 65536 ≤ length t) wher
   unfolding recordedAt
   recorded-old s j = ap (recordOf s) (entry-old j)
 
-  kept-new : Kept 9216 t new
-  kept-new = record { below = take-set-le 9216 t (9216 + (8 * i + 5)) d (omega arith); long = length-set t (9216 + (8 * i + 5)) d }
+  outside-new : Outside 9216 10240 t new
+  outside-new = outside-set 9216 10240 t (9216 + (8 * i + 5)) d (omega arith) (omega arith)
 
   module _ (s : Bytes) (n m : ℕ) (g : Digested s t n m i) (hm : i < m) (e : d ≡ digest (recordedAt s t i .key)) where
     digests-new : (j : ℕ) → j < i + 1 → digestOf new j ≡ digest (recordedAt s new j .key)
@@ -47,7 +47,7 @@ module _ (t : Bytes) (i d : ℕ) (hi : i < 128) (room : 65536 ≤ length t) wher
 
     digested-new : Digested s new n m (i + 1)
     digested-new =
-        let c = checked-kept (kept-less (omega arith) kept-new) (g .checked) in
+        let c = checked-kept (kept-less (omega arith) (outside-new .kept)) (g .checked) in
         record {
           checked = c;
           count = g .count;
@@ -58,7 +58,7 @@ module _ (t : Bytes) (i d : ℕ) (hi : i < 128) (room : 65536 ≤ length t) wher
         }
 
 pub digests-start : {s t : Bytes} {n m : ℕ} → Digested s t n m 0 → CollectedTo s t t n m 0
-digests-start g = record { log = g; kept = kept-all; above = λ j h. refl }
+digests-start g = record { log = g; outside = outside-all }
 
 pub digests-next : {s t u v : Bytes} {n m i d : ℕ} → CollectedTo s t u n m i → i < m → d ≡ digest (recordedAt s u i .key) → v ≡ set u (9216 + (8 * i + 5)) d → CollectedTo s t v n m (i + 1)
 digests-next {s} {t} {u} {n = n} {m} {i} {d} g h e q =
@@ -66,12 +66,11 @@ digests-next {s} {t} {u} {n = n} {m} {i} {d} g h e q =
     let low : i < 128 = omega (arith, g .log .few) in
     rw q (record {
       log = digested-new u i d low room s n m (g .log) h e;
-      kept = kept-then (g .kept) (kept-new u i d low room);
-      above = λ j l. getD-set-other u (9216 + (8 * i + 5)) j d 0 (λ z. omega arith) ∙ g .above j l;
+      outside = outside-then (g .outside) (outside-new u i d low room);
     })
 
 pub digests-end : {s t u : Bytes} {n m i : ℕ} → CollectedTo s t u n m i → i ≤ m → m ≤ i → CollectedTo s t u n m m
 digests-end {m = m} {i} g h k = let e : i ≡ m = omega arith in rw e at g
 
 pub collected-then : {s t u v : Bytes} {n m a b : ℕ} → CollectedTo s t u n m a → CollectedTo s u v n m b → CollectedTo s t v n m b
-collected-then x y = record { log = y .log; kept = kept-then (x .kept) (y .kept); above = λ j l. y .above j l ∙ x .above j l }
+collected-then x y = record { log = y .log; outside = outside-then (x .outside) (y .outside) }

@@ -17,9 +17,9 @@ use Rattle.laws.specs.Every.{Every}
 use Rattle.laws.proofs.Lists.{map-append}
 use Rattle.laws.proofs.Every.{every-append}
 use Rattle.lines.specs.Lines.{readAt}
-use Rattle.shapes.specs.Shapes.{firstDecl}
-use Rattle.shapes.specs.Shapes.{declAt, casesIn}
-use Rattle.records.specs.Log.{firstRecord, ownRecord, caseIn, variantRecord, recordOf, Sound}
+use Rattle.sizes.specs.Places.{firstDecl, declAt}
+use Rattle.shapes.specs.Shapes.{casesIn}
+use Rattle.records.specs.Log.{firstRecord, ownRecord, caseIn, variantRecord, recordOf, EntryInSheet}
 use Rattle.record_log.specs.Entries.{tagEntries, caseEntries, declEntries, lineEntries}
 
 -- ---- lists
@@ -89,7 +89,7 @@ log-length (d ∷ ds) = length-append (recordsOf d) (recordLog ds) ∙ rw (recor
 -- ---- every entry is sound
 
 module _ (s : Bytes) (n r : ℕ) (first : 0 < r) (last : r ≤ n) (kind : eqb (letter (readAt s (r - 1) .form .kind)) 65 || eqb (letter (readAt s (r - 1) .form .kind)) 66 ≡ true) where
-  tags-sound : (c : ℕ) → c < length (casesIn (declAt s r)) → (q p k : ℕ) → p + q ≤ length (caseIn (declAt s r) c .tags) → Every (Sound s n) (tagEntries r (suc c) p k q)
+  tags-sound : (c : ℕ) → c < length (casesIn (declAt s r)) → (q p k : ℕ) → p + q ≤ length (caseIn (declAt s r) c .tags) → Every (EntryInSheet s n) (tagEntries r (suc c) p k q)
   tags-sound c h zero p k l = tt
   tags-sound c h (suc q) p k l =
       (record { first = first; last = last; kind = kind; case = λ x e. here x (omega (arith, e)); tag = λ x e. there x (omega (arith, e)) }, tags-sound c h q (suc p) (suc k) (omega arith))
@@ -100,13 +100,13 @@ module _ (s : Bytes) (n r : ℕ) (first : 0 < r) (last : r ≤ n) (kind : eqb (l
       there : (x : ℕ) → c ≡ x → p < length (caseIn (declAt s r) x .tags)
       there x e = rw (← e) (omega arith)
 
-  cases-sound : (ks : List Case) (c k : ℕ) → drop c (casesIn (declAt s r)) ≡ ks → Every (Sound s n) (caseEntries r c k ks)
+  cases-sound : (ks : List Case) (c k : ℕ) → drop c (casesIn (declAt s r)) ≡ ks → Every (EntryInSheet s n) (caseEntries r c k ks)
   cases-sound [] c k h = tt
   cases-sound (x ∷ xs) c k h =
       let e : caseIn (declAt s r) c ≡ x = head-of noCase c (casesIn (declAt s r)) x xs h in
-      every-append (Sound s n) (tagEntries r (suc c) 0 k (length (x .tags))) (caseEntries r (suc c) (k + length (x .tags)) xs) (tags-sound c (longer c (casesIn (declAt s r)) x xs h) (length (x .tags)) 0 k (rw e (omega arith))) (cases-sound xs (suc c) (k + length (x .tags)) (tail-of c (casesIn (declAt s r)) x xs h))
+      every-append (EntryInSheet s n) (tagEntries r (suc c) 0 k (length (x .tags))) (caseEntries r (suc c) (k + length (x .tags)) xs) (tags-sound c (longer c (casesIn (declAt s r)) x xs h) (length (x .tags)) 0 k (rw e (omega arith))) (cases-sound xs (suc c) (k + length (x .tags)) (tail-of c (casesIn (declAt s r)) x xs h))
 
-  pub line-sound : (ds : List AdtDecl) → firstDecl ds ≡ declAt s r → Every (Sound s n) (lineEntries r ds)
+  pub line-sound : (ds : List AdtDecl) → firstDecl ds ≡ declAt s r → Every (EntryInSheet s n) (lineEntries r ds)
   line-sound [] e = tt
   line-sound (d ∷ ds) e =
       (record { first = first; last = last; kind = kind; case = λ c q. absurd (omega (arith, q)); tag = λ c q. absurd (omega (arith, q)) }, cases-sound (casesIn d) 0 0 (ap casesIn (sym e)))

@@ -26,14 +26,15 @@ use Rattle.checks.specs.Checks.{Checked}
 use Rattle.checks.proofs.Kept.{checked-kept, kind-line-kept}
 use Rattle.source.specs.Walk.{declaresAt, declaredTo}
 use Rattle.source.proofs.Walk.{located-all, located-its, declared-all, source-of}
-use Rattle.shapes.specs.Shapes.{declAt, casesIn}
-use Rattle.records.specs.Log.{caseIn, Entry, recordOf, entryAt, recordedAt, logOf, noRecord, Sound}
+use Rattle.shapes.specs.Shapes.{casesIn}
+use Rattle.records.specs.Log.{caseIn, Entry, recordOf, entryAt, recordedAt, logOf, noRecord, EntryInSheet}
 use Rattle.record_log.specs.Entries.{entryBytes, tagEntries, caseEntries, lineEntries, entriesOf, entriesTo, logBytes, CollectedTo}
 use Rattle.records.specs.Lines.{caseAt}
 use Rattle.records.proofs.Keys.{default-same}
-use Rattle.shapes.specs.Shapes.{firstDecl, PickLine, CaseOf}
+use Rattle.sizes.specs.Places.{declAt, firstDecl}
+use Rattle.shapes.specs.Shapes.{PickLine, CaseOf}
 use Rattle.record_log.proofs.Lists.{line-log, log-length, line-sound}
-use Rattle.record_log.proofs.Table.{wrote-kept, wrote-above, log-append, log-bytes, entry-back}
+use Rattle.record_log.proofs.Table.{wrote-kept, wrote-outside, log-append, log-bytes, entry-back}
 use Rattle.records.proofs.Picks.{adt-decl, pick-decl, no-decl, case-is}
 
 -- ---- a place stays within one past the end
@@ -160,13 +161,13 @@ module _ (s t : Bytes) (n : ℕ) (c : Checked s t n) where
       map-append (recordOf s) (entriesTo (nodesIn s) i) (lineEntries (suc i) ds)
       ∙ rw (lines-log i (omega arith), line-log s (suc i) ds (first-is i) one) (sym (concat-append recordsOf (declaredTo (λ (d : Declares). d .adts) (nodesIn s) i) ds))
 
-  lines-sound : (i : ℕ) → i ≤ n → Every (Sound s n) (entriesTo (nodesIn s) i)
+  lines-sound : (i : ℕ) → i ≤ n → Every (EntryInSheet s n) (entriesTo (nodesIn s) i)
   unfolding entriesTo
   lines-sound zero h = tt
   lines-sound (suc i) h =
       let z : suc i - 1 ≡ i = omega arith in
-      every-append (Sound s n) (entriesTo (nodesIn s) i) (lineEntries (suc i) (declaresAt (nodesIn s) i .adts)) (lines-sound i (omega arith))
-      (by-form (λ (l : List AdtDecl). firstDecl l ≡ declAt s (suc i) → Every (Sound s n) (lineEntries (suc i) l)) i (omega arith)
+      every-append (EntryInSheet s n) (entriesTo (nodesIn s) i) (lineEntries (suc i) (declaresAt (nodesIn s) i .adts)) (lines-sound i (omega arith))
+      (by-form (λ (l : List AdtDecl). firstDecl l ≡ declAt s (suc i) → Every (EntryInSheet s n) (lineEntries (suc i) l)) i (omega arith)
       (λ d k e. line-sound s n (suc i) (omega arith) h (rw z k) (d ∷ []) e) (λ e. tt) (first-is i))
 
   log-is : logOf s ≡ recordLog (declaredTo (λ (d : Declares). d .adts) (nodesIn s) n)
@@ -221,10 +222,9 @@ module _ (s d : Bytes) (n : ℕ) (c : Checked s d n) (e : Bytes) (b : ℕ) (w : 
           few = omega (arith, length-es .1);
           each = λ i l. record-back i (omega arith);
           digests = λ i l. absurd (omega arith);
-          entries = λ i l. record { checked = checked-now; low = omega (arith, length-es .1); sound = rw (back i (omega arith)) (every-at (Sound s n) (entriesTo (nodesIn s) n) (lines-sound s d n c n (omega arith)) noEntry i (omega (arith, length-es .0))) };
+          entries = λ i l. record { checked = checked-now; low = omega (arith, length-es .1); sound = rw (back i (omega arith)) (every-at (EntryInSheet s n) (entriesTo (nodesIn s) n) (lines-sound s d n c n (omega arith)) noEntry i (omega (arith, length-es .0))) };
         };
-        kept = wrote-kept w 9216 (omega arith);
-        above = λ j l. wrote-above w j (omega (arith, log-bytes (entriesTo (nodesIn s) n), length-es .0, length-es .1));
+        outside = wrote-outside w 10240 (omega (arith, log-bytes (entriesTo (nodesIn s) n), length-es .0, length-es .1));
       }
 
 pub entries-end : (s d : Bytes) (n : ℕ) → Checked s d n → (r : ℕ) → r ≤ n → n ≤ r → (e : Bytes) (b : ℕ) → Wrote d 9216 (logBytes (entriesTo (nodesIn s) r)) e b → (m : ℕ) → m ≡ (b - 9216) / 8 → CollectedTo s d e n m 0

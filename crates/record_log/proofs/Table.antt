@@ -5,11 +5,11 @@ use Prim.Native.Nat.{ℕ, zero, suc, _+_, _*_, _-_, _≤_, _<_}
 use native.Mathlib.Nat.{div-add-mod'}
 use native.Mathlib.Omega.{arith}
 use lib.ListN.{length, drop, take, getD, set, List·getD-append}
-use lib.Seq.{getD-append-add, getD-set-other, take-set-le, sets-eq, length-take-le}
+use lib.Seq.{getD-append-add, drop-set-lt, take-set-le, sets-eq, length-take-le}
 use Rattle.semantics.specs.Text.{Bytes}
 use Rattle.write.specs.Wrote.{over, Wrote}
 use Rattle.write.proofs.Wrote.{wrote-length, wrote-none, then, wrote-as}
-use Rattle.checks.specs.Checks.{Kept}
+use Rattle.checks.specs.Checks.{Kept, Outside}
 use Rattle.records.specs.Log.{Entry, byteOf, entryAt}
 use Rattle.record_log.specs.Entries.{entryBytes, bytesOf, tagEntries, logBytes}
 
@@ -20,10 +20,10 @@ unfolding over
 over-below [] d a k h = refl
 over-below (x ∷ t) d a k h = over-below t (set d a x) (suc a) k (omega arith) ∙ take-set-le k d a x h
 
-over-above : (t d : Bytes) (a j : ℕ) → a + length t ≤ j → getD (over d a t) j 0 ≡ getD d j 0
+over-above : (t d : Bytes) (a j : ℕ) → a + length t ≤ j → drop j (over d a t) ≡ drop j d
 unfolding over
 over-above [] d a j h = refl
-over-above (x ∷ t) d a j h = over-above t (set d a x) (suc a) j (omega arith) ∙ getD-set-other d a j x 0 (λ e. omega (arith, e))
+over-above (x ∷ t) d a j h = over-above t (set d a x) (suc a) j (omega arith) ∙ drop-set-lt j d a x (omega arith)
 
 over-at : (t d : Bytes) (a k : ℕ) → k < length t → a + length t ≤ length d → getD (over d a t) (a + k) 0 ≡ getD t k 0
 unfolding over
@@ -36,8 +36,8 @@ over-at t d a k h l =
 pub wrote-kept : {d : Bytes} {a : ℕ} {t e : Bytes} {b : ℕ} → Wrote d a t e b → (k : ℕ) → k ≤ a → Kept k d e
 wrote-kept {d} {a} {t} w k h = record { below = ap (take k) (w .bytes) ∙ over-below t d a k h; long = wrote-length w }
 
-pub wrote-above : {d : Bytes} {a : ℕ} {t e : Bytes} {b : ℕ} → Wrote d a t e b → (j : ℕ) → a + length t ≤ j → getD e j 0 ≡ getD d j 0
-wrote-above {d} {a} {t} w j h = ap (λ (m : Bytes). getD m j 0) (w .bytes) ∙ over-above t d a j h
+pub wrote-outside : {d : Bytes} {a : ℕ} {t e : Bytes} {b : ℕ} → Wrote d a t e b → (j : ℕ) → a + length t ≤ j → Outside a j d e
+wrote-outside {d} {a} {t} w j h = record { kept = wrote-kept w a (omega arith); above = ap (drop j) (w .bytes) ∙ over-above t d a j h }
 
 wrote-at : {d : Bytes} {a : ℕ} {t e : Bytes} {b : ℕ} → Wrote d a t e b → a + length t ≤ length d → (k : ℕ) → k < length t → getD e (a + k) 0 ≡ getD t k 0
 wrote-at {d} {a} {t} w l k h = ap (λ (m : Bytes). getD m (a + k) 0) (w .bytes) ∙ over-at t d a k h l

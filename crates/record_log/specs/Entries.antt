@@ -1,13 +1,12 @@
 -- The entries of a sheet's records in their order, as bytes, and what making the log leaves.
-use Prim.Native.Nat.{ℕ, zero, suc, _+_, _/_, _%_, _-_, _≤_}
-use mathlib.Core.Path.{_≡_}
+use Prim.Native.Nat.{ℕ, zero, suc, _+_, _/_, _%_, _-_}
 use mathlib.Core.List.{List, [], _∷_, _++_}
-use lib.ListN.{length, getD}
+use lib.ListN.{length}
 use Rattle.semantics.specs.Text.{Bytes}
 use Rattle.semantics.specs.Tree.{AdtDecl, Case, Node}
 use Rattle.semantics.specs.Sheet.{concatMap}
 use Rattle.lines.specs.Lines.{nodesIn}
-use Rattle.checks.specs.Checks.{Kept}
+use Rattle.checks.specs.Checks.{Outside}
 use Rattle.source.specs.Walk.{declaresAt}
 use Rattle.shapes.specs.Shapes.{casesIn}
 use Rattle.records.specs.Log.{Entry, Digested}
@@ -57,8 +56,7 @@ logBytes es = concatMap bytesOf es
 -- t has become u, which holds the log of m records, d of them with the digests of their keys; what stands around it is kept
 pub record CollectedTo (s t u : Bytes) (n m d : ℕ) : Type 0 where
   pub log : Digested s u n m d
-  pub kept : Kept 9216 t u
-  pub above : (j : ℕ) → 10240 ≤ j → getD u j 0 ≡ getD t j 0
+  pub outside : Outside 9216 10240 t u
 
 abbrev pub RecordsCollected : Bytes → Bytes → Bytes → ℕ → ℕ → Type 0
 RecordsCollected s t u n m = CollectedTo s t u n m m

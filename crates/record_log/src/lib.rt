@@ -6,7 +6,8 @@ ghost use Prim.Native.Nat.{_+_, _*_, _≤_, _<_};
 ghost use lib.ListN.{length, set};
 ghost use Rattle.write.specs.Wrote.{Wrote};
 ghost use Rattle.checks.specs.Checks.{Checked};
-ghost use Rattle.shapes.specs.Shapes.{declAt, casesIn, PickLine};
+ghost use Rattle.sizes.specs.Places.{declAt};
+ghost use Rattle.shapes.specs.Shapes.{casesIn, PickLine};
 ghost use Rattle.records.specs.Log.{Digested};
 ghost use Rattle.record_log.specs.Entries.{entryBytes, tagEntries, caseEntries, entriesOf, logBytes, CollectedTo, RecordsCollected};
 

@@ -8,7 +8,7 @@ use native.Mathlib.Omega.{arith}
 use lib.ListN.{drop, take}
 use lib.IntN.{negsuc}
 use Rattle.semantics.specs.Text.{Bytes, bytes, decimal, decimalℤ, hexOf}
-use Rattle.semantics.specs.Tree.{AdtDecl, Case, Shape, Fd}
+use Rattle.semantics.specs.Tree.{AdtDecl, Case, Shape}
 use Rattle.semantics.specs.Sheet.{concatMap}
 use Rattle.semantics.specs.Layout.{Recorded, place, recordsFor, variantFields, mapOf}
 use Rattle.semantics.specs.Listing.{row, recordRows, fieldRow}
@@ -16,11 +16,10 @@ use Rattle.write.specs.Wrote.{Wrote}
 use Rattle.write.proofs.Wrote.{then}
 use Rattle.layout.proofs.Bounds.{Sized}
 use Rattle.lines.specs.Lines.{formAt}
-use Rattle.sizes.specs.Places.{commonFields, caseFields, RecordLine}
+use Rattle.sizes.specs.Places.{commonFields, caseFields, RecordLine, firstDecl, declAt}
 use Rattle.sizes.proofs.Records.{checked-records-bound}
 use Rattle.maps.specs.Maps.{mapIn, mapLength, Mapped, MapRoom}
-use Rattle.shapes.proofs.Cases.{fields-are}
-use Rattle.shapes.specs.Shapes.{firstDecl, declAt, firstShape, shapeAt, casesIn, casesAt, variantAt, VariantLine, CaseOf}
+use Rattle.shapes.specs.Shapes.{firstShape, shapeAt, casesIn, casesAt, variantAt, VariantLine, CaseOf}
 use Rattle.records.specs.Log.{firstRecord, ownRecord, caseIn, variantRecord, recordIn, entryAt, recordedAt, nameOf, tagOf, logOf, noRecord, EntryIn, RecordsLogged, LogEntry}
 use Rattle.records.specs.Lines.{caseAt}
 use Rattle.records.proofs.Picks.{adt-decl, pick-decl, record-form, case-is}
@@ -47,9 +46,6 @@ own-shape s r = go (declAt s r .pick)
     go : (o : Option (List Case)) → firstRecord (recordsFor (declAt s r .name) (declAt s r .fields) o) .shape ≡ firstShape (recordsFor (declAt s r .name) (declAt s r .fields) o)
     go none = refl
     go (some ks) = refl
-
-same-fields : (s : Bytes) (r : ℕ) → declAt s r .fields ≡ commonFields s r
-same-fields s r = sym (fields-are s r)
 
 own-fields-none : (d : AdtDecl) → d .pick ≡ none → ownRecord d .fields ≡ place 0 (d .fields) .placed
 unfolding ownRecord
@@ -143,7 +139,7 @@ module _ (s t : Bytes) (n i : ℕ) (l : EntryIn s t n i) {r : ℕ} (hr : r ≡ e
       let p : declAt s r .pick ≡ none = ap (λ (ds : List AdtDecl). firstDecl ds .pick) q in
       let z : casesIn (declAt s r) ≡ [] = ap (λ (ds : List AdtDecl). casesIn (firstDecl ds)) q in
       let w : recordedAt s t i ≡ ownRecord (declAt s r) = plain-is s t i (case-none z) ∙ ap (λ (x : ℕ). ownRecord (declAt s x)) (sym hr) in
-      sym (ap (λ (x : Recorded). placedRows (x .fields)) w ∙ ap placedRows (own-fields-none (declAt s r) p) ∙ ap (λ (fs : List Fd). placedRows (place 0 fs .placed)) (same-fields s r))
+      sym (ap (λ (x : Recorded). placedRows (x .fields)) w ∙ ap placedRows (own-fields-none (declAt s r) p))
 
   module _ (a : formAt t (r - 1) ≡ 26 → ⊥) where
     form-27 : formAt t (r - 1) ≡ 27
@@ -154,7 +150,7 @@ module _ (s t : Bytes) (n i : ℕ) (l : EntryIn s t n i) {r : ℕ} (hr : r ≡ e
     fields-plain hc e =
         let p = ap (λ (ds : List AdtDecl). firstDecl ds .pick) (pick-decl s t n (l .checked) (r - 1) r-in form-27) in
         let w : recordedAt s t i ≡ ownRecord (declAt s r) = plain-is s t i (sym hc ∙ e) ∙ ap (λ (x : ℕ). ownRecord (declAt s x)) (sym hr) in
-        sym (ap (λ (x : Recorded). placedRows (x .fields)) w ∙ ap placedRows (own-fields-some (declAt s r) _ p) ∙ ap (λ (fs : List Fd). placedRows (place 4 fs .placed)) (same-fields s r))
+        sym (ap (λ (x : Recorded). placedRows (x .fields)) w ∙ ap placedRows (own-fields-some (declAt s r) _ p))
 
   pub fields-variant : {c : ℕ} → c ≡ entryAt t i .case → (c ≡ 0 → ⊥) → (v : ℕ) → CaseOf s t n r (c - 1) v → {end : ℕ} → end ≡ place 4 (commonFields s r) .end
       → fieldRows 4 (commonFields s r) ++ fieldRows end (caseFields s v) ≡ placedRows (recordedAt s t i .fields)
@@ -162,7 +158,7 @@ module _ (s t : Bytes) (n i : ℕ) (l : EntryIn s t n i) {r : ℕ} (hr : r ≡ e
   fields-variant {c} hc e v x y =
       let k : caseFields s v ≡ caseIn (declAt s r) (c - 1) .fields = ap (λ (y : Case). y .fields) (case-is x) in
       let z : recordedAt s t i .fields ≡ variantFields (declAt s r .fields) (caseIn (declAt s r) (c - 1)) = ap (λ (m : Recorded). m .fields) (variant-is s t i (λ z. e (hc ∙ z))) ∙ rw (← hr, ← hc) in
-      sym (ap placedRows (z ∙ ap (λ (fs : List Fd). variantFields fs (caseIn (declAt s r) (c - 1))) (same-fields s r))
+      sym (ap placedRows z
       ∙ placed-append (place 4 (commonFields s r) .placed) (place (place 4 (commonFields s r) .end) (caseIn (declAt s r) (c - 1) .fields) .placed)
       ∙ rw (k, y))
 

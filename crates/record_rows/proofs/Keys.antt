@@ -15,7 +15,7 @@ use Rattle.semantics.specs.Listing.{recordRows}
 use Rattle.laws.proofs.Tests.{same-refl}
 use Rattle.laws.proofs.Lists.{any-append, last-append}
 use Rattle.write.specs.Wrote.{Wrote}
-use Rattle.write.proofs.Wrote.{wrote-none, wrote-as, then}
+use Rattle.write.proofs.Wrote.{wrote-as, then}
 use Rattle.checks.specs.Checks.{Kept}
 use Rattle.checks.proofs.Kept.{kept-all, kept-then, kept-less}
 use Rattle.records.specs.Log.{recordedAt, logOf, noRecord, RecordsLogged, LogEntry, NewestOf}
@@ -72,9 +72,9 @@ pub record Keying (s : Bytes) (m : ℕ) (d : Bytes) (a : ℕ) (e : Bytes) (b : �
   pub rest : done ++ concatMap recordRows (recordsByKey before (drop i (logOf s))) ≡ allRows s
 
 module _ (s t : Bytes) (n m : ℕ) (g : RecordsLogged s t n m) (d : Bytes) (a : ℕ) where
-  pub keying-start : a ≤ length d + 1 → Keying s m d a d a t t 0
+  pub keying-start : {b : ℕ} → Wrote d a [] d b → Keying s m d a d b t t 0
   unfolding allRows records logOf
-  keying-start h = record { within = omega arith; done = []; wrote = wrote-none d a h; kept = kept-all; before = []; met = λ k. refl; rest = refl }
+  keying-start h = record { within = omega arith; done = []; wrote = h; kept = kept-all; before = []; met = λ k. refl; rest = refl }
 
   module _ (e : Bytes) (b : ℕ) (u : Bytes) (i : ℕ) (w : Keying s m d a e b t u i) where
     pub log-now : RecordsLogged s u n m

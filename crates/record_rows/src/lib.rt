@@ -14,7 +14,7 @@ use records::key::tag_of;
 use shapes::TAG_BYTES;
 ghost use mathlib.Core.Path.{_≡_};
 ghost use mathlib.Core.List.{_∷_};
-ghost use Prim.Native.Nat.{_+_, _≤_, _<_};
+ghost use Prim.Native.Nat.{_≤_, _<_};
 ghost use lib.ListN.{length};
 ghost use Rattle.semantics.specs.Listing.{recordRows};
 ghost use Rattle.write.specs.Wrote.{Wrote};
@@ -100,7 +100,7 @@ fn put_shape(sheet: &[u8], work: &mut [u8], n: usize, i: usize, out: &mut [u8], 
 
 // The rows of the fields: T's are the common ones, a variant's the common ones and then its own.
 fn put_fields(sheet: &[u8], work: &[u8], n: usize, i: usize, out: &mut [u8], at: usize) -> usize
-    requires { ⌜ (EntryIn (now sheet) (now work) n i) × (at ≤ length (now out) + 1) ⌝ }
+    requires { ⌜ EntryIn (now sheet) (now work) n i ⌝ }
     ensures { λ p. ⌜ Wrote (now (out .entry)) at (placedRows (recordedAt (now (sheet .entry)) (now (work .entry)) i .fields)) (now (out .exit)) p ⌝ }
 {
     let r = line_of(work, i);
@@ -131,22 +131,22 @@ fn put_record(sheet: &[u8], work: &mut [u8], n: usize, i: usize, out: &mut [u8],
 
 // The rows of entry i's key, where entry i is the first of that key: those of its newest entry.
 fn put_newest(sheet: &[u8], work: &mut [u8], c: Log, i: usize, out: &mut [u8], at: usize) -> usize
-    requires { ⌜ (RecordsLogged (now sheet) (now work) (c .lines) (c .entries)) × (i < c .entries) × (at ≤ length (now out) + 1) ⌝ }
+    requires { ⌜ (RecordsLogged (now sheet) (now work) (c .lines) (c .entries)) × (i < c .entries) ⌝ }
     ensures { λ p. ⌜ Printed (now (out .entry)) at (keyRows (now (sheet .entry)) i) (now (out .exit)) p (now (work .entry)) (now (work .exit)) ⌝ }
 {
     if is_first(sheet, work, c.lines, i) {
         let j = newest_of(sheet, work, c, i);
         return put_record(sheet, work, c.lines, j, out, at);
     }
-    at
+    write::nothing(out, at)
 }
 
 // The rows of all records: each key once, where it was first recorded.
 pub fn record_rows(sheet: &[u8], work: &mut [u8], c: Log, out: &mut [u8], at: usize) -> usize
-    requires { ⌜ (RecordsLogged (now sheet) (now work) (c .lines) (c .entries)) × (at ≤ length (now out) + 1) ⌝ }
+    requires { ⌜ RecordsLogged (now sheet) (now work) (c .lines) (c .entries) ⌝ }
     ensures { λ p. ⌜ Printed (now (out .entry)) at (allRows (now (sheet .entry))) (now (out .exit)) p (now (work .entry)) (now (work .exit)) ⌝ }
 {
-    let mut p = at;
+    let mut p = write::nothing(out, at);
     let mut i = 0;
     while i < c.entries {
         p = put_newest(sheet, work, c, i, out, p);

@@ -6,19 +6,19 @@ use mathlib.Core.Option.{Option, none, some}
 use Prim.Native.Nat.{ℕ, zero, suc, _+_, _-_, _≤_, _<_}
 use native.Mathlib.Numerals.{add-one}
 use native.Mathlib.Omega.{arith}
-use lib.Dec.{eqb, leb}
+use lib.Dec.{eqb, leb, ltb}
 use lib.ListN.{length, drop, take, getD, length-append, length-drop, drop-of-length-le}
 use lib.Seq.{drop-cons, take-suc, take-all, getD-take, length-take-le}
-use borrow.Author.Tests.{eqb-true, eqb-false, eq-eqb, ne-eqb}
+use borrow.Author.Tests.{eqb-true, eqb-false, eq-eqb, ne-eqb, ltb-true, ltb-false}
 use Rattle.semantics.specs.Text.{Bytes, same, all, isName, isLetter, isDigit}
 use Rattle.semantics.specs.Tree.{AdtDecl, Case}
 use Rattle.semantics.specs.Layout.{Recorded, recordsFor, lastOf, seen}
 use Rattle.semantics.proofs.Common.{never, both}
 use Rattle.laws.proofs.Lists.{last-append}
 use Rattle.words.proofs.Laws.{same-length}
-use Rattle.sizes.specs.Places.{RecordLine}
-use Rattle.shapes.specs.Shapes.{declAt, casesIn}
-use Rattle.records.specs.Log.{firstRecord, ownRecord, caseIn, variantRecord, recordIn, entryAt, recordedAt, nameOf, tagOf, logOf, noRecord, EntryIn, RecordsLogged, Newest}
+use Rattle.sizes.specs.Places.{RecordLine, declAt}
+use Rattle.shapes.specs.Shapes.{casesIn}
+use Rattle.records.specs.Log.{firstRecord, ownRecord, caseIn, variantRecord, recordIn, entryAt, recordedAt, nameOf, tagOf, logOf, noRecord, EntryIn, RecordsLogged, Newest, NewestOf}
 use Rattle.records.specs.Lines.{caseAt}
 use Rattle.shapes.specs.Shapes.{VariantLine, CaseOf}
 use Rattle.records.proofs.Picks.{name-good, pick-line, variant-line, case-is}
@@ -229,31 +229,48 @@ default-same [] i x y h = absurd (omega arith)
 default-same (r ∷ l) zero x y h = refl
 default-same (r ∷ l) (suc i) x y h = default-same l i x y (omega arith)
 
--- the first i records hold the last of key k
-abbrev pub Deciding : Bytes → Bytes → ℕ → Type 0
-Deciding s k i = (d : Recorded) → lastOf k d (logOf s) ≡ lastOf k d (take i (logOf s))
+-- of m records the first i hold the last of key k
+pub record Deciding (s t k : Bytes) (m i : ℕ) : Type 0 where
+  pub last : (d : Recorded) → lastOf k d (logOf s) ≡ lastOf k d (take i (logOf s))
+  pub later : (l : ℕ) → i ≤ l → l < m → same k (recordedAt s t l .key) ≡ false
 
 module _ (s t : Bytes) (n m : ℕ) (g : RecordsLogged s t n m) (k : Bytes) where
-  pub deciding-start : Deciding s k m
-  deciding-start d = rw (take-all m (logOf s) (omega (arith, g .count)))
+  pub deciding-start : Deciding s t k m m
+  deciding-start = record { last = λ d. rw (take-all m (logOf s) (omega (arith, g .count))); later = λ l a b. absurd (omega arith) }
 
   module _ (i : ℕ) (h : i < m) where
     step : (d : Recorded) → lastOf k d (take (suc i) (logOf s)) ≡ cond (same k (recordedAt s t i .key)) (recordedAt s t i) (lastOf k d (take i (logOf s)))
     step d = rw (take-suc (logOf s) i noRecord (omega (arith, g .count)), g .each i h) (last-append k d (take i (logOf s)) (getD (logOf s) i noRecord ∷ []))
 
-    pub deciding-next : {b : Bool} → Deciding s k (suc i) → b ≡ same k (recordedAt s t i .key) → b ≡ false → Deciding s k i
-    deciding-next w e q d = w d ∙ step d ∙ rw (sym e ∙ q)
+    pub deciding-next : {b : Bool} → Deciding s t k m (suc i) → b ≡ same k (recordedAt s t i .key) → b ≡ false → Deciding s t k m i
+    deciding-next w e q = record { last = λ d. w .last d ∙ step d ∙ rw (sym e ∙ q); later = λ l a b. from l (ltb i l) refl a b }
+      where
+        from : (l : ℕ) (x : Bool) → ltb i l ≡ x → i ≤ l → l < m → same k (recordedAt s t l .key) ≡ false
+        from l true y a b = w .later l (omega (arith, ltb-true i l y)) b
+        from l false y a b = let z : l ≡ i = omega (arith, ltb-false i l y) in rw z (sym e ∙ q)
 
-    pub deciding-found : {b : Bool} → Deciding s k (suc i) → b ≡ same k (recordedAt s t i .key) → b ≡ true → (d : Recorded) → lastOf k d (logOf s) ≡ recordedAt s t i
-    deciding-found w e q d = w d ∙ step d ∙ rw (sym e ∙ q)
+    pub deciding-found : {b : Bool} → Deciding s t k m (suc i) → b ≡ same k (recordedAt s t i .key) → b ≡ true → (d : Recorded) → lastOf k d (logOf s) ≡ recordedAt s t i
+    deciding-found w e q d = w .last d ∙ step d ∙ rw (sym e ∙ q)
 
-  pub newest-none : Deciding s k 0 → Newest s k 0
-  newest-none w = record { low = omega arith; last = λ d. w d }
+  none-later : {i : ℕ} → Deciding s t k m i → (l : ℕ) → i ≤ l → l < length (logOf s) → same k (getD (logOf s) l noRecord .key) ≡ false
+  none-later w l a b = let h : l < m = omega (arith, g .count) in rw (← g .each l h) (w .later l a h)
 
-  pub newest-found : (i j : ℕ) → i < m → j ≡ suc i → ((d : Recorded) → lastOf k d (logOf s) ≡ recordedAt s t i) → Newest s k j
-  newest-found i j h e w = record {
+  pub newest-none : Deciding s t k m 0 → Newest s k 0
+  newest-none w = record { low = omega arith; last = w .last; later = none-later w }
+
+  pub newest-found : (i j : ℕ) → i < m → j ≡ suc i → {b : Bool} → Deciding s t k m (suc i) → b ≡ same k (recordedAt s t i .key) → b ≡ true → Newest s k j
+  newest-found i j h e w f q = record {
     low = omega (arith, g .count);
-    last = λ d. w d ∙ g .each i h ∙ default-same (logOf s) i noRecord d (omega (arith, g .count)) ∙ rw e;
+    last = λ d. deciding-found i h w f q d ∙ g .each i h ∙ default-same (logOf s) i noRecord d (omega (arith, g .count)) ∙ rw e;
+    later = λ l a b. none-later w l (omega (arith, e, a)) b;
+  }
+
+  -- the last of an entry's own key
+  pub newest-of-found : (i : ℕ) → k ≡ recordedAt s t i .key → (j : ℕ) → j < m → {b : Bool} → Deciding s t k m (suc j) → b ≡ same k (recordedAt s t j .key) → b ≡ true → NewestOf s t m i j
+  newest-of-found i e j h w f q = record {
+    low = h;
+    last = rw e at (deciding-found j h w f q);
+    later = λ l a b. rw (← e) (w .later l (omega arith) b);
   }
 
   module _ (i j : ℕ) (l : i < m) (h : j < i) where

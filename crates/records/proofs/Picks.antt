@@ -26,13 +26,13 @@ use Rattle.refs.proofs.Fields.{count-exact, head-drop, tail-drop, values-length
 use Rattle.checks.specs.Checks.{Checked}
 use Rattle.source.specs.Walk.{declaresAt, byKind}
 use Rattle.source.proofs.Declares.{line-declares}
-use Rattle.sizes.specs.Places.{RecordLine, CaseLine}
+use Rattle.sizes.specs.Places.{RecordLine, CaseLine, declAt, firstDecl}
 use Rattle.sizes.proofs.Forms.{adt-form, pick-form}
 use Rattle.sizes.proofs.Places.{case-in, form-pc, case-good}
-use Rattle.shapes.specs.Shapes.{declAt, casesIn}
+use Rattle.shapes.specs.Shapes.{casesIn}
 use Rattle.records.specs.Log.{caseIn}
 use Rattle.records.specs.Lines.{caseAt}
-use Rattle.shapes.specs.Shapes.{firstDecl, casesAt, PickLine, VariantLine, CaseOf}
+use Rattle.shapes.specs.Shapes.{casesAt, PickLine, VariantLine, CaseOf}
 
 -- ---- what line i declares, from 0
 

@@ -2,21 +2,19 @@
 -- its key.
 use Prim.Native.Nat.{ℕ, zero, suc, _+_, _*_, _-_, _≤_, _<_}
 use mathlib.Core.Path.{_≡_}
-use mathlib.Core.Bool.{true, _||_}
+use mathlib.Core.Bool.{true, false}
 use mathlib.Core.List.{List, [], _∷_, _++_}
-use lib.Dec.{eqb}
 use lib.IntN.{pos}
 use lib.ListN.{length, getD}
-use Rattle.semantics.specs.Text.{Bytes}
+use Rattle.semantics.specs.Text.{Bytes, same}
 use Rattle.semantics.specs.Tree.{AdtDecl, Case, noCase}
-use Rattle.semantics.specs.Form.{letter}
 use Rattle.semantics.specs.Sheet.{sheetSource}
 use Rattle.semantics.specs.Layout.{Recorded, recordsOf, recordedAdts, recordLog, lastOf, variantShape, variantFields}
 use Rattle.semantics.specs.Types.{unknown}
 use Rattle.words.specs.Words.{digest}
-use Rattle.lines.specs.Lines.{readAt}
 use Rattle.checks.specs.Checks.{Checked}
-use Rattle.shapes.specs.Shapes.{declAt, casesIn}
+use Rattle.sizes.specs.Places.{declAt, isRecord}
+use Rattle.shapes.specs.Shapes.{casesIn}
 
 -- ---- the records of a declaration
 
@@ -89,10 +87,10 @@ abbrev pub noRecord : Recorded
 noRecord = unknown []
 
 -- an entry names a line of records, and where it names a case and a tag, these are there
-pub record Sound (s : Bytes) (n : ℕ) (e : Entry) : Type 0 where
+pub record EntryInSheet (s : Bytes) (n : ℕ) (e : Entry) : Type 0 where
   pub first : 0 < e .line
   pub last : e .line ≤ n
-  pub kind : eqb (letter (readAt s (e .line - 1) .form .kind)) 65 || eqb (letter (readAt s (e .line - 1) .form .kind)) 66 ≡ true
+  pub kind : isRecord s (e .line) ≡ true
   pub case : (c : ℕ) → e .case ≡ suc c → c < length (casesIn (declAt s (e .line)))
   pub tag : (c : ℕ) → e .case ≡ suc c → e .position < length (caseIn (declAt s (e .line)) c .tags)
 
@@ -100,7 +98,7 @@ pub record Sound (s : Bytes) (n : ℕ) (e : Entry) : Type 0 where
 pub record EntryIn (s t : Bytes) (n i : ℕ) : Type 0 where
   pub checked : Checked s t n
   pub low : i < 128
-  pub sound : Sound s n (entryAt t i)
+  pub sound : EntryInSheet s n (entryAt t i)
 
 -- the log of all records, of which there are m: the first d entries hold the digests of their keys
 pub record Digested (s t : Bytes) (n m d : ℕ) : Type 0 where
@@ -128,12 +126,14 @@ abbrev pub chosen : List Recorded → ℕ → Recorded → Recorded
 chosen rs zero d = d
 chosen rs (suc i) d = getD rs i d
 
--- j stands for the last record of key k
+-- j stands for the last record of key k: no later one has it
 pub record Newest (s : Bytes) (k : Bytes) (j : ℕ) : Type 0 where
   pub low : j ≤ length (logOf s)
   pub last : (d : Recorded) → lastOf k d (logOf s) ≡ chosen (logOf s) j d
+  pub later : (i : ℕ) → j ≤ i → i < length (logOf s) → same k (getD (logOf s) i noRecord .key) ≡ false
 
--- record j is the last with the key of record i
+-- record j, of m, is the last with the key of record i
 pub record NewestOf (s t : Bytes) (m i j : ℕ) : Type 0 where
   pub low : j < m
   pub last : (d : Recorded) → lastOf (recordedAt s t i .key) d (logOf s) ≡ recordedAt s t j
+  pub later : (l : ℕ) → j < l → l < m → same (recordedAt s t i .key) (recordedAt s t l .key) ≡ false

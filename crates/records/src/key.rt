@@ -125,9 +125,6 @@ fn key_is(sheet: &[u8], work: &[u8], n: usize, i: usize, key: &[u8], d: usize) -
     if case_of(work, i) == 0 {
         return words::same(key, name);
     }
-    if key.len() <= name.len() {
-        return false; // before the tag is looked for
-    }
     is_joined(key, name, tag_of(sheet, work, n, i))
 }
 

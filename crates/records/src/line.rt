@@ -3,8 +3,7 @@ ghost use mathlib.Core.Path.{_≡_};
 ghost use mathlib.Core.List.{[]};
 ghost use Prim.Native.Nat.{_≤_, _<_};
 ghost use lib.ListN.{length, getD};
-ghost use Rattle.sizes.specs.Places.{RecordLine, CaseLine};
-ghost use Rattle.shapes.specs.Shapes.{declAt};
+ghost use Rattle.sizes.specs.Places.{declAt, RecordLine, CaseLine};
 ghost use Rattle.records.specs.Lines.{caseAt};
 
 // T, of the `adt` or `pick` line r.

@@ -25,12 +25,12 @@ use Rattle.refs.specs.Refs.{fineRef, fineRefs}
 use Rattle.refs.proofs.Fine.{needed-ref}
 use Rattle.refs.proofs.Nodes.{node-at}
 use Rattle.checks.specs.Checks.{Checked}
-use Rattle.sizes.specs.Places.{ownFields, commonFields, RecordLine}
+use Rattle.sizes.specs.Places.{firstDecl, declAt, RecordLine}
 use Rattle.sizes.proofs.Forms.{adt-form, pick-form}
 use Rattle.refs.proofs.Fields.{number-exact, head-drop, tail-drop, count-number}
 use Rattle.sizes.proofs.Types.{Good, group-good}
 use Rattle.sizes.proofs.Places.{name-first, common-is}
-use Rattle.shapes.specs.Shapes.{firstDecl, declAt, casesIn, casesAt, PickLine, CaseOf}
+use Rattle.shapes.specs.Shapes.{casesIn, casesAt, PickLine, CaseOf}
 
 -- ---- a group of references, and what stands behind it
 
@@ -60,14 +60,6 @@ value-at f a ns zero fs j d h = absurd (omega arith)
 value-at f a ns (suc m) fs zero d h = rw (head-drop 0 fs)
 value-at f a ns (suc m) [] (suc j) d h = value-at f a ns m [] j d (omega arith)
 value-at f a ns (suc m) (g ∷ fs) (suc j) d h = value-at f a ns m fs j d (omega arith)
-
-own-fields : (ds : List AdtDecl) → ownFields ds ≡ firstDecl ds .fields
-own-fields [] = refl
-own-fields (d ∷ ds) = refl
-
-pub fields-are : (s : List ℕ) (r : ℕ) → commonFields s r ≡ declAt s r .fields
-unfolding declAt
-fields-are s r = own-fields (nodeAt (nodesIn s) r .declares .adts)
 
 -- ---- forms 26 and 27: `adt` and `pick`
 
@@ -174,7 +166,7 @@ module _ (s t : List ℕ) (n r : ℕ) (l : PickLine s t n r) where
 
     fields-length : length (declAt s r .fields) ≡ common
     fields-length =
-        ap length (sym (fields-are s r) ∙ common-is s t n r pick-record fields hf) ∙ group-length (λ (m : Node). m .fd) kFd (nodesIn s) fields (drop 2 parts) ∙ common-exact
+        ap length (common-is s t n r pick-record fields hf) ∙ group-length (λ (m : Node). m .fd) kFd (nodesIn s) fields (drop 2 parts) ∙ common-exact
 
     pub case-count : (k : ℕ) → k ≡ Number.numberUpTo 65536 (getD parts (fields + 2) []) → (k ≡ length (casesAt s r)) × (k ≤ 16)
     case-count k hk =

@@ -11,13 +11,12 @@ use Rattle.semantics.specs.Tree.{Fd, Case, Shape, noCase}
 use Rattle.semantics.specs.Sheet.{concatMap}
 use Rattle.semantics.specs.Layout.{marked, pointerMap, place, pointersOf, shapeOf, pickShape, behindTag, variantShape}
 use Rattle.lines.specs.Lines.{formAt}
-use Rattle.sizes.specs.Places.{commonFields, caseFields, RecordLine}
+use Rattle.sizes.specs.Places.{declAt, commonFields, caseFields, RecordLine}
 use Rattle.maps.specs.Maps.{Marks}
-use Rattle.shapes.specs.Shapes.{declAt, shapeAt, casesAt, variantAt, PickLine, CaseOf}
+use Rattle.shapes.specs.Shapes.{shapeAt, casesAt, variantAt, PickLine, CaseOf}
 use Rattle.marks.specs.Fields.{AllMarked}
 use Rattle.maps.proofs.Bits.{marked-append, map-same}
 use Rattle.maps.proofs.Maps.{marks-none, marks-then, marks-same}
-use Rattle.shapes.proofs.Cases.{fields-are}
 use Rattle.shapes.proofs.Sizes.{adt-shape, pick-shape}
 use Rattle.marks.proofs.Marking.{append-none, pointers-append}
 
@@ -88,26 +87,22 @@ module _ (s : List ℕ) (r size : ℕ) where
       }
 
 module _ (s t : List ℕ) (n r size : ℕ) where
-  -- behind the common fields
-  common-end : {q : ℕ} {u : List ℕ} → AllMarked (commonFields s r) size behindTag q t u → q ≡ place behindTag (declAt s r .fields) .end
-  common-end a = rw (← fields-are s r) (a .end)
-
   pub cases-marked-end : {end c : ℕ} {u w : List ℕ} → PickLine s t n r → AllMarked (commonFields s r) size behindTag end t u → CasesMarked s r size end c u w → length (casesAt s r) ≤ c
       → Marks size (shapeAt s r .pointers) t w
   cases-marked-end {end} {c} {u} {w} l a m h =
       let e : m .done ≡ ownMarks end (casesAt s r) = sym (append-none (m .done)) ∙ (rw (drop-of-length-le (casesAt s r) h) at (m .rest)) in
       marks-same (pick-map (declAt s r .fields) size (casesAt s r) ∙ sym (ap (λ (x : Shape). pointerMap size (x .pointers)) (pick-shape s t n r l)))
-      (marks-then (rw (fields-are s r) at (a .marks)) (rw (e, common-end a) at (m .marks)))
+      (marks-then (a .marks) (rw (e, a .end) at (m .marks)))
 
   -- ---- an `adt` line, and one case
 
   pub adt-marks : {q : ℕ} {u : List ℕ} → RecordLine s t n r → formAt t (r - 1) ≡ 26 → AllMarked (commonFields s r) size 0 q t u → Marks size (shapeAt s r .pointers) t u
   unfolding shapeOf
-  adt-marks l e a = rw (adt-shape s t n r l e, ← fields-are s r) (a .marks)
+  adt-marks l e a = rw (adt-shape s t n r l e) (a .marks)
 
   pub variant-marks : {c v q p : ℕ} {u w : List ℕ} → AllMarked (commonFields s r) size behindTag q t u → CaseOf s u n r c v → AllMarked (caseFields s v) size q p u w
       → Marks size (variantAt s r c .pointers) t w
   unfolding variantAt
   variant-marks {c} a k b =
       rw (variant-pointers (declAt s r .fields) (getD (casesAt s r) c noCase))
-      (marks-then (rw (fields-are s r) at (a .marks)) (rw (common-end a, ap (λ (x : Case). x .fields) (k .case)) at (b .marks)))
+      (marks-then (a .marks) (rw (a .end, ap (λ (x : Case). x .fields) (k .case)) at (b .marks)))

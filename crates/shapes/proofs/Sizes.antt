@@ -13,10 +13,10 @@ use Rattle.semantics.specs.Layout.{roundedSize, place, furthest, shapeOf, pickS
 use Rattle.layout.proofs.Bounds.{place-above, place-within, furthest-within}
 use Rattle.lines.specs.Lines.{formAt}
 use Rattle.sizes.specs.declared.place.Reached.{Reached}
-use Rattle.sizes.specs.Places.{commonFields, caseFields, RecordLine, AllPlaced}
+use Rattle.sizes.specs.Places.{declAt, commonFields, caseFields, RecordLine, AllPlaced, commonEnd}
 use Rattle.sizes.proofs.Places.{furthest-append}
-use Rattle.shapes.specs.Shapes.{declAt, firstShape, shapeAt, casesAt, variantAt, PickLine, CaseOf, BehindCommon}
-use Rattle.shapes.proofs.Cases.{fields-are, adt-plain, pick-some}
+use Rattle.shapes.specs.Shapes.{firstShape, shapeAt, casesAt, variantAt, PickLine, CaseOf, BehindCommon}
+use Rattle.shapes.proofs.Cases.{adt-plain, pick-some}
 
 -- ---- the shape of T
 
@@ -47,14 +47,14 @@ pub adt-size : (s t : List ℕ) (n r x : ℕ) (p q : Reached) → RecordLine s t
     → AllPlaced (commonFields s r) p q → x ≡ roundedSize (q .furthest) → x ≡ shapeAt s r .size
 unfolding shapeOf
 adt-size s t n r x p q l e h k a g =
-    g ∙ rw (adt-shape s t n r l e, a .furthest, h, k, fields-are s r)
+    g ∙ rw (adt-shape s t n r l e, a .furthest, h, k)
 
 -- ---- variants
 
-pub behind-common : (s : List ℕ) (r : ℕ) (p q : Reached) → p .end ≡ 4 → p .furthest ≡ 4 → AllPlaced (commonFields s r) p q → q .end ≤ 2097284 → BehindCommon s r q
+pub behind-common : (s : List ℕ) (r : ℕ) (p q : Reached) → p .end ≡ 4 → p .furthest ≡ 4 → AllPlaced (commonFields s r) p q → q .end ≤ commonEnd → BehindCommon s r q
 behind-common s r p q h k a b = record {
-  end = a .end ∙ rw (h, fields-are s r);
-  furthest = a .furthest ∙ rw (h, k, fields-are s r);
+  end = a .end ∙ rw (h);
+  furthest = a .furthest ∙ rw (h, k);
   within = furthest-low (commonFields s r) p q a (omega arith);
   small = b;
 }

@@ -2,7 +2,6 @@
 use Prim.Native.Nat.{ℕ, _+_, _-_, _≤_, _<_}
 use mathlib.Core.Path.{_≡_}
 use mathlib.Core.List.{List, [], _∷_}
-use mathlib.Core.Option.{none}
 use lib.ListN.{length, getD}
 use Rattle.semantics.specs.Text.{Bytes, orElse}
 use Rattle.semantics.specs.Tree.{Case, AdtDecl, Shape, noCase}
@@ -12,15 +11,7 @@ use Rattle.semantics.specs.Layout.{place, behindTag, variantShape, Recorded, re
 use Rattle.lines.specs.Lines.{readAt, nodesIn}
 use Rattle.checks.specs.Checks.{KindLine}
 use Rattle.sizes.specs.declared.place.Reached.{Reached}
-use Rattle.sizes.specs.Places.{CaseLine}
-
--- what line r declares
-abbrev pub firstDecl : List AdtDecl → AdtDecl
-firstDecl [] = record { name = []; fields = []; pick = none }
-firstDecl (d ∷ ds) = d
-
-unfoldable pub declAt : Bytes → ℕ → AdtDecl
-declAt s r = firstDecl (nodeAt (nodesIn s) r .declares .adts)
+use Rattle.sizes.specs.Places.{declAt, CaseLine, commonEnd}
 
 -- the record of T itself is the first that a declaration makes
 abbrev pub firstShape : List Recorded → Shape
@@ -61,4 +52,4 @@ pub record BehindCommon (s : Bytes) (r : ℕ) (q : Reached) : Type 0 where
   pub end : q .end ≡ place behindTag (declAt s r .fields) .end
   pub furthest : q .furthest ≡ Layout.furthest behindTag (place behindTag (declAt s r .fields) .placed)
   pub within : q .furthest ≤ q .end
-  pub small : q .end ≤ 2097284
+  pub small : q .end ≤ commonEnd

@@ -6,12 +6,14 @@ ghost use Prim.Native.Nat.{_-_, _≤_};
 ghost use lib.ListN.{length};
 ghost use Rattle.semantics.specs.Layout.{roundedSize, furthest, place};
 ghost use Rattle.lines.specs.Lines.{formAt};
-ghost use Rattle.sizes.specs.Places.{caseFields, CaseLine, RecordLine};
+ghost use Rattle.sizes.specs.Places.{caseFields, CaseLine, RecordLine, commonEnd};
 ghost use Rattle.maps.specs.Maps.{MapRoom, Marks, MapMade};
 ghost use Rattle.shapes.specs.Shapes.{shapeAt, casesAt, variantAt, PickLine, VariantLine, CaseOf, BehindCommon};
 
 // The bytes of the tag word of a record with `pick`: fields begin behind it.
 pub const TAG_BYTES: u32 = 4;
+
+// A `pick` line: NAME, N, as many fields, N, as many cases.
 
 // How many cases the `pick` line r has.
 pub fn case_count(sheet: &[u8], work: &[u8], n: usize, r: usize) -> usize
@@ -45,7 +47,7 @@ fn behind_common(sheet: &[u8], work: &[u8], n: usize, r: usize) -> Reached
 
 // The size of the variants of the `pc` line k, whose common fields end at p.
 fn case_size(sheet: &[u8], work: &[u8], n: usize, k: usize, p: Reached) -> u32
-    requires { ⌜ (CaseLine (now sheet) (now work) n k) × (p .furthest ≤ p .end) × (p .end ≤ 2097284) ⌝ }
+    requires { ⌜ (CaseLine (now sheet) (now work) n k) × (p .furthest ≤ p .end) × (p .end ≤ commonEnd) ⌝ }
     ensures { λ x. ⌜ x ≡ roundedSize (furthest (p .furthest) (place (p .end) (caseFields (now (sheet .entry)) k) .placed)) ⌝ }
 {
     let v = sizes::place::place_case(sheet, work, n, k, p);

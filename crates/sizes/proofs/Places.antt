@@ -35,7 +35,7 @@ use Rattle.checks.specs.Checks.{Checked}
 use Rattle.sizes.specs.declared.place.Reached.{Reached}
 use Rattle.sizes.specs.declared.place.Refs.{Refs}
 use Rattle.sizes.specs.Sizes.{typeAt, TypeLine, Measures}
-use Rattle.sizes.specs.Places.{fdAt, fdsFrom, fdsOfRefs, ownFields, commonFields, caseFields, FieldLine, FieldRefs, RecordLine, CaseLine, LinePlaced, AllPlaced}
+use Rattle.sizes.specs.Places.{fdAt, fdsFrom, fdsOfRefs, firstDecl, declAt, commonFields, caseFields, FieldLine, FieldRefs, RecordLine, CaseLine, LinePlaced, AllPlaced, lineBytes}
 use Rattle.sizes.proofs.Forms.{field-form, case-form, adt-form, pick-form}
 use Rattle.sizes.proofs.Types.{given-ref, May, maybe-head, Group, group-at}
 
@@ -140,7 +140,7 @@ pub record Passing (s : List ℕ) (f : Refs) (p q : Reached) (j : ℕ) : Type 0 
   pub within : j ≤ f .count
   pub end : place (q .end) (fdsFrom s (f .line) (f .from + j) (f .count - j)) .end ≡ place (p .end) (fdsOfRefs s f) .end
   pub furthest : furthest (q .furthest) (place (q .end) (fdsFrom s (f .line) (f .from + j) (f .count - j)) .placed) ≡ furthest (p .furthest) (place (p .end) (fdsOfRefs s f) .placed)
-  pub small : q .end ≤ p .end + 131080 * j
+  pub small : q .end ≤ p .end + lineBytes * j
 
 module _ (s t : List ℕ) (n : ℕ) (f : Refs) (l : FieldRefs s t n f) where
   pub refs-in : f .line - 1 < n
@@ -171,7 +171,7 @@ module _ (s t : List ℕ) (n : ℕ) (f : Refs) (l : FieldRefs s t n f) where
       passing-end h = let z : f .count - j ≡ 0 = omega arith in record { end = rw z at (m .end); furthest = rw z at (m .furthest) }
 
       pub passing-next : (h : j < f .count) (v : ℕ) → v ≡ Number.numberUpTo 65536 (getD (readAt s (f .line - 1) .fields) (f .from + j) []) → (u : Reached)
-          → LinePlaced (fdAt s v .ty) (fdAt s v .names) q u → u .end ≤ q .end + 131080 → Passing s f p u (j + 1)
+          → LinePlaced (fdAt s v .ty) (fdAt s v .names) q u → u .end ≤ q .end + lineBytes → Passing s f p u (j + 1)
       passing-next h v hv u x b = record {
         within = omega arith;
         end = rw (x .end) (rw (fields-next j h v hv) at (m .end));
@@ -227,16 +227,16 @@ module _ (s t : List ℕ) (n r : ℕ) (l : RecordLine s t n r) where
   same-kind = sym (kind-is s t n (l .checked .whole) (r - 1) record-in)
 
   record-row : RecordRow s r
-  unfolding forms
+  unfolding forms declAt
   record-row = go (eqb (letter (readAt s (r - 1) .form .kind)) 65) refl
     where
       row : (f : ℕ) → formAt t (r - 1) ≡ f → readAt s (r - 1) .form .parts ≡ rowAt f .parts
       row f e = ap (λ (x : Row). x .parts) (form-is s t n (l .checked .whole) (r - 1) record-in) ∙ ap (λ (g : ℕ). rowAt g .parts) e
 
-      own : (f : ℕ) → formAt t (r - 1) ≡ f → commonFields s r ≡ ownFields (rowNode (nodesIn s) f (readAt s (r - 1) .fields) .declares .adts)
+      own : (f : ℕ) → formAt t (r - 1) ≡ f → commonFields s r ≡ firstDecl (rowNode (nodesIn s) f (readAt s (r - 1) .fields) .declares .adts) .fields
       own f e =
-          ap (λ (m : Node). ownFields (m .declares .adts)) (node-at s t n (l .checked .whole) (l .checked .good) (r - 1) record-in)
-          ∙ ap (λ (g : ℕ). ownFields (rowNode (nodesIn s) g (readAt s (r - 1) .fields) .declares .adts)) e
+          ap (λ (m : Node). firstDecl (m .declares .adts) .fields) (node-at s t n (l .checked .whole) (l .checked .good) (r - 1) record-in)
+          ∙ ap (λ (g : ℕ). firstDecl (rowNode (nodesIn s) g (readAt s (r - 1) .fields) .declares .adts) .fields) e
 
       go : (b : Bool) → eqb (letter (readAt s (r - 1) .form .kind)) 65 ≡ b → RecordRow s r
       go true q =

@@ -11,7 +11,7 @@ ghost use lib.ListN.{length};
 ghost use Rattle.semantics.specs.Text.{Bytes};
 ghost use Rattle.semantics.specs.Tree.{Ty};
 ghost use Rattle.sizes.specs.Sizes.{Measures};
-ghost use Rattle.sizes.specs.Places.{fdAt, fdsOfRefs, commonFields, caseFields, FieldLine, FieldRefs, RecordLine, CaseLine, LinePlaced, AllPlaced};
+ghost use Rattle.sizes.specs.Places.{fdAt, fdsOfRefs, commonFields, caseFields, FieldLine, FieldRefs, RecordLine, CaseLine, LinePlaced, AllPlaced, caseEnd, commonEnd, groupBytes, lineBytes};
 
 // The `count` fields of a line from field `from` on, which refer to `fd` lines.
 pub struct Refs {
@@ -55,8 +55,8 @@ pub struct Reached {
 
 // Behind one more `fd` line, with so many names of a type of size and alignment x. Its fields are gathered in a list, and the list is lent.
 fn place_line(p: Reached, x: SizeAlign, pointer: bool, names: usize) -> Reached
-    requires { ⌜ (p .end ≤ 4500000) × (x .size ≤ 8192) × (x .align ≤ 8) × (names ≤ 16) ⌝ }
-    ensures { λ q. ⌜ ((t : Ty) (ns : List Bytes) → Measures t (x .size) (x .align) → names ≡ length ns → LinePlaced (some t) ns p q) × (q .end ≤ p .end + 131080) ⌝ }
+    requires { ⌜ (p .end ≤ caseEnd) × (x .size ≤ 8192) × (x .align ≤ 8) × (names ≤ 16) ⌝ }
+    ensures { λ q. ⌜ ((t : Ty) (ns : List Bytes) → Measures t (x .size) (x .align) → names ≡ length ns → LinePlaced (some t) ns p q) × (q .end ≤ p .end + lineBytes) ⌝ }
 {
     let at = align_up(p.end, x.align) as u32;
     let fields = field_list::line_fields(at, x.size, pointer, names);
@@ -69,8 +69,8 @@ fn place_line(p: Reached, x: SizeAlign, pointer: bool, names: usize) -> Reached
 
 // Behind the `fd` line r. An untyped one is skipped.
 fn place_field(sheet: &[u8], work: &[u8], n: usize, r: usize, p: Reached) -> Reached
-    requires { ⌜ (FieldLine (now sheet) (now work) n r) × (p .end ≤ 4500000) ⌝ }
-    ensures { λ q. ⌜ (LinePlaced (fdAt (now (sheet .entry)) r .ty) (fdAt (now (sheet .entry)) r .names) p q) × (q .end ≤ p .end + 131080) ⌝ }
+    requires { ⌜ (FieldLine (now sheet) (now work) n r) × (p .end ≤ caseEnd) ⌝ }
+    ensures { λ q. ⌜ (LinePlaced (fdAt (now (sheet .entry)) r .ty) (fdAt (now (sheet .entry)) r .names) p q) × (q .end ≤ p .end + lineBytes) ⌝ }
 {
     let t = lines::number_at(sheet, work, n, r - 1, 0);
     if t == 0 {
@@ -83,8 +83,8 @@ fn place_field(sheet: &[u8], work: &[u8], n: usize, r: usize, p: Reached) -> Rea
 
 // Behind the `fd` lines to which these fields refer.
 fn place_fields(sheet: &[u8], work: &[u8], n: usize, f: Refs, p: Reached) -> Reached
-    requires { ⌜ (FieldRefs (now sheet) (now work) n f) × (p .end ≤ 2200000) ⌝ }
-    ensures { λ q. ⌜ (AllPlaced (fdsOfRefs (now (sheet .entry)) f) p q) × (q .end ≤ p .end + 2097280) ⌝ }
+    requires { ⌜ (FieldRefs (now sheet) (now work) n f) × (p .end ≤ commonEnd) ⌝ }
+    ensures { λ q. ⌜ (AllPlaced (fdsOfRefs (now (sheet .entry)) f) p q) × (q .end ≤ p .end + groupBytes) ⌝ }
 {
     let mut q = p;
     let mut j = 0;
@@ -99,7 +99,7 @@ fn place_fields(sheet: &[u8], work: &[u8], n: usize, f: Refs, p: Reached) -> Rea
 // Behind the fields of the `adt` or `pick` line r that are no case's. They begin at 0, or behind a pick's tag at 4.
 pub fn place_common(sheet: &[u8], work: &[u8], n: usize, r: usize, p: Reached) -> Reached
     requires { ⌜ (RecordLine (now sheet) (now work) n r) × (p .end ≤ 4) ⌝ }
-    ensures { λ q. ⌜ (AllPlaced (commonFields (now (sheet .entry)) r) p q) × (q .end ≤ 2097284) ⌝ }
+    ensures { λ q. ⌜ (AllPlaced (commonFields (now (sheet .entry)) r) p q) × (q .end ≤ commonEnd) ⌝ }
 {
     let f = common_refs(sheet, work, n, r);
     place_fields(sheet, work, n, f, p)
@@ -107,8 +107,8 @@ pub fn place_common(sheet: &[u8], work: &[u8], n: usize, r: usize, p: Reached) -
 
 // Behind the fields of the `pc` line r.
 pub fn place_case(sheet: &[u8], work: &[u8], n: usize, r: usize, p: Reached) -> Reached
-    requires { ⌜ (CaseLine (now sheet) (now work) n r) × (p .end ≤ 2097284) ⌝ }
-    ensures { λ q. ⌜ (AllPlaced (caseFields (now (sheet .entry)) r) p q) × (q .end ≤ 4194564) ⌝ }
+    requires { ⌜ (CaseLine (now sheet) (now work) n r) × (p .end ≤ commonEnd) ⌝ }
+    ensures { λ q. ⌜ (AllPlaced (caseFields (now (sheet .entry)) r) p q) × (q .end ≤ caseEnd) ⌝ }
 {
     let f = case_refs(sheet, work, n, r);
     place_fields(sheet, work, n, f, p)

@@ -3,8 +3,8 @@ use mathlib.Core.Path.{_≡_, sym, ap, _∙_}
 use mathlib.Core.Option.{none, some}
 use Prim.Native.Nat.{ℕ, _+_, _-_, _*_, _/_, _%_, _≤_, _<_}
 use native.Mathlib.Omega.{arith}
-use lib.ListN.{length, take, drop, getD, length-drop}
-use lib.Seq.{drop-drop, getD-drop, ext-getD}
+use lib.ListN.{length, take, drop}
+use lib.Seq.{drop-drop}
 use Rattle.semantics.specs.Text.{Bytes}
 use Rattle.checks.specs.Checks.{Checked, Kept, Outside}
 use Rattle.checks.proofs.Kept.{kept-less, kept-then, checked-kept}
@@ -31,10 +31,6 @@ drop-from a b t u h e =
     let z : b ≡ a + (b - a) = omega arith in
     ap (λ (j : ℕ). drop j u) z ∙ sym (drop-drop (b - a) a u) ∙ ap (drop (b - a)) e ∙ drop-drop (b - a) a t ∙ ap (λ (j : ℕ). drop j t) (sym z)
 
--- bytes that are the same from a on
-pub drop-same : (a : ℕ) (t u : Bytes) → length u ≡ length t → ((j : ℕ) → a ≤ j → getD u j 0 ≡ getD t j 0) → drop a u ≡ drop a t
-drop-same a t u l f = ext-getD 0 (drop a u) (drop a t) (length-drop a u ∙ ap (λ (j : ℕ). j - a) l ∙ sym (length-drop a t)) (λ i h. getD-drop a u i 0 ∙ f (a + i) (omega arith) ∙ sym (getD-drop a t i 0))
-
 -- constants stay where their table and what stands from 16384 on are kept
 module _ {s t u : Bytes} {n m a : ℕ} (low : a ≤ 16384) (k : Kept 7168 t u) (e : drop a u ≡ drop a t) (l : ConstsLogged s t n m) where
   table-kept : Kept (5120 + 16 * m) t u
@@ -57,17 +53,14 @@ module _ {s t t2 t3 t4 : Bytes} {n m r : ℕ} {g : Globals} {d : NeedCounts} (l 
     first : ConstsLogged s t2 n m
     first = constants-logged {a = 9216} (omega arith) (a .below) (a .above) l
 
-    above : drop 10240 t3 ≡ drop 10240 t2
-    above = drop-same 10240 t2 t3 (log .kept .long) (log .above)
-
     second : ConstsLogged s t3 n m
-    second = constants-logged {a = 10240} (omega arith) (kept-less (omega arith) (log .kept)) above first
+    second = constants-logged {a = 10240} (omega arith) (kept-less (omega arith) (log .outside .kept)) (log .outside .above) first
 
     pub tables-held : TablesHeld s t4 n (record { consts = m; globals = g .count; end = g .end; records = r; needs = d .needs; keys = d .keys })
     tables-held = record {
       checked = checked-kept (kept-less (omega arith) (o .kept)) (log .log .checked);
       consts = constants-logged {a = 11264} (omega arith) (kept-less (omega arith) (o .kept)) (o .above) second;
-      globals = collected-kept (kept-less (omega arith) (o .kept)) (collected-kept (log .kept) places);
+      globals = collected-kept (kept-less (omega arith) (o .kept)) (collected-kept (log .outside .kept) places);
       records = logged-kept (o .kept) (log .log);
       count = count;
       needs = needs;
@@ -77,11 +70,11 @@ module _ {s t t2 t3 t4 : Bytes} {n m r : ℕ} {g : Globals} {d : NeedCounts} (l 
     pub tables-log : logIn s t4 m ≡ logIn s t m
     tables-log =
         constants-log {a = 11264} (omega arith) (kept-less (omega arith) (o .kept)) (o .above) second
-        ∙ constants-log {a = 10240} (omega arith) (kept-less (omega arith) (log .kept)) above first
+        ∙ constants-log {a = 10240} (omega arith) (kept-less (omega arith) (log .outside .kept)) (log .outside .above) first
         ∙ constants-log {a = 9216} (omega arith) (a .below) (a .above) l
 
     pub tables-kept : Kept 5120 t t4
-    tables-kept = kept-then (kept-less (omega arith) (a .below)) (kept-then (kept-less (omega arith) (log .kept)) (kept-less (omega arith) (o .kept)))
+    tables-kept = kept-then (kept-less (omega arith) (a .below)) (kept-then (kept-less (omega arith) (log .outside .kept)) (kept-less (omega arith) (o .kept)))
 
 -- ---- with the constants
 

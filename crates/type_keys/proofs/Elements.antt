@@ -13,7 +13,7 @@ use Rattle.semantics.specs.Tree.TypeKey.{elemKey}
 use Rattle.semantics.specs.Array.{kindNumber}
 use Rattle.semantics.specs.Types.{sameTypeKey, distinct, position}
 use Rattle.type_lines.proofs.Codes.{kind-low, elems-are}
-use Rattle.type_keys.specs.Table.{kindFromOne, kindsUsed, kindEntered, Kinds}
+use Rattle.type_keys.specs.Table.{kindPosition, kindsUsed, kindEntered, Kinds}
 use Rattle.type_keys.proofs.Distinct.{position-none, length-more, from-one-more, known-same, known-length, from-one-some, from-one-none, distinct-more}
 use Rattle.type_keys.proofs.Table.{kind-entered}
 
@@ -22,7 +22,7 @@ keys-more k l p keys hp hk = rw (distinct-more k l, hp, hk) (length-more k (dist
 
 -- where the bytes of kinds are as they were but for the kind of the key k
 pub kinds-more : {t u : List ℕ} {l : List TypeKey} {keys : ℕ} (k : TypeKey) (more : ℕ) → Kinds t l keys
-    → ((e : ElemKind) → kindFromOne u (kindNumber e) ≡ cond (sameTypeKey (elemKey e) k) (suc (position k (distinct [] l))) (kindFromOne t (kindNumber e)))
+    → ((e : ElemKind) → kindPosition u (kindNumber e) ≡ cond (sameTypeKey (elemKey e) k) (suc (position k (distinct [] l))) (kindPosition t (kindNumber e)))
     → more ≡ length (distinct [] (l ++ (k ∷ []))) → more ≤ 128 + kindsUsed u → Kinds u (l ++ (k ∷ [])) more
 kinds-more {t} {u} {l} {keys} k more x h g w = record {
   count = g;
@@ -30,17 +30,17 @@ kinds-more {t} {u} {l} {keys} k more x h g w = record {
   few = w;
 }
 
-used-more : (t u : List ℕ) (k : ℕ) → k < 5 → kindFromOne t k ≡ 0 → (kindFromOne u k ≡ 0 → ⊥) → ((j : ℕ) → j < 5 → (j ≡ k → ⊥) → kindFromOne u j ≡ kindFromOne t j) → kindsUsed u ≡ suc (kindsUsed t)
+used-more : (t u : List ℕ) (k : ℕ) → k < 5 → kindPosition t k ≡ 0 → (kindPosition u k ≡ 0 → ⊥) → ((j : ℕ) → j < 5 → (j ≡ k → ⊥) → kindPosition u j ≡ kindPosition t j) → kindsUsed u ≡ suc (kindsUsed t)
 unfolding kindsUsed
-used-more t u zero h z p o = rw (ne-eqb (kindFromOne u 0) 0 p, z, o 1 (omega arith) (λ e. absurd (omega arith)), o 2 (omega arith) (λ e. absurd (omega arith)), o 3 (omega arith) (λ e. absurd (omega arith)), o 4 (omega arith) (λ e. absurd (omega arith))) (omega arith)
-used-more t u (suc zero) h z p o = rw (ne-eqb (kindFromOne u 1) 0 p, z, o 0 (omega arith) (λ e. absurd (omega arith)), o 2 (omega arith) (λ e. absurd (omega arith)), o 3 (omega arith) (λ e. absurd (omega arith)), o 4 (omega arith) (λ e. absurd (omega arith))) (omega arith)
-used-more t u (suc (suc zero)) h z p o = rw (ne-eqb (kindFromOne u 2) 0 p, z, o 0 (omega arith) (λ e. absurd (omega arith)), o 1 (omega arith) (λ e. absurd (omega arith)), o 3 (omega arith) (λ e. absurd (omega arith)), o 4 (omega arith) (λ e. absurd (omega arith))) (omega arith)
-used-more t u (suc (suc (suc zero))) h z p o = rw (ne-eqb (kindFromOne u 3) 0 p, z, o 0 (omega arith) (λ e. absurd (omega arith)), o 1 (omega arith) (λ e. absurd (omega arith)), o 2 (omega arith) (λ e. absurd (omega arith)), o 4 (omega arith) (λ e. absurd (omega arith))) (omega arith)
-used-more t u (suc (suc (suc (suc zero)))) h z p o = rw (ne-eqb (kindFromOne u 4) 0 p, z, o 0 (omega arith) (λ e. absurd (omega arith)), o 1 (omega arith) (λ e. absurd (omega arith)), o 2 (omega arith) (λ e. absurd (omega arith)), o 3 (omega arith) (λ e. absurd (omega arith))) (omega arith)
+used-more t u zero h z p o = rw (ne-eqb (kindPosition u 0) 0 p, z, o 1 (omega arith) (λ e. absurd (omega arith)), o 2 (omega arith) (λ e. absurd (omega arith)), o 3 (omega arith) (λ e. absurd (omega arith)), o 4 (omega arith) (λ e. absurd (omega arith))) (omega arith)
+used-more t u (suc zero) h z p o = rw (ne-eqb (kindPosition u 1) 0 p, z, o 0 (omega arith) (λ e. absurd (omega arith)), o 2 (omega arith) (λ e. absurd (omega arith)), o 3 (omega arith) (λ e. absurd (omega arith)), o 4 (omega arith) (λ e. absurd (omega arith))) (omega arith)
+used-more t u (suc (suc zero)) h z p o = rw (ne-eqb (kindPosition u 2) 0 p, z, o 0 (omega arith) (λ e. absurd (omega arith)), o 1 (omega arith) (λ e. absurd (omega arith)), o 3 (omega arith) (λ e. absurd (omega arith)), o 4 (omega arith) (λ e. absurd (omega arith))) (omega arith)
+used-more t u (suc (suc (suc zero))) h z p o = rw (ne-eqb (kindPosition u 3) 0 p, z, o 0 (omega arith) (λ e. absurd (omega arith)), o 1 (omega arith) (λ e. absurd (omega arith)), o 2 (omega arith) (λ e. absurd (omega arith)), o 4 (omega arith) (λ e. absurd (omega arith))) (omega arith)
+used-more t u (suc (suc (suc (suc zero)))) h z p o = rw (ne-eqb (kindPosition u 4) 0 p, z, o 0 (omega arith) (λ e. absurd (omega arith)), o 1 (omega arith) (λ e. absurd (omega arith)), o 2 (omega arith) (λ e. absurd (omega arith)), o 3 (omega arith) (λ e. absurd (omega arith))) (omega arith)
 used-more t u (suc (suc (suc (suc (suc k))))) h z p o = absurd (omega arith)
 
 module _ (t : List ℕ) (room : 65536 ≤ length t) (k : ElemKind) (l : List TypeKey) (keys : ℕ) (x : Kinds t l keys) where
-  pub kind-known : (kindFromOne t (kindNumber k) ≡ 0 → ⊥) → Kinds t (l ++ (elemKey k ∷ [])) keys
+  pub kind-known : (kindPosition t (kindNumber k) ≡ 0 → ⊥) → Kinds t (l ++ (elemKey k ∷ [])) keys
   kind-known h =
       let a = from-one-some (elemKey k) (distinct [] l) (λ z. h (x .position k ∙ z)) in
       kinds-more (elemKey k) keys x
@@ -48,14 +48,14 @@ module _ (t : List ℕ) (room : 65536 ≤ length t) (k : ElemKind) (l : List Typ
       (x .count ∙ rw (distinct-more (elemKey k) l) (sym (known-length (elemKey k) (distinct [] l) a)))
       (x .few)
 
-  module _ (kind : ℕ) (hk : kind ≡ kindNumber k) (z : kindFromOne t kind ≡ 0) (u : List ℕ) (hu : u ≡ kindEntered t kind keys) where
+  module _ (kind : ℕ) (hk : kind ≡ kindNumber k) (z : kindPosition t kind ≡ 0) (u : List ℕ) (hu : u ≡ kindEntered t kind keys) where
     none : any (sameTypeKey (elemKey k)) (distinct [] l) ≡ false
     none = from-one-none (elemKey k) (distinct [] l) (sym (x .position k) ∙ rw (← hk) z)
 
     own-position : keys ≡ position (elemKey k) (distinct [] l)
     own-position = x .count ∙ sym (position-none (elemKey k) (distinct [] l) none)
 
-    entered-at : (j : ℕ) → j < 5 → kindFromOne u j ≡ cond (eqb j kind) (suc keys) (kindFromOne t j)
+    entered-at : (j : ℕ) → j < 5 → kindPosition u j ≡ cond (eqb j kind) (suc keys) (kindPosition t j)
     entered-at j h = rw hu (kind-entered t room kind keys j h)
 
     pub kind-new : Kinds u (l ++ (elemKey k ∷ [])) (keys + 1)

@@ -11,7 +11,7 @@ use Rattle.semantics.specs.Array.{kindNumber}
 use Rattle.semantics.specs.Global.{Item}
 use Rattle.semantics.specs.Types.{arrayKey, distinct, position, keys}
 use Rattle.checks.specs.Checks.{Outside}
-use Rattle.type_keys.specs.Table.{positionOf, kindFromOne, Needs, Kinds}
+use Rattle.type_keys.specs.Table.{positionOf, kindPosition, Needs, Kinds}
 use Rattle.type_keys.proofs.Distinct.{key-member, known-more, from-one-some}
 use Rattle.type_keys.proofs.Table.{line-below, position-below}
 
@@ -36,10 +36,10 @@ module _ (s t : List ℕ) (n : ℕ) (ks : List TypeKey) (x : Needs s t n ks) whe
       }
 
 module _ (t : List ℕ) (ks ms : List TypeKey) (count : ℕ) (k : ElemKind) (x : Kinds t ks count) where
-  kind-from-one-stays : 0 < kindFromOne t (kindNumber k) → kindFromOne t (kindNumber k) ≡ suc (position (elemKey k) (distinct [] (ks ++ ms)))
-  kind-from-one-stays h =
+  kind-position-stays : 0 < kindPosition t (kindNumber k) → kindPosition t (kindNumber k) ≡ suc (position (elemKey k) (distinct [] (ks ++ ms)))
+  kind-position-stays h =
       let a = from-one-some (elemKey k) (distinct [] ks) (λ z. omega (arith, x .position k)) in
       x .position k ∙ rw (a, known-more (elemKey k) ks ms a .1)
 
-  pub kind-behind : (kind p : ℕ) → kind ≡ kindNumber k → p ≡ kindFromOne t kind → 0 < kindFromOne t kind → p - 1 ≡ position (elemKey k) (distinct [] (ks ++ ms))
-  kind-behind kind p hk hp h = let e = kind-from-one-stays (rw hk at h) in let g = hp ∙ ap (kindFromOne t) hk in omega (arith, e, g)
+  pub kind-behind : (kind p : ℕ) → kind ≡ kindNumber k → p ≡ kindPosition t kind → 0 < kindPosition t kind → p - 1 ≡ position (elemKey k) (distinct [] (ks ++ ms))
+  kind-behind kind p hk hp h = let e = kind-position-stays (rw hk at h) in let g = hp ∙ ap (kindPosition t) hk in omega (arith, e, g)

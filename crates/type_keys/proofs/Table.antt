@@ -13,7 +13,7 @@ use Rattle.semantics.specs.Tree.{TypeKey}
 use Rattle.semantics.specs.Array.{kindNumber}
 use Rattle.checks.specs.Checks.{Kept, Outside}
 use Rattle.checks.proofs.Kept.{kept-at, outside-all, outside-then, outside-set, outside-above}
-use Rattle.type_keys.specs.Table.{needLineOf, positionOf, kindFromOne, digestOf, kindsUsed, needEntered, kindEntered, Kinds}
+use Rattle.type_keys.specs.Table.{needLineOf, positionOf, kindPosition, digestOf, kindsUsed, needEntered, kindEntered, Kinds}
 use Rattle.type_lines.proofs.Codes.{kind-low}
 
 -- ---- the parts of the table
@@ -29,8 +29,8 @@ module _ {t u : List ℕ} where
   position-below x q h = kept-at (x .kept) (10496 + q) (omega arith)
 
   -- and one among the needs the kinds
-  pub kind-above : {a : ℕ} → Outside a 10624 t u → (k : ℕ) → kindFromOne u k ≡ kindFromOne t k
-  unfolding kindFromOne
+  pub kind-above : {a : ℕ} → Outside a 10624 t u → (k : ℕ) → kindPosition u k ≡ kindPosition t k
+  unfolding kindPosition
   kind-above x k = outside-above x (10624 + k) (omega arith)
 
   -- both leave the digests
@@ -39,8 +39,8 @@ module _ {t u : List ℕ} where
   digest-above h x q = outside-above x (10752 + q) (omega arith)
 
   -- a store behind the kinds leaves them
-  pub kind-kept : Kept 10629 t u → (k : ℕ) → k < 5 → kindFromOne u k ≡ kindFromOne t k
-  unfolding kindFromOne
+  pub kind-kept : Kept 10629 t u → (k : ℕ) → k < 5 → kindPosition u k ≡ kindPosition t k
+  unfolding kindPosition
   kind-kept x k h = kept-at x (10624 + k) (omega arith)
 
   pub kinds-kept : {l : List TypeKey} {keys : ℕ} → Kept 10629 t u → Kinds t l keys → Kinds u l keys
@@ -120,8 +120,8 @@ module _ (t : List ℕ) (room : 65536 ≤ length t) (k p : ℕ) where
       go true e = outside-set 10624 10629 t (10624 + k) (p + 1) (omega arith) (omega (arith, ltb-true k 5 e))
       go false e = outside-all
 
-  pub kind-entered : (j : ℕ) → j < 5 → kindFromOne (kindEntered t k p) j ≡ cond (eqb j k) (suc p) (kindFromOne t j)
-  unfolding kindEntered kindFromOne
+  pub kind-entered : (j : ℕ) → j < 5 → kindPosition (kindEntered t k p) j ≡ cond (eqb j k) (suc p) (kindPosition t j)
+  unfolding kindEntered kindPosition
   kind-entered j h = go (ltb k 5) refl (eqb j k) refl
     where
       go : (b : Bool) → ltb k 5 ≡ b → (e : Bool) → eqb j k ≡ e → getD (cond b (set t (10624 + k) (p + 1)) t) (10624 + j) 0 ≡ cond e (suc p) (getD t (10624 + j) 0)
@@ -144,8 +144,8 @@ module _ (t : List ℕ) (room : 65536 ≤ length t) (q d : ℕ) (hq : q < 128) w
   digest-other j ne = getD-set-other t (10752 + q) (10752 + j) d 0 (λ e. ne (omega arith))
 
 -- one more kind cleared
-pub cleared-next : (t : List ℕ) (k : ℕ) → k < 5 → 65536 ≤ length t → ((j : ℕ) → j < k → kindFromOne t j ≡ 0) → (j : ℕ) → j < k + 1 → kindFromOne (set t (10624 + k) 0) j ≡ 0
-unfolding kindFromOne
+pub cleared-next : (t : List ℕ) (k : ℕ) → k < 5 → 65536 ≤ length t → ((j : ℕ) → j < k → kindPosition t j ≡ 0) → (j : ℕ) → j < k + 1 → kindPosition (set t (10624 + k) 0) j ≡ 0
+unfolding kindPosition
 cleared-next t k h room z j l = go (eqb j k) refl
   where
     go : (e : Bool) → eqb j k ≡ e → getD (set t (10624 + k) 0) (10624 + j) 0 ≡ 0

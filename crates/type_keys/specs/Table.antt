@@ -22,8 +22,8 @@ unfoldable pub positionOf : Bytes → ℕ → ℕ
 positionOf t q = getD t (10496 + q) 0
 
 -- for each kind of element 0 where its key is not used, or its position plus 1
-unfoldable pub kindFromOne : Bytes → ℕ → ℕ
-kindFromOne t k = getD t (10624 + k) 0
+unfoldable pub kindPosition : Bytes → ℕ → ℕ
+kindPosition t k = getD t (10624 + k) 0
 
 -- 128 bytes: the digest of the text of need q
 unfoldable pub digestOf : Bytes → ℕ → ℕ
@@ -47,12 +47,12 @@ isUsed p = cond (eqb p 0) 0 1
 
 -- how many kinds of elements are used
 unfoldable pub kindsUsed : Bytes → ℕ
-kindsUsed t = isUsed (kindFromOne t 0) + isUsed (kindFromOne t 1) + isUsed (kindFromOne t 2) + isUsed (kindFromOne t 3) + isUsed (kindFromOne t 4)
+kindsUsed t = isUsed (kindPosition t 0) + isUsed (kindPosition t 1) + isUsed (kindPosition t 2) + isUsed (kindPosition t 3) + isUsed (kindPosition t 4)
 
 -- `keys` keys are distinct among ks, at most 128 besides those of elements, and the table has the positions of elements' keys
 pub record Kinds (t : Bytes) (ks : List TypeKey) (keys : ℕ) : Type 0 where
   pub count : keys ≡ length (distinct [] ks)
-  pub position : (k : ElemKind) → kindFromOne t (kindNumber k) ≡ positionFromOne (elemKey k) (distinct [] ks)
+  pub position : (k : ElemKind) → kindPosition t (kindNumber k) ≡ positionFromOne (elemKey k) (distinct [] ks)
   pub few : keys ≤ 128 + kindsUsed t
 
 -- ---- what is stored

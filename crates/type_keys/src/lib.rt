@@ -2,6 +2,7 @@
 pub mod ids;
 
 use codes::area;
+use codes::element;
 ghost use mathlib.Core.Path.{_≡_};
 ghost use mathlib.Core.List.{List, [], _∷_, _++_};
 ghost use Prim.Native.Nat.{ℕ, _+_, _≤_, _<_};
@@ -10,7 +11,7 @@ ghost use Rattle.semantics.specs.Tree.{ElemKind, TypeKey};
 ghost use Rattle.semantics.specs.Tree.TypeKey.{elemKey};
 ghost use Rattle.semantics.specs.Array.{kindNumber};
 ghost use Rattle.checks.specs.Checks.{Outside};
-ghost use Rattle.type_keys.specs.Table.{needLineOf, positionOf, kindFromOne, digestOf, needEntered, kindEntered, Kinds};
+ghost use Rattle.type_keys.specs.Table.{needLineOf, positionOf, kindPosition, digestOf, needEntered, kindEntered, Kinds};
 
 // The line of need q; both are counted from 0.
 pub fn need_line(work: &[u8], q: usize) -> usize
@@ -37,9 +38,9 @@ pub fn need_digest(work: &[u8], q: usize) -> usize
 }
 
 // The position of the key of a kind of element plus 1, 0 where it is not used.
-pub fn kind_from_one(work: &[u8], kind: usize) -> usize
+pub fn kind_position(work: &[u8], kind: usize) -> usize
     requires { ⌜ (kind < 5) × (65536 ≤ length (now work)) ⌝ }
-    ensures { λ r. ⌜ (r ≡ kindFromOne (now (work .entry)) kind) × (r < 256) ⌝ }
+    ensures { λ r. ⌜ (r ≡ kindPosition (now (work .entry)) kind) × (r < 256) ⌝ }
 {
     words::wide(work[area::KIND_POSITIONS + kind])
 }
@@ -62,12 +63,12 @@ pub fn enter_digest(work: &mut [u8], q: usize, h: usize)
     work[area::NEED_DIGESTS + q] = h as u8;
 }
 
-// The key of a kind of element has position p; 5 is no kind.
+// The key of a kind of element has position p; `NONE` is no kind.
 pub fn enter_kind(work: &mut [u8], kind: usize, p: usize)
     requires { ⌜ (p < 255) × (65536 ≤ length (now work)) ⌝ }
     ensures { λ _. ⌜ now (work .exit) ≡ kindEntered (now (work .entry)) kind p ⌝ }
 {
-    if kind < 5 {
+    if kind < element::KINDS {
         work[area::KIND_POSITIONS + kind] = (p + 1) as u8;
     }
 }
@@ -75,10 +76,10 @@ pub fn enter_kind(work: &mut [u8], kind: usize, p: usize)
 // No kind of element is used.
 pub fn clear_kinds(work: &mut [u8])
     requires { ⌜ 65536 ≤ length (now work) ⌝ }
-    ensures { λ _. ⌜ (Outside 10624 10629 (now (work .entry)) (now (work .exit))) × ((k : ℕ) → k < 5 → kindFromOne (now (work .exit)) k ≡ 0) ⌝ }
+    ensures { λ _. ⌜ (Outside 10624 10629 (now (work .entry)) (now (work .exit))) × ((k : ℕ) → k < 5 → kindPosition (now (work .exit)) k ≡ 0) ⌝ }
 {
     let mut k = 0;
-    while k < 5 {
+    while k < element::KINDS {
         work[area::KIND_POSITIONS + k] = 0;
         k += 1;
     }
@@ -89,7 +90,7 @@ pub fn collect_kind(work: &mut [u8], kind: usize, keys: usize) -> usize
     requires { ⌜ (kind < 5) × (keys < 255) × (65536 ≤ length (now work)) ⌝ }
     ensures { λ r. ⌜ ((k : ElemKind) (ks : List TypeKey) → kind ≡ kindNumber k → Kinds (now (work .entry)) ks keys → Kinds (now (work .exit)) (ks ++ (elemKey k ∷ [])) r) × (Outside 10624 10629 (now (work .entry)) (now (work .exit))) ⌝ }
 {
-    if kind_from_one(work, kind) != 0 {
+    if kind_position(work, kind) != 0 {
         return keys;
     }
     enter_kind(work, kind, keys);

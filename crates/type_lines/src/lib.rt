@@ -17,7 +17,7 @@ pub fn same_need(sheet: &[u8], work: &[u8], n: usize, a: usize, b: usize) -> boo
     words::same(l, lines::line_at(sheet, work, n, b))
 }
 
-// The kind of element that form f needs, 5 for none. The forms of big, real and string are as far apart as their kinds.
+// The kind of element that form f needs, `NONE` where it needs none. The forms of big, real and string are as far apart as their kinds.
 pub fn kind_needed(f: usize) -> u8
     ensures { λ r. ⌜ r ≡ kindBy f ⌝ }
 {
@@ -28,10 +28,10 @@ pub fn kind_needed(f: usize) -> u8
         return element::BYTE;
     }
     if f < need::BIG {
-        return 5;
+        return element::NONE;
     }
     if need::STRING < f {
-        return 5;
+        return element::NONE;
     }
     (f - need::BIG) as u8 + element::BIG
 }

@@ -10,16 +10,19 @@ ghost use Rattle.semantics.specs.Form.{holds};
 ghost use Rattle.semantics.specs.Form.Atom.{offset};
 ghost use Rattle.type_lines.specs.Shapes.{writtenShape, ShapeLine, raised};
 
-// An offset, from -4096 on, plus 4096.
+// What is added to an offset, so that none is below 0.
+pub const RAISE: usize = 4096;
+
+// An offset, from -4096 on, raised.
 fn read_offset(f: &[u8]) -> usize
     requires { ⌜ holds offset (now f) ≡ true ⌝ }
     ensures { λ r. ⌜ (r ≡ raised (orElse (pos 0) (intOf (now (f .entry))))) × (r ≤ 8192) ⌝ }
 {
     let z = decimal::read_signed(f);
     match z {
-        Signed::Plus(m) => 4096 + m as usize,
-        Signed::Minus(m) => 4096 - m as usize,
-        Signed::NoInteger => 4096,
+        Signed::Plus(m) => RAISE + m as usize,
+        Signed::Minus(m) => RAISE - m as usize,
+        Signed::NoInteger => RAISE,
     }
 }
 
@@ -39,7 +42,7 @@ pub fn offset_count(sheet: &[u8], work: &[u8], n: usize, i: usize) -> usize
     lines::number_at(sheet, work, n, i, 1)
 }
 
-// Offset j, plus 4096.
+// Offset j, raised.
 pub fn offset_at(sheet: &[u8], work: &[u8], n: usize, i: usize, j: usize) -> usize
     requires { ⌜ (ShapeLine (now sheet) (now work) n i) × (j < length (writtenShape (now sheet) i .pointers)) ⌝ }
     ensures { λ r. ⌜ (r ≡ raised (getD (writtenShape (now (sheet .entry)) i .pointers) j (pos 0))) × (r ≤ 8192) ⌝ }

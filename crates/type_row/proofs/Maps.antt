@@ -19,10 +19,10 @@ use Rattle.maps.specs.Maps.{Marks}
 use Rattle.maps.proofs.Maps.{marks-none, marks-then, marks-skip}
 use Rattle.type_lines.specs.Shapes.{raised}
 use Rattle.type_row.specs.declared.Spot.{Spot}
-use Rattle.type_row.specs.Row.{words, Rowed}
+use Rattle.type_row.specs.Row.{wordOffsets, TypesWrote}
 
-pub opaque-words : words 12 ≡ opaqueShape .pointers
-unfolding words opaqueShape
+pub opaque-words : wordOffsets 12 ≡ opaqueShape .pointers
+unfolding wordOffsets opaqueShape
 opaque-words = refl
 
 pub opaque-size : 48 ≡ opaqueShape .size
@@ -30,12 +30,12 @@ unfolding opaqueShape
 opaque-size = refl
 
 -- one more word
-pub words-next : {size : ℕ} {t u v : List ℕ} (k : ℕ) → Marks size (words k) t u → Marks size (pos (4 * k) ∷ []) u v → Marks size (words (k + 1)) t v
-unfolding words
+pub words-next : {size : ℕ} {t u v : List ℕ} (k : ℕ) → Marks size (wordOffsets k) t u → Marks size (pos (4 * k) ∷ []) u v → Marks size (wordOffsets (k + 1)) t v
+unfolding wordOffsets
 words-next k a b = rw (add-one k) (marks-then a b)
 
-pub words-none : {size : ℕ} {t : List ℕ} → Marks size (words 0) t t
-unfolding words
+pub words-none : {size : ℕ} {t : List ℕ} → Marks size (wordOffsets 0) t t
+unfolding wordOffsets
 words-none = marks-none
 
 -- one more offset
@@ -64,8 +64,8 @@ size-by kind kBig e = rw e
 size-by kind kReal e = rw e
 size-by kind kPtr e = rw e
 
-pub words-by : (kind : ℕ) (k : ElemKind) → kind ≡ kindNumber k → words (cond (eqb kind 4) 1 0) ≡ elemShape k .pointers
-unfolding words
+pub words-by : (kind : ℕ) (k : ElemKind) → kind ≡ kindNumber k → wordOffsets (cond (eqb kind 4) 1 0) ≡ elemShape k .pointers
+unfolding wordOffsets
 words-by kind kByte e = rw e
 words-by kind kWord e = rw e
 words-by kind kBig e = rw e
@@ -77,5 +77,5 @@ words-by kind kPtr e = rw e
 pub shape-is : (x : Shape) (a : ℕ) (l : List ℤ) → a ≡ x .size → l ≡ x .pointers → record { size = a; pointers = l } ≡ x
 shape-is x a l e f = rw (e, f)
 
-pub rowed-as : {x y : Shape} {p q : Spot} {t u d e : List ℕ} → x ≡ y → Rowed x p q t u d e → Rowed y p q t u d e
-rowed-as q w = rw (← q) w
+pub types-as : {x y : Shape} {p q : Spot} {t u d e : List ℕ} → x ≡ y → TypesWrote (x ∷ []) p q t u d e → TypesWrote (y ∷ []) p q t u d e
+types-as q w = rw (← q) w

@@ -1,6 +1,7 @@
 // One `typ` row: the map is made in the working space, and what is printed is that map and its ones.
 use codes::area;
 use codes::element;
+use type_lines::shape::RAISE;
 ghost use mathlib.Core.Path.{_≡_};
 ghost use mathlib.Core.Bool.{true};
 ghost use mathlib.Core.List.{List, [], _∷_};
@@ -16,7 +17,7 @@ ghost use Rattle.write.specs.Wrote.{Wrote};
 ghost use Rattle.checks.specs.Checks.{Kept};
 ghost use Rattle.maps.specs.Maps.{MapRoom, Mapped, Marks, MapMade};
 ghost use Rattle.type_lines.specs.Shapes.{writtenShape, ShapeLine, raised};
-ghost use Rattle.type_row.specs.Row.{words, Rowed};
+ghost use Rattle.type_row.specs.Row.{wordOffsets, TypesWrote};
 
 // Where the next row goes, and its ID.
 pub struct Spot {
@@ -44,7 +45,7 @@ pub fn put_type(work: &[u8], size: u32, out: &mut [u8], p: Spot) -> Spot
 // Makes the map of a block whose first `count` words are pointers.
 fn map_words(work: &mut [u8], size: u32, count: u32)
     requires { ⌜ (MapRoom (now work) size) × (count ≤ 12) ⌝ }
-    ensures { λ _. ⌜ MapMade size (words count) (now (work .entry)) (now (work .exit)) ⌝ }
+    ensures { λ _. ⌜ MapMade size (wordOffsets count) (now (work .entry)) (now (work .exit)) ⌝ }
 {
     maps::clear_map(work, size);
     let mut k = 0;
@@ -57,18 +58,21 @@ fn map_words(work: &mut [u8], size: u32, count: u32)
 // The row of such a block.
 pub fn put_words(work: &mut [u8], size: u32, count: u32, out: &mut [u8], p: Spot) -> Spot
     requires { ⌜ (MapRoom (now work) size) × (count ≤ 12) × (p .id < 2048) ⌝ }
-    ensures { λ q. ⌜ Rowed (record { size = size; pointers = words count }) p q (now (work .entry)) (now (work .exit)) (now (out .entry)) (now (out .exit)) ⌝ }
+    ensures { λ q. ⌜ TypesWrote ((record { size = size; pointers = wordOffsets count }) ∷ []) p q (now (work .entry)) (now (work .exit)) (now (out .entry)) (now (out .exit)) ⌝ }
 {
     map_words(work, size, count);
     put_type(work, size, out, p)
 }
 
-// An opaque record: 12 words, all pointers.
+// The words of an opaque record, all of them pointers.
+const OPAQUE_WORDS: u32 = 12;
+
+// An opaque record.
 pub fn put_opaque(work: &mut [u8], out: &mut [u8], p: Spot) -> Spot
     requires { ⌜ (65536 ≤ length (now work)) × (p .id < 2048) ⌝ }
-    ensures { λ q. ⌜ Rowed opaqueShape p q (now (work .entry)) (now (work .exit)) (now (out .entry)) (now (out .exit)) ⌝ }
+    ensures { λ q. ⌜ TypesWrote (opaqueShape ∷ []) p q (now (work .entry)) (now (work .exit)) (now (out .entry)) (now (out .exit)) ⌝ }
 {
-    put_words(work, 48, 12, out, p)
+    put_words(work, 4 * OPAQUE_WORDS, OPAQUE_WORDS, out, p)
 }
 
 fn elem_size(kind: u8) -> u32
@@ -86,9 +90,9 @@ fn elem_size(kind: u8) -> u32
     4
 }
 
-// Whether elements of this kind are pointers.
+// How many words of an element are pointers, 0 or 1.
 fn elem_pointers(kind: u8) -> u32
-    ensures { λ r. ⌜ ((k : ElemKind) → kind ≡ kindNumber k → words r ≡ elemShape k .pointers) × (r ≤ 1) ⌝ }
+    ensures { λ r. ⌜ ((k : ElemKind) → kind ≡ kindNumber k → wordOffsets r ≡ elemShape k .pointers) × (r ≤ 1) ⌝ }
 {
     if kind == element::POINTER {
         return 1;
@@ -99,22 +103,22 @@ fn elem_pointers(kind: u8) -> u32
 // An array's elements.
 pub fn put_elem(work: &mut [u8], kind: u8, out: &mut [u8], p: Spot) -> Spot
     requires { ⌜ (65536 ≤ length (now work)) × (p .id < 2048) ⌝ }
-    ensures { λ q. ⌜ ((k : ElemKind) → kind ≡ kindNumber k → Rowed (elemShape k) p q (now (work .entry)) (now (work .exit)) (now (out .entry)) (now (out .exit))) × (q .id ≡ p .id + 1) × (Kept 49152 (now (work .entry)) (now (work .exit))) ⌝ }
+    ensures { λ q. ⌜ ((k : ElemKind) → kind ≡ kindNumber k → TypesWrote ((elemShape k) ∷ []) p q (now (work .entry)) (now (work .exit)) (now (out .entry)) (now (out .exit))) × (q .id ≡ p .id + 1) × (Kept 49152 (now (work .entry)) (now (work .exit))) ⌝ }
 {
     put_words(work, elem_size(kind), elem_pointers(kind), out, p)
 }
 
 // ---- what a line writes out
 
-// Marks an offset that is raised by 4096; one below 0 marks nothing.
+// Marks an offset that is raised; one below 0 marks nothing.
 fn mark_raised(work: &mut [u8], size: u32, z: usize)
     requires { ⌜ (MapRoom (now work) size) × (z ≤ 8192) ⌝ }
     ensures { λ _. ⌜ ((y : ℤ) → between 4096 4096 y ≡ true → z ≡ raised y → Marks size (y ∷ []) (now (work .entry)) (now (work .exit))) ⌝ }
 {
-    if z < 4096 {
+    if z < RAISE {
         return;
     }
-    maps::mark_at(work, size, (z - 4096) as u32);
+    maps::mark_at(work, size, (z - RAISE) as u32);
 }
 
 // Makes the map of the offsets of line i, for a block of this size.
@@ -135,7 +139,7 @@ fn map_line(sheet: &[u8], work: &mut [u8], n: usize, i: usize, size: u32)
 // A frame, or a block that a need writes out.
 pub fn put_line(sheet: &[u8], work: &mut [u8], n: usize, i: usize, out: &mut [u8], p: Spot) -> Spot
     requires { ⌜ (ShapeLine (now sheet) (now work) n i) × (p .id < 2048) ⌝ }
-    ensures { λ q. ⌜ Rowed (writtenShape (now (sheet .entry)) i) p q (now (work .entry)) (now (work .exit)) (now (out .entry)) (now (out .exit)) ⌝ }
+    ensures { λ q. ⌜ TypesWrote ((writtenShape (now (sheet .entry)) i) ∷ []) p q (now (work .entry)) (now (work .exit)) (now (out .entry)) (now (out .exit)) ⌝ }
 {
     let size = type_lines::shape::size_at(sheet, work, n, i);
     map_line(sheet, work, n, i, size);

@@ -18,8 +18,9 @@ use Rattle.records.specs.Log.{logOf}
 use Rattle.type_keys.proofs.Distinct.{newKey, distinct-more}
 use Rattle.type_lines.proofs.Frames.{frames-all, frames-few}
 use Rattle.type_row.specs.declared.Spot.{Spot}
-use Rattle.type_rows.specs.Rows.{Wrotes, shapesOf}
-use Rattle.type_rows.proofs.Wrotes.{wrotes-then}
+use Rattle.type_row.specs.Row.{TypesWrote}
+use Rattle.type_rows.specs.Rows.{shapesOf}
+use Rattle.type_rows.proofs.Wrotes.{types-then}
 
 -- keys keep their positions when more come
 record Longer (l k : List TypeKey) : Type 0 where
@@ -33,7 +34,7 @@ longer l (m ∷ ms) =
     let x = longer (l ++ (m ∷ [])) ms in
     record { rest = newKey m (distinct [] l) ++ x .rest; is = ap (distinct []) (sym z) ∙ x .is ∙ rw (distinct-more m l) (append-assoc (distinct [] l) (newKey m (distinct [] l)) (x .rest)) }
 
-pub keys-split : (l ms : List TypeKey) → distinct [] (l ++ ms) ≡ distinct [] l ++ drop (length (distinct [] l)) (distinct [] (l ++ ms))
+keys-split : (l ms : List TypeKey) → distinct [] (l ++ ms) ≡ distinct [] l ++ drop (length (distinct [] l)) (distinct [] (l ++ ms))
 keys-split l ms =
     let x = longer l ms in
     x .is ∙ ap (λ (r : List TypeKey). distinct [] l ++ r) (sym (ap (drop (length (distinct [] l))) (x .is) ∙ drop-at (distinct [] l) (x .rest) (length (distinct [] l)) refl))
@@ -46,15 +47,15 @@ descriptors-are s is =
     (ap (map (keyShape (logOf s))) (keys-split (sheetSource s .needs) (concatMap arrayKey is)) ∙ map-append (keyShape (logOf s)) (distinct [] (sheetSource s .needs)) (drop (length (distinct [] (sheetSource s .needs))) (distinct [] (sheetSource s .needs ++ concatMap arrayKey is))))
 
 pub all-rows : (s : List ℕ) (is : List Item) {p q r z : Spot} {at : ℕ} {d0 d1 d2 d3 d4 t0 t1 t2 t3 t4 : List ℕ}
-    → Wrotes (opaqueShape ∷ opaqueShape ∷ []) (record { at = at; id = 0 }) p t0 t1 d0 d1 → Wrotes (sheetSource s .frames) p q t1 t2 d1 d2
-    → Wrotes (shapesOf s (distinct [] (sheetSource s .needs))) q r t2 t3 d2 d3
-    → Wrotes (shapesOf s (drop (length (distinct [] (sheetSource s .needs))) (distinct [] (sheetSource s .needs ++ concatMap arrayKey is)))) r z t3 t4 d3 d4
+    → TypesWrote (opaqueShape ∷ opaqueShape ∷ []) (record { at = at; id = 0 }) p t0 t1 d0 d1 → TypesWrote (sheetSource s .frames) p q t1 t2 d1 d2
+    → TypesWrote (shapesOf s (distinct [] (sheetSource s .needs))) q r t2 t3 d2 d3
+    → TypesWrote (shapesOf s (drop (length (distinct [] (sheetSource s .needs))) (distinct [] (sheetSource s .needs ++ concatMap arrayKey is)))) r z t3 t4 d3 d4
     → Wrote d0 at (typeRows 0 (descriptors (sheetSource s) is)) d4 (z .at)
 all-rows s is w0 w1 w2 w3 =
     let a = shapesOf s (distinct [] (sheetSource s .needs)) in
     let b = shapesOf s (drop (length (distinct [] (sheetSource s .needs))) (distinct [] (sheetSource s .needs ++ concatMap arrayKey is))) in
     let fs = sheetSource s .frames in
-    wrote-as (ap (typeRows 0) (sym (descriptors-are s is))) (wrotes-then (opaqueShape ∷ opaqueShape ∷ []) (fs ++ (a ++ b)) w0 (wrotes-then fs (a ++ b) w1 (wrotes-then a b w2 w3)) .wrote)
+    wrote-as (ap (typeRows 0) (sym (descriptors-are s is))) (types-then (opaqueShape ∷ opaqueShape ∷ []) (fs ++ (a ++ b)) w0 (types-then fs (a ++ b) w1 (types-then a b w2 w3)) .wrote)
 
 pub frames-low : (s t : List ℕ) (n : ℕ) → Checked s t n → length (sheetSource s .frames) ≤ 128
 frames-low s t n c = rw (← frames-all s t n c) (frames-few s t n c n (omega arith))

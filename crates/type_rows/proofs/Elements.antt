@@ -20,15 +20,15 @@ use Rattle.semantics.specs.Types.{sameTypeKey, distinct, position, arrayKey, el
 use Rattle.checks.specs.Checks.{Kept}
 use Rattle.checks.proofs.Kept.{kept-less}
 use Rattle.records.specs.Log.{logOf}
-use Rattle.type_keys.specs.Table.{kindFromOne, positionFromOne, Kinds}
+use Rattle.type_keys.specs.Table.{kindPosition, positionFromOne, Kinds}
 use Rattle.type_keys.proofs.Distinct.{newKey, position-none, position-new, position-known, distinct-more, from-one-some}
 use Rattle.type_keys.proofs.Table.{kind-kept}
 use Rattle.type_lines.proofs.Codes.{kind-low, elems-are}
 use Rattle.type_row.specs.declared.Spot.{Spot}
-use Rattle.type_row.specs.Row.{Rowed}
-use Rattle.type_rows.specs.Rows.{Wrotes, shapesOf}
-use Rattle.type_rows.proofs.Wrotes.{wrotes-none, wrotes-one, keys-then}
-use Rattle.type_row.proofs.Maps.{rowed-as}
+use Rattle.type_row.specs.Row.{TypesWrote}
+use Rattle.type_rows.specs.Rows.{shapesOf}
+use Rattle.type_rows.proofs.Wrotes.{types-none, keys-then}
+use Rattle.type_row.proofs.Maps.{types-as}
 use Rattle.semantics.proofs.Common.{never}
 
 pub not-below : (a b : ℕ) → (a < b → ⊥) → b ≤ a
@@ -151,14 +151,14 @@ back-number (suc (suc (suc (suc zero)))) h = refl
 back-number (suc (suc (suc (suc (suc r))))) h = absurd (omega arith)
 
 module _ (t : List ℕ) (ls : List TypeKey) (is : List Item) (keys : ℕ) (x : Kinds t (ls ++ concatMap arrayKey is) keys) (p : ℕ) (h : length (distinct [] ls) ≤ p) (k : p < keys) (r : ℕ)
-    (found : r < 5 → kindFromOne t r ≡ p + 1) (first : (j : ℕ) → j < 5 → kindFromOne t j ≡ p + 1 → r ≤ j) where
+    (found : r < 5 → kindPosition t r ≡ p + 1) (first : (j : ℕ) → j < 5 → kindPosition t j ≡ p + 1 → r ≤ j) where
   abbrev K : List TypeKey
   K = distinct [] (ls ++ concatMap arrayKey is)
 
   at : ElemAt (distinct [] (ls ++ concatMap arrayKey is)) p
   at = elems ls is p h (omega (arith, x .count))
 
-  at-position : kindFromOne t (kindNumber (at .kind)) ≡ p + 1
+  at-position : kindPosition t (kindNumber (at .kind)) ≡ p + 1
   at-position =
       let z : position (elemKey (at .kind)) K ≡ p = rw (at .is) at (own-at (ls ++ concatMap arrayKey is) p (omega (arith, x .count))) in
       let a = any-of (elemKey (at .kind)) K (omega (arith, z, x .count)) in
@@ -178,8 +178,8 @@ module _ (t : List ℕ) (ls : List TypeKey) (is : List Item) (keys : ℕ) (x : K
       e ∙ eqb-true (kindNumber m) (kindNumber (at .kind)) (sym (elems-are m (at .kind)) ∙ (rw (at .is) at w))
 
   -- so the row that is written is that of the key there
-  pub elem-row : (s : List ℕ) {y z : Spot} {b u d e : List ℕ} → ((m : ElemKind) → r ≡ kindNumber m → Rowed (elemShape m) y z b u d e) → Rowed (keyShape (logOf s) (getD (distinct [] (ls ++ concatMap arrayKey is)) p opaqueKey)) y z b u d e
-  elem-row s w = rowed-as (sym (ap (keyShape (logOf s)) (at .is))) (w (at .kind) r-is)
+  pub elem-row : (s : List ℕ) {y z : Spot} {b u d e : List ℕ} → ((m : ElemKind) → r ≡ kindNumber m → TypesWrote ((elemShape m) ∷ []) y z b u d e) → TypesWrote ((keyShape (logOf s) (getD (distinct [] (ls ++ concatMap arrayKey is)) p opaqueKey)) ∷ []) y z b u d e
+  elem-row s w = types-as (sym (ap (keyShape (logOf s)) (at .is))) (w (at .kind) r-is)
 
 -- ---- row by row
 
@@ -187,14 +187,14 @@ module _ (t : List ℕ) (ls : List TypeKey) (is : List Item) (keys : ℕ) (x : K
 abbrev pub KindRows : ℕ → Spot → Spot → List ℕ → List ℕ → List ℕ → List ℕ → ℕ → Type 0
 KindRows base p q t u d e keys =
     (s : List ℕ) (ls : List TypeKey) (is : List Item) → p .id ≡ base + length (distinct [] ls) → Kinds t (ls ++ concatMap arrayKey is) keys
-    → Wrotes (shapesOf s (take (q .id - p .id) (drop (length (distinct [] ls)) (distinct [] (ls ++ concatMap arrayKey is))))) p q t u d e
+    → TypesWrote (shapesOf s (take (q .id - p .id) (drop (length (distinct [] ls)) (distinct [] (ls ++ concatMap arrayKey is))))) p q t u d e
 
 pub kinds-start : (base keys : ℕ) (p : Spot) {t d : List ℕ} → p .at ≤ length d + 1 → KindRows base p p t t d d keys
-kinds-start base keys p h s ls is e x = let z : p .id - p .id ≡ 0 = omega arith in rw z (wrotes-none h)
+kinds-start base keys p h s ls is e x = let z : p .id - p .id ≡ 0 = omega arith in rw z (types-none h)
 
 module _ (base keys : ℕ) (p q : Spot) {t u d e : List ℕ} (lo : p .id ≤ q .id) (hi : q .id < base + keys) (b : base ≤ p .id) (w : KindRows base p q t u d e keys) (kept : Kept 49152 t u) where
-  pub kinds-next : (r : ℕ) (n : Spot) {v f : List ℕ} → (r < 5 → kindFromOne u r ≡ q .id - base + 1) → ((j : ℕ) → j < 5 → kindFromOne u j ≡ q .id - base + 1 → r ≤ j)
-      → ((m : ElemKind) → r ≡ kindNumber m → Rowed (elemShape m) q n u v e f) → n .id ≡ q .id + 1 → KindRows base p n t v d f keys
+  pub kinds-next : (r : ℕ) (n : Spot) {v f : List ℕ} → (r < 5 → kindPosition u r ≡ q .id - base + 1) → ((j : ℕ) → j < 5 → kindPosition u j ≡ q .id - base + 1 → r ≤ j)
+      → ((m : ElemKind) → r ≡ kindNumber m → TypesWrote ((elemShape m) ∷ []) q n u v e f) → n .id ≡ q .id + 1 → KindRows base p n t v d f keys
   kinds-next r n found first row next s ls is g x =
       let l = length (distinct [] ls) in
       let K = distinct [] (ls ++ concatMap arrayKey is) in
@@ -205,11 +205,11 @@ module _ (base keys : ℕ) (p q : Spot) {t u d e : List ℕ} (lo : p .id ≤ q .
       let low : j < length (drop l K) = omega (arith, length-drop l K, x .count, lo, g, hi) in
       let o : getD (drop l K) j opaqueKey ≡ getD K (q .id - base) opaqueKey = getD-drop l K j opaqueKey ∙ ap (λ (i : ℕ). getD K i opaqueKey) y in
       let one = elem-row t ls is keys x (q .id - base) (omega (arith, lo, g)) (omega (arith, hi, b, lo)) r (λ h. sym (kind-kept low-kept r h) ∙ found h) (λ i h c. first i h (kind-kept low-kept i h ∙ c)) s row in
-      rw (z, take-suc (drop l K) j opaqueKey low, o) (keys-then s (take j (drop l K)) (getD K (q .id - base) opaqueKey) (w s ls is g x) (wrotes-one one))
+      rw (z, take-suc (drop l K) j opaqueKey low, o) (keys-then s (take j (drop l K)) (getD K (q .id - base) opaqueKey) (w s ls is g x) one)
 
 pub kinds-end : (base keys : ℕ) (p q : Spot) {t u d e : List ℕ} → p .id ≤ q .id → base + keys ≤ q .id → KindRows base p q t u d e keys
     → (s : List ℕ) (ls : List TypeKey) (is : List Item) → p .id ≡ base + length (distinct [] ls) → Kinds t (ls ++ concatMap arrayKey is) keys
-    → Wrotes (shapesOf s (drop (length (distinct [] ls)) (distinct [] (ls ++ concatMap arrayKey is)))) p q t u d e
+    → TypesWrote (shapesOf s (drop (length (distinct [] ls)) (distinct [] (ls ++ concatMap arrayKey is)))) p q t u d e
 kinds-end base keys p q lo hi w s ls is g x =
     let l = length (distinct [] ls) in
     let K = distinct [] (ls ++ concatMap arrayKey is) in

@@ -17,7 +17,7 @@ use Rattle.type_lines.specs.Needs.{needAt, NeedLine, kindBy}
 use Rattle.type_lines.specs.Shapes.{writtenShape}
 use Rattle.type_lines.proofs.Forms.{elemBy, form-from}
 use Rattle.type_lines.proofs.ByForm.{name-key, block-key, opaque-key, plain-key}
-use Rattle.type_row.specs.Row.{words}
+use Rattle.type_row.specs.Row.{wordOffsets}
 
 elem-kind : (d : ℕ) → d < 5 → kindBy (35 + d) ≡ kindNumber (elemBy (35 + d))
 elem-kind zero h = refl
@@ -62,8 +62,8 @@ module _ (s t : List ℕ) (n i : ℕ) (l : NeedLine s t n i) (e : formAt t i ≡
   pub unknown-size : j ≡ 0 → 4 ≡ keyShape (logOf s) (needAt s i) .size
   unknown-size z = sym (rw (named, x .last (unknown key), z))
 
-  pub unknown-words : j ≡ 0 → words 0 ≡ keyShape (logOf s) (needAt s i) .pointers
-  unfolding words
+  pub unknown-words : j ≡ 0 → wordOffsets 0 ≡ keyShape (logOf s) (needAt s i) .pointers
+  unfolding wordOffsets
   unknown-words z = sym (rw (named, x .last (unknown key), z))
 
   module _ (m : ℕ) (g : RecordsLogged s t n m) (z : j ≡ 0 → ⊥) where

@@ -14,7 +14,8 @@ use Rattle.semantics.specs.Sheet.{sheetSource}
 use Rattle.semantics.specs.Types.{sameTypeKey, distinct, position, keyShape}
 use Rattle.semantics.specs.Listing.{typeRows}
 use Rattle.laws.proofs.Lists.{map-append}
-use Rattle.write.proofs.Wrote.{wrote-none}
+use Rattle.write.specs.Wrote.{Wrote}
+use Rattle.write.proofs.Wrote.{wrote-none, then}
 use Rattle.checks.specs.Checks.{Kept}
 use Rattle.checks.proofs.Kept.{kept-all, kept-then, kept-less, kept-at}
 use Rattle.records.specs.Log.{logOf}
@@ -24,19 +25,20 @@ use Rattle.type_keys.specs.Table.{needLineOf, positionOf}
 use Rattle.type_keys.proofs.Distinct.{newKey, position-none, position-low, position-more, distinct-more, key-member, known-more}
 use Rattle.records.specs.declared.key.Log.{Log}
 use Rattle.type_row.specs.declared.Spot.{Spot}
-use Rattle.type_row.specs.Row.{Rowed}
-use Rattle.type_rows.specs.Rows.{Wrotes, keysTo, shapesOf, TypeTables}
+use Rattle.type_row.specs.Row.{TypesWrote}
+use Rattle.type_rows.specs.Rows.{keysTo, shapesOf, TypeTables}
 use Rattle.type_row.proofs.Rows.{rows-then}
 
-pub wrotes-none : {p : Spot} {t d : List ℕ} → p .at ≤ length d + 1 → Wrotes [] p p t t d d
+pub types-none : {p : Spot} {t d : List ℕ} → p .at ≤ length d + 1 → TypesWrote [] p p t t d d
 unfolding typeRows
-wrotes-none {p} {t} {d} h = record { wrote = wrote-none d (p .at) h; id = omega arith; kept = kept-all }
+types-none {p} {t} {d} h = record { wrote = wrote-none d (p .at) h; id = omega arith; kept = kept-all }
 
-pub wrotes-one : {x : Shape} {p q : Spot} {t u d e : List ℕ} → Rowed x p q t u d e → Wrotes (x ∷ []) p q t u d e
-wrotes-one w = record { wrote = w .wrote; id = w .id; kept = w .kept }
+-- the place may lie behind the buffer
+pub types-from : (p : Spot) {b : ℕ} {q : Spot} {xs : List Shape} {t u d e : List ℕ} → Wrote d (p .at) [] d b → TypesWrote xs (record { at = b; id = p .id }) q t u d e → TypesWrote xs p q t u d e
+types-from p w x = record { wrote = then w (x .wrote); id = x .id; kept = x .kept }
 
-pub wrotes-then : (xs ys : List Shape) {p q r : Spot} {t u v d e f : List ℕ} → Wrotes xs p q t u d e → Wrotes ys q r u v e f → Wrotes (xs ++ ys) p r t v d f
-wrotes-then xs ys {p} {q} {r} a b = record {
+pub types-then : (xs ys : List Shape) {p q r : Spot} {t u v d e f : List ℕ} → TypesWrote xs p q t u d e → TypesWrote ys q r u v e f → TypesWrote (xs ++ ys) p r t v d f
+types-then xs ys {p} {q} {r} a b = record {
   wrote = rows-then (p .id) xs ys (q .id) (a .id) (a .wrote) (b .wrote);
   id = omega (arith, a .id, b .id, length-append xs ys);
   kept = kept-then (a .kept) (b .kept);
@@ -105,8 +107,8 @@ module _ (s t : List ℕ) (c : Log) (x : TypeTables s t c) (q : ℕ) (low : q < 
         go false e = refl
 
 -- one more key's row
-pub keys-then : (s : List ℕ) (l : List TypeKey) (y : TypeKey) {p q r : Spot} {t u v d e f : List ℕ} → Wrotes (shapesOf s l) p q t u d e → Wrotes (keyShape (logOf s) y ∷ []) q r u v e f → Wrotes (shapesOf s (l ++ (y ∷ []))) p r t v d f
-keys-then s l y a b = rw (map-append (keyShape (logOf s)) l (y ∷ [])) (wrotes-then (shapesOf s l) (keyShape (logOf s) y ∷ []) a b)
+pub keys-then : (s : List ℕ) (l : List TypeKey) (y : TypeKey) {p q r : Spot} {t u v d e f : List ℕ} → TypesWrote (shapesOf s l) p q t u d e → TypesWrote (keyShape (logOf s) y ∷ []) q r u v e f → TypesWrote (shapesOf s (l ++ (y ∷ []))) p r t v d f
+keys-then s l y a b = rw (map-append (keyShape (logOf s)) l (y ∷ [])) (types-then (shapesOf s l) (keyShape (logOf s) y ∷ []) a b)
 
 pub shapes-length : (s : List ℕ) (l : List TypeKey) → length (shapesOf s l) ≡ length l
 shapes-length s [] = refl

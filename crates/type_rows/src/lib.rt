@@ -22,11 +22,11 @@ ghost use Rattle.records.specs.Log.{logOf, RecordsLogged};
 ghost use Rattle.type_lines.specs.Needs.{needAt, NeedLine};
 ghost use Rattle.type_keys.specs.Table.{Kinds};
 ghost use Rattle.type_row.specs.declared.Spot.{Spot};
-ghost use Rattle.type_row.specs.Row.{Rowed};
-ghost use Rattle.type_rows.specs.Rows.{Wrotes, keysTo, shapesOf, TypeTables};
+ghost use Rattle.type_row.specs.Row.{TypesWrote};
+ghost use Rattle.type_rows.specs.Rows.{keysTo, shapesOf, TypeTables};
 
 // How many needs there are, and how many keys: those of needs, then those of array elements.
-pub struct Keys {
+pub struct KeyCounts {
     pub needs: usize,
     pub keys: usize,
 }
@@ -34,7 +34,7 @@ pub struct Keys {
 // Two opaque records.
 fn opaque_rows(work: &mut [u8], out: &mut [u8], at: usize) -> Spot
     requires { ⌜ 65536 ≤ length (now work) ⌝ }
-    ensures { λ q. ⌜ Wrotes (opaqueShape ∷ opaqueShape ∷ []) (record { at = at; id = 0 }) q (now (work .entry)) (now (work .exit)) (now (out .entry)) (now (out .exit)) ⌝ }
+    ensures { λ q. ⌜ TypesWrote (opaqueShape ∷ opaqueShape ∷ []) (record { at = at; id = 0 }) q (now (work .entry)) (now (work .exit)) (now (out .entry)) (now (out .exit)) ⌝ }
 {
     let p = type_row::put_opaque(work, out, Spot { at, id: 0 });
     type_row::put_opaque(work, out, p)
@@ -45,7 +45,7 @@ fn opaque_rows(work: &mut [u8], out: &mut [u8], at: usize) -> Spot
 // The row of line i, where it is a frame.
 fn next_frame(sheet: &[u8], work: &mut [u8], n: usize, i: usize, out: &mut [u8], r: Spot) -> Spot
     requires { ⌜ (Checked (now sheet) (now work) n) × (i < n) × (r .id < 1024) × (r .at ≤ length (now out) + 1) ⌝ }
-    ensures { λ q. ⌜ Wrotes (declaresAt (nodesIn (now (sheet .entry))) i .frames) r q (now (work .entry)) (now (work .exit)) (now (out .entry)) (now (out .exit)) ⌝ }
+    ensures { λ q. ⌜ TypesWrote (declaresAt (nodesIn (now (sheet .entry))) i .frames) r q (now (work .entry)) (now (work .exit)) (now (out .entry)) (now (out .exit)) ⌝ }
 {
     if type_lines::frame::is_frame(sheet, work, n, i) {
         return type_row::put_line(sheet, work, n, i, out, r);
@@ -56,7 +56,7 @@ fn next_frame(sheet: &[u8], work: &mut [u8], n: usize, i: usize, out: &mut [u8],
 // Frames are never shared.
 fn frame_rows(sheet: &[u8], work: &mut [u8], n: usize, out: &mut [u8], p: Spot) -> Spot
     requires { ⌜ (Checked (now sheet) (now work) n) × (p .id ≤ 2) × (p .at ≤ length (now out) + 1) ⌝ }
-    ensures { λ q. ⌜ Wrotes (sheetSource (now (sheet .entry)) .frames) p q (now (work .entry)) (now (work .exit)) (now (out .entry)) (now (out .exit)) ⌝ }
+    ensures { λ q. ⌜ TypesWrote (sheetSource (now (sheet .entry)) .frames) p q (now (work .entry)) (now (work .exit)) (now (out .entry)) (now (out .exit)) ⌝ }
 {
     let mut r = p;
     let mut i = 0;
@@ -72,7 +72,7 @@ fn frame_rows(sheet: &[u8], work: &mut [u8], n: usize, out: &mut [u8], p: Spot) 
 // The row of what the `need` line i asks for.
 fn put_need(sheet: &[u8], work: &mut [u8], c: Log, i: usize, out: &mut [u8], p: Spot) -> Spot
     requires { ⌜ (RecordsLogged (now sheet) (now work) (c .lines) (c .entries)) × (NeedLine (now sheet) (now work) (c .lines) i) × (p .id < 2048) ⌝ }
-    ensures { λ q. ⌜ Rowed (keyShape (logOf (now (sheet .entry))) (needAt (now (sheet .entry)) i)) p q (now (work .entry)) (now (work .exit)) (now (out .entry)) (now (out .exit)) ⌝ }
+    ensures { λ q. ⌜ TypesWrote ((keyShape (logOf (now (sheet .entry))) (needAt (now (sheet .entry)) i)) ∷ []) p q (now (work .entry)) (now (work .exit)) (now (out .entry)) (now (out .exit)) ⌝ }
 {
     let f = lines::form_at(work, i);
     if f == need::ADT {
@@ -98,7 +98,7 @@ fn next_need(
     r: Spot,
 ) -> Spot
     requires { ⌜ (TypeTables (now sheet) (now work) c) × (q < length (sheetSource (now sheet) .needs)) × (base < 1024) × (r .id ≡ base + length (keysTo (now sheet) q)) × (r .at ≤ length (now out) + 1) ⌝ }
-    ensures { λ z. ⌜ ((p : Spot) (t d : Bytes) → Wrotes (shapesOf (now (sheet .entry)) (keysTo (now (sheet .entry)) q)) p r t (now (work .entry)) d (now (out .entry)) → Wrotes (shapesOf (now (sheet .entry)) (keysTo (now (sheet .entry)) (q + 1))) p z t (now (work .exit)) d (now (out .exit))) × (z .id ≡ base + length (keysTo (now (sheet .entry)) (q + 1))) ⌝ }
+    ensures { λ z. ⌜ ((p : Spot) (t d : Bytes) → TypesWrote (shapesOf (now (sheet .entry)) (keysTo (now (sheet .entry)) q)) p r t (now (work .entry)) d (now (out .entry)) → TypesWrote (shapesOf (now (sheet .entry)) (keysTo (now (sheet .entry)) (q + 1))) p z t (now (work .exit)) d (now (out .exit))) × (z .id ≡ base + length (keysTo (now (sheet .entry)) (q + 1))) ⌝ }
 {
     if base + type_keys::need_position(work, q) != r.id {
         return r;
@@ -110,7 +110,7 @@ fn next_need(
 // Each key of a need once, where it first comes.
 fn need_rows(sheet: &[u8], work: &mut [u8], c: Log, needs: usize, out: &mut [u8], p: Spot) -> Spot
     requires { ⌜ (TypeTables (now sheet) (now work) c) × (needs ≡ length (sheetSource (now sheet) .needs)) × (p .id < 1024) × (p .at ≤ length (now out) + 1) ⌝ }
-    ensures { λ r. ⌜ Wrotes (shapesOf (now (sheet .entry)) (distinct [] (sheetSource (now (sheet .entry)) .needs))) p r (now (work .entry)) (now (work .exit)) (now (out .entry)) (now (out .exit)) ⌝ }
+    ensures { λ r. ⌜ TypesWrote (shapesOf (now (sheet .entry)) (distinct [] (sheetSource (now (sheet .entry)) .needs))) p r (now (work .entry)) (now (work .exit)) (now (out .entry)) (now (out .exit)) ⌝ }
 {
     let base = p.id;
     let mut r = p;
@@ -124,9 +124,16 @@ fn need_rows(sheet: &[u8], work: &mut [u8], c: Log, needs: usize, out: &mut [u8]
 
 // ---- all types
 
-// Two opaque records, the frames, and the keys, those of array elements, which are entered before, last.
-pub fn type_rows(sheet: &[u8], work: &mut [u8], c: Log, k: Keys, out: &mut [u8], at: usize) -> usize
-    requires { ⌜ (TypeTables (now sheet) (now work) c) × (k .needs ≡ length (sheetSource (now sheet) .needs)) × (k .keys < 1024) × (at ≤ length (now out) + 1) ⌝ }
+// Two opaque records, the frames, and the keys, those of array elements, which are entered before, last: the Rust's `build_types`.
+pub fn type_rows(
+    sheet: &[u8],
+    work: &mut [u8],
+    c: Log,
+    k: KeyCounts,
+    out: &mut [u8],
+    at: usize,
+) -> usize
+    requires { ⌜ (TypeTables (now sheet) (now work) c) × (k .needs ≡ length (sheetSource (now sheet) .needs)) × (k .keys < 1024) ⌝ }
     ensures { λ r. ⌜ ((is : List Item) → Kinds (now (work .entry)) (sheetSource (now (sheet .entry)) .needs ++ concatMap arrayKey is) (k .keys) → Wrote (now (out .entry)) at (typeRows 0 (descriptors (sheetSource (now (sheet .entry))) is)) (now (out .exit)) r) × (Kept 49152 (now (work .entry)) (now (work .exit))) ⌝ }
 {
     let p = opaque_rows(work, out, at);

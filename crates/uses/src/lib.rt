@@ -1,6 +1,6 @@
 // `use` rows.
 ghost use mathlib.Core.List.{List, _∷_, []};
-ghost use Prim.Native.Nat.{_+_, _≤_};
+ghost use Prim.Native.Nat.{_≤_};
 ghost use lib.ListN.{length};
 ghost use Rattle.semantics.specs.Text.{Bytes, bytes, decimal};
 ghost use Rattle.semantics.specs.Sheet.{sheetSource, concatMap};
@@ -20,10 +20,10 @@ fn put_use(out: &mut [u8], at: usize, id: usize) -> usize
 
 // The ID of what each `need` line asks for, whatever arrays there are.
 pub fn use_rows(work: &[u8], needs: usize, frames: usize, out: &mut [u8], at: usize) -> usize
-    requires { ⌜ (needs ≤ 128) × (frames ≤ 128) × (65536 ≤ length (now work)) × (at ≤ length (now out) + 1) ⌝ }
+    requires { ⌜ (needs ≤ 128) × (frames ≤ 128) × (65536 ≤ length (now work)) ⌝ }
     ensures { λ r. ⌜ ((s : Bytes) (is : List Item) → NeedIds s (now (work .entry)) needs frames → Wrote (now (out .entry)) at (concatMap (useRow (idOf (sheetSource s) is)) (sheetSource s .needs)) (now (out .exit)) r) ⌝ }
 {
-    let mut p = at;
+    let mut p = write::nothing(out, at);
     let mut q = 0;
     while q < needs {
         p = put_use(out, p, type_keys::ids::need_id(work, frames, q));

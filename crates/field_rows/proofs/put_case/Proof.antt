@@ -4,7 +4,7 @@ use Rattle.field_rows.proofs.put_case.Statement.{statement}
 use Rattle.field_rows.proofs.put_case.Tie as tie
 
 put-fields-requires : tie.Need-put-fields-requires
-put-fields-requires c κs = (c .before .case-refs .ensures .0, omega (arith, c .before .before .before .before .before .pre .1), c .before .before .before .before .before .pre .2)
+put-fields-requires c κs = (c .before .case-refs .ensures .0, omega (arith, c .before .before .before .before .before .pre .1))
 
 returns : tie.Need-returns
 returns c = rw (c .before .before .before .before .case-refs .ensures .1) at (c .before .before .put-fields .ensures .0)

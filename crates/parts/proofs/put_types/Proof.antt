@@ -6,16 +6,14 @@ use Rattle.parts.proofs.Types.{types-ready, still-checked, uses-ready, 
 use borrow.Author.Needs.{needs}
 use Rattle.parts.proofs.put_types.Statement.{statement}
 use Rattle.parts.proofs.put_types.Tie as tie
-use Rattle.write.proofs.Wrote.{place-low}
 
 type-rows-requires : tie.Need-type-rows-requires
-type-rows-requires c κs = (types-ready (c .before .before .before .before .before .before .before .before .before .before .before .before .before .before .pre) (c .before .before .before .before .before .before .before .before .before .frame-count .ensures) (c .before .before .before .before .before .before .data-rows .ensures .3), c .before .before .before .before .before .before .before .before .before .before .before .before .before .before .pre .held .count, c .before .before .before .before .before .before .data-rows .ensures .2, place-low (c .before .before .before .before .before .before .data-rows .ensures .0))
+type-rows-requires c κs = (types-ready (c .before .before .before .before .before .before .before .before .before .before .before .before .before .before .pre) (c .before .before .before .before .before .before .before .before .before .frame-count .ensures) (c .before .before .before .before .before .before .data-rows .ensures .3), c .before .before .before .before .before .before .before .before .before .before .before .before .before .before .pre .held .count, c .before .before .before .before .before .before .data-rows .ensures .2)
 
 use-rows-requires : tie.Need-use-rows-requires
 use-rows-requires c κs =
-    let w = c .before .before .before .before .before .before .type-rows .ensures .0 (itemsIn (now (c .before .before .before .before .before .before .before .before .before .before .before .before .before .before .before .before .before .before .before .before .before .args .sheet)) (now (c .before .before .before .before .before .before .before .before .before .before .before .before .before .before .before .before .before .before .before .before .before .args .work)) (c .before .before .before .before .before .before .before .before .before .before .before .before .before .before .before .before .before .before .before .before .before .args .x .consts)) (c .before .before .before .before .before .before .before .before .before .before .before .before .before .data-rows .ensures .1) in
     let k = still-checked (c .before .before .before .before .before .before .before .before .before .before .before .before .before .before .before .before .before .before .before .before .before .pre) (c .before .before .before .before .before .before .before .before .before .before .before .before .before .before .before .before .frame-count .ensures) (c .before .before .before .before .before .before .before .before .before .before .before .before .before .data-rows .ensures .3) (c .before .before .before .before .before .before .type-rows .ensures .1) in
-    (omega (arith, c .before .before .before .before .before .before .before .before .before .before .before .before .before .before .before .before .before .before .before .before .before .pre .held .count, c .before .before .before .before .before .before .before .before .before .before .before .before .before .before .before .before .before .before .before .before .before .pre .held .needs .few), c .before .before .before .before .before .before .before .before .before .before .before .before .before .before .before .before .frame-count .ensures .1, k .whole .room, place-low w)
+    (omega (arith, c .before .before .before .before .before .before .before .before .before .before .before .before .before .before .before .before .before .before .before .before .before .pre .held .count, c .before .before .before .before .before .before .before .before .before .before .before .before .before .before .before .before .before .before .before .before .before .pre .held .needs .few), c .before .before .before .before .before .before .before .before .before .before .before .before .before .before .before .before .frame-count .ensures .1, k .whole .room)
 
 returns : tie.Need-returns
 returns c =

@@ -30,7 +30,7 @@ loop-again : tie.Need-loop-again Inv-loop μ-loop
 loop-again c = (omega (arith, c .before .before .before .before .before .before .loop-test .taken), digests-next (c .before .before .before .before .before .before .before .loop .inv .1) (c .before .before .before .before .before .before .loop-test .taken) (c .before .before .before .before .digest-for .ensures .0) (c .before .before .enter-digest .ensures))
 
 same-length : tie.Need-same-length Inv-loop μ-loop
-same-length c = c .before .loop .inv .1 .kept .long
+same-length c = c .before .loop .inv .1 .outside .kept .long
 
 returns : tie.Need-returns Inv-loop μ-loop
 returns c = digests-end (c .before .loop .inv .1) (c .before .loop .inv .0) (c .loop-test .left)

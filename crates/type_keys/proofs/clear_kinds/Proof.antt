@@ -6,12 +6,12 @@ use Prim.Native.Nat.{ℕ, _-_, _<_, _≤_}
 use Rattle.checks.proofs.Kept.{outside-all, outside-then, outside-set}
 use Rattle.type_keys.proofs.Table.{cleared-next}
 use Rattle.checks.specs.Checks.{Outside}
-use Rattle.type_keys.specs.Table.{kindFromOne}
+use Rattle.type_keys.specs.Table.{kindPosition}
 use Rattle.type_keys.proofs.clear_kinds.Statement.{statement}
 use Rattle.type_keys.proofs.clear_kinds.Tie as tie
 
 abbrev Inv-loop : tie.InvT-loop
-Inv-loop work₀ k₀ work k = (k ≤ 5) × (Outside 10624 10629 work₀ work) × ((j : ℕ) → j < k → kindFromOne work j ≡ 0)
+Inv-loop work₀ k₀ work k = (k ≤ 5) × (Outside 10624 10629 work₀ work) × ((j : ℕ) → j < k → kindPosition work j ≡ 0)
 
 abbrev μ-loop : tie.MeasureT-loop
 μ-loop work₀ k₀ work k = 5 - k

@@ -7,13 +7,13 @@ use borrow.Author.Needs.{needs}
 use Prim.Native.Nat.{_≤_, _-_}
 use mathlib.Core.Path.{_≡_}
 use Rattle.maps.proofs.Maps.{room-kept}
-use Rattle.type_row.specs.Row.{words}
+use Rattle.type_row.specs.Row.{wordOffsets}
 use Rattle.type_row.proofs.Maps.{words-next}
 use Rattle.type_row.proofs.map_words.Statement.{statement}
 use Rattle.type_row.proofs.map_words.Tie as tie
 
 abbrev Inv-loop : tie.InvT-loop
-Inv-loop work₀ size count k₀ work k = (k ≤ count) × Marks size (words k) work₀ work
+Inv-loop work₀ size count k₀ work k = (k ≤ count) × Marks size (wordOffsets k) work₀ work
 
 abbrev μ-loop : tie.MeasureT-loop
 μ-loop work₀ size count k₀ work k = count - k

@@ -5,19 +5,20 @@ use Prim.Native.Nat.{_≤_, _-_, _+_}
 use lib.ListN.{length}
 use mathlib.Core.Path.{_≡_, refl}
 use Rattle.write.proofs.Wrote.{wrote-length, place-low}
-use Rattle.type_rows.specs.Rows.{Wrotes, keysTo, shapesOf}
-use Rattle.type_rows.proofs.Wrotes.{wrotes-none, ready-kept, keys-all}
+use Rattle.type_row.specs.Row.{TypesWrote}
+use Rattle.type_rows.specs.Rows.{keysTo, shapesOf}
+use Rattle.type_rows.proofs.Wrotes.{types-none, ready-kept, keys-all}
 use Rattle.type_rows.proofs.need_rows.Statement.{statement}
 use Rattle.type_rows.proofs.need_rows.Tie as tie
 
 abbrev Inv-loop : tie.InvT-loop
-Inv-loop sheet work₀ c needs out₀ base r₀ q₀ work out r q = (q ≤ needs) × (base ≡ r₀ .id) × (r .id ≡ base + length (keysTo sheet q)) × Wrotes (shapesOf sheet (keysTo sheet q)) r₀ r work₀ work out₀ out
+Inv-loop sheet work₀ c needs out₀ base r₀ q₀ work out r q = (q ≤ needs) × (base ≡ r₀ .id) × (r .id ≡ base + length (keysTo sheet q)) × TypesWrote (shapesOf sheet (keysTo sheet q)) r₀ r work₀ work out₀ out
 
 abbrev μ-loop : tie.MeasureT-loop
 μ-loop sheet work₀ c needs out₀ base r₀ q₀ work out r q = needs - q
 
 loop-holds : tie.Need-loop-holds Inv-loop μ-loop
-loop-holds c = (omega arith, refl, omega arith, wrotes-none (c .before .before .before .pre .3))
+loop-holds c = (omega arith, refl, omega arith, types-none (c .before .before .before .pre .3))
 
 next-need-requires : tie.Need-next-need-requires Inv-loop μ-loop
 next-need-requires c κs = (ready-kept (c .before .before .before .loop .inv .3 .kept) (c .before .before .before .before .before .before .before .pre .0), omega (arith, c .before .before .loop-test .taken, c .before .before .before .before .before .before .before .pre .1), omega (arith, c .before .before .before .loop .inv .1, c .before .before .before .before .before .before .before .pre .2), c .before .before .before .loop .inv .2, place-low (c .before .before .before .loop .inv .3 .wrote))

@@ -9,8 +9,8 @@ use Rattle.semantics.specs.Types.{keyShape}
 use Rattle.type_lines.specs.Needs.{needAt}
 use Rattle.type_keys.specs.Table.{needLineOf}
 use Rattle.type_rows.specs.Rows.{keysTo}
-use Rattle.type_rows.proofs.Wrotes.{need-at, need-low, keys-stay, keys-next, keys-then, wrotes-one}
-use Rattle.type_row.proofs.Maps.{rowed-as}
+use Rattle.type_rows.proofs.Wrotes.{need-at, need-low, keys-stay, keys-next, keys-then}
+use Rattle.type_row.proofs.Maps.{types-as}
 use borrow.Author.Needs.{needs}
 use Rattle.type_rows.proofs.next_need.Statement.{statement}
 use Rattle.type_rows.proofs.next_need.Tie as tie
@@ -30,7 +30,7 @@ put-need-requires c κs = (c .before .before .before .before .before .before .be
 returns-2 : tie.Need-returns-2
 returns-2 c = let e = keys-next (now (c .before .before .before .before .before .before .before .before .before .before .before .before .before .before .before .before .args .sheet)) (now (c .before .before .before .before .before .before .before .before .before .before .before .before .before .before .before .before .args .work)) (c .before .before .before .before .before .before .before .before .before .before .before .before .before .before .before .before .args .c) (c .before .before .before .before .before .before .before .before .before .before .before .before .before .before .before .before .pre .0) (c .before .before .before .before .before .before .before .before .before .before .before .before .before .before .before .before .args .q) (c .before .before .before .before .before .before .before .before .before .before .before .before .before .before .before .before .pre .1) (c .before .before .before .before .before .before .before .before .before .before .before .before .before .before .before .before .args .base) (c .before .before .before .before .before .before .before .before .before .before .before .before .before .before .before .before .args .r .id) (c .before .before .before .before .before .before .before .before .before .before .before .before .before .before .before .before .pre .3) (sym (ap (λ (y : ℕ). c .before .before .before .before .before .before .before .before .before .before .before .before .before .before .before .before .args .base + y) (c .before .before .before .before .before .before .before .before .before .before .before .need-position .ensures .0)) ∙ c .before .before .before .before .before .before .before .before .before .if1 .left) in
     let y = needAt (now (c .before .before .before .before .before .before .before .before .before .before .before .before .before .before .before .before .args .sheet)) (needLineOf (now (c .before .before .before .before .before .before .before .before .before .before .before .before .before .before .before .before .args .work)) (c .before .before .before .before .before .before .before .before .before .before .before .before .before .before .before .before .args .q)) in
-    (λ p t d w. rw e (keys-then (now (c .before .before .before .before .before .before .before .before .before .before .before .before .before .before .before .before .args .sheet)) (keysTo (now (c .before .before .before .before .before .before .before .before .before .before .before .before .before .before .before .before .args .sheet)) (c .before .before .before .before .before .before .before .before .before .before .before .before .before .before .before .before .args .q)) y w (wrotes-one (rowed-as (ap (λ (j : ℕ). keyShape (logOf (now (c .before .before .before .before .before .before .before .before .before .before .before .before .before .before .before .before .args .sheet))) (needAt (now (c .before .before .before .before .before .before .before .before .before .before .before .before .before .before .before .before .args .sheet)) j)) (c .before .before .before .before .before .before .before .need-line .ensures)) (c .before .before .before .before .put-need .ensures)))), omega (arith, c .before .before .before .before .before .before .before .before .before .before .before .before .before .before .before .before .pre .3, ap length e, length-append (keysTo (now (c .before .before .before .before .before .before .before .before .before .before .before .before .before .before .before .before .args .sheet)) (c .before .before .before .before .before .before .before .before .before .before .before .before .before .before .before .before .args .q)) (y ∷ [])))
+    (λ p t d w. rw e (keys-then (now (c .before .before .before .before .before .before .before .before .before .before .before .before .before .before .before .before .args .sheet)) (keysTo (now (c .before .before .before .before .before .before .before .before .before .before .before .before .before .before .before .before .args .sheet)) (c .before .before .before .before .before .before .before .before .before .before .before .before .before .before .before .before .args .q)) y w (types-as (ap (λ (j : ℕ). keyShape (logOf (now (c .before .before .before .before .before .before .before .before .before .before .before .before .before .before .before .before .args .sheet))) (needAt (now (c .before .before .before .before .before .before .before .before .before .before .before .before .before .before .before .before .args .sheet)) j)) (c .before .before .before .before .before .before .before .need-line .ensures)) (c .before .before .before .before .put-need .ensures))), omega (arith, c .before .before .before .before .before .before .before .before .before .before .before .before .before .before .before .before .pre .3, ap length e, length-append (keysTo (now (c .before .before .before .before .before .before .before .before .before .before .before .before .before .before .before .before .args .sheet)) (c .before .before .before .before .before .before .before .before .before .before .before .before .before .before .before .before .args .q)) (y ∷ [])))
 
 pub next-need-spec : {M : Type 1} → statement M
 next-need-spec =

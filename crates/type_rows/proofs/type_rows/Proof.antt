@@ -22,7 +22,7 @@ need-rows-requires : tie.Need-need-rows-requires
 need-rows-requires c κs = (ready-kept (c .before .before .before .before .before .before .frame-rows .ensures .kept) (ready-kept (c .before .before .before .before .before .before .before .before .before .before .before .before .before .opaque-rows .ensures .kept) (c .before .before .before .before .before .before .before .before .before .before .before .before .before .before .before .before .before .before .before .pre .0)), c .before .before .before .before .before .before .before .before .before .before .before .before .before .before .before .before .before .before .before .pre .1, omega (arith, c .before .before .before .before .before .before .frame-rows .ensures .id, c .before .before .before .before .before .before .before .before .before .before .before .before .before .opaque-rows .ensures .id, frames-low (now (c .before .before .before .before .before .before .before .before .before .before .before .before .before .before .before .before .before .before .before .args .sheet)) (now (c .before .before .before .before .before .before .before .before .before .before .before .before .before .before .before .before .before .before .before .args .work)) (c .before .before .before .before .before .before .before .before .before .before .before .before .before .before .before .before .before .before .before .args .c .lines) (c .before .before .before .before .before .before .before .before .before .before .before .before .before .before .before .before .before .before .before .pre .0 .log .checked)), place-low (c .before .before .before .before .before .before .frame-rows .ensures .wrote))
 
 kind-rows-requires : tie.Need-kind-rows-requires
-kind-rows-requires c κs = (omega (arith, c .before .before .before .before .before .before .before .before .before .before .before .before .before .before .before .before .before .before .before .before .before .before .before .before .before .before .pre .0 .log .checked .whole .room, c .before .before .before .before .before .before .before .before .before .before .before .before .before .before .before .before .before .before .before .before .opaque-rows .ensures .kept .long, c .before .before .before .before .before .before .before .before .before .before .before .before .before .frame-rows .ensures .kept .long, c .before .before .before .before .before .before .need-rows .ensures .kept .long), omega (arith, c .before .before .before .before .before .before .need-rows .ensures .id), omega (arith, c .before .before .before .before .before .before .before .before .before .before .before .before .before .frame-rows .ensures .id, c .before .before .before .before .before .before .before .before .before .before .before .before .before .before .before .before .before .before .before .before .opaque-rows .ensures .id, frames-low (now (c .before .before .before .before .before .before .before .before .before .before .before .before .before .before .before .before .before .before .before .before .before .before .before .before .before .before .args .sheet)) (now (c .before .before .before .before .before .before .before .before .before .before .before .before .before .before .before .before .before .before .before .before .before .before .before .before .before .before .args .work)) (c .before .before .before .before .before .before .before .before .before .before .before .before .before .before .before .before .before .before .before .before .before .before .before .before .before .before .args .c .lines) (c .before .before .before .before .before .before .before .before .before .before .before .before .before .before .before .before .before .before .before .before .before .before .before .before .before .before .pre .0 .log .checked)), c .before .before .before .before .before .before .before .before .before .before .before .before .before .before .before .before .before .before .before .before .before .before .before .before .before .before .pre .2, place-low (c .before .before .before .before .before .before .need-rows .ensures .wrote))
+kind-rows-requires c κs = (omega (arith, c .before .before .before .before .before .before .before .before .before .before .before .before .before .before .before .before .before .before .before .before .before .before .before .before .before .before .pre .0 .log .checked .whole .room, c .before .before .before .before .before .before .before .before .before .before .before .before .before .before .before .before .before .before .before .before .opaque-rows .ensures .kept .long, c .before .before .before .before .before .before .before .before .before .before .before .before .before .frame-rows .ensures .kept .long, c .before .before .before .before .before .before .need-rows .ensures .kept .long), omega (arith, c .before .before .before .before .before .before .need-rows .ensures .id), omega (arith, c .before .before .before .before .before .before .before .before .before .before .before .before .before .frame-rows .ensures .id, c .before .before .before .before .before .before .before .before .before .before .before .before .before .before .before .before .before .before .before .before .opaque-rows .ensures .id, frames-low (now (c .before .before .before .before .before .before .before .before .before .before .before .before .before .before .before .before .before .before .before .before .before .before .before .before .before .before .args .sheet)) (now (c .before .before .before .before .before .before .before .before .before .before .before .before .before .before .before .before .before .before .before .before .before .before .before .before .before .before .args .work)) (c .before .before .before .before .before .before .before .before .before .before .before .before .before .before .before .before .before .before .before .before .before .before .before .before .before .before .args .c .lines) (c .before .before .before .before .before .before .before .before .before .before .before .before .before .before .before .before .before .before .before .before .before .before .before .before .before .before .pre .0 .log .checked)), c .before .before .before .before .before .before .before .before .before .before .before .before .before .before .before .before .before .before .before .before .before .before .before .before .before .before .pre .2)
 
 returns : tie.Need-returns
 returns c =

@@ -5,7 +5,7 @@ use lib.ListN.{length, take}
 use mathlib.Core.Path.{_≡_, _∙_, refl}
 use mathlib.Core.List.{List}
 use Rattle.write.specs.Wrote.{Wrote}
-use Rattle.write.proofs.Wrote.{wrote-none, wrote-length}
+use Rattle.write.proofs.Wrote.{wrote-length}
 use Rattle.semantics.specs.Text.{Bytes}
 use Rattle.semantics.specs.Listing.{useRow}
 use Rattle.semantics.specs.Types.{idOf}
@@ -23,10 +23,10 @@ abbrev μ-loop : tie.MeasureT-loop
 μ-loop work needs frames out₀ at p₀ q₀ out p q = needs - q
 
 loop-holds : tie.Need-loop-holds Inv-loop μ-loop
-loop-holds c = (omega arith, refl, λ s is x. wrote-none _ _ (c .before .before .pre .3))
+loop-holds c = (omega arith, refl, λ s is x. c .nothing .ensures)
 
 need-id-requires : tie.Need-need-id-requires Inv-loop μ-loop
-need-id-requires c κs = (c .before .before .before .before .before .pre .1, omega (arith, c .before .loop-test .taken, c .before .before .before .before .before .pre .0), c .before .before .before .before .before .pre .2)
+need-id-requires c κs = (c .before .before .before .before .before .before .before .pre .1, omega (arith, c .before .loop-test .taken, c .before .before .before .before .before .before .before .pre .0), c .before .before .before .before .before .before .before .pre .2)
 
 loop-again : tie.Need-loop-again Inv-loop μ-loop
 loop-again c = (
@@ -40,5 +40,5 @@ returns c = λ s is x. uses-end (idOf (sheetSource s) is) (sheetSource s .needs)
 
 pub use-rows-spec : {M : Type 1} → statement M
 use-rows-spec =
-    tie.close (tie.spec Inv-loop μ-loop loop-holds need-id-requires (λ c κs. search needs) (λ c. search needs) (λ c. search needs) loop-again
+    tie.close (tie.spec Inv-loop μ-loop (λ c κs. search needs) loop-holds need-id-requires (λ c κs. search needs) (λ c. search needs) (λ c. search needs) loop-again
     (λ c. search needs) returns)

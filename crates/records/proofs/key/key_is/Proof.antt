@@ -1,10 +1,7 @@
-use mathlib.Core.Path.{sym, ap, _∙_}
+use mathlib.Core.Path.{sym, _∙_}
 use denote.Ref.{now}
-use Rattle.records.specs.Log.{nameOf, tagOf, entryAt}
 use Rattle.records.proofs.Digests.{keys-apart}
-use Rattle.records.proofs.Keys.{plain-key, variant-key, joined-short}
-use lib.ListN.{length}
-use native.Mathlib.Omega.{arith}
+use Rattle.records.proofs.Keys.{plain-key, variant-key}
 use borrow.Author.Needs.{needs}
 use Rattle.records.proofs.key.key_is.Statement.{statement}
 use Rattle.records.proofs.key.key_is.Tie as tie
@@ -16,12 +13,9 @@ returns-2 : tie.Need-returns-2
 returns-2 c = c .same .ensures ∙ rw (c .before .before .before .name-of .ensures, plain-key (now (c .before .before .before .before .before .before .before .before .before .args .sheet)) (now (c .before .before .before .before .before .before .before .before .before .args .work)) (c .before .before .before .before .before .before .before .before .before .args .i) (sym (c .before .before .case-of .ensures .0) ∙ c .before .if2 .taken))
 
 returns-3 : tie.Need-returns-3
-returns-3 c = rw (variant-key (now (c .before .before .before .before .before .before .before .before .before .args .sheet)) (now (c .before .before .before .before .before .before .before .before .before .args .work)) (c .before .before .before .before .before .before .before .before .before .args .i) (λ e. c .before .if2 .left (c .before .before .case-of .ensures .0 ∙ e))) (joined-short (now (c .before .before .before .before .before .before .before .before .before .args .key)) (nameOf (now (c .before .before .before .before .before .before .before .before .before .args .sheet)) (entryAt (now (c .before .before .before .before .before .before .before .before .before .args .work)) (c .before .before .before .before .before .before .before .before .before .args .i))) (tagOf (now (c .before .before .before .before .before .before .before .before .before .args .sheet)) (entryAt (now (c .before .before .before .before .before .before .before .before .before .args .work)) (c .before .before .before .before .before .before .before .before .before .args .i))) (omega (arith, c .if3 .taken, ap length (c .before .before .before .name-of .ensures))))
-
-returns-4 : tie.Need-returns-4
-returns-4 c = c .is-joined .ensures ∙ rw (c .before .before .before .before .before .name-of .ensures, c .before .tag-of .ensures, variant-key (now (c .before .before .before .before .before .before .before .before .before .before .before .args .sheet)) (now (c .before .before .before .before .before .before .before .before .before .before .before .args .work)) (c .before .before .before .before .before .before .before .before .before .before .before .args .i) (λ e. c .before .before .before .if2 .left (c .before .before .before .before .case-of .ensures .0 ∙ e)))
+returns-3 c = c .is-joined .ensures ∙ rw (c .before .before .before .before .name-of .ensures, c .before .tag-of .ensures, variant-key (now (c .before .before .before .before .before .before .before .before .before .before .args .sheet)) (now (c .before .before .before .before .before .before .before .before .before .before .args .work)) (c .before .before .before .before .before .before .before .before .before .before .args .i) (λ e. c .before .before .if2 .left (c .before .before .before .case-of .ensures .0 ∙ e)))
 
 pub key-is-spec : {M : Type 1} → statement M
 key-is-spec =
-    tie.close (tie.spec (λ c κs. search needs) returns (λ c κs. search needs) (λ c κs. search needs) (λ c κs. search needs) returns-2 returns-3
-    (λ c κs. search needs) (λ c κs. search needs) returns-4)
+    tie.close (tie.spec (λ c κs. search needs) returns (λ c κs. search needs) (λ c κs. search needs) (λ c κs. search needs) returns-2
+    (λ c κs. search needs) (λ c κs. search needs) returns-3)

@@ -1,14 +1,14 @@
 use Prim.Native.Nat.{suc, _-_, _<_, _≤_}
 use native.Mathlib.Omega.{arith}
 use borrow.Author.Needs.{needs}
-use Rattle.records.proofs.Keys.{Deciding, deciding-start, deciding-next, deciding-found, newest-none, newest-found}
+use Rattle.records.proofs.Keys.{Deciding, deciding-start, deciding-next, newest-none, newest-found}
 use denote.Ref.{now}
 use mathlib.Core.Path.{_≡_}
 use Rattle.records.proofs.key.newest.Statement.{statement}
 use Rattle.records.proofs.key.newest.Tie as tie
 
 abbrev Inv-loop : tie.InvT-loop
-Inv-loop sheet work c key d i₀ i = (i ≤ c .entries) × (Deciding sheet key i)
+Inv-loop sheet work c key d i₀ i = (i ≤ c .entries) × (Deciding sheet work key (c .entries) i)
 
 abbrev μ-loop : tie.MeasureT-loop
 μ-loop sheet work c key d i₀ i = i
@@ -28,8 +28,7 @@ returns : tie.Need-returns Inv-loop μ-loop
 returns c =
     let z : c .before .before .before .loop .i ≡ suc (c .before .before .before .loop .i - 1) = omega (arith, c .before .before .loop-test .taken) in
     let h : c .before .before .before .loop .i - 1 < c .before .before .before .before .before .before .before .before .args .c .entries = omega (arith, c .before .before .before .loop .inv .0, c .before .before .loop-test .taken) in
-    newest-found (now (c .before .before .before .before .before .before .before .before .args .sheet)) (now (c .before .before .before .before .before .before .before .before .args .work)) (c .before .before .before .before .before .before .before .before .args .c .lines) (c .before .before .before .before .before .before .before .before .args .c .entries) (c .before .before .before .before .before .before .before .before .pre) (now (c .before .before .before .before .before .before .before .before .args .key)) (c .before .before .before .loop .i - 1) _ h (omega arith)
-    (deciding-found (now (c .before .before .before .before .before .before .before .before .args .sheet)) (now (c .before .before .before .before .before .before .before .before .args .work)) (c .before .before .before .before .before .before .before .before .args .c .lines) (c .before .before .before .before .before .before .before .before .args .c .entries) (c .before .before .before .before .before .before .before .before .pre) (now (c .before .before .before .before .before .before .before .before .args .key)) (c .before .before .before .loop .i - 1) h (rw z at (c .before .before .before .loop .inv .1)) (c .before .key-is .ensures) (c .if1 .taken))
+    newest-found (now (c .before .before .before .before .before .before .before .before .args .sheet)) (now (c .before .before .before .before .before .before .before .before .args .work)) (c .before .before .before .before .before .before .before .before .args .c .lines) (c .before .before .before .before .before .before .before .before .args .c .entries) (c .before .before .before .before .before .before .before .before .pre) (now (c .before .before .before .before .before .before .before .before .args .key)) (c .before .before .before .loop .i - 1) _ h (omega arith) (rw z at (c .before .before .before .loop .inv .1)) (c .before .key-is .ensures) (c .if1 .taken)
 
 loop-less : tie.Need-loop-less Inv-loop μ-loop
 loop-less c = omega (arith, c .before .before .loop-test .taken)

@@ -1,6 +1,6 @@
 use Prim.Native.Nat.{suc, _-_, _≤_, _<_}
 use native.Mathlib.Omega.{arith}
-use Rattle.records.proofs.Keys.{Deciding, deciding-start, deciding-next, deciding-found}
+use Rattle.records.proofs.Keys.{Deciding, deciding-start, deciding-next, newest-of-found}
 use Rattle.laws.proofs.Tests.{same-refl}
 use Rattle.records.specs.Log.{recordedAt}
 use denote.Ref.{now}
@@ -9,7 +9,7 @@ use Rattle.records.proofs.key.newest_of.Statement.{statement}
 use Rattle.records.proofs.key.newest_of.Tie as tie
 
 abbrev Inv-loop : tie.InvT-loop
-Inv-loop sheet work c i j₀ j = (i < j) × (j ≤ c .entries) × (Deciding sheet (recordedAt sheet work i .key) j)
+Inv-loop sheet work c i j₀ j = (i < j) × (j ≤ c .entries) × (Deciding sheet work (recordedAt sheet work i .key) (c .entries) j)
 
 abbrev μ-loop : tie.MeasureT-loop
 μ-loop sheet work c i j₀ j = j
@@ -33,7 +33,7 @@ returns : tie.Need-returns Inv-loop μ-loop
 returns c =
     let z : c .before .before .before .loop .j ≡ suc (c .before .before .before .loop .j - 1) = omega (arith, c .before .before .loop-test .taken) in
     let h : c .before .before .before .loop .j - 1 < c .before .before .before .before .before .before .args .c .entries = omega (arith, c .before .before .before .loop .inv .1, c .before .before .loop-test .taken) in
-    record { low = h; last = deciding-found (now (c .before .before .before .before .before .before .args .sheet)) (now (c .before .before .before .before .before .before .args .work)) (c .before .before .before .before .before .before .args .c .lines) (c .before .before .before .before .before .before .args .c .entries) (c .before .before .before .before .before .before .pre .0) (recordedAt (now (c .before .before .before .before .before .before .args .sheet)) (now (c .before .before .before .before .before .before .args .work)) (c .before .before .before .before .before .before .args .i) .key) (c .before .before .before .loop .j - 1) h (rw z at (c .before .before .before .loop .inv .2)) (c .before .same-key .ensures) (c .if1 .taken) }
+    newest-of-found (now (c .before .before .before .before .before .before .args .sheet)) (now (c .before .before .before .before .before .before .args .work)) (c .before .before .before .before .before .before .args .c .lines) (c .before .before .before .before .before .before .args .c .entries) (c .before .before .before .before .before .before .pre .0) (recordedAt (now (c .before .before .before .before .before .before .args .sheet)) (now (c .before .before .before .before .before .before .args .work)) (c .before .before .before .before .before .before .args .i) .key) (c .before .before .before .before .before .before .args .i) refl (c .before .before .before .loop .j - 1) h (rw z at (c .before .before .before .loop .inv .2)) (c .before .same-key .ensures) (c .if1 .taken)
 
 loop-less : tie.Need-loop-less Inv-loop μ-loop
 loop-less c = omega (arith, c .before .before .loop-test .taken)
@@ -47,7 +47,7 @@ loop-again c =
 returns-2 : tie.Need-returns-2 Inv-loop μ-loop
 returns-2 c =
     let z : c .before .loop .j ≡ suc (c .before .before .before .before .args .i) = omega (arith, c .loop-test .left, c .before .loop .inv .0) in
-    record { low = c .before .before .before .before .pre .1; last = deciding-found (now (c .before .before .before .before .args .sheet)) (now (c .before .before .before .before .args .work)) (c .before .before .before .before .args .c .lines) (c .before .before .before .before .args .c .entries) (c .before .before .before .before .pre .0) (recordedAt (now (c .before .before .before .before .args .sheet)) (now (c .before .before .before .before .args .work)) (c .before .before .before .before .args .i) .key) (c .before .before .before .before .args .i) (c .before .before .before .before .pre .1) (rw z at (c .before .loop .inv .2)) refl (same-refl (recordedAt (now (c .before .before .before .before .args .sheet)) (now (c .before .before .before .before .args .work)) (c .before .before .before .before .args .i) .key)) }
+    newest-of-found (now (c .before .before .before .before .args .sheet)) (now (c .before .before .before .before .args .work)) (c .before .before .before .before .args .c .lines) (c .before .before .before .before .args .c .entries) (c .before .before .before .before .pre .0) (recordedAt (now (c .before .before .before .before .args .sheet)) (now (c .before .before .before .before .args .work)) (c .before .before .before .before .args .i) .key) (c .before .before .before .before .args .i) refl (c .before .before .before .before .args .i) (c .before .before .before .before .pre .1) (rw z at (c .before .loop .inv .2)) refl (same-refl (recordedAt (now (c .before .before .before .before .args .sheet)) (now (c .before .before .before .before .args .work)) (c .before .before .before .before .args .i) .key))
 
 pub newest-of-spec : {M : Type 1} → statement M
 newest-of-spec = tie.close (tie.spec Inv-loop μ-loop loop-holds add-loop sub-j same-key-requires returns loop-less loop-again returns-2)

@@ -1,8 +1,8 @@
 use mathlib.Core.Path.{_∙_, sym}
 use Rattle.type_lines.proofs.Spelling.{digests-apart}
 use borrow.Author.Needs.{needs}
-use Rattle.need_keys.proofs.is_need.Statement.{statement}
-use Rattle.need_keys.proofs.is_need.Tie as tie
+use Rattle.need_keys.proofs.has_need_key.Statement.{statement}
+use Rattle.need_keys.proofs.has_need_key.Tie as tie
 
 returns : tie.Need-returns
 returns c = let x = c .before .before .before .before .pre in digests-apart (x .0) (x .2 .line) (λ e. c .if1 .taken (c .before .need-digest .ensures ∙ x .2 .digest ∙ sym e ∙ sym (x .1)))
@@ -13,6 +13,6 @@ same-need-requires c κs = let x = c .before .before .before .before .before .pr
 returns-2 : tie.Need-returns-2
 returns-2 c = c .same-need .ensures ∙ rw (c .before .need-line .ensures)
 
-pub is-need-spec : {M : Type 1} → statement M
-is-need-spec =
+pub has-need-key-spec : {M : Type 1} → statement M
+has-need-key-spec =
     tie.close (tie.spec (λ c κs. search needs) returns (λ c κs. search needs) same-need-requires returns-2)
