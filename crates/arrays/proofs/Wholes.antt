@@ -24,7 +24,7 @@ use Rattle.form.proofs.Table.{done, _also_}
 use Rattle.lines.specs.Lines.{readAt, nodesIn, formAt}
 use Rattle.sizes.specs.Sizes.{typeAt, TypeLine}
 use Rattle.checks.specs.Checks.{Kept, KindLine}
-use Rattle.names.specs.Table.{ConstsLogged}
+use Rattle.names.specs.Table.{ConstsLogged, namesIn}
 use Rattle.placements.specs.declared.Extent.{Extent}
 use Rattle.placements.specs.declared.Placed.{Placed}
 use Rattle.placements.specs.declared.Placed.the-variants.{Into, Negative, Failed, TooLong}
@@ -33,7 +33,7 @@ use Rattle.placements.proofs.Same.{keeps-all, keeps-then, keeps-less, keeps-kep
 use Rattle.placements.proofs.Fillings.{filling-kept}
 use Rattle.placements.proofs.Values.{values-are, value-stands}
 use Rattle.leaf.specs.Folds.{exAt}
-use Rattle.literals.specs.Literals.{namesIn, elsAt, above, AllFilled}
+use Rattle.literals.specs.Literals.{elsAt, above, AllFilled}
 use Rattle.literals.proofs.Names.{log-kept, logged-kept, line-kept}
 use Rattle.literals.proofs.Placing.{isInto}
 use Rattle.literals.proofs.Lines.{line-in, line-form, makes, may-line}

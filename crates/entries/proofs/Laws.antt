@@ -58,20 +58,29 @@ module _ {v : ConstVal} (t : Bytes) (m : ℕ) where
 
 -- a value whose string is moved
 module _ (p : ℕ) where
-  pub moved-kind : (v : ConstVal) → kindFor (movedTo p v) ≡ kindFor v
+  moved-kind : (v : ConstVal) → kindFor (movedTo p v) ≡ kindFor v
   moved-kind (Int z) = refl
   moved-kind (Real x) = refl
   moved-kind (Str q l) = refl
 
-  pub moved-range : (v : ConstVal) → InRange (movedTo p v) → InRange v
+  moved-range : (v : ConstVal) → InRange (movedTo p v) → InRange v
   moved-range (Int z) h = h
   moved-range (Real x) h = h
   moved-range (Str q l) h = h
 
-  pub moved-small : (v : ConstVal) → p < 65536 → At 49152 v → Small (movedTo p v)
+  moved-small : (v : ConstVal) → p < 65536 → At 49152 v → Small (movedTo p v)
   moved-small (Int z) h a = tt
   moved-small (Real x) h a = tt
   moved-small (Str q l) h a = (h, omega (arith, a .1))
+
+module _ (v : ConstVal) {w : ConstVal} (m : ℕ) (e : w ≡ movedTo (16384 + 256 * m) v) where
+  pub kept-small : m < 128 → At 49152 v → Small w
+  kept-small h a = rw e (moved-small (16384 + 256 * m) v (omega arith) a)
+
+  pub value-entered : (line within d : ℕ) (t : Bytes) {u x : Bytes} {k b : ℕ}
+      → x ≡ over t (16384 + 256 * m) (stringOf t v) → k ≡ kindFor w → (b ≡ bitsFor w) × InRange w → u ≡ over x (5120 + 16 * m) (entryOf line within k b d)
+      → (u ≡ over (over t (16384 + 256 * m) (stringOf t v)) (5120 + 16 * m) (entryOf line within (kindFor v) (bitsFor (movedTo (16384 + 256 * m) v)) d)) × InRange v
+  value-entered line within d t f g (h, r) i = (i ∙ rw (f, g, h, e, moved-kind (16384 + 256 * m) v), moved-range (16384 + 256 * m) v (rw e at r))
 
 -- ---- an entry's bytes
 

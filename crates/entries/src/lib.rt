@@ -49,15 +49,8 @@ pub fn enter(work: &mut [u8], m: usize, line: usize, within: usize, v: ConstVal,
     ensures { λ _. ⌜ (now (work .exit) ≡ over (over (now (work .entry)) (16384 + 256 * m) (stringOf (now (work .entry)) v)) (5120 + 16 * m) (entryOf line within (kindFor v) (bitsFor (movedTo (16384 + 256 * m) v)) d)) × (InRange v) ⌝ }
 {
     let kept = keep_string(work, v, m);
-    put_entry(
-        work,
-        m,
-        line,
-        within,
-        values::kind_of(kept),
-        values::bits_of(kept),
-        d,
-    );
+    let bits = values::bits_of(kept);
+    put_entry(work, m, line, within, values::kind_of(kept), bits, d);
 }
 
 // One that failed.

@@ -31,7 +31,8 @@ use Rattle.placements.specs.Placements.{slotAt, elementIn, Keeps, StringStands,
 use Rattle.placements.proofs.Same.{keeps-then, keeps-less, keeps-kept}
 use Rattle.placements.proofs.Fillings.{filling-kept, filling-value, filling-star, stored-element}
 use Rattle.leaf.specs.Folds.{exAt, Foldable, Folds}
-use Rattle.literals.specs.Literals.{elAt, sesAt, namesIn, AtTask, ValuedTask, Turn, above, Fills, placed, Turns}
+use Rattle.names.specs.Table.{namesIn}
+use Rattle.literals.specs.Literals.{elAt, sesAt, AtTask, ValuedTask, Turn, above, Fills, placed, Turns}
 use Rattle.literals.proofs.Names.{log-kept, logged-kept, line-kept}
 use Rattle.literals.proofs.Lines.{good-line, last-form, el-next, el-star, el-at, el-value, value-ref}
 use Rattle.literals.proofs.Selectors.{foldable, folds-to}

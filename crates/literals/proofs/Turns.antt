@@ -33,8 +33,8 @@ use Rattle.placements.proofs.Placed.{the-type}
 use Rattle.placements.proofs.Same.{keeps-all, keeps-then}
 use Rattle.placements.proofs.Fillings.{filling-wider}
 use Rattle.leaf.specs.Folds.{exAt}
-use Rattle.literals.specs.Literals.{elAt, elsAt, namesIn, Turn, LiteralLine, above, Turns, AllFilled}
-use Rattle.names.specs.Table.{ConstsLogged}
+use Rattle.literals.specs.Literals.{elAt, elsAt, Turn, LiteralLine, above, Turns, AllFilled}
+use Rattle.names.specs.Table.{ConstsLogged, namesIn}
 use Rattle.literals.proofs.Names.{log-kept, logged-kept, line-kept}
 use Rattle.literals.proofs.Placing.{isInto, step-ends}
 use Rattle.literals.proofs.Lines.{parts-at, makes, good-line, count-is}

@@ -21,12 +21,12 @@ use Rattle.words.proofs.Laws.{digest-apart}
 use Rattle.implement.specs.Modules.{firstField, moduleAt, ownIn, isOwn}
 use Rattle.checks.specs.Checks.{Kept}
 use Rattle.checks.proofs.Kept.{kept-at, kept-less}
-use Rattle.names.specs.Table.{lineOf, moduleLineOf, valueBy, slotAt, kindOf, bitsOf, digestOf, entriesAt, logIn, EntryBounds, ConstsLogged, ConstTable, ConstEntry, found, hasKey, answersPlain, answersQualified, newestOf}
+use Rattle.names.specs.Table.{lineOf, moduleLineOf, valueBy, slotValue, kindOf, bitsOf, digestOf, entriesAt, logIn, EntryBounds, ConstsLogged, ConstTable, ConstEntry, found, hasKey, answersPlain, answersQualified, newestOf, Looked}
 
 -- ---- a slot by its kind and bits
 
-pub slot-is : (t : Bytes) (i : ℕ) → slotAt t (5124 + 16 * i) ≡ valueBy t (kindOf t i) (bitsOf t i)
-unfolding slotAt
+pub slot-is : (t : Bytes) (i : ℕ) → slotValue t (5124 + 16 * i) ≡ valueBy t (kindOf t i) (bitsOf t i)
+unfolding slotValue
 slot-is t i = let e : 5124 + 16 * i + 1 ≡ 5125 + 16 * i = omega arith in rw e
 
 module _ (t : Bytes) (k b : ℕ) where
@@ -126,7 +126,7 @@ module _ (impl : Option Bytes) (s x y : Bytes) (v : Option ConstVal) (rest : Lis
 
 -- a look-up, where it is known which entries answer it
 pub record Answers (s t : Bytes) (k : Key) (answers : ℕ → Bool) : Type 0 where
-  pub value : (i : ℕ) (rest : List Const) → valueOf (lookUp k (entriesAt s t i ++ rest)) ≡ cond (answers i) (slotAt t (5124 + 16 * i)) (valueOf (lookUp k rest))
+  pub value : (i : ℕ) (rest : List Const) → valueOf (lookUp k (entriesAt s t i ++ rest)) ≡ cond (answers i) (slotValue t (5124 + 16 * i)) (valueOf (lookUp k rest))
   pub has : (i : ℕ) (rest : List Const) → hasKey k (entriesAt s t i ++ rest) ≡ answers i || hasKey k rest
 
 -- which entry is the newest, as it is looked for from the last on
@@ -161,19 +161,13 @@ module _ (answers : ℕ → Bool) where
       go true h = omega arith
       go false h = omega arith
 
--- what the number of the newest entry says of the log
-pub record Looked (s t : Bytes) (k : Key) (m r : ℕ) : Type 0 where
-  pub value : valueOf (lookUp k (logIn s t m)) ≡ found t r
-  pub low : r ≤ m
-  pub has : hasKey k (logIn s t m) ≡ ltb 0 r
-
 module _ {s t : Bytes} {k : Key} {answers : ℕ → Bool} (a : Answers s t k answers) where
   newest-value : (m : ℕ) → valueOf (lookUp k (logIn s t m)) ≡ found t (newestOf answers m)
   unfolding logIn found newestOf
   newest-value zero = refl
   newest-value (suc m) = a .value m (logIn s t m) ∙ go (answers m) (newest-value m)
     where
-      go : (b : Bool) → valueOf (lookUp k (logIn s t m)) ≡ found t (newestOf answers m) → cond b (slotAt t (5124 + 16 * m)) (valueOf (lookUp k (logIn s t m))) ≡ found t (cond b (suc m) (newestOf answers m))
+      go : (b : Bool) → valueOf (lookUp k (logIn s t m)) ≡ found t (newestOf answers m) → cond b (slotValue t (5124 + 16 * m)) (valueOf (lookUp k (logIn s t m))) ≡ found t (cond b (suc m) (newestOf answers m))
       go true h = refl
       go false h = h
 
@@ -186,21 +180,21 @@ module _ {s t : Bytes} {k : Key} {answers : ℕ → Bool} (a : Answers s t k ans
       go true h = sym (lt-ltb 0 (suc m) (omega arith))
       go false h = h
 
-  pub looked : {m r : ℕ} → r ≡ newestOf answers m → Looked s t k m r
-  looked {m} e = rw e (record { value = newest-value m; low = newest-low answers m; has = newest-has m })
+  pub looked : {m r : ℕ} → r ≡ newestOf answers m → Looked s t k m (newestOf answers m) r
+  looked {m} e = rw e (record { value = newest-value m; low = newest-low answers m; has = newest-has m; newest-is = refl })
 
 pub answers-plain : (s t x : Bytes) → Answers s t (plain x) (λ (i : ℕ). answersPlain s t i x)
 unfolding entriesAt answersPlain
 answers-plain s t x = record {
-  value = λ i rest. plain-step (sheetSource s .implement) s x (firstField s (lineOf t i)) (slotAt t (5124 + 16 * i)) rest (moduleLineOf t i);
-  has = λ i rest. plain-has (sheetSource s .implement) s x (firstField s (lineOf t i)) (slotAt t (5124 + 16 * i)) rest (moduleLineOf t i);
+  value = λ i rest. plain-step (sheetSource s .implement) s x (firstField s (lineOf t i)) (slotValue t (5124 + 16 * i)) rest (moduleLineOf t i);
+  has = λ i rest. plain-has (sheetSource s .implement) s x (firstField s (lineOf t i)) (slotValue t (5124 + 16 * i)) rest (moduleLineOf t i);
 }
 
 pub answers-qualified : (s t q x : Bytes) → Answers s t (qualified q x) (λ (i : ℕ). answersQualified s t i q x)
 unfolding entriesAt answersQualified
 answers-qualified s t q x = record {
-  value = λ i rest. qualified-step (sheetSource s .implement) s x (firstField s (lineOf t i)) (slotAt t (5124 + 16 * i)) rest q (moduleLineOf t i);
-  has = λ i rest. qualified-has (sheetSource s .implement) s x (firstField s (lineOf t i)) (slotAt t (5124 + 16 * i)) rest q (moduleLineOf t i);
+  value = λ i rest. qualified-step (sheetSource s .implement) s x (firstField s (lineOf t i)) (slotValue t (5124 + 16 * i)) rest q (moduleLineOf t i);
+  has = λ i rest. qualified-has (sheetSource s .implement) s x (firstField s (lineOf t i)) (slotValue t (5124 + 16 * i)) rest q (moduleLineOf t i);
 }
 
 pub table-entry : {s t : Bytes} {n m i : ℕ} → ConstTable s t n m → i < m → ConstEntry s t n i
@@ -285,7 +279,7 @@ module _ {t u : Bytes} (n i : ℕ) (w : Kept (5136 + 16 * i) t u) (e : EntryBoun
   }
 
   module _ (same : SameText t u i) where
-    slot-kept : slotAt u (5124 + 16 * i) ≡ slotAt t (5124 + 16 * i)
+    slot-kept : slotValue u (5124 + 16 * i) ≡ slotValue t (5124 + 16 * i)
     unfolding valueBy
     slot-kept = slot-is u i ∙ rw (kind-kept, bits-kept) (go (eqb (kindOf t i) 3) refl) ∙ sym (slot-is t i)
       where
@@ -318,16 +312,17 @@ module _ {s t u : Bytes} {n m : ℕ} (w : Kept (5120 + 16 * m) t u) (l : ConstsL
     pub log-same : logIn s u m ≡ logIn s t m
     log-same = log-upto m (omega arith)
 
+-- and the log, where bytes among the constants' strings are kept
+pub log-stays : {s t u : Bytes} {n m : ℕ} → Kept (5120 + 16 * m) t u → ConstsLogged s t n m → ((a b : ℕ) → 16384 ≤ a → a + b ≤ 49152 → take b (drop a u) ≡ take b (drop a t)) → logIn s u m ≡ logIn s t m
+log-stays {t = t} w l parts = log-same w l (λ i h q. let x = l .each i h .text q in parts (bitsOf t i % 65536) (bitsOf t i / 65536) (x .low) (x .high))
+
 -- where all below the stack of folds is kept
 module _ {s t u : Bytes} {n m : ℕ} (w : Kept 49152 t u) (l : ConstsLogged s t n m) where
   table-part : Kept (5120 + 16 * m) t u
   table-part = kept-less (omega (arith, l .few)) w
 
-  texts-kept : (i : ℕ) → i < m → SameText t u i
-  texts-kept i h q = part-kept w (bitsOf t i % 65536) (bitsOf t i / 65536) (l .each i h .text q .high)
-
   pub logged-kept : ConstsLogged s u n m
   logged-kept = logged-same table-part l
 
   pub log-kept : logIn s u m ≡ logIn s t m
-  log-kept = log-same table-part l texts-kept
+  log-kept = log-stays table-part l (λ a b h k. part-kept w a b k)

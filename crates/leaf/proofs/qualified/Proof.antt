@@ -23,10 +23,10 @@ field-at-requires : tie.Need-field-at-requires
 field-at-requires c κs = let l = module-line (c .before .before .before .before .before .before .before .before .pre .fold) (c .before .before .before .before .before .before .before .before .pre .form) (c .before .before .before .before .number-at .ensures .0) in (l .checked .whole, in-sheet l)
 
 constant-requires : tie.Need-constant-requires
-constant-requires c κs = slot-of (c .before .before .before .before .before .before .before .before .before .before .before .before .before .before .pre .fold) (c .before .look-up-in .ensures .1)
+constant-requires c κs = slot-of (c .before .before .before .before .before .before .before .before .before .before .before .before .before .before .pre .fold) (c .before .look-up-in .ensures .low)
 
 returns-2 : tie.Need-returns-2
-returns-2 c = qualified-found (c .before .before .before .before .before .before .before .before .before .before .before .before .before .before .before .before .before .pre .fold) (c .before .before .before .before .before .before .before .before .before .before .before .before .before .before .before .before .before .pre .form) (c .before .before .before .before .before .before .before .before .before .before .before .before .before .number-at .ensures .0) (sym (c .before .before .before .before .before .before .before .before .before .before .before .form-at .ensures) ∙ c .before .before .before .before .before .before .before .before .before .before .if1 .left) (c .before .before .before .before .before .before .before .before .field-at .ensures) (c .before .before .before .before .before .before .field-at2 .ensures) (c .before .before .before .before .look-up-in .result) (c .before .before .before .before .look-up-in .ensures .0) (c .before .before .constant .ensures)
+returns-2 c = qualified-found (c .before .before .before .before .before .before .before .before .before .before .before .before .before .before .before .before .before .pre .fold) (c .before .before .before .before .before .before .before .before .before .before .before .before .before .before .before .before .before .pre .form) (c .before .before .before .before .before .before .before .before .before .before .before .before .before .number-at .ensures .0) (sym (c .before .before .before .before .before .before .before .before .before .before .before .form-at .ensures) ∙ c .before .before .before .before .before .before .before .before .before .before .if1 .left) (c .before .before .before .before .before .before .before .before .field-at .ensures) (c .before .before .before .before .before .before .field-at2 .ensures) (c .before .before .before .before .look-up-in .result) (c .before .before .before .before .look-up-in .ensures .value) (c .before .before .constant .ensures)
 
 pub qualified-spec : {M : Type 1} → statement M
 qualified-spec =
