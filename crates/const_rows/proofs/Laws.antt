@@ -3,7 +3,7 @@ use mathlib.Core.Path.{_≡_, refl, sym, ap, _∙_}
 use mathlib.Core.Bool.{Bool, true, false, not}
 use mathlib.Core.List.{[], _∷_, _++_, append-assoc}
 use mathlib.Core.Option.{Option, none, some}
-use Prim.Native.Nat.{ℕ, zero, suc, _+_, _-_, _/_, _%_, _≤_, _<_}
+use Prim.Native.Nat.{ℕ, _+_, _-_, _/_, _%_, _≤_, _<_}
 use native.Mathlib.Omega.{arith}
 use native.Mathlib.Numerals.{add-one}
 use lib.Dec.{ltb}
@@ -23,9 +23,9 @@ use Rattle.ints.proofs.Widths.{held}
 use Rattle.write.specs.Wrote.{Wrote}
 use Rattle.write.proofs.Wrote.{wrote-none, wrote-as, then}
 use Rattle.implement.specs.Modules.{firstField, isOwn}
-use Rattle.names.specs.Table.{lineOf, moduleLineOf, valueBy, kindOf, bitsOf, logIn, ConstTable, found, hasKey}
-use Rattle.names.proofs.Laws.{slot-is, value-failed, value-int, value-real, value-text}
-use Rattle.const_rows.specs.Rows.{plainKey, qualifiedKey, qualifiedTo, plainTo, qualifiedPart, plainPart, rowsTo, entryRows, Shown}
+use Rattle.names.specs.Table.{lineOf, moduleLineOf, valueBy, kindOf, bitsOf, logIn, ConstTable, Answered, found, hasKey}
+use Rattle.names.proofs.Laws.{found-is, value-failed, value-int, value-real, value-text}
+use Rattle.const_rows.specs.Rows.{plainKey, qualifiedKey, qualifiedTo, plainTo, qualifiedPart, plainPart, rowsTo, entryRows}
 use Rattle.const_rows.proofs.Keys.{qualified-none, plain-none, qualified-more, plain-more}
 
 -- ---- values
@@ -48,11 +48,6 @@ row-real x = refl
 row-text : (b : Bytes) → valueRow (some (vStr b)) ≡ (bytes "s," ++ hexOf b) ++ (10 ∷ [])
 unfolding row
 row-text b = refl
-
-found-is : (t : Bytes) (r : ℕ) → (r ≡ 0 → ⊥) → found t r ≡ valueBy t (kindOf t (r - 1)) (bitsOf t (r - 1))
-unfolding found
-found-is t zero z = absurd (z refl)
-found-is t (suc i) z = let e : suc i - 1 ≡ i = omega arith in rw e (slot-is t i)
 
 pub value-none : (t : Bytes) (r : ℕ) → r ≡ 0 → row (valueFields (found t r)) ≡ 120 ∷ (10 ∷ [])
 unfolding found
@@ -82,7 +77,7 @@ module _ (t : Bytes) (r : ℕ) (z : r ≡ 0 → ⊥) (k b : ℕ) (hk : k ≡ kin
   pub shows-failed : (k ≡ 1 → ⊥) → (k ≡ 2 → ⊥) → (k ≡ 3 → ⊥) → row (valueFields (found t r)) ≡ 120 ∷ (10 ∷ [])
   shows-failed p q o = ap (λ (v : Option ConstVal). row (valueFields v)) (by-slot ∙ value-failed t k b p q o) ∙ row-none
 
-  pub text-inside : Shown t r → k ≡ 3 → b % 65536 + b / 65536 ≤ 49152
+  pub text-inside : Answered t r → k ≡ 3 → b % 65536 + b / 65536 ≤ 49152
   text-inside h e =
       let w = h .text (r - 1) (omega (arith, z)) (sym hk ∙ e) .high in
       rw hb w
@@ -164,9 +159,6 @@ module _ (s t : Bytes) (m i : ℕ) where
 module _ {s t : Bytes} {n m : ℕ} (b : ConstTable s t n m) where
   pub fewer : {i : ℕ} → i < m → ConstTable s t n i
   fewer {i} h = record { checked = b .checked; logged = record { few = omega (arith, b .logged .few); each = λ j k. b .logged .each j (omega arith); digests = λ j k. b .logged .digests j (omega arith) } }
-
-  pub shown : {r : ℕ} → r ≤ m → Shown t r
-  shown {r} h = record { few = omega (arith, b .logged .few); long = b .checked .whole .room; text = λ i e. b .logged .each i (omega arith) .text }
 
   pub line-in : {i l : ℕ} → i < m → l ≡ lineOf t i → (0 < l) × (l ≤ n)
   line-in {i} h e = let x = b .logged .each i h in (omega (arith, x .first), omega (arith, x .last))

@@ -19,9 +19,9 @@ use Rattle.semantics.specs.Const.{entries}
 use Rattle.words.specs.Words.{digest, u16At, bitsAt}
 use Rattle.words.proofs.Laws.{digest-apart}
 use Rattle.implement.specs.Modules.{firstField, moduleAt, ownIn, isOwn}
-use Rattle.checks.specs.Checks.{Kept}
+use Rattle.checks.specs.Checks.{Kept, Checked}
 use Rattle.checks.proofs.Kept.{kept-at, kept-less}
-use Rattle.names.specs.Table.{lineOf, moduleLineOf, valueBy, slotValue, kindOf, bitsOf, digestOf, entriesAt, logIn, EntryBounds, ConstsLogged, ConstTable, ConstEntry, found, hasKey, answersPlain, answersQualified, newestOf, Looked}
+use Rattle.names.specs.Table.{lineOf, moduleLineOf, valueBy, slotValue, kindOf, bitsOf, digestOf, entriesAt, logIn, EntryBounds, ConstsLogged, ConstTable, ConstEntry, found, hasKey, answersPlain, answersQualified, newestOf, Answered, Looked}
 
 -- ---- a slot by its kind and bits
 
@@ -45,6 +45,12 @@ module _ (t : Bytes) (k b : ℕ) where
   pub value-text : k ≡ 3 → valueBy t k b ≡ some (vStr (take (b / 65536) (drop (b % 65536) t)))
   unfolding valueBy
   value-text e = rw e
+
+-- what a look-up answered, where it found a constant
+pub found-is : (t : Bytes) (r : ℕ) → (r ≡ 0 → ⊥) → found t r ≡ valueBy t (kindOf t (r - 1)) (bitsOf t (r - 1))
+unfolding found
+found-is t zero z = absurd (z refl)
+found-is t (suc i) z = let e : suc i - 1 ≡ i = omega arith in rw e (slot-is t i)
 
 -- ---- look-ups
 
@@ -199,6 +205,10 @@ answers-qualified s t q x = record {
 
 pub table-entry : {s t : Bytes} {n m i : ℕ} → ConstTable s t n m → i < m → ConstEntry s t n i
 table-entry {i = i} c h = record { checked = c .checked; low = omega (arith, c .logged .few); entry = c .logged .each i h; digested = c .logged .digests i h }
+
+-- a number up to the table's end is an answer
+pub answered : {s t : Bytes} {n m : ℕ} → ConstsLogged s t n m → Checked s t n → {r : ℕ} → r ≤ m → Answered t r
+answered l c h = record { few = omega (arith, l .few); long = c .whole .room; text = λ i e q. l .each i (omega arith) .text q }
 
 -- names with different digests are different
 pub named-apart : {s t : Bytes} {n i d : ℕ} (x : Bytes) → ConstEntry s t n i → d ≡ digest x → (digestOf t i ≡ d → ⊥) → false ≡ same x (firstField s (lineOf t i))
