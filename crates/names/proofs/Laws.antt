@@ -1,10 +1,12 @@
 -- Laws of the table of constants.
 use mathlib.Core.Path.{_≡_, refl, sym, ap, _∙_}
-use mathlib.Core.Bool.{Bool, true, false, cond, not, _&&_, _||_}
+use mathlib.Core.Bool.{Bool, true, false, cond, not, _&&_, _||_, false≢true}
+use mathlib.Core.Logic.{⊎-elim}
 use mathlib.Core.List.{List, [], _∷_, _++_}
 use mathlib.Core.Option.{Option, none, some}
 use Prim.Native.Nat.{ℕ, zero, suc, _+_, _-_, _*_, _/_, _%_, _≤_, _<_}
 use native.Mathlib.Omega.{arith}
+use native.Mathlib.Nat.{eq-or-lt-of-le}
 use lib.Dec.{ltb, eqb}
 use lib.Ieee.{binary64, ofBits}
 use lib.ListN.{take, drop}
@@ -166,6 +168,16 @@ module _ (answers : ℕ → Bool) where
       go : (b : Bool) → newestOf answers m ≤ m → cond b (suc m) (newestOf answers m) ≤ suc m
       go true h = omega arith
       go false h = omega arith
+
+  -- no entry behind it answers
+  pub newest-from : (m i : ℕ) → i < m → answers i ≡ true → i < newestOf answers m
+  unfolding newestOf
+  newest-from zero i h q = absurd (omega arith)
+  newest-from (suc m) i h q = go (answers m) refl (newest-from m i)
+    where
+      go : (b : Bool) → answers m ≡ b → (i < m → answers i ≡ true → i < newestOf answers m) → i < cond b (suc m) (newestOf answers m)
+      go true e f = omega arith
+      go false e f = f (⊎-elim (λ (x : i ≡ m). absurd (false≢true (sym e ∙ ap answers (sym x) ∙ q))) (λ (x : i < m). x) (eq-or-lt-of-le (omega arith))) q
 
 module _ {s t : Bytes} {k : Key} {answers : ℕ → Bool} (a : Answers s t k answers) where
   newest-value : (m : ℕ) → valueOf (lookUp k (logIn s t m)) ≡ found t (newestOf answers m)
