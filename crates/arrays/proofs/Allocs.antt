@@ -25,10 +25,9 @@ use Rattle.refs.proofs.Fields.{head-drop, tail-drop}
 use Rattle.sizes.proofs.Types.{Good, ref-head}
 use Rattle.values.specs.declared.Folded.{Folded}
 use Rattle.values.specs.Values.{resultIn}
-use Rattle.names.specs.Table.{ConstsLogged}
+use Rattle.names.specs.Table.{ConstsLogged, namesIn}
 use Rattle.placements.proofs.Same.{keeps-less, keeps-kept}
 use Rattle.leaf.specs.Folds.{exAt, Foldable, Folds}
-use Rattle.literals.specs.Literals.{namesIn}
 use Rattle.literals.proofs.Lines.{parts-at, makes, good-line}
 use Rattle.literals.proofs.Selectors.{foldable, folds-to}
 use Rattle.arrays.specs.declared.Arrayed.{Arrayed}

@@ -14,9 +14,9 @@ use Rattle.decimal.specs.Number as Number
 use Rattle.lines.specs.Lines.{readAt, nodesIn}
 use Rattle.values.specs.declared.Folded.{Folded}
 use Rattle.values.specs.Values.{resultIn}
-use Rattle.names.specs.Table.{ConstsLogged}
+use Rattle.names.specs.Table.{ConstsLogged, namesIn}
 use Rattle.leaf.specs.Folds.{Foldable, Folds}
-use Rattle.literals.specs.Literals.{namesIn, LiteralLine, above}
+use Rattle.literals.specs.Literals.{LiteralLine, above}
 use Rattle.literals.proofs.Lines.{may-line, maybe-given, maybe-absent}
 use Rattle.literals.proofs.Selectors.{foldable, folds-to}
 use Rattle.literals.proofs.Turns.{literal-refs}

@@ -24,16 +24,16 @@ use Rattle.form.proofs.Table.{done, _also_}
 use Rattle.lines.specs.Lines.{readAt, nodesIn, formAt}
 use Rattle.sizes.specs.Sizes.{typeAt, TypeLine}
 use Rattle.checks.specs.Checks.{Kept, KindLine}
-use Rattle.names.specs.Table.{ConstsLogged}
+use Rattle.names.specs.Table.{ConstsLogged, namesIn}
 use Rattle.placements.specs.declared.Extent.{Extent}
 use Rattle.placements.specs.declared.Placed.{Placed}
 use Rattle.placements.specs.declared.Placed.the-variants.{Into, Negative, Failed, TooLong}
-use Rattle.placements.specs.Placements.{valuesIn, Keeps, Filling, Goes, Step}
+use Rattle.placements.specs.Placements.{valuesIn, Keeps, Filling, LiteralSoFar, Step}
 use Rattle.placements.proofs.Same.{keeps-all, keeps-then, keeps-less, keeps-kept}
 use Rattle.placements.proofs.Fillings.{filling-kept}
 use Rattle.placements.proofs.Values.{values-are, value-stands}
 use Rattle.leaf.specs.Folds.{exAt}
-use Rattle.literals.specs.Literals.{namesIn, elsAt, above, AllFilled}
+use Rattle.literals.specs.Literals.{elsAt, above, AllFilled}
 use Rattle.literals.proofs.Names.{log-kept, logged-kept, line-kept}
 use Rattle.literals.proofs.Placing.{isInto}
 use Rattle.literals.proofs.Lines.{line-in, line-form, makes, may-line}
@@ -177,7 +177,7 @@ module _ {s t u : Bytes} {n m declared r : ℕ} (l : LitLine s t n declared r) (
 
   pub literal-well : {b : Extent} → y ≡ Into b → {x : Arrayed} {w : Bytes} → Sized s u m declared r (b .reach) x w → ArrayAnswers t (constArray (namesIn s t m) (typeOf s declared) (exAt s r)) x w
   literal-well {b} d {x} {w} z =
-      let g : Goes u (above 16) (a .count) (b .next) (b .reach) (fill (namesIn s t m) (elsAt s r) noneFilled) = subst (λ (v : Placed). Step u (above 16) (a .count) v (fill (namesIn s t m) (elsAt s r) noneFilled)) d (a .step) in
+      let g : LiteralSoFar u (above 16) (a .count) (b .next) (b .reach) (fill (namesIn s t m) (elsAt s r) noneFilled) = subst (λ (v : Placed). Step u (above 16) (a .count) v (fill (namesIn s t m) (elsAt s r) noneFilled)) d (a .step) in
       let q = rw (log-kept (a .keeps) o) at (z .answers (a .count) (b .next) (g .literal) (a .few) (g .filling)) in
       record { array = record { result = q .result ∙ sym (literal-by ∙ ap (λ (v : Result Filled). bind v (rest s t m declared r)) (g .result)); stands = q .stands }; keeps = keeps-then (a .keeps) (z .keeps) }
 

@@ -15,7 +15,8 @@ use Rattle.semantics.specs.Array.{ConstArray, Filled, literalSize, measured}
 use Rattle.lines.specs.Lines.{readAt, nodesIn, formAt}
 use Rattle.sizes.specs.Sizes.{typeAt, TypeLine}
 use Rattle.placements.specs.Placements.{entryAt, slotAt, valuesIn, Keeps, StringStands, Filling}
-use Rattle.literals.specs.Literals.{namesIn, elsAt, LiteralLine, above}
+use Rattle.names.specs.Table.{namesIn}
+use Rattle.literals.specs.Literals.{elsAt, LiteralLine, above}
 use Rattle.arrays.specs.declared.Size.{Size}
 use Rattle.arrays.specs.declared.Size.the-variants as Size
 use Rattle.arrays.specs.declared.Arrayed.{Arrayed}

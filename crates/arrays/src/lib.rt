@@ -17,10 +17,10 @@ ghost use Rattle.semantics.specs.Array.{Filled, kindNumber, elemKind, isByteCas
 ghost use Rattle.checks.specs.Checks.{Kept, KindLine};
 ghost use Rattle.sizes.specs.Sizes.{typeAt, TypeLine};
 ghost use Rattle.values.specs.Values.{resultIn};
-ghost use Rattle.names.specs.Table.{ConstsLogged};
+ghost use Rattle.names.specs.Table.{ConstsLogged, namesIn};
 ghost use Rattle.placements.specs.Placements.{valuesIn, Filling};
 ghost use Rattle.leaf.specs.Folds.{exAt};
-ghost use Rattle.literals.specs.Literals.{namesIn, elsAt, LiteralLine, above};
+ghost use Rattle.literals.specs.Literals.{elsAt, LiteralLine, above};
 ghost use Rattle.arrays.specs.Arrays.{kindOfNumber, arrayedIn, sizeResult, ArrayStands, Measured, ArrayAnswers, typeOf, litSize, ownType, allocType, ArrayLine, AllocLine, LitLine, Counted, Sized};
 
 // Above the strings of 16 elements.

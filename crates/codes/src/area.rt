@@ -10,6 +10,9 @@ pub const DEPTHS: usize = 4096;
 
 pub const CONSTANTS: usize = 5120;
 
+// The bytes of an entry there.
+pub const CONSTANT: usize = 16;
+
 pub const GLOBALS: usize = 7168;
 
 pub const RECORDS: usize = 9216;

@@ -1,7 +1,10 @@
 // Numbers that stand for something, in one place: rows of the table of forms, letters of kinds of lines, kinds of elements and of
-// values, keywords of items, and the places of tables in the working space. Contracts name the same numbers, so a wrong one here fails
+// Numbers that stand for something, in one place: rows of the table of forms, letters of kinds of lines, operators, kinds of elements
+// and of values, and the places of tables in the working space. Contracts name the same numbers, so a wrong one here fails proofs above.
 // proofs above.
+// values, keywords of items, and the places of tables in the working space. Contracts name the same numbers, so a wrong one here fails
 pub mod area;
+pub mod binary;
 pub mod decl;
 pub mod el;
 pub mod element;
@@ -10,4 +13,5 @@ pub mod item;
 pub mod kind;
 pub mod need;
 pub mod ty;
+pub mod unary;
 pub mod value;

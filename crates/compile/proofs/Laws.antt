@@ -17,7 +17,7 @@ use Rattle.semantics.specs.Refusal.{Outcome, zeros, worked, sourceGlobals, sour
 use Rattle.write.specs.Wrote.{Wrote}
 use Rattle.write.proofs.Wrote.{wrote-as, then, on-zeros}
 use Rattle.checks.specs.Checks.{Checked}
-use Rattle.literals.specs.Literals.{namesIn}
+use Rattle.names.specs.Table.{namesIn}
 use Rattle.pends.specs.declared.Pends.{Pends}
 use Rattle.pends.specs.declared.Pends.the-variants as Pends
 use Rattle.pends.specs.Pends.{AllPended}

@@ -3,7 +3,7 @@ use mathlib.Core.Path.{_≡_, refl, sym, ap, _∙_}
 use mathlib.Core.Bool.{Bool, true, false, not}
 use mathlib.Core.List.{[], _∷_, _++_, append-assoc}
 use mathlib.Core.Option.{Option, none, some}
-use Prim.Native.Nat.{ℕ, zero, suc, _+_, _-_, _/_, _%_, _≤_, _<_}
+use Prim.Native.Nat.{ℕ, _+_, _-_, _/_, _%_, _≤_, _<_}
 use native.Mathlib.Omega.{arith}
 use native.Mathlib.Numerals.{add-one}
 use lib.Dec.{ltb}
@@ -13,7 +13,7 @@ use lib.ListN.{length, take, drop}
 use mir.Syntax.{w64}
 use mir.Val.{SFits}
 use mir.ValLaws.{toZ-ofZ}
-use borrow.Author.Tests.{ne-eqb, lt-ltb}
+use borrow.Author.Tests.{ne-eqb, lt-ltb, not-false}
 use Rattle.semantics.specs.Text.{Bytes, bytes, decimalℤ, hexOf, bigEndian}
 use Rattle.semantics.specs.Tree.{ConstVal}
 use Rattle.semantics.specs.Tree.ConstVal.{vInt, vReal, vStr}
@@ -23,9 +23,10 @@ use Rattle.ints.proofs.Widths.{held}
 use Rattle.write.specs.Wrote.{Wrote}
 use Rattle.write.proofs.Wrote.{wrote-none, wrote-as, then}
 use Rattle.implement.specs.Modules.{firstField, isOwn}
-use Rattle.names.specs.Table.{lineOf, moduleLineOf, valueBy, kindOf, bitsOf, logIn, ConstTable, found, hasKey}
-use Rattle.names.proofs.Laws.{slot-is, value-failed, value-int, value-real, value-text}
-use Rattle.const_rows.specs.Rows.{plainKey, qualifiedKey, qualifiedTo, plainTo, qualifiedPart, plainPart, rowsTo, entryRows, Shown}
+use Rattle.names.specs.Table.{lineOf, moduleLineOf, valueBy, kindOf, bitsOf, logIn, ConstTable, Answered, found, hasKey, answersPlain, answersQualified, newestPlain, newestQualified}
+use Rattle.names.proofs.Laws.{found-is, newest-from, value-failed, value-int, value-real, value-text}
+use Rattle.laws.proofs.Tests.{same-refl}
+use Rattle.const_rows.specs.Rows.{plainKey, qualifiedKey, qualifiedTo, plainTo, qualifiedPart, plainPart, rowsTo, entryRows}
 use Rattle.const_rows.proofs.Keys.{qualified-none, plain-none, qualified-more, plain-more}
 
 -- ---- values
@@ -49,18 +50,9 @@ row-text : (b : Bytes) → valueRow (some (vStr b)) ≡ (bytes "s," ++ hexOf b) 
 unfolding row
 row-text b = refl
 
-found-is : (t : Bytes) (r : ℕ) → (r ≡ 0 → ⊥) → found t r ≡ valueBy t (kindOf t (r - 1)) (bitsOf t (r - 1))
-unfolding found
-found-is t zero z = absurd (z refl)
-found-is t (suc i) z = let e : suc i - 1 ≡ i = omega arith in rw e (slot-is t i)
-
-pub value-none : (t : Bytes) (r : ℕ) → r ≡ 0 → row (valueFields (found t r)) ≡ 120 ∷ (10 ∷ [])
-unfolding found
-value-none t r e = rw e row-none
-
-module _ (t : Bytes) (r : ℕ) (z : r ≡ 0 → ⊥) (k b : ℕ) (hk : k ≡ kindOf t (r - 1)) (hb : b ≡ bitsOf t (r - 1)) where
+module _ (t : Bytes) (r : ℕ) (a : Answered t r × (0 < r)) (k b : ℕ) (hk : k ≡ kindOf t (r - 1)) (hb : b ≡ bitsOf t (r - 1)) where
   by-slot : found t r ≡ valueBy t k b
-  by-slot = found-is t r z ∙ rw (hk, hb)
+  by-slot = found-is t r (λ z. omega (arith, a .1)) ∙ rw (hk, hb)
 
   module _ {d : Bytes} {at : ℕ} {e f g : Bytes} {p q o : ℕ} where
     pub shows-int : k ≡ 1 → {y : ℤ} → SFits w64 y → y ≡ signed64 b → Wrote d at (105 ∷ (44 ∷ [])) e p → Wrote e p (decimalℤ (held w64 y)) f q → Wrote f q (10 ∷ []) g o → Wrote d at (row (valueFields (found t r))) g o
@@ -82,9 +74,9 @@ module _ (t : Bytes) (r : ℕ) (z : r ≡ 0 → ⊥) (k b : ℕ) (hk : k ≡ kin
   pub shows-failed : (k ≡ 1 → ⊥) → (k ≡ 2 → ⊥) → (k ≡ 3 → ⊥) → row (valueFields (found t r)) ≡ 120 ∷ (10 ∷ [])
   shows-failed p q o = ap (λ (v : Option ConstVal). row (valueFields v)) (by-slot ∙ value-failed t k b p q o) ∙ row-none
 
-  pub text-inside : Shown t r → k ≡ 3 → b % 65536 + b / 65536 ≤ 49152
-  text-inside h e =
-      let w = h .text (r - 1) (omega (arith, z)) (sym hk ∙ e) .high in
+  pub text-inside : k ≡ 3 → b % 65536 + b / 65536 ≤ 49152
+  text-inside e =
+      let w = a .0 .text (r - 1) (omega (arith, a .1)) (sym hk ∙ e) .high in
       rw hb w
 
 -- ---- rows
@@ -121,6 +113,13 @@ module _ (s t : Bytes) (m i : ℕ) where
       qualified-old {d} {at} r h p =
           nothing {d = d} {at = at} (qualifiedPart s t m i) (rw (ne-eqb (moduleLineOf t i) 0 (λ e. z (hk ∙ e)), has-is r h, lt-ltb 0 r (omega (arith, p))))
 
+      -- the entry itself answers
+      pub qualified-some : {r : ℕ} → i < m → r ≡ newestQualified s t m within name → 0 < r
+      unfolding answersQualified
+      qualified-some {r} h e =
+          let w = newest-from (λ (j : ℕ). answersQualified s t j within name) m i h (rw (hw, hk, hn, hl, same-refl (firstField s (lineOf t i)), ne-eqb (moduleLineOf t i) 0 (λ x. z (hk ∙ x)), same-refl (firstField s (moduleLineOf t i)))) in
+          omega (arith, e)
+
       pub qualified-new : (r q : ℕ) → hasKey (qualified within name) (logIn s t i) ≡ ltb 0 r → r ≡ 0 → valueOf (lookUp (qualified within name) (logIn s t m)) ≡ found t q
           → {d e f g o : Bytes} {at a b c p : ℕ} → Wrote d at (99 ∷ (111 ∷ (110 ∷ (44 ∷ [])))) e a → Wrote e a within f b → Wrote f b (45 ∷ (62 ∷ [])) g c → Wrote g c (name ++ (44 ∷ row (valueFields (found t q)))) o p
           → Wrote d at (qualifiedPart s t m i) o p
@@ -151,6 +150,13 @@ module _ (s t : Bytes) (m i : ℕ) where
       unfolding plainPart
       plain-old {d} {at} r h p = nothing {d = d} {at = at} (plainPart s t m i) (rw (own-is, z, plain-has r h, lt-ltb 0 r (omega (arith, p))))
 
+      -- the entry itself answers
+      pub plain-some : {r : ℕ} → i < m → r ≡ newestPlain s t m name → 0 < r
+      unfolding answersPlain
+      plain-some {r} h e =
+          let w = newest-from (λ (j : ℕ). answersPlain s t j name) m i h (rw (hn, hl, same-refl (firstField s (lineOf t i)), own-is) (not-false own z)) in
+          omega (arith, e)
+
       pub plain-new : (r q : ℕ) → hasKey (plain name) (logIn s t i) ≡ ltb 0 r → r ≡ 0 → valueOf (lookUp (plain name) (logIn s t m)) ≡ found t q
           → {d e o : Bytes} {at a p : ℕ} → Wrote d at (99 ∷ (111 ∷ (110 ∷ (44 ∷ [])))) e a → Wrote e a (name ++ (44 ∷ row (valueFields (found t q)))) o p → Wrote d at (plainPart s t m i) o p
       unfolding plainPart
@@ -164,9 +170,6 @@ module _ (s t : Bytes) (m i : ℕ) where
 module _ {s t : Bytes} {n m : ℕ} (b : ConstTable s t n m) where
   pub fewer : {i : ℕ} → i < m → ConstTable s t n i
   fewer {i} h = record { checked = b .checked; logged = record { few = omega (arith, b .logged .few); each = λ j k. b .logged .each j (omega arith); digests = λ j k. b .logged .digests j (omega arith) } }
-
-  pub shown : {r : ℕ} → r ≤ m → Shown t r
-  shown {r} h = record { few = omega (arith, b .logged .few); long = b .checked .whole .room; text = λ i e. b .logged .each i (omega arith) .text }
 
   pub line-in : {i l : ℕ} → i < m → l ≡ lineOf t i → (0 < l) × (l ≤ n)
   line-in {i} h e = let x = b .logged .each i h in (omega (arith, x .first), omega (arith, x .last))

@@ -1,16 +1,14 @@
 -- The rows of constants, entry by entry: an entry adds the row of its key where no entry before it has the key.
-use Prim.Native.Nat.{ℕ, suc, _≤_}
-use mathlib.Core.Path.{_≡_}
+use Prim.Native.Nat.{ℕ}
 use mathlib.Core.Bool.{Bool, true, false, cond, not, _||_}
 use mathlib.Core.List.{[]}
 use lib.Dec.{eqb}
-use lib.ListN.{length}
 use Rattle.semantics.specs.Text.{Bytes, filter}
 use Rattle.semantics.specs.Sheet.{concatMap}
 use Rattle.semantics.specs.Fold.{Key, plain, qualified}
 use Rattle.semantics.specs.Listing.{keysIn, isPlain, constRow}
 use Rattle.implement.specs.Modules.{firstField, isOwn}
-use Rattle.names.specs.Table.{lineOf, moduleLineOf, kindOf, bitsOf, logIn, StringPlace, hasKey}
+use Rattle.names.specs.Table.{lineOf, moduleLineOf, logIn, hasKey}
 
 -- the keys of entry i
 abbrev pub plainKey : Bytes → Bytes → ℕ → Key
@@ -41,9 +39,3 @@ rowsTo false s t m i = qualifiedTo s t m i
 abbrev pub entryRows : Bool → Bytes → Bytes → ℕ → ℕ → Bytes
 entryRows true s t m i = plainPart s t m i
 entryRows false s t m i = qualifiedPart s t m i
-
--- what a look-up answered can be shown: r is 0, or one more than the number of an entry
-pub record Shown (t : Bytes) (r : ℕ) : Type 0 where
-  pub few : r ≤ 128
-  pub long : 65536 ≤ length t
-  pub text : (i : ℕ) → r ≡ suc i → kindOf t i ≡ 3 → StringPlace (bitsOf t i)

@@ -6,17 +6,14 @@ ghost use Prim.Native.Nat.{_+_, _≤_, _<_};
 ghost use lib.ListN.{length};
 ghost use Rattle.semantics.specs.Listing.{row, valueFields, constRows};
 ghost use Rattle.write.specs.Wrote.{Wrote};
-ghost use Rattle.names.specs.Table.{found, logIn, ConstTable};
-ghost use Rattle.const_rows.specs.Rows.{qualifiedPart, plainPart, rowsTo, entryRows, Shown};
+ghost use Rattle.names.specs.Table.{found, logIn, ConstTable, Answered};
+ghost use Rattle.const_rows.specs.Rows.{qualifiedPart, plainPart, rowsTo, entryRows};
 
 // The fields of the value that a look-up found, to the row's end.
 fn put_value(work: &[u8], out: &mut [u8], at: usize, r: usize) -> usize
-    requires { ⌜ Shown (now work) r ⌝ }
+    requires { ⌜ (Answered (now work) r) × (0 < r) ⌝ }
     ensures { λ p. ⌜ Wrote (now (out .entry)) at (row (valueFields (found (now (work .entry)) r))) (now (out .exit)) p ⌝ }
 {
-    if r == 0 {
-        return write::put_part(out, at, b"x\n");
-    }
     let k = names::slot_kind(work, r - 1);
     let b = names::slot_bits(work, r - 1);
     if k == value::INT {
@@ -26,7 +23,7 @@ fn put_value(work: &[u8], out: &mut [u8], at: usize, r: usize) -> usize
     }
     if k == value::REAL {
         let p = write::put_part(out, at, b"r,");
-        let q = write::put_hex_bits(out, p, reals::bits(reals::of_bits(b)));
+        let q = write::put_hex_bits(out, p, reals::bits(reals::of_bits(b))); // one pattern for every NaN
         return write::put(out, q, b'\n');
     }
     if k == value::STRING {
@@ -41,7 +38,7 @@ fn put_value(work: &[u8], out: &mut [u8], at: usize, r: usize) -> usize
 
 // A name, and behind it the value.
 fn put_rest(work: &[u8], out: &mut [u8], at: usize, name: &[u8], r: usize) -> usize
-    requires { ⌜ Shown (now work) r ⌝ }
+    requires { ⌜ (Answered (now work) r) × (0 < r) ⌝ }
     ensures { λ p. ⌜ Wrote (now (out .entry)) at (now (name .entry) ++ (44 ∷ row (valueFields (found (now (work .entry)) r)))) (now (out .exit)) p ⌝ }
 {
     let p = write::put_part(out, at, name);

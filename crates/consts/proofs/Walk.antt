@@ -34,7 +34,7 @@ use Rattle.consts.specs.declared.Visited.{Visited}
 use Rattle.consts.specs.declared.Visited.the-variants as Visited
 use Rattle.consts.specs.declared.Collected.{Collected}
 use Rattle.consts.specs.declared.Collected.the-variants as Collected
-use Rattle.consts.specs.Passes.{groupFrom, passesAfter, constAt, ConstLine, step, tooLong, Steps, AtConstant, PassAt, goes, PassMoves, Visits, Group, Logs, PassDone, Before, rest, Past, Collects, left}
+use Rattle.consts.specs.Passes.{groupFrom, passesAfter, constAt, ConstLine, step, tooLong, ConstantEntered, AtConstant, PassAt, passFrom, PassMoves, Visits, Group, Logs, PassDone, PassesBefore, passesLeft, ModulePassed, Collects, left}
 use Rattle.consts.proofs.Passes.{open-mod, open-other, group-other, group-in, group-out, group-end, passes-start, passes-mod, passes-other, passes-end, count-mod, count-top}
 use Rattle.consts.proofs.Group.{group-start, group-left}
 use Rattle.consts.proofs.Lines.{line-number, col-number}
@@ -54,7 +54,7 @@ module _ (s t : Bytes) (n k : ℕ) (p : Pass) (st : PassAt s t n k p) (h : p .li
   -- where the group goes on behind the line
   moves-past : (w : ℕ) → w ≤ n → openAt (nodesIn s) (suc (p .line)) ≡ moduleAt s w → groupFrom s k (p .line) ≡ groupFrom s k (suc (p .line))
       → PassMoves s t t n k p (record { line = p .line + 1; within = w; count = p .count; iota = p .iota })
-  unfolding goes
+  unfolding passFrom
   moves-past w l o g = record {
     stands = record {
       checked = st .checked;
@@ -121,16 +121,16 @@ module _ (s t : Bytes) (n k : ℕ) (p : Pass) (st : PassAt s t n k p) (a : AtCon
     next-small : x .next .value ≤ p .iota .value + 1
     next-small = rw hx (moved-value (p .iota) line col)
 
-    goes-is : goes s t k p ≡ step s t (p .count) k (p .line) (x .value) (pass (sheetSource s .implement) (groupFrom s k (suc (p .line))) (iotaNext line col (counterOf (p .iota))))
-    unfolding goes
-    goes-is = rw (group-is, value-is, line-is, col-is)
+    pass-from-is : passFrom s t k p ≡ step s t (p .count) k (p .line) (x .value) (pass (sheetSource s .implement) (groupFrom s k (suc (p .line))) (iotaNext line col (counterOf (p .iota))))
+    unfolding passFrom
+    pass-from-is = rw (group-is, value-is, line-is, col-is)
 
     module _ (u : Bytes) (kept : Kept 5120 t u) where
-      pub visit-refused : Steps s t u n (p .count) k (p .line) (x .value) false → goes s t k p .refused ≡ some (tooLong (p .line + 1))
-      visit-refused f = ap (λ (g : Folding). g .refused) (goes-is ∙ f (pass (sheetSource s .implement) (groupFrom s k (suc (p .line))) (iotaNext line col (counterOf (p .iota))))) ∙ rw add-one
+      pub visit-refused : ConstantEntered s t u n (p .count) k (p .line) (x .value) false → passFrom s t k p .refused ≡ some (tooLong (p .line + 1))
+      visit-refused f = ap (λ (g : Folding). g .refused) (pass-from-is ∙ f (pass (sheetSource s .implement) (groupFrom s k (suc (p .line))) (iotaNext line col (counterOf (p .iota))))) ∙ rw add-one
 
-      pub visit-on : Steps s t u n (p .count) k (p .line) (x .value) true → PassMoves s t u n k p (record { line = p .line + 1; within = p .within; count = p .count + 1; iota = x .next })
-      unfolding goes
+      pub visit-on : ConstantEntered s t u n (p .count) k (p .line) (x .value) true → PassMoves s t u n k p (record { line = p .line + 1; within = p .within; count = p .count + 1; iota = x .next })
+      unfolding passFrom
       visit-on f = record {
         stands = record {
           checked = checked-kept (kept-less (omega arith) kept) (st .checked);
@@ -143,7 +143,7 @@ module _ (s t : Bytes) (n k : ℕ) (p : Pass) (st : PassAt s t n k p) (a : AtCon
           small = omega (arith, st .small, next-small);
         };
         next = refl;
-        same = rw (add-one (p .line), next-is) (sym (goes-is ∙ f .1 (pass (sheetSource s .implement) (groupFrom s k (suc (p .line))) (iotaNext line col (counterOf (p .iota))))));
+        same = rw (add-one (p .line), next-is) (sym (pass-from-is ∙ f .1 (pass (sheetSource s .implement) (groupFrom s k (suc (p .line))) (iotaNext line col (counterOf (p .iota))))));
         count = rw (add-one (p .line)) (omega (arith, longer));
       }
 
@@ -153,7 +153,7 @@ module _ (s t u : Bytes) (n k : ℕ) (p : Pass) where
   pub went-on : {r : Visited} {q : Pass} → r ≡ Visited.On q → Visits s t u n k p r → PassMoves s t u n k p q
   went-on e v = rw e at v
 
-  pub stopped : {r : Visited} {j : ℕ} → r ≡ Visited.Refused j → Visits s t u n k p r → goes s t k p .refused ≡ some (tooLong j)
+  pub stopped : {r : Visited} {j : ℕ} → r ≡ Visited.Refused j → Visits s t u n k p r → passFrom s t k p .refused ≡ some (tooLong j)
   stopped e v = rw e at v
 
 abbrev pub beginning : ℕ → ℕ → Pass
@@ -178,12 +178,12 @@ module _ (s t : Bytes) (n m k : ℕ) (g : Group s t n m k) where
   pub begin-count : m + length (groupFrom s k k) ≡ m + length (groupFrom s k 0)
   begin-count = rw start-is
 
-  begin-is : goes s t k (beginning k m) ≡ pass (sheetSource s .implement) (groupFrom s k 0) newCounter (logIn s t m)
-  unfolding goes counterOf
+  begin-is : passFrom s t k (beginning k m) ≡ pass (sheetSource s .implement) (groupFrom s k 0) newCounter (logIn s t m)
+  unfolding passFrom counterOf
   begin-is = rw start-is
 
-  module _ (u : Bytes) (p : Pass) (st : PassAt s u n k p) (same : goes s u k p ≡ goes s t k (beginning k m)) where
-    pub pass-refused : {j : ℕ} → goes s u k p .refused ≡ some (tooLong j) → pass (sheetSource s .implement) (groupFrom s k 0) newCounter (logIn s t m) .refused ≡ some (tooLong j)
+  module _ (u : Bytes) (p : Pass) (st : PassAt s u n k p) (same : passFrom s u k p ≡ passFrom s t k (beginning k m)) where
+    pub pass-refused : {j : ℕ} → passFrom s u k p .refused ≡ some (tooLong j) → pass (sheetSource s .implement) (groupFrom s k 0) newCounter (logIn s t m) .refused ≡ some (tooLong j)
     pass-refused e = ap (λ (f : Folding). f .refused) (sym begin-is ∙ sym same) ∙ e
 
     -- the pass is done at the last line, and where the module is left
@@ -198,7 +198,7 @@ module _ (s t : Bytes) (n m k : ℕ) (g : Group s t n m k) where
 
     pub pass-done : groupFrom s k (p .line) ≡ [] → p .count + length (groupFrom s k (p .line)) ≡ m + length (groupFrom s k 0)
         → Logs s u n (p .count) (pass (sheetSource s .implement) (groupFrom s k 0) newCounter (logIn s t m)) × (p .count ≡ m + length (groupFrom s k 0))
-    unfolding goes
+    unfolding passFrom
     pass-done e count = (record { logged = st .logged; same = sym begin-is ∙ sym same ∙ rw e }, omega (arith, ap length e))
 
 -- ---- all passes
@@ -211,10 +211,10 @@ then-stop : (g : List (Located ConstDecl)) (ps : List (List (Located ConstDecl))
     → pass impl g newCounter log .refused ≡ some x → passesFrom impl (g ∷ ps) log .refused ≡ some x
 then-stop g ps impl log e = rw e e
 
-module _ (s t : Bytes) (n m i : ℕ) (b : Before s t n m i) where
+module _ (s t : Bytes) (n m i : ℕ) (b : PassesBefore s t n m i) where
   -- a line that opens no module
-  pub past-other : i < n → (letter (readAt s i .form .kind) ≡ 77 → ⊥) → Before s t n m (i + 1) × (rest s t m (i + 1) ≡ rest s t m i)
-  unfolding rest
+  pub past-other : i < n → (letter (readAt s i .form .kind) ≡ 77 → ⊥) → PassesBefore s t n m (i + 1) × (passesLeft s t m (i + 1) ≡ passesLeft s t m i)
+  unfolding passesLeft
   past-other h z =
       (record { checked = b .checked; logged = b .logged; few = rw add-one (omega (arith, b .few, count-mod s t n (b .checked) i)) }, rw (add-one, passes-other s t n (b .checked) i h z))
 
@@ -227,8 +227,8 @@ module _ (s t : Bytes) (n m i : ℕ) (b : Before s t n m i) where
     room = rw add-one (omega (arith, b .few, count-mod s t n (b .checked) i, count-top s t n (b .checked) (suc i), few-consts (b .checked)));
   }
 
-  pub past-module : i < n → letter (readAt s i .form .kind) ≡ 77 → (u : Bytes) → Kept 5120 t u → (r : Collected) → PassDone s t u n m (i + 1) r → Past s t u n m i r
-  unfolding rest
+  pub past-module : i < n → letter (readAt s i .form .kind) ≡ 77 → (u : Bytes) → Kept 5120 t u → (r : Collected) → PassDone s t u n m (i + 1) r → ModulePassed s t u n m i r
+  unfolding passesLeft
   past-module h e u kept (Collected.Count c) (l, q) = (
     record {
       checked = checked-kept (kept-less (omega arith) kept) (b .checked);
@@ -250,8 +250,8 @@ module _ (s t : Bytes) (n m i : ℕ) (b : Before s t n m i) where
     room = omega (arith, b .few, count-top s t n (b .checked) i, few-consts (b .checked));
   }
 
-  pub past-all : n ≤ i → rest s t m i ≡ constants (sheetSource s) → (u : Bytes) → (r : Collected) → PassDone s t u n m 0 r → Collects s u n r
-  unfolding rest
+  pub past-all : n ≤ i → passesLeft s t m i ≡ constants (sheetSource s) → (u : Bytes) → (r : Collected) → PassDone s t u n m 0 r → Collects s u n r
+  unfolding passesLeft
   past-all h same u (Collected.Count c) (l, q) =
       let e : constants (sheetSource s) ≡ record { log = logIn s u c; refused = none } =
       sym same ∙ rw (passes-end s t n (b .checked) i h) (then-on (groupFrom s 0 0) [] (sheetSource s .implement) (logIn s t m) (logIn s u c) (l .same)) in
@@ -259,16 +259,16 @@ module _ (s t : Bytes) (n m i : ℕ) (b : Before s t n m i) where
   past-all h same u (Collected.Refused j) q =
       ap (λ (f : Folding). f .refused) (sym same) ∙ rw (passes-end s t n (b .checked) i h) (then-stop (groupFrom s 0 0) [] (sheetSource s .implement) (logIn s t m) q)
 
-pub start-before : (s t : Bytes) (n : ℕ) → Checked s t n → Before s t n 0 0
+pub start-before : (s t : Bytes) (n : ℕ) → Checked s t n → PassesBefore s t n 0 0
 start-before s t n c = record { checked = c; logged = record { few = omega arith; each = λ i h. absurd (omega arith); digests = λ i h. absurd (omega arith) }; few = omega arith }
 
-pub start-same : (s t : Bytes) (n : ℕ) → Checked s t n → rest s t 0 0 ≡ constants (sheetSource s)
-unfolding rest logIn
+pub start-same : (s t : Bytes) (n : ℕ) → Checked s t n → passesLeft s t 0 0 ≡ constants (sheetSource s)
+unfolding passesLeft logIn
 start-same s t n c = sym (passes-start s t n c)
 
 module _ (s t u : Bytes) (n m i : ℕ) where
-  pub went-past : {r : Collected} {c : ℕ} → r ≡ Collected.Count c → Past s t u n m i r → Before s u n c (i + 1) × (rest s u c (i + 1) ≡ rest s t m i)
+  pub went-past : {r : Collected} {c : ℕ} → r ≡ Collected.Count c → ModulePassed s t u n m i r → PassesBefore s u n c (i + 1) × (passesLeft s u c (i + 1) ≡ passesLeft s t m i)
   went-past e p = rw e at p
 
-  pub refused-at : {r : Collected} {j : ℕ} → r ≡ Collected.Refused j → Past s t u n m i r → rest s t m i ≡ constants (sheetSource s) → constants (sheetSource s) .refused ≡ some (tooLong j)
+  pub refused-at : {r : Collected} {j : ℕ} → r ≡ Collected.Refused j → ModulePassed s t u n m i r → passesLeft s t m i ≡ constants (sheetSource s) → constants (sheetSource s) .refused ≡ some (tooLong j)
   refused-at e p same = ap (λ (f : Folding). f .refused) (sym same) ∙ (rw e at p)

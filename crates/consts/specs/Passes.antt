@@ -17,7 +17,7 @@ use Rattle.lines.specs.Lines.{readAt, nodesIn}
 use Rattle.implement.specs.Modules.{moduleAt}
 use Rattle.checks.specs.Checks.{Checked}
 use Rattle.source.specs.Walk.{openAt, conOf}
-use Rattle.names.specs.Table.{logIn, ConstsLogged}
+use Rattle.names.specs.Table.{logIn, namesIn, ConstsLogged}
 use Rattle.iota.specs.Iota.{counterOf}
 use Rattle.consts.specs.declared.Pass.{Pass}
 use Rattle.consts.specs.declared.Visited.{Visited}
@@ -75,16 +75,16 @@ pub record ConstLine (s t : Bytes) (n m k i : ℕ) : Type 0 where
 abbrev pub step : Bytes → Bytes → ℕ → ℕ → ℕ → ℕ → (List Const → Folding) → Folding
 step s t m k i iota go =
     let c = constAt s k i in
-    entered (sheetSource s .implement) c (fold (record { log = logIn s t m }) (pos iota) (c .it .value)) go (logIn s t m)
+    entered (sheetSource s .implement) c (fold (namesIn s t m) (pos iota) (c .it .value)) go (logIn s t m)
 
 -- refusal 8 at line j, from 1
 abbrev pub tooLong : ℕ → Refusal
 tooLong j = record { number = 8; line = j }
 
 -- it is entered, or its string is too long
-abbrev pub Steps : Bytes → Bytes → Bytes → ℕ → ℕ → ℕ → ℕ → ℕ → Bool → Type 0
-Steps s t u n m k i iota true = ConstsLogged s u n (m + 1) × ((go : List Const → Folding) → step s t m k i iota go ≡ go (logIn s u (m + 1)))
-Steps s t u n m k i iota false = (go : List Const → Folding) → step s t m k i iota go ≡ record { log = logIn s t m; refused = some (tooLong (suc i)) }
+abbrev pub ConstantEntered : Bytes → Bytes → Bytes → ℕ → ℕ → ℕ → ℕ → ℕ → Bool → Type 0
+ConstantEntered s t u n m k i iota true = ConstsLogged s u n (m + 1) × ((go : List Const → Folding) → step s t m k i iota go ≡ go (logIn s u (m + 1)))
+ConstantEntered s t u n m k i iota false = (go : List Const → Folding) → step s t m k i iota go ≡ record { log = logIn s t m; refused = some (tooLong (suc i)) }
 
 -- ---- a pass
 
@@ -106,20 +106,20 @@ pub record AtConstant (s : Bytes) (n k : ℕ) (p : Pass) : Type 0 where
   pub own : p .within ≡ k
 
 -- what it comes to from there
-unfoldable pub goes : Bytes → Bytes → ℕ → Pass → Folding
-goes s t k p = pass (sheetSource s .implement) (groupFrom s k (p .line)) (counterOf (p .iota)) (logIn s t (p .count))
+unfoldable pub passFrom : Bytes → Bytes → ℕ → Pass → Folding
+passFrom s t k p = pass (sheetSource s .implement) (groupFrom s k (p .line)) (counterOf (p .iota)) (logIn s t (p .count))
 
 -- from p one line on to q
 pub record PassMoves (s t u : Bytes) (n k : ℕ) (p q : Pass) : Type 0 where
   pub stands : PassAt s u n k q
   pub next : q .line ≡ p .line + 1
-  pub same : goes s u k q ≡ goes s t k p
+  pub same : passFrom s u k q ≡ passFrom s t k p
   pub count : q .count + length (groupFrom s k (q .line)) ≡ p .count + length (groupFrom s k (p .line))
 
 -- a line is visited: the pass moves on, or the line is refused
 abbrev pub Visits : Bytes → Bytes → Bytes → ℕ → ℕ → Pass → Visited → Type 0
 Visits s t u n k p (Visited.On q) = PassMoves s t u n k p q
-Visits s t u n k p (Visited.Refused j) = goes s t k p .refused ≡ some (tooLong j)
+Visits s t u n k p (Visited.Refused j) = passFrom s t k p .refused ≡ some (tooLong j)
 
 -- a group whose constants are to be entered from entry m on
 pub record Group (s t : Bytes) (n m k : ℕ) : Type 0 where
@@ -143,19 +143,19 @@ PassDone s t u n m k (Collected.Refused j) = pass (sheetSource s .implement) (gr
 -- ---- all passes
 
 -- the passes of the modules that open before line i are done, and their constants are the first m
-pub record Before (s t : Bytes) (n m i : ℕ) : Type 0 where
+pub record PassesBefore (s t : Bytes) (n m i : ℕ) : Type 0 where
   pub checked : Checked s t n
   pub logged : ConstsLogged s t n m
   pub few : m ≤ countBefore s i
 
 -- what the passes from line i on give
-unfoldable pub rest : Bytes → Bytes → ℕ → ℕ → Folding
-rest s t m i = passesFrom (sheetSource s .implement) (passesAfter s i) (logIn s t m)
+unfoldable pub passesLeft : Bytes → Bytes → ℕ → ℕ → Folding
+passesLeft s t m i = passesFrom (sheetSource s .implement) (passesAfter s i) (logIn s t m)
 
 -- line i is done: the passes behind it give what was left, or line j is refused
-abbrev pub Past : Bytes → Bytes → Bytes → ℕ → ℕ → ℕ → Collected → Type 0
-Past s t u n m i (Collected.Count c) = Before s u n c (i + 1) × (rest s u c (i + 1) ≡ rest s t m i)
-Past s t u n m i (Collected.Refused j) = rest s t m i .refused ≡ some (tooLong j)
+abbrev pub ModulePassed : Bytes → Bytes → Bytes → ℕ → ℕ → ℕ → Collected → Type 0
+ModulePassed s t u n m i (Collected.Count c) = PassesBefore s u n c (i + 1) × (passesLeft s u c (i + 1) ≡ passesLeft s t m i)
+ModulePassed s t u n m i (Collected.Refused j) = passesLeft s t m i .refused ≡ some (tooLong j)
 
 -- the constants are the first m of the table, or line j is refused
 abbrev pub Collects : Bytes → Bytes → ℕ → Collected → Type 0

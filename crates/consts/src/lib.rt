@@ -7,7 +7,7 @@ use values::Folded;
 ghost use mathlib.Core.Path.{_≡_};
 ghost use Prim.Native.Nat.{_+_, _<_};
 ghost use Rattle.checks.specs.Checks.{Checked, Kept};
-ghost use Rattle.consts.specs.Passes.{ConstLine, Steps, AtConstant, PassAt, Visits, Group, PassDone, Before, Past, Collects, left};
+ghost use Rattle.consts.specs.Passes.{ConstLine, ConstantEntered, AtConstant, PassAt, Visits, Group, PassDone, PassesBefore, ModulePassed, Collects, left};
 
 // How many constants there are, or the line whose string grows too long.
 pub enum Collected {
@@ -32,7 +32,7 @@ pub enum Visited {
 // The constant of line i, from 0, in the module of line k: folded, and entered behind those that are known. False where its string grows too long.
 fn take_constant(sheet: &[u8], work: &mut [u8], c: Known, k: usize, i: usize, iota: u32) -> bool
     requires { ⌜ ConstLine (now sheet) (now work) (c .lines) (c .consts) k i ⌝ }
-    ensures { λ b. ⌜ (Kept 5120 (now (work .entry)) (now (work .exit))) × (Steps (now (sheet .entry)) (now (work .entry)) (now (work .exit)) (c .lines) (c .consts) k i iota b) ⌝ }
+    ensures { λ b. ⌜ (Kept 5120 (now (work .entry)) (now (work .exit))) × (ConstantEntered (now (sheet .entry)) (now (work .entry)) (now (work .exit)) (c .lines) (c .consts) k i iota b) ⌝ }
 {
     let r = lines::number_at(sheet, work, c.lines, i, 3);
     let d = words::digest(lines::field_at(sheet, work, c.lines, i, 0));
@@ -144,8 +144,8 @@ fn pass_consts(sheet: &[u8], work: &mut [u8], n: usize, m: usize, k: usize) -> C
 
 // The pass of the module that line i, from 0, opens, if it opens one.
 fn module_consts(sheet: &[u8], work: &mut [u8], n: usize, m: usize, i: usize) -> Collected
-    requires { ⌜ (Before (now sheet) (now work) n m i) × (i < n) ⌝ }
-    ensures { λ r. ⌜ (Kept 5120 (now (work .entry)) (now (work .exit))) × (Past (now (sheet .entry)) (now (work .entry)) (now (work .exit)) n m i r) ⌝ }
+    requires { ⌜ (PassesBefore (now sheet) (now work) n m i) × (i < n) ⌝ }
+    ensures { λ r. ⌜ (Kept 5120 (now (work .entry)) (now (work .exit))) × (ModulePassed (now (sheet .entry)) (now (work .entry)) (now (work .exit)) n m i r) ⌝ }
 {
     if form::kind(lines::form_at(work, i)) != kind::MOD {
         return Collected::Count(m);

@@ -1,13 +1,13 @@
 -- What stays while items are printed: tables, constants' strings, and the first value of a line.
 use mathlib.Core.Path.{_≡_, refl, _∙_}
-use Prim.Native.Nat.{ℕ, zero, suc, _+_, _/_, _%_, _≤_, _<_}
+use Prim.Native.Nat.{ℕ, zero, suc, _+_, _≤_, _<_}
 use native.Mathlib.Omega.{arith}
 use lib.ListN.{length}
 use Rattle.semantics.specs.Text.{Bytes}
 use Rattle.checks.specs.Checks.{Checked, Outside}
 use Rattle.checks.proofs.Kept.{kept-all, kept-then, kept-less, checked-kept, kind-line-kept, outside-above}
-use Rattle.names.specs.Table.{bitsOf, logIn, ConstsLogged}
-use Rattle.names.proofs.Laws.{logged-same, log-same}
+use Rattle.names.specs.Table.{logIn, ConstsLogged}
+use Rattle.names.proofs.Laws.{logged-same, log-stays}
 use Rattle.values.specs.declared.ConstVal.{ConstVal}
 use Rattle.values.specs.declared.ConstVal.the-variants.{Int, Real, Str}
 use Rattle.values.specs.Values.{At, Within}
@@ -57,8 +57,8 @@ module _ {t u : Bytes} (k : Keeping t u) where
 
     pub log-still : logIn s u m ≡ logIn s t m
     log-still =
-        log-same (kept-less (omega (arith, l .few)) (k .below)) l
-        (λ i h q. let x = l .each i h .text q in part-same t u (k .below .long) (bitsOf t i / 65536) (bitsOf t i % 65536) (λ j y z. k .strings j (omega (arith, x .low)) (omega (arith, x .high))))
+        log-stays (kept-less (omega (arith, l .few)) (k .below)) l
+        (λ a b h e. part-same t u (k .below .long) b a (λ j y z. k .strings j (omega arith) (omega arith)))
 
 -- ---- the first value of a line
 

@@ -18,8 +18,7 @@ use Rattle.write.proofs.Wrote.{wrote-none, wrote-length}
 use Rattle.checks.specs.Checks.{Kept, Outside}
 use Rattle.source.specs.Walk.{openAt}
 use Rattle.implement.specs.Modules.{moduleAt, Open}
-use Rattle.names.specs.Table.{logIn}
-use Rattle.literals.specs.Literals.{namesIn}
+use Rattle.names.specs.Table.{logIn, namesIn}
 use Rattle.literals.proofs.Names.{kept-low}
 use Rattle.global_table.specs.Table.{VarLine, placesIn, typeOn, namesOn}
 use Rattle.globals.specs.Vars.{locatedAt, laidAt, laidVarsTo, varItems, lineItems}

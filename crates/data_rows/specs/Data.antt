@@ -14,8 +14,7 @@ use Rattle.semantics.specs.Types.{arrayKey, distinct, keys, idOf}
 use Rattle.semantics.specs.Listing.{itemRow}
 use Rattle.write.specs.Wrote.{Wrote}
 use Rattle.checks.specs.Checks.{Kept}
-use Rattle.names.specs.Table.{ConstsLogged, ConstTable}
-use Rattle.literals.specs.Literals.{namesIn}
+use Rattle.names.specs.Table.{ConstsLogged, ConstTable, namesIn}
 use Rattle.global_table.specs.Table.{placesIn, offsetIn, Tabled}
 use Rattle.items.specs.Items.{itemRows}
 use Rattle.type_keys.specs.Table.{Kinds}

@@ -13,7 +13,7 @@ ghost use Rattle.semantics.specs.Sheet.{sheetSource};
 ghost use Rattle.semantics.specs.Array.{kindNumber, isOfKind};
 ghost use Rattle.write.specs.Wrote.{Wrote};
 ghost use Rattle.checks.specs.Checks.{Kept, Outside};
-ghost use Rattle.literals.specs.Literals.{namesIn};
+ghost use Rattle.names.specs.Table.{namesIn};
 ghost use Rattle.arrays.specs.Arrays.{kindOfNumber};
 ghost use Rattle.global_table.specs.Table.{VarLine, typeOn, namesOn, placesIn};
 ghost use Rattle.globals.specs.Vars.{lineItems};

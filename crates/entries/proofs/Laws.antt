@@ -1,6 +1,5 @@
 -- Laws of entries.
 use mathlib.Core.Path.{_≡_, refl, sym, ap, _∙_, subst}
-use mathlib.Core.Bool.{true}
 use mathlib.Core.List.{[], _∷_, _++_, append-assoc}
 use mathlib.Core.Logic.{⊎-elim}
 use mathlib.Core.Option.{Option, none, some}
@@ -8,63 +7,80 @@ use Prim.Native.Nat.{ℕ, _+_, _-_, _*_, _/_, _%_, _≤_, _<_, min}
 use native.Mathlib.Omega.{arith}
 use native.Mathlib.Numerals.{add-one}
 use native.Mathlib.Nat.{eq-or-lt-of-le}
-use lib.Dec.{T}
 use lib.IntN.{ℤ}
-use lib.Ieee.{Float, binary64, toBits, fits}
-use lib.Ieee.Bits.{ofBits-toBits}
+use lib.Ieee.{Float, binary64, toBits}
 use lib.ListN.{length, take, drop, getD, length-append}
 use lib.Seq.{getD-take, getD-drop, take-at, drop-drop, getD-at, sets-eq, length-take-le, drop-at, drop-append-add}
-use mir.Syntax.{w64}
-use mir.Val.{SFits}
-use mir.ValLaws.{toZ-ofZ}
 use Rattle.semantics.specs.Text.{Bytes, bigEndian, fromBigEndian}
 use Rattle.semantics.specs.Tree as Tree
 use Rattle.semantics.specs.Tree.ConstVal.{vInt, vReal, vStr}
+use Rattle.semantics.specs.Sheet.{sheetSource}
 use Rattle.semantics.specs.Fold.{bits64, wrap}
-use Rattle.ints.proofs.Widths.{held}
-use Rattle.ints.proofs.Wrapping.{wrap-same}
+use Rattle.semantics.specs.Const.{entries}
 use Rattle.write.specs.Wrote.{over}
 use Rattle.write.proofs.Hex.{big-length}
 use Rattle.write.proofs.Back.{bits-back}
 use Rattle.words.specs.Words.{digest, u16At, bitsAt}
-use Rattle.implement.specs.Modules.{firstField}
+use Rattle.implement.specs.Modules.{firstField, moduleAt}
 use Rattle.checks.specs.Checks.{Kept}
 use Rattle.checks.proofs.Kept.{kept-then, kept-less}
 use Rattle.names.specs.Table.{lineOf, moduleLineOf, valueBy, kindOf, bitsOf, digestOf, entriesAt, logIn, EntryBounds, ConstsLogged}
 use Rattle.names.proofs.Laws.{slot-is, value-failed, value-int, value-real, value-text, part-low, part-kept, SameText, logged-same, log-same}
 use Rattle.values.specs.declared.ConstVal.{ConstVal}
 use Rattle.values.specs.declared.ConstVal.the-variants.{Int, Real, Str}
-use Rattle.values.specs.Values.{stringIn, valueIn, At}
+use Rattle.values.specs.Values.{stringIn, valueIn, kindFor, bitsFor, Small, InRange, At}
+use Rattle.values.proofs.Values.{word, real-back}
 use Rattle.values.proofs.Written.{wrote-kept, string-length}
-use Rattle.entries.specs.Entering.{entryOf, kindFor, Says, stringOf, Free, Entered}
+use Rattle.entries.specs.Entering.{entryOf, movedTo, stringOf, EntryRoom}
 
--- ---- bits of values
+-- entry m holds a constant with this value, and the entries before it what they held
+pub record Entered (s t : Bytes) (n m line within : ℕ) (v : Option Tree.ConstVal) (u : Bytes) : Type 0 where
+  pub log : logIn s u (m + 1) ≡ entries (sheetSource s .implement) (moduleAt s within) (firstField s line) v ++ logIn s t m
+  pub logged : ConstsLogged s u n (m + 1)
+  pub kept : Kept 5120 t u
 
-pub says-int : {v : ConstVal} {z : ℤ} {b : ℕ} (p : ℕ) → v ≡ Int z → SFits w64 z → b ≡ bits64 (held w64 z) → Says v p b
-unfolding wrap
-says-int {v} {z} {b} p e f d =
-    let g : b ≡ bits64 z = d ∙ ap bits64 (toZ-ofZ w64 z f) in
-    rw (e, g) (wrap-same f)
-
-pub says-real : {v : ConstVal} {x : Float} {b : ℕ} (p : ℕ) → v ≡ Real x → fits binary64 x ≡ true → b ≡ toBits binary64 x → Says v p b
-says-real {v} {x} {b} p e f d = rw (e, d) (ofBits-toBits binary64 x (subst T (sym f) tt))
-
-pub says-text : {v : ConstVal} {q l b : ℕ} (p : ℕ) → v ≡ Str q l → b ≡ p + 65536 * l → Says v p b
-says-text p e d = rw e d
+-- ---- a value's string
 
 pub text-short : {v : ConstVal} {q l : ℕ} → v ≡ Str q l → At 49152 v → (q ≡ 49152) × (l ≤ 256)
 text-short e a = rw e at a
 
-pub over-none : (t : Bytes) (a : ℕ) → t ≡ over t a []
+over-none : (t : Bytes) (a : ℕ) → t ≡ over t a []
 unfolding over
 over-none t a = refl
 
-pub string-none : {v w : ConstVal} (t : Bytes) (a : ℕ) → v ≡ w → stringOf t w ≡ [] → t ≡ over t a (stringOf t v)
-string-none t a e d = rw (e, d) (over-none t a)
+module _ {v : ConstVal} (t : Bytes) (m : ℕ) where
+  pub string-none : {w : ConstVal} → v ≡ w → stringOf t w ≡ [] → w ≡ movedTo (16384 + 256 * m) w → (t ≡ over t (16384 + 256 * m) (stringOf t v)) × (v ≡ movedTo (16384 + 256 * m) v)
+  string-none e d r = rw e (rw d (over-none t (16384 + 256 * m)), r)
 
-pub string-some : {v : ConstVal} {q l : ℕ} (t u : Bytes) (a : ℕ) → v ≡ Str q l → u ≡ over t a (take l (drop q t)) → u ≡ over t a (stringOf t v)
-unfolding stringIn
-string-some t u a e d = rw e d
+  pub string-some : {q l : ℕ} {u : Bytes} → v ≡ Str q l → u ≡ over t (16384 + 256 * m) (take l (drop q t)) → (u ≡ over t (16384 + 256 * m) (stringOf t v)) × (Str (16384 + 256 * m) l ≡ movedTo (16384 + 256 * m) v)
+  unfolding stringIn
+  string-some e d = rw e (d, refl)
+
+-- a value whose string is moved
+module _ (p : ℕ) where
+  moved-kind : (v : ConstVal) → kindFor (movedTo p v) ≡ kindFor v
+  moved-kind (Int z) = refl
+  moved-kind (Real x) = refl
+  moved-kind (Str q l) = refl
+
+  moved-range : (v : ConstVal) → InRange (movedTo p v) → InRange v
+  moved-range (Int z) h = h
+  moved-range (Real x) h = h
+  moved-range (Str q l) h = h
+
+  moved-small : (v : ConstVal) → p < 65536 → At 49152 v → Small (movedTo p v)
+  moved-small (Int z) h a = tt
+  moved-small (Real x) h a = tt
+  moved-small (Str q l) h a = (h, omega (arith, a .1))
+
+module _ (v : ConstVal) {w : ConstVal} (m : ℕ) (e : w ≡ movedTo (16384 + 256 * m) v) where
+  pub kept-small : m < 128 → At 49152 v → Small w
+  kept-small h a = rw e (moved-small (16384 + 256 * m) v (omega arith) a)
+
+  pub value-entered : (line within d : ℕ) (t : Bytes) {u x : Bytes} {k b : ℕ}
+      → x ≡ over t (16384 + 256 * m) (stringOf t v) → k ≡ kindFor w → (b ≡ bitsFor w) × InRange w → u ≡ over x (5120 + 16 * m) (entryOf line within k b d)
+      → (u ≡ over (over t (16384 + 256 * m) (stringOf t v)) (5120 + 16 * m) (entryOf line within (kindFor v) (bitsFor (movedTo (16384 + 256 * m) v)) d)) × InRange v
+  value-entered line within d t f g (h, r) i = (i ∙ rw (f, g, h, e, moved-kind (16384 + 256 * m) v), moved-range (16384 + 256 * m) v (rw e at r))
 
 -- ---- an entry's bytes
 
@@ -99,7 +115,7 @@ module _ (t r : Bytes) (a : ℕ) (room : a + length r ≤ length t) where
   over-kept : Kept a t (over t a r)
   over-kept = wrote-kept {d = t} {a = a} {t = r} {e = over t a r} {b = min (a + length r) (length t + 1)} (record { bytes = refl; place = refl })
 
-module _ (t u : Bytes) (m line within kind bits d : ℕ) (f : Free t m line within) (str : Bytes) (short : length str ≤ 256)
+module _ (t u : Bytes) (m line within kind bits d : ℕ) (f : EntryRoom t m line within) (str : Bytes) (short : length str ≤ 256)
     (is : u ≡ over (over t (16384 + 256 * m) str) (5120 + 16 * m) (entryOf line within kind bits d))
     (low : kind ≤ 3) (word : bits < 18446744073709551616) (text : kind ≡ 3 → (bits % 65536 ≡ 16384 + 256 * m) × (bits / 65536 ≤ 256)) where
   string-room : 16384 + 256 * m + length str ≤ length t
@@ -190,27 +206,29 @@ module _ (t u : Bytes) (m line within kind bits d : ℕ) (f : Free t m line with
     kept = kept-less (omega arith) table-kept;
   }
 
-module _ (t u : Bytes) (m line within d : ℕ) (f : Free t m line within) where
+module _ (t u : Bytes) (m line within d : ℕ) (f : EntryRoom t m line within) where
   pub entered-failed : u ≡ over t (5120 + 16 * m) (entryOf line within 0 0 d) → (s : Bytes) (n : ℕ) → line ≤ n → within ≤ n → d ≡ digest (firstField s line) → ConstsLogged s t n m → Entered s t n m line within none u
   entered-failed e =
       entered t u m line within 0 0 d f [] (omega arith) (e ∙ ap (λ (x : Bytes). over x (5120 + 16 * m) (entryOf line within 0 0 d)) (over-none t (16384 + 256 * m))) (omega arith) (omega arith) (λ k. absurd (omega arith))
       none (value-failed u 0 0 (λ k. omega arith) (λ k. omega arith) (λ k. omega arith))
 
   -- a value, by its variant
-  pub entered-value : (v : ConstVal) → At 49152 v → {b : ℕ} → b < 18446744073709551616 → Says v (16384 + 256 * m) b
-      → u ≡ over (over t (16384 + 256 * m) (stringOf t v)) (5120 + 16 * m) (entryOf line within (kindFor v) b d)
+  pub entered-value : (v : ConstVal) → At 49152 v
+      → (u ≡ over (over t (16384 + 256 * m) (stringOf t v)) (5120 + 16 * m) (entryOf line within (kindFor v) (bitsFor (movedTo (16384 + 256 * m) v)) d)) × InRange v
       → (s : Bytes) (n : ℕ) → line ≤ n → within ≤ n → d ≡ digest (firstField s line) → ConstsLogged s t n m → Entered s t n m line within (some (valueIn t v)) u
-  unfolding valueIn
-  entered-value (Int z) a {b} h says e =
-      entered t u m line within 1 b d f [] (omega arith) e (omega arith) h (λ k. absurd (omega arith))
-      (some (vInt z)) (value-int u 1 b refl ∙ ap (λ (x : ℤ). some (vInt x)) says)
-  entered-value (Real x) a {b} h says e =
-      entered t u m line within 2 b d f [] (omega arith) e (omega arith) h (λ k. absurd (omega arith))
-      (some (vReal x)) (value-real u 2 b refl ∙ ap (λ (y : Float). some (vReal y)) says)
-  entered-value (Str p l) a {b} h says e =
+  unfolding valueIn wrap
+  entered-value (Int z) a (e, r) =
+      entered t u m line within 1 (bits64 z) d f [] (omega arith) e (omega arith) (word (Int z) tt r) (λ k. absurd (omega arith))
+      (some (vInt z)) (value-int u 1 (bits64 z) refl ∙ ap (λ (x : ℤ). some (vInt x)) r)
+  entered-value (Real x) a (e, r) =
+      entered t u m line within 2 (toBits binary64 x) d f [] (omega arith) e (omega arith) (word (Real x) tt r) (λ k. absurd (omega arith))
+      (some (vReal x)) (value-real u 2 (toBits binary64 x) refl ∙ ap (λ (y : Float). some (vReal y)) (real-back x r))
+  entered-value (Str p l) a (e, r) =
+      let b : ℕ = 16384 + 256 * m + 65536 * l in
       let g : length (stringIn t p l) ≡ l = string-length t p l (omega (arith, f .long)) in
       let c : (bits : ℕ) → bits ≡ 16384 + 256 * m + 65536 * l → (bits % 65536 ≡ 16384 + 256 * m) × (bits / 65536 ≡ l) = λ bits q. (omega (arith, f .few), omega (arith, f .few)) in
-      let x : (k : _≡_ {A = ℕ} 3 3) → (b % 65536 ≡ 16384 + 256 * m) × (b / 65536 ≤ 256) = λ k. (c b says .0, omega (arith, c b says .1)) in
+      let x : (k : _≡_ {A = ℕ} 3 3) → (b % 65536 ≡ 16384 + 256 * m) × (b / 65536 ≤ 256) = λ k. (c b refl .0, omega (arith, c b refl .1)) in
       let y : length (stringIn t p l) ≤ 256 = omega arith in
-      entered t u m line within 3 b d f (stringIn t p l) y e (omega arith) h x
-      (some (vStr (stringIn t p l))) (text-here t u m line within 3 b d f (stringIn t p l) y e (omega arith) h x refl (c b says .1 ∙ sym g))
+      let w : b < 18446744073709551616 = omega (arith, f .few) in
+      entered t u m line within 3 b d f (stringIn t p l) y e (omega arith) w x
+      (some (vStr (stringIn t p l))) (text-here t u m line within 3 b d f (stringIn t p l) y e (omega arith) w x refl (c b refl .1 ∙ sym g))

@@ -32,7 +32,7 @@ use denote.Enum.Declared.{tagOf}
 use types.Run.{OneOf}
 use Rattle.values.specs.Values.{stringIn, valueIn, resultIn, unaryAt, binaryAt, basicAt, sizeOf, At, ResultAt, Within, Answers, Casts}
 use Rattle.values.proofs.Values.{answers-as, answers-failed}
-use Rattle.names.specs.Table.{logIn, ConstsLogged}
+use Rattle.names.specs.Table.{namesIn, ConstsLogged}
 use Rattle.names.proofs.Laws.{part-kept, logged-kept, log-kept}
 use Rattle.leaf.specs.Folds.{exAt, foldAt, ExLine, Foldable, Folds}
 use Rattle.fold.specs.Operators.{OperatorLine, operandOf, onOne, Applies}
@@ -208,7 +208,7 @@ module _ {s t : Bytes} {n m r top : ℕ} (a : Foldable s t n m r top) where
       let w = form-span (a .line) in
       let f : formAt t (r - 1) ≡ 17 + (formAt t (r - 1) - 17) = omega arith in
       let d : exAt s r ≡ rowNode (nodesIn s) (17 + (formAt t (r - 1) - 17)) (readAt s (r - 1) .fields) .ex = ex-is (a .line) ∙ ap (λ (g : ℕ). rowNode (nodesIn s) g (readAt s (r - 1) .fields) .ex) f in
-      record { answer = answers-failed (sym (rw d (made-failing (nodesIn s) (record { log = logIn s t m }) (pos iota) (readAt s (r - 1) .fields) (formAt t (r - 1) - 17) (omega (arith, w .1))))) t top; kept = kept-all }
+      record { answer = answers-failed (sym (rw d (made-failing (nodesIn s) (namesIn s t m) (pos iota) (readAt s (r - 1) .fields) (formAt t (r - 1) - 17) (omega (arith, w .1))))) t top; kept = kept-all }
 
   module _ (low : 13 ≤ formAt t (r - 1)) (high : formAt t (r - 1) ≤ 16) where
     pub operator-line : OperatorLine s t n r
@@ -238,11 +238,11 @@ module _ {s t : Bytes} {n m r top : ℕ} (a : Foldable s t n m r top) where
 
     -- the fold of the operand gave x
     module _ {iota k : ℕ} (hk : k ≡ operandOf s t r) {u : Bytes} {x : Folded} (f : Folds s t m iota k top u x) where
-      operand-result : fold (record { log = logIn s t m }) (pos iota) (exAt s (operandOf s t r)) ≡ resultIn u x
+      operand-result : fold (namesIn s t m) (pos iota) (exAt s (operandOf s t r)) ≡ resultIn u x
       unfolding foldAt
       operand-result = rw (← hk) (sym (f .answer .value))
 
-      goes-on : (K : Tree.ConstVal → Result Tree.ConstVal) → fold (record { log = logIn s t m }) (pos iota) (exAt s r) ≡ bind (fold (record { log = logIn s t m }) (pos iota) (exAt s (operandOf s t r))) K → foldAt s t m iota r ≡ bind (resultIn u x) K
+      goes-on : (K : Tree.ConstVal → Result Tree.ConstVal) → fold (namesIn s t m) (pos iota) (exAt s r) ≡ bind (fold (namesIn s t m) (pos iota) (exAt s (operandOf s t r))) K → foldAt s t m iota r ≡ bind (resultIn u x) K
       unfolding foldAt
       goes-on K e = e ∙ ap (λ z. bind z K) operand-result
 
@@ -257,8 +257,8 @@ module _ {s t : Bytes} {n m r top : ℕ} (a : Foldable s t n m r top) where
           ends K e = record { answer = record { value = sym (e ∙ stopped u x h K); at = f .answer .at }; kept = f .kept }
 
           go : (b : Bool) → eqb (formAt t (r - 1)) 14 ≡ b → Folds s t m iota r top u x
-          go true q = ends _ (goes-on _ (fold-two operator-line (record { log = logIn s t m }) (pos iota) (eqb-true (formAt t (r - 1)) 14 q)))
-          go false q = ends _ (goes-on _ (fold-one operator-line (record { log = logIn s t m }) (pos iota) (eqb-false (formAt t (r - 1)) 14 q)))
+          go true q = ends _ (goes-on _ (fold-two operator-line (namesIn s t m) (pos iota) (eqb-true (formAt t (r - 1)) 14 q)))
+          go false q = ends _ (goes-on _ (fold-one operator-line (namesIn s t m) (pos iota) (eqb-false (formAt t (r - 1)) 14 q)))
 
       module _ {v : ConstVal} (hv : x ≡ Value v) where
         value-at : At top v
@@ -275,7 +275,7 @@ module _ {s t : Bytes} {n m r top : ℕ} (a : Foldable s t n m r top) where
         pub applied : (formAt t (r - 1) ≡ 14 → ⊥) → {w : Bytes} {y : Folded} → Answers w top y (onOne (exAt s r) (valueIn u v)) × Kept top u w → Folds s t m iota r top w y
         unfolding resultIn
         applied z b = record {
-          answer = answers-as (sym (goes-on (onOne (exAt s r)) (fold-one operator-line (record { log = logIn s t m }) (pos iota) z) ∙ rw hv)) (b .0);
+          answer = answers-as (sym (goes-on (onOne (exAt s r)) (fold-one operator-line (namesIn s t m) (pos iota) z) ∙ rw hv)) (b .0);
           kept = kept-then (f .kept) (b .1);
         }
 
@@ -297,13 +297,13 @@ module _ {s t : Bytes} {n m r top : ℕ} (a : Foldable s t n m r top) where
             pub right-kept : Kept top t w
             right-kept = kept-then (f .kept) (kept-less (omega arith) (b .kept))
 
-            right-result : fold (record { log = logIn s t m }) (pos iota) (exAt s (numberOf (getD (readAt s (r - 1) .fields) 2 []))) ≡ resultIn w y
+            right-result : fold (namesIn s t m) (pos iota) (exAt s (numberOf (getD (readAt s (r - 1) .fields) 2 []))) ≡ resultIn w y
             unfolding foldAt
             right-result = rw (← right-is, ← log-kept (kept-less (a .low) (f .kept)) (a .log)) (sym (b .answer .value))
 
             both-results : foldAt s t m iota r ≡ bind (resultIn w y) (foldBinary (binaryAt (numberOf (getD (readAt s (r - 1) .fields) 0 []))) (valueIn u v))
             unfolding resultIn
-            both-results = goes-on _ (fold-two operator-line (record { log = logIn s t m }) (pos iota) e) ∙ rw (hv, right-result)
+            both-results = goes-on _ (fold-two operator-line (namesIn s t m) (pos iota) e) ∙ rw (hv, right-result)
 
             pub right-stops : Stops y → Folds s t m iota r top w y
             right-stops h = record { answer = record { value = sym (both-results ∙ stopped w y h _); at = stopped-at (top + p) top y h (b .answer .at) }; kept = right-kept }

@@ -1,14 +1,14 @@
 // Expressions folded: the value of an `ex` line of a checked sheet, left first. Strings stand in the working space as on a stack.
 use codes::ex;
+use names::Known;
+use values::ConstVal;
+use values::Folded;
 ghost use mathlib.Core.Path.{_≡_};
 ghost use Prim.Native.Nat.{_-_};
 ghost use Rattle.values.specs.Values.{valueIn, Answers};
 ghost use Rattle.checks.specs.Checks.{Kept};
 ghost use Rattle.leaf.specs.Folds.{exAt, Foldable, Folds};
 ghost use Rattle.fold.specs.Operators.{onOne, operandOf, OperatorLine, Applies};
-use names::Known;
-use values::ConstVal;
-use values::Folded;
 
 // The line of the only or left operand of line r.
 fn operand(sheet: &[u8], work: &[u8], n: usize, r: usize) -> usize

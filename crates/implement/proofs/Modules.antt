@@ -28,7 +28,7 @@ use Rattle.implement.specs.Modules.{firstField, moduleAt, ownIn, isOwn, 
 -- ---- the implemented module
 
 -- the kind of a line, by its form
-pub kind-by : (s t : Bytes) (n : ℕ) → Checked s t n → (i : ℕ) → i < n → {f x : ℕ} → f ≡ formAt t i → x ≡ kindAt f → x ≡ Form.letter (readAt s i .form .kind)
+kind-by : (s t : Bytes) (n : ℕ) → Checked s t n → (i : ℕ) → i < n → {f x : ℕ} → f ≡ formAt t i → x ≡ kindAt f → x ≡ Form.letter (readAt s i .form .kind)
 kind-by s t n c i h e g = g ∙ ap kindAt e ∙ sym (kind-is s t n (c .whole) i h)
 
 module _ (s t : Bytes) (n : ℕ) (c : Checked s t n) where

@@ -1,4 +1,4 @@
--- Expressions without an operand that is folded: what literals say, and the values of names.
+-- Expressions without an operand that is folded: what numbers and strings say, and the values of names.
 use mathlib.Core.Path.{_≡_, refl, sym, ap, _∙_}
 use mathlib.Core.Bool.{Bool, true, false, cond, _&&_}
 use mathlib.Core.List.{List, [], _∷_}
@@ -45,10 +45,10 @@ use Rattle.values.specs.declared.Folded.the-variants.{Value, Failed}
 use Rattle.values.specs.Values.{stringIn, valueIn, resultIn, At, Answers, Casts, RunsApart}
 use Rattle.values.proofs.Values.{answers-as, answers-int, answers-real, answers-failed}
 use Rattle.values.proofs.Written.{wrote-kept, wrote-there}
-use Rattle.names.specs.Table.{valueBy, kindOf, bitsOf, logIn, found, StringPlace}
-use Rattle.names.proofs.Laws.{slot-is, value-int, value-real, value-text, value-failed}
-use Rattle.leaf.specs.Folds.{exAt, foldAt, literalOf, ExLine, Foldable, Folds, Leaf, LiteralEx, Slot}
-use Rattle.leaf.proofs.Lines.{RefTo, in-sheet, ex-is, form-span, depth-some, field-good, ref-good, made-literal, made-ident, made-qualified, made-nameless}
+use Rattle.names.specs.Table.{valueBy, kindOf, bitsOf, logIn, namesIn, found, StringPlace}
+use Rattle.names.proofs.Laws.{found-is, value-int, value-real, value-text, value-failed, answered}
+use Rattle.leaf.specs.Folds.{exAt, foldAt, scalarOf, ExLine, Foldable, Folds, Leaf, ScalarLine, AnsweredAt}
+use Rattle.leaf.proofs.Lines.{RefTo, in-sheet, ex-is, form-span, depth-some, field-good, ref-good, made-scalar, made-ident, made-qualified, made-nameless}
 
 -- ---- integers and reals
 
@@ -150,7 +150,7 @@ module _ {s t : Bytes} {n r : ℕ} (l : ExLine s t n r) where
       rw (fields-are s t n (l .checked .whole) (r - 1) h)
       (omega (arith, field-short (length (rowAt (formAt t (r - 1)) .words) + 1) (textAt s (r - 1)) j, line-short (r - 1 + 1) (textAt s (r - 1)) (l .checked .whole .lined .good (r - 1) h)))
 
--- ---- literals
+-- ---- numbers and strings
 
 module _ {s t : Bytes} {n r : ℕ} (l : ExLine s t n r) where
   module _ {x : Bytes} (hx : x ≡ getD (readAt s (r - 1) .fields) 0 []) where
@@ -166,76 +166,69 @@ module _ {s t : Bytes} {n r : ℕ} (l : ExLine s t n r) where
     unfolding forms
     text-field e = rw hx (field-good l 10 0 e Atom.text refl, field-within l 0)
 
-  literal-fold : (m iota : ℕ) → formAt t (r - 1) < 11 → foldAt s t m iota r ≡ ok (literalOf (formAt t (r - 1)) (getD (readAt s (r - 1) .fields) 0 []))
+  scalar-fold : (m iota : ℕ) → formAt t (r - 1) < 11 → foldAt s t m iota r ≡ ok (scalarOf (formAt t (r - 1)) (getD (readAt s (r - 1) .fields) 0 []))
   unfolding foldAt fold
-  literal-fold m iota h = rw (ex-is l, made-literal (nodesIn s) (formAt t (r - 1)) (readAt s (r - 1) .fields) (form-span l .0) h)
+  scalar-fold m iota h = rw (ex-is l, made-scalar (nodesIn s) (formAt t (r - 1)) (readAt s (r - 1) .fields) (form-span l .0) h)
 
 module _ (x : Bytes) where
-  pub literal-int : {f : ℕ} → f ≡ 8 → vInt (orElse (pos 0) (intOf x)) ≡ literalOf f x
-  unfolding literalOf
-  literal-int e = rw e
+  pub scalar-int : {f : ℕ} → f ≡ 8 → vInt (orElse (pos 0) (intOf x)) ≡ scalarOf f x
+  unfolding scalarOf
+  scalar-int e = rw e
 
-  pub literal-real : {f : ℕ} → f ≡ 9 → vReal (ofBits binary64 (fromBigEndian 0 (orElse [] (unhex x)))) ≡ literalOf f x
-  unfolding literalOf
-  literal-real e = rw e
+  pub scalar-real : {f : ℕ} → f ≡ 9 → vReal (ofBits binary64 (fromBigEndian 0 (orElse [] (unhex x)))) ≡ scalarOf f x
+  unfolding scalarOf
+  scalar-real e = rw e
 
-  pub literal-text : {f : ℕ} → f ≡ 10 → vStr (orElse [] (unhex x)) ≡ literalOf f x
-  unfolding literalOf
-  literal-text e = rw e
+  pub scalar-text : {f : ℕ} → f ≡ 10 → vStr (orElse [] (unhex x)) ≡ scalarOf f x
+  unfolding scalarOf
+  scalar-text e = rw e
 
 -- what is neither `ex,int` nor `ex,real`
-pub text-form : {s t : Bytes} {n r top : ℕ} → LiteralEx s t n r top → {f : ℕ} → f ≡ formAt t (r - 1) → (f ≡ 8 → ⊥) → (f ≡ 9 → ⊥) → formAt t (r - 1) ≡ 10
+pub text-form : {s t : Bytes} {n r top : ℕ} → ScalarLine s t n r top → {f : ℕ} → f ≡ formAt t (r - 1) → (f ≡ 8 → ⊥) → (f ≡ 9 → ⊥) → formAt t (r - 1) ≡ 10
 text-form l e a b = omega (arith, l .form, form-span (l .line) .0, a, b, e)
 
-pub literal-casts : (t : Bytes) (top : ℕ) {v : ConstVal} {e g : Tree.ConstVal} → e ≡ g → ((t : Bytes) (top : ℕ) → (valueIn t v ≡ e) × At top v) → Casts t top g t v
-literal-casts t top q h = let w = h t top in record { value = w .0 ∙ q; at = w .1; kept = kept-all }
+pub scalar-casts : (t : Bytes) (top : ℕ) {v : ConstVal} {e g : Tree.ConstVal} → e ≡ g → ((t : Bytes) (top : ℕ) → (valueIn t v ≡ e) × At top v) → Casts t top g t v
+scalar-casts t top q h = let w = h t top in record { value = w .0 ∙ q; at = w .1; kept = kept-all }
 
 -- ---- the value of a constant that was found
 
-module _ {t : Bytes} {k top : ℕ} (w : Slot t k top) where
+module _ {t : Bytes} {k top : ℕ} (w : AnsweredAt t k top) where
   pub found-none : k ≡ 0 → Answers t top Failed (fromOption (found t k)) × Kept top t t
   unfolding found
   found-none e = (answers-failed (rw e) t top, kept-all)
 
   module _ (some-k : k ≡ 0 → ⊥) {kind b : ℕ} (hk : kind ≡ kindOf t (k - 1)) (hb : b ≡ bitsOf t (k - 1)) where
-    found-is : found t k ≡ valueBy t kind b
-    unfolding found
-    found-is = go k some-k hk hb
-      where
-        go : (k : ℕ) → (k ≡ 0 → ⊥) → kind ≡ kindOf t (k - 1) → b ≡ bitsOf t (k - 1) → found t k ≡ valueBy t kind b
-        go zero n p q = absurd (n refl)
-        go (suc i) n p q =
-            let e : suc i - 1 ≡ i = omega arith in
-            slot-is t i ∙ rw (p, q, e)
+    by-slot : found t k ≡ valueBy t kind b
+    by-slot = found-is t k some-k ∙ rw (hk, hb)
 
     pub found-int : kind ≡ 1 → {z : ℤ} → SFits w64 z → z ≡ signed64 b → Answers t top (Value (Int (held w64 z))) (fromOption (found t k)) × Kept top t t
-    found-int e f q = (answers-int f (rw (found-is, value-int t kind b e) (ap intOk q)) t top, kept-all)
+    found-int e f q = (answers-int f (rw (by-slot, value-int t kind b e) (ap intOk q)) t top, kept-all)
 
     pub found-real : kind ≡ 2 → {y : Float} → y ≡ ofBits binary64 b → Answers t top (Value (Real y)) (fromOption (found t k)) × Kept top t t
-    found-real e q = (answers-real (rw (found-is, value-real t kind b e) (ap (λ (u : Float). ok (vReal u)) q)) t top, kept-all)
+    found-real e q = (answers-real (rw (by-slot, value-real t kind b e) (ap (λ (u : Float). ok (vReal u)) q)) t top, kept-all)
 
     found-text : kind ≡ 3 → StringPlace b
     found-text e =
         let i : k ≡ suc (k - 1) = omega (arith, some-k) in
-        rw hb (w .text (k - 1) i (sym hk ∙ e))
+        rw hb (w .answered .text (k - 1) i (sym hk ∙ e))
 
     pub found-apart : kind ≡ 3 → RunsApart (length t) (b % 65536) top (b / 65536)
     found-apart e =
         let x = found-text e in
-        record { source = omega (arith, x .high, w .long); target = omega (arith, x .short, w .room); apart = inl (omega (arith, x .high, w .low)) }
+        record { source = omega (arith, x .high, w .answered .long); target = omega (arith, x .short, w .room); apart = inl (omega (arith, x .high, w .low)) }
 
     pub found-string : kind ≡ 3 → {u : Bytes} → u ≡ over t top (take (b / 65536) (drop (b % 65536) t)) → Answers u top (Value (Str top (b / 65536))) (fromOption (found t k)) × Kept top t u
     unfolding resultIn valueIn
     found-string e {u} q =
         let x = found-text e in
         let y = take (b / 65536) (drop (b % 65536) t) in
-        let l : length y ≡ b / 65536 = length-take-le (b / 65536) (drop (b % 65536) t) (omega (arith, length-drop (b % 65536) t, x .high, w .long)) in
+        let l : length y ≡ b / 65536 = length-take-le (b / 65536) (drop (b % 65536) t) (omega (arith, length-drop (b % 65536) t, x .high, w .answered .long)) in
         let v : Wrote t top y u (min (top + length y) (length t + 1)) = record { bytes = q; place = refl } in
         let z : stringIn u top (b / 65536) ≡ y = ap (stringIn u top) (sym l) ∙ wrote-there v (omega (arith, l, x .short, w .room)) in
-        (record { value = rw (found-is, value-text t kind b e) (ap (λ (a : Bytes). ok (vStr a)) z); at = (refl, x .short) }, wrote-kept v)
+        (record { value = rw (by-slot, value-text t kind b e) (ap (λ (a : Bytes). ok (vStr a)) z); at = (refl, x .short) }, wrote-kept v)
 
     pub found-failed : (kind ≡ 1 → ⊥) → (kind ≡ 2 → ⊥) → (kind ≡ 3 → ⊥) → Answers t top Failed (fromOption (found t k)) × Kept top t t
-    found-failed n1 n2 n3 = (answers-failed (rw (found-is, value-failed t kind b n1 n2 n3)) t top, kept-all)
+    found-failed n1 n2 n3 = (answers-failed (rw (by-slot, value-failed t kind b n1 n2 n3)) t top, kept-all)
 
 -- ---- names
 
@@ -244,11 +237,9 @@ module _ {s t : Bytes} {n m r top : ℕ} (a : Foldable s t n m r top) where
   pub room-here : top + 256 ≤ length t
   room-here = omega (arith, a .room, depth-some (a .line))
 
-  pub slot-of : {k : ℕ} → k ≤ m → Slot t k top
-  slot-of {k} h = record {
-    few = omega (arith, a .log .few);
-    long = a .line .checked .whole .room;
-    text = λ i e q. a .log .each i (omega arith) .text q;
+  pub answered-at : {k : ℕ} → k ≤ m → AnsweredAt t k top
+  answered-at {k} h = record {
+    answered = answered (a .log) (a .line .checked) h;
     low = a .low;
     room = room-here;
   }
@@ -278,7 +269,7 @@ module _ {s t : Bytes} {n m r top : ℕ} (a : Foldable s t n m r top) where
     pub module-line : ExLine s t n k
     module-line = let w = module-ref in rw module-is (record { checked = a .line .checked; first = w .first; last = w .last; kind = w .kind })
 
-    fold-qualified : (iota : ℕ) → foldAt s t m iota r ≡ qualifiedValue (record { log = logIn s t m }) (exAt s k) (getD (readAt s (r - 1) .fields) 1 [])
+    fold-qualified : (iota : ℕ) → foldAt s t m iota r ≡ qualifiedValue (namesIn s t m) (exAt s k) (getD (readAt s (r - 1) .fields) 1 [])
     unfolding foldAt fold
     fold-qualified iota = rw (ex-is (a .line), e, made-qualified (nodesIn s) (readAt s (r - 1) .fields), ← module-is)
 
@@ -300,10 +291,10 @@ module _ {s t : Bytes} {n m r top : ℕ} (a : Foldable s t n m r top) where
           kept = b .1;
         }
 
-  pub literal-folds : {iota : ℕ} → formAt t (r - 1) < 11 → {u : Bytes} {v : ConstVal} → Casts t top (literalOf (formAt t (r - 1)) (getD (readAt s (r - 1) .fields) 0 [])) u v → Folds s t m iota r top u (Value v)
+  pub scalar-folds : {iota : ℕ} → formAt t (r - 1) < 11 → {u : Bytes} {v : ConstVal} → Casts t top (scalarOf (formAt t (r - 1)) (getD (readAt s (r - 1) .fields) 0 [])) u v → Folds s t m iota r top u (Value v)
   unfolding resultIn
-  literal-folds {iota} h b = record { answer = record { value = ap ok (b .value) ∙ sym (literal-fold (a .line) m iota h); at = b .at }; kept = b .kept }
+  scalar-folds {iota} h b = record { answer = record { value = ap ok (b .value) ∙ sym (scalar-fold (a .line) m iota h); at = b .at }; kept = b .kept }
 
 -- what is neither a name nor a module's name
-pub literal-form : {s t : Bytes} {n m r top : ℕ} → Leaf s t n m r top → {f : ℕ} → f ≡ formAt t (r - 1) → (f ≡ 11 → ⊥) → (f ≡ 12 → ⊥) → formAt t (r - 1) < 11
-literal-form l e a b = omega (arith, l .form, a, b, e)
+pub scalar-form : {s t : Bytes} {n m r top : ℕ} → Leaf s t n m r top → {f : ℕ} → f ≡ formAt t (r - 1) → (f ≡ 11 → ⊥) → (f ≡ 12 → ⊥) → formAt t (r - 1) < 11
+scalar-form l e a b = omega (arith, l .form, a, b, e)

@@ -34,7 +34,7 @@ use Rattle.sizes.specs.Sizes.{typeAt}
 use Rattle.sizes.proofs.Forms.{type-form, ex-form, of-types}
 use Rattle.refs.proofs.Fields.{number-exact}
 use Rattle.values.specs.Values.{unaryAt, binaryAt, basicAt}
-use Rattle.leaf.specs.Folds.{exAt, literalOf, ExLine}
+use Rattle.leaf.specs.Folds.{exAt, scalarOf, ExLine}
 
 -- ---- fields by their places
 
@@ -176,23 +176,23 @@ basic-is s t n c v h l k =
 -- ---- what the forms make
 
 module _ (ns : List Node) where
-  pub made-literal : (f : ℕ) (fs : List Bytes) → 8 ≤ f → f < 11 → rowNode ns f fs .ex ≡ constant (literalOf f (getD fs 0 []))
-  unfolding forms literalOf
-  made-literal zero fs h k = absurd (omega arith)
-  made-literal (suc zero) fs h k = absurd (omega arith)
-  made-literal (suc (suc zero)) fs h k = absurd (omega arith)
-  made-literal (suc (suc (suc zero))) fs h k = absurd (omega arith)
-  made-literal (suc (suc (suc (suc zero)))) fs h k = absurd (omega arith)
-  made-literal (suc (suc (suc (suc (suc zero))))) fs h k = absurd (omega arith)
-  made-literal (suc (suc (suc (suc (suc (suc zero)))))) fs h k = absurd (omega arith)
-  made-literal (suc (suc (suc (suc (suc (suc (suc zero))))))) fs h k = absurd (omega arith)
-  made-literal (suc (suc (suc (suc (suc (suc (suc (suc zero)))))))) [] h k = refl
-  made-literal (suc (suc (suc (suc (suc (suc (suc (suc zero)))))))) (x ∷ fs) h k = refl
-  made-literal (suc (suc (suc (suc (suc (suc (suc (suc (suc zero))))))))) [] h k = refl
-  made-literal (suc (suc (suc (suc (suc (suc (suc (suc (suc zero))))))))) (x ∷ fs) h k = refl
-  made-literal (suc (suc (suc (suc (suc (suc (suc (suc (suc (suc zero)))))))))) [] h k = refl
-  made-literal (suc (suc (suc (suc (suc (suc (suc (suc (suc (suc zero)))))))))) (x ∷ fs) h k = refl
-  made-literal (suc (suc (suc (suc (suc (suc (suc (suc (suc (suc (suc f))))))))))) fs h k = absurd (omega arith)
+  pub made-scalar : (f : ℕ) (fs : List Bytes) → 8 ≤ f → f < 11 → rowNode ns f fs .ex ≡ constant (scalarOf f (getD fs 0 []))
+  unfolding forms scalarOf
+  made-scalar zero fs h k = absurd (omega arith)
+  made-scalar (suc zero) fs h k = absurd (omega arith)
+  made-scalar (suc (suc zero)) fs h k = absurd (omega arith)
+  made-scalar (suc (suc (suc zero))) fs h k = absurd (omega arith)
+  made-scalar (suc (suc (suc (suc zero)))) fs h k = absurd (omega arith)
+  made-scalar (suc (suc (suc (suc (suc zero))))) fs h k = absurd (omega arith)
+  made-scalar (suc (suc (suc (suc (suc (suc zero)))))) fs h k = absurd (omega arith)
+  made-scalar (suc (suc (suc (suc (suc (suc (suc zero))))))) fs h k = absurd (omega arith)
+  made-scalar (suc (suc (suc (suc (suc (suc (suc (suc zero)))))))) [] h k = refl
+  made-scalar (suc (suc (suc (suc (suc (suc (suc (suc zero)))))))) (x ∷ fs) h k = refl
+  made-scalar (suc (suc (suc (suc (suc (suc (suc (suc (suc zero))))))))) [] h k = refl
+  made-scalar (suc (suc (suc (suc (suc (suc (suc (suc (suc zero))))))))) (x ∷ fs) h k = refl
+  made-scalar (suc (suc (suc (suc (suc (suc (suc (suc (suc (suc zero)))))))))) [] h k = refl
+  made-scalar (suc (suc (suc (suc (suc (suc (suc (suc (suc (suc zero)))))))))) (x ∷ fs) h k = refl
+  made-scalar (suc (suc (suc (suc (suc (suc (suc (suc (suc (suc (suc f))))))))))) fs h k = absurd (omega arith)
 
   pub made-ident : (fs : List Bytes) → rowNode ns 11 fs .ex ≡ ident (getD fs 0 [])
   unfolding forms

@@ -1,5 +1,5 @@
 -- Expressions of a checked sheet's lines, and what folds of them ask and leave.
-use Prim.Native.Nat.{ℕ, suc, _+_, _-_, _*_, _≤_, _<_}
+use Prim.Native.Nat.{ℕ, _+_, _-_, _*_, _≤_, _<_}
 use mathlib.Core.Path.{_≡_}
 use mathlib.Core.Bool.{cond}
 use mathlib.Core.List.{[]}
@@ -19,7 +19,7 @@ use Rattle.checks.specs.Checks.{Kept, KindLine}
 use Rattle.values.specs.declared.ConstVal.{ConstVal}
 use Rattle.values.specs.declared.Folded.{Folded}
 use Rattle.values.specs.Values.{Answers}
-use Rattle.names.specs.Table.{kindOf, bitsOf, logIn, ConstsLogged, StringPlace}
+use Rattle.names.specs.Table.{namesIn, ConstsLogged, Answered}
 
 -- the expression of line r, from 1
 abbrev pub exAt : Bytes → ℕ → Ex
@@ -27,7 +27,7 @@ exAt s r = nodeAt (nodesIn s) r .ex
 
 -- what it folds to, where the first m constants are known
 unfoldable pub foldAt : Bytes → Bytes → ℕ → ℕ → ℕ → Result Tree.ConstVal
-foldAt s t m iota r = fold (record { log = logIn s t m }) (pos iota) (exAt s r)
+foldAt s t m iota r = fold (namesIn s t m) (pos iota) (exAt s r)
 
 -- line r of a checked sheet is an `ex` line, 69
 abbrev pub ExLine : Bytes → Bytes → ℕ → ℕ → Type 0
@@ -47,7 +47,7 @@ pub record Folds (s t : Bytes) (m iota r top : ℕ) (u : Bytes) (x : Folded) : T
 
 -- ---- expressions without an operand that is folded
 
--- line r is a literal, a name or a name of a module: a form below 13
+-- line r is a number, a string, a name or a name of a module: a form below 13
 pub record Leaf (s t : Bytes) (n m r top : ℕ) : Type 0 where
   pub fold : Foldable s t n m r top
   pub form : formAt t (r - 1) < 13
@@ -63,22 +63,20 @@ pub record Qualified (s t : Bytes) (n m r top : ℕ) : Type 0 where
   pub form : formAt t (r - 1) ≡ 12
 
 -- line r is `ex,int`, `ex,real` or `ex,str`
-pub record LiteralEx (s t : Bytes) (n r top : ℕ) : Type 0 where
+pub record ScalarLine (s t : Bytes) (n r top : ℕ) : Type 0 where
   pub line : ExLine s t n r
   pub form : formAt t (r - 1) < 11
   pub room : top + 256 ≤ length t
 
 -- the value of such a line of form f with the field x
-unfoldable pub literalOf : ℕ → Bytes → Tree.ConstVal
-literalOf f x =
+unfoldable pub scalarOf : ℕ → Bytes → Tree.ConstVal
+scalarOf f x =
     cond (eqb f 8) (vInt (orElse (pos 0) (intOf x)))
     (cond (eqb f 9) (vReal (ofBits binary64 (fromBigEndian 0 (orElse [] (unhex x)))))
     (vStr (orElse [] (unhex x))))
 
--- k is 0, or one more than the number of an entry of the table of constants; there is room for a string at `top`
-pub record Slot (t : Bytes) (k top : ℕ) : Type 0 where
-  pub few : k ≤ 128
-  pub long : 65536 ≤ length t
-  pub text : (i : ℕ) → k ≡ suc i → kindOf t i ≡ 3 → StringPlace (bitsOf t i)
+-- k is what a look-up answered, and there is room for a string at `top`
+pub record AnsweredAt (t : Bytes) (k top : ℕ) : Type 0 where
+  pub answered : Answered t k
   pub low : 49152 ≤ top
   pub room : top + 256 ≤ length t

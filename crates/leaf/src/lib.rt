@@ -1,6 +1,9 @@
-// Expressions without an operand that is folded: literals, names, and names of a module.
+// Expressions without an operand that is folded: numbers, strings, names, and names of a module.
 use codes::ex;
 use codes::value;
+use names::Known;
+use values::ConstVal;
+use values::Folded;
 ghost use mathlib.Core.Path.{_≡_};
 ghost use mathlib.Core.Bool.{true};
 ghost use mathlib.Core.List.{[]};
@@ -16,10 +19,7 @@ ghost use Rattle.lines.specs.Lines.{readAt, formAt};
 ghost use Rattle.checks.specs.Checks.{Kept};
 ghost use Rattle.values.specs.Values.{valueIn, At, Answers, Casts};
 ghost use Rattle.names.specs.Table.{found};
-ghost use Rattle.leaf.specs.Folds.{literalOf, Folds, Leaf, LiteralEx, Ident, Qualified, Slot};
-use names::Known;
-use values::ConstVal;
-use values::Folded;
+ghost use Rattle.leaf.specs.Folds.{scalarOf, Folds, Leaf, ScalarLine, Ident, Qualified, AnsweredAt};
 
 fn integer(x: &[u8]) -> ConstVal
     requires { ⌜ Form.holds Form.Atom.i64 (now x) ≡ true ⌝ }
@@ -58,9 +58,9 @@ fn string(x: &[u8], work: &mut [u8], top: usize) -> ConstVal
     ConstVal::Str(top, l)
 }
 
-fn literal(sheet: &[u8], work: &mut [u8], n: usize, r: usize, top: usize) -> ConstVal
-    requires { ⌜ LiteralEx (now sheet) (now work) n r top ⌝ }
-    ensures { λ v. ⌜ Casts (now (work .entry)) top (literalOf (formAt (now (work .entry)) (r - 1)) (getD (readAt (now (sheet .entry)) (r - 1) .fields) 0 [])) (now (work .exit)) v ⌝ }
+fn scalar(sheet: &[u8], work: &mut [u8], n: usize, r: usize, top: usize) -> ConstVal
+    requires { ⌜ ScalarLine (now sheet) (now work) n r top ⌝ }
+    ensures { λ v. ⌜ Casts (now (work .entry)) top (scalarOf (formAt (now (work .entry)) (r - 1)) (getD (readAt (now (sheet .entry)) (r - 1) .fields) 0 [])) (now (work .exit)) v ⌝ }
 {
     let f = lines::form_at(work, r - 1);
     let x = lines::field_at(sheet, work, n, r - 1, 0);
@@ -75,7 +75,7 @@ fn literal(sheet: &[u8], work: &mut [u8], n: usize, r: usize, top: usize) -> Con
 
 // The value of the constant that a look-up found, 0 for none: a string is put at `top`.
 fn constant(work: &mut [u8], k: usize, top: usize) -> Folded
-    requires { ⌜ Slot (now work) k top ⌝ }
+    requires { ⌜ AnsweredAt (now work) k top ⌝ }
     ensures { λ x. ⌜ (Answers (now (work .exit)) top x (fromOption (found (now (work .entry)) k))) × (Kept top (now (work .entry)) (now (work .exit))) ⌝ }
 {
     if k == 0 {
@@ -111,9 +111,9 @@ fn ident(sheet: &[u8], work: &mut [u8], c: Known, iota: u32, r: usize, top: usiz
 }
 
 // The module must be named; its line is not folded.
-fn qualified(sheet: &[u8], work: &mut [u8], c: Known, iota: u32, r: usize, top: usize) -> Folded
+fn qualified(sheet: &[u8], work: &mut [u8], c: Known, r: usize, top: usize) -> Folded
     requires { ⌜ Qualified (now sheet) (now work) (c .lines) (c .consts) r top ⌝ }
-    ensures { λ x. ⌜ Folds (now (sheet .entry)) (now (work .entry)) (c .consts) iota r top (now (work .exit)) x ⌝ }
+    ensures { λ x. ⌜ ((iota : ℕ) → Folds (now (sheet .entry)) (now (work .entry)) (c .consts) iota r top (now (work .exit)) x) ⌝ }
 {
     let q = lines::number_at(sheet, work, c.lines, r - 1, 0);
     if lines::form_at(work, q - 1) != ex::ID {
@@ -135,7 +135,7 @@ pub fn leaf(sheet: &[u8], work: &mut [u8], c: Known, iota: u32, r: usize, top: u
         return ident(sheet, work, c, iota, r, top);
     }
     if f == ex::QUAL {
-        return qualified(sheet, work, c, iota, r, top);
+        return qualified(sheet, work, c, r, top);
     }
-    Folded::Value(literal(sheet, work, c.lines, r, top))
+    Folded::Value(scalar(sheet, work, c.lines, r, top))
 }

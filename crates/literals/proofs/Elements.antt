@@ -20,8 +20,10 @@ use Rattle.values.specs.declared.ConstVal.{ConstVal}
 use Rattle.values.specs.declared.ConstVal.the-variants.{Int, Real, Str}
 use Rattle.values.specs.declared.Folded.{Folded}
 use Rattle.values.specs.declared.Folded.the-variants as Folded
-use Rattle.values.specs.Values.{valueIn, resultIn, At, ResultAt}
-use Rattle.slots.specs.Slots.{Small, SlotStored}
+use Rattle.values.specs.Values.{valueIn, resultIn, Small, InRange, At, ResultAt}
+use Rattle.slots.specs.Slots.{slotBytes}
+use Rattle.slots.proofs.Bits.{SlotStored, stored}
+use Rattle.write.specs.Wrote.{over}
 use Rattle.placements.specs.declared.Extent.{Extent}
 use Rattle.placements.specs.declared.Placed.{Placed}
 use Rattle.placements.specs.declared.Placed.the-variants.{Into, Failed, TooLong}
@@ -29,7 +31,8 @@ use Rattle.placements.specs.Placements.{slotAt, elementIn, Keeps, StringStands,
 use Rattle.placements.proofs.Same.{keeps-then, keeps-less, keeps-kept}
 use Rattle.placements.proofs.Fillings.{filling-kept, filling-value, filling-star, stored-element}
 use Rattle.leaf.specs.Folds.{exAt, Foldable, Folds}
-use Rattle.literals.specs.Literals.{elAt, sesAt, namesIn, AtTask, ValuedTask, Turn, above, Fills, placed, Turns}
+use Rattle.names.specs.Table.{namesIn}
+use Rattle.literals.specs.Literals.{elAt, sesAt, AtTask, ValuedTask, Turn, above, Fills, placed, Turns}
 use Rattle.literals.proofs.Names.{log-kept, logged-kept, line-kept}
 use Rattle.literals.proofs.Lines.{good-line, last-form, el-next, el-star, el-at, el-value, value-ref}
 use Rattle.literals.proofs.Selectors.{foldable, folds-to}
@@ -62,11 +65,13 @@ module _ {s t : Bytes} {n m r e : ℕ} {v : ConstVal} (k : ValuedTask s t n m r 
       step = λ g one few q. rw (el-next l (sym hf ∙ d)) (p .step (above e) e g one (omega arith) few q);
     }
 
-    pub element-star : f ≡ 21 → {u : Bytes} → SlotStored t (12288 + 16 * 0) v u → Fills t e far (placed (namesIn s t m) (elAt s r)) (Into far) u
-    element-star d {u} p = record {
-      keeps = stored-keeps 0 (omega arith) p;
-      step = λ g one few q. rw (el-star l (sym hf ∙ d)) (record { literal = setWildcard (valueIn t v) g; result = rw element-is; filling = filling-star q u (above e) (omega arith) 0 v (k .stands) p (omega arith) refl });
-    }
+    pub element-star : f ≡ 21 → {u : Bytes} → (u ≡ over t (12288 + 16 * 0) (slotBytes v)) × InRange v → Fills t e far (placed (namesIn s t m) (elAt s r)) (Into far) u
+    element-star d {u} w =
+        let p = stored t (12288 + 16 * 0) v (omega (arith, l .checked .whole .room)) element-small w in
+        record {
+          keeps = stored-keeps 0 (omega arith) p;
+          step = λ g one few q. rw (el-star l (sym hf ∙ d)) (record { literal = setWildcard (valueIn t v) g; result = rw element-is; filling = filling-star q u (above e) (omega arith) 0 v (k .stands) p (omega arith) refl });
+        }
 
     module _ (a : f ≡ 20 → ⊥) (b : f ≡ 21 → ⊥) where
       pub element-at : AtTask s t n m r e
@@ -119,7 +124,10 @@ module _ {s t : Bytes} {n m r k : ℕ} (c : Turn s t n m r k) (far : Extent) {q 
       pub value-small : Small v
       value-small = standing-small (49152 + 256 * (k + 1)) v (omega (arith, c .few)) value-stands
 
-      module _ {w : Bytes} (p : SlotStored u (12288 + 16 * (k + 1)) v w) where
+      module _ {w : Bytes} (e : (w ≡ over u (12288 + 16 * (k + 1)) (slotBytes v)) × InRange v) where
+        p : SlotStored u (12288 + 16 * (k + 1)) v w
+        p = stored u (12288 + 16 * (k + 1)) v (omega (arith, c .few, c .line .checked .whole .room, g .kept .long)) value-small e
+
         keeps-value : Keeps 16384 49152 t w
         keeps-value = keeps-then keeps-fold (stored-keeps (k + 1) (omega (arith, c .few)) p)
 

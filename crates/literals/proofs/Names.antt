@@ -1,14 +1,14 @@
 -- The tables of lines and of constants stay what they are where their bytes are kept.
 use mathlib.Core.Path.{_≡_, refl, sym, _∙_}
-use Prim.Native.Nat.{ℕ, _+_, _*_, _/_, _%_, _≤_, _<_}
+use Prim.Native.Nat.{ℕ, _+_, _*_, _≤_, _<_}
 use native.Mathlib.Omega.{arith}
 use lib.ListN.{take, length-take}
 use lib.Seq.{getD-take, ext-getD}
 use Rattle.semantics.specs.Text.{Bytes}
 use Rattle.checks.specs.Checks.{Kept, KindLine}
 use Rattle.checks.proofs.Kept.{kind-line-kept}
-use Rattle.names.specs.Table.{bitsOf, logIn, ConstsLogged}
-use Rattle.names.proofs.Laws.{SameText, logged-same, log-same}
+use Rattle.names.specs.Table.{logIn, ConstsLogged}
+use Rattle.names.proofs.Laws.{logged-same, log-stays}
 use Rattle.placements.specs.Placements.{Keeps}
 use Rattle.placements.proofs.Same.{part-same}
 
@@ -22,13 +22,8 @@ module _ {t u : Bytes} (k : Keeps 16384 49152 t u) where
     table-kept = kept-low (5120 + 16 * m) (omega (arith, l .few))
 
     -- strings of constants stand above the literal's
-    texts-kept : (i : ℕ) → i < m → SameText t u i
-    texts-kept i h q =
-        let x = l .each i h .text q in
-        part-same t u (k .long) (bitsOf t i / 65536) (bitsOf t i % 65536) (λ j y z. k .above j (omega (arith, x .low)) (omega (arith, x .high)))
-
     pub log-kept : logIn s u m ≡ logIn s t m
-    log-kept = log-same table-kept l texts-kept
+    log-kept = log-stays table-kept l (λ a b h e. part-same t u (k .long) b a (λ j y z. k .above j (omega arith) (omega arith)))
 
     pub logged-kept : ConstsLogged s u n m
     logged-kept = logged-same table-kept l

@@ -17,7 +17,7 @@ use Rattle.checks.specs.Checks.{Kept}
 use Rattle.placements.specs.declared.Extent.{Extent}
 use Rattle.placements.specs.declared.Placed.{Placed}
 use Rattle.placements.specs.declared.Placed.the-variants.{Into, Negative, Failed, TooLong}
-use Rattle.placements.specs.Placements.{elementIn, Goes, Step, stopped, Places}
+use Rattle.placements.specs.Placements.{elementIn, LiteralSoFar, Step, stopped, Places}
 use Rattle.placements.proofs.Same.{keeps-all, keeps-then, keeps-kept}
 use Rattle.placements.proofs.Fillings.{element-kept, filling-kept}
 use Rattle.literals.specs.declared.Span.{Span}
@@ -54,7 +54,7 @@ module _ (t : Bytes) (e : ℕ) (low high : ℤ) where
     step = λ r one few s. go r one few (subst (λ (z : Placed). Step t (above e) e z r) d s);
   }
     where
-      go : (r : Result Filled) → 0 < e → e ≤ 16 → Goes t (above e) e (a .next) (a .reach) r → Step u (above e) e y (onto low high (elementIn t e) r)
+      go : (r : Result Filled) → 0 < e → e ≤ 16 → LiteralSoFar t (above e) e (a .next) (a .reach) r → Step u (above e) e y (onto low high (elementIn t e) r)
       go r one few g = rw (g .result) (rw (toZ-ofZ fl, toZ-ofZ fh) at (p .step (above e) e (g .literal) one (omega arith) few (g .filling)))
 
   pub moves-ended : {x : Placed} (y : Placed) → x ≡ y → isInto y ≡ false → Moves t e x (onto low high) y t

@@ -30,7 +30,8 @@ use Rattle.leaf.specs.Folds.{exAt, foldAt, Foldable, Folds}
 use Rattle.fold.proofs.Steps as Steps
 use Rattle.literals.specs.declared.Index.{Index}
 use Rattle.literals.specs.declared.Index.the-variants as Index
-use Rattle.literals.specs.Literals.{seAt, namesIn, Task, above, indexResult}
+use Rattle.names.specs.Table.{namesIn}
+use Rattle.literals.specs.Literals.{seAt, Task, above, indexResult}
 use Rattle.literals.proofs.Names.{log-kept, logged-kept, line-kept}
 use Rattle.literals.proofs.Lines.{good-line, may-line, se-refs, se-is, maybe-given, maybe-absent}
 

@@ -26,7 +26,8 @@ use Rattle.placements.specs.declared.Placed.{Placed}
 use Rattle.placements.specs.declared.Placed.the-variants.{Into, Negative, Failed, TooLong}
 use Rattle.placements.specs.Placements.{elementIn, Keeps, Filling, Step, stopped}
 use Rattle.placements.proofs.Same.{keeps-all, keeps-then, keeps-less, element-same}
-use Rattle.literals.specs.Literals.{seAt, sesAt, namesIn, Task, AtTask, above, Chose, Selects, Fills}
+use Rattle.names.specs.Table.{namesIn}
+use Rattle.literals.specs.Literals.{seAt, sesAt, Task, AtTask, above, Chose, Selects, Fills}
 use Rattle.literals.proofs.Names.{log-kept, logged-kept, line-kept}
 use Rattle.literals.proofs.Lines.{good-line, count-is, selectors}
 

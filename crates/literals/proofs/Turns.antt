@@ -28,13 +28,13 @@ use Rattle.sizes.proofs.Types.{May, maybe-head, Group, group-at}
 use Rattle.placements.specs.declared.Extent.{Extent}
 use Rattle.placements.specs.declared.Placed.{Placed}
 use Rattle.placements.specs.declared.Placed.the-variants.{Into, Negative, Failed, TooLong}
-use Rattle.placements.specs.Placements.{Keeps, Filling, Goes, Step}
+use Rattle.placements.specs.Placements.{Keeps, Filling, LiteralSoFar, Step}
 use Rattle.placements.proofs.Placed.{the-type}
 use Rattle.placements.proofs.Same.{keeps-all, keeps-then}
 use Rattle.placements.proofs.Fillings.{filling-wider}
 use Rattle.leaf.specs.Folds.{exAt}
-use Rattle.literals.specs.Literals.{elAt, elsAt, namesIn, Turn, LiteralLine, above, Turns, AllFilled}
-use Rattle.names.specs.Table.{ConstsLogged}
+use Rattle.literals.specs.Literals.{elAt, elsAt, Turn, LiteralLine, above, Turns, AllFilled}
+use Rattle.names.specs.Table.{ConstsLogged, namesIn}
 use Rattle.literals.proofs.Names.{log-kept, logged-kept, line-kept}
 use Rattle.literals.proofs.Placing.{isInto, step-ends}
 use Rattle.literals.proofs.Lines.{parts-at, makes, good-line, count-is}
@@ -159,5 +159,5 @@ module _ {s t₀ : Bytes} {n m r : ℕ} (k : LiteralLine s t₀ n r) (g : Consts
 
           pub turning-next : {z : Extent} → y ≡ Into z → Turning s t m r count w z (j + 1)
           turning-next {z} e =
-              let o : Goes w (above (j + 1)) (j + 1) (z .next) (z .reach) (fillElement (namesIn s t m) (elAt s q) (c .literal)) = subst (λ (b : Placed). Step w (above (j + 1)) (j + 1) b (fillElement (namesIn s t m) (elAt s q) (c .literal))) e step-next in
+              let o : LiteralSoFar w (above (j + 1)) (j + 1) (z .next) (z .reach) (fillElement (namesIn s t m) (elAt s q) (c .literal)) = subst (λ (b : Placed). Step w (above (j + 1)) (j + 1) b (fillElement (namesIn s t m) (elAt s q) (c .literal))) e step-next in
               record { within = omega arith; keeps = keeps-next; literal = o .literal; filling = o .filling; left = rw (o .result) at left-next }

@@ -17,7 +17,7 @@ use Rattle.semantics.specs.Tree.El.{next as nextEl, star, at}
 use Rattle.semantics.specs.Array.{Filled, placeIndices, placeNext, placeSpans, spansOf, setWildcard}
 use Rattle.lines.specs.Lines.{readAt, nodesIn, formAt}
 use Rattle.checks.specs.Checks.{KindLine}
-use Rattle.names.specs.Table.{logIn, ConstsLogged}
+use Rattle.names.specs.Table.{ConstsLogged}
 use Rattle.values.specs.declared.ConstVal.{ConstVal}
 use Rattle.placements.specs.declared.Extent.{Extent}
 use Rattle.placements.specs.declared.Placed.{Placed}
@@ -44,10 +44,6 @@ sesAt s r = sesOf (values (ref kSe) (nodesIn s) (numberOf (getD (readAt s (r - 1
 -- the elements of an `ex,lit` line
 abbrev pub elsAt : Bytes → ℕ → Els
 elsAt s r = elsOf (values (ref kEl) (nodesIn s) (numberOf (getD (readAt s (r - 1) .fields) 2 [])) (drop 3 (readAt s (r - 1) .fields)))
-
--- the first m constants
-abbrev pub namesIn : Bytes → Bytes → ℕ → Names
-namesIn s t m = record { log = logIn s t m }
 
 -- line r, of kind k, is to be worked on by the first m constants, after e elements, each with 256 bytes for its string
 pub record Task (k : ℕ) (s t : Bytes) (n m r e : ℕ) : Type 0 where

@@ -16,11 +16,11 @@ ghost use Rattle.semantics.specs.Tree as Tree;
 ghost use Rattle.semantics.specs.Fold.{Result, bind};
 ghost use Rattle.semantics.specs.Array.{Filled, fill, asInt, indexOf, highOf, spanOf, spansOf, placeIndices, placeSpans, noneFilled, fillElement};
 ghost use Rattle.checks.specs.Checks.{Kept};
-ghost use Rattle.names.specs.Table.{ConstsLogged};
+ghost use Rattle.names.specs.Table.{ConstsLogged, namesIn};
 ghost use Rattle.placements.specs.Placements.{stopped};
 ghost use Rattle.values.specs.Values.{resultIn};
 ghost use Rattle.leaf.specs.Folds.{exAt};
-ghost use Rattle.literals.specs.Literals.{seAt, namesIn, Task, above, indexResult, spanResult, sesAt, AtTask, elAt, elsAt, ValuedTask, Turn, LiteralLine, placed, Moves, Selects, Fills, Turns, AllFilled};
+ghost use Rattle.literals.specs.Literals.{seAt, Task, above, indexResult, spanResult, sesAt, AtTask, elAt, elsAt, ValuedTask, Turn, LiteralLine, placed, Moves, Selects, Fills, Turns, AllFilled};
 
 // An index, or why there is none.
 pub enum Index {

@@ -1,10 +1,12 @@
 -- Laws of the table of constants.
 use mathlib.Core.Path.{_≡_, refl, sym, ap, _∙_}
-use mathlib.Core.Bool.{Bool, true, false, cond, not, _&&_, _||_}
+use mathlib.Core.Bool.{Bool, true, false, cond, not, _&&_, _||_, false≢true}
+use mathlib.Core.Logic.{⊎-elim}
 use mathlib.Core.List.{List, [], _∷_, _++_}
 use mathlib.Core.Option.{Option, none, some}
 use Prim.Native.Nat.{ℕ, zero, suc, _+_, _-_, _*_, _/_, _%_, _≤_, _<_}
 use native.Mathlib.Omega.{arith}
+use native.Mathlib.Nat.{eq-or-lt-of-le}
 use lib.Dec.{ltb, eqb}
 use lib.Ieee.{binary64, ofBits}
 use lib.ListN.{take, drop}
@@ -19,14 +21,14 @@ use Rattle.semantics.specs.Const.{entries}
 use Rattle.words.specs.Words.{digest, u16At, bitsAt}
 use Rattle.words.proofs.Laws.{digest-apart}
 use Rattle.implement.specs.Modules.{firstField, moduleAt, ownIn, isOwn}
-use Rattle.checks.specs.Checks.{Kept}
+use Rattle.checks.specs.Checks.{Kept, Checked}
 use Rattle.checks.proofs.Kept.{kept-at, kept-less}
-use Rattle.names.specs.Table.{lineOf, moduleLineOf, valueBy, slotAt, kindOf, bitsOf, digestOf, entriesAt, logIn, EntryBounds, ConstsLogged, ConstTable, ConstEntry, found, hasKey, answersPlain, answersQualified, newestOf}
+use Rattle.names.specs.Table.{lineOf, moduleLineOf, valueBy, slotValue, kindOf, bitsOf, digestOf, entriesAt, logIn, EntryBounds, ConstsLogged, ConstTable, ConstEntry, found, hasKey, answersPlain, answersQualified, newestOf, Answered, Looked}
 
 -- ---- a slot by its kind and bits
 
-pub slot-is : (t : Bytes) (i : ℕ) → slotAt t (5124 + 16 * i) ≡ valueBy t (kindOf t i) (bitsOf t i)
-unfolding slotAt
+pub slot-is : (t : Bytes) (i : ℕ) → slotValue t (5124 + 16 * i) ≡ valueBy t (kindOf t i) (bitsOf t i)
+unfolding slotValue
 slot-is t i = let e : 5124 + 16 * i + 1 ≡ 5125 + 16 * i = omega arith in rw e
 
 module _ (t : Bytes) (k b : ℕ) where
@@ -45,6 +47,12 @@ module _ (t : Bytes) (k b : ℕ) where
   pub value-text : k ≡ 3 → valueBy t k b ≡ some (vStr (take (b / 65536) (drop (b % 65536) t)))
   unfolding valueBy
   value-text e = rw e
+
+-- what a look-up answered, where it found a constant
+pub found-is : (t : Bytes) (r : ℕ) → (r ≡ 0 → ⊥) → found t r ≡ valueBy t (kindOf t (r - 1)) (bitsOf t (r - 1))
+unfolding found
+found-is t zero z = absurd (z refl)
+found-is t (suc i) z = let e : suc i - 1 ≡ i = omega arith in rw e (slot-is t i)
 
 -- ---- look-ups
 
@@ -126,7 +134,7 @@ module _ (impl : Option Bytes) (s x y : Bytes) (v : Option ConstVal) (rest : Lis
 
 -- a look-up, where it is known which entries answer it
 pub record Answers (s t : Bytes) (k : Key) (answers : ℕ → Bool) : Type 0 where
-  pub value : (i : ℕ) (rest : List Const) → valueOf (lookUp k (entriesAt s t i ++ rest)) ≡ cond (answers i) (slotAt t (5124 + 16 * i)) (valueOf (lookUp k rest))
+  pub value : (i : ℕ) (rest : List Const) → valueOf (lookUp k (entriesAt s t i ++ rest)) ≡ cond (answers i) (slotValue t (5124 + 16 * i)) (valueOf (lookUp k rest))
   pub has : (i : ℕ) (rest : List Const) → hasKey k (entriesAt s t i ++ rest) ≡ answers i || hasKey k rest
 
 -- which entry is the newest, as it is looked for from the last on
@@ -161,11 +169,15 @@ module _ (answers : ℕ → Bool) where
       go true h = omega arith
       go false h = omega arith
 
--- what the number of the newest entry says of the log
-pub record Looked (s t : Bytes) (k : Key) (m r : ℕ) : Type 0 where
-  pub value : valueOf (lookUp k (logIn s t m)) ≡ found t r
-  pub low : r ≤ m
-  pub has : hasKey k (logIn s t m) ≡ ltb 0 r
+  -- no entry behind it answers
+  pub newest-from : (m i : ℕ) → i < m → answers i ≡ true → i < newestOf answers m
+  unfolding newestOf
+  newest-from zero i h q = absurd (omega arith)
+  newest-from (suc m) i h q = go (answers m) refl (newest-from m i)
+    where
+      go : (b : Bool) → answers m ≡ b → (i < m → answers i ≡ true → i < newestOf answers m) → i < cond b (suc m) (newestOf answers m)
+      go true e f = omega arith
+      go false e f = f (⊎-elim (λ (x : i ≡ m). absurd (false≢true (sym e ∙ ap answers (sym x) ∙ q))) (λ (x : i < m). x) (eq-or-lt-of-le (omega arith))) q
 
 module _ {s t : Bytes} {k : Key} {answers : ℕ → Bool} (a : Answers s t k answers) where
   newest-value : (m : ℕ) → valueOf (lookUp k (logIn s t m)) ≡ found t (newestOf answers m)
@@ -173,7 +185,7 @@ module _ {s t : Bytes} {k : Key} {answers : ℕ → Bool} (a : Answers s t k ans
   newest-value zero = refl
   newest-value (suc m) = a .value m (logIn s t m) ∙ go (answers m) (newest-value m)
     where
-      go : (b : Bool) → valueOf (lookUp k (logIn s t m)) ≡ found t (newestOf answers m) → cond b (slotAt t (5124 + 16 * m)) (valueOf (lookUp k (logIn s t m))) ≡ found t (cond b (suc m) (newestOf answers m))
+      go : (b : Bool) → valueOf (lookUp k (logIn s t m)) ≡ found t (newestOf answers m) → cond b (slotValue t (5124 + 16 * m)) (valueOf (lookUp k (logIn s t m))) ≡ found t (cond b (suc m) (newestOf answers m))
       go true h = refl
       go false h = h
 
@@ -186,25 +198,29 @@ module _ {s t : Bytes} {k : Key} {answers : ℕ → Bool} (a : Answers s t k ans
       go true h = sym (lt-ltb 0 (suc m) (omega arith))
       go false h = h
 
-  pub looked : {m r : ℕ} → r ≡ newestOf answers m → Looked s t k m r
-  looked {m} e = rw e (record { value = newest-value m; low = newest-low answers m; has = newest-has m })
+  pub looked : {m r : ℕ} → r ≡ newestOf answers m → Looked s t k m (newestOf answers m) r
+  looked {m} e = rw e (record { value = newest-value m; low = newest-low answers m; has = newest-has m; newest-is = refl })
 
 pub answers-plain : (s t x : Bytes) → Answers s t (plain x) (λ (i : ℕ). answersPlain s t i x)
 unfolding entriesAt answersPlain
 answers-plain s t x = record {
-  value = λ i rest. plain-step (sheetSource s .implement) s x (firstField s (lineOf t i)) (slotAt t (5124 + 16 * i)) rest (moduleLineOf t i);
-  has = λ i rest. plain-has (sheetSource s .implement) s x (firstField s (lineOf t i)) (slotAt t (5124 + 16 * i)) rest (moduleLineOf t i);
+  value = λ i rest. plain-step (sheetSource s .implement) s x (firstField s (lineOf t i)) (slotValue t (5124 + 16 * i)) rest (moduleLineOf t i);
+  has = λ i rest. plain-has (sheetSource s .implement) s x (firstField s (lineOf t i)) (slotValue t (5124 + 16 * i)) rest (moduleLineOf t i);
 }
 
 pub answers-qualified : (s t q x : Bytes) → Answers s t (qualified q x) (λ (i : ℕ). answersQualified s t i q x)
 unfolding entriesAt answersQualified
 answers-qualified s t q x = record {
-  value = λ i rest. qualified-step (sheetSource s .implement) s x (firstField s (lineOf t i)) (slotAt t (5124 + 16 * i)) rest q (moduleLineOf t i);
-  has = λ i rest. qualified-has (sheetSource s .implement) s x (firstField s (lineOf t i)) (slotAt t (5124 + 16 * i)) rest q (moduleLineOf t i);
+  value = λ i rest. qualified-step (sheetSource s .implement) s x (firstField s (lineOf t i)) (slotValue t (5124 + 16 * i)) rest q (moduleLineOf t i);
+  has = λ i rest. qualified-has (sheetSource s .implement) s x (firstField s (lineOf t i)) (slotValue t (5124 + 16 * i)) rest q (moduleLineOf t i);
 }
 
 pub table-entry : {s t : Bytes} {n m i : ℕ} → ConstTable s t n m → i < m → ConstEntry s t n i
 table-entry {i = i} c h = record { checked = c .checked; low = omega (arith, c .logged .few); entry = c .logged .each i h; digested = c .logged .digests i h }
+
+-- a number up to the table's end is an answer
+pub answered : {s t : Bytes} {n m : ℕ} → ConstsLogged s t n m → Checked s t n → {r : ℕ} → r ≤ m → Answered t r
+answered l c h = record { few = omega (arith, l .few); long = c .whole .room; text = λ i e q. l .each i (omega arith) .text q }
 
 -- names with different digests are different
 pub named-apart : {s t : Bytes} {n i d : ℕ} (x : Bytes) → ConstEntry s t n i → d ≡ digest x → (digestOf t i ≡ d → ⊥) → false ≡ same x (firstField s (lineOf t i))
@@ -285,7 +301,7 @@ module _ {t u : Bytes} (n i : ℕ) (w : Kept (5136 + 16 * i) t u) (e : EntryBoun
   }
 
   module _ (same : SameText t u i) where
-    slot-kept : slotAt u (5124 + 16 * i) ≡ slotAt t (5124 + 16 * i)
+    slot-kept : slotValue u (5124 + 16 * i) ≡ slotValue t (5124 + 16 * i)
     unfolding valueBy
     slot-kept = slot-is u i ∙ rw (kind-kept, bits-kept) (go (eqb (kindOf t i) 3) refl) ∙ sym (slot-is t i)
       where
@@ -318,16 +334,17 @@ module _ {s t u : Bytes} {n m : ℕ} (w : Kept (5120 + 16 * m) t u) (l : ConstsL
     pub log-same : logIn s u m ≡ logIn s t m
     log-same = log-upto m (omega arith)
 
+-- and the log, where bytes among the constants' strings are kept
+pub log-stays : {s t u : Bytes} {n m : ℕ} → Kept (5120 + 16 * m) t u → ConstsLogged s t n m → ((a b : ℕ) → 16384 ≤ a → a + b ≤ 49152 → take b (drop a u) ≡ take b (drop a t)) → logIn s u m ≡ logIn s t m
+log-stays {t = t} w l parts = log-same w l (λ i h q. let x = l .each i h .text q in parts (bitsOf t i % 65536) (bitsOf t i / 65536) (x .low) (x .high))
+
 -- where all below the stack of folds is kept
 module _ {s t u : Bytes} {n m : ℕ} (w : Kept 49152 t u) (l : ConstsLogged s t n m) where
   table-part : Kept (5120 + 16 * m) t u
   table-part = kept-less (omega (arith, l .few)) w
 
-  texts-kept : (i : ℕ) → i < m → SameText t u i
-  texts-kept i h q = part-kept w (bitsOf t i % 65536) (bitsOf t i / 65536) (l .each i h .text q .high)
-
   pub logged-kept : ConstsLogged s u n m
   logged-kept = logged-same table-part l
 
   pub log-kept : logIn s u m ≡ logIn s t m
-  log-kept = log-same table-part l texts-kept
+  log-kept = log-stays table-part l (λ a b h k. part-kept w a b k)

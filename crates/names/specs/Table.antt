@@ -7,14 +7,14 @@ use mathlib.Core.Path.{_≡_}
 use mathlib.Core.Bool.{Bool, cond, not, _&&_}
 use mathlib.Core.List.{List, [], _++_}
 use mathlib.Core.Option.{Option, none, some}
-use lib.Dec.{eqb}
+use lib.Dec.{ltb, eqb}
 use lib.Ieee.{binary64, ofBits}
-use lib.ListN.{take, drop, getD}
+use lib.ListN.{length, take, drop, getD}
 use Rattle.semantics.specs.Text.{Bytes, same, any}
 use Rattle.semantics.specs.Tree.{ConstVal}
 use Rattle.semantics.specs.Tree.ConstVal.{vInt, vReal, vStr}
 use Rattle.semantics.specs.Sheet.{sheetSource}
-use Rattle.semantics.specs.Fold.{Key, Const, signed64, sameKey}
+use Rattle.semantics.specs.Fold.{Key, Const, Names, signed64, sameKey, lookUp, valueOf}
 use Rattle.semantics.specs.Const.{entries}
 use Rattle.words.specs.Words.{digest, u16At, bitsAt}
 use Rattle.implement.specs.Modules.{firstField, moduleAt, isOwn}
@@ -36,8 +36,8 @@ valueBy t k b =
     (cond (eqb k 2) (some (vReal (ofBits binary64 b)))
     (cond (eqb k 3) (some (vStr (take (b / 65536) (drop (b % 65536) t)))) none))
 
-unfoldable pub slotAt : Bytes → ℕ → Option ConstVal
-slotAt t a = valueBy t (getD t a 0) (bitsAt t (a + 1))
+unfoldable pub slotValue : Bytes → ℕ → Option ConstVal
+slotValue t a = valueBy t (getD t a 0) (bitsAt t (a + 1))
 
 -- the kind and the bits of entry i
 abbrev pub kindOf : Bytes → ℕ → ℕ
@@ -53,12 +53,16 @@ digestOf t i = getD t (5133 + 16 * i) 0
 -- ---- the log
 
 unfoldable pub entriesAt : Bytes → Bytes → ℕ → List Const
-entriesAt s t i = entries (sheetSource s .implement) (moduleAt s (moduleLineOf t i)) (firstField s (lineOf t i)) (slotAt t (5124 + 16 * i))
+entriesAt s t i = entries (sheetSource s .implement) (moduleAt s (moduleLineOf t i)) (firstField s (lineOf t i)) (slotValue t (5124 + 16 * i))
 
 -- the constants of the first m entries, the newest first
 unfoldable pub logIn : Bytes → Bytes → ℕ → List Const
 logIn s t zero = []
 logIn s t (suc m) = entriesAt s t m ++ logIn s t m
+
+-- what names say by them
+abbrev pub namesIn : Bytes → Bytes → ℕ → Names
+namesIn s t m = record { log = logIn s t m }
 
 -- a string's bytes lie among the constants' strings
 pub record StringPlace (b : ℕ) : Type 0 where
@@ -96,7 +100,13 @@ pub record ConstEntry (s t : Bytes) (n i : ℕ) : Type 0 where
 -- what a look-up answers: 0 for no constant, else the entry's number from 1
 unfoldable pub found : Bytes → ℕ → Option ConstVal
 found t zero = none
-found t (suc i) = slotAt t (5124 + 16 * i)
+found t (suc i) = slotValue t (5124 + 16 * i)
+
+-- r is such an answer, and a string that it names lies at its place
+pub record Answered (t : Bytes) (r : ℕ) : Type 0 where
+  pub few : r ≤ 128
+  pub long : 65536 ≤ length t
+  pub text : (i : ℕ) → r ≡ suc i → kindOf t i ≡ 3 → StringPlace (bitsOf t i)
 
 -- ---- which keys an entry enters
 
@@ -122,3 +132,10 @@ newestPlain s t m x = newestOf (λ (i : ℕ). answersPlain s t i x) m
 
 abbrev pub newestQualified : Bytes → Bytes → ℕ → Bytes → Bytes → ℕ
 newestQualified s t m q x = newestOf (λ (i : ℕ). answersQualified s t i q x) m
+
+-- r is the number of the newest of m entries that enter the key k, and tells what the log has
+pub record Looked (s t : Bytes) (k : Key) (m newest r : ℕ) : Type 0 where
+  pub value : valueOf (lookUp k (logIn s t m)) ≡ found t r
+  pub low : r ≤ m
+  pub has : hasKey k (logIn s t m) ≡ ltb 0 r
+  pub newest-is : r ≡ newest

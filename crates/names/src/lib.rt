@@ -2,14 +2,13 @@
 use codes::area;
 ghost use mathlib.Core.Path.{_≡_};
 ghost use Prim.Native.Nat.{_+_, _≤_, _<_};
-ghost use lib.Dec.{ltb};
 ghost use lib.ListN.{length};
 ghost use Rattle.semantics.specs.Text as Text;
-ghost use Rattle.semantics.specs.Fold.{plain, qualified, lookUp, valueOf};
+ghost use Rattle.semantics.specs.Fold.{plain, qualified};
 ghost use Rattle.words.specs.Words.{digest};
 ghost use Rattle.implement.specs.Modules.{firstField};
 ghost use Rattle.checks.specs.Checks.{Checked};
-ghost use Rattle.names.specs.Table.{lineOf, moduleLineOf, bitsOf, kindOf, digestOf, logIn, found, hasKey, answersPlain, answersQualified, newestPlain, newestQualified, ConstTable, ConstEntry};
+ghost use Rattle.names.specs.Table.{lineOf, moduleLineOf, bitsOf, kindOf, digestOf, answersPlain, answersQualified, newestPlain, newestQualified, Looked, ConstTable, ConstEntry};
 
 // How many lines the sheet has, and how many constants are known.
 pub struct Known {
@@ -22,7 +21,7 @@ pub fn line_of(work: &[u8], i: usize) -> usize
     requires { ⌜ (i < 128) × (65536 ≤ length (now work)) ⌝ }
     ensures { λ r. ⌜ r ≡ lineOf (now (work .entry)) i ⌝ }
 {
-    words::u16_at(work, area::CONSTANTS + 16 * i)
+    words::u16_at(work, area::CONSTANTS + area::CONSTANT * i)
 }
 
 // The line of its module, 0 for none.
@@ -30,7 +29,7 @@ pub fn module_line_of(work: &[u8], i: usize) -> usize
     requires { ⌜ (i < 128) × (65536 ≤ length (now work)) ⌝ }
     ensures { λ r. ⌜ r ≡ moduleLineOf (now (work .entry)) i ⌝ }
 {
-    words::u16_at(work, area::CONSTANTS + 2 + 16 * i)
+    words::u16_at(work, area::CONSTANTS + 2 + area::CONSTANT * i)
 }
 
 // The kind of its value, 0 where it failed.
@@ -38,7 +37,7 @@ pub fn slot_kind(work: &[u8], i: usize) -> u8
     requires { ⌜ (i < 128) × (65536 ≤ length (now work)) ⌝ }
     ensures { λ r. ⌜ r ≡ kindOf (now (work .entry)) i ⌝ }
 {
-    work[area::CONSTANTS + 4 + 16 * i]
+    work[area::CONSTANTS + 4 + area::CONSTANT * i]
 }
 
 // The bits of its value.
@@ -46,7 +45,7 @@ pub fn slot_bits(work: &[u8], i: usize) -> u64
     requires { ⌜ (i < 128) × (65536 ≤ length (now work)) ⌝ }
     ensures { λ r. ⌜ r ≡ bitsOf (now (work .entry)) i ⌝ }
 {
-    words::bits_at(work, area::CONSTANTS + 5 + 16 * i)
+    words::bits_at(work, area::CONSTANTS + 5 + area::CONSTANT * i)
 }
 
 // The digest of its name.
@@ -54,7 +53,7 @@ fn digest_of(work: &[u8], i: usize) -> usize
     requires { ⌜ (i < 128) × (65536 ≤ length (now work)) ⌝ }
     ensures { λ r. ⌜ r ≡ digestOf (now (work .entry)) i ⌝ }
 {
-    words::wide(work[area::CONSTANTS + 13 + 16 * i])
+    words::wide(work[area::CONSTANTS + 13 + area::CONSTANT * i])
 }
 
 // Whether line k, a `con` or a `mod` line, has this name.
@@ -113,7 +112,7 @@ fn answers_qualified(
 // The newest constant of a plain name: 0 where there is none, else its entry's number from 1.
 pub fn look_up(sheet: &[u8], work: &[u8], c: Known, name: &[u8]) -> usize
     requires { ⌜ ConstTable (now sheet) (now work) (c .lines) (c .consts) ⌝ }
-    ensures { λ r. ⌜ (valueOf (lookUp (plain (now (name .entry))) (logIn (now (sheet .entry)) (now (work .entry)) (c .consts))) ≡ found (now (work .entry)) r) × (r ≤ c .consts) × (hasKey (plain (now (name .entry))) (logIn (now (sheet .entry)) (now (work .entry)) (c .consts)) ≡ ltb 0 r) × (r ≡ newestPlain (now (sheet .entry)) (now (work .entry)) (c .consts) (now (name .entry))) ⌝ }
+    ensures { λ r. ⌜ Looked (now (sheet .entry)) (now (work .entry)) (plain (now (name .entry))) (c .consts) (newestPlain (now (sheet .entry)) (now (work .entry)) (c .consts) (now (name .entry))) r ⌝ }
 {
     let d = words::digest(name);
     let mut i = c.consts;
@@ -129,7 +128,7 @@ pub fn look_up(sheet: &[u8], work: &[u8], c: Known, name: &[u8]) -> usize
 // The same of a module's name.
 pub fn look_up_in(sheet: &[u8], work: &[u8], c: Known, within: &[u8], name: &[u8]) -> usize
     requires { ⌜ ConstTable (now sheet) (now work) (c .lines) (c .consts) ⌝ }
-    ensures { λ r. ⌜ (valueOf (lookUp (qualified (now (within .entry)) (now (name .entry))) (logIn (now (sheet .entry)) (now (work .entry)) (c .consts))) ≡ found (now (work .entry)) r) × (r ≤ c .consts) × (hasKey (qualified (now (within .entry)) (now (name .entry))) (logIn (now (sheet .entry)) (now (work .entry)) (c .consts)) ≡ ltb 0 r) × (r ≡ newestQualified (now (sheet .entry)) (now (work .entry)) (c .consts) (now (within .entry)) (now (name .entry))) ⌝ }
+    ensures { λ r. ⌜ Looked (now (sheet .entry)) (now (work .entry)) (qualified (now (within .entry)) (now (name .entry))) (c .consts) (newestQualified (now (sheet .entry)) (now (work .entry)) (c .consts) (now (within .entry)) (now (name .entry))) r ⌝ }
 {
     let d = words::digest(name);
     let mut i = c.consts;

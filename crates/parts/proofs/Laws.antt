@@ -9,8 +9,7 @@ use Rattle.semantics.specs.Const.{namesOf}
 use Rattle.semantics.specs.Listing.{constRows, globalRow}
 use Rattle.write.specs.Wrote.{Wrote}
 use Rattle.write.proofs.Wrote.{wrote-as, then}
-use Rattle.names.specs.Table.{logIn, ConstTable}
-use Rattle.literals.specs.Literals.{namesIn}
+use Rattle.names.specs.Table.{logIn, ConstTable, namesIn}
 use Rattle.global_table.specs.Table.{placesIn}
 use Rattle.record_rows.specs.Rows.{allRows}
 use Rattle.tables.specs.declared.Tables.{Tables}

@@ -27,10 +27,9 @@ use Rattle.checks.specs.Checks.{Checked}
 use Rattle.checks.proofs.Kept.{checked-kept}
 use Rattle.source.specs.Walk.{openAt}
 use Rattle.implement.specs.Modules.{moduleAt, Open}
-use Rattle.names.specs.Table.{ConstsLogged, ConstTable}
+use Rattle.names.specs.Table.{ConstsLogged, ConstTable, namesIn}
 use Rattle.placements.specs.Placements.{Keeps}
 use Rattle.placements.proofs.Same.{keeps-all, keeps-then}
-use Rattle.literals.specs.Literals.{namesIn}
 use Rattle.literals.proofs.Names.{kept-low, log-kept, logged-kept}
 use Rattle.implement.specs.Modules.{ownIn}
 use Rattle.globals.specs.Vars.{locatedAt, laidAt, laidVarsTo, varPends}

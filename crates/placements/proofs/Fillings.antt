@@ -14,10 +14,10 @@ use Rattle.semantics.specs.Array.{Placement, Filled, placeSpan, setWildcard, va
 use Rattle.values.specs.declared.ConstVal.{ConstVal}
 use Rattle.values.specs.declared.ConstVal.the-variants.{Int, Real, Str}
 use Rattle.values.specs.Values.{valueIn}
-use Rattle.slots.specs.Slots.{SlotStored}
+use Rattle.slots.proofs.Bits.{SlotStored}
 use Rattle.checks.specs.Checks.{Kept}
 use Rattle.checks.proofs.Kept.{kept-at}
-use Rattle.placements.specs.Placements.{entryAt, slotAt, elementIn, Painted, StringStands, valueNamed, Filling}
+use Rattle.placements.specs.Placements.{entryAt, slotAt, elementIn, SpanSet, StringStands, valueNamed, Filling}
 use Rattle.placements.proofs.Same.{Alike, slot-kept, value-same, element-same}
 
 -- ---- placements, one more behind others
@@ -144,7 +144,7 @@ module _ {t : Bytes} {top k next reach : ℕ} {f : Filled} (p : Filling t top k 
         (λ j x y. other-same j y (λ z. omega arith)) (λ j h. stands j (inl h))
 
   -- indices that take the value of element e
-  pub filling-span : (u : Bytes) (l h e : ℕ) → 0 < e → e ≤ k → k ≤ 16 → h < 2 ^ 63 → Painted t l h e u → Filling u top k (suc h) (max reach (suc h)) (placeSpan (elementIn t e) l h f)
+  pub filling-span : (u : Bytes) (l h e : ℕ) → 0 < e → e ≤ k → k ≤ 16 → h < 2 ^ 63 → SpanSet t l h e u → Filling u top k (suc h) (max reach (suc h)) (placeSpan (elementIn t e) l h f)
   filling-span u l h e one le few low q = record {
     next-is = refl;
     reach-is = rw (p .reach-is);

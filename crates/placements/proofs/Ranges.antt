@@ -9,10 +9,10 @@ use lib.ListN.{length, getD, set, length-set}
 use lib.Seq.{getD-set-same, getD-set-other}
 use borrow.Author.Tests.{leb-true, leb-false, ltb-true, ltb-false, lt-ltb, le-ltb, le-leb, eqb-true, eqb-false}
 use Rattle.semantics.specs.Text.{Bytes}
-use Rattle.placements.specs.Placements.{entryAt, Painted}
+use Rattle.placements.specs.Placements.{entryAt, SpanSet}
 
 -- indices from l on and below i are filled
-pub record Painting (t : Bytes) (l h e : ℕ) (u : Bytes) (i : ℕ) : Type 0 where
+pub record Setting (t : Bytes) (l h e : ℕ) (u : Bytes) (i : ℕ) : Type 0 where
   pub long : length u ≡ length t
   pub from : min l 1024 ≤ i
   pub to : i ≤ max (min l 1024) (min (h + 1) 1024)
@@ -27,8 +27,8 @@ neither l i j h = go (leb l j) refl
     go true e = le-ltb j i (h (leb-true l j e))
     go false e = refl
 
-pub painting-start : (t : Bytes) (l h e : ℕ) {i : ℕ} → i ≡ min l 1024 → Painting t l h e t i
-painting-start t l h e {i} q = record {
+pub setting-start : (t : Bytes) (l h e : ℕ) {i : ℕ} → i ≡ min l 1024 → Setting t l h e t i
+setting-start t l h e {i} q = record {
   long = refl;
   from = omega arith;
   to = omega arith;
@@ -36,10 +36,10 @@ painting-start t l h e {i} q = record {
   others = λ j m. refl;
 }
 
-module _ {t : Bytes} {l h e : ℕ} {u : Bytes} {i : ℕ} (p : Painting t l h e u i) where
-  pub painting-next : i < min (h + 1) 1024 → 65536 ≤ length t → Painting t l h e (set u (11264 + i) e) (i + 1)
+module _ {t : Bytes} {l h e : ℕ} {u : Bytes} {i : ℕ} (p : Setting t l h e u i) where
+  pub setting-next : i < min (h + 1) 1024 → 65536 ≤ length t → Setting t l h e (set u (11264 + i) e) (i + 1)
   unfolding entryAt
-  painting-next m room = record {
+  setting-next m room = record {
     long = length-set u (11264 + i) e ∙ p .long;
     from = omega (arith, p .from);
     to = omega arith;
@@ -65,8 +65,8 @@ module _ {t : Bytes} {l h e : ℕ} {u : Bytes} {i : ℕ} (p : Painting t l h e u
           rw (x, getD-set-same u (11264 + i) e 0 (omega (arith, p .long)), le-leb l i (omega arith), lt-ltb i (i + 1) (omega arith))
       go j k false q = rw (earlier j (eqb-false j i q)) (getD-set-other u (11264 + i) (11264 + j) e 0 (λ x. eqb-false j i q (omega arith)) ∙ p .at j k)
 
-  pub painting-end : min (h + 1) 1024 ≤ i → Painted t l h e u
-  painting-end m = record { long = p .long; at = λ j k. p .at j k ∙ ap (λ (b : Bool). cond b e (entryAt t j)) (go j k); others = p .others }
+  pub setting-end : min (h + 1) 1024 ≤ i → SpanSet t l h e u
+  setting-end m = record { long = p .long; at = λ j k. p .at j k ∙ ap (λ (b : Bool). cond b e (entryAt t j)) (go j k); others = p .others }
     where
       go : (j : ℕ) → j < 1024 → leb l j && ltb j i ≡ leb l j && leb j h
       go j k = here (leb l j) refl

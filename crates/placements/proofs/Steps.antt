@@ -22,17 +22,23 @@ use Rattle.semantics.proofs.Common.{never}
 use Rattle.ints.proofs.Widths.{held}
 use Rattle.values.specs.declared.ConstVal.the-variants.{Int}
 use Rattle.values.specs.Values.{valueIn}
-use Rattle.slots.specs.Slots.{SlotStored}
+use Rattle.values.specs.Values.{InRange}
+use Rattle.slots.specs.Slots.{slotBytes}
+use Rattle.slots.proofs.Bits.{SlotStored, stored}
+use Rattle.write.specs.Wrote.{over}
 use Rattle.placements.specs.declared.Extent.{Extent}
 use Rattle.placements.specs.declared.Placed.{Placed}
 use Rattle.placements.specs.declared.Placed.the-variants.{Into, Negative}
-use Rattle.placements.specs.Placements.{entryAt, slotAt, elementIn, Keeps, Painted, Filling, Step, stopped, Places}
+use Rattle.placements.specs.Placements.{entryAt, slotAt, elementIn, Keeps, SpanSet, Filling, Step, stopped, Places}
 use Rattle.placements.proofs.Same.{keeps-all}
 use Rattle.placements.proofs.Fillings.{filling-span}
 
 -- ---- the empty literal
 
-module _ (t u w : Bytes) (room : 65536 ≤ length t) (p : Painted t 0 1023 0 u) (q : SlotStored u 12288 (Int (pos 0)) w) where
+module _ (t u w : Bytes) (room : 65536 ≤ length t) (p : SpanSet t 0 1023 0 u) (e : (w ≡ over u 12288 (slotBytes (Int (pos 0)))) × InRange (Int (pos 0))) where
+  q : SlotStored u 12288 (Int (pos 0)) w
+  q = stored u 12288 (Int (pos 0)) (omega (arith, p .long)) tt e
+
   blank : (i : ℕ) → i < 1024 → entryAt w i ≡ 0
   unfolding entryAt
   blank i h = q .others (11264 + i) (inl (omega arith)) ∙ p .at i h ∙ rw (le-leb 0 i (omega arith), le-leb i 1023 (omega arith))
@@ -71,7 +77,7 @@ module _ (t : Bytes) (e : ℕ) (a : Extent) (act : Tree.ConstVal → Filled → 
   places-none : (r : Placed) → stopped r ≡ false → ((top k : ℕ) (f : Filled) → Filling t top k (a .next) (a .reach) f → Step t top k r (act (elementIn t e) f)) → Places t e a act r t
   places-none r o h = record { keeps = λ b. keeps-all; ongoing = o; step = λ top k f x y z p. h top k f p }
 
-  module _ (u : Bytes) (l h : ℕ) (p : Painted t l h e u) (low : h < 2 ^ 63) where
+  module _ (u : Bytes) (l h : ℕ) (p : SpanSet t l h e u) (low : h < 2 ^ 63) where
     places-span : (r : Extent) → r .next ≡ h + 1 → r .reach ≡ max (a .reach) (h + 1) → ((v : Tree.ConstVal) (f : Filled) → f .nextIndex ≡ a .next → act v f ≡ ok (placeSpan v l h f)) → Places t e a act (Into r) u
     places-span r q d g = record {
       keeps = λ b. record { long = p .long; below = λ j x. p .others j (inl x); above = λ j x y. p .others j (inr x) };
@@ -80,7 +86,7 @@ module _ (t : Bytes) (e : ℕ) (a : Extent) (act : Tree.ConstVal → Filled → 
     }
 
 module _ (t : Bytes) (e : ℕ) (a : Extent) where
-  pub next-placed : (u : Bytes) (r : Extent) → a .next < 2 ^ 63 → Painted t (a .next) (a .next) e u → r .next ≡ a .next + 1 → r .reach ≡ max (a .reach) (a .next + 1) → Places t e a placeNext (Into r) u
+  pub next-placed : (u : Bytes) (r : Extent) → a .next < 2 ^ 63 → SpanSet t (a .next) (a .next) e u → r .next ≡ a .next + 1 → r .reach ≡ max (a .reach) (a .next + 1) → Places t e a placeNext (Into r) u
   next-placed u r h p q d = places-span t e a placeNext u (a .next) (a .next) p h r q d (λ v f z. rw (z, lt-ltb (a .next) 9223372036854775808 h, le-leb (a .next) (a .next) (omega arith)))
 
   pub next-beyond : 2 ^ 63 ≤ a .next → Places t e a placeNext Negative t
@@ -139,7 +145,7 @@ module _ (t : Bytes) (e : ℕ) (a : Extent) {low high : ℤ} (fl : SFits w64 low
       pub high-fits : T (nonNeg (held w64 high)) × Fits w64 (natAbs (held w64 high)) × (natAbs (held w64 high) < 2 ^ 63)
       high-fits = non-negative fh (unsigned-above low high (rw (toZ-ofZ fl, toZ-ofZ fh) at h) (rw (toZ-ofZ fl) at d))
 
-      pub indices-placed : (u : Bytes) (r : Extent) → Painted t (natAbs (held w64 low)) (natAbs (held w64 high)) e u → r .next ≡ natAbs (held w64 high) + 1 → r .reach ≡ max (a .reach) (natAbs (held w64 high) + 1) → Places t e a Act (Into r) u
+      pub indices-placed : (u : Bytes) (r : Extent) → SpanSet t (natAbs (held w64 low)) (natAbs (held w64 high)) e u → r .next ≡ natAbs (held w64 high) + 1 → r .reach ≡ max (a .reach) (natAbs (held w64 high) + 1) → Places t e a Act (Into r) u
       indices-placed u r p q b =
           places-span t e a Act u (natAbs (held w64 low)) (natAbs (held w64 high)) p (high-fits .2) r q b
           (λ v f z. rw (toZ-ofZ fl, toZ-ofZ fh) (whole-span low high (rw (toZ-ofZ fl, toZ-ofZ fh) at h) (rw (toZ-ofZ fl) at d) v f))

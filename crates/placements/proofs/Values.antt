@@ -12,8 +12,8 @@ use Rattle.semantics.specs.Tree.ConstVal.{vInt, vReal, vStr}
 use Rattle.semantics.specs.Array.{Filled, valueAt, valuesFrom, filler, isStr, isReal, kindNumber, kindOfValues}
 use Rattle.values.specs.declared.ConstVal.{ConstVal}
 use Rattle.values.specs.declared.ConstVal.the-variants.{Int, Real, Str}
-use Rattle.values.specs.Values.{valueIn}
-use Rattle.placements.specs.Placements.{entryAt, slotAt, elementIn, valuesIn, StringStands, valueNamed, Filling, rankOf, hasRank}
+use Rattle.values.specs.Values.{valueIn, kindFor}
+use Rattle.placements.specs.Placements.{entryAt, slotAt, elementIn, valuesIn, StringStands, valueNamed, Filling, valueKind, hasKind}
 
 module _ {t : Bytes} {top k next reach : ℕ} {f : Filled} (p : Filling t top k next reach f) where
   value-is : (i : ℕ) → i < 1024 → valueAt (f .placements) (filler (f .wildcard)) i ≡ elementIn t (entryAt t i)
@@ -31,76 +31,70 @@ module _ {t : Bytes} {top k next reach : ℕ} {f : Filled} (p : Filling t top k 
   pub value-stands : (i : ℕ) → i < 1024 → StringStands top (slotAt t (entryAt t i))
   value-stands i h = p .strings (entryAt t i) (p .known i h)
 
--- ---- ranks
+-- ---- kinds of single values
 
-pub rank-int : (t : Bytes) (v : ConstVal) {z : _} → v ≡ Int z → 1 ≡ rankOf (valueIn t v)
+kind-is : (t : Bytes) (v : ConstVal) → kindFor v ≡ valueKind (valueIn t v)
 unfolding valueIn
-rank-int t v e = rw e
+kind-is t (Int z) = refl
+kind-is t (Real x) = refl
+kind-is t (Str p l) = refl
 
-pub rank-real : (t : Bytes) (v : ConstVal) {x : _} → v ≡ Real x → 2 ≡ rankOf (valueIn t v)
-unfolding valueIn
-rank-real t v e = rw e
-
-pub rank-string : (t : Bytes) (v : ConstVal) {p l : ℕ} → v ≡ Str p l → 3 ≡ rankOf (valueIn t v)
-unfolding valueIn
-rank-string t v e = rw e
-
--- i values are passed, of another rank
+-- i values are passed, of another kind
 pub record Passing (t : Bytes) (count wanted i : ℕ) : Type 0 where
   pub within : i ≤ count
-  pub rest : any (hasRank wanted) (valuesIn t i (count - i)) ≡ any (hasRank wanted) (valuesIn t 0 count)
+  pub rest : any (hasKind wanted) (valuesIn t i (count - i)) ≡ any (hasKind wanted) (valuesIn t 0 count)
 
 pub passing-start : (t : Bytes) (count wanted : ℕ) → Passing t count wanted 0
 passing-start t count wanted = let z : count - 0 ≡ count = omega arith in record { within = omega arith; rest = rw z }
 
 module _ {t : Bytes} {count wanted i : ℕ} (p : Passing t count wanted i) where
-  next-value : i < count → any (hasRank wanted) (valuesIn t i (count - i)) ≡ hasRank wanted (elementIn t (entryAt t i)) || any (hasRank wanted) (valuesIn t (i + 1) (count - (i + 1)))
+  next-value : i < count → any (hasKind wanted) (valuesIn t i (count - i)) ≡ hasKind wanted (elementIn t (entryAt t i)) || any (hasKind wanted) (valuesIn t (i + 1) (count - (i + 1)))
   unfolding valuesIn
   next-value h = let z : count - i ≡ suc (count - (i + 1)) = omega arith in rw (z, add-one)
 
-  module _ (h : i < count) (v : ConstVal) (e : v ≡ slotAt t (entryAt t i)) {r : ℕ} (q : r ≡ rankOf (valueIn t v)) where
-    rank-is : r ≡ rankOf (elementIn t (entryAt t i))
+  module _ (h : i < count) (v : ConstVal) (e : v ≡ slotAt t (entryAt t i)) {r : ℕ} (q : r ≡ kindFor v) where
+    kind-here : r ≡ valueKind (elementIn t (entryAt t i))
     unfolding elementIn
-    rank-is = rw e at q
+    kind-here = rw e at (q ∙ kind-is t v)
 
-    pub passing-found : r ≡ wanted → true ≡ any (hasRank wanted) (valuesIn t 0 count)
-    passing-found d = sym (sym (p .rest) ∙ next-value h ∙ rw (eq-eqb (rankOf (elementIn t (entryAt t i))) wanted (sym rank-is ∙ d)))
+    pub passing-found : r ≡ wanted → true ≡ any (hasKind wanted) (valuesIn t 0 count)
+    passing-found d = sym (sym (p .rest) ∙ next-value h ∙ rw (eq-eqb (valueKind (elementIn t (entryAt t i))) wanted (sym kind-here ∙ d)))
 
     pub passing-next : (r ≡ wanted → ⊥) → Passing t count wanted (i + 1)
-    passing-next d = record { within = omega arith; rest = sym (next-value h ∙ rw (ne-eqb (rankOf (elementIn t (entryAt t i))) wanted (λ x. d (rank-is ∙ x)))) ∙ p .rest }
+    passing-next d = record { within = omega arith; rest = sym (next-value h ∙ rw (ne-eqb (valueKind (elementIn t (entryAt t i))) wanted (λ x. d (kind-here ∙ x)))) ∙ p .rest }
 
-  pub passing-end : count ≤ i → false ≡ any (hasRank wanted) (valuesIn t 0 count)
+  pub passing-end : count ≤ i → false ≡ any (hasKind wanted) (valuesIn t 0 count)
   unfolding valuesIn
   passing-end h = let z : count - i ≡ 0 = omega arith in rw z at (p .rest)
 
--- ---- kinds
+-- ---- the kind of all
 
 any-alike : (p q : Tree.ConstVal → Bool) → ((v : Tree.ConstVal) → p v ≡ q v) → (vs : List Tree.ConstVal) → any p vs ≡ any q vs
 any-alike p q h [] = refl
 any-alike p q h (v ∷ vs) = rw (h v, any-alike p q h vs)
 
-strings-are : (vs : List Tree.ConstVal) → any (hasRank 3) vs ≡ any isStr vs
-strings-are = any-alike (hasRank 3) isStr go
+strings-are : (vs : List Tree.ConstVal) → any (hasKind 3) vs ≡ any isStr vs
+strings-are = any-alike (hasKind 3) isStr go
   where
-    go : (v : Tree.ConstVal) → hasRank 3 v ≡ isStr v
+    go : (v : Tree.ConstVal) → hasKind 3 v ≡ isStr v
     go (vInt z) = refl
     go (vReal x) = refl
     go (vStr s) = refl
 
-reals-are : (vs : List Tree.ConstVal) → any (hasRank 2) vs ≡ any isReal vs
-reals-are = any-alike (hasRank 2) isReal go
+reals-are : (vs : List Tree.ConstVal) → any (hasKind 2) vs ≡ any isReal vs
+reals-are = any-alike (hasKind 2) isReal go
   where
-    go : (v : Tree.ConstVal) → hasRank 2 v ≡ isReal v
+    go : (v : Tree.ConstVal) → hasKind 2 v ≡ isReal v
     go (vInt z) = refl
     go (vReal x) = refl
     go (vStr s) = refl
 
 module _ (vs : List Tree.ConstVal) where
-  pub kind-strings : true ≡ any (hasRank 3) vs → 4 ≡ kindNumber (kindOfValues vs)
+  pub kind-strings : true ≡ any (hasKind 3) vs → 4 ≡ kindNumber (kindOfValues vs)
   kind-strings h = rw (sym (strings-are vs) ∙ sym h)
 
-  pub kind-reals : false ≡ any (hasRank 3) vs → true ≡ any (hasRank 2) vs → 3 ≡ kindNumber (kindOfValues vs)
+  pub kind-reals : false ≡ any (hasKind 3) vs → true ≡ any (hasKind 2) vs → 3 ≡ kindNumber (kindOfValues vs)
   kind-reals g h = rw (sym (strings-are vs) ∙ sym g, sym (reals-are vs) ∙ sym h)
 
-  pub kind-words : false ≡ any (hasRank 3) vs → false ≡ any (hasRank 2) vs → 1 ≡ kindNumber (kindOfValues vs)
+  pub kind-words : false ≡ any (hasKind 3) vs → false ≡ any (hasKind 2) vs → 1 ≡ kindNumber (kindOfValues vs)
   kind-words g h = rw (sym (strings-are vs) ∙ sym g, sym (reals-are vs) ∙ sym h)

@@ -46,7 +46,7 @@ pub record Keeps (a b : ℕ) (t u : Bytes) : Type 0 where
   pub above : (j : ℕ) → a ≤ j → j < b → getD u j 0 ≡ getD t j 0
 
 -- indices l to h of the table name e, as far as it goes, and nothing else has changed
-pub record Painted (t : Bytes) (l h e : ℕ) (u : Bytes) : Type 0 where
+pub record SpanSet (t : Bytes) (l h e : ℕ) (u : Bytes) : Type 0 where
   pub long : length u ≡ length t
   pub at : (i : ℕ) → i < 1024 → entryAt u i ≡ cond (leb l i && leb i h) e (entryAt t i)
   pub others : (j : ℕ) → (j < 11264) ⊎ (12288 ≤ j) → getD u j 0 ≡ getD t j 0
@@ -76,14 +76,14 @@ pub record Filling (t : Bytes) (top k next reach : ℕ) (f : Filled) : Type 0 wh
   pub strings : (j : ℕ) → j ≤ k → StringStands top (slotAt t j)
 
 -- the result r is a literal that t holds
-pub record Goes (t : Bytes) (top k next reach : ℕ) (r : Result Filled) : Type 0 where
+pub record LiteralSoFar (t : Bytes) (top k next reach : ℕ) (r : Result Filled) : Type 0 where
   pub literal : Filled
   pub result : r ≡ ok literal
   pub filling : Filling t top k next reach literal
 
 -- what a step answers where its result is r
 abbrev pub Step : Bytes → ℕ → ℕ → Placed → Result Filled → Type 0
-Step t top k (Into x) r = Goes t top k (x .next) (x .reach) r
+Step t top k (Into x) r = LiteralSoFar t top k (x .next) (x .reach) r
 Step t top k Negative r = r ≡ failed
 Step t top k Failed r = r ≡ failed
 Step t top k TooLong r = r ≡ refuse 8
@@ -104,10 +104,10 @@ pub record Places (t : Bytes) (e : ℕ) (x : Extent) (act : Tree.ConstVal → Fi
 -- ---- kinds of values
 
 -- 1 an integer, 2 a real, 3 a string
-abbrev pub rankOf : Tree.ConstVal → ℕ
-rankOf (vInt z) = 1
-rankOf (vReal x) = 2
-rankOf (vStr s) = 3
+abbrev pub valueKind : Tree.ConstVal → ℕ
+valueKind (vInt z) = 1
+valueKind (vReal x) = 2
+valueKind (vStr s) = 3
 
-abbrev pub hasRank : ℕ → Tree.ConstVal → Bool
-hasRank r v = eqb (rankOf v) r
+abbrev pub hasKind : ℕ → Tree.ConstVal → Bool
+hasKind k v = eqb (valueKind v) k

@@ -2,16 +2,18 @@
 use codes::area;
 use codes::element;
 use codes::value;
+use values::ConstVal;
 use words::wide;
 ghost use mathlib.Core.Path.{_≡_};
 ghost use Prim.Native.Nat.{ℕ, _+_, _*_, _^_, _≤_, _<_, min, max};
 ghost use lib.ListN.{length};
-ghost use Rattle.semantics.specs.Text.{Bytes, any};
-ghost use Rattle.semantics.specs.Tree.{ConstVal};
+ghost use Rattle.semantics.specs.Text.{any};
+ghost use Rattle.semantics.specs.Tree as Tree;
 ghost use Rattle.semantics.specs.Array.{noneFilled, placeIndices, placeNext, kindNumber, kindOfValues};
-ghost use Rattle.values.specs.Values.{valueIn};
-ghost use Rattle.slots.specs.Slots.{Small, SlotStored};
-ghost use Rattle.placements.specs.Placements.{entryAt, slotAt, valuesIn, Keeps, Painted, Filling, Places, rankOf, hasRank};
+ghost use Rattle.write.specs.Wrote.{over};
+ghost use Rattle.values.specs.Values.{Small, InRange};
+ghost use Rattle.slots.specs.Slots.{slotBytes};
+ghost use Rattle.placements.specs.Placements.{entryAt, slotAt, valuesIn, Keeps, SpanSet, Filling, Places, hasKind};
 
 const INDICES: u64 = 1024;
 
@@ -51,9 +53,9 @@ fn clipped(i: u64) -> usize
 }
 
 // Indices low to high take the value of element e, from 1; those past the table are not kept.
-fn paint(work: &mut [u8], low: u64, high: u64, e: u8)
+fn set_span(work: &mut [u8], low: u64, high: u64, e: u8)
     requires { ⌜ (high < 2 ^ 63) × (65536 ≤ length (now work)) ⌝ }
-    ensures { λ _. ⌜ Painted (now (work .entry)) low high e (now (work .exit)) ⌝ }
+    ensures { λ _. ⌜ SpanSet (now (work .entry)) low high e (now (work .exit)) ⌝ }
 {
     let mut i = clipped(low);
     let end = clipped(high + 1);
@@ -68,23 +70,23 @@ pub fn empty(work: &mut [u8])
     requires { ⌜ 65536 ≤ length (now work) ⌝ }
     ensures { λ _. ⌜ (Filling (now (work .exit)) 49152 0 0 0 noneFilled) × ((b : ℕ) → Keeps 16384 b (now (work .entry)) (now (work .exit))) ⌝ }
 {
-    paint(work, 0, 1023, 0);
-    slots::put_value(work, area::ELEMENTS, values::ConstVal::Int(0));
+    set_span(work, 0, 1023, 0);
+    slots::put_value(work, area::ELEMENTS, ConstVal::Int(0));
 }
 
 // The value of element j, from 1, or of the filler, 0.
-pub fn put_value(work: &mut [u8], j: usize, v: values::ConstVal)
-    requires { ⌜ (j ≤ 16) × (65536 ≤ length (now work)) × (Small v) ⌝ }
-    ensures { λ _. ⌜ SlotStored (now (work .entry)) (12288 + 16 * j) v (now (work .exit)) ⌝ }
+pub fn put_value(work: &mut [u8], j: usize, v: ConstVal)
+    requires { ⌜ (j ≤ 16) × (Small v) ⌝ }
+    ensures { λ _. ⌜ (now (work .exit) ≡ over (now (work .entry)) (12288 + 16 * j) (slotBytes v)) × (InRange v) ⌝ }
 {
     slots::put_value(work, area::ELEMENTS + 16 * j, v);
 }
 
 fn place_span(work: &mut [u8], e: usize, low: u64, high: u64, reach: u64) -> Extent
     requires { ⌜ (high < 2 ^ 63) × (e ≤ 16) × (65536 ≤ length (now work)) ⌝ }
-    ensures { λ r. ⌜ (r .next ≡ high + 1) × (r .reach ≡ max reach (high + 1)) × (Painted (now (work .entry)) low high e (now (work .exit))) ⌝ }
+    ensures { λ r. ⌜ (r .next ≡ high + 1) × (r .reach ≡ max reach (high + 1)) × (SpanSet (now (work .entry)) low high e (now (work .exit))) ⌝ }
 {
-    paint(work, low, high, e as u8);
+    set_span(work, low, high, e as u8);
     Extent {
         next: high + 1,
         reach: larger(reach, high + 1),
@@ -105,7 +107,7 @@ pub fn place_next(work: &mut [u8], e: usize, x: Extent) -> Placed
 // Indices low to high of a selector.
 pub fn place_indices(work: &mut [u8], e: usize, low: i64, high: i64, x: Extent) -> Placed
     requires { ⌜ (e ≤ 16) × (65536 ≤ length (now work)) ⌝ }
-    ensures { λ r. ⌜ Places (now (work .entry)) e x (λ (v : ConstVal). placeIndices v low high) r (now (work .exit)) ⌝ }
+    ensures { λ r. ⌜ Places (now (work .entry)) e x (λ (v : Tree.ConstVal). placeIndices v low high) r (now (work .exit)) ⌝ }
 {
     if high < low {
         return Placed::Into(x);
@@ -117,31 +119,21 @@ pub fn place_indices(work: &mut [u8], e: usize, low: i64, high: i64, x: Extent) 
 }
 
 // The value at index i.
-pub fn element(work: &[u8], i: usize) -> values::ConstVal
+pub fn element(work: &[u8], i: usize) -> ConstVal
     requires { ⌜ (i < 1024) × (65536 ≤ length (now work)) ⌝ }
     ensures { λ r. ⌜ r ≡ slotAt (now (work .entry)) (entryAt (now (work .entry)) i) ⌝ }
 {
     slots::value_at(work, area::ELEMENTS + 16 * wide(work[area::PLACEMENTS + i]))
 }
 
-fn rank(v: values::ConstVal) -> u8
-    ensures { λ r. ⌜ ((t : Bytes) → r ≡ rankOf (valueIn t v)) ⌝ }
-{
-    match v {
-        values::ConstVal::Int(_) => value::INT,
-        values::ConstVal::Real(_) => value::REAL,
-        values::ConstVal::Str(_, _) => value::STRING,
-    }
-}
-
-// Whether one of the first `count` values has a rank.
+// Whether one of the first `count` values is of a kind.
 fn has(work: &[u8], count: usize, wanted: u8) -> bool
     requires { ⌜ (count ≤ 1024) × (65536 ≤ length (now work)) ⌝ }
-    ensures { λ b. ⌜ b ≡ any (hasRank wanted) (valuesIn (now (work .entry)) 0 count) ⌝ }
+    ensures { λ b. ⌜ b ≡ any (hasKind wanted) (valuesIn (now (work .entry)) 0 count) ⌝ }
 {
     let mut i = 0;
     while i < count {
-        if rank(element(work, i)) == wanted {
+        if values::kind_of(element(work, i)) == wanted {
             return true;
         }
         i += 1;

@@ -1,32 +1,33 @@
 -- Bytes of a slot, as they are read and stored.
-use mathlib.Core.Path.{_≡_, refl, sym, ap, _∙_, subst}
-use mathlib.Core.Bool.{true}
+use mathlib.Core.Path.{_≡_, refl, sym, ap, _∙_}
 use mathlib.Core.List.{[], _∷_, _++_, append-assoc}
 use mathlib.Core.Logic.{_⊎_, inl, inr}
 use Prim.Native.Nat.{ℕ, suc, _+_, _*_, _/_, _%_, _^_, _≤_, _<_}
 use native.Mathlib.Omega.{arith}
-use lib.Dec.{T}
-use lib.IntN.{ℤ, pos, negsuc}
-use lib.Ieee.{Float, binary64, fits, ofBits, toBits}
-use lib.Ieee.Bits.{ofBits-toBits, toBits-lt}
+use lib.IntN.{ℤ}
+use lib.Ieee.{Float, binary64, fits, ofBits}
 use lib.ListN.{length, take, drop, getD, set, length-append}
 use lib.Seq.{take-at, drop-at, getD-at, getD-set-other, length-take-le, sets-eq, length-sets}
 use Rattle.semantics.specs.Text.{Bytes, bigEndian, fromBigEndian}
-use mir.Syntax.{w64}
-use mir.Val.{SFits}
 use borrow.Author.Tests.{eq-eqb, ne-eqb}
-use Rattle.semantics.specs.Fold.{signed64, bits64, wrap}
-use Rattle.ints.proofs.Widths.{held, from1}
-use Rattle.ints.proofs.Wrapping.{wrap-same}
+use Rattle.semantics.specs.Fold.{signed64, wrap}
 use Rattle.write.specs.Wrote.{over}
 use Rattle.write.proofs.Hex.{big-length}
 use Rattle.write.proofs.Back.{bits-back}
 use Rattle.values.specs.declared.ConstVal.{ConstVal}
 use Rattle.values.specs.declared.ConstVal.the-variants.{Int, Real, Str}
 use Rattle.words.specs.Words.{bitsAt}
-use Rattle.slots.specs.Slots.{slotBy, slotOf, SlotStored}
+use Rattle.values.specs.Values.{kindFor, bitsFor, Small, InRange}
+use Rattle.values.proofs.Values.{word, real-back}
+use Rattle.slots.specs.Slots.{slotBy, slotOf, slotBytes}
 
 -- ---- storing
+
+-- t has become u, with v in the slot at a and nothing else changed
+pub record SlotStored (t : Bytes) (a : ℕ) (v : ConstVal) (u : Bytes) : Type 0 where
+  pub value : slotOf u a ≡ v
+  pub long : length u ≡ length t
+  pub others : (j : ℕ) → (j < a) ⊎ (a + 9 ≤ j) → getD u j 0 ≡ getD t j 0
 
 others-kept : (vs t : Bytes) (a j : ℕ) → (j < a) ⊎ (a + length vs ≤ j) → getD (over t a vs) j 0 ≡ getD t j 0
 unfolding over
@@ -53,9 +54,9 @@ module _ (t : Bytes) (a k b : ℕ) (room : a + 9 ≤ length t) (fits : b < 2 ^ 6
       ∙ drop-at (take a t ++ (k ∷ [])) (bigEndian 8 b ++ rest) (a + 1) (length-append (take a t) (k ∷ []) ∙ omega (arith, length-take-le a t (omega arith))) in
       ap (λ (u : Bytes). fromBigEndian 0 (take 8 u)) d ∙ ap (fromBigEndian 0) (take-at (bigEndian 8 b) rest 8 (big-length 8 b)) ∙ bits-back b fits
 
-  pub stored : {v : ConstVal} {u : Bytes} → u ≡ over t a (k ∷ bigEndian 8 b) → slotBy k b ≡ v → SlotStored t a v u
+  stored-bytes : {v : ConstVal} {u : Bytes} → u ≡ over t a (k ∷ bigEndian 8 b) → slotBy k b ≡ v → SlotStored t a v u
   unfolding slotOf over
-  stored {v} {u} e h = rw e (record {
+  stored-bytes {v} {u} e h = rw e (record {
     value = rw (kind-stored, bits-stored) h;
     long = length-sets t a (k ∷ bigEndian 8 b);
     others = λ j l. others-kept (k ∷ bigEndian 8 b) t a j (go l);
@@ -65,27 +66,17 @@ module _ (t : Bytes) (a k b : ℕ) (room : a + 9 ≤ length t) (fits : b < 2 ^ 6
       go (inl h) = inl h
       go (inr h) = inr (omega (arith, big-length 8 b))
 
--- ---- values
+slot-back : (v : ConstVal) → Small v → InRange v → slotBy (kindFor v) (bitsFor v) ≡ v
+unfolding slotBy wrap
+slot-back (Int z) s h = ap Int h
+slot-back (Real x) s h = ap Real (real-back x h)
+slot-back (Str p l) s h =
+    let x : (p + 65536 * l) % 65536 ≡ p = omega (arith, s .0) in
+    let y : (p + 65536 * l) / 65536 ≡ l = omega (arith, s .0) in
+    rw (x, y)
 
-bits-lt : (z : ℤ) → bits64 z < 18446744073709551616
-bits-lt (pos n) = omega arith
-bits-lt (negsuc n) = omega arith
-
-module _ (t : Bytes) (a : ℕ) (room : a + 9 ≤ length t) {v : ConstVal} {u : Bytes} {b : ℕ} where
-  pub stored-int : (z : ℤ) → SFits w64 z → b ≡ bits64 (held w64 z) → u ≡ over t a (1 ∷ bigEndian 8 b) → v ≡ Int z → SlotStored t a v u
-  unfolding slotBy wrap
-  stored-int z f e h q = let d : b ≡ bits64 z = from1 bits64 f e in stored t a 1 b room (rw d (bits-lt z)) h (ap (λ (x : ℕ). Int (signed64 x)) d ∙ ap Int (wrap-same f) ∙ sym q)
-
-  pub stored-real : (x : Float) → fits binary64 x ≡ true → b ≡ toBits binary64 x → u ≡ over t a (2 ∷ bigEndian 8 b) → v ≡ Real x → SlotStored t a v u
-  unfolding slotBy
-  stored-real x y e h q = let f : T (fits binary64 x) = subst T (sym y) tt in stored t a 2 b room (rw e (toBits-lt binary64 x f)) h (ap (λ (n : ℕ). Real (ofBits binary64 n)) e ∙ ap Real (ofBits-toBits binary64 x f) ∙ sym q)
-
-  pub stored-string : (p l : ℕ) → p < 65536 → l < 65536 → b ≡ p + 65536 * l → u ≡ over t a (3 ∷ bigEndian 8 b) → v ≡ Str p l → SlotStored t a v u
-  unfolding slotBy
-  stored-string p l hp hl e h q =
-      let x : b % 65536 ≡ p = omega arith in
-      let y : b / 65536 ≡ l = omega arith in
-      stored t a 3 b room (omega arith) h (rw (x, y) (sym q))
+pub stored : (t : Bytes) (a : ℕ) (v : ConstVal) {u : Bytes} → a + 9 ≤ length t → Small v → (u ≡ over t a (slotBytes v)) × InRange v → SlotStored t a v u
+stored t a v room s (e, h) = stored-bytes t a (kindFor v) (bitsFor v) room (word v s h) e (slot-back v s h)
 
 -- ---- what a slot's kind and bits say
 

@@ -1,7 +1,7 @@
 -- Tables that stand stay as they are while others are made.
 use mathlib.Core.Path.{_≡_, sym, ap, _∙_}
 use mathlib.Core.Option.{none, some}
-use Prim.Native.Nat.{ℕ, _+_, _-_, _*_, _/_, _%_, _≤_, _<_}
+use Prim.Native.Nat.{ℕ, _+_, _-_, _*_, _≤_}
 use native.Mathlib.Omega.{arith}
 use lib.ListN.{length, take, drop}
 use lib.Seq.{drop-drop}
@@ -23,8 +23,8 @@ use Rattle.records.proofs.Kept.{logged-kept}
 use Rattle.need_keys.specs.declared.NeedCounts.{NeedCounts}
 use Rattle.type_keys.specs.Table.{Needs, Kinds}
 use Rattle.tables.specs.Tables.{TablesHeld}
-use Rattle.names.specs.Table.{bitsOf, logIn, ConstsLogged}
-use Rattle.names.proofs.Laws.{SameText, logged-same, log-same}
+use Rattle.names.specs.Table.{logIn, ConstsLogged}
+use Rattle.names.proofs.Laws.{logged-same, log-stays}
 
 drop-from : (a b : ℕ) (t u : Bytes) → a ≤ b → drop a u ≡ drop a t → drop b u ≡ drop b t
 drop-from a b t u h e =
@@ -36,14 +36,11 @@ module _ {s t u : Bytes} {n m a : ℕ} (low : a ≤ 16384) (k : Kept 7168 t u) (
   table-kept : Kept (5120 + 16 * m) t u
   table-kept = kept-less (omega (arith, l .few)) k
 
-  texts : (i : ℕ) → i < m → SameText t u i
-  texts i h q = ap (take (bitsOf t i / 65536)) (drop-from a (bitsOf t i % 65536) t u (omega (arith, low, l .each i h .text q .low)) e)
-
   pub constants-logged : ConstsLogged s u n m
   constants-logged = logged-same table-kept l
 
   pub constants-log : logIn s u m ≡ logIn s t m
-  constants-log = log-same table-kept l texts
+  constants-log = log-stays table-kept l (λ p b h k. ap (take b) (drop-from a p t u (omega arith) e))
 
 module _ {s t t2 t3 t4 : Bytes} {n m r : ℕ} {g : Globals} {d : NeedCounts} (l : ConstsLogged s t n m)
     (a : Around t t2) (places : Globals.GlobalsCollected s t2 n g)

@@ -1,11 +1,14 @@
 -- Results as the code has them, by the cases of values and of operators.
-use Prim.Native.Nat.{ℕ, zero, suc, _+_, _-_, _≤_, _<_}
+use Prim.Native.Nat.{ℕ, zero, suc, _+_, _-_, _*_, _≤_, _<_}
 use mathlib.Core.Path.{_≡_, refl, sym, ap, _∙_, subst}
+use mathlib.Core.Bool.{true}
 use mathlib.Core.List.{List, [], _∷_, _++_}
 use native.Mathlib.Omega.{arith}
-use lib.IntN.{ℤ, pos}
+use lib.Dec.{T}
+use lib.IntN.{ℤ, pos, negsuc}
 use lib.ListN.{length, getD, length-append}
-use lib.Ieee.{Float, neg}
+use lib.Ieee.{Float, binary64, fits, toBits, ofBits, neg}
+use lib.Ieee.Bits.{ofBits-toBits, toBits-lt}
 use mir.Syntax.{w64}
 use mir.Val.{SFits}
 use mir.Facts.{toZ-ofZ}
@@ -14,17 +17,17 @@ use Rattle.semantics.specs.Text.{Bytes, decimalℤ, characters}
 use Rattle.semantics.specs.Tree as Tree
 use Rattle.semantics.specs.Tree.{BinOp, binOps}
 use Rattle.semantics.specs.Tree.ConstVal.{vInt, vReal, vStr}
-use Rattle.semantics.specs.Fold.{Result, intOk, toReal, toWhole, intUnary, realUnary, intBinary, realBinary, strBinary, foldUnary, foldBinary, foldCast, foldLen}
+use Rattle.semantics.specs.Fold.{Result, bits64, intOk, toReal, toWhole, intUnary, realUnary, intBinary, realBinary, strBinary, foldUnary, foldBinary, foldCast, foldLen}
 use Rattle.semantics.specs.Fold.Result.{ok, failed}
 use Rattle.ints.proofs.Widths.{held, from1, from2}
-use Rattle.ints.proofs.Wrapping.{outcome}
+use Rattle.ints.proofs.Wrapping.{outcome, wrap-same}
 use Rattle.write.specs.Wrote.{Wrote}
 use Rattle.checks.proofs.Kept.{kept-all}
 use Rattle.values.specs.declared.ConstVal.{ConstVal}
 use Rattle.values.specs.declared.ConstVal.the-variants.{Int, Real, Str}
 use Rattle.values.specs.declared.Folded.{Folded}
 use Rattle.values.specs.declared.Folded.the-variants.{Value, Failed, TooLong}
-use Rattle.values.specs.Values.{stringIn, valueIn, resultIn, unaryAt, binaryAt, basicAt, sizeOf, At, Within, Answers, Casts}
+use Rattle.values.specs.Values.{stringIn, valueIn, resultIn, unaryAt, binaryAt, basicAt, sizeOf, bitsFor, Small, InRange, At, Within, Answers, Casts}
 use Rattle.values.proofs.Written.{wrote-kept, wrote-there, wrote-end, strings-join, string-length, integer-short}
 
 -- ---- results
@@ -107,7 +110,7 @@ module _ (op : ℕ) {v : ConstVal} {r : Folded} where
 -- ---- the cases of binary operators
 
 -- two values that a result of a binary operator is of
-abbrev pub Binds : ℕ → ConstVal → ConstVal → Folded → Type 0
+abbrev Binds : ℕ → ConstVal → ConstVal → Folded → Type 0
 Binds op x y r = (t : Bytes) (top : ℕ) → At top x → At (top + sizeOf x) y → top + 512 ≤ length t → Answers t top r (foldBinary (binaryAt op) (valueIn t x) (valueIn t y))
 
 pub binds : (op : ℕ) {x y a b : ConstVal} {r : Folded} → x ≡ a → y ≡ b → Binds op a b r → Binds op x y r
@@ -238,3 +241,30 @@ module _ (t : Bytes) {v : ConstVal} where
   pub len-counts : {p l n : ℕ} → v ≡ Str p l → SFits w64 (pos n) → n ≡ characters (stringIn t p l) → (top : ℕ) → Answers t top (Value (Int (held w64 (pos n)))) (foldLen (valueIn t v))
   unfolding valueIn
   len-counts e f h top = rw e (answers-int f (ap (λ (k : ℕ). intOk (pos k)) h) t top)
+
+-- ---- kinds and bits in slots
+
+module _ {v : ConstVal} {b : ℕ} where
+  pub bits-int : {z : ℤ} → v ≡ Int z → SFits w64 z → b ≡ bits64 (held w64 z) → (b ≡ bitsFor v) × InRange v
+  bits-int e f d = rw e (from1 bits64 f d, wrap-same f)
+
+  pub bits-real : {x : Float} → v ≡ Real x → fits binary64 x ≡ true → b ≡ toBits binary64 x → (b ≡ bitsFor v) × InRange v
+  bits-real e f d = rw e (d, f)
+
+  pub bits-text : {p l : ℕ} → v ≡ Str p l → b ≡ p + 65536 * l → (b ≡ bitsFor v) × InRange v
+  bits-text e d = rw e (d, tt)
+
+pub small-text : {v : ConstVal} {p l : ℕ} → v ≡ Str p l → Small v → (p < 65536) × (l < 65536)
+small-text e h = rw e at h
+
+whole-word : (z : ℤ) → bits64 z < 18446744073709551616
+whole-word (pos n) = omega arith
+whole-word (negsuc n) = omega arith
+
+pub real-back : (x : Float) → fits binary64 x ≡ true → ofBits binary64 (toBits binary64 x) ≡ x
+real-back x h = ofBits-toBits binary64 x (subst T (sym h) tt)
+
+pub word : (v : ConstVal) → Small v → InRange v → bitsFor v < 18446744073709551616
+word (Int z) s h = whole-word z
+word (Real x) s h = toBits-lt binary64 x (subst T (sym h) tt)
+word (Str p l) s h = omega arith

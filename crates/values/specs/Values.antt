@@ -1,16 +1,18 @@
 -- Folded values as the code has them, and what they are in the working space.
-use Prim.Native.Nat.{ℕ, _+_, _≤_}
+use Prim.Native.Nat.{ℕ, _+_, _*_, _≤_, _<_}
 use mathlib.Core.Path.{_≡_}
+use mathlib.Core.Bool.{true}
 use mathlib.Core.List.{[], _∷_}
 use mathlib.Core.Logic.{_⊎_}
 use mathlib.Core.Option.{Option, none, some}
+use lib.Ieee.{binary64, fits, toBits}
 use lib.ListN.{take, drop, getD}
 use Rattle.semantics.specs.Text.{Bytes}
 use Rattle.semantics.specs.Tree as Tree
 use Rattle.semantics.specs.Tree.{Basic, UnaryOp, BinOp, unaryOps, binOps}
 use Rattle.semantics.specs.Tree.Basic.{int, byte, big, real, string}
 use Rattle.semantics.specs.Tree.ConstVal.{vInt, vReal, vStr}
-use Rattle.semantics.specs.Fold.{Result}
+use Rattle.semantics.specs.Fold.{Result, bits64, wrap}
 use Rattle.semantics.specs.Fold.Result.{ok, failed, refuse}
 use Rattle.checks.specs.Checks.{Kept}
 use Rattle.values.specs.declared.ConstVal.{ConstVal}
@@ -39,6 +41,29 @@ abbrev pub sizeOf : ConstVal → ℕ
 sizeOf (Int z) = 0
 sizeOf (Real x) = 0
 sizeOf (Str p l) = l
+
+-- the kind of a value in a slot, and its bits: a string's are its place + 65536 times its length
+abbrev pub kindFor : ConstVal → ℕ
+kindFor (Int z) = 1
+kindFor (Real x) = 2
+kindFor (Str p l) = 3
+
+abbrev pub bitsFor : ConstVal → ℕ
+bitsFor (Int z) = bits64 z
+bitsFor (Real x) = toBits binary64 x
+bitsFor (Str p l) = p + 65536 * l
+
+-- a string's place and length take two bytes each
+abbrev pub Small : ConstVal → Type 0
+Small (Int z) = Unit {0}
+Small (Real x) = Unit {0}
+Small (Str p l) = (p < 65536) × (l < 65536)
+
+-- an integer has 64 bits, and a real is a binary64
+abbrev pub InRange : ConstVal → Type 0
+InRange (Int z) = wrap z ≡ z
+InRange (Real x) = fits binary64 x ≡ true
+InRange (Str p l) = Unit {0}
 
 -- a string stands at `top`, and is not too long
 abbrev pub At : ℕ → ConstVal → Type 0

@@ -1,5 +1,8 @@
 // Folded values, and what operators make of them. Bytes of strings stand in the working space, as on a stack.
+use codes::binary;
 use codes::ty;
+use codes::unary;
+use codes::value;
 ghost use mathlib.Core.Path.{_≡_};
 ghost use Prim.Native.Nat.{ℕ, _+_, _≤_};
 ghost use lib.ListN.{length, take, drop};
@@ -8,10 +11,10 @@ ghost use Rattle.semantics.specs.Tree.ConstVal.{vInt, vReal};
 ghost use Rattle.semantics.specs.Fold.{intUnary, realUnary, foldUnary, intBinary, realBinary, strBinary, foldBinary, foldCast, foldLen};
 ghost use Rattle.ints.specs.Quotients.{folded};
 ghost use Rattle.write.specs.Wrote.{over};
-ghost use Rattle.values.specs.Values.{valueIn, stringIn, unaryAt, binaryAt, basicAt, sizeOf, At, Within, Answers, Casts, RunsApart};
+ghost use Rattle.values.specs.Values.{valueIn, stringIn, unaryAt, binaryAt, basicAt, sizeOf, kindFor, bitsFor, Small, InRange, At, Within, Answers, Casts, RunsApart};
 
 // The longest string that a fold may build.
-const LONGEST: usize = 256;
+pub const LONGEST_STRING: usize = 256;
 
 // An integer, a real, or a string's place in the working space and its length.
 pub enum ConstVal {
@@ -52,13 +55,36 @@ pub fn size(v: ConstVal) -> usize
     }
 }
 
+// The kind of a value in a slot.
+pub fn kind_of(v: ConstVal) -> u8
+    ensures { λ r. ⌜ r ≡ kindFor v ⌝ }
+{
+    match v {
+        ConstVal::Int(_) => value::INT,
+        ConstVal::Real(_) => value::REAL,
+        ConstVal::Str(_, _) => value::STRING,
+    }
+}
+
+// Its bits there.
+pub fn bits_of(v: ConstVal) -> u64
+    requires { ⌜ Small v ⌝ }
+    ensures { λ b. ⌜ (b ≡ bitsFor v) × (InRange v) ⌝ }
+{
+    match v {
+        ConstVal::Int(z) => ints::bits(z),
+        ConstVal::Real(x) => reals::bits(x),
+        ConstVal::Str(p, l) => p as u64 + 65536 * l as u64,
+    }
+}
+
 fn int_unary(op: usize, x: i64) -> Folded
     ensures { λ r. ⌜ ((t : Bytes) (top : ℕ) → Answers t top r (intUnary (unaryAt op) x)) ⌝ }
 {
     match op {
-        0 => Folded::Value(ConstVal::Int(ints::neg(x))),
-        1 => Folded::Value(ConstVal::Int(ints::not(x))),
-        2 => Folded::Value(ConstVal::Int(ints::bit_not(x))),
+        unary::NEG => Folded::Value(ConstVal::Int(ints::neg(x))),
+        unary::NOT => Folded::Value(ConstVal::Int(ints::not(x))),
+        unary::BIT_NOT => Folded::Value(ConstVal::Int(ints::bit_not(x))),
         _ => Folded::Failed,
     }
 }
@@ -66,7 +92,7 @@ fn int_unary(op: usize, x: i64) -> Folded
 fn real_unary(op: usize, x: f64) -> Folded
     ensures { λ r. ⌜ ((t : Bytes) (top : ℕ) → Answers t top r (realUnary (unaryAt op) x)) ⌝ }
 {
-    if op == 0 {
+    if op == unary::NEG {
         return Folded::Value(ConstVal::Real(reals::neg(x)));
     }
     Folded::Failed
@@ -97,22 +123,22 @@ fn int_binary(op: usize, x: i64, y: i64) -> Folded
     ensures { λ r. ⌜ ((t : Bytes) (top : ℕ) → Answers t top r (intBinary (binaryAt op) x y)) ⌝ }
 {
     match op {
-        0 => Folded::Value(ConstVal::Int(ints::add(x, y))),
-        1 => Folded::Value(ConstVal::Int(ints::sub(x, y))),
-        2 => Folded::Value(ConstVal::Int(ints::mul(x, y))),
-        3 => quotient(ints::div(x, y)),
-        4 => quotient(ints::rem(x, y)),
-        6 => Folded::Value(ConstVal::Int(ints::and(x, y))),
-        7 => Folded::Value(ConstVal::Int(ints::or(x, y))),
-        8 => Folded::Value(ConstVal::Int(ints::xor(x, y))),
-        9 => Folded::Value(ConstVal::Int(ints::shl(x, y))),
-        10 => Folded::Value(ConstVal::Int(ints::shr(x, y))),
-        11 => Folded::Value(ConstVal::Int(ints::eq(x, y))),
-        12 => Folded::Value(ConstVal::Int(ints::neq(x, y))),
-        13 => Folded::Value(ConstVal::Int(ints::lt(x, y))),
-        14 => Folded::Value(ConstVal::Int(ints::gt(x, y))),
-        15 => Folded::Value(ConstVal::Int(ints::leq(x, y))),
-        16 => Folded::Value(ConstVal::Int(ints::geq(x, y))),
+        binary::ADD => Folded::Value(ConstVal::Int(ints::add(x, y))),
+        binary::SUB => Folded::Value(ConstVal::Int(ints::sub(x, y))),
+        binary::MUL => Folded::Value(ConstVal::Int(ints::mul(x, y))),
+        binary::DIV => quotient(ints::div(x, y)),
+        binary::MOD => quotient(ints::rem(x, y)),
+        binary::AND => Folded::Value(ConstVal::Int(ints::and(x, y))),
+        binary::OR => Folded::Value(ConstVal::Int(ints::or(x, y))),
+        binary::XOR => Folded::Value(ConstVal::Int(ints::xor(x, y))),
+        binary::LSHIFT => Folded::Value(ConstVal::Int(ints::shl(x, y))),
+        binary::RSHIFT => Folded::Value(ConstVal::Int(ints::shr(x, y))),
+        binary::EQ => Folded::Value(ConstVal::Int(ints::eq(x, y))),
+        binary::NEQ => Folded::Value(ConstVal::Int(ints::neq(x, y))),
+        binary::LT => Folded::Value(ConstVal::Int(ints::lt(x, y))),
+        binary::GT => Folded::Value(ConstVal::Int(ints::gt(x, y))),
+        binary::LEQ => Folded::Value(ConstVal::Int(ints::leq(x, y))),
+        binary::GEQ => Folded::Value(ConstVal::Int(ints::geq(x, y))),
         _ => Folded::Failed,
     }
 }
@@ -121,10 +147,10 @@ fn real_binary(op: usize, x: f64, y: f64) -> Folded
     ensures { λ r. ⌜ ((t : Bytes) (top : ℕ) → Answers t top r (realBinary (binaryAt op) x y)) ⌝ }
 {
     match op {
-        0 => Folded::Value(ConstVal::Real(reals::add(x, y))),
-        1 => Folded::Value(ConstVal::Real(reals::sub(x, y))),
-        2 => Folded::Value(ConstVal::Real(reals::mul(x, y))),
-        3 => Folded::Value(ConstVal::Real(reals::div(x, y))),
+        binary::ADD => Folded::Value(ConstVal::Real(reals::add(x, y))),
+        binary::SUB => Folded::Value(ConstVal::Real(reals::sub(x, y))),
+        binary::MUL => Folded::Value(ConstVal::Real(reals::mul(x, y))),
+        binary::DIV => Folded::Value(ConstVal::Real(reals::div(x, y))),
         _ => Folded::Failed,
     }
 }
@@ -133,13 +159,13 @@ fn real_binary(op: usize, x: f64, y: f64) -> Folded
 fn str_binary(op: usize, p: usize, l: usize, m: usize) -> Folded
     ensures { λ r. ⌜ ((t : Bytes) → p + l + m ≤ length t → Answers t p r (strBinary (binaryAt op) (stringIn t p l) (stringIn t (p + l) m))) ⌝ }
 {
-    if op != 0 {
+    if op != binary::ADD {
         return Folded::Failed;
     }
-    if LONGEST < l {
-        return Folded::TooLong;
+    if LONGEST_STRING < l {
+        return Folded::TooLong; // l + m could wrap
     }
-    if LONGEST - l < m {
+    if LONGEST_STRING - l < m {
         return Folded::TooLong;
     }
     Folded::Value(ConstVal::Str(p, l + m))

@@ -19,11 +19,10 @@ use Rattle.values.specs.declared.ConstVal.{ConstVal}
 use Rattle.values.specs.declared.Folded.{Folded}
 use Rattle.values.specs.declared.Folded.the-variants as Folded
 use Rattle.values.specs.Values.{resultIn, ResultAt}
-use Rattle.names.specs.Table.{ConstsLogged}
+use Rattle.names.specs.Table.{ConstsLogged, namesIn}
 use Rattle.placements.specs.Placements.{Keeps}
 use Rattle.placements.proofs.Same.{keeps-all, keeps-then, keeps-less, keeps-kept}
 use Rattle.leaf.specs.Folds.{exAt, Folds}
-use Rattle.literals.specs.Literals.{namesIn}
 use Rattle.literals.proofs.Names.{log-kept, logged-kept, line-kept}
 use Rattle.literals.proofs.Selectors.{folds-to}
 use Rattle.arrays.specs.declared.Arrayed.{Arrayed}

@@ -1,6 +1,6 @@
 use Rattle.arrays.proofs.Sizes.{size-foldable, size-none, size-given}
 use Rattle.literals.proofs.Lines.{line-in}
-use Rattle.literals.specs.Literals.{namesIn}
+use Rattle.names.specs.Table.{namesIn}
 use Rattle.checks.proofs.Kept.{kept-all}
 use denote.Ref.{now}
 use borrow.Author.Needs.{needs}

@@ -1,5 +1,6 @@
 -- `const_rows::qualified_row` meets its contract.
 use Rattle.const_rows.proofs.Laws as Laws
+use Rattle.names.proofs.Laws.{answered}
 use denote.Ref.{now}
 use native.Mathlib.Omega.{arith}
 use borrow.Author.Needs.{needs}
@@ -22,13 +23,13 @@ look-up-in-requires : tie.Need-look-up-in-requires
 look-up-in-requires c κs = Laws.fewer (c .before .before .before .before .before .before .before .before .pre .0) (c .before .before .before .before .before .before .before .before .pre .1)
 
 returns-2 : tie.Need-returns-2
-returns-2 c = Laws.qualified-old (now (c .before .before .before .before .before .before .before .before .before .before .args .sheet)) (now (c .before .before .before .before .before .before .before .before .before .before .args .work)) (c .before .before .before .before .before .before .before .before .before .before .args .c .consts) (c .before .before .before .before .before .before .before .before .before .before .args .i) (c .before .before .before .before .before .before .module-line-of .ensures) (c .before .before .before .before .before .if1 .left) (c .before .before .before .before .field-at .ensures) (c .before .before .before .line-of .ensures) (c .before .before .field-at2 .ensures) (c .before .look-up-in .result) (c .before .look-up-in .ensures .2) (c .if2 .taken) (c .before .before .before .before .before .before .before .before .before .before .pre .2)
+returns-2 c = Laws.qualified-old (now (c .before .before .before .before .before .before .before .before .before .before .args .sheet)) (now (c .before .before .before .before .before .before .before .before .before .before .args .work)) (c .before .before .before .before .before .before .before .before .before .before .args .c .consts) (c .before .before .before .before .before .before .before .before .before .before .args .i) (c .before .before .before .before .before .before .module-line-of .ensures) (c .before .before .before .before .before .if1 .left) (c .before .before .before .before .field-at .ensures) (c .before .before .before .line-of .ensures) (c .before .before .field-at2 .ensures) (c .before .look-up-in .result) (c .before .look-up-in .ensures .has) (c .if2 .taken) (c .before .before .before .before .before .before .before .before .before .before .pre .2)
 
 put-rest-requires : tie.Need-put-rest-requires
-put-rest-requires c κs = Laws.shown (c .before .before .before .before .before .before .before .before .before .before .before .before .before .before .before .before .before .before .before .before .before .before .before .before .before .before .pre .0) (c .before .before .before .before .before .before .before .before .before .before .before .before .before .before .before .look-up-in2 .ensures .1)
+put-rest-requires c κs = (answered (c .before .before .before .before .before .before .before .before .before .before .before .before .before .before .before .before .before .before .before .before .before .before .before .before .before .before .pre .0 .logged) (c .before .before .before .before .before .before .before .before .before .before .before .before .before .before .before .before .before .before .before .before .before .before .before .before .before .before .pre .0 .checked) (c .before .before .before .before .before .before .before .before .before .before .before .before .before .before .before .look-up-in2 .ensures .low), Laws.qualified-some (now (c .before .before .before .before .before .before .before .before .before .before .before .before .before .before .before .before .before .before .before .before .before .before .before .before .before .before .args .sheet)) (now (c .before .before .before .before .before .before .before .before .before .before .before .before .before .before .before .before .before .before .before .before .before .before .before .before .before .before .args .work)) (c .before .before .before .before .before .before .before .before .before .before .before .before .before .before .before .before .before .before .before .before .before .before .before .before .before .before .args .c .consts) (c .before .before .before .before .before .before .before .before .before .before .before .before .before .before .before .before .before .before .before .before .before .before .before .before .before .before .args .i) (c .before .before .before .before .before .before .before .before .before .before .before .before .before .before .before .before .before .before .before .before .before .before .module-line-of .ensures) (c .before .before .before .before .before .before .before .before .before .before .before .before .before .before .before .before .before .before .before .before .before .if1 .left) (c .before .before .before .before .before .before .before .before .before .before .before .before .before .before .before .before .before .before .before .before .field-at .ensures) (c .before .before .before .before .before .before .before .before .before .before .before .before .before .before .before .before .before .before .before .line-of .ensures) (c .before .before .before .before .before .before .before .before .before .before .before .before .before .before .before .before .before .before .field-at2 .ensures) (c .before .before .before .before .before .before .before .before .before .before .before .before .before .before .before .before .before .before .before .before .before .before .before .before .before .before .pre .1) (c .before .before .before .before .before .before .before .before .before .before .before .before .before .before .before .look-up-in2 .ensures .newest-is))
 
 returns-3 : tie.Need-returns-3
-returns-3 c = Laws.qualified-new (now (c .before .before .before .before .before .before .before .before .before .before .before .before .before .before .before .before .before .before .before .before .before .before .before .before .before .before .before .before .before .args .sheet)) (now (c .before .before .before .before .before .before .before .before .before .before .before .before .before .before .before .before .before .before .before .before .before .before .before .before .before .before .before .before .before .args .work)) (c .before .before .before .before .before .before .before .before .before .before .before .before .before .before .before .before .before .before .before .before .before .before .before .before .before .before .before .before .before .args .c .consts) (c .before .before .before .before .before .before .before .before .before .before .before .before .before .before .before .before .before .before .before .before .before .before .before .before .before .before .before .before .before .args .i) (c .before .before .before .before .before .before .before .before .before .before .before .before .before .before .before .before .before .before .before .before .before .before .before .before .before .module-line-of .ensures) (c .before .before .before .before .before .before .before .before .before .before .before .before .before .before .before .before .before .before .before .before .before .before .before .before .if1 .left) (c .before .before .before .before .before .before .before .before .before .before .before .before .before .before .before .before .before .before .before .before .before .before .before .field-at .ensures) (c .before .before .before .before .before .before .before .before .before .before .before .before .before .before .before .before .before .before .before .before .before .before .line-of .ensures) (c .before .before .before .before .before .before .before .before .before .before .before .before .before .before .before .before .before .before .before .before .before .field-at2 .ensures) (c .before .before .before .before .before .before .before .before .before .before .before .before .before .before .before .before .before .before .before .before .look-up-in .result) (c .before .before .before .before .before .before .before .before .before .before .before .before .before .before .before .before .before .before .look-up-in2 .result) (c .before .before .before .before .before .before .before .before .before .before .before .before .before .before .before .before .before .before .before .before .look-up-in .ensures .2) (c .before .before .before .before .before .before .before .before .before .before .before .before .before .before .before .before .before .before .before .if2 .left) (c .before .before .before .before .before .before .before .before .before .before .before .before .before .before .before .before .before .before .look-up-in2 .ensures .0) (c .before .before .before .before .before .before .before .before .before .before .before .before .before .before .before .put-part .ensures) (c .before .before .before .before .before .before .before .before .before .before .before .put-part2 .ensures) (c .before .before .before .before .before .before .put-part3 .ensures) (c .before .before .put-rest .ensures)
+returns-3 c = Laws.qualified-new (now (c .before .before .before .before .before .before .before .before .before .before .before .before .before .before .before .before .before .before .before .before .before .before .before .before .before .before .before .before .before .args .sheet)) (now (c .before .before .before .before .before .before .before .before .before .before .before .before .before .before .before .before .before .before .before .before .before .before .before .before .before .before .before .before .before .args .work)) (c .before .before .before .before .before .before .before .before .before .before .before .before .before .before .before .before .before .before .before .before .before .before .before .before .before .before .before .before .before .args .c .consts) (c .before .before .before .before .before .before .before .before .before .before .before .before .before .before .before .before .before .before .before .before .before .before .before .before .before .before .before .before .before .args .i) (c .before .before .before .before .before .before .before .before .before .before .before .before .before .before .before .before .before .before .before .before .before .before .before .before .before .module-line-of .ensures) (c .before .before .before .before .before .before .before .before .before .before .before .before .before .before .before .before .before .before .before .before .before .before .before .before .if1 .left) (c .before .before .before .before .before .before .before .before .before .before .before .before .before .before .before .before .before .before .before .before .before .before .before .field-at .ensures) (c .before .before .before .before .before .before .before .before .before .before .before .before .before .before .before .before .before .before .before .before .before .before .line-of .ensures) (c .before .before .before .before .before .before .before .before .before .before .before .before .before .before .before .before .before .before .before .before .before .field-at2 .ensures) (c .before .before .before .before .before .before .before .before .before .before .before .before .before .before .before .before .before .before .before .before .look-up-in .result) (c .before .before .before .before .before .before .before .before .before .before .before .before .before .before .before .before .before .before .look-up-in2 .result) (c .before .before .before .before .before .before .before .before .before .before .before .before .before .before .before .before .before .before .before .before .look-up-in .ensures .has) (c .before .before .before .before .before .before .before .before .before .before .before .before .before .before .before .before .before .before .before .if2 .left) (c .before .before .before .before .before .before .before .before .before .before .before .before .before .before .before .before .before .before .look-up-in2 .ensures .value) (c .before .before .before .before .before .before .before .before .before .before .before .before .before .before .before .put-part .ensures) (c .before .before .before .before .before .before .before .before .before .before .before .put-part2 .ensures) (c .before .before .before .before .before .before .put-part3 .ensures) (c .before .before .put-rest .ensures)
 
 pub qualified-row-spec : {M : Type 1} → statement M
 qualified-row-spec =

@@ -1,6 +1,6 @@
 -- `consts::collect_consts` meets its contract.
 use Rattle.consts.proofs.Walk as Walk
-use Rattle.consts.specs.Passes.{Before, rest}
+use Rattle.consts.specs.Passes.{PassesBefore, passesLeft}
 use Rattle.checks.proofs.Kept.{kept-all, kept-then}
 use Rattle.checks.specs.Checks.{Kept}
 use Rattle.semantics.specs.Const.{constants}
@@ -14,7 +14,7 @@ use Rattle.consts.proofs.collect_consts.Statement.{statement}
 use Rattle.consts.proofs.collect_consts.Tie as tie
 
 abbrev Inv-loop : tie.InvT-loop
-Inv-loop sheet work₀ n m₀ i₀ work m i = (Before sheet work n m i) × (Kept 5120 work₀ work) × (rest sheet work m i ≡ constants (sheetSource sheet)) × (i ≤ n)
+Inv-loop sheet work₀ n m₀ i₀ work m i = (PassesBefore sheet work n m i) × (Kept 5120 work₀ work) × (passesLeft sheet work m i ≡ constants (sheetSource sheet)) × (i ≤ n)
 
 abbrev μ-loop : tie.MeasureT-loop
 μ-loop sheet work₀ n m₀ i₀ work m i = n - i

@@ -1,7 +1,6 @@
 -- `consts::take_constant` meets its contract.
 use Rattle.consts.proofs.Steps as Steps
 use denote.Ref.{now}
-use native.Mathlib.Omega.{arith}
 use borrow.Author.Needs.{needs}
 use Rattle.consts.proofs.take_constant.Statement.{statement}
 use Rattle.consts.proofs.take_constant.Tie as tie
@@ -28,15 +27,13 @@ returns : tie.Need-returns
 returns c =
     let a = c .before .before .before .before .before .before .before .before .before .before .before .before .before .before .before .before .before .before .args in
     let named = Steps.digest-is (now (a .sheet)) (a .i) (c .before .before .before .before .before .before .before .before .before .before .before .before .field-at .ensures) (c .before .before .before .before .before .before .before .before .before .before .before .digest .ensures .0) in
-    let log = Steps.log-after (now (a .sheet)) (now (a .work)) (a .c .lines) (a .c .consts) (a .k) (a .i) (c .before .before .before .before .before .before .before .before .before .before .before .before .before .before .before .before .before .before .pre) (c .before .before .before .before .before .before .before .before .before .before .before .before .before .before .number-at .result) (c .before .before .before .before .before .before .before .before .before .before .before .before .before .before .number-at .ensures .0) (a .iota) _ _ (c .before .before .before .before .before .before .before .before .before .fold-const .ensures) in
-    Steps.took-value (now (a .sheet)) (now (a .work)) (a .c .lines) (a .c .consts) (a .k) (a .i) (c .before .before .before .before .before .before .before .before .before .before .before .before .before .before .before .before .before .before .pre) (c .before .before .before .before .before .before .before .before .before .before .before .before .before .before .number-at .result) (c .before .before .before .before .before .before .before .before .before .before .before .before .before .before .number-at .ensures .0) (a .iota) _ _ (c .before .before .before .before .before .before .before .before .before .fold-const .ensures) (c .before .before .before .before .before .x .given .1) _ (c .before .before .enter .ensures (now (a .sheet)) (a .c .lines) (omega arith) (omega arith) named log)
+    Steps.took-value (now (a .sheet)) (now (a .work)) (a .c .lines) (a .c .consts) (a .k) (a .i) (c .before .before .before .before .before .before .before .before .before .before .before .before .before .before .before .before .before .before .pre) (c .before .before .before .before .before .before .before .before .before .before .before .before .before .before .number-at .result) (c .before .before .before .before .before .before .before .before .before .before .before .before .before .before .number-at .ensures .0) (a .iota) _ _ (c .before .before .before .before .before .before .before .before .before .fold-const .ensures) named _ (c .before .before .before .before .before .x .given .1) (c .before .before .enter .ensures)
 
 returns-2 : tie.Need-returns-2
 returns-2 c =
     let a = c .before .before .before .before .before .before .before .before .before .before .before .before .before .before .before .before .before .args in
     let named = Steps.digest-is (now (a .sheet)) (a .i) (c .before .before .before .before .before .before .before .before .before .before .before .field-at .ensures) (c .before .before .before .before .before .before .before .before .before .before .digest .ensures .0) in
-    let log = Steps.log-after (now (a .sheet)) (now (a .work)) (a .c .lines) (a .c .consts) (a .k) (a .i) (c .before .before .before .before .before .before .before .before .before .before .before .before .before .before .before .before .before .pre) (c .before .before .before .before .before .before .before .before .before .before .before .before .before .number-at .result) (c .before .before .before .before .before .before .before .before .before .before .before .before .before .number-at .ensures .0) (a .iota) _ _ (c .before .before .before .before .before .before .before .before .fold-const .ensures) in
-    Steps.took-failed (now (a .sheet)) (now (a .work)) (a .c .lines) (a .c .consts) (a .k) (a .i) (c .before .before .before .before .before .before .before .before .before .before .before .before .before .before .before .before .before .pre) (c .before .before .before .before .before .before .before .before .before .before .before .before .before .number-at .result) (c .before .before .before .before .before .before .before .before .before .before .before .before .before .number-at .ensures .0) (a .iota) _ _ (c .before .before .before .before .before .before .before .before .fold-const .ensures) (c .before .before .before .before .enum-told .given .1) _ (c .before .before .enter-failed .ensures (now (a .sheet)) (a .c .lines) (omega arith) (omega arith) named log)
+    Steps.took-failed (now (a .sheet)) (now (a .work)) (a .c .lines) (a .c .consts) (a .k) (a .i) (c .before .before .before .before .before .before .before .before .before .before .before .before .before .before .before .before .before .pre) (c .before .before .before .before .before .before .before .before .before .before .before .before .before .number-at .result) (c .before .before .before .before .before .before .before .before .before .before .before .before .before .number-at .ensures .0) (a .iota) _ _ (c .before .before .before .before .before .before .before .before .fold-const .ensures) named _ (c .before .before .before .before .enum-told .given .1) (c .before .before .enter-failed .ensures)
 
 returns-3 : tie.Need-returns-3
 returns-3 c =

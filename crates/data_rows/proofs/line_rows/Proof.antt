@@ -1,7 +1,7 @@
 -- `data_rows::line_rows` meets its contract.
 use Rattle.data_rows.proofs.Walk.{none-laid, line-task, line-items}
 use Rattle.global_table.specs.Table.{placesIn}
-use Rattle.literals.specs.Literals.{namesIn}
+use Rattle.names.specs.Table.{namesIn}
 use denote.Ref.{now}
 use Rattle.literals.proofs.Names.{line-kept}
 use borrow.Author.Needs.{needs}

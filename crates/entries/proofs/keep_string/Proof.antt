@@ -12,13 +12,13 @@ copy-requires : tie.Need-copy-requires
 copy-requires c κs = let h = Laws.text-short (c .before .before .v .given .1) (c .before .before .before .before .before .pre .2) in record { source = omega arith; target = omega arith; apart = inr (omega arith) }
 
 returns : tie.Need-returns
-returns c = Laws.string-none (now (c .before .before .before .args .work)) _ (c .enum-told .given .1) refl
+returns c = Laws.string-none (now (c .before .before .before .args .work)) (c .before .before .before .args .m) (c .enum-told .given .1) refl refl
 
 returns-2 : tie.Need-returns-2
-returns-2 c = Laws.string-none (now (c .before .before .before .args .work)) _ (c .enum-told2 .given .1) refl
+returns-2 c = Laws.string-none (now (c .before .before .before .args .work)) (c .before .before .before .args .m) (c .enum-told2 .given .1) refl refl
 
 returns-3 : tie.Need-returns-3
-returns-3 c = Laws.string-some (now (c .before .before .before .before .before .before .before .before .args .work)) _ _ (c .before .before .before .before .before .v .given .1) (c .before .before .copy .ensures)
+returns-3 c = Laws.string-some (now (c .before .before .before .before .before .before .before .before .args .work)) (c .before .before .before .before .before .before .before .before .args .m) (c .before .before .before .before .before .v .given .1) (c .before .before .copy .ensures)
 
 pub keep-string-spec : {M : Type 1} → statement M
 keep-string-spec =

@@ -1,5 +1,5 @@
 -- `leaf::ident` meets its contract.
-use Rattle.leaf.proofs.Leaves.{slot-of, name-iota, name-found}
+use Rattle.leaf.proofs.Leaves.{answered-at, name-iota, name-found}
 use mathlib.Core.Path.{sym, _∙_}
 use borrow.Author.Needs.{needs}
 use Rattle.leaf.proofs.ident.Statement.{statement}
@@ -9,10 +9,10 @@ returns : tie.Need-returns
 returns c = name-iota (c .before .before .before .before .before .before .before .pre .fold) (c .before .before .before .before .before .before .before .pre .form) (c .before .before .before .field-at .ensures) (sym (c .before .same .ensures) ∙ c .if1 .taken) (search needs)
 
 constant-requires : tie.Need-constant-requires
-constant-requires c κs = slot-of (c .before .before .before .before .before .before .before .before .before .before .pre .fold) (c .before .look-up .ensures .1)
+constant-requires c κs = answered-at (c .before .before .before .before .before .before .before .before .before .before .pre .fold) (c .before .look-up .ensures .low)
 
 returns-2 : tie.Need-returns-2
-returns-2 c = name-found (c .before .before .before .before .before .before .before .before .before .before .before .before .before .pre .fold) (c .before .before .before .before .before .before .before .before .before .before .before .before .before .pre .form) (c .before .before .before .before .before .before .before .before .before .field-at .ensures) (sym (c .before .before .before .before .before .before .before .same .ensures) ∙ c .before .before .before .before .before .before .if1 .left) (c .before .before .before .before .look-up .result) (c .before .before .before .before .look-up .ensures .0) (c .before .before .constant .ensures)
+returns-2 c = name-found (c .before .before .before .before .before .before .before .before .before .before .before .before .before .pre .fold) (c .before .before .before .before .before .before .before .before .before .before .before .before .before .pre .form) (c .before .before .before .before .before .before .before .before .before .field-at .ensures) (sym (c .before .before .before .before .before .before .before .same .ensures) ∙ c .before .before .before .before .before .before .if1 .left) (c .before .before .before .before .look-up .result) (c .before .before .before .before .look-up .ensures .value) (c .before .before .constant .ensures)
 
 pub ident-spec : {M : Type 1} → statement M
 ident-spec =

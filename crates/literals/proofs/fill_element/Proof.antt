@@ -8,7 +8,7 @@ fold-const-requires : tie.Need-fold-const-requires
 fold-const-requires c κs = value-foldable (c .before .before .before .before .before .pre) (c .before .before .before .before .before .args .x) (c .before .number-at .ensures .0)
 
 put-value-requires : tie.Need-put-value-requires
-put-value-requires c κs = (omega (arith, c .before .before .before .before .before .before .before .before .before .before .before .before .pre .few), omega (arith, c .before .before .before .before .before .before .before .before .before .before .before .before .pre .line .checked .whole .room, c .before .before .before .before .before .before .fold-const .ensures .kept .long), value-small (c .before .before .before .before .before .before .before .before .before .before .before .before .pre) (c .before .before .before .before .before .before .before .before .before .before .before .before .args .x) (c .before .before .before .before .before .before .before .before .number-at .ensures .0) (c .before .before .before .before .before .before .fold-const .ensures) (c .before .before .v .given .1))
+put-value-requires c κs = (omega (arith, c .before .before .before .before .before .before .before .before .before .before .before .before .pre .few), value-small (c .before .before .before .before .before .before .before .before .before .before .before .before .pre) (c .before .before .before .before .before .before .before .before .before .before .before .before .args .x) (c .before .before .before .before .before .before .before .before .number-at .ensures .0) (c .before .before .before .before .before .before .fold-const .ensures) (c .before .before .v .given .1))
 
 place-element-requires : tie.Need-place-element-requires
 place-element-requires c κs = value-stored (c .before .before .before .before .before .before .before .before .before .before .before .before .before .before .before .before .pre) (c .before .before .before .before .before .before .before .before .before .before .before .before .before .before .before .before .args .x) (c .before .before .before .before .before .before .before .before .before .before .before .before .number-at .ensures .0) (c .before .before .before .before .before .before .before .before .before .before .fold-const .ensures) (c .before .before .before .before .before .before .v .given .1) (c .before .before .before .put-value .ensures)

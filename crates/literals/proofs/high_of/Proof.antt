@@ -1,5 +1,5 @@
 use Rattle.literals.proofs.Selectors.{high-task, high-none, high-some}
-use Rattle.literals.specs.Literals.{namesIn}
+use Rattle.names.specs.Table.{namesIn}
 use Rattle.checks.proofs.Kept.{kept-all}
 use denote.Ref.{now}
 use borrow.Author.Needs.{needs}

@@ -8,7 +8,7 @@ returns : tie.Need-returns
 returns c = element-next (c .before .before .before .before .before .before .before .before .before .pre) (c .before .before .before .before .before .before .before .before .before .args .x) (c .before .before .before .before .before .form-at .ensures) (c .before .before .before .before .if1 .taken) (c .before .before .place-next .ensures)
 
 put-value-requires : tie.Need-put-value-requires
-put-value-requires c κs = (omega arith, c .before .before .before .before .before .before .before .pre .task .line .checked .whole .room, element-small (c .before .before .before .before .before .before .before .pre) (c .before .before .before .before .before .before .before .args .x))
+put-value-requires c κs = (omega arith, element-small (c .before .before .before .before .before .before .before .pre) (c .before .before .before .before .before .before .before .args .x))
 
 returns-2 : tie.Need-returns-2
 returns-2 c = element-star (c .before .before .before .before .before .before .before .before .before .before .pre) (c .before .before .before .before .before .before .before .before .before .before .args .x) (c .before .before .before .before .before .before .form-at .ensures) (c .before .before .before .before .if2 .taken) (c .before .before .put-value .ensures)

@@ -25,8 +25,7 @@ returns : tie.Need-returns Inv-loop μ-loop
 returns c =
     let a = c .before .before .before .before .before .before .before .before .args in
     let e = Laws.newest-hit (λ (j : ℕ). answersPlain (now (a .sheet)) (now (a .work)) j (now (a .name))) (c .before .before .before .loop .i) (omega arith) (c .before .answers-plain .ensures) (c .if1 .taken) ∙ sym (c .before .before .before .loop .inv .1) in
-    let w = Laws.looked (Laws.answers-plain (now (a .sheet)) (now (a .work)) (now (a .name))) e in
-    (w .value, w .low, w .has, e)
+    Laws.looked (Laws.answers-plain (now (a .sheet)) (now (a .work)) (now (a .name))) e
 
 loop-again : tie.Need-loop-again Inv-loop μ-loop
 loop-again c =
@@ -37,8 +36,7 @@ returns-2 : tie.Need-returns-2 Inv-loop μ-loop
 returns-2 c =
     let a = c .before .before .before .before .before .before .args in
     let e = Laws.newest-end (λ (j : ℕ). answersPlain (now (a .sheet)) (now (a .work)) j (now (a .name))) (c .before .loop .i) (omega arith) ∙ sym (c .before .loop .inv .1) in
-    let w = Laws.looked (Laws.answers-plain (now (a .sheet)) (now (a .work)) (now (a .name))) e in
-    (w .value, w .low, w .has, e)
+    Laws.looked (Laws.answers-plain (now (a .sheet)) (now (a .work)) (now (a .name))) e
 
 pub look-up-spec : {M : Type 1} → statement M
 look-up-spec =

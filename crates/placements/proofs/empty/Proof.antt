@@ -5,7 +5,7 @@ use Rattle.placements.proofs.empty.Statement.{statement}
 use Rattle.placements.proofs.empty.Tie as tie
 
 returns : tie.Need-returns
-returns c = started (now (c .before .before .before .before .before .before .before .before .before .args .work)) _ _ (c .before .before .before .before .before .before .before .before .before .pre) (c .before .before .before .before .before .before .paint .ensures) (c .before .before .put-value .ensures)
+returns c = started (now (c .before .before .before .before .before .before .before .before .before .args .work)) _ _ (c .before .before .before .before .before .before .before .before .before .pre) (c .before .before .before .before .before .before .set-span .ensures) (c .before .before .put-value .ensures)
 
 pub empty-spec : {M : Type 1} → statement M
 empty-spec =

@@ -19,10 +19,10 @@ element-requires : tie.Need-element-requires Inv-loop μ-loop
 element-requires c κs = (omega (arith, c .loop-test .taken, c .before .before .before .pre .0), c .before .before .before .pre .1)
 
 returns : tie.Need-returns Inv-loop μ-loop
-returns c = passing-found (c .before .before .before .before .loop .inv) (c .before .before .before .loop-test .taken) (c .before .before .element .result) (c .before .before .element .ensures) (c .before .rank .ensures (now (c .before .before .before .before .before .before .args .work))) (c .if1 .taken)
+returns c = passing-found (c .before .before .before .before .loop .inv) (c .before .before .before .loop-test .taken) (c .before .before .element .result) (c .before .before .element .ensures) (c .before .kind-of .ensures) (c .if1 .taken)
 
 loop-again : tie.Need-loop-again Inv-loop μ-loop
-loop-again c = passing-next (c .before .before .before .before .loop .inv) (c .before .before .before .loop-test .taken) (c .before .before .element .result) (c .before .before .element .ensures) (c .before .rank .ensures (now (c .before .before .before .before .before .before .args .work))) (c .if1 .left)
+loop-again c = passing-next (c .before .before .before .before .loop .inv) (c .before .before .before .loop-test .taken) (c .before .before .element .result) (c .before .before .element .ensures) (c .before .kind-of .ensures) (c .if1 .left)
 
 returns-2 : tie.Need-returns-2 Inv-loop μ-loop
 returns-2 c = passing-end (c .before .loop .inv) (c .loop-test .left)
