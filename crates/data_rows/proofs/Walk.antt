@@ -21,13 +21,13 @@ use Rattle.implement.specs.Modules.{moduleAt, Open}
 use Rattle.names.specs.Table.{logIn}
 use Rattle.literals.specs.Literals.{namesIn}
 use Rattle.literals.proofs.Names.{kept-low}
-use Rattle.global_table.specs.Table.{VarLine, placesIn, typeOn, namesOn}
+use Rattle.global_table.specs.Table.{VarLine, varOn, placesIn, typeOn, namesOn}
 use Rattle.globals.specs.Vars.{locatedAt, laidAt, laidVarsTo, varItems, lineItems}
 use Rattle.items.specs.Items.{itemRows}
 use Rattle.type_keys.specs.Table.{Kinds}
 use Rattle.type_keys.proofs.Table.{kinds-kept}
 use Rattle.vars.specs.declared.First.{First}
-use Rattle.vars.specs.First.{initIn, Inits, varOn}
+use Rattle.vars.specs.First.{initIn, Inits}
 use Rattle.vars.specs.Lines.{laidOn}
 use Rattle.vars.proofs.Items.{items-all}
 use Rattle.data_rows.specs.declared.Next.{Next}

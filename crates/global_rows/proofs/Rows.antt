@@ -15,7 +15,7 @@ use Rattle.write.specs.Wrote.{Wrote}
 use Rattle.write.proofs.Wrote.{then, wrote-as}
 use Rattle.sizes.specs.Sizes.{typeAt, TypeLine}
 use Rattle.global_table.specs.Table.{VarLine, lineOf, offsetOf, entryAt, placesIn, GlobalEntry}
-use Rattle.global_table.proofs.Line.{var-in, type-line, type-on}
+use Rattle.global_table.proofs.VarLine.{var-in, type-line, type-on}
 use Rattle.global_table.proofs.Table.{places-more}
 
 pub row-is : (e : Global) {x : Bytes} {off size : ℕ} {b : Bool} → x ≡ e .name → off ≡ e .offset → size ≡ globalSize (e .ty) → b ≡ isPtr (e .ty)

@@ -19,7 +19,7 @@ use Rattle.decimal.specs.Number as Number
 use Rattle.write.specs.Wrote.{Wrote}
 use Rattle.write.proofs.Wrote.{then, wrote-as}
 use Rattle.lines.specs.Lines.{readAt}
-use Rattle.global_table.specs.Table.{VarLine, nameOn, namesOn}
+use Rattle.global_table.specs.Table.{VarLine, varOn, nameOn, namesOn}
 use Rattle.globals.specs.Vars.{locatedAt, varPends, firstInit}
 use Rattle.values.specs.declared.ConstVal.{ConstVal}
 use Rattle.values.specs.Values.{valueIn}
@@ -29,7 +29,7 @@ use Rattle.vars.specs.declared.First.{First}
 use Rattle.vars.specs.declared.First.the-variants.{NoValue, Value, Alloc, Literal}
 use Rattle.pends.specs.declared.Pends.the-variants.{Written}
 use Rattle.vars.specs.Lines.{laidOn}
-use Rattle.vars.specs.First.{initIn, Inits, varOn, orPending}
+use Rattle.vars.specs.First.{initIn, Inits, orPending}
 use Rattle.pends.specs.Pends.{Pended}
 use Rattle.vars.proofs.Values.{settled-init}
 use Rattle.vars.proofs.Names.{namesFrom, names-step, names-over, names-all}

@@ -1,6 +1,6 @@
 -- `data_rows::is_big` meets its contract.
 use Rattle.data_rows.proofs.Firsts.{big-is}
-use Rattle.global_table.proofs.Line.{type-line, type-on}
+use Rattle.global_table.proofs.VarLine.{type-line, type-on}
 use denote.Ref.{now}
 use borrow.Author.Needs.{needs}
 use Rattle.data_rows.proofs.is_big.Statement.{statement}
