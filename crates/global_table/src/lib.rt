@@ -1,5 +1,6 @@
 // The table of globals in the working space: for each a name of a `var` line, and its offset.
 pub mod line;
+
 use codes::area;
 ghost use mathlib.Core.Path.{_≡_};
 ghost use Prim.Native.Nat.{_≤_, _<_};

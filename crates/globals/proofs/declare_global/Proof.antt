@@ -13,18 +13,18 @@ abbrev μ-loop : tie.MeasureT-loop
 μ-loop sheet work₀ n r count h₀ j₀ work h j = count - j
 
 loop-holds : tie.Need-loop-holds Inv-loop μ-loop
-loop-holds c = 
+loop-holds c =
     let a = c .before .before .before .before .args in
     naming-start (now (a .sheet)) (now (a .work)) (a .n) (a .r) (a .g) (c .name-count .result) (c .before .before .before .before .pre .0)
 
 declare-name-requires : tie.Need-declare-name-requires Inv-loop μ-loop
-declare-name-requires c κs = 
+declare-name-requires c κs =
     let a = c .before .before .before .before .before .before .before .args in
     let l = c .before .before .loop in
     naming-here (now (a .sheet)) (now (a .work)) (a .n) (a .r) (a .g) (c .before .before .before .name-count .result) (c .before .before .before .before .before .before .before .pre .1) (c .before .before .before .name-count .ensures) (l .work) (l .h) (l .j) (l .inv) (c .before .loop-test .taken) (c .before .before .before .before .before .before .before .pre .2)
 
 loop-again : tie.Need-loop-again Inv-loop μ-loop
-loop-again c = 
+loop-again c =
     let a = c .before .before .before .before .before .before .before .before .before .before .args in
     let l = c .before .before .before .before .before .loop in
     naming-next (now (a .sheet)) (now (a .work)) (a .n) (a .r) (a .g) (c .before .before .before .before .before .before .name-count .result) (c .before .before .before .before .before .before .before .before .before .before .pre .1) (c .before .before .before .before .before .before .name-count .ensures) (l .work) (l .h) (l .j) (l .inv) (c .before .before .before .before .loop-test .taken) (c .before .before .declare-name .ensures)
@@ -33,7 +33,7 @@ same-length : tie.Need-same-length Inv-loop μ-loop
 same-length c = c .before .loop .inv .laid .outside .kept .long
 
 returns : tie.Need-returns Inv-loop μ-loop
-returns c = 
+returns c =
     let a = c .before .before .before .before .before .before .args in
     let l = c .before .loop in
     naming-end (now (a .sheet)) (now (a .work)) (a .n) (a .r) (a .g) (c .before .before .name-count .result) (c .before .before .before .before .before .before .pre .1) (c .before .before .name-count .ensures) (l .work) (l .h) (l .j) (l .inv) (c .loop-test .left)
