@@ -2,7 +2,7 @@
 use mathlib.Core.Path.{_≡_, refl, sym, ap, _∙_}
 use mathlib.Core.List.{[], _∷_}
 use mathlib.Core.Option.{some}
-use Prim.Native.Nat.{ℕ, zero, suc, _-_}
+use Prim.Native.Nat.{ℕ, zero, suc, _-_, _<_}
 use native.Mathlib.Omega.{arith}
 use lib.ListN.{getD, drop}
 use lib.Seq.{getD-drop}
@@ -40,6 +40,14 @@ kind-back kBig = refl
 kind-back kReal = refl
 kind-back kPtr = refl
 
+-- the five kinds have numbers below 5
+pub kind-low : {x : ℕ} (k : ElemKind) → x ≡ kindNumber k → x < 5
+kind-low kByte e = omega arith
+kind-low kWord e = omega arith
+kind-low kBig e = omega arith
+kind-low kReal e = omega arith
+kind-low kPtr e = omega arith
+
 pub type-given : (s : Bytes) (r : ℕ) → (r ≡ 0 → ⊥) → typeOf s r ≡ some (typeAt s r)
 type-given s zero h = absurd (h refl)
 type-given s (suc r) h = refl
@@ -67,6 +75,9 @@ module _ {s t : Bytes} {n declared r : ℕ} (k : AllocLine s t n declared r) whe
 
   pub declared-kind : {x : ℕ} → (declared ≡ 0 → ⊥) → x ≡ kindNumber (elemKind (typeAt s declared)) → x ≡ kindNumber (elemKind (allocType s declared r))
   declared-kind h e = rw (type-given s declared h) e
+
+  pub alloc-low : {x : ℕ} → x ≡ kindNumber (elemKind (allocType s declared r)) → x < 5
+  alloc-low e = kind-low (elemKind (allocType s declared r)) e
 
   module _ {v : ℕ} (hv : v ≡ Number.numberUpTo 65536 (getD (readAt s (r - 1) .fields) 1 [])) where
     pub own-line : TypeLine s t n v

@@ -1,30 +1,30 @@
 -- The length of an `alloc`.
-use mathlib.Core.Path.{_≡_, refl}
+use mathlib.Core.Path.{_≡_, refl, sym, ap, _∙_}
 use mathlib.Core.Bool.{true, false, true≢false, false≢true}
 use mathlib.Core.List.{[]}
 use Prim.Native.Nat.{_≤_, _<_}
 use native.Mathlib.Omega.{arith}
 use lib.Dec.{T}
 use lib.IntN.{ℤ, pos, negsuc, natAbs}
+use lib.Ieee.{Float}
 use lib.Signed.{ltZ, nonNeg}
 use mir.Syntax.{w32, w64}
 use mir.Val.{Fits, SFits}
 use mir.Facts.{toZ-ofZ}
 use borrow.Author.Tests.{ltb-true, ltb-false, le-leb, lt-leb}
 use Rattle.semantics.specs.Text.{Bytes}
+use Rattle.semantics.specs.Tree as Tree
 use Rattle.semantics.specs.Tree.{ElemKind}
-use Rattle.semantics.specs.Tree.ConstVal.{vInt}
-use Rattle.semantics.specs.Fold.{bind}
+use Rattle.semantics.specs.Tree.ConstVal.{vInt, vReal, vStr}
+use Rattle.semantics.specs.Fold.{Result, bind}
 use Rattle.semantics.specs.Fold.Result.{ok, failed, refuse}
-use Rattle.semantics.specs.Array.{allocated, asSize}
+use Rattle.semantics.specs.Array.{allocated, asInt, asSize}
 use Rattle.ints.proofs.Widths.{held}
-use Rattle.values.specs.declared.ConstVal.{ConstVal}
-use Rattle.values.specs.declared.ConstVal.the-variants.{Int}
 use Rattle.values.specs.declared.Folded.{Folded}
-use Rattle.values.specs.declared.Folded.the-variants as Folded
-use Rattle.values.specs.Values.{valueIn, resultIn}
-use Rattle.arrays.specs.declared.Arrayed.{Arrayed}
-use Rattle.arrays.specs.Arrays.{arrayedIn}
+use Rattle.values.specs.Values.{resultIn}
+use Rattle.literals.specs.declared.Index.{Index}
+use Rattle.literals.specs.declared.Index.the-variants as Index
+use Rattle.literals.specs.Literals.{indexResult}
 
 module _ (k : ElemKind) where
   above : (z : ℤ) → ltZ (pos 2147483647) z ≡ true → refuse 9 ≡ allocated k (vInt z)
@@ -67,9 +67,26 @@ module _ (k : ElemKind) {z : ℤ} (f : SFits w64 z) where
 
 -- ---- by what a fold gives
 
-pub alloc-int : (t : Bytes) (k : ElemKind) {x : Folded} {v : ConstVal} {z : ℤ} → x ≡ Folded.Value v → v ≡ Int z → SFits w64 z → (y : Arrayed) → arrayedIn t y ≡ allocated k (vInt (held w64 z)) → arrayedIn t y ≡ bind (resultIn t x) (allocated k)
-unfolding resultIn valueIn
-alloc-int t k e d f y h = rw (e, d) (rw (toZ-ofZ f) at h)
+by-int : {A : Type 0} (f : Tree.ConstVal → Result A) → ((y : Float) → failed ≡ f (vReal y)) → ((y : Bytes) → failed ≡ f (vStr y)) → (r : Result Tree.ConstVal) → bind (bind r asInt) (λ (z : ℤ). f (vInt z)) ≡ bind r f
+by-int f a b (ok (vInt z)) = refl
+by-int f a b (ok (vReal y)) = a y
+by-int f a b (ok (vStr y)) = b y
+by-int f a b failed = refl
+by-int f a b (refuse r) = refl
+
+-- where i is the integer x, f is of integers alone
+module _ (t : Bytes) (x : Folded) (i : Index) (h : indexResult i ≡ bind (resultIn t x) asInt) {A : Type 0} (f : Tree.ConstVal → Result A) (a : (y : Float) → failed ≡ f (vReal y)) (b : (y : Bytes) → failed ≡ f (vStr y)) where
+  by-index : {j : Index} → i ≡ j → bind (indexResult j) (λ (z : ℤ). f (vInt z)) ≡ bind (resultIn t x) f
+  by-index e = ap (λ (k : Index). bind (indexResult k) (λ (z : ℤ). f (vInt z))) (sym e) ∙ ap (λ (r : Result ℤ). bind r (λ (z : ℤ). f (vInt z))) h ∙ by-int f a b (resultIn t x)
+
+  pub of-int : {z : ℤ} → i ≡ Index.At z → SFits w64 z → f (vInt (held w64 z)) ≡ bind (resultIn t x) f
+  of-int e w = rw (toZ-ofZ w) (by-index e)
+
+  pub of-none : i ≡ Index.Failed → failed ≡ bind (resultIn t x) f
+  of-none e = by-index e
+
+  pub of-long : i ≡ Index.TooLong → refuse 8 ≡ bind (resultIn t x) f
+  of-long e = by-index e
 
 -- ---- the size of a literal
 
@@ -88,11 +105,9 @@ size-natural (negsuc n) d = absurd (true≢false d)
 pub size-fits : {z : ℤ} → SFits w64 z → ltZ (held w64 z) (pos 0) ≡ false → T (nonNeg (held w64 z)) × Fits w64 (natAbs (held w64 z))
 size-fits {z} f d = rw (toZ-ofZ f) (fits-64 z f (rw (toZ-ofZ f) at d))
 
-module _ (t : Bytes) {x : Folded} {v : ConstVal} (e : x ≡ Folded.Value v) where
-  pub size-negative : {z : ℤ} → v ≡ Int z → SFits w64 z → ltZ (held w64 z) (pos 0) ≡ true → failed ≡ bind (resultIn t x) asSize
-  unfolding resultIn valueIn
-  size-negative {z} d f h = rw (e, d) (size-below z (rw (toZ-ofZ f) at h))
+module _ {z : ℤ} (f : SFits w64 z) where
+  pub size-negative : ltZ (held w64 z) (pos 0) ≡ true → failed ≡ asSize (vInt (held w64 z))
+  size-negative h = rw (toZ-ofZ f) (size-below z (rw (toZ-ofZ f) at h))
 
-  pub size-whole : {z : ℤ} → v ≡ Int z → SFits w64 z → ltZ (held w64 z) (pos 0) ≡ false → ok (natAbs (held w64 z)) ≡ bind (resultIn t x) asSize
-  unfolding resultIn valueIn
-  size-whole {z} d f h = rw (e, d, toZ-ofZ f) (size-natural z (rw (toZ-ofZ f) at h))
+  pub size-whole : ltZ (held w64 z) (pos 0) ≡ false → ok (natAbs (held w64 z)) ≡ asSize (vInt (held w64 z))
+  size-whole h = rw (toZ-ofZ f) (size-natural z (rw (toZ-ofZ f) at h))

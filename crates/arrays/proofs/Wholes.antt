@@ -42,8 +42,8 @@ use Rattle.arrays.specs.declared.Size.{Size}
 use Rattle.arrays.specs.declared.Size.the-variants as Size
 use Rattle.arrays.specs.declared.Arrayed.{Arrayed}
 use Rattle.arrays.specs.declared.Arrayed.the-variants.{Literal, Pending, Refused}
-use Rattle.arrays.specs.Arrays.{arrayedIn, sizeResult, ArrayStands, Measured, ArrayAnswers, typeOf, litSize, ownType, ArrayLine, LitLine, Counted, Sized}
-use Rattle.arrays.proofs.Allocs.{kind-back, type-given}
+use Rattle.arrays.specs.Arrays.{arrayedIn, sizeResult, ArrayStands, ArrayResult, ArrayAnswers, typeOf, litSize, ownType, ArrayLine, DeclaredLiteral, Counted, Sized}
+use Rattle.arrays.proofs.Allocs.{kind-back, kind-low, type-given}
 use Rattle.arrays.proofs.Elements.{outside-forms}
 
 -- ---- the kind
@@ -81,23 +81,23 @@ abbrev whole : Bytes → ℕ → ℕ → ℕ → Filled → Result Array.ConstAr
 whole s declared r size f = Array.measured (typeOf s declared) (ownType s r) (elsAt s r) f size
 
 module _ (s t : Bytes) (declared r size k next reach : ℕ) (f : Filled) (h : reach ≤ size) (p : Filling t (above 16) k next reach f) where
-  pub measured-long : 1024 < size → Measured t (whole s declared r size f) (Refused 12)
+  pub measured-long : 1024 < size → ArrayResult t (whole s declared r size f) (Refused 12)
   measured-long g = record { result = sym (rw (p .ends size, le-ltb size reach h, lt-leb size 1024 g)); stands = tt }
 
-  pub measured-well : size ≤ 1024 → {kind : ℕ} → kind ≡ kindNumber (literalKind (typeOf s declared) (ownType s r) (elsAt s r) (valuesIn t 0 size)) → Measured t (whole s declared r size f) (Literal kind size)
+  pub measured-well : size ≤ 1024 → {kind : ℕ} → kind ≡ kindNumber (literalKind (typeOf s declared) (ownType s r) (elsAt s r) (valuesIn t 0 size)) → ArrayResult t (whole s declared r size f) (Literal kind size)
   measured-well g {kind} e = record {
     result = sym (rw (p .ends size, le-ltb size reach h, le-leb size 1024 g, values-are p size 0 (omega arith), e, kind-back (literalKind (typeOf s declared) (ownType s r) (elsAt s r) (valuesIn t 0 size))));
-    stands = (g, λ i x. value-stands p i (omega arith));
+    stands = (kind-low (literalKind (typeOf s declared) (ownType s r) (elsAt s r) (valuesIn t 0 size)) e, (g, λ i x. value-stands p i (omega arith)));
   }
 
 -- ---- what is kept of the lines
 
-module _ {s t u : Bytes} {n declared r : ℕ} (k : Keeps 16384 49152 t u) (l : LitLine s t n declared r) where
+module _ {s t u : Bytes} {n declared r : ℕ} (k : Keeps 16384 49152 t u) (l : DeclaredLiteral s t n declared r) where
   form-same : formAt u (r - 1) ≡ formAt t (r - 1)
   unfolding formAt
   form-same = k .below (2048 + (r - 1)) (omega (arith, line-in (l .literal .line), l .literal .line .checked .whole .lined .few))
 
-  pub lit-kept : LitLine s u n declared r
+  pub lit-kept : DeclaredLiteral s u n declared r
   lit-kept = record {
     literal = record { line = line-kept k (l .literal .line); form = form-same ∙ l .literal .form };
     declares = λ h. line-kept k (l .declares h);
@@ -108,7 +108,7 @@ module _ {s t u : Bytes} {n declared r : ℕ} (k : Keeps 16384 49152 t u) (l : L
 pub size-keeps : {t u : Bytes} → Kept (above 16) t u → Keeps 16384 49152 t u
 size-keeps c = keeps-less (omega arith) (omega arith) (keeps-kept {a = 0} (omega arith) c)
 
-module _ {s t u : Bytes} {n m declared r : ℕ} (l : LitLine s t n declared r) (o : ConstsLogged s t n m) (c : Kept (above 16) t u) where
+module _ {s t u : Bytes} {n m declared r : ℕ} (l : DeclaredLiteral s t n declared r) (o : ConstsLogged s t n m) (c : Kept (above 16) t u) where
   module _ {reach : ℕ} (x : Size) (h : (f : Filled) → reach ≡ f .reach → sizeResult x ≡ literalSize (namesIn s t m) (litSize s r) f) where
     pub sized-failed : x ≡ Size.Failed → Sized s t m declared r reach Pending u
     sized-failed d = record {
@@ -132,7 +132,7 @@ module _ {s t u : Bytes} {n m declared r : ℕ} (l : LitLine s t n declared r) (
         keeps = size-keeps c;
       }
 
-      pub sized-well : reach ≤ size → (y : Arrayed) → ((k next reach : ℕ) (f : Filled) → reach ≤ size → Filling u (above 16) k next reach f → Measured u (whole s declared r size f) y) → Sized s t m declared r reach y u
+      pub sized-well : reach ≤ size → (y : Arrayed) → ((k next reach : ℕ) (f : Filled) → reach ≤ size → Filling u (above 16) k next reach f → ArrayResult u (whole s declared r size f) y) → Sized s t m declared r reach y u
       sized-well a y g = record {
         answers = λ k next f few p.
             let w = g k next reach f a (filling-kept p u few (omega arith) c) in
@@ -152,11 +152,11 @@ endedAs TooLong = Refused 8
 abbrev rest : Bytes → Bytes → ℕ → ℕ → ℕ → Filled → Result Array.ConstArray
 rest s t m declared r f = bind (literalSize (namesIn s t m) (litSize s r) f) (Array.measured (typeOf s declared) (ownType s r) (elsAt s r) f)
 
-module _ {s t u : Bytes} {n m declared r : ℕ} (l : LitLine s t n declared r) (o : ConstsLogged s t n m) (y : Placed) (a : AllFilled t (fill (namesIn s t m) (elsAt s r) noneFilled) y u) where
+module _ {s t u : Bytes} {n m declared r : ℕ} (l : DeclaredLiteral s t n declared r) (o : ConstsLogged s t n m) (y : Placed) (a : AllFilled t (fill (namesIn s t m) (elsAt s r) noneFilled) y u) where
   literal-by : constArray (namesIn s t m) (typeOf s declared) (exAt s r) ≡ bind (fill (namesIn s t m) (elsAt s r) noneFilled) (rest s t m declared r)
   literal-by = rw (literal-is (l .literal))
 
-  pub literal-kept : (LitLine s u n declared r) × (ConstsLogged s u n m)
+  pub literal-kept : (DeclaredLiteral s u n declared r) × (ConstsLogged s u n m)
   literal-kept = (lit-kept (a .keeps) l, logged-kept (a .keeps) o)
 
   -- one that has ended

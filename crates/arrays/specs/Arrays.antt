@@ -4,7 +4,6 @@ use mathlib.Core.Path.{_≡_}
 use mathlib.Core.List.{[], _∷_}
 use mathlib.Core.Option.{Option}
 use lib.ListN.{getD}
-use Rattle.checks.specs.Checks.{KindLine}
 use Rattle.semantics.specs.Text.{Bytes, orElse}
 use Rattle.semantics.specs.Tree.{Ty, MaybeEx, ElemKind}
 use Rattle.semantics.specs.Tree.ElemKind.{kByte, kWord, kBig, kReal, kPtr}
@@ -14,6 +13,7 @@ use Rattle.semantics.specs.Fold.Result.{ok, failed, refuse}
 use Rattle.semantics.specs.Array.{ConstArray, Filled, literalSize, measured}
 use Rattle.lines.specs.Lines.{readAt, nodesIn, formAt}
 use Rattle.sizes.specs.Sizes.{typeAt, TypeLine}
+use Rattle.leaf.specs.Folds.{ExLine}
 use Rattle.placements.specs.Placements.{entryAt, slotAt, valuesIn, Keeps, StringStands, Filling}
 use Rattle.names.specs.Table.{namesIn}
 use Rattle.literals.specs.Literals.{elsAt, LiteralLine, above}
@@ -44,21 +44,21 @@ sizeResult Size.TooLong = refuse 8
 abbrev pub ValuesStand : Bytes → ℕ → Type 0
 ValuesStand t n = (n ≤ 1024) × ((i : ℕ) → i < n → StringStands (above 16) (slotAt t (entryAt t i)))
 
--- what stands in t for an array: the values of a literal
+-- what stands in t for an array, of one of the five kinds: the values of a literal
 abbrev pub ArrayStands : Bytes → Arrayed → Type 0
-ArrayStands t (Alloc k n) = Unit {0}
-ArrayStands t (Literal k n) = ValuesStand t n
+ArrayStands t (Alloc k n) = k < 5
+ArrayStands t (Literal k n) = (k < 5) × ValuesStand t n
 ArrayStands t Pending = Unit {0}
 ArrayStands t (Refused r) = Unit {0}
 
 -- x is the result r, with its values in t
-pub record Measured (t : Bytes) (r : Result ConstArray) (x : Arrayed) : Type 0 where
+pub record ArrayResult (t : Bytes) (r : Result ConstArray) (x : Arrayed) : Type 0 where
   pub result : arrayedIn t x ≡ r
   pub stands : ArrayStands t x
 
 -- and t has become u
 pub record ArrayAnswers (t : Bytes) (r : Result ConstArray) (x : Arrayed) (u : Bytes) : Type 0 where
-  pub array : Measured u r x
+  pub array : ArrayResult u r x
   pub keeps : Keeps 16384 49152 t u
 
 -- ---- lines
@@ -84,7 +84,7 @@ DeclaredElement s t n declared = (declared ≡ 0 → ⊥) → TypeLine s t n dec
 
 -- line r is an `ex` line, for a global whose type declares its elements' type in a line, or 0
 pub record ArrayLine (s t : Bytes) (n declared r : ℕ) : Type 0 where
-  pub line : KindLine 69 s t n r
+  pub line : ExLine s t n r
   pub declares : DeclaredElement s t n declared
 
 -- and an `ex,alloc` line, form 17
@@ -93,16 +93,16 @@ pub record AllocLine (s t : Bytes) (n declared r : ℕ) : Type 0 where
   pub form : formAt t (r - 1) ≡ 17
 
 -- line r is an `ex,lit` line, for such a global
-pub record LitLine (s t : Bytes) (n declared r : ℕ) : Type 0 where
+pub record DeclaredLiteral (s t : Bytes) (n declared r : ℕ) : Type 0 where
   pub literal : LiteralLine s t n r
   pub declares : DeclaredElement s t n declared
 
 -- and has `count` values
 pub record Counted (s t : Bytes) (n declared r count : ℕ) : Type 0 where
-  pub lit : LitLine s t n declared r
+  pub lit : DeclaredLiteral s t n declared r
   pub few : count ≤ 1024
 
 -- t has become u, where x is what the literal of line r is whose elements t holds
 pub record Sized (s t : Bytes) (m declared r reach : ℕ) (x : Arrayed) (u : Bytes) : Type 0 where
-  pub answers : (k next : ℕ) (f : Filled) → k ≤ 16 → Filling t (above 16) k next reach f → Measured u (bind (literalSize (namesIn s t m) (litSize s r) f) (measured (typeOf s declared) (ownType s r) (elsAt s r) f)) x
+  pub answers : (k next : ℕ) (f : Filled) → k ≤ 16 → Filling t (above 16) k next reach f → ArrayResult u (bind (literalSize (namesIn s t m) (litSize s r) f) (measured (typeOf s declared) (ownType s r) (elsAt s r) f)) x
   pub keeps : Keeps 16384 49152 t u

@@ -3,9 +3,9 @@ use codes::area;
 use codes::element;
 use codes::ex;
 use codes::ty;
+use literals::Index;
 use names::Known;
 use placements::Placed;
-use values::ConstVal;
 use values::Folded;
 ghost use mathlib.Core.Path.{_≡_};
 ghost use Prim.Native.Nat.{ℕ, _≤_, _<_};
@@ -14,21 +14,23 @@ ghost use Rattle.semantics.specs.Fold.{bind};
 ghost use Rattle.semantics.specs.Tree.ConstVal.{vInt};
 ghost use Rattle.semantics.specs.Array as Array;
 ghost use Rattle.semantics.specs.Array.{Filled, kindNumber, elemKind, isByteCast, isByteLiteral, asSize, literalKind, constArray};
-ghost use Rattle.checks.specs.Checks.{Kept, KindLine};
+ghost use Rattle.checks.specs.Checks.{Kept};
 ghost use Rattle.sizes.specs.Sizes.{typeAt, TypeLine};
 ghost use Rattle.values.specs.Values.{resultIn};
 ghost use Rattle.names.specs.Table.{ConstsLogged, namesIn};
 ghost use Rattle.placements.specs.Placements.{valuesIn, Filling};
-ghost use Rattle.leaf.specs.Folds.{exAt};
+ghost use Rattle.leaf.specs.Folds.{exAt, ExLine};
 ghost use Rattle.literals.specs.Literals.{elsAt, LiteralLine, above};
-ghost use Rattle.arrays.specs.Arrays.{kindOfNumber, arrayedIn, sizeResult, ArrayStands, Measured, ArrayAnswers, typeOf, litSize, ownType, allocType, ArrayLine, AllocLine, LitLine, Counted, Sized};
+ghost use Rattle.arrays.specs.Arrays.{kindOfNumber, arrayedIn, sizeResult, ArrayStands, ArrayResult, ArrayAnswers, typeOf, litSize, ownType, allocType, ArrayLine, AllocLine, DeclaredLiteral, Counted, Sized};
 
 // Above the strings of 16 elements.
 const ABOVE: usize = area::STACK + 256 * 16;
 
 const LONGEST_ALLOC: i64 = 2147483647;
 
-const LONGEST: u64 = 1024;
+const LOWEST_ALLOC: i64 = -2147483648;
+
+const LONGEST_LITERAL: u64 = 1024;
 
 // The size of a literal, or why there is none.
 pub enum Size {
@@ -67,12 +69,13 @@ pub fn elem_kind(sheet: &[u8], work: &[u8], n: usize, r: usize) -> u8
 
 // An `alloc` of a length.
 fn allocated_int(kind: u8, z: i64) -> Arrayed
+    requires { ⌜ kind < 5 ⌝ }
     ensures { λ x. ⌜ ((t : Bytes) → (arrayedIn t x ≡ Array.allocated (kindOfNumber kind) (vInt z)) × (ArrayStands t x)) ⌝ }
 {
     if z > LONGEST_ALLOC {
         return Arrayed::Refused(9);
     }
-    if z < -2147483648 {
+    if z < LOWEST_ALLOC {
         return Arrayed::Refused(9);
     }
     if z < 0 {
@@ -82,16 +85,13 @@ fn allocated_int(kind: u8, z: i64) -> Arrayed
 }
 
 fn allocated(kind: u8, x: Folded) -> Arrayed
+    requires { ⌜ kind < 5 ⌝ }
     ensures { λ y. ⌜ ((t : Bytes) → (arrayedIn t y ≡ bind (resultIn t x) (Array.allocated (kindOfNumber kind))) × (ArrayStands t y)) ⌝ }
 {
-    match x {
-        Folded::Value(v) => match v {
-            ConstVal::Int(z) => allocated_int(kind, z),
-            ConstVal::Real(_) => Arrayed::Pending,
-            ConstVal::Str(_, _) => Arrayed::Pending,
-        },
-        Folded::Failed => Arrayed::Pending,
-        Folded::TooLong => Arrayed::Refused(8),
+    match literals::as_int(x) {
+        Index::At(z) => allocated_int(kind, z),
+        Index::Failed => Arrayed::Pending,
+        Index::TooLong => Arrayed::Refused(8),
     }
 }
 
@@ -120,19 +120,15 @@ fn alloc(sheet: &[u8], work: &mut [u8], c: Known, declared: usize, r: usize) -> 
 fn as_size(x: Folded) -> Size
     ensures { λ y. ⌜ ((t : Bytes) → sizeResult y ≡ bind (resultIn t x) asSize) ⌝ }
 {
-    match x {
-        Folded::Value(v) => match v {
-            ConstVal::Int(z) => {
-                if z < 0 {
-                    return Size::Failed;
-                }
-                Size::Of(z as u64)
+    match literals::as_int(x) {
+        Index::At(z) => {
+            if z < 0 {
+                return Size::Failed;
             }
-            ConstVal::Real(_) => Size::Failed,
-            ConstVal::Str(_, _) => Size::Failed,
-        },
-        Folded::Failed => Size::Failed,
-        Folded::TooLong => Size::TooLong,
+            Size::Of(z as u64)
+        }
+        Index::Failed => Size::Failed,
+        Index::TooLong => Size::TooLong,
     }
 }
 
@@ -150,7 +146,7 @@ fn literal_size(sheet: &[u8], work: &mut [u8], c: Known, r: usize, reach: u64) -
 
 // Whether the expression of line r is itself a cast to byte.
 fn is_byte_cast(sheet: &[u8], work: &[u8], n: usize, r: usize) -> bool
-    requires { ⌜ KindLine 69 (now sheet) (now work) n r ⌝ }
+    requires { ⌜ ExLine (now sheet) (now work) n r ⌝ }
     ensures { λ b. ⌜ b ≡ isByteCast (exAt (now (sheet .entry)) r) ⌝ }
 {
     if lines::form_at(work, r - 1) != ex::CAST {
@@ -196,10 +192,10 @@ fn literal_kind(sheet: &[u8], work: &[u8], n: usize, declared: usize, r: usize, 
 
 // A literal of a size, which its indices do not pass.
 fn measured(sheet: &[u8], work: &[u8], n: usize, declared: usize, r: usize, size: u64) -> Arrayed
-    requires { ⌜ LitLine (now sheet) (now work) n declared r ⌝ }
-    ensures { λ x. ⌜ ((k next reach : ℕ) (f : Filled) → reach ≤ size → Filling (now (work .entry)) (above 16) k next reach f → Measured (now (work .entry)) (Array.measured (typeOf (now (sheet .entry)) declared) (ownType (now (sheet .entry)) r) (elsAt (now (sheet .entry)) r) f size) x) ⌝ }
+    requires { ⌜ DeclaredLiteral (now sheet) (now work) n declared r ⌝ }
+    ensures { λ x. ⌜ ((k next reach : ℕ) (f : Filled) → reach ≤ size → Filling (now (work .entry)) (above 16) k next reach f → ArrayResult (now (work .entry)) (Array.measured (typeOf (now (sheet .entry)) declared) (ownType (now (sheet .entry)) r) (elsAt (now (sheet .entry)) r) f size) x) ⌝ }
 {
-    if LONGEST < size {
+    if LONGEST_LITERAL < size {
         return Arrayed::Refused(12);
     }
     let count = size as usize;
@@ -208,7 +204,7 @@ fn measured(sheet: &[u8], work: &[u8], n: usize, declared: usize, r: usize, size
 
 // A literal whose elements are placed, with indices that end at `reach`.
 fn sized(sheet: &[u8], work: &mut [u8], c: Known, declared: usize, r: usize, reach: u64) -> Arrayed
-    requires { ⌜ (LitLine (now sheet) (now work) (c .lines) declared r) × (ConstsLogged (now sheet) (now work) (c .lines) (c .consts)) ⌝ }
+    requires { ⌜ (DeclaredLiteral (now sheet) (now work) (c .lines) declared r) × (ConstsLogged (now sheet) (now work) (c .lines) (c .consts)) ⌝ }
     ensures { λ x. ⌜ Sized (now (sheet .entry)) (now (work .entry)) (c .consts) declared r reach x (now (work .exit)) ⌝ }
 {
     match literal_size(sheet, work, c, r, reach) {
@@ -224,7 +220,7 @@ fn sized(sheet: &[u8], work: &mut [u8], c: Known, declared: usize, r: usize, rea
 }
 
 fn literal(sheet: &[u8], work: &mut [u8], c: Known, declared: usize, r: usize) -> Arrayed
-    requires { ⌜ (LitLine (now sheet) (now work) (c .lines) declared r) × (ConstsLogged (now sheet) (now work) (c .lines) (c .consts)) ⌝ }
+    requires { ⌜ (DeclaredLiteral (now sheet) (now work) (c .lines) declared r) × (ConstsLogged (now sheet) (now work) (c .lines) (c .consts)) ⌝ }
     ensures { λ x. ⌜ ArrayAnswers (now (work .entry)) (constArray (namesIn (now (sheet .entry)) (now (work .entry)) (c .consts)) (typeOf (now (sheet .entry)) declared) (exAt (now (sheet .entry)) r)) x (now (work .exit)) ⌝ }
 {
     match literals::fill(sheet, work, c, r) {

@@ -1,8 +1,6 @@
-// Numbers that stand for something, in one place: rows of the table of forms, letters of kinds of lines, kinds of elements and of
 // Numbers that stand for something, in one place: rows of the table of forms, letters of kinds of lines, operators, kinds of elements
-// and of values, and the places of tables in the working space. Contracts name the same numbers, so a wrong one here fails proofs above.
-// proofs above.
-// values, keywords of items, and the places of tables in the working space. Contracts name the same numbers, so a wrong one here fails
+// and of values, keywords of items, and the places of tables in the working space. Contracts name the same numbers, so a wrong one
+// here fails proofs above.
 pub mod area;
 pub mod binary;
 pub mod decl;

@@ -26,7 +26,7 @@ module _ (s : Bytes) (o : Outcome) (L W : ℕ) (d u : Bytes) {r : Listed} where
   tried-written e h = subst (λ (x : Listed). Tries s o L W x d u) e h
 
   pub tried-refused : {q k : ℕ} → r ≡ Refused q k → Tries s o L W r d u → {e v : Bytes} → e ≡ zeros L → v ≡ zeros W → Refuses o L W q k e v
-  tried-refused e h y z = let x = subst (λ (x : Listed). Tries s o L W x d u) e h in record { outcome = x .outcome; numbered = x .numbered; bytes = y; work = z }
+  tried-refused e h y z = let x = subst (λ (x : Listed). Tries s o L W x d u) e h in record { stops = x; bytes = y; work = z }
 
 -- ---- the checks before
 
@@ -37,8 +37,10 @@ module _ (s : Bytes) (W : ℕ) {r : Checks} (h : (o : Outcome) → tested W s o 
   pub check-refused : (L : ℕ) {q k : ℕ} {d u : Bytes} → r ≡ Answer.Refused q k → d ≡ zeros L → length u ≡ W → CheckedTables s u r → Lists s L W (Refused q k) d u
   check-refused L {q} {k} {d} {u} e z l x = record {
     settles = record {
-      outcome = compiled-by s W r h L ∙ ap (λ (x : Checks). settled x (worked L (sheetSource s))) e;
-      numbered = tested-numbered W s (λ o. h o ∙ ap (λ (x : Checks). settled x o) e);
+      stops = record {
+        outcome = compiled-by s W r h L ∙ ap (λ (x : Checks). settled x (worked L (sheetSource s))) e;
+        numbered = tested-numbered W s (λ o. h o ∙ ap (λ (x : Checks). settled x o) e);
+      };
       bytes = z;
       work = subst (CheckedTables s u) e x ∙ ap zeros l;
     };
@@ -53,7 +55,7 @@ module _ (s : Bytes) (W : ℕ) {r : Checks} (h : (o : Outcome) → tested W s o 
 
 module _ (s : Bytes) (L W : ℕ) (d u : Bytes) {r : Listed} (h : Lists s L W r d u) where
   pub listed-numbered : {q k : ℕ} → r ≡ Refused q k → RefusalAt q k
-  listed-numbered e = subst (λ (x : Listed). Lists s L W x d u) e h .settles .numbered
+  listed-numbered e = subst (λ (x : Listed). Lists s L W x d u) e h .settles .stops .numbered
 
   pub compiles-listed : {p end : ℕ} {t : Bytes} → r ≡ Written p end → t ≡ zeros W → Compiles s L W (Answers.Listed p) d t
   compiles-listed {p} e z =
@@ -72,9 +74,9 @@ module _ (s : Bytes) (L W : ℕ) (d u : Bytes) {r : Listed} (h : Lists s L W r d
       let x = subst (λ (x : Listed). Lists s L W x d u) e h .settles in
       let all : L ≡ L - 0 = omega arith in
       record {
-        answer = rw (n .0, n .1) (sym (x .outcome));
+        answer = rw (n .0, n .1) (sym (x .stops .outcome));
         within = omega arith;
-        listingIs = x .bytes ∙ ap zeros all ∙ ap (λ (o : Outcome). padded L (listingBytes o)) (sym (x .outcome));
+        listingIs = x .bytes ∙ ap zeros all ∙ ap (λ (o : Outcome). padded L (listingBytes o)) (sym (x .stops .outcome));
         workIs = z;
-        long = ap (λ (o : Outcome). length (listingBytes o)) (sym (x .outcome));
+        long = ap (λ (o : Outcome). length (listingBytes o)) (sym (x .stops .outcome));
       }

@@ -12,7 +12,8 @@ use Rattle.compile.specs.declared.Listed.the-variants.{Written, Refused}
 use Rattle.compile.specs.declared.Answer.{Answer}
 use Rattle.compile.specs.declared.Answer.the-variants as Answer
 
--- o is what compiling gives: the listing of p bytes stands on L bytes, and the sheet's tables in the working space u of W bytes
+-- o is what compiling gives: the listing of p bytes stands on L bytes, and the sheet's tables in the working space u of W bytes;
+-- `end` is where allocation ends
 pub record ListingStands (s : Bytes) (o : Outcome) (L W p end : ℕ) (d u : Bytes) : Type 0 where
   pub outcome : o ≡ listed (sourceListing (sheetSource s))
   pub long : p ≡ length (sourceListing (sheetSource s))
@@ -30,8 +31,7 @@ pub record Stops (o : Outcome) (q k : ℕ) : Type 0 where
 
 -- and the L bytes of the listing and the W bytes of the working space are zero
 pub record Refuses (o : Outcome) (L W q k : ℕ) (d u : Bytes) : Type 0 where
-  pub outcome : o ≡ refused q k
-  pub numbered : RefusalAt q k
+  pub stops : Stops o q k
   pub bytes : d ≡ zeros L
   pub work : u ≡ zeros W
 

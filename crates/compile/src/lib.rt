@@ -25,7 +25,7 @@ pub enum Answer {
     Refused(Refusal),
 }
 
-// All rows, where the constants are not refused. A first value is refused before the listing outgrows its buffer.
+// All rows, where the constants are not refused. 8 to 12 come before 13: first values are looked at also where the listing is already full.
 fn list_rows(sheet: &[u8], listing: &mut [u8], work: &mut [u8], n: usize, x: Tables) -> Listed
     requires { ⌜ (Listable (now sheet) (now work) n x) × (now listing ≡ zeros (length (now listing))) ⌝ }
     ensures { λ r. ⌜ Tries (now (sheet .entry)) (worked (length (now (listing .entry))) (sheetSource (now (sheet .entry)))) (length (now (listing .entry))) (length (now (work .entry))) r (now (listing .exit)) (now (work .exit)) ⌝ }

@@ -1,7 +1,7 @@
 -- The rows of a first value, by what it is.
 use mathlib.Core.Path.{_≡_, subst}
 use mathlib.Core.List.{[], _∷_}
-use Prim.Native.Nat.{ℕ, _≤_}
+use Prim.Native.Nat.{ℕ, _≤_, _<_}
 use lib.Dec.{eqb}
 use lib.ListN.{length}
 use Rattle.semantics.specs.Text.{Bytes}
@@ -26,7 +26,7 @@ use Rattle.data_rows.proofs.Printed.{printed-as}
 pub big-is : (s : Bytes) (v : ℕ) {k : ℕ} {t : Ty} → typeAt s v ≡ t → k ≡ kindNumber (elemKind (typeAt s v)) → isOfKind kBig t ≡ eqb k 2
 big-is s v e h = rw (h, e)
 
-pub held-long : {s t : Bytes} {c : Counts} {keys : ℕ} → PrintTables s t c keys → 65536 ≤ length t
+held-long : {s t : Bytes} {c : Counts} {keys : ℕ} → PrintTables s t c keys → 65536 ≤ length t
 held-long h = h .places .checked .whole .room
 
 pub held-keyed : {s t : Bytes} {c : Counts} {keys : ℕ} → PrintTables s t c keys → Keyed t (c .frames) keys
@@ -36,7 +36,10 @@ module _ (t : Bytes) (x : First) (h : FirstStands t x) where
   pub first-within : {v : ConstVal} → x ≡ Value v → 65536 ≤ length t → Within (length t) v
   first-within {v} e l = within-at (length t) v l (subst (FirstStands t) e h)
 
-  pub first-filled : {kind n : ℕ} → x ≡ Literal kind n → ValuesStand t n
+  pub first-allocated : {kind n : ℕ} → x ≡ Alloc kind n → kind < 5
+  first-allocated e = subst (FirstStands t) e h
+
+  pub first-filled : {kind n : ℕ} → x ≡ Literal kind n → (kind < 5) × ValuesStand t n
   first-filled e = subst (FirstStands t) e h
 
 module _ {s t : Bytes} {x : First} (ty : Ty) (off : ℕ) {p q : Next} {u d e : Bytes} where

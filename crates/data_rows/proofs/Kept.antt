@@ -22,23 +22,23 @@ use Rattle.vars.specs.declared.First.{First}
 use Rattle.vars.specs.declared.First.the-variants as First
 use Rattle.vars.specs.First.{initIn, FirstStands}
 use Rattle.arrays.specs.Arrays.{ValuesStand}
-use Rattle.data_rows.specs.Data.{Keeping}
+use Rattle.data_rows.specs.Data.{PrintKept}
 
 -- ---- tables
 
-pub keeping-all : {t : Bytes} → Keeping t t
+pub keeping-all : {t : Bytes} → PrintKept t t
 keeping-all = record { below = kept-all; strings = λ j h k. refl }
 
-pub keeping-then : {t u v : Bytes} → Keeping t u → Keeping u v → Keeping t v
+pub keeping-then : {t u v : Bytes} → PrintKept t u → PrintKept u v → PrintKept t v
 keeping-then a b = record { below = kept-then (a .below) (b .below); strings = λ j h k. b .strings j h k ∙ a .strings j h k }
 
-pub keeping-first : {t u : Bytes} → Keeps 16384 49152 t u → Keeping t u
+pub keeping-first : {t u : Bytes} → Keeps 16384 49152 t u → PrintKept t u
 keeping-first k = record { below = kept-low k 10624 (omega arith); strings = k .above }
 
-pub keeping-outside : {t u : Bytes} → Outside 10624 10629 t u → Keeping t u
+pub keeping-outside : {t u : Bytes} → Outside 10624 10629 t u → PrintKept t u
 keeping-outside o = record { below = o .kept; strings = λ j h k. outside-above o j (omega arith) }
 
-module _ {t u : Bytes} (k : Keeping t u) where
+module _ {t u : Bytes} (k : PrintKept t u) where
   pub checked-still : {s : Bytes} {n : ℕ} → Checked s t n → Checked s u n
   checked-still c = checked-kept (kept-less (omega arith) (k .below)) c
 
@@ -105,7 +105,7 @@ module _ {t u : Bytes} (o : Outside 10624 10629 t u) where
   pub first-still : (x : First) → FirstStands t x → (initIn u x ≡ initIn t x) × FirstStands u x
   first-still First.NoValue h = (refl, tt)
   first-still (First.Value v) h = (rw (value-same t u (o .kept .long) (above 16) v (standing-at v h) (λ j x y. outside-above o j (omega arith))), h)
-  first-still (First.Alloc k n) h = (refl, tt)
-  first-still (First.Literal k n) h = (rw (values-still n h), filled-still {n = n} h)
+  first-still (First.Alloc k n) h = (refl, h)
+  first-still (First.Literal k n) h = (rw (values-still n (h .1)), (h .0, filled-still {n = n} (h .1)))
   first-still First.Pending h = (refl, tt)
   first-still (First.Refused r) h = (refl, tt)

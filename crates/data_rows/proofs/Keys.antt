@@ -32,14 +32,6 @@ kind-own (suc (suc (suc zero))) h = refl
 kind-own (suc (suc (suc (suc zero)))) h = refl
 kind-own (suc (suc (suc (suc (suc k))))) h = absurd (omega arith)
 
-pub kind-pointer : (k : ℕ) → 4 ≤ k → 4 ≡ kindNumber (kindOfNumber k)
-kind-pointer zero h = absurd (omega arith)
-kind-pointer (suc zero) h = absurd (omega arith)
-kind-pointer (suc (suc zero)) h = absurd (omega arith)
-kind-pointer (suc (suc (suc zero))) h = absurd (omega arith)
-kind-pointer (suc (suc (suc (suc zero)))) h = refl
-kind-pointer (suc (suc (suc (suc (suc k))))) h = refl
-
 -- an array of a kind
 abbrev pub arrayBy : ℕ → ℕ → List ConstVal → ConstArray
 arrayBy k n vs = record { kind = kindOfNumber k; count = n; values = vs }

@@ -4,16 +4,14 @@ use mathlib.Core.Bool.{Bool, true, false, not, cond}
 use mathlib.Core.List.{List, [], _∷_, _++_, append-assoc, append-nil}
 use Prim.Native.Nat.{ℕ, _+_, _-_, _≤_, _<_}
 use native.Mathlib.Omega.{arith}
-use lib.ListN.{length, getD}
+use lib.ListN.{length}
 use Rattle.semantics.specs.Text.{Bytes, bytes, same}
 use Rattle.semantics.specs.Tree.{Ty}
 use Rattle.semantics.specs.Sheet.{concatMap}
 use Rattle.semantics.specs.Fold.{Result}
 use Rattle.semantics.specs.Global.{Item, Init, Global, laidNames}
-use Rattle.decimal.specs.Number as Number
 use Rattle.write.specs.Wrote.{Wrote}
 use Rattle.write.proofs.Wrote.{wrote-none, wrote-length}
-use Rattle.lines.specs.Lines.{readAt}
 use Rattle.placements.specs.Placements.{Keeps}
 use Rattle.literals.proofs.Names.{kept-low}
 use Rattle.global_table.specs.Table.{VarLine, placesIn, offsetIn, typeOn, nameOn, namesOn}
@@ -25,7 +23,7 @@ use Rattle.vars.specs.First.{initIn}
 use Rattle.vars.proofs.Names.{namesFrom, names-step, names-over, names-all}
 use Rattle.data_rows.specs.declared.Next.{Next}
 use Rattle.data_rows.specs.declared.Counts.{Counts}
-use Rattle.data_rows.specs.Data.{Keeping, ItemsPrinted, PrintTables, NameTask, firstItems, nameItems}
+use Rattle.data_rows.specs.Data.{PrintKept, ItemsPrinted, PrintTables, NameTask, firstItems, nameItems}
 use Rattle.data_rows.proofs.Kept.{keeping-first, keeping-outside, var-still, tabled-still, places-still, logged-still, first-still}
 use Rattle.data_rows.proofs.Printed.{printed-as, printed-none, printed-then}
 
@@ -33,7 +31,7 @@ use Rattle.data_rows.proofs.Printed.{printed-as, printed-none, printed-
 
 module _ {s t u : Bytes} {c : Counts} where
   -- while items are printed
-  pub held-printed : {xs : List Item} {p q : Next} {d e : Bytes} → PrintTables s t c (p .keys) → Keeping t u → ItemsPrinted s xs p q t u d e → PrintTables s u c (q .keys)
+  pub held-printed : {xs : List Item} {p q : Next} {d e : Bytes} → PrintTables s t c (p .keys) → PrintKept t u → ItemsPrinted s xs p q t u d e → PrintTables s u c (q .keys)
   held-printed {xs} h k l = record {
     log = logged-still k (h .log);
     places = tabled-still k (h .places);
@@ -93,7 +91,7 @@ pub record Naming (s t : Bytes) (c : Counts) (r : ℕ) (x : First) (count : ℕ)
   pub printed : ItemsPrinted s done p q t u d e
   pub rest : done ++ nameItems (typeOn s r) (placesIn s t (c .globals)) (initIn t x) (namesFrom s r count j) ≡ nameItems (typeOn s r) (placesIn s t (c .globals)) (initIn t x) (namesOn s r)
 
-module _ {s t : Bytes} {c : Counts} {r : ℕ} {x : First} {p : Next} (k : NameTask s t c x (p .keys)) (l : VarLine s t (c .lines) r) {count : ℕ} (hc : count ≡ Number.numberUpTo 65536 (getD (readAt s (r - 1) .fields) 2 [])) where
+module _ {s t : Bytes} {c : Counts} {r : ℕ} {x : First} {p : Next} (k : NameTask s t c x (p .keys)) (l : VarLine s t (c .lines) r) {count : ℕ} (hc : count ≡ length (namesOn s r)) where
   pub naming-start : {q : Next} {d e : Bytes} → Wrote d (p .at) [] e (q .at) → q .keys ≡ p .keys → Naming s t c r x count q e t e q 0
   naming-start {q} {d} {e} w h = record {
     task = rw h k;
@@ -104,7 +102,7 @@ module _ {s t : Bytes} {c : Counts} {r : ℕ} {x : First} {p : Next} (k : NameTa
     long = refl;
     done = [];
     printed = printed-none (wrote-none e (q .at) (omega (arith, w .place, wrote-length w))) refl;
-    rest = ap (nameItems (typeOn s r) (placesIn s t (c .globals)) (initIn t x)) (names-all s t (c .lines) r l hc);
+    rest = ap (nameItems (typeOn s r) (placesIn s t (c .globals)) (initIn t x)) (names-all s r hc);
   }
 
 module _ {s t : Bytes} {c : Counts} {r : ℕ} {x : First} {count : ℕ} {p : Next} {d u e : Bytes} {q : Next} {j : ℕ} (m : Naming s t c r x count p d u e q j) where

@@ -1,7 +1,7 @@
 -- The items of lines, one after the other.
 use mathlib.Core.Path.{_≡_, refl, sym, ap, _∙_, subst}
-use mathlib.Core.List.{List, [], _∷_, _++_, append-nil}
-use Prim.Native.Nat.{ℕ, zero, suc, _+_, _-_, _≤_, _<_}
+use mathlib.Core.List.{List, [], _++_, append-nil}
+use Prim.Native.Nat.{ℕ, _+_, _-_, _≤_, _<_}
 use native.Mathlib.Numerals.{add-one}
 use native.Mathlib.Omega.{arith}
 use lib.ListN.{length}
@@ -20,18 +20,18 @@ use Rattle.source.specs.Walk.{openAt}
 use Rattle.implement.specs.Modules.{moduleAt, Open}
 use Rattle.names.specs.Table.{logIn, namesIn}
 use Rattle.literals.proofs.Names.{kept-low}
-use Rattle.global_table.specs.Table.{VarLine, placesIn, typeOn, namesOn}
-use Rattle.globals.specs.Vars.{locatedAt, laidAt, laidVarsTo, varItems, lineItems}
+use Rattle.global_table.specs.Table.{VarLine, varOn, placesIn, typeOn, namesOn}
+use Rattle.globals.specs.Vars.{laidAt, laidOn, laidVarsTo, varItems, lineItems}
+use Rattle.globals.proofs.Laid.{laid-on}
 use Rattle.items.specs.Items.{itemRows}
 use Rattle.type_keys.specs.Table.{Kinds}
 use Rattle.type_keys.proofs.Table.{kinds-kept}
 use Rattle.vars.specs.declared.First.{First}
-use Rattle.vars.specs.First.{initIn, Inits, varOn}
-use Rattle.vars.specs.Lines.{laidOn}
+use Rattle.vars.specs.First.{initIn, Inits}
 use Rattle.vars.proofs.Items.{items-all}
 use Rattle.data_rows.specs.declared.Next.{Next}
 use Rattle.data_rows.specs.declared.Counts.{Counts}
-use Rattle.data_rows.specs.Data.{itemsIn, keysOf, rowsOf, DataTables, Keeping, ItemsPrinted, PrintTables, NameTask, nameItems}
+use Rattle.data_rows.specs.Data.{itemsIn, keysOf, rowsOf, DataTables, PrintKept, ItemsPrinted, PrintTables, NameTask, nameItems}
 use Rattle.data_rows.proofs.Kept.{keeping-all, keeping-then, keeping-first, keeping-outside, checked-still, places-still, log-still}
 use Rattle.data_rows.proofs.Keys.{kinds-few}
 use Rattle.data_rows.proofs.Printed.{printed-as, printed-none, printed-then}
@@ -40,8 +40,7 @@ use Rattle.data_rows.proofs.Names.{held-printed, held-first}
 -- ---- the items of a `var` line
 
 var-items : (s : Bytes) (r : ℕ) → 0 < r → (ns : Names) (ps : List Global) → varItems ns ps (varOn s r) ≡ lineItems ns ps (laidOn s r)
-var-items s zero h ns ps = absurd (omega arith)
-var-items s (suc i) h ns ps = let z : suc i - 1 ≡ i = omega arith in sym (append-nil (varItems ns ps (varOn s (suc i)))) ∙ ap (λ (j : ℕ). lineItems ns ps (locatedAt s j ∷ [])) z
+var-items s r h ns ps = sym (append-nil (varItems ns ps (varOn s r))) ∙ ap (lineItems ns ps) (sym (laid-on s r h))
 
 module _ {s t u : Bytes} {c : Counts} {r : ℕ} {x : First} {keys : ℕ} (h : PrintTables s t c keys) (l : VarLine s t (c .lines) r)
     (a : Inits t (initOf (namesIn s t (c .consts)) (varOn s r .ty) (varOn s r .init)) x u)
@@ -50,7 +49,7 @@ module _ {s t u : Bytes} {c : Counts} {r : ℕ} {x : First} {keys : ℕ} (h : Pr
     line-task = record { held = held-first h (a .keeps); stands = a .stands }
 
     pub line-items : {p q : Next} {v d e : Bytes} → ItemsPrinted s (nameItems (typeOn s r) (placesIn s u (c .globals)) (initIn u x) (namesOn s r)) p q u v d e × Outside 10624 10629 u v
-        → ItemsPrinted s (lineItems (namesIn s t (c .consts)) (placesIn s t (c .globals)) (laidOn s r)) p q t v d e × Keeping t v
+        → ItemsPrinted s (lineItems (namesIn s t (c .consts)) (placesIn s t (c .globals)) (laidOn s r)) p q t v d e × PrintKept t v
     line-items b =
         let i : nameItems (typeOn s r) (placesIn s u (c .globals)) (initIn u x) (namesOn s r) ≡ varItems (namesIn s t (c .consts)) (placesIn s t (c .globals)) (varOn s r) =
         ap (λ (ps : List Global). nameItems (typeOn s r) ps (initIn u x) (namesOn s r)) (places-still (keeping-first (a .keeps)) s (h .places))
@@ -59,7 +58,7 @@ module _ {s t u : Bytes} {c : Counts} {r : ℕ} {x : First} {keys : ℕ} (h : Pr
         let k = kept-low (a .keeps) 10629 (omega arith) in
         (record { rows = λ bs cs y. w .rows bs cs (kinds-kept k y); kinds = λ bs y. w .kinds bs (kinds-kept k y) }, keeping-then (keeping-first (a .keeps)) (keeping-outside (b .1)))
 
-pub none-laid : (s : Bytes) (ns : Names) (ps : List Global) {r : ℕ} → r ≡ 0 → {p q : Next} {t d e : Bytes} → Wrote d (p .at) [] e (q .at) → q .keys ≡ p .keys → ItemsPrinted s (lineItems ns ps (laidOn s r)) p q t t d e × Keeping t t
+pub none-laid : (s : Bytes) (ns : Names) (ps : List Global) {r : ℕ} → r ≡ 0 → {p q : Next} {t d e : Bytes} → Wrote d (p .at) [] e (q .at) → q .keys ≡ p .keys → ItemsPrinted s (lineItems ns ps (laidOn s r)) p q t t d e × PrintKept t t
 none-laid s ns ps z w k = (printed-as (ap (λ (j : ℕ). lineItems ns ps (laidOn s j)) (sym z)) (printed-none w k), keeping-all)
 
 -- ---- all lines
@@ -68,7 +67,7 @@ none-laid s ns ps z w k = (printed-as (ap (λ (j : ℕ). lineItems ns ps (laidOn
 pub record Walking (s t : Bytes) (c : Counts) (p : Next) (d u e : Bytes) (q : Next) (k i : ℕ) : Type 0 where
   pub here : Open s u (c .lines) i k
   pub held : PrintTables s u c (q .keys)
-  pub keeping : Keeping t u
+  pub keeping : PrintKept t u
   pub names : logIn s u (c .consts) ≡ logIn s t (c .consts)
   pub places : placesIn s u (c .globals) ≡ placesIn s t (c .globals)
   pub long : length e ≡ length d
@@ -91,7 +90,7 @@ module _ {s t : Bytes} {c : Counts} {keys : ℕ} (r : DataTables s t c keys) whe
   }
 
   module _ {p q : Next} {d u e : Bytes} {k i : ℕ} (w : Walking s t c p d u e q k i) where
-    module _ (l : ℕ) (y : laidOn s l ≡ laidAt s i) {z : Next} {v f : Bytes} (a : ItemsPrinted s (lineItems (namesIn s u (c .consts)) (placesIn s u (c .globals)) (laidOn s l)) q z u v e f × Keeping u v) where
+    module _ (l : ℕ) (y : laidOn s l ≡ laidAt s i) {z : Next} {v f : Bytes} (a : ItemsPrinted s (lineItems (namesIn s u (c .consts)) (placesIn s u (c .globals)) (laidOn s l)) q z u v e f × PrintKept u v) where
       pub walk-open : Open s v (c .lines) i k
       walk-open = record { checked = checked-still (a .1) (w .here .checked); within = w .here .within; low = w .here .low; here = w .here .here }
 

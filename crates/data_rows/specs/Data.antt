@@ -59,7 +59,7 @@ pub record ItemsPrinted (s : Bytes) (xs : List Item) (p q : Next) (t u d e : Byt
   pub kinds : (before : List Item) → Kinds t (keysOf s before) (p .keys) → Kinds u (keysOf s (before ++ xs)) (q .keys)
 
 -- what stands below the positions of kinds of elements, and the constants' strings, are kept
-pub record Keeping (t u : Bytes) : Type 0 where
+pub record PrintKept (t u : Bytes) : Type 0 where
   pub below : Kept 10624 t u
   pub strings : (j : ℕ) → 16384 ≤ j → j < 49152 → getD u j 0 ≡ getD t j 0
 

@@ -1,5 +1,6 @@
 // The `dat` rows of a sheet's data items, with IDs for the keys of array elements.
 use codes::element;
+use global_table::line;
 use names::Known;
 use vars::First;
 ghost use mathlib.Core.Path.{_≡_};
@@ -10,17 +11,15 @@ ghost use Rattle.semantics.specs.Text.{Bytes};
 ghost use Rattle.semantics.specs.Tree.{Ty};
 ghost use Rattle.semantics.specs.Tree.ElemKind.{kBig};
 ghost use Rattle.semantics.specs.Sheet.{sheetSource};
-ghost use Rattle.semantics.specs.Array.{kindNumber, isOfKind};
+ghost use Rattle.semantics.specs.Array.{isOfKind};
 ghost use Rattle.write.specs.Wrote.{Wrote};
 ghost use Rattle.checks.specs.Checks.{Kept, Outside};
 ghost use Rattle.names.specs.Table.{namesIn};
-ghost use Rattle.arrays.specs.Arrays.{kindOfNumber};
 ghost use Rattle.global_table.specs.Table.{VarLine, typeOn, namesOn, placesIn};
-ghost use Rattle.globals.specs.Vars.{lineItems};
+ghost use Rattle.globals.specs.Vars.{laidOn, MayLay, lineItems};
 ghost use Rattle.type_keys.specs.Table.{Kinds};
 ghost use Rattle.vars.specs.First.{initIn, FirstStands};
-ghost use Rattle.vars.specs.Lines.{laidOn, MayLay};
-ghost use Rattle.data_rows.specs.Data.{itemsIn, keysOf, rowsOf, DataTables, Identified, Keeping, ItemsPrinted, Keyed, PrintTables, NameTask, firstItems, nameItems};
+ghost use Rattle.data_rows.specs.Data.{itemsIn, keysOf, rowsOf, DataTables, Identified, PrintKept, ItemsPrinted, Keyed, PrintTables, NameTask, firstItems, nameItems};
 
 // Where the next row goes, and how many keys have an ID.
 pub struct Next {
@@ -53,18 +52,7 @@ fn is_big(sheet: &[u8], work: &[u8], n: usize, r: usize) -> bool
     requires { ⌜ VarLine (now sheet) (now work) n r ⌝ }
     ensures { λ b. ⌜ isOfKind kBig (typeOn (now (sheet .entry)) r) ≡ b ⌝ }
 {
-    let ty = lines::number_at(sheet, work, n, r - 1, 0);
-    arrays::elem_kind(sheet, work, n, ty) == element::BIG
-}
-
-// The number of a kind of elements, from 0 to 4.
-fn kind_number(kind: u8) -> u8
-    ensures { λ k. ⌜ (k ≡ kindNumber (kindOfNumber kind)) × (k < 5) ⌝ }
-{
-    if kind < element::POINTER {
-        return kind;
-    }
-    element::POINTER
+    arrays::elem_kind(sheet, work, n, line::type_of(sheet, work, n, r)) == element::BIG
 }
 
 // Nothing is written; a place past the end becomes one past it.
@@ -90,8 +78,6 @@ fn element_id(work: &mut [u8], frames: usize, kind: u8, keys: usize) -> ElementI
     }
 }
 
-// ---- one first value, at an offset
-
 // The rows of a first value at an offset.
 fn first_rows(work: &mut [u8], frames: usize, off: usize, x: Held, out: &mut [u8], p: Next) -> Next
     requires { ⌜ (Keyed (now work) frames (p .keys)) × (FirstStands (now work) (x .first)) ⌝ }
@@ -105,17 +91,16 @@ fn first_rows(work: &mut [u8], frames: usize, off: usize, x: Held, out: &mut [u8
             keys: p.keys,
         },
         First::Alloc(kind, n) => {
-            let e = element_id(work, frames, kind_number(kind), p.keys);
+            let e = element_id(work, frames, kind, p.keys);
             Next {
                 at: items::alloc_item(out, p.at, off, e.id, n as u64),
                 keys: e.keys,
             }
         }
         First::Literal(kind, n) => {
-            let k = kind_number(kind);
-            let e = element_id(work, frames, k, p.keys);
+            let e = element_id(work, frames, kind, p.keys);
             Next {
-                at: items::array_items(work, out, p.at, off, e.id, k, n),
+                at: items::array_items(work, out, p.at, off, e.id, kind, n),
                 keys: e.keys,
             }
         }
@@ -123,8 +108,6 @@ fn first_rows(work: &mut [u8], frames: usize, off: usize, x: Held, out: &mut [u8
         First::Refused(_) => no_rows(out, p),
     }
 }
-
-// ---- lines
 
 // The rows of a name; `nil` has none.
 fn name_rows(
@@ -139,7 +122,7 @@ fn name_rows(
     requires { ⌜ NameTask (now sheet) (now work) c (x .first) (p .keys) ⌝ }
     ensures { λ q. ⌜ ((ty : Ty) → isOfKind kBig ty ≡ x .big → ItemsPrinted (now (sheet .entry)) (nameItems ty (placesIn (now (sheet .entry)) (now (work .entry)) (c .globals)) (initIn (now (work .entry)) (x .first)) (now (name .entry) ∷ [])) p q (now (work .entry)) (now (work .exit)) (now (out .entry)) (now (out .exit))) × (Outside 10624 10629 (now (work .entry)) (now (work .exit))) ⌝ }
 {
-    if words::same(name, b"nil") {
+    if line::is_nil(name) {
         return no_rows(out, p);
     }
     let off = global_table::offset_in(sheet, work, c.lines, c.globals, name);
@@ -159,11 +142,11 @@ fn names_rows(
     requires { ⌜ (NameTask (now sheet) (now work) c (x .first) (p .keys)) × (VarLine (now sheet) (now work) (c .lines) r) × (isOfKind kBig (typeOn (now sheet) r) ≡ x .big) ⌝ }
     ensures { λ q. ⌜ (ItemsPrinted (now (sheet .entry)) (nameItems (typeOn (now (sheet .entry)) r) (placesIn (now (sheet .entry)) (now (work .entry)) (c .globals)) (initIn (now (work .entry)) (x .first)) (namesOn (now (sheet .entry)) r)) p q (now (work .entry)) (now (work .exit)) (now (out .entry)) (now (out .exit))) × (Outside 10624 10629 (now (work .entry)) (now (work .exit))) ⌝ }
 {
-    let count = lines::number_at(sheet, work, c.lines, r - 1, 2);
+    let count = line::name_count(sheet, work, c.lines, r);
     let mut q = no_rows(out, p);
     let mut j = 0;
     while j < count {
-        let name = lines::field_at(sheet, work, c.lines, r - 1, 3 + j);
+        let name = line::name_at(sheet, work, c.lines, r, j);
         q = name_rows(sheet, work, c, name, x, out, q);
         j += 1;
     }
@@ -173,7 +156,7 @@ fn names_rows(
 // The rows of the `var` line r, none where r is 0. Its first value stands in the working space while they are printed.
 fn line_rows(sheet: &[u8], work: &mut [u8], c: Counts, r: usize, out: &mut [u8], p: Next) -> Next
     requires { ⌜ (PrintTables (now sheet) (now work) c (p .keys)) × (MayLay (now sheet) (now work) (c .lines) r) ⌝ }
-    ensures { λ q. ⌜ (ItemsPrinted (now (sheet .entry)) (lineItems (namesIn (now (sheet .entry)) (now (work .entry)) (c .consts)) (placesIn (now (sheet .entry)) (now (work .entry)) (c .globals)) (laidOn (now (sheet .entry)) r)) p q (now (work .entry)) (now (work .exit)) (now (out .entry)) (now (out .exit))) × (Keeping (now (work .entry)) (now (work .exit))) ⌝ }
+    ensures { λ q. ⌜ (ItemsPrinted (now (sheet .entry)) (lineItems (namesIn (now (sheet .entry)) (now (work .entry)) (c .consts)) (placesIn (now (sheet .entry)) (now (work .entry)) (c .globals)) (laidOn (now (sheet .entry)) r)) p q (now (work .entry)) (now (work .exit)) (now (out .entry)) (now (out .exit))) × (PrintKept (now (work .entry)) (now (work .exit))) ⌝ }
 {
     if r == 0 {
         return no_rows(out, p);
@@ -199,7 +182,7 @@ pub fn data_rows(sheet: &[u8], work: &mut [u8], c: Counts, out: &mut [u8], p: Ne
     let mut k = 0;
     let mut i = 0;
     while i < c.lines {
-        let r = vars::laid_line(sheet, work, c.lines, i, k);
+        let r = globals::laid_line(sheet, work, c.lines, i, k);
         q = line_rows(sheet, work, c, r, out, q);
         k = implement::open_after(sheet, work, c.lines, i, k);
         i += 1;

@@ -2,20 +2,16 @@
 use mathlib.Core.Path.{_≡_, refl, sym, ap, _∙_}
 use mathlib.Core.Bool.{Bool}
 use mathlib.Core.List.{List, [], _∷_, _++_, append-assoc, append-nil}
-use Prim.Native.Nat.{ℕ, _+_, _-_, _<_}
-use lib.ListN.{getD}
+use Prim.Native.Nat.{ℕ, _+_}
 use Rattle.semantics.specs.Text.{Bytes, bytes, decimal}
+use Rattle.semantics.specs.Tree.{Ty}
 use Rattle.semantics.specs.Layout.{isPtr}
 use Rattle.semantics.specs.Sheet.{concatMap}
 use Rattle.semantics.specs.Global.{Global, globalSize}
 use Rattle.semantics.specs.Listing.{row, flag, globalRow}
-use Rattle.decimal.specs.Number as Number
-use Rattle.lines.specs.Lines.{readAt}
 use Rattle.write.specs.Wrote.{Wrote}
 use Rattle.write.proofs.Wrote.{then, wrote-as}
-use Rattle.sizes.specs.Sizes.{typeAt, TypeLine}
-use Rattle.global_table.specs.Table.{VarLine, lineOf, offsetOf, entryAt, placesIn, GlobalEntry}
-use Rattle.global_table.proofs.Line.{var-in, type-line, type-on}
+use Rattle.global_table.specs.Table.{typeOn, lineOf, offsetOf, entryAt, placesIn}
 use Rattle.global_table.proofs.Table.{places-more}
 
 pub row-is : (e : Global) {x : Bytes} {off size : ℕ} {b : Bool} → x ≡ e .name → off ≡ e .offset → size ≡ globalSize (e .ty) → b ≡ isPtr (e .ty)
@@ -27,21 +23,10 @@ pub entry-offset : (s t : Bytes) (i : ℕ) → offsetOf t i ≡ entryAt s t i .o
 unfolding entryAt
 entry-offset s t i = refl
 
--- the `var` line of an entry, and its type
-module _ (s t : Bytes) (n i : ℕ) (d : GlobalEntry s t n i) (r : ℕ) (hr : r ≡ lineOf t i) where
-  entry-line : VarLine s t n r
-  entry-line = rw hr (d .line)
-
-  pub entry-in : (0 < r) × (r - 1 < n)
-  entry-in = (entry-line .first, var-in s t n r entry-line)
-
-  module _ (v : ℕ) (hv : v ≡ Number.numberUpTo 65536 (getD (readAt s (r - 1) .fields) 0 [])) where
-    pub entry-type-line : TypeLine s t n v
-    entry-type-line = type-line s t n r entry-line v hv
-
-    pub entry-type : typeAt s v ≡ entryAt s t i .ty
-    unfolding entryAt
-    entry-type = type-on s t n r entry-line v hv ∙ rw hr
+-- the type of an entry's `var` line
+pub entry-type : (s t : Bytes) (i : ℕ) {r : ℕ} {x : Ty} → r ≡ lineOf t i → x ≡ typeOn s r → x ≡ entryAt s t i .ty
+unfolding entryAt
+entry-type s t i hr e = e ∙ rw hr
 
 concat-more : (xs : List Global) (y : Global) → concatMap globalRow (xs ++ (y ∷ [])) ≡ concatMap globalRow xs ++ globalRow y
 concat-more [] y = append-nil (globalRow y)

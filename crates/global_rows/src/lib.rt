@@ -1,5 +1,6 @@
 // The `glo` rows of globals.
 use global_table::global_size;
+use global_table::line;
 use global_table::line_of;
 use global_table::name_of;
 use global_table::offset_of;
@@ -18,14 +19,13 @@ fn global_row(sheet: &[u8], work: &[u8], n: usize, i: usize, out: &mut [u8], at:
     requires { ⌜ GlobalEntry (now sheet) (now work) n i ⌝ }
     ensures { λ r. ⌜ Wrote (now (out .entry)) at (globalRow (entryAt (now (sheet .entry)) (now (work .entry)) i)) (now (out .exit)) r ⌝ }
 {
-    let line = line_of(work, i);
-    let ty = lines::number_at(sheet, work, n, line - 1, 0);
-    let name = put_part(out, at, b"glo");
-    let offset = put_comma_part(out, name, name_of(sheet, work, n, i));
-    let size = put_comma_nat(out, offset, offset_of(work, i) as u64);
-    let flag = put_comma_nat(out, size, global_size(sheet, work, n, ty) as u64);
-    let end = put_comma_flag(out, flag, sizes::is_pointer(sheet, work, n, ty));
-    put_lf(out, end)
+    let ty = line::type_of(sheet, work, n, line_of(work, i));
+    let mut p = put_part(out, at, b"glo");
+    p = put_comma_part(out, p, name_of(sheet, work, n, i));
+    p = put_comma_nat(out, p, offset_of(work, i) as u64);
+    p = put_comma_nat(out, p, global_size(sheet, work, n, ty) as u64);
+    p = put_comma_flag(out, p, sizes::is_pointer(sheet, work, n, ty));
+    put_lf(out, p)
 }
 
 // The rows of all g entries.

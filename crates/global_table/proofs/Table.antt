@@ -12,9 +12,9 @@ use Rattle.semantics.specs.Text.{Bytes, same, orElse}
 use Rattle.semantics.specs.Global.{Global, placeOf}
 use Rattle.words.specs.Words.{digest, u16At}
 use Rattle.words.proofs.Laws.{digest-apart}
-use Rattle.checks.specs.Checks.{Checked, Kept}
-use Rattle.checks.proofs.Kept.{kept-all, kept-then, kept-less, kept-at, checked-kept, kind-line-kept}
-use Rattle.global_table.specs.Table.{VarLine, lineOf, positionOf, offsetOf, digestOf, globalEntered, entryAt, entriesFrom, placesIn, GlobalEntry, Tabled, offsetBy, numberFrom, entryNumber, Around}
+use Rattle.checks.specs.Checks.{Checked, Kept, Outside}
+use Rattle.checks.proofs.Kept.{kept-less, kept-at, checked-kept, kind-line-kept}
+use Rattle.global_table.specs.Table.{VarLine, lineOf, positionOf, offsetOf, digestOf, globalEntered, entryAt, entriesFrom, placesIn, GlobalEntry, Tabled, offsetBy, numberFrom, entryNumber}
 
 -- ---- a run of stores
 
@@ -105,10 +105,10 @@ module _ (t : Bytes) (i line position offset d : ℕ) (hi : i < 256) (hl : line 
     unfolding entryAt
     entry-old s = rw (line-old, position-old, offset-old)
 
-  pub around-entered : Around t (globalEntered t i line position offset d)
+  pub outside-entered : Outside 7168 9216 t (globalEntered t i line position offset d)
   unfolding globalEntered cells
-  around-entered = record {
-    below = record { below = sets-below t (7168 + 8 * i) cells 7168 (omega arith); long = length-sets t (7168 + 8 * i) cells };
+  outside-entered = record {
+    kept = record { below = sets-below t (7168 + 8 * i) cells 7168 (omega arith); long = length-sets t (7168 + 8 * i) cells };
     above = sets-above t (7168 + 8 * i) cells 9216 (omega arith);
   }
 
@@ -188,17 +188,11 @@ offset-found t (suc p) o e z = let q : suc p - 1 ≡ p = omega arith in rw (← 
 
 -- ---- what is kept
 
-pub around-all : {t : Bytes} → Around t t
-around-all = record { below = kept-all; above = refl }
+pub checked-outside : {s t u : Bytes} {n : ℕ} → Outside 7168 9216 t u → Checked s t n → Checked s u n
+checked-outside a c = checked-kept (kept-less (omega arith) (a .kept)) c
 
-pub around-then : {t u v : Bytes} → Around t u → Around u v → Around t v
-around-then a b = record { below = kept-then (a .below) (b .below); above = b .above ∙ a .above }
-
-pub checked-around : {s t u : Bytes} {n : ℕ} → Around t u → Checked s t n → Checked s u n
-checked-around a c = checked-kept (kept-less (omega arith) (a .below)) c
-
-pub var-around : {s t u : Bytes} {n r : ℕ} → Around t u → VarLine s t n r → VarLine s u n r
-var-around a l = kind-line-kept (kept-less (omega arith) (a .below)) l
+pub var-outside : {s t u : Bytes} {n r : ℕ} → Outside 7168 9216 t u → VarLine s t n r → VarLine s u n r
+var-outside a l = kind-line-kept (kept-less (omega arith) (a .kept)) l
 
 -- ---- the table stays where all that stands up to its end is kept
 

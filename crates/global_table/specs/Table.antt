@@ -6,14 +6,14 @@ use mathlib.Core.Path.{_≡_}
 use mathlib.Core.Bool.{cond}
 use mathlib.Core.List.{List, [], _∷_}
 use mathlib.Core.Option.{Option, none, some}
-use lib.ListN.{drop, getD}
+use lib.ListN.{getD}
 use lib.Seq.{sets}
 use Rattle.semantics.specs.Text.{Bytes, orElse, same}
-use Rattle.semantics.specs.Tree.{Ty}
+use Rattle.semantics.specs.Tree.{Ty, VarDecl}
 use Rattle.semantics.specs.Global.{Global, placeOf}
 use Rattle.lines.specs.Lines.{readAt, nodesIn}
 use Rattle.words.specs.Words.{digest, u16At}
-use Rattle.checks.specs.Checks.{Checked, Kept, KindLine}
+use Rattle.checks.specs.Checks.{Checked, KindLine}
 use Rattle.source.specs.Walk.{varOf}
 
 -- ---- a `var` line: the type's line, the value's, and a count with as many names
@@ -22,15 +22,18 @@ use Rattle.source.specs.Walk.{varOf}
 abbrev pub VarLine : Bytes → Bytes → ℕ → ℕ → Type 0
 VarLine s t n r = KindLine 72 s t n r
 
--- name j, the type and the names of line r
+-- what line r declares: its name j, its type, its names
+abbrev pub varOn : Bytes → ℕ → VarDecl
+varOn s r = varOf (nodesIn s) (readAt s (r - 1) .fields)
+
 abbrev pub nameOn : Bytes → ℕ → ℕ → Bytes
 nameOn s r j = getD (readAt s (r - 1) .fields) (3 + j) []
 
 abbrev pub typeOn : Bytes → ℕ → Ty
-typeOn s r = varOf (nodesIn s) (readAt s (r - 1) .fields) .ty
+typeOn s r = varOn s r .ty
 
 abbrev pub namesOn : Bytes → ℕ → List Bytes
-namesOn s r = varOf (nodesIn s) (readAt s (r - 1) .fields) .names
+namesOn s r = varOn s r .names
 
 -- ---- the table
 
@@ -90,8 +93,3 @@ entryNumber x ps = numberFrom 1 x ps
 -- where a name lies among places, 0 where it has none
 abbrev pub offsetIn : Bytes → List Global → ℕ
 offsetIn x ps = orElse 0 (placeOf x ps)
-
--- what stands outside the table is kept
-pub record Around (t u : Bytes) : Type 0 where
-  pub below : Kept 7168 t u
-  pub above : drop 9216 u ≡ drop 9216 t

@@ -1,4 +1,6 @@
 // The table of globals in the working space: for each a name of a `var` line, and its offset.
+pub mod line;
+
 use codes::area;
 ghost use mathlib.Core.Path.{_≡_};
 ghost use Prim.Native.Nat.{_≤_, _<_};
@@ -60,8 +62,7 @@ pub fn name_of<'a>(sheet: &'a [u8], work: &[u8], n: usize, i: usize) -> &'a [u8]
     requires { ⌜ GlobalEntry (now sheet) (now work) n i ⌝ }
     ensures { λ r. ⌜ now r ≡ entryAt (now (sheet .entry)) (now (work .entry)) i .name ⌝ }
 {
-    let r = line_of(work, i);
-    lines::field_at(sheet, work, n, r - 1, 3 + position_of(work, i))
+    line::name_at(sheet, work, n, line_of(work, i), position_of(work, i))
 }
 
 // Whether entry i has this name, which has the digest d.
@@ -76,7 +77,7 @@ fn is_named(sheet: &[u8], work: &[u8], n: usize, i: usize, name: &[u8], d: usize
 }
 
 // The number of the first entry with this name, from 1; 0 is none.
-pub fn place_of(sheet: &[u8], work: &[u8], n: usize, g: usize, name: &[u8]) -> usize
+pub fn entry_number(sheet: &[u8], work: &[u8], n: usize, g: usize, name: &[u8]) -> usize
     requires { ⌜ Tabled (now sheet) (now work) n g ⌝ }
     ensures { λ r. ⌜ (offsetBy (now (work .entry)) r ≡ placeOf (now (name .entry)) (placesIn (now (sheet .entry)) (now (work .entry)) g)) × (r ≤ g) × (r ≡ entryNumber (now (name .entry)) (placesIn (now (sheet .entry)) (now (work .entry)) g)) ⌝ }
 {
@@ -96,11 +97,11 @@ pub fn offset_in(sheet: &[u8], work: &[u8], n: usize, g: usize, name: &[u8]) -> 
     requires { ⌜ Tabled (now sheet) (now work) n g ⌝ }
     ensures { λ r. ⌜ (r ≡ offsetIn (now (name .entry)) (placesIn (now (sheet .entry)) (now (work .entry)) g)) × (r < 65536) ⌝ }
 {
-    let p = place_of(sheet, work, n, g, name);
-    if p == 0 {
+    let e = entry_number(sheet, work, n, g, name);
+    if e == 0 {
         return 0;
     }
-    offset_of(work, p - 1)
+    offset_of(work, e - 1)
 }
 
 // The bytes that a global of the type of line r takes.

@@ -1,6 +1,5 @@
 -- Laws of the walk over the lines.
 use mathlib.Core.Path.{_≡_, refl, sym, ap, _∙_}
-use mathlib.Core.Bool.{Bool, true, false}
 use mathlib.Core.List.{List, [], _∷_, _++_}
 use Prim.Native.Nat.{ℕ, zero, suc, _+_, _-_, _≤_, _<_}
 use native.Mathlib.Numerals.{add-one}
@@ -9,58 +8,54 @@ use lib.ListN.{length}
 use Rattle.semantics.specs.Text.{Bytes}
 use Rattle.semantics.specs.Tree.{VarDecl, Declares}
 use Rattle.semantics.specs.Form.{letter}
-use Rattle.semantics.specs.Sheet.{declared, sheetSource}
+use Rattle.semantics.specs.Sheet.{Located, declared, sheetSource}
 use Rattle.semantics.specs.Refusal.{sumOf}
 use Rattle.semantics.specs.Fold.{Names}
 use Rattle.semantics.specs.Global.{globals}
-use Rattle.lines.specs.Lines.{readAt, nodesIn, formAt}
+use Rattle.lines.specs.Lines.{readAt, nodesIn}
 use Rattle.refs.proofs.Nodes.{node-count}
-use Rattle.checks.specs.Checks.{Checked, Kept}
+use Rattle.checks.specs.Checks.{Checked, Kept, Outside}
 use Rattle.source.specs.Walk.{declaresAt, openAt, declaredTo, locatedTo, byKind}
 use Rattle.source.proofs.Walk.{declared-all}
 use Rattle.source.proofs.Declares.{line-declares}
-use Rattle.implement.specs.Modules.{moduleAt, isOwn, Open}
-use Rattle.implement.proofs.Modules.{own-open}
+use Rattle.implement.specs.Modules.{moduleAt, Open}
 use Rattle.globals.specs.declared.Globals.{Globals}
-use Rattle.globals.specs.Laying.{Allocation, allocationOf, layNames, layVars, laidTo}
-use Rattle.global_table.specs.Table.{VarLine, typeOn, namesOn, entriesFrom, Around}
-use Rattle.globals.specs.Collect.{allocationIn, PlacesEntered, PlacesLaid, namesAt, namesTo, layLine, GlobalsCollected}
-use Rattle.globals.proofs.Laying.{laid-all, laid-next}
-use Rattle.global_table.proofs.Line.{kind-other, kind-var}
-use Rattle.global_table.proofs.Table.{places-count, checked-around, places-kept, tabled-kept}
+use Rattle.globals.specs.Allocation.{Allocation, allocationOf, layNames, layVars, laidTo}
+use Rattle.global_table.specs.Table.{VarLine, typeOn, namesOn, entriesFrom}
+use Rattle.globals.specs.Collect.{allocationIn, PlacesEntered, PlacesLaid, namesAt, namesTo, layLines, layLine, GlobalsCollected}
+use Rattle.globals.specs.Vars.{laidAt, laidOn}
+use Rattle.globals.proofs.Allocation.{laid-all, laid-next}
+use Rattle.global_table.proofs.Table.{places-count, checked-outside, places-kept, tabled-kept}
 use Rattle.globals.proofs.Declare.{laid-same, laid-then}
+use Rattle.globals.proofs.Laid.{laid-on, laid-number}
 
 -- ---- one line
 
-module _ (s t : Bytes) (n i k : ℕ) (g : Globals) (st : PlacesEntered s t n g) (o : Open s t n i k) (h : i < n) (f : ℕ) (hf : f ≡ formAt t i) where
-  pub line-other : (f ≡ 29 → ⊥) → PlacesLaid s t t n (layLine s i (allocationIn s t g)) g (g .count + namesAt s i)
-  unfolding layLine
-  line-other z = laid-same st (rw (kind-other s t n (o .checked .whole) i h hf z)) (omega arith)
+-- r is 0 or the number of line i
+module _ (s t : Bytes) (n i k : ℕ) (g : Globals) (st : PlacesEntered s t n g) (o : Open s t n i k) (h : i < n) (r : ℕ) (e : laidOn s r ≡ laidAt s i) where
+  pub line-none : r ≡ 0 → PlacesLaid s t t n (layLine s i (allocationIn s t g)) g (g .count + namesAt s i)
+  unfolding layLine layLines
+  line-none z = laid-same st (ap (λ (vs : List (Located VarDecl)). layLines vs (allocationIn s t g)) (ap (laidOn s) (sym z) ∙ e)) (omega arith)
 
-  module _ (e : f ≡ 29) where
-    is-var : letter (readAt s i .form .kind) ≡ 72
-    is-var = kind-var s t n (o .checked .whole) i h hf e
-
-    pub line-var : VarLine s t n (i + 1)
-    line-var = let z : i + 1 - 1 ≡ i = omega arith in record { checked = o .checked; first = omega arith; last = omega arith; kind = rw z is-var }
-
-    names-are : namesAt s i ≡ length (namesOn s (i + 1))
+  module _ (l : VarLine s t n r) where
+    names-are : namesAt s i ≡ length (namesOn s r)
     unfolding namesAt byKind
     names-are =
-        let z : i + 1 - 1 ≡ i = omega arith in
-        ap (λ (d : Declares). sumOf (λ (v : VarDecl). length (v .names)) (d .vars)) (line-declares s t n (o .checked) i h) ∙ rw (is-var, z) (omega arith)
+        let z : r - 1 ≡ i = laid-number s i r (l .first) e in
+        let v : letter (readAt s i .form .kind) ≡ 72 = rw z at (l .kind) in
+        ap (λ (d : Declares). sumOf (λ (v : VarDecl). length (v .names)) (d .vars)) (line-declares s t n (o .checked) i h) ∙ rw (v, z) (omega arith)
 
-    pub line-room : g .count + namesAt s i ≤ 256 → g .count + length (namesOn s (i + 1)) ≤ 256
-    line-room l = omega (arith, names-are)
+    pub line-room : g .count + namesAt s i ≤ 256 → g .count + length (namesOn s r) ≤ 256
+    line-room q = omega (arith, names-are)
 
-    pub line-skipped : {b : Bool} → b ≡ isOwn s k → b ≡ false → PlacesLaid s t t n (layLine s i (allocationIn s t g)) g (g .count + namesAt s i)
-    unfolding layLine
-    line-skipped p q = laid-same st (rw (is-var, own-open o p, q)) (omega arith)
-
-    pub line-laid : {b : Bool} {u : Bytes} {x : Globals} → b ≡ isOwn s k → b ≡ true
-        → PlacesLaid s t u n (layNames (typeOn s (i + 1)) (namesOn s (i + 1)) (allocationIn s t g)) x (g .count + length (namesOn s (i + 1))) → PlacesLaid s t u n (layLine s i (allocationIn s t g)) x (g .count + namesAt s i)
-    unfolding layLine
-    line-laid p q l = record { standing = l .standing; around = l .around; laying = l .laying ∙ rw (is-var, own-open o p, q); most = omega (arith, l .most, names-are) }
+    pub line-laid : {u : Bytes} {x : Globals} → PlacesLaid s t u n (layNames (typeOn s r) (namesOn s r) (allocationIn s t g)) x (g .count + length (namesOn s r)) → PlacesLaid s t u n (layLine s i (allocationIn s t g)) x (g .count + namesAt s i)
+    unfolding layLine layLines
+    line-laid a = record {
+      standing = a .standing;
+      outside = a .outside;
+      allocation = a .allocation ∙ ap (λ (vs : List (Located VarDecl)). layLines vs (allocationIn s t g)) (sym (laid-on s r (l .first)) ∙ e);
+      most = omega (arith, a .most, names-are);
+    }
 
 -- ---- names of the first lines
 
@@ -88,8 +83,8 @@ module _ (s t : Bytes) (n : ℕ) (c : Checked s t n) where
 
 -- ---- all lines
 
-pub open-around : {s t u : Bytes} {n i k : ℕ} → Around t u → Open s t n i k → Open s u n i k
-open-around a o = record { checked = checked-around a (o .checked); within = o .within; low = o .low; here = o .here }
+pub open-outside : {s t u : Bytes} {n i k : ℕ} → Outside 7168 9216 t u → Open s t n i k → Open s u n i k
+open-outside a o = record { checked = checked-outside a (o .checked); within = o .within; low = o .low; here = o .here }
 
 -- the globals of the first i lines have places
 pub record Collecting (s t u : Bytes) (n : ℕ) (g : Globals) (k i : ℕ) : Type 0 where
@@ -112,12 +107,12 @@ module _ (s t : Bytes) (n : ℕ) (c : Checked s t n) where
     pub collecting-next : {v : Bytes} {x : Globals} {q : ℕ} → i < n → PlacesLaid s u v n (layLine s i (allocationIn s u g)) x (g .count + namesAt s i) → Open s v n (i + 1) q → Collecting s t v n x q (i + 1)
     collecting-next h a o =
         let b = laid-then (layLine s i) (namesAt s i) (m .laid) a in
-        record { laid = record { standing = b .standing; around = b .around; laying = b .laying ∙ sym (laid-next s t n c i h); most = omega (arith, b .most, names-more s i, ap (namesTo s) (add-one i)) }; here = o }
+        record { laid = record { standing = b .standing; outside = b .outside; allocation = b .allocation ∙ sym (laid-next s t n c i h); most = omega (arith, b .most, names-more s i, ap (namesTo s) (add-one i)) }; here = o }
 
-    pub collecting-end : n ≤ i → (GlobalsCollected s u n g) × (Around t u)
+    pub collecting-end : n ≤ i → (GlobalsCollected s u n g) × (Outside 7168 9216 t u)
     collecting-end h =
         let z : i ≡ n = omega (arith, m .here .within) in
-        let e : (ns : Names) → allocationIn s u g ≡ allocationOf (globals ns (sheetSource s)) = λ ns. m .laid .laying ∙ ap (laidTo s) z ∙ sym (laid-all s t n c ns) in (
+        let e : (ns : Names) → allocationIn s u g ≡ allocationOf (globals ns (sheetSource s)) = λ ns. m .laid .allocation ∙ ap (laidTo s) z ∙ sym (laid-all s t n c ns) in (
           record {
             tabled = m .laid .standing .tabled;
             places = λ ns. ap (λ (l : Allocation). l .places) (e ns);
@@ -125,7 +120,7 @@ module _ (s t : Bytes) (n : ℕ) (c : Checked s t n) where
             count = λ ns. sym (places-count s u 0 (g .count)) ∙ ap (λ (l : Allocation). length (l .places)) (e ns);
             low = m .laid .standing .low;
           },
-          m .laid .around,
+          m .laid .outside,
         )
 
 -- they stay collected where all that stands up to the table's end is kept

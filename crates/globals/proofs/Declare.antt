@@ -16,17 +16,18 @@ use Rattle.semantics.specs.Form.Atom.{name}
 use Rattle.semantics.specs.Layout.{alignUp}
 use Rattle.semantics.specs.Global.{Global, globalSize, placeOf, newOffset}
 use Rattle.laws.proofs.Alignments.{global-size}
-use Rattle.decimal.specs.Number as Number
 use Rattle.words.specs.Words.{digest}
 use Rattle.lines.specs.Lines.{readAt, nodesIn}
+use Rattle.checks.specs.Checks.{Outside}
+use Rattle.checks.proofs.Kept.{outside-all, outside-then}
 use Rattle.sizes.specs.Sizes.{typeAt}
 use Rattle.globals.specs.declared.Globals.{Globals}
-use Rattle.globals.specs.Laying.{Allocation, layName, layNames}
-use Rattle.global_table.specs.Table.{VarLine, nameOn, typeOn, namesOn, globalEntered, entryAt, placesIn, GlobalEntry, offsetBy, Around}
+use Rattle.globals.specs.Allocation.{Allocation, layName, layNames}
+use Rattle.global_table.specs.Table.{VarLine, nameOn, typeOn, namesOn, globalEntered, entryAt, placesIn, GlobalEntry, offsetBy}
 use Rattle.globals.specs.Collect.{allocationIn, PlacesEntered, PlacesLaid}
-use Rattle.globals.proofs.Laying.{names-next}
-use Rattle.global_table.proofs.Line.{type-on, count-on}
-use Rattle.global_table.proofs.Table.{line-new, position-new, offset-new, digest-new, line-old, digest-old, entry-old, around-entered, places-more, places-entered, around-all, around-then, checked-around, var-around}
+use Rattle.globals.proofs.Allocation.{names-next}
+use Rattle.global_table.proofs.VarLine.{names-count}
+use Rattle.global_table.proofs.Table.{line-new, position-new, offset-new, digest-new, line-old, digest-old, entry-old, outside-entered, places-more, places-entered, checked-outside, var-outside}
 
 -- 8 bytes each are enough
 place-low : (t : Ty) (end count : ℕ) → end ≤ 8 * count → alignUp (globalSize t) end ≤ 8 * count
@@ -35,7 +36,7 @@ place-low t end count h = global-size (λ a. alignUp a end ≤ 8 * count) (omega
 -- ---- places as they were
 
 pub laid-same : {s t : Bytes} {n : ℕ} {l : Allocation} {g : Globals} {m : ℕ} → PlacesEntered s t n g → allocationIn s t g ≡ l → g .count ≤ m → PlacesLaid s t t n l g m
-laid-same st e h = record { standing = st; around = around-all; laying = e; most = h }
+laid-same st e h = record { standing = st; outside = outside-all; allocation = e; most = h }
 
 -- the test for `nil`, of a name that was read
 pub nil-test : {x y : Bytes} {b : Bool} → y ≡ x → b ≡ same y (bytes "nil") → same x (bytes "nil") ≡ b
@@ -53,9 +54,9 @@ lay-again t x l w (suc p) e h z = rw (e, ← h)
 -- ---- a new place
 
 module _ (s t : Bytes) (n r j : ℕ) (g : Globals) (st : PlacesEntered s t n g) (l : VarLine s t n r) (hj : j < 16) (full : g .count < 256)
-    (v : ℕ) (hv : v ≡ Number.numberUpTo 65536 (getD (readAt s (r - 1) .fields) 0 [])) (size : ℕ) (hs : size ≡ globalSize (typeAt s v)) (off : ℕ) (ho : off ≡ alignUp size (g .end)) (d : ℕ) (hd : d ≡ digest (nameOn s r j)) (small : d < 256) where
+    (v : ℕ) (hv : typeAt s v ≡ typeOn s r) (size : ℕ) (hs : size ≡ globalSize (typeAt s v)) (off : ℕ) (ho : off ≡ alignUp size (g .end)) (d : ℕ) (hd : d ≡ digest (nameOn s r j)) (small : d < 256) where
   size-is : size ≡ globalSize (typeOn s r)
-  size-is = hs ∙ ap globalSize (type-on s t n r l v hv)
+  size-is = hs ∙ ap globalSize hv
 
   off-is : off ≡ newOffset (typeOn s r) (g .end)
   off-is = ho ∙ ap (λ (a : ℕ). alignUp a (g .end)) size-is
@@ -78,9 +79,9 @@ module _ (s t : Bytes) (n r j : ℕ) (g : Globals) (st : PlacesEntered s t n g) 
   new : Bytes
   new = globalEntered t (g .count) r j off d
 
-  around-new : Around t new
+  outside-new : Outside 7168 9216 t new
   unfolding new
-  around-new = around-entered t (g .count) r j off d full line-low (omega (arith, off-low)) (l .checked .whole .room)
+  outside-new = outside-entered t (g .count) r j off d full line-low (omega (arith, off-low)) (l .checked .whole .room)
 
   entry-new : entryAt s new (g .count) ≡ record { name = nameOn s r j; offset = newOffset (typeOn s r) (g .end); ty = typeOn s r }
   unfolding new entryAt
@@ -99,7 +100,7 @@ module _ (s t : Bytes) (n r j : ℕ) (g : Globals) (st : PlacesEntered s t n g) 
       last : GlobalEntry s new n (g .count)
       last = record {
         low = full;
-        line = rw (line-new t (g .count) r j off d full line-low (omega (arith, off-low)) (l .checked .whole .room)) (var-around around-new l);
+        line = rw (line-new t (g .count) r j off d full line-low (omega (arith, off-low)) (l .checked .whole .room)) (var-outside outside-new l);
         digest = digest-new t (g .count) r j off d full line-low (omega (arith, off-low)) (l .checked .whole .room) ∙ hd ∙ ap (λ (e : Global). digest (e .name)) (sym entry-new);
       }
 
@@ -108,7 +109,7 @@ module _ (s t : Bytes) (n r j : ℕ) (g : Globals) (st : PlacesEntered s t n g) 
           let x = st .tabled .entries i q in
           record {
             low = x .low;
-            line = rw (line-old t (g .count) r j off d full line-low (omega (arith, off-low)) (l .checked .whole .room) i q) (var-around around-new (x .line));
+            line = rw (line-old t (g .count) r j off d full line-low (omega (arith, off-low)) (l .checked .whole .room) i q) (var-outside outside-new (x .line));
             digest = rw (
               digest-old t (g .count) r j off d full line-low (omega (arith, off-low)) (l .checked .whole .room) i q,
               entry-old t (g .count) r j off d full line-low (omega (arith, off-low)) (l .checked .whole .room) i q s,
@@ -125,9 +126,9 @@ module _ (s t : Bytes) (n r j : ℕ) (g : Globals) (st : PlacesEntered s t n g) 
         ap (placesIn s new) hc ∙ places-more s new (g .count)
         ∙ ap (λ (e : Global). placesIn s new (g .count) ++ (e ∷ [])) entry-new ∙ ap (λ (l : List Global). l ++ (record { name = nameOn s r j; offset = newOffset (typeOn s r) (g .end); ty = typeOn s r } ∷ [])) places-old
 
-    laying-new : allocationIn s new h ≡ layName (typeOn s r) (nameOn s r j) (allocationIn s t g)
+    allocation-new : allocationIn s new h ≡ layName (typeOn s r) (nameOn s r j) (allocationIn s t g)
     unfolding layName offsetBy
-    laying-new =
+    allocation-new =
         let q : placeOf (nameOn s r j) (placesIn s t (g .count)) ≡ none = sym hp ∙ ap (offsetBy t) hz in
         let f : h .end ≡ newOffset (typeOn s r) (g .end) + globalSize (typeOn s r) = he ∙ rw (off-is, size-is) in
         rw (hn, q, places-new, f)
@@ -135,11 +136,11 @@ module _ (s t : Bytes) (n r j : ℕ) (g : Globals) (st : PlacesEntered s t n g) 
     laid-new : PlacesLaid s t new n (layName (typeOn s r) (nameOn s r j) (allocationIn s t g)) h (g .count + 1)
     laid-new = record {
       standing = record {
-        tabled = record { checked = checked-around around-new (l .checked); few = omega arith; entries = λ i q. entries-new i (omega arith) };
+        tabled = record { checked = checked-outside outside-new (l .checked); few = omega arith; entries = λ i q. entries-new i (omega arith) };
         low = omega (arith, off-low, size-low);
       };
-      around = around-new;
-      laying = laying-new;
+      outside = outside-new;
+      allocation = allocation-new;
       most = omega arith;
     }
 
@@ -150,7 +151,7 @@ module _ (s t : Bytes) (n r j : ℕ) (g : Globals) (st : PlacesEntered s t n g) 
 -- ---- one after the other
 
 pub laid-then : (F : Allocation → Allocation) {s t u v : Bytes} {n : ℕ} {l : Allocation} {g h : Globals} {m : ℕ} (k : ℕ) → PlacesLaid s t u n l g m → PlacesLaid s u v n (F (allocationIn s u g)) h (g .count + k) → PlacesLaid s t v n (F l) h (m + k)
-laid-then F k a b = record { standing = b .standing; around = around-then (a .around) (b .around); laying = b .laying ∙ ap F (a .laying); most = omega (arith, a .most, b .most) }
+laid-then F k a b = record { standing = b .standing; outside = outside-then (a .outside) (b .outside); allocation = b .allocation ∙ ap F (a .allocation); most = omega (arith, a .most, b .most) }
 
 -- ---- the names of a line
 
@@ -164,11 +165,10 @@ module _ (s t : Bytes) (n r : ℕ) (g : Globals) (count : ℕ) where
   unfolding layNames
   naming-start st = record { within = omega arith; laid = laid-same st refl (omega arith) }
 
-  module _ (l : VarLine s t n r) (hc : count ≡ Number.numberUpTo 65536 (getD (readAt s (r - 1) .fields) 2 [])) (u : Bytes) (h : Globals) (j : ℕ) (m : Naming s t u n r count g h j) where
+  module _ (l : VarLine s t n r) (hc : (count ≡ length (namesOn s r)) × (count ≤ 16)) (u : Bytes) (h : Globals) (j : ℕ) (m : Naming s t u n r count g h j) where
     pub naming-here : j < count → g .count + length (namesOn s r) ≤ 256 → (PlacesEntered s u n h) × (VarLine s u n r) × (j < 16) × (h .count < 256)
     naming-here k full =
-        let q = count-on s t n r l count hc in
-        (m .laid .standing, var-around (m .laid .around) l, omega (arith, q .1), omega (arith, q .2, m .laid .most))
+        (m .laid .standing, var-outside (m .laid .outside) l, omega (arith, hc .1), omega (arith, hc .0, m .laid .most))
 
     pub naming-next : {v : Bytes} {h′ : Globals} → j < count → PlacesLaid s u v n (layName (typeOn s r) (nameOn s r j) (allocationIn s u h)) h′ (h .count + 1) → Naming s t v n r count g h′ (j + 1)
     naming-next {v} {h′} k a =
@@ -176,15 +176,14 @@ module _ (s t : Bytes) (n r : ℕ) (g : Globals) (count : ℕ) where
         let e : layNames (typeOn s r) (values name (nodesIn s) (j + 1) (drop 3 fs)) (allocationIn s t g) ≡ layName (typeOn s r) (nameOn s r j) (layNames (typeOn s r) (values name (nodesIn s) j (drop 3 fs)) (allocationIn s t g))
         = names-next (typeOn s r) (nodesIn s) (drop 3 fs) j (allocationIn s t g) ∙ rw (getD-drop 3 fs j []) in
         let b = laid-then (layName (typeOn s r) (nameOn s r j)) 1 (m .laid) a in
-        record { within = omega arith; laid = record { standing = b .standing; around = b .around; laying = b .laying ∙ sym e; most = omega (arith, b .most) } }
+        record { within = omega arith; laid = record { standing = b .standing; outside = b .outside; allocation = b .allocation ∙ sym e; most = omega (arith, b .most) } }
 
     pub naming-end : count ≤ j → PlacesLaid s t u n (layNames (typeOn s r) (namesOn s r) (allocationIn s t g)) h (g .count + length (namesOn s r))
     naming-end k =
-        let q = count-on s t n r l count hc in
-        let z : j ≡ numberOf (getD (readAt s (r - 1) .fields) 2 []) = omega (arith, q .0, m .within) in
+        let z : j ≡ numberOf (getD (readAt s (r - 1) .fields) 2 []) = omega (arith, hc .0, names-count s r, m .within) in
         record {
           standing = m .laid .standing;
-          around = m .laid .around;
-          laying = m .laid .laying ∙ ap (λ (x : ℕ). layNames (typeOn s r) (values name (nodesIn s) x (drop 3 (readAt s (r - 1) .fields))) (allocationIn s t g)) z;
-          most = omega (arith, m .laid .most, q .2, m .within);
+          outside = m .laid .outside;
+          allocation = m .laid .allocation ∙ ap (λ (x : ℕ). layNames (typeOn s r) (values name (nodesIn s) x (drop 3 (readAt s (r - 1) .fields))) (allocationIn s t g)) z;
+          most = omega (arith, m .laid .most, hc .0, m .within);
         }

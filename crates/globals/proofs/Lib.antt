@@ -1,4 +1,5 @@
-pub mod Laying
+pub mod Allocation
 pub mod Declare
 pub mod Collect
 pub mod Vars
+pub mod Laid

@@ -20,7 +20,7 @@ use Rattle.source.specs.Walk.{declaresAt, openAt, locatedTo, varOf, byKind}
 use Rattle.source.proofs.Declares.{line-declares}
 use Rattle.implement.specs.Modules.{ownIn}
 use Rattle.global_table.specs.Table.{offsetIn}
-use Rattle.globals.proofs.Laying.{vars-are}
+use Rattle.globals.proofs.Allocation.{vars-are}
 use Rattle.globals.specs.Vars.{locatedAt, laidVarsTo, firstInit, varItems, lineItems, varPends}
 
 -- ---- a place stays

@@ -1,22 +1,21 @@
 -- Globals as they are collected: the places that the table holds after some lines.
-use Prim.Native.Nat.{ℕ, _+_, _*_, _≤_}
+use Prim.Native.Nat.{ℕ, _*_, _≤_}
 use mathlib.Core.Path.{_≡_}
-use mathlib.Core.Bool.{cond}
-use lib.Dec.{eqb}
+use mathlib.Core.List.{List, [], _∷_}
 use lib.ListN.{length}
 use Rattle.semantics.specs.Text.{Bytes}
 use Rattle.semantics.specs.Tree.{VarDecl, Declares}
-use Rattle.semantics.specs.Form.{letter}
-use Rattle.semantics.specs.Sheet.{sheetSource}
+use Rattle.semantics.specs.Sheet.{Located, sheetSource}
 use Rattle.semantics.specs.Refusal.{sumOf}
 use Rattle.semantics.specs.Fold.{Names}
 use Rattle.semantics.specs.Global.{globals}
-use Rattle.lines.specs.Lines.{readAt, nodesIn}
-use Rattle.source.specs.Walk.{declaresAt, openAt, declaredTo}
-use Rattle.implement.specs.Modules.{ownIn}
-use Rattle.global_table.specs.Table.{typeOn, namesOn, placesIn, Tabled, Around}
+use Rattle.lines.specs.Lines.{nodesIn}
+use Rattle.checks.specs.Checks.{Outside}
+use Rattle.source.specs.Walk.{declaresAt, declaredTo}
+use Rattle.global_table.specs.Table.{placesIn, Tabled}
 use Rattle.globals.specs.declared.Globals.{Globals}
-use Rattle.globals.specs.Laying.{Allocation, layNames}
+use Rattle.globals.specs.Allocation.{Allocation, layNames}
+use Rattle.globals.specs.Vars.{laidAt}
 
 -- the places in the table, and the end of allocation
 abbrev pub allocationIn : Bytes → Bytes → Globals → Allocation
@@ -30,8 +29,8 @@ pub record PlacesEntered (s t : Bytes) (n : ℕ) (g : Globals) : Type 0 where
 -- the working space t has become u, which holds the places l, at most m
 pub record PlacesLaid (s t u : Bytes) (n : ℕ) (l : Allocation) (g : Globals) (m : ℕ) : Type 0 where
   pub standing : PlacesEntered s u n g
-  pub around : Around t u
-  pub laying : allocationIn s u g ≡ l
+  pub outside : Outside 7168 9216 t u
+  pub allocation : allocationIn s u g ≡ l
   pub most : g .count ≤ m
 
 -- how many names line i declares, from 0, and the first i lines
@@ -41,9 +40,13 @@ namesAt s i = sumOf (λ (v : VarDecl). length (v .names)) (declaresAt (nodesIn s
 unfoldable pub namesTo : Bytes → ℕ → ℕ
 namesTo s i = sumOf (λ (v : VarDecl). length (v .names)) (declaredTo (λ (d : Declares). d .vars) (nodesIn s) i)
 
--- what line i, from 0, adds where it is a `var` line, 72, that counts
+-- what lines add, and line i, from 0, where it counts
+unfoldable pub layLines : List (Located VarDecl) → Allocation → Allocation
+layLines [] l = l
+layLines (v ∷ vs) l = layLines vs (layNames (v .it .ty) (v .it .names) l)
+
 unfoldable pub layLine : Bytes → ℕ → Allocation → Allocation
-layLine s i l = cond (eqb (letter (readAt s i .form .kind)) 72) (cond (ownIn (sheetSource s .implement) (openAt (nodesIn s) i)) (layNames (typeOn s (i + 1)) (namesOn s (i + 1)) l) l) l
+layLine s i l = layLines (laidAt s i) l
 
 -- all globals of a sheet are entered, whatever names are known to their first values
 pub record GlobalsCollected (s t : Bytes) (n : ℕ) (g : Globals) : Type 0 where

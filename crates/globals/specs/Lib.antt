@@ -1,3 +1,3 @@
-pub mod Laying
+pub mod Allocation
 pub mod Collect
 pub mod Vars

@@ -1,5 +1,6 @@
 -- The `var` lines that count, and what each leaves where all places are known.
 use Prim.Native.Nat.{ℕ, zero, suc}
+use mathlib.Core.Path.{_≡_}
 use mathlib.Core.Bool.{cond}
 use mathlib.Core.List.{List, [], _∷_, _++_}
 use lib.Dec.{eqb}
@@ -12,7 +13,7 @@ use Rattle.semantics.specs.Global.{Item, Init, Global, initOf, orNoInit, initIt
 use Rattle.lines.specs.Lines.{readAt, nodesIn}
 use Rattle.source.specs.Walk.{openAt, varOf}
 use Rattle.implement.specs.Modules.{ownIn}
-use Rattle.global_table.specs.Table.{offsetIn}
+use Rattle.global_table.specs.Table.{VarLine, offsetIn}
 
 -- line i, from 0, as a `var` line
 abbrev pub locatedAt : Bytes → ℕ → Located VarDecl
@@ -22,7 +23,16 @@ locatedAt s i = record { line = suc i; within = openAt (nodesIn s) i; it = varOf
 abbrev pub laidAt : Bytes → ℕ → List (Located VarDecl)
 laidAt s i = cond (eqb (letter (readAt s i .form .kind)) 72) (cond (ownIn (sheetSource s .implement) (openAt (nodesIn s) i)) (locatedAt s i ∷ []) []) []
 
--- those among a sheet's first i lines
+-- the `var` line r, from 1, none for 0
+abbrev pub laidOn : Bytes → ℕ → List (Located VarDecl)
+laidOn s zero = []
+laidOn s (suc i) = locatedAt s i ∷ []
+
+-- r is 0 or a `var` line
+abbrev pub MayLay : Bytes → Bytes → ℕ → ℕ → Type 0
+MayLay s t n r = (r ≡ 0 → ⊥) → VarLine s t n r
+
+-- those that count among a sheet's first i lines
 unfoldable pub laidVarsTo : Bytes → ℕ → List (Located VarDecl)
 laidVarsTo s zero = []
 laidVarsTo s (suc i) = laidVarsTo s i ++ laidAt s i

@@ -91,7 +91,7 @@ module _ (s : Bytes) (b : Buffers) where
       → refusalNumber r ≡ q → refusalLine r ≡ k → image ≡ zeros (b .image) → area ≡ zeros (b .area)
       → Pictures s b (Refused r) listing image area
   list-refused r h number line image-is area-is =
-      refused-pictures r (not-listed (h .outcome) ∙ (λ j. notLaid (sym number j) (sym line j))) (blank (b .listing) (h .bytes)) (blank (b .image) image-is) (blank (b .area) area-is)
+      refused-pictures r (not-listed (h .stops .outcome) ∙ (λ j. notLaid (sym number j) (sym line j))) (blank (b .listing) (h .bytes)) (blank (b .image) image-is) (blank (b .area) area-is)
 
   -- ---- replay
 

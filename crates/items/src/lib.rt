@@ -148,7 +148,7 @@ fn contents(work: &[u8], out: &mut [u8], at: usize, off: usize, kind: u8, count:
     write::put_part(out, q, b"dat,back\n")
 }
 
-// The rows of an array that a literal of `count` values makes; `id` is the ID of its element key.
+// The rows of an array that a literal of `count` values makes, as the Rust's `emit_const_array`; `id` is the ID of its element key.
 pub fn array_items(
     work: &[u8],
     out: &mut [u8],

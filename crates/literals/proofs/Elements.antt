@@ -32,7 +32,7 @@ use Rattle.placements.proofs.Same.{keeps-then, keeps-less, keeps-kept}
 use Rattle.placements.proofs.Fillings.{filling-kept, filling-value, filling-star, stored-element}
 use Rattle.leaf.specs.Folds.{exAt, Foldable, Folds}
 use Rattle.names.specs.Table.{namesIn}
-use Rattle.literals.specs.Literals.{elAt, sesAt, AtTask, ValuedTask, Turn, above, Fills, placed, Turns}
+use Rattle.literals.specs.Literals.{elAt, sesAt, AtTask, ValuedTask, ElementTask, above, Fills, placed, ElementFilled}
 use Rattle.literals.proofs.Names.{log-kept, logged-kept, line-kept}
 use Rattle.literals.proofs.Lines.{good-line, last-form, el-next, el-star, el-at, el-value, value-ref}
 use Rattle.literals.proofs.Selectors.{foldable, folds-to}
@@ -92,7 +92,7 @@ at-stands k (Int z) h = tt
 at-stands k (Real x) h = tt
 at-stands k (Str p l) h = (omega (arith, h .0), omega (arith, h .0, h .1), h .1)
 
-module _ {s t : Bytes} {n m r k : ℕ} (c : Turn s t n m r k) (far : Extent) {q : ℕ} (hq : q ≡ Number.numberUpTo 65536 (getD (readAt s (r - 1) .fields) 0 [])) where
+module _ {s t : Bytes} {n m r k : ℕ} (c : ElementTask s t n m r k) (far : Extent) {q : ℕ} (hq : q ≡ Number.numberUpTo 65536 (getD (readAt s (r - 1) .fields) 0 [])) where
   value-line : (q ≡ numberOf (getD (readAt s (r - 1) .fields) 0 [])) × KindLine 69 s t n q
   value-line = good-line (c .line) 69 (getD (readAt s (r - 1) .fields) 0 []) q hq (value-ref (c .line))
 
@@ -109,11 +109,11 @@ module _ {s t : Bytes} {n m r k : ℕ} (c : Turn s t n m r k) (far : Extent) {q 
     keeps-fold : Keeps 16384 49152 t u
     keeps-fold = keeps-less (omega arith) (omega arith) (keeps-kept {a = 0} (omega arith) (g .kept))
 
-    pub turn-failed : x ≡ Folded.Failed → Turns t k far (fillElement (namesIn s t m) (elAt s r)) Failed u
+    pub turn-failed : x ≡ Folded.Failed → ElementFilled t k far (fillElement (namesIn s t m) (elAt s r)) Failed u
     unfolding resultIn
     turn-failed d = record { keeps = keeps-fold; step = λ f p. fills-to f ∙ rw d }
 
-    pub turn-long : x ≡ Folded.TooLong → Turns t k far (fillElement (namesIn s t m) (elAt s r)) TooLong u
+    pub turn-long : x ≡ Folded.TooLong → ElementFilled t k far (fillElement (namesIn s t m) (elAt s r)) TooLong u
     unfolding resultIn
     turn-long d = record { keeps = keeps-fold; step = λ f p. fills-to f ∙ rw d }
 
@@ -135,7 +135,7 @@ module _ {s t : Bytes} {n m r k : ℕ} (c : Turn s t n m r k) (far : Extent) {q 
         unfolding slotAt
         value-stored = record { task = record { line = line-kept keeps-value (c .line); log = logged-kept keeps-value (c .log); few = omega (arith, c .few) }; stands = value-stands; value = p .value }
 
-        pub turn-placed : {y : Placed} {z : Bytes} → Fills w (k + 1) far (placed (namesIn s w m) (elAt s r)) y z → Turns t k far (fillElement (namesIn s t m) (elAt s r)) y z
+        pub turn-placed : {y : Placed} {z : Bytes} → Fills w (k + 1) far (placed (namesIn s w m) (elAt s r)) y z → ElementFilled t k far (fillElement (namesIn s t m) (elAt s r)) y z
         unfolding resultIn
         turn-placed {y} {z} a = record {
           keeps = keeps-then keeps-value (a .keeps);

@@ -22,7 +22,7 @@ use Rattle.placements.proofs.Same.{keeps-all, keeps-then, keeps-kept}
 use Rattle.placements.proofs.Fillings.{element-kept, filling-kept}
 use Rattle.literals.specs.declared.Span.{Span}
 use Rattle.literals.specs.declared.Span.the-variants as Span
-use Rattle.literals.specs.Literals.{above, spanResult, Moves, Took, Chose, Selects}
+use Rattle.literals.specs.Literals.{above, spanResult, Moves, SpanPlaced, SelectorResult, Selects}
 
 -- ---- a literal that has ended
 
@@ -62,7 +62,7 @@ module _ (t : Bytes) (e : ℕ) (low high : ℤ) where
 
 -- ---- a selector
 
-took : (u : Bytes) (e : ℕ) (span : Result (ℤ × ℤ)) (v : Tree.ConstVal) (r : Result Filled) (y : Placed) → stopped y ≡ false → Took u e span v r y → Chose u e span v r y
+took : (u : Bytes) (e : ℕ) (span : Result (ℤ × ℤ)) (v : Tree.ConstVal) (r : Result Filled) (y : Placed) → stopped y ≡ false → SpanPlaced u e span v r y → SelectorResult u e span v r y
 took u e span v r (Into a) h k = k
 took u e span v r Negative h k = k
 took u e span v r Failed h k = never (sym h)
@@ -86,13 +86,13 @@ module _ (t : Bytes) (e : ℕ) {u : Bytes} (c : Kept (above e) t u) where
         → Moves u e x (λ (v : Tree.ConstVal) (r : Result Filled). bind r (placeIndices v (held w64 a) (held w64 b))) y w → Selects t e x span y w
     selects-span {a} {b} d fa fb {y} {w} m = record {
       keeps = keeps-then (keeps-kept (omega arith) c) (m .keeps);
-      chose = λ r one few h g.
+      result = λ r one few h g.
           took w e span (elementIn t e) r y (m .ongoing ∙ h)
           (record { low = a; high = b; is = sym hz ∙ ap spanResult d; step = subst (λ (q : Result Filled). Step w (above e) e y q) (value-kept x r a b few h g) (rw (toZ-ofZ fa, toZ-ofZ fb) at (m .step r one few (step-kept x r few g))) });
     }
 
     pub selects-failed : z ≡ Span.Failed → Selects t e x span Failed u
-    selects-failed d = record { keeps = keeps-kept (omega arith) c; chose = λ r one few h g. sym hz ∙ ap spanResult d }
+    selects-failed d = record { keeps = keeps-kept (omega arith) c; result = λ r one few h g. sym hz ∙ ap spanResult d }
 
     pub selects-long : z ≡ Span.TooLong → Selects t e x span TooLong u
-    selects-long d = record { keeps = keeps-kept (omega arith) c; chose = λ r one few h g. sym hz ∙ ap spanResult d }
+    selects-long d = record { keeps = keeps-kept (omega arith) c; result = λ r one few h g. sym hz ∙ ap spanResult d }

@@ -27,7 +27,7 @@ use Rattle.placements.specs.declared.Placed.the-variants.{Into, Negative, Faile
 use Rattle.placements.specs.Placements.{elementIn, Keeps, Filling, Step, stopped}
 use Rattle.placements.proofs.Same.{keeps-all, keeps-then, keeps-less, element-same}
 use Rattle.names.specs.Table.{namesIn}
-use Rattle.literals.specs.Literals.{seAt, sesAt, Task, AtTask, above, Chose, Selects, Fills}
+use Rattle.literals.specs.Literals.{seAt, sesAt, Task, AtTask, above, SelectorResult, Selects, Fills}
 use Rattle.literals.proofs.Names.{log-kept, logged-kept, line-kept}
 use Rattle.literals.proofs.Lines.{good-line, count-is, selectors}
 
@@ -145,16 +145,16 @@ module _ {s t : Bytes} {n m r e : ℕ} (k : AtTask s t n m r e) (a : Extent) {co
 
       module _ (y : Placed) {w : Bytes} (d : Selects u e x (spanOf (namesIn s u m) (seAt s q .low) (seAt s q .high)) y w) where
         chosen : (f : Filled) (one : 0 < e) (few : e ≤ 16) (p : Filling t (above e) e (a .next) (a .reach) f)
-            → Chose w e (spanOf (namesIn s t m) (seAt s q .low) (seAt s q .high)) (elementIn t e) (c .on f one few p .result) y
+            → SelectorResult w e (spanOf (namesIn s t m) (seAt s q .low) (seAt s q .high)) (elementIn t e) (c .on f one few p .result) y
         chosen f one few p =
             let o = c .on f one few p in
             let v : elementIn u e ≡ elementIn t e = element-same t u (c .keeps .long) (above e) e (p .strings e (omega arith)) (λ i a b. c .keeps .above i (omega arith) (omega arith)) (λ i a b. c .keeps .above i (omega arith) b) in
-            rw (v, log-kept keeps-names (k .task .log)) at (d .chose (o .result) one few (c .ongoing) (o .step))
+            rw (v, log-kept keeps-names (k .task .log)) at (d .result (o .result) one few (c .ongoing) (o .step))
 
         keeps-next : Keeps 12288 (above e) t w
         keeps-next = keeps-then (c .keeps) (d .keeps)
 
-        stops : (z : Placed) (v : Tree.ConstVal) (r′ : Result Filled) → stopped z ≡ true → Chose w e (spanOf (namesIn s t m) (seAt s q .low) (seAt s q .high)) v r′ z → Step w (above e) e z (placeAll (namesIn s t m) v (sesFrom s r count j) r′)
+        stops : (z : Placed) (v : Tree.ConstVal) (r′ : Result Filled) → stopped z ≡ true → SelectorResult w e (spanOf (namesIn s t m) (seAt s q .low) (seAt s q .high)) v r′ z → Step w (above e) e z (placeAll (namesIn s t m) v (sesFrom s r count j) r′)
         unfolding placeAll
         stops (Into b) v r′ g z = never g
         stops Negative v r′ g z = never g
@@ -166,7 +166,7 @@ module _ {s t : Bytes} {n m r e : ℕ} (k : AtTask s t n m r e) (a : Extent) {co
             filled y w keeps-next (λ f one few p. let o = c .on f one few p in subst (λ (a : Result Filled). Step w (above e) e y a) (o .left) (stops y (elementIn t e) (o .result) z (chosen f one few p)))
 
         goes : (z : Placed) (v : Tree.ConstVal) (f : Filled) (o : On u e x (namesIn s t m) v (sesFrom s r count j) (sesFrom s r count 0) f) → stopped z ≡ false
-            → Chose w e (spanOf (namesIn s t m) (seAt s q .low) (seAt s q .high)) v (o .result) z → On w e z (namesIn s t m) v (sesFrom s r count (j + 1)) (sesFrom s r count 0) f
+            → SelectorResult w e (spanOf (namesIn s t m) (seAt s q .low) (seAt s q .high)) v (o .result) z → On w e z (namesIn s t m) v (sesFrom s r count (j + 1)) (sesFrom s r count 0) f
         unfolding placeAll
         goes (Into b) v f o g z = record { result = bind (o .result) (placeIndices v (z .low) (z .high)); step = z .step; left = rw (selectors-split, z .is) at (o .left) }
         goes Negative v f o g z = record { result = bind (o .result) (placeIndices v (z .low) (z .high)); step = z .step; left = rw (selectors-split, z .is) at (o .left) }

@@ -33,7 +33,7 @@ use Rattle.placements.proofs.Placed.{the-type}
 use Rattle.placements.proofs.Same.{keeps-all, keeps-then}
 use Rattle.placements.proofs.Fillings.{filling-wider}
 use Rattle.leaf.specs.Folds.{exAt}
-use Rattle.literals.specs.Literals.{elAt, elsAt, Turn, LiteralLine, above, Turns, AllFilled}
+use Rattle.literals.specs.Literals.{elAt, elsAt, ElementTask, LiteralLine, above, ElementFilled, AllFilled}
 use Rattle.names.specs.Table.{ConstsLogged, namesIn}
 use Rattle.literals.proofs.Names.{log-kept, logged-kept, line-kept}
 use Rattle.literals.proofs.Placing.{isInto, step-ends}
@@ -135,10 +135,10 @@ module _ {s t₀ : Bytes} {n m r : ℕ} (k : LiteralLine s t₀ n r) (g : Consts
         keeps-both : Keeps 16384 49152 t₀ u
         keeps-both = keeps-then (a .1 49152) (c .keeps)
 
-        pub turn-line : Turn s u n m q j
+        pub turn-line : ElementTask s u n m q j
         turn-line = record { line = line-kept keeps-both (element-line k hc h hq); log = logged-kept keeps-both g; few = omega (arith, few) }
 
-        module _ (y : Placed) {w : Bytes} (d : Turns u j x (fillElement (namesIn s u m) (elAt s q)) y w) where
+        module _ (y : Placed) {w : Bytes} (d : ElementFilled u j x (fillElement (namesIn s u m) (elAt s q)) y w) where
           keeps-next : Keeps 16384 49152 t w
           keeps-next = keeps-then (c .keeps) (d .keeps)
 

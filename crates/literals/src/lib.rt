@@ -20,7 +20,7 @@ ghost use Rattle.names.specs.Table.{ConstsLogged, namesIn};
 ghost use Rattle.placements.specs.Placements.{stopped};
 ghost use Rattle.values.specs.Values.{resultIn};
 ghost use Rattle.leaf.specs.Folds.{exAt};
-ghost use Rattle.literals.specs.Literals.{seAt, Task, above, indexResult, spanResult, sesAt, AtTask, elAt, elsAt, ValuedTask, Turn, LiteralLine, placed, Moves, Selects, Fills, Turns, AllFilled};
+ghost use Rattle.literals.specs.Literals.{seAt, Task, above, indexResult, spanResult, sesAt, AtTask, elAt, elsAt, ValuedTask, ElementTask, LiteralLine, placed, Moves, Selects, Fills, ElementFilled, AllFilled};
 
 // An index, or why there is none.
 pub enum Index {
@@ -36,7 +36,8 @@ pub enum Span {
     TooLong,
 }
 
-fn as_int(x: Folded) -> Index
+// The integer that a fold gives, or why there is none.
+pub fn as_int(x: Folded) -> Index
     ensures { λ i. ⌜ ((t : Bytes) → indexResult i ≡ bind (resultIn t x) asInt) ⌝ }
 {
     match x {
@@ -167,8 +168,8 @@ fn place_element(
 
 // The element of line r, which k others come before.
 fn fill_element(sheet: &[u8], work: &mut [u8], c: Known, r: usize, k: usize, x: Extent) -> Placed
-    requires { ⌜ Turn (now sheet) (now work) (c .lines) (c .consts) r k ⌝ }
-    ensures { λ y. ⌜ Turns (now (work .entry)) k x (fillElement (namesIn (now (sheet .entry)) (now (work .entry)) (c .consts)) (elAt (now (sheet .entry)) r)) y (now (work .exit)) ⌝ }
+    requires { ⌜ ElementTask (now sheet) (now work) (c .lines) (c .consts) r k ⌝ }
+    ensures { λ y. ⌜ ElementFilled (now (work .entry)) k x (fillElement (namesIn (now (sheet .entry)) (now (work .entry)) (c .consts)) (elAt (now (sheet .entry)) r)) y (now (work .exit)) ⌝ }
 {
     let q = lines::number_at(sheet, work, c.lines, r - 1, 0);
     match fold::fold_const(sheet, work, c, 0, q, area::STACK + 256 * k) {
@@ -181,7 +182,7 @@ fn fill_element(sheet: &[u8], work: &mut [u8], c: Known, r: usize, k: usize, x: 
     }
 }
 
-// The elements of a literal of line r, in order; the first that ends it ends the work.
+// The elements of a literal of line r, in order; the first that ends it ends the work. Negative or Failed: both are pending.
 pub fn fill(sheet: &[u8], work: &mut [u8], c: Known, r: usize) -> Placed
     requires { ⌜ (LiteralLine (now sheet) (now work) (c .lines) r) × (ConstsLogged (now sheet) (now work) (c .lines) (c .consts)) ⌝ }
     ensures { λ y. ⌜ AllFilled (now (work .entry)) (fill (namesIn (now (sheet .entry)) (now (work .entry)) (c .consts)) (elsAt (now (sheet .entry)) r) noneFilled) y (now (work .exit)) ⌝ }

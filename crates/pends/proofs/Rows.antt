@@ -3,9 +3,9 @@ use mathlib.Core.Path.{_≡_, refl, sym, ap, _∙_}
 use mathlib.Core.Bool.{Bool, true, false, not, cond}
 use mathlib.Core.List.{List, [], _∷_, _++_, append-assoc, append-nil}
 use mathlib.Core.Option.{Option, none, some}
-use Prim.Native.Nat.{ℕ, zero, suc, _+_, _-_, _≤_, _<_}
+use Prim.Native.Nat.{ℕ, suc, _+_, _-_, _≤_, _<_}
 use native.Mathlib.Omega.{arith}
-use lib.ListN.{length, getD}
+use lib.ListN.{length}
 use Rattle.semantics.specs.Text.{Bytes, bytes, same}
 use Rattle.semantics.specs.Tree.{VarDecl}
 use Rattle.semantics.specs.Sheet.{concatMap}
@@ -15,12 +15,11 @@ use Rattle.semantics.specs.Const.{Refusal}
 use Rattle.semantics.specs.Global.{Init, initOf, laidNames, noneOf, varValue, refusedBy, varsRefused, pendOf}
 use Rattle.semantics.specs.Global.Init.{noInit, constInit, arrayInit, pendingInit}
 use Rattle.semantics.specs.Listing.{pendRow}
-use Rattle.decimal.specs.Number as Number
 use Rattle.write.specs.Wrote.{Wrote}
 use Rattle.write.proofs.Wrote.{then, wrote-as}
-use Rattle.lines.specs.Lines.{readAt}
-use Rattle.global_table.specs.Table.{VarLine, nameOn, namesOn}
-use Rattle.globals.specs.Vars.{locatedAt, varPends, firstInit}
+use Rattle.global_table.specs.Table.{varOn, nameOn, namesOn}
+use Rattle.globals.specs.Vars.{laidOn, varPends, firstInit}
+use Rattle.globals.proofs.Laid.{laid-on}
 use Rattle.values.specs.declared.ConstVal.{ConstVal}
 use Rattle.values.specs.Values.{valueIn}
 use Rattle.placements.specs.Placements.{valuesIn}
@@ -28,8 +27,7 @@ use Rattle.arrays.specs.Arrays.{kindOfNumber}
 use Rattle.vars.specs.declared.First.{First}
 use Rattle.vars.specs.declared.First.the-variants.{NoValue, Value, Alloc, Literal}
 use Rattle.pends.specs.declared.Pends.the-variants.{Written}
-use Rattle.vars.specs.Lines.{laidOn}
-use Rattle.vars.specs.First.{initIn, Inits, varOn, orPending}
+use Rattle.vars.specs.First.{initIn, Inits, orPending}
 use Rattle.pends.specs.Pends.{Pended}
 use Rattle.vars.proofs.Values.{settled-init}
 use Rattle.vars.proofs.Names.{namesFrom, names-step, names-over, names-all}
@@ -60,9 +58,8 @@ pub record Naming (s : Bytes) (r count : ℕ) (d : Bytes) (a j : ℕ) (e : Bytes
   pub wrote : Wrote d a text e p
   pub rest : text ++ rowsOf (namesFrom s r count j) ≡ rowsOf (namesOn s r)
 
-module _ (s t : Bytes) (n r : ℕ) (l : VarLine s t n r) {count : ℕ} (hc : count ≡ Number.numberUpTo 65536 (getD (readAt s (r - 1) .fields) 2 [])) where
-  pub naming-start : {d : Bytes} {a p : ℕ} → Wrote d a [] d p → Naming s r count d a 0 d p
-  naming-start w = record { long = refl; text = []; wrote = w; rest = ap rowsOf (names-all s t n r l hc) }
+pub naming-start : (s : Bytes) (r : ℕ) {count : ℕ} → count ≡ length (namesOn s r) → {d : Bytes} {a p : ℕ} → Wrote d a [] d p → Naming s r count d a 0 d p
+naming-start s r hc w = record { long = refl; text = []; wrote = w; rest = ap rowsOf (names-all s r hc) }
 
 module _ {s : Bytes} {r count : ℕ} {d : Bytes} {a j : ℕ} {e : Bytes} {p : ℕ} (m : Naming s r count d a j e p) where
   pub naming-next : {f : Bytes} {q : ℕ} → j < count → length f ≡ length e → {x : Bytes} → x ≡ nameOn s r j → Wrote e p (rowsOf (x ∷ [])) f q → Naming s r count d a (j + 1) f q
@@ -108,26 +105,19 @@ all-pend [] = refl
 all-pend (x ∷ xs) = rw (all-pend xs)
 
 module _ (s : Bytes) (r : ℕ) (ns : Names) (h : 0 < r) {x : First} {t u : Bytes} (a : Inits t (orPending (varValue ns (varOn s r))) x u) where
-  on : laidOn s r ≡ locatedAt s (r - 1) ∷ []
-  on = go r h
-    where
-      go : (q : ℕ) → 0 < q → laidOn s q ≡ locatedAt s (q - 1) ∷ []
-      go zero h = absurd (omega arith)
-      go (suc q) h = let z : suc q - 1 ≡ q = omega arith in rw z
-
   not-refused : {i : Init} → initIn u x ≡ ok i → varsRefused ns (laidOn s r) ≡ none
-  not-refused i = ap (varsRefused ns) on ∙ sym (refused-settled (suc (r - 1)) (varValue ns (varOn s r)) none) ∙ ap (λ (y : Result Init). refusedBy (suc (r - 1)) y none) (sym (a .result) ∙ i)
+  not-refused i = ap (varsRefused ns) (laid-on s r h) ∙ sym (refused-settled (suc (r - 1)) (varValue ns (varOn s r)) none) ∙ ap (λ (y : Result Init). refusedBy (suc (r - 1)) y none) (sym (a .result) ∙ i)
 
   pub line-quiet : {d : Bytes} {at : ℕ} {e : Bytes} {p : ℕ} (i : Init) → initIn u x ≡ ok i → ((y : Bytes) → pendOf y i ≡ []) → Wrote d at [] e p → Pended ns (laidOn s r) d at (Written p) e
-  line-quiet i k q w = (not-refused k, wrote-as (sym (rw (on, pends-are ns (varOn s r) (sym (a .result) ∙ k), no-pends i q (laidNames (namesOn s r))))) w)
+  line-quiet i k q w = (not-refused k, wrote-as (sym (rw (laid-on s r h, pends-are ns (varOn s r) (sym (a .result) ∙ k), no-pends i q (laidNames (namesOn s r))))) w)
 
   pub line-pending : {d : Bytes} {at : ℕ} {e : Bytes} {p : ℕ} → initIn u x ≡ ok pendingInit → Wrote d at (rowsOf (namesOn s r)) e p → Pended ns (laidOn s r) d at (Written p) e
-  line-pending k w = (not-refused k, wrote-as (sym (rw (on, pends-are ns (varOn s r) (sym (a .result) ∙ k), all-pend (laidNames (namesOn s r)), append-nil (laidNames (namesOn s r))))) w)
+  line-pending k w = (not-refused k, wrote-as (sym (rw (laid-on s r h, pends-are ns (varOn s r) (sym (a .result) ∙ k), all-pend (laidNames (namesOn s r)), append-nil (laidNames (namesOn s r))))) w)
 
   pub line-refused : {q : ℕ} → initIn u x ≡ refuse q → varsRefused ns (laidOn s r) ≡ some (record { number = q; line = r })
   line-refused {q} k =
       let z : suc (r - 1) ≡ r = omega arith in
-      ap (varsRefused ns) on ∙ sym (refused-settled (suc (r - 1)) (varValue ns (varOn s r)) none) ∙ ap (λ (y : Result Init). refusedBy (suc (r - 1)) y none) (sym (a .result) ∙ k) ∙ rw z
+      ap (varsRefused ns) (laid-on s r h) ∙ sym (refused-settled (suc (r - 1)) (varValue ns (varOn s r)) none) ∙ ap (λ (y : Result Init). refusedBy (suc (r - 1)) y none) (sym (a .result) ∙ k) ∙ rw z
 
   pub quiet-none : x ≡ NoValue → {d : Bytes} {at : ℕ} {e : Bytes} {p : ℕ} → Wrote d at [] e p → Pended ns (laidOn s r) d at (Written p) e
   quiet-none k = line-quiet noInit (rw k) (λ y. refl)

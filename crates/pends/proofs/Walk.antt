@@ -32,11 +32,10 @@ use Rattle.placements.specs.Placements.{Keeps}
 use Rattle.placements.proofs.Same.{keeps-all, keeps-then}
 use Rattle.literals.proofs.Names.{kept-low, log-kept, logged-kept}
 use Rattle.implement.specs.Modules.{ownIn}
-use Rattle.globals.specs.Vars.{locatedAt, laidAt, laidVarsTo, varPends}
+use Rattle.globals.specs.Vars.{locatedAt, laidAt, laidOn, laidVarsTo, varPends}
 use Rattle.globals.proofs.Vars.{pends-by, laid-lines}
 use Rattle.pends.specs.declared.Pends.{Pends}
 use Rattle.pends.specs.declared.Pends.the-variants.{Written, Refused}
-use Rattle.vars.specs.Lines.{laidOn}
 use Rattle.vars.proofs.Items.{refused-append}
 use Rattle.pends.specs.Pends.{pendsOf, Pended, AllPended}
 use Rattle.pends.proofs.Pends.{the-type}

@@ -1,4 +1,5 @@
 // The `pend` rows of globals, and the refusals of their first values.
+use global_table::line;
 use names::Known;
 use vars::First;
 use vars::var_value;
@@ -10,7 +11,7 @@ ghost use Rattle.write.specs.Wrote.{Wrote};
 ghost use Rattle.names.specs.Table.{ConstsLogged, ConstTable, namesIn};
 ghost use Rattle.placements.specs.Placements.{Keeps};
 ghost use Rattle.global_table.specs.Table.{VarLine, namesOn};
-ghost use Rattle.vars.specs.Lines.{laidOn, MayLay};
+ghost use Rattle.globals.specs.Vars.{laidOn, MayLay};
 ghost use Rattle.pends.specs.Pends.{Pended, AllPended};
 
 // The place behind the rows, or a refusal and its line.
@@ -23,7 +24,7 @@ pub enum Pends {
 fn pend_name(name: &[u8], out: &mut [u8], at: usize) -> usize
     ensures { λ p. ⌜ Wrote (now (out .entry)) at (concatMap pendRow (laidNames (now (name .entry) ∷ []))) (now (out .exit)) p ⌝ }
 {
-    if words::same(name, b"nil") {
+    if line::is_nil(name) {
         return write::nothing(out, at);
     }
     rows::pend_row(out, at, name)
@@ -34,12 +35,11 @@ fn pend_names(sheet: &[u8], work: &[u8], n: usize, r: usize, out: &mut [u8], at:
     requires { ⌜ VarLine (now sheet) (now work) n r ⌝ }
     ensures { λ p. ⌜ Wrote (now (out .entry)) at (concatMap pendRow (laidNames (namesOn (now (sheet .entry)) r))) (now (out .exit)) p ⌝ }
 {
-    let count = lines::number_at(sheet, work, n, r - 1, 2);
+    let count = line::name_count(sheet, work, n, r);
     let mut p = write::nothing(out, at);
     let mut j = 0;
     while j < count {
-        let name = lines::field_at(sheet, work, n, r - 1, 3 + j);
-        p = pend_name(name, out, p);
+        p = pend_name(line::name_at(sheet, work, n, r, j), out, p);
         j += 1;
     }
     p
@@ -72,7 +72,7 @@ pub fn pend_rows(sheet: &[u8], work: &mut [u8], c: Known, out: &mut [u8], at: us
     let mut k = 0;
     let mut i = 0;
     while i < c.lines {
-        let r = vars::laid_line(sheet, work, c.lines, i, k);
+        let r = globals::laid_line(sheet, work, c.lines, i, k);
         let y = pend_line(sheet, work, c, r, out, p);
         let Pends::Written(q) = y else {
             return y;

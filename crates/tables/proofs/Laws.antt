@@ -16,7 +16,6 @@ use Rattle.consts.specs.declared.Collected.the-variants.{Count}
 use Rattle.consts.specs.Passes.{Collects, tooLong}
 use Rattle.globals.specs.declared.Globals.{Globals}
 use Rattle.globals.specs.Collect as Globals
-use Rattle.global_table.specs.Table.{Around}
 use Rattle.globals.proofs.Collect.{collected-kept}
 use Rattle.record_log.specs.Entries as Records
 use Rattle.records.proofs.Kept.{logged-kept}
@@ -43,12 +42,12 @@ module _ {s t u : Bytes} {n m a : ℕ} (low : a ≤ 16384) (k : Kept 7168 t u) (
   constants-log = log-stays table-kept l (λ p b h k. ap (take b) (drop-from a p t u (omega arith) e))
 
 module _ {s t t2 t3 t4 : Bytes} {n m r : ℕ} {g : Globals} {d : NeedCounts} (l : ConstsLogged s t n m)
-    (a : Around t t2) (places : Globals.GlobalsCollected s t2 n g)
+    (a : Outside 7168 9216 t t2) (places : Globals.GlobalsCollected s t2 n g)
     (log : Records.RecordsCollected s t2 t3 n r)
     (o : Outside 10240 11264 t3 t4) (needs : Needs s t4 n (sheetSource s .needs)) (kinds : Kinds t4 (sheetSource s .needs) (d .keys)) (count : d .needs ≡ length (sheetSource s .needs))
   where
     first : ConstsLogged s t2 n m
-    first = constants-logged {a = 9216} (omega arith) (a .below) (a .above) l
+    first = constants-logged {a = 9216} (omega arith) (a .kept) (a .above) l
 
     second : ConstsLogged s t3 n m
     second = constants-logged {a = 10240} (omega arith) (kept-less (omega arith) (log .outside .kept)) (log .outside .above) first
@@ -68,10 +67,10 @@ module _ {s t t2 t3 t4 : Bytes} {n m r : ℕ} {g : Globals} {d : NeedCounts} (l 
     tables-log =
         constants-log {a = 11264} (omega arith) (kept-less (omega arith) (o .kept)) (o .above) second
         ∙ constants-log {a = 10240} (omega arith) (kept-less (omega arith) (log .outside .kept)) (log .outside .above) first
-        ∙ constants-log {a = 9216} (omega arith) (a .below) (a .above) l
+        ∙ constants-log {a = 9216} (omega arith) (a .kept) (a .above) l
 
     pub tables-kept : Kept 5120 t t4
-    tables-kept = kept-then (kept-less (omega arith) (a .below)) (kept-then (kept-less (omega arith) (log .outside .kept)) (kept-less (omega arith) (o .kept)))
+    tables-kept = kept-then (kept-less (omega arith) (a .kept)) (kept-then (kept-less (omega arith) (log .outside .kept)) (kept-less (omega arith) (o .kept)))
 
 -- ---- with the constants
 

@@ -1,5 +1,4 @@
 pub mod Lines
 pub mod Values
 pub mod Names
-pub mod Laid
 pub mod Items

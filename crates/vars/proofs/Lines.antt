@@ -7,7 +7,7 @@ use native.Mathlib.Omega.{arith}
 use lib.ListN.{getD}
 use Rattle.checks.specs.Checks.{KindLine}
 use Rattle.semantics.specs.Text.{Bytes}
-use Rattle.semantics.specs.Tree.{Node, elemOf}
+use Rattle.semantics.specs.Tree.{Node, Ty, elemOf}
 use Rattle.semantics.specs.Form.{forms, numberOf, nodeAt, perhapsAt, exOf}
 use Rattle.semantics.specs.Form.Kind.{kTy}
 use Rattle.decimal.specs.Number as Number
@@ -22,9 +22,8 @@ use Rattle.literals.proofs.Lines.{line-form, parts-at, makes, good-line, may-li
 use Rattle.literals.proofs.Selectors.{foldable}
 use Rattle.arrays.specs.Arrays.{typeOf}
 use Rattle.arrays.proofs.Allocs.{type-given}
-use Rattle.global_table.specs.Table.{VarLine}
-use Rattle.global_table.proofs.Line.{parts-good}
-use Rattle.vars.specs.First.{varOn}
+use Rattle.global_table.specs.Table.{VarLine, varOn}
+use Rattle.global_table.proofs.VarLine.{parts-good}
 use Rattle.refs.proofs.Fields.{head-drop}
 
 -- only arrays have an element type
@@ -44,44 +43,34 @@ value-given : (ns : List Node) (r : ℕ) → (r ≡ 0 → ⊥) → exOf (perhaps
 value-given ns zero h = absurd (h refl)
 value-given ns (suc r) h = refl
 
+-- ---- the type
+
+module _ {s t : Bytes} {n ty : ℕ} (l : TypeLine s t n ty) {x : Ty} (ht : typeAt s ty ≡ x) {f : ℕ} (hf : f ≡ formAt t (ty - 1)) where
+  pub element-none : (f ≡ 6 → ⊥) → typeOf s 0 ≡ elemOf x
+  element-none z =
+      let w = line-form l in
+      elem-of-form (nodesIn s) (readAt s (ty - 1) .fields) f (rw hf (type-form (formAt t (ty - 1)) (w .0) (w .1))) z
+      ∙ ap (λ (w : Node). elemOf (w .ty)) (sym (makes l (sym hf))) ∙ ap elemOf ht
+
+  module _ (e : f ≡ 6) {d : ℕ} (hd : d ≡ Number.numberUpTo 65536 (getD (readAt s (ty - 1) .fields) 0 [])) where
+    element-ref : (d ≡ numberOf (getD (readAt s (ty - 1) .fields) 0 [])) × KindLine 75 s t n d
+    unfolding forms
+    element-ref =
+        let w = parts-at l (sym hf ∙ e) in
+        good-line l 75 (getD (readAt s (ty - 1) .fields) 0 []) d hd (ref-head (readsIn s) (ty - 1) kTy [] (readAt s (ty - 1) .fields) (w .0) (w .1) .0)
+
+    pub element-line : TypeLine s t n d
+    element-line = element-ref .1
+
+    pub element-some : typeOf s d ≡ elemOf x
+    unfolding forms
+    element-some =
+        type-given s d (λ z. omega (arith, element-line .first))
+        ∙ sym (ap elemOf (sym ht) ∙ ap (λ (w : Node). elemOf (w .ty)) (makes l (sym hf ∙ e)) ∙ rw (head-drop 0 (readAt s (ty - 1) .fields), ← element-ref .0))
+
+-- ---- the value
+
 module _ {s t : Bytes} {n r : ℕ} (l : VarLine s t n r) where
-  -- ---- the type
-
-  module _ {ty : ℕ} (ht : ty ≡ Number.numberUpTo 65536 (getD (readAt s (r - 1) .fields) 0 [])) where
-    type-ref : (ty ≡ numberOf (getD (readAt s (r - 1) .fields) 0 [])) × KindLine 75 s t n ty
-    type-ref = good-line l 75 (getD (readAt s (r - 1) .fields) 0 []) ty ht (parts-good s t n r l .0)
-
-    pub type-line : KindLine 75 s t n ty
-    type-line = type-ref .1
-
-    type-is : varOn s r .ty ≡ typeAt s ty
-    type-is = rw (type-ref .0)
-
-    module _ {f : ℕ} (hf : f ≡ formAt t (ty - 1)) where
-      pub element-none : (f ≡ 6 → ⊥) → typeOf s 0 ≡ elemOf (varOn s r .ty)
-      element-none z =
-          let w = line-form type-line in
-          elem-of-form (nodesIn s) (readAt s (ty - 1) .fields) f (rw hf (type-form (formAt t (ty - 1)) (w .0) (w .1))) z
-          ∙ ap (λ (x : Node). elemOf (x .ty)) (sym (makes type-line (sym hf))) ∙ ap elemOf (sym type-is)
-
-      module _ (e : f ≡ 6) {d : ℕ} (hd : d ≡ Number.numberUpTo 65536 (getD (readAt s (ty - 1) .fields) 0 [])) where
-        element-ref : (d ≡ numberOf (getD (readAt s (ty - 1) .fields) 0 [])) × KindLine 75 s t n d
-        unfolding forms
-        element-ref =
-            let w = parts-at type-line (sym hf ∙ e) in
-            good-line type-line 75 (getD (readAt s (ty - 1) .fields) 0 []) d hd (ref-head (readsIn s) (ty - 1) kTy [] (readAt s (ty - 1) .fields) (w .0) (w .1) .0)
-
-        pub element-line : TypeLine s t n d
-        element-line = element-ref .1
-
-        pub element-some : typeOf s d ≡ elemOf (varOn s r .ty)
-        unfolding forms
-        element-some =
-            type-given s d (λ z. omega (arith, element-line .first))
-            ∙ sym (ap elemOf type-is ∙ ap (λ (x : Node). elemOf (x .ty)) (makes type-line (sym hf ∙ e)) ∙ rw (head-drop 0 (readAt s (ty - 1) .fields), ← element-ref .0))
-
-  -- ---- the value
-
   module _ {q : ℕ} (hq : q ≡ Number.numberUpTo 65536 (getD (readAt s (r - 1) .fields) 1 [])) where
     value-ref : (q ≡ numberOf (getD (readAt s (r - 1) .fields) 1 [])) × ((q ≡ 0 → ⊥) → KindLine 69 s t n q)
     value-ref = may-line l 69 (getD (readAt s (r - 1) .fields) 1 []) q hq (parts-good s t n r l .1)

@@ -4,15 +4,14 @@ use mathlib.Core.Bool.{Bool, true, false, not, true≢false, false≢true}
 use mathlib.Core.List.{List, [], _∷_}
 use Prim.Native.Nat.{ℕ, suc, _+_, _-_, _≤_, _<_}
 use native.Mathlib.Omega.{arith}
-use lib.ListN.{getD, drop}
+use lib.ListN.{length, getD, drop}
 use Rattle.semantics.specs.Text.{Bytes, bytes, same}
 use Rattle.semantics.specs.Form.{values, numberOf}
 use Rattle.semantics.specs.Form.Atom.{name}
 use Rattle.semantics.specs.Global.{laidNames, noneOf}
-use Rattle.decimal.specs.Number as Number
 use Rattle.lines.specs.Lines.{readAt, nodesIn}
-use Rattle.global_table.specs.Table.{VarLine, nameOn, namesOn}
-use Rattle.global_table.proofs.Line.{count-on}
+use Rattle.global_table.specs.Table.{nameOn, namesOn}
+use Rattle.global_table.proofs.VarLine.{names-count}
 use Rattle.refs.proofs.Fields.{head-drop, tail-drop}
 
 -- those from j on, of `count`
@@ -29,14 +28,10 @@ names-step s r count j h =
 pub names-over : (s : Bytes) (r count j : ℕ) → count ≤ j → namesFrom s r count j ≡ []
 names-over s r count j h = let e : count - j ≡ 0 = omega arith in rw e
 
-module _ (s t : Bytes) (n r : ℕ) (l : VarLine s t n r) {count : ℕ} (hc : count ≡ Number.numberUpTo 65536 (getD (readAt s (r - 1) .fields) 2 [])) where
-  pub few-names : count ≤ 16
-  few-names = count-on s t n r l count hc .1
-
-  pub names-all : namesFrom s r count 0 ≡ namesOn s r
-  names-all =
-      let z : count - 0 ≡ numberOf (getD (readAt s (r - 1) .fields) 2 []) = omega (arith, count-on s t n r l count hc .0) in
-      ap (λ (k : ℕ). values name (nodesIn s) k (drop 3 (readAt s (r - 1) .fields))) z
+pub names-all : (s : Bytes) (r : ℕ) {count : ℕ} → count ≡ length (namesOn s r) → namesFrom s r count 0 ≡ namesOn s r
+names-all s r {count} hc =
+    let z : count - 0 ≡ numberOf (getD (readAt s (r - 1) .fields) 2 []) = omega (arith, hc, names-count s r) in
+    ap (λ (k : ℕ). values name (nodesIn s) k (drop 3 (readAt s (r - 1) .fields))) z
 
 -- ---- whether one of them is laid out
 

@@ -29,21 +29,21 @@ use Rattle.arrays.specs.declared.Arrayed.{Arrayed}
 use Rattle.arrays.specs.declared.Arrayed.the-variants as Arrayed
 use Rattle.arrays.specs.Arrays as Arrays
 use Rattle.arrays.specs.Arrays.{arrayedIn, typeOf, ArrayLine, DeclaredElement}
-use Rattle.global_table.specs.Table.{VarLine, namesOn}
+use Rattle.global_table.specs.Table.{VarLine, varOn, namesOn}
 use Rattle.vars.specs.declared.First.{First}
 use Rattle.vars.specs.declared.First.the-variants.{NoValue, Value, Alloc, Literal, Pending, Refused}
-use Rattle.vars.specs.First.{initIn, FirstStands, Inits, varOn, Valued, orPending}
+use Rattle.vars.specs.First.{initIn, FirstStands, Inits, Valued, orPending}
 use Rattle.vars.proofs.Lines.{init-none, init-some, value-line}
 
 -- ---- arrays
 
 -- y is the array x as a first value
-abbrev pub IsArray : Arrayed → First → Type 0
+abbrev IsArray : Arrayed → First → Type 0
 IsArray x y = (t : Bytes) → Arrays.ArrayStands t x → (initIn t y ≡ arrayValue (arrayedIn t x)) × FirstStands t y
 
 module _ {x : Arrayed} where
   pub array-alloc : {k n : ℕ} → x ≡ Arrayed.Alloc k n → IsArray x (Alloc k n)
-  array-alloc e t h = (rw e, tt)
+  array-alloc e t h = (rw e, subst (Arrays.ArrayStands t) e h)
 
   pub array-literal : {k n : ℕ} → x ≡ Arrayed.Literal k n → IsArray x (Literal k n)
   array-literal e t h = (rw e, subst (Arrays.ArrayStands t) e h)

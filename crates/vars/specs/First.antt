@@ -1,16 +1,13 @@
 -- First values of `var` lines, as the code answers them.
-use Prim.Native.Nat.{ℕ, _-_}
+use Prim.Native.Nat.{ℕ, _<_}
 use mathlib.Core.Path.{_≡_}
 use mathlib.Core.List.{[]}
-use Rattle.checks.specs.Checks.{KindLine}
 use Rattle.semantics.specs.Text.{Bytes}
-use Rattle.semantics.specs.Tree.{VarDecl}
 use Rattle.semantics.specs.Fold.{Result}
 use Rattle.semantics.specs.Fold.Result.{ok, failed, refuse}
 use Rattle.semantics.specs.Global.{Init, noInit, constInit, arrayInit, pendingInit}
-use Rattle.lines.specs.Lines.{readAt, nodesIn}
-use Rattle.source.specs.Walk.{varOf}
 use Rattle.values.specs.Values.{valueIn, At}
+use Rattle.leaf.specs.Folds.{ExLine}
 use Rattle.placements.specs.Placements.{valuesIn, Keeps}
 use Rattle.global_table.specs.Table.{VarLine}
 use Rattle.arrays.specs.Arrays.{kindOfNumber, ValuesStand}
@@ -28,12 +25,12 @@ initIn t (Literal k n) = ok (arrayInit (record { kind = kindOfNumber k; count = 
 initIn t Pending = ok pendingInit
 initIn t (Refused r) = refuse r
 
--- where the strings of a value stand
+-- where the strings of a value stand; an array's elements are of one of the five kinds
 abbrev pub FirstStands : Bytes → First → Type 0
 FirstStands t NoValue = Unit {0}
 FirstStands t (Value v) = At 49152 v
-FirstStands t (Alloc k n) = Unit {0}
-FirstStands t (Literal k n) = ValuesStand t n
+FirstStands t (Alloc k n) = k < 5
+FirstStands t (Literal k n) = (k < 5) × ValuesStand t n
 FirstStands t Pending = Unit {0}
 FirstStands t (Refused r) = Unit {0}
 
@@ -45,14 +42,10 @@ pub record Inits (t : Bytes) (r : Result Init) (x : First) (u : Bytes) : Type 0 
 
 -- ---- lines
 
--- what the `var` line r declares
-abbrev pub varOn : Bytes → ℕ → VarDecl
-varOn s r = varOf (nodesIn s) (readAt s (r - 1) .fields)
-
--- line r is a `var` line, and has its value in line q, 69
+-- line r is a `var` line, and has its value in line q
 pub record Valued (s t : Bytes) (n r q : ℕ) : Type 0 where
   pub line : VarLine s t n r
-  pub value : KindLine 69 s t n q
+  pub value : ExLine s t n q
 
 -- one that fails is taken as pending
 abbrev pub orPending : Result Init → Result Init

@@ -1,2 +1,1 @@
 pub mod First
-pub mod Lines

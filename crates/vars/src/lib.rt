@@ -1,27 +1,23 @@
-// First values of globals, and the lines that have them.
+// First values of globals.
 use arrays::Arrayed;
 use codes::area;
-use codes::decl;
 use codes::ty;
+use global_table::line;
 use names::Known;
 use values::ConstVal;
 use values::Folded;
 ghost use mathlib.Core.Path.{_≡_};
 ghost use mathlib.Core.Bool.{not};
-ghost use Prim.Native.Nat.{_<_};
 ghost use Rattle.semantics.specs.Text.{Bytes};
 ghost use Rattle.semantics.specs.Tree.{elemOf};
 ghost use Rattle.semantics.specs.Array.{constArray};
 ghost use Rattle.semantics.specs.Global.{arrayValue, initOf, plainInit, laidNames, noneOf, varValue};
-ghost use Rattle.implement.specs.Modules.{Open};
 ghost use Rattle.names.specs.Table.{ConstsLogged, namesIn};
 ghost use Rattle.leaf.specs.Folds.{exAt};
 ghost use Rattle.arrays.specs.Arrays as Arrays;
 ghost use Rattle.arrays.specs.Arrays.{arrayedIn, typeOf, DeclaredElement};
-ghost use Rattle.global_table.specs.Table.{VarLine, namesOn};
-ghost use Rattle.globals.specs.Vars.{laidAt};
-ghost use Rattle.vars.specs.Lines.{laidOn, MayLay};
-ghost use Rattle.vars.specs.First.{initIn, FirstStands, Inits, varOn, Valued, orPending};
+ghost use Rattle.global_table.specs.Table.{VarLine, varOn, namesOn};
+ghost use Rattle.vars.specs.First.{initIn, FirstStands, Inits, Valued, orPending};
 
 // The first value of a global: none, a folded one, the kind and the number of an array's elements, or one that is left pending.
 // Strings and the values of a literal stand in the working space.
@@ -51,7 +47,7 @@ fn element_type(sheet: &[u8], work: &[u8], n: usize, r: usize) -> usize
     requires { ⌜ VarLine (now sheet) (now work) n r ⌝ }
     ensures { λ d. ⌜ (typeOf (now (sheet .entry)) d ≡ elemOf (varOn (now (sheet .entry)) r .ty)) × (DeclaredElement (now (sheet .entry)) (now (work .entry)) n d) ⌝ }
 {
-    let ty = lines::number_at(sheet, work, n, r - 1, 0);
+    let ty = line::type_of(sheet, work, n, r);
     if lines::form_at(work, ty - 1) != ty::ARRAY {
         return 0;
     }
@@ -88,10 +84,10 @@ fn has_names(sheet: &[u8], work: &[u8], n: usize, r: usize) -> bool
     requires { ⌜ VarLine (now sheet) (now work) n r ⌝ }
     ensures { λ b. ⌜ b ≡ not (noneOf (laidNames (namesOn (now (sheet .entry)) r))) ⌝ }
 {
-    let count = lines::number_at(sheet, work, n, r - 1, 2);
+    let count = line::name_count(sheet, work, n, r);
     let mut j = 0;
     while j < count {
-        if !words::same(lines::field_at(sheet, work, n, r - 1, 3 + j), b"nil") {
+        if !line::is_nil(line::name_at(sheet, work, n, r, j)) {
             return true;
         }
         j += 1;
@@ -124,18 +120,4 @@ pub fn var_value(sheet: &[u8], work: &mut [u8], c: Known, r: usize) -> First
         return first_value(sheet, work, c, r);
     }
     plain_value(sheet, work, c, r)
-}
-
-// Line i, from 0, where the module of line k is open before it: its number from 1 where it is a `var` line that counts, else 0.
-pub fn laid_line(sheet: &[u8], work: &[u8], n: usize, i: usize, k: usize) -> usize
-    requires { ⌜ (Open (now sheet) (now work) n i k) × (i < n) ⌝ }
-    ensures { λ r. ⌜ (laidOn (now (sheet .entry)) r ≡ laidAt (now (sheet .entry)) i) × (MayLay (now (sheet .entry)) (now (work .entry)) n r) ⌝ }
-{
-    if lines::form_at(work, i) != decl::VAR {
-        return 0;
-    }
-    if !implement::is_own(sheet, work, n, k) {
-        return 0;
-    }
-    i + 1
 }

@@ -1,4 +1,4 @@
-use Rattle.arrays.proofs.Allocs.{length-foldable, alloc-answers}
+use Rattle.arrays.proofs.Allocs.{alloc-low, length-foldable, alloc-answers}
 use Rattle.literals.proofs.Lines.{line-in}
 use borrow.Author.Needs.{needs}
 use Rattle.arrays.proofs.alloc.Statement.{statement}
@@ -13,10 +13,13 @@ number-at-requires c κs = (c .before .before .before .before .before .pre .0 .a
 fold-const-requires : tie.Need-fold-const-requires
 fold-const-requires c κs = length-foldable (c .before .before .before .before .before .before .before .pre .0) (c .before .number-at .ensures .0) (c .before .before .before .before .before .before .before .pre .1)
 
+allocated-requires : tie.Need-allocated-requires
+allocated-requires c κs = alloc-low (c .before .before .before .before .before .before .before .before .before .before .pre .0) (c .before .before .before .before .before .before .alloc-kind .ensures)
+
 returns : tie.Need-returns
 returns c = alloc-answers (c .before .before .before .before .before .before .before .before .before .before .before .pre .0) (c .before .before .before .before .before .number-at .ensures .0) (c .before .before .before .before .before .before .before .alloc-kind .ensures) (c .before .before .before .fold-const .ensures) (c .allocated .result) (c .allocated .ensures _ .0) (c .allocated .ensures _ .1)
 
 pub alloc-spec : {M : Type 1} → statement M
 alloc-spec =
-    tie.close (tie.spec (λ c κs. search needs) sub-number-at number-at-requires fold-const-requires (λ c κs. search needs) (λ c. search needs)
+    tie.close (tie.spec (λ c κs. search needs) sub-number-at number-at-requires fold-const-requires allocated-requires (λ c. search needs)
     returns)

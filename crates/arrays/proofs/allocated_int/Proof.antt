@@ -16,7 +16,7 @@ cast-t4 : tie.Need-cast-t4
 cast-t4 c = length-fits (kindOfNumber (c .before .before .before .args .kind)) (c .before .before .before .fits .z) (c .before .before .if1 .left) (c .if3 .left)
 
 returns-4 : tie.Need-returns-4
-returns-4 c = λ t. (length-whole (kindOfNumber (c .before .before .before .args .kind)) (c .before .before .before .fits .z) (c .before .before .if1 .left) (c .if3 .left), tt)
+returns-4 c = λ t. (length-whole (kindOfNumber (c .before .before .before .args .kind)) (c .before .before .before .fits .z) (c .before .before .if1 .left) (c .if3 .left), c .before .before .before .pre)
 
 pub allocated-int-spec : {M : Type 1} → statement M
 allocated-int-spec = tie.close (tie.spec returns returns-2 returns-3 cast-t4 returns-4)

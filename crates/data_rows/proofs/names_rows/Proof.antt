@@ -1,11 +1,10 @@
 -- `data_rows::names_rows` meets its contract.
-use Rattle.data_rows.proofs.Names.{Naming, naming-start, naming-next, naming-end}
-use Rattle.vars.proofs.Names.{few-names}
-use Prim.Native.Nat.{_-_}
-use Rattle.global_table.specs.Table.{typeOn}
-use denote.Ref.{now}
-use native.Mathlib.Omega.{arith}
 use borrow.Author.Needs.{needs}
+use native.Mathlib.Omega.{arith}
+use denote.Ref.{now}
+use Rattle.global_table.specs.Table.{typeOn}
+use Prim.Native.Nat.{_-_}
+use Rattle.data_rows.proofs.Names.{Naming, naming-start, naming-next, naming-end}
 use Rattle.data_rows.proofs.names_rows.Statement.{statement}
 use Rattle.data_rows.proofs.names_rows.Tie as tie
 
@@ -16,16 +15,16 @@ abbrev μ-loop : tie.MeasureT-loop
 μ-loop sheet work₀ c r x out₀ count q₀ j₀ work out q j = count - j
 
 loop-holds : tie.Need-loop-holds Inv-loop μ-loop
-loop-holds c = naming-start (c .before .before .before .before .before .before .before .pre .0) (c .before .before .before .before .before .before .before .pre .1) (c .before .before .number-at .ensures .0) (c .no-rows .ensures .0) (c .no-rows .ensures .1)
+loop-holds c = naming-start (c .before .before .before .before .before .before .before .pre .0) (c .before .before .before .before .before .before .before .pre .1) (c .before .before .name-count .ensures .0) (c .no-rows .ensures .0) (c .no-rows .ensures .1)
+
+name-at-requires : tie.Need-name-at-requires Inv-loop μ-loop
+name-at-requires c κs = (c .before .before .loop .inv .line, omega (arith, c .before .before .before .before .before .name-count .ensures .1, c .before .loop-test .taken))
 
 name-rows-requires : tie.Need-name-rows-requires Inv-loop μ-loop
 name-rows-requires c κs = c .before .before .before .before .before .loop .inv .task
 
-add-field-at : tie.Need-add-field-at Inv-loop μ-loop
-add-field-at c = record { fits = omega (arith, few-names (now (c .before .before .before .before .before .before .before .before .before .before .args .sheet)) (now (c .before .before .before .before .before .before .before .before .before .before .args .work)) (c .before .before .before .before .before .before .before .before .before .before .args .c .lines) (c .before .before .before .before .before .before .before .before .before .before .args .r) (c .before .before .before .before .before .before .before .before .before .before .pre .1) (c .before .before .before .before .before .number-at .ensures .0), c .before .loop-test .taken) }
-
 loop-again : tie.Need-loop-again Inv-loop μ-loop
-loop-again c = naming-next (c .before .before .before .before .before .before .before .before .before .before .loop .inv) (c .before .before .before .before .before .before .before .before .before .loop-test .taken) (c .before .out .given) (c .before .before .before .before .before .before .before .field-at .ensures) (c .before .before .before .before .name-rows .ensures .0 (typeOn (now (c .before .before .before .before .before .before .before .before .before .before .before .before .before .before .before .before .before .before .args .sheet)) (c .before .before .before .before .before .before .before .before .before .before .before .before .before .before .before .before .before .before .args .r)) (c .before .before .before .before .before .before .before .before .before .before .before .before .before .before .before .before .before .before .pre .2), c .before .before .before .before .name-rows .ensures .1)
+loop-again c = naming-next (c .before .before .before .before .before .before .before .before .before .before .loop .inv) (c .before .before .before .before .before .before .before .before .before .loop-test .taken) (c .before .out .given) (c .before .before .before .before .before .before .before .name-at .ensures) (c .before .before .before .before .name-rows .ensures .0 (typeOn (now (c .before .before .before .before .before .before .before .before .before .before .before .before .before .before .before .before .before .before .args .sheet)) (c .before .before .before .before .before .before .before .before .before .before .before .before .before .before .before .before .before .before .args .r)) (c .before .before .before .before .before .before .before .before .before .before .before .before .before .before .before .before .before .before .pre .2), c .before .before .before .before .name-rows .ensures .1)
 
 same-length : tie.Need-same-length Inv-loop μ-loop
 same-length c = c .before .loop .inv .outside .kept .long
@@ -38,5 +37,5 @@ returns c = naming-end (c .before .loop .inv) (c .loop-test .left) (c .before .b
 
 pub names-rows-spec : {M : Type 1} → statement M
 names-rows-spec =
-    tie.close (tie.spec Inv-loop μ-loop (λ c. search needs) (λ c κs. search needs) (λ c κs. search needs) loop-holds (λ c. search needs)
-    add-field-at (λ c κs. search needs) name-rows-requires (λ c. search needs) (λ c. search needs) loop-again same-length same-length-2 returns)
+    tie.close (tie.spec Inv-loop μ-loop (λ c κs. search needs) (λ c κs. search needs) loop-holds name-at-requires name-rows-requires
+    (λ c. search needs) (λ c. search needs) loop-again same-length same-length-2 returns)

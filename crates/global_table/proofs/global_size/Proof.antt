@@ -4,7 +4,7 @@ use native.Mathlib.Omega.{arith}
 use denote.Ref.{now}
 use borrow.Author.Needs.{needs}
 use Rattle.sizes.specs.Sizes.{typeAt}
-use Rattle.global_table.proofs.Line.{size-word, size-plain}
+use Rattle.global_table.proofs.VarLine.{size-word, size-plain}
 use Rattle.global_table.proofs.global_size.Statement.{statement}
 use Rattle.global_table.proofs.global_size.Tie as tie
 

@@ -3,7 +3,7 @@ use Prim.Native.Nat.{_-_}
 use mathlib.Core.Path.{refl}
 use borrow.Author.Needs.{needs}
 use denote.Ref.{now}
-use Rattle.globals.proofs.Collect.{open-around, Collecting, collecting-start, collecting-here, collecting-next, collecting-end}
+use Rattle.globals.proofs.Collect.{open-outside, Collecting, collecting-start, collecting-here, collecting-next, collecting-end}
 use Rattle.globals.proofs.collect_globals.Statement.{statement}
 use Rattle.globals.proofs.collect_globals.Tie as tie
 
@@ -22,7 +22,7 @@ declare-line-requires c κs =
     collecting-here (now (c .before .before .before .before .before .args .sheet)) (now (c .before .before .before .before .before .args .work)) (c .before .before .before .before .before .args .n) (c .before .before .before .before .before .pre) (l .work) (l .g) (l .k) (l .i) (l .inv) (c .before .loop-test .taken)
 
 open-after-requires : tie.Need-open-after-requires Inv-loop μ-loop
-open-after-requires c κs = (open-around (c .before .before .before .declare-line .ensures .around) (c .before .before .before .before .before .before .loop .inv .here), c .before .before .before .before .before .loop-test .taken)
+open-after-requires c κs = (open-outside (c .before .before .before .declare-line .ensures .outside) (c .before .before .before .before .before .before .loop .inv .here), c .before .before .before .before .before .loop-test .taken)
 
 loop-again : tie.Need-loop-again Inv-loop μ-loop
 loop-again c =
@@ -30,7 +30,7 @@ loop-again c =
     collecting-next (now (c .before .before .before .before .before .before .before .before .before .before .args .sheet)) (now (c .before .before .before .before .before .before .before .before .before .before .args .work)) (c .before .before .before .before .before .before .before .before .before .before .args .n) (c .before .before .before .before .before .before .before .before .before .before .pre) (l .work) (l .g) (l .k) (l .i) (l .inv) (c .before .before .before .before .before .before .loop-test .taken) (c .before .before .before .before .declare-line .ensures) (c .open-after .ensures)
 
 same-length : tie.Need-same-length Inv-loop μ-loop
-same-length c = c .before .loop .inv .laid .around .below .long
+same-length c = c .before .loop .inv .laid .outside .kept .long
 
 returns : tie.Need-returns Inv-loop μ-loop
 returns c =

@@ -10,7 +10,7 @@ use Rattle.image.proofs.image.Statement.{statement}
 use Rattle.image.proofs.image.Tie as tie
 
 refuse-requires : tie.Need-refuse-requires
-refuse-requires c κs = has-refused (now (c .before .before .before .before .before .before .before .before .before .before .before .before .before .before .before .before .before .before .before .before .before .before .before .args .sheet)) _ _ _ (c .before .before .before .before .before .before .before .before .before .number .given .1) (c .before .before .before .before .before .before .before .before .before .before .before .before .before .before .before .list .ensures) .numbered
+refuse-requires c κs = has-refused (now (c .before .before .before .before .before .before .before .before .before .before .before .before .before .before .before .before .before .before .before .before .before .before .before .args .sheet)) _ _ _ (c .before .before .before .before .before .before .before .before .before .number .given .1) (c .before .before .before .before .before .before .before .before .before .before .before .before .before .before .before .list .ensures) .stops .numbered
 
 part-replay-end : tie.Need-part-replay-end
 part-replay-end c = let h = has-listed (now (c .before .before .before .before .before .before .before .before .before .before .before .before .before .before .before .before .args .sheet)) _ _ (c .before .before .l .given .1) (c .before .before .before .before .before .before .before .before .list .ensures) in omega (arith, h .room, c .before .before .before .before .before .before .before .before .list .kept .1 .0)

@@ -1,11 +1,10 @@
 -- `pends::pend_names` meets its contract.
-use native.Mathlib.Omega.{arith}
 use borrow.Author.Needs.{needs}
-use denote.Ref.{now}
-use Prim.Native.Nat.{_-_}
-use Rattle.write.proofs.Wrote.{wrote-length}
-use Rattle.vars.proofs.Names.{few-names}
 use Rattle.pends.proofs.Rows.{Naming, naming-start, naming-next, naming-end}
+use Rattle.write.proofs.Wrote.{wrote-length}
+use Prim.Native.Nat.{_-_}
+use denote.Ref.{now}
+use native.Mathlib.Omega.{arith}
 use Rattle.pends.proofs.pend_names.Statement.{statement}
 use Rattle.pends.proofs.pend_names.Tie as tie
 
@@ -16,13 +15,13 @@ abbrev μ-loop : tie.MeasureT-loop
 μ-loop sheet work n r out₀ at count p₀ j₀ out p j = count - j
 
 loop-holds : tie.Need-loop-holds Inv-loop μ-loop
-loop-holds c = naming-start (now (c .before .before .before .before .before .before .args .sheet)) (now (c .before .before .before .before .before .before .args .work)) (c .before .before .before .before .before .before .args .n) (c .before .before .before .before .before .before .args .r) (c .before .before .before .before .before .before .pre) (c .before .before .number-at .ensures .0) (c .nothing .ensures)
+loop-holds c = naming-start (now (c .before .before .before .before .before .before .args .sheet)) (c .before .before .before .before .before .before .args .r) (c .before .before .name-count .ensures .0) (c .nothing .ensures)
 
-add-field-at : tie.Need-add-field-at Inv-loop μ-loop
-add-field-at c = record { fits = omega (arith, few-names (now (c .before .before .before .before .before .before .before .before .args .sheet)) (now (c .before .before .before .before .before .before .before .before .args .work)) (c .before .before .before .before .before .before .before .before .args .n) (c .before .before .before .before .before .before .before .before .args .r) (c .before .before .before .before .before .before .before .before .pre) (c .before .before .before .before .number-at .ensures .0), c .loop-test .taken) }
+name-at-requires : tie.Need-name-at-requires Inv-loop μ-loop
+name-at-requires c κs = (c .before .before .before .before .before .before .before .before .pre, omega (arith, c .before .before .before .before .name-count .ensures .1, c .loop-test .taken))
 
 loop-again : tie.Need-loop-again Inv-loop μ-loop
-loop-again c = naming-next (c .before .before .before .before .before .before .loop .inv) (c .before .before .before .before .before .loop-test .taken) (wrote-length (c .before .before .pend-name .ensures)) (c .before .before .before .before .field-at .ensures) (c .before .before .pend-name .ensures)
+loop-again c = naming-next (c .before .before .before .before .before .before .loop .inv) (c .before .before .before .before .before .loop-test .taken) (wrote-length (c .before .before .pend-name .ensures)) (c .before .before .before .before .name-at .ensures) (c .before .before .pend-name .ensures)
 
 same-length : tie.Need-same-length Inv-loop μ-loop
 same-length c = c .before .loop .inv .long
@@ -32,5 +31,5 @@ returns c = naming-end (c .before .loop .inv) (c .loop-test .left)
 
 pub pend-names-spec : {M : Type 1} → statement M
 pend-names-spec =
-    tie.close (tie.spec Inv-loop μ-loop (λ c. search needs) (λ c κs. search needs) (λ c κs. search needs) loop-holds (λ c. search needs)
-    add-field-at (λ c κs. search needs) (λ c κs. search needs) (λ c. search needs) (λ c. search needs) loop-again same-length returns)
+    tie.close (tie.spec Inv-loop μ-loop (λ c κs. search needs) (λ c κs. search needs) loop-holds name-at-requires (λ c κs. search needs)
+    (λ c. search needs) (λ c. search needs) loop-again same-length returns)

@@ -64,6 +64,9 @@ module _ (s t : Bytes) (n : ℕ) (w : Whole s t n) (i : ℕ) (h : i < n) {f : �
 
 -- ---- its fields
 
+pub names-count : (s : Bytes) (r : ℕ) → length (namesOn s r) ≡ numberOf (getD (readAt s (r - 1) .fields) 2 [])
+names-count s r = values-length name (nodesIn s) (numberOf (getD (readAt s (r - 1) .fields) 2 [])) (drop 3 (readAt s (r - 1) .fields))
+
 module _ (s t : Bytes) (n r : ℕ) (l : VarLine s t n r) where
   pub var-in : r - 1 < n
   var-in = omega (arith, l .first, l .last)
@@ -105,7 +108,7 @@ module _ (s t : Bytes) (n r : ℕ) (l : VarLine s t n r) where
     type-on = ap (typeAt s) type-number
 
   module _ (v : ℕ) (hv : v ≡ Number.numberUpTo 65536 (getD (readAt s (r - 1) .fields) 2 [])) where
-    pub count-on : (v ≡ numberOf (getD (readAt s (r - 1) .fields) 2 [])) × (v ≤ 16) × (v ≡ length (namesOn s r))
+    pub count-on : (v ≡ length (namesOn s r)) × (v ≤ 16)
     count-on =
         let q = count-exact (getD (readAt s (r - 1) .fields) 2 []) (parts-good .2) hv in
-        (q .0, q .1, q .0 ∙ sym (values-length name (nodesIn s) (numberOf (getD (readAt s (r - 1) .fields) 2 [])) (drop 3 (readAt s (r - 1) .fields))))
+        (q .0 ∙ sym (names-count s r), q .1)

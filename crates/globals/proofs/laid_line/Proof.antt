@@ -1,9 +1,9 @@
--- `vars::laid_line` meets its contract.
-use Rattle.vars.proofs.Laid.{laid-other, laid-skipped, laid-here}
+-- `globals::laid_line` meets its contract.
+use Rattle.globals.proofs.Laid.{laid-other, laid-skipped, laid-here}
 use borrow.Author.Tests.{not-true, not-false}
 use borrow.Author.Needs.{needs}
-use Rattle.vars.proofs.laid_line.Statement.{statement}
-use Rattle.vars.proofs.laid_line.Tie as tie
+use Rattle.globals.proofs.laid_line.Statement.{statement}
+use Rattle.globals.proofs.laid_line.Tie as tie
 
 returns : tie.Need-returns
 returns c = laid-other (c .before .before .before .before .pre .0) (c .before .before .before .before .pre .1) (c .before .form-at .ensures) (c .if1 .taken)

@@ -3,9 +3,8 @@ use mathlib.Core.Path.{_≡_, refl, ap, _∙_}
 use mathlib.Core.Bool.{Bool, true, false, not, cond}
 use mathlib.Core.List.{List, [], _∷_, _++_, map}
 use mathlib.Core.Option.{Option, none, some}
-use Prim.Native.Nat.{ℕ, zero, suc, _+_, _-_, _<_}
+use Prim.Native.Nat.{ℕ, zero, suc, _+_, _<_}
 use native.Mathlib.Numerals.{add-one}
-use native.Mathlib.Omega.{arith}
 use lib.Dec.{eqb}
 use lib.ListN.{getD}
 use Rattle.semantics.specs.Text.{Bytes, bytes, same, filter}
@@ -22,8 +21,9 @@ use Rattle.source.specs.Walk.{declaresAt, openAt, locatedTo, varOf, byKind}
 use Rattle.source.proofs.Walk.{located-all, source-of}
 use Rattle.source.proofs.Declares.{line-declares}
 use Rattle.implement.specs.Modules.{ownIn}
-use Rattle.globals.specs.Collect.{layLine}
-use Rattle.globals.specs.Laying.{Allocation, noLaying, allocationOf, layAt, layName, layNames, layVars, laidTo}
+use Rattle.globals.specs.Collect.{layLines, layLine}
+use Rattle.globals.specs.Vars.{locatedAt}
+use Rattle.globals.specs.Allocation.{Allocation, noAllocation, allocationOf, layAt, layName, layNames, layVars, laidTo}
 
 -- ---- what is declared, without first values
 
@@ -75,8 +75,8 @@ module _ (ns : Names) where
           ∙ ap (layVars impl vs) (by-names (λ (n : Bytes). record { name = n; ty = v .it .ty; first = orNoInit (initOf ns (v .it .ty) (v .it .init)) }) (v .it .ty) (λ n. refl) (λ n. refl) (v .it .names) l)
       go false ih = ih l
 
-  source-places : (s : Source) → allocationOf (globals ns s) ≡ layVars (s .implement) (s .vars) noLaying
-  source-places s = places-only (declaredIn ns s) noGlobals ∙ by-lines (s .implement) (s .vars) noLaying
+  source-places : (s : Source) → allocationOf (globals ns s) ≡ layVars (s .implement) (s .vars) noAllocation
+  source-places s = places-only (declaredIn ns s) noGlobals ∙ by-lines (s .implement) (s .vars) noAllocation
 
 -- ---- line by line
 
@@ -103,21 +103,20 @@ module _ (s t : Bytes) (n : ℕ) (c : Checked s t n) where
 
   pub laid-all : (ns : Names) → allocationOf (globals ns (sheetSource s)) ≡ laidTo s n
   unfolding laidTo
-  laid-all ns = source-places ns (sheetSource s) ∙ ap (λ (vs : List (Located VarDecl)). layVars (sheetSource s .implement) vs noLaying) vars-are
+  laid-all ns = source-places ns (sheetSource s) ∙ ap (λ (vs : List (Located VarDecl)). layVars (sheetSource s .implement) vs noAllocation) vars-are
 
   module _ (i : ℕ) (h : i < n) where
     pub laid-next : laidTo s (i + 1) ≡ layLine s i (laidTo s i)
-    unfolding laidTo locatedTo layVars byKind layLine
+    unfolding laidTo locatedTo layVars byKind layLine layLines
     laid-next =
         let at : VarDecl → Located VarDecl = λ (v : VarDecl). record { line = suc i; within = openAt (nodesIn s) i; it = v } in
-        let z : i ≡ i + 1 - 1 = omega arith in
         ap (laidTo s) (add-one i)
-        ∙ vars-append (sheetSource s .implement) (locatedTo (λ (d : Declares). d .vars) (nodesIn s) i) (map at (declaresAt (nodesIn s) i .vars)) noLaying
+        ∙ vars-append (sheetSource s .implement) (locatedTo (λ (d : Declares). d .vars) (nodesIn s) i) (map at (declaresAt (nodesIn s) i .vars)) noAllocation
         ∙ ap (λ (d : Declares). layVars (sheetSource s .implement) (map at (d .vars)) (laidTo s i)) (line-declares s t n c i h)
-        ∙ go (eqb (letter (readAt s i .form .kind)) 72)
-        ∙ ap (λ (x : ℕ). cond (eqb (letter (readAt s i .form .kind)) 72) (cond (ownIn (sheetSource s .implement) (openAt (nodesIn s) i)) (layNames (varOf (nodesIn s) (readAt s x .fields) .ty) (varOf (nodesIn s) (readAt s x .fields) .names) (laidTo s i)) (laidTo s i)) (laidTo s i)) z
+        ∙ go (eqb (letter (readAt s i .form .kind)) 72) (ownIn (sheetSource s .implement) (openAt (nodesIn s) i)) refl
       where
-        go : (b : Bool) → layVars (sheetSource s .implement) (map (λ (v : VarDecl). record { line = suc i; within = openAt (nodesIn s) i; it = v }) (cond b (varOf (nodesIn s) (readAt s i .fields) ∷ []) [])) (laidTo s i)
-            ≡ cond b (cond (ownIn (sheetSource s .implement) (openAt (nodesIn s) i)) (layNames (varOf (nodesIn s) (readAt s i .fields) .ty) (varOf (nodesIn s) (readAt s i .fields) .names) (laidTo s i)) (laidTo s i)) (laidTo s i)
-        go true = refl
-        go false = refl
+        go : (b d : Bool) → ownIn (sheetSource s .implement) (openAt (nodesIn s) i) ≡ d
+            → layVars (sheetSource s .implement) (map (λ (v : VarDecl). record { line = suc i; within = openAt (nodesIn s) i; it = v }) (cond b (varOf (nodesIn s) (readAt s i .fields) ∷ []) [])) (laidTo s i) ≡ layLines (cond b (cond d (locatedAt s i ∷ []) []) []) (laidTo s i)
+        go true true e = rw e
+        go true false e = rw e
+        go false d e = refl

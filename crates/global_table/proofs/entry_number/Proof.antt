@@ -1,10 +1,10 @@
--- `global_table::place_of` meets its contract.
+-- `global_table::entry_number` meets its contract.
 use Prim.Native.Nat.{_-_}
 use borrow.Author.Needs.{needs}
 use denote.Ref.{now}
 use Rattle.global_table.proofs.Table.{Searching, search-start, search-found, search-next, search-end}
-use Rattle.global_table.proofs.place_of.Statement.{statement}
-use Rattle.global_table.proofs.place_of.Tie as tie
+use Rattle.global_table.proofs.entry_number.Statement.{statement}
+use Rattle.global_table.proofs.entry_number.Tie as tie
 
 abbrev Inv-loop : tie.InvT-loop
 Inv-loop sheet work n g name d i₀ i = Searching sheet work g name i
@@ -35,7 +35,7 @@ returns-2 c =
     let a = c .before .before .before .before .before .before .args in
     search-end (now (a .sheet)) (now (a .work)) (a .g) (now (a .name)) (c .before .loop .i) (c .before .loop .inv) (c .loop-test .left)
 
-pub place-of-spec : {M : Type 1} → statement M
-place-of-spec =
+pub entry-number-spec : {M : Type 1} → statement M
+entry-number-spec =
     tie.close (tie.spec Inv-loop μ-loop (λ c κs. search needs) loop-holds is-named-requires (λ c. search needs) returns (λ c. search needs)
     (λ c. search needs) loop-again returns-2)

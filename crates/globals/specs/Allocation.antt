@@ -16,8 +16,8 @@ pub record Allocation : Type 0 where
   pub places : List Global
   pub end : ℕ
 
-abbrev pub noLaying : Allocation
-noLaying = record { places = []; end = 0 }
+abbrev pub noAllocation : Allocation
+noAllocation = record { places = []; end = 0 }
 
 abbrev pub allocationOf : Globals → Allocation
 allocationOf g = record { places = g .places; end = g .end }
@@ -42,4 +42,4 @@ layVars impl (v ∷ vs) l = layVars impl vs (cond (ownIn impl (v .within)) (layN
 
 -- those of a sheet's first i lines
 unfoldable pub laidTo : Bytes → ℕ → Allocation
-laidTo s i = layVars (sheetSource s .implement) (locatedTo (λ (d : Declares). d .vars) (nodesIn s) i) noLaying
+laidTo s i = layVars (sheetSource s .implement) (locatedTo (λ (d : Declares). d .vars) (nodesIn s) i) noAllocation
