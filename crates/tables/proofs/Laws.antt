@@ -39,7 +39,7 @@ module _ {s t u : Bytes} {n m a : ℕ} (low : a ≤ 16384) (k : Kept 7168 t u) (
   constants-logged = logged-same table-kept l
 
   pub constants-log : logIn s u m ≡ logIn s t m
-  constants-log = log-stays table-kept l (λ p b h k. ap (take b) (drop-from a p t u (omega arith) e))
+  constants-log = log-stays table-kept l (λ p b h z. ap (take b) (drop-from a p t u (omega (arith, low, h)) e))
 
 module _ {s t t2 t3 t4 : Bytes} {n m r : ℕ} {g : Globals} {d : NeedCounts} (l : ConstsLogged s t n m)
     (a : Outside 7168 9216 t t2) (places : Globals.GlobalsCollected s t2 n g)
