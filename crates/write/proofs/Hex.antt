@@ -1,13 +1,15 @@
 -- Laws of hexadecimal digits, and of a number's bytes.
 use Prim.Native.Nat.{ℕ, zero, suc, _+_, _-_, _*_, _/_, _%_, _^_, _≤_}
-use mathlib.Core.Path.{_≡_, refl, ap, _∙_}
-use mathlib.Core.List.{[], _∷_, _++_}
+use mathlib.Core.Path.{_≡_, refl, ap, _∙_, subst}
+use mathlib.Core.List.{[], _∷_, _++_, append-nil}
 use native.Mathlib.Nat.{pow-suc}
 use native.Mathlib.Omega.{arith}
-use lib.ListN.{length}
+use lib.ListN.{length, replicate}
 use lib.Pow.{pow-add}
 use lib.Bits.{bitAnd, and-mask}
 use Rattle.semantics.specs.Text.{Bytes, hexOf, bigEndian}
+use Rattle.write.specs.Wrote.{Wrote}
+use Rattle.write.proofs.Wrote.{on-zeros}
 
 pub hex-append : (s t : Bytes) → hexOf (s ++ t) ≡ hexOf s ++ hexOf t
 unfolding hexOf
@@ -40,9 +42,10 @@ unfolding bigEndian
 big-none zero n h = refl
 big-none (suc j) n h = absurd (omega arith)
 
-pub hex-next : (j n : ℕ) {x : ℕ} → 1 ≤ j → x ≡ n / 256 ^ (j - 1) % 256 → hexOf (bigEndian j n) ≡ hexOf (x ∷ []) ++ hexOf (bigEndian (j - 1) n)
-hex-next j n {x} h e = ap hexOf (big-next j n h e) ∙ hex-append (x ∷ []) (bigEndian (j - 1) n)
-
-pub hex-none : (j n : ℕ) → j ≤ 0 → hexOf (bigEndian j n) ≡ []
-unfolding hexOf
-hex-none j n h = ap hexOf (big-none j n h)
+-- eight bytes that were written over zeros, in digits
+pub hex-of-bits : (n : ℕ) {b p q : ℕ} {e d f : Bytes} → Wrote (replicate 8 0) 0 (bigEndian 8 n) e b → Wrote d p (hexOf e) f q → Wrote d p (hexOf (bigEndian 8 n)) f q
+hex-of-bits n {b} {p} {q} {e} {d} {f} w x =
+    let l = big-length 8 n in
+    let z : 8 - length (bigEndian 8 n) ≡ 0 = omega (arith, l) in
+    let y : e ≡ bigEndian 8 n = on-zeros {n = 8} w .0 (omega (arith, w .place, l)) .1 ∙ rw (z, append-nil) in
+    subst (λ (t : Bytes). Wrote d p (hexOf t) f q) y x

@@ -131,11 +131,7 @@ pub fn put_big_endian(out: &mut [u8], at: usize, w: usize, n: u64) -> usize
 pub fn put_hex_bits(out: &mut [u8], at: usize, n: u64) -> usize
     ensures { λ r. ⌜ Wrote (now (out .entry)) at (hexOf (bigEndian 8 n)) (now (out .exit)) r ⌝ }
 {
-    let mut p = nothing(out, at);
-    let mut j = 8;
-    while 0 < j {
-        p = put_hex_byte(out, p, byte_at(n, j - 1));
-        j -= 1;
-    }
-    p
+    let mut bytes = [0u8; 8];
+    put_big_endian(&mut bytes, 0, 8, n);
+    put_hex(out, at, &bytes)
 }
