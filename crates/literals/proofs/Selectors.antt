@@ -10,9 +10,8 @@ use mir.Syntax.{w64}
 use mir.Val.{SFits}
 use mir.Facts.{toZ-ofZ}
 use Rattle.semantics.specs.Text.{Bytes}
-use Rattle.semantics.specs.Tree as Tree
 use Rattle.semantics.specs.Form.{numberOf}
-use Rattle.semantics.specs.Fold.{Result, bind, Names, fold}
+use Rattle.semantics.specs.Fold.{bind, Names, fold}
 use Rattle.semantics.specs.Fold.Result.{ok, failed, refuse}
 use Rattle.semantics.specs.Array.{asInt, indexOf, highOf, spanOf}
 use Rattle.ints.proofs.Widths.{held}
@@ -43,22 +42,21 @@ module _ (t : Bytes) {x : Folded} where
     unfolding resultIn valueIn
     int-value d f = rw (e, d, toZ-ofZ f)
 
-  module _ {A : Type 0} (f : Tree.ConstVal → Result A) where
-    pub real-value : {v : ConstVal} {y : Float} → x ≡ Folded.Value v → v ≡ Real y → failed ≡ f (Tree.ConstVal.vReal y) → failed ≡ bind (resultIn t x) f
+    pub real-value : {y : Float} → v ≡ Real y → failed ≡ bind (resultIn t x) asInt
     unfolding resultIn valueIn
-    real-value e d h = rw (e, d) h
+    real-value d = rw (e, d)
 
-    pub string-value : {v : ConstVal} {p l : ℕ} → x ≡ Folded.Value v → v ≡ Str p l → ((y : Bytes) → failed ≡ f (Tree.ConstVal.vStr y)) → failed ≡ bind (resultIn t x) f
+    pub string-value : {p l : ℕ} → v ≡ Str p l → failed ≡ bind (resultIn t x) asInt
     unfolding resultIn valueIn
-    string-value e d h = rw (e, d) (h _)
+    string-value d = rw (e, d)
 
-    pub no-value : x ≡ Folded.Failed → failed ≡ bind (resultIn t x) f
-    unfolding resultIn
-    no-value e = rw e
+  pub no-value : x ≡ Folded.Failed → failed ≡ bind (resultIn t x) asInt
+  unfolding resultIn
+  no-value e = rw e
 
-    pub long-value : x ≡ Folded.TooLong → refuse 8 ≡ bind (resultIn t x) f
-    unfolding resultIn
-    long-value e = rw e
+  pub long-value : x ≡ Folded.TooLong → refuse 8 ≡ bind (resultIn t x) asInt
+  unfolding resultIn
+  long-value e = rw e
 
 -- ---- folds
 
