@@ -32,7 +32,7 @@ fn rules(sheet: &[u8], work: &mut [u8], n: usize) -> Checks
     if b != 0 {
         return Checks::Refused(5, b);
     }
-    let c = modules::bad_module(work, n);
+    let c = modules::bad_module(sheet, work, n);
     if c != 0 {
         return Checks::Refused(6, c);
     }

@@ -2,12 +2,8 @@
 use codes::kind;
 ghost use mathlib.Core.Path.{_≡_};
 ghost use mathlib.Core.Bool.{false};
-ghost use Prim.Native.Nat.{ℕ, _≤_, _<_};
-ghost use lib.ListN.{length};
-ghost use Rattle.semantics.specs.Text.{Bytes};
 ghost use Rattle.semantics.specs.Refusal.{badModuleFrom};
-ghost use Rattle.form.specs.Table.{rowCount};
-ghost use Rattle.lines.specs.Lines.{readsIn, formAt, Whole};
+ghost use Rattle.lines.specs.Lines.{readsIn, Whole};
 ghost use Rattle.modules.specs.Modules.{wrong, opens};
 
 // Whether a line of kind k may not stand here.
@@ -37,9 +33,9 @@ fn is_open(k: u8, inside: bool) -> bool
 }
 
 // The first `mod` inside a module or `end` outside one, the last line where a module is left open, 0 where all is well.
-pub fn bad_module(work: &[u8], n: usize) -> usize
-    requires { ⌜ (n ≤ 1024) × (65536 ≤ length (now work)) × ((i : ℕ) → i < n → formAt (now work) i < rowCount) ⌝ }
-    ensures { λ r. ⌜ ((s : Bytes) → Whole s (now (work .entry)) n → r ≡ badModuleFrom 1 false (readsIn s)) ⌝ }
+pub fn bad_module(sheet: &[u8], work: &[u8], n: usize) -> usize
+    requires { ⌜ Whole (now sheet) (now work) n ⌝ }
+    ensures { λ r. ⌜ r ≡ badModuleFrom 1 false (readsIn (now (sheet .entry))) ⌝ }
 {
     let mut inside = false;
     let mut i = 0;

@@ -3,8 +3,8 @@ use native.Mathlib.Omega.{arith}
 use borrow.Author.Needs.{needs}
 use Rattle.modules.proofs.Laws.{module-bad, module-next, module-open, module-closed}
 use Rattle.semantics.specs.Refusal.{badModuleFrom}
-use Rattle.semantics.specs.Text.{Bytes}
-use Rattle.lines.specs.Lines.{readsIn, Whole}
+use Rattle.lines.specs.Lines.{readsIn}
+use Rattle.lines.proofs.Line.{form-low}
 use Rattle.form.specs.Table.{kindAt}
 use denote.Ref.{now}
 use lib.ListN.{drop}
@@ -15,31 +15,31 @@ use Rattle.modules.proofs.bad_module.Statement.{statement}
 use Rattle.modules.proofs.bad_module.Tie as tie
 
 abbrev Inv-loop : tie.InvT-loop
-Inv-loop work n inside₀ i₀ inside i = (i ≤ n) × ((s : Bytes) → Whole s work n → badModuleFrom 1 false (readsIn s) ≡ badModuleFrom (i + 1) inside (drop i (readsIn s)))
+Inv-loop sheet work n inside₀ i₀ inside i = (i ≤ n) × (badModuleFrom 1 false (readsIn sheet) ≡ badModuleFrom (i + 1) inside (drop i (readsIn sheet)))
 
 abbrev μ-loop : tie.MeasureT-loop
-μ-loop work n inside₀ i₀ inside i = n - i
+μ-loop sheet work n inside₀ i₀ inside i = n - i
 
 loop-holds : tie.Need-loop-holds Inv-loop μ-loop
-loop-holds c = (omega arith, λ s w. refl)
+loop-holds c = (omega arith, refl)
 
 form-at-requires : tie.Need-form-at-requires Inv-loop μ-loop
-form-at-requires c κs = (omega (arith, c .before .before .before .pre .0, c .loop-test .taken), c .before .before .before .pre .1)
+form-at-requires c κs = (omega (arith, c .before .before .before .before .pre .lined .few, c .loop-test .taken), c .before .before .before .before .pre .room)
 
 kind-requires : tie.Need-kind-requires Inv-loop μ-loop
-kind-requires c κs = omega (arith, c .form-at .ensures, c .before .before .before .before .pre .2 (c .before .before .loop .i) (c .before .loop-test .taken))
+kind-requires c κs = omega (arith, c .form-at .ensures, form-low (now (c .before .before .before .before .before .args .sheet)) (now (c .before .before .before .before .before .args .work)) (c .before .before .before .before .before .args .n) (c .before .before .before .before .before .pre) (c .before .before .loop .i) (c .before .loop-test .taken))
 
 returns : tie.Need-returns Inv-loop μ-loop
-returns c = λ s w. module-bad s (now (c .before .before .before .before .before .before .before .args .work)) (c .before .before .before .before .before .before .before .args .n) (c .before .before .before .before .before .loop .i) w (c .before .before .before .before .before .loop .inside) (c .before .before .before .before .before .loop .inv .1 s w) (c .before .before .before .before .loop-test .taken) (c .before .before .kind .result) (c .before .before .kind .ensures ∙ ap kindAt (c .before .before .before .form-at .ensures)) (c .before .is-wrong .ensures) (c .if1 .taken)
+returns c = module-bad (now (c .before .before .before .before .before .before .before .before .args .sheet)) (now (c .before .before .before .before .before .before .before .before .args .work)) (c .before .before .before .before .before .before .before .before .args .n) (c .before .before .before .before .before .loop .i) (c .before .before .before .before .before .before .before .before .pre) (c .before .before .before .before .before .loop .inside) (c .before .before .before .before .before .loop .inv .1) (c .before .before .before .before .loop-test .taken) (c .before .before .kind .result) (c .before .before .kind .ensures ∙ ap kindAt (c .before .before .before .form-at .ensures)) (c .before .is-wrong .ensures) (c .if1 .taken)
 
 loop-again : tie.Need-loop-again Inv-loop μ-loop
-loop-again c = (omega arith, λ s w. module-next s (now (c .before .before .before .before .before .before .before .before .args .work)) (c .before .before .before .before .before .before .before .before .args .n) (c .before .before .before .before .before .before .loop .i) w (c .before .before .before .before .before .before .loop .inside) (c .before .before .before .before .before .before .loop .inv .1 s w) (c .before .before .before .before .before .loop-test .taken) (c .before .before .before .kind .result) (c .before .before .before .kind .ensures ∙ ap kindAt (c .before .before .before .before .form-at .ensures)) (c .before .before .is-wrong .ensures) (c .before .if1 .left) (c .is-open .ensures))
+loop-again c = (omega arith, module-next (now (c .before .before .before .before .before .before .before .before .before .args .sheet)) (now (c .before .before .before .before .before .before .before .before .before .args .work)) (c .before .before .before .before .before .before .before .before .before .args .n) (c .before .before .before .before .before .before .loop .i) (c .before .before .before .before .before .before .before .before .before .pre) (c .before .before .before .before .before .before .loop .inside) (c .before .before .before .before .before .before .loop .inv .1) (c .before .before .before .before .before .loop-test .taken) (c .before .before .before .kind .result) (c .before .before .before .kind .ensures ∙ ap kindAt (c .before .before .before .before .form-at .ensures)) (c .before .before .is-wrong .ensures) (c .before .if1 .left) (c .is-open .ensures))
 
 returns-2 : tie.Need-returns-2 Inv-loop μ-loop
-returns-2 c = λ s w. module-open s (now (c .before .before .before .before .args .work)) (c .before .before .before .before .args .n) (c .before .before .loop .i) w (c .before .before .loop .inside) (c .before .before .loop .inv .1 s w) (omega arith) (c .if2 .taken)
+returns-2 c = module-open (now (c .before .before .before .before .before .args .sheet)) (now (c .before .before .before .before .before .args .work)) (c .before .before .before .before .before .args .n) (c .before .before .loop .i) (c .before .before .before .before .before .pre) (c .before .before .loop .inside) (c .before .before .loop .inv .1) (omega arith) (c .if2 .taken)
 
 returns-3 : tie.Need-returns-3 Inv-loop μ-loop
-returns-3 c = λ s w. module-closed s (now (c .before .before .before .before .args .work)) (c .before .before .before .before .args .n) (c .before .before .loop .i) w (c .before .before .loop .inside) (c .before .before .loop .inv .1 s w) (omega arith) (c .if2 .left)
+returns-3 c = module-closed (now (c .before .before .before .before .before .args .sheet)) (now (c .before .before .before .before .before .args .work)) (c .before .before .before .before .before .args .n) (c .before .before .loop .i) (c .before .before .before .before .before .pre) (c .before .before .loop .inside) (c .before .before .loop .inv .1) (omega arith) (c .if2 .left)
 
 pub bad-module-spec : {M : Type 1} → statement M
 bad-module-spec =
