@@ -162,8 +162,9 @@ fn str_binary(op: usize, p: usize, l: usize, m: usize) -> Folded
     if op != binary::ADD {
         return Folded::Failed;
     }
+    // one by one, since l + m could wrap
     if LONGEST_STRING < l {
-        return Folded::TooLong; // l + m could wrap
+        return Folded::TooLong;
     }
     if LONGEST_STRING - l < m {
         return Folded::TooLong;
