@@ -1,0 +1,242 @@
+-- Laws of chains: what they hold, look-ups along them, entries linked, and what is kept.
+use mathlib.Core.Path.{_≡_, refl, sym, ap, _∙_}
+use mathlib.Core.Bool.{Bool, true, false, cond, _&&_, false≢true}
+use mathlib.Core.Logic.{⊎-elim}
+use Prim.Native.Nat.{ℕ, zero, suc, _+_, _-_, _≤_, _<_}
+use native.Mathlib.Omega.{arith}
+use native.Mathlib.Nat.{eq-or-lt-of-le}
+use lib.Dec.{ltb, eqb}
+use lib.ListN.{length, getD, set, length-set}
+use lib.Seq.{getD-set-same, getD-set-other}
+use borrow.Author.Tests.{lt-ltb, le-ltb, eq-eqb, ne-eqb, eqb-true, eqb-false, ltb-true, ltb-false}
+use Rattle.semantics.specs.Text.{Bytes}
+use Rattle.chains.specs.declared.Chain.{Chain}
+use Rattle.chains.specs.Chains.{newestOf, chainOf, place, linkAt, headAt, chainAt, isOf, Placed, entryBelow, Chained, linked}
+
+-- ---- the newest entry that answers
+
+module _ (answers : ℕ → Bool) where
+  pub newest-yes : (i : ℕ) → answers i ≡ true → newestOf answers (suc i) ≡ suc i
+  unfolding newestOf
+  newest-yes i e = rw e
+
+  pub newest-no : (i : ℕ) → answers i ≡ false → newestOf answers (suc i) ≡ newestOf answers i
+  unfolding newestOf
+  newest-no i e = rw e
+
+  pub newest-none : newestOf answers 0 ≡ 0
+  unfolding newestOf
+  newest-none = refl
+
+  pub newest-low : (m : ℕ) → newestOf answers m ≤ m
+  unfolding newestOf
+  newest-low zero = omega arith
+  newest-low (suc m) = go (answers m) (newest-low m)
+    where
+      go : (b : Bool) → newestOf answers m ≤ m → cond b (suc m) (newestOf answers m) ≤ suc m
+      go true h = omega arith
+      go false h = omega arith
+
+  -- it answers
+  pub newest-answers : (m i : ℕ) → newestOf answers m ≡ suc i → answers i ≡ true
+  unfolding newestOf
+  newest-answers zero i e = let z : 0 ≡ suc i = e in absurd (omega (arith, z))
+  newest-answers (suc m) i e = go (answers m) refl e (newest-answers m i)
+    where
+      go : (b : Bool) → answers m ≡ b → cond b (suc m) (newestOf answers m) ≡ suc i → (newestOf answers m ≡ suc i → answers i ≡ true) → answers i ≡ true
+      go true q h f = let z : m ≡ i = omega (arith, h) in rw (← z) q
+      go false q h f = f h
+
+  -- no entry behind it answers
+  pub newest-from : (m i : ℕ) → i < m → answers i ≡ true → i < newestOf answers m
+  unfolding newestOf
+  newest-from zero i h q = absurd (omega arith)
+  newest-from (suc m) i h q = go (answers m) refl (newest-from m i)
+    where
+      go : (b : Bool) → answers m ≡ b → (i < m → answers i ≡ true → i < newestOf answers m) → i < cond b (suc m) (newestOf answers m)
+      go true e f = omega arith
+      go false e f = f (⊎-elim (λ (x : i ≡ m). absurd (false≢true (sym e ∙ ap answers (sym x) ∙ q))) (λ (x : i < m). x) (eq-or-lt-of-le (omega arith))) q
+
+-- the same entries answer
+pub newest-same : (f g : ℕ → Bool) (m : ℕ) → ((i : ℕ) → i < m → f i ≡ g i) → newestOf f m ≡ newestOf g m
+unfolding newestOf
+newest-same f g zero h = refl
+newest-same f g (suc m) h = rw (h m (omega arith), newest-same f g m (λ i k. h i (omega arith)))
+
+-- where only members answer, the newest that answers is found among the newest member and those before it
+module _ (answers member : ℕ → Bool) where
+  pub newest-among : (m : ℕ) → ((i : ℕ) → i < m → answers i ≡ true → member i ≡ true) → newestOf answers m ≡ newestOf answers (newestOf member m)
+  unfolding newestOf
+  newest-among zero only = refl
+  newest-among (suc m) only = go (member m) refl (newest-among m (λ i h. only i (omega arith)))
+    where
+      other : (b : Bool) → answers m ≡ b → member m ≡ false → answers m ≡ false
+      other true e q = absurd (false≢true (sym q ∙ only m (omega arith) e))
+      other false e q = e
+
+      go : (b : Bool) → member m ≡ b → newestOf answers m ≡ newestOf answers (newestOf member m) → newestOf answers (suc m) ≡ newestOf answers (cond b (suc m) (newestOf member m))
+      go true e h = refl
+      go false e h = newest-no answers m (other (answers m) refl e) ∙ h
+
+-- ---- a look-up along chain k of m entries, of which those that answer are members: i is the number of the next entry, 0 at the end
+
+pub record Along (t : Bytes) (c : Chain) (k m : ℕ) (answers : ℕ → Bool) (i : ℕ) : Type 0 where
+  pub low : i ≤ m
+  pub next : newestOf answers m ≡ newestOf answers i
+  pub member : (j : ℕ) → i ≡ suc j → chainAt t c j ≡ k
+  pub only : (j : ℕ) → j < m → answers j ≡ true → isOf t c k j ≡ true
+
+module _ {t : Bytes} {c : Chain} {k m : ℕ} {answers : ℕ → Bool} where
+  -- from the newest of the first l entries on
+  from : (l : ℕ) → l ≤ m → newestOf answers m ≡ newestOf answers l → ((j : ℕ) → j < m → answers j ≡ true → isOf t c k j ≡ true) → {r : ℕ} → r ≡ newestOf (isOf t c k) l → Along t c k m answers r
+  from l h n only {r} e = record {
+    low = let q : newestOf (isOf t c k) l ≤ l = newest-low (isOf t c k) l in omega (arith, e, q);
+    next = n ∙ newest-among answers (isOf t c k) l (λ j x. only j (omega arith)) ∙ ap (newestOf answers) (sym e);
+    member = λ j q. eqb-true (chainAt t c j) k (newest-answers (isOf t c k) l j (sym e ∙ q));
+    only = only;
+  }
+
+  pub along-first : ((j : ℕ) → j < m → answers j ≡ true → isOf t c k j ≡ true) → {r : ℕ} → r ≡ newestOf (isOf t c k) m → Along t c k m answers r
+  along-first only e = from m (omega arith) refl only e
+
+  module _ {i : ℕ} (a : Along t c k m answers (suc i)) {b : Bool} (e : b ≡ answers i) where
+    pub along-hit : b ≡ true → suc i ≡ newestOf answers m
+    along-hit q = sym (a .next ∙ newest-yes answers i (sym e ∙ q))
+
+    pub along-on : b ≡ false → {r : ℕ} → r ≡ newestOf (isOf t c (chainAt t c i)) i → Along t c k m answers r
+    along-on q h = from i (omega (arith, a .low)) (a .next ∙ newest-no answers i (sym e ∙ q)) (a .only) (rw (a .member i refl) at h)
+
+  pub along-end : {i : ℕ} → i ≡ 0 → Along t c k m answers i → 0 ≡ newestOf answers m
+  along-end e a = sym (a .next ∙ ap (newestOf answers) e ∙ newest-none answers)
+
+-- ---- chains kept
+
+module _ (t u : Bytes) (c : Chain) (m : ℕ) (chains : (i : ℕ) → i < m → chainAt u c i ≡ chainAt t c i) where
+  below-same : (n k j : ℕ) → n ≤ m → entryBelow u c n k j ≡ entryBelow t c n k j
+  unfolding entryBelow
+  below-same n k j h = go (ltb j n) refl
+    where
+      go : (b : Bool) → ltb j n ≡ b → cond (b && isOf u c k j) (suc j) 0 ≡ cond (b && isOf t c k j) (suc j) 0
+      go true e = let l = ltb-true j n e in rw (chains j (omega arith))
+      go false e = refl
+
+  members-same : (n k : ℕ) → n ≤ m → newestOf (isOf u c k) n ≡ newestOf (isOf t c k) n
+  members-same n k h = newest-same (isOf u c k) (isOf t c k) n (λ i l. ap (λ (x : ℕ). eqb x k) (chains i (omega arith)))
+
+  module _ (links : (i : ℕ) → i < m → linkAt u c i ≡ linkAt t c i) (heads : (k : ℕ) → k < 128 → headAt u c k ≡ headAt t c k) where
+    pub chained-same : Chained t c m → Chained u c m
+    chained-same h = record {
+      heads = λ k l. rw (heads k l) (below-same m k (headAt t c k) (omega arith)) ∙ h .heads k l ∙ sym (members-same m k (omega arith));
+      links = λ i l. rw (chains i l, links i l) (below-same i (chainAt t c i) (linkAt t c i) (omega arith)) ∙ h .links i l ∙ sym (rw (chains i l) (members-same i (chainAt t c i) (omega arith)));
+    }
+
+-- the bytes of the first n entries, with their links and heads, are the same
+pub record SameBytes (t u : Bytes) (c : Chain) (n : ℕ) : Type 0 where
+  pub digest : (i : ℕ) → i < n → getD u (place c i) 0 ≡ getD t (place c i) 0
+  pub link : (i : ℕ) → i < n → getD u (place c i + c .gap) 0 ≡ getD t (place c i + c .gap) 0
+  pub head : (k : ℕ) → k < 128 → getD u (place c k + c .gap + c .gap) 0 ≡ getD t (place c k + c .gap + c .gap) 0
+
+pub chained-kept : {t u : Bytes} {c : Chain} {m n : ℕ} → SameBytes t u c n → m ≤ n → Chained t c m → Chained u c m
+unfolding chainAt linkAt headAt
+chained-kept {t} {u} {c} {m} w h = chained-same t u c m (λ i l. ap chainOf (w .digest i (omega arith))) (λ i l. w .link i (omega arith)) (w .head)
+
+-- nothing is chained where there is no entry
+pub chained-none : (t : Bytes) (c : Chain) → Chained t c 0
+unfolding entryBelow newestOf
+chained-none t c = record { heads = λ k l. rw (le-ltb (headAt t c k) 0 (omega arith)); links = λ i l. absurd (omega arith) }
+
+-- ---- an entry linked
+
+-- digests, links and heads of a table of at most n entries stand apart
+pub record Apart (c : Chain) (n : ℕ) : Type 0 where
+  pub own : (i j : ℕ) → place c i ≡ place c j → i ≡ j
+  pub link : (i j : ℕ) → i < n → j < n → place c i ≡ place c j + c .gap → ⊥
+  pub head : (i k : ℕ) → i < n → k < 128 → place c i ≡ place c k + c .gap + c .gap → ⊥
+
+-- a byte elsewhere stays
+linked-other : (t : Bytes) (c : Chain) (m k q : ℕ) → (q ≡ place c m + c .gap → ⊥) → (q ≡ place c k + c .gap + c .gap → ⊥) → getD (linked t c m k) q 0 ≡ getD t q 0
+unfolding linked
+linked-other t c m k q x y = getD-set-other (set t (place c m + c .gap) (headAt t c k)) (place c k + c .gap + c .gap) q m 0 y ∙ getD-set-other t (place c m + c .gap) q (headAt t c k) 0 x
+
+module _ {t : Bytes} {c : Chain} {n : ℕ} (p : Placed t c) (a : Apart c n) (many : 128 ≤ n) (few : n ≤ 256) {m k : ℕ} (low : m < n) (small : k < 128) where
+  chain-stays : (i : ℕ) → i < n → chainAt (linked t c m k) c i ≡ chainAt t c i
+  unfolding chainAt
+  chain-stays i l = ap chainOf (linked-other t c m k (place c i) (a .link i m l low) (a .head i k l small))
+
+  link-stays : (i : ℕ) → i < m → linkAt (linked t c m k) c i ≡ linkAt t c i
+  unfolding linkAt
+  link-stays i l = linked-other t c m k (place c i + c .gap)
+      (λ e. let z : i ≡ m = a .own i m (omega (arith, e)) in absurd (omega arith))
+      (λ e. a .link i k (omega arith) (omega arith) (omega (arith, e)))
+
+  link-new : linkAt (linked t c m k) c m ≡ headAt t c k
+  unfolding linkAt linked
+  link-new =
+      let q = p .low m (omega arith) in
+      let l = p .long in
+      getD-set-other (set t (place c m + c .gap) (headAt t c k)) (place c k + c .gap + c .gap) (place c m + c .gap) m 0 (λ e. a .link m k low (omega arith) (omega (arith, e)))
+      ∙ getD-set-same t (place c m + c .gap) (headAt t c k) 0 (omega arith)
+
+  head-stays : (j : ℕ) → j < 128 → (j ≡ k → ⊥) → headAt (linked t c m k) c j ≡ headAt t c j
+  unfolding headAt
+  head-stays j l z = linked-other t c m k (place c j + c .gap + c .gap)
+      (λ e. a .link m j low (omega arith) (omega (arith, e)))
+      (λ e. z (a .own j k (omega (arith, e))))
+
+  head-new : headAt (linked t c m k) c k ≡ m
+  unfolding headAt linked
+  head-new =
+      let q = p .low k (omega arith) in
+      let l = p .long in
+      let e = length-set t (place c m + c .gap) (headAt t c k) in
+      getD-set-same (set t (place c m + c .gap) (headAt t c k)) (place c k + c .gap + c .gap) m 0 (omega (arith, e))
+
+  module _ (own : chainAt t c m ≡ k) (h : Chained t c m) where
+    same-below : (l k′ j : ℕ) → l ≤ suc m → entryBelow (linked t c m k) c l k′ j ≡ entryBelow t c l k′ j
+    same-below = below-same t (linked t c m k) c (suc m) (λ i l. chain-stays i (omega arith))
+
+    same-members : (l k′ : ℕ) → l ≤ suc m → newestOf (isOf (linked t c m k) c k′) l ≡ newestOf (isOf t c k′) l
+    same-members = members-same t (linked t c m k) c (suc m) (λ i l. chain-stays i (omega arith))
+
+    -- a head of another chain, as entry m is not of that
+    passed : (k′ j : ℕ) → (k′ ≡ k → ⊥) → entryBelow t c (suc m) k′ j ≡ entryBelow t c m k′ j
+    unfolding entryBelow
+    passed k′ j z = go (eqb j m) refl
+      where
+        other : (b : Bool) → ltb j m ≡ b → (j ≡ m → ⊥) → ltb j (suc m) ≡ ltb j m
+        other true e q = let l = ltb-true j m e in lt-ltb j (suc m) (omega arith) ∙ sym e
+        other false e q =
+            let l = ltb-false j m e in
+            le-ltb j (suc m) (⊎-elim (λ (x : m ≡ j). absurd (q (sym x))) (λ (x : m < j). omega arith) (eq-or-lt-of-le l)) ∙ sym e
+
+        go : (b : Bool) → eqb j m ≡ b → cond (ltb j (suc m) && isOf t c k′ j) (suc j) 0 ≡ cond (ltb j m && isOf t c k′ j) (suc j) 0
+        go true e = let x = eqb-true j m e in rw (x, own, ne-eqb k k′ (λ q. z (sym q)), lt-ltb m (suc m) (omega arith), le-ltb m m (omega arith))
+        go false e = rw (other (ltb j m) refl (eqb-false j m e))
+
+    own-below : entryBelow t c (suc m) k m ≡ suc m
+    unfolding entryBelow
+    own-below = rw (own, eq-eqb k k refl, lt-ltb m (suc m) (omega arith))
+
+    heads-linked : (j : ℕ) → j < 128 → (b : Bool) → eqb j k ≡ b → entryBelow (linked t c m k) c (suc m) j (headAt (linked t c m k) c j) ≡ newestOf (isOf (linked t c m k) c j) (suc m)
+    heads-linked j l true e =
+        let x = eqb-true j k e in
+        rw (x, head-new) (same-below (suc m) k m (omega arith)) ∙ own-below ∙ sym (rw x (same-members (suc m) k (omega arith)) ∙ newest-yes (isOf t c k) m (rw own (eq-eqb k k refl)))
+    heads-linked j l false e =
+        let x = eqb-false j k e in
+        rw (head-stays j l x) (same-below (suc m) j (headAt t c j) (omega arith)) ∙ passed j (headAt t c j) x ∙ h .heads j l
+        ∙ sym (same-members (suc m) j (omega arith) ∙ newest-no (isOf t c j) m (rw own (ne-eqb k j (λ q. x (sym q)))))
+
+    links-linked : (i : ℕ) → i < suc m → (b : Bool) → eqb i m ≡ b
+        → entryBelow (linked t c m k) c i (chainAt t c i) (linkAt (linked t c m k) c i) ≡ newestOf (isOf (linked t c m k) c (chainAt t c i)) i
+    links-linked i l true e =
+        let x = eqb-true i m e in
+        rw (x, own, link-new) (same-below m k (headAt t c k) (omega arith)) ∙ h .heads k small ∙ sym (rw (x, own) (same-members m k (omega arith)))
+    links-linked i l false e =
+        let y : i < m = ⊎-elim (λ (x : i ≡ m). absurd (eqb-false i m e x)) (λ (x : i < m). x) (eq-or-lt-of-le (omega arith)) in
+        rw (link-stays i y) (same-below i (chainAt t c i) (linkAt t c i) (omega arith)) ∙ h .links i y ∙ sym (same-members i (chainAt t c i) (omega arith))
+
+    pub chained-next : Chained (linked t c m k) c (suc m)
+    chained-next = record {
+      heads = λ j l. heads-linked j l (eqb j k) refl;
+      links = λ i l. rw (chain-stays i (omega arith)) (links-linked i l (eqb i m) refl);
+    }
