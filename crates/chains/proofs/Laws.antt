@@ -37,6 +37,12 @@ module _ (answers : ℕ → Bool) where
       go true h = omega arith
       go false h = omega arith
 
+  pub newest-most : {m r : ℕ} → r ≡ newestOf answers m → r ≤ m
+  newest-most {m} e = let q = newest-low m in omega (arith, e)
+
+  pub newest-less : {i r : ℕ} → 0 < i → r ≡ newestOf answers (i - 1) → r < i
+  newest-less {i} h e = let q = newest-low (i - 1) in omega (arith, e)
+
   -- it answers
   pub newest-answers : (m i : ℕ) → newestOf answers m ≡ suc i → answers i ≡ true
   unfolding newestOf
@@ -105,6 +111,17 @@ module _ {t : Bytes} {c : Chain} {k m : ℕ} {answers : ℕ → Bool} where
 
     pub along-on : b ≡ false → {r : ℕ} → r ≡ newestOf (isOf t c (chainAt t c i)) i → Along t c k m answers r
     along-on q h = from i (omega (arith, a .low)) (a .next ∙ newest-no answers i (sym e ∙ q)) (a .only) (rw (a .member i refl) at h)
+
+  -- the same where the entry is i - 1
+  module _ {i : ℕ} (a : Along t c k m answers i) (h : 0 < i) {b : Bool} (e : b ≡ answers (i - 1)) where
+    now-at : Along t c k m answers (suc (i - 1))
+    now-at = let z : suc (i - 1) ≡ i = omega arith in rw z a
+
+    pub along-here : b ≡ true → i ≡ newestOf answers m
+    along-here q = let z : i ≡ suc (i - 1) = omega arith in z ∙ along-hit now-at e q
+
+    pub along-next : b ≡ false → {r : ℕ} → r ≡ newestOf (isOf t c (chainAt t c (i - 1))) (i - 1) → Along t c k m answers r
+    along-next q x = along-on now-at e q x
 
   pub along-end : {i : ℕ} → i ≡ 0 → Along t c k m answers i → 0 ≡ newestOf answers m
   along-end e a = sym (a .next ∙ ap (newestOf answers) e ∙ newest-none answers)

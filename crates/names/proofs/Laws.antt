@@ -9,8 +9,8 @@ use native.Mathlib.Omega.{arith}
 use native.Mathlib.Nat.{eq-or-lt-of-le}
 use lib.Dec.{ltb, eqb}
 use lib.Ieee.{binary64, ofBits}
-use lib.ListN.{take, drop}
-use lib.Seq.{take-take}
+use lib.ListN.{take, drop, getD}
+use lib.Seq.{take-take, getD-take, getD-drop, drop-drop}
 use borrow.Author.Tests.{lt-ltb, eq-eqb, ne-eqb, eqb-true, not-true, not-false}
 use Rattle.semantics.specs.Text.{Bytes, same, fromBigEndian}
 use Rattle.semantics.specs.Tree.{ConstVal}
@@ -18,12 +18,15 @@ use Rattle.semantics.specs.Tree.ConstVal.{vInt, vReal, vStr}
 use Rattle.semantics.specs.Sheet.{sheetSource}
 use Rattle.semantics.specs.Fold.{Key, Const, signed64, plain, qualified, sameOption, lookUp, valueOf}
 use Rattle.semantics.specs.Const.{entries}
+use Rattle.semantics.proofs.Common.{both}
+use Rattle.chains.specs.Chains.{newestOf, chainOf, place, chainAt, isOf, Placed}
+use Rattle.chains.proofs.Laws.{newest-low, chained-kept}
 use Rattle.words.specs.Words.{digest, u16At, bitsAt}
-use Rattle.words.proofs.Laws.{digest-apart}
+use Rattle.words.proofs.Laws.{digest-same, digest-apart}
 use Rattle.implement.specs.Modules.{firstField, moduleAt, ownIn, isOwn}
 use Rattle.checks.specs.Checks.{Kept, Checked}
 use Rattle.checks.proofs.Kept.{kept-at, kept-less}
-use Rattle.names.specs.Table.{lineOf, moduleLineOf, valueBy, slotValue, kindOf, bitsOf, digestOf, entriesAt, logIn, EntryBounds, ConstsLogged, ConstTable, ConstEntry, found, hasKey, answersPlain, answersQualified, newestOf, Answered, Looked}
+use Rattle.names.specs.Table.{lineOf, moduleLineOf, valueBy, slotValue, kindOf, bitsOf, digestOf, constChain, entriesAt, logIn, EntryBounds, ConstsLogged, ConstTable, ConstEntry, found, hasKey, answersPlain, answersQualified, Answered, Looked}
 
 -- ---- a slot by its kind and bits
 
@@ -133,53 +136,11 @@ module _ (impl : Option Bytes) (s x y : Bytes) (v : Option ConstVal) (rest : Lis
     qualified-step (suc k) = rw (ne-eqb (suc k) 0 (λ e. omega arith)) (qualified-within (sameOption impl (some (firstField s (suc k)))) (firstField s (suc k)))
 
 -- a look-up, where it is known which entries answer it
-pub record Answers (s t : Bytes) (k : Key) (answers : ℕ → Bool) : Type 0 where
+pub record Answering (s t : Bytes) (k : Key) (answers : ℕ → Bool) : Type 0 where
   pub value : (i : ℕ) (rest : List Const) → valueOf (lookUp k (entriesAt s t i ++ rest)) ≡ cond (answers i) (slotValue t (5124 + 16 * i)) (valueOf (lookUp k rest))
   pub has : (i : ℕ) (rest : List Const) → hasKey k (entriesAt s t i ++ rest) ≡ answers i || hasKey k rest
 
--- which entry is the newest, as it is looked for from the last on
-module _ (answers : ℕ → Bool) where
-  pub newest-hit : (i : ℕ) → 0 < i → {b : Bool} → b ≡ answers (i - 1) → b ≡ true → i ≡ newestOf answers i
-  unfolding newestOf
-  newest-hit zero p h q = absurd (omega arith)
-  newest-hit (suc i) p h q =
-      let e : suc i - 1 ≡ i = omega arith in
-      let g : answers i ≡ true = sym (rw e at h) ∙ q in
-      rw g
-
-  pub newest-on : (i : ℕ) → 0 < i → {b : Bool} → b ≡ answers (i - 1) → b ≡ false → newestOf answers i ≡ newestOf answers (i - 1)
-  unfolding newestOf
-  newest-on zero p h q = absurd (omega arith)
-  newest-on (suc i) p h q =
-      let e : suc i - 1 ≡ i = omega arith in
-      let g : answers i ≡ false = sym (rw e at h) ∙ q in
-      rw (e, g)
-
-  pub newest-end : (i : ℕ) → i ≤ 0 → 0 ≡ newestOf answers i
-  unfolding newestOf
-  newest-end zero h = refl
-  newest-end (suc i) h = absurd (omega arith)
-
-  newest-low : (m : ℕ) → newestOf answers m ≤ m
-  unfolding newestOf
-  newest-low zero = omega arith
-  newest-low (suc m) = go (answers m) (newest-low m)
-    where
-      go : (b : Bool) → newestOf answers m ≤ m → cond b (suc m) (newestOf answers m) ≤ suc m
-      go true h = omega arith
-      go false h = omega arith
-
-  -- no entry behind it answers
-  pub newest-from : (m i : ℕ) → i < m → answers i ≡ true → i < newestOf answers m
-  unfolding newestOf
-  newest-from zero i h q = absurd (omega arith)
-  newest-from (suc m) i h q = go (answers m) refl (newest-from m i)
-    where
-      go : (b : Bool) → answers m ≡ b → (i < m → answers i ≡ true → i < newestOf answers m) → i < cond b (suc m) (newestOf answers m)
-      go true e f = omega arith
-      go false e f = f (⊎-elim (λ (x : i ≡ m). absurd (false≢true (sym e ∙ ap answers (sym x) ∙ q))) (λ (x : i < m). x) (eq-or-lt-of-le (omega arith))) q
-
-module _ {s t : Bytes} {k : Key} {answers : ℕ → Bool} (a : Answers s t k answers) where
+module _ {s t : Bytes} {k : Key} {answers : ℕ → Bool} (a : Answering s t k answers) where
   newest-value : (m : ℕ) → valueOf (lookUp k (logIn s t m)) ≡ found t (newestOf answers m)
   unfolding logIn found newestOf
   newest-value zero = refl
@@ -201,14 +162,14 @@ module _ {s t : Bytes} {k : Key} {answers : ℕ → Bool} (a : Answers s t k ans
   pub looked : {m r : ℕ} → r ≡ newestOf answers m → Looked s t k m (newestOf answers m) r
   looked {m} e = rw e (record { value = newest-value m; low = newest-low answers m; has = newest-has m; newest-is = refl })
 
-pub answers-plain : (s t x : Bytes) → Answers s t (plain x) (λ (i : ℕ). answersPlain s t i x)
+pub answers-plain : (s t x : Bytes) → Answering s t (plain x) (λ (i : ℕ). answersPlain s t i x)
 unfolding entriesAt answersPlain
 answers-plain s t x = record {
   value = λ i rest. plain-step (sheetSource s .implement) s x (firstField s (lineOf t i)) (slotValue t (5124 + 16 * i)) rest (moduleLineOf t i);
   has = λ i rest. plain-has (sheetSource s .implement) s x (firstField s (lineOf t i)) (slotValue t (5124 + 16 * i)) rest (moduleLineOf t i);
 }
 
-pub answers-qualified : (s t q x : Bytes) → Answers s t (qualified q x) (λ (i : ℕ). answersQualified s t i q x)
+pub answers-qualified : (s t q x : Bytes) → Answering s t (qualified q x) (λ (i : ℕ). answersQualified s t i q x)
 unfolding entriesAt answersQualified
 answers-qualified s t q x = record {
   value = λ i rest. qualified-step (sheetSource s .implement) s x (firstField s (lineOf t i)) (slotValue t (5124 + 16 * i)) rest q (moduleLineOf t i);
@@ -218,6 +179,10 @@ answers-qualified s t q x = record {
 pub table-entry : {s t : Bytes} {n m i : ℕ} → ConstTable s t n m → i < m → ConstEntry s t n i
 table-entry {i = i} c h = record { checked = c .checked; low = omega (arith, c .logged .few); entry = c .logged .each i h; digested = c .logged .digests i h }
 
+pub const-placed : {s t : Bytes} {n m : ℕ} → ConstTable s t n m → Placed t constChain
+unfolding place
+const-placed c = record { low = λ i h. omega arith; long = c .checked .whole .room }
+
 -- a number up to the table's end is an answer
 pub answered : {s t : Bytes} {n m : ℕ} → ConstsLogged s t n m → Checked s t n → {r : ℕ} → r ≤ m → Answered t r
 answered l c h = record { few = omega (arith, l .few); long = c .whole .room; text = λ i e q. l .each i (omega arith) .text q }
@@ -225,6 +190,20 @@ answered l c h = record { few = omega (arith, l .few); long = c .whole .room; te
 -- names with different digests are different
 pub named-apart : {s t : Bytes} {n i d : ℕ} (x : Bytes) → ConstEntry s t n i → d ≡ digest x → (digestOf t i ≡ d → ⊥) → false ≡ same x (firstField s (lineOf t i))
 named-apart {s} {t} {i = i} x k e z = digest-apart x (firstField s (lineOf t i)) (λ q. z (k .digested ∙ sym (e ∙ q)))
+
+-- entries that answer are in the chain of the name's digest
+module _ {s t : Bytes} {n m : ℕ} (c : ConstTable s t n m) (x : Bytes) {d : ℕ} (e : d ≡ digest x) where
+  named-member : (i : ℕ) → i < m → same x (firstField s (lineOf t i)) ≡ true → isOf t constChain (chainOf d) i ≡ true
+  unfolding chainAt place
+  named-member i h q = eq-eqb (chainAt t constChain i) (chainOf d) (ap chainOf (c .logged .digests i h ∙ sym (e ∙ digest-same x (firstField s (lineOf t i)) 0 q)))
+
+  pub plain-member : (i : ℕ) → i < m → answersPlain s t i x ≡ true → isOf t constChain (chainOf d) i ≡ true
+  unfolding answersPlain
+  plain-member i h q = named-member i h (both (same x (firstField s (lineOf t i))) (isOwn s (moduleLineOf t i)) q .0)
+
+  pub qualified-member : (w : Bytes) (i : ℕ) → i < m → answersQualified s t i w x ≡ true → isOf t constChain (chainOf d) i ≡ true
+  unfolding answersQualified
+  qualified-member w i h q = named-member i h (both (same x (firstField s (lineOf t i))) (not (eqb (moduleLineOf t i) 0) && same w (firstField s (moduleLineOf t i))) q .0)
 
 -- which entries answer, as it is tested
 module _ (s t : Bytes) (i : ℕ) (x : Bytes) {b : Bool} (name : b ≡ same x (firstField s (lineOf t i))) where
@@ -260,35 +239,41 @@ part-low (suc a) b (suc c) (x ∷ l) h = part-low a b c l (omega arith)
 pub part-kept : {c : ℕ} {t u : Bytes} → Kept c t u → (a b : ℕ) → a + b ≤ c → take b (drop a u) ≡ take b (drop a t)
 part-kept {c} {t} {u} k a b h = sym (part-low a b c u h) ∙ ap (λ (l : Bytes). take b (drop a l)) (k .below) ∙ part-low a b c t h
 
-module _ {c : ℕ} {t u : Bytes} (w : Kept c t u) where
-  u16-kept : (a : ℕ) → a + 1 < c → u16At u a ≡ u16At t a
-  unfolding u16At
-  u16-kept a h = rw (kept-at w a (omega arith), kept-at w (a + 1) h)
-
-  u64-kept : (a : ℕ) → a + 8 ≤ c → bitsAt u a ≡ bitsAt t a
-  unfolding bitsAt
-  u64-kept a h = ap (fromBigEndian 0) (part-kept w a 8 h)
+-- the same bytes of entry i but for its link and its head
+pub record SameEntry (t u : Bytes) (i : ℕ) : Type 0 where
+  pub bytes : take 14 (drop (5120 + 16 * i) u) ≡ take 14 (drop (5120 + 16 * i) t)
 
 -- the string of an entry is the same
 abbrev pub SameText : Bytes → Bytes → ℕ → Type 0
 SameText t u i = kindOf t i ≡ 3 → take (bitsOf t i / 65536) (drop (bitsOf t i % 65536) u) ≡ take (bitsOf t i / 65536) (drop (bitsOf t i % 65536) t)
 
--- an entry stays as it is where it and its string are kept
-module _ {t u : Bytes} (n i : ℕ) (w : Kept (5136 + 16 * i) t u) (e : EntryBounds t n i) where
+-- such an entry stays as it is
+module _ {t u : Bytes} (n i : ℕ) (w : SameEntry t u i) (e : EntryBounds t n i) where
+  byte-kept : (p j : ℕ) → p ≡ 5120 + 16 * i + j → j < 14 → getD u p 0 ≡ getD t p 0
+  byte-kept p j q h =
+      let x : (l : Bytes) → getD l p 0 ≡ getD (take 14 (drop (5120 + 16 * i) l)) j 0 = λ l. ap (λ (a : ℕ). getD l a 0) q ∙ sym (getD-take 14 (drop (5120 + 16 * i) l) j 0 h ∙ getD-drop (5120 + 16 * i) l j 0) in
+      x u ∙ ap (λ (l : Bytes). getD l j 0) (w .bytes) ∙ sym (x t)
+
   line-kept : lineOf u i ≡ lineOf t i
-  line-kept = u16-kept w (5120 + 16 * i) (omega arith)
+  unfolding u16At
+  line-kept = rw (byte-kept (5120 + 16 * i) 0 (omega arith) (omega arith), byte-kept (5120 + 16 * i + 1) 1 (omega arith) (omega arith))
 
   module-kept : moduleLineOf u i ≡ moduleLineOf t i
-  module-kept = u16-kept w (5122 + 16 * i) (omega arith)
+  unfolding u16At
+  module-kept = rw (byte-kept (5122 + 16 * i) 2 (omega arith) (omega arith), byte-kept (5122 + 16 * i + 1) 3 (omega arith) (omega arith))
 
   kind-kept : kindOf u i ≡ kindOf t i
-  kind-kept = kept-at w (5124 + 16 * i) (omega arith)
+  kind-kept = byte-kept (5124 + 16 * i) 4 (omega arith) (omega arith)
 
   bits-kept : bitsOf u i ≡ bitsOf t i
-  bits-kept = u64-kept w (5125 + 16 * i) (omega arith)
+  unfolding bitsAt
+  bits-kept =
+      let a : 5125 + 16 * i ≡ 5120 + 16 * i + 5 = omega arith in
+      let x : (l : Bytes) → take 8 (drop (5120 + 16 * i + 5) l) ≡ take 8 (drop 5 (take 14 (drop (5120 + 16 * i) l))) = λ l. sym (part-low 5 8 14 (drop (5120 + 16 * i) l) (omega arith) ∙ ap (take 8) (drop-drop 5 (5120 + 16 * i) l)) in
+      rw a (ap (fromBigEndian 0) (x u ∙ ap (λ (l : Bytes). take 8 (drop 5 l)) (w .bytes) ∙ sym (x t)))
 
   digest-kept : digestOf u i ≡ digestOf t i
-  digest-kept = kept-at w (5133 + 16 * i) (omega arith)
+  digest-kept = byte-kept (5133 + 16 * i) 13 (omega arith) (omega arith)
 
   entry-kept : EntryBounds u n i
   entry-kept = record {
@@ -313,35 +298,48 @@ module _ {t u : Bytes} (n i : ℕ) (w : Kept (5136 + 16 * i) t u) (e : EntryBoun
     unfolding entriesAt
     entries-kept s = rw (line-kept, module-kept, slot-kept)
 
--- and so does a table
-module _ {s t u : Bytes} {n m : ℕ} (w : Kept (5120 + 16 * m) t u) (l : ConstsLogged s t n m) where
-  own-part : (i : ℕ) → i < m → Kept (5136 + 16 * i) t u
-  own-part i h = kept-less (omega arith) w
+-- and so do the first m
+module _ {t u : Bytes} {n m : ℕ} (w : (i : ℕ) → i < m → SameEntry t u i) (each : (i : ℕ) → i < m → EntryBounds t n i) where
+  pub each-same : (i : ℕ) → i < m → EntryBounds u n i
+  each-same i h = entry-kept n i (w i h) (each i h)
 
-  pub logged-same : ConstsLogged s u n m
-  logged-same = record {
-    few = l .few;
-    each = λ i h. entry-kept n i (own-part i h) (l .each i h);
-    digests = λ i h. let e = l .each i h in rw (digest-kept n i (own-part i h) e, line-kept n i (own-part i h) e) (l .digests i h);
-  }
+  pub digests-same : (s : Bytes) → ((i : ℕ) → i < m → digestOf t i ≡ digest (firstField s (lineOf t i))) → (i : ℕ) → i < m → digestOf u i ≡ digest (firstField s (lineOf u i))
+  digests-same s d i h = rw (digest-kept n i (w i h) (each i h), line-kept n i (w i h) (each i h)) (d i h)
 
-  module _ (same : (i : ℕ) → i < m → SameText t u i) where
+  module _ (s : Bytes) (same : (i : ℕ) → i < m → SameText t u i) where
     log-upto : (k : ℕ) → k ≤ m → logIn s u k ≡ logIn s t k
     unfolding logIn
     log-upto zero h = refl
-    log-upto (suc k) h = rw (entries-kept n k (own-part k (omega arith)) (l .each k (omega arith)) (same k (omega arith)) s, log-upto k (omega arith))
+    log-upto (suc k) h = rw (entries-kept n k (w k (omega arith)) (each k (omega arith)) (same k (omega arith)) s, log-upto k (omega arith))
 
     pub log-same : logIn s u m ≡ logIn s t m
     log-same = log-upto m (omega arith)
 
--- and the log, where bytes among the constants' strings are kept
-pub log-stays : {s t u : Bytes} {n m : ℕ} → Kept (5120 + 16 * m) t u → ConstsLogged s t n m → ((a b : ℕ) → 16384 ≤ a → a + b ≤ 49152 → take b (drop a u) ≡ take b (drop a t)) → logIn s u m ≡ logIn s t m
-log-stays {t = t} w l parts = log-same w l (λ i h q. let x = l .each i h .text q in parts (bitsOf t i % 65536) (bitsOf t i / 65536) (x .low) (x .high))
+pub entries-below : {t u : Bytes} {m : ℕ} → Kept (5120 + 16 * m) t u → (i : ℕ) → i < m → SameEntry t u i
+entries-below w i h = record { bytes = part-kept w (5120 + 16 * i) 14 (omega arith) }
+
+-- and a table, where it is kept
+module _ {s t u : Bytes} {n m : ℕ} (w : Kept 7168 t u) (l : ConstsLogged s t n m) where
+  same-entries : (i : ℕ) → i < m → SameEntry t u i
+  same-entries = entries-below (kept-less (omega (arith, l .few)) w)
+
+  pub logged-same : ConstsLogged s u n m
+  unfolding place
+  logged-same = record {
+    few = l .few;
+    each = each-same same-entries (l .each);
+    digests = digests-same same-entries (l .each) s (l .digests);
+    chained = chained-kept (record { digest = λ i h. kept-at w (5133 + 16 * i) (omega arith); link = λ i h. kept-at w (5133 + 16 * i + 1) (omega arith); head = λ k h. kept-at w (5133 + 16 * k + 1 + 1) (omega arith) }) (l .few) (l .chained);
+  }
+
+  -- and the log, where bytes among the constants' strings are kept
+  pub log-stays : ((a b : ℕ) → 16384 ≤ a → a + b ≤ 49152 → take b (drop a u) ≡ take b (drop a t)) → logIn s u m ≡ logIn s t m
+  log-stays parts = log-same same-entries (l .each) s (λ i h q. let x = l .each i h .text q in parts (bitsOf t i % 65536) (bitsOf t i / 65536) (x .low) (x .high))
 
 -- where all below the stack of folds is kept
 module _ {s t u : Bytes} {n m : ℕ} (w : Kept 49152 t u) (l : ConstsLogged s t n m) where
-  table-part : Kept (5120 + 16 * m) t u
-  table-part = kept-less (omega (arith, l .few)) w
+  table-part : Kept 7168 t u
+  table-part = kept-less (omega arith) w
 
   pub logged-kept : ConstsLogged s u n m
   logged-kept = logged-same table-part l

@@ -1,6 +1,6 @@
 -- The table of constants in the working space, and the log that it holds.
 -- Entry i takes 16 bytes from 5120 + 16 i: the `con` line and its module's line, 0 for none, two bytes each, the low one first; a slot;
--- the digest of the constant's name; two are free.
+-- the digest of the constant's name; its link, and the head of chain i.
 -- A slot is a kind and 8 bytes, the highest first: 0 failed, 1 an integer's bits, 2 a real's, 3 a string's place + 65536 times its length.
 use Prim.Native.Nat.{ℕ, zero, suc, _+_, _*_, _/_, _%_, _≤_, _<_}
 use mathlib.Core.Path.{_≡_}
@@ -16,6 +16,8 @@ use Rattle.semantics.specs.Tree.ConstVal.{vInt, vReal, vStr}
 use Rattle.semantics.specs.Sheet.{sheetSource}
 use Rattle.semantics.specs.Fold.{Key, Const, Names, signed64, sameKey, lookUp, valueOf}
 use Rattle.semantics.specs.Const.{entries}
+use Rattle.chains.specs.declared.Chain.{Chain}
+use Rattle.chains.specs.Chains.{newestOf, Chained}
 use Rattle.words.specs.Words.{digest, u16At, bitsAt}
 use Rattle.implement.specs.Modules.{firstField, moduleAt, isOwn}
 use Rattle.checks.specs.Checks.{Checked}
@@ -50,6 +52,10 @@ bitsOf t i = bitsAt t (5125 + 16 * i)
 abbrev pub digestOf : Bytes → ℕ → ℕ
 digestOf t i = getD t (5133 + 16 * i) 0
 
+-- where the digests, links and heads stand
+abbrev pub constChain : Chain
+constChain = record { at = 5133; gap = 1; step = 16 }
+
 -- ---- the log
 
 unfoldable pub entriesAt : Bytes → Bytes → ℕ → List Const
@@ -79,11 +85,12 @@ pub record EntryBounds (t : Bytes) (n i : ℕ) : Type 0 where
   pub text : kindOf t i ≡ 3 → StringPlace (bitsOf t i)
   pub own : kindOf t i ≡ 3 → bitsOf t i % 65536 ≡ 16384 + 256 * i
 
--- the table's first m entries, each with the digest of its constant's name
+-- the table's m entries, each with the digest of its constant's name, and chained by it
 pub record ConstsLogged (s t : Bytes) (n m : ℕ) : Type 0 where
   pub few : m ≤ 128
   pub each : (i : ℕ) → i < m → EntryBounds t n i
   pub digests : (i : ℕ) → i < m → digestOf t i ≡ digest (firstField s (lineOf t i))
+  pub chained : Chained t constChain m
 
 -- the table of a checked sheet has m entries
 pub record ConstTable (s t : Bytes) (n m : ℕ) : Type 0 where
@@ -121,11 +128,6 @@ answersPlain s t i x = same x (firstField s (lineOf t i)) && isOwn s (moduleLine
 -- the module's name and the name
 unfoldable pub answersQualified : Bytes → Bytes → ℕ → Bytes → Bytes → Bool
 answersQualified s t i q x = same x (firstField s (lineOf t i)) && (not (eqb (moduleLineOf t i) 0) && same q (firstField s (moduleLineOf t i)))
-
--- the newest of the first m entries that answer: its number from 1, 0 for none
-unfoldable pub newestOf : (ℕ → Bool) → ℕ → ℕ
-newestOf answers zero = 0
-newestOf answers (suc m) = cond (answers m) (suc m) (newestOf answers m)
 
 abbrev pub newestPlain : Bytes → Bytes → ℕ → Bytes → ℕ
 newestPlain s t m x = newestOf (λ (i : ℕ). answersPlain s t i x) m

@@ -1,20 +1,29 @@
 // The table of constants: look-ups by name and by module and name, the newest entry first.
+use chains::Chain;
 use codes::area;
 ghost use mathlib.Core.Path.{_≡_};
-ghost use Prim.Native.Nat.{_+_, _≤_, _<_};
+ghost use Prim.Native.Nat.{ℕ, _+_, _≤_, _<_};
 ghost use lib.ListN.{length};
 ghost use Rattle.semantics.specs.Text as Text;
 ghost use Rattle.semantics.specs.Fold.{plain, qualified};
 ghost use Rattle.words.specs.Words.{digest};
+ghost use Rattle.chains.specs.Chains.{chainOf, isOf, newestOf};
 ghost use Rattle.implement.specs.Modules.{firstField};
 ghost use Rattle.checks.specs.Checks.{Checked};
-ghost use Rattle.names.specs.Table.{lineOf, moduleLineOf, bitsOf, kindOf, digestOf, answersPlain, answersQualified, newestPlain, newestQualified, Looked, ConstTable, ConstEntry};
+ghost use Rattle.names.specs.Table.{lineOf, moduleLineOf, bitsOf, kindOf, digestOf, constChain, answersPlain, answersQualified, newestPlain, newestQualified, Looked, ConstTable, ConstEntry};
 
 // How many lines the sheet has, and how many constants are known.
 pub struct Known {
     pub lines: usize,
     pub consts: usize,
 }
+
+// Its chains.
+pub const CHAIN: Chain = Chain {
+    at: area::CONSTANTS + 13,
+    gap: 1,
+    step: area::CONSTANT,
+};
 
 // The `con` line of entry i.
 pub fn line_of(work: &[u8], i: usize) -> usize
@@ -109,20 +118,53 @@ fn answers_qualified(
     is_named(sheet, work, n, k, within)
 }
 
+// The newest of some first entries that enters a constant by the plain name; of those in the name's chain `newest` is the newest. Both
+// are numbers of entries from 1, 0 for none.
+fn along_plain(sheet: &[u8], work: &[u8], c: Known, newest: usize, name: &[u8], d: usize) -> usize
+    requires { ⌜ (ConstTable (now sheet) (now work) (c .lines) (c .consts)) × (newest ≤ c .consts) × (d ≡ digest (now name)) ⌝ }
+    ensures { λ r. ⌜ ((m : ℕ) → m ≤ c .consts → newest ≡ newestOf (isOf (now (work .entry)) constChain (chainOf d)) m → r ≡ newestPlain (now (sheet .entry)) (now (work .entry)) m (now (name .entry))) ⌝ }
+{
+    let mut i = newest;
+    while 0 < i {
+        if answers_plain(sheet, work, c.lines, i - 1, name, d) {
+            return i;
+        }
+        i = chains::earlier(work, CHAIN, c.consts, i - 1);
+    }
+    0
+}
+
+// The same by module and name.
+fn along_qualified(
+    sheet: &[u8],
+    work: &[u8],
+    c: Known,
+    newest: usize,
+    within: &[u8],
+    name: &[u8],
+    d: usize,
+) -> usize
+    requires { ⌜ (ConstTable (now sheet) (now work) (c .lines) (c .consts)) × (newest ≤ c .consts) × (d ≡ digest (now name)) ⌝ }
+    ensures { λ r. ⌜ ((m : ℕ) → m ≤ c .consts → newest ≡ newestOf (isOf (now (work .entry)) constChain (chainOf d)) m → r ≡ newestQualified (now (sheet .entry)) (now (work .entry)) m (now (within .entry)) (now (name .entry))) ⌝ }
+{
+    let mut i = newest;
+    while 0 < i {
+        if answers_qualified(sheet, work, c.lines, i - 1, within, name, d) {
+            return i;
+        }
+        i = chains::earlier(work, CHAIN, c.consts, i - 1);
+    }
+    0
+}
+
 // The newest constant of a plain name: 0 where there is none, else its entry's number from 1.
 pub fn look_up(sheet: &[u8], work: &[u8], c: Known, name: &[u8]) -> usize
     requires { ⌜ ConstTable (now sheet) (now work) (c .lines) (c .consts) ⌝ }
     ensures { λ r. ⌜ Looked (now (sheet .entry)) (now (work .entry)) (plain (now (name .entry))) (c .consts) (newestPlain (now (sheet .entry)) (now (work .entry)) (c .consts) (now (name .entry))) r ⌝ }
 {
     let d = words::digest(name);
-    let mut i = c.consts;
-    while 0 < i {
-        if answers_plain(sheet, work, c.lines, i - 1, name, d) {
-            return i;
-        }
-        i -= 1;
-    }
-    0
+    let newest = chains::newest(work, CHAIN, c.consts, chains::chain_of(d));
+    along_plain(sheet, work, c, newest, name, d)
 }
 
 // The same of a module's name.
@@ -131,12 +173,31 @@ pub fn look_up_in(sheet: &[u8], work: &[u8], c: Known, within: &[u8], name: &[u8
     ensures { λ r. ⌜ Looked (now (sheet .entry)) (now (work .entry)) (qualified (now (within .entry)) (now (name .entry))) (c .consts) (newestQualified (now (sheet .entry)) (now (work .entry)) (c .consts) (now (within .entry)) (now (name .entry))) r ⌝ }
 {
     let d = words::digest(name);
-    let mut i = c.consts;
-    while 0 < i {
-        if answers_qualified(sheet, work, c.lines, i - 1, within, name, d) {
-            return i;
-        }
-        i -= 1;
-    }
-    0
+    let newest = chains::newest(work, CHAIN, c.consts, chains::chain_of(d));
+    along_qualified(sheet, work, c, newest, within, name, d)
+}
+
+// The newest constant before entry i of the plain name that entry i has.
+pub fn look_up_before(sheet: &[u8], work: &[u8], c: Known, i: usize, name: &[u8]) -> usize
+    requires { ⌜ (ConstTable (now sheet) (now work) (c .lines) (c .consts)) × (i < c .consts) × (now name ≡ firstField (now sheet) (lineOf (now work) i)) ⌝ }
+    ensures { λ r. ⌜ Looked (now (sheet .entry)) (now (work .entry)) (plain (now (name .entry))) i (newestPlain (now (sheet .entry)) (now (work .entry)) i (now (name .entry))) r ⌝ }
+{
+    let newest = chains::earlier(work, CHAIN, c.consts, i);
+    along_plain(sheet, work, c, newest, name, digest_of(work, i))
+}
+
+// The same of a module's name.
+pub fn look_up_in_before(
+    sheet: &[u8],
+    work: &[u8],
+    c: Known,
+    i: usize,
+    within: &[u8],
+    name: &[u8],
+) -> usize
+    requires { ⌜ (ConstTable (now sheet) (now work) (c .lines) (c .consts)) × (i < c .consts) × (now name ≡ firstField (now sheet) (lineOf (now work) i)) ⌝ }
+    ensures { λ r. ⌜ Looked (now (sheet .entry)) (now (work .entry)) (qualified (now (within .entry)) (now (name .entry))) i (newestQualified (now (sheet .entry)) (now (work .entry)) i (now (within .entry)) (now (name .entry))) r ⌝ }
+{
+    let newest = chains::earlier(work, CHAIN, c.consts, i);
+    along_qualified(sheet, work, c, newest, within, name, digest_of(work, i))
 }

@@ -47,7 +47,7 @@ pub digest-end : (s : Bytes) (i h : ℕ) {d : ℕ} → length s ≤ i → d ≡ 
 unfolding digestFrom
 digest-end s i h l e = sym (e ∙ rw (drop-of-length-le s {i = i} l))
 
-digest-same : (a b : Bytes) (h : ℕ) → same a b ≡ true → digestFrom h a ≡ digestFrom h b
+pub digest-same : (a b : Bytes) (h : ℕ) → same a b ≡ true → digestFrom h a ≡ digestFrom h b
 unfolding digestFrom
 digest-same [] [] h e = refl
 digest-same [] (y ∷ b) h e = absurd (false≢true e)

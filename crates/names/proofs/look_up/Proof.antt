@@ -1,44 +1,27 @@
 -- `names::look_up` meets its contract.
 use Rattle.names.proofs.Laws as Laws
-use Rattle.names.specs.Table.{answersPlain, newestPlain}
-use borrow.Author.Needs.{needs}
+use Rattle.chains.specs.Chains.{isOf, newestOf}
+use Rattle.names.specs.Table.{constChain}
+use Rattle.chains.proofs.Laws.{newest-most}
 use denote.Ref.{now}
-use mathlib.Core.Path.{_≡_, refl, sym, _∙_}
+use mathlib.Core.Path.{_≡_, sym, ap, _∙_}
 use native.Mathlib.Omega.{arith}
-use Prim.Native.Nat.{ℕ, _≤_}
+use Prim.Native.Nat.{ℕ}
+use borrow.Author.Needs.{needs}
 use Rattle.names.proofs.look_up.Statement.{statement}
 use Rattle.names.proofs.look_up.Tie as tie
 
-abbrev Inv-loop : tie.InvT-loop
-Inv-loop sheet work c name d i₀ i = (i ≤ c .consts) × (newestPlain sheet work (c .consts) name ≡ newestPlain sheet work i name)
+newest-requires : tie.Need-newest-requires
+newest-requires c κs = let p = c .before .before .before .before .before .pre in (Laws.const-placed p, p .logged .chained, c .chain-of .ensures .1)
 
-abbrev μ-loop : tie.MeasureT-loop
-μ-loop sheet work c name d i₀ i = i
+along-plain-requires : tie.Need-along-plain-requires
+along-plain-requires c κs = (c .before .before .before .before .before .before .pre, newest-most _ (c .newest .ensures), c .before .before .digest .ensures .0)
 
-loop-holds : tie.Need-loop-holds Inv-loop μ-loop
-loop-holds c = (omega arith, refl)
-
-answers-plain-requires : tie.Need-answers-plain-requires Inv-loop μ-loop
-answers-plain-requires c κs = (Laws.table-entry (c .before .before .before .before .before .before .pre) (omega (arith, c .before .loop .inv .0, c .loop-test .taken)), c .before .before .digest .ensures .0)
-
-returns : tie.Need-returns Inv-loop μ-loop
+returns : tie.Need-returns
 returns c =
-    let a = c .before .before .before .before .before .before .before .before .args in
-    let e = Laws.newest-hit (λ (j : ℕ). answersPlain (now (a .sheet)) (now (a .work)) j (now (a .name))) (c .before .before .before .loop .i) (omega arith) (c .before .answers-plain .ensures) (c .if1 .taken) ∙ sym (c .before .before .before .loop .inv .1) in
-    Laws.looked (Laws.answers-plain (now (a .sheet)) (now (a .work)) (now (a .name))) e
-
-loop-again : tie.Need-loop-again Inv-loop μ-loop
-loop-again c =
-    let a = c .before .before .before .before .before .before .before .before .args in
-    (omega arith, c .before .before .before .loop .inv .1 ∙ Laws.newest-on (λ (j : ℕ). answersPlain (now (a .sheet)) (now (a .work)) j (now (a .name))) (c .before .before .before .loop .i) (omega arith) (c .before .answers-plain .ensures) (c .if1 .left))
-
-returns-2 : tie.Need-returns-2 Inv-loop μ-loop
-returns-2 c =
-    let a = c .before .before .before .before .before .before .args in
-    let e = Laws.newest-end (λ (j : ℕ). answersPlain (now (a .sheet)) (now (a .work)) j (now (a .name))) (c .before .loop .i) (omega arith) ∙ sym (c .before .loop .inv .1) in
-    Laws.looked (Laws.answers-plain (now (a .sheet)) (now (a .work)) (now (a .name))) e
+    let a = c .before .before .before .before .before .before .before .args in
+    let e = c .before .newest .ensures ∙ ap (λ (k : ℕ). newestOf (isOf (now (a .work)) constChain k) (a .c .consts)) (c .before .before .chain-of .ensures .0) in
+    Laws.looked (Laws.answers-plain (now (a .sheet)) (now (a .work)) (now (a .name))) (c .along-plain .ensures (a .c .consts) (omega arith) e)
 
 pub look-up-spec : {M : Type 1} → statement M
-look-up-spec =
-    tie.close (tie.spec Inv-loop μ-loop (λ c κs. search needs) loop-holds (λ c. search needs) answers-plain-requires returns (λ c. search needs)
-    (λ c. search needs) loop-again returns-2)
+look-up-spec = tie.close (tie.spec (λ c κs. search needs) (λ c κs. search needs) newest-requires along-plain-requires returns)

@@ -1,44 +1,27 @@
 -- `names::look_up_in` meets its contract.
 use Rattle.names.proofs.Laws as Laws
-use Rattle.names.specs.Table.{answersQualified, newestQualified}
-use borrow.Author.Needs.{needs}
+use Rattle.chains.specs.Chains.{isOf, newestOf}
+use Rattle.names.specs.Table.{constChain}
+use Rattle.chains.proofs.Laws.{newest-most}
 use denote.Ref.{now}
-use mathlib.Core.Path.{_≡_, refl, sym, _∙_}
+use mathlib.Core.Path.{_≡_, sym, ap, _∙_}
 use native.Mathlib.Omega.{arith}
-use Prim.Native.Nat.{ℕ, _≤_}
+use Prim.Native.Nat.{ℕ}
+use borrow.Author.Needs.{needs}
 use Rattle.names.proofs.look_up_in.Statement.{statement}
 use Rattle.names.proofs.look_up_in.Tie as tie
 
-abbrev Inv-loop : tie.InvT-loop
-Inv-loop sheet work c within name d i₀ i = (i ≤ c .consts) × (newestQualified sheet work (c .consts) within name ≡ newestQualified sheet work i within name)
+newest-requires : tie.Need-newest-requires
+newest-requires c κs = let p = c .before .before .before .before .before .before .pre in (Laws.const-placed p, p .logged .chained, c .chain-of .ensures .1)
 
-abbrev μ-loop : tie.MeasureT-loop
-μ-loop sheet work c within name d i₀ i = i
+along-qualified-requires : tie.Need-along-qualified-requires
+along-qualified-requires c κs = (c .before .before .before .before .before .before .before .pre, newest-most _ (c .newest .ensures), c .before .before .digest .ensures .0)
 
-loop-holds : tie.Need-loop-holds Inv-loop μ-loop
-loop-holds c = (omega arith, refl)
-
-answers-qualified-requires : tie.Need-answers-qualified-requires Inv-loop μ-loop
-answers-qualified-requires c κs = (Laws.table-entry (c .before .before .before .before .before .before .before .pre) (omega (arith, c .before .loop .inv .0, c .loop-test .taken)), c .before .before .digest .ensures .0)
-
-returns : tie.Need-returns Inv-loop μ-loop
+returns : tie.Need-returns
 returns c =
-    let a = c .before .before .before .before .before .before .before .before .before .args in
-    let e = Laws.newest-hit (λ (j : ℕ). answersQualified (now (a .sheet)) (now (a .work)) j (now (a .within)) (now (a .name))) (c .before .before .before .loop .i) (omega arith) (c .before .answers-qualified .ensures) (c .if1 .taken) ∙ sym (c .before .before .before .loop .inv .1) in
-    Laws.looked (Laws.answers-qualified (now (a .sheet)) (now (a .work)) (now (a .within)) (now (a .name))) e
-
-loop-again : tie.Need-loop-again Inv-loop μ-loop
-loop-again c =
-    let a = c .before .before .before .before .before .before .before .before .before .args in
-    (omega arith, c .before .before .before .loop .inv .1 ∙ Laws.newest-on (λ (j : ℕ). answersQualified (now (a .sheet)) (now (a .work)) j (now (a .within)) (now (a .name))) (c .before .before .before .loop .i) (omega arith) (c .before .answers-qualified .ensures) (c .if1 .left))
-
-returns-2 : tie.Need-returns-2 Inv-loop μ-loop
-returns-2 c =
-    let a = c .before .before .before .before .before .before .before .args in
-    let e = Laws.newest-end (λ (j : ℕ). answersQualified (now (a .sheet)) (now (a .work)) j (now (a .within)) (now (a .name))) (c .before .loop .i) (omega arith) ∙ sym (c .before .loop .inv .1) in
-    Laws.looked (Laws.answers-qualified (now (a .sheet)) (now (a .work)) (now (a .within)) (now (a .name))) e
+    let a = c .before .before .before .before .before .before .before .before .args in
+    let e = c .before .newest .ensures ∙ ap (λ (k : ℕ). newestOf (isOf (now (a .work)) constChain k) (a .c .consts)) (c .before .before .chain-of .ensures .0) in
+    Laws.looked (Laws.answers-qualified (now (a .sheet)) (now (a .work)) (now (a .within)) (now (a .name))) (c .along-qualified .ensures (a .c .consts) (omega arith) e)
 
 pub look-up-in-spec : {M : Type 1} → statement M
-look-up-in-spec =
-    tie.close (tie.spec Inv-loop μ-loop (λ c κs. search needs) loop-holds (λ c. search needs) answers-qualified-requires returns (λ c. search needs)
-    (λ c. search needs) loop-again returns-2)
+look-up-in-spec = tie.close (tie.spec (λ c κs. search needs) (λ c κs. search needs) newest-requires along-qualified-requires returns)
