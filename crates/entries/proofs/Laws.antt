@@ -1,5 +1,6 @@
 -- Laws of entries.
 use mathlib.Core.Path.{_≡_, refl, sym, ap, _∙_, subst}
+use mathlib.Core.Bool.{Bool, true, false}
 use mathlib.Core.List.{[], _∷_, _++_, append-assoc}
 use mathlib.Core.Logic.{⊎-elim}
 use mathlib.Core.Option.{Option, none, some}
@@ -7,6 +8,8 @@ use Prim.Native.Nat.{ℕ, _+_, _-_, _*_, _/_, _%_, _≤_, _<_, min}
 use native.Mathlib.Omega.{arith}
 use native.Mathlib.Numerals.{add-one}
 use native.Mathlib.Nat.{eq-or-lt-of-le}
+use borrow.Author.Tests.{ltb-true, ltb-false}
+use lib.Dec.{ltb}
 use lib.IntN.{ℤ}
 use lib.Ieee.{Float, binary64, toBits}
 use lib.ListN.{length, take, drop, getD, length-append}
@@ -20,12 +23,14 @@ use Rattle.semantics.specs.Const.{entries}
 use Rattle.write.specs.Wrote.{over}
 use Rattle.write.proofs.Hex.{big-length}
 use Rattle.write.proofs.Back.{bits-back}
+use Rattle.chains.specs.Chains.{chainOf, place, chainAt, Chained, linked}
+use Rattle.chains.proofs.Laws.{SameBytes, chained-kept, chained-next}
 use Rattle.words.specs.Words.{digest, u16At, bitsAt}
 use Rattle.implement.specs.Modules.{firstField, moduleAt}
 use Rattle.checks.specs.Checks.{Kept}
-use Rattle.checks.proofs.Kept.{kept-then, kept-less}
-use Rattle.names.specs.Table.{lineOf, moduleLineOf, valueBy, kindOf, bitsOf, digestOf, entriesAt, logIn, EntryBounds, ConstsLogged}
-use Rattle.names.proofs.Laws.{slot-is, value-failed, value-int, value-real, value-text, part-low, part-kept, SameText, logged-same, log-same}
+use Rattle.checks.proofs.Kept.{kept-at, kept-then, kept-less, outside-less}
+use Rattle.names.specs.Table.{lineOf, moduleLineOf, valueBy, kindOf, bitsOf, digestOf, constChain, entriesAt, logIn, EntryBounds, ConstsLogged}
+use Rattle.names.proofs.Laws.{slot-is, value-failed, value-int, value-real, value-text, part-low, part-kept, SameText, each-same, digests-same, log-same, entries-below, const-room, const-apart, linked-outside, linked-entries}
 use Rattle.values.specs.declared.ConstVal.{ConstVal}
 use Rattle.values.specs.declared.ConstVal.the-variants.{Int, Real, Str}
 use Rattle.values.specs.Values.{stringIn, valueIn, kindFor, bitsFor, Small, InRange, At}
@@ -78,8 +83,8 @@ module _ (v : ConstVal) {w : ConstVal} (m : ℕ) (e : w ≡ movedTo (16384 + 256
   kept-small h a = rw e (moved-small (16384 + 256 * m) v (omega arith) a)
 
   pub value-entered : (line within d : ℕ) (t : Bytes) {u x : Bytes} {k b : ℕ}
-      → x ≡ over t (16384 + 256 * m) (stringOf t v) → k ≡ kindFor w → (b ≡ bitsFor w) × InRange w → u ≡ over x (5120 + 16 * m) (entryOf line within k b d)
-      → (u ≡ over (over t (16384 + 256 * m) (stringOf t v)) (5120 + 16 * m) (entryOf line within (kindFor v) (bitsFor (movedTo (16384 + 256 * m) v)) d)) × InRange v
+      → x ≡ over t (16384 + 256 * m) (stringOf t v) → k ≡ kindFor w → (b ≡ bitsFor w) × InRange w → u ≡ linked (over x (5120 + 16 * m) (entryOf line within k b d)) constChain m (chainOf d)
+      → (u ≡ linked (over (over t (16384 + 256 * m) (stringOf t v)) (5120 + 16 * m) (entryOf line within (kindFor v) (bitsFor (movedTo (16384 + 256 * m) v)) d)) constChain m (chainOf d)) × InRange v
   value-entered line within d t f g (h, r) i = (i ∙ rw (f, g, h, e, moved-kind (16384 + 256 * m) v), moved-range (16384 + 256 * m) v (rw e at r))
 
 -- ---- an entry's bytes
@@ -133,9 +138,14 @@ module _ (t u : Bytes) (m line within kind bits d : ℕ) (f : EntryRoom t m line
   table-kept : Kept (5120 + 16 * m) t u
   table-kept = kept-then (kept-less (omega (arith, f .few)) string-kept) entry-only
 
-  -- what stands behind the table is as the string leaves it
-  behind : (p : ℕ) → 7168 ≤ p → drop p u ≡ drop p (over t (16384 + 256 * m) str)
+  -- what stands behind the entry is as the string leaves it
+  behind : (p : ℕ) → 5134 + 16 * m ≤ p → drop p u ≡ drop p (over t (16384 + 256 * m) str)
   behind p h = rw is (over-behind (over t (16384 + 256 * m) str) (entryOf line within kind bits d) (5120 + 16 * m) entry-room p (omega (arith, f .few, entry-length line within kind bits d)))
+
+  byte-behind : (p : ℕ) → 5134 + 16 * m ≤ p → getD u p 0 ≡ getD (over t (16384 + 256 * m) str) p 0
+  byte-behind p h =
+      let z : p + 0 ≡ p = omega arith in
+      rw z at (sym (getD-drop p u 0 0) ∙ ap (λ (l : Bytes). getD l 0 0) (behind p h) ∙ getD-drop p (over t (16384 + 256 * m) str) 0 0)
 
   -- ---- the new entry
 
@@ -192,43 +202,85 @@ module _ (t u : Bytes) (m line within kind bits d : ℕ) (f : EntryRoom t m line
   texts-same s n l i h k =
       let g = l .each i h .own k in
       let e = l .each i h .text k in
-      rw (behind (bitsOf t i % 65536) (omega arith)) (part-kept string-kept (bitsOf t i % 65536) (bitsOf t i / 65536) (omega (arith, e .short)))
+      rw (behind (bitsOf t i % 65536) (omega (arith, f .few))) (part-kept string-kept (bitsOf t i % 65536) (bitsOf t i / 65536) (omega (arith, e .short)))
 
-  entered : (v : Option Tree.ConstVal) → valueBy u kind bits ≡ v → (s : Bytes) (n : ℕ) → line ≤ n → within ≤ n → d ≡ digest (firstField s line) → ConstsLogged s t n m → Entered s t n m line within v u
+  each-new : (n : ℕ) → line ≤ n → within ≤ n → ((i : ℕ) → i < m → EntryBounds t n i) → (i : ℕ) → i < m + 1 → EntryBounds u n i
+  each-new n p q each i h = ⊎-elim (λ (x : i ≡ m). subst (EntryBounds u n) (sym x) (entry-new n p q)) (λ (x : i < m). each-same (entries-below table-kept) each i x) (eq-or-lt-of-le (omega arith))
+
+  digests-new : (s : Bytes) (n : ℕ) → d ≡ digest (firstField s line) → ConstsLogged s t n m → (i : ℕ) → i < m + 1 → digestOf u i ≡ digest (firstField s (lineOf u i))
+  digests-new s n e l i h = ⊎-elim (λ (x : i ≡ m). rw (x, digest-here, line-here) e) (λ (x : i < m). digests-same (entries-below table-kept) (l .each) s (l .digests) i x) (eq-or-lt-of-le (omega arith))
+
+  log-new : (v : Option Tree.ConstVal) → valueBy u kind bits ≡ v → (s : Bytes) (n : ℕ) → ConstsLogged s t n m → logIn s u (m + 1) ≡ entries (sheetSource s .implement) (moduleAt s within) (firstField s line) v ++ logIn s t m
   unfolding logIn entriesAt
-  entered v e s n p q hd l = record {
-    log = rw (add-one, line-here, within-here, slot-is u m, kind-here, bits-here, e, log-same table-kept l (texts-same s n l));
-    logged = record {
-      few = omega (arith, f .few);
-      each = λ i h. ⊎-elim (λ (x : i ≡ m). subst (EntryBounds u n) (sym x) (entry-new n p q)) (λ (x : i < m). logged-same table-kept l .each i x) (eq-or-lt-of-le (omega arith));
-      digests = λ i h. ⊎-elim (λ (x : i ≡ m). rw (x, digest-here, line-here) hd) (λ (x : i < m). logged-same table-kept l .digests i x) (eq-or-lt-of-le (omega arith));
-    };
-    kept = kept-less (omega arith) table-kept;
-  }
+  log-new v e s n l = rw (add-one, line-here, within-here, slot-is u m, kind-here, bits-here, e, log-same (entries-below table-kept) (l .each) s (texts-same s n l))
 
-module _ (t u : Bytes) (m line within d : ℕ) (f : EntryRoom t m line within) where
-  pub entered-failed : u ≡ over t (5120 + 16 * m) (entryOf line within 0 0 d) → (s : Bytes) (n : ℕ) → line ≤ n → within ≤ n → d ≡ digest (firstField s line) → ConstsLogged s t n m → Entered s t n m line within none u
+  -- the chains of the earlier ones are as they were
+  head-kept : (p k : ℕ) → p ≡ 5135 + 16 * k → k < 128 → getD u p 0 ≡ getD t p 0
+  head-kept p k e h = go (ltb k m) refl
+    where
+      go : (b : Bool) → ltb k m ≡ b → getD u p 0 ≡ getD t p 0
+      go true q = let x = ltb-true k m q in kept-at table-kept p (omega arith)
+      go false q = let x = ltb-false k m q in byte-behind p (omega arith) ∙ kept-at string-kept p (omega arith)
+
+  chained-still : Chained t constChain m → Chained u constChain m
+  unfolding place
+  chained-still =
+      let same : SameBytes t u constChain m = record {
+        digest = λ i (h : i < m). kept-at table-kept (5133 + 16 * i) (omega arith);
+        link = λ i (h : i < m). kept-at table-kept (5133 + 16 * i + 1) (omega arith);
+        head = λ k h. head-kept (5133 + 16 * k + 1 + 1) k (omega arith) h;
+      } in
+      chained-kept same (omega arith)
+
+  own-chain : chainAt u constChain m ≡ chainOf d
+  unfolding chainAt place
+  own-chain = ap chainOf digest-here
+
+  entered : (v : Option Tree.ConstVal) → valueBy u kind bits ≡ v → (w : Bytes) → w ≡ linked u constChain m (chainOf d) → (s : Bytes) (n : ℕ) → line ≤ n → within ≤ n → d ≡ digest (firstField s line) → ConstsLogged s t n m → Entered s t n m line within v w
+  entered v e w j s n p q hd l =
+      let bounds = each-new n p q (l .each) in
+      let same = linked-entries u m (chainOf d) (f .few) (omega arith) in
+      let outside = linked-outside u m (chainOf d) (f .few) (omega arith) in
+      let long : 65536 ≤ length u = omega (arith, f .long, table-kept .long) in
+      rw j
+      (record {
+        log = log-same same bounds s (λ i h x. ap (take (bitsOf u i / 65536)) (outside-less 5120 (bitsOf u i % 65536) (omega arith) (omega (arith, bounds i h .text x .low)) outside .above)) ∙ log-new v e s n l;
+        logged = record {
+          few = omega (arith, f .few);
+          each = each-same same bounds;
+          digests = digests-same same bounds s (digests-new s n hd l);
+          chained = rw add-one (chained-next (const-room long) const-apart (omega arith) (omega arith) (f .few) (omega arith) (own-chain) (chained-still (l .chained)));
+        };
+        kept = kept-then (kept-less (omega arith) table-kept) (outside .kept);
+      })
+
+module _ (t w : Bytes) (m line within d : ℕ) (f : EntryRoom t m line within) where
+  pub entered-failed : w ≡ linked (over t (5120 + 16 * m) (entryOf line within 0 0 d)) constChain m (chainOf d) → (s : Bytes) (n : ℕ) → line ≤ n → within ≤ n → d ≡ digest (firstField s line) → ConstsLogged s t n m → Entered s t n m line within none w
   entered-failed e =
-      entered t u m line within 0 0 d f [] (omega arith) (e ∙ ap (λ (x : Bytes). over x (5120 + 16 * m) (entryOf line within 0 0 d)) (over-none t (16384 + 256 * m))) (omega arith) (omega arith) (λ k. absurd (omega arith))
-      none (value-failed u 0 0 (λ k. omega arith) (λ k. omega arith) (λ k. omega arith))
+      let u = over t (5120 + 16 * m) (entryOf line within 0 0 d) in
+      entered t u m line within 0 0 d f [] (omega arith) (ap (λ (x : Bytes). over x (5120 + 16 * m) (entryOf line within 0 0 d)) (over-none t (16384 + 256 * m))) (omega arith) (omega arith) (λ k. absurd (omega arith))
+      none (value-failed u 0 0 (λ k. omega arith) (λ k. omega arith) (λ k. omega arith)) w e
 
   -- a value, by its variant
   pub entered-value : (v : ConstVal) → At 49152 v
-      → (u ≡ over (over t (16384 + 256 * m) (stringOf t v)) (5120 + 16 * m) (entryOf line within (kindFor v) (bitsFor (movedTo (16384 + 256 * m) v)) d)) × InRange v
-      → (s : Bytes) (n : ℕ) → line ≤ n → within ≤ n → d ≡ digest (firstField s line) → ConstsLogged s t n m → Entered s t n m line within (some (valueIn t v)) u
+      → (w ≡ linked (over (over t (16384 + 256 * m) (stringOf t v)) (5120 + 16 * m) (entryOf line within (kindFor v) (bitsFor (movedTo (16384 + 256 * m) v)) d)) constChain m (chainOf d)) × InRange v
+      → (s : Bytes) (n : ℕ) → line ≤ n → within ≤ n → d ≡ digest (firstField s line) → ConstsLogged s t n m → Entered s t n m line within (some (valueIn t v)) w
   unfolding valueIn wrap
   entered-value (Int z) a (e, r) =
-      entered t u m line within 1 (bits64 z) d f [] (omega arith) e (omega arith) (word (Int z) tt r) (λ k. absurd (omega arith))
-      (some (vInt z)) (value-int u 1 (bits64 z) refl ∙ ap (λ (x : ℤ). some (vInt x)) r)
+      let u = over (over t (16384 + 256 * m) []) (5120 + 16 * m) (entryOf line within 1 (bits64 z) d) in
+      entered t u m line within 1 (bits64 z) d f [] (omega arith) refl (omega arith) (word (Int z) tt r) (λ k. absurd (omega arith))
+      (some (vInt z)) (value-int u 1 (bits64 z) refl ∙ ap (λ (x : ℤ). some (vInt x)) r) w e
   entered-value (Real x) a (e, r) =
-      entered t u m line within 2 (toBits binary64 x) d f [] (omega arith) e (omega arith) (word (Real x) tt r) (λ k. absurd (omega arith))
-      (some (vReal x)) (value-real u 2 (toBits binary64 x) refl ∙ ap (λ (y : Float). some (vReal y)) (real-back x r))
+      let u = over (over t (16384 + 256 * m) []) (5120 + 16 * m) (entryOf line within 2 (toBits binary64 x) d) in
+      entered t u m line within 2 (toBits binary64 x) d f [] (omega arith) refl (omega arith) (word (Real x) tt r) (λ k. absurd (omega arith))
+      (some (vReal x)) (value-real u 2 (toBits binary64 x) refl ∙ ap (λ (y : Float). some (vReal y)) (real-back x r)) w e
   entered-value (Str p l) a (e, r) =
       let b : ℕ = 16384 + 256 * m + 65536 * l in
+      let u = over (over t (16384 + 256 * m) (stringIn t p l)) (5120 + 16 * m) (entryOf line within 3 b d) in
       let g : length (stringIn t p l) ≡ l = string-length t p l (omega (arith, f .long)) in
       let c : (bits : ℕ) → bits ≡ 16384 + 256 * m + 65536 * l → (bits % 65536 ≡ 16384 + 256 * m) × (bits / 65536 ≡ l) = λ bits q. (omega (arith, f .few), omega (arith, f .few)) in
       let x : (k : _≡_ {A = ℕ} 3 3) → (b % 65536 ≡ 16384 + 256 * m) × (b / 65536 ≤ 256) = λ k. (c b refl .0, omega (arith, c b refl .1)) in
       let y : length (stringIn t p l) ≤ 256 = omega arith in
-      let w : b < 18446744073709551616 = omega (arith, f .few) in
-      entered t u m line within 3 b d f (stringIn t p l) y e (omega arith) w x
-      (some (vStr (stringIn t p l))) (text-here t u m line within 3 b d f (stringIn t p l) y e (omega arith) w x refl (c b refl .1 ∙ sym g))
+      let h : b < 18446744073709551616 = omega (arith, f .few) in
+      entered t u m line within 3 b d f (stringIn t p l) y refl (omega arith) h x
+      (some (vStr (stringIn t p l))) (text-here t u m line within 3 b d f (stringIn t p l) y refl (omega arith) h x refl (c b refl .1 ∙ sym g)) w e

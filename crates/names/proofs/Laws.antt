@@ -9,9 +9,9 @@ use native.Mathlib.Omega.{arith}
 use native.Mathlib.Nat.{eq-or-lt-of-le}
 use lib.Dec.{ltb, eqb}
 use lib.Ieee.{binary64, ofBits}
-use lib.ListN.{take, drop, getD}
-use lib.Seq.{take-take, getD-take, getD-drop, drop-drop}
-use borrow.Author.Tests.{lt-ltb, eq-eqb, ne-eqb, eqb-true, not-true, not-false}
+use lib.ListN.{length, take, drop, getD, set}
+use lib.Seq.{take-take, take-set-le, getD-take, getD-drop, drop-drop, drop-set-lt}
+use borrow.Author.Tests.{lt-ltb, ltb-true, ltb-false, eq-eqb, ne-eqb, eqb-true, not-true, not-false}
 use Rattle.semantics.specs.Text.{Bytes, same, fromBigEndian}
 use Rattle.semantics.specs.Tree.{ConstVal}
 use Rattle.semantics.specs.Tree.ConstVal.{vInt, vReal, vStr}
@@ -19,13 +19,13 @@ use Rattle.semantics.specs.Sheet.{sheetSource}
 use Rattle.semantics.specs.Fold.{Key, Const, signed64, plain, qualified, sameOption, lookUp, valueOf}
 use Rattle.semantics.specs.Const.{entries}
 use Rattle.semantics.proofs.Common.{both}
-use Rattle.chains.specs.Chains.{newestOf, chainOf, place, chainAt, isOf, Placed}
-use Rattle.chains.proofs.Laws.{newest-low, chained-kept}
+use Rattle.chains.specs.Chains.{newestOf, chainOf, place, headAt, chainAt, isOf, Placed, linked}
+use Rattle.chains.proofs.Laws.{newest-low, chained-kept, Apart}
 use Rattle.words.specs.Words.{digest, u16At, bitsAt}
 use Rattle.words.proofs.Laws.{digest-same, digest-apart}
 use Rattle.implement.specs.Modules.{firstField, moduleAt, ownIn, isOwn}
-use Rattle.checks.specs.Checks.{Kept, Checked}
-use Rattle.checks.proofs.Kept.{kept-at, kept-less}
+use Rattle.checks.specs.Checks.{Kept, Outside, Checked}
+use Rattle.checks.proofs.Kept.{kept-at, kept-less, outside-then, outside-set}
 use Rattle.names.specs.Table.{lineOf, moduleLineOf, valueBy, slotValue, kindOf, bitsOf, digestOf, constChain, entriesAt, logIn, EntryBounds, ConstsLogged, ConstTable, ConstEntry, found, hasKey, answersPlain, answersQualified, Answered, Looked}
 
 -- ---- a slot by its kind and bits
@@ -179,9 +179,12 @@ answers-qualified s t q x = record {
 pub table-entry : {s t : Bytes} {n m i : ℕ} → ConstTable s t n m → i < m → ConstEntry s t n i
 table-entry {i = i} c h = record { checked = c .checked; low = omega (arith, c .logged .few); entry = c .logged .each i h; digested = c .logged .digests i h }
 
-pub const-placed : {s t : Bytes} {n m : ℕ} → ConstTable s t n m → Placed t constChain
+pub const-room : {t : Bytes} → 65536 ≤ length t → Placed t constChain
 unfolding place
-const-placed c = record { low = λ i h. omega arith; long = c .checked .whole .room }
+const-room h = record { low = λ i h. omega arith; long = h }
+
+pub const-placed : {s t : Bytes} {n m : ℕ} → ConstTable s t n m → Placed t constChain
+const-placed c = const-room (c .checked .whole .room)
 
 -- a number up to the table's end is an answer
 pub answered : {s t : Bytes} {n m : ℕ} → ConstsLogged s t n m → Checked s t n → {r : ℕ} → r ≤ m → Answered t r
@@ -335,6 +338,41 @@ module _ {s t u : Bytes} {n m : ℕ} (w : Kept 7168 t u) (l : ConstsLogged s t n
   -- and the log, where bytes among the constants' strings are kept
   pub log-stays : ((a b : ℕ) → 16384 ≤ a → a + b ≤ 49152 → take b (drop a u) ≡ take b (drop a t)) → logIn s u m ≡ logIn s t m
   log-stays parts = log-same same-entries (l .each) s (λ i h q. let x = l .each i h .text q in parts (bitsOf t i % 65536) (bitsOf t i / 65536) (x .low) (x .high))
+
+-- ---- an entry linked
+
+pub const-apart : Apart constChain 128
+unfolding place
+const-apart = record { own = λ i j e. omega arith; link = λ i j h k e. omega arith; head = λ i k h l e. omega arith }
+
+-- a byte set before an entry, or behind its first 14 bytes
+module _ (t : Bytes) (i j x : ℕ) where
+  set-before : j < 5120 + 16 * i → SameEntry t (set t j x) i
+  set-before h = record { bytes = ap (take 14) (drop-set-lt (5120 + 16 * i) t j x h) }
+
+  set-behind : 5134 + 16 * i ≤ j → SameEntry t (set t j x) i
+  set-behind h =
+      let a = 5120 + 16 * i in
+      record { bytes = sym (part-low a 14 (a + 14) (set t j x) (omega arith)) ∙ ap (λ (l : Bytes). take 14 (drop a l)) (take-set-le (a + 14) t j x (omega arith)) ∙ part-low a 14 (a + 14) t (omega arith) }
+
+module _ (t : Bytes) (m k : ℕ) (few : m < 128) (small : k < 128) where
+  pub linked-outside : Outside 5120 7168 t (linked t constChain m k)
+  unfolding linked place
+  linked-outside = outside-then (outside-set 5120 7168 t (5133 + 16 * m + 1) (headAt t constChain k) (omega arith) (omega arith)) (outside-set 5120 7168 (set t (5133 + 16 * m + 1) (headAt t constChain k)) (5133 + 16 * k + 1 + 1) m (omega arith) (omega arith))
+
+  pub linked-entries : (i : ℕ) → i < m + 1 → SameEntry t (linked t constChain m k) i
+  unfolding linked place
+  linked-entries i h = go (ltb k i) refl
+    where
+      u : Bytes
+      u = set t (5133 + 16 * m + 1) (headAt t constChain k)
+
+      head : (b : Bool) → ltb k i ≡ b → SameEntry u (set u (5133 + 16 * k + 1 + 1) m) i
+      head true e = let x = ltb-true k i e in set-before u i (5133 + 16 * k + 1 + 1) m (omega arith)
+      head false e = let x = ltb-false k i e in set-behind u i (5133 + 16 * k + 1 + 1) m (omega arith)
+
+      go : (b : Bool) → ltb k i ≡ b → SameEntry t (set u (5133 + 16 * k + 1 + 1) m) i
+      go b e = record { bytes = head b e .bytes ∙ set-behind t i (5133 + 16 * m + 1) (headAt t constChain k) (omega arith) .bytes }
 
 -- where all below the stack of folds is kept
 module _ {s t u : Bytes} {n m : ℕ} (w : Kept 49152 t u) (l : ConstsLogged s t n m) where

@@ -1,16 +1,19 @@
 -- `entries::put_entry` meets its contract.
-use Rattle.entries.specs.Entering.{entryOf}
-use Rattle.write.proofs.Wrote.{then}
+use Rattle.names.proofs.Laws.{const-room}
+use Rattle.names.specs.Table.{constChain}
+use Rattle.chains.specs.Chains.{linked}
+use mathlib.Core.Path.{_∙_, ap}
+use native.Mathlib.Omega.{arith}
 use borrow.Author.Needs.{needs}
 use Rattle.entries.proofs.put_entry.Statement.{statement}
 use Rattle.entries.proofs.put_entry.Tie as tie
 
+link-requires : tie.Need-link-requires
+link-requires c κs = (const-room (search needs), omega (arith, c .before .before .before .before .before .before .before .pre .0 .few), c .chain-of .ensures .1)
+
 returns : tie.Need-returns
-unfolding entryOf
-returns c = then (then (then (then (then (then (c .before .before .before .before .before .before .before .before .before .before .before .before .before .before .before .before .before .before .before .before .before .before .before .before .before .before .put .ensures) (c .before .before .before .before .before .before .before .before .before .before .before .before .before .before .before .before .before .before .before .before .before .before .put2 .ensures)) (c .before .before .before .before .before .before .before .before .before .before .before .before .before .before .before .before .before .before .put3 .ensures)) (c .before .before .before .before .before .before .before .before .before .before .before .before .before .before .put4 .ensures)) (c .before .before .before .before .before .before .before .before .before .before .put5 .ensures)) (c .before .before .before .before .before .before .put-bits .ensures)) (c .before .before .put6 .ensures) .bytes
+returns c = c .before .before .link .ensures ∙ rw (c .before .before .before .before .before .before .before .put-bytes .ensures, c .before .before .before .chain-of .ensures .0)
 
 pub put-entry-spec : {M : Type 1} → statement M
 put-entry-spec =
-    tie.close (tie.spec (λ c. search needs) (λ c. search needs) (λ c. search needs) (λ c κs. search needs) (λ c. search needs) (λ c κs. search needs)
-    (λ c. search needs) (λ c κs. search needs) (λ c. search needs) (λ c κs. search needs) (λ c κs. search needs) (λ c κs. search needs)
-    (λ c. search needs) (λ c κs. search needs) (λ c. search needs) returns)
+    tie.close (tie.spec (λ c κs. search needs) (λ c κs. search needs) link-requires (λ c. search needs) returns)
