@@ -24,7 +24,8 @@ use Rattle.write.specs.Wrote.{Wrote}
 use Rattle.write.proofs.Wrote.{wrote-none, wrote-as, then}
 use Rattle.implement.specs.Modules.{firstField, isOwn}
 use Rattle.names.specs.Table.{lineOf, moduleLineOf, valueBy, kindOf, bitsOf, logIn, ConstTable, Answered, found, hasKey, answersPlain, answersQualified, newestPlain, newestQualified}
-use Rattle.names.proofs.Laws.{found-is, newest-from, value-failed, value-int, value-real, value-text}
+use Rattle.chains.proofs.Laws.{newest-from}
+use Rattle.names.proofs.Laws.{found-is, value-failed, value-int, value-real, value-text}
 use Rattle.laws.proofs.Tests.{same-refl}
 use Rattle.const_rows.specs.Rows.{plainKey, qualifiedKey, qualifiedTo, plainTo, qualifiedPart, plainPart, rowsTo, entryRows}
 use Rattle.const_rows.proofs.Keys.{qualified-none, plain-none, qualified-more, plain-more}
@@ -168,11 +169,11 @@ module _ (s t : Bytes) (m i : ℕ) where
 -- ---- the table
 
 module _ {s t : Bytes} {n m : ℕ} (b : ConstTable s t n m) where
-  pub fewer : {i : ℕ} → i < m → ConstTable s t n i
-  fewer {i} h = record { checked = b .checked; logged = record { few = omega (arith, b .logged .few); each = λ j k. b .logged .each j (omega arith); digests = λ j k. b .logged .digests j (omega arith) } }
-
   pub line-in : {i l : ℕ} → i < m → l ≡ lineOf t i → (0 < l) × (l ≤ n)
   line-in {i} h e = let x = b .logged .each i h in (omega (arith, x .first), omega (arith, x .last))
+
+  pub name-in : {i l : ℕ} {name : Bytes} → i < m → l ≡ lineOf t i → name ≡ firstField s l → (ConstTable s t n m) × (i < m) × (name ≡ firstField s (lineOf t i))
+  name-in h e q = (b, h, q ∙ ap (firstField s) e)
 
   pub module-in : {i k : ℕ} → i < m → k ≡ moduleLineOf t i → k ≤ n
   module-in {i} h e = omega (arith, b .logged .each i h .within)

@@ -57,7 +57,7 @@ fn qualified_row(sheet: &[u8], work: &[u8], c: Known, out: &mut [u8], at: usize,
     }
     let within = lines::field_at(sheet, work, c.lines, k - 1, 0);
     let name = lines::field_at(sheet, work, c.lines, names::line_of(work, i) - 1, 0);
-    if names::look_up_in(sheet, work, Known { consts: i, ..c }, within, name) != 0 {
+    if names::look_up_in_before(sheet, work, c, i, within, name) != 0 {
         return at;
     }
     let r = names::look_up_in(sheet, work, c, within, name);
@@ -76,7 +76,7 @@ fn plain_row(sheet: &[u8], work: &[u8], c: Known, out: &mut [u8], at: usize, i: 
         return at;
     }
     let name = lines::field_at(sheet, work, c.lines, names::line_of(work, i) - 1, 0);
-    if names::look_up(sheet, work, Known { consts: i, ..c }, name) != 0 {
+    if names::look_up_before(sheet, work, c, i, name) != 0 {
         return at;
     }
     let r = names::look_up(sheet, work, c, name);
