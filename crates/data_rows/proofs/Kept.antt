@@ -53,11 +53,11 @@ module _ {t u : Bytes} (k : PrintKept t u) where
 
   module _ {s : Bytes} {n m : ℕ} (l : ConstsLogged s t n m) where
     pub logged-still : ConstsLogged s u n m
-    logged-still = logged-same (kept-less (omega (arith, l .few)) (k .below)) l
+    logged-still = logged-same (kept-less (omega arith) (k .below)) l
 
     pub log-still : logIn s u m ≡ logIn s t m
     log-still =
-        log-stays (kept-less (omega (arith, l .few)) (k .below)) l
+        log-stays (kept-less (omega arith) (k .below)) l
         (λ a b h e. part-same t u (k .below .long) b a (λ j y z. k .strings j (omega arith) (omega arith)))
 
 -- ---- the first value of a line

@@ -18,8 +18,8 @@ module _ {t u : Bytes} (k : Keeps 16384 49152 t u) where
   kept-low a h = record { below = ext-getD 0 (take a u) (take a t) (simp (length-take, k .long) refl) (λ i x. let y : i < a = omega (arith, length-take a u) in getD-take a u i 0 y ∙ k .below i (omega arith) ∙ sym (getD-take a t i 0 y)); long = k .long }
 
   module _ {s : Bytes} {n m : ℕ} (l : ConstsLogged s t n m) where
-    table-kept : Kept (5120 + 16 * m) t u
-    table-kept = kept-low (5120 + 16 * m) (omega (arith, l .few))
+    table-kept : Kept 7168 t u
+    table-kept = kept-low 7168 (omega arith)
 
     -- strings of constants stand above the literal's
     pub log-kept : logIn s u m ≡ logIn s t m

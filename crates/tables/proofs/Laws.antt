@@ -32,14 +32,11 @@ drop-from a b t u h e =
 
 -- constants stay where their table and what stands from 16384 on are kept
 module _ {s t u : Bytes} {n m a : ℕ} (low : a ≤ 16384) (k : Kept 7168 t u) (e : drop a u ≡ drop a t) (l : ConstsLogged s t n m) where
-  table-kept : Kept (5120 + 16 * m) t u
-  table-kept = kept-less (omega (arith, l .few)) k
-
   pub constants-logged : ConstsLogged s u n m
-  constants-logged = logged-same table-kept l
+  constants-logged = logged-same k l
 
   pub constants-log : logIn s u m ≡ logIn s t m
-  constants-log = log-stays table-kept l (λ p b h z. ap (take b) (drop-from a p t u (omega (arith, low, h)) e))
+  constants-log = log-stays k l (λ p b h z. ap (take b) (drop-from a p t u (omega (arith, low, h)) e))
 
 module _ {s t t2 t3 t4 : Bytes} {n m r : ℕ} {g : Globals} {d : NeedCounts} (l : ConstsLogged s t n m)
     (a : Outside 7168 9216 t t2) (places : Globals.GlobalsCollected s t2 n g)
