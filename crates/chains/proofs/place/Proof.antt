@@ -1,23 +1,18 @@
 -- `chains::place` meets its contract.
 use native.Mathlib.Omega.{arith}
-use mathlib.Core.Path.{_≡_, refl, sym, _∙_}
+use mathlib.Core.Path.{refl}
 use Rattle.chains.specs.Chains.{place}
 use Rattle.chains.proofs.place.Statement.{statement}
 use Rattle.chains.proofs.place.Tie as tie
-use Rattle.chains.proofs.place.Reads as reads
-use Rattle.chains.proofs.place.Lts as lts
 
--- src/lib.rt:29:12
 mul-result : tie.Need-mul-result
 unfolding place
 mul-result c = let h = c .before .pre in omega (arith, h)
 
--- src/lib.rt:29:5
 add-result : tie.Need-add-result
 unfolding place
 add-result c = let h = c .before .before .pre in omega (arith, h)
 
--- src/lib.rt:25:1
 returns : tie.Need-returns
 unfolding place
 returns c = let h = c .before .before .pre in (refl, omega (arith, h))
