@@ -1,37 +1,55 @@
--- The digests of keys, entered one by one.
+-- The digests of keys, entered and linked one by one.
 use mathlib.Core.Path.{_≡_, sym, ap, _∙_, subst}
 use mathlib.Core.Logic.{⊎-elim}
-use Prim.Native.Nat.{ℕ, _+_, _*_, _≤_, _<_}
-use native.Mathlib.Nat.{eq-or-lt-of-le}
+use Prim.Native.Nat.{ℕ, suc, _+_, _*_, _≤_, _<_}
+use native.Mathlib.Nat.{eq-or-lt-of-le, mod-lt}
+use native.Mathlib.Numerals.{add-one}
 use native.Mathlib.Omega.{arith}
-use lib.ListN.{length, set}
+use lib.ListN.{length, getD, set, length-set}
 use lib.Seq.{getD-set-same, getD-set-other}
 use Rattle.semantics.specs.Text.{Bytes}
 use Rattle.words.specs.Words.{digest}
 use Rattle.checks.specs.Checks.{Outside}
 use Rattle.checks.proofs.Kept.{kept-less, outside-all, outside-then, outside-set, checked-kept}
-use Rattle.records.specs.Log.{byteOf, entryAt, recordOf, recordedAt, digestOf, Digested}
+use Rattle.chains.specs.Chains.{chainOf, place, headAt, chainAt, Chained, linked}
+use Rattle.chains.proofs.Laws.{SameBytes, chained-kept, Apart, chained-next}
+use Rattle.records.specs.Log.{byteOf, entryAt, recordOf, recordedAt, digestOf, recordChain, Digested}
+use Rattle.records.proofs.Newest.{record-placed, digest-chain}
 use Rattle.record_log.specs.Entries.{CollectedTo}
 
 module _ (t : Bytes) (i d : ℕ) (hi : i < 128) (room : 65536 ≤ length t) where
+  -- with the digest, and then linked
+  abbrev entered : Bytes
+  entered = set t (9216 + (8 * i + 5)) d
+
   abbrev new : Bytes
-  new = set t (9216 + (8 * i + 5)) d
+  new = linked entered recordChain i (chainOf d)
+
+  entered-other : (q : ℕ) → (q ≡ 9216 + (8 * i + 5) → ⊥) → getD entered q 0 ≡ getD t q 0
+  entered-other q n = getD-set-other t (9216 + (8 * i + 5)) q d 0 n
+
+  -- links and heads are bytes 6 and 7 of entries
+  byte-linked : (j k : ℕ) → k < 6 → byteOf new j k ≡ byteOf entered j k
+  unfolding linked place
+  byte-linked j k h =
+      getD-set-other (set entered (9221 + 8 * i + 1) (headAt entered recordChain (chainOf d))) (9221 + 8 * chainOf d + 1 + 1) (9216 + (8 * j + k)) i 0 (λ e. omega arith)
+      ∙ getD-set-other entered (9221 + 8 * i + 1) (9216 + (8 * j + k)) (headAt entered recordChain (chainOf d)) 0 (λ e. omega arith)
 
   digest-new : digestOf new i ≡ d
-  digest-new = getD-set-same t (9216 + (8 * i + 5)) d 0 (omega arith)
+  digest-new = byte-linked i 5 (omega arith) ∙ getD-set-same t (9216 + (8 * i + 5)) d 0 (omega arith)
 
-  byte-old : (j k : ℕ) → (9216 + (8 * j + k) ≡ 9216 + (8 * i + 5) → ⊥) → byteOf new j k ≡ byteOf t j k
-  byte-old j k n = getD-set-other t (9216 + (8 * i + 5)) (9216 + (8 * j + k)) d 0 n
+  byte-old : (j k : ℕ) → k < 6 → (9216 + (8 * j + k) ≡ 9216 + (8 * i + 5) → ⊥) → byteOf new j k ≡ byteOf t j k
+  byte-old j k h n = byte-linked j k h ∙ entered-other (9216 + (8 * j + k)) n
 
   entry-old : (j : ℕ) → entryAt new j ≡ entryAt t j
   unfolding entryAt
   entry-old j =
       rw (
-        byte-old j 0 (λ e. omega arith),
-        byte-old j 1 (λ e. omega arith),
-        byte-old j 2 (λ e. omega arith),
-        byte-old j 3 (λ e. omega arith),
-        byte-old j 4 (λ e. omega arith),
+        byte-old j 0 (omega arith) (λ e. omega arith),
+        byte-old j 1 (omega arith) (λ e. omega arith),
+        byte-old j 2 (omega arith) (λ e. omega arith),
+        byte-old j 3 (omega arith) (λ e. omega arith),
+        byte-old j 4 (omega arith) (λ e. omega arith),
       )
 
   recorded-old : (s : Bytes) (j : ℕ) → recordedAt s new j ≡ recordedAt s t j
@@ -39,11 +57,40 @@ module _ (t : Bytes) (i d : ℕ) (hi : i < 128) (room : 65536 ≤ length t) wher
   recorded-old s j = ap (recordOf s) (entry-old j)
 
   outside-new : Outside 9216 10240 t new
-  outside-new = outside-set 9216 10240 t (9216 + (8 * i + 5)) d (omega arith) (omega arith)
+  unfolding linked place
+  outside-new =
+      let k : chainOf d < 128 = mod-lt d (omega arith) in
+      let linking = set entered (9221 + 8 * i + 1) (headAt entered recordChain (chainOf d)) in
+      outside-then (outside-set 9216 10240 t (9216 + (8 * i + 5)) d (omega arith) (omega arith))
+      (outside-then (outside-set 9216 10240 entered (9221 + 8 * i + 1) (headAt entered recordChain (chainOf d)) (omega arith) (omega arith))
+      (outside-set 9216 10240 linking (9221 + 8 * chainOf d + 1 + 1) i (omega arith) (omega arith)))
+
+  -- ---- chains
+
+  apart : Apart recordChain 128
+  unfolding place
+  apart = record { own = λ a b e. omega (arith, e); link = λ a b x y e. omega (arith, e); head = λ a k x y e. omega (arith, e) }
+
+  entered-kept : SameBytes t entered recordChain i
+  unfolding place
+  entered-kept = record {
+    digest = λ j h. entered-other (9221 + 8 * j) (λ e. omega (arith, e, h));
+    link = λ j h. entered-other (9221 + 8 * j + 1) (λ e. omega (arith, e));
+    head = λ k h. entered-other (9221 + 8 * k + 1 + 1) (λ e. omega (arith, e));
+  }
+
+  chain-entered : chainAt entered recordChain i ≡ chainOf d
+  chain-entered = digest-chain entered i ∙ ap chainOf (getD-set-same t (9216 + (8 * i + 5)) d 0 (omega arith))
+
+  chained-new : Chained t recordChain i → Chained new recordChain (suc i)
+  chained-new g =
+      let long = length-set t (9216 + (8 * i + 5)) d in
+      chained-next (record-placed entered (omega (arith, long))) apart (omega arith) (omega arith) hi (mod-lt d (omega arith)) chain-entered
+      (chained-kept entered-kept (omega arith) g)
 
   module _ (s : Bytes) (n m : ℕ) (g : Digested s t n m i) (hm : i < m) (e : d ≡ digest (recordedAt s t i .key)) where
     digests-new : (j : ℕ) → j < i + 1 → digestOf new j ≡ digest (recordedAt s new j .key)
-    digests-new j h = let w : j ≤ i = omega arith in rw (recorded-old s j) (⊎-elim (λ (q : j ≡ i). subst (λ (k : ℕ). digestOf new k ≡ digest (recordedAt s t k .key)) (sym q) (digest-new ∙ e)) (λ (q : j < i). byte-old j 5 (λ z. omega arith) ∙ g .digests j q) (eq-or-lt-of-le w))
+    digests-new j h = let w : j ≤ i = omega arith in rw (recorded-old s j) (⊎-elim (λ (q : j ≡ i). subst (λ (k : ℕ). digestOf new k ≡ digest (recordedAt s t k .key)) (sym q) (digest-new ∙ e)) (λ (q : j < i). byte-old j 5 (omega arith) (λ z. omega arith) ∙ g .digests j q) (eq-or-lt-of-le w))
 
     digested-new : Digested s new n m (i + 1)
     digested-new =
@@ -54,13 +101,17 @@ module _ (t : Bytes) (i d : ℕ) (hi : i < 128) (room : 65536 ≤ length t) wher
           few = g .few;
           each = λ j h. recorded-old s j ∙ g .each j h;
           digests = digests-new;
+          chained = rw (add-one i) (chained-new (g .chained));
           entries = λ j h. record { checked = c; low = g .entries j h .low; sound = rw (entry-old j) (g .entries j h .sound) };
         }
+
+pub entered-length : (t : Bytes) (i d : ℕ) → i < 128 → 65536 ≤ length t → {v : Bytes} → v ≡ linked (set t (9216 + (8 * i + 5)) d) recordChain i (chainOf d) → length v ≡ length t
+entered-length t i d h room q = rw q (outside-new t i d h room .kept .long)
 
 pub digests-start : {s t : Bytes} {n m : ℕ} → Digested s t n m 0 → CollectedTo s t t n m 0
 digests-start g = record { log = g; outside = outside-all }
 
-pub digests-next : {s t u v : Bytes} {n m i d : ℕ} → CollectedTo s t u n m i → i < m → d ≡ digest (recordedAt s u i .key) → v ≡ set u (9216 + (8 * i + 5)) d → CollectedTo s t v n m (i + 1)
+pub digests-next : {s t u v : Bytes} {n m i d : ℕ} → CollectedTo s t u n m i → i < m → d ≡ digest (recordedAt s u i .key) → v ≡ linked (set u (9216 + (8 * i + 5)) d) recordChain i (chainOf d) → CollectedTo s t v n m (i + 1)
 digests-next {s} {t} {u} {n = n} {m} {i} {d} g h e q =
     let room = g .log .checked .whole .room in
     let low : i < 128 = omega (arith, g .log .few) in

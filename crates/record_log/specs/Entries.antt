@@ -11,7 +11,7 @@ use Rattle.source.specs.Walk.{declaresAt}
 use Rattle.shapes.specs.Shapes.{casesIn}
 use Rattle.records.specs.Log.{Entry, Digested}
 
--- 8 bytes an entry, the line low byte first, with room for the digest of the key
+-- 8 bytes an entry, the line low byte first, with room for the digest of the key, a link and a head
 abbrev pub entryBytes : ℕ → ℕ → ℕ → ℕ → Bytes
 entryBytes r c p k = (r % 256) ∷ (r / 256) ∷ c ∷ p ∷ k ∷ 0 ∷ 0 ∷ 0 ∷ []
 
@@ -53,7 +53,7 @@ logBytes es = concatMap bytesOf es
 
 -- ---- the log
 
--- t has become u, which holds the log of m records, d of them with the digests of their keys; what stands around it is kept
+-- t has become u, which holds the log of m records, d of them with the digests of their keys, and chained; what stands around it is kept
 pub record CollectedTo (s t u : Bytes) (n m d : ℕ) : Type 0 where
   pub log : Digested s u n m d
   pub outside : Outside 9216 10240 t u

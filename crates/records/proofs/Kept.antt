@@ -5,7 +5,9 @@ use Prim.Native.Nat.{ℕ, _+_, _*_, _<_}
 use native.Mathlib.Omega.{arith}
 use Rattle.checks.specs.Checks.{Kept}
 use Rattle.checks.proofs.Kept.{kept-at, kept-less, checked-kept}
-use Rattle.records.specs.Log.{byteOf, entryAt, recordOf, recordedAt, RecordsLogged}
+use Rattle.chains.specs.Chains.{place}
+use Rattle.chains.proofs.Laws.{SameBytes, chained-kept}
+use Rattle.records.specs.Log.{byteOf, entryAt, recordOf, recordedAt, recordChain, RecordsLogged}
 
 module _ {t u : List ℕ} (k : Kept 10240 t u) where
   byte-kept : (i : ℕ) → i < 128 → (j : ℕ) → j < 8 → byteOf u i j ≡ byteOf t i j
@@ -19,6 +21,14 @@ module _ {t u : List ℕ} (k : Kept 10240 t u) where
   unfolding recordedAt
   recorded-kept s i h = ap (recordOf s) (entry-kept i h)
 
+  chain-kept : SameBytes t u recordChain 128
+  unfolding place
+  chain-kept = record {
+    digest = λ i h. kept-at k (9221 + 8 * i) (omega arith);
+    link = λ i h. kept-at k (9221 + 8 * i + 1) (omega arith);
+    head = λ i h. kept-at k (9221 + 8 * i + 1 + 1) (omega arith);
+  }
+
   pub logged-kept : {s : List ℕ} {n m : ℕ} → RecordsLogged s t n m → RecordsLogged s u n m
   logged-kept {s} g =
       let c = checked-kept (kept-less (omega arith) k) (g .checked) in
@@ -28,5 +38,6 @@ module _ {t u : List ℕ} (k : Kept 10240 t u) where
         few = g .few;
         each = λ i h. recorded-kept s i (omega (arith, g .few)) ∙ g .each i h;
         digests = λ i h. rw (byte-kept i (omega (arith, g .few)) 5 (omega arith), recorded-kept s i (omega (arith, g .few))) (g .digests i h);
+        chained = chained-kept chain-kept (g .few) (g .chained);
         entries = λ i h. record { checked = c; low = g .entries i h .low; sound = rw (entry-kept i (g .entries i h .low)) (g .entries i h .sound) };
       }

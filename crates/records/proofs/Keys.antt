@@ -1,24 +1,23 @@
--- Keys: how they compare, and the last record of one.
+-- Keys: how they compare.
 use mathlib.Core.Path.{_≡_, refl, sym, ap, _∙_}
-use mathlib.Core.Bool.{Bool, true, false, not, cond, _&&_, _||_, and-false, and-assoc}
+use mathlib.Core.Bool.{Bool, true, false, not, _&&_, _||_, and-false, and-assoc}
 use mathlib.Core.List.{List, [], _∷_, _++_}
 use mathlib.Core.Option.{Option, none, some}
 use Prim.Native.Nat.{ℕ, zero, suc, _+_, _-_, _≤_, _<_}
 use native.Mathlib.Numerals.{add-one}
 use native.Mathlib.Omega.{arith}
-use lib.Dec.{eqb, leb, ltb}
-use lib.ListN.{length, drop, take, getD, length-append, length-drop, drop-of-length-le}
-use lib.Seq.{drop-cons, take-suc, take-all, getD-take, length-take-le}
-use borrow.Author.Tests.{eqb-true, eqb-false, eq-eqb, ne-eqb, ltb-true, ltb-false}
+use lib.Dec.{eqb, leb}
+use lib.ListN.{length, drop, take, getD, length-append, length-drop}
+use lib.Seq.{take-all}
+use borrow.Author.Tests.{eqb-true, eqb-false, eq-eqb, ne-eqb}
 use Rattle.semantics.specs.Text.{Bytes, same, all, isName, isLetter, isDigit}
 use Rattle.semantics.specs.Tree.{AdtDecl, Case}
-use Rattle.semantics.specs.Layout.{Recorded, recordsFor, lastOf, seen}
+use Rattle.semantics.specs.Layout.{recordsFor}
 use Rattle.semantics.proofs.Common.{never, both}
-use Rattle.laws.proofs.Lists.{last-append}
 use Rattle.words.proofs.Laws.{same-length}
 use Rattle.sizes.specs.Places.{RecordLine, declAt}
 use Rattle.shapes.specs.Shapes.{casesIn}
-use Rattle.records.specs.Log.{firstRecord, ownRecord, caseIn, variantRecord, recordIn, entryAt, recordedAt, nameOf, tagOf, logOf, noRecord, EntryIn, RecordsLogged, Newest, NewestOf}
+use Rattle.records.specs.Log.{firstRecord, ownRecord, caseIn, variantRecord, recordIn, entryAt, recordedAt, nameOf, tagOf, EntryIn}
 use Rattle.records.specs.Lines.{caseAt}
 use Rattle.shapes.specs.Shapes.{VariantLine, CaseOf}
 use Rattle.records.proofs.Picks.{name-good, pick-line, variant-line, case-is}
@@ -222,70 +221,9 @@ module _ (s t : Bytes) (n i j : ℕ) (k : EntryIn s t n i) (l : EntryIn s t n j)
             go (suc c) zero b x y = absurd (y refl)
             go (suc c) (suc d) b x y = refl
 
--- ---- the last record of a key
+-- ---- the log as a list
 
 pub default-same : {A : Type 0} (l : List A) (i : ℕ) (x y : A) → i < length l → getD l i x ≡ getD l i y
 default-same [] i x y h = absurd (omega arith)
 default-same (r ∷ l) zero x y h = refl
 default-same (r ∷ l) (suc i) x y h = default-same l i x y (omega arith)
-
--- of m records the first i hold the last of key k
-pub record Deciding (s t k : Bytes) (m i : ℕ) : Type 0 where
-  pub last : (d : Recorded) → lastOf k d (logOf s) ≡ lastOf k d (take i (logOf s))
-  pub later : (l : ℕ) → i ≤ l → l < m → same k (recordedAt s t l .key) ≡ false
-
-module _ (s t : Bytes) (n m : ℕ) (g : RecordsLogged s t n m) (k : Bytes) where
-  pub deciding-start : Deciding s t k m m
-  deciding-start = record { last = λ d. rw (take-all m (logOf s) (omega (arith, g .count))); later = λ l a b. absurd (omega arith) }
-
-  module _ (i : ℕ) (h : i < m) where
-    step : (d : Recorded) → lastOf k d (take (suc i) (logOf s)) ≡ cond (same k (recordedAt s t i .key)) (recordedAt s t i) (lastOf k d (take i (logOf s)))
-    step d = rw (take-suc (logOf s) i noRecord (omega (arith, g .count)), g .each i h) (last-append k d (take i (logOf s)) (getD (logOf s) i noRecord ∷ []))
-
-    pub deciding-next : {b : Bool} → Deciding s t k m (suc i) → b ≡ same k (recordedAt s t i .key) → b ≡ false → Deciding s t k m i
-    deciding-next w e q = record { last = λ d. w .last d ∙ step d ∙ rw (sym e ∙ q); later = λ l a b. from l (ltb i l) refl a b }
-      where
-        from : (l : ℕ) (x : Bool) → ltb i l ≡ x → i ≤ l → l < m → same k (recordedAt s t l .key) ≡ false
-        from l true y a b = w .later l (omega (arith, ltb-true i l y)) b
-        from l false y a b = let z : l ≡ i = omega (arith, ltb-false i l y) in rw z (sym e ∙ q)
-
-    pub deciding-found : {b : Bool} → Deciding s t k m (suc i) → b ≡ same k (recordedAt s t i .key) → b ≡ true → (d : Recorded) → lastOf k d (logOf s) ≡ recordedAt s t i
-    deciding-found w e q d = w .last d ∙ step d ∙ rw (sym e ∙ q)
-
-  none-later : {i : ℕ} → Deciding s t k m i → (l : ℕ) → i ≤ l → l < length (logOf s) → same k (getD (logOf s) l noRecord .key) ≡ false
-  none-later w l a b = let h : l < m = omega (arith, g .count) in rw (← g .each l h) (w .later l a h)
-
-  pub newest-none : Deciding s t k m 0 → Newest s k 0
-  newest-none w = record { low = omega arith; last = w .last; later = none-later w }
-
-  pub newest-found : (i j : ℕ) → i < m → j ≡ suc i → {b : Bool} → Deciding s t k m (suc i) → b ≡ same k (recordedAt s t i .key) → b ≡ true → Newest s k j
-  newest-found i j h e w f q = record {
-    low = omega (arith, g .count);
-    last = λ d. deciding-found i h w f q d ∙ g .each i h ∙ default-same (logOf s) i noRecord d (omega (arith, g .count)) ∙ rw e;
-    later = λ l a b. none-later w l (omega (arith, e, a)) b;
-  }
-
-  -- the last of an entry's own key
-  pub newest-of-found : (i : ℕ) → k ≡ recordedAt s t i .key → (j : ℕ) → j < m → {b : Bool} → Deciding s t k m (suc j) → b ≡ same k (recordedAt s t j .key) → b ≡ true → NewestOf s t m i j
-  newest-of-found i e j h w f q = record {
-    low = h;
-    last = rw e at (deciding-found j h w f q);
-    later = λ l a b. rw (← e) (w .later l (omega arith) b);
-  }
-
-  module _ (i j : ℕ) (l : i < m) (h : j < i) where
-    seen-on : seen k (drop j (take i (logOf s))) ≡ same k (recordedAt s t j .key) || seen k (drop (suc j) (take i (logOf s)))
-    seen-on =
-        let z : j < length (take i (logOf s)) = omega (arith, length-take-le i (logOf s) (omega (arith, g .count)), g .count) in
-        rw (drop-cons (take i (logOf s)) j noRecord z, getD-take i (logOf s) j noRecord h, g .each j (omega arith))
-
-    pub seen-found : {b : Bool} → seen k (take i (logOf s)) ≡ seen k (drop j (take i (logOf s))) → b ≡ same k (recordedAt s t j .key) → b ≡ true → false ≡ not (seen k (take i (logOf s)))
-    seen-found w e q = let z : seen k (take i (logOf s)) ≡ true = w ∙ seen-on ∙ rw (sym e ∙ q) in rw z
-
-    pub seen-next : {b : Bool} → seen k (take i (logOf s)) ≡ seen k (drop j (take i (logOf s))) → b ≡ same k (recordedAt s t j .key) → b ≡ false → seen k (take i (logOf s)) ≡ seen k (drop (j + 1) (take i (logOf s)))
-    seen-next w e q = w ∙ seen-on ∙ rw (sym e ∙ q, add-one j)
-
-  pub seen-none : (i j : ℕ) → i < m → i ≤ j → seen k (take i (logOf s)) ≡ seen k (drop j (take i (logOf s))) → true ≡ not (seen k (take i (logOf s)))
-  seen-none i j l h w =
-      let z : seen k (take i (logOf s)) ≡ false = w ∙ rw (drop-of-length-le (take i (logOf s)) {i = j} (omega (arith, length-take-le i (logOf s) (omega (arith, g .count))))) in
-      rw z

@@ -1,4 +1,5 @@
 pub mod Picks
 pub mod Keys
 pub mod Digests
+pub mod Newest
 pub mod Kept

@@ -1,5 +1,5 @@
--- The log of records in the working space: for each its line; of a variant its case, its tag's position and number; and the digest of
--- its key.
+-- The log of records in the working space: for each its line; of a variant its case, its tag's position and number; the digest of
+-- its key; and a link and a head of the chains of entries by these digests.
 use Prim.Native.Nat.{ℕ, zero, suc, _+_, _*_, _-_, _≤_, _<_}
 use mathlib.Core.Path.{_≡_}
 use mathlib.Core.Bool.{true, false}
@@ -12,6 +12,8 @@ use Rattle.semantics.specs.Sheet.{sheetSource}
 use Rattle.semantics.specs.Layout.{Recorded, recordsOf, recordedAdts, recordLog, lastOf, variantShape, variantFields}
 use Rattle.semantics.specs.Types.{unknown}
 use Rattle.words.specs.Words.{digest}
+use Rattle.chains.specs.declared.Chain.{Chain}
+use Rattle.chains.specs.Chains.{Chained}
 use Rattle.checks.specs.Checks.{Checked}
 use Rattle.sizes.specs.Places.{declAt, isRecord}
 use Rattle.shapes.specs.Shapes.{casesIn}
@@ -74,6 +76,10 @@ entryAt t i = record { line = byteOf t i 0 + 256 * byteOf t i 1; case = byteOf t
 abbrev pub digestOf : Bytes → ℕ → ℕ
 digestOf t i = byteOf t i 5
 
+-- the chains of digests: the link of an entry is its byte 6, and byte 7 of entry k the head of chain k
+abbrev pub recordChain : Chain
+recordChain = record { at = 9221; gap = 1; step = 8 }
+
 -- the record that entry i stands for
 unfoldable pub recordedAt : Bytes → Bytes → ℕ → Recorded
 recordedAt s t i = recordOf s (entryAt t i)
@@ -100,7 +106,7 @@ pub record EntryIn (s t : Bytes) (n i : ℕ) : Type 0 where
   pub low : i < 128
   pub sound : EntryInSheet s n (entryAt t i)
 
--- the log of all records, of which there are m: the first d entries hold the digests of their keys
+-- the log of all records, of which there are m: the first d entries hold the digests of their keys, and are chained
 pub record Digested (s t : Bytes) (n m d : ℕ) : Type 0 where
   pub checked : Checked s t n
   pub count : m ≡ length (logOf s)
@@ -108,8 +114,9 @@ pub record Digested (s t : Bytes) (n m d : ℕ) : Type 0 where
   pub each : (i : ℕ) → i < m → recordedAt s t i ≡ getD (logOf s) i noRecord
   pub entries : (i : ℕ) → i < m → EntryIn s t n i
   pub digests : (i : ℕ) → i < d → digestOf t i ≡ digest (recordedAt s t i .key)
+  pub chained : Chained t recordChain d
 
--- the log of all records of the sheet, m of them, with all digests
+-- the log of all records of the sheet, m of them, with all digests and chains
 abbrev pub RecordsLogged : Bytes → Bytes → ℕ → ℕ → Type 0
 RecordsLogged s t n m = Digested s t n m m
 

@@ -1,5 +1,6 @@
 // The entries of the log, and their keys: T, or T.tag.
 use crate::line;
+use chains::Chain;
 use codes::area;
 use words::wide;
 ghost use mathlib.Core.Path.{_≡_};
@@ -10,7 +11,14 @@ ghost use lib.ListN.{length, take};
 ghost use Rattle.semantics.specs.Text.{same};
 ghost use Rattle.semantics.specs.Layout.{seen};
 ghost use Rattle.words.specs.Words.{digest};
-ghost use Rattle.records.specs.Log.{byteOf, entryAt, recordedAt, nameOf, tagOf, digestOf, logOf, EntryIn, RecordsLogged, LogEntry, Newest, NewestOf};
+ghost use Rattle.records.specs.Log.{byteOf, entryAt, recordedAt, nameOf, tagOf, digestOf, logOf, EntryIn, RecordsLogged, Newest, NewestOf};
+
+// Where entries keep digests, links and heads of chains.
+pub const CHAIN: Chain = Chain {
+    at: area::RECORDS + 5,
+    gap: 1,
+    step: 8,
+};
 
 // How many lines the sheet has, and how many entries its log.
 pub struct Log {
@@ -155,12 +163,12 @@ pub fn newest(sheet: &[u8], work: &[u8], c: Log, key: &[u8]) -> usize
     ensures { λ r. ⌜ Newest (now (sheet .entry)) (now (key .entry)) r ⌝ }
 {
     let d = words::digest(key);
-    let mut i = c.entries;
+    let mut i = chains::newest(work, CHAIN, c.entries, chains::chain_of(d));
     while 0 < i {
-        i -= 1;
-        if key_is(sheet, work, c.lines, i, key, d) {
-            return i + 1;
+        if key_is(sheet, work, c.lines, i - 1, key, d) {
+            return i;
         }
+        i = chains::earlier(work, CHAIN, c.entries, i - 1);
     }
     0
 }
@@ -170,27 +178,29 @@ pub fn newest_of(sheet: &[u8], work: &[u8], c: Log, i: usize) -> usize
     requires { ⌜ (RecordsLogged (now sheet) (now work) (c .lines) (c .entries)) × (i < c .entries) ⌝ }
     ensures { λ r. ⌜ NewestOf (now (sheet .entry)) (now (work .entry)) (c .entries) i r ⌝ }
 {
-    let mut j = c.entries;
+    let k = chains::chain_of(digest_of(work, i));
+    let mut j = chains::newest(work, CHAIN, c.entries, k);
     while i + 1 < j {
-        j -= 1;
-        if same_key(sheet, work, c.lines, i, j) {
-            return j;
+        let e = j - 1;
+        if same_key(sheet, work, c.lines, i, e) {
+            return e;
         }
+        j = chains::earlier(work, CHAIN, c.entries, e);
     }
     i
 }
 
 // Whether no earlier entry has the key of entry i.
-pub fn is_first(sheet: &[u8], work: &[u8], n: usize, i: usize) -> bool
-    requires { ⌜ LogEntry (now sheet) (now work) n i ⌝ }
+pub fn is_first(sheet: &[u8], work: &[u8], c: Log, i: usize) -> bool
+    requires { ⌜ (RecordsLogged (now sheet) (now work) (c .lines) (c .entries)) × (i < c .entries) ⌝ }
     ensures { λ r. ⌜ r ≡ not (seen (recordedAt (now (sheet .entry)) (now (work .entry)) i .key) (take i (logOf (now (sheet .entry))))) ⌝ }
 {
-    let mut j = 0;
-    while j < i {
-        if same_key(sheet, work, n, i, j) {
+    let mut j = chains::earlier(work, CHAIN, c.entries, i);
+    while 0 < j {
+        if same_key(sheet, work, c.lines, i, j - 1) {
             return false;
         }
-        j += 1;
+        j = chains::earlier(work, CHAIN, c.entries, j - 1);
     }
     true
 }

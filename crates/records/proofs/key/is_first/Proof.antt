@@ -1,42 +1,84 @@
-use Rattle.records.proofs.Keys.{seen-found, seen-none, seen-next}
-use lib.ListN.{drop, take}
-use native.Mathlib.Omega.{arith}
 use borrow.Author.Needs.{needs}
-use Rattle.records.specs.Log.{recordedAt, logOf}
-use Rattle.semantics.specs.Layout.{seen}
+use Rattle.records.proofs.Newest.{keyIs, record-placed, digest-chain, key-chain, own-chain, first-not, first-is}
+use Rattle.records.specs.Log.{recordedAt, recordChain}
+use Rattle.chains.proofs.Laws.{newest-low, Along, along-first, along-hit, along-on, along-end}
+use Rattle.chains.specs.Chains.{chainAt, isOf}
 use denote.Ref.{now}
-use Prim.Native.Nat.{_≤_, _<_, _-_}
-use mathlib.Core.Path.{_≡_, refl}
+use Prim.Native.Nat.{suc, _-_, _<_}
+use mathlib.Core.Path.{_≡_}
+use native.Mathlib.Omega.{arith}
 use Rattle.records.proofs.key.is_first.Statement.{statement}
 use Rattle.records.proofs.key.is_first.Tie as tie
 
 abbrev Inv-loop : tie.InvT-loop
-Inv-loop sheet work n i j₀ j = (j ≤ i) × (seen (recordedAt sheet work i .key) (take i (logOf sheet)) ≡ seen (recordedAt sheet work i .key) (drop j (take i (logOf sheet))))
+Inv-loop sheet work c i j₀ j = Along work recordChain (chainAt work recordChain i) i (keyIs sheet work (recordedAt sheet work i .key)) j
 
 abbrev μ-loop : tie.MeasureT-loop
-μ-loop sheet work n i j₀ j = i - j
+μ-loop sheet work c i j₀ j = j
+
+earlier-requires : tie.Need-earlier-requires Inv-loop μ-loop
+earlier-requires c κs = (record-placed (now (c .before .before .args .work)) (c .before .before .pre .0 .checked .whole .room), c .before .before .pre .0 .chained, c .before .before .pre .1, omega (arith, c .before .before .pre .0 .few))
 
 loop-holds : tie.Need-loop-holds Inv-loop μ-loop
-loop-holds c = (omega arith, refl)
+loop-holds c =
+    let a = c .before .before .before .args in
+    let s = now (a .sheet) in
+    let w = now (a .work) in
+    let g = c .before .before .before .pre .0 in
+    let e = own-chain s w (a .c .lines) (a .c .entries) g (a .i) (c .before .before .before .pre .1) (digest-chain w (a .i)) in
+    along-first (λ j h. key-chain s w (a .c .lines) (a .c .entries) g (recordedAt s w (a .i) .key) e j (omega (arith, h, c .before .before .before .pre .1))) (c .earlier .ensures)
 
 same-key-requires : tie.Need-same-key-requires Inv-loop μ-loop
 same-key-requires c κs =
-    let g = c .before .before .before .before .pre .log in
-    let h : c .before .loop .j < c .before .before .before .before .pre .m = omega (arith, c .before .before .before .before .pre .low, c .loop-test .taken) in
-    (g .entries _ (c .before .before .before .before .pre .low), g .entries _ h, g .digests _ (c .before .before .before .before .pre .low), g .digests _ h)
+    let g = c .before .before .before .before .before .pre .0 in
+    let h : c .before .loop .j - 1 < c .before .before .before .before .before .args .c .entries = omega (arith, c .before .loop .inv .low, c .loop-test .taken, c .before .before .before .before .before .pre .1) in
+    (g .entries _ (c .before .before .before .before .before .pre .1), g .entries _ h, g .digests _ (c .before .before .before .before .before .pre .1), g .digests _ h)
 
 returns : tie.Need-returns Inv-loop μ-loop
-returns c = seen-found (now (c .before .before .before .before .before .before .args .sheet)) (now (c .before .before .before .before .before .before .args .work)) (c .before .before .before .before .before .before .args .n) (c .before .before .before .before .before .before .pre .m) (c .before .before .before .before .before .before .pre .log) (recordedAt (now (c .before .before .before .before .before .before .args .sheet)) (now (c .before .before .before .before .before .before .args .work)) (c .before .before .before .before .before .before .args .i) .key) (c .before .before .before .before .before .before .args .i) (c .before .before .before .loop .j) (c .before .before .before .before .before .before .pre .low) (c .before .before .loop-test .taken) (c .before .before .before .loop .inv .1) (c .before .same-key .ensures) (c .if1 .taken)
+returns c =
+    let a = c .before .before .before .before .before .before .before .args in
+    let s = now (a .sheet) in
+    let w = now (a .work) in
+    let z : c .before .before .before .loop .j ≡ suc (c .before .before .before .loop .j - 1) = omega (arith, c .before .before .loop-test .taken) in
+    first-not s w (a .c .lines) (a .c .entries) (c .before .before .before .before .before .before .before .pre .0) (recordedAt s w (a .i) .key) (omega (arith, c .before .before .before .before .before .before .before .pre .1)) (along-hit (rw z at (c .before .before .before .loop .inv)) (c .before .same-key .ensures) (c .if1 .taken))
+
+sub-earlier : tie.Need-sub-earlier Inv-loop μ-loop
+sub-earlier c = omega (arith, c .before .before .loop-test .taken)
+
+earlier-requires-2 : tie.Need-earlier-requires-2 Inv-loop μ-loop
+earlier-requires-2 c κs = (record-placed (now (c .before .before .before .before .before .before .before .args .work)) (c .before .before .before .before .before .before .before .pre .0 .checked .whole .room), c .before .before .before .before .before .before .before .pre .0 .chained, omega (arith, c .before .before .before .loop .inv .low, c .before .before .loop-test .taken, c .before .before .before .before .before .before .before .pre .1), omega (arith, c .before .before .before .before .before .before .before .pre .0 .few))
 
 loop-less : tie.Need-loop-less Inv-loop μ-loop
-loop-less c = omega (arith, c .before .before .loop-test .taken)
+loop-less c =
+    let w = now (c .before .before .before .before .before .before .before .before .args .work) in
+    let q = newest-low (isOf w recordChain (chainAt w recordChain (c .before .before .before .before .loop .j - 1))) (c .before .before .before .before .loop .j - 1) in
+    omega (arith, q, c .earlier2 .ensures, c .before .before .before .loop-test .taken)
 
 loop-again : tie.Need-loop-again Inv-loop μ-loop
-loop-again c = (omega (arith, c .before .before .loop-test .taken), seen-next (now (c .before .before .before .before .before .before .args .sheet)) (now (c .before .before .before .before .before .before .args .work)) (c .before .before .before .before .before .before .args .n) (c .before .before .before .before .before .before .pre .m) (c .before .before .before .before .before .before .pre .log) (recordedAt (now (c .before .before .before .before .before .before .args .sheet)) (now (c .before .before .before .before .before .before .args .work)) (c .before .before .before .before .before .before .args .i) .key) (c .before .before .before .before .before .before .args .i) (c .before .before .before .loop .j) (c .before .before .before .before .before .before .pre .low) (c .before .before .loop-test .taken) (c .before .before .before .loop .inv .1) (c .before .same-key .ensures) (c .if1 .left))
+loop-again c =
+    let z : c .before .before .before .before .loop .j ≡ suc (c .before .before .before .before .loop .j - 1) = omega (arith, c .before .before .before .loop-test .taken) in
+    along-on (rw z at (c .before .before .before .before .loop .inv)) (c .before .before .same-key .ensures) (c .before .if1 .left) (c .earlier2 .ensures)
 
 returns-2 : tie.Need-returns-2 Inv-loop μ-loop
-returns-2 c = seen-none (now (c .before .before .before .before .args .sheet)) (now (c .before .before .before .before .args .work)) (c .before .before .before .before .args .n) (c .before .before .before .before .pre .m) (c .before .before .before .before .pre .log) (recordedAt (now (c .before .before .before .before .args .sheet)) (now (c .before .before .before .before .args .work)) (c .before .before .before .before .args .i) .key) (c .before .before .before .before .args .i) (c .before .loop .j) (c .before .before .before .before .pre .low) (c .loop-test .left) (c .before .loop .inv .1)
+returns-2 c =
+    let a = c .before .before .before .before .before .args in
+    let s = now (a .sheet) in
+    let w = now (a .work) in
+    first-is s w (a .c .lines) (a .c .entries) (c .before .before .before .before .before .pre .0) (recordedAt s w (a .i) .key) (omega (arith, c .before .before .before .before .before .pre .1)) (along-end (omega (arith, c .loop-test .left)) (c .before .loop .inv))
 
 pub is-first-spec : {M : Type 1} → statement M
 is-first-spec =
-    tie.close (tie.spec Inv-loop μ-loop loop-holds same-key-requires returns (λ c. search needs) loop-less loop-again returns-2)
+    tie.close
+    (tie.spec
+    Inv-loop
+    μ-loop
+    earlier-requires
+    loop-holds
+    (λ c. search needs)
+    same-key-requires
+    returns
+    sub-earlier
+    earlier-requires-2
+    loop-less
+    loop-again
+    returns-2)

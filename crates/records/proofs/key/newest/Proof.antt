@@ -1,50 +1,77 @@
-use Prim.Native.Nat.{suc, _-_, _<_, _≤_}
-use native.Mathlib.Omega.{arith}
 use borrow.Author.Needs.{needs}
-use Rattle.records.proofs.Keys.{Deciding, deciding-start, deciding-next, newest-none, newest-found}
+use Rattle.records.proofs.Newest.{keyIs, record-placed, key-chain, newest-is}
+use Rattle.records.specs.Log.{recordChain}
+use Rattle.chains.proofs.Laws.{newest-low, Along, along-first, along-hit, along-on, along-end}
+use Rattle.chains.specs.Chains.{chainOf, chainAt, isOf}
 use denote.Ref.{now}
-use mathlib.Core.Path.{_≡_}
+use Prim.Native.Nat.{suc, _-_, _<_}
+use mathlib.Core.Path.{_≡_, ap, _∙_}
+use native.Mathlib.Omega.{arith}
 use Rattle.records.proofs.key.newest.Statement.{statement}
 use Rattle.records.proofs.key.newest.Tie as tie
 
 abbrev Inv-loop : tie.InvT-loop
-Inv-loop sheet work c key d i₀ i = (i ≤ c .entries) × (Deciding sheet work key (c .entries) i)
+Inv-loop sheet work c key d i₀ i = Along work recordChain (chainOf d) (c .entries) (keyIs sheet work key) i
 
 abbrev μ-loop : tie.MeasureT-loop
 μ-loop sheet work c key d i₀ i = i
 
+newest-requires : tie.Need-newest-requires Inv-loop μ-loop
+newest-requires c κs = (record-placed (now (c .before .before .before .before .before .args .work)) (c .before .before .before .before .before .pre .checked .whole .room), c .before .before .before .before .before .pre .chained, c .chain-of .ensures .1)
+
 loop-holds : tie.Need-loop-holds Inv-loop μ-loop
-loop-holds c = (omega arith, deciding-start (now (c .before .before .before .before .args .sheet)) (now (c .before .before .before .before .args .work)) (c .before .before .before .before .args .c .lines) (c .before .before .before .before .args .c .entries) (c .before .before .before .before .pre) (now (c .before .before .before .before .args .key)))
+loop-holds c =
+    let a = c .before .before .before .before .before .before .args in
+    along-first (key-chain (now (a .sheet)) (now (a .work)) (a .c .lines) (a .c .entries) (c .before .before .before .before .before .before .pre) (now (a .key)) (ap chainOf (c .before .before .digest .ensures .0))) (rw (c .before .chain-of .ensures .0) at (c .newest .ensures))
 
 key-is-requires : tie.Need-key-is-requires Inv-loop μ-loop
 key-is-requires c κs =
-    let h : c .before .loop .i - 1 < c .before .before .before .before .before .before .args .c .entries = omega (arith, c .before .loop .inv .0, c .loop-test .taken) in
-    (c .before .before .before .before .before .before .pre .entries _ h, c .before .before .before .before .before .before .pre .digests _ h, c .before .before .digest .ensures .0)
-
-add-result : tie.Need-add-result Inv-loop μ-loop
-add-result c = record { fits = omega (arith, c .before .before .before .loop .inv .0, c .before .before .before .before .before .before .before .before .pre .few) }
+    let h : c .before .loop .i - 1 < c .before .before .before .before .before .before .before .before .args .c .entries = omega (arith, c .before .loop .inv .low, c .loop-test .taken) in
+    (c .before .before .before .before .before .before .before .before .pre .entries _ h, c .before .before .before .before .before .before .before .before .pre .digests _ h, c .before .before .before .before .digest .ensures .0)
 
 returns : tie.Need-returns Inv-loop μ-loop
 returns c =
+    let a = c .before .before .before .before .before .before .before .before .before .before .args in
     let z : c .before .before .before .loop .i ≡ suc (c .before .before .before .loop .i - 1) = omega (arith, c .before .before .loop-test .taken) in
-    let h : c .before .before .before .loop .i - 1 < c .before .before .before .before .before .before .before .before .args .c .entries = omega (arith, c .before .before .before .loop .inv .0, c .before .before .loop-test .taken) in
-    newest-found (now (c .before .before .before .before .before .before .before .before .args .sheet)) (now (c .before .before .before .before .before .before .before .before .args .work)) (c .before .before .before .before .before .before .before .before .args .c .lines) (c .before .before .before .before .before .before .before .before .args .c .entries) (c .before .before .before .before .before .before .before .before .pre) (now (c .before .before .before .before .before .before .before .before .args .key)) (c .before .before .before .loop .i - 1) _ h (omega arith) (rw z at (c .before .before .before .loop .inv .1)) (c .before .key-is .ensures) (c .if1 .taken)
+    newest-is (now (a .sheet)) (now (a .work)) (a .c .lines) (a .c .entries) (c .before .before .before .before .before .before .before .before .before .before .pre) (now (a .key)) (z ∙ along-hit (rw z at (c .before .before .before .loop .inv)) (c .before .key-is .ensures) (c .if1 .taken))
+
+sub-earlier : tie.Need-sub-earlier Inv-loop μ-loop
+sub-earlier c = omega (arith, c .before .before .loop-test .taken)
+
+earlier-requires : tie.Need-earlier-requires Inv-loop μ-loop
+earlier-requires c κs = (record-placed (now (c .before .before .before .before .before .before .before .before .before .before .args .work)) (c .before .before .before .before .before .before .before .before .before .before .pre .checked .whole .room), c .before .before .before .before .before .before .before .before .before .before .pre .chained, omega (arith, c .before .before .before .loop .inv .low, c .before .before .loop-test .taken), omega (arith, c .before .before .before .before .before .before .before .before .before .before .pre .few))
 
 loop-less : tie.Need-loop-less Inv-loop μ-loop
-loop-less c = omega (arith, c .before .before .loop-test .taken)
+loop-less c =
+    let w = now (c .before .before .before .before .before .before .before .before .before .before .before .args .work) in
+    let q = newest-low (isOf w recordChain (chainAt w recordChain (c .before .before .before .before .loop .i - 1))) (c .before .before .before .before .loop .i - 1) in
+    omega (arith, q, c .earlier .ensures, c .before .before .before .loop-test .taken)
 
 loop-again : tie.Need-loop-again Inv-loop μ-loop
 loop-again c =
-    let z : c .before .before .before .loop .i ≡ suc (c .before .before .before .loop .i - 1) = omega (arith, c .before .before .loop-test .taken) in
-    let h : c .before .before .before .loop .i - 1 < c .before .before .before .before .before .before .before .before .args .c .entries = omega (arith, c .before .before .before .loop .inv .0, c .before .before .loop-test .taken) in
-    (omega arith, deciding-next (now (c .before .before .before .before .before .before .before .before .args .sheet)) (now (c .before .before .before .before .before .before .before .before .args .work)) (c .before .before .before .before .before .before .before .before .args .c .lines) (c .before .before .before .before .before .before .before .before .args .c .entries) (c .before .before .before .before .before .before .before .before .pre) (now (c .before .before .before .before .before .before .before .before .args .key)) (c .before .before .before .loop .i - 1) h (rw z at (c .before .before .before .loop .inv .1)) (c .before .key-is .ensures) (c .if1 .left))
+    let z : c .before .before .before .before .loop .i ≡ suc (c .before .before .before .before .loop .i - 1) = omega (arith, c .before .before .before .loop-test .taken) in
+    along-on (rw z at (c .before .before .before .before .loop .inv)) (c .before .before .key-is .ensures) (c .before .if1 .left) (c .earlier .ensures)
 
 returns-2 : tie.Need-returns-2 Inv-loop μ-loop
 returns-2 c =
-    let z : c .before .loop .i ≡ 0 = omega (arith, c .loop-test .left) in
-    newest-none (now (c .before .before .before .before .before .before .args .sheet)) (now (c .before .before .before .before .before .before .args .work)) (c .before .before .before .before .before .before .args .c .lines) (c .before .before .before .before .before .before .args .c .entries) (c .before .before .before .before .before .before .pre) (now (c .before .before .before .before .before .before .args .key)) (rw z at (c .before .loop .inv .1))
+    let a = c .before .before .before .before .before .before .before .before .args in
+    newest-is (now (a .sheet)) (now (a .work)) (a .c .lines) (a .c .entries) (c .before .before .before .before .before .before .before .before .pre) (now (a .key)) (along-end (omega (arith, c .loop-test .left)) (c .before .loop .inv))
 
 pub newest-spec : {M : Type 1} → statement M
 newest-spec =
-    tie.close (tie.spec Inv-loop μ-loop (λ c κs. search needs) loop-holds (λ c. search needs) key-is-requires add-result returns loop-less loop-again
+    tie.close
+    (tie.spec
+    Inv-loop
+    μ-loop
+    (λ c κs. search needs)
+    (λ c κs. search needs)
+    newest-requires
+    loop-holds
+    (λ c. search needs)
+    key-is-requires
+    returns
+    sub-earlier
+    earlier-requires
+    loop-less
+    loop-again
     returns-2)
