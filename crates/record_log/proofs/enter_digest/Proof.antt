@@ -1,3 +1,4 @@
+-- `record_log::enter_digest` meets its contract.
 use native.Mathlib.Omega.{arith}
 use Rattle.record_log.proofs.Digests.{entered-length}
 use Rattle.records.proofs.Newest.{record-placed}
@@ -25,14 +26,5 @@ returns c = c .before .before .link .ensures ∙ rw (c .before .before .before .
 
 pub enter-digest-spec : {M : Type 1} → statement M
 enter-digest-spec =
-    tie.close
-    (tie.spec
-    (λ c. search needs)
-    (λ c. search needs)
-    (λ c. search needs)
-    (λ c. search needs)
-    (λ c. search needs)
-    (λ c κs. search needs)
-    link-requires
-    same-length
-    returns)
+    tie.close (tie.spec (λ c. search needs) (λ c. search needs) (λ c. search needs) (λ c. search needs) (λ c. search needs) (λ c κs. search needs)
+    link-requires same-length returns)

@@ -1,11 +1,12 @@
+-- `records::key::is_first` meets its contract.
 use borrow.Author.Needs.{needs}
 use Rattle.records.proofs.Newest.{keyIs, record-placed, digest-chain, key-chain, own-chain, first-not, first-is}
 use Rattle.records.specs.Log.{recordedAt, recordChain}
-use Rattle.chains.proofs.Laws.{newest-low, Along, along-first, along-hit, along-on, along-end}
-use Rattle.chains.specs.Chains.{chainAt, isOf}
+use Rattle.chains.proofs.Laws.{newest-less, Along, along-first, along-here, along-next, along-end}
+use Rattle.chains.specs.Chains.{chainAt}
 use denote.Ref.{now}
 use Prim.Native.Nat.{suc, _-_, _<_}
-use mathlib.Core.Path.{_≡_}
+use mathlib.Core.Path.{_≡_, _∙_}
 use native.Mathlib.Omega.{arith}
 use Rattle.records.proofs.key.is_first.Statement.{statement}
 use Rattle.records.proofs.key.is_first.Tie as tie
@@ -39,8 +40,8 @@ returns c =
     let a = c .before .before .before .before .before .before .before .args in
     let s = now (a .sheet) in
     let w = now (a .work) in
-    let z : c .before .before .before .loop .j ≡ suc (c .before .before .before .loop .j - 1) = omega (arith, c .before .before .loop-test .taken) in
-    first-not s w (a .c .lines) (a .c .entries) (c .before .before .before .before .before .before .before .pre .0) (recordedAt s w (a .i) .key) (omega (arith, c .before .before .before .before .before .before .before .pre .1)) (along-hit (rw z at (c .before .before .before .loop .inv)) (c .before .same-key .ensures) (c .if1 .taken))
+    let z : suc (c .before .before .before .loop .j - 1) ≡ c .before .before .before .loop .j = omega (arith, c .before .before .loop-test .taken) in
+    first-not s w (a .c .lines) (a .c .entries) (c .before .before .before .before .before .before .before .pre .0) (recordedAt s w (a .i) .key) (omega (arith, c .before .before .before .before .before .before .before .pre .1)) (z ∙ along-here (c .before .before .before .loop .inv) (omega arith) (c .before .same-key .ensures) (c .if1 .taken))
 
 sub-earlier : tie.Need-sub-earlier Inv-loop μ-loop
 sub-earlier c = omega (arith, c .before .before .loop-test .taken)
@@ -49,15 +50,10 @@ earlier-requires-2 : tie.Need-earlier-requires-2 Inv-loop μ-loop
 earlier-requires-2 c κs = (record-placed (now (c .before .before .before .before .before .before .before .args .work)) (c .before .before .before .before .before .before .before .pre .0 .checked .whole .room), c .before .before .before .before .before .before .before .pre .0 .chained, omega (arith, c .before .before .before .loop .inv .low, c .before .before .loop-test .taken, c .before .before .before .before .before .before .before .pre .1), omega (arith, c .before .before .before .before .before .before .before .pre .0 .few))
 
 loop-less : tie.Need-loop-less Inv-loop μ-loop
-loop-less c =
-    let w = now (c .before .before .before .before .before .before .before .before .args .work) in
-    let q = newest-low (isOf w recordChain (chainAt w recordChain (c .before .before .before .before .loop .j - 1))) (c .before .before .before .before .loop .j - 1) in
-    omega (arith, q, c .earlier2 .ensures, c .before .before .before .loop-test .taken)
+loop-less c = newest-less _ (omega arith) (c .earlier2 .ensures)
 
 loop-again : tie.Need-loop-again Inv-loop μ-loop
-loop-again c =
-    let z : c .before .before .before .before .loop .j ≡ suc (c .before .before .before .before .loop .j - 1) = omega (arith, c .before .before .before .loop-test .taken) in
-    along-on (rw z at (c .before .before .before .before .loop .inv)) (c .before .before .same-key .ensures) (c .before .if1 .left) (c .earlier2 .ensures)
+loop-again c = along-next (c .before .before .before .before .loop .inv) (omega arith) (c .before .before .same-key .ensures) (c .before .if1 .left) (c .earlier2 .ensures)
 
 returns-2 : tie.Need-returns-2 Inv-loop μ-loop
 returns-2 c =
@@ -68,17 +64,5 @@ returns-2 c =
 
 pub is-first-spec : {M : Type 1} → statement M
 is-first-spec =
-    tie.close
-    (tie.spec
-    Inv-loop
-    μ-loop
-    earlier-requires
-    loop-holds
-    (λ c. search needs)
-    same-key-requires
-    returns
-    sub-earlier
-    earlier-requires-2
-    loop-less
-    loop-again
-    returns-2)
+    tie.close (tie.spec Inv-loop μ-loop earlier-requires loop-holds (λ c. search needs) same-key-requires returns sub-earlier earlier-requires-2
+    loop-less loop-again returns-2)

@@ -1,11 +1,12 @@
+-- `records::key::newest` meets its contract.
 use borrow.Author.Needs.{needs}
 use Rattle.records.proofs.Newest.{keyIs, record-placed, key-chain, newest-is}
 use Rattle.records.specs.Log.{recordChain}
-use Rattle.chains.proofs.Laws.{newest-low, Along, along-first, along-hit, along-on, along-end}
-use Rattle.chains.specs.Chains.{chainOf, chainAt, isOf}
+use Rattle.chains.proofs.Laws.{newest-less, Along, along-first, along-here, along-next, along-end}
+use Rattle.chains.specs.Chains.{chainOf}
 use denote.Ref.{now}
-use Prim.Native.Nat.{suc, _-_, _<_}
-use mathlib.Core.Path.{_≡_, ap, _∙_}
+use Prim.Native.Nat.{_-_, _<_}
+use mathlib.Core.Path.{ap}
 use native.Mathlib.Omega.{arith}
 use Rattle.records.proofs.key.newest.Statement.{statement}
 use Rattle.records.proofs.key.newest.Tie as tie
@@ -32,8 +33,7 @@ key-is-requires c κs =
 returns : tie.Need-returns Inv-loop μ-loop
 returns c =
     let a = c .before .before .before .before .before .before .before .before .before .before .args in
-    let z : c .before .before .before .loop .i ≡ suc (c .before .before .before .loop .i - 1) = omega (arith, c .before .before .loop-test .taken) in
-    newest-is (now (a .sheet)) (now (a .work)) (a .c .lines) (a .c .entries) (c .before .before .before .before .before .before .before .before .before .before .pre) (now (a .key)) (z ∙ along-hit (rw z at (c .before .before .before .loop .inv)) (c .before .key-is .ensures) (c .if1 .taken))
+    newest-is (now (a .sheet)) (now (a .work)) (a .c .lines) (a .c .entries) (c .before .before .before .before .before .before .before .before .before .before .pre) (now (a .key)) (along-here (c .before .before .before .loop .inv) (omega arith) (c .before .key-is .ensures) (c .if1 .taken))
 
 sub-earlier : tie.Need-sub-earlier Inv-loop μ-loop
 sub-earlier c = omega (arith, c .before .before .loop-test .taken)
@@ -42,15 +42,10 @@ earlier-requires : tie.Need-earlier-requires Inv-loop μ-loop
 earlier-requires c κs = (record-placed (now (c .before .before .before .before .before .before .before .before .before .before .args .work)) (c .before .before .before .before .before .before .before .before .before .before .pre .checked .whole .room), c .before .before .before .before .before .before .before .before .before .before .pre .chained, omega (arith, c .before .before .before .loop .inv .low, c .before .before .loop-test .taken), omega (arith, c .before .before .before .before .before .before .before .before .before .before .pre .few))
 
 loop-less : tie.Need-loop-less Inv-loop μ-loop
-loop-less c =
-    let w = now (c .before .before .before .before .before .before .before .before .before .before .before .args .work) in
-    let q = newest-low (isOf w recordChain (chainAt w recordChain (c .before .before .before .before .loop .i - 1))) (c .before .before .before .before .loop .i - 1) in
-    omega (arith, q, c .earlier .ensures, c .before .before .before .loop-test .taken)
+loop-less c = newest-less _ (omega arith) (c .earlier .ensures)
 
 loop-again : tie.Need-loop-again Inv-loop μ-loop
-loop-again c =
-    let z : c .before .before .before .before .loop .i ≡ suc (c .before .before .before .before .loop .i - 1) = omega (arith, c .before .before .before .loop-test .taken) in
-    along-on (rw z at (c .before .before .before .before .loop .inv)) (c .before .before .key-is .ensures) (c .before .if1 .left) (c .earlier .ensures)
+loop-again c = along-next (c .before .before .before .before .loop .inv) (omega arith) (c .before .before .key-is .ensures) (c .before .if1 .left) (c .earlier .ensures)
 
 returns-2 : tie.Need-returns-2 Inv-loop μ-loop
 returns-2 c =
@@ -59,19 +54,5 @@ returns-2 c =
 
 pub newest-spec : {M : Type 1} → statement M
 newest-spec =
-    tie.close
-    (tie.spec
-    Inv-loop
-    μ-loop
-    (λ c κs. search needs)
-    (λ c κs. search needs)
-    newest-requires
-    loop-holds
-    (λ c. search needs)
-    key-is-requires
-    returns
-    sub-earlier
-    earlier-requires
-    loop-less
-    loop-again
-    returns-2)
+    tie.close (tie.spec Inv-loop μ-loop (λ c κs. search needs) (λ c κs. search needs) newest-requires loop-holds (λ c. search needs) key-is-requires
+    returns sub-earlier earlier-requires loop-less loop-again returns-2)

@@ -1,8 +1,9 @@
+-- `records::key::newest_of` meets its contract.
 use borrow.Author.Needs.{needs}
 use Rattle.records.proofs.Newest.{keyIs, record-placed, key-chain, own-chain, newest-own, newest-self}
 use Rattle.records.specs.Log.{recordedAt, recordChain}
-use Rattle.chains.proofs.Laws.{newest-low, Along, along-first, along-hit, along-on}
-use Rattle.chains.specs.Chains.{chainOf, chainAt, isOf}
+use Rattle.chains.proofs.Laws.{newest-less, Along, along-first, along-here, along-next}
+use Rattle.chains.specs.Chains.{chainOf}
 use denote.Ref.{now}
 use Prim.Native.Nat.{suc, _-_, _<_}
 use mathlib.Core.Path.{_≡_, ap, _∙_}
@@ -46,22 +47,17 @@ same-key-requires c κs =
 returns : tie.Need-returns Inv-loop μ-loop
 returns c =
     let a = c .before .before .before .before .before .before .before .before .before .args in
-    let z : c .before .before .before .loop .j ≡ suc (c .before .before .before .loop .j - 1) = omega (arith, c .before .before .loop-test .taken) in
-    newest-own (now (a .sheet)) (now (a .work)) (a .c .lines) (a .c .entries) (c .before .before .before .before .before .before .before .before .before .pre .0) (a .i) (c .before .before .before .before .before .before .before .before .before .pre .1) (along-hit (rw z at (c .before .before .before .loop .inv)) (c .before .same-key .ensures) (c .if1 .taken))
+    let z : suc (c .before .before .before .loop .j - 1) ≡ c .before .before .before .loop .j = omega (arith, c .before .before .loop-test .taken) in
+    newest-own (now (a .sheet)) (now (a .work)) (a .c .lines) (a .c .entries) (c .before .before .before .before .before .before .before .before .before .pre .0) (a .i) (c .before .before .before .before .before .before .before .before .before .pre .1) (z ∙ along-here (c .before .before .before .loop .inv) (omega arith) (c .before .same-key .ensures) (c .if1 .taken))
 
 earlier-requires : tie.Need-earlier-requires Inv-loop μ-loop
 earlier-requires c κs = (record-placed (now (c .before .before .before .before .before .before .before .before .before .args .work)) (c .before .before .before .before .before .before .before .before .before .pre .0 .checked .whole .room), c .before .before .before .before .before .before .before .before .before .pre .0 .chained, omega (arith, c .before .before .before .loop .inv .low, c .before .before .loop-test .taken), omega (arith, c .before .before .before .before .before .before .before .before .before .pre .0 .few))
 
 loop-less : tie.Need-loop-less Inv-loop μ-loop
-loop-less c =
-    let w = now (c .before .before .before .before .before .before .before .before .before .before .args .work) in
-    let q = newest-low (isOf w recordChain (chainAt w recordChain (c .before .before .before .before .loop .j - 1))) (c .before .before .before .before .loop .j - 1) in
-    omega (arith, q, c .earlier .ensures, c .before .before .before .loop-test .taken)
+loop-less c = newest-less _ (omega arith) (c .earlier .ensures)
 
 loop-again : tie.Need-loop-again Inv-loop μ-loop
-loop-again c =
-    let z : c .before .before .before .before .loop .j ≡ suc (c .before .before .before .before .loop .j - 1) = omega (arith, c .before .before .before .loop-test .taken) in
-    along-on (rw z at (c .before .before .before .before .loop .inv)) (c .before .before .same-key .ensures) (c .before .if1 .left) (c .earlier .ensures)
+loop-again c = along-next (c .before .before .before .before .loop .inv) (omega arith) (c .before .before .same-key .ensures) (c .before .if1 .left) (c .earlier .ensures)
 
 returns-2 : tie.Need-returns-2 Inv-loop μ-loop
 returns-2 c =
@@ -72,19 +68,5 @@ returns-2 c =
 
 pub newest-of-spec : {M : Type 1} → statement M
 newest-of-spec =
-    tie.close
-    (tie.spec
-    Inv-loop
-    μ-loop
-    digest-of-requires
-    (λ c κs. search needs)
-    newest-requires
-    loop-holds
-    add-loop
-    sub-e
-    same-key-requires
-    returns
-    earlier-requires
-    loop-less
-    loop-again
-    returns-2)
+    tie.close (tie.spec Inv-loop μ-loop digest-of-requires (λ c κs. search needs) newest-requires loop-holds add-loop sub-e same-key-requires returns
+    earlier-requires loop-less loop-again returns-2)
