@@ -10,6 +10,8 @@ use lib.ListN.{length, getD, set, length-set}
 use lib.Seq.{getD-set-same, getD-set-other}
 use borrow.Author.Tests.{lt-ltb, le-ltb, eq-eqb, ne-eqb, eqb-true, eqb-false, ltb-true, ltb-false}
 use Rattle.semantics.specs.Text.{Bytes}
+use Rattle.checks.specs.Checks.{Outside}
+use Rattle.checks.proofs.Kept.{outside-then, outside-set}
 use Rattle.chains.specs.declared.Chain.{Chain}
 use Rattle.chains.specs.Chains.{newestOf, chainOf, place, linkAt, headAt, chainAt, isOf, Placed, entryBelow, Chained, linked}
 
@@ -170,8 +172,13 @@ pub record Apart (c : Chain) (n : ℕ) : Type 0 where
   pub link : (i j : ℕ) → i < n → j < n → place c i ≡ place c j + c .gap → ⊥
   pub head : (i k : ℕ) → i < n → k < 128 → place c i ≡ place c k + c .gap + c .gap → ⊥
 
--- a byte elsewhere stays
-linked-other : (t : Bytes) (c : Chain) (m k q : ℕ) → (q ≡ place c m + c .gap → ⊥) → (q ≡ place c k + c .gap + c .gap → ⊥) → getD (linked t c m k) q 0 ≡ getD t q 0
+-- bytes elsewhere stay
+module _ (t : Bytes) (c : Chain) (m k : ℕ) {a b : ℕ} where
+  pub linked-outside : a ≤ place c m + c .gap → place c m + c .gap < b → a ≤ place c k + c .gap + c .gap → place c k + c .gap + c .gap < b → Outside a b t (linked t c m k)
+  unfolding linked
+  linked-outside h i j l = outside-then (outside-set a b t (place c m + c .gap) (headAt t c k) h i) (outside-set a b (set t (place c m + c .gap) (headAt t c k)) (place c k + c .gap + c .gap) m j l)
+
+pub linked-other : (t : Bytes) (c : Chain) (m k q : ℕ) → (q ≡ place c m + c .gap → ⊥) → (q ≡ place c k + c .gap + c .gap → ⊥) → getD (linked t c m k) q 0 ≡ getD t q 0
 unfolding linked
 linked-other t c m k q x y = getD-set-other (set t (place c m + c .gap) (headAt t c k)) (place c k + c .gap + c .gap) q m 0 y ∙ getD-set-other t (place c m + c .gap) q (headAt t c k) 0 x
 

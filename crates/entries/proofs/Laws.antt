@@ -30,7 +30,7 @@ use Rattle.implement.specs.Modules.{firstField, moduleAt}
 use Rattle.checks.specs.Checks.{Kept}
 use Rattle.checks.proofs.Kept.{kept-at, kept-then, kept-less, outside-less}
 use Rattle.names.specs.Table.{lineOf, moduleLineOf, valueBy, kindOf, bitsOf, digestOf, constChain, entriesAt, logIn, EntryBounds, ConstsLogged}
-use Rattle.names.proofs.Laws.{slot-is, value-failed, value-int, value-real, value-text, part-low, part-kept, SameText, each-same, digests-same, log-same, entries-below, const-room, const-apart, linked-outside, linked-entries}
+use Rattle.names.proofs.Laws.{slot-is, value-failed, value-int, value-real, value-text, part-low, part-kept, SameText, each-same, digests-same, log-same, entries-below, const-room, const-apart, const-outside, linked-entries}
 use Rattle.values.specs.declared.ConstVal.{ConstVal}
 use Rattle.values.specs.declared.ConstVal.the-variants.{Int, Real, Str}
 use Rattle.values.specs.Values.{stringIn, valueIn, kindFor, bitsFor, Small, InRange, At}
@@ -240,7 +240,7 @@ module _ (t u : Bytes) (m line within kind bits d : ℕ) (f : EntryRoom t m line
   entered v e w j s n p q hd l =
       let bounds = each-new n p q (l .each) in
       let same = linked-entries u m (chainOf d) (f .few) (omega arith) in
-      let outside = linked-outside u m (chainOf d) (f .few) (omega arith) in
+      let outside = const-outside u m (chainOf d) (f .few) (omega arith) in
       let long : 65536 ≤ length u = omega (arith, f .long, table-kept .long) in
       rw j
       (record {

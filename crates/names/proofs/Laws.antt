@@ -20,12 +20,12 @@ use Rattle.semantics.specs.Fold.{Key, Const, signed64, plain, qualified, sameOp
 use Rattle.semantics.specs.Const.{entries}
 use Rattle.semantics.proofs.Common.{both}
 use Rattle.chains.specs.Chains.{newestOf, chainOf, place, headAt, chainAt, isOf, Placed, linked}
-use Rattle.chains.proofs.Laws.{newest-low, chained-kept, Apart}
+use Rattle.chains.proofs.Laws.{newest-low, chained-kept, Apart, linked-outside}
 use Rattle.words.specs.Words.{digest, u16At, bitsAt}
 use Rattle.words.proofs.Laws.{digest-same, digest-apart}
 use Rattle.implement.specs.Modules.{firstField, moduleAt, ownIn, isOwn}
 use Rattle.checks.specs.Checks.{Kept, Outside, Checked}
-use Rattle.checks.proofs.Kept.{kept-at, kept-less, outside-then, outside-set}
+use Rattle.checks.proofs.Kept.{kept-at, kept-less}
 use Rattle.names.specs.Table.{lineOf, moduleLineOf, valueBy, slotValue, kindOf, bitsOf, digestOf, constChain, entriesAt, logIn, EntryBounds, ConstsLogged, ConstTable, ConstEntry, found, hasKey, answersPlain, answersQualified, Answered, Looked}
 
 -- ---- a slot by its kind and bits
@@ -356,9 +356,9 @@ module _ (t : Bytes) (i j x : ℕ) where
       record { bytes = sym (part-low a 14 (a + 14) (set t j x) (omega arith)) ∙ ap (λ (l : Bytes). take 14 (drop a l)) (take-set-le (a + 14) t j x (omega arith)) ∙ part-low a 14 (a + 14) t (omega arith) }
 
 module _ (t : Bytes) (m k : ℕ) (few : m < 128) (small : k < 128) where
-  pub linked-outside : Outside 5120 7168 t (linked t constChain m k)
-  unfolding linked place
-  linked-outside = outside-then (outside-set 5120 7168 t (5133 + 16 * m + 1) (headAt t constChain k) (omega arith) (omega arith)) (outside-set 5120 7168 (set t (5133 + 16 * m + 1) (headAt t constChain k)) (5133 + 16 * k + 1 + 1) m (omega arith) (omega arith))
+  pub const-outside : Outside 5120 7168 t (linked t constChain m k)
+  unfolding place
+  const-outside = linked-outside t constChain m k (omega arith) (omega arith) (omega arith) (omega arith)
 
   pub linked-entries : (i : ℕ) → i < m + 1 → SameEntry t (linked t constChain m k) i
   unfolding linked place

@@ -11,8 +11,8 @@ use Rattle.semantics.specs.Text.{Bytes}
 use Rattle.words.specs.Words.{digest}
 use Rattle.checks.specs.Checks.{Outside}
 use Rattle.checks.proofs.Kept.{kept-less, outside-all, outside-then, outside-set, checked-kept}
-use Rattle.chains.specs.Chains.{chainOf, place, headAt, chainAt, Chained, linked}
-use Rattle.chains.proofs.Laws.{SameBytes, chained-kept, Apart, chained-next}
+use Rattle.chains.specs.Chains.{chainOf, place, chainAt, Chained, linked}
+use Rattle.chains.proofs.Laws.{SameBytes, chained-kept, linked-outside, linked-other, Apart, chained-next}
 use Rattle.records.specs.Log.{byteOf, entryAt, recordOf, recordedAt, digestOf, recordChain, Digested}
 use Rattle.records.proofs.Newest.{record-placed, digest-chain}
 use Rattle.record_log.specs.Entries.{CollectedTo}
@@ -30,10 +30,8 @@ module _ (t : Bytes) (i d : ℕ) (hi : i < 128) (room : 65536 ≤ length t) wher
 
   -- links and heads are bytes 6 and 7 of entries
   byte-linked : (j k : ℕ) → k < 6 → byteOf new j k ≡ byteOf entered j k
-  unfolding linked place
-  byte-linked j k h =
-      getD-set-other (set entered (9221 + 8 * i + 1) (headAt entered recordChain (chainOf d))) (9221 + 8 * chainOf d + 1 + 1) (9216 + (8 * j + k)) i 0 (λ e. omega arith)
-      ∙ getD-set-other entered (9221 + 8 * i + 1) (9216 + (8 * j + k)) (headAt entered recordChain (chainOf d)) 0 (λ e. omega arith)
+  unfolding place
+  byte-linked j k h = linked-other entered recordChain i (chainOf d) (9216 + (8 * j + k)) (λ e. omega (arith, e)) (λ e. omega (arith, e))
 
   digest-new : digestOf new i ≡ d
   digest-new = byte-linked i 5 (omega arith) ∙ getD-set-same t (9216 + (8 * i + 5)) d 0 (omega arith)
@@ -57,13 +55,10 @@ module _ (t : Bytes) (i d : ℕ) (hi : i < 128) (room : 65536 ≤ length t) wher
   recorded-old s j = ap (recordOf s) (entry-old j)
 
   outside-new : Outside 9216 10240 t new
-  unfolding linked place
+  unfolding place
   outside-new =
       let k : chainOf d < 128 = mod-lt d (omega arith) in
-      let linking = set entered (9221 + 8 * i + 1) (headAt entered recordChain (chainOf d)) in
-      outside-then (outside-set 9216 10240 t (9216 + (8 * i + 5)) d (omega arith) (omega arith))
-      (outside-then (outside-set 9216 10240 entered (9221 + 8 * i + 1) (headAt entered recordChain (chainOf d)) (omega arith) (omega arith))
-      (outside-set 9216 10240 linking (9221 + 8 * chainOf d + 1 + 1) i (omega arith) (omega arith)))
+      outside-then (outside-set 9216 10240 t (9216 + (8 * i + 5)) d (omega arith) (omega arith)) (linked-outside entered recordChain i (chainOf d) (omega arith) (omega arith) (omega arith) (omega arith))
 
   -- ---- chains
 
