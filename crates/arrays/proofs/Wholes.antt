@@ -49,10 +49,10 @@ use Rattle.arrays.proofs.Elements.{outside-forms}
 -- ---- the kind
 
 module _ {s t : Bytes} {n declared r count : ℕ} (c : Counted s t n declared r count) (vs : List Tree.ConstVal) where
-  abbrev Kind : ElemKind
-  Kind = literalKind (typeOf s declared) (ownType s r) (elsAt s r) vs
+  abbrev kindOfLiteral : ElemKind
+  kindOfLiteral = literalKind (typeOf s declared) (ownType s r) (elsAt s r) vs
 
-  pub kind-declared : {x : ℕ} → (declared ≡ 0 → ⊥) → x ≡ kindNumber (elemKind (typeAt s declared)) → x ≡ kindNumber Kind
+  pub kind-declared : {x : ℕ} → (declared ≡ 0 → ⊥) → x ≡ kindNumber (elemKind (typeAt s declared)) → x ≡ kindNumber kindOfLiteral
   kind-declared h e = rw (type-given s declared h) e
 
   module _ (z : declared ≡ 0) {v : ℕ} (hv : v ≡ Number.numberUpTo 65536 (getD (readAt s (r - 1) .fields) 1 [])) where
@@ -65,26 +65,26 @@ module _ {s t : Bytes} {n declared r count : ℕ} (c : Counted s t n declared r 
     pub own-type-line : (v ≡ 0 → ⊥) → TypeLine s t n v
     own-type-line h = own-may .1 h
 
-    pub kind-own : {x : ℕ} → (v ≡ 0 → ⊥) → x ≡ kindNumber (elemKind (typeAt s v)) → x ≡ kindNumber Kind
+    pub kind-own : {x : ℕ} → (v ≡ 0 → ⊥) → x ≡ kindNumber (elemKind (typeAt s v)) → x ≡ kindNumber kindOfLiteral
     kind-own h e = rw (own-is, z, type-given s v h) e
 
     module _ (y : v ≡ 0) where
-      pub kind-bytes : true ≡ isByteLiteral (elsAt s r) → 0 ≡ kindNumber Kind
+      pub kind-bytes : true ≡ isByteLiteral (elsAt s r) → 0 ≡ kindNumber kindOfLiteral
       kind-bytes e = rw (own-is, z, y, sym e)
 
-      pub kind-values : {x : ℕ} → false ≡ isByteLiteral (elsAt s r) → x ≡ kindNumber (kindOfValues vs) → x ≡ kindNumber Kind
+      pub kind-values : {x : ℕ} → false ≡ isByteLiteral (elsAt s r) → x ≡ kindNumber (kindOfValues vs) → x ≡ kindNumber kindOfLiteral
       kind-values e d = rw (own-is, z, y, sym e) d
 
 -- ---- refusals 11 and 12
 
-abbrev whole : Bytes → ℕ → ℕ → ℕ → Filled → Result Array.ConstArray
-whole s declared r size f = Array.measured (typeOf s declared) (ownType s r) (elsAt s r) f size
+abbrev arrayOfSize : Bytes → ℕ → ℕ → ℕ → Filled → Result Array.ConstArray
+arrayOfSize s declared r size f = Array.measured (typeOf s declared) (ownType s r) (elsAt s r) f size
 
 module _ (s t : Bytes) (declared r size k next reach : ℕ) (f : Filled) (h : reach ≤ size) (p : Filling t (above 16) k next reach f) where
-  pub measured-long : 1024 < size → ArrayResult t (whole s declared r size f) (Refused 12)
+  pub measured-long : 1024 < size → ArrayResult t (arrayOfSize s declared r size f) (Refused 12)
   measured-long g = record { result = sym (rw (p .ends size, le-ltb size reach h, lt-leb size 1024 g)); stands = tt }
 
-  pub measured-well : size ≤ 1024 → {kind : ℕ} → kind ≡ kindNumber (literalKind (typeOf s declared) (ownType s r) (elsAt s r) (valuesIn t 0 size)) → ArrayResult t (whole s declared r size f) (Literal kind size)
+  pub measured-well : size ≤ 1024 → {kind : ℕ} → kind ≡ kindNumber (literalKind (typeOf s declared) (ownType s r) (elsAt s r) (valuesIn t 0 size)) → ArrayResult t (arrayOfSize s declared r size f) (Literal kind size)
   measured-well g {kind} e = record {
     result = sym (rw (p .ends size, le-ltb size reach h, le-leb size 1024 g, values-are p size 0 (omega arith), e, kind-back (literalKind (typeOf s declared) (ownType s r) (elsAt s r) (valuesIn t 0 size))));
     stands = (kind-low (literalKind (typeOf s declared) (ownType s r) (elsAt s r) (valuesIn t 0 size)) e, (g, λ i x. value-stands p i (omega arith)));
@@ -132,7 +132,7 @@ module _ {s t u : Bytes} {n m declared r : ℕ} (l : DeclaredLiteral s t n decla
         keeps = size-keeps c;
       }
 
-      pub sized-well : reach ≤ size → (y : Arrayed) → ((k next reach : ℕ) (f : Filled) → reach ≤ size → Filling u (above 16) k next reach f → ArrayResult u (whole s declared r size f) y) → Sized s t m declared r reach y u
+      pub sized-well : reach ≤ size → (y : Arrayed) → ((k next reach : ℕ) (f : Filled) → reach ≤ size → Filling u (above 16) k next reach f → ArrayResult u (arrayOfSize s declared r size f) y) → Sized s t m declared r reach y u
       sized-well a y g = record {
         answers = λ k next f few p.
             let w = g k next reach f a (filling-kept p u few (omega arith) c) in
@@ -149,11 +149,11 @@ endedAs Negative = Pending
 endedAs Failed = Pending
 endedAs TooLong = Refused 8
 
-abbrev rest : Bytes → Bytes → ℕ → ℕ → ℕ → Filled → Result Array.ConstArray
-rest s t m declared r f = bind (literalSize (namesIn s t m) (litSize s r) f) (Array.measured (typeOf s declared) (ownType s r) (elsAt s r) f)
+abbrev afterFilling : Bytes → Bytes → ℕ → ℕ → ℕ → Filled → Result Array.ConstArray
+afterFilling s t m declared r f = bind (literalSize (namesIn s t m) (litSize s r) f) (Array.measured (typeOf s declared) (ownType s r) (elsAt s r) f)
 
 module _ {s t u : Bytes} {n m declared r : ℕ} (l : DeclaredLiteral s t n declared r) (o : ConstsLogged s t n m) (y : Placed) (a : AllFilled t (fill (namesIn s t m) (elsAt s r) noneFilled) y u) where
-  literal-by : constArray (namesIn s t m) (typeOf s declared) (exAt s r) ≡ bind (fill (namesIn s t m) (elsAt s r) noneFilled) (rest s t m declared r)
+  literal-by : constArray (namesIn s t m) (typeOf s declared) (exAt s r) ≡ bind (fill (namesIn s t m) (elsAt s r) noneFilled) (afterFilling s t m declared r)
   literal-by = rw (literal-is (l .literal))
 
   pub literal-kept : (DeclaredLiteral s u n declared r) × (ConstsLogged s u n m)
@@ -163,11 +163,11 @@ module _ {s t u : Bytes} {n m declared r : ℕ} (l : DeclaredLiteral s t n decla
   pub literal-ended : (z : Placed) → y ≡ z → isInto z ≡ false → ArrayAnswers t (constArray (namesIn s t m) (typeOf s declared) (exAt s r)) (endedAs z) u
   literal-ended z d h = record { array = record { result = sym (literal-by ∙ go z h (subst (λ (b : Placed). Step u (above 16) (a .count) b (fill (namesIn s t m) (elsAt s r) noneFilled)) d (a .step))); stands = ended-stands z }; keeps = a .keeps }
     where
-      go : (b : Placed) → isInto b ≡ false → Step u (above 16) (a .count) b (fill (namesIn s t m) (elsAt s r) noneFilled) → bind (fill (namesIn s t m) (elsAt s r) noneFilled) (rest s t m declared r) ≡ arrayedIn u (endedAs b)
+      go : (b : Placed) → isInto b ≡ false → Step u (above 16) (a .count) b (fill (namesIn s t m) (elsAt s r) noneFilled) → bind (fill (namesIn s t m) (elsAt s r) noneFilled) (afterFilling s t m declared r) ≡ arrayedIn u (endedAs b)
       go (Into x) e g = never (sym e)
-      go Negative e g = ap (λ (q : Result Filled). bind q (rest s t m declared r)) g
-      go Failed e g = ap (λ (q : Result Filled). bind q (rest s t m declared r)) g
-      go TooLong e g = ap (λ (q : Result Filled). bind q (rest s t m declared r)) g
+      go Negative e g = ap (λ (q : Result Filled). bind q (afterFilling s t m declared r)) g
+      go Failed e g = ap (λ (q : Result Filled). bind q (afterFilling s t m declared r)) g
+      go TooLong e g = ap (λ (q : Result Filled). bind q (afterFilling s t m declared r)) g
 
       ended-stands : (b : Placed) → ArrayStands u (endedAs b)
       ended-stands (Into x) = tt
@@ -179,7 +179,7 @@ module _ {s t u : Bytes} {n m declared r : ℕ} (l : DeclaredLiteral s t n decla
   literal-well {b} d {x} {w} z =
       let g : LiteralSoFar u (above 16) (a .count) (b .next) (b .reach) (fill (namesIn s t m) (elsAt s r) noneFilled) = subst (λ (v : Placed). Step u (above 16) (a .count) v (fill (namesIn s t m) (elsAt s r) noneFilled)) d (a .step) in
       let q = rw (log-kept (a .keeps) o) at (z .answers (a .count) (b .next) (g .literal) (a .few) (g .filling)) in
-      record { array = record { result = q .result ∙ sym (literal-by ∙ ap (λ (v : Result Filled). bind v (rest s t m declared r)) (g .result)); stands = q .stands }; keeps = keeps-then (a .keeps) (z .keeps) }
+      record { array = record { result = q .result ∙ sym (literal-by ∙ ap (λ (v : Result Filled). bind v (afterFilling s t m declared r)) (g .result)); stands = q .stands }; keeps = keeps-then (a .keeps) (z .keeps) }
 
 -- ---- other lines
 

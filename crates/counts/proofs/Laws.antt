@@ -146,13 +146,13 @@ module _ (s t : List ℕ) (n : ℕ) (w : Whole s t n) where
 -- ---- the walk over the fields of a line
 
 -- d are the tags of the cases to which the fields up to w refer
-pub record Tagging (s : List ℕ) (i f : ℕ) (l : List ℕ) (w : Walk) (d : ℕ) : Type 0 where
+pub record TagsCounted (s : List ℕ) (i f : ℕ) (l : List ℕ) (w : Walk) (d : ℕ) : Type 0 where
   pub standing : WalkAt f l w
   pub fine : fineRefs (readsIn s) i (Refs.refsBy (lettersFrom f w) (fieldsLeft l w)) ≡ true
   pub same : tagsIn (readsIn s) (refsOf (readAt s i)) ≡ d + tagsIn (readsIn s) (Refs.refsBy (lettersFrom f w) (fieldsLeft l w))
   pub small : d ≤ 65537 * min (w .at) 256
 
-pub tagging-start : (s t : List ℕ) (n i : ℕ) → Whole s t n → badRefFrom (readsIn s) 1 [] (readsIn s) ≡ 0 → i < n → (l : List ℕ) (f : ℕ) → l ≡ textAt s i → f ≡ formAt t i → (w : Walk) → w ≡ beginning f → Tagging s i f l w 0
+pub tagging-start : (s t : List ℕ) (n i : ℕ) → Whole s t n → badRefFrom (readsIn s) 1 [] (readsIn s) ≡ 0 → i < n → (l : List ℕ) (f : ℕ) → l ≡ textAt s i → f ≡ formAt t i → (w : Walk) → w ≡ beginning f → TagsCounted s i f l w 0
 tagging-start s t n i w good h l f hl hf u hu =
     let e = refs-begin s t n i w h l f hl hf in
     rw hu (record {
@@ -181,7 +181,7 @@ tags-other ls x f rs n = go (isRef x) refl
     go true e = rw (e, no-case x n)
     go false e = rw e (omega arith)
 
-module _ (s : List ℕ) (n i : ℕ) (few : n ≤ 1024) (hi : i < n) (f : ℕ) (l : List ℕ) (w u : Walk) (x v d : ℕ) (q : WalkStepped f l w x v u) (g : Tagging s i f l w d) where
+module _ (s : List ℕ) (n i : ℕ) (few : n ≤ 1024) (hi : i < n) (f : ℕ) (l : List ℕ) (w u : Walk) (x v d : ℕ) (q : WalkStepped f l w x v u) (g : TagsCounted s i f l w d) where
   rest : List Ref
   rest = Refs.refsBy (lettersFrom f u) (fieldsLeft l u)
 
@@ -234,7 +234,7 @@ module _ (s : List ℕ) (n i : ℕ) (few : n ≤ 1024) (hi : i < n) (f : ℕ) (l
           ∙ ap (λ (b : Bool). cond b (fieldNumber (readAt s (v - 1)) 0) 0 + tagsIn (readsIn s) rest) (sym p)
       go false p = tags-other (readsIn s) x (q .field) rest (eqb-false x 67 p) ∙ rw p
 
-  pub tagging-on : (r k : ℕ) → w .at ≤ 255 → r ≤ 65537 → r ≡ cond (eqb x 67) (fieldNumber (readAt s (v - 1)) 0) 0 → k ≡ d + r → Tagging s i f l u k
+  pub tagging-on : (r k : ℕ) → w .at ≤ 255 → r ≤ 65537 → r ≡ cond (eqb x 67) (fieldNumber (readAt s (v - 1)) 0) 0 → k ≡ d + r → TagsCounted s i f l u k
   unfolding rest
   tagging-on r k short low hr hk = record {
     standing = q .standing;
@@ -243,7 +243,7 @@ module _ (s : List ℕ) (n i : ℕ) (few : n ≤ 1024) (hi : i < n) (f : ℕ) (l
     small = omega (arith, g .small, q .further, hk);
   }
 
-pub tagging-end : (s : List ℕ) (i f : ℕ) (l : List ℕ) (w : Walk) (d : ℕ) → length l < w .at → Tagging s i f l w d → (d ≡ tagsIn (readsIn s) (refsOf (readAt s i))) × (d ≤ 16777472)
+pub tagging-end : (s : List ℕ) (i f : ℕ) (l : List ℕ) (w : Walk) (d : ℕ) → length l < w .at → TagsCounted s i f l w d → (d ≡ tagsIn (readsIn s) (refsOf (readAt s i))) × (d ≤ 16777472)
 tagging-end s i f l w d h g = (sym (g .same ∙ rw (refs-end f l w h) (omega arith)), omega (arith, g .small))
 
 pub length-line : (s t : List ℕ) (n i : ℕ) → Whole s t n → i < n → (l : List ℕ) → l ≡ textAt s i → length l ≤ 255

@@ -80,7 +80,7 @@ items-step ty ps i x xs = go (same x (bytes "nil"))
 -- ---- all names
 
 -- those of the first j are printed
-pub record Naming (s t : Bytes) (c : Counts) (r : ℕ) (x : First) (count : ℕ) (p : Next) (d u e : Bytes) (q : Next) (j : ℕ) : Type 0 where
+pub record NamesPrinted (s t : Bytes) (c : Counts) (r : ℕ) (x : First) (count : ℕ) (p : Next) (d u e : Bytes) (q : Next) (j : ℕ) : Type 0 where
   pub task : NameTask s u c x (q .keys)
   pub line : VarLine s u (c .lines) r
   pub outside : Outside 10624 10629 t u
@@ -92,7 +92,7 @@ pub record Naming (s t : Bytes) (c : Counts) (r : ℕ) (x : First) (count : ℕ)
   pub rest : done ++ nameItems (typeOn s r) (placesIn s t (c .globals)) (initIn t x) (namesFrom s r count j) ≡ nameItems (typeOn s r) (placesIn s t (c .globals)) (initIn t x) (namesOn s r)
 
 module _ {s t : Bytes} {c : Counts} {r : ℕ} {x : First} {p : Next} (k : NameTask s t c x (p .keys)) (l : VarLine s t (c .lines) r) {count : ℕ} (hc : count ≡ length (namesOn s r)) where
-  pub naming-start : {q : Next} {d e : Bytes} → Wrote d (p .at) [] e (q .at) → q .keys ≡ p .keys → Naming s t c r x count q e t e q 0
+  pub naming-start : {q : Next} {d e : Bytes} → Wrote d (p .at) [] e (q .at) → q .keys ≡ p .keys → NamesPrinted s t c r x count q e t e q 0
   naming-start {q} {d} {e} w h = record {
     task = rw h k;
     line = l;
@@ -105,9 +105,9 @@ module _ {s t : Bytes} {c : Counts} {r : ℕ} {x : First} {p : Next} (k : NameTa
     rest = ap (nameItems (typeOn s r) (placesIn s t (c .globals)) (initIn t x)) (names-all s r hc);
   }
 
-module _ {s t : Bytes} {c : Counts} {r : ℕ} {x : First} {count : ℕ} {p : Next} {d u e : Bytes} {q : Next} {j : ℕ} (m : Naming s t c r x count p d u e q j) where
+module _ {s t : Bytes} {c : Counts} {r : ℕ} {x : First} {count : ℕ} {p : Next} {d u e : Bytes} {q : Next} {j : ℕ} (m : NamesPrinted s t c r x count p d u e q j) where
   pub naming-next : {z : Next} {v f : Bytes} → j < count → length f ≡ length e → {y : Bytes} → y ≡ nameOn s r j
-      → ItemsPrinted s (nameItems (typeOn s r) (placesIn s u (c .globals)) (initIn u x) (y ∷ [])) q z u v e f × Outside 10624 10629 u v → Naming s t c r x count p d v f z (j + 1)
+      → ItemsPrinted s (nameItems (typeOn s r) (placesIn s u (c .globals)) (initIn u x) (y ∷ [])) q z u v e f × Outside 10624 10629 u v → NamesPrinted s t c r x count p d v f z (j + 1)
   naming-next {z} {v} {f} h l {y} i a =
       let f1 = nameItems (typeOn s r) (placesIn s t (c .globals)) (initIn t x) in
       let is : nameItems (typeOn s r) (placesIn s u (c .globals)) (initIn u x) (y ∷ []) ≡ f1 (nameOn s r j ∷ []) = rw (m .places, m .value, i) in

@@ -169,12 +169,12 @@ module _ (s : Bytes) (h : 0 < length s) {m : ℕ} where
     plus-some l = rw (int-plus s e h) (plus-by (natOf s) is .1 l)
 
 -- what sign and magnitude say of the integer
-data Known : Option ℤ → Signed → Type 0 where
-  unknown : Known none NoInteger
-  plus : {n m : ℕ} → m ≡ min n most → Known (some (pos n)) (Plus m)
-  minus : {n m : ℕ} → m ≡ min (suc n) most → Known (some (negsuc n)) (Minus m)
+data KnownSign : Option ℤ → Signed → Type 0 where
+  unknown : KnownSign none NoInteger
+  plus : {n m : ℕ} → m ≡ min n most → KnownSign (some (pos n)) (Plus m)
+  minus : {n m : ℕ} → m ≡ min (suc n) most → KnownSign (some (negsuc n)) (Minus m)
 
-known : (o : Option ℤ) → Known o (signed o)
+known : (o : Option ℤ) → KnownSign o (signed o)
 known none = unknown
 known (some (pos n)) = plus refl
 known (some (negsuc n)) = minus refl
@@ -187,7 +187,7 @@ cut-leb k n m e h = go (leb n k) refl
     go false q = let l = leb-false n k q in lt-leb m k (omega arith)
 
 module _ (s : Bytes) {r : Signed} (is : r ≡ signedOf s) where
-  known-of : Known (intOf s) r
+  known-of : KnownSign (intOf s) r
   unfolding signedOf
   known-of = rw is (known (intOf s))
 
@@ -195,7 +195,7 @@ module _ (s : Bytes) {r : Signed} (is : r ≡ signedOf s) where
   unfolding integerOf
   integer-none e = go (intOf s) r known-of e
     where
-      go : (o : Option ℤ) (r : Signed) → Known o r → r ≡ NoInteger → Bad ≡ whole o
+      go : (o : Option ℤ) (r : Signed) → KnownSign o r → r ≡ NoInteger → Bad ≡ whole o
       go none r unknown e = refl
       go (some (pos n)) r (plus p) e = never cc
       go (some (negsuc n)) r (minus p) e = never cc
@@ -205,7 +205,7 @@ module _ (s : Bytes) {r : Signed} (is : r ≡ signedOf s) where
     plus-by-magnitude : r ≡ Plus n → (m : ℕ) × (intOf s ≡ some (pos m)) × (n ≡ min m most)
     plus-by-magnitude e = go (intOf s) r known-of e
       where
-        go : (o : Option ℤ) (r : Signed) → Known o r → r ≡ Plus n → (m : ℕ) × (o ≡ some (pos m)) × (n ≡ min m most)
+        go : (o : Option ℤ) (r : Signed) → KnownSign o r → r ≡ Plus n → (m : ℕ) × (o ≡ some (pos m)) × (n ≡ min m most)
         go none r unknown e = never cc
         go (some (pos m)) (Plus k) (plus p) e = let q : k ≡ n = cc in (m, refl, omega arith)
         go (some (negsuc m)) r (minus p) e = never cc
@@ -213,7 +213,7 @@ module _ (s : Bytes) {r : Signed} (is : r ≡ signedOf s) where
     minus-by-magnitude : r ≡ Minus n → (m : ℕ) × (intOf s ≡ some (negsuc m)) × (n ≡ min (suc m) most)
     minus-by-magnitude e = go (intOf s) r known-of e
       where
-        go : (o : Option ℤ) (r : Signed) → Known o r → r ≡ Minus n → (m : ℕ) × (o ≡ some (negsuc m)) × (n ≡ min (suc m) most)
+        go : (o : Option ℤ) (r : Signed) → KnownSign o r → r ≡ Minus n → (m : ℕ) × (o ≡ some (negsuc m)) × (n ≡ min (suc m) most)
         go none r unknown e = never cc
         go (some (pos m)) r (plus p) e = never cc
         go (some (negsuc m)) (Minus k) (minus p) e = let q : k ≡ n = cc in (m, refl, omega arith)
@@ -257,7 +257,7 @@ module _ (s : Bytes) {r : Signed} (is : r ≡ signedOf s) where
   unfolding isBetween
   none-within lo hi e = go (intOf s) r known-of e
     where
-      go : (o : Option ℤ) (r : Signed) → Known o r → r ≡ NoInteger → false ≡ holdsOf (between lo hi) o
+      go : (o : Option ℤ) (r : Signed) → KnownSign o r → r ≡ NoInteger → false ≡ holdsOf (between lo hi) o
       go none r unknown e = refl
       go (some (pos n)) r (plus p) e = never cc
       go (some (negsuc n)) r (minus p) e = never cc

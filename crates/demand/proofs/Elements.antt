@@ -96,37 +96,37 @@ value-last (q ∷ ps) p w i = value-last ps p _ i
 
 module _ (i : ℕ) (w : ConstVal) where
   -- the index of the next plain element, the end of the indices, the value at i, and the last wildcard or else 0
-  record Seen (n m : ℕ) (u s : Result ConstVal) (f : Filled) : Type 0 where
+  record SeenSoFar (n m : ℕ) (u s : Result ConstVal) (f : Filled) : Type 0 where
     index : f .nextIndex ≡ n
     reach : f .reach ≡ m
     value : ok (valueAt (f .placements) w i) ≡ u
     otherwise : ok (filler (f .wildcard)) ≡ s
 
   -- each step goes as `reachOf`, `lastGiven` and `lastStar` do
-  module _ {n m : ℕ} {u s : Result ConstVal} {f : Filled} (q : Seen n m u s f) where
-    span-seen : (v : ConstVal) (l h : ℕ) → Seen (suc h) (max m (suc h)) (cond (leb l i && leb i h) (ok v) u) s (placeSpan v l h f)
+  module _ {n m : ℕ} {u s : Result ConstVal} {f : Filled} (q : SeenSoFar n m u s f) where
+    span-seen : (v : ConstVal) (l h : ℕ) → SeenSoFar (suc h) (max m (suc h)) (cond (leb l i && leb i h) (ok v) u) s (placeSpan v l h f)
     span-seen v l h = record { index = refl; reach = rw (q .reach); value = rw (value-last, ok-cond, q .value); otherwise = q .otherwise }
 
     placed-seen : (v : ConstVal) (l h : ℤ)
-        → Holds (Seen (cond (leZ l h) (afterHigh h) n) (cond (leZ l h) (max m (afterHigh h)) m) (cond (covers i (l, h)) (ok v) u) s) (placeIndices v l h f)
+        → Holds (SeenSoFar (cond (leZ l h) (afterHigh h) n) (cond (leZ l h) (max m (afterHigh h)) m) (cond (covers i (l, h)) (ok v) u) s) (placeIndices v l h f)
     placed-seen v (pos l) (pos h) = test (leb l h) (λ p. rw p (holds (span-seen v l h))) λ p. rw (p, none-between i l h p) (holds q)
     placed-seen v (pos l) (negsuc h) = rw (and-false (leb l i)) (holds q)
     placed-seen v (negsuc l) (pos h) = fails
     placed-seen v (negsuc l) (negsuc h) = test (leb h l) (λ _. fails) λ p. rw p (holds q)
 
-    next-seen : (v : ConstVal) → Holds (Seen (suc n) (max m (suc n)) (cond (eqb i n) (ok v) u) s) (placeNext v f)
+    next-seen : (v : ConstVal) → Holds (SeenSoFar (suc n) (max m (suc n)) (cond (eqb i n) (ok v) u) s) (placeNext v f)
     next-seen v = test (ltb (f .nextIndex) (2 ^ 63)) (λ _. rw (q .index, le-leb n n (le-refl n), ← one-between i n) (holds (span-seen v n n))) λ _. fails
 
-    star-seen : (v : ConstVal) → Seen n m u (ok v) (setWildcard v f)
+    star-seen : (v : ConstVal) → SeenSoFar n m u (ok v) (setWildcard v f)
     star-seen v = record { index = q .index; reach = q .reach; value = q .value; otherwise = refl }
 
-  spans-seen : (v : ConstVal) (ss : List (ℤ × ℤ)) {n m : ℕ} {u s : Result ConstVal} {f : Filled} → Seen n m u s f
-      → Holds (Seen (nextIndexAfter n ss) (spansReach m ss) (cond (any (covers i) ss) (ok v) u) s) (placeSpans v ss f)
+  spans-seen : (v : ConstVal) (ss : List (ℤ × ℤ)) {n m : ℕ} {u s : Result ConstVal} {f : Filled} → SeenSoFar n m u s f
+      → Holds (SeenSoFar (nextIndexAfter n ss) (spansReach m ss) (cond (any (covers i) ss) (ok v) u) s) (placeSpans v ss f)
   spans-seen v [] q = holds q
   spans-seen v (s ∷ ss) q = then (placed-seen q v (s .0) (s .1)) λ g r. rw cond-or (spans-seen v ss r)
 
-  fill-seen : (ns : Names) (es : Els) {n m : ℕ} {u s : Result ConstVal} {f : Filled} → Seen n m u s f
-      → Holds (λ (g : Filled). (k : ℕ) × Seen k (reachOf ns n m es) (lastGiven ns i n u es) (lastStar ns s es) g) (fill ns es f)
+  fill-seen : (ns : Names) (es : Els) {n m : ℕ} {u s : Result ConstVal} {f : Filled} → SeenSoFar n m u s f
+      → Holds (λ (g : Filled). (k : ℕ) × SeenSoFar k (reachOf ns n m es) (lastGiven ns i n u es) (lastStar ns s es) g) (fill ns es f)
   fill-seen ns noEls q = holds (_, q)
   fill-seen ns (andEl (next e) es) q = then (then (result (foldAt0 ns e)) λ v p. rw p (next-seen q v)) λ g. fill-seen ns es
   fill-seen ns (andEl (star e) es) q = then (then (result (foldAt0 ns e)) λ v p. rw p (holds (star-seen q v))) λ g. fill-seen ns es
@@ -135,7 +135,7 @@ module _ (i : ℕ) (w : ConstVal) where
 
   -- a whole literal
   literal-seen : (ns : Names) (es : Els) (f : Filled) → fill ns es noneFilled ≡ ok f
-      → (k : ℕ) × Seen k (reachOf ns 0 0 es) (lastGiven ns i 0 (ok w) es) (lastStar ns (ok (vInt (pos 0))) es) f
+      → (k : ℕ) × SeenSoFar k (reachOf ns 0 0 es) (lastGiven ns i 0 (ok w) es) (lastStar ns (ok (vInt (pos 0))) es) f
   literal-seen ns es f p = of p (fill-seen ns es (record { index = refl; reach = refl; value = refl; otherwise = refl }))
 
 -- ---- arrays
@@ -169,32 +169,32 @@ length-known ns es absent f p = holds (literal-seen 0 (vInt (pos 0)) ns es f p .
 length-known ns es (given e) f p = then (result (foldAt0 ns e)) λ v q. size-known ns e v q
 
 -- what holds of the array that an expression is
-abbrev Known : Names → Option Ty → Ex → ConstArray → Type 0
-Known ns declared e a = GivenBy ns declared e a × (length (a .values) ≤ a .count)
+abbrev KnownArray : Names → Option Ty → Ex → ConstArray → Type 0
+KnownArray ns declared e a = GivenBy ns declared e a × (length (a .values) ≤ a .count)
 
 module _ (ns : Names) (declared : Option Ty) where
   module _ (s : MaybeEx) (t : Option Ty) (es : Els) where
-    built-known : (f : Filled) → fill ns es noneFilled ≡ ok f → (n : ℕ) → LengthOf ns es s n → Holds (Known ns declared (arrayEx (lit s t es))) (built declared t es f n)
+    built-known : (f : Filled) → fill ns es noneFilled ≡ ok f → (n : ℕ) → LengthOf ns es s n → Holds (KnownArray ns declared (arrayEx (lit s t es))) (built declared t es f n)
     built-known f p n l =
         let v = filler (f .wildcard) in
         let e = values-long (f .placements) v 0 n in
         holds (record { values = (l, e, literal-at ns es f p n); kind = λ u h. ap (λ (d : Option Ty). literalKind d t es (valuesFrom (f .placements) v 0 n)) h }, le-of-eq e)
 
-    literal-known : Holds (Known ns declared (arrayEx (lit s t es))) (literal ns declared s t es)
+    literal-known : Holds (KnownArray ns declared (arrayEx (lit s t es))) (literal ns declared s t es)
     literal-known =
         then (result (fill ns es noneFilled)) λ f p.
         then (length-known ns es s f p) λ n l.
         test (any (outside n) (f .placements)) (λ _. refuses) λ _.
         test (leb n longestLiteral) (λ _. built-known f p n l) λ _. refuses
 
-  allocated-known : (e : Ex) (t : Ty) (v : ConstVal) → foldAt0 ns e ≡ ok v → Holds (Known ns declared (arrayEx (alloc e t))) (allocated (elemKind (orElse t declared)) v)
+  allocated-known : (e : Ex) (t : Ty) (v : ConstVal) → foldAt0 ns e ≡ ok v → Holds (KnownArray ns declared (arrayEx (alloc e t))) (allocated (elemKind (orElse t declared)) v)
   allocated-known e t (vInt (pos n)) p =
       test (leb n longestAlloc) (λ _. holds (record { values = (p, refl); kind = λ u h. ap (λ (d : Option Ty). elemKind (orElse t d)) h }, zero-le)) λ _. refuses
   allocated-known e t (vInt (negsuc n)) p = test (leb n longestAlloc) (λ _. refuses) λ _. refuses
   allocated-known e t (vReal x) p = fails
   allocated-known e t (vStr s) p = fails
 
-  array-known : (e : Ex) → Holds (Known ns declared e) (constArray ns declared e)
+  array-known : (e : Ex) → Holds (KnownArray ns declared e) (constArray ns declared e)
   array-known (constant v) = fails
   array-known (ident n) = fails
   array-known (modQual e n) = fails
@@ -216,7 +216,7 @@ from-array failed failed a p = cc
 from-array failed (refuse r) a p = cc
 from-array (refuse r) x a p = cc
 
-init-known : (ns : Names) (t : Ty) (e : Ex) (a : ConstArray) → initOf ns t (some e) ≡ ok (arrayInit a) → Known ns (elemOf t) e a
+init-known : (ns : Names) (t : Ty) (e : Ex) (a : ConstArray) → initOf ns t (some e) ≡ ok (arrayInit a) → KnownArray ns (elemOf t) e a
 init-known ns t e a p = of (from-array (foldAt0 ns e) _ a p) (array-known ns (elemOf t) e)
 
 -- of any first value that is an array: its values are, index by index, those last given, or else the filler
@@ -227,17 +227,17 @@ array-given ns t e a p = init-known ns t e a p .0
 pub array-fits : (ns : Names) (t : Ty) (e : Ex) (a : ConstArray) → initOf ns t (some e) ≡ ok (arrayInit a) → length (a .values) ≤ a .count
 array-fits ns t e a p = init-known ns t e a p .1
 
-abbrev pub Sized : Init → Type 0
-Sized noInit = Unit {0}
-Sized (constInit v) = Unit {0}
-Sized (arrayInit a) = length (a .values) ≤ a .count
-Sized pendingInit = Unit {0}
+abbrev pub ValuesFit : Init → Type 0
+ValuesFit noInit = Unit {0}
+ValuesFit (constInit v) = Unit {0}
+ValuesFit (arrayInit a) = length (a .values) ≤ a .count
+ValuesFit pendingInit = Unit {0}
 
-pub init-sized : (ns : Names) (t : Ty) (o : Option Ex) → Sized (orNoInit (initOf ns t o))
+pub init-sized : (ns : Names) (t : Ty) (o : Option Ex) → ValuesFit (orNoInit (initOf ns t o))
 init-sized ns t none = tt
 init-sized ns t (some e) = go (initOf ns t (some e)) refl
   where
-    go : (x : Result Init) → initOf ns t (some e) ≡ x → Sized (orNoInit x)
+    go : (x : Result Init) → initOf ns t (some e) ≡ x → ValuesFit (orNoInit x)
     go (ok noInit) p = tt
     go (ok (constInit v)) p = tt
     go (ok (arrayInit a)) p = array-fits ns t e a p

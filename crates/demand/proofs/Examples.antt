@@ -14,13 +14,13 @@ use Rattle.semantics.specs.Demand.{sourceDeclared, namesDistinct, kindsFit, lai
 use Rattle.demand.proofs.Theorem.{demand}
 
 -- f from 0 to n − 1
-abbrev upTo : ℕ → ℕ → (ℕ → ℕ) → Bytes
-upTo zero p f = []
-upTo (suc n) p f = f p ∷ upTo n (suc p) f
+abbrev tabulated : ℕ → ℕ → (ℕ → ℕ) → Bytes
+tabulated zero p f = []
+tabulated (suc n) p f = f p ∷ tabulated n (suc p) f
 
 -- whether image and area are, byte by byte and in length, those that the claim gives declarations
 abbrev agree : Source → Bytes → Bytes → Bool
-agree s image area = let l = laidOf s in same image (upTo (imageEnd 0 l) 0 (imageByte l)) && same area (upTo (areaEnd 0 l) 0 (areaByte l))
+agree s image area = let l = laidOf s in same image (tabulated (imageEnd 0 l) 0 (imageByte l)) && same area (tabulated (areaEnd 0 l) 0 (areaByte l))
 
 abbrev premises : Source → Bool
 premises s = namesDistinct (sourceDeclared s) && kindsFit (sourceDeclared s)

@@ -157,20 +157,20 @@ laid-names ns vs = names-laid (concatMap (declaredBy ns) vs) 0 0 0 ∙ names-dec
 
 -- ---- values that are no arrays
 
-abbrev valueIn : Result Init → Result ConstVal
-valueIn (ok noInit) = failed
-valueIn (ok (constInit v)) = ok v
-valueIn (ok (arrayInit a)) = failed
-valueIn (ok pendingInit) = failed
-valueIn failed = failed
-valueIn (refuse r) = refuse r
+abbrev constantIn : Result Init → Result ConstVal
+constantIn (ok noInit) = failed
+constantIn (ok (constInit v)) = ok v
+constantIn (ok (arrayInit a)) = failed
+constantIn (ok pendingInit) = failed
+constantIn failed = failed
+constantIn (refuse r) = refuse r
 
 pub value-folded : (ns : Names) (t : Ty) (e : Ex) (v : ConstVal) → initOf ns t (some e) ≡ ok (constInit v) → foldAt0 ns e ≡ ok v
 value-folded ns t e v = go (foldAt0 ns e) (constArray ns (elemOf t) e)
   where
     go : (r : Result ConstVal) (a : Result ConstArray) → firstValue r a ≡ ok (constInit v) → r ≡ ok v
-    go (ok w) a h = ap valueIn h
-    go failed (ok a) h = ap valueIn h
-    go failed failed h = ap valueIn h
+    go (ok w) a h = ap constantIn h
+    go failed (ok a) h = ap constantIn h
+    go failed failed h = ap constantIn h
     go failed (refuse r) h = never cc
-    go (refuse r) a h = ap valueIn h
+    go (refuse r) a h = ap constantIn h

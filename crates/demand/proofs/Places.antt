@@ -91,12 +91,12 @@ grown (d ∷ ds) g f h =
 
 -- ---- of a sheet
 
-pub record Made (s : Source) : Type 0 where
+pub record GlobalsMade (s : Source) : Type 0 where
   pub places : sourceGlobals s .places ≡ map globalOf (laidOf s)
   pub items : sourceGlobals s .items ≡ itemsFrom 0 (sourceDeclared s)
   pub end : sourceGlobals s .end ≡ endFrom 0 (sourceDeclared s)
 
-pub made : (s : Source) → namesDistinct (sourceDeclared s) ≡ true → Made s
+pub made : (s : Source) → namesDistinct (sourceDeclared s) ≡ true → GlobalsMade s
 made s h =
     let ds = sourceDeclared s in
     let g = grown ds noGlobals (none-placed ds) h in

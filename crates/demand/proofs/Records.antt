@@ -30,28 +30,28 @@ sized (tuple ts) = omega arith
 -- ---- the fields lie in order
 
 -- each begins at a word, where the one before it has ended, or later
-abbrev Laid : ℕ → List PlacedField → Type 0
-Laid end [] = Unit {0}
-Laid end (p ∷ ps) = (end ≤ p .offset) × (p .offset % 4 ≡ 0) × Laid (p .offset + sizeOf (p .ty)) ps
+abbrev InWordOrder : ℕ → List PlacedField → Type 0
+InWordOrder end [] = Unit {0}
+InWordOrder end (p ∷ ps) = (end ≤ p .offset) × (p .offset % 4 ≡ 0) × InWordOrder (p .offset + sizeOf (p .ty)) ps
 
-laid-from : (d e : ℕ) (ps : List PlacedField) → d ≤ e → Laid e ps → Laid d ps
+laid-from : (d e : ℕ) (ps : List PlacedField) → d ≤ e → InWordOrder e ps → InWordOrder d ps
 laid-from d e [] h l = tt
 laid-from d e (p ∷ ps) h l = (le-trans h (l .0), l .1, l .2)
 
-names-laid : (t : Ty) (off : ℕ) (ns : List Bytes) (ps : List PlacedField) → off % 4 ≡ 0 → Laid (placeNames t off ns .end) ps
-    → Laid off (placeNames t off ns .placed ++ ps)
+names-laid : (t : Ty) (off : ℕ) (ns : List Bytes) (ps : List PlacedField) → off % 4 ≡ 0 → InWordOrder (placeNames t off ns .end) ps
+    → InWordOrder off (placeNames t off ns .placed ++ ps)
 names-laid t off [] ps h l = l
 names-laid t off (n ∷ ns) ps h l = (le-refl off, h, names-laid t (off + sizeOf t) ns ps (omega (arith, sized t)) l)
 
-line-laid : (t : Option Ty) (off : ℕ) (ns : List Bytes) (ps : List PlacedField) → Laid (placeLine t ns off .end) ps
-    → Laid off (placeLine t ns off .placed ++ ps)
+line-laid : (t : Option Ty) (off : ℕ) (ns : List Bytes) (ps : List PlacedField) → InWordOrder (placeLine t ns off .end) ps
+    → InWordOrder off (placeLine t ns off .placed ++ ps)
 line-laid none off ns ps l = l
 line-laid (some t) off ns ps l =
     let at = alignUp (alignOf t) off in
     let a = aligned t off in
     laid-from off at (placeNames t at ns .placed ++ ps) (a .0) (names-laid t at ns ps (a .1) l)
 
-fields-laid : (fs : List Fd) (off : ℕ) → Laid off (place off fs .placed)
+fields-laid : (fs : List Fd) (off : ℕ) → InWordOrder off (place off fs .placed)
 fields-laid [] off = tt
 fields-laid (f ∷ fs) off =
     let end = placeLine (f .ty) (f .names) off .end in
@@ -61,7 +61,7 @@ furthest-above : (e : ℕ) (ps : List PlacedField) → e ≤ furthest e ps
 furthest-above e [] = le-refl e
 furthest-above e (p ∷ ps) = omega (arith, furthest-above (max e (p .offset + sizeOf (p .ty))) ps)
 
-in-order : (e f size : ℕ) (ps : List PlacedField) → Laid e ps → furthest f ps ≤ size → InOrder e size ps
+in-order : (e f size : ℕ) (ps : List PlacedField) → InWordOrder e ps → furthest f ps ≤ size → InOrder e size ps
 in-order e f size [] l h = tt
 in-order e f size (p ∷ ps) l h =
     let x = p .offset + sizeOf (p .ty) in
@@ -89,7 +89,7 @@ word-marked size off w h f =
     rw (le-leb (off + 4) size)
     (tests-agree (eqb (off / 4) w) (eqb off (w * 4)) (λ e. eq-eqb off (w * 4) (omega (arith, eqb-true))) (λ e. eq-eqb (off / 4) w (omega (arith, eqb-true))))
 
-pointers-marked : (e size w : ℕ) (ps : List PlacedField) → Laid e ps → InOrder e size ps → marked size (pointersOf ps) w ≡ any (pointerAt (w * 4)) ps
+pointers-marked : (e size w : ℕ) (ps : List PlacedField) → InWordOrder e ps → InOrder e size ps → marked size (pointersOf ps) w ≡ any (pointerAt (w * 4)) ps
 pointers-marked e size w [] l o = refl
 pointers-marked e size w (p ∷ ps) l o = go (isPtr (p .ty)) (pointers-marked (p .offset + sizeOf (p .ty)) size w ps (l .2) (o .2))
   where

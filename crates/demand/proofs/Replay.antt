@@ -29,7 +29,7 @@ use Rattle.semantics.proofs.Common.{never}
 use Rattle.laws.proofs.Tests.{and-left, and-right}
 use Rattle.demand.proofs.Bytes.{shifted, shifted-below, shifted-at, shifted-past, shifted-nil, shifted-append, length-written, written-adds, layer, lies-below, getD-zeros, word-bytes}
 use Rattle.laws.proofs.Alignments.{global-size}
-use Rattle.demand.proofs.Elements.{Sized}
+use Rattle.demand.proofs.Elements.{ValuesFit}
 use Rattle.demand.proofs.Places.{endAt, endFrom, itemsAt, itemsFrom}
 use Rattle.laws.specs.Every.{Every}
 
@@ -177,7 +177,7 @@ elements kPtr vs k im ar a ps start h z =
 -- ---- a global's items
 
 -- a replay has laid the bytes bs at off of the image, and added part to the area
-record Outside (r : Replay) (im ar : Bytes) (off : ℕ) (bs : Bytes) (part : ℕ → ℕ) : Type 0 where
+record LaidOutside (r : Replay) (im ar : Bytes) (off : ℕ) (bs : Bytes) (part : ℕ → ℕ) : Type 0 where
   inside : r .inside ≡ none
   imageLong : length (r .image) ≡ length im
   areaLong : length (r .area) ≡ length ar
@@ -185,7 +185,7 @@ record Outside (r : Replay) (im ar : Bytes) (off : ℕ) (bs : Bytes) (part : ℕ
   areaAdds : (p : ℕ) → getD (r .area) p 0 ≡ getD ar p 0 + part p
 
 -- no item
-nothing : (k : ℕ) (im ar : Bytes) (a : ℕ) (ps : List ArrayPart) (off : ℕ) → Outside (st k im ar a ps none) im ar off [] (λ p. 0)
+nothing : (k : ℕ) (im ar : Bytes) (a : ℕ) (ps : List ArrayPart) (off : ℕ) → LaidOutside (st k im ar a ps none) im ar off [] (λ p. 0)
 nothing k im ar a ps off = record {
   inside = refl;
   imageLong = refl;
@@ -196,7 +196,7 @@ nothing k im ar a ps off = record {
 
 -- an item of the image
 value : (k : ℕ) (im ar : Bytes) (a : ℕ) (ps : List ArrayPart) (off : ℕ) (ys bs : Bytes) → ys ≡ bs → off + length bs ≤ length im → ZeroFrom off im
-    → Outside (st (suc k) (written im off ys) ar a ps none) im ar off bs (λ p. 0)
+    → LaidOutside (st (suc k) (written im off ys) ar a ps none) im ar off bs (λ p. 0)
 value k im ar a ps off ys bs e h z = record {
   inside = refl;
   imageLong = ap (λ (xs : Bytes). length (written im off xs)) e ∙ length-written im off bs h;
@@ -214,7 +214,7 @@ size-le kPtr m n h = omega arith
 
 array-items : (k : ℕ) (im ar : Bytes) (a : ℕ) (ps : List ArrayPart) (off : ℕ) (e : ElemKind) (n : ℕ) (vs : List ConstVal)
     → off + 4 ≤ length im → ZeroFrom off im → partAt a + elemSize e * n ≤ length ar → ZeroFrom a ar → length vs ≤ n
-    → Outside (replayAll (arrayItem off e n ∷ contents off e vs) (st k im ar a ps none)) im ar off (handle k) (λ p. shifted (partAt a) (elementsBytes e (suc (suc k)) vs) p)
+    → LaidOutside (replayAll (arrayItem off e n ∷ contents off e vs) (st k im ar a ps none)) im ar off (handle k) (λ p. shifted (partAt a) (elementsBytes e (suc (suc k)) vs) p)
 unfolding bigEndian
 array-items k im ar a ps off e n [] fits z room zr l = record {
   inside = refl;
@@ -233,7 +233,7 @@ array-items k im ar a ps off e n (v ∷ vs) fits z room zr l =
     let is =
     ap (λ (b : Bool). replayAll (elementItems e (v ∷ vs) ++ (backItem ∷ [])) (st (suc (suc k)) im₁ ar a₁ ps₁ (some (cond b start (startOf off ps))))) (eq-eqb off off refl)
     ∙ replay-append (elementItems e (v ∷ vs)) (backItem ∷ []) (st (suc (suc k)) im₁ ar a₁ ps₁ (some start)) in
-    subst (λ (r : Replay). Outside r im ar off (handle k) (λ p. shifted start (elementsBytes e (suc (suc k)) (v ∷ vs)) p)) (sym is)
+    subst (λ (r : Replay). LaidOutside r im ar off (handle k) (λ p. shifted start (elementsBytes e (suc (suc k)) (v ∷ vs)) p)) (sym is)
     (record {
       inside = refl;
       imageLong = ap length (i .image) ∙ length-written im off (handle k) fits;
@@ -251,15 +251,15 @@ align-up : (t : Ty) (e : ℕ) → e ≤ newOffset t e
 align-up t e = global-size (λ n. e ≤ alignUp n e) (omega arith) (omega arith) t
 
 -- a value of its type's kind
-data Value : Ty → ConstVal → Type 0 where
-  anInt : (x : lib.IntN.ℤ) → Value (basic int) (vInt x)
-  aByte : (x : lib.IntN.ℤ) → Value (basic byte) (vInt x)
-  aBig : (x : lib.IntN.ℤ) → Value (basic big) (vInt x)
-  aReal : (x : Float) → Value (basic real) (vReal x)
-  aString : (s : Bytes) → Value (basic string) (vStr s)
-  aPtr : (s : Bytes) → Value ptr (vStr s)
+data TypedValue : Ty → ConstVal → Type 0 where
+  anInt : (x : lib.IntN.ℤ) → TypedValue (basic int) (vInt x)
+  aByte : (x : lib.IntN.ℤ) → TypedValue (basic byte) (vInt x)
+  aBig : (x : lib.IntN.ℤ) → TypedValue (basic big) (vInt x)
+  aReal : (x : Float) → TypedValue (basic real) (vReal x)
+  aString : (s : Bytes) → TypedValue (basic string) (vStr s)
+  aPtr : (s : Bytes) → TypedValue ptr (vStr s)
 
-value-of : (t : Ty) (v : ConstVal) → isOf t v ≡ true → Value t v
+value-of : (t : Ty) (v : ConstVal) → isOf t v ≡ true → TypedValue t v
 value-of (basic int) (vInt x) h = anInt x
 value-of (basic int) (vReal x) h = never h
 value-of (basic int) (vStr s) h = never h
@@ -282,7 +282,7 @@ value-of (array t) v h = never h
 value-of (tuple ts) v h = never h
 
 -- it takes the global's size
-value-long : (t : Ty) (v : ConstVal) (k : ℕ) → Value t v → length (valueBytes t k v) ≡ globalSize t
+value-long : (t : Ty) (v : ConstVal) (k : ℕ) → TypedValue t v → length (valueBytes t k v) ≡ globalSize t
 unfolding bigEndian
 value-long t v k (anInt x) = refl
 value-long t v k (aByte x) = refl
@@ -298,8 +298,8 @@ first-long t k (constInit v) h = let l = value-long t v k (value-of t v h) in om
 first-long t k (arrayInit a) h = size-4 t
 first-long t k pendingInit h = omega arith
 
-value-item : (t : Ty) (v : ConstVal) (k : ℕ) (im ar : Bytes) (a : ℕ) (ps : List ArrayPart) (off : ℕ) → Value t v → off + length (valueBytes t k v) ≤ length im → ZeroFrom off im
-    → Outside (replayAll (initItems off t (constInit v)) (st k im ar a ps none)) im ar off (valueBytes t k v) (λ p. 0)
+value-item : (t : Ty) (v : ConstVal) (k : ℕ) (im ar : Bytes) (a : ℕ) (ps : List ArrayPart) (off : ℕ) → TypedValue t v → off + length (valueBytes t k v) ≤ length im → ZeroFrom off im
+    → LaidOutside (replayAll (initItems off t (constInit v)) (st k im ar a ps none)) im ar off (valueBytes t k v) (λ p. 0)
 unfolding bigEndian
 value-item t v k im ar a ps off (anInt x) h z = value k im ar a ps off (wordBytes (lowest 31 x)) (bigEndian 4 (bits64 x)) (word-bytes x) h z
 value-item t v k im ar a ps off (aByte x) h z = value k im ar a ps off (wordBytes (lowest 31 x)) (bigEndian 4 (bits64 x)) (word-bytes x) h z
@@ -309,15 +309,15 @@ value-item t v k im ar a ps off (aString s) h z = value k im ar a ps off (handle
 value-item t v k im ar a ps off (aPtr s) h z = value k im ar a ps off (handle k) (handle k) refl h z
 
 -- what a first value adds to the area, whose parts end at a
-abbrev added : ℕ → ℕ → Init → ℕ → ℕ
-added k a noInit p = 0
-added k a (constInit v) p = 0
-added k a (arrayInit b) p = shifted (partAt a) (elementsBytes (b .kind) (suc (suc k)) (b .values)) p
-added k a pendingInit p = 0
+abbrev areaAdded : ℕ → ℕ → Init → ℕ → ℕ
+areaAdded k a noInit p = 0
+areaAdded k a (constInit v) p = 0
+areaAdded k a (arrayInit b) p = shifted (partAt a) (elementsBytes (b .kind) (suc (suc k)) (b .values)) p
+areaAdded k a pendingInit p = 0
 
-init-items : (t : Ty) (i : Init) (k : ℕ) (im ar : Bytes) (a : ℕ) (ps : List ArrayPart) (off : ℕ) → ofKind t i ≡ true → Sized i
+init-items : (t : Ty) (i : Init) (k : ℕ) (im ar : Bytes) (a : ℕ) (ps : List ArrayPart) (off : ℕ) → ofKind t i ≡ true → ValuesFit i
     → off + globalSize t ≤ length im → ZeroFrom off im → afterPart a i ≤ length ar → ZeroFrom a ar
-    → Outside (replayAll (initItems off t i) (st k im ar a ps none)) im ar off (firstBytes t k i) (added k a i)
+    → LaidOutside (replayAll (initItems off t i) (st k im ar a ps none)) im ar off (firstBytes t k i) (areaAdded k a i)
 init-items t noInit k im ar a ps off h s fits z room zr = nothing k im ar a ps off
 init-items t (constInit v) k im ar a ps off h s fits z room zr =
     let w = value-of t v h in
@@ -331,7 +331,7 @@ init-items t pendingInit k im ar a ps off h s fits z room zr = nothing k im ar a
 -- ---- all globals
 
 abbrev pub AllSized : List Declared → Type 0
-AllSized ds = Every (λ (d : Declared). Sized (d .first)) ds
+AllSized ds = Every (λ (d : Declared). ValuesFit (d .first)) ds
 
 -- where their parts of the area end
 abbrev pub partsFrom : ℕ → List Declared → ℕ
@@ -368,7 +368,7 @@ area-below : (ds : List Declared) (e k a p : ℕ) → p < a → areaByte (laidFr
 area-below [] e k a p h = refl
 area-below (d ∷ ds) e k a p h = let b = part-above (d .first) a in part-below p k a (d .first) _ h (area-below ds (endAt d e) _ (afterPart a (d .first)) p (omega arith))
 
-part-layer : (p k a : ℕ) (i : Init) (rest : ℕ) → Sized i → (p < afterPart a i → rest ≡ 0) → added k a i p + rest ≡ partByte p k (partAt a) i rest
+part-layer : (p k a : ℕ) (i : Init) (rest : ℕ) → ValuesFit i → (p < afterPart a i → rest ≡ 0) → areaAdded k a i p + rest ≡ partByte p k (partAt a) i rest
 part-layer p k a noInit rest s z = zero-add rest
 part-layer p k a (constInit v) rest s z = zero-add rest
 part-layer p k a (arrayInit b) rest s z =
@@ -378,7 +378,7 @@ part-layer p k a (arrayInit b) rest s z =
 part-layer p k a pendingInit rest s z = zero-add rest
 
 -- no bytes behind the part's end
-added-past : (k a : ℕ) (i : Init) (p : ℕ) → Sized i → afterPart a i ≤ p → added k a i p ≡ 0
+added-past : (k a : ℕ) (i : Init) (p : ℕ) → ValuesFit i → afterPart a i ≤ p → areaAdded k a i p ≡ 0
 added-past k a noInit p s h = refl
 added-past k a (constInit v) p s h = refl
 added-past k a (arrayInit b) p s h =
@@ -425,7 +425,7 @@ items-end (d ∷ ds) e a =
     ∙ items-end ds (endAt d e) (afterPart a (d .first))
 
 -- what a replay of all items adds to image and area
-pub record Replayed (r : Replay) (im ar : Bytes) (ls : List LaidGlobal) : Type 0 where
+pub record ReplayAdds (r : Replay) (im ar : Bytes) (ls : List LaidGlobal) : Type 0 where
   pub imageLong : length (r .image) ≡ length im
   pub areaLong : length (r .area) ≡ length ar
   pub image : (p : ℕ) → getD (r .image) p 0 ≡ getD im p 0 + imageByte ls p
@@ -437,7 +437,7 @@ joined b l r p q h = omega arith
 
 pub replayed : (ds : List Declared) (e k : ℕ) (im ar : Bytes) (a : ℕ) (ps : List ArrayPart) → kindsFit ds ≡ true → AllSized ds
     → endFrom e ds ≤ length im → ZeroFrom e im → partsFrom a ds ≤ length ar → ZeroFrom a ar
-    → Replayed (replayAll (itemsFrom e ds) (st k im ar a ps none)) im ar (laidFrom e k a ds)
+    → ReplayAdds (replayAll (itemsFrom e ds) (st k im ar a ps none)) im ar (laidFrom e k a ds)
 replayed [] e k im ar a ps h s fits z room zr =
     record { imageLong = refl; areaLong = refl; image = λ p. sym (add-zero (getD im p 0)); area = λ p. sym (add-zero (getD ar p 0)) }
 replayed (d ∷ ds) e k im ar a ps h s fits z room zr =
@@ -463,7 +463,7 @@ replayed (d ∷ ds) e k im ar a ps h s fits z room zr =
     sym (λ x. record { item = replay-item (itemsAt d e) r₀ x; image = r₁ .image; area = r₁ .area; end = (replay-end (itemsAt d e) r₀ ∙ init-end t i off a) x; parts = r₁ .parts; inside = o .inside x }) in
     let same = ap (replayAll (itemsFrom (endAt d e) ds)) state ∙ sym (replay-append (itemsAt d e) (itemsFrom (endAt d e) ds) r₀) in
     let rest = laidFrom (endAt d e) k₁ a₁ ds in
-    subst (λ (r : Replay). Replayed r im ar (laidFrom e k a (d ∷ ds))) same
+    subst (λ (r : Replay). ReplayAdds r im ar (laidFrom e k a (d ∷ ds))) same
     (record {
       imageLong = ih .imageLong ∙ il;
       areaLong = ih .areaLong ∙ al;
@@ -471,6 +471,6 @@ replayed (d ∷ ds) e k im ar a ps h s fits z room zr =
           joined (getD im p 0) (shifted off (firstBytes t k i) p) (imageByte rest p) (ih .image p) (o .imageAdds p)
           (layer p off (globalSize t) (firstBytes t k i) (imageByte rest p) long (image-below ds (endAt d e) k₁ a₁ p));
       area = λ p.
-          joined (getD ar p 0) (added k a i p) (areaByte rest p) (ih .area p) (o .areaAdds p)
+          joined (getD ar p 0) (areaAdded k a i p) (areaByte rest p) (ih .area p) (o .areaAdds p)
           (part-layer p k a i (areaByte rest p) (s .0) (area-below ds (endAt d e) k₁ a₁ p));
     })

@@ -20,7 +20,7 @@ use Rattle.semantics.specs.Refusal.Imaged.{laid, notLaid}
 use Rattle.semantics.proofs.Common.{never, zeros-at}
 use Rattle.semantics.specs.Demand.{namesDistinct, kindsFit, sourceDeclared, laidFrom, laidOf, AllDeclared, imageEnd, areaEnd, EveryByte, Demand}
 use Rattle.demand.proofs.Records.{records-apart}
-use Rattle.demand.proofs.Elements.{Sized, array-given, init-sized}
+use Rattle.demand.proofs.Elements.{ValuesFit, array-given, init-sized}
 use Rattle.demand.proofs.Lines.{every-declared, all-declared, laid-names, value-folded}
 use Rattle.demand.proofs.Places.{endFrom, itemsFrom, made}
 use Rattle.demand.proofs.Replay.{AllSized, partsFrom, items-end, replayed as replay-adds}
@@ -32,7 +32,7 @@ use Rattle.laws.proofs.Every.{every-append}
 pub vars-sized : (ns : Names) (vs : List (Located VarDecl)) → AllSized (concatMap (declaredBy ns) vs)
 vars-sized ns [] = tt
 vars-sized ns (v ∷ vs) =
-    let sized : Declared → Type 0 = λ d. Sized (d .first) in
+    let sized : Declared → Type 0 = λ d. ValuesFit (d .first) in
     every-append sized (declaredBy ns v) (concatMap (declaredBy ns) vs) (every-declared sized ns v λ n i. init-sized ns (v .it .ty) (v .it .init)) (vars-sized ns vs)
 
 -- ---- the ends by the places

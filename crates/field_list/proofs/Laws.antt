@@ -19,26 +19,26 @@ module _ (size : ℕ) where
   next-low off at i n e h = omega (arith, e, suc-mul i size, mul-le-mul-right size h)
 
 module _ (size : ℕ) (pointer : Bool) where
-  abbrev fieldAt : ℕ → Field
-  fieldAt off = record { offset = off; size = size; pointer = pointer }
+  abbrev fieldFrom : ℕ → Field
+  fieldFrom off = record { offset = off; size = size; pointer = pointer }
 
   -- one field more, stored right behind the first i
-  fields-set : (off at i : ℕ) (y : Field) (ys : List Field) → at ≡ off + i * size → set (lineFieldsFrom off size pointer i ++ (y ∷ ys)) i (fieldAt at) ≡ lineFieldsFrom off size pointer (suc i) ++ ys
+  fields-set : (off at i : ℕ) (y : Field) (ys : List Field) → at ≡ off + i * size → set (lineFieldsFrom off size pointer i ++ (y ∷ ys)) i (fieldFrom at) ≡ lineFieldsFrom off size pointer (suc i) ++ ys
   unfolding lineFieldsFrom
   fields-set off at zero y ys e = let z : at ≡ off = omega (arith, e) in rw z
-  fields-set off at (suc i) y ys e = ap (λ (l : List Field). fieldAt off ∷ l) (fields-set (off + size) at i y ys (omega (arith, e, suc-mul i size)))
+  fields-set off at (suc i) y ys e = ap (λ (l : List Field). fieldFrom off ∷ l) (fields-set (off + size) at i y ys (omega (arith, e, suc-mul i size)))
 
-  line-next : (off at i : ℕ) → i < 16 → at ≡ off + i * size → set (lineFields off size pointer i) i (fieldAt at) ≡ lineFields off size pointer (suc i)
+  line-next : (off at i : ℕ) → i < 16 → at ≡ off + i * size → set (lineFields off size pointer i) i (fieldFrom at) ≡ lineFields off size pointer (suc i)
   unfolding lineFields
   line-next off at i h e = let z : 16 - i ≡ suc (16 - suc i) = omega arith in rw z (fields-set off at i noField (replicate (16 - suc i) noField) e)
 
-  pub line-set : (off at i : ℕ) → i < 16 → at ≡ off + i * size → set (lineFields off size pointer i) i (fieldAt at) ≡ lineFields off size pointer (i + 1)
+  pub line-set : (off at i : ℕ) → i < 16 → at ≡ off + i * size → set (lineFields off size pointer i) i (fieldFrom at) ≡ lineFields off size pointer (i + 1)
   line-set off at i h e = rw (add-one i) (line-next off at i h e)
 
   take-first : (off n : ℕ) (ys : List Field) → take n (lineFieldsFrom off size pointer n ++ ys) ≡ lineFieldsFrom off size pointer n
   unfolding lineFieldsFrom
   take-first off zero ys = refl
-  take-first off (suc n) ys = ap (λ (l : List Field). fieldAt off ∷ l) (take-first (off + size) n ys)
+  take-first off (suc n) ys = ap (λ (l : List Field). fieldFrom off ∷ l) (take-first (off + size) n ys)
 
   pub line-take : (off n : ℕ) → take n (lineFields off size pointer n) ≡ lineFieldsFrom off size pointer n
   unfolding lineFields

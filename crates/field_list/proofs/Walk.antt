@@ -7,17 +7,17 @@ abbrev pub usizeTy : Ty
 usizeTy = tyInt w64
 
 -- what follows the first statement of a sequence
-abbrev pub after : Body → Body
-after skip = skip
-after (seq a b) = b
-after (assign p r) = skip
-after (block b) = skip
-after (loop b) = skip
-after (cond c a b) = skip
-after (switch c a) = skip
-after (exit k) = skip
-after return = skip
-after (call f a d) = skip
+abbrev pub afterFirst : Body → Body
+afterFirst skip = skip
+afterFirst (seq a b) = b
+afterFirst (assign p r) = skip
+afterFirst (block b) = skip
+afterFirst (loop b) = skip
+afterFirst (cond c a b) = skip
+afterFirst (switch c a) = skip
+afterFirst (exit k) = skip
+afterFirst return = skip
+afterFirst (call f a d) = skip
 
 -- a place in the slice, in bytes, and the next one
 pub scaled : {i n : ℕ} → i < n → n * 12 < 2 ^ 63 → i * 12 < 2 ^ 64

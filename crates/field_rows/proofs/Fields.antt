@@ -49,7 +49,7 @@ module _ (s t : List ℕ) (n r : ℕ) (l : FieldLine s t n r) where
       ∙ getD-drop 2 (readAt s (r - 1) .fields) j [])
 
 -- the rows of the first j names are written, and the next name lies at `off`
-pub record Naming (size start : ℕ) (ns : List Bytes) (d : Bytes) (a : ℕ) (e : Bytes) (b off j : ℕ) : Type 0 where
+pub record NameRowsWritten (size start : ℕ) (ns : List Bytes) (d : Bytes) (a : ℕ) (e : Bytes) (b off j : ℕ) : Type 0 where
   pub within : j ≤ length ns
   pub small : off ≡ start + j * size
   pub done : Bytes
@@ -57,11 +57,11 @@ pub record Naming (size start : ℕ) (ns : List Bytes) (d : Bytes) (a : ℕ) (e 
   pub rest : done ++ nameRows size off (drop j ns) ≡ nameRows size start ns
 
 module _ (size start : ℕ) (ns : List Bytes) (d : Bytes) (a : ℕ) where
-  pub naming-start : a ≤ length d + 1 → Naming size start ns d a d a start 0
+  pub naming-start : a ≤ length d + 1 → NameRowsWritten size start ns d a d a start 0
   naming-start h = record { within = omega arith; small = omega arith; done = []; wrote = wrote-none d a h; rest = refl }
 
-  module _ (e : Bytes) (b off j : ℕ) (g : Naming size start ns d a e b off j) where
-    pub naming-next : j < length ns → (f : Bytes) (q : ℕ) → Wrote e b (fieldText (getD ns j []) off size) f q → Naming size start ns d a f q (off + size) (j + 1)
+  module _ (e : Bytes) (b off j : ℕ) (g : NameRowsWritten size start ns d a e b off j) where
+    pub naming-next : j < length ns → (f : Bytes) (q : ℕ) → Wrote e b (fieldText (getD ns j []) off size) f q → NameRowsWritten size start ns d a f q (off + size) (j + 1)
     unfolding nameRows
     naming-next h f q w =
         record {

@@ -75,18 +75,18 @@ module _ {s t : Bytes} {n r : ℕ} (l : OperatorLine s t n r) where
   abbrev fields : List Bytes
   fields = readAt s (r - 1) .fields
 
-  abbrev form : ℕ
-  form = formAt t (r - 1)
+  abbrev formHere : ℕ
+  formHere = formAt t (r - 1)
 
   -- the only or left operand is an earlier expression
-  operand-line : RefTo s n r 69 (getD fields (cond (eqb form 16) 0 1) []) (operandOf s t r)
+  operand-line : RefTo s n r 69 (getD fields (cond (eqb formHere 16) 0 1) []) (operandOf s t r)
   unfolding forms operandOf
   operand-line =
-      by-form (λ f. form ≡ f → RefTo s n r 69 (getD fields (cond (eqb f 16) 0 1) []) (numberOf (getD fields (cond (eqb f 16) 0 1) [])))
+      by-form (λ f. formHere ≡ f → RefTo s n r 69 (getD fields (cond (eqb f 16) 0 1) []) (numberOf (getD fields (cond (eqb f 16) 0 1) [])))
       (λ e. ref-good (l .line) 13 1 e kEx refl) (λ e. ref-good (l .line) 14 1 e kEx refl) (λ e. ref-good (l .line) 15 1 e kEx refl) (λ e. ref-good (l .line) 16 0 e kEx refl)
-      form (l .low) (l .high) refl
+      formHere (l .low) (l .high) refl
 
-  fold-two : (names : Names) (iota : ℤ) → form ≡ 14
+  fold-two : (names : Names) (iota : ℤ) → formHere ≡ 14
       → fold names iota (exAt s r) ≡ bind (fold names iota (exAt s (operandOf s t r))) (λ v. bind (fold names iota (exAt s (numberOf (getD fields 2 [])))) (foldBinary (binaryAt (numberOf (getD fields 0 []))) v))
   unfolding operandOf
   fold-two names iota e =
@@ -94,29 +94,29 @@ module _ {s t : Bytes} {n r : ℕ} (l : OperatorLine s t n r) where
       ex-is (l .line) ∙ ap (λ (f : ℕ). rowNode (nodesIn s) f fields .ex) e ∙ made-binary (nodesIn s) fields in
       rw (q, e) (binary-steps names iota (exAt s (numberOf (getD fields 1 []))) (binaryAt (numberOf (getD fields 0 []))) (exAt s (numberOf (getD fields 2 []))))
 
-  right-line : form ≡ 14 → RefTo s n r 69 (getD fields 2 []) (numberOf (getD fields 2 []))
+  right-line : formHere ≡ 14 → RefTo s n r 69 (getD fields 2 []) (numberOf (getD fields 2 []))
   unfolding forms
   right-line e = ref-good (l .line) 14 2 e kEx refl
 
-  binary-number : form ≡ 14 → {o : ℕ} → o ≡ Number.numberUpTo 65536 (getD fields 0 []) → o ≡ numberOf (getD fields 0 [])
+  binary-number : formHere ≡ 14 → {o : ℕ} → o ≡ Number.numberUpTo 65536 (getD fields 0 []) → o ≡ numberOf (getD fields 0 [])
   unfolding forms
   binary-number e h = h ∙ small-number 18 (getD fields 0 []) (omega arith) (field-good (l .line) 14 0 e Atom.binaryOp refl)
 
-  pub operand-first : {v : ℕ} → form ≡ 16 → v ≡ Number.numberUpTo 65536 (getD fields 0 []) → v ≡ operandOf s t r
+  pub operand-first : {v : ℕ} → formHere ≡ 16 → v ≡ Number.numberUpTo 65536 (getD fields 0 []) → v ≡ operandOf s t r
   operand-first e h = h ∙ (rw e at (operand-line .exact))
 
-  pub operand-second : {v : ℕ} → (form ≡ 16 → ⊥) → v ≡ Number.numberUpTo 65536 (getD fields 1 []) → v ≡ operandOf s t r
-  operand-second e h = h ∙ (rw (ne-eqb form 16 e) at (operand-line .exact))
+  pub operand-second : {v : ℕ} → (formHere ≡ 16 → ⊥) → v ≡ Number.numberUpTo 65536 (getD fields 1 []) → v ≡ operandOf s t r
+  operand-second e h = h ∙ (rw (ne-eqb formHere 16 e) at (operand-line .exact))
 
   -- a fold of a line with one operand goes on from the operand's value
-  fold-one : (names : Names) (iota : ℤ) → (form ≡ 14 → ⊥) → fold names iota (exAt s r) ≡ bind (fold names iota (exAt s (operandOf s t r))) (onOne (exAt s r))
+  fold-one : (names : Names) (iota : ℤ) → (formHere ≡ 14 → ⊥) → fold names iota (exAt s r) ≡ bind (fold names iota (exAt s (operandOf s t r))) (onOne (exAt s r))
   unfolding operandOf
   fold-one names iota z =
-      by-form (λ f. form ≡ f → fold names iota (exAt s r) ≡ bind (fold names iota (exAt s (numberOf (getD fields (cond (eqb f 16) 0 1) [])))) (onOne (exAt s r)))
+      by-form (λ f. formHere ≡ f → fold names iota (exAt s r) ≡ bind (fold names iota (exAt s (numberOf (getD fields (cond (eqb f 16) 0 1) [])))) (onOne (exAt s r)))
       (λ e. one-step (made e ∙ made-unary (nodesIn s) fields)) (λ e. absurd (z e)) (λ e. cast-step (made e ∙ made-cast (nodesIn s) fields)) (λ e. len-step (made e ∙ made-len (nodesIn s) fields))
-      form (l .low) (l .high) refl
+      formHere (l .low) (l .high) refl
     where
-      made : {f : ℕ} → form ≡ f → exAt s r ≡ rowNode (nodesIn s) f fields .ex
+      made : {f : ℕ} → formHere ≡ f → exAt s r ≡ rowNode (nodesIn s) f fields .ex
       made e = ex-is (l .line) ∙ ap (λ (f : ℕ). rowNode (nodesIn s) f fields .ex) e
 
       one-step : {o : Tree.UnaryOp} {x : Ex} → exAt s r ≡ unary o x → fold names iota (exAt s r) ≡ bind (fold names iota x) (onOne (exAt s r))
@@ -173,17 +173,17 @@ module _ {s t : Bytes} {n r : ℕ} {v : ConstVal} {top : ℕ} (a : Applies s t n
 -- ---- a step of the fold
 
 -- a result that is no value ends it
-abbrev pub Stops : Folded → Type 0
-Stops x = OneOf (1 ∷ 2 ∷ []) (tagOf the-type x)
+abbrev pub EndsFold : Folded → Type 0
+EndsFold x = OneOf (1 ∷ 2 ∷ []) (tagOf the-type x)
 
-stopped : (u : Bytes) (x : Folded) → Stops x → (K : Tree.ConstVal → Result Tree.ConstVal) → bind (resultIn u x) K ≡ resultIn u x
+stopped : (u : Bytes) (x : Folded) → EndsFold x → (K : Tree.ConstVal → Result Tree.ConstVal) → bind (resultIn u x) K ≡ resultIn u x
 unfolding resultIn
 stopped u (Value v) (inl e) K = absurd (omega arith)
 stopped u (Value v) (inr e) K = absurd (omega arith)
 stopped u Failed h K = refl
 stopped u TooLong h K = refl
 
-stopped-at : (p q : ℕ) (x : Folded) → Stops x → ResultAt p x → ResultAt q x
+stopped-at : (p q : ℕ) (x : Folded) → EndsFold x → ResultAt p x → ResultAt q x
 stopped-at p q (Value v) (inl e) h = absurd (omega arith)
 stopped-at p q (Value v) (inr e) h = absurd (omega arith)
 stopped-at p q Failed h k = tt
@@ -250,7 +250,7 @@ module _ {s t : Bytes} {n m r top : ℕ} (a : Foldable s t n m r top) where
       unfolding formAt
       same-form = kept-at (f .kept) (2048 + (r - 1)) (omega (arith, a .low, a .line .last, a .line .checked .whole .lined .few, a .line .first))
 
-      pub left-stops : Stops x → Folds s t m iota r top u x
+      pub left-stops : EndsFold x → Folds s t m iota r top u x
       left-stops h = go (eqb (formAt t (r - 1)) 14) refl
         where
           ends : (K : Tree.ConstVal → Result Tree.ConstVal) → foldAt s t m iota r ≡ bind (resultIn u x) K → Folds s t m iota r top u x
@@ -305,7 +305,7 @@ module _ {s t : Bytes} {n m r top : ℕ} (a : Foldable s t n m r top) where
             unfolding resultIn
             both-results = goes-on _ (fold-two operator-line (namesIn s t m) (pos iota) e) ∙ rw (hv, right-result)
 
-            pub right-stops : Stops y → Folds s t m iota r top w y
+            pub right-stops : EndsFold y → Folds s t m iota r top w y
             right-stops h = record { answer = record { value = sym (both-results ∙ stopped w y h _); at = stopped-at (top + p) top y h (b .answer .at) }; kept = right-kept }
 
             pub binary-folds : {z : ConstVal} → y ≡ Value z → {o : ℕ} → o ≡ Number.numberUpTo 65536 (getD (readAt s (r - 1) .fields) 0 []) → {q : Folded}

@@ -36,19 +36,19 @@ row-length name bs = omega (arith, length-append name (44 ∷ (hexOf bs ++ (10 �
 
 -- ---- the answers
 
-abbrev Printed : Buffers → Bytes → ℕ → Bytes → Type 0
-Printed b s r e = Counts r e × (take r e ≡ printedImage (imaged b s))
+abbrev ImagePrinted : Buffers → Bytes → ℕ → Bytes → Type 0
+ImagePrinted b s r e = Counts r e × (take r e ≡ printedImage (imaged b s))
 
 module _ (s : Bytes) (b : Buffers) (listing image area : Bytes) {q : ImageAnswer} (h : Pictures s b q listing image area) (d : Bytes) (room : 64 + 2 * (b .image + b .area) ≤ length d) where
   pub refusal-printed : {x : Refusal} → q ≡ Refused x → {e : Bytes} {r : ℕ}
-      → Wrote d 0 (printed (refused (refusalNumber x) (refusalLine x))) e r × (length (printed (refused (refusalNumber x) (refusalLine x))) ≤ 64) → Printed b s r e
+      → Wrote d 0 (printed (refused (refusalNumber x) (refusalLine x))) e r × (length (printed (refused (refusalNumber x) (refusalLine x))) ≤ 64) → ImagePrinted b s r e
   refusal-printed given w =
       let y = subst (λ (z : ImageAnswer). Pictures s b z listing image area) given h in
       let p = at-start (w .0) (omega (arith, w .1)) in
       (p .0, p .1 ∙ ap printedImage (y .answer))
 
   pub image-printed : {l i a : ℕ} → q ≡ Laid l i a → {e f : Bytes} {m r : ℕ}
-      → Wrote d 0 (row (bytes "image" ∷ hexOf (take (i - 0) image) ∷ [])) e m → Wrote e m (row (bytes "area" ∷ hexOf (take (a - 0) area) ∷ [])) f r → Printed b s r f
+      → Wrote d 0 (row (bytes "image" ∷ hexOf (take (i - 0) image) ∷ [])) e m → Wrote e m (row (bytes "area" ∷ hexOf (take (a - 0) area) ∷ [])) f r → ImagePrinted b s r f
   image-printed {l} {i} {a} given v w =
       let y = subst (λ (z : ImageAnswer). Pictures s b z listing image area) given h in
       let x = row (bytes "image" ∷ hexOf (take i image) ∷ []) in

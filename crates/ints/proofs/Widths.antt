@@ -57,14 +57,14 @@ one-by-one p n = omega arith
 -- ---- the signed reading of bits
 
 -- h bits and a sign: `signed64` is this at 63
-abbrev signed : ℕ → ℕ → ℤ
-signed h m = cond (ltb m (2 ^ h)) (pos m) (negsuc (2 ^ suc h - 1 - m))
+abbrev signedBits : ℕ → ℕ → ℤ
+signedBits h m = cond (ltb m (2 ^ h)) (pos m) (negsuc (2 ^ suc h - 1 - m))
 
 module _ (h m : ℕ) (l : m < 2 ^ suc h) where
   halves : 2 ^ suc h ≡ 2 ^ h * 2
   halves = pow-suc 2 h
 
-  turned : (t : Bool) → ltb m (2 ^ h) ≡ t → cond t (negsuc m) (pos (2 ^ suc h - 1 - m)) ≡ signed h (2 ^ suc h - 1 - m)
+  turned : (t : Bool) → ltb m (2 ^ h) ≡ t → cond t (negsuc m) (pos (2 ^ suc h - 1 - m)) ≡ signedBits h (2 ^ suc h - 1 - m)
   turned true e =
       let k : m < 2 ^ h = ltb-true m (2 ^ h) e in
       let d : 2 ^ h ≤ 2 ^ suc h - 1 - m = omega (arith, halves) in
@@ -74,11 +74,11 @@ module _ (h m : ℕ) (l : m < 2 ^ suc h) where
       let d : 2 ^ suc h - 1 - m < 2 ^ h = omega (arith, halves) in
       rw (lt-ltb (2 ^ suc h - 1 - m) (2 ^ h) d)
 
-pub lowest-is : (h : ℕ) (z : ℤ) → lowest h z ≡ signed h (low (suc h) z)
+pub lowest-is : (h : ℕ) (z : ℤ) → lowest h z ≡ signedBits h (low (suc h) z)
 lowest-is h (pos n) = refl
 lowest-is h (negsuc n) = let m = n % 2 ^ suc h in turned h m (mod-lt n (pow-pos (suc h))) (ltb m (2 ^ h)) refl
 
-pub toZ-is : (w : Width) (n : ℕ) → toZ w n ≡ signed (hbits w) n
+pub toZ-is : (w : Width) (n : ℕ) → toZ w n ≡ signedBits (hbits w) n
 toZ-is w n = go (ltb n (2 ^ hbits w)) (ap (λ (k : ℕ). 2 ^ k - suc n) (bits-suc w) ∙ one-by-one (2 ^ suc (hbits w)) n)
   where
     go : (t : Bool) {x y : ℕ} → x ≡ y → sel t (pos n) (negsuc x) ≡ cond t (pos n) (negsuc y)

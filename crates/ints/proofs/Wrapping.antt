@@ -20,15 +20,15 @@ use Rattle.semantics.specs.Fold.Result.{failed}
 use Rattle.semantics.specs.Array.{lowest, lowByte}
 use Rattle.ints.proofs.Widths.{low, low-64, low-8, low-low, lowest-is, toZ-is, held, bits-are, from1, zero-test, mag-quot}
 
-abbrev N : ℕ
-N = 18446744073709551616
+abbrev twoTo64 : ℕ
+twoTo64 = 18446744073709551616
 
 -- ---- bits
 
 pub bits-of : {z : ℤ} → SFits w64 z → ofZ w64 z ≡ bits64 z
 bits-of {z} f = bits-are w64 f ∙ low-64 z
 
-bits-lt : (z : ℤ) → bits64 z < N
+bits-lt : (z : ℤ) → bits64 z < twoTo64
 bits-lt (pos n) = omega arith
 bits-lt (negsuc n) = omega arith
 
@@ -44,57 +44,57 @@ wrap-same {z} f = sym (toZ-is w64 (bits64 z)) ∙ ap (toZ w64) (sym (bits-of f))
 
 -- ---- sums and differences
 
-bits-mixed : (a b : ℕ) (t : Bool) → ltb a (suc b) ≡ t → bits64 (cond t (negsuc (suc b - suc a)) (pos (a - suc b))) ≡ (a % N + (N - 1 - b % N)) % N
+bits-mixed : (a b : ℕ) (t : Bool) → ltb a (suc b) ≡ t → bits64 (cond t (negsuc (suc b - suc a)) (pos (a - suc b))) ≡ (a % twoTo64 + (twoTo64 - 1 - b % twoTo64)) % twoTo64
 bits-mixed a b true e = let l = ltb-true a (suc b) e in omega arith
 bits-mixed a b false e = let l = ltb-false a (suc b) e in omega arith
 
-bits-add : (a b : ℤ) → bits64 (a +ℤ b) ≡ (bits64 a + bits64 b) % N
+bits-add : (a b : ℤ) → bits64 (a +ℤ b) ≡ (bits64 a + bits64 b) % twoTo64
 bits-add (pos a) (pos b) = omega arith
 bits-add (pos a) (negsuc b) = bits-mixed a b (ltb a (suc b)) refl
 bits-add (negsuc a) (pos b) = bits-mixed b a (ltb b (suc a)) refl ∙ go
   where
-    go : (b % N + (N - 1 - a % N)) % N ≡ (N - 1 - a % N + b % N) % N
+    go : (b % twoTo64 + (twoTo64 - 1 - a % twoTo64)) % twoTo64 ≡ (twoTo64 - 1 - a % twoTo64 + b % twoTo64) % twoTo64
     go = omega arith
 bits-add (negsuc a) (negsuc b) = omega arith
 
-same-rest : (x y b : ℕ) → x < N → y < N → (x + b) % N ≡ (y + b) % N → x ≡ y
+same-rest : (x y b : ℕ) → x < twoTo64 → y < twoTo64 → (x + b) % twoTo64 ≡ (y + b) % twoTo64 → x ≡ y
 same-rest x y b h k e = omega arith
 
-bits-sub : (a b : ℤ) (x : ℕ) → x < N → (x + bits64 b) % N ≡ bits64 a → x ≡ bits64 (a +ℤ negℤ b)
+bits-sub : (a b : ℤ) (x : ℕ) → x < twoTo64 → (x + bits64 b) % twoTo64 ≡ bits64 a → x ≡ bits64 (a +ℤ negℤ b)
 bits-sub a b x h e =
     same-rest x (bits64 (a +ℤ negℤ b)) (bits64 b) h (bits-lt (a +ℤ negℤ b))
     (e ∙ ap bits64 (sym (-ℤ-+ℤ-cancel a b)) ∙ bits-add (a +ℤ negℤ b) b)
 
 -- ---- products
 
-bits-neg : (m : ℕ) → bits64 (negℤ (pos m)) ≡ (N - m % N) % N
+bits-neg : (m : ℕ) → bits64 (negℤ (pos m)) ≡ (twoTo64 - m % twoTo64) % twoTo64
 bits-neg zero = refl
 bits-neg (suc m) = omega arith
 
--- a product with N - s turns the sign of one with s
-times : (a s : ℕ) → s ≤ N → a * (N - s) + a * s ≡ a * N
-times a s h = sym (mul-add a (N - s) s) ∙ ap (λ (k : ℕ). a * k) (sub-add-cancel h)
+-- a product with 2 ^ 64 - s turns the sign of one with s
+times : (a s : ℕ) → s ≤ twoTo64 → a * (twoTo64 - s) + a * s ≡ a * twoTo64
+times a s h = sym (mul-add a (twoTo64 - s) s) ∙ ap (λ (k : ℕ). a * k) (sub-add-cancel h)
 
-turned : (x m a : ℕ) → x + m ≡ a * N → (N - m % N) % N ≡ x % N
+turned : (x m a : ℕ) → x + m ≡ a * twoTo64 → (twoTo64 - m % twoTo64) % twoTo64 ≡ x % twoTo64
 turned x m a h = omega arith
 
-turned-twice : (x y m q s : ℕ) → x + y ≡ q * N → y + m ≡ s * N → m % N ≡ x % N
+turned-twice : (x y m q s : ℕ) → x + y ≡ q * twoTo64 → y + m ≡ s * twoTo64 → m % twoTo64 ≡ x % twoTo64
 turned-twice x y m q s h k = omega arith
 
-small : {a : ℕ} → a < 9223372036854775808 → suc a ≤ N
+small : {a : ℕ} → a < 9223372036854775808 → suc a ≤ twoTo64
 small h = omega arith
 
-bits-mul : {a b : ℤ} → SFits w64 a → SFits w64 b → bits64 (a *ℤ b) ≡ (ofZ w64 a * ofZ w64 b) % N
+bits-mul : {a b : ℤ} → SFits w64 a → SFits w64 b → bits64 (a *ℤ b) ≡ (ofZ w64 a * ofZ w64 b) % twoTo64
 bits-mul {a = pos a} {b = pos b} f g = refl
-bits-mul {a = pos a} {b = negsuc b} f g = bits-neg (a * suc b) ∙ turned (a * (N - suc b)) (a * suc b) a (times a (suc b) (small (g .sfits)))
+bits-mul {a = pos a} {b = negsuc b} f g = bits-neg (a * suc b) ∙ turned (a * (twoTo64 - suc b)) (a * suc b) a (times a (suc b) (small (g .sfits)))
 bits-mul {a = negsuc a} {b = pos b} f g =
     bits-neg (suc a * b)
-    ∙ turned (b * (N - suc a)) (suc a * b) b (ap (λ (k : ℕ). b * (N - suc a) + k) (mul-comm (suc a) b) ∙ times b (suc a) (small (f .sfits)))
-    ∙ ap (λ (k : ℕ). k % N) (mul-comm b (N - suc a))
+    ∙ turned (b * (twoTo64 - suc a)) (suc a * b) b (ap (λ (k : ℕ). b * (twoTo64 - suc a) + k) (mul-comm (suc a) b) ∙ times b (suc a) (small (f .sfits)))
+    ∙ ap (λ (k : ℕ). k % twoTo64) (mul-comm b (twoTo64 - suc a))
 bits-mul {a = negsuc a} {b = negsuc b} f g =
-    let t = N - suc b in
-    turned-twice ((N - suc a) * t) (suc a * t) (suc a * suc b) t (suc a)
-    (sym (add-mul (N - suc a) (suc a) t) ∙ ap (λ (k : ℕ). k * t) (sub-add-cancel (small (f .sfits))) ∙ mul-comm N t)
+    let t = twoTo64 - suc b in
+    turned-twice ((twoTo64 - suc a) * t) (suc a * t) (suc a * suc b) t (suc a)
+    (sym (add-mul (twoTo64 - suc a) (suc a) t) ∙ ap (λ (k : ℕ). k * t) (sub-add-cancel (small (f .sfits))) ∙ mul-comm twoTo64 t)
     (times (suc a) (suc b) (small (g .sfits)))
 
 -- ---- operations on the bits A of a and B of b, as the calls leave them
@@ -105,13 +105,13 @@ module _ {a b : ℤ} {A B : ℕ} (f : SFits w64 a) (g : SFits w64 b) (p : A ≡ 
   second : B ≡ bits64 b
   second = from1 bits64 g q
 
-  pub sum-bits : {x : ℕ} → x ≡ (A + B) % N → x ≡ bits64 (a +ℤ b)
+  pub sum-bits : {x : ℕ} → x ≡ (A + B) % twoTo64 → x ≡ bits64 (a +ℤ b)
   sum-bits e = e ∙ (rw (first, second) (sym (bits-add a b)))
 
-  pub difference-bits : {x : ℕ} → x < N → (x + B) % N ≡ A → x ≡ bits64 (a +ℤ negℤ b)
+  pub difference-bits : {x : ℕ} → x < twoTo64 → (x + B) % twoTo64 ≡ A → x ≡ bits64 (a +ℤ negℤ b)
   difference-bits {x} l e = bits-sub a b x l ((rw second at e) ∙ first)
 
-  pub product-bits : {x : ℕ} → x ≡ (A * B) % N → x ≡ bits64 (a *ℤ b)
+  pub product-bits : {x : ℕ} → x ≡ (A * B) % twoTo64 → x ≡ bits64 (a *ℤ b)
   product-bits e = e ∙ (rw (first, second, ← bits-of f, ← bits-of g) (sym (bits-mul f g)))
 
 -- ---- the product of two u64 by halves of 32 bits
@@ -122,12 +122,12 @@ half-product x y h k = record { fits = lt-of-le-of-lt (mul-le-mul-left x (le-of-
 spread : (h l i m p : ℕ) → (h * p + l) * (i * p + m) ≡ h * i * (p * p) + (h * m + l * i) * p + l * m
 spread h l i m p = simp (add-mul, mul-add, mul-assoc, mul-comm, mul-left-comm) (omega arith)
 
--- the product of the upper halves is a multiple of N, and the sum of the cross products counts modulo 2 ^ 32
-joined : (u v w h x : ℕ) → x ≡ h * N + (u + v) * 4294967296 + w → (w + ((u + v) % N * 4294967296) % N) % N ≡ x % N
+-- the product of the upper halves is a multiple of 2 ^ 64, and the sum of the cross products counts modulo 2 ^ 32
+joined : (u v w h x : ℕ) → x ≡ h * twoTo64 + (u + v) * 4294967296 + w → (w + ((u + v) % twoTo64 * 4294967296) % twoTo64) % twoTo64 ≡ x % twoTo64
 joined u v w h x e = omega arith
 
-pub product-of-halves : (a b : ℕ) {cross r : ℕ} → cross ≡ (a / 4294967296 * bitAnd b 4294967295 + bitAnd a 4294967295 * (b / 4294967296)) % N
-    → r ≡ (bitAnd a 4294967295 * bitAnd b 4294967295 + cross * 4294967296 % N) % N → r ≡ (a * b) % N
+pub product-of-halves : (a b : ℕ) {cross r : ℕ} → cross ≡ (a / 4294967296 * bitAnd b 4294967295 + bitAnd a 4294967295 * (b / 4294967296)) % twoTo64
+    → r ≡ (bitAnd a 4294967295 * bitAnd b 4294967295 + cross * 4294967296 % twoTo64) % twoTo64 → r ≡ (a * b) % twoTo64
 product-of-halves a b p q =
     let h = a / 4294967296 in
     let l = a % 4294967296 in
@@ -153,10 +153,10 @@ module _ {b : ℤ} (g : SFits w64 b) where
   by-other : (x : Result ConstVal) → (ofZ w64 b ≡ 0 → ⊥) → x ≡ cond (isZero b) failed x
   by-other x z = rw (← zero-test w64 g, ne-eqb (ofZ w64 b) 0 z)
 
-  minus-one : ofZ w64 b ≡ N - 1 → b ≡ negsuc 0
+  minus-one : ofZ w64 b ≡ twoTo64 - 1 → b ≡ negsuc 0
   minus-one e = sym (toZ-ofZ g) ∙ ap (toZ w64) e
 
-  module _ (a : ℤ) (z : ofZ w64 b ≡ 0 → ⊥) (e : ofZ w64 b ≡ N - 1) where
+  module _ (a : ℤ) (z : ofZ w64 b ≡ 0 → ⊥) (e : ofZ w64 b ≡ twoTo64 - 1) where
     pub quotient-by-minus-one : {x : Result ConstVal} → x ≡ intOk (wrap (negℤ a)) → x ≡ cond (isZero b) failed (intOk (wrap (quotZ a b)))
     quotient-by-minus-one h = h ∙ ap (λ (y : ℤ). intOk (wrap y)) (sym (ap (quotZ a) (minus-one e) ∙ quot-minus-one a)) ∙ by-other _ z
 
@@ -164,7 +164,7 @@ module _ {b : ℤ} (g : SFits w64 b) where
     remainder-by-minus-one = ap intOk (sym (ap (remZ a) (minus-one e) ∙ rem-minus-one a)) ∙ by-other _ z
 
   -- by neither 0 nor -1
-  module _ {a : ℤ} (f : SFits w64 a) (z : ofZ w64 b ≡ 0 → ⊥) (n : ofZ w64 b ≡ N - 1 → ⊥) where
+  module _ {a : ℤ} (f : SFits w64 a) (z : ofZ w64 b ≡ 0 → ⊥) (n : ofZ w64 b ≡ twoTo64 - 1 → ⊥) where
     fits : SFits w64 (quotZ a b)
     fits = sfits-le (mag-quot a b (λ (e : b ≡ negsuc 0). n (ap (ofZ w64) e))) f
 
@@ -183,7 +183,7 @@ pub outcome : {r : ℤ} {x : Result ConstVal} → SFits w64 r → intOk r ≡ x 
 outcome f e = ap intOk (toZ-ofZ f) ∙ e
 
 module _ {a n : ℤ} {k : ℕ} (f : SFits w64 a) (g : SFits w64 n) (e : k ≡ shiftCount (held w64 n)) where
-  pub shifted-left : {A : ℕ} {r : ℤ} → A ≡ bits64 (held w64 a) → SFits w64 r → r ≡ signed64 (A * 2 ^ k % N) → intOk (held w64 r) ≡ intOnly IntOp.lshift a n
+  pub shifted-left : {A : ℕ} {r : ℤ} → A ≡ bits64 (held w64 a) → SFits w64 r → r ≡ signed64 (A * 2 ^ k % twoTo64) → intOk (held w64 r) ≡ intOnly IntOp.lshift a n
   shifted-left p h s = outcome h (ap intOk (s ∙ (rw (from1 bits64 f p, from1 shiftCount g e))))
 
   pub shifted-right : intOk (held w64 (shrZ (held w64 a) (2 ^ k))) ≡ intOnly IntOp.rshift a n

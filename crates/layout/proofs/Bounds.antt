@@ -58,31 +58,31 @@ pub place-above : (fs : List Fd) (off : ℕ) → off ≤ place off fs .end
 place-above [] off = le-refl off
 place-above (f ∷ fs) off = let end = placeLine (f .ty) (f .names) off .end in omega (arith, line-above (f .ty) off (f .names), place-above fs end)
 
-abbrev Ends : ℕ → PlacedField → Type 0
-Ends end p = p .offset + sizeOf (p .ty) ≤ end
+abbrev EndsBy : ℕ → PlacedField → Type 0
+EndsBy end p = p .offset + sizeOf (p .ty) ≤ end
 
 -- no field passes an end
-abbrev pub Within : ℕ → List PlacedField → Type 0
-Within end ps = Every (Ends end) ps
+abbrev pub FieldsWithin : ℕ → List PlacedField → Type 0
+FieldsWithin end ps = Every (EndsBy end) ps
 
-names-within : (t : Ty) (off end : ℕ) (ns : List Bytes) → placeNames t off ns .end ≤ end → Within end (placeNames t off ns .placed)
+names-within : (t : Ty) (off end : ℕ) (ns : List Bytes) → placeNames t off ns .end ≤ end → FieldsWithin end (placeNames t off ns .placed)
 names-within t off end [] h = tt
 names-within t off end (n ∷ ns) h = (le-trans (names-above t (off + sizeOf t) ns) h, names-within t (off + sizeOf t) end ns h)
 
-line-within : (t : Option Ty) (off end : ℕ) (ns : List Bytes) → placeLine t ns off .end ≤ end → Within end (placeLine t ns off .placed)
+line-within : (t : Option Ty) (off end : ℕ) (ns : List Bytes) → placeLine t ns off .end ≤ end → FieldsWithin end (placeLine t ns off .placed)
 line-within none off end ns h = tt
 line-within (some t) off end ns h = names-within t (alignUp (alignOf t) off) end ns h
 
-pub place-within : (fs : List Fd) (off end : ℕ) → place off fs .end ≤ end → Within end (place off fs .placed)
+pub place-within : (fs : List Fd) (off end : ℕ) → place off fs .end ≤ end → FieldsWithin end (place off fs .placed)
 place-within [] off end h = tt
 place-within (f ∷ fs) off end h =
     let r = placeLine (f .ty) (f .names) off in
-    every-append (Ends end) (r .placed) (place (r .end) fs .placed)
+    every-append (EndsBy end) (r .placed) (place (r .end) fs .placed)
     (line-within (f .ty) off end (f .names) (le-trans (place-above fs (r .end)) h)) (place-within fs (r .end) end h)
 
 -- ---- the size of a record
 
-pub furthest-within : (e end : ℕ) (ps : List PlacedField) → e ≤ end → Within end ps → furthest e ps ≤ end
+pub furthest-within : (e end : ℕ) (ps : List PlacedField) → e ≤ end → FieldsWithin end ps → furthest e ps ≤ end
 furthest-within e end [] h u = h
 furthest-within e end (p ∷ ps) h u = furthest-within (max e (p .offset + sizeOf (p .ty))) end ps (omega arith) (u .1)
 
@@ -99,7 +99,7 @@ unfolding shapeOf
 variant-bound fs k h l =
     let r = place behindTag fs in
     let s = place (r .end) (k .fields) in
-    let w = every-append (Ends (s .end)) (r .placed) (s .placed) (place-within fs behindTag (s .end) (place-above (k .fields) (r .end)))
+    let w = every-append (EndsBy (s .end)) (r .placed) (s .placed) (place-within fs behindTag (s .end) (place-above (k .fields) (r .end)))
     (place-within (k .fields) (r .end) (s .end) (le-refl (s .end))) in
     let e : behindTag ≤ s .end = le-trans (place-above fs behindTag) (place-above (k .fields) (r .end)) in
     omega (arith, place-bound fs behindTag h, place-bound (k .fields) (r .end) l, furthest-within behindTag (s .end) (r .placed ++ s .placed) e w)
@@ -146,8 +146,8 @@ records-bound n d h u b = go (d .pick) u b
 -- ---- on a sheet of 1,024 lines
 
 -- a declaration of few names that takes no more lines than a sheet has
-abbrev pub Small : AdtDecl → Type 0
-Small d = FewNames (d .fields) × FewInPick (d .pick) × (declLines d ≤ 1024)
+abbrev pub FitsSheet : AdtDecl → Type 0
+FitsSheet d = FewNames (d .fields) × FewInPick (d .pick) × (declLines d ≤ 1024)
 
-pub sheet-records-bound : (d : AdtDecl) → Small d → Every (Sized 131080) (recordsOf d)
+pub sheet-records-bound : (d : AdtDecl) → FitsSheet d → Every (Sized 131080) (recordsOf d)
 sheet-records-bound d h = records-bound 131080 d (h .0) (h .1) (omega (arith, h .2))

@@ -19,21 +19,21 @@ use Rattle.semantics.specs.Layout.{marks, marked, mapBits}
 use Rattle.laws.proofs.Maps.{bit-le, last-bit, bits-lt}
 
 -- an i32 as the machine reads it from its bits
-abbrev held : ℤ → ℤ
-held z = toZ w32 (ofZ w32 z)
+abbrev held32 : ℤ → ℤ
+held32 z = toZ w32 (ofZ w32 z)
 
-pub below-zero : (size w : ℕ) (z : ℤ) → SFits w32 z → ltZ (held z) (pos 0) ≡ true → false ≡ marks size w z
+pub below-zero : (size w : ℕ) (z : ℤ) → SFits w32 z → ltZ (held32 z) (pos 0) ≡ true → false ≡ marks size w z
 below-zero size w (negsuc n) f t = refl
 below-zero size w (pos n) f t = let h : n < 0 = ltb-true n 0 (rw (toZ-ofZ w32 (pos n) f) at t) in absurd (omega arith)
 
 -- an offset that is not negative is its magnitude
-pub record Plain (z h : ℤ) : Type 0 where
+pub record NotNegative (z h : ℤ) : Type 0 where
   pub sign : T (nonNeg h)
   pub small : natAbs h < 2 ^ 31
   pub same : z ≡ pos (natAbs h)
 
-pub plain : (z : ℤ) → SFits w32 z → ltZ (held z) (pos 0) ≡ false → Plain z (held z)
-plain (pos n) f t = subst (Plain (pos n)) (sym (toZ-ofZ w32 (pos n) f)) (record { sign = tt; small = f .sfits; same = refl })
+pub plain : (z : ℤ) → SFits w32 z → ltZ (held32 z) (pos 0) ≡ false → NotNegative z (held32 z)
+plain (pos n) f t = subst (NotNegative (pos n)) (sym (toZ-ofZ w32 (pos n) f)) (record { sign = tt; small = f .sfits; same = refl })
 plain (negsuc n) f t = absurd (true≢false (rw (toZ-ofZ w32 (negsuc n) f) at t))
 
 pub past : {z : ℤ} (size w n : ℕ) → z ≡ pos n → size < n + 4 → false ≡ marks size w z
@@ -43,7 +43,7 @@ pub within : {z : ℤ} (size w n : ℕ) → z ≡ pos n → n + 4 ≤ size → e
 within size w n e h = rw (e, le-leb (n + 4) size h)
 
 -- a turn of the search, at a test of the offset as the machine reads it
-pub turn : (size w i : ℕ) (zs : List ℤ) (b : Bool) → i < length zs → mag (getD zs i (pos 0)) < 2 ^ 31 → b ≡ marks size w (held (getD zs i (pos 0)))
+pub turn : (size w i : ℕ) (zs : List ℤ) (b : Bool) → i < length zs → mag (getD zs i (pos 0)) < 2 ^ 31 → b ≡ marks size w (held32 (getD zs i (pos 0)))
     → marked size (drop i zs) w ≡ b || marked size (drop (i + 1) zs) w
 turn size w i zs b h f e = rw (add-one, drop-cons zs i (pos 0), e, toZ-ofZ w32 (getD zs i (pos 0)) (record { sfits = f }))
 

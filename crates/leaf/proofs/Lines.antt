@@ -39,13 +39,13 @@ use Rattle.leaf.specs.Folds.{exAt, scalarOf, ExLine}
 -- ---- fields by their places
 
 -- field j of a form holds an a
-abbrev pub Field : List Part → ℕ → Atom → Type 0
-Field [] j a = ⊥
-Field (one b ∷ ps) zero a = b ≡ a
-Field (one b ∷ ps) (suc j) a = Field ps j a
-Field (many b ∷ ps) j a = ⊥
+abbrev pub HoldsAtom : List Part → ℕ → Atom → Type 0
+HoldsAtom [] j a = ⊥
+HoldsAtom (one b ∷ ps) zero a = b ≡ a
+HoldsAtom (one b ∷ ps) (suc j) a = HoldsAtom ps j a
+HoldsAtom (many b ∷ ps) j a = ⊥
 
-field-holds : (ps : List Part) (fs : List Bytes) (j : ℕ) (a : Atom) → Field ps j a → fits ps fs ≡ true → holds a (getD fs j []) ≡ true
+field-holds : (ps : List Part) (fs : List Bytes) (j : ℕ) (a : Atom) → HoldsAtom ps j a → fits ps fs ≡ true → holds a (getD fs j []) ≡ true
 field-holds [] fs j a f h = absurd f
 field-holds (one b ∷ ps) [] j a f h = never h
 field-holds (one b ∷ ps) (x ∷ fs) zero a f h = subst (λ (c : Atom). holds c x ≡ true) f (both (holds b x) (fits ps fs) h .0)
@@ -71,7 +71,7 @@ module _ (P : Ref → Bool) where
   later-refs real x rs h = h
   later-refs text x rs h = h
 
-  field-ref : (ps : List Part) (fs : List Bytes) (j : ℕ) (k : Kind) → Field ps j (ref k) → fits ps fs ≡ true → all P (refsIn ps fs) ≡ true → Passes k (getD fs j [])
+  field-ref : (ps : List Part) (fs : List Bytes) (j : ℕ) (k : Kind) → HoldsAtom ps j (ref k) → fits ps fs ≡ true → all P (refsIn ps fs) ≡ true → Passes k (getD fs j [])
   field-ref [] fs j k f h a = absurd f
   field-ref (one b ∷ ps) [] j k f h a = never h
   field-ref (one b ∷ ps) (x ∷ fs) zero k f h a =
@@ -137,15 +137,15 @@ module _ {s t : Bytes} {n r : ℕ} (l : ExLine s t n r) where
   depth-some = depths-some (readsIn s) [] (λ j h. absurd (omega arith)) (r - 1) (omega (arith, line-count s t n (l .checked .whole), in-sheet))
 
   module _ (f j : ℕ) (e : formAt t (r - 1) ≡ f) where
-    pub field-good : (a : Atom) → Field (rowAt f .parts) j a → holds a (getD (readAt s (r - 1) .fields) j []) ≡ true
+    pub field-good : (a : Atom) → HoldsAtom (rowAt f .parts) j a → holds a (getD (readAt s (r - 1) .fields) j []) ≡ true
     field-good a p = field-holds (rowAt f .parts) (readAt s (r - 1) .fields) j a p (rw e at (read-fits s t n (l .checked .whole) (r - 1) in-sheet))
 
-    ref-passes : (P : Ref → Bool) (k : Kind) → Field (rowAt f .parts) j (ref k) → all P (refsOf (readAt s (r - 1))) ≡ true → Passes P k (getD (readAt s (r - 1) .fields) j [])
+    ref-passes : (P : Ref → Bool) (k : Kind) → HoldsAtom (rowAt f .parts) j (ref k) → all P (refsOf (readAt s (r - 1))) ≡ true → Passes P k (getD (readAt s (r - 1) .fields) j [])
     ref-passes P k p h =
         let q : readAt s (r - 1) .form ≡ rowAt f = form-is s t n (l .checked .whole) (r - 1) in-sheet ∙ ap rowAt e in
         field-ref P (rowAt f .parts) (readAt s (r - 1) .fields) j k p (rw e at (read-fits s t n (l .checked .whole) (r - 1) in-sheet)) (rw q at h)
 
-    pub ref-good : (k : Kind) → Field (rowAt f .parts) j (ref k) → RefTo s n r (letter k) (getD (readAt s (r - 1) .fields) j []) (numberOf (getD (readAt s (r - 1) .fields) j []))
+    pub ref-good : (k : Kind) → HoldsAtom (rowAt f .parts) j (ref k) → RefTo s n r (letter k) (getD (readAt s (r - 1) .fields) j []) (numberOf (getD (readAt s (r - 1) .fields) j []))
     unfolding fineRefs lowerRefs
     ref-good k p =
         let x = getD (readAt s (r - 1) .fields) j [] in

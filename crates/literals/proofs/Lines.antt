@@ -28,7 +28,7 @@ use Rattle.refs.proofs.Fine.{needed-ref}
 use Rattle.refs.proofs.Nodes.{node-at}
 use Rattle.refs.proofs.Fields.{number-exact, count-exact, head-drop, tail-drop}
 use Rattle.sizes.proofs.Forms.{element-form, selector-form}
-use Rattle.sizes.proofs.Types.{given-ref, Good, May, ref-head, maybe-head, Group, group-at}
+use Rattle.sizes.proofs.Types.{given-ref, Good, May, ref-head, maybe-head, CountedRefs, group-at}
 use Rattle.leaf.specs.Folds.{exAt}
 use Rattle.literals.specs.Literals.{elAt, seAt}
 
@@ -71,7 +71,7 @@ module _ {k : ℕ} {s t : Bytes} {n r : ℕ} (l : KindLine k s t n r) where
             let e : v ≡ numberOf f = hv ∙ number-exact f (g .number) (omega (arith, w .0, l .last, l .checked .whole .lined .few)) in
             (e, λ y. rw e (record { checked = l .checked; first = omega (arith, z); last = omega (arith, w .0, l .first, l .last); kind = w .1 }))
 
-  pub count-is : {j q : ℕ} {v : ℕ} → Group (readsIn s) (r - 1) q j (readAt s (r - 1) .fields) → v ≡ Number.numberUpTo 65536 (getD (readAt s (r - 1) .fields) j []) → (v ≡ numberOf (getD (readAt s (r - 1) .fields) j [])) × (v ≤ 16)
+  pub count-is : {j q : ℕ} {v : ℕ} → CountedRefs (readsIn s) (r - 1) q j (readAt s (r - 1) .fields) → v ≡ Number.numberUpTo 65536 (getD (readAt s (r - 1) .fields) j []) → (v ≡ numberOf (getD (readAt s (r - 1) .fields) j [])) × (v ≤ 16)
   count-is {j} g = count-exact (getD (readAt s (r - 1) .fields) j []) (g .count)
 
 -- an optional expression
@@ -115,33 +115,33 @@ module _ {s t : Bytes} {n r : ℕ} (l : KindLine 76 s t n r) where
   pub last-form : (formAt t (r - 1) ≡ 20 → ⊥) → (formAt t (r - 1) ≡ 21 → ⊥) → formAt t (r - 1) ≡ 22
   last-form a b = by-form (λ e. absurd (a e)) (λ e. absurd (b e)) (λ e. e)
 
-  abbrev valueAt : Ex
-  valueAt = exAt s (numberOf (getD (readAt s (r - 1) .fields) 0 []))
+  abbrev valueEx : Ex
+  valueEx = exAt s (numberOf (getD (readAt s (r - 1) .fields) 0 []))
 
   module _ (e : formAt t (r - 1) ≡ 22) where
-    at-refs : Good (readsIn s) (r - 1) 69 (getD (readAt s (r - 1) .fields) 0 []) × Group (readsIn s) (r - 1) 74 1 (readAt s (r - 1) .fields)
+    at-refs : Good (readsIn s) (r - 1) 69 (getD (readAt s (r - 1) .fields) 0 []) × CountedRefs (readsIn s) (r - 1) 74 1 (readAt s (r - 1) .fields)
     unfolding forms
     at-refs =
         let w = parts-at l e in
         let x = ref-head (readsIn s) (r - 1) kEx (many (ref kSe) ∷ []) (readAt s (r - 1) .fields) (w .0) (w .1) in
         (x .0, group-at (readsIn s) (r - 1) 1 kSe [] (readAt s (r - 1) .fields) (x .1) (x .2))
 
-    pub selectors : Group (readsIn s) (r - 1) 74 1 (readAt s (r - 1) .fields)
+    pub selectors : CountedRefs (readsIn s) (r - 1) 74 1 (readAt s (r - 1) .fields)
     selectors = at-refs .1
 
-    pub el-at : elAt s r ≡ at valueAt (sesOf (values (ref kSe) (nodesIn s) (numberOf (getD (readAt s (r - 1) .fields) 1 [])) (drop 2 (readAt s (r - 1) .fields))))
+    pub el-at : elAt s r ≡ at valueEx (sesOf (values (ref kSe) (nodesIn s) (numberOf (getD (readAt s (r - 1) .fields) 1 [])) (drop 2 (readAt s (r - 1) .fields))))
     unfolding forms
     el-at = ap (λ (x : Node). x .el) (makes l e) ∙ rw (tail-drop 0 (readAt s (r - 1) .fields), tail-drop 1 (readAt s (r - 1) .fields), head-drop 0 (readAt s (r - 1) .fields), head-drop 1 (readAt s (r - 1) .fields))
 
-  pub el-next : formAt t (r - 1) ≡ 20 → elAt s r ≡ next valueAt
+  pub el-next : formAt t (r - 1) ≡ 20 → elAt s r ≡ next valueEx
   unfolding forms
   el-next e = ap (λ (x : Node). x .el) (makes l e) ∙ rw (head-drop 0 (readAt s (r - 1) .fields))
 
-  pub el-star : formAt t (r - 1) ≡ 21 → elAt s r ≡ star valueAt
+  pub el-star : formAt t (r - 1) ≡ 21 → elAt s r ≡ star valueEx
   unfolding forms
   el-star e = ap (λ (x : Node). x .el) (makes l e) ∙ rw (head-drop 0 (readAt s (r - 1) .fields))
 
-  pub el-value : elValue (elAt s r) ≡ valueAt
+  pub el-value : elValue (elAt s r) ≡ valueEx
   el-value = by-form (λ e. ap elValue (el-next e)) (λ e. ap elValue (el-star e)) (λ e. ap elValue (el-at e))
 
   pub value-ref : Good (readsIn s) (r - 1) 69 (getD (readAt s (r - 1) .fields) 0 [])

@@ -104,14 +104,14 @@ module _ {s t : Bytes} {n m r e : ℕ} (k : AtTask s t n m r e) (a : Extent) {co
   all-selectors : sesFrom s r count 0 ≡ sesAt s r
   all-selectors = let z : count - 0 ≡ numberOf (getD (readAt s (r - 1) .fields) 1 []) = omega (arith, count-exact) in rw z
 
-  abbrev Act : Tree.ConstVal → Filled → Result Filled
-  Act v f = bind (spansOf (namesIn s t m) (sesAt s r)) (λ (y : List (ℤ × ℤ)). placeSpans v y f)
+  abbrev placeSelected : Tree.ConstVal → Filled → Result Filled
+  placeSelected v f = bind (spansOf (namesIn s t m) (sesAt s r)) (λ (y : List (ℤ × ℤ)). placeSpans v y f)
 
   pub selecting-start : Selecting s t m r e a count t (Into a) 0
   selecting-start = record { within = omega arith; keeps = keeps-all; ongoing = refl; on = λ f one few p. record { result = ok f; step = record { literal = f; result = refl; filling = p }; left = refl } }
 
   filled : (y : Placed) (w : Bytes) → Keeps 12288 (above e) t w
-      → ((f : Filled) → 0 < e → e ≤ 16 → Filling t (above e) e (a .next) (a .reach) f → Step w (above e) e y (placeAll (namesIn s t m) (elementIn t e) (sesFrom s r count 0) (ok f))) → Fills t e a Act y w
+      → ((f : Filled) → 0 < e → e ≤ 16 → Filling t (above e) e (a .next) (a .reach) f → Step w (above e) e y (placeAll (namesIn s t m) (elementIn t e) (sesFrom s r count 0) (ok f))) → Fills t e a placeSelected y w
   filled y w c h = record {
     keeps = keeps-less (omega arith) (omega arith) c;
     step = λ f one few p. subst (λ (q : Result Filled). Step w (above e) e y q) (ap (λ (ss : Ses). placeAll (namesIn s t m) (elementIn t e) ss (ok f)) all-selectors ∙ sym (all-spans (namesIn s t m) (elementIn t e) (sesAt s r) (ok f))) (h f one few p);
@@ -124,7 +124,7 @@ module _ {s t : Bytes} {n m r e : ℕ} (k : AtTask s t n m r e) (a : Extent) {co
     pub selecting-line : KindLine 76 s u n r
     selecting-line = line-kept keeps-names l
 
-    pub selecting-end : count ≤ j → Fills t e a Act x u
+    pub selecting-end : count ≤ j → Fills t e a placeSelected x u
     unfolding placeAll
     selecting-end h =
         let z : count - j ≡ 0 = omega arith in
@@ -161,7 +161,7 @@ module _ {s t : Bytes} {n m r e : ℕ} (k : AtTask s t n m r e) (a : Extent) {co
         stops Failed v r′ g z = rw (selectors-split, z)
         stops TooLong v r′ g z = rw (selectors-split, z)
 
-        pub selecting-stop : stopped y ≡ true → Fills t e a Act y w
+        pub selecting-stop : stopped y ≡ true → Fills t e a placeSelected y w
         selecting-stop z =
             filled y w keeps-next (λ f one few p. let o = c .on f one few p in subst (λ (a : Result Filled). Step w (above e) e y a) (o .left) (stops y (elementIn t e) (o .result) z (chosen f one few p)))
 

@@ -24,7 +24,7 @@ use Rattle.semantics.specs.Array.{Filled, noneFilled, fillElement, fill}
 use Rattle.decimal.specs.Number as Number
 use Rattle.lines.specs.Lines.{readsIn, readAt, nodesIn}
 use Rattle.refs.proofs.Fields.{head-drop, tail-drop}
-use Rattle.sizes.proofs.Types.{May, maybe-head, Group, group-at}
+use Rattle.sizes.proofs.Types.{May, maybe-head, CountedRefs, group-at}
 use Rattle.placements.specs.declared.Extent.{Extent}
 use Rattle.placements.specs.declared.Placed.{Placed}
 use Rattle.placements.specs.declared.Placed.the-variants.{Into, Negative, Failed, TooLong}
@@ -42,7 +42,7 @@ use Rattle.literals.proofs.Lines.{parts-at, makes, good-line, count-is}
 -- ---- the line of a literal
 
 module _ {s t : Bytes} {n r : ℕ} (k : LiteralLine s t n r) where
-  pub literal-refs : May (readsIn s) (r - 1) 69 (getD (readAt s (r - 1) .fields) 0 []) × May (readsIn s) (r - 1) 75 (getD (readAt s (r - 1) .fields) 1 []) × Group (readsIn s) (r - 1) 76 2 (readAt s (r - 1) .fields)
+  pub literal-refs : May (readsIn s) (r - 1) 69 (getD (readAt s (r - 1) .fields) 0 []) × May (readsIn s) (r - 1) 75 (getD (readAt s (r - 1) .fields) 1 []) × CountedRefs (readsIn s) (r - 1) 76 2 (readAt s (r - 1) .fields)
   unfolding forms
   literal-refs =
       let fs = readAt s (r - 1) .fields in

@@ -84,11 +84,11 @@ module _ (t ds : List ℕ) (i : ℕ) (small : i < 1024) (d : Depths t ds i) (x :
 -- ---- the fields of a line
 
 -- the deepest of the lines that the fields up to w refer to is acc
-pub record Walking (s t : List ℕ) (i f : ℕ) (l : List ℕ) (w : Walk) (acc : ℕ) : Type 0 where
+pub record DeepestTo (s t : List ℕ) (i f : ℕ) (l : List ℕ) (w : Walk) (acc : ℕ) : Type 0 where
   pub standing : WalkAt f l w
   pub same : (ds : List ℕ) → Depths t ds i → deepest ds (refsOf (readAt s i)) ≡ max acc (deepest ds (refsBy (lettersFrom f w) (fieldsLeft l w)))
 
-pub walking-start : (s t : List ℕ) (n i : ℕ) → Whole s t n → i < n → (l : List ℕ) (f : ℕ) → l ≡ textAt s i → f ≡ formAt t i → (w : Walk) → w ≡ beginning f → Walking s t i f l w 0
+pub walking-start : (s t : List ℕ) (n i : ℕ) → Whole s t n → i < n → (l : List ℕ) (f : ℕ) → l ≡ textAt s i → f ≡ formAt t i → (w : Walk) → w ≡ beginning f → DeepestTo s t i f l w 0
 walking-start s t n i w h l f hl hf u hu = rw hu (record {
   standing = stands s t n i w h l f hl hf;
   same = λ ds d. ap (deepest ds) (refs-begin s t n i w h l f hl hf) ∙ omega arith;
@@ -97,8 +97,8 @@ walking-start s t n i w h l f hl hf u hu = rw hu (record {
 assoc : (a b c : ℕ) → max a (max b c) ≡ max (max a b) c
 assoc a b c = omega arith
 
-pub walking-on : (s t : List ℕ) (i : ℕ) → i < 1024 → (f : ℕ) (l : List ℕ) (w u : Walk) (x v acc : ℕ) → WalkStepped f l w x v u → Walking s t i f l w acc
-    → (r k : ℕ) → r ≡ refDepth t i x v → k ≡ max acc r → Walking s t i f l u k
+pub walking-on : (s t : List ℕ) (i : ℕ) → i < 1024 → (f : ℕ) (l : List ℕ) (w u : Walk) (x v acc : ℕ) → WalkStepped f l w x v u → DeepestTo s t i f l w acc
+    → (r k : ℕ) → r ≡ refDepth t i x v → k ≡ max acc r → DeepestTo s t i f l u k
 walking-on s t i small f l w u x v acc q g r k hr hk = record {
   standing = q .standing;
   same = λ ds d.
@@ -106,7 +106,7 @@ walking-on s t i small f l w u x v acc q g r k hr hk = record {
       (assoc acc (refDepth t i x v) _ ∙ ap (λ (j : ℕ). max j (deepest ds (refsBy (lettersFrom f u) (fieldsLeft l u)))) (sym (hk ∙ ap (max acc) hr)));
 }
 
-pub walking-end : (s t : List ℕ) (i f : ℕ) (l : List ℕ) (w : Walk) (acc : ℕ) → length l < w .at → Walking s t i f l w acc
+pub walking-end : (s t : List ℕ) (i f : ℕ) (l : List ℕ) (w : Walk) (acc : ℕ) → length l < w .at → DeepestTo s t i f l w acc
     → (ds : List ℕ) → Depths t ds i → acc ≡ deepest ds (refsOf (readAt s i))
 walking-end s t i f l w acc h g ds d = sym (g .same ds d ∙ rw (refs-end f l w h) (omega arith))
 

@@ -34,45 +34,45 @@ use Rattle.vars.proofs.Names.{namesFrom, names-step, names-over, names-all}
 
 -- ---- names
 
-abbrev pub rowsOf : List Bytes → Bytes
-rowsOf xs = concatMap pendRow (laidNames xs)
+abbrev pub pendRowsOf : List Bytes → Bytes
+pendRowsOf xs = concatMap pendRow (laidNames xs)
 
 module _ (x : Bytes) {b : Bool} (h : b ≡ same x (bytes "nil")) where
-  pub name-nil : b ≡ true → {d f : Bytes} {a p : ℕ} → Wrote d a [] f p → Wrote d a (rowsOf (x ∷ [])) f p
+  pub name-nil : b ≡ true → {d f : Bytes} {a p : ℕ} → Wrote d a [] f p → Wrote d a (pendRowsOf (x ∷ [])) f p
   name-nil d w = wrote-as (rw (sym h ∙ d)) w
 
-  pub name-row : b ≡ false → {d f : Bytes} {a p : ℕ} → Wrote d a (pendRow x) f p → Wrote d a (rowsOf (x ∷ [])) f p
+  pub name-row : b ≡ false → {d f : Bytes} {a p : ℕ} → Wrote d a (pendRow x) f p → Wrote d a (pendRowsOf (x ∷ [])) f p
   name-row d w = wrote-as (sym (append-nil (pendRow x)) ∙ rw (sym h ∙ d)) w
 
-rows-step : (x : Bytes) (xs : List Bytes) → rowsOf (x ∷ xs) ≡ rowsOf (x ∷ []) ++ rowsOf xs
+rows-step : (x : Bytes) (xs : List Bytes) → pendRowsOf (x ∷ xs) ≡ pendRowsOf (x ∷ []) ++ pendRowsOf xs
 rows-step x xs = go (same x (bytes "nil"))
   where
-    go : (b : Bool) → concatMap pendRow (cond (not b) (x ∷ laidNames xs) (laidNames xs)) ≡ concatMap pendRow (cond (not b) (x ∷ []) []) ++ rowsOf xs
+    go : (b : Bool) → concatMap pendRow (cond (not b) (x ∷ laidNames xs) (laidNames xs)) ≡ concatMap pendRow (cond (not b) (x ∷ []) []) ++ pendRowsOf xs
     go true = refl
     go false = rw (append-nil (pendRow x))
 
 -- those of the first j names are written
-pub record Naming (s : Bytes) (r count : ℕ) (d : Bytes) (a j : ℕ) (e : Bytes) (p : ℕ) : Type 0 where
+pub record PendRowsWritten (s : Bytes) (r count : ℕ) (d : Bytes) (a j : ℕ) (e : Bytes) (p : ℕ) : Type 0 where
   pub long : length e ≡ length d
   pub text : Bytes
   pub wrote : Wrote d a text e p
-  pub rest : text ++ rowsOf (namesFrom s r count j) ≡ rowsOf (namesOn s r)
+  pub rest : text ++ pendRowsOf (namesFrom s r count j) ≡ pendRowsOf (namesOn s r)
 
-pub naming-start : (s : Bytes) (r : ℕ) {count : ℕ} → count ≡ length (namesOn s r) → {d : Bytes} {a p : ℕ} → Wrote d a [] d p → Naming s r count d a 0 d p
-naming-start s r hc w = record { long = refl; text = []; wrote = w; rest = ap rowsOf (names-all s r hc) }
+pub naming-start : (s : Bytes) (r : ℕ) {count : ℕ} → count ≡ length (namesOn s r) → {d : Bytes} {a p : ℕ} → Wrote d a [] d p → PendRowsWritten s r count d a 0 d p
+naming-start s r hc w = record { long = refl; text = []; wrote = w; rest = ap pendRowsOf (names-all s r hc) }
 
-module _ {s : Bytes} {r count : ℕ} {d : Bytes} {a j : ℕ} {e : Bytes} {p : ℕ} (m : Naming s r count d a j e p) where
-  pub naming-next : {f : Bytes} {q : ℕ} → j < count → length f ≡ length e → {x : Bytes} → x ≡ nameOn s r j → Wrote e p (rowsOf (x ∷ [])) f q → Naming s r count d a (j + 1) f q
+module _ {s : Bytes} {r count : ℕ} {d : Bytes} {a j : ℕ} {e : Bytes} {p : ℕ} (m : PendRowsWritten s r count d a j e p) where
+  pub naming-next : {f : Bytes} {q : ℕ} → j < count → length f ≡ length e → {x : Bytes} → x ≡ nameOn s r j → Wrote e p (pendRowsOf (x ∷ [])) f q → PendRowsWritten s r count d a (j + 1) f q
   naming-next h k i w = record {
     long = k ∙ m .long;
-    text = m .text ++ rowsOf (nameOn s r j ∷ []);
-    wrote = then (m .wrote) (wrote-as (ap (λ (x : Bytes). rowsOf (x ∷ [])) i) w);
-    rest = append-assoc (m .text) (rowsOf (nameOn s r j ∷ [])) (rowsOf (namesFrom s r count (j + 1)))
-        ∙ ap (λ (x : Bytes). m .text ++ x) (sym (ap rowsOf (names-step s r count j h) ∙ rows-step (nameOn s r j) (namesFrom s r count (j + 1)))) ∙ m .rest;
+    text = m .text ++ pendRowsOf (nameOn s r j ∷ []);
+    wrote = then (m .wrote) (wrote-as (ap (λ (x : Bytes). pendRowsOf (x ∷ [])) i) w);
+    rest = append-assoc (m .text) (pendRowsOf (nameOn s r j ∷ [])) (pendRowsOf (namesFrom s r count (j + 1)))
+        ∙ ap (λ (x : Bytes). m .text ++ x) (sym (ap pendRowsOf (names-step s r count j h) ∙ rows-step (nameOn s r j) (namesFrom s r count (j + 1)))) ∙ m .rest;
   }
 
-  pub naming-end : count ≤ j → Wrote d a (rowsOf (namesOn s r)) e p
-  naming-end h = wrote-as (sym (append-nil (m .text)) ∙ ap (λ (xs : List Bytes). m .text ++ rowsOf xs) (sym (names-over s r count j h)) ∙ m .rest) (m .wrote)
+  pub naming-end : count ≤ j → Wrote d a (pendRowsOf (namesOn s r)) e p
+  naming-end h = wrote-as (sym (append-nil (m .text)) ∙ ap (λ (xs : List Bytes). m .text ++ pendRowsOf xs) (sym (names-over s r count j h)) ∙ m .rest) (m .wrote)
 
 -- ---- a line by its value
 
@@ -111,7 +111,7 @@ module _ (s : Bytes) (r : ℕ) (ns : Names) (h : 0 < r) {x : First} {t u : Bytes
   pub line-quiet : {d : Bytes} {at : ℕ} {e : Bytes} {p : ℕ} (i : Init) → initIn u x ≡ ok i → ((y : Bytes) → pendOf y i ≡ []) → Wrote d at [] e p → Pended ns (laidOn s r) d at (Written p) e
   line-quiet i k q w = (not-refused k, wrote-as (sym (rw (laid-on s r h, pends-are ns (varOn s r) (sym (a .result) ∙ k), no-pends i q (laidNames (namesOn s r))))) w)
 
-  pub line-pending : {d : Bytes} {at : ℕ} {e : Bytes} {p : ℕ} → initIn u x ≡ ok pendingInit → Wrote d at (rowsOf (namesOn s r)) e p → Pended ns (laidOn s r) d at (Written p) e
+  pub line-pending : {d : Bytes} {at : ℕ} {e : Bytes} {p : ℕ} → initIn u x ≡ ok pendingInit → Wrote d at (pendRowsOf (namesOn s r)) e p → Pended ns (laidOn s r) d at (Written p) e
   line-pending k w = (not-refused k, wrote-as (sym (rw (laid-on s r h, pends-are ns (varOn s r) (sym (a .result) ∙ k), all-pend (laidNames (namesOn s r)), append-nil (laidNames (namesOn s r))))) w)
 
   pub line-refused : {q : ℕ} → initIn u x ≡ refuse q → varsRefused ns (laidOn s r) ≡ some (record { number = q; line = r })

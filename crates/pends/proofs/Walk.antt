@@ -106,18 +106,18 @@ not-written (Written p) h = absurd (omega arith)
 not-written (Refused q k) h = refl
 
 -- the rows of the first i lines are written, and none is refused
-pub record Walking (s t : Bytes) (n m : ℕ) (d : Bytes) (a : ℕ) (u : Bytes) (k i : ℕ) (e : Bytes) (p : ℕ) : Type 0 where
+pub record LinesPended (s t : Bytes) (n m : ℕ) (d : Bytes) (a : ℕ) (u : Bytes) (k i : ℕ) (e : Bytes) (p : ℕ) : Type 0 where
   pub here : Open s u n i k
   pub keeps : Keeps 16384 49152 t u
   pub long : length e ≡ length d
   pub rows : Pended (namesIn s t m) (laidVarsTo s i) d a (Written p) e
 
 module _ {s t : Bytes} {n m : ℕ} (r : ConstTable s t n m) where
-  pub walk-start : {d : Bytes} {a p : ℕ} → Wrote d a [] d p → Walking s t n m d a t 0 0 d p
+  pub walk-start : {d : Bytes} {a p : ℕ} → Wrote d a [] d p → LinesPended s t n m d a t 0 0 d p
   unfolding laidVarsTo openAt moduleAt
   walk-start w = record { here = record { checked = r .checked; within = omega arith; low = omega arith; here = refl }; keeps = keeps-all; long = refl; rows = (refl, w) }
 
-  module _ {d : Bytes} {a : ℕ} {u : Bytes} {k i : ℕ} {e : Bytes} {p : ℕ} (w : Walking s t n m d a u k i e p) where
+  module _ {d : Bytes} {a : ℕ} {u : Bytes} {k i : ℕ} {e : Bytes} {p : ℕ} (w : LinesPended s t n m d a u k i e p) where
     pub walk-log : ConstsLogged s u n m
     walk-log = logged-kept (w .keeps) (r .logged)
 
@@ -133,7 +133,7 @@ module _ {s t : Bytes} {n m : ℕ} (r : ConstTable s t n m) where
       pub walk-open : Open s v n i k
       walk-open = record { checked = checked-kept (kept-low (b .1) 3072 (omega arith)) (w .here .checked); within = w .here .within; low = w .here .low; here = w .here .here }
 
-      pub walk-next : {z k′ : ℕ} → y ≡ Written z → length f ≡ length e → Open s v n (i + 1) k′ → Walking s t n m d a v k′ (i + 1) f z
+      pub walk-next : {z k′ : ℕ} → y ≡ Written z → length f ≡ length e → Open s v n (i + 1) k′ → LinesPended s t n m d a v k′ (i + 1) f z
       unfolding laidVarsTo
       walk-next {z} c l o = record {
         here = o;

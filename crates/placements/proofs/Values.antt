@@ -40,14 +40,14 @@ kind-is t (Real x) = refl
 kind-is t (Str p l) = refl
 
 -- i values are passed, of another kind
-pub record Passing (t : Bytes) (count wanted i : ℕ) : Type 0 where
+pub record NoneOfKind (t : Bytes) (count wanted i : ℕ) : Type 0 where
   pub within : i ≤ count
   pub rest : any (hasKind wanted) (valuesIn t i (count - i)) ≡ any (hasKind wanted) (valuesIn t 0 count)
 
-pub passing-start : (t : Bytes) (count wanted : ℕ) → Passing t count wanted 0
+pub passing-start : (t : Bytes) (count wanted : ℕ) → NoneOfKind t count wanted 0
 passing-start t count wanted = let z : count - 0 ≡ count = omega arith in record { within = omega arith; rest = rw z }
 
-module _ {t : Bytes} {count wanted i : ℕ} (p : Passing t count wanted i) where
+module _ {t : Bytes} {count wanted i : ℕ} (p : NoneOfKind t count wanted i) where
   next-value : i < count → any (hasKind wanted) (valuesIn t i (count - i)) ≡ hasKind wanted (elementIn t (entryAt t i)) || any (hasKind wanted) (valuesIn t (i + 1) (count - (i + 1)))
   unfolding valuesIn
   next-value h = let z : count - i ≡ suc (count - (i + 1)) = omega arith in rw (z, add-one)
@@ -60,7 +60,7 @@ module _ {t : Bytes} {count wanted i : ℕ} (p : Passing t count wanted i) where
     pub passing-found : r ≡ wanted → true ≡ any (hasKind wanted) (valuesIn t 0 count)
     passing-found d = sym (sym (p .rest) ∙ next-value h ∙ rw (eq-eqb (valueKind (elementIn t (entryAt t i))) wanted (sym kind-here ∙ d)))
 
-    pub passing-next : (r ≡ wanted → ⊥) → Passing t count wanted (i + 1)
+    pub passing-next : (r ≡ wanted → ⊥) → NoneOfKind t count wanted (i + 1)
     passing-next d = record { within = omega arith; rest = sym (next-value h ∙ rw (ne-eqb (valueKind (elementIn t (entryAt t i))) wanted (λ x. d (kind-here ∙ x)))) ∙ p .rest }
 
   pub passing-end : count ≤ i → false ≡ any (hasKind wanted) (valuesIn t 0 count)

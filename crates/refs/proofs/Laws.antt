@@ -175,19 +175,19 @@ module _ (s t : List ℕ) (n k : ℕ) (w : Whole s t n) (hk : k ≤ n) (us : Lis
 -- ---- the fields of a line
 
 -- the lines used before are those of t₀, and the fields up to w are done
-pub record Going (s t : List ℕ) (n i f : ℕ) (l : List ℕ) (w : Walk) (t₀ : List ℕ) : Type 0 where
+pub record UsingRefs (s t : List ℕ) (n i f : ℕ) (l : List ℕ) (w : Walk) (t₀ : List ℕ) : Type 0 where
   pub whole : Whole s t n
   pub standing : WalkAt f l w
   pub turns : (us : List ℕ) → Used t₀ us → Turn (readsIn s) (i + 1) (useAll (readsIn s) (i + 1) (refsOf (readAt s i)) us) (refsBy (lettersFrom f w) (fieldsLeft l w)) t
 
-pub going-start : (s t : List ℕ) (n i : ℕ) → Whole s t n → i < n → (l : List ℕ) (f : ℕ) → l ≡ textAt s i → f ≡ formAt t i → (w : Walk) → w ≡ beginning f → Going s t n i f l w t
+pub going-start : (s t : List ℕ) (n i : ℕ) → Whole s t n → i < n → (l : List ℕ) (f : ℕ) → l ≡ textAt s i → f ≡ formAt t i → (w : Walk) → w ≡ beginning f → UsingRefs s t n i f l w t
 going-start s t n i w h l f hl hf u hu = rw hu (record {
   whole = w;
   standing = stands s t n i w h l f hl hf;
   turns = λ us r. record { us = us; same = ap (λ (rs : List Refusal.Ref). useAll (readsIn s) (i + 1) rs us) (refs-begin s t n i w h l f hl hf); table = r };
 })
 
-module _ (s t t₀ : List ℕ) (n i : ℕ) (hi : i < n) (f : ℕ) (l : List ℕ) (w u : Walk) (x v : ℕ) (q : WalkStepped f l w x v u) (g : Going s t n i f l w t₀) where
+module _ (s t t₀ : List ℕ) (n i : ℕ) (hi : i < n) (f : ℕ) (l : List ℕ) (w u : Walk) (x v : ℕ) (q : WalkStepped f l w x v u) (g : UsingRefs s t n i f l w t₀) where
   rest : List Refusal.Ref
   rest = refsBy (lettersFrom f u) (fieldsLeft l u)
 
@@ -202,7 +202,7 @@ module _ (s t t₀ : List ℕ) (n i : ℕ) (hi : i < n) (f : ℕ) (l : List ℕ)
             k .same ∙ rw (refs-step f l w u x v q) (turn-bad s t n (i + 1) (g .whole) (omega arith) (k .us) (k .table) x (q .field) v (q .number) (q .good) rest (sym p ∙ c)),
       )
 
-  pub going-on : {b : Bool} (y : List ℕ) → b ≡ claims t (i + 1) x v → b ≡ true → y ≡ cond b (usedMarked t x v) t → Going s y n i f l u t₀
+  pub going-on : {b : Bool} (y : List ℕ) → b ≡ claims t (i + 1) x v → b ≡ true → y ≡ cond b (usedMarked t x v) t → UsingRefs s y n i f l u t₀
   unfolding rest
   going-on y p c hy =
       let d : y ≡ usedMarked t x v = hy ∙ rw c in
@@ -215,7 +215,7 @@ module _ (s t t₀ : List ℕ) (n i : ℕ) (hi : i < n) (f : ℕ) (l : List ℕ)
             record { us = z .us; same = k .same ∙ rw (refs-step f l w u x v q) (z .same); table = z .table };
       })
 
-pub going-end : (s t t₀ : List ℕ) (n i f : ℕ) (l : List ℕ) (w : Walk) → length l < w .at → Going s t n i f l w t₀
+pub going-end : (s t t₀ : List ℕ) (n i f : ℕ) (l : List ℕ) (w : Walk) → length l < w .at → UsingRefs s t n i f l w t₀
     → (us : List ℕ) → Used t₀ us → Uses t (useAll (readsIn s) (i + 1) (refsOf (readAt s i)) us)
 going-end s t t₀ n i f l w h g us u =
     let q = g .turns us u in

@@ -29,14 +29,14 @@ use Rattle.replay.specs.Rows.{tableAt, elementSizeAt, laidRow, laidText,
 -- ---- the next line of a text: it ends at e
 
 module _ (t : Bytes) (at e : ℕ) (within : at < length t) (found : e ≡ at + length (until 10 (drop at t))) where
-  abbrev line : Bytes
-  line = take (e - at) (drop at t)
+  abbrev nextLine : Bytes
+  nextLine = take (e - at) (drop at t)
 
-  line-is : until 10 (drop at t) ≡ line
+  line-is : until 10 (drop at t) ≡ nextLine
   line-is = let q : e - at ≡ length (until 10 (drop at t)) = omega arith in sym (rw q (until-take 10 (drop at t)))
 
   -- lines follow, or none
-  by-line : (X : Type 0) → (lineParts (drop at t) ≡ line ∷ lineParts (drop (e + 1) t) → X) → (lineParts (drop at t) ≡ line ∷ [] → drop (e + 1) t ≡ [] → X) → X
+  by-line : (X : Type 0) → (lineParts (drop at t) ≡ nextLine ∷ lineParts (drop (e + 1) t) → X) → (lineParts (drop at t) ≡ nextLine ∷ [] → drop (e + 1) t ≡ [] → X) → X
   by-line X a b = go (ltb (length (until 10 (drop at t))) (length (drop at t))) refl
     where
       go : (s : Bool) → ltb (length (until 10 (drop at t))) (length (drop at t)) ≡ s → X
@@ -50,19 +50,19 @@ module _ (t : Bytes) (at e : ℕ) (within : at < length t) (found : e ≡ at + l
           b (parts-one 10 (drop at t) l ∙ ap (λ (x : Bytes). x ∷ []) (sym (take-all (length (until 10 (drop at t))) (drop at t) l) ∙ until-take 10 (drop at t) ∙ line-is))
           (drop-of-length-le t {i = e + 1} (omega arith))
 
-  pub items-turn : (sizes : ℕ → ℕ) → readAll sizes (drop at t) ≡ readRow sizes (fieldsOf line) ++ readAll sizes (drop (e + 1) t)
+  pub items-turn : (sizes : ℕ → ℕ) → readAll sizes (drop at t) ≡ readRow sizes (fieldsOf nextLine) ++ readAll sizes (drop (e + 1) t)
   unfolding readAll readRows
   items-turn sizes =
-      by-line (readAll sizes (drop at t) ≡ readRow sizes (fieldsOf line) ++ readAll sizes (drop (e + 1) t))
+      by-line (readAll sizes (drop at t) ≡ readRow sizes (fieldsOf nextLine) ++ readAll sizes (drop (e + 1) t))
       (λ q. ap (concatMap (λ (l : Bytes). readRow sizes (fieldsOf l))) q)
-      (λ q r. ap (concatMap (λ (l : Bytes). readRow sizes (fieldsOf l))) q ∙ ap (λ (xs : List Stored). readRow sizes (fieldsOf line) ++ xs) (sym (ap (readAll sizes) r ∙ items-end sizes)))
+      (λ q r. ap (concatMap (λ (l : Bytes). readRow sizes (fieldsOf l))) q ∙ ap (λ (xs : List Stored). readRow sizes (fieldsOf nextLine) ++ xs) (sym (ap (readAll sizes) r ∙ items-end sizes)))
 
-  pub sizes-turn : (i d : ℕ) → sizeRows i d (lineParts (drop at t)) ≡ sizeRows i (sizeBy i (fieldsOf line) d) (lineParts (drop (e + 1) t))
+  pub sizes-turn : (i d : ℕ) → sizeRows i d (lineParts (drop at t)) ≡ sizeRows i (sizeBy i (fieldsOf nextLine) d) (lineParts (drop (e + 1) t))
   unfolding sizeRows
   sizes-turn i d =
-      by-line (sizeRows i d (lineParts (drop at t)) ≡ sizeRows i (sizeBy i (fieldsOf line) d) (lineParts (drop (e + 1) t)))
+      by-line (sizeRows i d (lineParts (drop at t)) ≡ sizeRows i (sizeBy i (fieldsOf nextLine) d) (lineParts (drop (e + 1) t)))
       (λ q. ap (sizeRows i d) q)
-      (λ q r. ap (sizeRows i d) q ∙ sym (ap (λ (x : Bytes). sizeRows i (sizeBy i (fieldsOf line) d) (lineParts x)) r ∙ sizes-end i (sizeBy i (fieldsOf line) d)))
+      (λ q r. ap (sizeRows i d) q ∙ sym (ap (λ (x : Bytes). sizeRows i (sizeBy i (fieldsOf nextLine) d) (lineParts x)) r ∙ sizes-end i (sizeBy i (fieldsOf nextLine) d)))
 
 -- ---- a replay's rows
 

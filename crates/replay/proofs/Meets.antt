@@ -21,7 +21,7 @@ use Rattle.stored.specs.Reading.{sizeIn}
 use Rattle.stored.specs.Laying.{Laying, layAll, layingStart, InPlace}
 use Rattle.stored.proofs.Items.{Readable}
 use Rattle.stored.proofs.Others.{PlainNames, listing-read}
-use Rattle.stored.proofs.Laying.{Answer, replayed-by}
+use Rattle.stored.proofs.Laying.{LaysAs, replayed-by}
 use Rattle.stored.proofs.Names.{PlainSource, plain-listing}
 use Rattle.stored.proofs.Places.{globals-in-place}
 use Rattle.stored.proofs.Sizes.{few-types, listing-readable}
@@ -40,7 +40,7 @@ pub record Meets (q : Imaged) (image area : ℕ) (r : Replayed) (image′ area�
   pub imageIs : image′ ≡ padded image (imageBytes q)
   pub areaIs : area′ ≡ padded area (areaBytes q)
 
-by-answer : (q : Imaged) (b : Buffers) (m : Option Laying) → Answer q (b .image) (b .area) m → Meets q (b .image) (b .area) (answerOf m) (laidImage (b .image) m) (laidArea (b .area) m)
+by-answer : (q : Imaged) (b : Buffers) (m : Option Laying) → LaysAs q (b .image) (b .area) m → Meets q (b .image) (b .area) (answerOf m) (laidImage (b .image) m) (laidArea (b .area) m)
 by-answer q b none h = rw h (record { answer = refl; imageIs = ap zeros (sym (sub-zero (b .image))); areaIs = ap zeros (sym (sub-zero (b .area))) })
 by-answer q b (some m) h = record {
   answer = (λ j. Laid (h .long j) (h .end j)) ∙ sym (ap lengthsOf (h .is));

@@ -103,13 +103,13 @@ module _ (work : Bytes) (k : ℕ) (row im ar : Bytes) (s : State) where
   abbrev sizes : ℕ → ℕ
   sizes = elementSizeAt work
 
-  abbrev m : Laying
-  m = layingOf s im ar
+  abbrev layingNow : Laying
+  layingNow = layingOf s im ar
 
   abbrev fs : List Bytes
   fs = fieldsOf row
 
-  pub item-none : k ≡ 0 → some m ≡ laidItem sizes k row m
+  pub item-none : k ≡ 0 → some layingNow ≡ laidItem sizes k row layingNow
   unfolding laidItem
   item-none e = rw (eq-eqb k 0 e)
 
@@ -122,36 +122,36 @@ module _ (work : Bytes) (k : ℕ) (row im ar : Bytes) (s : State) where
     part = let h = ready .high in omega arith
 
     pub item-values : {from w : ℕ} → k < 5 → from ≡ partStartAt 44 4 row → w ≡ width k
-        → layBytes off (rowValues w (eqb k 4) (fieldsFrom from row)) m ≡ laidItem sizes k row m
+        → layBytes off (rowValues w (eqb k 4) (fieldsFrom from row)) layingNow ≡ laidItem sizes k row layingNow
     unfolding laidItem width layingOf
     item-values h hf hw =
         rw (ne-eqb k 0 some-item, lt-ltb k 5 h, at, hf, hw, fields-from 4 row)
-        (cut-bytes m image part (numberRead (getD fs 2 [])) (rowValues (widthOf k) (eqb k 4) (drop 4 fs)))
+        (cut-bytes layingNow image part (numberRead (getD fs 2 [])) (rowValues (widthOf k) (eqb k 4) (drop 4 fs)))
 
-    pub item-string : 5 ≤ k → k ≡ 5 → layBytes off (handle (s .item)) m ≡ laidItem sizes k row m
+    pub item-string : 5 ≤ k → k ≡ 5 → layBytes off (handle (s .item)) layingNow ≡ laidItem sizes k row layingNow
     unfolding laidItem layingOf
     item-string h e =
         rw (ne-eqb k 0 some-item, le-ltb k 5 h, eq-eqb k 5 e, at)
-        (cut-bytes m image part (numberRead (getD fs 2 [])) (handle (s .item)))
+        (cut-bytes layingNow image part (numberRead (getD fs 2 [])) (handle (s .item)))
 
     pub item-array : {size id n : ℕ} {g j : Bytes} → 5 ≤ k → (k ≡ 5 → ⊥) → k ≡ 6 → id ≡ min (numberRead g) most → g ≡ getD fs 3 [] → n ≡ min (numberRead j) most → j ≡ getD fs 4 []
-        → size ≡ elementSizeAt work id → layArray off (size * n) m ≡ laidItem sizes k row m
+        → size ≡ elementSizeAt work id → layArray off (size * n) layingNow ≡ laidItem sizes k row layingNow
     unfolding laidItem layingOf
     item-array {size} {id} {n} h d e hi hg hn hj hs =
         let q : size ≡ elementSizeAt work (numberRead (getD fs 3 [])) = hs ∙ ap (elementSizeAt work) (hi ∙ ap (λ (x : Bytes). min (numberRead x) most) hg) ∙ cut-size work (numberRead (getD fs 3 [])) in
         let r : n ≡ min (numberRead (getD fs 4 [])) most = hn ∙ ap (λ (x : Bytes). min (numberRead x) most) hj in
         rw (ne-eqb k 0 some-item, le-ltb k 5 h, ne-eqb k 5 d, eq-eqb k 6 e)
-        (ap (λ (x : ℕ). layArray off (size * x) m) r
-        ∙ cut-length m image off size (numberRead (getD fs 4 [])) area
-        ∙ ap (λ (x : ℕ). layArray off (x * numberRead (getD fs 4 [])) m) q
-        ∙ ap (λ (x : ℕ). layArray x (elementSizeAt work (numberRead (getD fs 3 [])) * numberRead (getD fs 4 [])) m) at
-        ∙ cut-array m image (numberRead (getD fs 2 [])) (elementSizeAt work (numberRead (getD fs 3 [])) * numberRead (getD fs 4 [])))
+        (ap (λ (x : ℕ). layArray off (size * x) layingNow) r
+        ∙ cut-length layingNow image off size (numberRead (getD fs 4 [])) area
+        ∙ ap (λ (x : ℕ). layArray off (x * numberRead (getD fs 4 [])) layingNow) q
+        ∙ ap (λ (x : ℕ). layArray x (elementSizeAt work (numberRead (getD fs 3 [])) * numberRead (getD fs 4 [])) layingNow) at
+        ∙ cut-array layingNow image (numberRead (getD fs 2 [])) (elementSizeAt work (numberRead (getD fs 3 [])) * numberRead (getD fs 4 [])))
 
-    pub item-moved : 5 ≤ k → (k ≡ 5 → ⊥) → (k ≡ 6 → ⊥) → some (moveTo (eqb k 7) m) ≡ laidItem sizes k row m
+    pub item-moved : 5 ≤ k → (k ≡ 5 → ⊥) → (k ≡ 6 → ⊥) → some (moveTo (eqb k 7) layingNow) ≡ laidItem sizes k row layingNow
     unfolding laidItem
     item-moved h d e = rw (ne-eqb k 0 some-item, le-ltb k 5 h, ne-eqb k 5 d, ne-eqb k 6 e) (go (eqb k 7))
       where
-        go : (b : Bool) → some (moveTo b m) ≡ layAll (cond b (Stored.setAt (numberRead (getD fs 2 [])) ∷ []) (Stored.goBack ∷ [])) (some m)
+        go : (b : Bool) → some (moveTo b layingNow) ≡ layAll (cond b (Stored.setAt (numberRead (getD fs 2 [])) ∷ []) (Stored.goBack ∷ [])) (some layingNow)
         go true = refl
         go false = refl
 

@@ -24,7 +24,7 @@ use Rattle.refs.specs.Refs.{fineRef, fineRefs, usesOf, usesIn}
 use Rattle.refs.proofs.Fine.{needed-ref}
 use Rattle.refs.proofs.Nodes.{node-at}
 use Rattle.checks.specs.Checks.{Checked}
-use Rattle.sizes.proofs.Rows.{nodeLines, perhapsLines, valueLines, partsLines, FewOf, FewBefore, Sound, all-sound}
+use Rattle.sizes.proofs.Rows.{nodeLines, perhapsLines, valueLines, partsLines, FewOf, FewBefore, BoundedMake, all-sound}
 use Rattle.laws.specs.Every.{Every}
 use Rattle.laws.proofs.Every.{every-append, every-get, every-of}
 
@@ -176,13 +176,13 @@ module _ (w : ℕ → ℕ) where
 
 -- ---- on a checked sheet
 
-abbrev Keeps : Read → Type 0
-Keeps r = (ns : List Node) → FewBefore ns → FewOf (nodeOf ns r)
+abbrev KeepsFew : Read → Type 0
+KeepsFew r = (ns : List Node) → FewBefore ns → FewOf (nodeOf ns r)
 
 no-names : FewOf noNode
 no-names = (omega arith, tt, tt)
 
-few-from : (rs : List Read) (ns : List Node) → Every FewOf ns → Every Keeps rs → Every FewOf (nodesFrom ns rs)
+few-from : (rs : List Read) (ns : List Node) → Every FewOf ns → Every KeepsFew rs → Every FewOf (nodesFrom ns rs)
 unfolding nodesFrom
 few-from [] ns h g = h
 few-from (r ∷ rs) ns h g =
@@ -190,13 +190,13 @@ few-from (r ∷ rs) ns h g =
 
 module _ (s t : List ℕ) (n : ℕ) (c : Checked s t n) where
   module _ (i : ℕ) (h : i < n) where
-    row-sound : (ns : List Node) → Sound ns (readAt s i .form)
-    row-sound ns = rw (form-is s t n (c .whole) i h) (each-at (Sound ns) forms (all-sound ns) (formAt t i) (omega (arith, row-count, form-low s t n (c .whole) i h)))
+    row-sound : (ns : List Node) → BoundedMake ns (readAt s i .form)
+    row-sound ns = rw (form-is s t n (c .whole) i h) (each-at (BoundedMake ns) forms (all-sound ns) (formAt t i) (omega (arith, row-count, form-low s t n (c .whole) i h)))
 
     fields-fit : fits (readAt s i .form .parts) (readAt s i .fields) ≡ true
     fields-fit = rw (form-is s t n (c .whole) i h) (read-fits s t n (c .whole) i h)
 
-    keeps-few : Keeps (readAt s i)
+    keeps-few : KeepsFew (readAt s i)
     unfolding nodeOf
     keeps-few ns g = row-sound ns (readAt s i .fields) fields-fit .1 g
 
@@ -212,7 +212,7 @@ module _ (s t : List ℕ) (n : ℕ) (c : Checked s t n) where
 
   -- no line has or refers to more than 16 names of a field
   pub few-at : (r : ℕ) → FewOf (nodeAt (nodesIn s) r)
-  few-at r = every-get FewOf noNode (nodesIn s) no-names (few-from (readsIn s) [] tt (every-of Keeps noRead (readsIn s) (λ i l. keeps-few i (in-sheet l)))) (r - 1)
+  few-at r = every-get FewOf noNode (nodesIn s) no-names (few-from (readsIn s) [] tt (every-of KeepsFew noRead (readsIn s) (λ i l. keeps-few i (in-sheet l)))) (r - 1)
 
   -- what line r makes takes at most r lines
   node-lines : (r : ℕ) → 0 < r → r ≤ n → nodeLines (nodeAt (nodesIn s) r) ≤ r

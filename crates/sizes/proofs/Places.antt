@@ -37,7 +37,7 @@ use Rattle.sizes.specs.declared.place.Refs.{Refs}
 use Rattle.sizes.specs.Sizes.{typeAt, TypeLine, Measures}
 use Rattle.sizes.specs.Places.{fdAt, fdsFrom, fdsOfRefs, firstDecl, declAt, commonFields, caseFields, FieldLine, FieldRefs, RecordLine, CaseLine, LinePlaced, AllPlaced, lineBytes}
 use Rattle.sizes.proofs.Forms.{field-form, case-form, adt-form, pick-form}
-use Rattle.sizes.proofs.Types.{given-ref, May, maybe-head, Group, group-at}
+use Rattle.sizes.proofs.Types.{given-ref, May, maybe-head, CountedRefs, group-at}
 
 -- 16 names of the largest type
 pub names-small : {a b : ℕ} → a ≤ 16 → b ≤ 8192 → a * b ≤ 131072
@@ -136,7 +136,7 @@ furthest-append f [] qs = refl
 furthest-append f (p ∷ ps) qs = furthest-append (max f (p .offset + sizeOf (p .ty))) ps qs
 
 -- q is behind the first j lines
-pub record Passing (s : List ℕ) (f : Refs) (p q : Reached) (j : ℕ) : Type 0 where
+pub record BehindLines (s : List ℕ) (f : Refs) (p q : Reached) (j : ℕ) : Type 0 where
   pub within : j ≤ f .count
   pub end : place (q .end) (fdsFrom s (f .line) (f .from + j) (f .count - j)) .end ≡ place (p .end) (fdsOfRefs s f) .end
   pub furthest : furthest (q .furthest) (place (q .end) (fdsFrom s (f .line) (f .from + j) (f .count - j)) .placed) ≡ furthest (p .furthest) (place (p .end) (fdsOfRefs s f) .placed)
@@ -160,18 +160,18 @@ module _ (s t : List ℕ) (n : ℕ) (f : Refs) (l : FieldRefs s t n f) where
         rw (z, y, head-drop (f .from + j) (readAt s (f .line - 1) .fields), tail-drop (f .from + j) (readAt s (f .line - 1) .fields), line-number)
 
   module _ (p : Reached) where
-    pub passing-start : Passing s f p p 0
+    pub passing-start : BehindLines s f p p 0
     passing-start =
         let z : f .from + 0 ≡ f .from = omega arith in
         let y : f .count - 0 ≡ f .count = omega arith in
         record { within = omega arith; end = rw (z, y); furthest = rw (z, y); small = omega arith }
 
-    module _ (q : Reached) (j : ℕ) (m : Passing s f p q j) where
+    module _ (q : Reached) (j : ℕ) (m : BehindLines s f p q j) where
       pub passing-end : f .count ≤ j → AllPlaced (fdsOfRefs s f) p q
       passing-end h = let z : f .count - j ≡ 0 = omega arith in record { end = rw z at (m .end); furthest = rw z at (m .furthest) }
 
       pub passing-next : (h : j < f .count) (v : ℕ) → v ≡ Number.numberUpTo 65536 (getD (readAt s (f .line - 1) .fields) (f .from + j) []) → (u : Reached)
-          → LinePlaced (fdAt s v .ty) (fdAt s v .names) q u → u .end ≤ q .end + lineBytes → Passing s f p u (j + 1)
+          → LinePlaced (fdAt s v .ty) (fdAt s v .names) q u → u .end ≤ q .end + lineBytes → BehindLines s f p u (j + 1)
       passing-next h v hv u x b = record {
         within = omega arith;
         end = rw (x .end) (rw (fields-next j h v hv) at (m .end));
@@ -185,7 +185,7 @@ module _ (s t : List ℕ) (n r : ℕ) (c : Checked s t n) (first : 0 < r) (last 
     (hf : fits (many (ref kFd) ∷ ps) (drop at (readAt s (r - 1) .fields)) ≡ true)
     (hr : fineRefs (readsIn s) (r - 1) (refsIn (many (ref kFd) ∷ ps) (drop at (readAt s (r - 1) .fields))) ≡ true)
     (count : ℕ) (hc : count ≡ Number.numberUpTo 65536 (getD (readAt s (r - 1) .fields) at [])) where
-  group : Group (readsIn s) (r - 1) 70 at (readAt s (r - 1) .fields)
+  group : CountedRefs (readsIn s) (r - 1) 70 at (readAt s (r - 1) .fields)
   group = group-at (readsIn s) (r - 1) at kFd ps (readAt s (r - 1) .fields) hf hr
 
   group-count : (count ≡ numberOf (getD (readAt s (r - 1) .fields) at [])) × (count ≤ 16)

@@ -10,7 +10,7 @@ use Rattle.semantics.specs.Sheet.{Module, Located, locatedFrom, openAfter, shee
 use Rattle.semantics.specs.Refusal.{sumOf}
 use Rattle.semantics.specs.Layout.{recordsOf, recordedAdts, recordLog}
 use Rattle.layout.specs.Lines.{declLines}
-use Rattle.layout.proofs.Bounds.{Sized, Small, sheet-records-bound}
+use Rattle.layout.proofs.Bounds.{Sized, FitsSheet, sheet-records-bound}
 use Rattle.lines.specs.Lines.{nodesIn}
 use Rattle.refs.proofs.Nodes.{node-count}
 use Rattle.checks.specs.Checks.{Checked}
@@ -32,30 +32,30 @@ every-located {A} P f k o (m ∷ ns) u =
 
 -- ---- what a line declares
 
-small-all : (ds : List AdtDecl) → Every FewDecl ds → sumOf declLines ds ≤ 1024 → Every Small ds
+small-all : (ds : List AdtDecl) → Every FewDecl ds → sumOf declLines ds ≤ 1024 → Every FitsSheet ds
 small-all [] u l = tt
 small-all (d ∷ ds) u l = ((u .0 .0, u .0 .1, omega arith), small-all ds (u .1) (omega arith))
 
 module _ (s t : List ℕ) (n : ℕ) (c : Checked s t n) where
   module _ (r : ℕ) (first : 0 < r) (last : r ≤ n) where
-    line-small : Every Small (nodeAt (nodesIn s) r .declares .adts)
+    line-small : Every FitsSheet (nodeAt (nodesIn s) r .declares .adts)
     line-small =
         small-all (nodeAt (nodesIn s) r .declares .adts) (few-at s t n c r .2) (omega (arith, decl-lines s t n c r first last, c .whole .lined .few))
 
-  all-small : Every (λ (m : Node). Every Small (m .declares .adts)) (nodesIn s)
+  all-small : Every (λ (m : Node). Every FitsSheet (m .declares .adts)) (nodesIn s)
   all-small =
-      every-of (λ (m : Node). Every Small (m .declares .adts)) noNode (nodesIn s)
+      every-of (λ (m : Node). Every FitsSheet (m .declares .adts)) noNode (nodesIn s)
       (λ i l. let z : suc i - 1 ≡ i = omega arith in rw z at (line-small (suc i) (omega arith) (omega (arith, node-count s t n (c .whole)))))
 
   -- all that a checked sheet declares
-  checked-small : Every Small (recordedAdts (sheetSource s))
+  checked-small : Every FitsSheet (recordedAdts (sheetSource s))
   unfolding sheetSource
   checked-small =
-      every-under Small (λ (l : Located AdtDecl). l .it) (sheetSource s .adts)
-      (every-located Small (λ (d : Declares). d .adts) 1 none (nodesIn s) all-small)
+      every-under FitsSheet (λ (l : Located AdtDecl). l .it) (sheetSource s .adts)
+      (every-located FitsSheet (λ (d : Declares). d .adts) 1 none (nodesIn s) all-small)
 
   -- every record of a checked sheet
   pub checked-records-bound : Every (Sized 131080) (recordLog (recordedAdts (sheetSource s)))
   checked-records-bound =
       let ds = recordedAdts (sheetSource s) in
-      every-concat (Sized 131080) recordsOf ds (every-map Small (λ (d : AdtDecl). Every (Sized 131080) (recordsOf d)) sheet-records-bound ds checked-small)
+      every-concat (Sized 131080) recordsOf ds (every-map FitsSheet (λ (d : AdtDecl). Every (Sized 131080) (recordsOf d)) sheet-records-bound ds checked-small)

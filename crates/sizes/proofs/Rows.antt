@@ -82,8 +82,8 @@ module _ (ns : List Node) where
   FewBefore = (r : ℕ) → FewOf (nodeAt ns r)
 
   -- what a form makes takes at most one more than what its fields refer to, and has few names where the nodes before have
-  abbrev pub Sound : Row → Type 0
-  Sound r = (fs : List (List ℕ)) → fits (r .parts) fs ≡ true
+  abbrev pub BoundedMake : Row → Type 0
+  BoundedMake r = (fs : List (List ℕ)) → fits (r .parts) fs ≡ true
       → (nodeLines (make (r .parts) (r .make) ns fs) ≤ suc (partsLines (r .parts) ns fs)) × (FewBefore → FewOf (make (r .parts) (r .make) ns fs))
 
   -- a form that makes no type, field, case or record
@@ -102,15 +102,15 @@ module _ (ns : List Node) where
   few-cases zero fs h = tt
   few-cases (suc n) fs h = (h (numberOf (headPart fs)) .1, few-cases n (tailParts fs) h)
 
-  array-sound : Sound (rowAt 6)
+  array-sound : BoundedMake (rowAt 6)
   unfolding forms
   array-sound fs h = (omega arith, λ g. (omega arith, tt, tt))
 
-  tuple-sound : Sound (rowAt 7)
+  tuple-sound : BoundedMake (rowAt 7)
   unfolding forms
   tuple-sound fs h = (omega (arith, types-lines (group kTy fs)), λ g. (omega arith, tt, tt))
 
-  field-sound : Sound (rowAt 24)
+  field-sound : BoundedMake (rowAt 24)
   unfolding forms
   field-sound [] h = never h
   field-sound (f ∷ []) h = never (both (isNumber f) false h .1)
@@ -118,26 +118,26 @@ module _ (ns : List Node) where
       let c = count-number g (both (isCount g) (fits (ones (numberOf g) name ++ []) fs) (both (isNumber f) (fits (many name ∷ []) (g ∷ fs)) h .1) .0) in
       (omega (arith, type-lines-of (perhapsAt ns (numberOf f))), λ q. (omega (arith, c .1, values-length name ns (numberOf g) fs), tt, tt))
 
-  case-sound : Sound (rowAt 25)
+  case-sound : BoundedMake (rowAt 25)
   unfolding forms
   case-sound fs h =
       let gs = drop (suc (numberOf (headPart fs))) fs in
       (omega (arith, fields-lines (group kFd gs)), λ g. (omega arith, few-fields (numberOf (headPart gs)) (tailParts gs) g, tt))
 
-  adt-sound : Sound (rowAt 26)
+  adt-sound : BoundedMake (rowAt 26)
   unfolding forms
   adt-sound fs h =
       let gs = tailParts fs in
       (omega (arith, fields-lines (group kFd gs)), λ g. (omega arith, tt, ((few-fields (numberOf (headPart gs)) (tailParts gs) g, tt), tt)))
 
-  pick-sound : Sound (rowAt 27)
+  pick-sound : BoundedMake (rowAt 27)
   unfolding forms
   pick-sound fs h =
       let gs = tailParts fs in
       let ks = drop (suc (numberOf (headPart gs))) gs in
       (omega (arith, fields-lines (group kFd gs), cases-lines (group kPc ks)), λ g. (omega arith, tt, ((few-fields (numberOf (headPart gs)) (tailParts gs) g, few-cases (numberOf (headPart ks)) (tailParts ks) g), tt)))
 
-  pub all-sound : Each Sound forms
+  pub all-sound : Each BoundedMake forms
   unfolding forms
   all-sound =
       (λ fs h. plain) also (λ fs h. plain) also (λ fs h. plain) also (λ fs h. plain) also (λ fs h. plain) also (λ fs h. plain) also

@@ -133,11 +133,11 @@ module _ (ls : List Read) (i : ℕ) (a : Kind) (ps : List Part) where
   group-good (f ∷ fs) h k = let w = both (isCount f) (fits (ones (numberOf f) (ref a) ++ ps) fs) h in (w .0, λ j l. good-field (numberOf f) fs (w .1) k j l)
 
 -- a count at field j, and as many references behind it
-pub record Group (ls : List Read) (i k j : ℕ) (fs : List (List ℕ)) : Type 0 where
+pub record CountedRefs (ls : List Read) (i k j : ℕ) (fs : List (List ℕ)) : Type 0 where
   pub count : isCount (getD fs j []) ≡ true
   pub each : (q : ℕ) → q < numberOf (getD fs j []) → Good ls i k (getD fs (j + 1 + q) [])
 
-pub group-at : (ls : List Read) (i j : ℕ) (a : Kind) (ps : List Part) (fs : List (List ℕ)) → fits (many (ref a) ∷ ps) (drop j fs) ≡ true → fineRefs ls i (refsIn (many (ref a) ∷ ps) (drop j fs)) ≡ true → Group ls i (letter a) j fs
+pub group-at : (ls : List Read) (i j : ℕ) (a : Kind) (ps : List Part) (fs : List (List ℕ)) → fits (many (ref a) ∷ ps) (drop j fs) ≡ true → fineRefs ls i (refsIn (many (ref a) ∷ ps) (drop j fs)) ≡ true → CountedRefs ls i (letter a) j fs
 group-at ls i j a ps fs h k =
     let w = group-good ls i a ps (drop j fs) h k in
     let z : j + 0 ≡ j = omega arith in

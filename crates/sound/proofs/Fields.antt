@@ -94,10 +94,10 @@ LimitedField real v = T (fits binary64 v)
 LimitedField text v = length v ≤ 256
 
 -- what a form makes of fields within the limits is within them
-abbrev pub Keeps : (ps : List Part) → Makes ps → Type 0
-Keeps [] m = LimitedNode m
-Keeps (one a ∷ ps) m = (v : Value a) → LimitedField a v → Keeps ps (m v)
-Keeps (many a ∷ ps) m = (vs : List (Value a)) → Every (LimitedField a) vs → Keeps ps (m vs)
+abbrev pub KeepsLimits : (ps : List Part) → Makes ps → Type 0
+KeepsLimits [] m = LimitedNode m
+KeepsLimits (one a ∷ ps) m = (v : Value a) → LimitedField a v → KeepsLimits ps (m v)
+KeepsLimits (many a ∷ ps) m = (vs : List (Value a)) → Every (LimitedField a) vs → KeepsLimits ps (m vs)
 
 no-node : LimitedNode noNode
 no-node = record { ex = tt; el = tt; fd = tt; tags = tt; fields = tt; adts = tt; consts = tt; vars = tt; opens = tt }
@@ -139,7 +139,7 @@ module _ (ns : List Node) (before : Every LimitedNode ns) where
       let r = values-limited n a ps fs (w .1) (l .1) in
       ((value-limited a f (w .0) (l .0), r .0), r .1)
 
-  pub make-limited : (ps : List Part) (m : Makes ps) (fs : List Bytes) → fields-fit ps fs ≡ true → Every (Short 255) fs → Keeps ps m → LimitedNode (make ps m ns fs)
+  pub make-limited : (ps : List Part) (m : Makes ps) (fs : List Bytes) → fields-fit ps fs ≡ true → Every (Short 255) fs → KeepsLimits ps m → LimitedNode (make ps m ns fs)
   make-limited [] m fs h l k = k
   make-limited (one a ∷ ps) m [] h l k = never h
   make-limited (one a ∷ ps) m (f ∷ fs) h l k =

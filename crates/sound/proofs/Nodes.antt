@@ -22,7 +22,7 @@ use Rattle.lines.proofs.Line.{line-count, line-short, form-low, form-is, fields
 use Rattle.stored.proofs.Rows.{Plain}
 use Rattle.stored.proofs.Names.{PlainFields, PlainPick, PlainAdt}
 use Rattle.sound.proofs.Limits.{LimitedEx, LimitedEl, LimitedEls, LimitedInit, LimitedDecl, LimitedVar, LimitedNode}
-use Rattle.sound.proofs.Fields.{Short, fields-short, LimitedPerhaps, LimitedField, Keeps, make-limited}
+use Rattle.sound.proofs.Fields.{Short, fields-short, LimitedPerhaps, LimitedField, KeepsLimits, make-limited}
 use Rattle.laws.specs.Every.{Every}
 use Rattle.laws.proofs.Every.{every-append, every-of}
 
@@ -74,7 +74,7 @@ init-limited (some m) h = h .ex
 -- ---- the table of forms
 
 abbrev RowKeeps : Row → Type 0
-RowKeeps r = Keeps (r .parts) (r .make)
+RowKeeps r = KeepsLimits (r .parts) (r .make)
 
 all-keep : Table.Each RowKeeps forms
 unfolding forms

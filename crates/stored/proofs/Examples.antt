@@ -18,8 +18,8 @@ abbrev laid : ℕ → ℕ → Option Laying
 laid image area = layAll (readAll (sizeIn text) text) (layingStart 16 image area)
 
 -- handles of items 0 and 4, the real's bits, and a byte to spare; parts of 3 and 4 bytes, at 0 and 8, and a byte to spare
-abbrev whole : Laying
-whole = record {
+abbrev allLaid : Laying
+allLaid = record {
   item = 9;
   image = 0 ∷ 0 ∷ 0 ∷ 1 ∷ 0 ∷ 0 ∷ 0 ∷ 5 ∷ 63 ∷ 248 ∷ 0 ∷ 0 ∷ 0 ∷ 0 ∷ 0 ∷ 0 ∷ 0 ∷ [];
   area = 1 ∷ 2 ∷ 255 ∷ 0 ∷ 0 ∷ 0 ∷ 0 ∷ 0 ∷ 255 ∷ 255 ∷ 255 ∷ 254 ∷ 0 ∷ [];
@@ -29,6 +29,6 @@ whole = record {
   long = 16;
 }
 
-text-laid : (laid 17 13 ∷ laid 15 13 ∷ laid 17 11 ∷ []) ≡ (some whole ∷ none ∷ none ∷ [])
+text-laid : (laid 17 13 ∷ laid 15 13 ∷ laid 17 11 ∷ []) ≡ (some allLaid ∷ none ∷ none ∷ [])
 unfolding natOf intOf unhex bigEndian over numberRead bitsIn rowValues keywordOf readRow readRows readAll sizeBy sizeRows sizeIn layImage layPart layBytes layArray layingStart
 text-laid = refl

@@ -71,11 +71,11 @@ real-bits n h = ap realBits (hex-back (bigEndian 8 n) (byte-below 8 n)) ∙ bits
 -- ---- values
 
 -- values in the range of their kind
-abbrev pub InRange : Values → Type 0
-InRange (byteValues vs) = Every (λ (b : ℕ). b < 256) vs
-InRange (wordValues zs) = Every Fits64 zs
-InRange (bigValues zs) = Every Fits64 zs
-InRange (realValues xs) = Every (λ (x : Float). toBits binary64 x < 2 ^ 64) xs
+abbrev pub ValuesInRange : Values → Type 0
+ValuesInRange (byteValues vs) = Every (λ (b : ℕ). b < 256) vs
+ValuesInRange (wordValues zs) = Every Fits64 zs
+ValuesInRange (bigValues zs) = Every Fits64 zs
+ValuesInRange (realValues xs) = Every (λ (x : Float). toBits binary64 x < 2 ^ 64) xs
 
 byte-read : (v : ℕ) → v < 256 → bigEndian 1 (bitsIn false (decimal v)) ≡ v ∷ []
 unfolding bigEndian decimalℤ
@@ -102,7 +102,7 @@ reals-read (x ∷ xs) h = λ i. bigEndian 8 (real-bits (toBits binary64 x) (h .0
 
 -- an item whose values are in range and whose element's size is known
 abbrev pub Readable : (ℕ → ℕ) → (TypeKey → ℕ) → Item → Type 0
-Readable sizes id (valuesItem o vs) = InRange vs
+Readable sizes id (valuesItem o vs) = ValuesInRange vs
 Readable sizes id (strItem o s) = Unit {0}
 Readable sizes id (arrayItem o k n) = sizes (id (elemKey k)) ≡ elemSize k
 Readable sizes id (setItem o) = Unit {0}

@@ -26,15 +26,15 @@ use Rattle.stored.proofs.Items.{replay-stored}
 use Rattle.stored.proofs.Written.{laidByte, written-long, written-at, over-at, part-at}
 
 -- where the area ends
-abbrev areaEnd : ℕ → List Stored → ℕ
-areaEnd e [] = e
-areaEnd e (bytesAt o ys ∷ xs) = areaEnd e xs
-areaEnd e (stringAt o ∷ xs) = areaEnd e xs
-areaEnd e (arrayAt o size n ∷ xs) = areaEnd (partAt e + size * n) xs
-areaEnd e (setAt o ∷ xs) = areaEnd e xs
-areaEnd e (goBack ∷ xs) = areaEnd e xs
+abbrev areaEndBehind : ℕ → List Stored → ℕ
+areaEndBehind e [] = e
+areaEndBehind e (bytesAt o ys ∷ xs) = areaEndBehind e xs
+areaEndBehind e (stringAt o ∷ xs) = areaEndBehind e xs
+areaEndBehind e (arrayAt o size n ∷ xs) = areaEndBehind (partAt e + size * n) xs
+areaEndBehind e (setAt o ∷ xs) = areaEndBehind e xs
+areaEndBehind e (goBack ∷ xs) = areaEndBehind e xs
 
-area-end : (is : List Item) (e : ℕ) → areaEnd e (map storedOf is) ≡ areaAfter e is
+area-end : (is : List Item) (e : ℕ) → areaEndBehind e (map storedOf is) ≡ areaAfter e is
 area-end [] e = refl
 area-end (valuesItem o vs ∷ is) e = area-end is e
 area-end (strItem o s ∷ is) e = area-end is e
@@ -42,7 +42,7 @@ area-end (arrayItem o k n ∷ is) e = area-end is (endAfter e (arrayItem o k n))
 area-end (setItem o ∷ is) e = area-end is e
 area-end (backItem ∷ is) e = area-end is e
 
-area-grows : (xs : List Stored) (e : ℕ) → e ≤ areaEnd e xs
+area-grows : (xs : List Stored) (e : ℕ) → e ≤ areaEndBehind e xs
 area-grows [] e = omega arith
 area-grows (bytesAt o ys ∷ xs) e = area-grows xs e
 area-grows (stringAt o ∷ xs) e = area-grows xs e
@@ -83,7 +83,7 @@ record Same (r : Replay) (m : Laying) (p n : ℕ) : Type 0 where
   inside : r .inside ≡ insideOf m
 
 -- what a replay r, whose parts end at e, comes to in buffers of so many bytes
-record Held (r : Replay) (e image area : ℕ) (m : Laying) : Type 0 where
+record ComesTo (r : Replay) (e image area : ℕ) (m : Laying) : Type 0 where
   end : m .end ≡ e
   room : e ≤ area
   areaLong : length (r .area) ≡ e
@@ -94,11 +94,11 @@ record Held (r : Replay) (e image area : ℕ) (m : Laying) : Type 0 where
 
 abbrev Ending : Replay → ℕ → ℕ → ℕ → Option Laying → Type 0
 Ending r e image area none = ltb area e || ltb image (length (r .image)) ≡ true
-Ending r e image area (some m) = Held r e image area m
+Ending r e image area (some m) = ComesTo r e image area m
 
 abbrev Claim : List Stored → Type 0
-Claim xs = (r : Replay) (m : Laying) (p n : ℕ) → Same r m p n → length (r .area) ≡ areaEnd (r .end) xs → InPlace p n (m .inside) xs
-    → Ending (replayStored xs r) (areaEnd (r .end) xs) (length (m .image)) (length (m .area)) (layAll xs (some m))
+Claim xs = (r : Replay) (m : Laying) (p n : ℕ) → Same r m p n → length (r .area) ≡ areaEndBehind (r .end) xs → InPlace p n (m .inside) xs
+    → Ending (replayStored xs r) (areaEndBehind (r .end) xs) (length (m .image)) (length (m .area)) (layAll xs (some m))
 
 -- ---- nothing follows where something did not fit
 
@@ -144,9 +144,9 @@ laid-same : (p : ℕ) (ys xs zs : Bytes) (j : ℕ) → getD xs j 0 ≡ getD zs j
 unfolding laidByte
 laid-same p ys xs zs j e = ap (λ (b : ℕ). cond (liesIn j p (length ys)) (getD ys (j - p) 0) b) e
 
-module _ (o : ℕ) (ys : Bytes) (xs : List Stored) (r : Replay) (m : Laying) (p n : ℕ) (s : Same r m p n) (room : length (r .area) ≡ areaEnd (r .end) xs) (place : InPlace p n (m .inside) xs)
+module _ (o : ℕ) (ys : Bytes) (xs : List Stored) (r : Replay) (m : Laying) (p n : ℕ) (s : Same r m p n) (room : length (r .area) ≡ areaEndBehind (r .end) xs) (place : InPlace p n (m .inside) xs)
     (next : Claim xs) where
-  in-image : m .inside ≡ false → Ending (replayStored xs (lay o ys (r .inside) r)) (areaEnd (r .end) xs) (length (m .image)) (length (m .area)) (layAll xs (layImage o ys m))
+  in-image : m .inside ≡ false → Ending (replayStored xs (lay o ys (r .inside) r)) (areaEndBehind (r .end) xs) (length (m .image)) (length (m .area)) (layAll xs (layImage o ys m))
   unfolding layImage
   in-image out = rw outside (go (ltb (length (m .image)) (o + length ys)) refl)
     where
@@ -178,20 +178,20 @@ module _ (o : ℕ) (ys : Bytes) (xs : List Stored) (r : Replay) (m : Laying) (p 
             inside = sym outside ∙ s .inside;
           }
 
-      go : (t : Bool) → ltb (length (m .image)) (o + length ys) ≡ t → Ending (replayStored xs r₁) (areaEnd (r .end) xs) (length (m .image)) (length (m .area)) (layAll xs (cond t none (some m₁)))
+      go : (t : Bool) → ltb (length (m .image)) (o + length ys) ≡ t → Ending (replayStored xs r₁) (areaEndBehind (r .end) xs) (length (m .image)) (length (m .area)) (layAll xs (cond t none (some m₁)))
       go true e =
           let h = ltb-true (length (m .image)) (o + length ys) e in
           let l = written-long (r .image) o ys in
-          image-short xs r₁ (areaEnd (r .end) xs) (length (m .image)) (length (m .area)) (omega arith)
+          image-short xs r₁ (areaEndBehind (r .end) xs) (length (m .image)) (length (m .area)) (omega arith)
       go false e =
-          subst (λ (i : ℕ). Ending (replayStored xs r₁) (areaEnd (r .end) xs) i (length (m .area)) (layAll xs (some m₁))) (length-over (m .image) o ys)
+          subst (λ (i : ℕ). Ending (replayStored xs r₁) (areaEndBehind (r .end) xs) i (length (m .area)) (layAll xs (some m₁))) (length-over (m .image) o ys)
           (next r₁ m₁ p n (same₁ (ltb-false (length (m .image)) (o + length ys) e)) room place)
 
-  in-part : m .inside ≡ true → o + length ys ≤ n → Ending (replayStored xs (lay o ys (r .inside) r)) (areaEnd (r .end) xs) (length (m .image)) (length (m .area)) (layAll xs (layPart o ys m))
+  in-part : m .inside ≡ true → o + length ys ≤ n → Ending (replayStored xs (lay o ys (r .inside) r)) (areaEndBehind (r .end) xs) (length (m .image)) (length (m .area)) (layAll xs (layPart o ys m))
   unfolding layPart
   in-part within fit =
       rw within-part (rw fitting
-      (subst (λ (a : ℕ). Ending (replayStored xs r₁) (areaEnd (r .end) xs) (length (m .image)) a (layAll xs (some m₁))) area-long (next r₁ m₁ p n same₁ room₁ place)))
+      (subst (λ (a : ℕ). Ending (replayStored xs r₁) (areaEndBehind (r .end) xs) (length (m .image)) a (layAll xs (some m₁))) area-long (next r₁ m₁ p n same₁ room₁ place)))
     where
       within-part : r .inside ≡ some (m .start)
       within-part = s .inside ∙ ap (λ (b : Bool). cond b (some (m .start)) none) within
@@ -214,7 +214,7 @@ module _ (o : ℕ) (ys : Bytes) (xs : List Stored) (r : Replay) (m : Laying) (p 
       area-long : length area₁ ≡ length (m .area)
       area-long = same-len-mid (m .start) bytesIn (m .area) (over (midOf (m .start) bytesIn (m .area)) o ys) (length-over (midOf (m .start) bytesIn (m .area)) o ys)
 
-      room₁ : length (r₁ .area) ≡ areaEnd (r .end) xs
+      room₁ : length (r₁ .area) ≡ areaEndBehind (r .end) xs
       room₁ =
           let l = written-long (r .area) (m .start + o) ys in
           let e = s .size in
@@ -243,19 +243,19 @@ module _ (o : ℕ) (ys : Bytes) (xs : List Stored) (r : Replay) (m : Laying) (p 
             inside = sym within-part ∙ s .inside;
           }
 
-  in-either : (m .inside ≡ true → o + length ys ≤ n) → Ending (replayStored xs (lay o ys (r .inside) r)) (areaEnd (r .end) xs) (length (m .image)) (length (m .area)) (layAll xs (layBytes o ys m))
+  in-either : (m .inside ≡ true → o + length ys ≤ n) → Ending (replayStored xs (lay o ys (r .inside) r)) (areaEndBehind (r .end) xs) (length (m .image)) (length (m .area)) (layAll xs (layBytes o ys m))
   unfolding layBytes
   in-either fit = go (m .inside) refl
     where
-      go : (b : Bool) → m .inside ≡ b → Ending (replayStored xs (lay o ys (r .inside) r)) (areaEnd (r .end) xs) (length (m .image)) (length (m .area)) (layAll xs (cond b (layPart o ys m) (layImage o ys m)))
+      go : (b : Bool) → m .inside ≡ b → Ending (replayStored xs (lay o ys (r .inside) r)) (areaEndBehind (r .end) xs) (length (m .image)) (length (m .area)) (layAll xs (cond b (layPart o ys m) (layImage o ys m)))
       go true e = in-part e (fit e)
       go false e = in-image e
 
 -- ---- a new array
 
-module _ (o n : ℕ) (xs : List Stored) (r : Replay) (m : Laying) (p k : ℕ) (s : Same r m p k) (room : length (r .area) ≡ areaEnd (partAt (r .end) + n) xs) (out : m .inside ≡ false)
+module _ (o n : ℕ) (xs : List Stored) (r : Replay) (m : Laying) (p k : ℕ) (s : Same r m p k) (room : length (r .area) ≡ areaEndBehind (partAt (r .end) + n) xs) (out : m .inside ≡ false)
     (place : InPlace o n (m .inside) xs) (next : Claim xs) where
-  an-array : Ending (replayStored xs (lay o (handle (r .item)) (r .inside) (withReplayPart o (partAt (r .end) + n) r))) (areaEnd (partAt (r .end) + n) xs) (length (m .image)) (length (m .area)) (layAll xs (layArray o n m))
+  an-array : Ending (replayStored xs (lay o (handle (r .item)) (r .inside) (withReplayPart o (partAt (r .end) + n) r))) (areaEndBehind (partAt (r .end) + n) xs) (length (m .image)) (length (m .area)) (layAll xs (layArray o n m))
   unfolding layArray
   an-array = go (ltb (length (m .area)) (partAt (m .end) + n)) refl
     where
@@ -285,14 +285,14 @@ module _ (o n : ℕ) (xs : List Stored) (r : Replay) (m : Laying) (p k : ℕ) (s
           }
 
       go : (t : Bool) → ltb (length (m .area)) (partAt (m .end) + n) ≡ t
-          → Ending (replayStored xs (lay o (handle (r .item)) (r .inside) r₁)) (areaEnd (partAt (r .end) + n) xs) (length (m .image)) (length (m .area)) (layAll xs (cond t none (layImage o (handle (m .item)) m₁)))
+          → Ending (replayStored xs (lay o (handle (r .item)) (r .inside) r₁)) (areaEndBehind (partAt (r .end) + n) xs) (length (m .image)) (length (m .area)) (layAll xs (cond t none (layImage o (handle (m .item)) m₁)))
       go true e =
           let h = ltb-true (length (m .area)) (partAt (m .end) + n) e in
           let f = s .end in
           let g = area-grows xs (partAt (r .end) + n) in
-          area-short xs (lay o (handle (r .item)) (r .inside) r₁) (partAt (r .end) + n) (areaEnd (partAt (r .end) + n) xs) (length (m .image)) (length (m .area)) (omega arith) g
+          area-short xs (lay o (handle (r .item)) (r .inside) r₁) (partAt (r .end) + n) (areaEndBehind (partAt (r .end) + n) xs) (length (m .image)) (length (m .area)) (omega arith) g
       go false e =
-          subst (λ (i : ℕ). Ending (replayStored xs (lay o (handle (r .item)) (r .inside) r₁)) (areaEnd (partAt (r .end) + n) xs) (length (m .image)) (length (m .area)) (layAll xs (layImage o (handle i) m₁))) (sym (s .item))
+          subst (λ (i : ℕ). Ending (replayStored xs (lay o (handle (r .item)) (r .inside) r₁)) (areaEndBehind (partAt (r .end) + n) xs) (length (m .image)) (length (m .area)) (layAll xs (layImage o (handle i) m₁))) (sym (s .item))
           (in-image o (handle (r .item)) xs r₁ m₁ o n (same₁ (ltb-false (length (m .area)) (partAt (m .end) + n) e)) room place next out)
 
 -- ---- all of it
@@ -316,7 +316,7 @@ unfolding bigEndian
 laid-all [] r m p n s room place = at-end r m p n s room place
 laid-all (bytesAt o ys ∷ xs) r m p n s room place = in-either o ys xs r m p n s room (place .1) (laid-all xs) (place .0)
 laid-all (stringAt o ∷ xs) r m p n s room place =
-    subst (λ (i : ℕ). Ending (replayStored xs (lay o (handle (r .item)) (r .inside) r)) (areaEnd (r .end) xs) (length (m .image)) (length (m .area)) (layAll xs (layBytes o (handle i) m))) (sym (s .item))
+    subst (λ (i : ℕ). Ending (replayStored xs (lay o (handle (r .item)) (r .inside) r)) (areaEndBehind (r .end) xs) (length (m .image)) (length (m .area)) (layAll xs (layBytes o (handle i) m))) (sym (s .item))
     (in-either o (handle (r .item)) xs r m p n s room (place .1) (laid-all xs) (place .0))
 laid-all (arrayAt o size k ∷ xs) r m p n s room place = an-array o (size * k) xs r m p n s room (place .0) (place .1) (laid-all xs)
 laid-all (setAt o ∷ xs) r m p n s room place = laid-all xs _ (moveTo true m) p n (moved-same s (some (startOf o (r .parts))) true (ap (λ (q : ℕ). some (startOf q (r .parts))) (place .0) ∙ ap some (s .start))) room (place .1)
@@ -325,16 +325,16 @@ laid-all (goBack ∷ xs) r m p n s room place = laid-all xs _ (moveTo false m) p
 -- ---- from the beginning, over zeros
 
 -- what replaying items in buffers of so many bytes says of their replay
-pub record Answered (q : Imaged) (image area : ℕ) (m : Laying) : Type 0 where
+pub record BuffersHold (q : Imaged) (image area : ℕ) (m : Laying) : Type 0 where
   pub is : q ≡ laid (imageBytes q) (areaBytes q)
   pub imageIs : m .image ≡ padded image (imageBytes q)
   pub areaIs : m .area ≡ padded area (areaBytes q)
   pub long : m .long ≡ length (imageBytes q)
   pub end : m .end ≡ length (areaBytes q)
 
-abbrev pub Answer : Imaged → ℕ → ℕ → Option Laying → Type 0
-Answer q image area none = q ≡ notLaid 13 0
-Answer q image area (some m) = Answered q image area m
+abbrev pub LaysAs : Imaged → ℕ → ℕ → Option Laying → Type 0
+LaysAs q image area none = q ≡ notLaid 13 0
+LaysAs q image area (some m) = BuffersHold q image area m
 
 module _ (b : Buffers) (g : Globals) where
   abbrev xs : List Stored
@@ -346,7 +346,7 @@ module _ (b : Buffers) (g : Globals) where
   all-items : replayStored xs (record { item = 0; image = replicate (g .end) 0; area = replicate e 0; end = 0; parts = []; inside = none }) ≡ replay (g .end) (g .items)
   all-items = replay-stored (g .items) _
 
-  answer-by : (t : Option Laying) → Ending (replay (g .end) (g .items)) e (b .image) (b .area) t → Answer (replayed b g) (b .image) (b .area) t
+  answer-by : (t : Option Laying) → Ending (replay (g .end) (g .items)) e (b .image) (b .area) t → LaysAs (replayed b g) (b .image) (b .area) t
   unfolding memoryOf
   answer-by none h = go (ltb (b .area) e) (ltb (b .image) (length (replay (g .end) (g .items) .image))) h
     where
@@ -358,7 +358,7 @@ module _ (b : Buffers) (g : Globals) where
       let q : replayed b g ≡ laid (memoryOf g .image) (memoryOf g .area) = rw (le-ltb (b .area) e (h .room), le-ltb (b .image) (length (replay (g .end) (g .items) .image)) (h .fits)) in
       rw q (record { is = refl; imageIs = h .imageIs; areaIs = h .areaIs; long = h .long; end = h .end ∙ sym (h .areaLong) })
 
-  pub replayed-by : InPlace 0 0 false xs → Answer (replayed b g) (b .image) (b .area) (layAll xs (layingStart (g .end) (b .image) (b .area)))
+  pub replayed-by : InPlace 0 0 false xs → LaysAs (replayed b g) (b .image) (b .area) (layAll xs (layingStart (g .end) (b .image) (b .area)))
   unfolding layingStart
   replayed-by place = answer-by (layAll xs (layingStart (g .end) (b .image) (b .area))) (go (ltb (b .image) (g .end)) refl)
     where
@@ -382,7 +382,7 @@ module _ (b : Buffers) (g : Globals) where
         inside = refl;
       }
 
-      room₀ : length (start₀ .area) ≡ areaEnd 0 xs
+      room₀ : length (start₀ .area) ≡ areaEndBehind 0 xs
       room₀ = length-replicate {A = ℕ} e 0 ∙ sym (area-end (g .items) 0)
 
       go : (t : Bool) → ltb (b .image) (g .end) ≡ t → Ending (replay (g .end) (g .items)) e (b .image) (b .area) (layAll xs (cond t none (some m₀)))
@@ -394,6 +394,6 @@ module _ (b : Buffers) (g : Globals) where
           let l = ltb-false (b .image) (g .end) k in
           rw (← all-items)
           (subst (λ (z : ℕ). Ending (replayStored xs start₀) z (b .image) (b .area) (layAll xs (some m₀))) (area-end (g .items) 0)
-          (subst (λ (i : ℕ). Ending (replayStored xs start₀) (areaEnd 0 xs) i (b .area) (layAll xs (some m₀))) (length-replicate {A = ℕ} (b .image) 0)
-          (subst (λ (a : ℕ). Ending (replayStored xs start₀) (areaEnd 0 xs) (length (zeros (b .image))) a (layAll xs (some m₀))) (length-replicate {A = ℕ} (b .area) 0)
+          (subst (λ (i : ℕ). Ending (replayStored xs start₀) (areaEndBehind 0 xs) i (b .area) (layAll xs (some m₀))) (length-replicate {A = ℕ} (b .image) 0)
+          (subst (λ (a : ℕ). Ending (replayStored xs start₀) (areaEndBehind 0 xs) (length (zeros (b .image))) a (layAll xs (some m₀))) (length-replicate {A = ℕ} (b .area) 0)
           (laid-all xs start₀ m₀ 0 0 (same₀ l) room₀ place))))

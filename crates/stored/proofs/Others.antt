@@ -138,7 +138,7 @@ type-rows id [] = noRows
 type-rows id (s ∷ ss) = rows-join (rows-one (bytes "typ") (typeFields id s) refl (type-plain id s)) (type-rows (suc id) ss)
 
 -- a word that no row of the other kinds begins with
-record Apart (w : Bytes) : Type 0 where
+record OwnKeyword (w : Bytes) : Type 0 where
   uses : same (bytes "use") w ≡ false
   pends : same (bytes "pend") w ≡ false
   places : same (bytes "glo") w ≡ false
@@ -172,7 +172,7 @@ value-plain (some (vStr s)) = (refl, (hex-plain s, tt))
 abbrev frontOf : Source → List Const → Globals → Bytes
 frontOf s cs g = concatMap recordRows (records (recordedAdts s)) ++ constRows cs ++ concatMap globalRow (g .places) ++ concatMap pendRow (g .pends)
 
-module _ {w : Bytes} (a : Apart w) where
+module _ {w : Bytes} (a : OwnKeyword w) where
   use-rows : (id : TypeKey → ℕ) (ks : List TypeKey) → Rows w (concatMap (useRow id) ks)
   unfolding useRow isPlainText
   use-rows id [] = noRows
@@ -236,7 +236,7 @@ module _ (s : Source) (cs : List Const) (g : Globals) (plain : PlainNames s cs g
   pub listing-read : (sizes : ℕ → ℕ) → Every (Readable sizes (idOf s (g .items))) (g .items) → readAll sizes (listing s cs g) ≡ map storedOf (g .items)
   unfolding listing
   listing-read sizes h =
-      let apart : Apart (bytes "dat") = record { uses = refl; pends = refl; places = refl; consts = refl; records = refl; fields = refl } in
+      let apart : OwnKeyword (bytes "dat") = record { uses = refl; pends = refl; places = refl; consts = refl; records = refl; fields = refl } in
       let id = idOf s (g .items) in
       let ts = typeRows 0 (descriptors s (g .items)) in
       let us = concatMap (useRow id) (s .needs) in
@@ -255,7 +255,7 @@ module _ (s : Source) (cs : List Const) (g : Globals) (plain : PlainNames s cs g
       → sizeIn (listing s cs g) i ≡ min (getD (descriptors s (g .items)) i no-shape .size) largestSize
   unfolding listing sizeIn
   listing-size i l h =
-      let apart : Apart (bytes "typ") = record { uses = refl; pends = refl; places = refl; consts = refl; records = refl; fields = refl } in
+      let apart : OwnKeyword (bytes "typ") = record { uses = refl; pends = refl; places = refl; consts = refl; records = refl; fields = refl } in
       let id = idOf s (g .items) in
       let ds = descriptors s (g .items) in
       let us = concatMap (useRow id) (s .needs) in

@@ -20,19 +20,19 @@ use Rattle.semantics.specs.Global.Item.{arrayItem, backItem}
 use Rattle.semantics.specs.Global.Init.{noInit, constInit, arrayInit, pendingInit}
 use Rattle.semantics.specs.Image.{wordBytes, bigBytes, elemSize}
 use Rattle.semantics.proofs.Common.{never}
-use Rattle.demand.proofs.Elements.{Sized}
+use Rattle.demand.proofs.Elements.{ValuesFit}
 use Rattle.demand.proofs.Replay.{AllSized, real-long, size-le}
 use Rattle.demand.proofs.Theorem.{vars-sized}
 use Rattle.stored.specs.Stored.{storedOf}
 use Rattle.stored.specs.Laying.{InPlace}
 
 -- items that are in place outside an array
-abbrev Outside : List Item → Type 0
-Outside js = (p n : ℕ) → InPlace p n false (map storedOf js)
+abbrev InPlaceOutside : List Item → Type 0
+InPlaceOutside js = (p n : ℕ) → InPlace p n false (map storedOf js)
 
 -- items that are in place before any such
 abbrev Closed : List Item → Type 0
-Closed is = (js : List Item) → Outside js → Outside (is ++ js)
+Closed is = (js : List Item) → InPlaceOutside js → InPlaceOutside (is ++ js)
 
 closed-join : (is js : List Item) → Closed is → Closed js → Closed (is ++ js)
 closed-join is js a b ks h p n = rw (append-assoc is js ks) (a (js ++ ks) (b ks h) p n)
@@ -54,7 +54,7 @@ big-long : (z : ℤ) → length (bigBytes z) ≡ 8
 unfolding bigEndian
 big-long z = refl
 
-module _ (js : List Item) (out : Outside js) (p n : ℕ) where
+module _ (js : List Item) (out : InPlaceOutside js) (p n : ℕ) where
   strings-in : (o : ℕ) (vs : List ConstVal) → o + 4 * length vs ≤ n → InPlace p n true (map storedOf (strItems o vs ++ (backItem ∷ js)))
   strings-in o [] h = out p n
   strings-in o (vInt x ∷ vs) h = strings-in (o + 4) vs (omega arith)
@@ -75,7 +75,7 @@ array-closed off k n [] h js out p m = (refl, out off (elemSize k * n))
 array-closed off k n (v ∷ vs) h js out p m =
     (refl, (refl, rw (append-assoc (elementItems k (v ∷ vs)) (backItem ∷ []) js) (elements-in js out off (elemSize k * n) k (v ∷ vs) (size-le k (length (v ∷ vs)) n h))))
 
-init-closed : (off : ℕ) (t : Ty) (i : Init) → Sized i → Closed (initItems off t i)
+init-closed : (off : ℕ) (t : Ty) (i : Init) → ValuesFit i → Closed (initItems off t i)
 init-closed off t noInit h js out p n = out p n
 init-closed off t (constInit (vInt x)) h js out p n = (λ e. never e, out p n)
 init-closed off t (constInit (vReal x)) h js out p n = (λ e. never e, out p n)
@@ -85,7 +85,7 @@ init-closed off t pendingInit h js out p n = out p n
 
 -- ---- all globals
 
-declare-closed : (d : Declared) (o : Option ℕ) (g : Globals) → Sized (d .first) → Closed (g .items) → Closed (declareAt d o g .items)
+declare-closed : (d : Declared) (o : Option ℕ) (g : Globals) → ValuesFit (d .first) → Closed (g .items) → Closed (declareAt d o g .items)
 declare-closed d none g h c = closed-join (g .items) _ c (init-closed _ (d .ty) (d .first) h)
 declare-closed d (some off) g h c = closed-join (g .items) _ c (init-closed off (d .ty) (d .first) h)
 

@@ -23,7 +23,7 @@ use Rattle.semantics.specs.Global.{Init, Declared, Globals, strItems, elementIt
 use Rattle.semantics.specs.Global.Values.{bigValues, wordValues}
 use Rattle.semantics.specs.Global.Item.{backItem}
 use Rattle.semantics.specs.Global.Init.{noInit, constInit, arrayInit, pendingInit}
-use Rattle.stored.proofs.Items.{Fits64, InRange}
+use Rattle.stored.proofs.Items.{Fits64, ValuesInRange}
 use Rattle.stored.proofs.Sizes.{Ranged}
 use Rattle.laws.specs.Every.{Every}
 use Rattle.laws.proofs.Every.{every-append}
@@ -112,7 +112,7 @@ contents-ranged : (off : ℕ) (k : ElemKind) (vs : List ConstVal) → Every Soun
 contents-ranged off k [] h = tt
 contents-ranged off k (v ∷ vs) h = (tt, every-append Ranged (elementItems k (v ∷ vs)) (backItem ∷ []) (elements-ranged k (v ∷ vs) h) (tt, tt))
 
-value-range : (b : Bool) (z : ℤ) → Fits64 z → InRange (cond b (bigValues (z ∷ [])) (wordValues (lowest 31 z ∷ [])))
+value-range : (b : Bool) (z : ℤ) → Fits64 z → ValuesInRange (cond b (bigValues (z ∷ [])) (wordValues (lowest 31 z ∷ [])))
 value-range true z h = (h, tt)
 value-range false z h = (low-small z, tt)
 

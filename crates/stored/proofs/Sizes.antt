@@ -20,7 +20,7 @@ use Rattle.semantics.specs.Image.{elemSize}
 use Rattle.semantics.specs.Listing.{listing}
 use Rattle.semantics.proofs.Common.{never}
 use Rattle.stored.specs.Reading.{largestSize, mostTypes, sizeIn}
-use Rattle.stored.proofs.Items.{InRange, Readable}
+use Rattle.stored.proofs.Items.{ValuesInRange, Readable}
 use Rattle.stored.proofs.Others.{PlainNames, no-shape, listing-size}
 use Rattle.laws.specs.Every.{Every}
 
@@ -205,7 +205,7 @@ few-types s is f n =
 -- ---- so every item is read back
 
 abbrev pub Ranged : Item → Type 0
-Ranged (valuesItem o vs) = InRange vs
+Ranged (valuesItem o vs) = ValuesInRange vs
 Ranged (strItem o s) = Unit {0}
 Ranged (arrayItem o k n) = Unit {0}
 Ranged (setItem o) = Unit {0}

@@ -45,12 +45,12 @@ offsets-hold (suc m) (f ∷ fs) h j l = go j l (both (holds offset f) (fits (one
     go (suc j) l w ih = ih (w .1) j (omega arith)
 
 -- what fields of a shape hold
-record Fields (fs : List (List ℕ)) : Type 0 where
+record ShapeFields (fs : List (List ℕ)) : Type 0 where
   size : upTo 4096 (getD fs 0 []) ≡ true
   count : isCount (getD fs 1 []) ≡ true
   each : (j : ℕ) → j < numberOf (getD fs 1 []) → holds offset (getD fs (2 + j) []) ≡ true
 
-shape-fields : (fs : List (List ℕ)) → fits (one size ∷ many offset ∷ []) fs ≡ true → Fields fs
+shape-fields : (fs : List (List ℕ)) → fits (one size ∷ many offset ∷ []) fs ≡ true → ShapeFields fs
 shape-fields [] h = never h
 shape-fields (f ∷ []) h = never (both (holds size f) false h .1)
 shape-fields (f ∷ (g ∷ fs)) h =
@@ -75,10 +75,10 @@ or-cases P f a b h p q = go (eqb f a) refl
     go false e = rw (eqb-true f b (rw e at h)) q
 
 module _ (s t : List ℕ) (n i : ℕ) (l : ShapeLine s t n i) where
-  shape-fit : Fields (readAt s i .fields)
+  shape-fit : ShapeFields (readAt s i .fields)
   unfolding forms
   shape-fit =
-      or-cases (λ f. fits (rowAt f .parts) (readAt s i .fields) ≡ true → Fields (readAt s i .fields)) (formAt t i) 33 40 (l .form)
+      or-cases (λ f. fits (rowAt f .parts) (readAt s i .fields) ≡ true → ShapeFields (readAt s i .fields)) (formAt t i) 33 40 (l .form)
       (shape-fields (readAt s i .fields)) (shape-fields (readAt s i .fields)) (read-fits s t n (l .checked .whole) i (l .within))
 
   pub size-is : Number.numberUpTo 65536 (getD (readAt s i .fields) 0 []) ≡ writtenShape s i .size

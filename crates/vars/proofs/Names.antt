@@ -36,10 +36,10 @@ names-all s r {count} hc =
 -- ---- whether one of them is laid out
 
 -- none of the first j is
-pub record Searching (s : Bytes) (r count j : ℕ) : Type 0 where
+pub record NoneLaid (s : Bytes) (r count j : ℕ) : Type 0 where
   pub same : laidNames (namesOn s r) ≡ laidNames (namesFrom s r count j)
 
-module _ {s : Bytes} {r count j : ℕ} (a : Searching s r count j) where
+module _ {s : Bytes} {r count j : ℕ} (a : NoneLaid s r count j) where
   pub searched : count ≤ j → false ≡ not (noneOf (laidNames (namesOn s r)))
   searched h = sym (rw (a .same, names-over s r count j h))
 
@@ -54,7 +54,7 @@ module _ {s : Bytes} {r count j : ℕ} (a : Searching s r count j) where
         go true i e′ = absurd (false≢true e′)
         go false i e′ = sym (rw (a .same, names-step s r count j h, i))
 
-    pub search-on : not b ≡ false → Searching s r count (j + 1)
+    pub search-on : not b ≡ false → NoneLaid s r count (j + 1)
     search-on e = record { same = go b nil-is e }
       where
         go : (c : Bool) → same (nameOn s r j) (bytes "nil") ≡ c → not c ≡ false → laidNames (namesOn s r) ≡ laidNames (namesFrom s r count (j + 1))

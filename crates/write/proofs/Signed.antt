@@ -13,15 +13,15 @@ use mir.Val.{Fits, SFits, toZ, ofZ}
 use mir.ValLaws.{toZ-ofZ, toZ-pos}
 use Rattle.semantics.specs.Text.{decimal, decimalℤ}
 
-abbrev held : ℤ → ℤ
-held z = toZ w64 (ofZ w64 z)
+abbrev held64 : ℤ → ℤ
+held64 z = toZ w64 (ofZ w64 z)
 
 -- what the machine makes of `!z`
 abbrev turned : ℤ → ℤ
 turned z = toZ w64 (18446744073709551615 - ofZ w64 z)
 
 -- `z as u64`, where the machine's test finds z not negative, keeps z's digits
-pub plus : (z : ℤ) → SFits w64 z → leZ (pos 0) (held z) ≡ true → (T (nonNeg (held z)) × Fits w64 (natAbs (held z))) × (decimal (natAbs (held z)) ≡ decimalℤ z)
+pub plus : (z : ℤ) → SFits w64 z → leZ (pos 0) (held64 z) ≡ true → (T (nonNeg (held64 z)) × Fits w64 (natAbs (held64 z))) × (decimal (natAbs (held64 z)) ≡ decimalℤ z)
 unfolding decimalℤ
 plus (pos a) f t = rw (toZ-ofZ w64 (pos a) f) ((tt, record { fits = wide a (f .sfits) }), refl)
   where
@@ -30,7 +30,7 @@ plus (pos a) f t = rw (toZ-ofZ w64 (pos a) f) ((tt, record { fits = wide a (f .s
 plus (negsuc a) f t = absurd (false≢true (rw (toZ-ofZ w64 (negsuc a) f) at t))
 
 -- and `(!z) as u64 + 1`, where it finds z negative, has the digits behind the sign
-pub minus : (z : ℤ) → SFits w64 z → leZ (pos 0) (held z) ≡ false
+pub minus : (z : ℤ) → SFits w64 z → leZ (pos 0) (held64 z) ≡ false
     → (T (nonNeg (turned z)) × Fits w64 (natAbs (turned z))) × Fits w64 (natAbs (turned z) + 1) × (45 ∷ decimal (natAbs (turned z) + 1) ≡ decimalℤ z)
 unfolding decimalℤ
 minus (pos a) f t = absurd (true≢false (sym (leb·zero a) ∙ (rw (toZ-ofZ w64 (pos a) f) at t)))

@@ -5,12 +5,12 @@ use Prim.Native.Nat.{_-_, _+_}
 use lib.ListN.{length}
 use denote.Ref.{now}
 use Rattle.lines.proofs.Line.{form-low}
-use Rattle.counts.proofs.Laws.{Tagging, tagging-start, tagging-case, tagging-on, tagging-end, length-line}
+use Rattle.counts.proofs.Laws.{TagsCounted, tagging-start, tagging-case, tagging-on, tagging-end, length-line}
 use Rattle.counts.proofs.tags.Statement.{statement}
 use Rattle.counts.proofs.tags.Tie as tie
 
 abbrev Inv-loop : tie.InvT-loop
-Inv-loop sheet work n i l f w₀ count₀ w count = Tagging sheet i f l w count
+Inv-loop sheet work n i l f w₀ count₀ w count = TagsCounted sheet i f l w count
 
 abbrev μ-loop : tie.MeasureT-loop
 μ-loop sheet work n i l f w₀ count₀ w count = length l + 1 - w .at

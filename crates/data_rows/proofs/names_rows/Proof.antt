@@ -4,12 +4,12 @@ use native.Mathlib.Omega.{arith}
 use denote.Ref.{now}
 use Rattle.global_table.specs.Table.{typeOn}
 use Prim.Native.Nat.{_-_}
-use Rattle.data_rows.proofs.Names.{Naming, naming-start, naming-next, naming-end}
+use Rattle.data_rows.proofs.Names.{NamesPrinted, naming-start, naming-next, naming-end}
 use Rattle.data_rows.proofs.names_rows.Statement.{statement}
 use Rattle.data_rows.proofs.names_rows.Tie as tie
 
 abbrev Inv-loop : tie.InvT-loop
-Inv-loop sheet work₀ c r x out₀ count q₀ j₀ work out q j = Naming sheet work₀ c r (x .first) count q₀ out₀ work out q j
+Inv-loop sheet work₀ c r x out₀ count q₀ j₀ work out q j = NamesPrinted sheet work₀ c r (x .first) count q₀ out₀ work out q j
 
 abbrev μ-loop : tie.MeasureT-loop
 μ-loop sheet work₀ c r x out₀ count q₀ j₀ work out q j = count - j

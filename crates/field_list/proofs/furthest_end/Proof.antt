@@ -49,7 +49,7 @@ use denote.Exit.{yes}
 use denote.Triple.Clauses.{ensured, lasts}
 use Rattle.field_list.specs.Fields.{noField, furthestIn}
 use Rattle.field_list.specs.declared.Field.{Field}
-use Rattle.field_list.proofs.Walk.{usizeTy, after, scaled, next-fits}
+use Rattle.field_list.proofs.Walk.{usizeTy, afterFirst, scaled, next-fits}
 use Rattle.field_list.proofs.Field as F
 use Rattle.field_list.proofs.Field.Laws as F′
 use Rattle.field_list.proofs.further as further
@@ -68,11 +68,11 @@ stayed = (stay-none (λ _. u64) yes, (stay-none-slice (0 ∷ []) tt (plain (λ _
 abbrev Further : {M : Type 1} (𝓤 : URA M) (H : Heap 𝓤) (A : Atoms 𝓤) (mem : Memory → SProp 𝓤) (run : Routine → Fun 𝓤) → Contract 𝓤
 Further 𝓤 H A mem run = tripleOf 𝓤 H A further.signature (further.spec 𝓤 H A mem run)
 
-abbrev withField : ℕ → Field → ℕ
-withField s f = max s (f .offset + f .size)
+abbrev furthestWith : ℕ → Field → ℕ
+furthestWith s f = max s (f .offset + f .size)
 
 -- one field more of what is left
-one-more : (s : ℕ) (ys : List Field) (i : ℕ) → i < length ys → furthestIn (withField s (getD ys i noField)) (dropL (i + 1) ys) ≡ furthestIn s (dropL i ys)
+one-more : (s : ℕ) (ys : List Field) (i : ℕ) → i < length ys → furthestIn (furthestWith s (getD ys i noField)) (dropL (i + 1) ys) ≡ furthestIn s (dropL i ys)
 one-more s ys i l = rw (drop-cons ys i noField l, add-one i)
 
 module _ {M : Type 1} (𝓤 : URA M) (H : Heap 𝓤) (A : Atoms 𝓤) (W : Given 𝓤 H A) (at-mem : Memory → SProp 𝓤) (run : Routine → Fun 𝓤) (κ : Lft) (q : Share) (s₀ : ℕ) (b o : ℕ) (γ : GName) (ys : List Field)
@@ -120,18 +120,18 @@ module _ {M : Type 1} (𝓤 : URA M) (H : Heap 𝓤) (A : Atoms 𝓤) (W : Given
       qed W [] ∵ nothing ! $ owned ! u32 (Is u32) (uint-makes 𝓤 H A W w32) (f .size) _ (LL.owed F.the-type F′.the-laws f _ g .1 .0) $ fjoin ! $
       owned ! u32 (Is u32) (uint-makes 𝓤 H A W w32) (f .offset) _ (LL.owed F.the-type F′.the-laws f _ g .0) $ fjoin ! $ owned ! E (Is E) (uint-makes 𝓤 H A W w64) s _ is $ fjoin ! $ nothing ! $ join ! $ frame ! $ done !
 
-  told : (s : ℕ) (f : Field) (r : ℕ) → ent 𝓤 (ensured 𝓤 H A further.ended (further.clauses 𝓤 H A at-mem run) tt (s, (f .offset, (f .size, tt))) tt r) (fact 𝓤 (r ≡ withField s f))
-  told s f r = exE 𝓤 _ (λ ws. snd∗ 𝓤 (sem 𝓤 H A (lasts further.ended tt (s, (f .offset, (f .size, tt))) ws)) (fact 𝓤 (r ≡ withField s f)))
+  told : (s : ℕ) (f : Field) (r : ℕ) → ent 𝓤 (ensured 𝓤 H A further.ended (further.clauses 𝓤 H A at-mem run) tt (s, (f .offset, (f .size, tt))) tt r) (fact 𝓤 (r ≡ furthestWith s f))
+  told s f r = exE 𝓤 _ (λ ws. snd∗ 𝓤 (sem 𝓤 H A (lasts further.ended tt (s, (f .offset, (f .size, tt))) ws)) (fact 𝓤 (r ≡ furthestWith s f)))
 
   -- the loop's variant: i, the furthest end so far, that i is in the slice or at its end, that what is left leads to the same end, and that it fits
-  abbrev State : Type 0
-  State = (i : ℕ) × ((s : ℕ) × ((i ≤ n) × ((furthestIn s (dropL i ys) ≡ furthestIn s₀ ys) × Is E s (vint w64 s ∷ []))))
+  abbrev TurnState : Type 0
+  TurnState = (i : ℕ) × ((s : ℕ) × ((i ≤ n) × ((furthestIn s (dropL i ys) ≡ furthestIn s₀ ys) × Is E s (vint w64 s ∷ []))))
 
-  abbrev Nearer : State → State → Type 0
+  abbrev Nearer : TurnState → TurnState → Type 0
   Nearer t u = n - t .0 < n - u .0
 
   Nearer-wf : WellFounded Nearer
-  Nearer-wf = InvImage·wf (λ (t : State). n - t .0) (Nat·lt-wfRel .wf)
+  Nearer-wf = InvImage·wf (λ (t : TurnState). n - t .0) (Nat·lt-wfRel .wf)
 
   module _ (𝓣 : Tables 𝓤 H) (fm : FmC 𝓤 H (W .laws) (𝓣 .C)) (known : Triple 𝓤 (𝓣 .C #further) (Further 𝓤 H A at-mem run)) (l₀ l₁ l₂ l₃ l₄ l₅ l₆ l₇ l₈ l₉ : ℕ) where
     abbrev C : Calls 𝓤 H
@@ -147,17 +147,17 @@ module _ {M : Type 1} (𝓤 : URA M) (H : Heap 𝓤) (A : Atoms 𝓤) (W : Given
     En = (usizeTy, l₀) ∷ (usizeTy, l₁) ∷ (slice, l₂) ∷ (usizeTy, l₃) ∷ (usizeTy, l₄) ∷ (F′.mir, l₅) ∷ (usizeTy, l₆) ∷ (tyBool, l₇) ∷ (tyPtr, l₈) ∷ (F′.mir, l₉) ∷ []
 
     -- [_9; …; _8; …; _7; …; _6; …; _5; …; _4; …; _3; …; _2; …; _1; …; room for _0; …; the fractured borrow; the token; what the slice owns]
-    abbrev At : State → List (Item 𝓤)
-    At t = ‵ (froom F′.mir l₉ 0) ∷ ‵ (fdies F′.mir l₉) ∷ ‵ (froom tyPtr l₈ 0) ∷ ‵ (fdies tyPtr l₈) ∷ ‵ (froom tyBool l₇ 0) ∷ ‵ (fdies tyBool l₇) ∷ ‵ (froom usizeTy l₆ 0) ∷ ‵ (fdies usizeTy l₆) ∷ ‵ (froom F′.mir l₅ 0) ∷ ‵ (fdies F′.mir l₅)
+    abbrev HeldItems : TurnState → List (Item 𝓤)
+    HeldItems t = ‵ (froom F′.mir l₉ 0) ∷ ‵ (fdies F′.mir l₉) ∷ ‵ (froom tyPtr l₈ 0) ∷ ‵ (fdies tyPtr l₈) ∷ ‵ (froom tyBool l₇ 0) ∷ ‵ (fdies tyBool l₇) ∷ ‵ (froom usizeTy l₆ 0) ∷ ‵ (fdies usizeTy l₆) ∷ ‵ (froom F′.mir l₅ 0) ∷ ‵ (fdies F′.mir l₅)
         ∷ ‵ (fat fullShare usizeTy l₄ 0 (vint w64 (t .0))) ∷ ‵ (fdies usizeTy l₄) ∷ ‵ (fat fullShare usizeTy l₃ 0 (vint w64 (t .1 .0))) ∷ ‵ (fdies usizeTy l₃)
         ∷ ‵ (fat fullShare slice l₂ 0 (sliceVal (b, o) n)) ∷ ‵ (fdies slice l₂) ∷ ‵ (fat fullShare usizeTy l₁ 0 (vint w64 s₀)) ∷ ‵ (fdies usizeTy l₁) ∷ ‵ (froom usizeTy l₀ 0) ∷ ‵ (fdies usizeTy l₀)
         ∷ ‵ Borrow ∷ ‵ (flft κ q) ∷ ‵ Own ∷ []
 
     -- a turn's postcondition: it ends nearer to the slice's end, or the loop is left and the rest of the body runs
-    abbrev Turned : State → Out → SProp 𝓤
-    Turned t = afterTurn 𝓤 H (Below 𝓤 H A Nearer At t) (afterBlock 𝓤 H (afterSeq 𝓤 H (Wp 𝓤 H C Λ En code.Mir.t-4 (atReturn 𝓤 H En Post)) (atReturn 𝓤 H En Post)))
+    abbrev Turned : TurnState → Out → SProp 𝓤
+    Turned t = afterTurn 𝓤 H (Below 𝓤 H A Nearer HeldItems t) (afterBlock 𝓤 H (afterSeq 𝓤 H (Wp 𝓤 H C Λ En code.Mir.t-4 (atReturn 𝓤 H En Post)) (atReturn 𝓤 H En Post)))
 
-    module _ (t : State) where
+    module _ (t : TurnState) where
       abbrev i : ℕ
       i = t .0
 
@@ -173,16 +173,16 @@ module _ {M : Type 1} (𝓤 : URA M) (H : Heap 𝓤) (A : Atoms 𝓤) (W : Given
       in-slice : T (ltb i n) → i < n
       in-slice less = ltb→lt i n less
 
-      abbrev next : T (ltb i n) → (r : ℕ) → r ≡ withField s f → Is E r (vint w64 r ∷ []) → State
+      abbrev next : T (ltb i n) → (r : ℕ) → r ≡ furthestWith s f → Is E r (vint w64 r ∷ []) → TurnState
       next less r e ris = (i + 1, (r, (add-one-le (in-slice less), (ap (λ (u : ℕ). furthestIn u (dropL (i + 1) ys)) e ∙ one-more s ys i (in-slice less) ∙ t .1 .1 .1 .0, ris))))
 
-      turns : Sq W (At t) (runs C Λ En code.Mir.turn-1 (anyQ (Turned t)))
+      turns : Sq W (HeldItems t) (runs C Λ En code.Mir.turn-1 (anyQ (Turned t)))
       unfolding afterTurn
       turns =
           assigns ! (of-opd ! (load ! (from ! (fld ! refl (stop !))) (look-in ! 14 (sub ! 1 refl (whole !))))) (from ! (stop !)) (init ! 6 refl (tt, record { fits = room .0 })) $
           assigns ! (bin ! (load ! (from ! (stop !)) (look ! 10 refl)) (load ! (from ! (stop !)) (look ! 6 refl)) tt) (from ! (stop !)) (init ! 4 refl (tt, tt)) $
           first ! $ branches ! (load ! (from ! (stop !)) (look ! 4 refl))
-          (λ less. skips ! $ exec ! C Λ En (after (after (after code.Mir.turn-1))) (anyQ (Turned t)) $
+          (λ less. skips ! $ exec ! C Λ En (afterFirst (afterFirst (afterFirst code.Mir.turn-1))) (anyQ (Turned t)) $
           assigns ! (bin ! (load ! (from ! (stop !)) (look ! 10 refl)) (lit ! tt) (record { fits = scaled (in-slice less) (room .1) })) (from ! (stop !)) (store ! 6 refl (tt, record { fits = scaled (in-slice less) (room .1) })) $
           assigns ! (bin ! (load ! (from ! (fld ! refl (stop !))) (look-in ! 14 (sub ! 0 refl (whole !)))) (load ! (from ! (stop !)) (look ! 6 refl)) tt) (from ! (stop !)) (init ! 2 refl (tt, tt)) $
           rewrite ! 2 (λ (p : ℕ). ‵ (fat fullShare tyPtr l₈ 0 (vptr b p))) (sym (place-is 12 o i)) refl $
@@ -199,14 +199,14 @@ module _ {M : Type 1} (𝓤 : URA M) (H : Heap 𝓤) (A : Atoms 𝓤) (W : Given
           use0 W (raw (Further 𝓤 H A at-mem run .pre (to-further s f))) (goes s f is g) $
           calls-at ! fm (Further 𝓤 H A at-mem run) known (to-further s f) (and-then ! (load ! (from ! (stop !)) (look ! 15 refl)) (and-then ! (load ! (from ! (fld ! refl (stop !))) (look-in ! 11 (sub ! 0 refl (whole !)))) (and-then ! (load ! (from ! (fld ! refl (stop !))) (look-in ! 11 (sub ! 1 refl (whole !)))) (no-more !)))) (λ v.
           use1 W (later (some (λ (r : ℕ). (‵ ftrue ⊛ ‵ (E .own r (v ∷ []))) ⊛ raw (ensured 𝓤 H A further.ended (further.clauses 𝓤 H A at-mem run) tt (s, (f .offset, (f .size, tt))) tt r)))) (id⊢ 𝓤 _) $ await ! tt $ pick ! (λ r.
-          split ! $ move ! (1 ∷ []) $ use1 W (raw (fact 𝓤 (r ≡ withField s f))) (told s f r) $ heard ! (r ≡ withField s f) (λ e. split ! $ drop ! $
+          split ! $ move ! (1 ∷ []) $ use1 W (raw (fact 𝓤 (r ≡ furthestWith s f))) (told s f r) $ heard ! (r ≡ furthestWith s f) (λ e. split ! $ drop ! $
           peeks ! E (Is E) (shows 𝓤 H A E) r (v ∷ []) (λ ris.
           land ! (from ! (stop !)) (store ! 15 refl (uint-lawful 𝓤 H A W w64 .typed r _ ris .0)) $ rewrite ! 15 (λ (u : Val). ‵ (fat fullShare usizeTy l₃ 0 u)) (ap only (ris .0)) refl $ drop ! $
           -- i moves on, and the invariant holds there
           assigns-last ! (bin ! (load ! (from ! (stop !)) (look ! 12 refl)) (lit ! tt) (record { fits = next-fits (in-slice less) (room .0) })) (from ! (stop !)) (store ! 12 refl (tt, record { fits = next-fits (in-slice less) (room .0) })) $
           forget ! 2 refl $ forget ! 4 refl $ forget ! 6 refl $ forget ! 8 refl $ forget ! 10 refl $
           keep ! (2 ∷ 3 ∷ 4 ∷ 5 ∷ 6 ∷ 7 ∷ 8 ∷ 9 ∷ 10 ∷ 11 ∷ 12 ∷ 13 ∷ 14 ∷ 15 ∷ 16 ∷ 17 ∷ 18 ∷ 19 ∷ 20 ∷ 21 ∷ 1 ∷ 0 ∷ 22 ∷ []) $
-          again ! Nearer At t (next less r e (refl, ris .1)) (add-one-dec n i (in-slice less)))))))))
+          again ! Nearer HeldItems t (next less r e (refl, ris .1)) (add-one-dec n i (in-slice less)))))))))
           (λ over. jumps ! $ exec ! C Λ En code.Mir.t-4 (atRet En Post) $
           assigns ! (of-opd ! (load ! (from ! (stop !)) (look ! 12 refl))) (from ! (stop !)) (init ! 18 refl (uint-lawful 𝓤 H A W w64 .typed s _ is .0)) $
           returns ! (look ! 18 refl) $ forget ! 4 refl $ forget ! 6 refl $ forget ! 10 refl $ forget ! 12 refl $ forget ! 14 refl $ forget ! 16 refl $ forget ! 18 refl $
@@ -215,8 +215,8 @@ module _ {M : Type 1} (𝓤 : URA M) (H : Heap 𝓤) (A : Atoms 𝓤) (W : Given
           keep ! (1 ∷ 2 ∷ []) $ by ! (exits s (sym (ap (furthestIn s) (drop-of-length-le ys (nltb→le i n over))) ∙ t .1 .1 .1 .0) is))
 
     -- the loop, and the rest of the body
-    looped : Sq W (At (0, (s₀, (zero-le, (refl, s₀-is))))) (runs C Λ En code.Mir.t-3 (atRet En Post))
-    looped = first ! $ blocks ! $ loops ! 𝓣 Nearer Nearer-wf At turns (0, (s₀, (zero-le, (refl, s₀-is))))
+    looped : Sq W (HeldItems (0, (s₀, (zero-le, (refl, s₀-is))))) (runs C Λ En code.Mir.t-3 (atRet En Post))
+    looped = first ! $ blocks ! $ loops ! 𝓣 Nearer Nearer-wf HeldItems turns (0, (s₀, (zero-le, (refl, s₀-is))))
 
   walk : (𝓣 : Tables 𝓤 H) → FmC 𝓤 H (W .laws) (𝓣 .C) → Triple 𝓤 (𝓣 .C #further) (Further 𝓤 H A at-mem run) → ent 𝓤 (onEntry 𝓤 H A furthest-end.signature (κ, tt) (q, tt) x at) (WpFn 𝓤 H (𝓣 .C) (𝓣 .Λ) code.function (vint w64 s₀ ∷ sliceVal (b, o) n ∷ []) Post)
   walk 𝓣 fm known =

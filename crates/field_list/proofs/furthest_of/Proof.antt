@@ -84,19 +84,19 @@ module _ {M : Type 1} (𝓤 : URA M) (H : Heap 𝓤) (A : Atoms 𝓤) (W : Given
   Post = walkOf 𝓤 H A furthest-of.ended stayed (furthest-of.clauses 𝓤 H A at-mem run) .post ((tt, tt, tt, x, at), tt)
 
   -- what `furthest_end`'s triple binds outside: the local at b, lent for the lifetime ν under the name δ
-  abbrev lent : ℕ → GName → RefT (List Field)
-  lent b δ = record { ptr = (b, 0); name = δ; now = zs }
+  abbrev lentLocal : ℕ → GName → RefT (List Field)
+  lentLocal b δ = record { ptr = (b, 0); name = δ; now = zs }
 
   abbrev to-furthest-end : ℕ → ℕ → GName → FurthestEnd 𝓤 H A at-mem run .Ghost
-  to-furthest-end b ν δ = (((ν ∷ [], tt), (fullShare, tt), tt, (s₀, (lent b δ, tt)), (vint w64 s₀ ∷ [], (sliceVal (b, 0) k ∷ [], tt))), tt)
+  to-furthest-end b ν δ = (((ν ∷ [], tt), (fullShare, tt), tt, (s₀, (lentLocal b δ, tt)), (vint w64 s₀ ∷ [], (sliceVal (b, 0) k ∷ [], tt))), tt)
 
-  goes : (b ν : ℕ) (δ : GName) → ent 𝓤 (sep 𝓤 (A .lft (ν ∷ []) fullShare) (sem 𝓤 H A (ShrSlice (named 0) (ν ∷ []) R .own (lent b δ) (sliceVal (b, 0) k ∷ [])))) (FurthestEnd 𝓤 H A at-mem run .pre (to-furthest-end b ν δ))
+  goes : (b ν : ℕ) (δ : GName) → ent 𝓤 (sep 𝓤 (A .lft (ν ∷ []) fullShare) (sem 𝓤 H A (ShrSlice (named 0) (ν ∷ []) R .own (lentLocal b δ) (sliceVal (b, 0) k ∷ [])))) (FurthestEnd 𝓤 H A at-mem run .pre (to-furthest-end b ν δ))
   goes b ν δ =
-      qed W (‵ (flft (ν ∷ []) fullShare) ∷ ‵ (ShrSlice (named 0) (ν ∷ []) R .own (lent b δ) (sliceVal (b, 0) k ∷ [])) ∷ []) ∵
+      qed W (‵ (flft (ν ∷ []) fullShare) ∷ ‵ (ShrSlice (named 0) (ν ∷ []) R .own (lentLocal b δ) (sliceVal (b, 0) k ∷ [])) ∷ []) ∵
       nothing ! $ move ! (1 ∷ 0 ∷ []) $ join ! $ nothing ! $ move ! (2 ∷ 0 ∷ []) $ fjoin ! $ owned ! E (Is E) (uint-makes 𝓤 H A W w64) s₀ _ s₀-is $ fjoin ! $ move ! (1 ∷ 0 ∷ []) $ join ! $ frame ! $ done !
 
-  told : (b ν : ℕ) (δ : GName) (r : ℕ) → ent 𝓤 (ensured 𝓤 H A furthest-end.ended (furthest-end.clauses 𝓤 H A at-mem run) (ν ∷ [], tt) (s₀, (lent b δ, tt)) tt r) (fact 𝓤 (r ≡ furthestIn s₀ zs))
-  told b ν δ r = exE 𝓤 _ (λ ws. snd∗ 𝓤 (sem 𝓤 H A (lasts furthest-end.ended (ν ∷ [], tt) (s₀, (lent b δ, tt)) ws)) (fact 𝓤 (r ≡ furthestIn s₀ zs)))
+  told : (b ν : ℕ) (δ : GName) (r : ℕ) → ent 𝓤 (ensured 𝓤 H A furthest-end.ended (furthest-end.clauses 𝓤 H A at-mem run) (ν ∷ [], tt) (s₀, (lentLocal b δ, tt)) tt r) (fact 𝓤 (r ≡ furthestIn s₀ zs))
+  told b ν δ r = exE 𝓤 _ (λ ws. snd∗ 𝓤 (sem 𝓤 H A (lasts furthest-end.ended (ν ∷ [], tt) (s₀, (lentLocal b δ, tt)) ws)) (fact 𝓤 (r ≡ furthestIn s₀ zs)))
 
   exits : (r : ℕ) → r ≡ furthestIn s₀ zs → Is E r (vint w64 r ∷ []) → ent 𝓤 (emp 𝓤) (Post (vint w64 r))
   exits r e is =
@@ -118,12 +118,12 @@ module _ {M : Type 1} (𝓤 : URA M) (H : Heap 𝓤) (A : Atoms 𝓤) (W : Given
         -- the local's first k elements are cut off, and lent as a slice for a lifetime ν of the call
         move ! (4 ∷ []) $ use1 W (‵ (Lent ys k ys-is within l₄) ⊛ ‵ (Rest ys k ys-is within l₄)) (first-out ys k ys-is within 𝓤 H A W l₄) $ split ! $
         lft-new ! tt (λ ν. move ! (1 ∷ []) $
-        use1 W (later (some (λ (δ : GName). ‵ (ShrSlice (named 0) (ν ∷ []) R .own (lent l₄ δ) (sliceVal (l₄, 0) (length zs) ∷ [])) ⊛ ‵ (flent (ν ∷ []) (arr-parts (shares R) (length zs) .part fullShare zs l₄ 0))))) (lends-shr-slice 𝓤 H A W R (named 0) (ν ∷ []) fullShare zs l₄ 0 (room ys k ys-is within)) $ await ! tt $ pick ! (λ δ. split ! $
-        rewrite ! 0 (λ (m : ℕ). ‵ (ShrSlice (named 0) (ν ∷ []) R .own (lent l₄ δ) (sliceVal (l₄, 0) m ∷ []))) (counted ys k ys-is within) refl $
+        use1 W (later (some (λ (δ : GName). ‵ (ShrSlice (named 0) (ν ∷ []) R .own (lentLocal l₄ δ) (sliceVal (l₄, 0) (length zs) ∷ [])) ⊛ ‵ (flent (ν ∷ []) (arr-parts (shares R) (length zs) .part fullShare zs l₄ 0))))) (lends-shr-slice 𝓤 H A W R (named 0) (ν ∷ []) fullShare zs l₄ 0 (room ys k ys-is within)) $ await ! tt $ pick ! (λ δ. split ! $
+        rewrite ! 0 (λ (m : ℕ). ‵ (ShrSlice (named 0) (ν ∷ []) R .own (lentLocal l₄ δ) (sliceVal (l₄, 0) m ∷ []))) (counted ys k ys-is within) refl $
         move ! (2 ∷ 0 ∷ []) $ use2 W (raw (FurthestEnd 𝓤 H A at-mem run .pre (to-furthest-end l₄ ν δ))) (goes l₄ ν δ) $
         -- [what `furthest_end` asks; the lender's part; the rest of the array; _6; …; _5; …; …; _3; …; _2; …; _1; …; room for _0; …]
         calls-at ! fm (FurthestEnd 𝓤 H A at-mem run) known (to-furthest-end l₄ ν δ) (and-then ! (load ! (from ! (stop !)) (look ! 12 refl)) (and-then ! (load ! (from ! (stop !)) (look ! 3 refl)) (no-more !))) (λ w.
-        use1 W (later (some (λ (r : ℕ). ((‵ (flft (ν ∷ []) fullShare) ⊛ ‵ ftrue) ⊛ ‵ (E .own r (w ∷ []))) ⊛ raw (ensured 𝓤 H A furthest-end.ended (furthest-end.clauses 𝓤 H A at-mem run) (ν ∷ [], tt) (s₀, (lent l₄ δ, tt)) tt r)))) (id⊢ 𝓤 _) $ await ! tt $ pick ! (λ r.
+        use1 W (later (some (λ (r : ℕ). ((‵ (flft (ν ∷ []) fullShare) ⊛ ‵ ftrue) ⊛ ‵ (E .own r (w ∷ []))) ⊛ raw (ensured 𝓤 H A furthest-end.ended (furthest-end.clauses 𝓤 H A at-mem run) (ν ∷ [], tt) (s₀, (lentLocal l₄ δ, tt)) tt r)))) (id⊢ 𝓤 _) $ await ! tt $ pick ! (λ r.
         split ! $ move ! (1 ∷ []) $ use1 W (raw (fact 𝓤 (r ≡ furthestIn s₀ zs))) (told l₄ ν δ r) $ heard ! (r ≡ furthestIn s₀ zs) (λ e. split ! $ move ! (1 ∷ []) $ peeks ! E (Is E) (shows 𝓤 H A E) r (w ∷ []) (λ is.
         land ! (from ! (stop !)) (init ! 15 refl (uint-lawful 𝓤 H A W w64 .typed r _ is .0)) $ rewrite ! 15 (λ (u : Val). ‵ (fat fullShare (tyInt w64) l₀ 0 u)) (ap only (is .0)) refl $
         -- the lifetime is ended, and the local comes back

@@ -7,12 +7,12 @@ use borrow.Author.Needs.{needs}
 use Rattle.write.proofs.Wrote.{wrote-length}
 use Rattle.sizes.specs.Places.{fdAt}
 use Rattle.sizes.proofs.Places.{type-line, names-few, names-are, names-small}
-use Rattle.field_rows.proofs.Fields.{Naming, naming-start, naming-next, naming-end, name-at, line-untyped, line-typed}
+use Rattle.field_rows.proofs.Fields.{NameRowsWritten, naming-start, naming-next, naming-end, name-at, line-untyped, line-typed}
 use Rattle.field_rows.proofs.put_line.Statement.{statement}
 use Rattle.field_rows.proofs.put_line.Tie as tie
 
 abbrev Inv-loop : tie.InvT-loop
-Inv-loop sheet work n r out₀ t size count end₀ at₀ j₀ out end at j = Naming size end₀ (fdAt sheet r .names) out₀ at₀ out at end j
+Inv-loop sheet work n r out₀ t size count end₀ at₀ j₀ out end at j = NameRowsWritten size end₀ (fdAt sheet r .names) out₀ at₀ out at end j
 
 abbrev μ-loop : tie.MeasureT-loop
 μ-loop sheet work n r out₀ t size count end₀ at₀ j₀ out end at j = count - j

@@ -61,8 +61,8 @@ abbrev stayed : Stays (advance.ended .signature .params) (advance.ended .kept)
 stayed = (stay-none (λ _. T.the-row) yes, (stay-none (λ _. usize) yes, (stay-none (λ _. usize) yes, tt)))
 
 -- the contract that the proof cites
-abbrev Next : {M : Type 1} (𝓤 : URA M) (H : Heap 𝓤) (A : Atoms 𝓤) (mem : Memory → SProp 𝓤) (run : Routine → Fun 𝓤) → Contract 𝓤
-Next 𝓤 H A mem run = tripleOf 𝓤 H A next.signature (next.spec 𝓤 H A mem run)
+abbrev NextContract : {M : Type 1} (𝓤 : URA M) (H : Heap 𝓤) (A : Atoms 𝓤) (mem : Memory → SProp 𝓤) (run : Routine → Fun 𝓤) → Contract 𝓤
+NextContract 𝓤 H A mem run = tripleOf 𝓤 H A next.signature (next.spec 𝓤 H A mem run)
 
 module _ {M : Type 1} (𝓤 : URA M) (H : Heap 𝓤) (A : Atoms 𝓤) (W : Given 𝓤 H A) (at-mem : Memory → SProp 𝓤) (run : Routine → Fun 𝓤) (h : IotaCounter) (l c : ℕ) (h-is : Is T.the-row h (T′.lowered h ∷ [])) (l-fits : l < 2 ^ 64) (c-fits : c < 2 ^ 64) where
   abbrev R : RattleType
@@ -81,15 +81,15 @@ module _ {M : Type 1} (𝓤 : URA M) (H : Heap 𝓤) (A : Atoms 𝓤) (W : Given
   Post = walkOf 𝓤 H A advance.ended stayed (advance.clauses 𝓤 H A at-mem run) .post ((tt, tt, tt, x, at), tt)
 
   -- what `next`'s triple binds outside: the local at b, lent for the lifetime ν under the name δ
-  abbrev lent : ℕ → GName → RefT IotaCounter
-  lent b δ = record { ptr = (b, 0); name = δ; now = h }
+  abbrev lentLocal : ℕ → GName → RefT IotaCounter
+  lentLocal b δ = record { ptr = (b, 0); name = δ; now = h }
 
-  abbrev to-next : ℕ → ℕ → GName → Next 𝓤 H A at-mem run .Ghost
-  to-next b ν δ = (((ν ∷ [], tt), (fullShare, tt), tt, (lent b δ, (l, (c, tt))), (vptr b 0 ∷ [], (vint w64 l ∷ [], (vint w64 c ∷ [], tt)))), tt)
+  abbrev to-next : ℕ → ℕ → GName → NextContract 𝓤 H A at-mem run .Ghost
+  to-next b ν δ = (((ν ∷ [], tt), (fullShare, tt), tt, (lentLocal b δ, (l, (c, tt))), (vptr b 0 ∷ [], (vint w64 l ∷ [], (vint w64 c ∷ [], tt)))), tt)
 
-  goes : (b ν : ℕ) (δ : GName) → ent 𝓤 (sep 𝓤 (A .lft (ν ∷ []) fullShare) (sem 𝓤 H A (MutRef (named 0) (ν ∷ []) R .own (lent b δ) (vptr b 0 ∷ [])))) (Next 𝓤 H A at-mem run .pre (to-next b ν δ))
+  goes : (b ν : ℕ) (δ : GName) → ent 𝓤 (sep 𝓤 (A .lft (ν ∷ []) fullShare) (sem 𝓤 H A (MutRef (named 0) (ν ∷ []) R .own (lentLocal b δ) (vptr b 0 ∷ [])))) (NextContract 𝓤 H A at-mem run .pre (to-next b ν δ))
   goes b ν δ =
-      qed W (‵ (flft (ν ∷ []) fullShare) ∷ ‵ (MutRef (named 0) (ν ∷ []) R .own (lent b δ) (vptr b 0 ∷ [])) ∷ []) ∵ nothing ! $ move ! (1 ∷ 0 ∷ []) $ join ! $
+      qed W (‵ (flft (ν ∷ []) fullShare) ∷ ‵ (MutRef (named 0) (ν ∷ []) R .own (lentLocal b δ) (vptr b 0 ∷ [])) ∷ []) ∵ nothing ! $ move ! (1 ∷ 0 ∷ []) $ join ! $
       nothing ! $ owned ! usize (Is usize) (uint-makes 𝓤 H A W w64) c _ (refl, c-fits) $ fjoin ! $ owned ! usize (Is usize) (uint-makes 𝓤 H A W w64) l _ (refl, l-fits) $ fjoin ! $ move ! (2 ∷ 0 ∷ []) $ fjoin ! $ move ! (1 ∷ 0 ∷ []) $ join ! $ frame ! $ done !
 
   -- the result, of a value and a counter
@@ -106,7 +106,7 @@ module _ {M : Type 1} (𝓤 : URA M) (H : Heap 𝓤) (A : Atoms 𝓤) (W : Given
       drop ! $ owned ! S (Is S) ((LL.makes U.the-type U′.the-plain) 𝓤 H A) (made r k) _ is $ nothing ! $ owned ! usize (Is usize) (uint-makes 𝓤 H A W w64) c _ (refl, c-fits) $ fjoin ! $ owned ! usize (Is usize) (uint-makes 𝓤 H A W w64) l _ (refl, l-fits) $ fjoin ! $
       owned ! R (Is R) ((LL.makes T.the-type T′.the-plain) 𝓤 H A) h _ h-is $ fjoin ! $ nothing ! $ done !
 
-  module _ (C : Calls 𝓤 H) (Λ : Loops 𝓤 H) (fm : FmC 𝓤 H (W .laws) C) (known : Triple 𝓤 (C #next) (Next 𝓤 H A at-mem run)) where
+  module _ (C : Calls 𝓤 H) (Λ : Loops 𝓤 H) (fm : FmC 𝓤 H (W .laws) C) (known : Triple 𝓤 (C #next) (NextContract 𝓤 H A at-mem run)) where
     walk : ent 𝓤 (onEntry 𝓤 H A advance.signature tt tt x at) (WpFn 𝓤 H C Λ code.function (T′.lowered h ∷ vint w64 l ∷ vint w64 c ∷ []) Post)
     unfolding partOf
     walk =
@@ -120,13 +120,13 @@ module _ {M : Type 1} (𝓤 : URA M) (H : Heap 𝓤) (A : Atoms 𝓤) (W : Given
         move ! (6 ∷ []) $ use1 W (‵ (cellAt fullShare (R .mir) (T′.lowered h ∷ []) l₄ 0)) (W .laws .at-raw fullShare T′.mir l₄ 0 (T′.lowered h)) $
         owned ! R (Is R) ((LL.makes T.the-type T′.the-plain) 𝓤 H A) h _ h-is $ move ! (1 ∷ 0 ∷ []) $ fjoin ! $ fpack ! (List Val) (λ us. fsep (cellAt fullShare (R .mir) us l₄ 0) (R .own h us)) (T′.lowered h ∷ []) $
         lft-new ! tt (λ ν. move ! (1 ∷ []) $
-        use1 W (later (some (λ (δ : GName). ‵ (MutRef (named 0) (ν ∷ []) R .own (lent l₄ δ) (vptr l₄ 0 ∷ [])) ⊛ ‵ (flent (ν ∷ []) (Body (mem R) l₄ 0 δ))))) (lends-ref 𝓤 H A W R (named 0) (ν ∷ []) h l₄ 0) $ await ! tt $ pick ! (λ δ. split ! $
-        move ! (2 ∷ 0 ∷ []) $ use2 W (raw (Next 𝓤 H A at-mem run .pre (to-next l₄ ν δ))) (goes l₄ ν δ) $
+        use1 W (later (some (λ (δ : GName). ‵ (MutRef (named 0) (ν ∷ []) R .own (lentLocal l₄ δ) (vptr l₄ 0 ∷ [])) ⊛ ‵ (flent (ν ∷ []) (Body (mem R) l₄ 0 δ))))) (lends-ref 𝓤 H A W R (named 0) (ν ∷ []) h l₄ 0) $ await ! tt $ pick ! (λ δ. split ! $
+        move ! (2 ∷ 0 ∷ []) $ use2 W (raw (NextContract 𝓤 H A at-mem run .pre (to-next l₄ ν δ))) (goes l₄ ν δ) $
         -- [what `next` asks; the lender's part; _7; …; _6; …; _5; …; …; _3; …; _2; …; _1; …; room for _0; …]
-        calls-at ! fm (Next 𝓤 H A at-mem run) known (to-next l₄ ν δ) (and-then ! (load ! (from ! (stop !)) (look ! 4 refl)) (and-then ! (load ! (from ! (stop !)) (look ! 11 refl)) (and-then ! (load ! (from ! (stop !)) (look ! 9 refl)) (no-more !)))) (λ w.
-        use1 W (later (some (λ (r : ℕ). ((‵ (flft (ν ∷ []) fullShare) ⊛ ‵ ftrue) ⊛ ‵ (u32 .own r (w ∷ []))) ⊛ raw (ensured 𝓤 H A next.ended (next.clauses 𝓤 H A at-mem run) (ν ∷ [], tt) (lent l₄ δ, (l, (c, tt))) tt r)))) (id⊢ 𝓤 _) $ await ! tt $ pick ! (λ r.
+        calls-at ! fm (NextContract 𝓤 H A at-mem run) known (to-next l₄ ν δ) (and-then ! (load ! (from ! (stop !)) (look ! 4 refl)) (and-then ! (load ! (from ! (stop !)) (look ! 11 refl)) (and-then ! (load ! (from ! (stop !)) (look ! 9 refl)) (no-more !)))) (λ w.
+        use1 W (later (some (λ (r : ℕ). ((‵ (flft (ν ∷ []) fullShare) ⊛ ‵ ftrue) ⊛ ‵ (u32 .own r (w ∷ []))) ⊛ raw (ensured 𝓤 H A next.ended (next.clauses 𝓤 H A at-mem run) (ν ∷ [], tt) (lentLocal l₄ δ, (l, (c, tt))) tt r)))) (id⊢ 𝓤 _) $ await ! tt $ pick ! (λ r.
         -- what `next` ensures, at some last counter
-        split ! $ move ! (1 ∷ []) $ use1 W (some (λ (ks : IotaCounter × (Unit {0} × (Unit {0} × Unit {0}))). ‵ (lasts next.ended (ν ∷ [], tt) (lent l₄ δ, (l, (c, tt))) ks) ⊛ raw (fact 𝓤 ((r ≡ iotaAt l c (counterOf h)) × (ks .0 ≡ movedOf h l c))))) (id⊢ 𝓤 _) $ pick ! (λ ks.
+        split ! $ move ! (1 ∷ []) $ use1 W (some (λ (ks : IotaCounter × (Unit {0} × (Unit {0} × Unit {0}))). ‵ (lasts next.ended (ν ∷ [], tt) (lentLocal l₄ δ, (l, (c, tt))) ks) ⊛ raw (fact 𝓤 ((r ≡ iotaAt l c (counterOf h)) × (ks .0 ≡ movedOf h l c))))) (id⊢ 𝓤 _) $ pick ! (λ ks.
         split ! $ move ! (1 ∷ []) $ heard ! ((r ≡ iotaAt l c (counterOf h)) × (ks .0 ≡ movedOf h l c)) (λ e. fsplit ! $
         move ! (2 ∷ []) $ split ! $ move ! (1 ∷ []) $ peeks ! u32 (Is u32) (shows 𝓤 H A u32) r (w ∷ []) (λ is.
         land ! (from ! (stop !)) (init ! 9 refl (uint-lawful 𝓤 H A W w32 .typed r _ is .0)) $ rewrite ! 9 (λ (u : Val). ‵ (fat fullShare (tyInt w32) l₅ 0 u)) (ap only (is .0)) refl $
@@ -144,11 +144,11 @@ module _ {M : Type 1} (𝓤 : URA M) (H : Heap 𝓤) (A : Atoms 𝓤) (W : Given
         keep ! (0 ∷ []) $ by ! (exits r (ks .0) e (made-is r (ks .0) (refl, is .1) isk)))))))))))))))))))
 
 module _ {M : Type 1} (𝓤 : URA M) (H : Heap 𝓤) (A : Atoms 𝓤) (W : Given 𝓤 H A) (mem : Memory → SProp 𝓤) (run : Routine → Fun 𝓤) where
-  advance-walks : (C : Calls 𝓤 H) (Λ : Loops 𝓤 H) → FmC 𝓤 H (W .laws) C → Triple 𝓤 (C #next) (Next 𝓤 H A mem run) → Walks 𝓤 H A advance.ended stayed (WpFn 𝓤 H C Λ code.function) (advance.clauses 𝓤 H A mem run)
+  advance-walks : (C : Calls 𝓤 H) (Λ : Loops 𝓤 H) → FmC 𝓤 H (W .laws) C → Triple 𝓤 (C #next) (NextContract 𝓤 H A mem run) → Walks 𝓤 H A advance.ended stayed (WpFn 𝓤 H C Λ code.function) (advance.clauses 𝓤 H A mem run)
   advance-walks C Λ fm known = walked 𝓤 H A advance.ended stayed (advance.clauses 𝓤 H A mem run) (WpFn 𝓤 H C Λ code.function) (λ κs. (LL.vals T.the-type T′.the-laws, (uint-vals w64, (uint-vals w64, tt)))) (λ κs. (LL.tells T.the-type T′.the-laws, (uint-tells w64, (uint-tells w64, tt))))
       (λ κs qs bounds a g are. via 𝓤 _ (fst∗ 𝓤 _ (emp 𝓤)) (walk 𝓤 H A W mem run (a .0) (a .1 .0) (a .1 .1 .0) (are .0) (are .1 .0 .1) (are .1 .1 .0 .1) C Λ fm known))
 
-advance-meets : {M : Type 1} (𝓤 : URA M) (H : Heap 𝓤) (A : Atoms 𝓤) → Given 𝓤 H A → (mem : Memory → SProp 𝓤) (run : Routine → Fun 𝓤) (𝓣 : Tables 𝓤 H) → Triple 𝓤 (𝓣 .C #next) (Next 𝓤 H A mem run)
+advance-meets : {M : Type 1} (𝓤 : URA M) (H : Heap 𝓤) (A : Atoms 𝓤) → Given 𝓤 H A → (mem : Memory → SProp 𝓤) (run : Routine → Fun 𝓤) (𝓣 : Tables 𝓤 H) → Triple 𝓤 (𝓣 .C #next) (NextContract 𝓤 H A mem run)
     → Meets 𝓤 H A advance.signature (WpFn 𝓤 H (𝓣 .C) (𝓣 .Λ) code.function) (advance.spec 𝓤 H A mem run)
 advance-meets 𝓤 H A W mem run 𝓣 known =
     walk-meets 𝓤 H A advance.ended stayed W (goes-none 𝓤 H A W 0 (λ _. T.the-row) yes (λ κs x f. refl), (goes-none 𝓤 H A W 0 (λ _. usize) yes (λ κs x f. refl), (goes-none 𝓤 H A W 0 (λ _. usize) yes (λ κs x f. refl), tt))) (advance.clauses 𝓤 H A mem run)
@@ -160,4 +160,4 @@ advance-spec 𝓤 H 𝓜 𝓖 𝓡 =
     entered 𝓤 H (tripleOf 𝓤 H (𝓖 .A) advance.signature (advance.spec 𝓤 H (𝓖 .A) (𝓜 .mem) (𝓡 .run)))
     (tables 𝓤 H 𝓜 𝓡 code.env .C) (tables 𝓤 H 𝓜 𝓡 code.env .Λ) #advance code.function (code.unfolded 𝓤 H 𝓜 𝓡)
     (advance-meets 𝓤 H (𝓖 .A) (givenOf 𝓤 H 𝓜 𝓖) (𝓜 .mem) (𝓡 .run) (tablesOf 𝓤 H 𝓜 (tables 𝓤 H 𝓜 𝓡 code.env))
-    (cited 𝓤 H (Next 𝓤 H (𝓖 .A) (𝓜 .mem) (𝓡 .run)) 𝓜 𝓡 code.env #next next-def.routine code.calls-iota·IotaCounter·next (next-thm.met 𝓤 H 𝓜 𝓖 𝓡)))
+    (cited 𝓤 H (NextContract 𝓤 H (𝓖 .A) (𝓜 .mem) (𝓡 .run)) 𝓜 𝓡 code.env #next next-def.routine code.calls-iota·IotaCounter·next (next-thm.met 𝓤 H 𝓜 𝓖 𝓡)))

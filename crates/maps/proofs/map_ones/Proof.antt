@@ -1,4 +1,4 @@
-use Rattle.maps.proofs.Maps.{map-fits, bytes-count, Counting, counting-start, counting-next, counting-end}
+use Rattle.maps.proofs.Maps.{map-fits, bytes-count, OnesCounted, counting-start, counting-next, counting-end}
 use denote.Ref.{now}
 use mathlib.Core.List.{[]}
 use native.Mathlib.Omega.{arith}
@@ -7,7 +7,7 @@ use Rattle.maps.proofs.map_ones.Statement.{statement}
 use Rattle.maps.proofs.map_ones.Tie as tie
 
 abbrev Inv-loop : tie.InvT-loop
-Inv-loop work size end count₀ i₀ count i = Counting work size count i
+Inv-loop work size end count₀ i₀ count i = OnesCounted work size count i
 
 abbrev μ-loop : tie.MeasureT-loop
 μ-loop work size end count₀ i₀ count i = end - i

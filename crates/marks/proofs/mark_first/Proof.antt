@@ -69,14 +69,14 @@ MarkList 𝓤 H A mem run = tripleOf 𝓤 H A mark-list.signature (mark-list.spe
 
 module _ {M : Type 1} (𝓤 : URA M) (H : Heap 𝓤) (A : Atoms 𝓤) (W : Given 𝓤 H A) (at-mem : Memory → SProp 𝓤) (run : Routine → Fun 𝓤) (κ : Lft) (q : Share) (size : ℕ) (ys : List Field) (k : ℕ) (b′ o′ : ℕ) (γ′ : GName) (m₀ : List ℕ)
     (size-fits : size < 2 ^ 32) (ys-is : Is Arr ys (vals ys)) (k-fits : k < 2 ^ 64) (room′ : Room u8 (length m₀)) (within : k ≤ N) (space : MapRoom m₀ size) where
-  abbrev bytes : RefT (List ℕ)
-  bytes = record { ptr = (b′, o′); name = γ′; now = m₀ }
+  abbrev lentSpace : RefT (List ℕ)
+  lentSpace = record { ptr = (b′, o′); name = γ′; now = m₀ }
 
   abbrev v₄ : Val
   v₄ = sliceVal (b′, o′) (length m₀)
 
   abbrev x : ℕ × (List Field × (ℕ × (RefT (List ℕ) × Unit {0})))
-  x = (size, (ys, (k, (bytes, tt))))
+  x = (size, (ys, (k, (lentSpace, tt))))
 
   abbrev at : List Val × (List Val × (List Val × (List Val × Unit {0})))
   at = (vint w32 size ∷ [], (vals ys, (vint w64 k ∷ [], (v₄ ∷ [], tt))))
@@ -93,20 +93,20 @@ module _ {M : Type 1} (𝓤 : URA M) (H : Heap 𝓤) (A : Atoms 𝓤) (W : Given
   Said m = Marks size (pointersIn zs) m₀ m
 
   -- what `mark_list`'s triple binds outside: the local at b, lent for the lifetime ν under the name δ
-  abbrev lent : ℕ → GName → RefT (List Field)
-  lent b δ = record { ptr = (b, 0); name = δ; now = zs }
+  abbrev lentLocal : ℕ → GName → RefT (List Field)
+  lentLocal b δ = record { ptr = (b, 0); name = δ; now = zs }
 
   abbrev passed : ℕ → GName → ℕ × (RefT (List Field) × (RefT (List ℕ) × Unit {0}))
-  passed b δ = (size, (lent b δ, (bytes, tt)))
+  passed b δ = (size, (lentLocal b δ, (lentSpace, tt)))
 
   abbrev to-mark-list : ℕ → ℕ → GName → MarkList 𝓤 H A at-mem run .Ghost
   to-mark-list b ν δ = (((ν ∷ [], (κ, tt)), (fullShare, (q, tt)), tt, passed b δ, (vint w32 size ∷ [], (sliceVal (b, 0) k ∷ [], (v₄ ∷ [], tt)))), tt)
 
   goes : (b ν : ℕ) (δ : GName)
-      → ent 𝓤 (sep 𝓤 (sep 𝓤 (A .lft (ν ∷ []) fullShare) (A .lft κ q)) (sep 𝓤 (sem 𝓤 H A (ShrSlice (named 0) (ν ∷ []) R .own (lent b δ) (sliceVal (b, 0) k ∷ []))) (sem 𝓤 H A (MutSlice (named 0) κ u8 .own bytes (v₄ ∷ [])))))
+      → ent 𝓤 (sep 𝓤 (sep 𝓤 (A .lft (ν ∷ []) fullShare) (A .lft κ q)) (sep 𝓤 (sem 𝓤 H A (ShrSlice (named 0) (ν ∷ []) R .own (lentLocal b δ) (sliceVal (b, 0) k ∷ []))) (sem 𝓤 H A (MutSlice (named 0) κ u8 .own lentSpace (v₄ ∷ [])))))
       (MarkList 𝓤 H A at-mem run .pre (to-mark-list b ν δ))
   goes b ν δ =
-      qed W ((‵ (flft (ν ∷ []) fullShare) ⊛ ‵ (flft κ q)) ∷ ‵ (ShrSlice (named 0) (ν ∷ []) R .own (lent b δ) (sliceVal (b, 0) k ∷ [])) ∷ ‵ (MutSlice (named 0) κ u8 .own bytes (v₄ ∷ [])) ∷ []) ∵
+      qed W ((‵ (flft (ν ∷ []) fullShare) ⊛ ‵ (flft κ q)) ∷ ‵ (ShrSlice (named 0) (ν ∷ []) R .own (lentLocal b δ) (sliceVal (b, 0) k ∷ [])) ∷ ‵ (MutSlice (named 0) κ u8 .own lentSpace (v₄ ∷ [])) ∷ []) ∵
       says ! space $ split ! $ nothing ! $ move ! (2 ∷ 0 ∷ []) $ join ! $ move ! (1 ∷ 0 ∷ []) $ join ! $ frame ! $
       nothing ! $ move ! (2 ∷ 0 ∷ []) $ fjoin ! $ move ! (1 ∷ 0 ∷ []) $ fjoin ! $ owned ! u32 (Is u32) (uint-makes 𝓤 H A W w32) size _ (refl, size-fits) $ fjoin ! $ done !
 
@@ -134,8 +134,8 @@ module _ {M : Type 1} (𝓤 : URA M) (H : Heap 𝓤) (A : Atoms 𝓤) (W : Given
         -- the local's first k elements are cut off, and lent as a slice for a lifetime ν of the call
         move ! (10 ∷ []) $ use1 W (‵ (Lent ys k ys-is within l₅) ⊛ ‵ (Rest ys k ys-is within l₅)) (first-out ys k ys-is within 𝓤 H A W l₅) $ split ! $
         lft-new ! tt (λ ν. move ! (1 ∷ []) $
-        use1 W (later (some (λ (δ : GName). ‵ (ShrSlice (named 0) (ν ∷ []) R .own (lent l₅ δ) (sliceVal (l₅, 0) (length zs) ∷ [])) ⊛ ‵ (flent (ν ∷ []) (arr-parts (shares R) (length zs) .part fullShare zs l₅ 0))))) (lends-shr-slice 𝓤 H A W R (named 0) (ν ∷ []) fullShare zs l₅ 0 (room ys k ys-is within)) $ await ! tt $ pick ! (λ δ. split ! $
-        rewrite ! 0 (λ (n : ℕ). ‵ (ShrSlice (named 0) (ν ∷ []) R .own (lent l₅ δ) (sliceVal (l₅, 0) n ∷ []))) (counted ys k ys-is within) refl $
+        use1 W (later (some (λ (δ : GName). ‵ (ShrSlice (named 0) (ν ∷ []) R .own (lentLocal l₅ δ) (sliceVal (l₅, 0) (length zs) ∷ [])) ⊛ ‵ (flent (ν ∷ []) (arr-parts (shares R) (length zs) .part fullShare zs l₅ 0))))) (lends-shr-slice 𝓤 H A W R (named 0) (ν ∷ []) fullShare zs l₅ 0 (room ys k ys-is within)) $ await ! tt $ pick ! (λ δ. split ! $
+        rewrite ! 0 (λ (n : ℕ). ‵ (ShrSlice (named 0) (ν ∷ []) R .own (lentLocal l₅ δ) (sliceVal (l₅, 0) n ∷ []))) (counted ys k ys-is within) refl $
         -- [the slice; the lender's part; ν's token; the rest of the array; _10; …; _9; …; _8; …; _7; …; _6; …; …; _4; …; _3; …; _2; …; _1; …; room for _0; …; the token; what the parameters own]
         move ! (26 ∷ []) $ fsplit ! $ drop ! $ fsplit ! $ drop ! $ fsplit ! $ drop ! $ fsplit ! $ move ! (27 ∷ []) $ split ! $
         -- [the token; true; what the working space owns; true; the slice; the lender's part; ν's token; the rest of the array; _10; …]

@@ -53,7 +53,7 @@ use denote.Triple.Clauses.{ensured, lasts}
 use Rattle.field_list.specs.declared.Field.{Field}
 use Rattle.field_list.specs.Fields.{noField, pointersIn}
 use Rattle.field_list.proofs.Again.{LentAgain, lends-again, comes-back}
-use Rattle.field_list.proofs.Walk.{usizeTy, after, scaled, next-fits}
+use Rattle.field_list.proofs.Walk.{usizeTy, afterFirst, scaled, next-fits}
 use Rattle.field_list.proofs.Field as F
 use Rattle.field_list.proofs.Field.Laws as F′
 use Rattle.maps.specs.Maps.{MapRoom, Marks}
@@ -86,8 +86,8 @@ module _ {M : Type 1} (𝓤 : URA M) (H : Heap 𝓤) (A : Atoms 𝓤) (W : Given
   xs = record { ptr = (b, o); name = γ; now = ys }
 
   -- the working space, under the name δ at the bytes m
-  abbrev bytes : GName → List ℕ → RefT (List ℕ)
-  bytes δ m = record { ptr = (b′, o′); name = δ; now = m }
+  abbrev lentSpace : GName → List ℕ → RefT (List ℕ)
+  lentSpace δ m = record { ptr = (b′, o′); name = δ; now = m }
 
   abbrev v₂ : Val
   v₂ = sliceVal (b, o) n
@@ -96,7 +96,7 @@ module _ {M : Type 1} (𝓤 : URA M) (H : Heap 𝓤) (A : Atoms 𝓤) (W : Given
   v₃ = sliceVal (b′, o′) (length m₀)
 
   abbrev x : ℕ × (RefT (List Field) × (RefT (List ℕ) × Unit {0}))
-  x = (size, (xs, (bytes γ′ m₀, tt)))
+  x = (size, (xs, (lentSpace γ′ m₀, tt)))
 
   abbrev at : List Val × (List Val × (List Val × Unit {0}))
   at = (vint w32 size ∷ [], (v₂ ∷ [], (v₃ ∷ [], tt)))
@@ -105,7 +105,7 @@ module _ {M : Type 1} (𝓤 : URA M) (H : Heap 𝓤) (A : Atoms 𝓤) (W : Given
   Own = ShrSlice (named 0) κ R .own xs (v₂ ∷ [])
 
   abbrev Mine : List ℕ → Fml
-  Mine m = MutSlice (named 1) κ′ u8 .own (bytes γ′ m) (v₃ ∷ [])
+  Mine m = MutSlice (named 1) κ′ u8 .own (lentSpace γ′ m) (v₃ ∷ [])
 
   abbrev Borrow : Fml
   Borrow = fshr-bor κ (λ s. arr-parts (shares R) n .part s ys b o)
@@ -122,30 +122,30 @@ module _ {M : Type 1} (𝓤 : URA M) (H : Heap 𝓤) (A : Atoms 𝓤) (W : Given
 
   -- ---- the call: what its triple binds outside, and what it asks
   abbrev passed : GName → List ℕ → Field → RefT (List ℕ) × (ℕ × (ℕ × (Bool × Unit {0})))
-  passed δ m f = (bytes δ m, (size, (f .offset, (f .pointer, tt))))
+  passed δ m f = (lentSpace δ m, (size, (f .offset, (f .pointer, tt))))
 
   abbrev to-mark-if : ℕ → GName → List ℕ → Field → MarkIf 𝓤 H A at-mem run .Ghost
   to-mark-if ν δ m f = (((ν ∷ [], tt), (fullShare, tt), tt, passed δ m f, (v₃ ∷ [], (vint w32 size ∷ [], (vint w32 (f .offset) ∷ [], (vbool (f .pointer) ∷ [], tt))))), tt)
 
   goes-mark-if : (ν : ℕ) (δ : GName) (m : List ℕ) (f : Field) → MapRoom m size → Is R f (F′.lowered f ∷ [])
-      → ent 𝓤 (sep 𝓤 (A .lft (ν ∷ []) fullShare) (sem 𝓤 H A (MutSlice (named 0) (ν ∷ []) u8 .own (bytes δ m) (v₃ ∷ [])))) (MarkIf 𝓤 H A at-mem run .pre (to-mark-if ν δ m f))
+      → ent 𝓤 (sep 𝓤 (A .lft (ν ∷ []) fullShare) (sem 𝓤 H A (MutSlice (named 0) (ν ∷ []) u8 .own (lentSpace δ m) (v₃ ∷ [])))) (MarkIf 𝓤 H A at-mem run .pre (to-mark-if ν δ m f))
   goes-mark-if ν δ m f ok g =
-      qed W (‵ (flft (ν ∷ []) fullShare) ∷ ‵ (MutSlice (named 0) (ν ∷ []) u8 .own (bytes δ m) (v₃ ∷ [])) ∷ []) ∵ says ! ok $ nothing ! $ move ! (1 ∷ 0 ∷ []) $ join ! $ frame ! $
+      qed W (‵ (flft (ν ∷ []) fullShare) ∷ ‵ (MutSlice (named 0) (ν ∷ []) u8 .own (lentSpace δ m) (v₃ ∷ [])) ∷ []) ∵ says ! ok $ nothing ! $ move ! (1 ∷ 0 ∷ []) $ join ! $ frame ! $
       nothing ! $ owned ! bool (Is bool) (bool-makes 𝓤 H A W) (f .pointer) _ refl $ fjoin ! $ owned ! u32 (Is u32) (uint-makes 𝓤 H A W w32) (f .offset) _ (LL.owed F.the-type F′.the-laws f _ g .0) $ fjoin ! $
       owned ! u32 (Is u32) (uint-makes 𝓤 H A W w32) size _ (refl, size-fits) $ fjoin ! $ move ! (1 ∷ 0 ∷ []) $ fjoin ! $ done !
 
   -- ---- the loop's variant: i and the bytes of the working space so far, where i fields are marked
-  abbrev State : Type 0
-  State = (i : ℕ) × ((m : List ℕ) × ListMarked size ys m₀ m i)
+  abbrev TurnState : Type 0
+  TurnState = (i : ℕ) × ((m : List ℕ) × ListMarked size ys m₀ m i)
 
-  abbrev Nearer : State → State → Type 0
+  abbrev Nearer : TurnState → TurnState → Type 0
   Nearer t u = n - t .0 < n - u .0
 
   Nearer-wf : WellFounded Nearer
-  Nearer-wf = InvImage·wf (λ (t : State). n - t .0) (Nat·lt-wfRel .wf)
+  Nearer-wf = InvImage·wf (λ (t : TurnState). n - t .0) (Nat·lt-wfRel .wf)
 
-  abbrev start : State
-  start = (0, (m₀, list-start size ys m₀ space))
+  abbrev firstState : TurnState
+  firstState = (0, (m₀, list-start size ys m₀ space))
 
   module _ (𝓣 : Tables 𝓤 H) (fm : FmC 𝓤 H (W .laws) (𝓣 .C)) (known : Triple 𝓤 (𝓣 .C #mark-if) (MarkIf 𝓤 H A at-mem run)) (l₀ l₁ l₂ l₃ l₄ l₅ l₆ l₇ l₈ l₉ l₁₀ l₁₁ l₁₂ : ℕ) where
     abbrev C : Calls 𝓤 H
@@ -167,45 +167,45 @@ module _ {M : Type 1} (𝓤 : URA M) (H : Heap 𝓤) (A : Atoms 𝓤) (W : Given
     En = (tyUnit, l₀) ∷ (tyInt w32, l₁) ∷ (slice₂, l₂) ∷ (slice₃, l₃) ∷ (usizeTy, l₄) ∷ (F′.mir, l₅) ∷ (usizeTy, l₆) ∷ (tyBool, l₇) ∷ (tyPtr, l₈) ∷ (F′.mir, l₉) ∷ (tyUnit, l₁₀) ∷ (ref₁₁, l₁₁) ∷ (sliceTy ref₁₁, l₁₂) ∷ []
 
     -- [_12; …; _11; …; _10; …; _9; …; _8; …; _7; …; _6; …; _5; …; _4; …; _3; …; _2; …; _1; …; room for _0; …; the fractured borrow; its token; what the fields own; what the working space owns; its token]
-    abbrev At : State → List (Item 𝓤)
-    At t = ‵ (froom (sliceTy ref₁₁) l₁₂ 0) ∷ ‵ (fdies (sliceTy ref₁₁) l₁₂) ∷ ‵ (froom ref₁₁ l₁₁ 0) ∷ ‵ (fdies ref₁₁ l₁₁) ∷ ‵ (froom tyUnit l₁₀ 0) ∷ ‵ (fdies tyUnit l₁₀) ∷ ‵ (froom F′.mir l₉ 0) ∷ ‵ (fdies F′.mir l₉) ∷ ‵ (froom tyPtr l₈ 0) ∷ ‵ (fdies tyPtr l₈)
+    abbrev HeldItems : TurnState → List (Item 𝓤)
+    HeldItems t = ‵ (froom (sliceTy ref₁₁) l₁₂ 0) ∷ ‵ (fdies (sliceTy ref₁₁) l₁₂) ∷ ‵ (froom ref₁₁ l₁₁ 0) ∷ ‵ (fdies ref₁₁ l₁₁) ∷ ‵ (froom tyUnit l₁₀ 0) ∷ ‵ (fdies tyUnit l₁₀) ∷ ‵ (froom F′.mir l₉ 0) ∷ ‵ (fdies F′.mir l₉) ∷ ‵ (froom tyPtr l₈ 0) ∷ ‵ (fdies tyPtr l₈)
         ∷ ‵ (froom tyBool l₇ 0) ∷ ‵ (fdies tyBool l₇) ∷ ‵ (froom usizeTy l₆ 0) ∷ ‵ (fdies usizeTy l₆) ∷ ‵ (froom F′.mir l₅ 0) ∷ ‵ (fdies F′.mir l₅) ∷ ‵ (fat fullShare usizeTy l₄ 0 (vint w64 (t .0))) ∷ ‵ (fdies usizeTy l₄)
         ∷ ‵ (fat fullShare slice₃ l₃ 0 v₃) ∷ ‵ (fdies slice₃ l₃) ∷ ‵ (fat fullShare slice₂ l₂ 0 v₂) ∷ ‵ (fdies slice₂ l₂) ∷ ‵ (fat fullShare (tyInt w32) l₁ 0 (vint w32 size)) ∷ ‵ (fdies (tyInt w32) l₁) ∷ ‵ (froom tyUnit l₀ 0) ∷ ‵ (fdies tyUnit l₀)
         ∷ ‵ Borrow ∷ ‵ (flft κ q) ∷ ‵ Own ∷ ‵ (Mine (t .1 .0)) ∷ ‵ (flft κ′ q′) ∷ []
 
     -- a turn's postcondition: it ends nearer to the slice's end, or the loop is left and the rest of the body runs
-    abbrev Turned : State → Out → SProp 𝓤
-    Turned t = afterTurn 𝓤 H (Below 𝓤 H A Nearer At t) (afterBlock 𝓤 H (afterSeq 𝓤 H (Wp 𝓤 H C Λ En code.Mir.t-3 (atReturn 𝓤 H En Post)) (atReturn 𝓤 H En Post)))
+    abbrev Turned : TurnState → Out → SProp 𝓤
+    Turned t = afterTurn 𝓤 H (Below 𝓤 H A Nearer HeldItems t) (afterBlock 𝓤 H (afterSeq 𝓤 H (Wp 𝓤 H C Λ En code.Mir.t-3 (atReturn 𝓤 H En Post)) (atReturn 𝓤 H En Post)))
 
-    module _ (t : State) where
+    module _ (t : TurnState) where
       abbrev i : ℕ
       i = t .0
 
       abbrev m : List ℕ
       m = t .1 .0
 
-      abbrev marked : ListMarked size ys m₀ m i
-      marked = t .1 .1
+      abbrev markedSoFar : ListMarked size ys m₀ m i
+      markedSoFar = t .1 .1
 
       abbrev f : Field
       f = getD ys i noField
 
       len : length m ≡ length m₀
-      len = marked .long
+      len = markedSoFar .long
 
       in-slice : T (ltb i n) → i < n
       in-slice less = ltb→lt i n less
 
-      abbrev next : T (ltb i n) → (zs : List ℕ) → FieldMarked size f m zs → State
-      next less zs p = (i + 1, (zs, list-next size ys m₀ marked (in-slice less) p))
+      abbrev next : T (ltb i n) → (zs : List ℕ) → FieldMarked size f m zs → TurnState
+      next less zs p = (i + 1, (zs, list-next size ys m₀ markedSoFar (in-slice less) p))
 
-      turns : Sq W (At t) (runs C Λ En code.Mir.turn-1 (anyQ (Turned t)))
+      turns : Sq W (HeldItems t) (runs C Λ En code.Mir.turn-1 (anyQ (Turned t)))
       unfolding afterTurn
       turns =
           assigns ! (of-opd ! (load ! (from ! (fld ! refl (stop !))) (look-in ! 20 (sub ! 1 refl (whole !))))) (from ! (stop !)) (init ! 12 refl (tt, record { fits = room .0 })) $
           assigns ! (bin ! (load ! (from ! (stop !)) (look ! 16 refl)) (load ! (from ! (stop !)) (look ! 12 refl)) tt) (from ! (stop !)) (init ! 10 refl (tt, tt)) $
           first ! $ branches ! (load ! (from ! (stop !)) (look ! 10 refl))
-          (λ less. skips ! $ exec ! C Λ En (after (after (after code.Mir.turn-1))) (anyQ (Turned t)) $
+          (λ less. skips ! $ exec ! C Λ En (afterFirst (afterFirst (afterFirst code.Mir.turn-1))) (anyQ (Turned t)) $
           assigns ! (bin ! (load ! (from ! (stop !)) (look ! 16 refl)) (lit ! tt) (record { fits = scaled (in-slice less) (room .1) })) (from ! (stop !)) (store ! 12 refl (tt, record { fits = scaled (in-slice less) (room .1) })) $
           assigns ! (bin ! (load ! (from ! (fld ! refl (stop !))) (look-in ! 20 (sub ! 0 refl (whole !)))) (load ! (from ! (stop !)) (look ! 12 refl)) tt) (from ! (stop !)) (init ! 8 refl (tt, tt)) $
           rewrite ! 8 (λ (p : ℕ). ‵ (fat fullShare tyPtr l₈ 0 (vptr b p))) (sym (place-is 12 o i)) refl $
@@ -222,11 +222,11 @@ module _ {M : Type 1} (𝓤 : URA M) (H : Heap 𝓤) (A : Atoms 𝓤) (W : Given
           assigns ! (addr ! (from ! (fld ! refl (hop ! (look-in ! 20 (sub ! 0 refl (whole !))) (stop !))))) (from ! (stop !)) (init ! 4 refl (tt, tt)) $
           assigns ! (agg ! (and-then ! (load ! (from ! (stop !)) (look ! 4 refl)) (and-then ! (load ! (from ! (fld ! refl (stop !))) (look-in ! 20 (sub ! 1 refl (whole !)))) (no-more !)))) (from ! (stop !)) (init ! 2 refl (tt, (tt, (record { fits = room′ .0 }, tt)))) $
           -- the working space is lent again for a lifetime ν of the call
-          move ! (29 ∷ 30 ∷ []) $ rewrite ! 0 (λ (k : ℕ). ‵ (MutSlice (named 1) κ′ u8 .own (bytes γ′ m) (sliceVal (b′, o′) k ∷ []))) (sym len) refl $
+          move ! (29 ∷ 30 ∷ []) $ rewrite ! 0 (λ (k : ℕ). ‵ (MutSlice (named 1) κ′ u8 .own (lentSpace γ′ m) (sliceVal (b′, o′) k ∷ []))) (sym len) refl $
           lft-new ! tt (λ ν. move ! (1 ∷ 2 ∷ []) $
-          use2 W (later (some (λ (δ : GName). ‵ (MutSlice (named 0) (ν ∷ []) u8 .own (bytes δ m) (sliceVal (b′, o′) (length m) ∷ [])) ⊛ ‵ (LentAgain u8 κ′ (ν ∷ []) q′ γ′ b′ o′ δ m)))) (lends-again u8 κ′ (ν ∷ []) q′ γ′ b′ o′ 𝓤 H A W (named 1) (named 0) m) $ await ! tt $ pick ! (λ δ. split ! $
-          rewrite ! 0 (λ (k : ℕ). ‵ (MutSlice (named 0) (ν ∷ []) u8 .own (bytes δ m) (sliceVal (b′, o′) k ∷ []))) len refl $
-          move ! (2 ∷ 0 ∷ []) $ use2 W (raw (MarkIf 𝓤 H A at-mem run .pre (to-mark-if ν δ m f))) (goes-mark-if ν δ m f (marked .room) g) $
+          use2 W (later (some (λ (δ : GName). ‵ (MutSlice (named 0) (ν ∷ []) u8 .own (lentSpace δ m) (sliceVal (b′, o′) (length m) ∷ [])) ⊛ ‵ (LentAgain u8 κ′ (ν ∷ []) q′ γ′ b′ o′ δ m)))) (lends-again u8 κ′ (ν ∷ []) q′ γ′ b′ o′ 𝓤 H A W (named 1) (named 0) m) $ await ! tt $ pick ! (λ δ. split ! $
+          rewrite ! 0 (λ (k : ℕ). ‵ (MutSlice (named 0) (ν ∷ []) u8 .own (lentSpace δ m) (sliceVal (b′, o′) k ∷ []))) len refl $
+          move ! (2 ∷ 0 ∷ []) $ use2 W (raw (MarkIf 𝓤 H A at-mem run .pre (to-mark-if ν δ m f))) (goes-mark-if ν δ m f (markedSoFar .room) g) $
           -- [what `mark_if` asks; the lender's part; the fields' token; the fractured borrow; _12; …; _11; …; _10; …; _9; …; _8; …; _7; …; _6; …; _5; …; _4; …; _3; …; _2; …; _1; …; …]
           calls-at ! fm (MarkIf 𝓤 H A at-mem run) known (to-mark-if ν δ m f) (and-then ! (load ! (from ! (stop !)) (look ! 4 refl)) (and-then ! (load ! (from ! (stop !)) (look ! 26 refl)) (and-then ! (load ! (from ! (fld ! refl (stop !))) (look-in ! 18 (sub ! 0 refl (whole !))))
           (and-then ! (load ! (from ! (fld ! refl (stop !))) (look-in ! 18 (sub ! 2 refl (whole !)))) (no-more !))))) (λ v.
@@ -238,22 +238,22 @@ module _ {M : Type 1} (𝓤 : URA M) (H : Heap 𝓤) (A : Atoms 𝓤) (W : Given
           land ! (from ! (stop !)) (init ! 11 refl (nothing-lawful 𝓤 H A W .typed r _ is .0)) $
           -- the lifetime is ended, and the working space comes back at those bytes
           move ! (1 ∷ []) $ split ! $ lft-end ! tt $ move ! (0 ∷ 5 ∷ 3 ∷ []) $
-          use3 W (later (‵ (MutSlice (named 1) κ′ u8 .own (bytes γ′ (zs .0)) (sliceVal (b′, o′) (length m) ∷ [])) ⊛ ‵ (flft κ′ q′))) (comes-back u8 κ′ (ν ∷ []) q′ γ′ b′ o′ 𝓤 H A W (named 1) (named 0) m δ (zs .0) (subst (Room u8) (sym len) room′) l) $ await ! tt $ split ! $
-          rewrite ! 0 (λ (k : ℕ). ‵ (MutSlice (named 1) κ′ u8 .own (bytes γ′ (zs .0)) (sliceVal (b′, o′) k ∷ []))) len refl $
+          use3 W (later (‵ (MutSlice (named 1) κ′ u8 .own (lentSpace γ′ (zs .0)) (sliceVal (b′, o′) (length m) ∷ [])) ⊛ ‵ (flft κ′ q′))) (comes-back u8 κ′ (ν ∷ []) q′ γ′ b′ o′ 𝓤 H A W (named 1) (named 0) m δ (zs .0) (subst (Room u8) (sym len) room′) l) $ await ! tt $ split ! $
+          rewrite ! 0 (λ (k : ℕ). ‵ (MutSlice (named 1) κ′ u8 .own (lentSpace γ′ (zs .0)) (sliceVal (b′, o′) k ∷ []))) len refl $
           -- [what the working space owns; its token; true; the result's; …; the fields' token; the fractured borrow; _12; …; _11; …; _10; …; _9; …; _8; …; _7; …; _6; …; _5; …; _4; …; …]: i moves on, and the invariant holds there
           assigns-last ! (bin ! (load ! (from ! (stop !)) (look ! 23 refl)) (lit ! tt) (record { fits = next-fits (in-slice less) (room .0) })) (from ! (stop !)) (store ! 23 refl (tt, record { fits = next-fits (in-slice less) (room .0) })) $
           forget ! 7 refl $ forget ! 9 refl $ forget ! 11 refl $ forget ! 13 refl $ forget ! 15 refl $ forget ! 17 refl $ forget ! 19 refl $ forget ! 21 refl $
           keep ! (7 ∷ 8 ∷ 9 ∷ 10 ∷ 11 ∷ 12 ∷ 13 ∷ 14 ∷ 15 ∷ 16 ∷ 17 ∷ 18 ∷ 19 ∷ 20 ∷ 21 ∷ 22 ∷ 23 ∷ 24 ∷ 25 ∷ 26 ∷ 27 ∷ 28 ∷ 29 ∷ 30 ∷ 31 ∷ 32 ∷ 6 ∷ 5 ∷ 33 ∷ 0 ∷ 1 ∷ []) $
-          again ! Nearer At t (next less (zs .0) p) (add-one-dec n i (in-slice less)))))))))))))
+          again ! Nearer HeldItems t (next less (zs .0) p) (add-one-dec n i (in-slice less)))))))))))))
           (λ over. jumps ! $ exec ! C Λ En code.Mir.t-3 (atRet En Post) $
           assigns ! (of-opd ! (unit-lit !)) (from ! (stop !)) (init ! 24 refl (tt, tt)) $
           returns ! (look ! 24 refl) $ forget ! 10 refl $ forget ! 12 refl $ forget ! 16 refl $ forget ! 18 refl $ forget ! 20 refl $ forget ! 22 refl $ forget ! 24 refl $
           move ! (24 ∷ 25 ∷ []) $ free1 ! $ move ! (22 ∷ 23 ∷ []) $ free1 ! $ move ! (20 ∷ 21 ∷ []) $ free1 ! $ move ! (18 ∷ 19 ∷ []) $ free1 ! $ move ! (16 ∷ 17 ∷ []) $ free1 ! $ move ! (14 ∷ 15 ∷ []) $ free1 ! $ move ! (12 ∷ 13 ∷ []) $ free1 ! $ move ! (10 ∷ 11 ∷ []) $ free1 ! $ move ! (8 ∷ 9 ∷ []) $ free1 ! $ move ! (6 ∷ 7 ∷ []) $ free1 ! $ move ! (4 ∷ 5 ∷ []) $ free1 ! $ move ! (2 ∷ 3 ∷ []) $ free1 ! $ free1 ! $ free0 ! $
-          keep ! (1 ∷ 2 ∷ 3 ∷ 4 ∷ []) $ by ! (exits m (list-end size ys m₀ marked (nltb→le i n over)) len))
+          keep ! (1 ∷ 2 ∷ 3 ∷ 4 ∷ []) $ by ! (exits m (list-end size ys m₀ markedSoFar (nltb→le i n over)) len))
 
     -- the loop, and the rest of the body. It is stated of the code and not of `Wp`, so that its use is compared piece by piece
-    looped : Sq W (At start) (runs C Λ En code.Mir.t-2 (atRet En Post))
-    looped = first ! $ blocks ! $ loops ! 𝓣 Nearer Nearer-wf At turns start
+    looped : Sq W (HeldItems firstState) (runs C Λ En code.Mir.t-2 (atRet En Post))
+    looped = first ! $ blocks ! $ loops ! 𝓣 Nearer Nearer-wf HeldItems turns firstState
 
   module _ (𝓣 : Tables 𝓤 H) (fm : FmC 𝓤 H (W .laws) (𝓣 .C)) (known : Triple 𝓤 (𝓣 .C #mark-if) (MarkIf 𝓤 H A at-mem run)) where
     walk : ent 𝓤 (onEntry 𝓤 H A mark-list.signature (κ, (κ′, tt)) (q, (q′, tt)) x at) (WpFn 𝓤 H (𝓣 .C) (𝓣 .Λ) code.function (vint w32 size ∷ v₂ ∷ v₃ ∷ []) Post)

@@ -5,12 +5,12 @@ use Prim.Native.Nat.{_<_, _-_, _+_}
 use lib.ListN.{length}
 use denote.Ref.{now}
 use Rattle.lines.proofs.Line.{form-low}
-use Rattle.nesting.proofs.Laws.{Walking, walking-start, walking-on, walking-end}
+use Rattle.nesting.proofs.Laws.{DeepestTo, walking-start, walking-on, walking-end}
 use Rattle.nesting.proofs.depth_below.Statement.{statement}
 use Rattle.nesting.proofs.depth_below.Tie as tie
 
 abbrev Inv-loop : tie.InvT-loop
-Inv-loop sheet work n i l f w₀ depth₀ w depth = (depth < 256) × Walking sheet work i f l w depth
+Inv-loop sheet work n i l f w₀ depth₀ w depth = (depth < 256) × DeepestTo sheet work i f l w depth
 
 abbrev μ-loop : tie.MeasureT-loop
 μ-loop sheet work n i l f w₀ depth₀ w depth = length l + 1 - w .at

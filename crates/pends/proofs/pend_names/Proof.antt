@@ -1,6 +1,6 @@
 -- `pends::pend_names` meets its contract.
 use borrow.Author.Needs.{needs}
-use Rattle.pends.proofs.Rows.{Naming, naming-start, naming-next, naming-end}
+use Rattle.pends.proofs.Rows.{PendRowsWritten, naming-start, naming-next, naming-end}
 use Rattle.write.proofs.Wrote.{wrote-length}
 use Prim.Native.Nat.{_-_}
 use denote.Ref.{now}
@@ -9,7 +9,7 @@ use Rattle.pends.proofs.pend_names.Statement.{statement}
 use Rattle.pends.proofs.pend_names.Tie as tie
 
 abbrev Inv-loop : tie.InvT-loop
-Inv-loop sheet work n r out₀ at count p₀ j₀ out p j = Naming sheet r count out₀ at j out p
+Inv-loop sheet work n r out₀ at count p₀ j₀ out p j = PendRowsWritten sheet r count out₀ at j out p
 
 abbrev μ-loop : tie.MeasureT-loop
 μ-loop sheet work n r out₀ at count p₀ j₀ out p j = count - j

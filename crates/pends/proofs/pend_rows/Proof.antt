@@ -1,13 +1,13 @@
 -- `pends::pend_rows` meets its contract.
 use borrow.Author.Needs.{needs}
-use Rattle.pends.proofs.Walk.{Walking, not-written, walk-start, walk-log, walk-open, walk-next, walk-stop, walk-end}
+use Rattle.pends.proofs.Walk.{LinesPended, not-written, walk-start, walk-log, walk-open, walk-next, walk-stop, walk-end}
 use mathlib.Core.Path.{_∙_}
 use Prim.Native.Nat.{_-_}
 use Rattle.pends.proofs.pend_rows.Statement.{statement}
 use Rattle.pends.proofs.pend_rows.Tie as tie
 
 abbrev Inv-loop : tie.InvT-loop
-Inv-loop sheet work₀ c out₀ at p₀ k₀ i₀ work out p k i = Walking sheet work₀ (c .lines) (c .consts) out₀ at work k i out p
+Inv-loop sheet work₀ c out₀ at p₀ k₀ i₀ work out p k i = LinesPended sheet work₀ (c .lines) (c .consts) out₀ at work k i out p
 
 abbrev μ-loop : tie.MeasureT-loop
 μ-loop sheet work₀ c out₀ at p₀ k₀ i₀ work out p k i = c .lines - i

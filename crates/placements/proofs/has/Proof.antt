@@ -1,4 +1,4 @@
-use Rattle.placements.proofs.Values.{Passing, passing-start, passing-found, passing-next, passing-end}
+use Rattle.placements.proofs.Values.{NoneOfKind, passing-start, passing-found, passing-next, passing-end}
 use borrow.Author.Needs.{needs}
 use denote.Ref.{now}
 use Prim.Native.Nat.{_-_}
@@ -7,7 +7,7 @@ use Rattle.placements.proofs.has.Statement.{statement}
 use Rattle.placements.proofs.has.Tie as tie
 
 abbrev Inv-loop : tie.InvT-loop
-Inv-loop work count wanted i₀ i = Passing work count wanted i
+Inv-loop work count wanted i₀ i = NoneOfKind work count wanted i
 
 abbrev μ-loop : tie.MeasureT-loop
 μ-loop work count wanted i₀ i = count - i

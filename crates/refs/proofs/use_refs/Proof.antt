@@ -7,12 +7,12 @@ use lib.ListN.{length}
 use denote.Ref.{now}
 use borrow.Author.Tests.{not-true, not-false}
 use Rattle.lines.proofs.Line.{form-low}
-use Rattle.refs.proofs.Laws.{Going, going-start, going-stop, going-on, going-end, forms-low}
+use Rattle.refs.proofs.Laws.{UsingRefs, going-start, going-stop, going-on, going-end, forms-low}
 use Rattle.refs.proofs.use_refs.Statement.{statement}
 use Rattle.refs.proofs.use_refs.Tie as tie
 
 abbrev Inv-loop : tie.InvT-loop
-Inv-loop sheet work₀ n i l f w₀ work w = (length work ≡ length work₀) × Going sheet work n i f l w work₀
+Inv-loop sheet work₀ n i l f w₀ work w = (length work ≡ length work₀) × UsingRefs sheet work n i f l w work₀
 
 abbrev μ-loop : tie.MeasureT-loop
 μ-loop sheet work₀ n i l f w₀ work w = length l + 1 - w .at

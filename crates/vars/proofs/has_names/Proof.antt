@@ -1,7 +1,7 @@
 -- `vars::has_names` meets its contract.
 use native.Mathlib.Omega.{arith}
 use borrow.Author.Needs.{needs}
-use Rattle.vars.proofs.Names.{Searching, names-all, searched, search-found, search-on}
+use Rattle.vars.proofs.Names.{NoneLaid, names-all, searched, search-found, search-on}
 use Rattle.semantics.specs.Global.{laidNames}
 use denote.Ref.{now}
 use mathlib.Core.Path.{ap, sym}
@@ -10,7 +10,7 @@ use Rattle.vars.proofs.has_names.Statement.{statement}
 use Rattle.vars.proofs.has_names.Tie as tie
 
 abbrev Inv-loop : tie.InvT-loop
-Inv-loop sheet work n r count j₀ j = Searching sheet r count j
+Inv-loop sheet work n r count j₀ j = NoneLaid sheet r count j
 
 abbrev μ-loop : tie.MeasureT-loop
 μ-loop sheet work n r count j₀ j = count - j

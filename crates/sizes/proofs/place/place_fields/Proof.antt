@@ -1,12 +1,12 @@
 use native.Mathlib.Omega.{arith}
-use Rattle.sizes.proofs.Places.{Passing, refs-in, passing-start, passing-end, passing-line, passing-next}
+use Rattle.sizes.proofs.Places.{BehindLines, refs-in, passing-start, passing-end, passing-line, passing-next}
 use denote.Ref.{now}
 use Prim.Native.Nat.{_-_}
 use Rattle.sizes.proofs.place.place_fields.Statement.{statement}
 use Rattle.sizes.proofs.place.place_fields.Tie as tie
 
 abbrev Inv-loop : tie.InvT-loop
-Inv-loop sheet work n f q₀ j₀ q j = Passing sheet f q₀ q j
+Inv-loop sheet work n f q₀ j₀ q j = BehindLines sheet f q₀ q j
 
 abbrev μ-loop : tie.MeasureT-loop
 μ-loop sheet work n f q₀ j₀ q j = f .count - j
