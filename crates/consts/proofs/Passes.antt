@@ -133,22 +133,22 @@ module _ (s t : Bytes) (n : ℕ) (c : Checked s t n) where
 
 -- ---- no constant is in two passes
 
-abbrev flag : Bool → ℕ
-flag b = cond b 1 0
+abbrev oneIf : Bool → ℕ
+oneIf b = cond b 1 0
 
-filter-step : {A : Type 0} (p : A → Bool) (x : A) (xs : List A) → length (filter p (x ∷ xs)) ≡ flag (p x) + length (filter p xs)
+filter-step : {A : Type 0} (p : A → Bool) (x : A) (xs : List A) → length (filter p (x ∷ xs)) ≡ oneIf (p x) + length (filter p xs)
 filter-step p x xs = go (p x)
   where
     go : (b : Bool) → length (cond b (x ∷ filter p xs) (filter p xs)) ≡ cond b 1 0 + length (filter p xs)
     go true = omega arith
     go false = omega arith
 
-filter-add : {A : Type 0} (p q r : A → Bool) → ((x : A) → flag (p x) + flag (q x) ≤ flag (r x)) → (xs : List A) → length (filter p xs) + length (filter q xs) ≤ length (filter r xs)
+filter-add : {A : Type 0} (p q r : A → Bool) → ((x : A) → oneIf (p x) + oneIf (q x) ≤ oneIf (r x)) → (xs : List A) → length (filter p xs) + length (filter q xs) ≤ length (filter r xs)
 filter-add p q r h [] = omega arith
 filter-add p q r h (x ∷ xs) = omega (arith, filter-step p x xs, filter-step q x xs, filter-step r x xs, h x, filter-add p q r h xs)
 
 earlier-or-here : (i : ℕ) (o : Option Module)
-    → flag (holdsOf (λ (m : Module). leb (m .line) i) o) + flag (holdsOf (λ (m : Module). eqb (m .line) (suc i)) o) ≤ flag (holdsOf (λ (m : Module). leb (m .line) (suc i)) o)
+    → oneIf (holdsOf (λ (m : Module). leb (m .line) i) o) + oneIf (holdsOf (λ (m : Module). eqb (m .line) (suc i)) o) ≤ oneIf (holdsOf (λ (m : Module). leb (m .line) (suc i)) o)
 earlier-or-here i none = omega arith
 earlier-or-here i (some m) = go (leb (m .line) i) refl (eqb (m .line) (suc i)) refl (leb (m .line) (suc i)) refl
   where
@@ -162,7 +162,7 @@ earlier-or-here i (some m) = go (leb (m .line) i) refl (eqb (m .line) (suc i)) r
     go false p true q false r = absurd (omega (arith, eqb-true (m .line) (suc i) q, leb-false (m .line) (suc i) r))
     go false p false q false r = omega arith
 
-earlier-or-top : (i : ℕ) (o : Option Module) → flag (holdsOf (λ (m : Module). leb (m .line) i) o) + flag (isNone o) ≤ 1
+earlier-or-top : (i : ℕ) (o : Option Module) → oneIf (holdsOf (λ (m : Module). leb (m .line) i) o) + oneIf (isNone o) ≤ 1
 earlier-or-top i none = omega arith
 earlier-or-top i (some m) = go (leb (m .line) i)
   where

@@ -157,14 +157,14 @@ module _ (s t u : Bytes) (n k : ℕ) (p : Pass) where
   pub stopped : {r : Visited} {j : ℕ} → r ≡ Visited.Refused j → Visits s t u n k p r → passFrom s t k p .refused ≡ some (tooLong j)
   stopped e v = rw e at v
 
-abbrev pub beginning : ℕ → ℕ → Pass
-beginning k m = record { line = k; within = k; count = m; iota = record { started = false; line = 0; col = 0; value = 0 } }
+abbrev pub passStart : ℕ → ℕ → Pass
+passStart k m = record { line = k; within = k; count = m; iota = record { started = false; line = 0; col = 0; value = 0 } }
 
 module _ (s t : Bytes) (n m k : ℕ) (g : Group s t n m k) where
   start-is : groupFrom s k k ≡ groupFrom s k 0
   start-is = group-start s t n (g .checked) k (g .group)
 
-  pub begins : PassAt s t n k (beginning k m)
+  pub begins : PassAt s t n k (passStart k m)
   begins = record {
     checked = g .checked;
     logged = g .logged;
@@ -179,11 +179,11 @@ module _ (s t : Bytes) (n m k : ℕ) (g : Group s t n m k) where
   pub begin-count : m + length (groupFrom s k k) ≡ m + length (groupFrom s k 0)
   begin-count = rw start-is
 
-  begin-is : passFrom s t k (beginning k m) ≡ pass (sheetSource s .implement) (groupFrom s k 0) newCounter (logIn s t m)
+  begin-is : passFrom s t k (passStart k m) ≡ pass (sheetSource s .implement) (groupFrom s k 0) newCounter (logIn s t m)
   unfolding passFrom counterOf
   begin-is = rw start-is
 
-  module _ (u : Bytes) (p : Pass) (st : PassAt s u n k p) (same : passFrom s u k p ≡ passFrom s t k (beginning k m)) where
+  module _ (u : Bytes) (p : Pass) (st : PassAt s u n k p) (same : passFrom s u k p ≡ passFrom s t k (passStart k m)) where
     pub pass-refused : {j : ℕ} → passFrom s u k p .refused ≡ some (tooLong j) → pass (sheetSource s .implement) (groupFrom s k 0) newCounter (logIn s t m) .refused ≡ some (tooLong j)
     pass-refused e = ap (λ (f : Folding). f .refused) (sym begin-is ∙ sym same) ∙ e
 

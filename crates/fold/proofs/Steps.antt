@@ -30,7 +30,7 @@ use Rattle.values.specs.declared.Folded.the-variants.{Value, Failed, TooLong}
 use Rattle.values.proofs.Folded.{the-type}
 use denote.Enum.Declared.{tagOf}
 use types.Run.{OneOf}
-use Rattle.values.specs.Values.{stringIn, valueIn, resultIn, unaryAt, binaryAt, basicAt, sizeOf, At, ResultAt, Within, Answers, Casts}
+use Rattle.values.specs.Values.{stringIn, valueIn, resultIn, unaryAt, binaryAt, basicAt, stringSize, At, ResultAt, Within, Answers, Casts}
 use Rattle.values.proofs.Values.{answers-as, answers-failed}
 use Rattle.names.specs.Table.{namesIn, ConstsLogged}
 use Rattle.names.proofs.Laws.{part-kept, logged-kept, log-kept}
@@ -190,13 +190,13 @@ stopped-at p q Failed h k = tt
 stopped-at p q TooLong h k = tt
 
 -- a string keeps its bytes
-value-kept : (top : ℕ) (u w : Bytes) (v : ConstVal) → At top v → Kept (top + sizeOf v) u w → valueIn w v ≡ valueIn u v
+value-kept : (top : ℕ) (u w : Bytes) (v : ConstVal) → At top v → Kept (top + stringSize v) u w → valueIn w v ≡ valueIn u v
 unfolding valueIn stringIn
 value-kept top u w (Int z) h k = refl
 value-kept top u w (Real x) h k = refl
 value-kept top u w (Str p l) h k = ap vStr (part-kept k p l (omega (arith, h .0)))
 
-size-small : (top : ℕ) (v : ConstVal) → At top v → sizeOf v ≤ 256
+size-small : (top : ℕ) (v : ConstVal) → At top v → stringSize v ≤ 256
 size-small top (Int z) h = omega arith
 size-small top (Real x) h = omega arith
 size-small top (Str p l) h = h .1
@@ -279,7 +279,7 @@ module _ {s t : Bytes} {n m r top : ℕ} (a : Foldable s t n m r top) where
           kept = kept-then (f .kept) (b .1);
         }
 
-        module _ (e : formAt t (r - 1) ≡ 14) {g p : ℕ} (hg : g ≡ Number.numberUpTo 65536 (getD (readAt s (r - 1) .fields) 2 [])) (hp : p ≡ sizeOf v) where
+        module _ (e : formAt t (r - 1) ≡ 14) {g p : ℕ} (hg : g ≡ Number.numberUpTo 65536 (getD (readAt s (r - 1) .fields) 2 [])) (hp : p ≡ stringSize v) where
           right-is : g ≡ numberOf (getD (readAt s (r - 1) .fields) 2 [])
           right-is = hg ∙ right-line operator-line e .exact
 
@@ -309,13 +309,13 @@ module _ {s t : Bytes} {n m r top : ℕ} (a : Foldable s t n m r top) where
             right-stops h = record { answer = record { value = sym (both-results ∙ stopped w y h _); at = stopped-at (top + p) top y h (b .answer .at) }; kept = right-kept }
 
             pub binary-folds : {z : ConstVal} → y ≡ Value z → {o : ℕ} → o ≡ Number.numberUpTo 65536 (getD (readAt s (r - 1) .fields) 0 []) → {q : Folded}
-                → ((t : Bytes) (top : ℕ) → At top v → At (top + sizeOf v) z → top + 512 ≤ length t → Answers t top q (foldBinary (binaryAt o) (valueIn t v) (valueIn t z)))
+                → ((t : Bytes) (top : ℕ) → At top v → At (top + stringSize v) z → top + 512 ≤ length t → Answers t top q (foldBinary (binaryAt o) (valueIn t v) (valueIn t z)))
                 → Folds s t m iota r top w q
             unfolding resultIn
             binary-folds {z} hz {o} ho {q} c =
                 let i : o ≡ numberOf (getD (readAt s (r - 1) .fields) 0 []) = binary-number operator-line e ho in
-                let k : Kept (top + sizeOf v) u w = rw (← hp) (b .kept) in
-                let x : At (top + sizeOf v) z = rw (← hp) (subst (ResultAt (top + p)) hz (b .answer .at)) in
+                let k : Kept (top + stringSize v) u w = rw (← hp) (b .kept) in
+                let x : At (top + stringSize v) z = rw (← hp) (subst (ResultAt (top + p)) hz (b .answer .at)) in
                 let d = right-line operator-line e .lower in
                 let room : top + 512 ≤ length w = omega (arith, a .room, d, right-kept .long, rw right-is at (depth-some (right-foldable .line))) in
                 record {

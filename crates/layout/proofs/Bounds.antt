@@ -107,23 +107,23 @@ variant-bound fs k h l =
 -- ---- the records of a declaration
 
 -- a record's size is at most n
-abbrev pub Sized : ℕ → Recorded → Type 0
-Sized n r = r .shape .size ≤ n
+abbrev pub SizeAtMost : ℕ → Recorded → Type 0
+SizeAtMost n r = r .shape .size ≤ n
 
 largest-bound : (n : ℕ) (fs : List Fd) (s : Shape) (ks : List Case) → s .size ≤ n → Every (λ (k : Case). variantShape fs k .size ≤ n) ks
     → pickShape s (map (variantShape fs) ks) .size ≤ n
 largest-bound n fs s [] h u = h
 largest-bound n fs s (k ∷ ks) h u = largest-bound n fs _ ks (omega arith) (u .1)
 
-variants-bound : (n : ℕ) (t : Bytes) (s : Shape) (ps : List PlacedField) (g tag : ℕ) (xs : List Bytes) → s .size ≤ n → Every (Sized n) (variantsOf t s ps g tag xs)
+variants-bound : (n : ℕ) (t : Bytes) (s : Shape) (ps : List PlacedField) (g tag : ℕ) (xs : List Bytes) → s .size ≤ n → Every (SizeAtMost n) (variantsOf t s ps g tag xs)
 variants-bound n t s ps g tag [] h = tt
 variants-bound n t s ps g tag (x ∷ xs) h = (h, variants-bound n t s ps g (suc tag) xs h)
 
 cases-bound : (n : ℕ) (t : Bytes) (fs : List Fd) (g tag : ℕ) (ks : List Case) → Every (λ (k : Case). variantShape fs k .size ≤ n) ks
-    → Every (Sized n) (casesFrom t fs g tag ks)
+    → Every (SizeAtMost n) (casesFrom t fs g tag ks)
 cases-bound n t fs g tag [] u = tt
 cases-bound n t fs g tag (k ∷ ks) u =
-    every-append (Sized n) (variantsOf t (variantShape fs k) (variantFields fs k) g tag (k .tags)) (casesFrom t fs (suc g) (tag + length (k .tags)) ks)
+    every-append (SizeAtMost n) (variantsOf t (variantShape fs k) (variantFields fs k) g tag (k .tags)) (casesFrom t fs (suc g) (tag + length (k .tags)) ks)
     (variants-bound n t (variantShape fs k) (variantFields fs k) g tag (k .tags) (u .0)) (cases-bound n t fs (suc g) (tag + length (k .tags)) ks (u .1))
 
 -- each variant by itself, where all cases together take so many lines
@@ -132,10 +132,10 @@ each-variant : (n : ℕ) (fs : List Fd) (ks : List Case) → FewNames fs → Few
 each-variant n fs [] h u b = tt
 each-variant n fs (k ∷ ks) h u b = (omega (arith, variant-bound fs k h (u .0)), each-variant n fs ks h (u .1) (omega arith))
 
-records-bound : (n : ℕ) (d : AdtDecl) → FewNames (d .fields) → FewInPick (d .pick) → 8 + 128 * declLines d ≤ n → Every (Sized n) (recordsOf d)
+records-bound : (n : ℕ) (d : AdtDecl) → FewNames (d .fields) → FewInPick (d .pick) → 8 + 128 * declLines d ≤ n → Every (SizeAtMost n) (recordsOf d)
 records-bound n d h u b = go (d .pick) u b
   where
-    go : (p : Option (List Case)) → FewInPick p → 8 + 128 * suc (fieldLines (d .fields) + pickLines p) ≤ n → Every (Sized n) (recordsFor (d .name) (d .fields) p)
+    go : (p : Option (List Case)) → FewInPick p → 8 + 128 * suc (fieldLines (d .fields) + pickLines p) ≤ n → Every (SizeAtMost n) (recordsFor (d .name) (d .fields) p)
     go none u b = (omega (arith, shape-bound (d .fields) 0 h), tt)
     go (some ks) u b =
         let v = each-variant n (d .fields) ks h u (omega arith) in (
@@ -149,5 +149,5 @@ records-bound n d h u b = go (d .pick) u b
 abbrev pub FitsSheet : AdtDecl → Type 0
 FitsSheet d = FewNames (d .fields) × FewInPick (d .pick) × (declLines d ≤ 1024)
 
-pub sheet-records-bound : (d : AdtDecl) → FitsSheet d → Every (Sized 131080) (recordsOf d)
+pub sheet-records-bound : (d : AdtDecl) → FitsSheet d → Every (SizeAtMost 131080) (recordsOf d)
 sheet-records-bound d h = records-bound 131080 d (h .0) (h .1) (omega (arith, h .2))

@@ -1,4 +1,4 @@
--- The digests of keys, entered and linked one by one.
+-- The digests of keys, withDigest and linked one by one.
 use mathlib.Core.Path.{_≡_, sym, ap, _∙_, subst}
 use mathlib.Core.Logic.{⊎-elim}
 use Prim.Native.Nat.{ℕ, suc, _+_, _*_, _≤_, _<_}
@@ -19,19 +19,19 @@ use Rattle.record_log.specs.Entries.{CollectedTo}
 
 module _ (t : Bytes) (i d : ℕ) (hi : i < 128) (room : 65536 ≤ length t) where
   -- with the digest, and then linked
-  abbrev entered : Bytes
-  entered = set t (9216 + (8 * i + 5)) d
+  abbrev withDigest : Bytes
+  withDigest = set t (9216 + (8 * i + 5)) d
 
   abbrev new : Bytes
-  new = linked entered recordChain i (chainOf d)
+  new = linked withDigest recordChain i (chainOf d)
 
-  entered-other : (q : ℕ) → (q ≡ 9216 + (8 * i + 5) → ⊥) → getD entered q 0 ≡ getD t q 0
+  entered-other : (q : ℕ) → (q ≡ 9216 + (8 * i + 5) → ⊥) → getD withDigest q 0 ≡ getD t q 0
   entered-other q n = getD-set-other t (9216 + (8 * i + 5)) q d 0 n
 
   -- links and heads are bytes 6 and 7 of entries
-  byte-linked : (j k : ℕ) → k < 6 → byteOf new j k ≡ byteOf entered j k
+  byte-linked : (j k : ℕ) → k < 6 → byteOf new j k ≡ byteOf withDigest j k
   unfolding place
-  byte-linked j k h = linked-other entered recordChain i (chainOf d) (9216 + (8 * j + k)) (λ e. omega (arith, e)) (λ e. omega (arith, e))
+  byte-linked j k h = linked-other withDigest recordChain i (chainOf d) (9216 + (8 * j + k)) (λ e. omega (arith, e)) (λ e. omega (arith, e))
 
   digest-new : digestOf new i ≡ d
   digest-new = byte-linked i 5 (omega arith) ∙ getD-set-same t (9216 + (8 * i + 5)) d 0 (omega arith)
@@ -58,7 +58,7 @@ module _ (t : Bytes) (i d : ℕ) (hi : i < 128) (room : 65536 ≤ length t) wher
   unfolding place
   outside-new =
       let k : chainOf d < 128 = mod-lt d (omega arith) in
-      outside-then (outside-set 9216 10240 t (9216 + (8 * i + 5)) d (omega arith) (omega arith)) (linked-outside entered recordChain i (chainOf d) (omega arith) (omega arith) (omega arith) (omega arith))
+      outside-then (outside-set 9216 10240 t (9216 + (8 * i + 5)) d (omega arith) (omega arith)) (linked-outside withDigest recordChain i (chainOf d) (omega arith) (omega arith) (omega arith) (omega arith))
 
   -- ---- chains
 
@@ -66,7 +66,7 @@ module _ (t : Bytes) (i d : ℕ) (hi : i < 128) (room : 65536 ≤ length t) wher
   unfolding place
   apart = record { own = λ a b e. omega (arith, e); link = λ a b x y e. omega (arith, e); head = λ a k x y e. omega (arith, e) }
 
-  entered-kept : SameBytes t entered recordChain i
+  entered-kept : SameBytes t withDigest recordChain i
   unfolding place
   entered-kept = record {
     digest = λ j h. entered-other (9221 + 8 * j) (λ e. omega (arith, e, h));
@@ -74,13 +74,13 @@ module _ (t : Bytes) (i d : ℕ) (hi : i < 128) (room : 65536 ≤ length t) wher
     head = λ k h. entered-other (9221 + 8 * k + 1 + 1) (λ e. omega (arith, e));
   }
 
-  chain-entered : chainAt entered recordChain i ≡ chainOf d
-  chain-entered = digest-chain entered i ∙ ap chainOf (getD-set-same t (9216 + (8 * i + 5)) d 0 (omega arith))
+  chain-entered : chainAt withDigest recordChain i ≡ chainOf d
+  chain-entered = digest-chain withDigest i ∙ ap chainOf (getD-set-same t (9216 + (8 * i + 5)) d 0 (omega arith))
 
   chained-new : Chained t recordChain i → Chained new recordChain (suc i)
   chained-new g =
       let long = length-set t (9216 + (8 * i + 5)) d in
-      chained-next (record-placed entered (omega (arith, long))) apart (omega arith) (omega arith) hi (mod-lt d (omega arith)) chain-entered
+      chained-next (record-placed withDigest (omega (arith, long))) apart (omega arith) (omega arith) hi (mod-lt d (omega arith)) chain-entered
       (chained-kept entered-kept (omega arith) g)
 
   module _ (s : Bytes) (n m : ℕ) (g : Digested s t n m i) (hm : i < m) (e : d ≡ digest (recordedAt s t i .key)) where

@@ -14,7 +14,7 @@ use Rattle.semantics.specs.Layout.{Recorded, place, recordsFor, variantFields, 
 use Rattle.semantics.specs.Listing.{row, recordRows, fieldRow}
 use Rattle.write.specs.Wrote.{Wrote}
 use Rattle.write.proofs.Wrote.{then}
-use Rattle.layout.proofs.Bounds.{Sized}
+use Rattle.layout.proofs.Bounds.{SizeAtMost}
 use Rattle.lines.specs.Lines.{formAt}
 use Rattle.sizes.specs.Places.{commonFields, caseFields, RecordLine, firstDecl, declAt}
 use Rattle.sizes.proofs.Records.{checked-records-bound}
@@ -108,7 +108,7 @@ entry-small : (s t : Bytes) (n i : ℕ) → LogEntry s t n i → recordedAt s t 
 unfolding logOf
 entry-small s t n i l =
     let g = l .log in
-    rw (g .each i (l .low)) (every-at (Sized 131080) (logOf s) (checked-records-bound s t n (g .checked)) noRecord i (omega (arith, g .count, l .low)))
+    rw (g .each i (l .low)) (every-at (SizeAtMost 131080) (logOf s) (checked-records-bound s t n (g .checked)) noRecord i (omega (arith, g .count, l .low)))
 
 pub sized : (s t : Bytes) (n i : ℕ) → LogEntry s t n i → {x : ℕ} → x ≡ recordedAt s t i .shape .size → (x ≡ recordedAt s t i .shape .size) × (x ≤ 131080)
 sized s t n i l e = (e, omega (arith, e, entry-small s t n i l))

@@ -10,7 +10,7 @@ use Rattle.semantics.specs.Sheet.{Module, Located, locatedFrom, openAfter, shee
 use Rattle.semantics.specs.Refusal.{sumOf}
 use Rattle.semantics.specs.Layout.{recordsOf, recordedAdts, recordLog}
 use Rattle.layout.specs.Lines.{declLines}
-use Rattle.layout.proofs.Bounds.{Sized, FitsSheet, sheet-records-bound}
+use Rattle.layout.proofs.Bounds.{SizeAtMost, FitsSheet, sheet-records-bound}
 use Rattle.lines.specs.Lines.{nodesIn}
 use Rattle.refs.proofs.Nodes.{node-count}
 use Rattle.checks.specs.Checks.{Checked}
@@ -55,7 +55,7 @@ module _ (s t : List ℕ) (n : ℕ) (c : Checked s t n) where
       (every-located FitsSheet (λ (d : Declares). d .adts) 1 none (nodesIn s) all-small)
 
   -- every record of a checked sheet
-  pub checked-records-bound : Every (Sized 131080) (recordLog (recordedAdts (sheetSource s)))
+  pub checked-records-bound : Every (SizeAtMost 131080) (recordLog (recordedAdts (sheetSource s)))
   checked-records-bound =
       let ds = recordedAdts (sheetSource s) in
-      every-concat (Sized 131080) recordsOf ds (every-map FitsSheet (λ (d : AdtDecl). Every (Sized 131080) (recordsOf d)) sheet-records-bound ds checked-small)
+      every-concat (SizeAtMost 131080) recordsOf ds (every-map FitsSheet (λ (d : AdtDecl). Every (SizeAtMost 131080) (recordsOf d)) sheet-records-bound ds checked-small)

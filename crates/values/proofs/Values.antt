@@ -27,7 +27,7 @@ use Rattle.values.specs.declared.ConstVal.{ConstVal}
 use Rattle.values.specs.declared.ConstVal.the-variants.{Int, Real, Str}
 use Rattle.values.specs.declared.Folded.{Folded}
 use Rattle.values.specs.declared.Folded.the-variants.{Value, Failed, TooLong}
-use Rattle.values.specs.Values.{stringIn, valueIn, resultIn, unaryAt, binaryAt, basicAt, sizeOf, bitsFor, Small, InRange, At, Within, Answers, Casts}
+use Rattle.values.specs.Values.{stringIn, valueIn, resultIn, unaryAt, binaryAt, basicAt, stringSize, bitsFor, Small, InRange, At, Within, Answers, Casts}
 use Rattle.values.proofs.Written.{wrote-kept, wrote-there, wrote-end, strings-join, string-length, integer-short}
 
 -- ---- results
@@ -111,7 +111,7 @@ module _ (op : ℕ) {v : ConstVal} {r : Folded} where
 
 -- two values that a result of a binary operator is of
 abbrev Binds : ℕ → ConstVal → ConstVal → Folded → Type 0
-Binds op x y r = (t : Bytes) (top : ℕ) → At top x → At (top + sizeOf x) y → top + 512 ≤ length t → Answers t top r (foldBinary (binaryAt op) (valueIn t x) (valueIn t y))
+Binds op x y r = (t : Bytes) (top : ℕ) → At top x → At (top + stringSize x) y → top + 512 ≤ length t → Answers t top r (foldBinary (binaryAt op) (valueIn t x) (valueIn t y))
 
 pub binds : (op : ℕ) {x y a b : ConstVal} {r : Folded} → x ≡ a → y ≡ b → Binds op a b r → Binds op x y r
 binds op {x} {y} {a} {b} {r} p q h = subst (λ (u : ConstVal). Binds op u y r) (sym p) (subst (λ (u : ConstVal). Binds op a u r) (sym q) h)

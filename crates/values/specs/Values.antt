@@ -37,10 +37,10 @@ resultIn t (Value v) = ok (valueIn t v)
 resultIn t Failed = failed
 resultIn t TooLong = refuse 8
 
-abbrev pub sizeOf : ConstVal → ℕ
-sizeOf (Int z) = 0
-sizeOf (Real x) = 0
-sizeOf (Str p l) = l
+abbrev pub stringSize : ConstVal → ℕ
+stringSize (Int z) = 0
+stringSize (Real x) = 0
+stringSize (Str p l) = l
 
 -- the kind of a value in a slot, and its bits: a string's are its place + 65536 times its length
 abbrev pub kindFor : ConstVal → ℕ

@@ -11,7 +11,7 @@ ghost use Rattle.semantics.specs.Tree.ConstVal.{vInt, vReal};
 ghost use Rattle.semantics.specs.Fold.{intUnary, realUnary, foldUnary, intBinary, realBinary, strBinary, foldBinary, foldCast, foldLen};
 ghost use Rattle.ints.specs.Quotients.{folded};
 ghost use Rattle.write.specs.Wrote.{over};
-ghost use Rattle.values.specs.Values.{valueIn, stringIn, unaryAt, binaryAt, basicAt, sizeOf, kindFor, bitsFor, Small, InRange, At, Within, Answers, Casts, RunsApart};
+ghost use Rattle.values.specs.Values.{valueIn, stringIn, unaryAt, binaryAt, basicAt, stringSize, kindFor, bitsFor, Small, InRange, At, Within, Answers, Casts, RunsApart};
 
 // The longest string that a fold may build.
 pub const LONGEST_STRING: usize = 256;
@@ -46,7 +46,7 @@ pub fn copy(work: &mut [u8], from: usize, to: usize, len: usize)
 
 // How many bytes of the working space a value takes.
 pub fn size(v: ConstVal) -> usize
-    ensures { λ r. ⌜ r ≡ sizeOf v ⌝ }
+    ensures { λ r. ⌜ r ≡ stringSize v ⌝ }
 {
     match v {
         ConstVal::Int(_) => 0,
@@ -174,7 +174,7 @@ fn str_binary(op: usize, p: usize, l: usize, m: usize) -> Folded
 
 // A string x stands at `top`, and a string y behind x.
 pub fn fold_binary(op: usize, x: ConstVal, y: ConstVal) -> Folded
-    ensures { λ r. ⌜ ((t : Bytes) (top : ℕ) → At top x → At (top + sizeOf x) y → top + 512 ≤ length t → Answers t top r (foldBinary (binaryAt op) (valueIn t x) (valueIn t y))) ⌝ }
+    ensures { λ r. ⌜ ((t : Bytes) (top : ℕ) → At top x → At (top + stringSize x) y → top + 512 ≤ length t → Answers t top r (foldBinary (binaryAt op) (valueIn t x) (valueIn t y))) ⌝ }
 {
     match x {
         ConstVal::Int(a) => match y {
