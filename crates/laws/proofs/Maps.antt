@@ -10,7 +10,7 @@ use lib.IntN.{ℤ, pos, negsuc}
 use lib.Dec.{leb, eqb}
 use borrow.Author.Tests.{leb-true, ne-eqb}
 use Rattle.laws.proofs.Tests.{and-unless}
-use Rattle.semantics.specs.Layout.{marks, marked, mapBits, mapBytes, wordsOf, pointerMap}
+use Rattle.semantics.specs.Layout.{marks, marked, mapBits, mapBytes, mapLength, pointerMap}
 use Rattle.semantics.specs.Demand.{bitAt}
 
 -- ---- no word is marked past the size
@@ -52,8 +52,8 @@ module _ (size : ℕ) (zs : List ℤ) where
   bytes-at (suc n) w (suc j) h = let e : w + 8 + 8 * j ≡ w + 8 * suc j = omega arith in bytes-at n (w + 8) j (omega arith) ∙ ap (bits 8) e
 
   pub byte-at : (j : ℕ) → getD (pointerMap size zs) j 0 ≡ bits 8 (8 * j)
-  unfolding pointerMap
-  byte-at j = let e : 0 + 8 * j ≡ 8 * j = omega arith in bytes-at ((wordsOf size + 7) / 8) 0 j (omega arith) ∙ ap (bits 8) e
+  unfolding pointerMap mapLength
+  byte-at j = let e : 0 + 8 * j ≡ 8 * j = omega arith in bytes-at (mapLength size) 0 j (omega arith) ∙ ap (bits 8) e
 
   -- the last word is the lowest bit
   pub last-bit : (d w v : ℕ) → v ≡ w + d → bits (suc d) w ≡ 2 * bits d w + bit v

@@ -10,7 +10,7 @@ use lib.Seq.{take-suc, take-all, length-take-le}
 use lib.IntN.{ℤ}
 use lib.Count.{onesIn, ones, ones-step}
 use Rattle.semantics.specs.Text.{Bytes}
-use Rattle.semantics.specs.Layout.{mapBits, mapBytes, wordsOf, pointerMap, pointerCount}
+use Rattle.semantics.specs.Layout.{mapBits, mapBytes, mapLength, pointerMap, pointerCount}
 use Rattle.laws.proofs.Maps.{byte-at}
 use Rattle.layout.specs.Pass.{laidOver, MapPass}
 
@@ -18,9 +18,9 @@ bytes-length : (size : ℕ) (zs : List ℤ) (n w : ℕ) → length (mapBytes siz
 bytes-length size zs zero w = refl
 bytes-length size zs (suc n) w = ap suc (bytes-length size zs n (w + 8))
 
-pub map-length : (size : ℕ) (zs : List ℤ) → length (pointerMap size zs) ≡ (wordsOf size + 7) / 8
+pub map-length : (size : ℕ) (zs : List ℤ) → length (pointerMap size zs) ≡ mapLength size
 unfolding pointerMap
-map-length size zs = bytes-length size zs ((wordsOf size + 7) / 8) 0
+map-length size zs = bytes-length size zs (mapLength size) 0
 
 -- ---- bytes over a buffer
 

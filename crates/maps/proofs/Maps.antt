@@ -12,20 +12,16 @@ use lib.IntN.{ℤ, pos}
 use lib.ListN.{length, take, drop, getD, set, length-take, length-drop, length-set, List·getD-eq-default}
 use lib.Seq.{getD-take, getD-drop, getD-set-same, getD-set-other, take-set-le, take-suc, take-all, ext-getD}
 use borrow.Author.Tests.{eqb-true, eqb-false, ltb-true, ltb-false, lt-ltb, le-ltb}
-use Rattle.semantics.specs.Layout.{marks, pointerMap, pointerCount}
+use Rattle.semantics.specs.Layout.{mapLength, marks, pointerMap, pointerCount}
 use Rattle.layout.proofs.Pass.{map-length, count-more}
 use Rattle.checks.specs.Checks.{Kept}
 use Rattle.checks.proofs.Kept.{kept-all, kept-then}
-use Rattle.maps.specs.Maps.{mapLength, mapIn, MapRoom, Mapped, Marks, MapMade}
+use Rattle.maps.specs.Maps.{mapIn, MapRoom, Mapped, Marks, MapMade}
 use Rattle.maps.proofs.Bits.{or-assoc, byte-append, byte-none, byte-one, byte-other}
 
 pub map-fits : {t : List ℕ} {size : ℕ} → MapRoom t size → mapLength size ≤ 4097
 unfolding mapLength
 map-fits m = omega (arith, m .small)
-
-pub bytes-count : (size : ℕ) (offs : List ℤ) → length (pointerMap size offs) ≡ mapLength size
-unfolding mapLength
-bytes-count size offs = map-length size offs
 
 -- ---- byte by byte
 
@@ -40,7 +36,7 @@ module _ (t : List ℕ) (size : ℕ) (room : MapRoom t size) where
 
   mapped-from : (offs : List ℤ) → ((j : ℕ) → j < mapLength size → getD t (49152 + j) 0 ≡ getD (pointerMap size offs) j 0) → Mapped t size offs
   mapped-from offs h = record {
-    bytes = ext-getD 0 (mapIn t size) (pointerMap size offs) (in-length ∙ sym (bytes-count size offs))
+    bytes = ext-getD 0 (mapIn t size) (pointerMap size offs) (in-length ∙ sym (map-length size offs))
         (λ j l. let k : j < mapLength size = omega (arith, in-length) in in-at j k ∙ h j k);
   }
 
@@ -90,7 +86,7 @@ module _ {size : ℕ} where
   }
     where
       past : (j : ℕ) → mapLength size ≤ j → getD (pointerMap size b) j 0 ≡ 0
-      past j h = List·getD-eq-default (pointerMap size b) 0 (omega (arith, bytes-count size b))
+      past j h = List·getD-eq-default (pointerMap size b) 0 (omega (arith, map-length size b))
 
   -- ---- one mark
 

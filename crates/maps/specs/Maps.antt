@@ -1,19 +1,15 @@
 -- A pointer map in the working space, from byte 49152 on.
-use Prim.Native.Nat.{ℕ, _+_, _/_, _≤_}
+use Prim.Native.Nat.{ℕ, _+_, _≤_}
 use mathlib.Core.Path.{_≡_}
 use mathlib.Core.List.{List}
 use lib.Bits.{bitOr}
 use lib.IntN.{ℤ}
 use lib.ListN.{length, take, drop, getD}
 use Rattle.semantics.specs.Text.{Bytes}
-use Rattle.semantics.specs.Layout.{wordsOf, pointerMap}
+use Rattle.semantics.specs.Layout.{mapLength, pointerMap}
 use Rattle.checks.specs.Checks.{Kept}
 
--- how many bytes the map of a block of this size has
-unfoldable pub mapLength : ℕ → ℕ
-mapLength size = (wordsOf size + 7) / 8
-
--- the bytes that stand where its map does
+-- the bytes that stand where the map of a block of this size does
 unfoldable pub mapIn : Bytes → ℕ → Bytes
 mapIn t size = take (mapLength size) (drop 49152 t)
 

@@ -10,7 +10,7 @@ use lib.IntN.{negsuc}
 use Rattle.semantics.specs.Text.{Bytes, bytes, decimal, decimalℤ, hexOf}
 use Rattle.semantics.specs.Tree.{AdtDecl, Case, Shape}
 use Rattle.semantics.specs.Sheet.{concatMap}
-use Rattle.semantics.specs.Layout.{Recorded, place, recordsFor, variantFields, mapOf}
+use Rattle.semantics.specs.Layout.{mapLength, Recorded, place, recordsFor, variantFields, mapOf}
 use Rattle.semantics.specs.Listing.{row, recordRows, fieldRow}
 use Rattle.write.specs.Wrote.{Wrote}
 use Rattle.write.proofs.Wrote.{then}
@@ -18,7 +18,7 @@ use Rattle.layout.proofs.Bounds.{SizeAtMost}
 use Rattle.lines.specs.Lines.{formAt}
 use Rattle.sizes.specs.Places.{commonFields, caseFields, RecordLine, firstDecl, declAt}
 use Rattle.sizes.proofs.Records.{checked-records-bound}
-use Rattle.maps.specs.Maps.{mapIn, mapLength, Mapped, MapRoom}
+use Rattle.maps.specs.Maps.{mapIn, Mapped, MapRoom}
 use Rattle.shapes.specs.Shapes.{firstShape, shapeAt, casesIn, casesAt, variantAt, VariantLine, CaseOf}
 use Rattle.records.specs.Log.{firstRecord, ownRecord, caseIn, variantRecord, recordIn, entryAt, recordedAt, nameOf, tagOf, logOf, noRecord, EntryIn, RecordsLogged, LogEntry}
 use Rattle.records.specs.Lines.{caseAt}

@@ -90,7 +90,7 @@ unfoldable pub mapBits : ℕ → List ℤ → ℕ → ℕ → ℕ
 mapBits size offs zero w = 0
 mapBits size offs (suc d) w = cond (marked size offs w) (2 ^ d) 0 + mapBits size offs d (suc w)
 
--- a byte per 8 words, n bytes from word w on
+-- 8 words a byte, n bytes from word w on
 abbrev pub mapBytes : ℕ → List ℤ → ℕ → ℕ → Bytes
 mapBytes size offs zero w = []
 mapBytes size offs (suc n) w = mapBits size offs 8 w ∷ mapBytes size offs n (w + 8)
@@ -99,8 +99,12 @@ mapBytes size offs (suc n) w = mapBits size offs 8 w ∷ mapBytes size offs n (w
 abbrev pub wordsOf : ℕ → ℕ
 wordsOf size = (size + 3) / 4
 
+-- and a byte per 8 words, rounded up
+unfoldable pub mapLength : ℕ → ℕ
+mapLength size = (wordsOf size + 7) / 8
+
 unfoldable pub pointerMap : ℕ → List ℤ → Bytes
-pointerMap size offs = mapBytes size offs ((wordsOf size + 7) / 8) 0
+pointerMap size offs = mapBytes size offs (mapLength size) 0
 
 abbrev pub mapOf : Shape → Bytes
 mapOf s = pointerMap (s .size) (s .pointers)

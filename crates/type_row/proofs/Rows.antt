@@ -7,12 +7,13 @@ use lib.IntN.{ℤ}
 use lib.ListN.{length, take, drop}
 use Rattle.semantics.specs.Text.{Bytes, bytes, decimal, hexOf}
 use Rattle.semantics.specs.Tree.{Shape}
-use Rattle.semantics.specs.Layout.{pointerMap, pointerCount}
+use Rattle.semantics.specs.Layout.{mapLength, pointerMap, pointerCount}
 use Rattle.semantics.specs.Listing.{row, typeRows}
 use Rattle.write.specs.Wrote.{Wrote}
 use Rattle.write.proofs.Wrote.{wrote-as, then}
-use Rattle.maps.specs.Maps.{mapLength, mapIn, MapRoom}
-use Rattle.maps.proofs.Maps.{map-fits, bytes-count}
+use Rattle.maps.specs.Maps.{mapIn, MapRoom}
+use Rattle.maps.proofs.Maps.{map-fits}
+use Rattle.layout.proofs.Pass.{map-length}
 
 pub rows-append : (id : ℕ) (xs ys : List Shape) → typeRows id (xs ++ ys) ≡ typeRows id xs ++ typeRows (id + length xs) ys
 unfolding typeRows
@@ -32,7 +33,7 @@ unfolding mapIn
 map-part t size n e = rw e
 
 pub map-end : {t : Bytes} {size n : ℕ} → MapRoom t size → ((offs : List ℤ) → n ≡ length (pointerMap size offs)) → (n ≡ mapLength size) × (49152 + n ≤ length t)
-map-end {t} {size} m h = let e = h [] ∙ bytes-count size [] in (e, omega (arith, e, map-fits m, m .room))
+map-end {t} {size} m h = let e = h [] ∙ map-length size [] in (e, omega (arith, e, map-fits m, m .room))
 
 -- the row of a shape whose map is m
 module _ (id size : ℕ) (m : Bytes) (offs : List ℤ) (e : m ≡ pointerMap size offs) where
