@@ -106,6 +106,20 @@ module _ {t : Bytes} {c : Chain} {k m : ℕ} {answers : ℕ → Bool} where
     pub along-on : b ≡ false → {r : ℕ} → r ≡ newestOf (isOf t c (chainAt t c i)) i → Along t c k m answers r
     along-on q h = from i (omega (arith, a .low)) (a .next ∙ newest-no answers i (sym e ∙ q)) (a .only) (rw (a .member i refl) at h)
 
+  -- the same where i is the number of the entry, from 1
+  module _ {i : ℕ} (a : Along t c k m answers i) (h : 0 < i) {b : Bool} (e : b ≡ answers (i - 1)) where
+    number-from-1 : i ≡ suc (i - 1)
+    number-from-1 = omega arith
+
+    at-number : Along t c k m answers (suc (i - 1))
+    at-number = rw number-from-1 at a
+
+    pub along-found : b ≡ true → i ≡ newestOf answers m
+    along-found q = number-from-1 ∙ along-hit at-number e q
+
+    pub along-next : b ≡ false → {r : ℕ} → r ≡ newestOf (isOf t c (chainAt t c (i - 1))) (i - 1) → Along t c k m answers r
+    along-next q h = along-on at-number e q h
+
   pub along-end : {i : ℕ} → i ≡ 0 → Along t c k m answers i → 0 ≡ newestOf answers m
   along-end e a = sym (a .next ∙ ap (newestOf answers) e ∙ newest-none answers)
 
@@ -157,6 +171,10 @@ pub record Apart (c : Chain) (n : ℕ) : Type 0 where
 linked-other : (t : Bytes) (c : Chain) (m k q : ℕ) → (q ≡ place c m + c .gap → ⊥) → (q ≡ place c k + c .gap + c .gap → ⊥) → getD (linked t c m k) q 0 ≡ getD t q 0
 unfolding linked
 linked-other t c m k q x y = getD-set-other (set t (place c m + c .gap) (headAt t c k)) (place c k + c .gap + c .gap) q m 0 y ∙ getD-set-other t (place c m + c .gap) q (headAt t c k) 0 x
+
+pub linked-long : (t : Bytes) (c : Chain) (m k : ℕ) → length (linked t c m k) ≡ length t
+unfolding linked
+linked-long t c m k = length-set (set t (place c m + c .gap) (headAt t c k)) (place c k + c .gap + c .gap) m ∙ length-set t (place c m + c .gap) (headAt t c k)
 
 module _ {t : Bytes} {c : Chain} {n : ℕ} (p : Placed t c) (a : Apart c n) (many : 128 ≤ n) (few : n ≤ 256) {m k : ℕ} (low : m < n) (small : k < 128) where
   chain-stays : (i : ℕ) → i < n → chainAt (linked t c m k) c i ≡ chainAt t c i

@@ -25,7 +25,7 @@ use Rattle.global_table.specs.Table.{VarLine, typeOn, namesOn, entriesFrom}
 use Rattle.globals.specs.Collect.{allocationIn, PlacesEntered, PlacesLaid, namesAt, namesTo, layLines, layLine, GlobalsCollected}
 use Rattle.globals.specs.Vars.{laidAt, laidOn}
 use Rattle.globals.proofs.Allocation.{laid-all, laid-next}
-use Rattle.global_table.proofs.Table.{places-count, checked-outside, places-kept, tabled-kept}
+use Rattle.global_table.proofs.Table.{places-count, checked-outside, places-kept, tabled-none, tabled-kept}
 use Rattle.globals.proofs.Declare.{laid-same, laid-then}
 use Rattle.globals.proofs.Laid.{laid-on, laid-number}
 
@@ -96,7 +96,7 @@ module _ (s t : Bytes) (n : ℕ) (c : Checked s t n) where
   unfolding laidTo locatedTo layVars entriesFrom openAt moduleAt
   collecting-start {g} e f =
       record {
-        laid = laid-same (record { tabled = record { checked = c; few = omega arith; entries = λ i h. absurd (omega arith) }; low = omega arith }) (rw (e, f)) (omega arith);
+        laid = laid-same (record { tabled = tabled-none c e; low = omega arith }) (rw (e, f)) (omega arith);
         here = record { checked = c; within = omega arith; low = omega arith; here = refl };
       }
 
