@@ -120,6 +120,11 @@ module _ {t : Bytes} {c : Chain} {k m : ℕ} {answers : ℕ → Bool} where
     pub along-next : b ≡ false → {r : ℕ} → r ≡ newestOf (isOf t c (chainAt t c (i - 1))) (i - 1) → Along t c k m answers r
     along-next q h = along-on at-number e q h
 
+  pub along-less : {i : ℕ} → Along t c k m answers i → 0 < i → {r : ℕ} → r ≡ newestOf (isOf t c (chainAt t c (i - 1))) (i - 1) → r < i
+  along-less {i} a h e =
+      let l : newestOf (isOf t c (chainAt t c (i - 1))) (i - 1) ≤ i - 1 = newest-low (isOf t c (chainAt t c (i - 1))) (i - 1) in
+      omega (arith, e, l)
+
   pub along-end : {i : ℕ} → i ≡ 0 → Along t c k m answers i → 0 ≡ newestOf answers m
   along-end e a = sym (a .next ∙ ap (newestOf answers) e ∙ newest-none answers)
 

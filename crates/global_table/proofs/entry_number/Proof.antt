@@ -1,10 +1,9 @@
 -- `global_table::entry_number` meets its contract.
-use Prim.Native.Nat.{_-_, _≤_}
 use native.Mathlib.Omega.{arith}
 use borrow.Author.Needs.{needs}
 use denote.Ref.{now}
-use Rattle.chains.specs.Chains.{newestOf, chainOf, chainAt, isOf}
-use Rattle.chains.proofs.Laws.{Along, newest-low, along-first, along-found, along-next, along-end}
+use Rattle.chains.specs.Chains.{chainOf}
+use Rattle.chains.proofs.Laws.{Along, along-first, along-found, along-next, along-less, along-end}
 use Rattle.global_table.specs.Table.{globalChain}
 use Rattle.global_table.proofs.Table.{hasName, global-placed, named-chain, found-is}
 use Rattle.global_table.proofs.entry_number.Statement.{statement}
@@ -42,11 +41,7 @@ earlier-requires c κs =
     (global-placed (p .checked .whole .room), p .chained, omega (arith, c .before .before .loop-test .taken, c .before .before .before .loop .inv .low), p .few)
 
 loop-less : tie.Need-loop-less Inv-loop μ-loop
-loop-less c =
-    let t = now (c .before .before .before .before .before .before .before .before .before .before .before .args .work) in
-    let i = c .before .before .before .before .loop .i in
-    let low : newestOf (isOf t globalChain (chainAt t globalChain (i - 1))) (i - 1) ≤ i - 1 = newest-low (isOf t globalChain (chainAt t globalChain (i - 1))) (i - 1) in
-    omega (arith, c .earlier .ensures, low, c .before .before .before .loop-test .taken)
+loop-less c = along-less (c .before .before .before .before .loop .inv) (c .before .before .before .loop-test .taken) (c .earlier .ensures)
 
 loop-again : tie.Need-loop-again Inv-loop μ-loop
 loop-again c = along-next (c .before .before .before .before .loop .inv) (c .before .before .before .loop-test .taken) (c .before .before .is-named .ensures) (c .before .if1 .left) (c .earlier .ensures)
