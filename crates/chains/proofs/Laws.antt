@@ -13,7 +13,7 @@ use Rattle.semantics.specs.Text.{Bytes}
 use Rattle.checks.specs.Checks.{Outside}
 use Rattle.checks.proofs.Kept.{outside-then, outside-set}
 use Rattle.chains.specs.declared.Chain.{Chain}
-use Rattle.chains.specs.Chains.{newestOf, chainOf, place, linkAt, headAt, chainAt, isOf, Placed, entryBelow, Chained, linked}
+use Rattle.chains.specs.Chains.{newestOf, chainOf, digestPlace, linkAt, headAt, chainAt, inChain, Placed, entryBelow, Chained, linked}
 
 -- ---- the newest entry that answers
 
@@ -92,26 +92,26 @@ pub record Along (t : Bytes) (c : Chain) (k m : ℕ) (answers : ℕ → Bool) (i
   pub low : i ≤ m
   pub next : newestOf answers m ≡ newestOf answers i
   pub member : (j : ℕ) → i ≡ suc j → chainAt t c j ≡ k
-  pub only : (j : ℕ) → j < m → answers j ≡ true → isOf t c k j ≡ true
+  pub only : (j : ℕ) → j < m → answers j ≡ true → inChain t c k j ≡ true
 
 module _ {t : Bytes} {c : Chain} {k m : ℕ} {answers : ℕ → Bool} where
   -- from the newest of the first l entries on
-  from : (l : ℕ) → l ≤ m → newestOf answers m ≡ newestOf answers l → ((j : ℕ) → j < m → answers j ≡ true → isOf t c k j ≡ true) → {r : ℕ} → r ≡ newestOf (isOf t c k) l → Along t c k m answers r
+  from : (l : ℕ) → l ≤ m → newestOf answers m ≡ newestOf answers l → ((j : ℕ) → j < m → answers j ≡ true → inChain t c k j ≡ true) → {r : ℕ} → r ≡ newestOf (inChain t c k) l → Along t c k m answers r
   from l h n only {r} e = record {
-    low = let q : newestOf (isOf t c k) l ≤ l = newest-low (isOf t c k) l in omega (arith, e, q);
-    next = n ∙ newest-among answers (isOf t c k) l (λ j x. only j (omega arith)) ∙ ap (newestOf answers) (sym e);
-    member = λ j q. eqb-true (chainAt t c j) k (newest-answers (isOf t c k) l j (sym e ∙ q));
+    low = let q : newestOf (inChain t c k) l ≤ l = newest-low (inChain t c k) l in omega (arith, e, q);
+    next = n ∙ newest-among answers (inChain t c k) l (λ j x. only j (omega arith)) ∙ ap (newestOf answers) (sym e);
+    member = λ j q. eqb-true (chainAt t c j) k (newest-answers (inChain t c k) l j (sym e ∙ q));
     only = only;
   }
 
-  pub along-first : ((j : ℕ) → j < m → answers j ≡ true → isOf t c k j ≡ true) → {r : ℕ} → r ≡ newestOf (isOf t c k) m → Along t c k m answers r
+  pub along-first : ((j : ℕ) → j < m → answers j ≡ true → inChain t c k j ≡ true) → {r : ℕ} → r ≡ newestOf (inChain t c k) m → Along t c k m answers r
   along-first only e = from m (omega arith) refl only e
 
   module _ {i : ℕ} (a : Along t c k m answers (suc i)) {b : Bool} (e : b ≡ answers i) where
     pub along-hit : b ≡ true → suc i ≡ newestOf answers m
     along-hit q = sym (a .next ∙ newest-yes answers i (sym e ∙ q))
 
-    pub along-on : b ≡ false → {r : ℕ} → r ≡ newestOf (isOf t c (chainAt t c i)) i → Along t c k m answers r
+    pub along-on : b ≡ false → {r : ℕ} → r ≡ newestOf (inChain t c (chainAt t c i)) i → Along t c k m answers r
     along-on q h = from i (omega (arith, a .low)) (a .next ∙ newest-no answers i (sym e ∙ q)) (a .only) (rw (a .member i refl) at h)
 
   -- the same where the entry is i - 1
@@ -119,10 +119,10 @@ module _ {t : Bytes} {c : Chain} {k m : ℕ} {answers : ℕ → Bool} where
     now-at : Along t c k m answers (suc (i - 1))
     now-at = let z : suc (i - 1) ≡ i = omega arith in rw z a
 
-    pub along-here : b ≡ true → i ≡ newestOf answers m
-    along-here q = let z : i ≡ suc (i - 1) = omega arith in z ∙ along-hit now-at e q
+    pub along-found : b ≡ true → i ≡ newestOf answers m
+    along-found q = let z : i ≡ suc (i - 1) = omega arith in z ∙ along-hit now-at e q
 
-    pub along-next : b ≡ false → {r : ℕ} → r ≡ newestOf (isOf t c (chainAt t c (i - 1))) (i - 1) → Along t c k m answers r
+    pub along-next : b ≡ false → {r : ℕ} → r ≡ newestOf (inChain t c (chainAt t c (i - 1))) (i - 1) → Along t c k m answers r
     along-next q x = along-on now-at e q x
 
   pub along-end : {i : ℕ} → i ≡ 0 → Along t c k m answers i → 0 ≡ newestOf answers m
@@ -135,12 +135,12 @@ module _ (t u : Bytes) (c : Chain) (m : ℕ) (chains : (i : ℕ) → i < m → c
   unfolding entryBelow
   below-same n k j h = go (ltb j n) refl
     where
-      go : (b : Bool) → ltb j n ≡ b → cond (b && isOf u c k j) (suc j) 0 ≡ cond (b && isOf t c k j) (suc j) 0
+      go : (b : Bool) → ltb j n ≡ b → cond (b && inChain u c k j) (suc j) 0 ≡ cond (b && inChain t c k j) (suc j) 0
       go true e = let l = ltb-true j n e in rw (chains j (omega arith))
       go false e = refl
 
-  members-same : (n k : ℕ) → n ≤ m → newestOf (isOf u c k) n ≡ newestOf (isOf t c k) n
-  members-same n k h = newest-same (isOf u c k) (isOf t c k) n (λ i l. ap (λ (x : ℕ). eqb x k) (chains i (omega arith)))
+  members-same : (n k : ℕ) → n ≤ m → newestOf (inChain u c k) n ≡ newestOf (inChain t c k) n
+  members-same n k h = newest-same (inChain u c k) (inChain t c k) n (λ i l. ap (λ (x : ℕ). eqb x k) (chains i (omega arith)))
 
   module _ (links : (i : ℕ) → i < m → linkAt u c i ≡ linkAt t c i) (heads : (k : ℕ) → k < 128 → headAt u c k ≡ headAt t c k) where
     pub chained-same : Chained t c m → Chained u c m
@@ -151,9 +151,9 @@ module _ (t u : Bytes) (c : Chain) (m : ℕ) (chains : (i : ℕ) → i < m → c
 
 -- the bytes of the first n entries, with their links and heads, are the same
 pub record SameBytes (t u : Bytes) (c : Chain) (n : ℕ) : Type 0 where
-  pub digest : (i : ℕ) → i < n → getD u (place c i) 0 ≡ getD t (place c i) 0
-  pub link : (i : ℕ) → i < n → getD u (place c i + c .gap) 0 ≡ getD t (place c i + c .gap) 0
-  pub head : (k : ℕ) → k < 128 → getD u (place c k + c .gap + c .gap) 0 ≡ getD t (place c k + c .gap + c .gap) 0
+  pub digest : (i : ℕ) → i < n → getD u (digestPlace c i) 0 ≡ getD t (digestPlace c i) 0
+  pub link : (i : ℕ) → i < n → getD u (digestPlace c i + c .gap) 0 ≡ getD t (digestPlace c i + c .gap) 0
+  pub head : (k : ℕ) → k < 128 → getD u (digestPlace c k + c .gap + c .gap) 0 ≡ getD t (digestPlace c k + c .gap + c .gap) 0
 
 pub chained-kept : {t u : Bytes} {c : Chain} {m n : ℕ} → SameBytes t u c n → m ≤ n → Chained t c m → Chained u c m
 unfolding chainAt linkAt headAt
@@ -167,29 +167,33 @@ chained-none t c = record { heads = λ k l. rw (le-ltb (headAt t c k) 0 (omega a
 -- ---- an entry linked
 
 -- digests, links and heads of a table of at most n entries stand apart
-pub record Apart (c : Chain) (n : ℕ) : Type 0 where
-  pub own : (i j : ℕ) → place c i ≡ place c j → i ≡ j
-  pub link : (i j : ℕ) → i < n → j < n → place c i ≡ place c j + c .gap → ⊥
-  pub head : (i k : ℕ) → i < n → k < 128 → place c i ≡ place c k + c .gap + c .gap → ⊥
+pub record PlacesApart (c : Chain) (n : ℕ) : Type 0 where
+  pub own : (i j : ℕ) → digestPlace c i ≡ digestPlace c j → i ≡ j
+  pub link : (i j : ℕ) → i < n → j < n → digestPlace c i ≡ digestPlace c j + c .gap → ⊥
+  pub head : (i k : ℕ) → i < n → k < 128 → digestPlace c i ≡ digestPlace c k + c .gap + c .gap → ⊥
 
 -- bytes elsewhere stay
 module _ (t : Bytes) (c : Chain) (m k : ℕ) {a b : ℕ} where
-  pub linked-outside : a ≤ place c m + c .gap → place c m + c .gap < b → a ≤ place c k + c .gap + c .gap → place c k + c .gap + c .gap < b → Outside a b t (linked t c m k)
+  pub linked-outside : a ≤ digestPlace c m + c .gap → digestPlace c m + c .gap < b → a ≤ digestPlace c k + c .gap + c .gap → digestPlace c k + c .gap + c .gap < b → Outside a b t (linked t c m k)
   unfolding linked
-  linked-outside h i j l = outside-then (outside-set a b t (place c m + c .gap) (headAt t c k) h i) (outside-set a b (set t (place c m + c .gap) (headAt t c k)) (place c k + c .gap + c .gap) m j l)
+  linked-outside h i j l = outside-then (outside-set a b t (digestPlace c m + c .gap) (headAt t c k) h i) (outside-set a b (set t (digestPlace c m + c .gap) (headAt t c k)) (digestPlace c k + c .gap + c .gap) m j l)
 
-pub linked-other : (t : Bytes) (c : Chain) (m k q : ℕ) → (q ≡ place c m + c .gap → ⊥) → (q ≡ place c k + c .gap + c .gap → ⊥) → getD (linked t c m k) q 0 ≡ getD t q 0
+pub linked-other : (t : Bytes) (c : Chain) (m k q : ℕ) → (q ≡ digestPlace c m + c .gap → ⊥) → (q ≡ digestPlace c k + c .gap + c .gap → ⊥) → getD (linked t c m k) q 0 ≡ getD t q 0
 unfolding linked
-linked-other t c m k q x y = getD-set-other (set t (place c m + c .gap) (headAt t c k)) (place c k + c .gap + c .gap) q m 0 y ∙ getD-set-other t (place c m + c .gap) q (headAt t c k) 0 x
+linked-other t c m k q x y = getD-set-other (set t (digestPlace c m + c .gap) (headAt t c k)) (digestPlace c k + c .gap + c .gap) q m 0 y ∙ getD-set-other t (digestPlace c m + c .gap) q (headAt t c k) 0 x
 
-module _ {t : Bytes} {c : Chain} {n : ℕ} (p : Placed t c) (a : Apart c n) (many : 128 ≤ n) (few : n ≤ 256) {m k : ℕ} (low : m < n) (small : k < 128) where
+pub linked-long : (t : Bytes) (c : Chain) (m k : ℕ) → length (linked t c m k) ≡ length t
+unfolding linked
+linked-long t c m k = length-set (set t (digestPlace c m + c .gap) (headAt t c k)) (digestPlace c k + c .gap + c .gap) m ∙ length-set t (digestPlace c m + c .gap) (headAt t c k)
+
+module _ {t : Bytes} {c : Chain} {n : ℕ} (p : Placed t c) (a : PlacesApart c n) (many : 128 ≤ n) (few : n ≤ 256) {m k : ℕ} (low : m < n) (small : k < 128) where
   chain-stays : (i : ℕ) → i < n → chainAt (linked t c m k) c i ≡ chainAt t c i
   unfolding chainAt
-  chain-stays i l = ap chainOf (linked-other t c m k (place c i) (a .link i m l low) (a .head i k l small))
+  chain-stays i l = ap chainOf (linked-other t c m k (digestPlace c i) (a .link i m l low) (a .head i k l small))
 
   link-stays : (i : ℕ) → i < m → linkAt (linked t c m k) c i ≡ linkAt t c i
   unfolding linkAt
-  link-stays i l = linked-other t c m k (place c i + c .gap)
+  link-stays i l = linked-other t c m k (digestPlace c i + c .gap)
       (λ e. let z : i ≡ m = a .own i m (omega (arith, e)) in absurd (omega arith))
       (λ e. a .link i k (omega arith) (omega arith) (omega (arith, e)))
 
@@ -198,12 +202,12 @@ module _ {t : Bytes} {c : Chain} {n : ℕ} (p : Placed t c) (a : Apart c n) (man
   link-new =
       let q = p .low m (omega arith) in
       let l = p .long in
-      getD-set-other (set t (place c m + c .gap) (headAt t c k)) (place c k + c .gap + c .gap) (place c m + c .gap) m 0 (λ e. a .link m k low (omega arith) (omega (arith, e)))
-      ∙ getD-set-same t (place c m + c .gap) (headAt t c k) 0 (omega arith)
+      getD-set-other (set t (digestPlace c m + c .gap) (headAt t c k)) (digestPlace c k + c .gap + c .gap) (digestPlace c m + c .gap) m 0 (λ e. a .link m k low (omega arith) (omega (arith, e)))
+      ∙ getD-set-same t (digestPlace c m + c .gap) (headAt t c k) 0 (omega arith)
 
   head-stays : (j : ℕ) → j < 128 → (j ≡ k → ⊥) → headAt (linked t c m k) c j ≡ headAt t c j
   unfolding headAt
-  head-stays j l z = linked-other t c m k (place c j + c .gap + c .gap)
+  head-stays j l z = linked-other t c m k (digestPlace c j + c .gap + c .gap)
       (λ e. a .link m j low (omega arith) (omega (arith, e)))
       (λ e. z (a .own j k (omega (arith, e))))
 
@@ -212,14 +216,14 @@ module _ {t : Bytes} {c : Chain} {n : ℕ} (p : Placed t c) (a : Apart c n) (man
   head-new =
       let q = p .low k (omega arith) in
       let l = p .long in
-      let e = length-set t (place c m + c .gap) (headAt t c k) in
-      getD-set-same (set t (place c m + c .gap) (headAt t c k)) (place c k + c .gap + c .gap) m 0 (omega (arith, e))
+      let e = length-set t (digestPlace c m + c .gap) (headAt t c k) in
+      getD-set-same (set t (digestPlace c m + c .gap) (headAt t c k)) (digestPlace c k + c .gap + c .gap) m 0 (omega (arith, e))
 
   module _ (own : chainAt t c m ≡ k) (h : Chained t c m) where
     same-below : (l k′ j : ℕ) → l ≤ suc m → entryBelow (linked t c m k) c l k′ j ≡ entryBelow t c l k′ j
     same-below = below-same t (linked t c m k) c (suc m) (λ i l. chain-stays i (omega arith))
 
-    same-members : (l k′ : ℕ) → l ≤ suc m → newestOf (isOf (linked t c m k) c k′) l ≡ newestOf (isOf t c k′) l
+    same-members : (l k′ : ℕ) → l ≤ suc m → newestOf (inChain (linked t c m k) c k′) l ≡ newestOf (inChain t c k′) l
     same-members = members-same t (linked t c m k) c (suc m) (λ i l. chain-stays i (omega arith))
 
     -- a head of another chain, as entry m is not of that
@@ -233,7 +237,7 @@ module _ {t : Bytes} {c : Chain} {n : ℕ} (p : Placed t c) (a : Apart c n) (man
             let l = ltb-false j m e in
             le-ltb j (suc m) (⊎-elim (λ (x : m ≡ j). absurd (q (sym x))) (λ (x : m < j). omega arith) (eq-or-lt-of-le l)) ∙ sym e
 
-        go : (b : Bool) → eqb j m ≡ b → cond (ltb j (suc m) && isOf t c k′ j) (suc j) 0 ≡ cond (ltb j m && isOf t c k′ j) (suc j) 0
+        go : (b : Bool) → eqb j m ≡ b → cond (ltb j (suc m) && inChain t c k′ j) (suc j) 0 ≡ cond (ltb j m && inChain t c k′ j) (suc j) 0
         go true e = let x = eqb-true j m e in rw (x, own, ne-eqb k k′ (λ q. z (sym q)), lt-ltb m (suc m) (omega arith), le-ltb m m (omega arith))
         go false e = rw (other (ltb j m) refl (eqb-false j m e))
 
@@ -241,17 +245,17 @@ module _ {t : Bytes} {c : Chain} {n : ℕ} (p : Placed t c) (a : Apart c n) (man
     unfolding entryBelow
     own-below = rw (own, eq-eqb k k refl, lt-ltb m (suc m) (omega arith))
 
-    heads-linked : (j : ℕ) → j < 128 → (b : Bool) → eqb j k ≡ b → entryBelow (linked t c m k) c (suc m) j (headAt (linked t c m k) c j) ≡ newestOf (isOf (linked t c m k) c j) (suc m)
+    heads-linked : (j : ℕ) → j < 128 → (b : Bool) → eqb j k ≡ b → entryBelow (linked t c m k) c (suc m) j (headAt (linked t c m k) c j) ≡ newestOf (inChain (linked t c m k) c j) (suc m)
     heads-linked j l true e =
         let x = eqb-true j k e in
-        rw (x, head-new) (same-below (suc m) k m (omega arith)) ∙ own-below ∙ sym (rw x (same-members (suc m) k (omega arith)) ∙ newest-yes (isOf t c k) m (rw own (eq-eqb k k refl)))
+        rw (x, head-new) (same-below (suc m) k m (omega arith)) ∙ own-below ∙ sym (rw x (same-members (suc m) k (omega arith)) ∙ newest-yes (inChain t c k) m (rw own (eq-eqb k k refl)))
     heads-linked j l false e =
         let x = eqb-false j k e in
         rw (head-stays j l x) (same-below (suc m) j (headAt t c j) (omega arith)) ∙ passed j (headAt t c j) x ∙ h .heads j l
-        ∙ sym (same-members (suc m) j (omega arith) ∙ newest-no (isOf t c j) m (rw own (ne-eqb k j (λ q. x (sym q)))))
+        ∙ sym (same-members (suc m) j (omega arith) ∙ newest-no (inChain t c j) m (rw own (ne-eqb k j (λ q. x (sym q)))))
 
     links-linked : (i : ℕ) → i < suc m → (b : Bool) → eqb i m ≡ b
-        → entryBelow (linked t c m k) c i (chainAt t c i) (linkAt (linked t c m k) c i) ≡ newestOf (isOf (linked t c m k) c (chainAt t c i)) i
+        → entryBelow (linked t c m k) c i (chainAt t c i) (linkAt (linked t c m k) c i) ≡ newestOf (inChain (linked t c m k) c (chainAt t c i)) i
     links-linked i l true e =
         let x = eqb-true i m e in
         rw (x, own, link-new) (same-below m k (headAt t c k) (omega arith)) ∙ h .heads k small ∙ sym (rw (x, own) (same-members m k (omega arith)))

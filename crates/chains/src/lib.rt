@@ -4,7 +4,7 @@
 use words::wide;
 ghost use mathlib.Core.Path.{_≡_};
 ghost use Prim.Native.Nat.{_+_, _≤_, _<_};
-ghost use Rattle.chains.specs.Chains.{chainOf, place, linkAt, headAt, chainAt, isOf, newestOf, entryBelow, linked, Placed, Chained};
+ghost use Rattle.chains.specs.Chains.{chainOf, digestPlace, linkAt, headAt, chainAt, inChain, newestOf, entryBelow, linked, Placed, Chained};
 
 // Where a table keeps them: the digest of entry i at byte `at + step * i`, its link `gap` bytes behind that, and the head of chain i
 // `gap` bytes behind the link.
@@ -23,8 +23,8 @@ pub fn chain_of(d: usize) -> usize
 
 // Where the digest of entry i stands.
 fn place(c: Chain, i: usize) -> usize
-    requires { ⌜ place c i + c .gap + c .gap < 65536 ⌝ }
-    ensures { λ r. ⌜ (r ≡ place c i) × (r + c .gap + c .gap < 65536) ⌝ }
+    requires { ⌜ digestPlace c i + c .gap + c .gap < 65536 ⌝ }
+    ensures { λ r. ⌜ (r ≡ digestPlace c i) × (r + c .gap + c .gap < 65536) ⌝ }
 {
     c.at + c.step * i
 }
@@ -68,7 +68,7 @@ fn entry_below(work: &[u8], c: Chain, m: usize, k: usize, j: usize) -> usize
 // The newest of m entries that is of chain k: its number from 1, 0 for none.
 pub fn newest(work: &[u8], c: Chain, m: usize, k: usize) -> usize
     requires { ⌜ (Placed (now work) c) × (Chained (now work) c m) × (k < 128) ⌝ }
-    ensures { λ r. ⌜ r ≡ newestOf (isOf (now (work .entry)) c k) m ⌝ }
+    ensures { λ r. ⌜ r ≡ newestOf (inChain (now (work .entry)) c k) m ⌝ }
 {
     entry_below(work, c, m, k, head_at(work, c, k))
 }
@@ -76,7 +76,7 @@ pub fn newest(work: &[u8], c: Chain, m: usize, k: usize) -> usize
 // The same of the entries before i, one of m, for the chain of i.
 pub fn earlier(work: &[u8], c: Chain, m: usize, i: usize) -> usize
     requires { ⌜ (Placed (now work) c) × (Chained (now work) c m) × (i < m) × (m ≤ 256) ⌝ }
-    ensures { λ r. ⌜ r ≡ newestOf (isOf (now (work .entry)) c (chainAt (now (work .entry)) c i)) i ⌝ }
+    ensures { λ r. ⌜ r ≡ newestOf (inChain (now (work .entry)) c (chainAt (now (work .entry)) c i)) i ⌝ }
 {
     entry_below(work, c, i, chain_at(work, c, i), link_at(work, c, i))
 }

@@ -23,7 +23,7 @@ use Rattle.semantics.specs.Const.{entries}
 use Rattle.write.specs.Wrote.{over}
 use Rattle.write.proofs.Hex.{big-length}
 use Rattle.write.proofs.Back.{bits-back}
-use Rattle.chains.specs.Chains.{chainOf, place, chainAt, Chained, linked}
+use Rattle.chains.specs.Chains.{chainOf, digestPlace, chainAt, Chained, linked}
 use Rattle.chains.proofs.Laws.{SameBytes, chained-kept, chained-next}
 use Rattle.words.specs.Words.{digest, u16At, bitsAt}
 use Rattle.implement.specs.Modules.{firstField, moduleAt}
@@ -118,7 +118,7 @@ module _ (t r : Bytes) (a : ℕ) (room : a + length r ≤ length t) where
       ∙ ap (λ (j : ℕ). drop j t) d)
 
   over-kept : Kept a t (over t a r)
-  over-kept = wrote-kept {d = t} {a = a} {t = r} {e = over t a r} {b = min (a + length r) (length t + 1)} (record { bytes = refl; place = refl })
+  over-kept = wrote-kept {d = t} {a = a} {t = r} {e = over t a r} {b = min (a + length r) (length t + 1)} (record { bytes = refl; digestPlace = refl })
 
 module _ (t u : Bytes) (m line within kind bits d : ℕ) (f : EntryRoom t m line within) (str : Bytes) (short : length str ≤ 256)
     (is : u ≡ over (over t (16384 + 256 * m) str) (5120 + 16 * m) (entryOf line within kind bits d))
@@ -223,7 +223,7 @@ module _ (t u : Bytes) (m line within kind bits d : ℕ) (f : EntryRoom t m line
       go false q = let x = ltb-false k m q in byte-behind p (omega arith) ∙ kept-at string-kept p (omega arith)
 
   chained-still : Chained t constChain m → Chained u constChain m
-  unfolding place
+  unfolding digestPlace
   chained-still =
       let same : SameBytes t u constChain m = record {
         digest = λ i (h : i < m). kept-at table-kept (5133 + 16 * i) (omega arith);
@@ -233,7 +233,7 @@ module _ (t u : Bytes) (m line within kind bits d : ℕ) (f : EntryRoom t m line
       chained-kept same (omega arith)
 
   own-chain : chainAt u constChain m ≡ chainOf d
-  unfolding chainAt place
+  unfolding chainAt digestPlace
   own-chain = ap chainOf digest-here
 
   entered : (v : Option Tree.ConstVal) → valueBy u kind bits ≡ v → (w : Bytes) → w ≡ linked u constChain m (chainOf d) → (s : Bytes) (n : ℕ) → line ≤ n → within ≤ n → d ≡ digest (firstField s line) → ConstsLogged s t n m → Entered s t n m line within v w

@@ -1,20 +1,26 @@
 -- Laws of the table of globals.
 use mathlib.Core.Path.{_≡_, refl, sym, ap, _∙_}
+use mathlib.Core.Logic.{⊎-elim}
 use mathlib.Core.Bool.{Bool, true, false, cond}
 use mathlib.Core.List.{List, [], _∷_, _++_}
 use mathlib.Core.Option.{Option, some}
 use Prim.Native.Nat.{ℕ, zero, suc, _+_, _-_, _*_, _/_, _%_, _≤_, _<_}
 use native.Mathlib.Numerals.{add-one}
+use native.Mathlib.Nat.{eq-or-lt-of-le}
 use native.Mathlib.Omega.{arith}
 use lib.ListN.{length, take, drop, getD, set, length-set}
 use lib.Seq.{sets, length-sets, getD-set-same, getD-set-other, take-set-le, drop-set-lt}
+use borrow.Author.Tests.{eq-eqb}
 use Rattle.semantics.specs.Text.{Bytes, same, orElse}
 use Rattle.semantics.specs.Global.{Global, placeOf}
+use Rattle.laws.proofs.Tests.{same-eq}
 use Rattle.words.specs.Words.{digest, u16At}
 use Rattle.words.proofs.Laws.{digest-apart}
+use Rattle.chains.specs.Chains.{newestOf, chainOf, digestPlace, headAt, chainAt, inChain, Placed, Chained, linked}
+use Rattle.chains.proofs.Laws.{PlacesApart, SameBytes, newest-yes, newest-no, newest-low, linked-long, chained-none, chained-kept, chained-next}
 use Rattle.checks.specs.Checks.{Checked, Kept, Outside}
-use Rattle.checks.proofs.Kept.{kept-less, kept-at, checked-kept, kind-line-kept}
-use Rattle.global_table.specs.Table.{VarLine, lineOf, positionOf, offsetOf, digestOf, globalEntered, entryAt, entriesFrom, placesIn, GlobalEntry, Tabled, offsetBy, numberFrom, entryNumber}
+use Rattle.checks.proofs.Kept.{kept-less, kept-at, outside-then, outside-set, checked-kept, kind-line-kept}
+use Rattle.global_table.specs.Table.{VarLine, lineOf, positionOf, offsetOf, digestOf, globalChain, globalStored, globalEntered, entryAt, entriesFrom, placesIn, GlobalEntry, Tabled, offsetBy, numberFrom, entryNumber}
 
 -- ---- a run of stores
 
@@ -43,11 +49,11 @@ sets-above t a (x ∷ xs) n h = sets-above (set t a x) (suc a) xs n (omega arith
 
 -- ---- an entry
 
-pub entered-by : (t : Bytes) (i line position offset d : ℕ)
+stored-by : (t : Bytes) (i line position offset d : ℕ)
     → set (set (set (set (set (set t (7168 + 8 * i) (line % 256)) (7168 + 8 * i + 1) (line / 256)) (7168 + 8 * i + 2) position) (7168 + 8 * i + 3) (offset % 256)) (7168 + 8 * i + 4) (offset / 256)) (7168 + 8 * i + 5) d
-    ≡ globalEntered t i line position offset d
-unfolding globalEntered
-entered-by t i line position offset d =
+    ≡ globalStored t i line position offset d
+unfolding globalStored
+stored-by t i line position offset d =
     let e1 : 7168 + 8 * i + 1 ≡ suc (7168 + 8 * i) = omega arith in
     let e2 : 7168 + 8 * i + 2 ≡ suc (suc (7168 + 8 * i)) = omega arith in
     let e3 : 7168 + 8 * i + 3 ≡ suc (suc (suc (7168 + 8 * i))) = omega arith in
@@ -55,13 +61,42 @@ entered-by t i line position offset d =
     let e5 : 7168 + 8 * i + 5 ≡ suc (suc (suc (suc (suc (7168 + 8 * i))))) = omega arith in
     rw (e1, e2, e3, e4, e5)
 
+module _ (t : Bytes) (i line position offset d : ℕ) {u : Bytes} {k : ℕ} (hk : k ≡ chainOf d) where
+  pub entered-by : u ≡ linked (set (set (set (set (set (set t (7168 + 8 * i) (line % 256)) (7168 + 8 * i + 1) (line / 256)) (7168 + 8 * i + 2) position) (7168 + 8 * i + 3) (offset % 256)) (7168 + 8 * i + 4) (offset / 256)) (7168 + 8 * i + 5) d) globalChain i k
+      → u ≡ globalEntered t i line position offset d
+  unfolding globalEntered
+  entered-by h = h ∙ rw (stored-by t i line position offset d, hk)
+
+pub entered-long : (t : Bytes) (i line position offset d : ℕ) → length (globalEntered t i line position offset d) ≡ length t
+unfolding globalEntered globalStored
+entered-long t i line position offset d =
+    linked-long (globalStored t i line position offset d) globalChain i (chainOf d)
+    ∙ length-sets t (7168 + 8 * i) (line % 256 ∷ line / 256 ∷ position ∷ offset % 256 ∷ offset / 256 ∷ d ∷ [])
+
+-- digests, links and heads lie in the working space, and apart
+pub global-placed : {t : Bytes} → 65536 ≤ length t → Placed t globalChain
+unfolding digestPlace
+global-placed room = record { low = λ i h. omega arith; long = room }
+
+global-apart : PlacesApart globalChain 256
+unfolding digestPlace
+global-apart = record { own = λ i j e. omega arith; link = λ i j h l e. omega arith; head = λ i k h l e. omega arith }
+
 module _ (t : Bytes) (i line position offset d : ℕ) (hi : i < 256) (hl : line < 65536) (ho : offset < 65536) (room : 65536 ≤ length t) where
   cells : Bytes
   cells = line % 256 ∷ line / 256 ∷ position ∷ offset % 256 ∷ offset / 256 ∷ d ∷ []
 
+  -- a link or a head is no other byte of an entry
+  unlinked : (j k m : ℕ) → k < 6 → m ≡ 7168 + 8 * j + k → getD (globalEntered t i line position offset d) m 0 ≡ getD (globalStored t i line position offset d) m 0
+  unfolding globalEntered linked digestPlace
+  unlinked j k m h e =
+      let u = globalStored t i line position offset d in
+      let head = headAt u globalChain (chainOf d) in
+      getD-set-other (set u (7173 + 8 * i + 1) head) (7173 + 8 * chainOf d + 1 + 1) m i 0 (λ q. omega arith) ∙ getD-set-other u (7173 + 8 * i + 1) m head 0 (λ q. omega arith)
+
   cell-at : (k j : ℕ) → k < 6 → j ≡ 7168 + 8 * i + k → getD (globalEntered t i line position offset d) j 0 ≡ getD cells k 0
-  unfolding globalEntered cells
-  cell-at k j h e = rw e (sets-at t (7168 + 8 * i) cells k h (omega arith))
+  unfolding globalStored cells
+  cell-at k j h e = unlinked i k j h e ∙ rw e (sets-at t (7168 + 8 * i) cells k h (omega arith))
 
   pub line-new : lineOf (globalEntered t i line position offset d) i ≡ line
   unfolding u16At cells
@@ -79,11 +114,15 @@ module _ (t : Bytes) (i line position offset d : ℕ) (hi : i < 256) (hl : line 
   unfolding digestOf cells
   digest-new = cell-at 5 (7173 + 8 * i) (omega arith) (omega arith)
 
+  -- a byte that is none of the entry's stays
+  stored-other : (m : ℕ) → ((k : ℕ) → k < 6 → m ≡ 7168 + 8 * i + k → ⊥) → getD (globalStored t i line position offset d) m 0 ≡ getD t m 0
+  unfolding globalStored cells
+  stored-other m h = sets-other t (7168 + 8 * i) cells m h
+
   -- the entries before it
   module _ (j : ℕ) (hj : j < i) where
     cell-old : (k : ℕ) → k < 6 → (m : ℕ) → m ≡ 7168 + 8 * j + k → getD (globalEntered t i line position offset d) m 0 ≡ getD t m 0
-    unfolding globalEntered cells
-    cell-old k h m e = sets-other t (7168 + 8 * i) cells m (λ x l q. omega arith)
+    cell-old k h m e = unlinked j k m h e ∙ stored-other m (λ x l q. omega arith)
 
     pub line-old : lineOf (globalEntered t i line position offset d) j ≡ lineOf t j
     unfolding u16At
@@ -105,12 +144,42 @@ module _ (t : Bytes) (i line position offset d : ℕ) (hi : i < 256) (hl : line 
     unfolding entryAt
     entry-old s = rw (line-old, position-old, offset-old)
 
-  pub outside-entered : Outside 7168 9216 t (globalEntered t i line position offset d)
-  unfolding globalEntered cells
-  outside-entered = record {
+  outside-stored : Outside 7168 9216 t (globalStored t i line position offset d)
+  unfolding globalStored cells
+  outside-stored = record {
     kept = record { below = sets-below t (7168 + 8 * i) cells 7168 (omega arith); long = length-sets t (7168 + 8 * i) cells };
     above = sets-above t (7168 + 8 * i) cells 9216 (omega arith);
   }
+
+  chain-low : chainOf d < 128
+  chain-low = omega arith
+
+  pub outside-entered : Outside 7168 9216 t (globalEntered t i line position offset d)
+  unfolding globalEntered linked digestPlace
+  outside-entered =
+      let u = globalStored t i line position offset d in
+      let low = chain-low in
+      outside-then outside-stored
+      (outside-then (outside-set 7168 9216 u (7173 + 8 * i + 1) (headAt u globalChain (chainOf d)) (omega arith) (omega arith))
+      (outside-set 7168 9216 (set u (7173 + 8 * i + 1) (headAt u globalChain (chainOf d))) (7173 + 8 * chainOf d + 1 + 1) i (omega arith) (omega arith)))
+
+  -- the entries and this one are chained
+  stored-same : SameBytes t (globalStored t i line position offset d) globalChain i
+  unfolding digestPlace
+  stored-same = record {
+    digest = λ j h. stored-other (7173 + 8 * j) (λ k l e. omega arith);
+    link = λ j h. stored-other (7173 + 8 * j + 1) (λ k l e. omega arith);
+    head = λ j h. stored-other (7173 + 8 * j + 1 + 1) (λ k l e. omega arith);
+  }
+
+  chain-stored : chainAt (globalStored t i line position offset d) globalChain i ≡ chainOf d
+  unfolding chainAt digestPlace globalStored cells
+  chain-stored = let e : 7173 + 8 * i ≡ 7168 + 8 * i + 5 = omega arith in ap chainOf (rw e (sets-at t (7168 + 8 * i) cells 5 (omega arith) (omega arith)))
+
+  pub chained-entered : Chained t globalChain i → Chained (globalEntered t i line position offset d) globalChain (suc i)
+  unfolding globalEntered
+  chained-entered c =
+      chained-next (global-placed (omega (arith, outside-stored .kept .long))) global-apart (omega arith) (omega arith) hi chain-low chain-stored (chained-kept stored-same (omega arith) c)
 
 -- ---- entries in order
 
@@ -136,45 +205,112 @@ pub places-entered : (s t : Bytes) (g line position offset d : ℕ) → g < 256 
     → placesIn s (globalEntered t g line position offset d) g ≡ placesIn s t g
 places-entered s t g line position offset d hg hl ho room = entries-same s t (globalEntered t g line position offset d) 0 g (λ j l. entry-old t g line position offset d hg hl ho room j (omega arith) s)
 
+-- a name that no entry before it has is entered
+pub once-entered : (s t : Bytes) (g line position offset d : ℕ) → g < 256 → line < 65536 → offset < 65536 → 65536 ≤ length t
+    → ((i : ℕ) → i < g → entryNumber (entryAt s t i .name) (placesIn s t i) ≡ 0)
+    → entryNumber (entryAt s (globalEntered t g line position offset d) g .name) (placesIn s t g) ≡ 0
+    → (i : ℕ) → i < suc g → entryNumber (entryAt s (globalEntered t g line position offset d) i .name) (placesIn s (globalEntered t g line position offset d) i) ≡ 0
+once-entered s t g line position offset d hg hl ho room old last i h = ⊎-elim (λ (e : i ≡ g). here e) (λ (l : i < g). before l) (eq-or-lt-of-le (omega arith))
+  where
+    same-to : (m : ℕ) → m ≤ g → placesIn s (globalEntered t g line position offset d) m ≡ placesIn s t m
+    same-to m l = entries-same s t (globalEntered t g line position offset d) 0 m (λ j q. entry-old t g line position offset d hg hl ho room j (omega arith) s)
+
+    here : i ≡ g → entryNumber (entryAt s (globalEntered t g line position offset d) i .name) (placesIn s (globalEntered t g line position offset d) i) ≡ 0
+    here e = rw (e, same-to g (omega arith)) last
+
+    before : i < g → entryNumber (entryAt s (globalEntered t g line position offset d) i .name) (placesIn s (globalEntered t g line position offset d) i) ≡ 0
+    before l = rw (same-to i (omega arith), entry-old t g line position offset d hg hl ho room i l s) (old i l)
+
 -- ---- search for a name
 
 -- names with different digests are different
 pub named-apart : {s t : Bytes} {n i d : ℕ} (x : Bytes) → GlobalEntry s t n i → d ≡ digest x → (digestOf t i ≡ d → ⊥) → false ≡ same x (entryAt s t i .name)
 named-apart {s} {t} {i = i} x b e z = digest-apart x (entryAt s t i .name) (λ q. z (b .digest ∙ sym (e ∙ q)))
 
--- the first i entries have other names
-pub record Searching (s t : Bytes) (g : ℕ) (x : Bytes) (i : ℕ) : Type 0 where
-  pub within : i ≤ g
-  pub place : placeOf x (placesIn s t g) ≡ placeOf x (entriesFrom s t i (g - i))
-  pub number : entryNumber x (placesIn s t g) ≡ numberFrom (suc i) x (entriesFrom s t i (g - i))
+-- one more digestPlace: the first with a name is new where it has that name and none before it has
+number-more : (k : ℕ) (x : Bytes) (ps : List Global) (p : Global) → same x (p .name) ≡ false → numberFrom k x (ps ++ (p ∷ [])) ≡ numberFrom k x ps
+number-more k x [] p e = rw e
+number-more k x (q ∷ ps) p e = rw (number-more (suc k) x ps p e)
 
-module _ (s t : Bytes) (g : ℕ) (x : Bytes) where
-  pub search-start : Searching s t g x 0
-  search-start = let e : g - 0 ≡ g = omega arith in record { within = omega arith; place = rw e; number = rw e }
+place-more : (x : Bytes) (ps : List Global) (p : Global) → same x (p .name) ≡ false → placeOf x (ps ++ (p ∷ [])) ≡ placeOf x ps
+place-more x [] p e = rw e
+place-more x (q ∷ ps) p e = rw (place-more x ps p e)
 
-  module _ (i : ℕ) (w : Searching s t g x i) (h : i < g) (b : Bool) (hb : b ≡ same x (entryAt s t i .name)) where
-    first : placeOf x (entriesFrom s t i (g - i)) ≡ cond (same x (entryAt s t i .name)) (some (entryAt s t i .offset)) (placeOf x (entriesFrom s t (suc i) (g - suc i)))
-    unfolding entriesFrom
-    first = let e : g - i ≡ suc (g - suc i) = omega arith in rw e
+module _ (x : Bytes) (p : Global) (e : same x (p .name) ≡ true) where
+  number-new : (k : ℕ) (ps : List Global) → numberFrom (suc k) x ps ≡ 0 → numberFrom (suc k) x (ps ++ (p ∷ [])) ≡ suc k + length ps
+  number-new k [] z = rw e (omega arith)
+  number-new k (q ∷ ps) z = go (same x (q .name)) z (number-new (suc k) ps)
+    where
+      go : (b : Bool) → cond b (suc k) (numberFrom (suc (suc k)) x ps) ≡ 0 → (numberFrom (suc (suc k)) x ps ≡ 0 → numberFrom (suc (suc k)) x (ps ++ (p ∷ [])) ≡ suc (suc k) + length ps)
+          → cond b (suc k) (numberFrom (suc (suc k)) x (ps ++ (p ∷ []))) ≡ suc k + suc (length ps)
+      go true h f = absurd (omega arith)
+      go false h f = f h ∙ omega arith
 
-    first-number : numberFrom (suc i) x (entriesFrom s t i (g - i)) ≡ cond (same x (entryAt s t i .name)) (suc i) (numberFrom (suc (suc i)) x (entriesFrom s t (suc i) (g - suc i)))
-    unfolding entriesFrom
-    first-number = let e : g - i ≡ suc (g - suc i) = omega arith in rw e
+  place-new : (k : ℕ) (ps : List Global) → numberFrom (suc k) x ps ≡ 0 → placeOf x (ps ++ (p ∷ [])) ≡ some (p .offset)
+  place-new k [] z = rw e
+  place-new k (q ∷ ps) z = go (same x (q .name)) z (place-new (suc k) ps)
+    where
+      go : (b : Bool) → cond b (suc k) (numberFrom (suc (suc k)) x ps) ≡ 0 → (numberFrom (suc (suc k)) x ps ≡ 0 → placeOf x (ps ++ (p ∷ [])) ≡ some (p .offset))
+          → cond b (some (q .offset)) (placeOf x (ps ++ (p ∷ []))) ≡ some (p .offset)
+      go true h f = absurd (omega arith)
+      go false h f = f h
 
-    pub search-found : b ≡ true → (offsetBy t (i + 1) ≡ placeOf x (placesIn s t g)) × (i + 1 ≤ g) × (i + 1 ≡ entryNumber x (placesIn s t g))
+-- whether entry i has the name x
+abbrev pub hasName : Bytes → Bytes → Bytes → ℕ → Bool
+hasName s t x i = same x (entryAt s t i .name)
+
+-- r is the number of the first entry with the name x, and its offset that name's digestPlace
+pub record Found (s t : Bytes) (g : ℕ) (x : Bytes) (r : ℕ) : Type 0 where
+  pub digestPlace : offsetBy t r ≡ placeOf x (placesIn s t g)
+  pub number : r ≡ entryNumber x (placesIn s t g)
+
+module _ (s t : Bytes) (x : Bytes) where
+  found-none : Found s t 0 x (newestOf (hasName s t x) 0)
+  unfolding newestOf offsetBy entriesFrom
+  found-none = record { digestPlace = refl; number = refl }
+
+  module _ (g : ℕ) where
+    more : placesIn s t (suc g) ≡ placesIn s t g ++ (entryAt s t g ∷ [])
+    more = rw (add-one g) at (places-more s t g)
+
+    found-here : hasName s t x g ≡ true → entryNumber (entryAt s t g .name) (placesIn s t g) ≡ 0 → Found s t (suc g) x (suc g)
     unfolding offsetBy entryAt
-    search-found q = (rw add-one (sym (w .place ∙ first ∙ rw (← hb, q))), omega arith, rw add-one (sym (w .number ∙ first-number ∙ rw (← hb, q))))
+    found-here e h =
+        let q : x ≡ entryAt s t g .name = same-eq x (entryAt s t g .name) e in
+        let z : entryNumber x (placesIn s t g) ≡ 0 = rw q h in
+        let l : length (placesIn s t g) ≡ g = places-count s t 0 g in
+        record {
+          digestPlace = sym (rw more (place-new x (entryAt s t g) e 0 (placesIn s t g) z));
+          number = sym (rw more (number-new x (entryAt s t g) e 0 (placesIn s t g) z ∙ omega (arith, l)));
+        }
 
-    pub search-next : b ≡ false → Searching s t g x (i + 1)
-    search-next q = record {
-      within = omega arith;
-      place = rw add-one (w .place ∙ first ∙ rw (← hb, q));
-      number = rw add-one (w .number ∙ first-number ∙ rw (← hb, q));
+    found-before : hasName s t x g ≡ false → {r : ℕ} → Found s t g x r → Found s t (suc g) x r
+    found-before e f = record {
+      digestPlace = rw more (f .place ∙ sym (place-more x (placesIn s t g) (entryAt s t g) e));
+      number = rw more (f .number ∙ sym (number-more 1 x (placesIn s t g) (entryAt s t g) e));
     }
 
-  pub search-end : (i : ℕ) → Searching s t g x i → g ≤ i → (offsetBy t 0 ≡ placeOf x (placesIn s t g)) × (0 ≤ g) × (0 ≡ entryNumber x (placesIn s t g))
-  unfolding offsetBy entriesFrom
-  search-end i w h = let e : g - i ≡ 0 = omega arith in (sym (w .place ∙ rw e), omega arith, sym (w .number ∙ rw e))
+  -- the newest entry with a name is the first, as there is one alone
+  newest-first : (g : ℕ) → ((i : ℕ) → i < g → entryNumber (entryAt s t i .name) (placesIn s t i) ≡ 0) → Found s t g x (newestOf (hasName s t x) g)
+  newest-first zero h = found-none
+  newest-first (suc g) h = go (hasName s t x g) refl (newest-first g (λ i l. h i (omega arith)))
+    where
+      go : (b : Bool) → hasName s t x g ≡ b → Found s t g x (newestOf (hasName s t x) g) → Found s t (suc g) x (newestOf (hasName s t x) (suc g))
+      go true e f = rw (newest-yes (hasName s t x) g e) (found-here g e (h g (omega arith)))
+      go false e f = rw (newest-no (hasName s t x) g e) (found-before g e f)
+
+-- an entry with the name x, which has the digest d, is of the chain of d
+pub named-chain : {s t : Bytes} {n g d : ℕ} (x : Bytes) → Tabled s t n g → d ≡ digest x → (j : ℕ) → j < g → hasName s t x j ≡ true → inChain t globalChain (chainOf d) j ≡ true
+unfolding chainAt digestPlace digestOf
+named-chain {s} {t} {d = d} x w e j h q =
+    let z : x ≡ entryAt s t j .name = same-eq x (entryAt s t j .name) q in
+    let y : getD t (7173 + 8 * j) 0 ≡ d = w .entries j h .digest ∙ ap digest (sym z) ∙ sym e in
+    eq-eqb (chainAt t globalChain j) (chainOf d) (ap chainOf y)
+
+pub found-is : {s t : Bytes} {n g r : ℕ} (x : Bytes) → Tabled s t n g → r ≡ newestOf (hasName s t x) g → (offsetBy t r ≡ placeOf x (placesIn s t g)) × (r ≤ g) × (r ≡ entryNumber x (placesIn s t g))
+found-is {s} {t} {g = g} x w e =
+    let f = newest-first s t x g (w .once) in
+    rw e (f .place, newest-low (hasName s t x) g, f .number)
 
 -- the offset of the entry that a search finds
 pub offset-none : (t : Bytes) (p : ℕ) (o : Option ℕ) → offsetBy t p ≡ o → p ≡ 0 → 0 ≡ orElse 0 o
@@ -193,6 +329,11 @@ checked-outside a c = checked-kept (kept-less (omega arith) (a .kept)) c
 
 pub var-outside : {s t u : Bytes} {n r : ℕ} → Outside 7168 9216 t u → VarLine s t n r → VarLine s u n r
 var-outside a l = kind-line-kept (kept-less (omega arith) (a .kept)) l
+
+-- ---- no entry
+
+pub tabled-none : {s t : Bytes} {n g : ℕ} → Checked s t n → g ≡ 0 → Tabled s t n g
+tabled-none {t = t} c e = record { checked = c; few = omega arith; entries = λ i h. absurd (omega arith); once = λ i h. absurd (omega arith); chained = rw e (chained-none t globalChain) }
 
 -- ---- the table stays where all that stands up to its end is kept
 
@@ -218,6 +359,14 @@ module _ {t u : Bytes} (a : Kept 9216 t u) where
   pub places-kept : (s : Bytes) (g : ℕ) → g ≤ 256 → placesIn s u g ≡ placesIn s t g
   places-kept s g h = entries-same s t u 0 g (λ j l. entry-kept s j (omega arith))
 
+  globals-same : SameBytes t u globalChain 256
+  unfolding digestPlace
+  globals-same = record {
+    digest = λ i h. kept-at a (7173 + 8 * i) (omega arith);
+    link = λ i h. kept-at a (7173 + 8 * i + 1) (omega arith);
+    head = λ k h. kept-at a (7173 + 8 * k + 1 + 1) (omega arith);
+  }
+
   pub tabled-kept : {s : Bytes} {n g : ℕ} → Tabled s t n g → Tabled s u n g
   tabled-kept {s} d = record {
     checked = checked-kept (kept-less (omega arith) a) (d .checked);
@@ -227,4 +376,6 @@ module _ {t u : Bytes} (a : Kept 9216 t u) where
       line = rw (line-kept i (x .low)) (kind-line-kept (kept-less (omega arith) a) (x .line));
       digest = rw (digest-kept i (x .low), entry-kept s i (x .low)) (x .digest);
     };
+    once = λ i h. let x = d .entries i h in rw (entry-kept s i (x .low), places-kept s i (omega (arith, x .low))) (d .once i h);
+    chained = chained-kept globals-same (d .few) (d .chained);
   }

@@ -1,6 +1,6 @@
 -- The table of globals in the working space, and the places that it holds.
 -- Entry i takes 8 bytes from 7168 + 8 i: the `var` line, from 1, in two bytes, the low one first; the position of the name among the
--- line's names, from 0; the offset, as the line; the name's digest; two are free.
+-- line's names, from 0; the offset, as the line; the name's digest; its link; and for i < 128 the head of chain i.
 use Prim.Native.Nat.{ℕ, zero, suc, _+_, _-_, _*_, _/_, _%_, _≤_, _<_}
 use mathlib.Core.Path.{_≡_}
 use mathlib.Core.Bool.{cond}
@@ -13,6 +13,8 @@ use Rattle.semantics.specs.Tree.{Ty, VarDecl}
 use Rattle.semantics.specs.Global.{Global, placeOf}
 use Rattle.lines.specs.Lines.{readAt, nodesIn}
 use Rattle.words.specs.Words.{digest, u16At}
+use Rattle.chains.specs.declared.Chain.{Chain}
+use Rattle.chains.specs.Chains.{chainOf, Chained, linked}
 use Rattle.checks.specs.Checks.{Checked, KindLine}
 use Rattle.source.specs.Walk.{varOf}
 
@@ -49,9 +51,16 @@ offsetOf t i = u16At t (7171 + 8 * i)
 unfoldable pub digestOf : Bytes → ℕ → ℕ
 digestOf t i = getD t (7173 + 8 * i) 0
 
--- entry i made
+-- the chains of entries
+abbrev pub globalChain : Chain
+globalChain = record { at = 7173; gap = 1; step = 8 }
+
+-- entry i stored, and then linked
+unfoldable pub globalStored : Bytes → ℕ → ℕ → ℕ → ℕ → ℕ → Bytes
+globalStored t i line position offset d = sets t (7168 + 8 * i) (line % 256 ∷ line / 256 ∷ position ∷ offset % 256 ∷ offset / 256 ∷ d ∷ [])
+
 unfoldable pub globalEntered : Bytes → ℕ → ℕ → ℕ → ℕ → ℕ → Bytes
-globalEntered t i line position offset d = sets t (7168 + 8 * i) (line % 256 ∷ line / 256 ∷ position ∷ offset % 256 ∷ offset / 256 ∷ d ∷ [])
+globalEntered t i line position offset d = linked (globalStored t i line position offset d) globalChain i (chainOf d)
 
 -- the global of entry i
 unfoldable pub entryAt : Bytes → Bytes → ℕ → Global
@@ -71,12 +80,6 @@ pub record GlobalEntry (s t : Bytes) (n i : ℕ) : Type 0 where
   pub line : VarLine s t n (lineOf t i)
   pub digest : digestOf t i ≡ digest (entryAt s t i .name)
 
--- g entries
-pub record Tabled (s t : Bytes) (n g : ℕ) : Type 0 where
-  pub checked : Checked s t n
-  pub few : g ≤ 256
-  pub entries : (i : ℕ) → i < g → GlobalEntry s t n i
-
 -- the offset of an entry by its number from 1; 0 is none
 unfoldable pub offsetBy : Bytes → ℕ → Option ℕ
 offsetBy t zero = none
@@ -93,3 +96,11 @@ entryNumber x ps = numberFrom 1 x ps
 -- where a name lies among places, 0 where it has none
 abbrev pub offsetIn : Bytes → List Global → ℕ
 offsetIn x ps = orElse 0 (placeOf x ps)
+
+-- g entries, each with a name that none before it has
+pub record Tabled (s t : Bytes) (n g : ℕ) : Type 0 where
+  pub checked : Checked s t n
+  pub few : g ≤ 256
+  pub entries : (i : ℕ) → i < g → GlobalEntry s t n i
+  pub once : (i : ℕ) → i < g → entryNumber (entryAt s t i .name) (placesIn s t i) ≡ 0
+  pub chained : Chained t globalChain g

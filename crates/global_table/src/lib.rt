@@ -1,6 +1,7 @@
 // The table of globals in the working space: for each a name of a `var` line, and its offset.
 pub mod line;
 
+use chains::Chain;
 use codes::area;
 ghost use mathlib.Core.Path.{_≡_};
 ghost use Prim.Native.Nat.{_≤_, _<_};
@@ -10,6 +11,13 @@ ghost use Rattle.semantics.specs.Global.{globalSize, placeOf};
 ghost use Rattle.sizes.specs.Sizes.{typeAt, TypeLine};
 ghost use Rattle.words.specs.Words.{digest};
 ghost use Rattle.global_table.specs.Table.{lineOf, positionOf, offsetOf, digestOf, globalEntered, entryAt, placesIn, GlobalEntry, Tabled, offsetBy, entryNumber, offsetIn};
+
+// The chains of entries.
+const CHAIN: Chain = Chain {
+    at: area::GLOBALS + 5,
+    gap: 1,
+    step: 8,
+};
 
 // The `var` line of entry i, from 1.
 pub fn line_of(work: &[u8], i: usize) -> usize
@@ -43,7 +51,7 @@ fn digest_of(work: &[u8], i: usize) -> usize
     words::wide(work[area::GLOBALS + 5 + 8 * i])
 }
 
-// Makes entry i.
+// Makes entry i, the newest of its chain.
 pub fn enter(work: &mut [u8], i: usize, line: usize, position: usize, offset: usize, digest: usize)
     requires { ⌜ (i < 256) × (line < 65536) × (position < 256) × (offset < 65536) × (digest < 256) × (65536 ≤ length (now work)) ⌝ }
     ensures { λ _. ⌜ now (work .exit) ≡ globalEntered (now (work .entry)) i line position offset digest ⌝ }
@@ -55,6 +63,7 @@ pub fn enter(work: &mut [u8], i: usize, line: usize, position: usize, offset: us
     work[a + 3] = (offset % 256) as u8;
     work[a + 4] = (offset / 256) as u8;
     work[a + 5] = digest as u8;
+    chains::link(work, CHAIN, i, chains::chain_of(digest));
 }
 
 // The name of entry i, as that part of the sheet.
@@ -76,18 +85,18 @@ fn is_named(sheet: &[u8], work: &[u8], n: usize, i: usize, name: &[u8], d: usize
     words::same(name, name_of(sheet, work, n, i))
 }
 
-// The number of the first entry with this name, from 1; 0 is none.
+// The number of the first entry with this name, from 1; 0 is none. No name has two entries, so the newest is the first.
 pub fn entry_number(sheet: &[u8], work: &[u8], n: usize, g: usize, name: &[u8]) -> usize
     requires { ⌜ Tabled (now sheet) (now work) n g ⌝ }
     ensures { λ r. ⌜ (offsetBy (now (work .entry)) r ≡ placeOf (now (name .entry)) (placesIn (now (sheet .entry)) (now (work .entry)) g)) × (r ≤ g) × (r ≡ entryNumber (now (name .entry)) (placesIn (now (sheet .entry)) (now (work .entry)) g)) ⌝ }
 {
     let d = words::digest(name);
-    let mut i = 0;
-    while i < g {
-        if is_named(sheet, work, n, i, name, d) {
-            return i + 1;
+    let mut i = chains::newest(work, CHAIN, g, chains::chain_of(d));
+    while 0 < i {
+        if is_named(sheet, work, n, i - 1, name, d) {
+            return i;
         }
-        i += 1;
+        i = chains::earlier(work, CHAIN, g, i - 1);
     }
     0
 }

@@ -25,7 +25,7 @@ use Rattle.global_table.specs.Table.{VarLine, typeOn, namesOn, entriesFrom}
 use Rattle.globals.specs.Collect.{allocationIn, PlacesEntered, PlacesLaid, namesAt, namesTo, layLines, layLine, GlobalsCollected}
 use Rattle.globals.specs.Vars.{laidAt, laidOn}
 use Rattle.globals.proofs.Allocation.{laid-all, laid-next}
-use Rattle.global_table.proofs.Table.{places-count, checked-outside, places-kept, tabled-kept}
+use Rattle.global_table.proofs.Table.{places-count, checked-outside, places-kept, tabled-none, tabled-kept}
 use Rattle.globals.proofs.Declare.{laid-same, laid-then}
 use Rattle.globals.proofs.Laid.{laid-on, laid-number}
 
@@ -87,24 +87,24 @@ pub open-outside : {s t u : Bytes} {n i k : ℕ} → Outside 7168 9216 t u → O
 open-outside a o = record { checked = checked-outside a (o .checked); within = o .within; low = o .low; here = o .here }
 
 -- the globals of the first i lines have places
-pub record Collecting (s t u : Bytes) (n : ℕ) (g : Globals) (k i : ℕ) : Type 0 where
+pub record LinesLaid (s t u : Bytes) (n : ℕ) (g : Globals) (k i : ℕ) : Type 0 where
   pub laid : PlacesLaid s t u n (laidTo s i) g (namesTo s i)
   pub here : Open s u n i k
 
 module _ (s t : Bytes) (n : ℕ) (c : Checked s t n) where
-  pub collecting-start : {g : Globals} → g .count ≡ 0 → g .end ≡ 0 → Collecting s t t n g 0 0
+  pub collecting-start : {g : Globals} → g .count ≡ 0 → g .end ≡ 0 → LinesLaid s t t n g 0 0
   unfolding laidTo locatedTo layVars entriesFrom openAt moduleAt
   collecting-start {g} e f =
       record {
-        laid = laid-same (record { tabled = record { checked = c; few = omega arith; entries = λ i h. absurd (omega arith) }; low = omega arith }) (rw (e, f)) (omega arith);
+        laid = laid-same (record { tabled = tabled-none c e; low = omega arith }) (rw (e, f)) (omega arith);
         here = record { checked = c; within = omega arith; low = omega arith; here = refl };
       }
 
-  module _ (u : Bytes) (g : Globals) (k i : ℕ) (m : Collecting s t u n g k i) where
+  module _ (u : Bytes) (g : Globals) (k i : ℕ) (m : LinesLaid s t u n g k i) where
     pub collecting-here : i < n → (PlacesEntered s u n g) × (Open s u n i k) × (i < n) × (g .count + namesAt s i ≤ 256)
     collecting-here h = (m .laid .standing, m .here, h, omega (arith, m .laid .most, names-few s t n c i h))
 
-    pub collecting-next : {v : Bytes} {x : Globals} {q : ℕ} → i < n → PlacesLaid s u v n (layLine s i (allocationIn s u g)) x (g .count + namesAt s i) → Open s v n (i + 1) q → Collecting s t v n x q (i + 1)
+    pub collecting-next : {v : Bytes} {x : Globals} {q : ℕ} → i < n → PlacesLaid s u v n (layLine s i (allocationIn s u g)) x (g .count + namesAt s i) → Open s v n (i + 1) q → LinesLaid s t v n x q (i + 1)
     collecting-next h a o =
         let b = laid-then (layLine s i) (namesAt s i) (m .laid) a in
         record { laid = record { standing = b .standing; outside = b .outside; allocation = b .allocation ∙ sym (laid-next s t n c i h); most = omega (arith, b .most, names-more s i, ap (namesTo s) (add-one i)) }; here = o }

@@ -6,6 +6,7 @@ use mathlib.Core.List.{List, [], _∷_, _++_}
 use mathlib.Core.Option.{none}
 use Prim.Native.Nat.{ℕ, zero, suc, _+_, _-_, _*_, _≤_, _<_}
 use native.Mathlib.Nat.{eq-or-lt-of-le}
+use native.Mathlib.Numerals.{add-one}
 use native.Mathlib.Omega.{arith}
 use lib.ListN.{length, drop, getD}
 use lib.Seq.{getD-drop}
@@ -17,17 +18,18 @@ use Rattle.semantics.specs.Layout.{alignUp}
 use Rattle.semantics.specs.Global.{Global, globalSize, placeOf, newOffset}
 use Rattle.laws.proofs.Alignments.{global-size}
 use Rattle.words.specs.Words.{digest}
+use Rattle.chains.specs.Chains.{Chained}
 use Rattle.lines.specs.Lines.{readAt, nodesIn}
 use Rattle.checks.specs.Checks.{Outside}
 use Rattle.checks.proofs.Kept.{outside-all, outside-then}
 use Rattle.sizes.specs.Sizes.{typeAt}
 use Rattle.globals.specs.declared.Globals.{Globals}
 use Rattle.globals.specs.Allocation.{Allocation, layName, layNames}
-use Rattle.global_table.specs.Table.{VarLine, nameOn, typeOn, namesOn, globalEntered, entryAt, placesIn, GlobalEntry, offsetBy}
+use Rattle.global_table.specs.Table.{VarLine, nameOn, typeOn, namesOn, globalChain, globalEntered, entryAt, placesIn, GlobalEntry, offsetBy, entryNumber}
 use Rattle.globals.specs.Collect.{allocationIn, PlacesEntered, PlacesLaid}
 use Rattle.globals.proofs.Allocation.{names-next}
 use Rattle.global_table.proofs.VarLine.{names-count}
-use Rattle.global_table.proofs.Table.{line-new, position-new, offset-new, digest-new, line-old, digest-old, entry-old, outside-entered, places-more, places-entered, checked-outside, var-outside}
+use Rattle.global_table.proofs.Table.{line-new, position-new, offset-new, digest-new, line-old, digest-old, entry-old, outside-entered, places-more, places-entered, once-entered, chained-entered, checked-outside, var-outside}
 
 -- 8 bytes each are enough
 place-low : (t : Ty) (end count : ℕ) → end ≤ 8 * count → alignUp (globalSize t) end ≤ 8 * count
@@ -120,7 +122,7 @@ module _ (s t : Bytes) (n r j : ℕ) (g : Globals) (st : PlacesEntered s t n g) 
   unfolding new
   places-old = places-entered s t (g .count) r j off d full line-low (omega (arith, off-low)) (l .checked .whole .room)
 
-  module _ (p : ℕ) (hn : same (nameOn s r j) (bytes "nil") ≡ false) (hp : offsetBy t p ≡ placeOf (nameOn s r j) (placesIn s t (g .count))) (hz : p ≡ 0) (h : Globals) (hc : h .count ≡ g .count + 1) (he : h .end ≡ off + size) where
+  module _ (p : ℕ) (hn : same (nameOn s r j) (bytes "nil") ≡ false) (hp : offsetBy t p ≡ placeOf (nameOn s r j) (placesIn s t (g .count))) (hq : p ≡ entryNumber (nameOn s r j) (placesIn s t (g .count))) (hz : p ≡ 0) (h : Globals) (hc : h .count ≡ g .count + 1) (he : h .end ≡ off + size) where
     places-new : placesIn s new (h .count) ≡ placesIn s t (g .count) ++ (record { name = nameOn s r j; offset = newOffset (typeOn s r) (g .end); ty = typeOn s r } ∷ [])
     places-new =
         ap (placesIn s new) hc ∙ places-more s new (g .count)
@@ -133,10 +135,21 @@ module _ (s t : Bytes) (n r j : ℕ) (g : Globals) (st : PlacesEntered s t n g) 
         let f : h .end ≡ newOffset (typeOn s r) (g .end) + globalSize (typeOn s r) = he ∙ rw (off-is, size-is) in
         rw (hn, q, places-new, f)
 
+    -- no entry has the name yet
+    once-new : (i : ℕ) → i < h .count → entryNumber (entryAt s new i .name) (placesIn s new i) ≡ 0
+    unfolding new
+    once-new i q =
+        let z : entryNumber (entryAt s new (g .count) .name) (placesIn s t (g .count)) ≡ 0 = ap (λ (e : Global). entryNumber (e .name) (placesIn s t (g .count))) entry-new ∙ sym hq ∙ hz in
+        once-entered s t (g .count) r j off d full line-low (omega (arith, off-low)) (l .checked .whole .room) (st .tabled .once) z i (omega arith)
+
+    chained-new : Chained new globalChain (h .count)
+    unfolding new
+    chained-new = rw (hc, add-one) (chained-entered t (g .count) r j off d full line-low (omega (arith, off-low)) (l .checked .whole .room) (st .tabled .chained))
+
     laid-new : PlacesLaid s t new n (layName (typeOn s r) (nameOn s r j) (allocationIn s t g)) h (g .count + 1)
     laid-new = record {
       standing = record {
-        tabled = record { checked = checked-outside outside-new (l .checked); few = omega arith; entries = λ i q. entries-new i (omega arith) };
+        tabled = record { checked = checked-outside outside-new (l .checked); few = omega arith; entries = λ i q. entries-new i (omega arith); once = once-new; chained = chained-new };
         low = omega (arith, off-low, size-low);
       };
       outside = outside-new;

@@ -19,8 +19,8 @@ use Rattle.semantics.specs.Sheet.{sheetSource}
 use Rattle.semantics.specs.Fold.{Key, Const, signed64, plain, qualified, sameOption, lookUp, valueOf}
 use Rattle.semantics.specs.Const.{entries}
 use Rattle.semantics.proofs.Common.{both}
-use Rattle.chains.specs.Chains.{newestOf, chainOf, place, headAt, chainAt, isOf, Placed, linked}
-use Rattle.chains.proofs.Laws.{newest-low, chained-kept, Apart, linked-outside}
+use Rattle.chains.specs.Chains.{newestOf, chainOf, digestPlace, headAt, chainAt, inChain, Placed, linked}
+use Rattle.chains.proofs.Laws.{newest-low, chained-kept, PlacesApart, linked-outside}
 use Rattle.words.specs.Words.{digest, u16At, bitsAt}
 use Rattle.words.proofs.Laws.{digest-same, digest-apart}
 use Rattle.implement.specs.Modules.{firstField, moduleAt, ownIn, isOwn}
@@ -180,7 +180,7 @@ pub table-entry : {s t : Bytes} {n m i : ℕ} → ConstTable s t n m → i < m �
 table-entry {i = i} c h = record { checked = c .checked; low = omega (arith, c .logged .few); entry = c .logged .each i h; digested = c .logged .digests i h }
 
 pub const-room : {t : Bytes} → 65536 ≤ length t → Placed t constChain
-unfolding place
+unfolding digestPlace
 const-room h = record { low = λ i h. omega arith; long = h }
 
 pub const-placed : {s t : Bytes} {n m : ℕ} → ConstTable s t n m → Placed t constChain
@@ -196,15 +196,15 @@ named-apart {s} {t} {i = i} x k e z = digest-apart x (firstField s (lineOf t i))
 
 -- entries that answer are in the chain of the name's digest
 module _ {s t : Bytes} {n m : ℕ} (c : ConstTable s t n m) (x : Bytes) {d : ℕ} (e : d ≡ digest x) where
-  named-member : (i : ℕ) → i < m → same x (firstField s (lineOf t i)) ≡ true → isOf t constChain (chainOf d) i ≡ true
-  unfolding chainAt place
+  named-member : (i : ℕ) → i < m → same x (firstField s (lineOf t i)) ≡ true → inChain t constChain (chainOf d) i ≡ true
+  unfolding chainAt digestPlace
   named-member i h q = eq-eqb (chainAt t constChain i) (chainOf d) (ap chainOf (c .logged .digests i h ∙ sym (e ∙ digest-same x (firstField s (lineOf t i)) 0 q)))
 
-  pub plain-member : (i : ℕ) → i < m → answersPlain s t i x ≡ true → isOf t constChain (chainOf d) i ≡ true
+  pub plain-member : (i : ℕ) → i < m → answersPlain s t i x ≡ true → inChain t constChain (chainOf d) i ≡ true
   unfolding answersPlain
   plain-member i h q = named-member i h (both (same x (firstField s (lineOf t i))) (isOwn s (moduleLineOf t i)) q .0)
 
-  pub qualified-member : (w : Bytes) (i : ℕ) → i < m → answersQualified s t i w x ≡ true → isOf t constChain (chainOf d) i ≡ true
+  pub qualified-member : (w : Bytes) (i : ℕ) → i < m → answersQualified s t i w x ≡ true → inChain t constChain (chainOf d) i ≡ true
   unfolding answersQualified
   qualified-member w i h q = named-member i h (both (same x (firstField s (lineOf t i))) (not (eqb (moduleLineOf t i) 0) && same w (firstField s (moduleLineOf t i))) q .0)
 
@@ -327,7 +327,7 @@ module _ {s t u : Bytes} {n m : ℕ} (w : Kept 7168 t u) (l : ConstsLogged s t n
   same-entries = entries-below (kept-less (omega (arith, l .few)) w)
 
   pub logged-same : ConstsLogged s u n m
-  unfolding place
+  unfolding digestPlace
   logged-same = record {
     few = l .few;
     each = each-same same-entries (l .each);
@@ -341,8 +341,8 @@ module _ {s t u : Bytes} {n m : ℕ} (w : Kept 7168 t u) (l : ConstsLogged s t n
 
 -- ---- an entry linked
 
-pub const-apart : Apart constChain 128
-unfolding place
+pub const-apart : PlacesApart constChain 128
+unfolding digestPlace
 const-apart = record { own = λ i j e. omega arith; link = λ i j h k e. omega arith; head = λ i k h l e. omega arith }
 
 -- a byte set before an entry, or behind its first 14 bytes
@@ -357,11 +357,11 @@ module _ (t : Bytes) (i j x : ℕ) where
 
 module _ (t : Bytes) (m k : ℕ) (few : m < 128) (small : k < 128) where
   pub const-outside : Outside 5120 7168 t (linked t constChain m k)
-  unfolding place
+  unfolding digestPlace
   const-outside = linked-outside t constChain m k (omega arith) (omega arith) (omega arith) (omega arith)
 
   pub linked-entries : (i : ℕ) → i < m + 1 → SameEntry t (linked t constChain m k) i
-  unfolding linked place
+  unfolding linked digestPlace
   linked-entries i h = go (ltb k i) refl
     where
       u : Bytes

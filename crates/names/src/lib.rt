@@ -7,7 +7,7 @@ ghost use lib.ListN.{length};
 ghost use Rattle.semantics.specs.Text as Text;
 ghost use Rattle.semantics.specs.Fold.{plain, qualified};
 ghost use Rattle.words.specs.Words.{digest};
-ghost use Rattle.chains.specs.Chains.{chainOf, isOf, newestOf};
+ghost use Rattle.chains.specs.Chains.{chainOf, inChain, newestOf};
 ghost use Rattle.implement.specs.Modules.{firstField};
 ghost use Rattle.checks.specs.Checks.{Checked};
 ghost use Rattle.names.specs.Table.{lineOf, moduleLineOf, bitsOf, kindOf, digestOf, constChain, answersPlain, answersQualified, newestPlain, newestQualified, Looked, ConstTable, ConstEntry};
@@ -122,7 +122,7 @@ fn answers_qualified(
 // are numbers of entries from 1, 0 for none.
 fn along_plain(sheet: &[u8], work: &[u8], c: Known, newest: usize, name: &[u8], d: usize) -> usize
     requires { ⌜ (ConstTable (now sheet) (now work) (c .lines) (c .consts)) × (newest ≤ c .consts) × (d ≡ digest (now name)) ⌝ }
-    ensures { λ r. ⌜ ((m : ℕ) → m ≤ c .consts → newest ≡ newestOf (isOf (now (work .entry)) constChain (chainOf d)) m → r ≡ newestPlain (now (sheet .entry)) (now (work .entry)) m (now (name .entry))) ⌝ }
+    ensures { λ r. ⌜ ((m : ℕ) → m ≤ c .consts → newest ≡ newestOf (inChain (now (work .entry)) constChain (chainOf d)) m → r ≡ newestPlain (now (sheet .entry)) (now (work .entry)) m (now (name .entry))) ⌝ }
 {
     let mut i = newest;
     while 0 < i {
@@ -145,7 +145,7 @@ fn along_qualified(
     d: usize,
 ) -> usize
     requires { ⌜ (ConstTable (now sheet) (now work) (c .lines) (c .consts)) × (newest ≤ c .consts) × (d ≡ digest (now name)) ⌝ }
-    ensures { λ r. ⌜ ((m : ℕ) → m ≤ c .consts → newest ≡ newestOf (isOf (now (work .entry)) constChain (chainOf d)) m → r ≡ newestQualified (now (sheet .entry)) (now (work .entry)) m (now (within .entry)) (now (name .entry))) ⌝ }
+    ensures { λ r. ⌜ ((m : ℕ) → m ≤ c .consts → newest ≡ newestOf (inChain (now (work .entry)) constChain (chainOf d)) m → r ≡ newestQualified (now (sheet .entry)) (now (work .entry)) m (now (within .entry)) (now (name .entry))) ⌝ }
 {
     let mut i = newest;
     while 0 < i {

@@ -6,9 +6,8 @@ use Prim.Native.Nat.{ℕ, zero, suc, _+_, _≤_, _<_}
 use native.Mathlib.Omega.{arith}
 use native.Mathlib.Numerals.{add-one}
 use lib.Dec.{eqb}
-use lib.ListN.{length, take, getD, set, length-append}
-use lib.Seq.{take-suc, take-all}
-use borrow.Author.Tests.{eqb-true, eqb-false}
+use lib.ListN.{length, getD, length-append}
+use borrow.Author.Tests.{eq-eqb, eqb-true, eqb-false}
 use Rattle.semantics.specs.Text.{any}
 use Rattle.semantics.specs.Tree.{ElemKind, TypeKey}
 use Rattle.semantics.specs.Tree.TypeKey.{elemKey, opaqueKey}
@@ -18,21 +17,40 @@ use Rattle.semantics.specs.Array.{kindNumber}
 use Rattle.semantics.specs.Types.{sameTypeKey, distinct, position}
 use Rattle.lines.specs.Lines.{textAt, readAt, formAt}
 use Rattle.checks.specs.Checks.{Checked, Outside}
-use Rattle.checks.proofs.Kept.{kept-less, checked-kept, outside-then, outside-less, outside-set}
+use Rattle.checks.proofs.Kept.{kept-less, checked-kept, outside-then, outside-less}
 use Rattle.words.specs.Words.{digest}
 use Rattle.source.specs.Walk.{declaredTo}
-use Rattle.laws.proofs.Lists.{any-append}
+use Rattle.laws.proofs.Tests.{same-eq}
+use Rattle.chains.specs.Chains.{newestOf, chainOf, chainAt, inChain, Chained}
+use Rattle.chains.proofs.Laws.{newest-from, chained-none}
 use Rattle.type_lines.specs.Needs.{needAt, needsTo, kindBy}
 use Rattle.type_lines.proofs.Codes.{kind-low}
 use Rattle.type_lines.proofs.ByForm.{elem-is}
+use Rattle.type_lines.proofs.Spelling.{texts-are}
 use Rattle.type_lines.proofs.Needs.{needs-all, needs-few, needs-next, needs-stay}
-use Rattle.type_keys.specs.Table.{needLineOf, positionOf, kindPosition, digestOf, needEntered, kindEntered, Needs, Kinds}
+use Rattle.type_keys.specs.Table.{needLineOf, positionOf, kindPosition, digestOf, needChain, needEntered, digestEntered, kindEntered, Needs, Kinds}
 use Rattle.type_keys.proofs.Distinct.{position-same, position-within, position-none, position-more, distinct-more, distinct-few, key-member, none-distinct, known-more}
-use Rattle.type_keys.proofs.Table.{line-below, position-below, kind-above, kind-kept, entered-outside, entered-line, entered-position, other-line, other-position, kind-outside, kind-entered, digest-above, digest-same, digest-other}
+use Rattle.type_keys.proofs.Table.{line-below, position-below, kind-above, kind-kept, entered-outside, entered-line, entered-position, other-line, other-position, kind-outside, kind-entered, need-chain, digest-above, digest-outside, digest-same, digest-other, chained-entered, chained-above}
 use Rattle.type_keys.proofs.Elements.{kinds-more}
 use Rattle.need_keys.specs.Pass.{NeedEntry, Collecting, NeedNext}
 
 -- ---- the position of a need's key
+
+-- whether need q has the key of the `need` line i
+abbrev pub hasKey : List ℕ → List ℕ → ℕ → ℕ → Bool
+hasKey s t i q = sameTypeKey (needAt s i) (needAt s (needLineOf t q))
+
+-- where no entry is the newest that answers, none does
+not-newest : (answers : ℕ → Bool) (m : ℕ) → 0 ≡ newestOf answers m → (q : ℕ) → q < m → answers q ≡ false
+not-newest answers m z q h = go (answers q) refl
+  where
+    go : (b : Bool) → answers q ≡ b → b ≡ false
+    go true e = let l = newest-from answers m q h e in absurd (omega (arith, z, l))
+    go false e = refl
+
+any-none : (p : TypeKey → Bool) (l : List TypeKey) → ((q : ℕ) → q < length l → p (getD l q opaqueKey) ≡ false) → any p l ≡ false
+any-none p [] h = refl
+any-none p (k ∷ l) h = rw (h 0 (omega arith)) (any-none p l (λ q n. h (suc q) (omega arith)))
 
 module _ {s t : List ℕ} {n i needs keys : ℕ} (x : NeedNext s t n i needs keys) where
   pub needs-room : (needs < 128) × (position (needAt s i) (distinct [] (needsTo s i)) ≤ 127) × (keys ≤ 127)
@@ -50,23 +68,28 @@ module _ {s t : List ℕ} {n i needs keys : ℕ} (x : NeedNext s t n i needs key
         digest = x .collecting .digests q h;
       }
 
-  module _ (q : ℕ) (h : q < needs) (b : Bool) (e : b ≡ sameTypeKey (needAt s i) (needAt s (needLineOf t q))) where
+  module _ (q : ℕ) (h : q < needs) where
     low : q < length (needsTo s i)
     low = omega (arith, x .collecting .count)
 
-    same-as : b ≡ sameTypeKey (needAt s i) (getD (needsTo s i) q opaqueKey)
-    same-as = e ∙ ap (sameTypeKey (needAt s i)) (x .collecting .table .key q low)
+    pub same-as : hasKey s t i q ≡ sameTypeKey (needAt s i) (getD (needsTo s i) q opaqueKey)
+    same-as = ap (sameTypeKey (needAt s i)) (x .collecting .table .key q low)
 
-    pub found-position : b ≡ true → positionOf t q ≡ position (needAt s i) (distinct [] (needsTo s i))
-    found-position g = x .collecting .table .position q low ∙ sym (position-same (needAt s i) (getD (needsTo s i) q opaqueKey) (sym same-as ∙ g) (distinct [] (needsTo s i)))
+    -- a need with the key has its position
+    pub found-position : {b : Bool} → b ≡ hasKey s t i q → b ≡ true → positionOf t q ≡ position (needAt s i) (distinct [] (needsTo s i))
+    found-position e g = x .collecting .table .position q low ∙ sym (position-same (needAt s i) (getD (needsTo s i) q opaqueKey) (sym same-as ∙ sym e ∙ g) (distinct [] (needsTo s i)))
 
-    pub still-new : b ≡ false → any (sameTypeKey (needAt s i)) (take q (needsTo s i)) ≡ false → any (sameTypeKey (needAt s i)) (take (q + 1) (needsTo s i)) ≡ false
-    still-new g k = rw (add-one q, take-suc (needsTo s i) q opaqueKey low, any-append (sameTypeKey (needAt s i)) (take q (needsTo s i)) (getD (needsTo s i) q opaqueKey ∷ []), k, ← same-as, g)
+    -- and the digest of its line's text, so it is of that chain
+    pub found-chain : {d : ℕ} → d ≡ digest (textAt s i) → hasKey s t i q ≡ true → inChain t needChain (chainOf d) q ≡ true
+    found-chain {d} e g =
+        let z : textAt s i ≡ textAt s (needLineOf t q) = same-eq (textAt s i) (textAt s (needLineOf t q)) (texts-are (x .line) (known-entry q h .line) ∙ g) in
+        let y : digestOf t q ≡ d = x .collecting .digests q h ∙ sym (e ∙ ap (λ (l : List ℕ). digest l) z) in
+        eq-eqb (chainAt t needChain q) (chainOf d) (need-chain t q ∙ ap chainOf y)
 
-  pub next-position : (q : ℕ) → needs ≤ q → any (sameTypeKey (needAt s i)) (take q (needsTo s i)) ≡ false → keys ≡ position (needAt s i) (distinct [] (needsTo s i))
-  next-position q h k =
-      let z = rw (take-all q (needsTo s i) (omega (arith, x .collecting .count))) at k in
-      x .collecting .kinds .count ∙ sym (position-none (needAt s i) (distinct [] (needsTo s i)) (none-distinct (needAt s i) (needsTo s i) z))
+  pub next-position : 0 ≡ newestOf (hasKey s t i) needs → keys ≡ position (needAt s i) (distinct [] (needsTo s i))
+  next-position z =
+      let k = any-none (sameTypeKey (needAt s i)) (needsTo s i) (λ q h. let l : q < needs = omega (arith, x .collecting .count) in sym (same-as q l) ∙ not-newest (hasKey s t i) needs z q l) in
+      x .collecting .kinds .count ∙ sym (position-none (needAt s i) (distinct [] (needsTo s i)) (none-distinct (needAt s i) (needsTo s i) k))
 
 -- ---- one key more
 
@@ -78,7 +101,7 @@ each (x ∷ l) k P a b zero h = a 0 (omega arith)
 each (x ∷ l) k P a b (suc q) h = each l k (λ q. P (suc q)) (λ q h. a (suc q) (omega arith)) b q (omega arith)
 
 module _ {s t : List ℕ} {n i needs keys : ℕ} (x : NeedNext s t n i needs keys) {f p d : ℕ} (hf : f ≡ formAt t i) (hp : p ≡ position (needAt s i) (distinct [] (needsTo s i))) (hd : d ≡ digest (textAt s i))
-    {u v w : List ℕ} (hu : u ≡ needEntered t needs i p) (hv : v ≡ kindEntered u (kindBy f) p) (hw : w ≡ set v (10752 + needs) d) where
+    {u v w : List ℕ} (hu : u ≡ needEntered t needs i p) (hv : v ≡ kindEntered u (kindBy f) p) (hw : w ≡ digestEntered v needs d) where
   room : 65536 ≤ length t
   room = x .collecting .checked .whole .room
 
@@ -88,8 +111,11 @@ module _ {s t : List ℕ} {n i needs keys : ℕ} (x : NeedNext s t n i needs key
   second : Outside 10624 10629 u v
   second = rw hv (kind-outside u (omega (arith, room, first .kept .long)) (kindBy f) p)
 
-  third : Outside 10752 10880 v w
-  third = rw hw (outside-set 10752 10880 v (10752 + needs) d (omega arith) (omega (arith, needs-room x .0)))
+  long : 65536 ≤ length v
+  long = omega (arith, room, first .kept .long, second .kept .long)
+
+  third : Outside 10752 11264 v w
+  third = rw hw (digest-outside v long needs d (needs-room x .0))
 
   later : Outside 10624 11264 u w
   later = outside-then (outside-less 10624 11264 (omega arith) (omega arith) second) (outside-less 10624 11264 (omega arith) (omega arith) third)
@@ -151,9 +177,6 @@ module _ {s t : List ℕ} {n i needs keys : ℕ} (x : NeedNext s t n i needs key
       low : needs < 128
       low = needs-room x .0
 
-      long : 65536 ≤ length v
-      long = omega (arith, room, first .kept .long, second .kept .long)
-
       go : (b : Bool) → eqb q needs ≡ b → digestOf w q ≡ digest (textAt s (needLineOf w q))
       go true e =
           let z : q ≡ needs = eqb-true q needs e in
@@ -162,8 +185,11 @@ module _ {s t : List ℕ} {n i needs keys : ℕ} (x : NeedNext s t n i needs key
       go false e =
           let ne = eqb-false q needs e in
           let k : q < length (needsTo s i) = omega (arith, x .collecting .count) in
-          ap (λ (l : List ℕ). digestOf l q) hw ∙ digest-other v long needs d low q ne ∙ digest-above (omega arith) second q ∙ digest-above (omega arith) first q
+          ap (λ (l : List ℕ). digestOf l q) hw ∙ digest-other v long needs d low q (omega arith) ne ∙ digest-above (omega arith) second q ∙ digest-above (omega arith) first q
           ∙ x .collecting .digests q (omega (arith, x .collecting .count)) ∙ ap (λ (l : ℕ). digest (textAt s l)) (sym (old-line q k))
+
+  chained-are : Chained w needChain (needs + 1)
+  chained-are = rw (add-one, hw) (chained-entered v long needs d (needs-room x .0) (chained-above (omega arith) second (chained-above (omega arith) first (x .collecting .chained))))
 
   pub collected : (more : ℕ) → more ≡ length (distinct [] (needsTo s i ++ (needAt s i ∷ []))) → Collecting s w n (i + 1) (needs + 1) more
   collected m hm =
@@ -173,6 +199,7 @@ module _ {s t : List ℕ} {n i needs keys : ℕ} (x : NeedNext s t n i needs key
       record {
         checked = checked-kept (kept-less (omega arith) (collected-outside .kept)) c;
         digests = digests-are;
+        chained = chained-are;
         within = omega (arith, x .line .within);
         count = rw e (sym (length-append (needsTo s i) (needAt s i ∷ []) ∙ omega (arith, x .collecting .count)));
         table = rw e needs-more;
@@ -185,7 +212,7 @@ module _ (s t : List ℕ) (n i needs keys : ℕ) (x : Collecting s t n i needs k
   pub collecting-stay : i < n → (letter (readAt s i .form .kind) ≡ 78 → ⊥) → Collecting s t n (i + 1) needs keys
   collecting-stay h e =
       let z = needs-stay s t n (x .checked) i h e in
-      record { checked = x .checked; within = omega arith; count = rw z (x .count); table = rw z (x .table); kinds = rw z (x .kinds); digests = x .digests }
+      record { checked = x .checked; within = omega arith; count = rw z (x .count); table = rw z (x .table); kinds = rw z (x .kinds); digests = x .digests; chained = x .chained }
 
   pub collecting-need : i < n → letter (readAt s i .form .kind) ≡ 78 → NeedNext s t n i needs keys
   collecting-need h e = record { collecting = x; line = record { checked = x .checked; within = h; kind = e } }
@@ -211,4 +238,5 @@ collecting-start s t n c z = record {
   };
   kinds = record { count = refl; position = λ k. z (kindNumber k) (kind-low k); few = omega arith };
   digests = λ q h. absurd (omega arith);
+  chained = chained-none t needChain;
 }

@@ -1,5 +1,6 @@
 // The keys of needs, each with its position among the distinct keys.
 use codes::kind;
+use type_keys::CHAIN;
 ghost use mathlib.Core.Path.{_≡_};
 ghost use mathlib.Core.List.{List, [], _∷_, _++_};
 ghost use Prim.Native.Nat.{_+_, _<_};
@@ -32,17 +33,17 @@ fn has_need_key(sheet: &[u8], work: &[u8], n: usize, i: usize, h: usize, q: usiz
 }
 
 // The position of the key of the `need` line i, whose text has the digest h, among those of the lines before; the next position,
-// where it is new.
+// where it is new. All needs with that key have its position, so the newest of them does.
 fn position_for(sheet: &[u8], work: &[u8], n: usize, i: usize, h: usize, d: NeedCounts) -> usize
     requires { ⌜ (NeedNext (now sheet) (now work) n i (d .needs) (d .keys)) × (h ≡ digest (textAt (now sheet) i)) ⌝ }
     ensures { λ r. ⌜ r ≡ position (needAt (now (sheet .entry)) i) (distinct [] (needsTo (now (sheet .entry)) i)) ⌝ }
 {
-    let mut q = 0;
-    while q < d.needs {
-        if has_need_key(sheet, work, n, i, h, q) {
-            return type_keys::need_position(work, q);
+    let mut q = chains::newest(work, CHAIN, d.needs, chains::chain_of(h));
+    while 0 < q {
+        if has_need_key(sheet, work, n, i, h, q - 1) {
+            return type_keys::need_position(work, q - 1);
         }
-        q += 1;
+        q = chains::earlier(work, CHAIN, d.needs, q - 1);
     }
     d.keys
 }

@@ -11,8 +11,8 @@ use Rattle.semantics.specs.Text.{Bytes}
 use Rattle.words.specs.Words.{digest}
 use Rattle.checks.specs.Checks.{Outside}
 use Rattle.checks.proofs.Kept.{kept-less, outside-all, outside-then, outside-set, checked-kept}
-use Rattle.chains.specs.Chains.{chainOf, place, chainAt, Chained, linked}
-use Rattle.chains.proofs.Laws.{SameBytes, chained-kept, linked-outside, linked-other, Apart, chained-next}
+use Rattle.chains.specs.Chains.{chainOf, digestPlace, chainAt, Chained, linked}
+use Rattle.chains.proofs.Laws.{SameBytes, chained-kept, linked-outside, linked-other, PlacesApart, chained-next}
 use Rattle.records.specs.Log.{byteOf, entryAt, recordOf, recordedAt, digestOf, recordChain, Digested}
 use Rattle.records.proofs.Newest.{record-placed, digest-chain}
 use Rattle.record_log.specs.Entries.{CollectedTo}
@@ -30,7 +30,7 @@ module _ (t : Bytes) (i d : ℕ) (hi : i < 128) (room : 65536 ≤ length t) wher
 
   -- links and heads are bytes 6 and 7 of entries
   byte-linked : (j k : ℕ) → k < 6 → byteOf new j k ≡ byteOf withDigest j k
-  unfolding place
+  unfolding digestPlace
   byte-linked j k h = linked-other withDigest recordChain i (chainOf d) (9216 + (8 * j + k)) (λ e. omega (arith, e)) (λ e. omega (arith, e))
 
   digest-new : digestOf new i ≡ d
@@ -55,19 +55,19 @@ module _ (t : Bytes) (i d : ℕ) (hi : i < 128) (room : 65536 ≤ length t) wher
   recorded-old s j = ap (recordOf s) (entry-old j)
 
   outside-new : Outside 9216 10240 t new
-  unfolding place
+  unfolding digestPlace
   outside-new =
       let k : chainOf d < 128 = mod-lt d (omega arith) in
       outside-then (outside-set 9216 10240 t (9216 + (8 * i + 5)) d (omega arith) (omega arith)) (linked-outside withDigest recordChain i (chainOf d) (omega arith) (omega arith) (omega arith) (omega arith))
 
   -- ---- chains
 
-  apart : Apart recordChain 128
-  unfolding place
+  apart : PlacesApart recordChain 128
+  unfolding digestPlace
   apart = record { own = λ a b e. omega (arith, e); link = λ a b x y e. omega (arith, e); head = λ a k x y e. omega (arith, e) }
 
   entered-kept : SameBytes t withDigest recordChain i
-  unfolding place
+  unfolding digestPlace
   entered-kept = record {
     digest = λ j h. entered-other (9221 + 8 * j) (λ e. omega (arith, e, h));
     link = λ j h. entered-other (9221 + 8 * j + 1) (λ e. omega (arith, e));

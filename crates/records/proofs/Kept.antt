@@ -5,7 +5,7 @@ use Prim.Native.Nat.{ℕ, _+_, _*_, _<_}
 use native.Mathlib.Omega.{arith}
 use Rattle.checks.specs.Checks.{Kept}
 use Rattle.checks.proofs.Kept.{kept-at, kept-less, checked-kept}
-use Rattle.chains.specs.Chains.{place}
+use Rattle.chains.specs.Chains.{digestPlace}
 use Rattle.chains.proofs.Laws.{SameBytes, chained-kept}
 use Rattle.records.specs.Log.{byteOf, entryAt, recordOf, recordedAt, recordChain, RecordsLogged}
 
@@ -22,7 +22,7 @@ module _ {t u : List ℕ} (k : Kept 10240 t u) where
   recorded-kept s i h = ap (recordOf s) (entry-kept i h)
 
   chain-kept : SameBytes t u recordChain 128
-  unfolding place
+  unfolding digestPlace
   chain-kept = record {
     digest = λ i h. kept-at k (9221 + 8 * i) (omega arith);
     link = λ i h. kept-at k (9221 + 8 * i + 1) (omega arith);

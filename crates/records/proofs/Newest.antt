@@ -14,7 +14,7 @@ use Rattle.laws.proofs.Lists.{any-append, last-append}
 use Rattle.laws.proofs.Tests.{same-refl}
 use Rattle.words.specs.Words.{digest}
 use Rattle.words.proofs.Laws.{digest-same}
-use Rattle.chains.specs.Chains.{newestOf, chainOf, chainAt, isOf, place, Placed}
+use Rattle.chains.specs.Chains.{newestOf, chainOf, chainAt, inChain, digestPlace, Placed}
 use Rattle.chains.proofs.Laws.{newest-low, newest-from, Along}
 use Rattle.records.specs.Log.{digestOf, recordedAt, recordChain, logOf, noRecord, chosen, RecordsLogged, Newest, NewestOf}
 use Rattle.records.proofs.Keys.{default-same}
@@ -24,17 +24,17 @@ abbrev pub keyIs : Bytes → Bytes → Bytes → ℕ → Bool
 keyIs s t k i = same k (recordedAt s t i .key)
 
 pub record-placed : (t : Bytes) → 65536 ≤ length t → Placed t recordChain
-unfolding place
+unfolding digestPlace
 record-placed t h = record { low = λ i l. omega arith; long = h }
 
 -- an entry is of the chain of its digest
 pub digest-chain : (t : Bytes) (i : ℕ) → chainAt t recordChain i ≡ chainOf (digestOf t i)
-unfolding chainAt place
+unfolding chainAt digestPlace
 digest-chain t i = let z : 9221 + 8 * i ≡ 9216 + (8 * i + 5) = omega arith in rw z
 
 module _ (s t : Bytes) (n m : ℕ) (g : RecordsLogged s t n m) (k : Bytes) where
   -- and so are all entries of a key
-  pub key-chain : {c : ℕ} → c ≡ chainOf (digest k) → (j : ℕ) → j < m → keyIs s t k j ≡ true → isOf t recordChain c j ≡ true
+  pub key-chain : {c : ℕ} → c ≡ chainOf (digest k) → (j : ℕ) → j < m → keyIs s t k j ≡ true → inChain t recordChain c j ≡ true
   key-chain {c} e j h q = eq-eqb (chainAt t recordChain j) c (digest-chain t j ∙ ap chainOf (g .digests j h ∙ sym (digest-same k (recordedAt s t j .key) 0 q)) ∙ sym e)
 
   -- ---- the last record

@@ -1,8 +1,8 @@
 -- The table: what is read of it after a store.
-use mathlib.Core.Path.{_≡_, refl, _∙_}
+use mathlib.Core.Path.{_≡_, refl, ap, _∙_}
 use mathlib.Core.Bool.{Bool, true, false, cond}
 use mathlib.Core.List.{List}
-use Prim.Native.Nat.{ℕ, suc, _+_, _-_, _/_, _%_, _≤_, _<_}
+use Prim.Native.Nat.{ℕ, suc, _+_, _-_, _*_, _/_, _%_, _≤_, _<_}
 use native.Mathlib.Omega.{arith}
 use native.Mathlib.Nat.{div-add-mod'}
 use lib.Dec.{ltb, eqb}
@@ -11,9 +11,11 @@ use lib.Seq.{getD-set-same, getD-set-other}
 use borrow.Author.Tests.{ltb-true, ltb-false, eqb-true, eqb-false}
 use Rattle.semantics.specs.Tree.{TypeKey}
 use Rattle.semantics.specs.Array.{kindNumber}
+use Rattle.chains.specs.Chains.{chainOf, digestPlace, headAt, chainAt, Placed, Chained, linked}
+use Rattle.chains.proofs.Laws.{PlacesApart, SameBytes, linked-long, chained-kept, chained-next}
 use Rattle.checks.specs.Checks.{Kept, Outside}
-use Rattle.checks.proofs.Kept.{kept-at, outside-all, outside-then, outside-set, outside-above}
-use Rattle.type_keys.specs.Table.{needLineOf, positionOf, kindPosition, digestOf, kindsUsed, needEntered, kindEntered, Kinds}
+use Rattle.checks.proofs.Kept.{kept-at, outside-all, outside-then, outside-less, outside-set, outside-above}
+use Rattle.type_keys.specs.Table.{needLineOf, positionOf, kindPosition, digestOf, needChain, kindsUsed, needEntered, digestEntered, kindEntered, Kinds}
 use Rattle.type_lines.proofs.Codes.{kind-low}
 
 -- ---- the parts of the table
@@ -134,14 +136,76 @@ module _ (t : List ℕ) (room : 65536 ≤ length t) (k p : ℕ) where
 
 -- ---- a digest
 
-module _ (t : List ℕ) (room : 65536 ≤ length t) (q d : ℕ) (hq : q < 128) where
-  pub digest-same : digestOf (set t (10752 + q) d) q ≡ d
-  unfolding digestOf
-  digest-same = getD-set-same t (10752 + q) d 0 (omega arith)
+-- the chains of needs lie in the working space, and their bytes apart
+pub need-placed : {t : List ℕ} → 65536 ≤ length t → Placed t needChain
+unfolding digestPlace
+need-placed room = record { low = λ i h. omega arith; long = room }
 
-  pub digest-other : (j : ℕ) → (j ≡ q → ⊥) → digestOf (set t (10752 + q) d) j ≡ digestOf t j
+need-apart : PlacesApart needChain 128
+unfolding digestPlace
+need-apart = record { own = λ i j e. omega arith; link = λ i j h l e. omega arith; head = λ i k h l e. omega arith }
+
+-- the chain of need q is that of its digest
+pub need-chain : (t : List ℕ) (q : ℕ) → chainAt t needChain q ≡ chainOf (digestOf t q)
+unfolding chainAt digestPlace digestOf
+need-chain t q = let e : 10752 + 1 * q ≡ 10752 + q = omega arith in rw e
+
+pub digest-long : (t : List ℕ) (q d : ℕ) → length (digestEntered t q d) ≡ length t
+unfolding digestEntered
+digest-long t q d = linked-long (set t (10752 + q) d) needChain q (chainOf d) ∙ length-set t (10752 + q) d
+
+module _ (t : List ℕ) (room : 65536 ≤ length t) (q d : ℕ) (hq : q < 128) where
+  chain-low : chainOf d < 128
+  chain-low = omega arith
+
+  behind-digests : Outside 10880 11264 (set t (10752 + q) d) (digestEntered t q d)
+  unfolding digestEntered linked digestPlace
+  behind-digests =
+      let u = set t (10752 + q) d in
+      let head = headAt u needChain (chainOf d) in
+      let low = chain-low in
+      outside-then (outside-set 10880 11264 u (10752 + 1 * q + 128) head (omega arith) (omega arith)) (outside-set 10880 11264 (set u (10752 + 1 * q + 128) head) (10752 + 1 * chainOf d + 128 + 128) q (omega arith) (omega arith))
+
+  pub digest-outside : Outside 10752 11264 t (digestEntered t q d)
+  digest-outside = outside-then (outside-set 10752 11264 t (10752 + q) d (omega arith) (omega arith)) (outside-less 10752 11264 (omega arith) (omega arith) behind-digests)
+
+  pub digest-same : digestOf (digestEntered t q d) q ≡ d
   unfolding digestOf
-  digest-other j ne = getD-set-other t (10752 + q) (10752 + j) d 0 (λ e. ne (omega arith))
+  digest-same = kept-at (behind-digests .kept) (10752 + q) (omega arith) ∙ getD-set-same t (10752 + q) d 0 (omega arith)
+
+  pub digest-other : (j : ℕ) → j < 128 → (j ≡ q → ⊥) → digestOf (digestEntered t q d) j ≡ digestOf t j
+  unfolding digestOf
+  digest-other j h ne = kept-at (behind-digests .kept) (10752 + j) (omega arith) ∙ getD-set-other t (10752 + q) (10752 + j) d 0 (λ e. ne (omega arith))
+
+  -- the needs before it and this one are chained
+  before-same : SameBytes t (set t (10752 + q) d) needChain q
+  unfolding digestPlace
+  before-same = record {
+    digest = λ i h. getD-set-other t (10752 + q) (10752 + 1 * i) d 0 (λ e. omega arith);
+    link = λ i h. getD-set-other t (10752 + q) (10752 + 1 * i + 128) d 0 (λ e. omega arith);
+    head = λ k h. getD-set-other t (10752 + q) (10752 + 1 * k + 128 + 128) d 0 (λ e. omega arith);
+  }
+
+  own-chain : chainAt (set t (10752 + q) d) needChain q ≡ chainOf d
+  unfolding digestOf
+  own-chain = need-chain (set t (10752 + q) d) q ∙ ap chainOf (getD-set-same t (10752 + q) d 0 (omega arith))
+
+  pub chained-entered : Chained t needChain q → Chained (digestEntered t q d) needChain (suc q)
+  unfolding digestEntered
+  chained-entered c =
+      chained-next (need-placed (omega (arith, length-set t (10752 + q) d))) need-apart (omega arith) (omega arith) hq chain-low own-chain (chained-kept before-same (omega arith) c)
+
+-- a store before the digests leaves the chains
+pub chained-above : {t u : List ℕ} {a b m : ℕ} → b ≤ 10752 → Outside a b t u → Chained t needChain m → Chained u needChain m
+unfolding digestPlace
+chained-above {t} {u} {m = m} h x c = chained-kept same (omega arith) c
+  where
+    same : SameBytes t u needChain m
+    same = record {
+      digest = λ i l. outside-above x (10752 + 1 * i) (omega arith);
+      link = λ i l. outside-above x (10752 + 1 * i + 128) (omega arith);
+      head = λ k l. outside-above x (10752 + 1 * k + 128 + 128) (omega arith);
+    }
 
 -- one more kind cleared
 pub cleared-next : (t : List ℕ) (k : ℕ) → k < 5 → 65536 ≤ length t → ((j : ℕ) → j < k → kindPosition t j ≡ 0) → (j : ℕ) → j < k + 1 → kindPosition (set t (10624 + k) 0) j ≡ 0

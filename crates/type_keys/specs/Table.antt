@@ -12,6 +12,8 @@ use Rattle.semantics.specs.Form.{letter}
 use Rattle.semantics.specs.Array.{kindNumber}
 use Rattle.semantics.specs.Types.{sameTypeKey, distinct, position}
 use Rattle.lines.specs.Lines.{readAt}
+use Rattle.chains.specs.declared.Chain.{Chain}
+use Rattle.chains.specs.Chains.{chainOf, linked}
 use Rattle.type_lines.specs.Needs.{needAt}
 
 -- 128 bytes each: the line, from 0, of need q, low and high byte, and the position of its key among the distinct keys
@@ -25,9 +27,12 @@ positionOf t q = getD t (10496 + q) 0
 unfoldable pub kindPosition : Bytes → ℕ → ℕ
 kindPosition t k = getD t (10624 + k) 0
 
--- 128 bytes: the digest of the text of need q
+-- 128 bytes: the digest of the text of need q; and from 10880 and from 11008 on as many, its link and the head of chain q
 unfoldable pub digestOf : Bytes → ℕ → ℕ
 digestOf t q = getD t (10752 + q) 0
+
+abbrev pub needChain : Chain
+needChain = record { at = 10752; gap = 128; step = 1 }
 
 -- the position of k among the keys js, from 1 on; 0 where it is none of them
 abbrev pub positionFromOne : TypeKey → List TypeKey → ℕ
@@ -60,6 +65,10 @@ pub record Kinds (t : Bytes) (ks : List TypeKey) (keys : ℕ) : Type 0 where
 -- need q is on line i, from 0, and its key has position p
 unfoldable pub needEntered : Bytes → ℕ → ℕ → ℕ → Bytes
 needEntered t q i p = set (set (set t (10240 + q) (i % 256)) (10368 + q) (i / 256)) (10496 + q) p
+
+-- its text has the digest d, by which it is linked
+unfoldable pub digestEntered : Bytes → ℕ → ℕ → Bytes
+digestEntered t q d = linked (set t (10752 + q) d) needChain q (chainOf d)
 
 -- the key of element kind k has position p; 5 is no kind
 unfoldable pub kindEntered : Bytes → ℕ → ℕ → Bytes

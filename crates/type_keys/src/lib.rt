@@ -1,17 +1,25 @@
 // The table of descriptor keys, with their positions among the distinct keys.
 pub mod ids;
 
+use chains::Chain;
 use codes::area;
 use codes::element;
 ghost use mathlib.Core.Path.{_≡_};
 ghost use mathlib.Core.List.{List, [], _∷_, _++_};
 ghost use Prim.Native.Nat.{ℕ, _+_, _≤_, _<_};
-ghost use lib.ListN.{length, set};
+ghost use lib.ListN.{length};
 ghost use Rattle.semantics.specs.Tree.{ElemKind, TypeKey};
 ghost use Rattle.semantics.specs.Tree.TypeKey.{elemKey};
 ghost use Rattle.semantics.specs.Array.{kindNumber};
 ghost use Rattle.checks.specs.Checks.{Outside};
-ghost use Rattle.type_keys.specs.Table.{needLineOf, positionOf, kindPosition, digestOf, needEntered, kindEntered, Kinds};
+ghost use Rattle.type_keys.specs.Table.{needLineOf, positionOf, kindPosition, digestOf, needEntered, digestEntered, kindEntered, Kinds};
+
+// The chains of needs.
+pub const CHAIN: Chain = Chain {
+    at: area::NEED_DIGESTS,
+    gap: 128,
+    step: 1,
+};
 
 // The line of need q; both are counted from 0.
 pub fn need_line(work: &[u8], q: usize) -> usize
@@ -55,12 +63,13 @@ pub fn enter_need(work: &mut [u8], q: usize, i: usize, p: usize)
     work[area::NEED_POSITIONS + q] = p as u8;
 }
 
-// The text of need q has the digest h.
+// The text of need q has the digest h; it becomes the newest of its chain.
 pub fn enter_digest(work: &mut [u8], q: usize, h: usize)
     requires { ⌜ (q < 128) × (h < 256) × (65536 ≤ length (now work)) ⌝ }
-    ensures { λ _. ⌜ now (work .exit) ≡ set (now (work .entry)) (10752 + q) h ⌝ }
+    ensures { λ _. ⌜ now (work .exit) ≡ digestEntered (now (work .entry)) q h ⌝ }
 {
     work[area::NEED_DIGESTS + q] = h as u8;
+    chains::link(work, CHAIN, q, chains::chain_of(h));
 }
 
 // The key of a kind of element has position p; `NONE` is no kind.

@@ -1,9 +1,10 @@
 -- `global_table::enter` meets its contract.
+use mathlib.Core.Path.{ap, _∙_}
 use native.Mathlib.Omega.{arith}
-use lib.ListN.{length-set}
+use lib.ListN.{length, length-set}
 use denote.Ref.{now}
 use borrow.Author.Needs.{needs}
-use Rattle.global_table.proofs.Table.{entered-by}
+use Rattle.global_table.proofs.Table.{global-placed, entered-by, entered-long}
 use Rattle.global_table.proofs.enter.Statement.{statement}
 use Rattle.global_table.proofs.enter.Tie as tie
 
@@ -22,13 +23,22 @@ slice-write-work-5 c = simp length-set (omega arith)
 slice-write-work-6 : tie.Need-slice-write-work-6
 slice-write-work-6 c = simp length-set (omega arith)
 
+link-requires : tie.Need-link-requires
+link-requires c κs = (global-placed (simp length-set (omega arith)), omega arith, c .chain-of .ensures .1)
+
 returns : tie.Need-returns
 returns c =
-    let a = c .args in
-    entered-by (now (a .work)) (a .i) (a .line) (a .position) (a .offset) (a .digest)
+    let a = c .before .before .before .before .before .before .args in
+    entered-by (now (a .work)) (a .i) (a .line) (a .position) (a .offset) (a .digest) (c .before .before .before .chain-of .ensures .0) (c .before .before .link .ensures)
+
+same-length : tie.Need-same-length
+same-length c =
+    let a = c .before .before .before .before .before .before .args in
+    ap length (returns c) ∙ entered-long (now (a .work)) (a .i) (a .line) (a .position) (a .offset) (a .digest)
 
 pub enter-spec : {M : Type 1} → statement M
 enter-spec =
     tie.close (tie.spec (λ c. search needs) (λ c. search needs) (λ c. search needs) (λ c. search needs) (λ c. search needs) (λ c. search needs)
     slice-write-work-2 (λ c. search needs) (λ c. search needs) slice-write-work-3 (λ c. search needs) (λ c. search needs) slice-write-work-4
-    (λ c. search needs) (λ c. search needs) slice-write-work-5 (λ c. search needs) (λ c. search needs) slice-write-work-6 (λ c. search needs) returns)
+    (λ c. search needs) (λ c. search needs) slice-write-work-5 (λ c. search needs) (λ c. search needs) slice-write-work-6 (λ c κs. search needs)
+    link-requires same-length returns)

@@ -3,12 +3,12 @@ use Prim.Native.Nat.{_-_}
 use mathlib.Core.Path.{refl}
 use borrow.Author.Needs.{needs}
 use denote.Ref.{now}
-use Rattle.globals.proofs.Collect.{open-outside, Collecting, collecting-start, collecting-here, collecting-next, collecting-end}
+use Rattle.globals.proofs.Collect.{open-outside, LinesLaid, collecting-start, collecting-here, collecting-next, collecting-end}
 use Rattle.globals.proofs.collect_globals.Statement.{statement}
 use Rattle.globals.proofs.collect_globals.Tie as tie
 
 abbrev Inv-loop : tie.InvT-loop
-Inv-loop sheet work₀ n g₀ k₀ i₀ work g k i = Collecting sheet work₀ work n g k i
+Inv-loop sheet work₀ n g₀ k₀ i₀ work g k i = LinesLaid sheet work₀ work n g k i
 
 abbrev μ-loop : tie.MeasureT-loop
 μ-loop sheet work₀ n g₀ k₀ i₀ work g k i = n - i

@@ -44,7 +44,7 @@ returns-3 c =
     let p = c .before .before .before .before .before .before .before .before .before .before .before .before .before .before .before .before .before .before .before .before .pre in
     let e = nil-test (c .before .before .before .before .before .before .before .before .before .before .before .before .before .before .before .before .name-at .ensures) (c .before .before .before .before .before .before .before .before .before .before .before .before .before .before .before .is-nil .ensures) in
     laid-entered (now (a .sheet)) (now (a .work)) (a .n) (a .r) (a .j) (a .g) (p .0) (p .1) (p .2) (p .3) _ (c .before .before .before .before .before .before .before .before .before .type-of .ensures .1) _ (c .before .before .before .before .before .before .before .global-size .ensures .0) _ (c .before .before .before .before .before .before .align-up .ensures .0) _ (c .before .before .before .before .digest .ensures .0 ∙ rw (c .before .before .before .before .before .before .before .before .before .before .before .before .before .before .before .before .name-at .ensures)) (c .before .before .before .before .digest .ensures .1)
-    _ (e ∙ c .before .before .before .before .before .before .before .before .before .before .before .before .before .before .if1 .left) (rw (← c .before .before .before .before .before .before .before .before .before .before .before .before .before .before .before .before .name-at .ensures) (c .before .before .before .before .before .before .before .before .before .before .before .before .entry-number .ensures .0)) (c .before .before .before .before .before .before .before .before .before .before .before .if2 .left) _ refl refl (c .before .before .before .enter .ensures)
+    _ (e ∙ c .before .before .before .before .before .before .before .before .before .before .before .before .before .before .if1 .left) (rw (← c .before .before .before .before .before .before .before .before .before .before .before .before .before .before .before .before .name-at .ensures) (c .before .before .before .before .before .before .before .before .before .before .before .before .entry-number .ensures .0)) (rw (← c .before .before .before .before .before .before .before .before .before .before .before .before .before .before .before .before .name-at .ensures) (c .before .before .before .before .before .before .before .before .before .before .before .before .entry-number .ensures .2)) (c .before .before .before .before .before .before .before .before .before .before .before .if2 .left) _ refl refl (c .before .before .before .enter .ensures)
 
 pub declare-name-spec : {M : Type 1} → statement M
 declare-name-spec =

@@ -1,8 +1,8 @@
 -- `names::along_plain` meets its contract.
 use Rattle.names.proofs.Laws as Laws
 use Rattle.names.specs.Table.{constChain, answersPlain}
-use Rattle.chains.specs.Chains.{chainOf, isOf, newestOf}
-use Rattle.chains.proofs.Laws.{newest-less, Along, along-first, along-here, along-next, along-end}
+use Rattle.chains.specs.Chains.{chainOf, inChain, newestOf}
+use Rattle.chains.proofs.Laws.{newest-less, Along, along-first, along-found, along-next, along-end}
 use denote.Ref.{now}
 use mathlib.Core.Path.{_≡_}
 use native.Mathlib.Omega.{arith}
@@ -11,7 +11,7 @@ use Rattle.names.proofs.along_plain.Statement.{statement}
 use Rattle.names.proofs.along_plain.Tie as tie
 
 abbrev Inv-loop : tie.InvT-loop
-Inv-loop sheet work c newest name d i₀ i = (i ≤ c .consts) × ((m : ℕ) → m ≤ c .consts → newest ≡ newestOf (isOf work constChain (chainOf d)) m → Along work constChain (chainOf d) m (λ (j : ℕ). answersPlain sheet work j name) i)
+Inv-loop sheet work c newest name d i₀ i = (i ≤ c .consts) × ((m : ℕ) → m ≤ c .consts → newest ≡ newestOf (inChain work constChain (chainOf d)) m → Along work constChain (chainOf d) m (λ (j : ℕ). answersPlain sheet work j name) i)
 
 abbrev μ-loop : tie.MeasureT-loop
 μ-loop sheet work c newest name d i₀ i = i
@@ -30,7 +30,7 @@ answers-plain-requires c κs =
     (Laws.table-entry (p .0) (omega (arith, c .before .loop .inv .0, c .loop-test .taken)), p .2)
 
 returns : tie.Need-returns Inv-loop μ-loop
-returns c = λ m h e. along-here (c .before .before .before .loop .inv .1 m h e) (omega arith) (c .before .answers-plain .ensures) (c .if1 .taken)
+returns c = λ m h e. along-found (c .before .before .before .loop .inv .1 m h e) (omega arith) (c .before .answers-plain .ensures) (c .if1 .taken)
 
 sub-earlier : tie.Need-sub-earlier Inv-loop μ-loop
 sub-earlier c = omega arith

@@ -1,6 +1,6 @@
 -- `names::look_up_in` meets its contract.
 use Rattle.names.proofs.Laws as Laws
-use Rattle.chains.specs.Chains.{isOf, newestOf}
+use Rattle.chains.specs.Chains.{inChain, newestOf}
 use Rattle.names.specs.Table.{constChain}
 use Rattle.chains.proofs.Laws.{newest-most}
 use denote.Ref.{now}
@@ -20,7 +20,7 @@ along-qualified-requires c κs = (c .before .before .before .before .before .bef
 returns : tie.Need-returns
 returns c =
     let a = c .before .before .before .before .before .before .before .before .args in
-    let e = c .before .newest .ensures ∙ ap (λ (k : ℕ). newestOf (isOf (now (a .work)) constChain k) (a .c .consts)) (c .before .before .chain-of .ensures .0) in
+    let e = c .before .newest .ensures ∙ ap (λ (k : ℕ). newestOf (inChain (now (a .work)) constChain k) (a .c .consts)) (c .before .before .chain-of .ensures .0) in
     Laws.looked (Laws.answers-qualified (now (a .sheet)) (now (a .work)) (now (a .within)) (now (a .name))) (c .along-qualified .ensures (a .c .consts) (omega arith) e)
 
 pub look-up-in-spec : {M : Type 1} → statement M

@@ -1,41 +1,61 @@
+-- `need_keys::position_for` meets its contract.
 use native.Mathlib.Omega.{arith}
-use Prim.Native.Nat.{_-_, _≤_}
-use mathlib.Core.Path.{_≡_, refl, _∙_}
-use mathlib.Core.Bool.{false}
-use lib.ListN.{take}
-use Rattle.semantics.specs.Text.{any}
-use Rattle.semantics.specs.Types.{sameTypeKey}
-use Rattle.type_lines.specs.Needs.{needAt, needsTo}
-use Rattle.need_keys.proofs.Pass.{known-entry, found-position, still-new, next-position}
+use mathlib.Core.Path.{_∙_}
 use borrow.Author.Needs.{needs}
+use Rattle.chains.specs.Chains.{chainOf}
+use Rattle.chains.proofs.Laws.{Along, along-first, along-next, newest-less, along-end}
+use Rattle.type_keys.specs.Table.{needChain}
+use Rattle.type_keys.proofs.Table.{need-placed}
+use Rattle.need_keys.proofs.Pass.{hasKey, needs-room, known-entry, found-position, found-chain, next-position}
 use Rattle.need_keys.proofs.position_for.Statement.{statement}
 use Rattle.need_keys.proofs.position_for.Tie as tie
 
 abbrev Inv-loop : tie.InvT-loop
-Inv-loop sheet work n i h d q₀ q = (q ≤ d .needs) × (any (sameTypeKey (needAt sheet i)) (take q (needsTo sheet i)) ≡ false)
+Inv-loop sheet work n i h d q₀ q = Along work needChain (chainOf h) (d .needs) (hasKey sheet work i) q
 
 abbrev μ-loop : tie.MeasureT-loop
-μ-loop sheet work n i h d q₀ q = d .needs - q
+μ-loop sheet work n i h d q₀ q = q
+
+newest-requires : tie.Need-newest-requires Inv-loop μ-loop
+newest-requires c κs =
+    let x = c .before .before .before .pre .0 in
+    (need-placed (x .line .checked .whole .room), x .collecting .chained, c .chain-of .ensures .1)
 
 loop-holds : tie.Need-loop-holds Inv-loop μ-loop
-loop-holds c = (omega arith, refl)
+loop-holds c =
+    let p = c .before .before .before .before .pre in
+    along-first (λ j l. found-chain (p .0) j l (p .1)) (rw (← c .before .chain-of .ensures .0) (c .newest .ensures))
 
 has-need-key-requires : tie.Need-has-need-key-requires Inv-loop μ-loop
-has-need-key-requires c κs = let x = c .before .before .before .before .before .pre in (x .0 .line, x .1, known-entry (x .0) (c .before .before .loop .q) (c .if1 .taken))
+has-need-key-requires c κs =
+    let p = c .before .before .before .before .before .before .pre in
+    (p .0 .line, p .1, known-entry (p .0) _ (omega (arith, c .loop-test .taken, c .before .loop .inv .low)))
 
 need-position-requires : tie.Need-need-position-requires Inv-loop μ-loop
-need-position-requires c κs = let x = c .before .before .before .before .before .before .before .pre .0 in (known-entry x (c .before .before .before .before .loop .q) (c .before .before .if1 .taken) .low, x .line .checked .whole .room)
+need-position-requires c κs =
+    let x = c .before .before .before .before .before .before .before .before .pre .0 in
+    (omega (arith, needs-room x .0, c .before .before .loop-test .taken, c .before .before .before .loop .inv .low), x .line .checked .whole .room)
 
 returns : tie.Need-returns Inv-loop μ-loop
-returns c = c .need-position .ensures .0 ∙ found-position (c .before .before .before .before .before .before .before .before .pre .0) (c .before .before .before .before .before .loop .q) (c .before .before .before .if1 .taken) (c .before .before .has-need-key .result) (c .before .before .has-need-key .ensures) (c .before .if2 .taken)
+returns c =
+    let x = c .before .before .before .before .before .before .before .before .before .pre .0 in
+    c .need-position .ensures .0 ∙ found-position x _ (omega (arith, c .before .before .before .loop-test .taken, c .before .before .before .before .loop .inv .low)) (c .before .before .has-need-key .ensures) (c .before .if1 .taken)
+
+earlier-requires : tie.Need-earlier-requires Inv-loop μ-loop
+earlier-requires c κs =
+    let x = c .before .before .before .before .before .before .before .before .pre .0 in
+    (need-placed (x .line .checked .whole .room), x .collecting .chained, omega (arith, c .before .before .loop-test .taken, c .before .before .before .loop .inv .low), omega (arith, needs-room x .0))
+
+loop-less : tie.Need-loop-less Inv-loop μ-loop
+loop-less c = newest-less _ (c .before .before .before .loop-test .taken) (c .earlier .ensures)
 
 loop-again : tie.Need-loop-again Inv-loop μ-loop
-loop-again c = (omega (arith, c .before .before .if1 .taken), still-new (c .before .before .before .before .before .before .before .pre .0) (c .before .before .before .before .loop .q) (c .before .before .if1 .taken) (c .before .has-need-key .result) (c .before .has-need-key .ensures) (c .if2 .left) (c .before .before .before .before .loop .inv .1))
+loop-again c = along-next (c .before .before .before .before .loop .inv) (c .before .before .before .loop-test .taken) (c .before .before .has-need-key .ensures) (c .before .if1 .left) (c .earlier .ensures)
 
 returns-2 : tie.Need-returns-2 Inv-loop μ-loop
-returns-2 c = next-position (c .before .before .before .before .before .pre .0) (c .before .before .loop .q) (c .if1 .left) (c .before .before .loop .inv .1)
+returns-2 c = next-position (c .before .before .before .before .before .before .pre .0) (along-end (omega (arith, c .loop-test .left)) (c .before .loop .inv))
 
 pub position-for-spec : {M : Type 1} → statement M
 position-for-spec =
-    tie.close (tie.spec Inv-loop μ-loop loop-holds has-need-key-requires need-position-requires returns (λ c. search needs) (λ c. search needs) loop-again
-    returns-2)
+    tie.close (tie.spec Inv-loop μ-loop (λ c κs. search needs) newest-requires loop-holds (λ c. search needs) has-need-key-requires
+    (λ c. search needs) need-position-requires returns (λ c. search needs) earlier-requires loop-less loop-again returns-2)

@@ -2,7 +2,7 @@
 use borrow.Author.Needs.{needs}
 use Rattle.records.proofs.Newest.{keyIs, record-placed, digest-chain, key-chain, own-chain, first-not, first-is}
 use Rattle.records.specs.Log.{recordedAt, recordChain}
-use Rattle.chains.proofs.Laws.{newest-less, Along, along-first, along-here, along-next, along-end}
+use Rattle.chains.proofs.Laws.{newest-less, Along, along-first, along-found, along-next, along-end}
 use Rattle.chains.specs.Chains.{chainAt}
 use denote.Ref.{now}
 use Prim.Native.Nat.{suc, _-_, _<_}
@@ -41,7 +41,7 @@ returns c =
     let s = now (a .sheet) in
     let w = now (a .work) in
     let z : suc (c .before .before .before .loop .j - 1) ≡ c .before .before .before .loop .j = omega (arith, c .before .before .loop-test .taken) in
-    first-not s w (a .c .lines) (a .c .entries) (c .before .before .before .before .before .before .before .pre .0) (recordedAt s w (a .i) .key) (omega (arith, c .before .before .before .before .before .before .before .pre .1)) (z ∙ along-here (c .before .before .before .loop .inv) (omega arith) (c .before .same-key .ensures) (c .if1 .taken))
+    first-not s w (a .c .lines) (a .c .entries) (c .before .before .before .before .before .before .before .pre .0) (recordedAt s w (a .i) .key) (omega (arith, c .before .before .before .before .before .before .before .pre .1)) (z ∙ along-found (c .before .before .before .loop .inv) (omega arith) (c .before .same-key .ensures) (c .if1 .taken))
 
 sub-earlier : tie.Need-sub-earlier Inv-loop μ-loop
 sub-earlier c = omega (arith, c .before .before .loop-test .taken)

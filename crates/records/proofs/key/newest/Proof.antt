@@ -2,7 +2,7 @@
 use borrow.Author.Needs.{needs}
 use Rattle.records.proofs.Newest.{keyIs, record-placed, key-chain, newest-is}
 use Rattle.records.specs.Log.{recordChain}
-use Rattle.chains.proofs.Laws.{newest-less, Along, along-first, along-here, along-next, along-end}
+use Rattle.chains.proofs.Laws.{newest-less, Along, along-first, along-found, along-next, along-end}
 use Rattle.chains.specs.Chains.{chainOf}
 use denote.Ref.{now}
 use Prim.Native.Nat.{_-_, _<_}
@@ -33,7 +33,7 @@ key-is-requires c κs =
 returns : tie.Need-returns Inv-loop μ-loop
 returns c =
     let a = c .before .before .before .before .before .before .before .before .before .before .args in
-    newest-is (now (a .sheet)) (now (a .work)) (a .c .lines) (a .c .entries) (c .before .before .before .before .before .before .before .before .before .before .pre) (now (a .key)) (along-here (c .before .before .before .loop .inv) (omega arith) (c .before .key-is .ensures) (c .if1 .taken))
+    newest-is (now (a .sheet)) (now (a .work)) (a .c .lines) (a .c .entries) (c .before .before .before .before .before .before .before .before .before .before .pre) (now (a .key)) (along-found (c .before .before .before .loop .inv) (omega arith) (c .before .key-is .ensures) (c .if1 .taken))
 
 sub-earlier : tie.Need-sub-earlier Inv-loop μ-loop
 sub-earlier c = omega (arith, c .before .before .loop-test .taken)

@@ -2,7 +2,7 @@
 use borrow.Author.Needs.{needs}
 use Rattle.records.proofs.Newest.{keyIs, record-placed, key-chain, own-chain, newest-own, newest-self}
 use Rattle.records.specs.Log.{recordedAt, recordChain}
-use Rattle.chains.proofs.Laws.{newest-less, Along, along-first, along-here, along-next}
+use Rattle.chains.proofs.Laws.{newest-less, Along, along-first, along-found, along-next}
 use Rattle.chains.specs.Chains.{chainOf}
 use denote.Ref.{now}
 use Prim.Native.Nat.{suc, _-_, _<_}
@@ -48,7 +48,7 @@ returns : tie.Need-returns Inv-loop μ-loop
 returns c =
     let a = c .before .before .before .before .before .before .before .before .before .args in
     let z : suc (c .before .before .before .loop .j - 1) ≡ c .before .before .before .loop .j = omega (arith, c .before .before .loop-test .taken) in
-    newest-own (now (a .sheet)) (now (a .work)) (a .c .lines) (a .c .entries) (c .before .before .before .before .before .before .before .before .before .pre .0) (a .i) (c .before .before .before .before .before .before .before .before .before .pre .1) (z ∙ along-here (c .before .before .before .loop .inv) (omega arith) (c .before .same-key .ensures) (c .if1 .taken))
+    newest-own (now (a .sheet)) (now (a .work)) (a .c .lines) (a .c .entries) (c .before .before .before .before .before .before .before .before .before .pre .0) (a .i) (c .before .before .before .before .before .before .before .before .before .pre .1) (z ∙ along-found (c .before .before .before .loop .inv) (omega arith) (c .before .same-key .ensures) (c .if1 .taken))
 
 earlier-requires : tie.Need-earlier-requires Inv-loop μ-loop
 earlier-requires c κs = (record-placed (now (c .before .before .before .before .before .before .before .before .before .args .work)) (c .before .before .before .before .before .before .before .before .before .pre .0 .checked .whole .room), c .before .before .before .before .before .before .before .before .before .pre .0 .chained, omega (arith, c .before .before .before .loop .inv .low, c .before .before .loop-test .taken), omega (arith, c .before .before .before .before .before .before .before .before .before .pre .0 .few))
