@@ -16,10 +16,10 @@ use Rattle.semantics.specs.Global.{Global, placeOf}
 use Rattle.laws.proofs.Tests.{same-eq}
 use Rattle.words.specs.Words.{digest, u16At}
 use Rattle.words.proofs.Laws.{digest-apart}
-use Rattle.chains.specs.Chains.{newestOf, chainOf, digestPlace, headAt, chainAt, inChain, Placed, Chained, linked}
-use Rattle.chains.proofs.Laws.{PlacesApart, SameBytes, newest-yes, newest-no, newest-low, linked-long, chained-none, chained-kept, chained-next}
+use Rattle.chains.specs.Chains.{newestOf, chainOf, digestPlace, chainAt, inChain, Placed, Chained, linked}
+use Rattle.chains.proofs.Laws.{PlacesApart, SameBytes, newest-yes, newest-no, newest-low, linked-outside, linked-other, linked-long, chained-none, chained-kept, chained-next}
 use Rattle.checks.specs.Checks.{Checked, Kept, Outside}
-use Rattle.checks.proofs.Kept.{kept-less, kept-at, outside-then, outside-set, checked-kept, kind-line-kept}
+use Rattle.checks.proofs.Kept.{kept-less, kept-at, outside-then, checked-kept, kind-line-kept}
 use Rattle.global_table.specs.Table.{VarLine, lineOf, positionOf, offsetOf, digestOf, globalChain, globalStored, globalEntered, entryAt, entriesFrom, placesIn, GlobalEntry, Tabled, offsetBy, numberFrom, entryNumber}
 
 -- ---- a run of stores
@@ -88,11 +88,8 @@ module _ (t : Bytes) (i line position offset d : ℕ) (hi : i < 256) (hl : line 
 
   -- a link or a head is no other byte of an entry
   unlinked : (j k m : ℕ) → k < 6 → m ≡ 7168 + 8 * j + k → getD (globalEntered t i line position offset d) m 0 ≡ getD (globalStored t i line position offset d) m 0
-  unfolding globalEntered linked digestPlace
-  unlinked j k m h e =
-      let u = globalStored t i line position offset d in
-      let head = headAt u globalChain (chainOf d) in
-      getD-set-other (set u (7173 + 8 * i + 1) head) (7173 + 8 * chainOf d + 1 + 1) m i 0 (λ q. omega arith) ∙ getD-set-other u (7173 + 8 * i + 1) m head 0 (λ q. omega arith)
+  unfolding globalEntered digestPlace
+  unlinked j k m h e = linked-other (globalStored t i line position offset d) globalChain i (chainOf d) m (λ q. omega arith) (λ q. omega arith)
 
   cell-at : (k j : ℕ) → k < 6 → j ≡ 7168 + 8 * i + k → getD (globalEntered t i line position offset d) j 0 ≡ getD cells k 0
   unfolding globalStored cells
@@ -155,13 +152,10 @@ module _ (t : Bytes) (i line position offset d : ℕ) (hi : i < 256) (hl : line 
   chain-low = omega arith
 
   pub outside-entered : Outside 7168 9216 t (globalEntered t i line position offset d)
-  unfolding globalEntered linked digestPlace
+  unfolding globalEntered digestPlace
   outside-entered =
-      let u = globalStored t i line position offset d in
       let low = chain-low in
-      outside-then outside-stored
-      (outside-then (outside-set 7168 9216 u (7173 + 8 * i + 1) (headAt u globalChain (chainOf d)) (omega arith) (omega arith))
-      (outside-set 7168 9216 (set u (7173 + 8 * i + 1) (headAt u globalChain (chainOf d))) (7173 + 8 * chainOf d + 1 + 1) i (omega arith) (omega arith)))
+      outside-then outside-stored (linked-outside (globalStored t i line position offset d) globalChain i (chainOf d) (omega arith) (omega arith) (omega arith) (omega arith))
 
   -- the entries and this one are chained
   stored-same : SameBytes t (globalStored t i line position offset d) globalChain i

@@ -11,8 +11,8 @@ use lib.Seq.{getD-set-same, getD-set-other}
 use borrow.Author.Tests.{ltb-true, ltb-false, eqb-true, eqb-false}
 use Rattle.semantics.specs.Tree.{TypeKey}
 use Rattle.semantics.specs.Array.{kindNumber}
-use Rattle.chains.specs.Chains.{chainOf, digestPlace, headAt, chainAt, Placed, Chained, linked}
-use Rattle.chains.proofs.Laws.{PlacesApart, SameBytes, linked-long, chained-kept, chained-next}
+use Rattle.chains.specs.Chains.{chainOf, digestPlace, chainAt, Placed, Chained}
+use Rattle.chains.proofs.Laws.{PlacesApart, SameBytes, linked-outside, linked-long, chained-kept, chained-next}
 use Rattle.checks.specs.Checks.{Kept, Outside}
 use Rattle.checks.proofs.Kept.{kept-at, outside-all, outside-then, outside-less, outside-set, outside-above}
 use Rattle.type_keys.specs.Table.{needLineOf, positionOf, kindPosition, digestOf, needChain, kindsUsed, needEntered, digestEntered, kindEntered, Kinds}
@@ -159,12 +159,8 @@ module _ (t : List ℕ) (room : 65536 ≤ length t) (q d : ℕ) (hq : q < 128) w
   chain-low = omega arith
 
   behind-digests : Outside 10880 11264 (set t (10752 + q) d) (digestEntered t q d)
-  unfolding digestEntered linked digestPlace
-  behind-digests =
-      let u = set t (10752 + q) d in
-      let head = headAt u needChain (chainOf d) in
-      let low = chain-low in
-      outside-then (outside-set 10880 11264 u (10752 + 1 * q + 128) head (omega arith) (omega arith)) (outside-set 10880 11264 (set u (10752 + 1 * q + 128) head) (10752 + 1 * chainOf d + 128 + 128) q (omega arith) (omega arith))
+  unfolding digestEntered digestPlace
+  behind-digests = let low = chain-low in linked-outside (set t (10752 + q) d) needChain q (chainOf d) (omega arith) (omega arith) (omega arith) (omega arith)
 
   pub digest-outside : Outside 10752 11264 t (digestEntered t q d)
   digest-outside = outside-then (outside-set 10752 11264 t (10752 + q) d (omega arith) (omega arith)) (outside-less 10752 11264 (omega arith) (omega arith) behind-digests)

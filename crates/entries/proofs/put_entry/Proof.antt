@@ -1,8 +1,6 @@
 -- `entries::put_entry` meets its contract.
 use Rattle.names.proofs.Laws.{const-room}
-use Rattle.names.specs.Table.{constChain}
-use Rattle.chains.specs.Chains.{linked}
-use mathlib.Core.Path.{_∙_, ap}
+use mathlib.Core.Path.{_∙_}
 use native.Mathlib.Omega.{arith}
 use borrow.Author.Needs.{needs}
 use Rattle.entries.proofs.put_entry.Statement.{statement}

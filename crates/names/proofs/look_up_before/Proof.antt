@@ -5,10 +5,9 @@ use Rattle.names.specs.Table.{constChain}
 use Rattle.words.specs.Words.{digest}
 use Rattle.chains.proofs.Laws.{newest-most}
 use denote.Ref.{now}
-use mathlib.Core.Path.{_≡_, sym, ap, _∙_}
+use mathlib.Core.Path.{sym, ap, _∙_}
 use native.Mathlib.Omega.{arith}
 use Prim.Native.Nat.{ℕ}
-use borrow.Author.Needs.{needs}
 use Rattle.names.proofs.look_up_before.Statement.{statement}
 use Rattle.names.proofs.look_up_before.Tie as tie
 
