@@ -14,7 +14,7 @@ use Rattle.semantics.specs.Array.{ConstArray, Filled, literalSize, measured}
 use Rattle.lines.specs.Lines.{readAt, nodesIn, formAt}
 use Rattle.sizes.specs.Sizes.{typeAt, TypeLine}
 use Rattle.leaf.specs.Folds.{ExLine}
-use Rattle.placements.specs.Placements.{entryAt, slotAt, valuesIn, Keeps, StringStands, Filling}
+use Rattle.placements.specs.Placements.{placementAt, slotAt, valuesIn, Keeps, StringStands, Filling}
 use Rattle.names.specs.Table.{namesIn}
 use Rattle.literals.specs.Literals.{elsAt, LiteralLine, above}
 use Rattle.arrays.specs.declared.Size.{Size}
@@ -42,7 +42,7 @@ sizeResult Size.TooLong = refuse 8
 
 -- a literal has at most 1,024 values, and their strings stand on the stack
 abbrev pub ValuesStand : Bytes → ℕ → Type 0
-ValuesStand t n = (n ≤ 1024) × ((i : ℕ) → i < n → StringStands (above 16) (slotAt t (entryAt t i)))
+ValuesStand t n = (n ≤ 1024) × ((i : ℕ) → i < n → StringStands (above 16) (slotAt t (placementAt t i)))
 
 -- what stands in t for an array, of one of the five kinds: the values of a literal
 abbrev pub ArrayStands : Bytes → Arrayed → Type 0

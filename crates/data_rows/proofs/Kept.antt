@@ -11,7 +11,7 @@ use Rattle.names.proofs.Laws.{logged-same, log-stays}
 use Rattle.values.specs.declared.ConstVal.{ConstVal}
 use Rattle.values.specs.declared.ConstVal.the-variants.{Int, Real, Str}
 use Rattle.values.specs.Values.{At, Within}
-use Rattle.placements.specs.Placements.{entryAt, slotAt, elementIn, valuesIn, Keeps, StringStands}
+use Rattle.placements.specs.Placements.{placementAt, slotAt, elementIn, valuesIn, Keeps, StringStands}
 use Rattle.placements.proofs.Same.{part-same, value-same, slot-kept, element-same}
 use Rattle.literals.specs.Literals.{above}
 use Rattle.literals.proofs.Names.{kept-low}
@@ -78,29 +78,29 @@ within-standing n (Real x) l h = tt
 within-standing n (Str p q) l h = (omega (arith, h .1), h .2)
 
 pub literal-filled : {t : Bytes} {count : ℕ} → 65536 ≤ length t → ValuesStand t count → LiteralIn t count
-literal-filled {t} l f = record { long = l; few = f .0; strings = λ i h. within-standing (length t) (slotAt t (entryAt t i)) l (f .1 i h) }
+literal-filled {t} l f = record { long = l; few = f .0; strings = λ i h. within-standing (length t) (slotAt t (placementAt t i)) l (f .1 i h) }
 
 -- storing positions of elements leaves it
 module _ {t u : Bytes} (o : Outside 10624 10629 t u) where
-  entry-still : (i : ℕ) → entryAt u i ≡ entryAt t i
-  unfolding entryAt
+  entry-still : (i : ℕ) → placementAt u i ≡ placementAt t i
+  unfolding placementAt
   entry-still i = outside-above o (11264 + i) (omega arith)
 
   slot-still : (j : ℕ) → slotAt u j ≡ slotAt t j
   slot-still j = slot-kept t u (o .kept .long) j (λ i x y. outside-above o i (omega arith))
 
-  values-from : (n i : ℕ) → ((j : ℕ) → j < i + n → StringStands (above 16) (slotAt t (entryAt t j))) → valuesIn u i n ≡ valuesIn t i n
+  values-from : (n i : ℕ) → ((j : ℕ) → j < i + n → StringStands (above 16) (slotAt t (placementAt t j))) → valuesIn u i n ≡ valuesIn t i n
   unfolding valuesIn
   values-from zero i h = refl
   values-from (suc n) i h =
-      let e : elementIn u (entryAt t i) ≡ elementIn t (entryAt t i) = element-same t u (o .kept .long) (above 16) (entryAt t i) (h i (omega arith)) (λ j x y. outside-above o j (omega arith)) (λ j x y. outside-above o j (omega arith)) in
+      let e : elementIn u (placementAt t i) ≡ elementIn t (placementAt t i) = element-same t u (o .kept .long) (above 16) (placementAt t i) (h i (omega arith)) (λ j x y. outside-above o j (omega arith)) (λ j x y. outside-above o j (omega arith)) in
       rw (entry-still i, e, values-from n (suc i) (λ j l. h j (omega arith)))
 
   pub values-still : (n : ℕ) → ValuesStand t n → valuesIn u 0 n ≡ valuesIn t 0 n
   values-still n f = values-from n 0 (λ j h. f .1 j (omega arith))
 
   pub filled-still : {n : ℕ} → ValuesStand t n → ValuesStand u n
-  filled-still f = (f .0, λ i h. rw (entry-still i, slot-still (entryAt t i)) (f .1 i h))
+  filled-still f = (f .0, λ i h. rw (entry-still i, slot-still (placementAt t i)) (f .1 i h))
 
   pub first-still : (x : First) → FirstStands t x → (initIn u x ≡ initIn t x) × FirstStands u x
   first-still First.NoValue h = (refl, tt)

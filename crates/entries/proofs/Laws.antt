@@ -29,7 +29,7 @@ use Rattle.words.specs.Words.{digest, u16At, bitsAt}
 use Rattle.implement.specs.Modules.{firstField, moduleAt}
 use Rattle.checks.specs.Checks.{Kept}
 use Rattle.checks.proofs.Kept.{kept-at, kept-then, kept-less, outside-less}
-use Rattle.names.specs.Table.{lineOf, moduleLineOf, valueBy, kindOf, bitsOf, digestOf, constChain, entriesAt, logIn, EntryBounds, ConstsLogged}
+use Rattle.names.specs.Table.{constLine, moduleLineOf, valueBy, kindOf, bitsOf, constDigest, constChain, entriesAt, logIn, EntryBounds, ConstsLogged}
 use Rattle.names.proofs.Laws.{slot-is, value-failed, value-int, value-real, value-text, part-low, part-kept, SameText, each-same, digests-same, log-same, entries-below, const-room, const-apart, const-outside, linked-entries}
 use Rattle.values.specs.declared.ConstVal.{ConstVal}
 use Rattle.values.specs.declared.ConstVal.the-variants.{Int, Real, Str}
@@ -156,7 +156,7 @@ module _ (t u : Bytes) (m line within kind bits d : ℕ) (f : EntryRoom t m line
   byte-here p j e h =
       ap (λ (q : ℕ). getD u q 0) e ∙ sym (getD-drop (5120 + 16 * m) u j 0) ∙ sym (getD-take 14 (drop (5120 + 16 * m) u) j 0 h) ∙ ap (λ (l : Bytes). getD l j 0) here
 
-  line-here : lineOf u m ≡ line
+  line-here : constLine u m ≡ line
   unfolding u16At entryOf
   line-here = omega (arith, byte-here (5120 + 16 * m) 0 (omega arith) (omega arith), byte-here (5120 + 16 * m + 1) 1 (omega arith) (omega arith))
 
@@ -176,7 +176,7 @@ module _ (t u : Bytes) (m line within kind bits d : ℕ) (f : EntryRoom t m line
       rw (a, ← drop-drop 5 (5120 + 16 * m) u) (sym (part-low 5 8 14 (drop (5120 + 16 * m) u) (omega arith)) ∙ ap (λ (l : Bytes). take 8 (drop 5 l)) here ∙ take-at (bigEndian 8 bits) (d ∷ []) 8 (big-length 8 bits)) in
       ap (fromBigEndian 0) e ∙ bits-back bits (omega arith)
 
-  digest-here : digestOf u m ≡ d
+  digest-here : constDigest u m ≡ d
   unfolding entryOf
   digest-here = byte-here (5133 + 16 * m) 13 (omega arith) (omega arith) ∙ getD-at (bigEndian 8 bits) d [] 0 8 (big-length 8 bits)
 
@@ -207,7 +207,7 @@ module _ (t u : Bytes) (m line within kind bits d : ℕ) (f : EntryRoom t m line
   each-new : (n : ℕ) → line ≤ n → within ≤ n → ((i : ℕ) → i < m → EntryBounds t n i) → (i : ℕ) → i < m + 1 → EntryBounds u n i
   each-new n p q each i h = ⊎-elim (λ (x : i ≡ m). subst (EntryBounds u n) (sym x) (entry-new n p q)) (λ (x : i < m). each-same (entries-below table-kept) each i x) (eq-or-lt-of-le (omega arith))
 
-  digests-new : (s : Bytes) (n : ℕ) → d ≡ digest (firstField s line) → ConstsLogged s t n m → (i : ℕ) → i < m + 1 → digestOf u i ≡ digest (firstField s (lineOf u i))
+  digests-new : (s : Bytes) (n : ℕ) → d ≡ digest (firstField s line) → ConstsLogged s t n m → (i : ℕ) → i < m + 1 → constDigest u i ≡ digest (firstField s (constLine u i))
   digests-new s n e l i h = ⊎-elim (λ (x : i ≡ m). rw (x, digest-here, line-here) e) (λ (x : i < m). digests-same (entries-below table-kept) (l .each) s (l .digests) i x) (eq-or-lt-of-le (omega arith))
 
   log-new : (v : Option Tree.ConstVal) → valueBy u kind bits ≡ v → (s : Bytes) (n : ℕ) → ConstsLogged s t n m → logIn s u (m + 1) ≡ entries (sheetSource s .implement) (moduleAt s within) (firstField s line) v ++ logIn s t m

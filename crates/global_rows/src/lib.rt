@@ -12,12 +12,12 @@ use write::put_part;
 ghost use Rattle.semantics.specs.Sheet.{concatMap};
 ghost use Rattle.semantics.specs.Listing.{globalRow};
 ghost use Rattle.write.specs.Wrote.{Wrote};
-ghost use Rattle.global_table.specs.Table.{entryAt, placesIn, GlobalEntry, Tabled};
+ghost use Rattle.global_table.specs.Table.{globalAt, placesIn, GlobalEntry, Tabled};
 
 // The row of entry i.
 fn global_row(sheet: &[u8], work: &[u8], n: usize, i: usize, out: &mut [u8], at: usize) -> usize
     requires { ⌜ GlobalEntry (now sheet) (now work) n i ⌝ }
-    ensures { λ r. ⌜ Wrote (now (out .entry)) at (globalRow (entryAt (now (sheet .entry)) (now (work .entry)) i)) (now (out .exit)) r ⌝ }
+    ensures { λ r. ⌜ Wrote (now (out .entry)) at (globalRow (globalAt (now (sheet .entry)) (now (work .entry)) i)) (now (out .exit)) r ⌝ }
 {
     let ty = line::type_of(sheet, work, n, line_of(work, i));
     let mut p = put_part(out, at, b"glo");

@@ -20,7 +20,7 @@ use Rattle.chains.specs.Chains.{newestOf, chainOf, digestPlace, chainAt, inChai
 use Rattle.chains.proofs.Laws.{PlacesApart, SameBytes, newest-yes, newest-no, newest-low, linked-outside, linked-other, linked-long, chained-none, chained-kept, chained-next}
 use Rattle.checks.specs.Checks.{Checked, Kept, Outside}
 use Rattle.checks.proofs.Kept.{kept-less, kept-at, outside-then, checked-kept, kind-line-kept}
-use Rattle.global_table.specs.Table.{VarLine, lineOf, positionOf, offsetOf, digestOf, globalChain, globalStored, globalEntered, entryAt, entriesFrom, placesIn, GlobalEntry, Tabled, offsetBy, numberFrom, entryNumber}
+use Rattle.global_table.specs.Table.{VarLine, globalLine, globalPosition, offsetOf, globalDigest, globalChain, globalStored, globalEntered, globalAt, entriesFrom, placesIn, GlobalEntry, Tabled, offsetBy, numberFrom, entryNumber}
 
 -- ---- a run of stores
 
@@ -95,20 +95,20 @@ module _ (t : Bytes) (i line position offset d : ℕ) (hi : i < 256) (hl : line 
   unfolding globalStored cells
   cell-at k j h e = unlinked i k j h e ∙ rw e (sets-at t (7168 + 8 * i) cells k h (omega arith))
 
-  pub line-new : lineOf (globalEntered t i line position offset d) i ≡ line
+  pub line-new : globalLine (globalEntered t i line position offset d) i ≡ line
   unfolding u16At cells
   line-new = rw (cell-at 0 (7168 + 8 * i) (omega arith) (omega arith), cell-at 1 (7168 + 8 * i + 1) (omega arith) refl) (omega arith)
 
-  pub position-new : positionOf (globalEntered t i line position offset d) i ≡ position
-  unfolding positionOf cells
+  pub position-new : globalPosition (globalEntered t i line position offset d) i ≡ position
+  unfolding globalPosition cells
   position-new = cell-at 2 (7170 + 8 * i) (omega arith) (omega arith)
 
   pub offset-new : offsetOf (globalEntered t i line position offset d) i ≡ offset
   unfolding u16At cells
   offset-new = rw (cell-at 3 (7171 + 8 * i) (omega arith) (omega arith), cell-at 4 (7171 + 8 * i + 1) (omega arith) (omega arith)) (omega arith)
 
-  pub digest-new : digestOf (globalEntered t i line position offset d) i ≡ d
-  unfolding digestOf cells
+  pub digest-new : globalDigest (globalEntered t i line position offset d) i ≡ d
+  unfolding globalDigest cells
   digest-new = cell-at 5 (7173 + 8 * i) (omega arith) (omega arith)
 
   -- a byte that is none of the entry's stays
@@ -121,24 +121,24 @@ module _ (t : Bytes) (i line position offset d : ℕ) (hi : i < 256) (hl : line 
     cell-old : (k : ℕ) → k < 6 → (m : ℕ) → m ≡ 7168 + 8 * j + k → getD (globalEntered t i line position offset d) m 0 ≡ getD t m 0
     cell-old k h m e = unlinked j k m h e ∙ stored-other m (λ x l q. omega arith)
 
-    pub line-old : lineOf (globalEntered t i line position offset d) j ≡ lineOf t j
+    pub line-old : globalLine (globalEntered t i line position offset d) j ≡ globalLine t j
     unfolding u16At
     line-old = rw (cell-old 0 (omega arith) (7168 + 8 * j) (omega arith), cell-old 1 (omega arith) (7168 + 8 * j + 1) refl)
 
-    position-old : positionOf (globalEntered t i line position offset d) j ≡ positionOf t j
-    unfolding positionOf
+    position-old : globalPosition (globalEntered t i line position offset d) j ≡ globalPosition t j
+    unfolding globalPosition
     position-old = cell-old 2 (omega arith) (7170 + 8 * j) (omega arith)
 
     offset-old : offsetOf (globalEntered t i line position offset d) j ≡ offsetOf t j
     unfolding u16At
     offset-old = rw (cell-old 3 (omega arith) (7171 + 8 * j) (omega arith), cell-old 4 (omega arith) (7171 + 8 * j + 1) (omega arith))
 
-    pub digest-old : digestOf (globalEntered t i line position offset d) j ≡ digestOf t j
-    unfolding digestOf
+    pub digest-old : globalDigest (globalEntered t i line position offset d) j ≡ globalDigest t j
+    unfolding globalDigest
     digest-old = cell-old 5 (omega arith) (7173 + 8 * j) (omega arith)
 
-    pub entry-old : (s : Bytes) → entryAt s (globalEntered t i line position offset d) j ≡ entryAt s t j
-    unfolding entryAt
+    pub entry-old : (s : Bytes) → globalAt s (globalEntered t i line position offset d) j ≡ globalAt s t j
+    unfolding globalAt
     entry-old s = rw (line-old, position-old, offset-old)
 
   outside-stored : Outside 7168 9216 t (globalStored t i line position offset d)
@@ -177,17 +177,17 @@ module _ (t : Bytes) (i line position offset d : ℕ) (hi : i < 256) (hl : line 
 
 -- ---- entries in order
 
-entries-same : (s t u : Bytes) (i k : ℕ) → ((j : ℕ) → j < i + k → entryAt s u j ≡ entryAt s t j) → entriesFrom s u i k ≡ entriesFrom s t i k
+entries-same : (s t u : Bytes) (i k : ℕ) → ((j : ℕ) → j < i + k → globalAt s u j ≡ globalAt s t j) → entriesFrom s u i k ≡ entriesFrom s t i k
 unfolding entriesFrom
 entries-same s t u i zero h = refl
 entries-same s t u i (suc k) h = rw (h i (omega arith), entries-same s t u (suc i) k (λ j l. h j (omega arith)))
 
-entries-more : (s t : Bytes) (i k : ℕ) → entriesFrom s t i (suc k) ≡ entriesFrom s t i k ++ (entryAt s t (i + k) ∷ [])
+entries-more : (s t : Bytes) (i k : ℕ) → entriesFrom s t i (suc k) ≡ entriesFrom s t i k ++ (globalAt s t (i + k) ∷ [])
 unfolding entriesFrom
 entries-more s t i zero = let e : i + 0 ≡ i = omega arith in rw e
-entries-more s t i (suc k) = let e : i + suc k ≡ suc i + k = omega arith in ap (λ (l : List Global). entryAt s t i ∷ l) (entries-more s t (suc i) k ∙ rw e)
+entries-more s t i (suc k) = let e : i + suc k ≡ suc i + k = omega arith in ap (λ (l : List Global). globalAt s t i ∷ l) (entries-more s t (suc i) k ∙ rw e)
 
-pub places-more : (s t : Bytes) (g : ℕ) → placesIn s t (g + 1) ≡ placesIn s t g ++ (entryAt s t g ∷ [])
+pub places-more : (s t : Bytes) (g : ℕ) → placesIn s t (g + 1) ≡ placesIn s t g ++ (globalAt s t g ∷ [])
 places-more s t g = let e : 0 + g ≡ g = omega arith in rw add-one (entries-more s t 0 g ∙ rw e)
 
 pub places-count : (s t : Bytes) (i g : ℕ) → length (entriesFrom s t i g) ≡ g
@@ -201,25 +201,25 @@ places-entered s t g line position offset d hg hl ho room = entries-same s t (gl
 
 -- a name that no entry before it has is entered
 pub once-entered : (s t : Bytes) (g line position offset d : ℕ) → g < 256 → line < 65536 → offset < 65536 → 65536 ≤ length t
-    → ((i : ℕ) → i < g → entryNumber (entryAt s t i .name) (placesIn s t i) ≡ 0)
-    → entryNumber (entryAt s (globalEntered t g line position offset d) g .name) (placesIn s t g) ≡ 0
-    → (i : ℕ) → i < suc g → entryNumber (entryAt s (globalEntered t g line position offset d) i .name) (placesIn s (globalEntered t g line position offset d) i) ≡ 0
+    → ((i : ℕ) → i < g → entryNumber (globalAt s t i .name) (placesIn s t i) ≡ 0)
+    → entryNumber (globalAt s (globalEntered t g line position offset d) g .name) (placesIn s t g) ≡ 0
+    → (i : ℕ) → i < suc g → entryNumber (globalAt s (globalEntered t g line position offset d) i .name) (placesIn s (globalEntered t g line position offset d) i) ≡ 0
 once-entered s t g line position offset d hg hl ho room old last i h = ⊎-elim (λ (e : i ≡ g). here e) (λ (l : i < g). before l) (eq-or-lt-of-le (omega arith))
   where
     same-to : (m : ℕ) → m ≤ g → placesIn s (globalEntered t g line position offset d) m ≡ placesIn s t m
     same-to m l = entries-same s t (globalEntered t g line position offset d) 0 m (λ j q. entry-old t g line position offset d hg hl ho room j (omega arith) s)
 
-    here : i ≡ g → entryNumber (entryAt s (globalEntered t g line position offset d) i .name) (placesIn s (globalEntered t g line position offset d) i) ≡ 0
+    here : i ≡ g → entryNumber (globalAt s (globalEntered t g line position offset d) i .name) (placesIn s (globalEntered t g line position offset d) i) ≡ 0
     here e = rw (e, same-to g (omega arith)) last
 
-    before : i < g → entryNumber (entryAt s (globalEntered t g line position offset d) i .name) (placesIn s (globalEntered t g line position offset d) i) ≡ 0
+    before : i < g → entryNumber (globalAt s (globalEntered t g line position offset d) i .name) (placesIn s (globalEntered t g line position offset d) i) ≡ 0
     before l = rw (same-to i (omega arith), entry-old t g line position offset d hg hl ho room i l s) (old i l)
 
 -- ---- search for a name
 
 -- names with different digests are different
-pub named-apart : {s t : Bytes} {n i d : ℕ} (x : Bytes) → GlobalEntry s t n i → d ≡ digest x → (digestOf t i ≡ d → ⊥) → false ≡ same x (entryAt s t i .name)
-named-apart {s} {t} {i = i} x b e z = digest-apart x (entryAt s t i .name) (λ q. z (b .digest ∙ sym (e ∙ q)))
+pub named-apart : {s t : Bytes} {n i d : ℕ} (x : Bytes) → GlobalEntry s t n i → d ≡ digest x → (globalDigest t i ≡ d → ⊥) → false ≡ same x (globalAt s t i .name)
+named-apart {s} {t} {i = i} x b e z = digest-apart x (globalAt s t i .name) (λ q. z (b .digest ∙ sym (e ∙ q)))
 
 -- one more digestPlace: the first with a name is new where it has that name and none before it has
 number-more : (k : ℕ) (x : Bytes) (ps : List Global) (p : Global) → same x (p .name) ≡ false → numberFrom k x (ps ++ (p ∷ [])) ≡ numberFrom k x ps
@@ -251,7 +251,7 @@ module _ (x : Bytes) (p : Global) (e : same x (p .name) ≡ true) where
 
 -- whether entry i has the name x
 abbrev pub hasName : Bytes → Bytes → Bytes → ℕ → Bool
-hasName s t x i = same x (entryAt s t i .name)
+hasName s t x i = same x (globalAt s t i .name)
 
 -- r is the number of the first entry with the name x, and its offset that name's digestPlace
 pub record Found (s t : Bytes) (g : ℕ) (x : Bytes) (r : ℕ) : Type 0 where
@@ -264,28 +264,28 @@ module _ (s t : Bytes) (x : Bytes) where
   found-none = record { digestPlace = refl; number = refl }
 
   module _ (g : ℕ) where
-    more : placesIn s t (suc g) ≡ placesIn s t g ++ (entryAt s t g ∷ [])
+    more : placesIn s t (suc g) ≡ placesIn s t g ++ (globalAt s t g ∷ [])
     more = rw (add-one g) at (places-more s t g)
 
-    found-here : hasName s t x g ≡ true → entryNumber (entryAt s t g .name) (placesIn s t g) ≡ 0 → Found s t (suc g) x (suc g)
-    unfolding offsetBy entryAt
+    found-here : hasName s t x g ≡ true → entryNumber (globalAt s t g .name) (placesIn s t g) ≡ 0 → Found s t (suc g) x (suc g)
+    unfolding offsetBy globalAt
     found-here e h =
-        let q : x ≡ entryAt s t g .name = same-eq x (entryAt s t g .name) e in
+        let q : x ≡ globalAt s t g .name = same-eq x (globalAt s t g .name) e in
         let z : entryNumber x (placesIn s t g) ≡ 0 = rw q h in
         let l : length (placesIn s t g) ≡ g = places-count s t 0 g in
         record {
-          digestPlace = sym (rw more (place-new x (entryAt s t g) e 0 (placesIn s t g) z));
-          number = sym (rw more (number-new x (entryAt s t g) e 0 (placesIn s t g) z ∙ omega (arith, l)));
+          digestPlace = sym (rw more (place-new x (globalAt s t g) e 0 (placesIn s t g) z));
+          number = sym (rw more (number-new x (globalAt s t g) e 0 (placesIn s t g) z ∙ omega (arith, l)));
         }
 
     found-before : hasName s t x g ≡ false → {r : ℕ} → Found s t g x r → Found s t (suc g) x r
     found-before e f = record {
-      digestPlace = rw more (f .place ∙ sym (place-more x (placesIn s t g) (entryAt s t g) e));
-      number = rw more (f .number ∙ sym (number-more 1 x (placesIn s t g) (entryAt s t g) e));
+      digestPlace = rw more (f .place ∙ sym (place-more x (placesIn s t g) (globalAt s t g) e));
+      number = rw more (f .number ∙ sym (number-more 1 x (placesIn s t g) (globalAt s t g) e));
     }
 
   -- the newest entry with a name is the first, as there is one alone
-  newest-first : (g : ℕ) → ((i : ℕ) → i < g → entryNumber (entryAt s t i .name) (placesIn s t i) ≡ 0) → Found s t g x (newestOf (hasName s t x) g)
+  newest-first : (g : ℕ) → ((i : ℕ) → i < g → entryNumber (globalAt s t i .name) (placesIn s t i) ≡ 0) → Found s t g x (newestOf (hasName s t x) g)
   newest-first zero h = found-none
   newest-first (suc g) h = go (hasName s t x g) refl (newest-first g (λ i l. h i (omega arith)))
     where
@@ -295,9 +295,9 @@ module _ (s t : Bytes) (x : Bytes) where
 
 -- an entry with the name x, which has the digest d, is of the chain of d
 pub named-chain : {s t : Bytes} {n g d : ℕ} (x : Bytes) → Tabled s t n g → d ≡ digest x → (j : ℕ) → j < g → hasName s t x j ≡ true → inChain t globalChain (chainOf d) j ≡ true
-unfolding chainAt digestPlace digestOf
+unfolding chainAt digestPlace globalDigest
 named-chain {s} {t} {d = d} x w e j h q =
-    let z : x ≡ entryAt s t j .name = same-eq x (entryAt s t j .name) q in
+    let z : x ≡ globalAt s t j .name = same-eq x (globalAt s t j .name) q in
     let y : getD t (7173 + 8 * j) 0 ≡ d = w .entries j h .digest ∙ ap digest (sym z) ∙ sym e in
     eq-eqb (chainAt t globalChain j) (chainOf d) (ap chainOf y)
 
@@ -336,18 +336,18 @@ module _ {t u : Bytes} (a : Kept 9216 t u) where
   unfolding u16At
   u16-kept k h = rw (kept-at a k (omega arith), kept-at a (k + 1) h)
 
-  pub line-kept : (i : ℕ) → i < 256 → lineOf u i ≡ lineOf t i
+  pub line-kept : (i : ℕ) → i < 256 → globalLine u i ≡ globalLine t i
   line-kept i h = u16-kept (7168 + 8 * i) (omega arith)
 
   pub offset-kept : (i : ℕ) → i < 256 → offsetOf u i ≡ offsetOf t i
   offset-kept i h = u16-kept (7171 + 8 * i) (omega arith)
 
-  digest-kept : (i : ℕ) → i < 256 → digestOf u i ≡ digestOf t i
-  unfolding digestOf
+  digest-kept : (i : ℕ) → i < 256 → globalDigest u i ≡ globalDigest t i
+  unfolding globalDigest
   digest-kept i h = kept-at a (7173 + 8 * i) (omega arith)
 
-  entry-kept : (s : Bytes) (i : ℕ) → i < 256 → entryAt s u i ≡ entryAt s t i
-  unfolding entryAt positionOf
+  entry-kept : (s : Bytes) (i : ℕ) → i < 256 → globalAt s u i ≡ globalAt s t i
+  unfolding globalAt globalPosition
   entry-kept s i h = rw (line-kept i h, offset-kept i h, kept-at a (7170 + 8 * i) (omega arith))
 
   pub places-kept : (s : Bytes) (g : ℕ) → g ≤ 256 → placesIn s u g ≡ placesIn s t g

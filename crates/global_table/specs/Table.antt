@@ -39,17 +39,17 @@ namesOn s r = varOn s r .names
 
 -- ---- the table
 
-abbrev pub lineOf : Bytes → ℕ → ℕ
-lineOf t i = u16At t (7168 + 8 * i)
+abbrev pub globalLine : Bytes → ℕ → ℕ
+globalLine t i = u16At t (7168 + 8 * i)
 
-unfoldable pub positionOf : Bytes → ℕ → ℕ
-positionOf t i = getD t (7170 + 8 * i) 0
+unfoldable pub globalPosition : Bytes → ℕ → ℕ
+globalPosition t i = getD t (7170 + 8 * i) 0
 
 abbrev pub offsetOf : Bytes → ℕ → ℕ
 offsetOf t i = u16At t (7171 + 8 * i)
 
-unfoldable pub digestOf : Bytes → ℕ → ℕ
-digestOf t i = getD t (7173 + 8 * i) 0
+unfoldable pub globalDigest : Bytes → ℕ → ℕ
+globalDigest t i = getD t (7173 + 8 * i) 0
 
 -- the chains of entries
 abbrev pub globalChain : Chain
@@ -63,13 +63,13 @@ unfoldable pub globalEntered : Bytes → ℕ → ℕ → ℕ → ℕ → ℕ →
 globalEntered t i line position offset d = linked (globalStored t i line position offset d) globalChain i (chainOf d)
 
 -- the global of entry i
-unfoldable pub entryAt : Bytes → Bytes → ℕ → Global
-entryAt s t i = record { name = nameOn s (lineOf t i) (positionOf t i); offset = offsetOf t i; ty = typeOn s (lineOf t i) }
+unfoldable pub globalAt : Bytes → Bytes → ℕ → Global
+globalAt s t i = record { name = nameOn s (globalLine t i) (globalPosition t i); offset = offsetOf t i; ty = typeOn s (globalLine t i) }
 
 -- k entries from i on
 unfoldable pub entriesFrom : Bytes → Bytes → ℕ → ℕ → List Global
 entriesFrom s t i zero = []
-entriesFrom s t i (suc k) = entryAt s t i ∷ entriesFrom s t (suc i) k
+entriesFrom s t i (suc k) = globalAt s t i ∷ entriesFrom s t (suc i) k
 
 abbrev pub placesIn : Bytes → Bytes → ℕ → List Global
 placesIn s t g = entriesFrom s t 0 g
@@ -77,8 +77,8 @@ placesIn s t g = entriesFrom s t 0 g
 -- entry i is of a `var` line, and holds its name's digest
 pub record GlobalEntry (s t : Bytes) (n i : ℕ) : Type 0 where
   pub low : i < 256
-  pub line : VarLine s t n (lineOf t i)
-  pub digest : digestOf t i ≡ digest (entryAt s t i .name)
+  pub line : VarLine s t n (globalLine t i)
+  pub digest : globalDigest t i ≡ digest (globalAt s t i .name)
 
 -- the offset of an entry by its number from 1; 0 is none
 unfoldable pub offsetBy : Bytes → ℕ → Option ℕ
@@ -102,5 +102,5 @@ pub record Tabled (s t : Bytes) (n g : ℕ) : Type 0 where
   pub checked : Checked s t n
   pub few : g ≤ 256
   pub entries : (i : ℕ) → i < g → GlobalEntry s t n i
-  pub once : (i : ℕ) → i < g → entryNumber (entryAt s t i .name) (placesIn s t i) ≡ 0
+  pub once : (i : ℕ) → i < g → entryNumber (globalAt s t i .name) (placesIn s t i) ≡ 0
   pub chained : Chained t globalChain g

@@ -10,7 +10,7 @@ ghost use Rattle.semantics.specs.Text.{same};
 ghost use Rattle.semantics.specs.Global.{globalSize, placeOf};
 ghost use Rattle.sizes.specs.Sizes.{typeAt, TypeLine};
 ghost use Rattle.words.specs.Words.{digest};
-ghost use Rattle.global_table.specs.Table.{lineOf, positionOf, offsetOf, digestOf, globalEntered, entryAt, placesIn, GlobalEntry, Tabled, offsetBy, entryNumber, offsetIn};
+ghost use Rattle.global_table.specs.Table.{globalLine, globalPosition, offsetOf, globalDigest, globalEntered, globalAt, placesIn, GlobalEntry, Tabled, offsetBy, entryNumber, offsetIn};
 
 // The chains of entries.
 const CHAIN: Chain = Chain {
@@ -22,7 +22,7 @@ const CHAIN: Chain = Chain {
 // The `var` line of entry i, from 1.
 pub fn line_of(work: &[u8], i: usize) -> usize
     requires { ⌜ (i < 256) × (65536 ≤ length (now work)) ⌝ }
-    ensures { λ r. ⌜ r ≡ lineOf (now (work .entry)) i ⌝ }
+    ensures { λ r. ⌜ r ≡ globalLine (now (work .entry)) i ⌝ }
 {
     words::u16_at(work, area::GLOBALS + 8 * i)
 }
@@ -30,7 +30,7 @@ pub fn line_of(work: &[u8], i: usize) -> usize
 // The position of its name among the line's names, from 0.
 fn position_of(work: &[u8], i: usize) -> usize
     requires { ⌜ (i < 256) × (65536 ≤ length (now work)) ⌝ }
-    ensures { λ r. ⌜ (r ≡ positionOf (now (work .entry)) i) × (r < 256) ⌝ }
+    ensures { λ r. ⌜ (r ≡ globalPosition (now (work .entry)) i) × (r < 256) ⌝ }
 {
     words::wide(work[area::GLOBALS + 2 + 8 * i])
 }
@@ -46,7 +46,7 @@ pub fn offset_of(work: &[u8], i: usize) -> usize
 // Its name's digest.
 fn digest_of(work: &[u8], i: usize) -> usize
     requires { ⌜ (i < 256) × (65536 ≤ length (now work)) ⌝ }
-    ensures { λ r. ⌜ r ≡ digestOf (now (work .entry)) i ⌝ }
+    ensures { λ r. ⌜ r ≡ globalDigest (now (work .entry)) i ⌝ }
 {
     words::wide(work[area::GLOBALS + 5 + 8 * i])
 }
@@ -69,7 +69,7 @@ pub fn enter(work: &mut [u8], i: usize, line: usize, position: usize, offset: us
 // The name of entry i, as that part of the sheet.
 pub fn name_of<'a>(sheet: &'a [u8], work: &[u8], n: usize, i: usize) -> &'a [u8]
     requires { ⌜ GlobalEntry (now sheet) (now work) n i ⌝ }
-    ensures { λ r. ⌜ now r ≡ entryAt (now (sheet .entry)) (now (work .entry)) i .name ⌝ }
+    ensures { λ r. ⌜ now r ≡ globalAt (now (sheet .entry)) (now (work .entry)) i .name ⌝ }
 {
     line::name_at(sheet, work, n, line_of(work, i), position_of(work, i))
 }
@@ -77,7 +77,7 @@ pub fn name_of<'a>(sheet: &'a [u8], work: &[u8], n: usize, i: usize) -> &'a [u8]
 // Whether entry i has this name, which has the digest d.
 fn is_named(sheet: &[u8], work: &[u8], n: usize, i: usize, name: &[u8], d: usize) -> bool
     requires { ⌜ (GlobalEntry (now sheet) (now work) n i) × (d ≡ digest (now name)) ⌝ }
-    ensures { λ r. ⌜ r ≡ same (now (name .entry)) (entryAt (now (sheet .entry)) (now (work .entry)) i .name) ⌝ }
+    ensures { λ r. ⌜ r ≡ same (now (name .entry)) (globalAt (now (sheet .entry)) (now (work .entry)) i .name) ⌝ }
 {
     if digest_of(work, i) != d {
         return false; // before the name is looked for

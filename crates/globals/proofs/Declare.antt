@@ -25,7 +25,7 @@ use Rattle.checks.proofs.Kept.{outside-all, outside-then}
 use Rattle.sizes.specs.Sizes.{typeAt}
 use Rattle.globals.specs.declared.Globals.{Globals}
 use Rattle.globals.specs.Allocation.{Allocation, layName, layNames}
-use Rattle.global_table.specs.Table.{VarLine, nameOn, typeOn, namesOn, globalChain, globalEntered, entryAt, placesIn, GlobalEntry, offsetBy, entryNumber}
+use Rattle.global_table.specs.Table.{VarLine, nameOn, typeOn, namesOn, globalChain, globalEntered, globalAt, placesIn, GlobalEntry, offsetBy, entryNumber}
 use Rattle.globals.specs.Collect.{allocationIn, PlacesEntered, PlacesLaid}
 use Rattle.globals.proofs.Allocation.{names-next}
 use Rattle.global_table.proofs.VarLine.{names-count}
@@ -85,8 +85,8 @@ module _ (s t : Bytes) (n r j : ℕ) (g : Globals) (st : PlacesEntered s t n g) 
   unfolding new
   outside-new = outside-entered t (g .count) r j off d full line-low (omega (arith, off-low)) (l .checked .whole .room)
 
-  entry-new : entryAt s new (g .count) ≡ record { name = nameOn s r j; offset = newOffset (typeOn s r) (g .end); ty = typeOn s r }
-  unfolding new entryAt
+  entry-new : globalAt s new (g .count) ≡ record { name = nameOn s r j; offset = newOffset (typeOn s r) (g .end); ty = typeOn s r }
+  unfolding new globalAt
   entry-new =
       rw (
         line-new t (g .count) r j off d full line-low (omega (arith, off-low)) (l .checked .whole .room),
@@ -136,10 +136,10 @@ module _ (s t : Bytes) (n r j : ℕ) (g : Globals) (st : PlacesEntered s t n g) 
         rw (hn, q, places-new, f)
 
     -- no entry has the name yet
-    once-new : (i : ℕ) → i < h .count → entryNumber (entryAt s new i .name) (placesIn s new i) ≡ 0
+    once-new : (i : ℕ) → i < h .count → entryNumber (globalAt s new i .name) (placesIn s new i) ≡ 0
     unfolding new
     once-new i q =
-        let z : entryNumber (entryAt s new (g .count) .name) (placesIn s t (g .count)) ≡ 0 = ap (λ (e : Global). entryNumber (e .name) (placesIn s t (g .count))) entry-new ∙ sym hq ∙ hz in
+        let z : entryNumber (globalAt s new (g .count) .name) (placesIn s t (g .count)) ≡ 0 = ap (λ (e : Global). entryNumber (e .name) (placesIn s t (g .count))) entry-new ∙ sym hq ∙ hz in
         once-entered s t (g .count) r j off d full line-low (omega (arith, off-low)) (l .checked .whole .room) (st .tabled .once) z i (omega arith)
 
     chained-new : Chained new globalChain (h .count)

@@ -19,7 +19,7 @@ use Rattle.write.proofs.Wrote.{then, wrote-as}
 use Rattle.rows.specs.Rows.{commaed}
 use Rattle.values.specs.declared.ConstVal.{ConstVal}
 use Rattle.values.specs.Values.{valueIn}
-use Rattle.placements.specs.Placements.{entryAt, slotAt, elementIn, valuesIn}
+use Rattle.placements.specs.Placements.{placementAt, slotAt, elementIn, valuesIn}
 use Rattle.items.specs.Items.{itemRows}
 use Rattle.elements.specs.Elements.{elementText, elementTexts, kindName, valuesRow}
 
@@ -30,15 +30,15 @@ unfolding valuesIn
 values-length t zero i = refl
 values-length t (suc n) i = ap suc (values-length t n (suc i))
 
-values-last : (t : Bytes) (n i : ℕ) → valuesIn t i (suc n) ≡ valuesIn t i n ++ (elementIn t (entryAt t (i + n)) ∷ [])
+values-last : (t : Bytes) (n i : ℕ) → valuesIn t i (suc n) ≡ valuesIn t i n ++ (elementIn t (placementAt t (i + n)) ∷ [])
 unfolding valuesIn
 values-last t zero i = let q : i + 0 ≡ i = omega arith in rw q
 values-last t (suc n) i =
     let q : suc i + n ≡ i + suc n = omega arith in
-    ap (λ (vs : List Tree.ConstVal). elementIn t (entryAt t i) ∷ vs) (values-last t n (suc i) ∙ ap (λ (j : ℕ). valuesIn t (suc i) n ++ (elementIn t (entryAt t j) ∷ [])) q)
+    ap (λ (vs : List Tree.ConstVal). elementIn t (placementAt t i) ∷ vs) (values-last t n (suc i) ∙ ap (λ (j : ℕ). valuesIn t (suc i) n ++ (elementIn t (placementAt t j) ∷ [])) q)
 
-values-next : (t : Bytes) (i : ℕ) → valuesIn t 0 (i + 1) ≡ valuesIn t 0 i ++ (elementIn t (entryAt t i) ∷ [])
-values-next t i = rw add-one (values-last t i 0 ∙ ap (λ (j : ℕ). valuesIn t 0 i ++ (elementIn t (entryAt t j) ∷ [])) (zero-add i))
+values-next : (t : Bytes) (i : ℕ) → valuesIn t 0 (i + 1) ≡ valuesIn t 0 i ++ (elementIn t (placementAt t i) ∷ [])
+values-next t i = rw add-one (values-last t i 0 ∙ ap (λ (j : ℕ). valuesIn t 0 i ++ (elementIn t (placementAt t j) ∷ [])) (zero-add i))
 
 texts-last : (k : ℕ) (vs : List Tree.ConstVal) (x : Tree.ConstVal) → commaed (elementTexts k (vs ++ (x ∷ []))) ≡ commaed (elementTexts k vs) ++ (44 ∷ elementText k x)
 texts-last k [] x = append-nil (44 ∷ elementText k x)
@@ -59,23 +59,23 @@ items-last o (v ∷ vs) x =
     ∙ sym (append-assoc (strElement o v) (strItems (o + 4) vs) (strElement (o + 4 * suc (length vs)) x))
 
 module _ (t : Bytes) (i : ℕ) {d : Bytes} {a : ℕ} {e : Bytes} {b : ℕ} {f : Bytes} {c : ℕ} where
-  pub elements-next : (k : ℕ) {v : ConstVal} → v ≡ slotAt t (entryAt t i) → Wrote d a (commaed (elementTexts k (valuesIn t 0 i))) e b
+  pub elements-next : (k : ℕ) {v : ConstVal} → v ≡ slotAt t (placementAt t i) → Wrote d a (commaed (elementTexts k (valuesIn t 0 i))) e b
       → ((u : Bytes) → Wrote e b (44 ∷ elementText k (valueIn u v)) f c) → Wrote d a (commaed (elementTexts k (valuesIn t 0 (i + 1)))) f c
   unfolding elementIn
   elements-next k q w x =
-      let y : Wrote e b (44 ∷ elementText k (elementIn t (entryAt t i))) f c = wrote-as (ap (λ (s : ConstVal). 44 ∷ elementText k (valueIn t s)) q) (x t) in
+      let y : Wrote e b (44 ∷ elementText k (elementIn t (placementAt t i))) f c = wrote-as (ap (λ (s : ConstVal). 44 ∷ elementText k (valueIn t s)) q) (x t) in
       wrote-as
-      (sym (ap (λ (vs : List Tree.ConstVal). commaed (elementTexts k vs)) (values-next t i) ∙ texts-last k (valuesIn t 0 i) (elementIn t (entryAt t i))))
+      (sym (ap (λ (vs : List Tree.ConstVal). commaed (elementTexts k vs)) (values-next t i) ∙ texts-last k (valuesIn t 0 i) (elementIn t (placementAt t i))))
       (then w y)
 
   pub strings-next : (id : TypeKey → ℕ) → Wrote d a (itemRows id (strItems 0 (valuesIn t 0 i))) e b
-      → Wrote e b (itemRows id (strElement (4 * i) (elementIn t (entryAt t i)))) f c → Wrote d a (itemRows id (strItems 0 (valuesIn t 0 (i + 1)))) f c
+      → Wrote e b (itemRows id (strElement (4 * i) (elementIn t (placementAt t i)))) f c → Wrote d a (itemRows id (strItems 0 (valuesIn t 0 (i + 1)))) f c
   strings-next id w x =
       wrote-as
       (sym
       (ap (λ (vs : List Tree.ConstVal). itemRows id (strItems 0 vs)) (values-next t i)
-      ∙ ap (itemRows id) (items-last 0 (valuesIn t 0 i) (elementIn t (entryAt t i)) ∙ ap (λ (n : ℕ). strItems 0 (valuesIn t 0 i) ++ strElement n (elementIn t (entryAt t i))) place)
-      ∙ rows-append id (strItems 0 (valuesIn t 0 i)) (strElement (4 * i) (elementIn t (entryAt t i)))))
+      ∙ ap (itemRows id) (items-last 0 (valuesIn t 0 i) (elementIn t (placementAt t i)) ∙ ap (λ (n : ℕ). strItems 0 (valuesIn t 0 i) ++ strElement n (elementIn t (placementAt t i))) place)
+      ∙ rows-append id (strItems 0 (valuesIn t 0 i)) (strElement (4 * i) (elementIn t (placementAt t i)))))
       (then w x)
     where
       place : 0 + 4 * length (valuesIn t 0 i) ≡ 4 * i

@@ -8,7 +8,7 @@ use Rattle.semantics.specs.Sheet.{concatMap}
 use Rattle.semantics.specs.Global.{Item}
 use Rattle.semantics.specs.Listing.{itemRow}
 use Rattle.values.specs.Values.{Within}
-use Rattle.placements.specs.Placements.{entryAt, slotAt}
+use Rattle.placements.specs.Placements.{placementAt, slotAt}
 
 unfoldable pub itemRows : (TypeKey → ℕ) → List Item → Bytes
 itemRows id is = concatMap (itemRow id) is
@@ -17,4 +17,4 @@ itemRows id is = concatMap (itemRow id) is
 pub record LiteralIn (t : Bytes) (count : ℕ) : Type 0 where
   pub long : 65536 ≤ length t
   pub few : count ≤ 1024
-  pub strings : (i : ℕ) → i < count → Within (length t) (slotAt t (entryAt t i))
+  pub strings : (i : ℕ) → i < count → Within (length t) (slotAt t (placementAt t i))

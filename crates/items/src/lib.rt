@@ -16,7 +16,7 @@ ghost use Rattle.semantics.specs.Listing.{itemRow};
 ghost use Rattle.write.specs.Wrote.{Wrote};
 ghost use Rattle.rows.specs.Rows.{commaed};
 ghost use Rattle.values.specs.Values.{stringIn, valueIn, Within};
-ghost use Rattle.placements.specs.Placements.{entryAt, slotAt, elementIn, valuesIn};
+ghost use Rattle.placements.specs.Placements.{placementAt, slotAt, elementIn, valuesIn};
 ghost use Rattle.items.specs.Items.{itemRows, LiteralIn};
 ghost use Rattle.elements.specs.Elements.{elementTexts, valuesRow};
 
@@ -85,8 +85,8 @@ fn elements_row(work: &[u8], out: &mut [u8], at: usize, kind: u8, count: usize) 
 
 // The row of the string at index i; a number among strings leaves none.
 fn string_row(work: &[u8], out: &mut [u8], at: usize, i: usize) -> usize
-    requires { ⌜ (i < 1024) × (65536 ≤ length (now work)) × (Within (length (now work)) (slotAt (now work) (entryAt (now work) i))) ⌝ }
-    ensures { λ r. ⌜ ((id : TypeKey → ℕ) → Wrote (now (out .entry)) at (itemRows id (strElement (4 * i) (elementIn (now (work .entry)) (entryAt (now (work .entry)) i)))) (now (out .exit)) r) ⌝ }
+    requires { ⌜ (i < 1024) × (65536 ≤ length (now work)) × (Within (length (now work)) (slotAt (now work) (placementAt (now work) i))) ⌝ }
+    ensures { λ r. ⌜ ((id : TypeKey → ℕ) → Wrote (now (out .entry)) at (itemRows id (strElement (4 * i) (elementIn (now (work .entry)) (placementAt (now (work .entry)) i)))) (now (out .exit)) r) ⌝ }
 {
     let v = placements::element(work, i);
     match v {

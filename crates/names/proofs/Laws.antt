@@ -24,7 +24,7 @@ use Rattle.words.proofs.Laws.{digest-same, digest-apart}
 use Rattle.implement.specs.Modules.{firstField, moduleAt, ownIn, isOwn}
 use Rattle.checks.specs.Checks.{Kept, Outside, Checked}
 use Rattle.checks.proofs.Kept.{kept-at, kept-less}
-use Rattle.names.specs.Table.{lineOf, moduleLineOf, valueBy, slotValue, kindOf, bitsOf, digestOf, constChain, entriesAt, logIn, EntryBounds, ConstsLogged, ConstTable, ConstEntry, found, hasKey, answersPlain, answersQualified, Answered, Looked}
+use Rattle.names.specs.Table.{constLine, moduleLineOf, valueBy, slotValue, kindOf, bitsOf, constDigest, constChain, entriesAt, logIn, EntryBounds, ConstsLogged, ConstTable, ConstEntry, found, hasKey, answersPlain, answersQualified, Answered, Looked}
 
 -- ---- a slot by its kind and bits
 
@@ -163,15 +163,15 @@ module _ {s t : Bytes} {k : Key} {answers : ℕ → Bool} (a : Answering s t k a
 pub answers-plain : (s t x : Bytes) → Answering s t (plain x) (λ (i : ℕ). answersPlain s t i x)
 unfolding entriesAt answersPlain
 answers-plain s t x = record {
-  value = λ i rest. plain-step (sheetSource s .implement) s x (firstField s (lineOf t i)) (slotValue t (5124 + 16 * i)) rest (moduleLineOf t i);
-  has = λ i rest. plain-has (sheetSource s .implement) s x (firstField s (lineOf t i)) (slotValue t (5124 + 16 * i)) rest (moduleLineOf t i);
+  value = λ i rest. plain-step (sheetSource s .implement) s x (firstField s (constLine t i)) (slotValue t (5124 + 16 * i)) rest (moduleLineOf t i);
+  has = λ i rest. plain-has (sheetSource s .implement) s x (firstField s (constLine t i)) (slotValue t (5124 + 16 * i)) rest (moduleLineOf t i);
 }
 
 pub answers-qualified : (s t q x : Bytes) → Answering s t (qualified q x) (λ (i : ℕ). answersQualified s t i q x)
 unfolding entriesAt answersQualified
 answers-qualified s t q x = record {
-  value = λ i rest. qualified-step (sheetSource s .implement) s x (firstField s (lineOf t i)) (slotValue t (5124 + 16 * i)) rest q (moduleLineOf t i);
-  has = λ i rest. qualified-has (sheetSource s .implement) s x (firstField s (lineOf t i)) (slotValue t (5124 + 16 * i)) rest q (moduleLineOf t i);
+  value = λ i rest. qualified-step (sheetSource s .implement) s x (firstField s (constLine t i)) (slotValue t (5124 + 16 * i)) rest q (moduleLineOf t i);
+  has = λ i rest. qualified-has (sheetSource s .implement) s x (firstField s (constLine t i)) (slotValue t (5124 + 16 * i)) rest q (moduleLineOf t i);
 }
 
 pub table-entry : {s t : Bytes} {n m i : ℕ} → ConstTable s t n m → i < m → ConstEntry s t n i
@@ -189,25 +189,25 @@ pub answered : {s t : Bytes} {n m : ℕ} → ConstsLogged s t n m → Checked s 
 answered l c h = record { few = omega (arith, l .few); long = c .whole .room; text = λ i e q. l .each i (omega arith) .text q }
 
 -- names with different digests are different
-pub named-apart : {s t : Bytes} {n i d : ℕ} (x : Bytes) → ConstEntry s t n i → d ≡ digest x → (digestOf t i ≡ d → ⊥) → false ≡ same x (firstField s (lineOf t i))
-named-apart {s} {t} {i = i} x k e z = digest-apart x (firstField s (lineOf t i)) (λ q. z (k .digested ∙ sym (e ∙ q)))
+pub named-apart : {s t : Bytes} {n i d : ℕ} (x : Bytes) → ConstEntry s t n i → d ≡ digest x → (constDigest t i ≡ d → ⊥) → false ≡ same x (firstField s (constLine t i))
+named-apart {s} {t} {i = i} x k e z = digest-apart x (firstField s (constLine t i)) (λ q. z (k .digested ∙ sym (e ∙ q)))
 
 -- entries that answer are in the chain of the name's digest
 module _ {s t : Bytes} {n m : ℕ} (c : ConstTable s t n m) (x : Bytes) {d : ℕ} (e : d ≡ digest x) where
-  named-member : (i : ℕ) → i < m → same x (firstField s (lineOf t i)) ≡ true → inChain t constChain (chainOf d) i ≡ true
+  named-member : (i : ℕ) → i < m → same x (firstField s (constLine t i)) ≡ true → inChain t constChain (chainOf d) i ≡ true
   unfolding chainAt digestPlace
-  named-member i h q = eq-eqb (chainAt t constChain i) (chainOf d) (ap chainOf (c .logged .digests i h ∙ sym (e ∙ digest-same x (firstField s (lineOf t i)) 0 q)))
+  named-member i h q = eq-eqb (chainAt t constChain i) (chainOf d) (ap chainOf (c .logged .digests i h ∙ sym (e ∙ digest-same x (firstField s (constLine t i)) 0 q)))
 
   pub plain-member : (i : ℕ) → i < m → answersPlain s t i x ≡ true → inChain t constChain (chainOf d) i ≡ true
   unfolding answersPlain
-  plain-member i h q = named-member i h (both (same x (firstField s (lineOf t i))) (isOwn s (moduleLineOf t i)) q .0)
+  plain-member i h q = named-member i h (both (same x (firstField s (constLine t i))) (isOwn s (moduleLineOf t i)) q .0)
 
   pub qualified-member : (w : Bytes) (i : ℕ) → i < m → answersQualified s t i w x ≡ true → inChain t constChain (chainOf d) i ≡ true
   unfolding answersQualified
-  qualified-member w i h q = named-member i h (both (same x (firstField s (lineOf t i))) (not (eqb (moduleLineOf t i) 0) && same w (firstField s (moduleLineOf t i))) q .0)
+  qualified-member w i h q = named-member i h (both (same x (firstField s (constLine t i))) (not (eqb (moduleLineOf t i) 0) && same w (firstField s (moduleLineOf t i))) q .0)
 
 -- which entries answer, as it is tested
-module _ (s t : Bytes) (i : ℕ) (x : Bytes) {b : Bool} (name : b ≡ same x (firstField s (lineOf t i))) where
+module _ (s t : Bytes) (i : ℕ) (x : Bytes) {b : Bool} (name : b ≡ same x (firstField s (constLine t i))) where
   pub plain-other : not b ≡ true → false ≡ answersPlain s t i x
   unfolding answersPlain
   plain-other f = rw (← name, not-true b f)
@@ -255,7 +255,7 @@ module _ {t u : Bytes} (n i : ℕ) (w : SameEntry t u i) (e : EntryBounds t n i)
       let x : (l : Bytes) → getD l p 0 ≡ getD (take 14 (drop (5120 + 16 * i) l)) j 0 = λ l. ap (λ (a : ℕ). getD l a 0) q ∙ sym (getD-take 14 (drop (5120 + 16 * i) l) j 0 h ∙ getD-drop (5120 + 16 * i) l j 0) in
       x u ∙ ap (λ (l : Bytes). getD l j 0) (w .bytes) ∙ sym (x t)
 
-  line-kept : lineOf u i ≡ lineOf t i
+  line-kept : constLine u i ≡ constLine t i
   unfolding u16At
   line-kept = rw (byte-kept (5120 + 16 * i) 0 (omega arith) (omega arith), byte-kept (5120 + 16 * i + 1) 1 (omega arith) (omega arith))
 
@@ -273,7 +273,7 @@ module _ {t u : Bytes} (n i : ℕ) (w : SameEntry t u i) (e : EntryBounds t n i)
       let x : (l : Bytes) → take 8 (drop (5120 + 16 * i + 5) l) ≡ take 8 (drop 5 (take 14 (drop (5120 + 16 * i) l))) = λ l. sym (part-low 5 8 14 (drop (5120 + 16 * i) l) (omega arith) ∙ ap (take 8) (drop-drop 5 (5120 + 16 * i) l)) in
       rw a (ap (fromBigEndian 0) (x u ∙ ap (λ (l : Bytes). take 8 (drop 5 l)) (w .bytes) ∙ sym (x t)))
 
-  digest-kept : digestOf u i ≡ digestOf t i
+  digest-kept : constDigest u i ≡ constDigest t i
   digest-kept = byte-kept (5133 + 16 * i) 13 (omega arith) (omega arith)
 
   entry-kept : EntryBounds u n i
@@ -304,7 +304,7 @@ module _ {t u : Bytes} {n m : ℕ} (w : (i : ℕ) → i < m → SameEntry t u i)
   pub each-same : (i : ℕ) → i < m → EntryBounds u n i
   each-same i h = entry-kept n i (w i h) (each i h)
 
-  pub digests-same : (s : Bytes) → ((i : ℕ) → i < m → digestOf t i ≡ digest (firstField s (lineOf t i))) → (i : ℕ) → i < m → digestOf u i ≡ digest (firstField s (lineOf u i))
+  pub digests-same : (s : Bytes) → ((i : ℕ) → i < m → constDigest t i ≡ digest (firstField s (constLine t i))) → (i : ℕ) → i < m → constDigest u i ≡ digest (firstField s (constLine u i))
   digests-same s d i h = rw (digest-kept n i (w i h) (each i h), line-kept n i (w i h) (each i h)) (d i h)
 
   module _ (s : Bytes) (same : (i : ℕ) → i < m → SameText t u i) where

@@ -10,7 +10,7 @@ ghost use Rattle.words.specs.Words.{digest};
 ghost use Rattle.chains.specs.Chains.{chainOf, inChain, newestOf};
 ghost use Rattle.implement.specs.Modules.{firstField};
 ghost use Rattle.checks.specs.Checks.{Checked};
-ghost use Rattle.names.specs.Table.{lineOf, moduleLineOf, bitsOf, kindOf, digestOf, constChain, answersPlain, answersQualified, newestPlain, newestQualified, Looked, ConstTable, ConstEntry};
+ghost use Rattle.names.specs.Table.{constLine, moduleLineOf, bitsOf, kindOf, constDigest, constChain, answersPlain, answersQualified, newestPlain, newestQualified, Looked, ConstTable, ConstEntry};
 
 // How many lines the sheet has, and how many constants are known.
 pub struct Known {
@@ -28,7 +28,7 @@ pub const CHAIN: Chain = Chain {
 // The `con` line of entry i.
 pub fn line_of(work: &[u8], i: usize) -> usize
     requires { ⌜ (i < 128) × (65536 ≤ length (now work)) ⌝ }
-    ensures { λ r. ⌜ r ≡ lineOf (now (work .entry)) i ⌝ }
+    ensures { λ r. ⌜ r ≡ constLine (now (work .entry)) i ⌝ }
 {
     words::u16_at(work, area::CONSTANTS + area::CONSTANT * i)
 }
@@ -60,7 +60,7 @@ pub fn slot_bits(work: &[u8], i: usize) -> u64
 // The digest of its name.
 fn digest_of(work: &[u8], i: usize) -> usize
     requires { ⌜ (i < 128) × (65536 ≤ length (now work)) ⌝ }
-    ensures { λ r. ⌜ r ≡ digestOf (now (work .entry)) i ⌝ }
+    ensures { λ r. ⌜ r ≡ constDigest (now (work .entry)) i ⌝ }
 {
     words::wide(work[area::CONSTANTS + 13 + area::CONSTANT * i])
 }
@@ -76,7 +76,7 @@ fn is_named(sheet: &[u8], work: &[u8], n: usize, k: usize, name: &[u8]) -> bool
 // Whether the constant of entry i has this name, which has the digest d.
 fn has_name(sheet: &[u8], work: &[u8], n: usize, i: usize, name: &[u8], d: usize) -> bool
     requires { ⌜ (ConstEntry (now sheet) (now work) n i) × (d ≡ digest (now name)) ⌝ }
-    ensures { λ r. ⌜ r ≡ Text.same (now (name .entry)) (firstField (now (sheet .entry)) (lineOf (now (work .entry)) i)) ⌝ }
+    ensures { λ r. ⌜ r ≡ Text.same (now (name .entry)) (firstField (now (sheet .entry)) (constLine (now (work .entry)) i)) ⌝ }
 {
     if digest_of(work, i) != d {
         return false; // before the line is looked at
@@ -179,7 +179,7 @@ pub fn look_up_in(sheet: &[u8], work: &[u8], c: Known, within: &[u8], name: &[u8
 
 // The newest constant before entry i of the plain name that entry i has.
 pub fn look_up_before(sheet: &[u8], work: &[u8], c: Known, i: usize, name: &[u8]) -> usize
-    requires { ⌜ (ConstTable (now sheet) (now work) (c .lines) (c .consts)) × (i < c .consts) × (now name ≡ firstField (now sheet) (lineOf (now work) i)) ⌝ }
+    requires { ⌜ (ConstTable (now sheet) (now work) (c .lines) (c .consts)) × (i < c .consts) × (now name ≡ firstField (now sheet) (constLine (now work) i)) ⌝ }
     ensures { λ r. ⌜ Looked (now (sheet .entry)) (now (work .entry)) (plain (now (name .entry))) i (newestPlain (now (sheet .entry)) (now (work .entry)) i (now (name .entry))) r ⌝ }
 {
     let newest = chains::earlier(work, CHAIN, c.consts, i);
@@ -195,7 +195,7 @@ pub fn look_up_in_before(
     within: &[u8],
     name: &[u8],
 ) -> usize
-    requires { ⌜ (ConstTable (now sheet) (now work) (c .lines) (c .consts)) × (i < c .consts) × (now name ≡ firstField (now sheet) (lineOf (now work) i)) ⌝ }
+    requires { ⌜ (ConstTable (now sheet) (now work) (c .lines) (c .consts)) × (i < c .consts) × (now name ≡ firstField (now sheet) (constLine (now work) i)) ⌝ }
     ensures { λ r. ⌜ Looked (now (sheet .entry)) (now (work .entry)) (qualified (now (within .entry)) (now (name .entry))) i (newestQualified (now (sheet .entry)) (now (work .entry)) i (now (within .entry)) (now (name .entry))) r ⌝ }
 {
     let newest = chains::earlier(work, CHAIN, c.consts, i);

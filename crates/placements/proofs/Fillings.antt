@@ -17,7 +17,7 @@ use Rattle.values.specs.Values.{valueIn}
 use Rattle.slots.proofs.Bits.{SlotStored}
 use Rattle.checks.specs.Checks.{Kept}
 use Rattle.checks.proofs.Kept.{kept-at}
-use Rattle.placements.specs.Placements.{entryAt, slotAt, elementIn, SpanSet, StringStands, valueNamed, Filling}
+use Rattle.placements.specs.Placements.{placementAt, slotAt, elementIn, SpanSet, StringStands, valueNamed, Filling}
 use Rattle.placements.proofs.Same.{Alike, slot-kept, value-same, element-same}
 
 -- ---- placements, one more behind others
@@ -56,8 +56,8 @@ standing-more h (Str p l) s = (s .0, omega (arith, s .1), s .2)
 
 module _ {t : Bytes} {top k next reach : ℕ} {f : Filled} (p : Filling t top k next reach f) where
   module _ (u : Bytes) (long : length u ≡ length t) (table : Alike 11264 12288 t u) (more : ℕ) (wider : top ≤ more) where
-    entry-same : (i : ℕ) → i < 1024 → entryAt u i ≡ entryAt t i
-    unfolding entryAt
+    entry-same : (i : ℕ) → i < 1024 → placementAt u i ≡ placementAt t i
+    unfolding placementAt
     entry-same i h = table (11264 + i) (omega arith) (omega arith)
 
     -- where the table is kept, and so are the values of elements
@@ -69,7 +69,7 @@ module _ {t : Bytes} {top k next reach : ℕ} {f : Filled} (p : Filling t top k 
       low = p .low;
       ends = λ n. rw e3 (p .ends n);
       known = λ i h. omega (arith, p .known i h, entry-same i h);
-      values = λ i h v. rw (e3, entry-same i h) (p .values i h v ∙ go v (entryAt t i) (p .known i h));
+      values = λ i h v. rw (e3, entry-same i h) (p .values i h v ∙ go v (placementAt t i) (p .known i h));
       fills = w;
       strings = st;
     }
@@ -151,7 +151,7 @@ module _ {t : Bytes} {top k next reach : ℕ} {f : Filled} (p : Filling t top k 
     low = omega (arith, p .low);
     ends = λ n. any-last n (f .placements) _ ∙ rw (p .ends n) (either-end n reach h);
     known = λ i x. rw (q .at i x) (bounded (leb l i && leb i h) (p .known i x));
-    values = λ i x v. value-last (f .placements) _ v i ∙ rw (q .at i x, p .values i x v) (cond-entered t v (elementIn t e) (leb l i && leb i h) e (entryAt t i) one refl ∙ moved v (cond (leb l i && leb i h) e (entryAt t i)) (bounded (leb l i && leb i h) (p .known i x)));
+    values = λ i x v. value-last (f .placements) _ v i ∙ rw (q .at i x, p .values i x v) (cond-entered t v (elementIn t e) (leb l i && leb i h) e (placementAt t i) one refl ∙ moved v (cond (leb l i && leb i h) e (placementAt t i)) (bounded (leb l i && leb i h) (p .known i x)));
     fills = same 0 (omega arith) ∙ p .fills;
     strings = λ j x. rw (slot-kept t u (q .long) j (λ i y z. q .others i (inr (omega arith)))) (p .strings j x);
   }

@@ -9,14 +9,14 @@ use lib.ListN.{length, getD, set, length-set}
 use lib.Seq.{getD-set-same, getD-set-other}
 use borrow.Author.Tests.{leb-true, leb-false, ltb-true, ltb-false, lt-ltb, le-ltb, le-leb, eqb-true, eqb-false}
 use Rattle.semantics.specs.Text.{Bytes}
-use Rattle.placements.specs.Placements.{entryAt, SpanSet}
+use Rattle.placements.specs.Placements.{placementAt, SpanSet}
 
 -- indices from l on and below i are filled
 pub record Setting (t : Bytes) (l h e : ℕ) (u : Bytes) (i : ℕ) : Type 0 where
   pub long : length u ≡ length t
   pub from : min l 1024 ≤ i
   pub to : i ≤ max (min l 1024) (min (h + 1) 1024)
-  pub at : (j : ℕ) → j < 1024 → entryAt u j ≡ cond (leb l j && ltb j i) e (entryAt t j)
+  pub at : (j : ℕ) → j < 1024 → placementAt u j ≡ cond (leb l j && ltb j i) e (placementAt t j)
   pub others : (j : ℕ) → (j < 11264) ⊎ (12288 ≤ j) → getD u j 0 ≡ getD t j 0
 
 -- a test that holds only where another fails
@@ -38,7 +38,7 @@ setting-start t l h e {i} q = record {
 
 module _ {t : Bytes} {l h e : ℕ} {u : Bytes} {i : ℕ} (p : Setting t l h e u i) where
   pub setting-next : i < min (h + 1) 1024 → 65536 ≤ length t → Setting t l h e (set u (11264 + i) e) (i + 1)
-  unfolding entryAt
+  unfolding placementAt
   setting-next m room = record {
     long = length-set u (11264 + i) e ∙ p .long;
     from = omega (arith, p .from);
@@ -66,7 +66,7 @@ module _ {t : Bytes} {l h e : ℕ} {u : Bytes} {i : ℕ} (p : Setting t l h e u 
       go j k false q = rw (earlier j (eqb-false j i q)) (getD-set-other u (11264 + i) (11264 + j) e 0 (λ x. eqb-false j i q (omega arith)) ∙ p .at j k)
 
   pub setting-end : min (h + 1) 1024 ≤ i → SpanSet t l h e u
-  setting-end m = record { long = p .long; at = λ j k. p .at j k ∙ ap (λ (b : Bool). cond b e (entryAt t j)) (go j k); others = p .others }
+  setting-end m = record { long = p .long; at = λ j k. p .at j k ∙ ap (λ (b : Bool). cond b e (placementAt t j)) (go j k); others = p .others }
     where
       go : (j : ℕ) → j < 1024 → leb l j && ltb j i ≡ leb l j && leb j h
       go j k = here (leb l j) refl

@@ -29,7 +29,7 @@ use Rattle.write.specs.Wrote.{over}
 use Rattle.placements.specs.declared.Extent.{Extent}
 use Rattle.placements.specs.declared.Placed.{Placed}
 use Rattle.placements.specs.declared.Placed.the-variants.{Into, Negative}
-use Rattle.placements.specs.Placements.{entryAt, slotAt, elementIn, Keeps, SpanSet, Filling, Step, stopped, Places}
+use Rattle.placements.specs.Placements.{placementAt, slotAt, elementIn, Keeps, SpanSet, Filling, Step, stopped, Places}
 use Rattle.placements.proofs.Same.{keeps-all}
 use Rattle.placements.proofs.Fillings.{filling-span}
 
@@ -39,8 +39,8 @@ module _ (t u w : Bytes) (room : 65536 ≤ length t) (p : SpanSet t 0 1023 0 u) 
   q : SlotStored u 12288 (Int (pos 0)) w
   q = stored u 12288 (Int (pos 0)) (omega (arith, p .long)) tt e
 
-  blank : (i : ℕ) → i < 1024 → entryAt w i ≡ 0
-  unfolding entryAt
+  blank : (i : ℕ) → i < 1024 → placementAt w i ≡ 0
+  unfolding placementAt
   blank i h = q .others (11264 + i) (inl (omega arith)) ∙ p .at i h ∙ rw (le-leb 0 i (omega arith), le-leb i 1023 (omega arith))
 
   zero-slot : slotAt w 0 ≡ Int (pos 0)

@@ -13,11 +13,11 @@ use Rattle.semantics.specs.Array.{Filled, valueAt, valuesFrom, filler, isStr, i
 use Rattle.values.specs.declared.ConstVal.{ConstVal}
 use Rattle.values.specs.declared.ConstVal.the-variants.{Int, Real, Str}
 use Rattle.values.specs.Values.{valueIn, kindFor}
-use Rattle.placements.specs.Placements.{entryAt, slotAt, elementIn, valuesIn, StringStands, valueNamed, Filling, valueKind, hasKind}
+use Rattle.placements.specs.Placements.{placementAt, slotAt, elementIn, valuesIn, StringStands, valueNamed, Filling, valueKind, hasKind}
 
 module _ {t : Bytes} {top k next reach : ℕ} {f : Filled} (p : Filling t top k next reach f) where
-  value-is : (i : ℕ) → i < 1024 → valueAt (f .placements) (filler (f .wildcard)) i ≡ elementIn t (entryAt t i)
-  value-is i h = p .values i h (filler (f .wildcard)) ∙ go (entryAt t i)
+  value-is : (i : ℕ) → i < 1024 → valueAt (f .placements) (filler (f .wildcard)) i ≡ elementIn t (placementAt t i)
+  value-is i h = p .values i h (filler (f .wildcard)) ∙ go (placementAt t i)
     where
       go : (b : ℕ) → valueNamed t (filler (f .wildcard)) b ≡ elementIn t b
       go zero = sym (p .fills)
@@ -28,8 +28,8 @@ module _ {t : Bytes} {top k next reach : ℕ} {f : Filled} (p : Filling t top k 
   values-are zero i h = refl
   values-are (suc n) i h = rw (value-is i (omega arith), values-are n (suc i) (omega arith))
 
-  pub value-stands : (i : ℕ) → i < 1024 → StringStands top (slotAt t (entryAt t i))
-  value-stands i h = p .strings (entryAt t i) (p .known i h)
+  pub value-stands : (i : ℕ) → i < 1024 → StringStands top (slotAt t (placementAt t i))
+  value-stands i h = p .strings (placementAt t i) (p .known i h)
 
 -- ---- kinds of single values
 
@@ -48,20 +48,20 @@ pub passing-start : (t : Bytes) (count wanted : ℕ) → NoneOfKind t count want
 passing-start t count wanted = let z : count - 0 ≡ count = omega arith in record { within = omega arith; rest = rw z }
 
 module _ {t : Bytes} {count wanted i : ℕ} (p : NoneOfKind t count wanted i) where
-  next-value : i < count → any (hasKind wanted) (valuesIn t i (count - i)) ≡ hasKind wanted (elementIn t (entryAt t i)) || any (hasKind wanted) (valuesIn t (i + 1) (count - (i + 1)))
+  next-value : i < count → any (hasKind wanted) (valuesIn t i (count - i)) ≡ hasKind wanted (elementIn t (placementAt t i)) || any (hasKind wanted) (valuesIn t (i + 1) (count - (i + 1)))
   unfolding valuesIn
   next-value h = let z : count - i ≡ suc (count - (i + 1)) = omega arith in rw (z, add-one)
 
-  module _ (h : i < count) (v : ConstVal) (e : v ≡ slotAt t (entryAt t i)) {r : ℕ} (q : r ≡ kindFor v) where
-    kind-here : r ≡ valueKind (elementIn t (entryAt t i))
+  module _ (h : i < count) (v : ConstVal) (e : v ≡ slotAt t (placementAt t i)) {r : ℕ} (q : r ≡ kindFor v) where
+    kind-here : r ≡ valueKind (elementIn t (placementAt t i))
     unfolding elementIn
     kind-here = rw e at (q ∙ kind-is t v)
 
     pub passing-found : r ≡ wanted → true ≡ any (hasKind wanted) (valuesIn t 0 count)
-    passing-found d = sym (sym (p .rest) ∙ next-value h ∙ rw (eq-eqb (valueKind (elementIn t (entryAt t i))) wanted (sym kind-here ∙ d)))
+    passing-found d = sym (sym (p .rest) ∙ next-value h ∙ rw (eq-eqb (valueKind (elementIn t (placementAt t i))) wanted (sym kind-here ∙ d)))
 
     pub passing-next : (r ≡ wanted → ⊥) → NoneOfKind t count wanted (i + 1)
-    passing-next d = record { within = omega arith; rest = sym (next-value h ∙ rw (ne-eqb (valueKind (elementIn t (entryAt t i))) wanted (λ x. d (kind-here ∙ x)))) ∙ p .rest }
+    passing-next d = record { within = omega arith; rest = sym (next-value h ∙ rw (ne-eqb (valueKind (elementIn t (placementAt t i))) wanted (λ x. d (kind-here ∙ x)))) ∙ p .rest }
 
   pub passing-end : count ≤ i → false ≡ any (hasKind wanted) (valuesIn t 0 count)
   unfolding valuesIn

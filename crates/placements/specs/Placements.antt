@@ -22,8 +22,8 @@ use Rattle.placements.specs.declared.Extent.{Extent}
 use Rattle.placements.specs.declared.Placed.{Placed}
 use Rattle.placements.specs.declared.Placed.the-variants.{Into, Negative, Failed, TooLong}
 
-unfoldable pub entryAt : Bytes → ℕ → ℕ
-entryAt t i = getD t (11264 + i) 0
+unfoldable pub placementAt : Bytes → ℕ → ℕ
+placementAt t i = getD t (11264 + i) 0
 
 -- the slot of the filler, 0, or of element j from 1
 unfoldable pub slotAt : Bytes → ℕ → ConstVal
@@ -35,7 +35,7 @@ elementIn t j = valueIn t (slotAt t j)
 -- `count` values from index i on
 unfoldable pub valuesIn : Bytes → ℕ → ℕ → List Tree.ConstVal
 valuesIn t i zero = []
-valuesIn t i (suc n) = elementIn t (entryAt t i) ∷ valuesIn t (suc i) n
+valuesIn t i (suc n) = elementIn t (placementAt t i) ∷ valuesIn t (suc i) n
 
 -- ---- what changes, and what does not
 
@@ -48,7 +48,7 @@ pub record Keeps (a b : ℕ) (t u : Bytes) : Type 0 where
 -- indices l to h of the table name e, as far as it goes, and nothing else has changed
 pub record SpanSet (t : Bytes) (l h e : ℕ) (u : Bytes) : Type 0 where
   pub long : length u ≡ length t
-  pub at : (i : ℕ) → i < 1024 → entryAt u i ≡ cond (leb l i && leb i h) e (entryAt t i)
+  pub at : (i : ℕ) → i < 1024 → placementAt u i ≡ cond (leb l i && leb i h) e (placementAt t i)
   pub others : (j : ℕ) → (j < 11264) ⊎ (12288 ≤ j) → getD u j 0 ≡ getD t j 0
 
 -- ---- a literal so far
@@ -70,8 +70,8 @@ pub record Filling (t : Bytes) (top k next reach : ℕ) (f : Filled) : Type 0 wh
   pub reach-is : reach ≡ f .reach
   pub low : reach ≤ 2 ^ 63
   pub ends : (n : ℕ) → any (outside n) (f .placements) ≡ ltb n reach
-  pub known : (i : ℕ) → i < 1024 → entryAt t i ≤ k
-  pub values : (i : ℕ) → i < 1024 → (v : Tree.ConstVal) → valueAt (f .placements) v i ≡ valueNamed t v (entryAt t i)
+  pub known : (i : ℕ) → i < 1024 → placementAt t i ≤ k
+  pub values : (i : ℕ) → i < 1024 → (v : Tree.ConstVal) → valueAt (f .placements) v i ≡ valueNamed t v (placementAt t i)
   pub fills : elementIn t 0 ≡ filler (f .wildcard)
   pub strings : (j : ℕ) → j ≤ k → StringStands top (slotAt t j)
 

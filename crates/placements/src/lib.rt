@@ -13,7 +13,7 @@ ghost use Rattle.semantics.specs.Array.{noneFilled, placeIndices, placeNext, ki
 ghost use Rattle.write.specs.Wrote.{over};
 ghost use Rattle.values.specs.Values.{Small, InRange};
 ghost use Rattle.slots.specs.Slots.{slotBytes};
-ghost use Rattle.placements.specs.Placements.{entryAt, slotAt, valuesIn, Keeps, SpanSet, Filling, Places, hasKind};
+ghost use Rattle.placements.specs.Placements.{placementAt, slotAt, valuesIn, Keeps, SpanSet, Filling, Places, hasKind};
 
 const INDICES: u64 = 1024;
 
@@ -121,7 +121,7 @@ pub fn place_indices(work: &mut [u8], e: usize, low: i64, high: i64, x: Extent) 
 // The value at index i.
 pub fn element(work: &[u8], i: usize) -> ConstVal
     requires { ⌜ (i < 1024) × (65536 ≤ length (now work)) ⌝ }
-    ensures { λ r. ⌜ r ≡ slotAt (now (work .entry)) (entryAt (now (work .entry)) i) ⌝ }
+    ensures { λ r. ⌜ r ≡ slotAt (now (work .entry)) (placementAt (now (work .entry)) i) ⌝ }
 {
     slots::value_at(work, area::ELEMENTS + 16 * wide(work[area::PLACEMENTS + i]))
 }

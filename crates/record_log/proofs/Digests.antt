@@ -13,7 +13,7 @@ use Rattle.checks.specs.Checks.{Outside}
 use Rattle.checks.proofs.Kept.{kept-less, outside-all, outside-then, outside-set, checked-kept}
 use Rattle.chains.specs.Chains.{chainOf, digestPlace, chainAt, Chained, linked}
 use Rattle.chains.proofs.Laws.{SameBytes, chained-kept, linked-outside, linked-other, PlacesApart, chained-next}
-use Rattle.records.specs.Log.{byteOf, entryAt, recordOf, recordedAt, digestOf, recordChain, Digested}
+use Rattle.records.specs.Log.{byteOf, entryAt, recordOf, recordedAt, keyDigest, recordChain, Digested}
 use Rattle.records.proofs.Newest.{record-placed, digest-chain}
 use Rattle.record_log.specs.Entries.{CollectedTo}
 
@@ -33,7 +33,7 @@ module _ (t : Bytes) (i d : ℕ) (hi : i < 128) (room : 65536 ≤ length t) wher
   unfolding digestPlace
   byte-linked j k h = linked-other withDigest recordChain i (chainOf d) (9216 + (8 * j + k)) (λ e. omega (arith, e)) (λ e. omega (arith, e))
 
-  digest-new : digestOf new i ≡ d
+  digest-new : keyDigest new i ≡ d
   digest-new = byte-linked i 5 (omega arith) ∙ getD-set-same t (9216 + (8 * i + 5)) d 0 (omega arith)
 
   byte-old : (j k : ℕ) → k < 6 → (9216 + (8 * j + k) ≡ 9216 + (8 * i + 5) → ⊥) → byteOf new j k ≡ byteOf t j k
@@ -84,8 +84,8 @@ module _ (t : Bytes) (i d : ℕ) (hi : i < 128) (room : 65536 ≤ length t) wher
       (chained-kept entered-kept (omega arith) g)
 
   module _ (s : Bytes) (n m : ℕ) (g : Digested s t n m i) (hm : i < m) (e : d ≡ digest (recordedAt s t i .key)) where
-    digests-new : (j : ℕ) → j < i + 1 → digestOf new j ≡ digest (recordedAt s new j .key)
-    digests-new j h = let w : j ≤ i = omega arith in rw (recorded-old s j) (⊎-elim (λ (q : j ≡ i). subst (λ (k : ℕ). digestOf new k ≡ digest (recordedAt s t k .key)) (sym q) (digest-new ∙ e)) (λ (q : j < i). byte-old j 5 (omega arith) (λ z. omega arith) ∙ g .digests j q) (eq-or-lt-of-le w))
+    digests-new : (j : ℕ) → j < i + 1 → keyDigest new j ≡ digest (recordedAt s new j .key)
+    digests-new j h = let w : j ≤ i = omega arith in rw (recorded-old s j) (⊎-elim (λ (q : j ≡ i). subst (λ (k : ℕ). keyDigest new k ≡ digest (recordedAt s t k .key)) (sym q) (digest-new ∙ e)) (λ (q : j < i). byte-old j 5 (omega arith) (λ z. omega arith) ∙ g .digests j q) (eq-or-lt-of-le w))
 
     digested-new : Digested s new n m (i + 1)
     digested-new =

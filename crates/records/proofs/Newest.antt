@@ -16,7 +16,7 @@ use Rattle.words.specs.Words.{digest}
 use Rattle.words.proofs.Laws.{digest-same}
 use Rattle.chains.specs.Chains.{newestOf, chainOf, chainAt, inChain, digestPlace, Placed}
 use Rattle.chains.proofs.Laws.{newest-low, newest-from, Along}
-use Rattle.records.specs.Log.{digestOf, recordedAt, recordChain, logOf, noRecord, chosen, RecordsLogged, Newest, NewestOf}
+use Rattle.records.specs.Log.{keyDigest, recordedAt, recordChain, logOf, noRecord, chosen, RecordsLogged, Newest, NewestOf}
 use Rattle.records.proofs.Keys.{default-same}
 
 -- whether entry i has key k
@@ -28,7 +28,7 @@ unfolding digestPlace
 record-placed t h = record { low = λ i l. omega arith; long = h }
 
 -- an entry is of the chain of its digest
-pub digest-chain : (t : Bytes) (i : ℕ) → chainAt t recordChain i ≡ chainOf (digestOf t i)
+pub digest-chain : (t : Bytes) (i : ℕ) → chainAt t recordChain i ≡ chainOf (keyDigest t i)
 unfolding chainAt digestPlace
 digest-chain t i = let z : 9221 + 8 * i ≡ 9216 + (8 * i + 5) = omega arith in rw z
 
@@ -96,7 +96,7 @@ module _ (s t : Bytes) (n m : ℕ) (g : RecordsLogged s t n m) (i : ℕ) (h : i 
   abbrev own : Bytes
   own = recordedAt s t i .key
 
-  pub own-chain : {c : ℕ} → c ≡ chainOf (digestOf t i) → c ≡ chainOf (digest own)
+  pub own-chain : {c : ℕ} → c ≡ chainOf (keyDigest t i) → c ≡ chainOf (digest own)
   own-chain e = e ∙ ap chainOf (g .digests i h)
 
   -- the last entry of its key is known

@@ -73,8 +73,8 @@ unfoldable pub entryAt : Bytes → ℕ → Entry
 entryAt t i = record { line = byteOf t i 0 + 256 * byteOf t i 1; case = byteOf t i 2; position = byteOf t i 3; number = byteOf t i 4 }
 
 -- the digest of its key
-abbrev pub digestOf : Bytes → ℕ → ℕ
-digestOf t i = byteOf t i 5
+abbrev pub keyDigest : Bytes → ℕ → ℕ
+keyDigest t i = byteOf t i 5
 
 -- the chains of digests: the link of an entry is its byte 6, and byte 7 of entry k the head of chain k
 abbrev pub recordChain : Chain
@@ -113,7 +113,7 @@ pub record Digested (s t : Bytes) (n m d : ℕ) : Type 0 where
   pub few : m ≤ 128
   pub each : (i : ℕ) → i < m → recordedAt s t i ≡ getD (logOf s) i noRecord
   pub entries : (i : ℕ) → i < m → EntryIn s t n i
-  pub digests : (i : ℕ) → i < d → digestOf t i ≡ digest (recordedAt s t i .key)
+  pub digests : (i : ℕ) → i < d → keyDigest t i ≡ digest (recordedAt s t i .key)
   pub chained : Chained t recordChain d
 
 -- the log of all records of the sheet, m of them, with all digests and chains

@@ -11,7 +11,7 @@ ghost use lib.ListN.{length, take};
 ghost use Rattle.semantics.specs.Text.{same};
 ghost use Rattle.semantics.specs.Layout.{seen};
 ghost use Rattle.words.specs.Words.{digest};
-ghost use Rattle.records.specs.Log.{byteOf, entryAt, recordedAt, nameOf, tagOf, digestOf, logOf, EntryIn, RecordsLogged, Newest, NewestOf};
+ghost use Rattle.records.specs.Log.{byteOf, entryAt, recordedAt, nameOf, tagOf, keyDigest, logOf, EntryIn, RecordsLogged, Newest, NewestOf};
 
 // Where entries keep digests, links and heads of chains.
 pub const CHAIN: Chain = Chain {
@@ -86,7 +86,7 @@ pub fn tag_of<'a>(sheet: &'a [u8], work: &[u8], n: usize, i: usize) -> &'a [u8]
 // The digest of its key, as the entry has it.
 fn digest_of(work: &[u8], i: usize) -> usize
     requires { ⌜ (i < 128) × (65536 ≤ length (now work)) ⌝ }
-    ensures { λ r. ⌜ r ≡ digestOf (now (work .entry)) i ⌝ }
+    ensures { λ r. ⌜ r ≡ keyDigest (now (work .entry)) i ⌝ }
 {
     byte_at(work, i, 5)
 }
@@ -123,7 +123,7 @@ fn is_joined(key: &[u8], name: &[u8], tag: &[u8]) -> bool
 
 // Whether entry i has this key, which has the digest d.
 fn key_is(sheet: &[u8], work: &[u8], n: usize, i: usize, key: &[u8], d: usize) -> bool
-    requires { ⌜ (EntryIn (now sheet) (now work) n i) × (digestOf (now work) i ≡ digest (recordedAt (now sheet) (now work) i .key)) × (d ≡ digest (now key)) ⌝ }
+    requires { ⌜ (EntryIn (now sheet) (now work) n i) × (keyDigest (now work) i ≡ digest (recordedAt (now sheet) (now work) i .key)) × (d ≡ digest (now key)) ⌝ }
     ensures { λ r. ⌜ r ≡ same (now (key .entry)) (recordedAt (now (sheet .entry)) (now (work .entry)) i .key) ⌝ }
 {
     if digest_of(work, i) != d {
@@ -138,7 +138,7 @@ fn key_is(sheet: &[u8], work: &[u8], n: usize, i: usize, key: &[u8], d: usize) -
 
 // Whether entries i and j have one key. No name holds a full stop, so T itself and a variant have none in common.
 fn same_key(sheet: &[u8], work: &[u8], n: usize, i: usize, j: usize) -> bool
-    requires { ⌜ (EntryIn (now sheet) (now work) n i) × (EntryIn (now sheet) (now work) n j) × (digestOf (now work) i ≡ digest (recordedAt (now sheet) (now work) i .key)) × (digestOf (now work) j ≡ digest (recordedAt (now sheet) (now work) j .key)) ⌝ }
+    requires { ⌜ (EntryIn (now sheet) (now work) n i) × (EntryIn (now sheet) (now work) n j) × (keyDigest (now work) i ≡ digest (recordedAt (now sheet) (now work) i .key)) × (keyDigest (now work) j ≡ digest (recordedAt (now sheet) (now work) j .key)) ⌝ }
     ensures { λ r. ⌜ r ≡ same (recordedAt (now (sheet .entry)) (now (work .entry)) i .key) (recordedAt (now (sheet .entry)) (now (work .entry)) j .key) ⌝ }
 {
     if digest_of(work, j) != digest_of(work, i) {

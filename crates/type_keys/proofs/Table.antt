@@ -15,7 +15,7 @@ use Rattle.chains.specs.Chains.{chainOf, digestPlace, chainAt, Placed, Chained}
 use Rattle.chains.proofs.Laws.{PlacesApart, SameBytes, linked-outside, linked-long, chained-kept, chained-next}
 use Rattle.checks.specs.Checks.{Kept, Outside}
 use Rattle.checks.proofs.Kept.{kept-at, outside-all, outside-then, outside-less, outside-set, outside-above}
-use Rattle.type_keys.specs.Table.{needLineOf, positionOf, kindPosition, digestOf, needChain, kindsUsed, needEntered, digestEntered, kindEntered, Kinds}
+use Rattle.type_keys.specs.Table.{needLineOf, needPosition, kindPosition, needDigest, needChain, kindsUsed, needEntered, digestEntered, kindEntered, Kinds}
 use Rattle.type_lines.proofs.Codes.{kind-low}
 
 -- ---- the parts of the table
@@ -26,8 +26,8 @@ module _ {t u : List ℕ} where
   unfolding needLineOf
   line-below x q h = rw (kept-at (x .kept) (10240 + q) (omega arith), kept-at (x .kept) (10368 + q) (omega arith))
 
-  pub position-below : {b : ℕ} → Outside 10624 b t u → (q : ℕ) → q < 128 → positionOf u q ≡ positionOf t q
-  unfolding positionOf
+  pub position-below : {b : ℕ} → Outside 10624 b t u → (q : ℕ) → q < 128 → needPosition u q ≡ needPosition t q
+  unfolding needPosition
   position-below x q h = kept-at (x .kept) (10496 + q) (omega arith)
 
   -- and one among the needs the kinds
@@ -36,8 +36,8 @@ module _ {t u : List ℕ} where
   kind-above x k = outside-above x (10624 + k) (omega arith)
 
   -- both leave the digests
-  pub digest-above : {a b : ℕ} → b ≤ 10752 → Outside a b t u → (q : ℕ) → digestOf u q ≡ digestOf t q
-  unfolding digestOf
+  pub digest-above : {a b : ℕ} → b ≤ 10752 → Outside a b t u → (q : ℕ) → needDigest u q ≡ needDigest t q
+  unfolding needDigest
   digest-above h x q = outside-above x (10752 + q) (omega arith)
 
   -- a store behind the kinds leaves them
@@ -85,8 +85,8 @@ module _ (t : List ℕ) (room : 65536 ≤ length t) (q i p : ℕ) (hq : q < 128)
       )
       (omega (arith, div-add-mod' i 256))
 
-  pub entered-position : positionOf (needEntered t q i p) q ≡ p
-  unfolding positionOf needEntered
+  pub entered-position : needPosition (needEntered t q i p) q ≡ p
+  unfolding needPosition needEntered
   entered-position = getD-set-same (set (set t (10240 + q) (i % 256)) (10368 + q) (i / 256)) (10496 + q) p 0 (omega (arith, long-2))
 
   module _ (j : ℕ) (hj : j < 128) (ne : j ≡ q → ⊥) where
@@ -104,8 +104,8 @@ module _ (t : List ℕ) (room : 65536 ≤ length t) (q i p : ℕ) (hq : q < 128)
           getD-set-other t (10240 + q) (10368 + j) (i % 256) 0 (λ e. absurd (omega arith)),
         )
 
-    pub other-position : positionOf (needEntered t q i p) j ≡ positionOf t j
-    unfolding positionOf needEntered
+    pub other-position : needPosition (needEntered t q i p) j ≡ needPosition t j
+    unfolding needPosition needEntered
     other-position =
         let a = set t (10240 + q) (i % 256) in
         let b = set a (10368 + q) (i / 256) in
@@ -146,8 +146,8 @@ unfolding digestPlace
 need-apart = record { own = λ i j e. omega arith; link = λ i j h l e. omega arith; head = λ i k h l e. omega arith }
 
 -- the chain of need q is that of its digest
-pub need-chain : (t : List ℕ) (q : ℕ) → chainAt t needChain q ≡ chainOf (digestOf t q)
-unfolding chainAt digestPlace digestOf
+pub need-chain : (t : List ℕ) (q : ℕ) → chainAt t needChain q ≡ chainOf (needDigest t q)
+unfolding chainAt digestPlace needDigest
 need-chain t q = let e : 10752 + 1 * q ≡ 10752 + q = omega arith in rw e
 
 pub digest-long : (t : List ℕ) (q d : ℕ) → length (digestEntered t q d) ≡ length t
@@ -165,12 +165,12 @@ module _ (t : List ℕ) (room : 65536 ≤ length t) (q d : ℕ) (hq : q < 128) w
   pub digest-outside : Outside 10752 11264 t (digestEntered t q d)
   digest-outside = outside-then (outside-set 10752 11264 t (10752 + q) d (omega arith) (omega arith)) (outside-less 10752 11264 (omega arith) (omega arith) behind-digests)
 
-  pub digest-same : digestOf (digestEntered t q d) q ≡ d
-  unfolding digestOf
+  pub digest-same : needDigest (digestEntered t q d) q ≡ d
+  unfolding needDigest
   digest-same = kept-at (behind-digests .kept) (10752 + q) (omega arith) ∙ getD-set-same t (10752 + q) d 0 (omega arith)
 
-  pub digest-other : (j : ℕ) → j < 128 → (j ≡ q → ⊥) → digestOf (digestEntered t q d) j ≡ digestOf t j
-  unfolding digestOf
+  pub digest-other : (j : ℕ) → j < 128 → (j ≡ q → ⊥) → needDigest (digestEntered t q d) j ≡ needDigest t j
+  unfolding needDigest
   digest-other j h ne = kept-at (behind-digests .kept) (10752 + j) (omega arith) ∙ getD-set-other t (10752 + q) (10752 + j) d 0 (λ e. ne (omega arith))
 
   -- the needs before it and this one are chained
@@ -183,7 +183,7 @@ module _ (t : List ℕ) (room : 65536 ≤ length t) (q d : ℕ) (hq : q < 128) w
   }
 
   own-chain : chainAt (set t (10752 + q) d) needChain q ≡ chainOf d
-  unfolding digestOf
+  unfolding needDigest
   own-chain = need-chain (set t (10752 + q) d) q ∙ ap chainOf (getD-set-same t (10752 + q) d 0 (omega arith))
 
   pub chained-entered : Chained t needChain q → Chained (digestEntered t q d) needChain (suc q)

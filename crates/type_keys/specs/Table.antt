@@ -20,16 +20,16 @@ use Rattle.type_lines.specs.Needs.{needAt}
 unfoldable pub needLineOf : Bytes → ℕ → ℕ
 needLineOf t q = getD t (10240 + q) 0 + 256 * getD t (10368 + q) 0
 
-unfoldable pub positionOf : Bytes → ℕ → ℕ
-positionOf t q = getD t (10496 + q) 0
+unfoldable pub needPosition : Bytes → ℕ → ℕ
+needPosition t q = getD t (10496 + q) 0
 
 -- for each kind of element 0 where its key is not used, or its position plus 1
 unfoldable pub kindPosition : Bytes → ℕ → ℕ
 kindPosition t k = getD t (10624 + k) 0
 
 -- 128 bytes: the digest of the text of need q; and from 10880 and from 11008 on as many, its link and the head of chain q
-unfoldable pub digestOf : Bytes → ℕ → ℕ
-digestOf t q = getD t (10752 + q) 0
+unfoldable pub needDigest : Bytes → ℕ → ℕ
+needDigest t q = getD t (10752 + q) 0
 
 abbrev pub needChain : Chain
 needChain = record { at = 10752; gap = 128; step = 1 }
@@ -44,7 +44,7 @@ pub record Needs (s t : Bytes) (n : ℕ) (ks : List TypeKey) : Type 0 where
   pub within : (q : ℕ) → q < length ks → needLineOf t q < n
   pub kind : (q : ℕ) → q < length ks → letter (readAt s (needLineOf t q) .form .kind) ≡ 78
   pub key : (q : ℕ) → q < length ks → needAt s (needLineOf t q) ≡ getD ks q opaqueKey
-  pub position : (q : ℕ) → q < length ks → positionOf t q ≡ position (getD ks q opaqueKey) (distinct [] ks)
+  pub position : (q : ℕ) → q < length ks → needPosition t q ≡ position (getD ks q opaqueKey) (distinct [] ks)
 
 -- 1 where a kind of element is used
 abbrev pub isUsed : ℕ → ℕ

@@ -12,7 +12,7 @@ ghost use Rattle.semantics.specs.Tree.{ElemKind, TypeKey};
 ghost use Rattle.semantics.specs.Tree.TypeKey.{elemKey};
 ghost use Rattle.semantics.specs.Array.{kindNumber};
 ghost use Rattle.checks.specs.Checks.{Outside};
-ghost use Rattle.type_keys.specs.Table.{needLineOf, positionOf, kindPosition, digestOf, needEntered, digestEntered, kindEntered, Kinds};
+ghost use Rattle.type_keys.specs.Table.{needLineOf, needPosition, kindPosition, needDigest, needEntered, digestEntered, kindEntered, Kinds};
 
 // The chains of needs.
 pub const CHAIN: Chain = Chain {
@@ -32,7 +32,7 @@ pub fn need_line(work: &[u8], q: usize) -> usize
 // The position of its key.
 pub fn need_position(work: &[u8], q: usize) -> usize
     requires { ⌜ (q < 128) × (65536 ≤ length (now work)) ⌝ }
-    ensures { λ r. ⌜ (r ≡ positionOf (now (work .entry)) q) × (r < 256) ⌝ }
+    ensures { λ r. ⌜ (r ≡ needPosition (now (work .entry)) q) × (r < 256) ⌝ }
 {
     words::wide(work[area::NEED_POSITIONS + q])
 }
@@ -40,7 +40,7 @@ pub fn need_position(work: &[u8], q: usize) -> usize
 // The digest of its line's text.
 pub fn need_digest(work: &[u8], q: usize) -> usize
     requires { ⌜ (q < 128) × (65536 ≤ length (now work)) ⌝ }
-    ensures { λ r. ⌜ r ≡ digestOf (now (work .entry)) q ⌝ }
+    ensures { λ r. ⌜ r ≡ needDigest (now (work .entry)) q ⌝ }
 {
     words::wide(work[area::NEED_DIGESTS + q])
 }

@@ -1,5 +1,5 @@
 -- `global_rows::global_row` meets its contract.
-use Rattle.global_table.specs.Table.{entryAt}
+use Rattle.global_table.specs.Table.{globalAt}
 use Rattle.global_rows.proofs.Rows.{row-is, entry-offset, entry-type}
 use Rattle.semantics.specs.Layout.{isPtr}
 use Rattle.semantics.specs.Global.{globalSize}
@@ -17,7 +17,7 @@ returns : tie.Need-returns
 returns c =
     let a = c .before .before .before .before .before .before .before .before .before .before .before .before .before .before .before .before .before .before .before .before .before .before .before .before .before .before .before .before .before .before .before .before .before .before .args in
     let t = entry-type (now (a .sheet)) (now (a .work)) (a .i) (c .before .before .before .before .before .before .before .before .before .before .before .before .before .before .before .before .before .before .before .before .before .before .before .before .before .before .before .before .before .before .line-of .ensures) (c .before .before .before .before .before .before .before .before .before .before .before .before .before .before .before .before .before .before .before .before .before .before .before .before .before .before .before .before .before .type-of .ensures .1) in
-    wrote-as (row-is (entryAt (now (a .sheet)) (now (a .work)) (a .i)) (c .before .before .before .before .before .before .before .before .before .before .before .before .before .before .before .before .before .before .before .before .before .before .name-of .ensures) (c .before .before .before .before .before .before .before .before .before .before .before .before .before .before .before .before .before .offset-of .ensures .0 ∙ entry-offset (now (a .sheet)) (now (a .work)) (a .i)) (c .before .before .before .before .before .before .before .before .before .before .before .before .global-size .ensures .0 ∙ ap globalSize t) (c .before .before .before .before .before .before .before .is-pointer .ensures ∙ ap isPtr t))
+    wrote-as (row-is (globalAt (now (a .sheet)) (now (a .work)) (a .i)) (c .before .before .before .before .before .before .before .before .before .before .before .before .before .before .before .before .before .before .before .before .before .before .name-of .ensures) (c .before .before .before .before .before .before .before .before .before .before .before .before .before .before .before .before .before .offset-of .ensures .0 ∙ entry-offset (now (a .sheet)) (now (a .work)) (a .i)) (c .before .before .before .before .before .before .before .before .before .before .before .before .global-size .ensures .0 ∙ ap globalSize t) (c .before .before .before .before .before .before .before .is-pointer .ensures ∙ ap isPtr t))
     (then (c .before .before .before .before .before .before .before .before .before .before .before .before .before .before .before .before .before .before .before .before .before .before .before .before .before .before .put-part .ensures) (then (c .before .before .before .before .before .before .before .before .before .before .before .before .before .before .before .before .before .before .before .before .before .put-comma-part .ensures) (then (c .before .before .before .before .before .before .before .before .before .before .before .before .before .before .before .before .put-comma-nat .ensures) (then (c .before .before .before .before .before .before .before .before .before .before .before .put-comma-nat2 .ensures) (then (c .before .before .before .before .before .before .put-comma-flag .ensures) (c .before .before .put-lf .ensures))))))
 
 pub global-row-spec : {M : Type 1} → statement M

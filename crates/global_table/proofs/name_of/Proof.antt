@@ -1,7 +1,7 @@
 -- `global_table::name_of` meets its contract.
 use mathlib.Core.Path.{_∙_}
 use borrow.Author.Needs.{needs}
-use Rattle.global_table.specs.Table.{entryAt}
+use Rattle.global_table.specs.Table.{globalAt}
 use Rattle.global_table.proofs.name_of.Statement.{statement}
 use Rattle.global_table.proofs.name_of.Tie as tie
 
@@ -9,7 +9,7 @@ name-at-requires : tie.Need-name-at-requires
 name-at-requires c κs = (rw (c .before .line-of .ensures) (c .before .before .before .before .pre .line), c .position-of .ensures .1)
 
 returns : tie.Need-returns
-unfolding entryAt
+unfolding globalAt
 returns c = c .name-at .ensures ∙ rw (c .before .before .line-of .ensures, c .before .position-of .ensures .0)
 
 pub name-of-spec : {M : Type 1} → statement M
