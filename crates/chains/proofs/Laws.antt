@@ -26,7 +26,7 @@ module _ (answers : ℕ → Bool) where
   unfolding newestOf
   newest-no i e = rw e
 
-  pub newest-none : newestOf answers 0 ≡ 0
+  newest-none : newestOf answers 0 ≡ 0
   unfolding newestOf
   newest-none = refl
 
@@ -46,7 +46,7 @@ module _ (answers : ℕ → Bool) where
   newest-less {i} h e = let q = newest-low (i - 1) in omega (arith, e)
 
   -- it answers
-  pub newest-answers : (m i : ℕ) → newestOf answers m ≡ suc i → answers i ≡ true
+  newest-answers : (m i : ℕ) → newestOf answers m ≡ suc i → answers i ≡ true
   unfolding newestOf
   newest-answers zero i e = let z : 0 ≡ suc i = e in absurd (omega (arith, z))
   newest-answers (suc m) i e = go (answers m) refl e (newest-answers m i)
@@ -66,14 +66,14 @@ module _ (answers : ℕ → Bool) where
       go false e f = f (⊎-elim (λ (x : i ≡ m). absurd (false≢true (sym e ∙ ap answers (sym x) ∙ q))) (λ (x : i < m). x) (eq-or-lt-of-le (omega arith))) q
 
 -- the same entries answer
-pub newest-same : (f g : ℕ → Bool) (m : ℕ) → ((i : ℕ) → i < m → f i ≡ g i) → newestOf f m ≡ newestOf g m
+newest-same : (f g : ℕ → Bool) (m : ℕ) → ((i : ℕ) → i < m → f i ≡ g i) → newestOf f m ≡ newestOf g m
 unfolding newestOf
 newest-same f g zero h = refl
 newest-same f g (suc m) h = rw (h m (omega arith), newest-same f g m (λ i k. h i (omega arith)))
 
 -- where only members answer, the newest that answers is found among the newest member and those before it
 module _ (answers member : ℕ → Bool) where
-  pub newest-among : (m : ℕ) → ((i : ℕ) → i < m → answers i ≡ true → member i ≡ true) → newestOf answers m ≡ newestOf answers (newestOf member m)
+  newest-among : (m : ℕ) → ((i : ℕ) → i < m → answers i ≡ true → member i ≡ true) → newestOf answers m ≡ newestOf answers (newestOf member m)
   unfolding newestOf
   newest-among zero only = refl
   newest-among (suc m) only = go (member m) refl (newest-among m (λ i h. only i (omega arith)))
@@ -107,23 +107,17 @@ module _ {t : Bytes} {c : Chain} {k m : ℕ} {answers : ℕ → Bool} where
   pub along-first : ((j : ℕ) → j < m → answers j ≡ true → inChain t c k j ≡ true) → {r : ℕ} → r ≡ newestOf (inChain t c k) m → Along t c k m answers r
   along-first only e = from m (omega arith) refl only e
 
-  module _ {i : ℕ} (a : Along t c k m answers (suc i)) {b : Bool} (e : b ≡ answers i) where
-    pub along-hit : b ≡ true → suc i ≡ newestOf answers m
-    along-hit q = sym (a .next ∙ newest-yes answers i (sym e ∙ q))
-
-    pub along-on : b ≡ false → {r : ℕ} → r ≡ newestOf (inChain t c (chainAt t c i)) i → Along t c k m answers r
-    along-on q h = from i (omega (arith, a .low)) (a .next ∙ newest-no answers i (sym e ∙ q)) (a .only) (rw (a .member i refl) at h)
-
-  -- the same where the entry is i - 1
+  -- entry i - 1 answers, or the next older one is asked
   module _ {i : ℕ} (a : Along t c k m answers i) (h : 0 < i) {b : Bool} (e : b ≡ answers (i - 1)) where
-    now-at : Along t c k m answers (suc (i - 1))
-    now-at = let z : suc (i - 1) ≡ i = omega arith in rw z a
+    its-number : i ≡ suc (i - 1)
+    its-number = omega arith
 
     pub along-found : b ≡ true → i ≡ newestOf answers m
-    along-found q = let z : i ≡ suc (i - 1) = omega arith in z ∙ along-hit now-at e q
+    along-found q = its-number ∙ sym (a .next ∙ ap (newestOf answers) its-number ∙ newest-yes answers (i - 1) (sym e ∙ q))
 
     pub along-next : b ≡ false → {r : ℕ} → r ≡ newestOf (inChain t c (chainAt t c (i - 1))) (i - 1) → Along t c k m answers r
-    along-next q x = along-on now-at e q x
+    along-next q x =
+        from (i - 1) (omega (arith, a .low)) (a .next ∙ ap (newestOf answers) its-number ∙ newest-no answers (i - 1) (sym e ∙ q)) (a .only) (rw (a .member (i - 1) its-number) at x)
 
   pub along-end : {i : ℕ} → i ≡ 0 → Along t c k m answers i → 0 ≡ newestOf answers m
   along-end e a = sym (a .next ∙ ap (newestOf answers) e ∙ newest-none answers)
@@ -143,7 +137,7 @@ module _ (t u : Bytes) (c : Chain) (m : ℕ) (chains : (i : ℕ) → i < m → c
   members-same n k h = newest-same (inChain u c k) (inChain t c k) n (λ i l. ap (λ (x : ℕ). eqb x k) (chains i (omega arith)))
 
   module _ (links : (i : ℕ) → i < m → linkAt u c i ≡ linkAt t c i) (heads : (k : ℕ) → k < 128 → headAt u c k ≡ headAt t c k) where
-    pub chained-same : Chained t c m → Chained u c m
+    chained-same : Chained t c m → Chained u c m
     chained-same h = record {
       heads = λ k l. rw (heads k l) (below-same m k (headAt t c k) (omega arith)) ∙ h .heads k l ∙ sym (members-same m k (omega arith));
       links = λ i l. rw (chains i l, links i l) (below-same i (chainAt t c i) (linkAt t c i) (omega arith)) ∙ h .links i l ∙ sym (rw (chains i l) (members-same i (chainAt t c i) (omega arith)));

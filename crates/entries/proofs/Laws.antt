@@ -118,7 +118,7 @@ module _ (t r : Bytes) (a : ℕ) (room : a + length r ≤ length t) where
       ∙ ap (λ (j : ℕ). drop j t) d)
 
   over-kept : Kept a t (over t a r)
-  over-kept = wrote-kept {d = t} {a = a} {t = r} {e = over t a r} {b = min (a + length r) (length t + 1)} (record { bytes = refl; digestPlace = refl })
+  over-kept = wrote-kept {d = t} {a = a} {t = r} {e = over t a r} {b = min (a + length r) (length t + 1)} (record { bytes = refl; place = refl })
 
 module _ (t u : Bytes) (m line within kind bits d : ℕ) (f : EntryRoom t m line within) (str : Bytes) (short : length str ≤ 256)
     (is : u ≡ over (over t (16384 + 256 * m) str) (5120 + 16 * m) (entryOf line within kind bits d))

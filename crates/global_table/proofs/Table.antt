@@ -221,7 +221,7 @@ once-entered s t g line position offset d hg hl ho room old last i h = ⊎-elim 
 pub named-apart : {s t : Bytes} {n i d : ℕ} (x : Bytes) → GlobalEntry s t n i → d ≡ digest x → (globalDigest t i ≡ d → ⊥) → false ≡ same x (globalAt s t i .name)
 named-apart {s} {t} {i = i} x b e z = digest-apart x (globalAt s t i .name) (λ q. z (b .digest ∙ sym (e ∙ q)))
 
--- one more digestPlace: the first with a name is new where it has that name and none before it has
+-- one more place: the first with a name is new where it has that name and none before it has
 number-more : (k : ℕ) (x : Bytes) (ps : List Global) (p : Global) → same x (p .name) ≡ false → numberFrom k x (ps ++ (p ∷ [])) ≡ numberFrom k x ps
 number-more k x [] p e = rw e
 number-more k x (q ∷ ps) p e = rw (number-more (suc k) x ps p e)
@@ -253,15 +253,15 @@ module _ (x : Bytes) (p : Global) (e : same x (p .name) ≡ true) where
 abbrev pub hasName : Bytes → Bytes → Bytes → ℕ → Bool
 hasName s t x i = same x (globalAt s t i .name)
 
--- r is the number of the first entry with the name x, and its offset that name's digestPlace
+-- r is the number of the first entry with the name x, and its offset that name's place
 pub record Found (s t : Bytes) (g : ℕ) (x : Bytes) (r : ℕ) : Type 0 where
-  pub digestPlace : offsetBy t r ≡ placeOf x (placesIn s t g)
+  pub place : offsetBy t r ≡ placeOf x (placesIn s t g)
   pub number : r ≡ entryNumber x (placesIn s t g)
 
 module _ (s t : Bytes) (x : Bytes) where
   found-none : Found s t 0 x (newestOf (hasName s t x) 0)
   unfolding newestOf offsetBy entriesFrom
-  found-none = record { digestPlace = refl; number = refl }
+  found-none = record { place = refl; number = refl }
 
   module _ (g : ℕ) where
     more : placesIn s t (suc g) ≡ placesIn s t g ++ (globalAt s t g ∷ [])
@@ -274,13 +274,13 @@ module _ (s t : Bytes) (x : Bytes) where
         let z : entryNumber x (placesIn s t g) ≡ 0 = rw q h in
         let l : length (placesIn s t g) ≡ g = places-count s t 0 g in
         record {
-          digestPlace = sym (rw more (place-new x (globalAt s t g) e 0 (placesIn s t g) z));
+          place = sym (rw more (place-new x (globalAt s t g) e 0 (placesIn s t g) z));
           number = sym (rw more (number-new x (globalAt s t g) e 0 (placesIn s t g) z ∙ omega (arith, l)));
         }
 
     found-before : hasName s t x g ≡ false → {r : ℕ} → Found s t g x r → Found s t (suc g) x r
     found-before e f = record {
-      digestPlace = rw more (f .place ∙ sym (place-more x (placesIn s t g) (globalAt s t g) e));
+      place = rw more (f .place ∙ sym (place-more x (placesIn s t g) (globalAt s t g) e));
       number = rw more (f .number ∙ sym (number-more 1 x (placesIn s t g) (globalAt s t g) e));
     }
 

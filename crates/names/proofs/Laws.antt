@@ -17,7 +17,7 @@ use Rattle.semantics.specs.Sheet.{sheetSource}
 use Rattle.semantics.specs.Fold.{Key, Const, signed64, plain, qualified, sameOption, lookUp, valueOf}
 use Rattle.semantics.specs.Const.{entries}
 use Rattle.semantics.proofs.Common.{both}
-use Rattle.chains.specs.Chains.{newestOf, chainOf, digestPlace, headAt, chainAt, inChain, Placed, linked}
+use Rattle.chains.specs.Chains.{newestOf, chainOf, digestPlace, headAt, chainAt, inChain, Placed, Chained, linked}
 use Rattle.chains.proofs.Laws.{newest-low, chained-kept, PlacesApart, linked-outside}
 use Rattle.words.specs.Words.{digest, u16At, bitsAt}
 use Rattle.words.proofs.Laws.{digest-same, digest-apart}
@@ -183,6 +183,10 @@ const-room h = record { low = λ i h. omega arith; long = h }
 
 pub const-placed : {s t : Bytes} {n m : ℕ} → ConstTable s t n m → Placed t constChain
 const-placed c = const-room (c .checked .whole .room)
+
+-- the entry before one of the table may be asked for
+pub earlier-asked : {s t : Bytes} {n m : ℕ} → ConstTable s t n m → {i : ℕ} → i < m → (Placed t constChain) × (Chained t constChain m) × (i < m) × (m ≤ 256)
+earlier-asked c h = (const-placed c, c .logged .chained, h, omega (arith, c .logged .few))
 
 -- a number up to the table's end is an answer
 pub answered : {s t : Bytes} {n m : ℕ} → ConstsLogged s t n m → Checked s t n → {r : ℕ} → r ≤ m → Answered t r

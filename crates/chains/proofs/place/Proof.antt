@@ -1,4 +1,4 @@
--- `chains::digestPlace` meets its contract.
+-- `chains::place` meets its contract.
 use native.Mathlib.Omega.{arith}
 use mathlib.Core.Path.{refl}
 use Rattle.chains.specs.Chains.{digestPlace}

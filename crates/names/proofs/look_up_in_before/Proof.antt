@@ -12,7 +12,7 @@ use Rattle.names.proofs.look_up_in_before.Statement.{statement}
 use Rattle.names.proofs.look_up_in_before.Tie as tie
 
 earlier-requires : tie.Need-earlier-requires
-earlier-requires c κs = let p = c .before .before .before .before .pre in (Laws.const-placed (p .0), p .0 .logged .chained, p .1, omega (arith, p .0 .logged .few))
+earlier-requires c κs = let p = c .before .before .before .before .pre in Laws.earlier-asked (p .0) (p .1)
 
 digest-of-requires : tie.Need-digest-of-requires
 digest-of-requires c κs = let p = c .before .before .before .before .before .pre in (omega (arith, p .1, p .0 .logged .few), p .0 .checked .whole .room)
