@@ -13,7 +13,7 @@ use Rattle.consts.proofs.pass_consts.Statement.{statement}
 use Rattle.consts.proofs.pass_consts.Tie as tie
 
 abbrev Inv-loop : tie.InvT-loop
-Inv-loop sheet work₀ n m k p₀ work p = (PassAt sheet work n k p) × (Kept 5120 work₀ work) × (passFrom sheet work k p ≡ passFrom sheet work₀ k (Walk.beginning k m)) × (p .count + length (groupFrom sheet k (p .line)) ≡ m + length (groupFrom sheet k 0)) × (k ≤ p .line)
+Inv-loop sheet work₀ n m k p₀ work p = (PassAt sheet work n k p) × (Kept 5120 work₀ work) × (passFrom sheet work k p ≡ passFrom sheet work₀ k (Walk.passStart k m)) × (p .count + length (groupFrom sheet k (p .line)) ≡ m + length (groupFrom sheet k 0)) × (k ≤ p .line)
 
 abbrev μ-loop : tie.MeasureT-loop
 μ-loop sheet work₀ n m k p₀ work p = n - p .line
