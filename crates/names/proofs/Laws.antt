@@ -18,7 +18,7 @@ use Rattle.semantics.specs.Fold.{Key, Const, signed64, plain, qualified, sameOp
 use Rattle.semantics.specs.Const.{entries}
 use Rattle.semantics.proofs.Common.{both}
 use Rattle.chains.specs.Chains.{newestOf, chainOf, digestPlace, headAt, chainAt, inChain, Placed, Chained, linked}
-use Rattle.chains.proofs.Laws.{newest-low, chained-kept, PlacesApart, linked-outside}
+use Rattle.chains.proofs.Laws.{newest-low, newest-less, Along, along-first, along-found, along-next, along-end, chained-kept, PlacesApart, linked-outside}
 use Rattle.words.specs.Words.{digest, u16At, bitsAt}
 use Rattle.words.proofs.Laws.{digest-same, digest-apart}
 use Rattle.implement.specs.Modules.{firstField, moduleAt, ownIn, isOwn}
@@ -209,6 +209,27 @@ module _ {s t : Bytes} {n m : ℕ} (c : ConstTable s t n m) (x : Bytes) {d : ℕ
   pub qualified-member : (w : Bytes) (i : ℕ) → i < m → answersQualified s t i w x ≡ true → inChain t constChain (chainOf d) i ≡ true
   unfolding answersQualified
   qualified-member w i h q = named-member i h (both (same x (firstField s (constLine t i))) (not (eqb (moduleLineOf t i) 0) && same w (firstField s (moduleLineOf t i))) q .0)
+
+-- a look-up along chain k, where `newest` is the newest of it among some first entries: i is the number of the next entry
+pub record Asking (t : Bytes) (k n newest : ℕ) (answers : ℕ → Bool) (i : ℕ) : Type 0 where
+  pub low : i ≤ n
+  pub along : (m : ℕ) → m ≤ n → newest ≡ newestOf (inChain t constChain k) m → Along t constChain k m answers i
+
+module _ {t : Bytes} {k n newest : ℕ} {answers : ℕ → Bool} where
+  pub asking-first : newest ≤ n → ((j : ℕ) → j < n → answers j ≡ true → inChain t constChain k j ≡ true) → Asking t k n newest answers newest
+  asking-first h only = record { low = h; along = λ m l e. along-first (λ j x. only j (omega arith)) e }
+
+  module _ {i : ℕ} (a : Asking t k n newest answers i) (h : 0 < i) {b : Bool} (e : b ≡ answers (i - 1)) where
+    pub asking-found : b ≡ true → (m : ℕ) → m ≤ n → newest ≡ newestOf (inChain t constChain k) m → i ≡ newestOf answers m
+    asking-found q m l x = along-found (a .along m l x) h e q
+
+    pub asking-next : b ≡ false → {r : ℕ} → r ≡ newestOf (inChain t constChain (chainAt t constChain (i - 1))) (i - 1) → Asking t k n newest answers r
+    asking-next q x =
+        let l = newest-less (inChain t constChain (chainAt t constChain (i - 1))) h x in
+        record { low = omega (arith, l, a .low); along = λ m y z. along-next (a .along m y z) h e q x }
+
+  pub asking-end : {i : ℕ} → i ≡ 0 → Asking t k n newest answers i → (m : ℕ) → m ≤ n → newest ≡ newestOf (inChain t constChain k) m → 0 ≡ newestOf answers m
+  asking-end z a m l x = along-end z (a .along m l x)
 
 -- which entries answer, as it is tested
 module _ (s t : Bytes) (i : ℕ) (x : Bytes) {b : Bool} (name : b ≡ same x (firstField s (constLine t i))) where

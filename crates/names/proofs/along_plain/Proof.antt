@@ -1,17 +1,16 @@
 -- `names::along_plain` meets its contract.
 use Rattle.names.proofs.Laws as Laws
-use Rattle.names.specs.Table.{constChain, answersPlain}
-use Rattle.chains.specs.Chains.{chainOf, inChain, newestOf}
-use Rattle.chains.proofs.Laws.{newest-less, Along, along-first, along-found, along-next, along-end}
+use Rattle.names.specs.Table.{answersPlain}
+use Rattle.chains.specs.Chains.{chainOf}
+use Rattle.chains.proofs.Laws.{newest-less}
 use denote.Ref.{now}
-use mathlib.Core.Path.{_≡_}
 use native.Mathlib.Omega.{arith}
-use Prim.Native.Nat.{ℕ, _≤_}
+use Prim.Native.Nat.{ℕ}
 use Rattle.names.proofs.along_plain.Statement.{statement}
 use Rattle.names.proofs.along_plain.Tie as tie
 
 abbrev Inv-loop : tie.InvT-loop
-Inv-loop sheet work c newest name d i₀ i = (i ≤ c .consts) × ((m : ℕ) → m ≤ c .consts → newest ≡ newestOf (inChain work constChain (chainOf d)) m → Along work constChain (chainOf d) m (λ (j : ℕ). answersPlain sheet work j name) i)
+Inv-loop sheet work c newest name d i₀ i = Laws.Asking work (chainOf d) (c .consts) newest (λ (j : ℕ). answersPlain sheet work j name) i
 
 abbrev μ-loop : tie.MeasureT-loop
 μ-loop sheet work c newest name d i₀ i = i
@@ -19,29 +18,23 @@ abbrev μ-loop : tie.MeasureT-loop
 loop-holds : tie.Need-loop-holds Inv-loop μ-loop
 loop-holds c =
     let p = c .before .before .before .pre in
-    (p .1, λ m h e. along-first (λ j x. Laws.plain-member (p .0) (now (c .before .before .before .args .name)) (p .2) j (omega arith)) e)
+    Laws.asking-first (p .1) (Laws.plain-member (p .0) (now (c .before .before .before .args .name)) (p .2))
 
 answers-plain-requires : tie.Need-answers-plain-requires Inv-loop μ-loop
 answers-plain-requires c κs =
     let p = c .before .before .before .before .before .pre in
-    (Laws.table-entry (p .0) (omega (arith, c .before .loop .inv .0, c .loop-test .taken)), p .2)
+    (Laws.table-entry (p .0) (omega (arith, c .before .loop .inv .low, c .loop-test .taken)), p .2)
 
 returns : tie.Need-returns Inv-loop μ-loop
-returns c = λ m h e. along-found (c .before .before .before .loop .inv .1 m h e) (omega arith) (c .before .answers-plain .ensures) (c .if1 .taken)
+returns c = Laws.asking-found (c .before .before .before .loop .inv) (omega arith) (c .before .answers-plain .ensures) (c .if1 .taken)
 
 earlier-requires : tie.Need-earlier-requires Inv-loop μ-loop
-earlier-requires c κs = Laws.earlier-asked (c .before .before .before .before .before .before .before .pre .0) (omega (arith, c .before .before .before .loop .inv .0, c .before .before .loop-test .taken))
+earlier-requires c κs = Laws.earlier-asked (c .before .before .before .before .before .before .before .pre .0) (omega (arith, c .before .before .before .loop .inv .low, c .before .before .loop-test .taken))
 
 loop-again : tie.Need-loop-again Inv-loop μ-loop
-loop-again c =
-    let l = c .before .before .before .before .loop in
-    let q = newest-less _ (omega arith) (c .earlier .ensures) in
-    (omega (arith, q, l .inv .0), λ m h e. along-next (l .inv .1 m h e) (omega arith) (c .before .before .answers-plain .ensures) (c .before .if1 .left) (c .earlier .ensures))
-
-returns-2 : tie.Need-returns-2 Inv-loop μ-loop
-returns-2 c = λ m h e. along-end (omega arith) (c .before .loop .inv .1 m h e)
+loop-again c = Laws.asking-next (c .before .before .before .before .loop .inv) (omega arith) (c .before .before .answers-plain .ensures) (c .before .if1 .left) (c .earlier .ensures)
 
 pub along-plain-spec : {M : Type 1} → statement M
 along-plain-spec =
     tie.close (tie.spec Inv-loop μ-loop loop-holds (λ c. omega arith) answers-plain-requires returns (λ c. omega arith) earlier-requires
-    (λ c. newest-less _ (omega arith) (c .earlier .ensures)) loop-again returns-2)
+    (λ c. newest-less _ (omega arith) (c .earlier .ensures)) loop-again (λ c. Laws.asking-end (omega arith) (c .before .loop .inv)))
