@@ -12,8 +12,8 @@ use borrow.Author.Tests.{lt-ltb, le-ltb, eq-eqb, ne-eqb, eqb-true, eqb-false, lt
 use Rattle.semantics.specs.Text.{Bytes}
 use Rattle.checks.specs.Checks.{Outside}
 use Rattle.checks.proofs.Kept.{outside-then, outside-set}
-use Rattle.chains.specs.declared.Chain.{Chain}
-use Rattle.chains.specs.Chains.{newestOf, chainOf, digestPlace, linkAt, headAt, chainAt, inChain, Placed, entryBelow, Chained, linked}
+use Rattle.chains.specs.declared.ChainPlaces.{ChainPlaces}
+use Rattle.chains.specs.Chains.{newestOf, chainOf, digestPlace, linkAt, headAt, chainAt, inChain, Placed, entryBelow, earlierThan, Chained, linked}
 
 -- ---- the newest entry that answers
 
@@ -65,6 +65,13 @@ module _ (answers : ℕ → Bool) where
       go true e f = omega arith
       go false e f = f (⊎-elim (λ (x : i ≡ m). absurd (false≢true (sym e ∙ ap answers (sym x) ∙ q))) (λ (x : i < m). x) (eq-or-lt-of-le (omega arith))) q
 
+  pub newest-none-later : {m r : ℕ} → r ≡ newestOf answers m → (i : ℕ) → r ≤ i → i < m → answers i ≡ false
+  newest-none-later {m} e i h l = go (answers i) refl
+    where
+      go : (b : Bool) → answers i ≡ b → b ≡ false
+      go true q = let z = newest-from m i l q in absurd (omega (arith, e, z))
+      go false q = refl
+
 -- the same entries answer
 newest-same : (f g : ℕ → Bool) (m : ℕ) → ((i : ℕ) → i < m → f i ≡ g i) → newestOf f m ≡ newestOf g m
 unfolding newestOf
@@ -88,13 +95,13 @@ module _ (answers member : ℕ → Bool) where
 
 -- ---- a look-up along chain k of m entries, of which those that answer are members: i is the number of the next entry, 0 at the end
 
-pub record Along (t : Bytes) (c : Chain) (k m : ℕ) (answers : ℕ → Bool) (i : ℕ) : Type 0 where
+pub record Along (t : Bytes) (c : ChainPlaces) (k m : ℕ) (answers : ℕ → Bool) (i : ℕ) : Type 0 where
   pub low : i ≤ m
   pub next : newestOf answers m ≡ newestOf answers i
   pub member : (j : ℕ) → i ≡ suc j → chainAt t c j ≡ k
   pub only : (j : ℕ) → j < m → answers j ≡ true → inChain t c k j ≡ true
 
-module _ {t : Bytes} {c : Chain} {k m : ℕ} {answers : ℕ → Bool} where
+module _ {t : Bytes} {c : ChainPlaces} {k m : ℕ} {answers : ℕ → Bool} where
   -- from the newest of the first l entries on
   from : (l : ℕ) → l ≤ m → newestOf answers m ≡ newestOf answers l → ((j : ℕ) → j < m → answers j ≡ true → inChain t c k j ≡ true) → {r : ℕ} → r ≡ newestOf (inChain t c k) l → Along t c k m answers r
   from l h n only {r} e = record {
@@ -124,7 +131,7 @@ module _ {t : Bytes} {c : Chain} {k m : ℕ} {answers : ℕ → Bool} where
 
 -- ---- chains kept
 
-module _ (t u : Bytes) (c : Chain) (m : ℕ) (chains : (i : ℕ) → i < m → chainAt u c i ≡ chainAt t c i) where
+module _ (t u : Bytes) (c : ChainPlaces) (m : ℕ) (chains : (i : ℕ) → i < m → chainAt u c i ≡ chainAt t c i) where
   below-same : (n k j : ℕ) → n ≤ m → entryBelow u c n k j ≡ entryBelow t c n k j
   unfolding entryBelow
   below-same n k j h = go (ltb j n) refl
@@ -144,86 +151,103 @@ module _ (t u : Bytes) (c : Chain) (m : ℕ) (chains : (i : ℕ) → i < m → c
     }
 
 -- the bytes of the first n entries, with their links and heads, are the same
-pub record SameBytes (t u : Bytes) (c : Chain) (n : ℕ) : Type 0 where
+pub record SameBytes (t u : Bytes) (c : ChainPlaces) (n : ℕ) : Type 0 where
   pub digest : (i : ℕ) → i < n → getD u (digestPlace c i) 0 ≡ getD t (digestPlace c i) 0
   pub link : (i : ℕ) → i < n → getD u (digestPlace c i + c .gap) 0 ≡ getD t (digestPlace c i + c .gap) 0
   pub head : (k : ℕ) → k < 128 → getD u (digestPlace c k + c .gap + c .gap) 0 ≡ getD t (digestPlace c k + c .gap + c .gap) 0
 
-pub chained-kept : {t u : Bytes} {c : Chain} {m n : ℕ} → SameBytes t u c n → m ≤ n → Chained t c m → Chained u c m
+pub chained-kept : {t u : Bytes} {c : ChainPlaces} {m n : ℕ} → SameBytes t u c n → m ≤ n → Chained t c m → Chained u c m
 unfolding chainAt linkAt headAt
 chained-kept {t} {u} {c} {m} w h = chained-same t u c m (λ i l. ap chainOf (w .digest i (omega arith))) (λ i l. w .link i (omega arith)) (w .head)
 
 -- nothing is chained where there is no entry
-pub chained-none : (t : Bytes) (c : Chain) → Chained t c 0
+pub chained-none : (t : Bytes) (c : ChainPlaces) → Chained t c 0
 unfolding entryBelow newestOf
 chained-none t c = record { heads = λ k l. rw (le-ltb (headAt t c k) 0 (omega arith)); links = λ i l. absurd (omega arith) }
 
 -- ---- an entry linked
 
 -- digests, links and heads of a table of at most n entries stand apart
-pub record PlacesApart (c : Chain) (n : ℕ) : Type 0 where
+pub record PlacesApart (c : ChainPlaces) (n : ℕ) : Type 0 where
   pub own : (i j : ℕ) → digestPlace c i ≡ digestPlace c j → i ≡ j
   pub link : (i j : ℕ) → i < n → j < n → digestPlace c i ≡ digestPlace c j + c .gap → ⊥
   pub head : (i k : ℕ) → i < n → k < 128 → digestPlace c i ≡ digestPlace c k + c .gap + c .gap → ⊥
 
+chain-small : (t : Bytes) (c : ChainPlaces) (i : ℕ) → chainAt t c i < 128
+unfolding chainAt
+chain-small t c i = omega arith
+
 -- bytes elsewhere stay
-module _ (t : Bytes) (c : Chain) (m k : ℕ) {a b : ℕ} where
-  pub linked-outside : a ≤ digestPlace c m + c .gap → digestPlace c m + c .gap < b → a ≤ digestPlace c k + c .gap + c .gap → digestPlace c k + c .gap + c .gap < b → Outside a b t (linked t c m k)
+module _ (t : Bytes) (c : ChainPlaces) (m : ℕ) where
+  pub linked-outside : {a b : ℕ} → a ≤ digestPlace c m + c .gap → digestPlace c m + c .gap < b → ((k : ℕ) → k < 128 → (a ≤ digestPlace c k + c .gap + c .gap) × (digestPlace c k + c .gap + c .gap < b)) → Outside a b t (linked t c m)
   unfolding linked
-  linked-outside h i j l = outside-then (outside-set a b t (digestPlace c m + c .gap) (headAt t c k) h i) (outside-set a b (set t (digestPlace c m + c .gap) (headAt t c k)) (digestPlace c k + c .gap + c .gap) m j l)
+  linked-outside {a} {b} h i j =
+      let k = chainAt t c m in
+      let l = j k (chain-small t c m) in
+      outside-then (outside-set a b t (digestPlace c m + c .gap) (headAt t c k) h i) (outside-set a b (set t (digestPlace c m + c .gap) (headAt t c k)) (digestPlace c k + c .gap + c .gap) m (l .0) (l .1))
 
-pub linked-other : (t : Bytes) (c : Chain) (m k q : ℕ) → (q ≡ digestPlace c m + c .gap → ⊥) → (q ≡ digestPlace c k + c .gap + c .gap → ⊥) → getD (linked t c m k) q 0 ≡ getD t q 0
-unfolding linked
-linked-other t c m k q x y = getD-set-other (set t (digestPlace c m + c .gap) (headAt t c k)) (digestPlace c k + c .gap + c .gap) q m 0 y ∙ getD-set-other t (digestPlace c m + c .gap) q (headAt t c k) 0 x
+  pub linked-other : (q : ℕ) → (q ≡ digestPlace c m + c .gap → ⊥) → ((k : ℕ) → k < 128 → q ≡ digestPlace c k + c .gap + c .gap → ⊥) → getD (linked t c m) q 0 ≡ getD t q 0
+  unfolding linked
+  linked-other q x y =
+      let k = chainAt t c m in
+      getD-set-other (set t (digestPlace c m + c .gap) (headAt t c k)) (digestPlace c k + c .gap + c .gap) q m 0 (y k (chain-small t c m)) ∙ getD-set-other t (digestPlace c m + c .gap) q (headAt t c k) 0 x
 
-pub linked-long : (t : Bytes) (c : Chain) (m k : ℕ) → length (linked t c m k) ≡ length t
-unfolding linked
-linked-long t c m k = length-set (set t (digestPlace c m + c .gap) (headAt t c k)) (digestPlace c k + c .gap + c .gap) m ∙ length-set t (digestPlace c m + c .gap) (headAt t c k)
+  pub linked-long : length (linked t c m) ≡ length t
+  unfolding linked
+  linked-long = let k = chainAt t c m in length-set (set t (digestPlace c m + c .gap) (headAt t c k)) (digestPlace c k + c .gap + c .gap) m ∙ length-set t (digestPlace c m + c .gap) (headAt t c k)
 
-module _ {t : Bytes} {c : Chain} {n : ℕ} (p : Placed t c) (a : PlacesApart c n) (many : 128 ≤ n) (few : n ≤ 256) {m k : ℕ} (low : m < n) (small : k < 128) where
-  chain-stays : (i : ℕ) → i < n → chainAt (linked t c m k) c i ≡ chainAt t c i
+module _ {t : Bytes} {c : ChainPlaces} {n : ℕ} (p : Placed t c) (a : PlacesApart c n) (many : 128 ≤ n) (few : n ≤ 256) {m : ℕ} (low : m < n) where
+  abbrev own : ℕ
+  own = chainAt t c m
+
+  small : own < 128
+  small = chain-small t c m
+
+  chain-stays : (i : ℕ) → i < n → chainAt (linked t c m) c i ≡ chainAt t c i
   unfolding chainAt
-  chain-stays i l = ap chainOf (linked-other t c m k (digestPlace c i) (a .link i m l low) (a .head i k l small))
+  chain-stays i l = ap chainOf (linked-other t c m (digestPlace c i) (a .link i m l low) (λ k h. a .head i k l h))
 
-  link-stays : (i : ℕ) → i < m → linkAt (linked t c m k) c i ≡ linkAt t c i
+  link-stays : (i : ℕ) → i < m → linkAt (linked t c m) c i ≡ linkAt t c i
   unfolding linkAt
-  link-stays i l = linked-other t c m k (digestPlace c i + c .gap)
+  link-stays i l = linked-other t c m (digestPlace c i + c .gap)
       (λ e. let z : i ≡ m = a .own i m (omega (arith, e)) in absurd (omega arith))
-      (λ e. a .link i k (omega arith) (omega arith) (omega (arith, e)))
+      (λ k h e. a .link i k (omega arith) (omega arith) (omega (arith, e)))
 
-  link-new : linkAt (linked t c m k) c m ≡ headAt t c k
+  link-new : linkAt (linked t c m) c m ≡ headAt t c own
   unfolding linkAt linked
   link-new =
       let q = p .low m (omega arith) in
       let l = p .long in
-      getD-set-other (set t (digestPlace c m + c .gap) (headAt t c k)) (digestPlace c k + c .gap + c .gap) (digestPlace c m + c .gap) m 0 (λ e. a .link m k low (omega arith) (omega (arith, e)))
-      ∙ getD-set-same t (digestPlace c m + c .gap) (headAt t c k) 0 (omega arith)
+      let s = small in
+      getD-set-other (set t (digestPlace c m + c .gap) (headAt t c own)) (digestPlace c own + c .gap + c .gap) (digestPlace c m + c .gap) m 0 (λ e. a .link m own low (omega arith) (omega (arith, e)))
+      ∙ getD-set-same t (digestPlace c m + c .gap) (headAt t c own) 0 (omega arith)
 
-  head-stays : (j : ℕ) → j < 128 → (j ≡ k → ⊥) → headAt (linked t c m k) c j ≡ headAt t c j
-  unfolding headAt
-  head-stays j l z = linked-other t c m k (digestPlace c j + c .gap + c .gap)
-      (λ e. a .link m j low (omega arith) (omega (arith, e)))
-      (λ e. z (a .own j k (omega (arith, e))))
+  head-stays : (j : ℕ) → j < 128 → (j ≡ own → ⊥) → headAt (linked t c m) c j ≡ headAt t c j
+  unfolding headAt linked
+  head-stays j l z =
+      getD-set-other (set t (digestPlace c m + c .gap) (headAt t c own)) (digestPlace c own + c .gap + c .gap) (digestPlace c j + c .gap + c .gap) m 0 (λ e. z (a .own j own (omega (arith, e))))
+      ∙ getD-set-other t (digestPlace c m + c .gap) (digestPlace c j + c .gap + c .gap) (headAt t c own) 0 (λ e. a .link m j low (omega arith) (omega (arith, e)))
 
-  head-new : headAt (linked t c m k) c k ≡ m
+  head-new : headAt (linked t c m) c own ≡ m
   unfolding headAt linked
   head-new =
-      let q = p .low k (omega arith) in
+      let s = small in
+      let q = p .low own (omega arith) in
       let l = p .long in
-      let e = length-set t (digestPlace c m + c .gap) (headAt t c k) in
-      getD-set-same (set t (digestPlace c m + c .gap) (headAt t c k)) (digestPlace c k + c .gap + c .gap) m 0 (omega (arith, e))
+      let e = length-set t (digestPlace c m + c .gap) (headAt t c own) in
+      getD-set-same (set t (digestPlace c m + c .gap) (headAt t c own)) (digestPlace c own + c .gap + c .gap) m 0 (omega (arith, e))
 
-  module _ (own : chainAt t c m ≡ k) (h : Chained t c m) where
-    same-below : (l k′ j : ℕ) → l ≤ suc m → entryBelow (linked t c m k) c l k′ j ≡ entryBelow t c l k′ j
-    same-below = below-same t (linked t c m k) c (suc m) (λ i l. chain-stays i (omega arith))
+  module _ (h : Chained t c m) where
+    same-below : (l k j : ℕ) → l ≤ suc m → entryBelow (linked t c m) c l k j ≡ entryBelow t c l k j
+    same-below = below-same t (linked t c m) c (suc m) (λ i l. chain-stays i (omega arith))
 
-    same-members : (l k′ : ℕ) → l ≤ suc m → newestOf (inChain (linked t c m k) c k′) l ≡ newestOf (inChain t c k′) l
-    same-members = members-same t (linked t c m k) c (suc m) (λ i l. chain-stays i (omega arith))
+    same-members : (l k : ℕ) → l ≤ suc m → newestOf (inChain (linked t c m) c k) l ≡ newestOf (inChain t c k) l
+    same-members = members-same t (linked t c m) c (suc m) (λ i l. chain-stays i (omega arith))
 
     -- a head of another chain, as entry m is not of that
-    passed : (k′ j : ℕ) → (k′ ≡ k → ⊥) → entryBelow t c (suc m) k′ j ≡ entryBelow t c m k′ j
+    passed : (k j : ℕ) → (k ≡ own → ⊥) → entryBelow t c (suc m) k j ≡ entryBelow t c m k j
     unfolding entryBelow
-    passed k′ j z = go (eqb j m) refl
+    passed k j z = go (eqb j m) refl
       where
         other : (b : Bool) → ltb j m ≡ b → (j ≡ m → ⊥) → ltb j (suc m) ≡ ltb j m
         other true e q = let l = ltb-true j m e in lt-ltb j (suc m) (omega arith) ∙ sym e
@@ -231,34 +255,34 @@ module _ {t : Bytes} {c : Chain} {n : ℕ} (p : Placed t c) (a : PlacesApart c n
             let l = ltb-false j m e in
             le-ltb j (suc m) (⊎-elim (λ (x : m ≡ j). absurd (q (sym x))) (λ (x : m < j). omega arith) (eq-or-lt-of-le l)) ∙ sym e
 
-        go : (b : Bool) → eqb j m ≡ b → cond (ltb j (suc m) && inChain t c k′ j) (suc j) 0 ≡ cond (ltb j m && inChain t c k′ j) (suc j) 0
-        go true e = let x = eqb-true j m e in rw (x, own, ne-eqb k k′ (λ q. z (sym q)), lt-ltb m (suc m) (omega arith), le-ltb m m (omega arith))
+        go : (b : Bool) → eqb j m ≡ b → cond (ltb j (suc m) && inChain t c k j) (suc j) 0 ≡ cond (ltb j m && inChain t c k j) (suc j) 0
+        go true e = let x = eqb-true j m e in rw (x, ne-eqb own k (λ q. z (sym q)), lt-ltb m (suc m) (omega arith), le-ltb m m (omega arith))
         go false e = rw (other (ltb j m) refl (eqb-false j m e))
 
-    own-below : entryBelow t c (suc m) k m ≡ suc m
+    own-below : entryBelow t c (suc m) own m ≡ suc m
     unfolding entryBelow
-    own-below = rw (own, eq-eqb k k refl, lt-ltb m (suc m) (omega arith))
+    own-below = rw (eq-eqb own own refl, lt-ltb m (suc m) (omega arith))
 
-    heads-linked : (j : ℕ) → j < 128 → (b : Bool) → eqb j k ≡ b → entryBelow (linked t c m k) c (suc m) j (headAt (linked t c m k) c j) ≡ newestOf (inChain (linked t c m k) c j) (suc m)
+    heads-linked : (j : ℕ) → j < 128 → (b : Bool) → eqb j own ≡ b → entryBelow (linked t c m) c (suc m) j (headAt (linked t c m) c j) ≡ newestOf (inChain (linked t c m) c j) (suc m)
     heads-linked j l true e =
-        let x = eqb-true j k e in
-        rw (x, head-new) (same-below (suc m) k m (omega arith)) ∙ own-below ∙ sym (rw x (same-members (suc m) k (omega arith)) ∙ newest-yes (inChain t c k) m (rw own (eq-eqb k k refl)))
+        let x = eqb-true j own e in
+        rw (x, head-new) (same-below (suc m) own m (omega arith)) ∙ own-below ∙ sym (rw x (same-members (suc m) own (omega arith)) ∙ newest-yes (inChain t c own) m (eq-eqb own own refl))
     heads-linked j l false e =
-        let x = eqb-false j k e in
+        let x = eqb-false j own e in
         rw (head-stays j l x) (same-below (suc m) j (headAt t c j) (omega arith)) ∙ passed j (headAt t c j) x ∙ h .heads j l
-        ∙ sym (same-members (suc m) j (omega arith) ∙ newest-no (inChain t c j) m (rw own (ne-eqb k j (λ q. x (sym q)))))
+        ∙ sym (same-members (suc m) j (omega arith) ∙ newest-no (inChain t c j) m (ne-eqb own j (λ q. x (sym q))))
 
     links-linked : (i : ℕ) → i < suc m → (b : Bool) → eqb i m ≡ b
-        → entryBelow (linked t c m k) c i (chainAt t c i) (linkAt (linked t c m k) c i) ≡ newestOf (inChain (linked t c m k) c (chainAt t c i)) i
+        → entryBelow (linked t c m) c i (chainAt t c i) (linkAt (linked t c m) c i) ≡ newestOf (inChain (linked t c m) c (chainAt t c i)) i
     links-linked i l true e =
         let x = eqb-true i m e in
-        rw (x, own, link-new) (same-below m k (headAt t c k) (omega arith)) ∙ h .heads k small ∙ sym (rw (x, own) (same-members m k (omega arith)))
+        rw (x, link-new) (same-below m own (headAt t c own) (omega arith)) ∙ h .heads own small ∙ sym (rw x (same-members m own (omega arith)))
     links-linked i l false e =
         let y : i < m = ⊎-elim (λ (x : i ≡ m). absurd (eqb-false i m e x)) (λ (x : i < m). x) (eq-or-lt-of-le (omega arith)) in
         rw (link-stays i y) (same-below i (chainAt t c i) (linkAt t c i) (omega arith)) ∙ h .links i y ∙ sym (same-members i (chainAt t c i) (omega arith))
 
-    pub chained-next : Chained (linked t c m k) c (suc m)
+    pub chained-next : Chained (linked t c m) c (suc m)
     chained-next = record {
-      heads = λ j l. heads-linked j l (eqb j k) refl;
+      heads = λ j l. heads-linked j l (eqb j own) refl;
       links = λ i l. rw (chain-stays i (omega arith)) (links-linked i l (eqb i m) refl);
     }

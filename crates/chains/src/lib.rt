@@ -1,50 +1,50 @@
 // Chains of the entries of a table in the working space: entries whose digests are equal modulo 128 form one, the newest first, so
-// that a look-up meets them alone. A link or a head that was never made may hold any byte: it counts only where it leads to an earlier
-// entry of the same chain.
+// that a look-up meets them alone. A head that was never made may hold any byte, and so may a link that was copied from it: each counts
+// only where it leads to an entry of the chain, a link to an earlier one.
 use words::wide;
 ghost use mathlib.Core.Path.{_≡_};
-ghost use Prim.Native.Nat.{_+_, _≤_, _<_};
-ghost use Rattle.chains.specs.Chains.{chainOf, digestPlace, linkAt, headAt, chainAt, inChain, newestOf, entryBelow, linked, Placed, Chained};
+ghost use Prim.Native.Nat.{_+_, _<_};
+ghost use Rattle.chains.specs.Chains.{chainOf, digestPlace, linkAt, headAt, chainAt, entryBelow, newestIn, earlierThan, linked, Placed};
 
-// Where a table keeps them: the digest of entry i at byte `at + step * i`, its link `gap` bytes behind that, and the head of chain i
-// `gap` bytes behind the link.
-pub struct Chain {
+// Where a table keeps its chains: the digest of entry i at byte `at + step * i`, its link `gap` bytes behind that, and the head of
+// chain i `gap` bytes behind the link.
+pub struct ChainPlaces {
     pub at: usize,
     pub gap: usize,
     pub step: usize,
 }
 
-// The chain of a digest.
-pub fn chain_of(d: usize) -> usize
-    ensures { λ r. ⌜ (r ≡ chainOf d) × (r < 128) ⌝ }
-{
-    d % 128
-}
-
 // Where the digest of entry i stands.
-fn place(c: Chain, i: usize) -> usize
+fn place(c: ChainPlaces, i: usize) -> usize
     requires { ⌜ digestPlace c i + c .gap + c .gap < 65536 ⌝ }
     ensures { λ r. ⌜ (r ≡ digestPlace c i) × (r + c .gap + c .gap < 65536) ⌝ }
 {
     c.at + c.step * i
 }
 
+// The chain of a digest.
+fn chain_of(d: usize) -> usize
+    ensures { λ r. ⌜ (r ≡ chainOf d) × (r < 128) ⌝ }
+{
+    d % 128
+}
+
 // The chain of entry i.
-fn chain_at(work: &[u8], c: Chain, i: usize) -> usize
+fn chain_at(work: &[u8], c: ChainPlaces, i: usize) -> usize
     requires { ⌜ (Placed (now work) c) × (i < 256) ⌝ }
     ensures { λ r. ⌜ (r ≡ chainAt (now (work .entry)) c i) × (r < 128) ⌝ }
 {
     chain_of(wide(work[place(c, i)]))
 }
 
-fn link_at(work: &[u8], c: Chain, i: usize) -> usize
+fn link_at(work: &[u8], c: ChainPlaces, i: usize) -> usize
     requires { ⌜ (Placed (now work) c) × (i < 256) ⌝ }
     ensures { λ r. ⌜ (r ≡ linkAt (now (work .entry)) c i) × (r < 256) ⌝ }
 {
     wide(work[place(c, i) + c.gap])
 }
 
-fn head_at(work: &[u8], c: Chain, k: usize) -> usize
+fn head_at(work: &[u8], c: ChainPlaces, k: usize) -> usize
     requires { ⌜ (Placed (now work) c) × (k < 128) ⌝ }
     ensures { λ r. ⌜ (r ≡ headAt (now (work .entry)) c k) × (r < 256) ⌝ }
 {
@@ -52,7 +52,7 @@ fn head_at(work: &[u8], c: Chain, k: usize) -> usize
 }
 
 // Where j is one of the first m entries and of chain k, its number from 1; else 0.
-fn entry_below(work: &[u8], c: Chain, m: usize, k: usize, j: usize) -> usize
+fn entry_below(work: &[u8], c: ChainPlaces, m: usize, k: usize, j: usize) -> usize
     requires { ⌜ (Placed (now work) c) × (j < 256) ⌝ }
     ensures { λ r. ⌜ r ≡ entryBelow (now (work .entry)) c m k j ⌝ }
 {
@@ -65,27 +65,29 @@ fn entry_below(work: &[u8], c: Chain, m: usize, k: usize, j: usize) -> usize
     j + 1
 }
 
-// The newest of m entries that is of chain k: its number from 1, 0 for none.
-pub fn newest(work: &[u8], c: Chain, m: usize, k: usize) -> usize
-    requires { ⌜ (Placed (now work) c) × (Chained (now work) c m) × (k < 128) ⌝ }
-    ensures { λ r. ⌜ r ≡ newestOf (inChain (now (work .entry)) c k) m ⌝ }
+// The newest of m entries that is of the chain of the digest d: its number from 1, 0 for none.
+pub fn newest(work: &[u8], c: ChainPlaces, m: usize, d: usize) -> usize
+    requires { ⌜ Placed (now work) c ⌝ }
+    ensures { λ r. ⌜ r ≡ newestIn (now (work .entry)) c m (chainOf d) ⌝ }
 {
+    let k = chain_of(d);
     entry_below(work, c, m, k, head_at(work, c, k))
 }
 
-// The same of the entries before i, one of m, for the chain of i.
-pub fn earlier(work: &[u8], c: Chain, m: usize, i: usize) -> usize
-    requires { ⌜ (Placed (now work) c) × (Chained (now work) c m) × (i < m) × (m ≤ 256) ⌝ }
-    ensures { λ r. ⌜ r ≡ newestOf (inChain (now (work .entry)) c (chainAt (now (work .entry)) c i)) i ⌝ }
+// The newest of the entries before i that is of the chain of i.
+pub fn earlier(work: &[u8], c: ChainPlaces, i: usize) -> usize
+    requires { ⌜ (Placed (now work) c) × (i < 256) ⌝ }
+    ensures { λ r. ⌜ r ≡ earlierThan (now (work .entry)) c i ⌝ }
 {
     entry_below(work, c, i, chain_at(work, c, i), link_at(work, c, i))
 }
 
-// Entry m becomes the newest of chain k.
-pub fn link(work: &mut [u8], c: Chain, m: usize, k: usize)
-    requires { ⌜ (Placed (now work) c) × (m < 256) × (k < 128) ⌝ }
-    ensures { λ _. ⌜ now (work .exit) ≡ linked (now (work .entry)) c m k ⌝ }
+// Entry m, which has its digest, becomes the newest of its chain.
+pub fn link(work: &mut [u8], c: ChainPlaces, m: usize)
+    requires { ⌜ (Placed (now work) c) × (m < 256) ⌝ }
+    ensures { λ _. ⌜ now (work .exit) ≡ linked (now (work .entry)) c m ⌝ }
 {
+    let k = chain_at(work, c, m);
     let h = head_at(work, c, k);
     work[place(c, m) + c.gap] = h as u8;
     work[place(c, k) + c.gap + c.gap] = m as u8;

@@ -5,7 +5,8 @@ use Rattle.chains.proofs.newest.Statement.{statement}
 use Rattle.chains.proofs.newest.Tie as tie
 
 returns : tie.Need-returns
-returns c = c .entry-below .ensures ∙ rw (c .before .head-at .ensures .0) (c .before .before .before .pre .1 .heads (c .before .before .before .args .k) (c .before .before .before .pre .2))
+returns c = c .entry-below .ensures ∙ rw (c .before .head-at .ensures .0, c .before .before .chain-of .ensures .0)
 
 pub newest-spec : {M : Type 1} → statement M
-newest-spec = tie.close (tie.spec (λ c κs. search needs) (λ c κs. search needs) returns)
+newest-spec =
+    tie.close (tie.spec (λ c κs. search needs) (λ c κs. search needs) (λ c κs. search needs) returns)
