@@ -13,7 +13,7 @@ use Rattle.semantics.specs.Text.{Bytes}
 use Rattle.checks.specs.Checks.{Outside}
 use Rattle.checks.proofs.Kept.{outside-then, outside-set}
 use Rattle.chains.specs.declared.ChainPlaces.{ChainPlaces}
-use Rattle.chains.specs.Chains.{newestOf, chainOf, digestPlace, linkAt, headAt, chainAt, inChain, Placed, entryBelow, earlierThan, Chained, linked}
+use Rattle.chains.specs.Chains.{newestOf, chainOf, digestPlace, linkAt, headAt, chainAt, inChain, Placed, entryBelow, newestIn, earlierThan, Chained, linked}
 
 -- ---- the newest entry that answers
 
@@ -41,9 +41,6 @@ module _ (answers : ℕ → Bool) where
 
   pub newest-most : {m r : ℕ} → r ≡ newestOf answers m → r ≤ m
   newest-most {m} e = let q = newest-low m in omega (arith, e)
-
-  pub newest-less : {i r : ℕ} → 0 < i → r ≡ newestOf answers (i - 1) → r < i
-  newest-less {i} h e = let q = newest-low (i - 1) in omega (arith, e)
 
   -- it answers
   newest-answers : (m i : ℕ) → newestOf answers m ≡ suc i → answers i ≡ true
@@ -100,19 +97,38 @@ pub record Along (t : Bytes) (c : ChainPlaces) (k m : ℕ) (answers : ℕ → Bo
   pub next : newestOf answers m ≡ newestOf answers i
   pub member : (j : ℕ) → i ≡ suc j → chainAt t c j ≡ k
   pub only : (j : ℕ) → j < m → answers j ≡ true → inChain t c k j ≡ true
+  pub links : (j : ℕ) → j < m → earlierThan t c j ≡ newestOf (inChain t c (chainAt t c j)) j
+
+below-low : (t : Bytes) (c : ChainPlaces) (m k j : ℕ) → entryBelow t c m k j ≤ m
+unfolding entryBelow
+below-low t c m k j = go (ltb j m) refl (inChain t c k j)
+  where
+    go : (a : Bool) → ltb j m ≡ a → (b : Bool) → cond (a && b) (suc j) 0 ≤ m
+    go true e true = let l = ltb-true j m e in omega arith
+    go true e false = omega arith
+    go false e b = omega arith
+
+-- a look-up goes on to entries before
+pub earlier-less : (t : Bytes) (c : ChainPlaces) {i r : ℕ} → 0 < i → r ≡ earlierThan t c (i - 1) → r < i
+earlier-less t c {i} h e = let l = below-low t c (i - 1) (chainAt t c (i - 1)) (linkAt t c (i - 1)) in omega (arith, e)
 
 module _ {t : Bytes} {c : ChainPlaces} {k m : ℕ} {answers : ℕ → Bool} where
-  -- from the newest of the first l entries on
-  from : (l : ℕ) → l ≤ m → newestOf answers m ≡ newestOf answers l → ((j : ℕ) → j < m → answers j ≡ true → inChain t c k j ≡ true) → {r : ℕ} → r ≡ newestOf (inChain t c k) l → Along t c k m answers r
-  from l h n only {r} e = record {
-    low = let q : newestOf (inChain t c k) l ≤ l = newest-low (inChain t c k) l in omega (arith, e, q);
-    next = n ∙ newest-among answers (inChain t c k) l (λ j x. only j (omega arith)) ∙ ap (newestOf answers) (sym e);
-    member = λ j q. eqb-true (chainAt t c j) k (newest-answers (inChain t c k) l j (sym e ∙ q));
-    only = only;
-  }
+  module _ (links : (j : ℕ) → j < m → earlierThan t c j ≡ newestOf (inChain t c (chainAt t c j)) j) (only : (j : ℕ) → j < m → answers j ≡ true → inChain t c k j ≡ true) where
+    -- from the newest of the first l entries on
+    from : (l : ℕ) → l ≤ m → newestOf answers m ≡ newestOf answers l → {r : ℕ} → r ≡ newestOf (inChain t c k) l → Along t c k m answers r
+    from l h n {r} e = record {
+      low = let q : newestOf (inChain t c k) l ≤ l = newest-low (inChain t c k) l in omega (arith, e, q);
+      next = n ∙ newest-among answers (inChain t c k) l (λ j x. only j (omega arith)) ∙ ap (newestOf answers) (sym e);
+      member = λ j q. eqb-true (chainAt t c j) k (newest-answers (inChain t c k) l j (sym e ∙ q));
+      only = only;
+      links = links;
+    }
 
-  pub along-first : ((j : ℕ) → j < m → answers j ≡ true → inChain t c k j ≡ true) → {r : ℕ} → r ≡ newestOf (inChain t c k) m → Along t c k m answers r
-  along-first only e = from m (omega arith) refl only e
+    pub along-from : {r : ℕ} → r ≡ newestOf (inChain t c k) m → Along t c k m answers r
+    along-from e = from m (omega arith) refl e
+
+  pub along-first : Chained t c m → k < 128 → ((j : ℕ) → j < m → answers j ≡ true → inChain t c k j ≡ true) → {r : ℕ} → r ≡ newestIn t c m k → Along t c k m answers r
+  along-first h l only e = along-from (h .links) only (e ∙ h .heads k l)
 
   -- entry i - 1 answers, or the next older one is asked
   module _ {i : ℕ} (a : Along t c k m answers i) (h : 0 < i) {b : Bool} (e : b ≡ answers (i - 1)) where
@@ -122,9 +138,10 @@ module _ {t : Bytes} {c : ChainPlaces} {k m : ℕ} {answers : ℕ → Bool} wher
     pub along-found : b ≡ true → i ≡ newestOf answers m
     along-found q = its-number ∙ sym (a .next ∙ ap (newestOf answers) its-number ∙ newest-yes answers (i - 1) (sym e ∙ q))
 
-    pub along-next : b ≡ false → {r : ℕ} → r ≡ newestOf (inChain t c (chainAt t c (i - 1))) (i - 1) → Along t c k m answers r
+    pub along-next : b ≡ false → {r : ℕ} → r ≡ earlierThan t c (i - 1) → Along t c k m answers r
     along-next q x =
-        from (i - 1) (omega (arith, a .low)) (a .next ∙ ap (newestOf answers) its-number ∙ newest-no answers (i - 1) (sym e ∙ q)) (a .only) (rw (a .member (i - 1) its-number) at x)
+        let low : i - 1 < m = omega (arith, a .low) in
+        from (a .links) (a .only) (i - 1) (omega arith) (a .next ∙ ap (newestOf answers) its-number ∙ newest-no answers (i - 1) (sym e ∙ q)) (rw (a .member (i - 1) its-number) at (x ∙ a .links (i - 1) low))
 
   pub along-end : {i : ℕ} → i ≡ 0 → Along t c k m answers i → 0 ≡ newestOf answers m
   along-end e a = sym (a .next ∙ ap (newestOf answers) e ∙ newest-none answers)

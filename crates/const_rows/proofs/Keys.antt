@@ -16,7 +16,7 @@ use Rattle.semantics.specs.Listing.{keysIn, isPlain, constRow}
 use Rattle.laws.proofs.Tests.{same-eq}
 use Rattle.laws.proofs.Lists.{concat-append, filter-append, any-append}
 use Rattle.implement.specs.Modules.{firstField, moduleAt, ownIn, isOwn}
-use Rattle.names.specs.Table.{constLine, moduleLineOf, slotValue, entriesAt, logIn, hasKey}
+use Rattle.names.specs.Table.{constLineOf, moduleLineOf, slotValue, entriesAt, logIn, hasKey}
 use Rattle.const_rows.specs.Rows.{plainKey, qualifiedKey, qualifiedTo, plainTo, qualifiedPart, plainPart}
 use Rattle.semantics.proofs.Common.{never, both}
 
@@ -128,7 +128,7 @@ module _ (s t : Bytes) (m : ℕ) where
   qualified-more i =
       let f = constRow (logIn s t m) in
       let b = eqb (moduleLineOf t i) 0 || hasKey (qualifiedKey s t i) (logIn s t i) in
-      ap (concatMap f) (qualified-entry (sheetSource s .implement) s (firstField s (constLine t i)) (slotValue t (5124 + 16 * i)) (logIn s t i) (moduleLineOf t i))
+      ap (concatMap f) (qualified-entry (sheetSource s .implement) s (firstField s (constLineOf t i)) (slotValue t (5124 + 16 * i)) (logIn s t i) (moduleLineOf t i))
       ∙ concat-append f (filter isQualified (keysIn (logIn s t i))) (cond b [] (qualifiedKey s t i ∷ []))
       ∙ ap (λ (x : Bytes). concatMap f (filter isQualified (keysIn (logIn s t i))) ++ x) (concat-cond f b (qualifiedKey s t i))
 
@@ -137,6 +137,6 @@ module _ (s t : Bytes) (m : ℕ) where
   plain-more i =
       let f = constRow (logIn s t m) in
       let b = not (isOwn s (moduleLineOf t i)) || hasKey (plainKey s t i) (logIn s t i) in
-      ap (concatMap f) (plain-entry (sheetSource s .implement) s (firstField s (constLine t i)) (slotValue t (5124 + 16 * i)) (logIn s t i) (moduleLineOf t i))
+      ap (concatMap f) (plain-entry (sheetSource s .implement) s (firstField s (constLineOf t i)) (slotValue t (5124 + 16 * i)) (logIn s t i) (moduleLineOf t i))
       ∙ concat-append f (filter isPlain (keysIn (logIn s t i))) (cond b [] (plainKey s t i ∷ []))
       ∙ ap (λ (x : Bytes). concatMap f (filter isPlain (keysIn (logIn s t i))) ++ x) (concat-cond f b (plainKey s t i))

@@ -23,7 +23,7 @@ use Rattle.ints.proofs.Widths.{held}
 use Rattle.write.specs.Wrote.{Wrote}
 use Rattle.write.proofs.Wrote.{wrote-none, wrote-as, then}
 use Rattle.implement.specs.Modules.{firstField, isOwn}
-use Rattle.names.specs.Table.{constLine, moduleLineOf, valueBy, kindOf, bitsOf, logIn, ConstTable, Answered, found, hasKey, answersPlain, answersQualified, newestPlain, newestQualified}
+use Rattle.names.specs.Table.{constLineOf, moduleLineOf, valueBy, kindOf, bitsOf, logIn, ConstTable, Answered, found, hasKey, answersPlain, answersQualified, newestPlain, newestQualified}
 use Rattle.chains.proofs.Laws.{newest-from}
 use Rattle.names.proofs.Laws.{found-is, value-failed, value-int, value-real, value-text}
 use Rattle.laws.proofs.Tests.{same-refl}
@@ -102,7 +102,7 @@ module _ (s t : Bytes) (m i : ℕ) where
     unfolding qualifiedPart
     no-module {d} {at} z = nothing {d = d} {at = at} (qualifiedPart s t m i) (rw (sym hk ∙ z))
 
-    module _ (z : k ≡ 0 → ⊥) {within name : Bytes} (hw : within ≡ firstField s k) {l : ℕ} (hl : l ≡ constLine t i) (hn : name ≡ firstField s l) where
+    module _ (z : k ≡ 0 → ⊥) {within name : Bytes} (hw : within ≡ firstField s k) {l : ℕ} (hl : l ≡ constLineOf t i) (hn : name ≡ firstField s l) where
       key-is : qualified within name ≡ qualifiedKey s t i
       key-is = rw (hw, hk, hn, hl)
 
@@ -118,7 +118,7 @@ module _ (s t : Bytes) (m i : ℕ) where
       pub qualified-some : {r : ℕ} → i < m → r ≡ newestQualified s t m within name → 0 < r
       unfolding answersQualified
       qualified-some {r} h e =
-          let w = newest-from (λ (j : ℕ). answersQualified s t j within name) m i h (rw (hw, hk, hn, hl, same-refl (firstField s (constLine t i)), ne-eqb (moduleLineOf t i) 0 (λ x. z (hk ∙ x)), same-refl (firstField s (moduleLineOf t i)))) in
+          let w = newest-from (λ (j : ℕ). answersQualified s t j within name) m i h (rw (hw, hk, hn, hl, same-refl (firstField s (constLineOf t i)), ne-eqb (moduleLineOf t i) 0 (λ x. z (hk ∙ x)), same-refl (firstField s (moduleLineOf t i)))) in
           omega (arith, e)
 
       pub qualified-new : (r q : ℕ) → hasKey (qualified within name) (logIn s t i) ≡ ltb 0 r → r ≡ 0 → valueOf (lookUp (qualified within name) (logIn s t m)) ≡ found t q
@@ -140,7 +140,7 @@ module _ (s t : Bytes) (m i : ℕ) where
     unfolding plainPart
     not-own {d} {at} z = nothing {d = d} {at = at} (plainPart s t m i) (rw (own-is, z))
 
-    module _ (z : not own ≡ false) {name : Bytes} {l : ℕ} (hl : l ≡ constLine t i) (hn : name ≡ firstField s l) where
+    module _ (z : not own ≡ false) {name : Bytes} {l : ℕ} (hl : l ≡ constLineOf t i) (hn : name ≡ firstField s l) where
       name-is : plain name ≡ plainKey s t i
       name-is = rw (hn, hl)
 
@@ -155,7 +155,7 @@ module _ (s t : Bytes) (m i : ℕ) where
       pub plain-some : {r : ℕ} → i < m → r ≡ newestPlain s t m name → 0 < r
       unfolding answersPlain
       plain-some {r} h e =
-          let w = newest-from (λ (j : ℕ). answersPlain s t j name) m i h (rw (hn, hl, same-refl (firstField s (constLine t i)), own-is) (not-false own z)) in
+          let w = newest-from (λ (j : ℕ). answersPlain s t j name) m i h (rw (hn, hl, same-refl (firstField s (constLineOf t i)), own-is) (not-false own z)) in
           omega (arith, e)
 
       pub plain-new : (r q : ℕ) → hasKey (plain name) (logIn s t i) ≡ ltb 0 r → r ≡ 0 → valueOf (lookUp (plain name) (logIn s t m)) ≡ found t q
@@ -169,10 +169,10 @@ module _ (s t : Bytes) (m i : ℕ) where
 -- ---- the table
 
 module _ {s t : Bytes} {n m : ℕ} (b : ConstTable s t n m) where
-  pub line-in : {i l : ℕ} → i < m → l ≡ constLine t i → (0 < l) × (l ≤ n)
+  pub line-in : {i l : ℕ} → i < m → l ≡ constLineOf t i → (0 < l) × (l ≤ n)
   line-in {i} h e = let x = b .logged .each i h in (omega (arith, x .first), omega (arith, x .last))
 
-  pub name-in : {i l : ℕ} {name : Bytes} → i < m → l ≡ constLine t i → name ≡ firstField s l → (ConstTable s t n m) × (i < m) × (name ≡ firstField s (constLine t i))
+  pub name-in : {i l : ℕ} {name : Bytes} → i < m → l ≡ constLineOf t i → name ≡ firstField s l → (ConstTable s t n m) × (i < m) × (name ≡ firstField s (constLineOf t i))
   name-in h e q = (b, h, q ∙ ap (firstField s) e)
 
   pub module-in : {i k : ℕ} → i < m → k ≡ moduleLineOf t i → k ≤ n

@@ -8,14 +8,14 @@ use Rattle.semantics.specs.Sheet.{concatMap}
 use Rattle.semantics.specs.Fold.{Key, plain, qualified}
 use Rattle.semantics.specs.Listing.{keysIn, isPlain, constRow}
 use Rattle.implement.specs.Modules.{firstField, isOwn}
-use Rattle.names.specs.Table.{constLine, moduleLineOf, logIn, hasKey}
+use Rattle.names.specs.Table.{constLineOf, moduleLineOf, logIn, hasKey}
 
 -- the keys of entry i
 abbrev pub plainKey : Bytes → Bytes → ℕ → Key
-plainKey s t i = plain (firstField s (constLine t i))
+plainKey s t i = plain (firstField s (constLineOf t i))
 
 abbrev pub qualifiedKey : Bytes → Bytes → ℕ → Key
-qualifiedKey s t i = qualified (firstField s (moduleLineOf t i)) (firstField s (constLine t i))
+qualifiedKey s t i = qualified (firstField s (moduleLineOf t i)) (firstField s (constLineOf t i))
 
 -- the rows of M->NAME that the first i entries add, and the plain ones, where m entries have values
 unfoldable pub qualifiedTo : Bytes → Bytes → ℕ → ℕ → Bytes

@@ -26,7 +26,7 @@ use Rattle.checks.proofs.Kept.{kept-less, checked-kept}
 use Rattle.checks.proofs.Laws.{few-consts}
 use Rattle.source.specs.Walk.{openAt}
 use Rattle.chains.proofs.Laws.{chained-none}
-use Rattle.names.specs.Table.{constChain, logIn}
+use Rattle.names.specs.Table.{constChains, logIn}
 use Rattle.iota.specs.declared.Stepped.{Stepped}
 use Rattle.iota.specs.Iota.{counterOf, steppedOf}
 use Rattle.iota.proofs.Counter.{moved-counter, moved-value}
@@ -261,7 +261,7 @@ module _ (s t : Bytes) (n m i : ℕ) (b : PassesBefore s t n m i) where
       ap (λ (f : Folding). f .refused) (sym same) ∙ rw (passes-end s t n (b .checked) i h) (then-stop (groupFrom s 0 0) [] (sheetSource s .implement) (logIn s t m) q)
 
 pub start-before : (s t : Bytes) (n : ℕ) → Checked s t n → PassesBefore s t n 0 0
-start-before s t n c = record { checked = c; logged = record { few = omega arith; each = λ i h. absurd (omega arith); digests = λ i h. absurd (omega arith); chained = chained-none t constChain }; few = omega arith }
+start-before s t n c = record { checked = c; logged = record { few = omega arith; each = λ i h. absurd (omega arith); digests = λ i h. absurd (omega arith); chained = chained-none t constChains }; few = omega arith }
 
 pub start-same : (s t : Bytes) (n : ℕ) → Checked s t n → passesLeft s t 0 0 ≡ constants (sheetSource s)
 unfolding passesLeft logIn

@@ -29,8 +29,8 @@ use Rattle.words.specs.Words.{digest, u16At, bitsAt}
 use Rattle.implement.specs.Modules.{firstField, moduleAt}
 use Rattle.checks.specs.Checks.{Kept}
 use Rattle.checks.proofs.Kept.{kept-at, kept-then, kept-less, outside-less}
-use Rattle.names.specs.Table.{constLine, moduleLineOf, valueBy, kindOf, bitsOf, constDigest, constChain, entriesAt, logIn, EntryBounds, ConstsLogged}
-use Rattle.names.proofs.Laws.{slot-is, value-failed, value-int, value-real, value-text, part-low, part-kept, SameText, each-same, digests-same, log-same, entries-below, const-room, const-apart, const-outside, linked-entries}
+use Rattle.names.specs.Table.{constLineOf, moduleLineOf, valueBy, kindOf, bitsOf, constDigestOf, constChains, entriesAt, logIn, EntryBounds, ConstsLogged}
+use Rattle.names.proofs.Laws.{slot-is, value-failed, value-int, value-real, value-text, part-low, part-kept, SameText, each-same, digests-same, log-same, entries-below, const-placed, const-apart, const-outside, linked-entries}
 use Rattle.values.specs.declared.ConstVal.{ConstVal}
 use Rattle.values.specs.declared.ConstVal.the-variants.{Int, Real, Str}
 use Rattle.values.specs.Values.{stringIn, valueIn, kindFor, bitsFor, Small, InRange, At}
@@ -83,8 +83,8 @@ module _ (v : ConstVal) {w : ConstVal} (m : ℕ) (e : w ≡ movedTo (16384 + 256
   kept-small h a = rw e (moved-small (16384 + 256 * m) v (omega arith) a)
 
   pub value-entered : (line within d : ℕ) (t : Bytes) {u x : Bytes} {k b : ℕ}
-      → x ≡ over t (16384 + 256 * m) (stringOf t v) → k ≡ kindFor w → (b ≡ bitsFor w) × InRange w → u ≡ linked (over x (5120 + 16 * m) (entryOf line within k b d)) constChain m (chainOf d)
-      → (u ≡ linked (over (over t (16384 + 256 * m) (stringOf t v)) (5120 + 16 * m) (entryOf line within (kindFor v) (bitsFor (movedTo (16384 + 256 * m) v)) d)) constChain m (chainOf d)) × InRange v
+      → x ≡ over t (16384 + 256 * m) (stringOf t v) → k ≡ kindFor w → (b ≡ bitsFor w) × InRange w → u ≡ linked (over x (5120 + 16 * m) (entryOf line within k b d)) constChains m (chainOf d)
+      → (u ≡ linked (over (over t (16384 + 256 * m) (stringOf t v)) (5120 + 16 * m) (entryOf line within (kindFor v) (bitsFor (movedTo (16384 + 256 * m) v)) d)) constChains m (chainOf d)) × InRange v
   value-entered line within d t f g (h, r) i = (i ∙ rw (f, g, h, e, moved-kind (16384 + 256 * m) v), moved-range (16384 + 256 * m) v (rw e at r))
 
 -- ---- an entry's bytes
@@ -156,7 +156,7 @@ module _ (t u : Bytes) (m line within kind bits d : ℕ) (f : EntryRoom t m line
   byte-here p j e h =
       ap (λ (q : ℕ). getD u q 0) e ∙ sym (getD-drop (5120 + 16 * m) u j 0) ∙ sym (getD-take 14 (drop (5120 + 16 * m) u) j 0 h) ∙ ap (λ (l : Bytes). getD l j 0) here
 
-  line-here : constLine u m ≡ line
+  line-here : constLineOf u m ≡ line
   unfolding u16At entryOf
   line-here = omega (arith, byte-here (5120 + 16 * m) 0 (omega arith) (omega arith), byte-here (5120 + 16 * m + 1) 1 (omega arith) (omega arith))
 
@@ -176,7 +176,7 @@ module _ (t u : Bytes) (m line within kind bits d : ℕ) (f : EntryRoom t m line
       rw (a, ← drop-drop 5 (5120 + 16 * m) u) (sym (part-low 5 8 14 (drop (5120 + 16 * m) u) (omega arith)) ∙ ap (λ (l : Bytes). take 8 (drop 5 l)) here ∙ take-at (bigEndian 8 bits) (d ∷ []) 8 (big-length 8 bits)) in
       ap (fromBigEndian 0) e ∙ bits-back bits (omega arith)
 
-  digest-here : constDigest u m ≡ d
+  digest-here : constDigestOf u m ≡ d
   unfolding entryOf
   digest-here = byte-here (5133 + 16 * m) 13 (omega arith) (omega arith) ∙ getD-at (bigEndian 8 bits) d [] 0 8 (big-length 8 bits)
 
@@ -207,7 +207,7 @@ module _ (t u : Bytes) (m line within kind bits d : ℕ) (f : EntryRoom t m line
   each-new : (n : ℕ) → line ≤ n → within ≤ n → ((i : ℕ) → i < m → EntryBounds t n i) → (i : ℕ) → i < m + 1 → EntryBounds u n i
   each-new n p q each i h = ⊎-elim (λ (x : i ≡ m). subst (EntryBounds u n) (sym x) (entry-new n p q)) (λ (x : i < m). each-same (entries-below table-kept) each i x) (eq-or-lt-of-le (omega arith))
 
-  digests-new : (s : Bytes) (n : ℕ) → d ≡ digest (firstField s line) → ConstsLogged s t n m → (i : ℕ) → i < m + 1 → constDigest u i ≡ digest (firstField s (constLine u i))
+  digests-new : (s : Bytes) (n : ℕ) → d ≡ digest (firstField s line) → ConstsLogged s t n m → (i : ℕ) → i < m + 1 → constDigestOf u i ≡ digest (firstField s (constLineOf u i))
   digests-new s n e l i h = ⊎-elim (λ (x : i ≡ m). rw (x, digest-here, line-here) e) (λ (x : i < m). digests-same (entries-below table-kept) (l .each) s (l .digests) i x) (eq-or-lt-of-le (omega arith))
 
   log-new : (v : Option Tree.ConstVal) → valueBy u kind bits ≡ v → (s : Bytes) (n : ℕ) → ConstsLogged s t n m → logIn s u (m + 1) ≡ entries (sheetSource s .implement) (moduleAt s within) (firstField s line) v ++ logIn s t m
@@ -222,21 +222,21 @@ module _ (t u : Bytes) (m line within kind bits d : ℕ) (f : EntryRoom t m line
       go true q = let x = ltb-true k m q in kept-at table-kept p (omega arith)
       go false q = let x = ltb-false k m q in byte-behind p (omega arith) ∙ kept-at string-kept p (omega arith)
 
-  chained-still : Chained t constChain m → Chained u constChain m
+  chained-still : Chained t constChains m → Chained u constChains m
   unfolding digestPlace
   chained-still =
-      let same : SameBytes t u constChain m = record {
+      let same : SameBytes t u constChains m = record {
         digest = λ i (h : i < m). kept-at table-kept (5133 + 16 * i) (omega arith);
         link = λ i (h : i < m). kept-at table-kept (5133 + 16 * i + 1) (omega arith);
         head = λ k h. head-kept (5133 + 16 * k + 1 + 1) k (omega arith) h;
       } in
       chained-kept same (omega arith)
 
-  own-chain : chainAt u constChain m ≡ chainOf d
+  own-chain : chainAt u constChains m ≡ chainOf d
   unfolding chainAt digestPlace
   own-chain = ap chainOf digest-here
 
-  entered : (v : Option Tree.ConstVal) → valueBy u kind bits ≡ v → (w : Bytes) → w ≡ linked u constChain m (chainOf d) → (s : Bytes) (n : ℕ) → line ≤ n → within ≤ n → d ≡ digest (firstField s line) → ConstsLogged s t n m → Entered s t n m line within v w
+  entered : (v : Option Tree.ConstVal) → valueBy u kind bits ≡ v → (w : Bytes) → w ≡ linked u constChains m (chainOf d) → (s : Bytes) (n : ℕ) → line ≤ n → within ≤ n → d ≡ digest (firstField s line) → ConstsLogged s t n m → Entered s t n m line within v w
   entered v e w j s n p q hd l =
       let bounds = each-new n p q (l .each) in
       let same = linked-entries u m (chainOf d) (f .few) (omega arith) in
@@ -249,13 +249,13 @@ module _ (t u : Bytes) (m line within kind bits d : ℕ) (f : EntryRoom t m line
           few = omega (arith, f .few);
           each = each-same same bounds;
           digests = digests-same same bounds s (digests-new s n hd l);
-          chained = rw add-one (chained-next (const-room long) const-apart (omega arith) (omega arith) (f .few) (omega arith) (own-chain) (chained-still (l .chained)));
+          chained = rw add-one (chained-next (const-placed long) const-apart (omega arith) (omega arith) (f .few) (omega arith) (own-chain) (chained-still (l .chained)));
         };
         kept = kept-then (kept-less (omega arith) table-kept) (outside .kept);
       })
 
 module _ (t w : Bytes) (m line within d : ℕ) (f : EntryRoom t m line within) where
-  pub entered-failed : w ≡ linked (over t (5120 + 16 * m) (entryOf line within 0 0 d)) constChain m (chainOf d) → (s : Bytes) (n : ℕ) → line ≤ n → within ≤ n → d ≡ digest (firstField s line) → ConstsLogged s t n m → Entered s t n m line within none w
+  pub entered-failed : w ≡ linked (over t (5120 + 16 * m) (entryOf line within 0 0 d)) constChains m (chainOf d) → (s : Bytes) (n : ℕ) → line ≤ n → within ≤ n → d ≡ digest (firstField s line) → ConstsLogged s t n m → Entered s t n m line within none w
   entered-failed e =
       let u = over t (5120 + 16 * m) (entryOf line within 0 0 d) in
       entered t u m line within 0 0 d f [] (omega arith) (ap (λ (x : Bytes). over x (5120 + 16 * m) (entryOf line within 0 0 d)) (over-none t (16384 + 256 * m))) (omega arith) (omega arith) (λ k. absurd (omega arith))
@@ -263,7 +263,7 @@ module _ (t w : Bytes) (m line within d : ℕ) (f : EntryRoom t m line within) w
 
   -- a value, by its variant
   pub entered-value : (v : ConstVal) → At 49152 v
-      → (w ≡ linked (over (over t (16384 + 256 * m) (stringOf t v)) (5120 + 16 * m) (entryOf line within (kindFor v) (bitsFor (movedTo (16384 + 256 * m) v)) d)) constChain m (chainOf d)) × InRange v
+      → (w ≡ linked (over (over t (16384 + 256 * m) (stringOf t v)) (5120 + 16 * m) (entryOf line within (kindFor v) (bitsFor (movedTo (16384 + 256 * m) v)) d)) constChains m (chainOf d)) × InRange v
       → (s : Bytes) (n : ℕ) → line ≤ n → within ≤ n → d ≡ digest (firstField s line) → ConstsLogged s t n m → Entered s t n m line within (some (valueIn t v)) w
   unfolding valueIn wrap
   entered-value (Int z) a (e, r) =

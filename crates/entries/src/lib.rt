@@ -1,14 +1,14 @@
 // Entries of the table of constants.
 use codes::area;
-use names::CHAIN;
+use names::CHAINS;
 use values::ConstVal;
 use values::LONGEST_STRING;
 ghost use mathlib.Core.Path.{_≡_};
 ghost use Prim.Native.Nat.{_+_, _*_, _≤_, _<_};
 ghost use lib.ListN.{length};
 ghost use Rattle.write.specs.Wrote.{over};
-ghost use Rattle.chains.specs.Chains.{chainOf, linked};
-ghost use Rattle.names.specs.Table.{constChain};
+ghost use Rattle.chains.specs.Chains.{linked};
+ghost use Rattle.names.specs.Table.{constChains};
 ghost use Rattle.values.specs.Values.{kindFor, bitsFor, InRange, At};
 ghost use Rattle.entries.specs.Entering.{entryOf, movedTo, stringOf, EntryRoom};
 
@@ -33,10 +33,10 @@ fn put_bytes(work: &mut [u8], m: usize, line: usize, within: usize, kind: u8, bi
 // Entry m, chained by the digest.
 fn put_entry(work: &mut [u8], m: usize, line: usize, within: usize, kind: u8, bits: u64, d: usize)
     requires { ⌜ (EntryRoom (now work) m line within) × (d < 256) ⌝ }
-    ensures { λ _. ⌜ now (work .exit) ≡ linked (over (now (work .entry)) (5120 + 16 * m) (entryOf line within kind bits d)) constChain m (chainOf d) ⌝ }
+    ensures { λ _. ⌜ now (work .exit) ≡ linked (over (now (work .entry)) (5120 + 16 * m) (entryOf line within kind bits d)) constChains m ⌝ }
 {
     put_bytes(work, m, line, within, kind, bits, d);
-    chains::link(work, CHAIN, m, chains::chain_of(d));
+    chains::link(work, CHAINS, m);
 }
 
 // A value's string, copied from the stack of folds to where entry m keeps its own; the value is the same with the string there.
@@ -58,7 +58,7 @@ fn keep_string(work: &mut [u8], v: ConstVal, m: usize) -> ConstVal
 // A constant that has a value; d is the digest of its name.
 pub fn enter(work: &mut [u8], m: usize, line: usize, within: usize, v: ConstVal, d: usize)
     requires { ⌜ (EntryRoom (now work) m line within) × (At 49152 v) × (d < 256) ⌝ }
-    ensures { λ _. ⌜ (now (work .exit) ≡ linked (over (over (now (work .entry)) (16384 + 256 * m) (stringOf (now (work .entry)) v)) (5120 + 16 * m) (entryOf line within (kindFor v) (bitsFor (movedTo (16384 + 256 * m) v)) d)) constChain m (chainOf d)) × (InRange v) ⌝ }
+    ensures { λ _. ⌜ (now (work .exit) ≡ linked (over (over (now (work .entry)) (16384 + 256 * m) (stringOf (now (work .entry)) v)) (5120 + 16 * m) (entryOf line within (kindFor v) (bitsFor (movedTo (16384 + 256 * m) v)) d)) constChains m) × (InRange v) ⌝ }
 {
     let kept = keep_string(work, v, m);
     let bits = values::bits_of(kept);
@@ -68,7 +68,7 @@ pub fn enter(work: &mut [u8], m: usize, line: usize, within: usize, v: ConstVal,
 // One that failed.
 pub fn enter_failed(work: &mut [u8], m: usize, line: usize, within: usize, d: usize)
     requires { ⌜ (EntryRoom (now work) m line within) × (d < 256) ⌝ }
-    ensures { λ _. ⌜ now (work .exit) ≡ linked (over (now (work .entry)) (5120 + 16 * m) (entryOf line within 0 0 d)) constChain m (chainOf d) ⌝ }
+    ensures { λ _. ⌜ now (work .exit) ≡ linked (over (now (work .entry)) (5120 + 16 * m) (entryOf line within 0 0 d)) constChains m ⌝ }
 {
     put_entry(work, m, line, within, 0, 0, d);
 }

@@ -11,7 +11,7 @@ use Rattle.semantics.specs.Global.{Global, globalSize}
 use Rattle.semantics.specs.Listing.{row, flag, globalRow}
 use Rattle.write.specs.Wrote.{Wrote}
 use Rattle.write.proofs.Wrote.{then, wrote-as}
-use Rattle.global_table.specs.Table.{typeOn, globalLine, offsetOf, globalAt, placesIn}
+use Rattle.global_table.specs.Table.{typeOn, globalLineOf, offsetOf, globalAt, placesIn}
 use Rattle.global_table.proofs.Table.{places-more}
 
 pub row-is : (e : Global) {x : Bytes} {off size : ℕ} {b : Bool} → x ≡ e .name → off ≡ e .offset → size ≡ globalSize (e .ty) → b ≡ isPtr (e .ty)
@@ -24,7 +24,7 @@ unfolding globalAt
 entry-offset s t i = refl
 
 -- the type of an entry's `var` line
-pub entry-type : (s t : Bytes) (i : ℕ) {r : ℕ} {x : Ty} → r ≡ globalLine t i → x ≡ typeOn s r → x ≡ globalAt s t i .ty
+pub entry-type : (s t : Bytes) (i : ℕ) {r : ℕ} {x : Ty} → r ≡ globalLineOf t i → x ≡ typeOn s r → x ≡ globalAt s t i .ty
 unfolding globalAt
 entry-type s t i hr e = e ∙ rw hr
 

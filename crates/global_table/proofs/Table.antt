@@ -20,7 +20,7 @@ use Rattle.chains.specs.Chains.{newestOf, chainOf, digestPlace, chainAt, inChai
 use Rattle.chains.proofs.Laws.{PlacesApart, SameBytes, newest-yes, newest-no, newest-low, linked-outside, linked-other, linked-long, chained-none, chained-kept, chained-next}
 use Rattle.checks.specs.Checks.{Checked, Kept, Outside}
 use Rattle.checks.proofs.Kept.{kept-less, kept-at, outside-then, checked-kept, kind-line-kept}
-use Rattle.global_table.specs.Table.{VarLine, globalLine, globalPosition, offsetOf, globalDigest, globalChain, globalStored, globalEntered, globalAt, entriesFrom, placesIn, GlobalEntry, Tabled, offsetBy, numberFrom, entryNumber}
+use Rattle.global_table.specs.Table.{VarLine, globalLineOf, globalPositionOf, offsetOf, globalDigestOf, globalChains, globalStored, globalEntered, globalAt, entriesFrom, placesIn, GlobalEntry, Tabled, offsetBy, numberFrom, entryNumber}
 
 -- ---- a run of stores
 
@@ -62,7 +62,7 @@ stored-by t i line position offset d =
     rw (e1, e2, e3, e4, e5)
 
 module _ (t : Bytes) (i line position offset d : ℕ) {u : Bytes} {k : ℕ} (hk : k ≡ chainOf d) where
-  pub entered-by : u ≡ linked (set (set (set (set (set (set t (7168 + 8 * i) (line % 256)) (7168 + 8 * i + 1) (line / 256)) (7168 + 8 * i + 2) position) (7168 + 8 * i + 3) (offset % 256)) (7168 + 8 * i + 4) (offset / 256)) (7168 + 8 * i + 5) d) globalChain i k
+  pub entered-by : u ≡ linked (set (set (set (set (set (set t (7168 + 8 * i) (line % 256)) (7168 + 8 * i + 1) (line / 256)) (7168 + 8 * i + 2) position) (7168 + 8 * i + 3) (offset % 256)) (7168 + 8 * i + 4) (offset / 256)) (7168 + 8 * i + 5) d) globalChains i k
       → u ≡ globalEntered t i line position offset d
   unfolding globalEntered
   entered-by h = h ∙ rw (stored-by t i line position offset d, hk)
@@ -70,15 +70,15 @@ module _ (t : Bytes) (i line position offset d : ℕ) {u : Bytes} {k : ℕ} (hk 
 pub entered-long : (t : Bytes) (i line position offset d : ℕ) → length (globalEntered t i line position offset d) ≡ length t
 unfolding globalEntered globalStored
 entered-long t i line position offset d =
-    linked-long (globalStored t i line position offset d) globalChain i (chainOf d)
+    linked-long (globalStored t i line position offset d) globalChains i (chainOf d)
     ∙ length-sets t (7168 + 8 * i) (line % 256 ∷ line / 256 ∷ position ∷ offset % 256 ∷ offset / 256 ∷ d ∷ [])
 
 -- digests, links and heads lie in the working space, and apart
-pub global-placed : {t : Bytes} → 65536 ≤ length t → Placed t globalChain
+pub global-placed : {t : Bytes} → 65536 ≤ length t → Placed t globalChains
 unfolding digestPlace
 global-placed room = record { low = λ i h. omega arith; long = room }
 
-global-apart : PlacesApart globalChain 256
+global-apart : PlacesApart globalChains 256
 unfolding digestPlace
 global-apart = record { own = λ i j e. omega arith; link = λ i j h l e. omega arith; head = λ i k h l e. omega arith }
 
@@ -89,26 +89,26 @@ module _ (t : Bytes) (i line position offset d : ℕ) (hi : i < 256) (hl : line 
   -- a link or a head is no other byte of an entry
   unlinked : (j k m : ℕ) → k < 6 → m ≡ 7168 + 8 * j + k → getD (globalEntered t i line position offset d) m 0 ≡ getD (globalStored t i line position offset d) m 0
   unfolding globalEntered digestPlace
-  unlinked j k m h e = linked-other (globalStored t i line position offset d) globalChain i (chainOf d) m (λ q. omega arith) (λ q. omega arith)
+  unlinked j k m h e = linked-other (globalStored t i line position offset d) globalChains i (chainOf d) m (λ q. omega arith) (λ q. omega arith)
 
   cell-at : (k j : ℕ) → k < 6 → j ≡ 7168 + 8 * i + k → getD (globalEntered t i line position offset d) j 0 ≡ getD cells k 0
   unfolding globalStored cells
   cell-at k j h e = unlinked i k j h e ∙ rw e (sets-at t (7168 + 8 * i) cells k h (omega arith))
 
-  pub line-new : globalLine (globalEntered t i line position offset d) i ≡ line
+  pub line-new : globalLineOf (globalEntered t i line position offset d) i ≡ line
   unfolding u16At cells
   line-new = rw (cell-at 0 (7168 + 8 * i) (omega arith) (omega arith), cell-at 1 (7168 + 8 * i + 1) (omega arith) refl) (omega arith)
 
-  pub position-new : globalPosition (globalEntered t i line position offset d) i ≡ position
-  unfolding globalPosition cells
+  pub position-new : globalPositionOf (globalEntered t i line position offset d) i ≡ position
+  unfolding globalPositionOf cells
   position-new = cell-at 2 (7170 + 8 * i) (omega arith) (omega arith)
 
   pub offset-new : offsetOf (globalEntered t i line position offset d) i ≡ offset
   unfolding u16At cells
   offset-new = rw (cell-at 3 (7171 + 8 * i) (omega arith) (omega arith), cell-at 4 (7171 + 8 * i + 1) (omega arith) (omega arith)) (omega arith)
 
-  pub digest-new : globalDigest (globalEntered t i line position offset d) i ≡ d
-  unfolding globalDigest cells
+  pub digest-new : globalDigestOf (globalEntered t i line position offset d) i ≡ d
+  unfolding globalDigestOf cells
   digest-new = cell-at 5 (7173 + 8 * i) (omega arith) (omega arith)
 
   -- a byte that is none of the entry's stays
@@ -121,20 +121,20 @@ module _ (t : Bytes) (i line position offset d : ℕ) (hi : i < 256) (hl : line 
     cell-old : (k : ℕ) → k < 6 → (m : ℕ) → m ≡ 7168 + 8 * j + k → getD (globalEntered t i line position offset d) m 0 ≡ getD t m 0
     cell-old k h m e = unlinked j k m h e ∙ stored-other m (λ x l q. omega arith)
 
-    pub line-old : globalLine (globalEntered t i line position offset d) j ≡ globalLine t j
+    pub line-old : globalLineOf (globalEntered t i line position offset d) j ≡ globalLineOf t j
     unfolding u16At
     line-old = rw (cell-old 0 (omega arith) (7168 + 8 * j) (omega arith), cell-old 1 (omega arith) (7168 + 8 * j + 1) refl)
 
-    position-old : globalPosition (globalEntered t i line position offset d) j ≡ globalPosition t j
-    unfolding globalPosition
+    position-old : globalPositionOf (globalEntered t i line position offset d) j ≡ globalPositionOf t j
+    unfolding globalPositionOf
     position-old = cell-old 2 (omega arith) (7170 + 8 * j) (omega arith)
 
     offset-old : offsetOf (globalEntered t i line position offset d) j ≡ offsetOf t j
     unfolding u16At
     offset-old = rw (cell-old 3 (omega arith) (7171 + 8 * j) (omega arith), cell-old 4 (omega arith) (7171 + 8 * j + 1) (omega arith))
 
-    pub digest-old : globalDigest (globalEntered t i line position offset d) j ≡ globalDigest t j
-    unfolding globalDigest
+    pub digest-old : globalDigestOf (globalEntered t i line position offset d) j ≡ globalDigestOf t j
+    unfolding globalDigestOf
     digest-old = cell-old 5 (omega arith) (7173 + 8 * j) (omega arith)
 
     pub entry-old : (s : Bytes) → globalAt s (globalEntered t i line position offset d) j ≡ globalAt s t j
@@ -155,10 +155,10 @@ module _ (t : Bytes) (i line position offset d : ℕ) (hi : i < 256) (hl : line 
   unfolding globalEntered digestPlace
   outside-entered =
       let low = chain-low in
-      outside-then outside-stored (linked-outside (globalStored t i line position offset d) globalChain i (chainOf d) (omega arith) (omega arith) (omega arith) (omega arith))
+      outside-then outside-stored (linked-outside (globalStored t i line position offset d) globalChains i (chainOf d) (omega arith) (omega arith) (omega arith) (omega arith))
 
   -- the entries and this one are chained
-  stored-same : SameBytes t (globalStored t i line position offset d) globalChain i
+  stored-same : SameBytes t (globalStored t i line position offset d) globalChains i
   unfolding digestPlace
   stored-same = record {
     digest = λ j h. stored-other (7173 + 8 * j) (λ k l e. omega arith);
@@ -166,11 +166,11 @@ module _ (t : Bytes) (i line position offset d : ℕ) (hi : i < 256) (hl : line 
     head = λ j h. stored-other (7173 + 8 * j + 1 + 1) (λ k l e. omega arith);
   }
 
-  chain-stored : chainAt (globalStored t i line position offset d) globalChain i ≡ chainOf d
+  chain-stored : chainAt (globalStored t i line position offset d) globalChains i ≡ chainOf d
   unfolding chainAt digestPlace globalStored cells
   chain-stored = let e : 7173 + 8 * i ≡ 7168 + 8 * i + 5 = omega arith in ap chainOf (rw e (sets-at t (7168 + 8 * i) cells 5 (omega arith) (omega arith)))
 
-  pub chained-entered : Chained t globalChain i → Chained (globalEntered t i line position offset d) globalChain (suc i)
+  pub chained-entered : Chained t globalChains i → Chained (globalEntered t i line position offset d) globalChains (suc i)
   unfolding globalEntered
   chained-entered c =
       chained-next (global-placed (omega (arith, outside-stored .kept .long))) global-apart (omega arith) (omega arith) hi chain-low chain-stored (chained-kept stored-same (omega arith) c)
@@ -218,7 +218,7 @@ once-entered s t g line position offset d hg hl ho room old last i h = ⊎-elim 
 -- ---- search for a name
 
 -- names with different digests are different
-pub named-apart : {s t : Bytes} {n i d : ℕ} (x : Bytes) → GlobalEntry s t n i → d ≡ digest x → (globalDigest t i ≡ d → ⊥) → false ≡ same x (globalAt s t i .name)
+pub named-apart : {s t : Bytes} {n i d : ℕ} (x : Bytes) → GlobalEntry s t n i → d ≡ digest x → (globalDigestOf t i ≡ d → ⊥) → false ≡ same x (globalAt s t i .name)
 named-apart {s} {t} {i = i} x b e z = digest-apart x (globalAt s t i .name) (λ q. z (b .digest ∙ sym (e ∙ q)))
 
 -- one more place: the first with a name is new where it has that name and none before it has
@@ -294,12 +294,12 @@ module _ (s t : Bytes) (x : Bytes) where
       go false e f = rw (newest-no (hasName s t x) g e) (found-before g e f)
 
 -- an entry with the name x, which has the digest d, is of the chain of d
-pub named-chain : {s t : Bytes} {n g d : ℕ} (x : Bytes) → Tabled s t n g → d ≡ digest x → (j : ℕ) → j < g → hasName s t x j ≡ true → inChain t globalChain (chainOf d) j ≡ true
-unfolding chainAt digestPlace globalDigest
+pub named-chain : {s t : Bytes} {n g d : ℕ} (x : Bytes) → Tabled s t n g → d ≡ digest x → (j : ℕ) → j < g → hasName s t x j ≡ true → inChain t globalChains (chainOf d) j ≡ true
+unfolding chainAt digestPlace globalDigestOf
 named-chain {s} {t} {d = d} x w e j h q =
     let z : x ≡ globalAt s t j .name = same-eq x (globalAt s t j .name) q in
     let y : getD t (7173 + 8 * j) 0 ≡ d = w .entries j h .digest ∙ ap digest (sym z) ∙ sym e in
-    eq-eqb (chainAt t globalChain j) (chainOf d) (ap chainOf y)
+    eq-eqb (chainAt t globalChains j) (chainOf d) (ap chainOf y)
 
 pub found-is : {s t : Bytes} {n g r : ℕ} (x : Bytes) → Tabled s t n g → r ≡ newestOf (hasName s t x) g → (offsetBy t r ≡ placeOf x (placesIn s t g)) × (r ≤ g) × (r ≡ entryNumber x (placesIn s t g))
 found-is {s} {t} {g = g} x w e =
@@ -327,7 +327,7 @@ var-outside a l = kind-line-kept (kept-less (omega arith) (a .kept)) l
 -- ---- no entry
 
 pub tabled-none : {s t : Bytes} {n g : ℕ} → Checked s t n → g ≡ 0 → Tabled s t n g
-tabled-none {t = t} c e = record { checked = c; few = omega arith; entries = λ i h. absurd (omega arith); once = λ i h. absurd (omega arith); chained = rw e (chained-none t globalChain) }
+tabled-none {t = t} c e = record { checked = c; few = omega arith; entries = λ i h. absurd (omega arith); once = λ i h. absurd (omega arith); chained = rw e (chained-none t globalChains) }
 
 -- ---- the table stays where all that stands up to its end is kept
 
@@ -336,24 +336,24 @@ module _ {t u : Bytes} (a : Kept 9216 t u) where
   unfolding u16At
   u16-kept k h = rw (kept-at a k (omega arith), kept-at a (k + 1) h)
 
-  pub line-kept : (i : ℕ) → i < 256 → globalLine u i ≡ globalLine t i
+  pub line-kept : (i : ℕ) → i < 256 → globalLineOf u i ≡ globalLineOf t i
   line-kept i h = u16-kept (7168 + 8 * i) (omega arith)
 
   pub offset-kept : (i : ℕ) → i < 256 → offsetOf u i ≡ offsetOf t i
   offset-kept i h = u16-kept (7171 + 8 * i) (omega arith)
 
-  digest-kept : (i : ℕ) → i < 256 → globalDigest u i ≡ globalDigest t i
-  unfolding globalDigest
+  digest-kept : (i : ℕ) → i < 256 → globalDigestOf u i ≡ globalDigestOf t i
+  unfolding globalDigestOf
   digest-kept i h = kept-at a (7173 + 8 * i) (omega arith)
 
   entry-kept : (s : Bytes) (i : ℕ) → i < 256 → globalAt s u i ≡ globalAt s t i
-  unfolding globalAt globalPosition
+  unfolding globalAt globalPositionOf
   entry-kept s i h = rw (line-kept i h, offset-kept i h, kept-at a (7170 + 8 * i) (omega arith))
 
   pub places-kept : (s : Bytes) (g : ℕ) → g ≤ 256 → placesIn s u g ≡ placesIn s t g
   places-kept s g h = entries-same s t u 0 g (λ j l. entry-kept s j (omega arith))
 
-  globals-same : SameBytes t u globalChain 256
+  globals-same : SameBytes t u globalChains 256
   unfolding digestPlace
   globals-same = record {
     digest = λ i h. kept-at a (7173 + 8 * i) (omega arith);

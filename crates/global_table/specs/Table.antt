@@ -13,8 +13,8 @@ use Rattle.semantics.specs.Tree.{Ty, VarDecl}
 use Rattle.semantics.specs.Global.{Global, placeOf}
 use Rattle.lines.specs.Lines.{readAt, nodesIn}
 use Rattle.words.specs.Words.{digest, u16At}
-use Rattle.chains.specs.declared.Chain.{Chain}
-use Rattle.chains.specs.Chains.{chainOf, Chained, linked}
+use Rattle.chains.specs.declared.ChainPlaces.{ChainPlaces}
+use Rattle.chains.specs.Chains.{Chained, linked}
 use Rattle.checks.specs.Checks.{Checked, KindLine}
 use Rattle.source.specs.Walk.{varOf}
 
@@ -39,32 +39,32 @@ namesOn s r = varOn s r .names
 
 -- ---- the table
 
-abbrev pub globalLine : Bytes → ℕ → ℕ
-globalLine t i = u16At t (7168 + 8 * i)
+abbrev pub globalLineOf : Bytes → ℕ → ℕ
+globalLineOf t i = u16At t (7168 + 8 * i)
 
-unfoldable pub globalPosition : Bytes → ℕ → ℕ
-globalPosition t i = getD t (7170 + 8 * i) 0
+unfoldable pub globalPositionOf : Bytes → ℕ → ℕ
+globalPositionOf t i = getD t (7170 + 8 * i) 0
 
 abbrev pub offsetOf : Bytes → ℕ → ℕ
 offsetOf t i = u16At t (7171 + 8 * i)
 
-unfoldable pub globalDigest : Bytes → ℕ → ℕ
-globalDigest t i = getD t (7173 + 8 * i) 0
+unfoldable pub globalDigestOf : Bytes → ℕ → ℕ
+globalDigestOf t i = getD t (7173 + 8 * i) 0
 
--- the chains of entries
-abbrev pub globalChain : Chain
-globalChain = record { at = 7173; gap = 1; step = 8 }
+-- where their chains stand
+abbrev pub globalChains : ChainPlaces
+globalChains = record { at = 7173; gap = 1; step = 8 }
 
 -- entry i stored, and then linked
 unfoldable pub globalStored : Bytes → ℕ → ℕ → ℕ → ℕ → ℕ → Bytes
 globalStored t i line position offset d = sets t (7168 + 8 * i) (line % 256 ∷ line / 256 ∷ position ∷ offset % 256 ∷ offset / 256 ∷ d ∷ [])
 
 unfoldable pub globalEntered : Bytes → ℕ → ℕ → ℕ → ℕ → ℕ → Bytes
-globalEntered t i line position offset d = linked (globalStored t i line position offset d) globalChain i (chainOf d)
+globalEntered t i line position offset d = linked (globalStored t i line position offset d) globalChains i
 
 -- the global of entry i
 unfoldable pub globalAt : Bytes → Bytes → ℕ → Global
-globalAt s t i = record { name = nameOn s (globalLine t i) (globalPosition t i); offset = offsetOf t i; ty = typeOn s (globalLine t i) }
+globalAt s t i = record { name = nameOn s (globalLineOf t i) (globalPositionOf t i); offset = offsetOf t i; ty = typeOn s (globalLineOf t i) }
 
 -- k entries from i on
 unfoldable pub entriesFrom : Bytes → Bytes → ℕ → ℕ → List Global
@@ -77,8 +77,8 @@ placesIn s t g = entriesFrom s t 0 g
 -- entry i is of a `var` line, and holds its name's digest
 pub record GlobalEntry (s t : Bytes) (n i : ℕ) : Type 0 where
   pub low : i < 256
-  pub line : VarLine s t n (globalLine t i)
-  pub digest : globalDigest t i ≡ digest (globalAt s t i .name)
+  pub line : VarLine s t n (globalLineOf t i)
+  pub digest : globalDigestOf t i ≡ digest (globalAt s t i .name)
 
 -- the offset of an entry by its number from 1; 0 is none
 unfoldable pub offsetBy : Bytes → ℕ → Option ℕ
@@ -103,4 +103,4 @@ pub record Tabled (s t : Bytes) (n g : ℕ) : Type 0 where
   pub few : g ≤ 256
   pub entries : (i : ℕ) → i < g → GlobalEntry s t n i
   pub once : (i : ℕ) → i < g → entryNumber (globalAt s t i .name) (placesIn s t i) ≡ 0
-  pub chained : Chained t globalChain g
+  pub chained : Chained t globalChains g

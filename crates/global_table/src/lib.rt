@@ -1,7 +1,7 @@
 // The table of globals in the working space: for each a name of a `var` line, and its offset.
 pub mod line;
 
-use chains::Chain;
+use chains::ChainPlaces;
 use codes::area;
 ghost use mathlib.Core.Path.{_≡_};
 ghost use Prim.Native.Nat.{_≤_, _<_};
@@ -10,10 +10,10 @@ ghost use Rattle.semantics.specs.Text.{same};
 ghost use Rattle.semantics.specs.Global.{globalSize, placeOf};
 ghost use Rattle.sizes.specs.Sizes.{typeAt, TypeLine};
 ghost use Rattle.words.specs.Words.{digest};
-ghost use Rattle.global_table.specs.Table.{globalLine, globalPosition, offsetOf, globalDigest, globalEntered, globalAt, placesIn, GlobalEntry, Tabled, offsetBy, entryNumber, offsetIn};
+ghost use Rattle.global_table.specs.Table.{globalLineOf, globalPositionOf, offsetOf, globalDigestOf, globalEntered, globalAt, placesIn, GlobalEntry, Tabled, offsetBy, entryNumber, offsetIn};
 
-// The chains of entries.
-const CHAIN: Chain = Chain {
+// Where its chains stand.
+const CHAINS: ChainPlaces = ChainPlaces {
     at: area::GLOBALS + 5,
     gap: 1,
     step: 8,
@@ -22,7 +22,7 @@ const CHAIN: Chain = Chain {
 // The `var` line of entry i, from 1.
 pub fn line_of(work: &[u8], i: usize) -> usize
     requires { ⌜ (i < 256) × (65536 ≤ length (now work)) ⌝ }
-    ensures { λ r. ⌜ r ≡ globalLine (now (work .entry)) i ⌝ }
+    ensures { λ r. ⌜ r ≡ globalLineOf (now (work .entry)) i ⌝ }
 {
     words::u16_at(work, area::GLOBALS + 8 * i)
 }
@@ -30,7 +30,7 @@ pub fn line_of(work: &[u8], i: usize) -> usize
 // The position of its name among the line's names, from 0.
 fn position_of(work: &[u8], i: usize) -> usize
     requires { ⌜ (i < 256) × (65536 ≤ length (now work)) ⌝ }
-    ensures { λ r. ⌜ (r ≡ globalPosition (now (work .entry)) i) × (r < 256) ⌝ }
+    ensures { λ r. ⌜ (r ≡ globalPositionOf (now (work .entry)) i) × (r < 256) ⌝ }
 {
     words::wide(work[area::GLOBALS + 2 + 8 * i])
 }
@@ -46,7 +46,7 @@ pub fn offset_of(work: &[u8], i: usize) -> usize
 // Its name's digest.
 fn digest_of(work: &[u8], i: usize) -> usize
     requires { ⌜ (i < 256) × (65536 ≤ length (now work)) ⌝ }
-    ensures { λ r. ⌜ r ≡ globalDigest (now (work .entry)) i ⌝ }
+    ensures { λ r. ⌜ r ≡ globalDigestOf (now (work .entry)) i ⌝ }
 {
     words::wide(work[area::GLOBALS + 5 + 8 * i])
 }
@@ -63,7 +63,7 @@ pub fn enter(work: &mut [u8], i: usize, line: usize, position: usize, offset: us
     work[a + 3] = (offset % 256) as u8;
     work[a + 4] = (offset / 256) as u8;
     work[a + 5] = digest as u8;
-    chains::link(work, CHAIN, i, chains::chain_of(digest));
+    chains::link(work, CHAINS, i);
 }
 
 // The name of entry i, as that part of the sheet.
@@ -91,12 +91,12 @@ pub fn entry_number(sheet: &[u8], work: &[u8], n: usize, g: usize, name: &[u8]) 
     ensures { λ r. ⌜ (offsetBy (now (work .entry)) r ≡ placeOf (now (name .entry)) (placesIn (now (sheet .entry)) (now (work .entry)) g)) × (r ≤ g) × (r ≡ entryNumber (now (name .entry)) (placesIn (now (sheet .entry)) (now (work .entry)) g)) ⌝ }
 {
     let d = words::digest(name);
-    let mut i = chains::newest(work, CHAIN, g, chains::chain_of(d));
+    let mut i = chains::newest(work, CHAINS, g, d);
     while 0 < i {
         if is_named(sheet, work, n, i - 1, name, d) {
             return i;
         }
-        i = chains::earlier(work, CHAIN, g, i - 1);
+        i = chains::earlier(work, CHAINS, i - 1);
     }
     0
 }

@@ -25,7 +25,7 @@ use Rattle.checks.proofs.Kept.{outside-all, outside-then}
 use Rattle.sizes.specs.Sizes.{typeAt}
 use Rattle.globals.specs.declared.Globals.{Globals}
 use Rattle.globals.specs.Allocation.{Allocation, layName, layNames}
-use Rattle.global_table.specs.Table.{VarLine, nameOn, typeOn, namesOn, globalChain, globalEntered, globalAt, placesIn, GlobalEntry, offsetBy, entryNumber}
+use Rattle.global_table.specs.Table.{VarLine, nameOn, typeOn, namesOn, globalChains, globalEntered, globalAt, placesIn, GlobalEntry, offsetBy, entryNumber}
 use Rattle.globals.specs.Collect.{allocationIn, PlacesEntered, PlacesLaid}
 use Rattle.globals.proofs.Allocation.{names-next}
 use Rattle.global_table.proofs.VarLine.{names-count}
@@ -142,7 +142,7 @@ module _ (s t : Bytes) (n r j : ℕ) (g : Globals) (st : PlacesEntered s t n g) 
         let z : entryNumber (globalAt s new (g .count) .name) (placesIn s t (g .count)) ≡ 0 = ap (λ (e : Global). entryNumber (e .name) (placesIn s t (g .count))) entry-new ∙ sym hq ∙ hz in
         once-entered s t (g .count) r j off d full line-low (omega (arith, off-low)) (l .checked .whole .room) (st .tabled .once) z i (omega arith)
 
-    chained-new : Chained new globalChain (h .count)
+    chained-new : Chained new globalChains (h .count)
     unfolding new
     chained-new = rw (hc, add-one) (chained-entered t (g .count) r j off d full line-low (omega (arith, off-low)) (l .checked .whole .room) (st .tabled .chained))
 

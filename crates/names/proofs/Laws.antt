@@ -17,14 +17,14 @@ use Rattle.semantics.specs.Sheet.{sheetSource}
 use Rattle.semantics.specs.Fold.{Key, Const, signed64, plain, qualified, sameOption, lookUp, valueOf}
 use Rattle.semantics.specs.Const.{entries}
 use Rattle.semantics.proofs.Common.{both}
-use Rattle.chains.specs.Chains.{newestOf, chainOf, digestPlace, headAt, chainAt, inChain, Placed, Chained, linked}
-use Rattle.chains.proofs.Laws.{newest-low, newest-less, Along, along-first, along-found, along-next, along-end, chained-kept, PlacesApart, linked-outside}
+use Rattle.chains.specs.Chains.{newestOf, chainOf, digestPlace, headAt, chainAt, inChain, Placed, newestIn, earlierThan, Chained, linked}
+use Rattle.chains.proofs.Laws.{newest-low, newest-most, earlier-less, Along, along-from, along-found, along-next, along-end, chained-kept, PlacesApart, linked-outside}
 use Rattle.words.specs.Words.{digest, u16At, bitsAt}
 use Rattle.words.proofs.Laws.{digest-same, digest-apart}
 use Rattle.implement.specs.Modules.{firstField, moduleAt, ownIn, isOwn}
 use Rattle.checks.specs.Checks.{Kept, Outside, Checked}
 use Rattle.checks.proofs.Kept.{kept-at, kept-less}
-use Rattle.names.specs.Table.{constLine, moduleLineOf, valueBy, slotValue, kindOf, bitsOf, constDigest, constChain, entriesAt, logIn, EntryBounds, ConstsLogged, ConstTable, ConstEntry, found, hasKey, answersPlain, answersQualified, Answered, Looked}
+use Rattle.names.specs.Table.{constLineOf, moduleLineOf, valueBy, slotValue, kindOf, bitsOf, constDigestOf, constChains, entriesAt, logIn, EntryBounds, ConstsLogged, ConstTable, ConstEntry, found, hasKey, answersPlain, answersQualified, Answered, Looked}
 
 -- ---- a slot by its kind and bits
 
@@ -163,76 +163,79 @@ module _ {s t : Bytes} {k : Key} {answers : ℕ → Bool} (a : Answering s t k a
 pub answers-plain : (s t x : Bytes) → Answering s t (plain x) (λ (i : ℕ). answersPlain s t i x)
 unfolding entriesAt answersPlain
 answers-plain s t x = record {
-  value = λ i rest. plain-step (sheetSource s .implement) s x (firstField s (constLine t i)) (slotValue t (5124 + 16 * i)) rest (moduleLineOf t i);
-  has = λ i rest. plain-has (sheetSource s .implement) s x (firstField s (constLine t i)) (slotValue t (5124 + 16 * i)) rest (moduleLineOf t i);
+  value = λ i rest. plain-step (sheetSource s .implement) s x (firstField s (constLineOf t i)) (slotValue t (5124 + 16 * i)) rest (moduleLineOf t i);
+  has = λ i rest. plain-has (sheetSource s .implement) s x (firstField s (constLineOf t i)) (slotValue t (5124 + 16 * i)) rest (moduleLineOf t i);
 }
 
 pub answers-qualified : (s t q x : Bytes) → Answering s t (qualified q x) (λ (i : ℕ). answersQualified s t i q x)
 unfolding entriesAt answersQualified
 answers-qualified s t q x = record {
-  value = λ i rest. qualified-step (sheetSource s .implement) s x (firstField s (constLine t i)) (slotValue t (5124 + 16 * i)) rest q (moduleLineOf t i);
-  has = λ i rest. qualified-has (sheetSource s .implement) s x (firstField s (constLine t i)) (slotValue t (5124 + 16 * i)) rest q (moduleLineOf t i);
+  value = λ i rest. qualified-step (sheetSource s .implement) s x (firstField s (constLineOf t i)) (slotValue t (5124 + 16 * i)) rest q (moduleLineOf t i);
+  has = λ i rest. qualified-has (sheetSource s .implement) s x (firstField s (constLineOf t i)) (slotValue t (5124 + 16 * i)) rest q (moduleLineOf t i);
 }
 
 pub table-entry : {s t : Bytes} {n m i : ℕ} → ConstTable s t n m → i < m → ConstEntry s t n i
 table-entry {i = i} c h = record { checked = c .checked; low = omega (arith, c .logged .few); entry = c .logged .each i h; digested = c .logged .digests i h }
 
-pub const-room : {t : Bytes} → 65536 ≤ length t → Placed t constChain
+pub const-placed : {t : Bytes} → 65536 ≤ length t → Placed t constChains
 unfolding digestPlace
-const-room h = record { low = λ i h. omega arith; long = h }
+const-placed h = record { low = λ i h. omega arith; long = h }
 
-pub const-placed : {s t : Bytes} {n m : ℕ} → ConstTable s t n m → Placed t constChain
-const-placed c = const-room (c .checked .whole .room)
+pub table-placed : {s t : Bytes} {n m : ℕ} → ConstTable s t n m → Placed t constChains
+table-placed c = const-placed (c .checked .whole .room)
 
 -- the entry before one of the table may be asked for
-pub earlier-asked : {s t : Bytes} {n m : ℕ} → ConstTable s t n m → {i : ℕ} → i < m → (Placed t constChain) × (Chained t constChain m) × (i < m) × (m ≤ 256)
-earlier-asked c h = (const-placed c, c .logged .chained, h, omega (arith, c .logged .few))
+pub earlier-asked : {s t : Bytes} {n m : ℕ} → ConstTable s t n m → {i : ℕ} → i < m → (Placed t constChains) × (i < 256)
+earlier-asked c h = (table-placed c, omega (arith, c .logged .few))
 
 -- a number up to the table's end is an answer
 pub answered : {s t : Bytes} {n m : ℕ} → ConstsLogged s t n m → Checked s t n → {r : ℕ} → r ≤ m → Answered t r
 answered l c h = record { few = omega (arith, l .few); long = c .whole .room; text = λ i e q. l .each i (omega arith) .text q }
 
 -- names with different digests are different
-pub named-apart : {s t : Bytes} {n i d : ℕ} (x : Bytes) → ConstEntry s t n i → d ≡ digest x → (constDigest t i ≡ d → ⊥) → false ≡ same x (firstField s (constLine t i))
-named-apart {s} {t} {i = i} x k e z = digest-apart x (firstField s (constLine t i)) (λ q. z (k .digested ∙ sym (e ∙ q)))
+pub named-apart : {s t : Bytes} {n i d : ℕ} (x : Bytes) → ConstEntry s t n i → d ≡ digest x → (constDigestOf t i ≡ d → ⊥) → false ≡ same x (firstField s (constLineOf t i))
+named-apart {s} {t} {i = i} x k e z = digest-apart x (firstField s (constLineOf t i)) (λ q. z (k .digested ∙ sym (e ∙ q)))
 
 -- entries that answer are in the chain of the name's digest
 module _ {s t : Bytes} {n m : ℕ} (c : ConstTable s t n m) (x : Bytes) {d : ℕ} (e : d ≡ digest x) where
-  named-member : (i : ℕ) → i < m → same x (firstField s (constLine t i)) ≡ true → inChain t constChain (chainOf d) i ≡ true
+  named-member : (i : ℕ) → i < m → same x (firstField s (constLineOf t i)) ≡ true → inChain t constChains (chainOf d) i ≡ true
   unfolding chainAt digestPlace
-  named-member i h q = eq-eqb (chainAt t constChain i) (chainOf d) (ap chainOf (c .logged .digests i h ∙ sym (e ∙ digest-same x (firstField s (constLine t i)) 0 q)))
+  named-member i h q = eq-eqb (chainAt t constChains i) (chainOf d) (ap chainOf (c .logged .digests i h ∙ sym (e ∙ digest-same x (firstField s (constLineOf t i)) 0 q)))
 
-  pub plain-member : (i : ℕ) → i < m → answersPlain s t i x ≡ true → inChain t constChain (chainOf d) i ≡ true
+  pub plain-member : (i : ℕ) → i < m → answersPlain s t i x ≡ true → inChain t constChains (chainOf d) i ≡ true
   unfolding answersPlain
-  plain-member i h q = named-member i h (both (same x (firstField s (constLine t i))) (isOwn s (moduleLineOf t i)) q .0)
+  plain-member i h q = named-member i h (both (same x (firstField s (constLineOf t i))) (isOwn s (moduleLineOf t i)) q .0)
 
-  pub qualified-member : (w : Bytes) (i : ℕ) → i < m → answersQualified s t i w x ≡ true → inChain t constChain (chainOf d) i ≡ true
+  pub qualified-member : (w : Bytes) (i : ℕ) → i < m → answersQualified s t i w x ≡ true → inChain t constChains (chainOf d) i ≡ true
   unfolding answersQualified
-  qualified-member w i h q = named-member i h (both (same x (firstField s (constLine t i))) (not (eqb (moduleLineOf t i) 0) && same w (firstField s (moduleLineOf t i))) q .0)
+  qualified-member w i h q = named-member i h (both (same x (firstField s (constLineOf t i))) (not (eqb (moduleLineOf t i) 0) && same w (firstField s (moduleLineOf t i))) q .0)
+
+-- where it begins
+module _ {s t : Bytes} {n m : ℕ} (c : ConstTable s t n m) (d : ℕ) {r : ℕ} where
+  pub newest-within : r ≡ newestIn t constChains m (chainOf d) → (r ≤ m) × (r ≡ newestOf (inChain t constChains (chainOf d)) m)
+  newest-within e = let q = e ∙ c .logged .chained .heads (chainOf d) (omega arith) in (newest-most (inChain t constChains (chainOf d)) q, q)
 
 -- a look-up along chain k, where `newest` is the newest of it among some first entries: i is the number of the next entry
 pub record Asking (t : Bytes) (k n newest : ℕ) (answers : ℕ → Bool) (i : ℕ) : Type 0 where
   pub low : i ≤ n
-  pub along : (m : ℕ) → m ≤ n → newest ≡ newestOf (inChain t constChain k) m → Along t constChain k m answers i
+  pub along : (m : ℕ) → m ≤ n → newest ≡ newestOf (inChain t constChains k) m → Along t constChains k m answers i
 
 module _ {t : Bytes} {k n newest : ℕ} {answers : ℕ → Bool} where
-  pub asking-first : newest ≤ n → ((j : ℕ) → j < n → answers j ≡ true → inChain t constChain k j ≡ true) → Asking t k n newest answers newest
-  asking-first h only = record { low = h; along = λ m l e. along-first (λ j x. only j (omega arith)) e }
+  pub asking-first : Chained t constChains n → newest ≤ n → ((j : ℕ) → j < n → answers j ≡ true → inChain t constChains k j ≡ true) → Asking t k n newest answers newest
+  asking-first c h only = record { low = h; along = λ m l e. along-from (λ j x. c .links j (omega arith)) (λ j x. only j (omega arith)) e }
 
   module _ {i : ℕ} (a : Asking t k n newest answers i) (h : 0 < i) {b : Bool} (e : b ≡ answers (i - 1)) where
-    pub asking-found : b ≡ true → (m : ℕ) → m ≤ n → newest ≡ newestOf (inChain t constChain k) m → i ≡ newestOf answers m
+    pub asking-found : b ≡ true → (m : ℕ) → m ≤ n → newest ≡ newestOf (inChain t constChains k) m → i ≡ newestOf answers m
     asking-found q m l x = along-found (a .along m l x) h e q
 
-    pub asking-next : b ≡ false → {r : ℕ} → r ≡ newestOf (inChain t constChain (chainAt t constChain (i - 1))) (i - 1) → Asking t k n newest answers r
-    asking-next q x =
-        let l = newest-less (inChain t constChain (chainAt t constChain (i - 1))) h x in
-        record { low = omega (arith, l, a .low); along = λ m y z. along-next (a .along m y z) h e q x }
+    pub asking-next : b ≡ false → {r : ℕ} → r ≡ earlierThan t constChains (i - 1) → Asking t k n newest answers r
+    asking-next q x = let l = earlier-less t constChains h x in record { low = omega (arith, l, a .low); along = λ m y z. along-next (a .along m y z) h e q x }
 
-  pub asking-end : {i : ℕ} → i ≡ 0 → Asking t k n newest answers i → (m : ℕ) → m ≤ n → newest ≡ newestOf (inChain t constChain k) m → 0 ≡ newestOf answers m
+  pub asking-end : {i : ℕ} → i ≡ 0 → Asking t k n newest answers i → (m : ℕ) → m ≤ n → newest ≡ newestOf (inChain t constChains k) m → 0 ≡ newestOf answers m
   asking-end z a m l x = along-end z (a .along m l x)
 
 -- which entries answer, as it is tested
-module _ (s t : Bytes) (i : ℕ) (x : Bytes) {b : Bool} (name : b ≡ same x (firstField s (constLine t i))) where
+module _ (s t : Bytes) (i : ℕ) (x : Bytes) {b : Bool} (name : b ≡ same x (firstField s (constLineOf t i))) where
   pub plain-other : not b ≡ true → false ≡ answersPlain s t i x
   unfolding answersPlain
   plain-other f = rw (← name, not-true b f)
@@ -280,7 +283,7 @@ module _ {t u : Bytes} (n i : ℕ) (w : SameEntry t u i) (e : EntryBounds t n i)
       let x : (l : Bytes) → getD l p 0 ≡ getD (take 14 (drop (5120 + 16 * i) l)) j 0 = λ l. ap (λ (a : ℕ). getD l a 0) q ∙ sym (getD-take 14 (drop (5120 + 16 * i) l) j 0 h ∙ getD-drop (5120 + 16 * i) l j 0) in
       x u ∙ ap (λ (l : Bytes). getD l j 0) (w .bytes) ∙ sym (x t)
 
-  line-kept : constLine u i ≡ constLine t i
+  line-kept : constLineOf u i ≡ constLineOf t i
   unfolding u16At
   line-kept = rw (byte-kept (5120 + 16 * i) 0 (omega arith) (omega arith), byte-kept (5120 + 16 * i + 1) 1 (omega arith) (omega arith))
 
@@ -298,7 +301,7 @@ module _ {t u : Bytes} (n i : ℕ) (w : SameEntry t u i) (e : EntryBounds t n i)
       let x : (l : Bytes) → take 8 (drop (5120 + 16 * i + 5) l) ≡ take 8 (drop 5 (take 14 (drop (5120 + 16 * i) l))) = λ l. sym (part-low 5 8 14 (drop (5120 + 16 * i) l) (omega arith) ∙ ap (take 8) (drop-drop 5 (5120 + 16 * i) l)) in
       rw a (ap (fromBigEndian 0) (x u ∙ ap (λ (l : Bytes). take 8 (drop 5 l)) (w .bytes) ∙ sym (x t)))
 
-  digest-kept : constDigest u i ≡ constDigest t i
+  digest-kept : constDigestOf u i ≡ constDigestOf t i
   digest-kept = byte-kept (5133 + 16 * i) 13 (omega arith) (omega arith)
 
   entry-kept : EntryBounds u n i
@@ -329,7 +332,7 @@ module _ {t u : Bytes} {n m : ℕ} (w : (i : ℕ) → i < m → SameEntry t u i)
   pub each-same : (i : ℕ) → i < m → EntryBounds u n i
   each-same i h = entry-kept n i (w i h) (each i h)
 
-  pub digests-same : (s : Bytes) → ((i : ℕ) → i < m → constDigest t i ≡ digest (firstField s (constLine t i))) → (i : ℕ) → i < m → constDigest u i ≡ digest (firstField s (constLine u i))
+  pub digests-same : (s : Bytes) → ((i : ℕ) → i < m → constDigestOf t i ≡ digest (firstField s (constLineOf t i))) → (i : ℕ) → i < m → constDigestOf u i ≡ digest (firstField s (constLineOf u i))
   digests-same s d i h = rw (digest-kept n i (w i h) (each i h), line-kept n i (w i h) (each i h)) (d i h)
 
   module _ (s : Bytes) (same : (i : ℕ) → i < m → SameText t u i) where
@@ -364,7 +367,7 @@ module _ {s t u : Bytes} {n m : ℕ} (w : Kept 7168 t u) (l : ConstsLogged s t n
 
 -- ---- an entry linked
 
-pub const-apart : PlacesApart constChain 128
+pub const-apart : PlacesApart constChains 128
 unfolding digestPlace
 const-apart = record { own = λ i j e. omega arith; link = λ i j h k e. omega arith; head = λ i k h l e. omega arith }
 
@@ -378,24 +381,27 @@ module _ (t : Bytes) (i j x : ℕ) where
       let a = 5120 + 16 * i in
       record { bytes = sym (part-low a 14 (a + 14) (set t j x) (omega arith)) ∙ ap (λ (l : Bytes). take 14 (drop a l)) (take-set-le (a + 14) t j x (omega arith)) ∙ part-low a 14 (a + 14) t (omega arith) }
 
-module _ (t : Bytes) (m k : ℕ) (few : m < 128) (small : k < 128) where
-  pub const-outside : Outside 5120 7168 t (linked t constChain m k)
+module _ (t : Bytes) (m : ℕ) (few : m < 128) where
+  pub const-outside : Outside 5120 7168 t (linked t constChains m)
   unfolding digestPlace
-  const-outside = linked-outside t constChain m k (omega arith) (omega arith) (omega arith) (omega arith)
+  const-outside = linked-outside t constChains m (omega arith) (omega arith) (λ k h. (omega arith, omega arith))
 
-  pub linked-entries : (i : ℕ) → i < m + 1 → SameEntry t (linked t constChain m k) i
+  pub linked-entries : (i : ℕ) → i < m + 1 → SameEntry t (linked t constChains m) i
   unfolding linked digestPlace
   linked-entries i h = go (ltb k i) refl
     where
+      k : ℕ
+      k = chainAt t constChains m
+
       u : Bytes
-      u = set t (5133 + 16 * m + 1) (headAt t constChain k)
+      u = set t (5133 + 16 * m + 1) (headAt t constChains k)
 
       head : (b : Bool) → ltb k i ≡ b → SameEntry u (set u (5133 + 16 * k + 1 + 1) m) i
       head true e = let x = ltb-true k i e in set-before u i (5133 + 16 * k + 1 + 1) m (omega arith)
       head false e = let x = ltb-false k i e in set-behind u i (5133 + 16 * k + 1 + 1) m (omega arith)
 
       go : (b : Bool) → ltb k i ≡ b → SameEntry t (set u (5133 + 16 * k + 1 + 1) m) i
-      go b e = record { bytes = head b e .bytes ∙ set-behind t i (5133 + 16 * m + 1) (headAt t constChain k) (omega arith) .bytes }
+      go b e = record { bytes = head b e .bytes ∙ set-behind t i (5133 + 16 * m + 1) (headAt t constChains k) (omega arith) .bytes }
 
 -- where all below the stack of folds is kept
 module _ {s t u : Bytes} {n m : ℕ} (w : Kept 49152 t u) (l : ConstsLogged s t n m) where

@@ -16,14 +16,14 @@ use Rattle.semantics.specs.Tree.ConstVal.{vInt, vReal, vStr}
 use Rattle.semantics.specs.Sheet.{sheetSource}
 use Rattle.semantics.specs.Fold.{Key, Const, Names, signed64, sameKey, lookUp, valueOf}
 use Rattle.semantics.specs.Const.{entries}
-use Rattle.chains.specs.declared.Chain.{Chain}
+use Rattle.chains.specs.declared.ChainPlaces.{ChainPlaces}
 use Rattle.chains.specs.Chains.{newestOf, Chained}
 use Rattle.words.specs.Words.{digest, u16At, bitsAt}
 use Rattle.implement.specs.Modules.{firstField, moduleAt, isOwn}
 use Rattle.checks.specs.Checks.{Checked}
 
-abbrev pub constLine : Bytes → ℕ → ℕ
-constLine t i = u16At t (5120 + 16 * i)
+abbrev pub constLineOf : Bytes → ℕ → ℕ
+constLineOf t i = u16At t (5120 + 16 * i)
 
 abbrev pub moduleLineOf : Bytes → ℕ → ℕ
 moduleLineOf t i = u16At t (5122 + 16 * i)
@@ -49,17 +49,17 @@ abbrev pub bitsOf : Bytes → ℕ → ℕ
 bitsOf t i = bitsAt t (5125 + 16 * i)
 
 -- the digest of entry i's name, by which look-ups pass over other names
-abbrev pub constDigest : Bytes → ℕ → ℕ
-constDigest t i = getD t (5133 + 16 * i) 0
+abbrev pub constDigestOf : Bytes → ℕ → ℕ
+constDigestOf t i = getD t (5133 + 16 * i) 0
 
 -- where the digests, links and heads stand
-abbrev pub constChain : Chain
-constChain = record { at = 5133; gap = 1; step = 16 }
+abbrev pub constChains : ChainPlaces
+constChains = record { at = 5133; gap = 1; step = 16 }
 
 -- ---- the log
 
 unfoldable pub entriesAt : Bytes → Bytes → ℕ → List Const
-entriesAt s t i = entries (sheetSource s .implement) (moduleAt s (moduleLineOf t i)) (firstField s (constLine t i)) (slotValue t (5124 + 16 * i))
+entriesAt s t i = entries (sheetSource s .implement) (moduleAt s (moduleLineOf t i)) (firstField s (constLineOf t i)) (slotValue t (5124 + 16 * i))
 
 -- the constants of the first m entries, the newest first
 unfoldable pub logIn : Bytes → Bytes → ℕ → List Const
@@ -78,8 +78,8 @@ pub record StringPlace (b : ℕ) : Type 0 where
 
 -- an entry of a table for a sheet of n lines; its string lies at a place of its own
 pub record EntryBounds (t : Bytes) (n i : ℕ) : Type 0 where
-  pub first : 0 < constLine t i
-  pub last : constLine t i ≤ n
+  pub first : 0 < constLineOf t i
+  pub last : constLineOf t i ≤ n
   pub within : moduleLineOf t i ≤ n
   pub kind : kindOf t i ≤ 3
   pub text : kindOf t i ≡ 3 → StringPlace (bitsOf t i)
@@ -89,8 +89,8 @@ pub record EntryBounds (t : Bytes) (n i : ℕ) : Type 0 where
 pub record ConstsLogged (s t : Bytes) (n m : ℕ) : Type 0 where
   pub few : m ≤ 128
   pub each : (i : ℕ) → i < m → EntryBounds t n i
-  pub digests : (i : ℕ) → i < m → constDigest t i ≡ digest (firstField s (constLine t i))
-  pub chained : Chained t constChain m
+  pub digests : (i : ℕ) → i < m → constDigestOf t i ≡ digest (firstField s (constLineOf t i))
+  pub chained : Chained t constChains m
 
 -- the table of a checked sheet has m entries
 pub record ConstTable (s t : Bytes) (n m : ℕ) : Type 0 where
@@ -102,7 +102,7 @@ pub record ConstEntry (s t : Bytes) (n i : ℕ) : Type 0 where
   pub checked : Checked s t n
   pub low : i < 128
   pub entry : EntryBounds t n i
-  pub digested : constDigest t i ≡ digest (firstField s (constLine t i))
+  pub digested : constDigestOf t i ≡ digest (firstField s (constLineOf t i))
 
 -- what a look-up answers: 0 for no constant, else the entry's number from 1
 unfoldable pub found : Bytes → ℕ → Option ConstVal
@@ -123,11 +123,11 @@ hasKey k cs = any (λ (c : Const). sameKey k (c .key)) cs
 
 -- the name alone, outside modules and in the implemented module
 unfoldable pub answersPlain : Bytes → Bytes → ℕ → Bytes → Bool
-answersPlain s t i x = same x (firstField s (constLine t i)) && isOwn s (moduleLineOf t i)
+answersPlain s t i x = same x (firstField s (constLineOf t i)) && isOwn s (moduleLineOf t i)
 
 -- the module's name and the name
 unfoldable pub answersQualified : Bytes → Bytes → ℕ → Bytes → Bytes → Bool
-answersQualified s t i q x = same x (firstField s (constLine t i)) && (not (eqb (moduleLineOf t i) 0) && same q (firstField s (moduleLineOf t i)))
+answersQualified s t i q x = same x (firstField s (constLineOf t i)) && (not (eqb (moduleLineOf t i) 0) && same q (firstField s (moduleLineOf t i)))
 
 abbrev pub newestPlain : Bytes → Bytes → ℕ → Bytes → ℕ
 newestPlain s t m x = newestOf (λ (i : ℕ). answersPlain s t i x) m

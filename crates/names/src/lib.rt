@@ -1,5 +1,5 @@
 // The table of constants: look-ups by name and by module and name, the newest entry first.
-use chains::Chain;
+use chains::ChainPlaces;
 use codes::area;
 ghost use mathlib.Core.Path.{_≡_};
 ghost use Prim.Native.Nat.{ℕ, _+_, _≤_, _<_};
@@ -10,7 +10,7 @@ ghost use Rattle.words.specs.Words.{digest};
 ghost use Rattle.chains.specs.Chains.{chainOf, inChain, newestOf};
 ghost use Rattle.implement.specs.Modules.{firstField};
 ghost use Rattle.checks.specs.Checks.{Checked};
-ghost use Rattle.names.specs.Table.{constLine, moduleLineOf, bitsOf, kindOf, constDigest, constChain, answersPlain, answersQualified, newestPlain, newestQualified, Looked, ConstTable, ConstEntry};
+ghost use Rattle.names.specs.Table.{constLineOf, moduleLineOf, bitsOf, kindOf, constDigestOf, constChains, answersPlain, answersQualified, newestPlain, newestQualified, Looked, ConstTable, ConstEntry};
 
 // How many lines the sheet has, and how many constants are known.
 pub struct Known {
@@ -18,8 +18,8 @@ pub struct Known {
     pub consts: usize,
 }
 
-// Its chains.
-pub const CHAIN: Chain = Chain {
+// Where its chains stand.
+pub const CHAINS: ChainPlaces = ChainPlaces {
     at: area::CONSTANTS + 13,
     gap: 1,
     step: area::CONSTANT,
@@ -28,7 +28,7 @@ pub const CHAIN: Chain = Chain {
 // The `con` line of entry i.
 pub fn line_of(work: &[u8], i: usize) -> usize
     requires { ⌜ (i < 128) × (65536 ≤ length (now work)) ⌝ }
-    ensures { λ r. ⌜ r ≡ constLine (now (work .entry)) i ⌝ }
+    ensures { λ r. ⌜ r ≡ constLineOf (now (work .entry)) i ⌝ }
 {
     words::u16_at(work, area::CONSTANTS + area::CONSTANT * i)
 }
@@ -60,7 +60,7 @@ pub fn slot_bits(work: &[u8], i: usize) -> u64
 // The digest of its name.
 fn digest_of(work: &[u8], i: usize) -> usize
     requires { ⌜ (i < 128) × (65536 ≤ length (now work)) ⌝ }
-    ensures { λ r. ⌜ r ≡ constDigest (now (work .entry)) i ⌝ }
+    ensures { λ r. ⌜ r ≡ constDigestOf (now (work .entry)) i ⌝ }
 {
     words::wide(work[area::CONSTANTS + 13 + area::CONSTANT * i])
 }
@@ -76,7 +76,7 @@ fn is_named(sheet: &[u8], work: &[u8], n: usize, k: usize, name: &[u8]) -> bool
 // Whether the constant of entry i has this name, which has the digest d.
 fn has_name(sheet: &[u8], work: &[u8], n: usize, i: usize, name: &[u8], d: usize) -> bool
     requires { ⌜ (ConstEntry (now sheet) (now work) n i) × (d ≡ digest (now name)) ⌝ }
-    ensures { λ r. ⌜ r ≡ Text.same (now (name .entry)) (firstField (now (sheet .entry)) (constLine (now (work .entry)) i)) ⌝ }
+    ensures { λ r. ⌜ r ≡ Text.same (now (name .entry)) (firstField (now (sheet .entry)) (constLineOf (now (work .entry)) i)) ⌝ }
 {
     if digest_of(work, i) != d {
         return false; // before the line is looked at
@@ -118,18 +118,18 @@ fn answers_qualified(
     is_named(sheet, work, n, k, within)
 }
 
-// The newest of some first entries that enters a constant by the plain name; of those in the name's chain `newest` is the newest. Both
-// are numbers of entries from 1, 0 for none.
+// `newest` is the newest of some first entries in the chain of the name's digest d; the answer is the newest of those first entries
+// that enters a constant by the plain name. Both are numbers from 1, 0 for none.
 fn along_plain(sheet: &[u8], work: &[u8], c: Known, newest: usize, name: &[u8], d: usize) -> usize
     requires { ⌜ (ConstTable (now sheet) (now work) (c .lines) (c .consts)) × (newest ≤ c .consts) × (d ≡ digest (now name)) ⌝ }
-    ensures { λ r. ⌜ ((m : ℕ) → m ≤ c .consts → newest ≡ newestOf (inChain (now (work .entry)) constChain (chainOf d)) m → r ≡ newestPlain (now (sheet .entry)) (now (work .entry)) m (now (name .entry))) ⌝ }
+    ensures { λ r. ⌜ ((m : ℕ) → m ≤ c .consts → newest ≡ newestOf (inChain (now (work .entry)) constChains (chainOf d)) m → r ≡ newestPlain (now (sheet .entry)) (now (work .entry)) m (now (name .entry))) ⌝ }
 {
     let mut i = newest;
     while 0 < i {
         if answers_plain(sheet, work, c.lines, i - 1, name, d) {
             return i;
         }
-        i = chains::earlier(work, CHAIN, c.consts, i - 1);
+        i = chains::earlier(work, CHAINS, i - 1);
     }
     0
 }
@@ -145,14 +145,14 @@ fn along_qualified(
     d: usize,
 ) -> usize
     requires { ⌜ (ConstTable (now sheet) (now work) (c .lines) (c .consts)) × (newest ≤ c .consts) × (d ≡ digest (now name)) ⌝ }
-    ensures { λ r. ⌜ ((m : ℕ) → m ≤ c .consts → newest ≡ newestOf (inChain (now (work .entry)) constChain (chainOf d)) m → r ≡ newestQualified (now (sheet .entry)) (now (work .entry)) m (now (within .entry)) (now (name .entry))) ⌝ }
+    ensures { λ r. ⌜ ((m : ℕ) → m ≤ c .consts → newest ≡ newestOf (inChain (now (work .entry)) constChains (chainOf d)) m → r ≡ newestQualified (now (sheet .entry)) (now (work .entry)) m (now (within .entry)) (now (name .entry))) ⌝ }
 {
     let mut i = newest;
     while 0 < i {
         if answers_qualified(sheet, work, c.lines, i - 1, within, name, d) {
             return i;
         }
-        i = chains::earlier(work, CHAIN, c.consts, i - 1);
+        i = chains::earlier(work, CHAINS, i - 1);
     }
     0
 }
@@ -163,7 +163,7 @@ pub fn look_up(sheet: &[u8], work: &[u8], c: Known, name: &[u8]) -> usize
     ensures { λ r. ⌜ Looked (now (sheet .entry)) (now (work .entry)) (plain (now (name .entry))) (c .consts) (newestPlain (now (sheet .entry)) (now (work .entry)) (c .consts) (now (name .entry))) r ⌝ }
 {
     let d = words::digest(name);
-    let newest = chains::newest(work, CHAIN, c.consts, chains::chain_of(d));
+    let newest = chains::newest(work, CHAINS, c.consts, d);
     along_plain(sheet, work, c, newest, name, d)
 }
 
@@ -173,16 +173,16 @@ pub fn look_up_in(sheet: &[u8], work: &[u8], c: Known, within: &[u8], name: &[u8
     ensures { λ r. ⌜ Looked (now (sheet .entry)) (now (work .entry)) (qualified (now (within .entry)) (now (name .entry))) (c .consts) (newestQualified (now (sheet .entry)) (now (work .entry)) (c .consts) (now (within .entry)) (now (name .entry))) r ⌝ }
 {
     let d = words::digest(name);
-    let newest = chains::newest(work, CHAIN, c.consts, chains::chain_of(d));
+    let newest = chains::newest(work, CHAINS, c.consts, d);
     along_qualified(sheet, work, c, newest, within, name, d)
 }
 
 // The newest constant before entry i of the plain name that entry i has.
 pub fn look_up_before(sheet: &[u8], work: &[u8], c: Known, i: usize, name: &[u8]) -> usize
-    requires { ⌜ (ConstTable (now sheet) (now work) (c .lines) (c .consts)) × (i < c .consts) × (now name ≡ firstField (now sheet) (constLine (now work) i)) ⌝ }
+    requires { ⌜ (ConstTable (now sheet) (now work) (c .lines) (c .consts)) × (i < c .consts) × (now name ≡ firstField (now sheet) (constLineOf (now work) i)) ⌝ }
     ensures { λ r. ⌜ Looked (now (sheet .entry)) (now (work .entry)) (plain (now (name .entry))) i (newestPlain (now (sheet .entry)) (now (work .entry)) i (now (name .entry))) r ⌝ }
 {
-    let newest = chains::earlier(work, CHAIN, c.consts, i);
+    let newest = chains::earlier(work, CHAINS, i);
     along_plain(sheet, work, c, newest, name, digest_of(work, i))
 }
 
@@ -195,9 +195,9 @@ pub fn look_up_in_before(
     within: &[u8],
     name: &[u8],
 ) -> usize
-    requires { ⌜ (ConstTable (now sheet) (now work) (c .lines) (c .consts)) × (i < c .consts) × (now name ≡ firstField (now sheet) (constLine (now work) i)) ⌝ }
+    requires { ⌜ (ConstTable (now sheet) (now work) (c .lines) (c .consts)) × (i < c .consts) × (now name ≡ firstField (now sheet) (constLineOf (now work) i)) ⌝ }
     ensures { λ r. ⌜ Looked (now (sheet .entry)) (now (work .entry)) (qualified (now (within .entry)) (now (name .entry))) i (newestQualified (now (sheet .entry)) (now (work .entry)) i (now (within .entry)) (now (name .entry))) r ⌝ }
 {
-    let newest = chains::earlier(work, CHAIN, c.consts, i);
+    let newest = chains::earlier(work, CHAINS, i);
     along_qualified(sheet, work, c, newest, within, name, digest_of(work, i))
 }

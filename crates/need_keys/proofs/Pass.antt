@@ -28,7 +28,7 @@ use Rattle.type_lines.proofs.Codes.{kind-low}
 use Rattle.type_lines.proofs.ByForm.{elem-is}
 use Rattle.type_lines.proofs.Spelling.{texts-are}
 use Rattle.type_lines.proofs.Needs.{needs-all, needs-few, needs-next, needs-stay}
-use Rattle.type_keys.specs.Table.{needLineOf, needPosition, kindPosition, needDigest, needChain, needEntered, digestEntered, kindEntered, Needs, Kinds}
+use Rattle.type_keys.specs.Table.{needLineOf, needPositionOf, kindPosition, needDigestOf, needChains, needEntered, digestEntered, kindEntered, Needs, Kinds}
 use Rattle.type_keys.proofs.Distinct.{position-same, position-within, position-none, position-more, distinct-more, distinct-few, key-member, none-distinct, known-more}
 use Rattle.type_keys.proofs.Table.{line-below, position-below, kind-above, kind-kept, entered-outside, entered-line, entered-position, other-line, other-position, kind-outside, kind-entered, need-chain, digest-above, digest-outside, digest-same, digest-other, chained-entered, chained-above}
 use Rattle.type_keys.proofs.Elements.{kinds-more}
@@ -76,15 +76,15 @@ module _ {s t : List ℕ} {n i needs keys : ℕ} (x : NeedNext s t n i needs key
     same-as = ap (sameTypeKey (needAt s i)) (x .collecting .table .key q low)
 
     -- a need with the key has its position
-    pub found-position : {b : Bool} → b ≡ hasNeedKey s t i q → b ≡ true → needPosition t q ≡ position (needAt s i) (distinct [] (needsTo s i))
+    pub found-position : {b : Bool} → b ≡ hasNeedKey s t i q → b ≡ true → needPositionOf t q ≡ position (needAt s i) (distinct [] (needsTo s i))
     found-position e g = x .collecting .table .position q low ∙ sym (position-same (needAt s i) (getD (needsTo s i) q opaqueKey) (sym same-as ∙ sym e ∙ g) (distinct [] (needsTo s i)))
 
     -- and the digest of its line's text, so it is of that chain
-    pub found-chain : {d : ℕ} → d ≡ digest (textAt s i) → hasNeedKey s t i q ≡ true → inChain t needChain (chainOf d) q ≡ true
+    pub found-chain : {d : ℕ} → d ≡ digest (textAt s i) → hasNeedKey s t i q ≡ true → inChain t needChains (chainOf d) q ≡ true
     found-chain {d} e g =
         let z : textAt s i ≡ textAt s (needLineOf t q) = same-eq (textAt s i) (textAt s (needLineOf t q)) (texts-are (x .line) (known-entry q h .line) ∙ g) in
-        let y : needDigest t q ≡ d = x .collecting .digests q h ∙ sym (e ∙ ap (λ (l : List ℕ). digest l) z) in
-        eq-eqb (chainAt t needChain q) (chainOf d) (need-chain t q ∙ ap chainOf y)
+        let y : needDigestOf t q ≡ d = x .collecting .digests q h ∙ sym (e ∙ ap (λ (l : List ℕ). digest l) z) in
+        eq-eqb (chainAt t needChains q) (chainOf d) (need-chain t q ∙ ap chainOf y)
 
   pub next-position : 0 ≡ newestOf (hasNeedKey s t i) needs → keys ≡ position (needAt s i) (distinct [] (needsTo s i))
   next-position z =
@@ -126,8 +126,8 @@ module _ {s t : List ℕ} {n i needs keys : ℕ} (x : NeedNext s t n i needs key
   line-at : (q : ℕ) → q < 128 → needLineOf w q ≡ needLineOf (needEntered t needs i p) q
   line-at q h = line-below later q h ∙ ap (λ (l : List ℕ). needLineOf l q) hu
 
-  position-at : (q : ℕ) → q < 128 → needPosition w q ≡ needPosition (needEntered t needs i p) q
-  position-at q h = position-below later q h ∙ ap (λ (l : List ℕ). needPosition l q) hu
+  position-at : (q : ℕ) → q < 128 → needPositionOf w q ≡ needPositionOf (needEntered t needs i p) q
+  position-at q h = position-below later q h ∙ ap (λ (l : List ℕ). needPositionOf l q) hu
 
   module _ (q : ℕ) (h : q < length (needsTo s i)) where
     few : q < 128
@@ -139,16 +139,16 @@ module _ {s t : List ℕ} {n i needs keys : ℕ} (x : NeedNext s t n i needs key
     old-line : needLineOf w q ≡ needLineOf t q
     old-line = line-at q few ∙ other-line t room needs i p (needs-room x .0) q few apart
 
-    old-position : needPosition w q ≡ needPosition t q
+    old-position : needPositionOf w q ≡ needPositionOf t q
     old-position = position-at q few ∙ other-position t room needs i p (needs-room x .0) q few apart
 
   new-line : needLineOf w (length (needsTo s i)) ≡ i
   new-line = rw (← x .collecting .count) (line-at needs (needs-room x .0) ∙ entered-line t room needs i p (needs-room x .0))
 
-  new-position : needPosition w (length (needsTo s i)) ≡ p
+  new-position : needPositionOf w (length (needsTo s i)) ≡ p
   new-position = rw (← x .collecting .count) (position-at needs (needs-room x .0) ∙ entered-position t room needs i p (needs-room x .0))
 
-  positions-stay : (q : ℕ) → q < length (needsTo s i) → needPosition w q ≡ position (getD (needsTo s i) q opaqueKey) (distinct [] (needsTo s i ++ (needAt s i ∷ [])))
+  positions-stay : (q : ℕ) → q < length (needsTo s i) → needPositionOf w q ≡ position (getD (needsTo s i) q opaqueKey) (distinct [] (needsTo s i ++ (needAt s i ∷ [])))
   positions-stay q h =
       old-position q h ∙ x .collecting .table .position q h
       ∙ sym (known-more (getD (needsTo s i) q opaqueKey) (needsTo s i) (needAt s i ∷ []) (key-member opaqueKey (needsTo s i) q h) .1)
@@ -161,7 +161,7 @@ module _ {s t : List ℕ} {n i needs keys : ℕ} (x : NeedNext s t n i needs key
         within = λ q h. each (needsTo s i) (needAt s i) (λ q k. needLineOf w q < n) (λ q h. rw (old-line q h) (old .within q h)) (rw new-line (x .line .within)) q h;
         kind = λ q h. each (needsTo s i) (needAt s i) (λ q k. letter (readAt s (needLineOf w q) .form .kind) ≡ 78) (λ q h. rw (old-line q h) (old .kind q h)) (rw new-line (x .line .kind)) q h;
         key = λ q h. each (needsTo s i) (needAt s i) (λ q k. needAt s (needLineOf w q) ≡ k) (λ q h. rw (old-line q h) (old .key q h)) (ap (needAt s) new-line) q h;
-        position = λ q h. each (needsTo s i) (needAt s i) (λ q k. needPosition w q ≡ position k (distinct [] (needsTo s i ++ (needAt s i ∷ [])))) positions-stay (new-position ∙ hp ∙ rw (distinct-more (needAt s i) (needsTo s i)) (sym (position-more (needAt s i) (distinct [] (needsTo s i))))) q h;
+        position = λ q h. each (needsTo s i) (needAt s i) (λ q k. needPositionOf w q ≡ position k (distinct [] (needsTo s i ++ (needAt s i ∷ [])))) positions-stay (new-position ∙ hp ∙ rw (distinct-more (needAt s i) (needsTo s i)) (sym (position-more (needAt s i) (distinct [] (needsTo s i))))) q h;
       }
 
   kinds-are : (e : ElemKind) → kindPosition w (kindNumber e) ≡ cond (sameTypeKey (elemKey e) (needAt s i)) (suc (position (needAt s i) (distinct [] (needsTo s i)))) (kindPosition t (kindNumber e))
@@ -171,24 +171,24 @@ module _ {s t : List ℕ} {n i needs keys : ℕ} (x : NeedNext s t n i needs key
       ∙ kind-entered u (omega (arith, room, first .kept .long)) (kindBy f) p (kindNumber e) (kind-low e)
       ∙ rw (elem-is s t n i (x .line) e, ← hf, ← hp, kind-above first (kindNumber e))
 
-  digests-are : (q : ℕ) → q < needs + 1 → needDigest w q ≡ digest (textAt s (needLineOf w q))
+  digests-are : (q : ℕ) → q < needs + 1 → needDigestOf w q ≡ digest (textAt s (needLineOf w q))
   digests-are q h = go (eqb q needs) refl
     where
       low : needs < 128
       low = needs-room x .0
 
-      go : (b : Bool) → eqb q needs ≡ b → needDigest w q ≡ digest (textAt s (needLineOf w q))
+      go : (b : Bool) → eqb q needs ≡ b → needDigestOf w q ≡ digest (textAt s (needLineOf w q))
       go true e =
           let z : q ≡ needs = eqb-true q needs e in
-          ap (needDigest w) z ∙ ap (λ (l : List ℕ). needDigest l needs) hw ∙ digest-same v long needs d low ∙ hd
+          ap (needDigestOf w) z ∙ ap (λ (l : List ℕ). needDigestOf l needs) hw ∙ digest-same v long needs d low ∙ hd
           ∙ ap (λ (l : ℕ). digest (textAt s l)) (sym new-line ∙ ap (needLineOf w) (sym (x .collecting .count) ∙ sym z))
       go false e =
           let ne = eqb-false q needs e in
           let k : q < length (needsTo s i) = omega (arith, x .collecting .count) in
-          ap (λ (l : List ℕ). needDigest l q) hw ∙ digest-other v long needs d low q (omega arith) ne ∙ digest-above (omega arith) second q ∙ digest-above (omega arith) first q
+          ap (λ (l : List ℕ). needDigestOf l q) hw ∙ digest-other v long needs d low q (omega arith) ne ∙ digest-above (omega arith) second q ∙ digest-above (omega arith) first q
           ∙ x .collecting .digests q (omega (arith, x .collecting .count)) ∙ ap (λ (l : ℕ). digest (textAt s l)) (sym (old-line q k))
 
-  chained-are : Chained w needChain (needs + 1)
+  chained-are : Chained w needChains (needs + 1)
   chained-are = rw (add-one, hw) (chained-entered v long needs d (needs-room x .0) (chained-above (omega arith) second (chained-above (omega arith) first (x .collecting .chained))))
 
   pub collected : (more : ℕ) → more ≡ length (distinct [] (needsTo s i ++ (needAt s i ∷ []))) → Collecting s w n (i + 1) (needs + 1) more
@@ -238,5 +238,5 @@ collecting-start s t n c z = record {
   };
   kinds = record { count = refl; position = λ k. z (kindNumber k) (kind-low k); few = omega arith };
   digests = λ q h. absurd (omega arith);
-  chained = chained-none t needChain;
+  chained = chained-none t needChains;
 }

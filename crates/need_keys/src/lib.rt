@@ -1,6 +1,6 @@
 // The keys of needs, each with its position among the distinct keys.
 use codes::kind;
-use type_keys::CHAIN;
+use type_keys::CHAINS;
 ghost use mathlib.Core.Path.{_≡_};
 ghost use mathlib.Core.List.{List, [], _∷_, _++_};
 ghost use Prim.Native.Nat.{_+_, _<_};
@@ -38,12 +38,12 @@ fn position_for(sheet: &[u8], work: &[u8], n: usize, i: usize, h: usize, d: Need
     requires { ⌜ (NeedNext (now sheet) (now work) n i (d .needs) (d .keys)) × (h ≡ digest (textAt (now sheet) i)) ⌝ }
     ensures { λ r. ⌜ r ≡ position (needAt (now (sheet .entry)) i) (distinct [] (needsTo (now (sheet .entry)) i)) ⌝ }
 {
-    let mut q = chains::newest(work, CHAIN, d.needs, chains::chain_of(h));
+    let mut q = chains::newest(work, CHAINS, d.needs, h);
     while 0 < q {
         if has_need_key(sheet, work, n, i, h, q - 1) {
             return type_keys::need_position(work, q - 1);
         }
-        q = chains::earlier(work, CHAIN, d.needs, q - 1);
+        q = chains::earlier(work, CHAINS, q - 1);
     }
     d.keys
 }

@@ -13,7 +13,7 @@ use Rattle.checks.specs.Checks.{Outside}
 use Rattle.checks.proofs.Kept.{kept-less, outside-all, outside-then, outside-set, checked-kept}
 use Rattle.chains.specs.Chains.{chainOf, digestPlace, chainAt, Chained, linked}
 use Rattle.chains.proofs.Laws.{SameBytes, chained-kept, linked-outside, linked-other, PlacesApart, chained-next}
-use Rattle.records.specs.Log.{byteOf, entryAt, recordOf, recordedAt, keyDigest, recordChain, Digested}
+use Rattle.records.specs.Log.{byteOf, entryAt, recordOf, recordedAt, keyDigestOf, recordChains, Digested}
 use Rattle.records.proofs.Newest.{record-placed, digest-chain}
 use Rattle.record_log.specs.Entries.{CollectedTo}
 
@@ -23,7 +23,7 @@ module _ (t : Bytes) (i d : ℕ) (hi : i < 128) (room : 65536 ≤ length t) wher
   withDigest = set t (9216 + (8 * i + 5)) d
 
   abbrev new : Bytes
-  new = linked withDigest recordChain i (chainOf d)
+  new = linked withDigest recordChains i (chainOf d)
 
   entered-other : (q : ℕ) → (q ≡ 9216 + (8 * i + 5) → ⊥) → getD withDigest q 0 ≡ getD t q 0
   entered-other q n = getD-set-other t (9216 + (8 * i + 5)) q d 0 n
@@ -31,9 +31,9 @@ module _ (t : Bytes) (i d : ℕ) (hi : i < 128) (room : 65536 ≤ length t) wher
   -- links and heads are bytes 6 and 7 of entries
   byte-linked : (j k : ℕ) → k < 6 → byteOf new j k ≡ byteOf withDigest j k
   unfolding digestPlace
-  byte-linked j k h = linked-other withDigest recordChain i (chainOf d) (9216 + (8 * j + k)) (λ e. omega (arith, e)) (λ e. omega (arith, e))
+  byte-linked j k h = linked-other withDigest recordChains i (chainOf d) (9216 + (8 * j + k)) (λ e. omega (arith, e)) (λ e. omega (arith, e))
 
-  digest-new : keyDigest new i ≡ d
+  digest-new : keyDigestOf new i ≡ d
   digest-new = byte-linked i 5 (omega arith) ∙ getD-set-same t (9216 + (8 * i + 5)) d 0 (omega arith)
 
   byte-old : (j k : ℕ) → k < 6 → (9216 + (8 * j + k) ≡ 9216 + (8 * i + 5) → ⊥) → byteOf new j k ≡ byteOf t j k
@@ -58,15 +58,15 @@ module _ (t : Bytes) (i d : ℕ) (hi : i < 128) (room : 65536 ≤ length t) wher
   unfolding digestPlace
   outside-new =
       let k : chainOf d < 128 = mod-lt d (omega arith) in
-      outside-then (outside-set 9216 10240 t (9216 + (8 * i + 5)) d (omega arith) (omega arith)) (linked-outside withDigest recordChain i (chainOf d) (omega arith) (omega arith) (omega arith) (omega arith))
+      outside-then (outside-set 9216 10240 t (9216 + (8 * i + 5)) d (omega arith) (omega arith)) (linked-outside withDigest recordChains i (chainOf d) (omega arith) (omega arith) (omega arith) (omega arith))
 
   -- ---- chains
 
-  apart : PlacesApart recordChain 128
+  apart : PlacesApart recordChains 128
   unfolding digestPlace
   apart = record { own = λ a b e. omega (arith, e); link = λ a b x y e. omega (arith, e); head = λ a k x y e. omega (arith, e) }
 
-  entered-kept : SameBytes t withDigest recordChain i
+  entered-kept : SameBytes t withDigest recordChains i
   unfolding digestPlace
   entered-kept = record {
     digest = λ j h. entered-other (9221 + 8 * j) (λ e. omega (arith, e, h));
@@ -74,18 +74,18 @@ module _ (t : Bytes) (i d : ℕ) (hi : i < 128) (room : 65536 ≤ length t) wher
     head = λ k h. entered-other (9221 + 8 * k + 1 + 1) (λ e. omega (arith, e));
   }
 
-  chain-entered : chainAt withDigest recordChain i ≡ chainOf d
+  chain-entered : chainAt withDigest recordChains i ≡ chainOf d
   chain-entered = digest-chain withDigest i ∙ ap chainOf (getD-set-same t (9216 + (8 * i + 5)) d 0 (omega arith))
 
-  chained-new : Chained t recordChain i → Chained new recordChain (suc i)
+  chained-new : Chained t recordChains i → Chained new recordChains (suc i)
   chained-new g =
       let long = length-set t (9216 + (8 * i + 5)) d in
       chained-next (record-placed withDigest (omega (arith, long))) apart (omega arith) (omega arith) hi (mod-lt d (omega arith)) chain-entered
       (chained-kept entered-kept (omega arith) g)
 
   module _ (s : Bytes) (n m : ℕ) (g : Digested s t n m i) (hm : i < m) (e : d ≡ digest (recordedAt s t i .key)) where
-    digests-new : (j : ℕ) → j < i + 1 → keyDigest new j ≡ digest (recordedAt s new j .key)
-    digests-new j h = let w : j ≤ i = omega arith in rw (recorded-old s j) (⊎-elim (λ (q : j ≡ i). subst (λ (k : ℕ). keyDigest new k ≡ digest (recordedAt s t k .key)) (sym q) (digest-new ∙ e)) (λ (q : j < i). byte-old j 5 (omega arith) (λ z. omega arith) ∙ g .digests j q) (eq-or-lt-of-le w))
+    digests-new : (j : ℕ) → j < i + 1 → keyDigestOf new j ≡ digest (recordedAt s new j .key)
+    digests-new j h = let w : j ≤ i = omega arith in rw (recorded-old s j) (⊎-elim (λ (q : j ≡ i). subst (λ (k : ℕ). keyDigestOf new k ≡ digest (recordedAt s t k .key)) (sym q) (digest-new ∙ e)) (λ (q : j < i). byte-old j 5 (omega arith) (λ z. omega arith) ∙ g .digests j q) (eq-or-lt-of-le w))
 
     digested-new : Digested s new n m (i + 1)
     digested-new =
@@ -100,13 +100,13 @@ module _ (t : Bytes) (i d : ℕ) (hi : i < 128) (room : 65536 ≤ length t) wher
           entries = λ j h. record { checked = c; low = g .entries j h .low; sound = rw (entry-old j) (g .entries j h .sound) };
         }
 
-pub entered-length : (t : Bytes) (i d : ℕ) → i < 128 → 65536 ≤ length t → {v : Bytes} → v ≡ linked (set t (9216 + (8 * i + 5)) d) recordChain i (chainOf d) → length v ≡ length t
+pub entered-length : (t : Bytes) (i d : ℕ) → i < 128 → 65536 ≤ length t → {v : Bytes} → v ≡ linked (set t (9216 + (8 * i + 5)) d) recordChains i (chainOf d) → length v ≡ length t
 entered-length t i d h room q = rw q (outside-new t i d h room .kept .long)
 
 pub digests-start : {s t : Bytes} {n m : ℕ} → Digested s t n m 0 → CollectedTo s t t n m 0
 digests-start g = record { log = g; outside = outside-all }
 
-pub digests-next : {s t u v : Bytes} {n m i d : ℕ} → CollectedTo s t u n m i → i < m → d ≡ digest (recordedAt s u i .key) → v ≡ linked (set u (9216 + (8 * i + 5)) d) recordChain i (chainOf d) → CollectedTo s t v n m (i + 1)
+pub digests-next : {s t u v : Bytes} {n m i d : ℕ} → CollectedTo s t u n m i → i < m → d ≡ digest (recordedAt s u i .key) → v ≡ linked (set u (9216 + (8 * i + 5)) d) recordChains i (chainOf d) → CollectedTo s t v n m (i + 1)
 digests-next {s} {t} {u} {n = n} {m} {i} {d} g h e q =
     let room = g .log .checked .whole .room in
     let low : i < 128 = omega (arith, g .log .few) in

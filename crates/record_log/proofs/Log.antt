@@ -28,7 +28,7 @@ use Rattle.source.specs.Walk.{declaresAt, declaredTo}
 use Rattle.source.proofs.Walk.{located-all, located-its, declared-all, source-of}
 use Rattle.shapes.specs.Shapes.{casesIn}
 use Rattle.chains.proofs.Laws.{chained-none}
-use Rattle.records.specs.Log.{caseIn, Entry, recordOf, entryAt, recordedAt, recordChain, logOf, noRecord, EntryInSheet}
+use Rattle.records.specs.Log.{caseIn, Entry, recordOf, entryAt, recordedAt, recordChains, logOf, noRecord, EntryInSheet}
 use Rattle.record_log.specs.Entries.{entryBytes, tagEntries, caseEntries, lineEntries, entriesOf, entriesTo, logBytes, CollectedTo}
 use Rattle.records.specs.Lines.{caseAt}
 use Rattle.records.proofs.Keys.{default-same}
@@ -223,7 +223,7 @@ module _ (s d : Bytes) (n : ℕ) (c : Checked s d n) (e : Bytes) (b : ℕ) (w : 
           few = omega (arith, length-es .1);
           each = λ i l. record-back i (omega arith);
           digests = λ i l. absurd (omega arith);
-          chained = chained-none e recordChain;
+          chained = chained-none e recordChains;
           entries = λ i l. record { checked = checked-now; low = omega (arith, length-es .1); sound = rw (back i (omega arith)) (every-at (EntryInSheet s n) (entriesTo (nodesIn s) n) (lines-sound s d n c n (omega arith)) noEntry i (omega (arith, length-es .0))) };
         };
         outside = wrote-outside w 10240 (omega (arith, log-bytes (entriesTo (nodesIn s) n), length-es .0, length-es .1));

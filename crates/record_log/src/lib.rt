@@ -1,7 +1,7 @@
 // Makes the log of a checked sheet's records in the working space, in the order of the sheet.
 use codes::area;
 use codes::decl;
-use records::key::CHAIN;
+use records::key::CHAINS;
 ghost use mathlib.Core.Path.{_≡_};
 ghost use Prim.Native.Nat.{_+_, _*_, _≤_, _<_};
 ghost use lib.ListN.{length, set};
@@ -9,8 +9,8 @@ ghost use Rattle.write.specs.Wrote.{Wrote};
 ghost use Rattle.checks.specs.Checks.{Checked};
 ghost use Rattle.sizes.specs.Places.{declAt};
 ghost use Rattle.shapes.specs.Shapes.{casesIn, PickLine};
-ghost use Rattle.chains.specs.Chains.{chainOf, linked};
-ghost use Rattle.records.specs.Log.{recordChain, Digested};
+ghost use Rattle.chains.specs.Chains.{linked};
+ghost use Rattle.records.specs.Log.{recordChains, Digested};
 ghost use Rattle.record_log.specs.Entries.{entryBytes, tagEntries, caseEntries, entriesOf, logBytes, CollectedTo, RecordsCollected};
 
 // One entry: a line, 0 or a case from 1, the position of a tag in it, and the tag's number.
@@ -104,10 +104,10 @@ fn log_adts(sheet: &[u8], work: &mut [u8], n: usize) -> usize
 // The digest d, into entry i, which becomes the newest of its chain.
 fn enter_digest(work: &mut [u8], i: usize, d: usize)
     requires { ⌜ (i < 128) × (d < 256) × (65536 ≤ length (now work)) ⌝ }
-    ensures { λ _. ⌜ now (work .exit) ≡ linked (set (now (work .entry)) (9216 + (8 * i + 5)) d) recordChain i (chainOf d) ⌝ }
+    ensures { λ _. ⌜ now (work .exit) ≡ linked (set (now (work .entry)) (9216 + (8 * i + 5)) d) recordChains i ⌝ }
 {
     work[area::RECORDS + (8 * i + 5)] = d as u8;
-    chains::link(work, CHAIN, i, chains::chain_of(d));
+    chains::link(work, CHAINS, i);
 }
 
 // The digests of all keys, into their entries, which are chained by them.

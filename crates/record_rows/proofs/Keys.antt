@@ -18,7 +18,7 @@ use Rattle.write.specs.Wrote.{Wrote}
 use Rattle.write.proofs.Wrote.{wrote-as, then}
 use Rattle.checks.specs.Checks.{Kept}
 use Rattle.checks.proofs.Kept.{kept-all, kept-then, kept-less}
-use Rattle.records.specs.Log.{recordedAt, logOf, noRecord, RecordsLogged, LogEntry, NewestOf}
+use Rattle.records.specs.Log.{recordedAt, logOf, noRecord, RecordsLogged, LogEntry, NewestOfEntry}
 use Rattle.records.proofs.Kept.{logged-kept}
 use Rattle.record_rows.specs.Rows.{keyRows, allRows, Printed}
 
@@ -35,7 +35,7 @@ module _ (s t : Bytes) (n i : ℕ) (l : LogEntry s t n i) where
       ap (lastOf (r .key) d) (split-at (logOf s) i noRecord in-log) ∙ last-append (r .key) d (take i (logOf s)) (r ∷ drop (suc i) (logOf s))
       ∙ ap (λ (b : Bool). lastOf (r .key) (cond b r (lastOf (r .key) d (take i (logOf s)))) (drop (suc i) (logOf s))) (same-refl (r .key))
 
-  pub rows-first : {b : Bool} → b ≡ not (seen (recordedAt s t i .key) (take i (logOf s))) → b ≡ true → {m : ℕ} (j : ℕ) → NewestOf s t m i j → recordRows (recordedAt s t j) ≡ keyRows s i
+  pub rows-first : {b : Bool} → b ≡ not (seen (recordedAt s t i .key) (take i (logOf s))) → b ≡ true → {m : ℕ} (j : ℕ) → NewestOfEntry s t m i j → recordRows (recordedAt s t j) ≡ keyRows s i
   unfolding keyRows
   rows-first e q j w =
       let r = l .log .each i (l .low) in

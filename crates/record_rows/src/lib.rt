@@ -134,7 +134,7 @@ fn put_newest(sheet: &[u8], work: &mut [u8], c: Log, i: usize, out: &mut [u8], a
     requires { ⌜ (RecordsLogged (now sheet) (now work) (c .lines) (c .entries)) × (i < c .entries) ⌝ }
     ensures { λ p. ⌜ Printed (now (out .entry)) at (keyRows (now (sheet .entry)) i) (now (out .exit)) p (now (work .entry)) (now (work .exit)) ⌝ }
 {
-    if is_first(sheet, work, c, i) {
+    if is_first(sheet, work, c.lines, i) {
         let j = newest_of(sheet, work, c, i);
         return put_record(sheet, work, c.lines, j, out, at);
     }

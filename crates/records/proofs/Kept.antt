@@ -7,7 +7,7 @@ use Rattle.checks.specs.Checks.{Kept}
 use Rattle.checks.proofs.Kept.{kept-at, kept-less, checked-kept}
 use Rattle.chains.specs.Chains.{digestPlace}
 use Rattle.chains.proofs.Laws.{SameBytes, chained-kept}
-use Rattle.records.specs.Log.{byteOf, entryAt, recordOf, recordedAt, recordChain, RecordsLogged}
+use Rattle.records.specs.Log.{byteOf, entryAt, recordOf, recordedAt, recordChains, RecordsLogged}
 
 module _ {t u : List ℕ} (k : Kept 10240 t u) where
   byte-kept : (i : ℕ) → i < 128 → (j : ℕ) → j < 8 → byteOf u i j ≡ byteOf t i j
@@ -21,7 +21,7 @@ module _ {t u : List ℕ} (k : Kept 10240 t u) where
   unfolding recordedAt
   recorded-kept s i h = ap (recordOf s) (entry-kept i h)
 
-  chain-kept : SameBytes t u recordChain 128
+  chain-kept : SameBytes t u recordChains 128
   unfolding digestPlace
   chain-kept = record {
     digest = λ i h. kept-at k (9221 + 8 * i) (omega arith);

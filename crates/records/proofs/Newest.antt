@@ -16,26 +16,26 @@ use Rattle.words.specs.Words.{digest}
 use Rattle.words.proofs.Laws.{digest-same}
 use Rattle.chains.specs.Chains.{newestOf, chainOf, chainAt, inChain, digestPlace, Placed}
 use Rattle.chains.proofs.Laws.{newest-low, newest-from, Along}
-use Rattle.records.specs.Log.{keyDigest, recordedAt, recordChain, logOf, noRecord, chosen, RecordsLogged, Newest, NewestOf}
+use Rattle.records.specs.Log.{keyDigestOf, recordedAt, recordChains, logOf, noRecord, chosen, RecordsLogged, Newest, NewestOfEntry}
 use Rattle.records.proofs.Keys.{default-same}
 
 -- whether entry i has key k
 abbrev pub keyIs : Bytes → Bytes → Bytes → ℕ → Bool
 keyIs s t k i = same k (recordedAt s t i .key)
 
-pub record-placed : (t : Bytes) → 65536 ≤ length t → Placed t recordChain
+pub record-placed : (t : Bytes) → 65536 ≤ length t → Placed t recordChains
 unfolding digestPlace
 record-placed t h = record { low = λ i l. omega arith; long = h }
 
 -- an entry is of the chain of its digest
-pub digest-chain : (t : Bytes) (i : ℕ) → chainAt t recordChain i ≡ chainOf (keyDigest t i)
+pub digest-chain : (t : Bytes) (i : ℕ) → chainAt t recordChains i ≡ chainOf (keyDigestOf t i)
 unfolding chainAt digestPlace
 digest-chain t i = let z : 9221 + 8 * i ≡ 9216 + (8 * i + 5) = omega arith in rw z
 
 module _ (s t : Bytes) (n m : ℕ) (g : RecordsLogged s t n m) (k : Bytes) where
   -- and so are all entries of a key
-  pub key-chain : {c : ℕ} → c ≡ chainOf (digest k) → (j : ℕ) → j < m → keyIs s t k j ≡ true → inChain t recordChain c j ≡ true
-  key-chain {c} e j h q = eq-eqb (chainAt t recordChain j) c (digest-chain t j ∙ ap chainOf (g .digests j h ∙ sym (digest-same k (recordedAt s t j .key) 0 q)) ∙ sym e)
+  pub key-chain : {c : ℕ} → c ≡ chainOf (digest k) → (j : ℕ) → j < m → keyIs s t k j ≡ true → inChain t recordChains c j ≡ true
+  key-chain {c} e j h q = eq-eqb (chainAt t recordChains j) c (digest-chain t j ∙ ap chainOf (g .digests j h ∙ sym (digest-same k (recordedAt s t j .key) 0 q)) ∙ sym e)
 
   -- ---- the last record
 
@@ -96,11 +96,11 @@ module _ (s t : Bytes) (n m : ℕ) (g : RecordsLogged s t n m) (i : ℕ) (h : i 
   abbrev own : Bytes
   own = recordedAt s t i .key
 
-  pub own-chain : {c : ℕ} → c ≡ chainOf (keyDigest t i) → c ≡ chainOf (digest own)
+  pub own-chain : {c : ℕ} → c ≡ chainOf (keyDigestOf t i) → c ≡ chainOf (digest own)
   own-chain e = e ∙ ap chainOf (g .digests i h)
 
   -- the last entry of its key is known
-  pub newest-own : {j : ℕ} → suc j ≡ newestOf (keyIs s t own) m → NewestOf s t m i j
+  pub newest-own : {j : ℕ} → suc j ≡ newestOf (keyIs s t own) m → NewestOfEntry s t m i j
   newest-own {j} e =
       let l : j < m = let z = newest-low (keyIs s t own) m in omega (arith, e, z) in
       record {
@@ -110,7 +110,7 @@ module _ (s t : Bytes) (n m : ℕ) (g : RecordsLogged s t n m) (i : ℕ) (h : i 
       }
 
   -- itself, where the way has come to it
-  pub newest-self : {c j : ℕ} → Along t recordChain c m (keyIs s t own) j → j ≤ i + 1 → suc i ≡ newestOf (keyIs s t own) m
+  pub newest-self : {c j : ℕ} → Along t recordChains c m (keyIs s t own) j → j ≤ i + 1 → suc i ≡ newestOf (keyIs s t own) m
   newest-self {j = j} a l =
       let x = newest-from (keyIs s t own) m i h (same-refl own) in
       let y = newest-low (keyIs s t own) j in

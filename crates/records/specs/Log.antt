@@ -12,7 +12,7 @@ use Rattle.semantics.specs.Sheet.{sheetSource}
 use Rattle.semantics.specs.Layout.{Recorded, recordsOf, recordedAdts, recordLog, lastOf, variantShape, variantFields}
 use Rattle.semantics.specs.Types.{unknown}
 use Rattle.words.specs.Words.{digest}
-use Rattle.chains.specs.declared.Chain.{Chain}
+use Rattle.chains.specs.declared.ChainPlaces.{ChainPlaces}
 use Rattle.chains.specs.Chains.{Chained}
 use Rattle.checks.specs.Checks.{Checked}
 use Rattle.sizes.specs.Places.{declAt, isRecord}
@@ -73,12 +73,12 @@ unfoldable pub entryAt : Bytes → ℕ → Entry
 entryAt t i = record { line = byteOf t i 0 + 256 * byteOf t i 1; case = byteOf t i 2; position = byteOf t i 3; number = byteOf t i 4 }
 
 -- the digest of its key
-abbrev pub keyDigest : Bytes → ℕ → ℕ
-keyDigest t i = byteOf t i 5
+abbrev pub keyDigestOf : Bytes → ℕ → ℕ
+keyDigestOf t i = byteOf t i 5
 
 -- the chains of digests: the link of an entry is its byte 6, and byte 7 of entry k the head of chain k
-abbrev pub recordChain : Chain
-recordChain = record { at = 9221; gap = 1; step = 8 }
+abbrev pub recordChains : ChainPlaces
+recordChains = record { at = 9221; gap = 1; step = 8 }
 
 -- the record that entry i stands for
 unfoldable pub recordedAt : Bytes → Bytes → ℕ → Recorded
@@ -113,8 +113,8 @@ pub record Digested (s t : Bytes) (n m d : ℕ) : Type 0 where
   pub few : m ≤ 128
   pub each : (i : ℕ) → i < m → recordedAt s t i ≡ getD (logOf s) i noRecord
   pub entries : (i : ℕ) → i < m → EntryIn s t n i
-  pub digests : (i : ℕ) → i < d → keyDigest t i ≡ digest (recordedAt s t i .key)
-  pub chained : Chained t recordChain d
+  pub digests : (i : ℕ) → i < d → keyDigestOf t i ≡ digest (recordedAt s t i .key)
+  pub chained : Chained t recordChains d
 
 -- the log of all records of the sheet, m of them, with all digests and chains
 abbrev pub RecordsLogged : Bytes → Bytes → ℕ → ℕ → Type 0
@@ -140,7 +140,7 @@ pub record Newest (s : Bytes) (k : Bytes) (j : ℕ) : Type 0 where
   pub later : (i : ℕ) → j ≤ i → i < length (logOf s) → same k (getD (logOf s) i noRecord .key) ≡ false
 
 -- record j, of m, is the last with the key of record i
-pub record NewestOf (s t : Bytes) (m i j : ℕ) : Type 0 where
+pub record NewestOfEntry (s t : Bytes) (m i j : ℕ) : Type 0 where
   pub low : j < m
   pub last : (d : Recorded) → lastOf (recordedAt s t i .key) d (logOf s) ≡ recordedAt s t j
   pub later : (l : ℕ) → j < l → l < m → same (recordedAt s t i .key) (recordedAt s t l .key) ≡ false

@@ -1,6 +1,6 @@
 // The entries of the log, and their keys: T, or T.tag.
 use crate::line;
-use chains::Chain;
+use chains::ChainPlaces;
 use codes::area;
 use words::wide;
 ghost use mathlib.Core.Path.{_≡_};
@@ -11,10 +11,10 @@ ghost use lib.ListN.{length, take};
 ghost use Rattle.semantics.specs.Text.{same};
 ghost use Rattle.semantics.specs.Layout.{seen};
 ghost use Rattle.words.specs.Words.{digest};
-ghost use Rattle.records.specs.Log.{byteOf, entryAt, recordedAt, nameOf, tagOf, keyDigest, logOf, EntryIn, RecordsLogged, Newest, NewestOf};
+ghost use Rattle.records.specs.Log.{byteOf, entryAt, recordedAt, nameOf, tagOf, keyDigestOf, logOf, EntryIn, RecordsLogged, Newest, NewestOfEntry};
 
 // Where entries keep digests, links and heads of chains.
-pub const CHAIN: Chain = Chain {
+pub const CHAINS: ChainPlaces = ChainPlaces {
     at: area::RECORDS + 5,
     gap: 1,
     step: 8,
@@ -86,7 +86,7 @@ pub fn tag_of<'a>(sheet: &'a [u8], work: &[u8], n: usize, i: usize) -> &'a [u8]
 // The digest of its key, as the entry has it.
 fn digest_of(work: &[u8], i: usize) -> usize
     requires { ⌜ (i < 128) × (65536 ≤ length (now work)) ⌝ }
-    ensures { λ r. ⌜ r ≡ keyDigest (now (work .entry)) i ⌝ }
+    ensures { λ r. ⌜ r ≡ keyDigestOf (now (work .entry)) i ⌝ }
 {
     byte_at(work, i, 5)
 }
@@ -123,7 +123,7 @@ fn is_joined(key: &[u8], name: &[u8], tag: &[u8]) -> bool
 
 // Whether entry i has this key, which has the digest d.
 fn key_is(sheet: &[u8], work: &[u8], n: usize, i: usize, key: &[u8], d: usize) -> bool
-    requires { ⌜ (EntryIn (now sheet) (now work) n i) × (keyDigest (now work) i ≡ digest (recordedAt (now sheet) (now work) i .key)) × (d ≡ digest (now key)) ⌝ }
+    requires { ⌜ (EntryIn (now sheet) (now work) n i) × (keyDigestOf (now work) i ≡ digest (recordedAt (now sheet) (now work) i .key)) × (d ≡ digest (now key)) ⌝ }
     ensures { λ r. ⌜ r ≡ same (now (key .entry)) (recordedAt (now (sheet .entry)) (now (work .entry)) i .key) ⌝ }
 {
     if digest_of(work, i) != d {
@@ -138,7 +138,7 @@ fn key_is(sheet: &[u8], work: &[u8], n: usize, i: usize, key: &[u8], d: usize) -
 
 // Whether entries i and j have one key. No name holds a full stop, so T itself and a variant have none in common.
 fn same_key(sheet: &[u8], work: &[u8], n: usize, i: usize, j: usize) -> bool
-    requires { ⌜ (EntryIn (now sheet) (now work) n i) × (EntryIn (now sheet) (now work) n j) × (keyDigest (now work) i ≡ digest (recordedAt (now sheet) (now work) i .key)) × (keyDigest (now work) j ≡ digest (recordedAt (now sheet) (now work) j .key)) ⌝ }
+    requires { ⌜ (EntryIn (now sheet) (now work) n i) × (EntryIn (now sheet) (now work) n j) × (keyDigestOf (now work) i ≡ digest (recordedAt (now sheet) (now work) i .key)) × (keyDigestOf (now work) j ≡ digest (recordedAt (now sheet) (now work) j .key)) ⌝ }
     ensures { λ r. ⌜ r ≡ same (recordedAt (now (sheet .entry)) (now (work .entry)) i .key) (recordedAt (now (sheet .entry)) (now (work .entry)) j .key) ⌝ }
 {
     if digest_of(work, j) != digest_of(work, i) {
@@ -163,12 +163,12 @@ pub fn newest(sheet: &[u8], work: &[u8], c: Log, key: &[u8]) -> usize
     ensures { λ r. ⌜ Newest (now (sheet .entry)) (now (key .entry)) r ⌝ }
 {
     let d = words::digest(key);
-    let mut i = chains::newest(work, CHAIN, c.entries, chains::chain_of(d));
+    let mut i = chains::newest(work, CHAINS, c.entries, d);
     while 0 < i {
         if key_is(sheet, work, c.lines, i - 1, key, d) {
             return i;
         }
-        i = chains::earlier(work, CHAIN, c.entries, i - 1);
+        i = chains::earlier(work, CHAINS, i - 1);
     }
     0
 }
@@ -176,31 +176,30 @@ pub fn newest(sheet: &[u8], work: &[u8], c: Log, key: &[u8]) -> usize
 // The last entry with the key of entry i.
 pub fn newest_of(sheet: &[u8], work: &[u8], c: Log, i: usize) -> usize
     requires { ⌜ (RecordsLogged (now sheet) (now work) (c .lines) (c .entries)) × (i < c .entries) ⌝ }
-    ensures { λ r. ⌜ NewestOf (now (sheet .entry)) (now (work .entry)) (c .entries) i r ⌝ }
+    ensures { λ r. ⌜ NewestOfEntry (now (sheet .entry)) (now (work .entry)) (c .entries) i r ⌝ }
 {
-    let k = chains::chain_of(digest_of(work, i));
-    let mut j = chains::newest(work, CHAIN, c.entries, k);
+    let mut j = chains::newest(work, CHAINS, c.entries, digest_of(work, i));
     while i + 1 < j {
         let e = j - 1;
         if same_key(sheet, work, c.lines, i, e) {
             return e;
         }
-        j = chains::earlier(work, CHAIN, c.entries, e);
+        j = chains::earlier(work, CHAINS, e);
     }
     i
 }
 
 // Whether no earlier entry has the key of entry i.
-pub fn is_first(sheet: &[u8], work: &[u8], c: Log, i: usize) -> bool
-    requires { ⌜ (RecordsLogged (now sheet) (now work) (c .lines) (c .entries)) × (i < c .entries) ⌝ }
+pub fn is_first(sheet: &[u8], work: &[u8], n: usize, i: usize) -> bool
+    requires { ⌜ LogEntry (now sheet) (now work) n i ⌝ }
     ensures { λ r. ⌜ r ≡ not (seen (recordedAt (now (sheet .entry)) (now (work .entry)) i .key) (take i (logOf (now (sheet .entry))))) ⌝ }
 {
-    let mut j = chains::earlier(work, CHAIN, c.entries, i);
+    let mut j = chains::earlier(work, CHAINS, i);
     while 0 < j {
-        if same_key(sheet, work, c.lines, i, j - 1) {
+        if same_key(sheet, work, n, i, j - 1) {
             return false;
         }
-        j = chains::earlier(work, CHAIN, c.entries, j - 1);
+        j = chains::earlier(work, CHAINS, j - 1);
     }
     true
 }

@@ -11,7 +11,7 @@ use Rattle.semantics.specs.Array.{kindNumber}
 use Rattle.semantics.specs.Global.{Item}
 use Rattle.semantics.specs.Types.{arrayKey, distinct, position, keys}
 use Rattle.checks.specs.Checks.{Outside}
-use Rattle.type_keys.specs.Table.{needPosition, kindPosition, Needs, Kinds}
+use Rattle.type_keys.specs.Table.{needPositionOf, kindPosition, Needs, Kinds}
 use Rattle.type_keys.proofs.Distinct.{key-member, known-more, from-one-some}
 use Rattle.type_keys.proofs.Table.{line-below, position-below}
 
@@ -20,7 +20,7 @@ unfolding keys
 keys-are s is = refl
 
 module _ (s t : List ℕ) (n : ℕ) (ks : List TypeKey) (x : Needs s t n ks) where
-  pub need-position-stays : (ms : List TypeKey) (q : ℕ) → q < length ks → needPosition t q ≡ position (getD ks q opaqueKey) (distinct [] (ks ++ ms))
+  pub need-position-stays : (ms : List TypeKey) (q : ℕ) → q < length ks → needPositionOf t q ≡ position (getD ks q opaqueKey) (distinct [] (ks ++ ms))
   need-position-stays ms q h = x .position q h ∙ sym (known-more (getD ks q opaqueKey) ks ms (key-member opaqueKey ks q h) .1)
 
   -- a store behind the needs leaves them

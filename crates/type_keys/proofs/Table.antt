@@ -15,7 +15,7 @@ use Rattle.chains.specs.Chains.{chainOf, digestPlace, chainAt, Placed, Chained}
 use Rattle.chains.proofs.Laws.{PlacesApart, SameBytes, linked-outside, linked-long, chained-kept, chained-next}
 use Rattle.checks.specs.Checks.{Kept, Outside}
 use Rattle.checks.proofs.Kept.{kept-at, outside-all, outside-then, outside-less, outside-set, outside-above}
-use Rattle.type_keys.specs.Table.{needLineOf, needPosition, kindPosition, needDigest, needChain, kindsUsed, needEntered, digestEntered, kindEntered, Kinds}
+use Rattle.type_keys.specs.Table.{needLineOf, needPositionOf, kindPosition, needDigestOf, needChains, kindsUsed, needEntered, digestEntered, kindEntered, Kinds}
 use Rattle.type_lines.proofs.Codes.{kind-low}
 
 -- ---- the parts of the table
@@ -26,8 +26,8 @@ module _ {t u : List ℕ} where
   unfolding needLineOf
   line-below x q h = rw (kept-at (x .kept) (10240 + q) (omega arith), kept-at (x .kept) (10368 + q) (omega arith))
 
-  pub position-below : {b : ℕ} → Outside 10624 b t u → (q : ℕ) → q < 128 → needPosition u q ≡ needPosition t q
-  unfolding needPosition
+  pub position-below : {b : ℕ} → Outside 10624 b t u → (q : ℕ) → q < 128 → needPositionOf u q ≡ needPositionOf t q
+  unfolding needPositionOf
   position-below x q h = kept-at (x .kept) (10496 + q) (omega arith)
 
   -- and one among the needs the kinds
@@ -36,8 +36,8 @@ module _ {t u : List ℕ} where
   kind-above x k = outside-above x (10624 + k) (omega arith)
 
   -- both leave the digests
-  pub digest-above : {a b : ℕ} → b ≤ 10752 → Outside a b t u → (q : ℕ) → needDigest u q ≡ needDigest t q
-  unfolding needDigest
+  pub digest-above : {a b : ℕ} → b ≤ 10752 → Outside a b t u → (q : ℕ) → needDigestOf u q ≡ needDigestOf t q
+  unfolding needDigestOf
   digest-above h x q = outside-above x (10752 + q) (omega arith)
 
   -- a store behind the kinds leaves them
@@ -85,8 +85,8 @@ module _ (t : List ℕ) (room : 65536 ≤ length t) (q i p : ℕ) (hq : q < 128)
       )
       (omega (arith, div-add-mod' i 256))
 
-  pub entered-position : needPosition (needEntered t q i p) q ≡ p
-  unfolding needPosition needEntered
+  pub entered-position : needPositionOf (needEntered t q i p) q ≡ p
+  unfolding needPositionOf needEntered
   entered-position = getD-set-same (set (set t (10240 + q) (i % 256)) (10368 + q) (i / 256)) (10496 + q) p 0 (omega (arith, long-2))
 
   module _ (j : ℕ) (hj : j < 128) (ne : j ≡ q → ⊥) where
@@ -104,8 +104,8 @@ module _ (t : List ℕ) (room : 65536 ≤ length t) (q i p : ℕ) (hq : q < 128)
           getD-set-other t (10240 + q) (10368 + j) (i % 256) 0 (λ e. absurd (omega arith)),
         )
 
-    pub other-position : needPosition (needEntered t q i p) j ≡ needPosition t j
-    unfolding needPosition needEntered
+    pub other-position : needPositionOf (needEntered t q i p) j ≡ needPositionOf t j
+    unfolding needPositionOf needEntered
     other-position =
         let a = set t (10240 + q) (i % 256) in
         let b = set a (10368 + q) (i / 256) in
@@ -137,22 +137,22 @@ module _ (t : List ℕ) (room : 65536 ≤ length t) (k p : ℕ) where
 -- ---- a digest
 
 -- the chains of needs lie in the working space, and their bytes apart
-pub need-placed : {t : List ℕ} → 65536 ≤ length t → Placed t needChain
+pub need-placed : {t : List ℕ} → 65536 ≤ length t → Placed t needChains
 unfolding digestPlace
 need-placed room = record { low = λ i h. omega arith; long = room }
 
-need-apart : PlacesApart needChain 128
+need-apart : PlacesApart needChains 128
 unfolding digestPlace
 need-apart = record { own = λ i j e. omega arith; link = λ i j h l e. omega arith; head = λ i k h l e. omega arith }
 
 -- the chain of need q is that of its digest
-pub need-chain : (t : List ℕ) (q : ℕ) → chainAt t needChain q ≡ chainOf (needDigest t q)
-unfolding chainAt digestPlace needDigest
+pub need-chain : (t : List ℕ) (q : ℕ) → chainAt t needChains q ≡ chainOf (needDigestOf t q)
+unfolding chainAt digestPlace needDigestOf
 need-chain t q = let e : 10752 + 1 * q ≡ 10752 + q = omega arith in rw e
 
 pub digest-long : (t : List ℕ) (q d : ℕ) → length (digestEntered t q d) ≡ length t
 unfolding digestEntered
-digest-long t q d = linked-long (set t (10752 + q) d) needChain q (chainOf d) ∙ length-set t (10752 + q) d
+digest-long t q d = linked-long (set t (10752 + q) d) needChains q (chainOf d) ∙ length-set t (10752 + q) d
 
 module _ (t : List ℕ) (room : 65536 ≤ length t) (q d : ℕ) (hq : q < 128) where
   chain-low : chainOf d < 128
@@ -160,21 +160,21 @@ module _ (t : List ℕ) (room : 65536 ≤ length t) (q d : ℕ) (hq : q < 128) w
 
   behind-digests : Outside 10880 11264 (set t (10752 + q) d) (digestEntered t q d)
   unfolding digestEntered digestPlace
-  behind-digests = let low = chain-low in linked-outside (set t (10752 + q) d) needChain q (chainOf d) (omega arith) (omega arith) (omega arith) (omega arith)
+  behind-digests = let low = chain-low in linked-outside (set t (10752 + q) d) needChains q (chainOf d) (omega arith) (omega arith) (omega arith) (omega arith)
 
   pub digest-outside : Outside 10752 11264 t (digestEntered t q d)
   digest-outside = outside-then (outside-set 10752 11264 t (10752 + q) d (omega arith) (omega arith)) (outside-less 10752 11264 (omega arith) (omega arith) behind-digests)
 
-  pub digest-same : needDigest (digestEntered t q d) q ≡ d
-  unfolding needDigest
+  pub digest-same : needDigestOf (digestEntered t q d) q ≡ d
+  unfolding needDigestOf
   digest-same = kept-at (behind-digests .kept) (10752 + q) (omega arith) ∙ getD-set-same t (10752 + q) d 0 (omega arith)
 
-  pub digest-other : (j : ℕ) → j < 128 → (j ≡ q → ⊥) → needDigest (digestEntered t q d) j ≡ needDigest t j
-  unfolding needDigest
+  pub digest-other : (j : ℕ) → j < 128 → (j ≡ q → ⊥) → needDigestOf (digestEntered t q d) j ≡ needDigestOf t j
+  unfolding needDigestOf
   digest-other j h ne = kept-at (behind-digests .kept) (10752 + j) (omega arith) ∙ getD-set-other t (10752 + q) (10752 + j) d 0 (λ e. ne (omega arith))
 
   -- the needs before it and this one are chained
-  before-same : SameBytes t (set t (10752 + q) d) needChain q
+  before-same : SameBytes t (set t (10752 + q) d) needChains q
   unfolding digestPlace
   before-same = record {
     digest = λ i h. getD-set-other t (10752 + q) (10752 + 1 * i) d 0 (λ e. omega arith);
@@ -182,21 +182,21 @@ module _ (t : List ℕ) (room : 65536 ≤ length t) (q d : ℕ) (hq : q < 128) w
     head = λ k h. getD-set-other t (10752 + q) (10752 + 1 * k + 128 + 128) d 0 (λ e. omega arith);
   }
 
-  own-chain : chainAt (set t (10752 + q) d) needChain q ≡ chainOf d
-  unfolding needDigest
+  own-chain : chainAt (set t (10752 + q) d) needChains q ≡ chainOf d
+  unfolding needDigestOf
   own-chain = need-chain (set t (10752 + q) d) q ∙ ap chainOf (getD-set-same t (10752 + q) d 0 (omega arith))
 
-  pub chained-entered : Chained t needChain q → Chained (digestEntered t q d) needChain (suc q)
+  pub chained-entered : Chained t needChains q → Chained (digestEntered t q d) needChains (suc q)
   unfolding digestEntered
   chained-entered c =
       chained-next (need-placed (omega (arith, length-set t (10752 + q) d))) need-apart (omega arith) (omega arith) hq chain-low own-chain (chained-kept before-same (omega arith) c)
 
 -- a store before the digests leaves the chains
-pub chained-above : {t u : List ℕ} {a b m : ℕ} → b ≤ 10752 → Outside a b t u → Chained t needChain m → Chained u needChain m
+pub chained-above : {t u : List ℕ} {a b m : ℕ} → b ≤ 10752 → Outside a b t u → Chained t needChains m → Chained u needChains m
 unfolding digestPlace
 chained-above {t} {u} {m = m} h x c = chained-kept same (omega arith) c
   where
-    same : SameBytes t u needChain m
+    same : SameBytes t u needChains m
     same = record {
       digest = λ i l. outside-above x (10752 + 1 * i) (omega arith);
       link = λ i l. outside-above x (10752 + 1 * i + 128) (omega arith);

@@ -12,27 +12,28 @@ use Rattle.semantics.specs.Form.{letter}
 use Rattle.semantics.specs.Array.{kindNumber}
 use Rattle.semantics.specs.Types.{sameTypeKey, distinct, position}
 use Rattle.lines.specs.Lines.{readAt}
-use Rattle.chains.specs.declared.Chain.{Chain}
-use Rattle.chains.specs.Chains.{chainOf, linked}
+use Rattle.chains.specs.declared.ChainPlaces.{ChainPlaces}
+use Rattle.chains.specs.Chains.{linked}
 use Rattle.type_lines.specs.Needs.{needAt}
 
 -- 128 bytes each: the line, from 0, of need q, low and high byte, and the position of its key among the distinct keys
 unfoldable pub needLineOf : Bytes → ℕ → ℕ
 needLineOf t q = getD t (10240 + q) 0 + 256 * getD t (10368 + q) 0
 
-unfoldable pub needPosition : Bytes → ℕ → ℕ
-needPosition t q = getD t (10496 + q) 0
+unfoldable pub needPositionOf : Bytes → ℕ → ℕ
+needPositionOf t q = getD t (10496 + q) 0
 
 -- for each kind of element 0 where its key is not used, or its position plus 1
 unfoldable pub kindPosition : Bytes → ℕ → ℕ
 kindPosition t k = getD t (10624 + k) 0
 
--- 128 bytes: the digest of the text of need q; and from 10880 and from 11008 on as many, its link and the head of chain q
-unfoldable pub needDigest : Bytes → ℕ → ℕ
-needDigest t q = getD t (10752 + q) 0
+-- 128 bytes each: the digest of the text of need q; from 10880 on its link; from 11008 on the head of chain q
+unfoldable pub needDigestOf : Bytes → ℕ → ℕ
+needDigestOf t q = getD t (10752 + q) 0
 
-abbrev pub needChain : Chain
-needChain = record { at = 10752; gap = 128; step = 1 }
+-- where these stand
+abbrev pub needChains : ChainPlaces
+needChains = record { at = 10752; gap = 128; step = 1 }
 
 -- the position of k among the keys js, from 1 on; 0 where it is none of them
 abbrev pub positionFromOne : TypeKey → List TypeKey → ℕ
@@ -44,7 +45,7 @@ pub record Needs (s t : Bytes) (n : ℕ) (ks : List TypeKey) : Type 0 where
   pub within : (q : ℕ) → q < length ks → needLineOf t q < n
   pub kind : (q : ℕ) → q < length ks → letter (readAt s (needLineOf t q) .form .kind) ≡ 78
   pub key : (q : ℕ) → q < length ks → needAt s (needLineOf t q) ≡ getD ks q opaqueKey
-  pub position : (q : ℕ) → q < length ks → needPosition t q ≡ position (getD ks q opaqueKey) (distinct [] ks)
+  pub position : (q : ℕ) → q < length ks → needPositionOf t q ≡ position (getD ks q opaqueKey) (distinct [] ks)
 
 -- 1 where a kind of element is used
 abbrev pub isUsed : ℕ → ℕ
@@ -68,7 +69,7 @@ needEntered t q i p = set (set (set t (10240 + q) (i % 256)) (10368 + q) (i / 25
 
 -- its text has the digest d, by which it is linked
 unfoldable pub digestEntered : Bytes → ℕ → ℕ → Bytes
-digestEntered t q d = linked (set t (10752 + q) d) needChain q (chainOf d)
+digestEntered t q d = linked (set t (10752 + q) d) needChains q
 
 -- the key of element kind k has position p; 5 is no kind
 unfoldable pub kindEntered : Bytes → ℕ → ℕ → Bytes

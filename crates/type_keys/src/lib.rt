@@ -1,7 +1,7 @@
 // The table of descriptor keys, with their positions among the distinct keys.
 pub mod ids;
 
-use chains::Chain;
+use chains::ChainPlaces;
 use codes::area;
 use codes::element;
 ghost use mathlib.Core.Path.{_≡_};
@@ -12,10 +12,10 @@ ghost use Rattle.semantics.specs.Tree.{ElemKind, TypeKey};
 ghost use Rattle.semantics.specs.Tree.TypeKey.{elemKey};
 ghost use Rattle.semantics.specs.Array.{kindNumber};
 ghost use Rattle.checks.specs.Checks.{Outside};
-ghost use Rattle.type_keys.specs.Table.{needLineOf, needPosition, kindPosition, needDigest, needEntered, digestEntered, kindEntered, Kinds};
+ghost use Rattle.type_keys.specs.Table.{needLineOf, needPositionOf, kindPosition, needDigestOf, needEntered, digestEntered, kindEntered, Kinds};
 
-// The chains of needs.
-pub const CHAIN: Chain = Chain {
+// Where the chains of needs stand.
+pub const CHAINS: ChainPlaces = ChainPlaces {
     at: area::NEED_DIGESTS,
     gap: 128,
     step: 1,
@@ -32,7 +32,7 @@ pub fn need_line(work: &[u8], q: usize) -> usize
 // The position of its key.
 pub fn need_position(work: &[u8], q: usize) -> usize
     requires { ⌜ (q < 128) × (65536 ≤ length (now work)) ⌝ }
-    ensures { λ r. ⌜ (r ≡ needPosition (now (work .entry)) q) × (r < 256) ⌝ }
+    ensures { λ r. ⌜ (r ≡ needPositionOf (now (work .entry)) q) × (r < 256) ⌝ }
 {
     words::wide(work[area::NEED_POSITIONS + q])
 }
@@ -40,7 +40,7 @@ pub fn need_position(work: &[u8], q: usize) -> usize
 // The digest of its line's text.
 pub fn need_digest(work: &[u8], q: usize) -> usize
     requires { ⌜ (q < 128) × (65536 ≤ length (now work)) ⌝ }
-    ensures { λ r. ⌜ r ≡ needDigest (now (work .entry)) q ⌝ }
+    ensures { λ r. ⌜ r ≡ needDigestOf (now (work .entry)) q ⌝ }
 {
     words::wide(work[area::NEED_DIGESTS + q])
 }
@@ -69,7 +69,7 @@ pub fn enter_digest(work: &mut [u8], q: usize, h: usize)
     ensures { λ _. ⌜ now (work .exit) ≡ digestEntered (now (work .entry)) q h ⌝ }
 {
     work[area::NEED_DIGESTS + q] = h as u8;
-    chains::link(work, CHAIN, q, chains::chain_of(h));
+    chains::link(work, CHAINS, q);
 }
 
 // The key of a kind of element has position p; `NONE` is no kind.

@@ -21,7 +21,7 @@ use Rattle.checks.proofs.Kept.{kept-all, kept-then, kept-less, kept-at}
 use Rattle.records.specs.Log.{logOf}
 use Rattle.records.proofs.Kept.{logged-kept}
 use Rattle.type_lines.specs.Needs.{needAt, NeedLine}
-use Rattle.type_keys.specs.Table.{needLineOf, needPosition}
+use Rattle.type_keys.specs.Table.{needLineOf, needPositionOf}
 use Rattle.type_keys.proofs.Distinct.{newKey, position-none, position-low, position-more, distinct-more, key-member, known-more}
 use Rattle.records.specs.declared.key.Log.{Log}
 use Rattle.type_row.specs.declared.Spot.{Spot}
@@ -48,7 +48,7 @@ types-then xs ys {p} {q} {r} a b = record {
 
 -- a store behind the tables leaves them
 pub ready-kept : {s t u : List ℕ} {c : Log} → Kept 49152 t u → TypeTables s t c → TypeTables s u c
-unfolding needLineOf needPosition
+unfolding needLineOf needPositionOf
 ready-kept {s} {t} {u} k x =
     let at : (j : ℕ) → j < 49152 → getD u j 0 ≡ getD t j 0 = λ j h. kept-at k j h in
     let low : (q : ℕ) → q < length (sheetSource s .needs) → q < 128 = λ q h. omega (arith, x .table .few) in
@@ -81,7 +81,7 @@ module _ (s t : List ℕ) (c : Log) (x : TypeTables s t c) (q : ℕ) (low : q < 
   keys-more = ap (distinct []) one-more ∙ distinct-more (getD (sheetSource s .needs) q opaqueKey) (take q (sheetSource s .needs))
 
   -- its position is that among the keys before
-  pub position-is : needPosition t q ≡ position (getD (sheetSource s .needs) q opaqueKey) (keysTo s q)
+  pub position-is : needPositionOf t q ≡ position (getD (sheetSource s .needs) q opaqueKey) (keysTo s q)
   position-is =
       let y = getD (sheetSource s .needs) q opaqueKey in
       let l = take (q + 1) (sheetSource s .needs) in
@@ -92,14 +92,14 @@ module _ (s t : List ℕ) (c : Log) (x : TypeTables s t c) (q : ℕ) (low : q < 
       x .table .position q low ∙ e ∙ ap (position y) keys-more ∙ position-more y (keysTo s q)
 
   module _ (base id : ℕ) (hid : id ≡ base + length (keysTo s q)) where
-    pub keys-stay : (base + needPosition t q ≡ id → ⊥) → keysTo s (q + 1) ≡ keysTo s q
+    pub keys-stay : (base + needPositionOf t q ≡ id → ⊥) → keysTo s (q + 1) ≡ keysTo s q
     keys-stay ne = keys-more ∙ go (any (sameTypeKey (getD (sheetSource s .needs) q opaqueKey)) (keysTo s q)) refl
       where
         go : (b : Bool) → any (sameTypeKey (getD (sheetSource s .needs) q opaqueKey)) (keysTo s q) ≡ b → keysTo s q ++ cond b [] (getD (sheetSource s .needs) q opaqueKey ∷ []) ≡ keysTo s q
         go true e = append-nil (keysTo s q)
         go false e = absurd (ne (omega (arith, position-is, hid, position-none (getD (sheetSource s .needs) q opaqueKey) (keysTo s q) e)))
 
-    pub keys-next : base + needPosition t q ≡ id → keysTo s (q + 1) ≡ keysTo s q ++ (needAt s (needLineOf t q) ∷ [])
+    pub keys-next : base + needPositionOf t q ≡ id → keysTo s (q + 1) ≡ keysTo s q ++ (needAt s (needLineOf t q) ∷ [])
     keys-next eq = keys-more ∙ rw (x .table .key q low) (go (any (sameTypeKey (getD (sheetSource s .needs) q opaqueKey)) (keysTo s q)) refl)
       where
         go : (b : Bool) → any (sameTypeKey (getD (sheetSource s .needs) q opaqueKey)) (keysTo s q) ≡ b → keysTo s q ++ cond b [] (getD (sheetSource s .needs) q opaqueKey ∷ []) ≡ keysTo s q ++ (getD (sheetSource s .needs) q opaqueKey ∷ [])

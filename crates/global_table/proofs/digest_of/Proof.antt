@@ -1,11 +1,11 @@
 -- `global_table::digest_of` meets its contract.
 use borrow.Author.Needs.{needs}
-use Rattle.global_table.specs.Table.{globalDigest}
+use Rattle.global_table.specs.Table.{globalDigestOf}
 use Rattle.global_table.proofs.digest_of.Statement.{statement}
 use Rattle.global_table.proofs.digest_of.Tie as tie
 
 returns : tie.Need-returns
-unfolding globalDigest
+unfolding globalDigestOf
 returns c = search needs
 
 pub digest-of-spec : {M : Type 1} → statement M

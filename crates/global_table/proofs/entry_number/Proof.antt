@@ -4,13 +4,13 @@ use borrow.Author.Needs.{needs}
 use denote.Ref.{now}
 use Rattle.chains.specs.Chains.{chainOf}
 use Rattle.chains.proofs.Laws.{Along, along-first, along-found, along-next, newest-less, along-end}
-use Rattle.global_table.specs.Table.{globalChain}
+use Rattle.global_table.specs.Table.{globalChains}
 use Rattle.global_table.proofs.Table.{hasName, global-placed, named-chain, found-is}
 use Rattle.global_table.proofs.entry_number.Statement.{statement}
 use Rattle.global_table.proofs.entry_number.Tie as tie
 
 abbrev Inv-loop : tie.InvT-loop
-Inv-loop sheet work n g name d i₀ i = Along work globalChain (chainOf d) g (hasName sheet work name) i
+Inv-loop sheet work n g name d i₀ i = Along work globalChains (chainOf d) g (hasName sheet work name) i
 
 abbrev μ-loop : tie.MeasureT-loop
 μ-loop sheet work n g name d i₀ i = i

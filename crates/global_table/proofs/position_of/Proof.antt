@@ -1,11 +1,11 @@
 -- `global_table::position_of` meets its contract.
 use borrow.Author.Needs.{needs}
-use Rattle.global_table.specs.Table.{globalPosition}
+use Rattle.global_table.specs.Table.{globalPositionOf}
 use Rattle.global_table.proofs.position_of.Statement.{statement}
 use Rattle.global_table.proofs.position_of.Tie as tie
 
 returns : tie.Need-returns
-unfolding globalPosition
+unfolding globalPositionOf
 returns c = (search needs, search needs)
 
 pub position-of-spec : {M : Type 1} → statement M

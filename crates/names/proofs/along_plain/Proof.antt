@@ -1,8 +1,8 @@
 -- `names::along_plain` meets its contract.
 use Rattle.names.proofs.Laws as Laws
-use Rattle.names.specs.Table.{answersPlain}
+use Rattle.names.specs.Table.{constChains, answersPlain}
 use Rattle.chains.specs.Chains.{chainOf}
-use Rattle.chains.proofs.Laws.{newest-less}
+use Rattle.chains.proofs.Laws.{earlier-less}
 use denote.Ref.{now}
 use native.Mathlib.Omega.{arith}
 use Prim.Native.Nat.{ℕ}
@@ -18,7 +18,7 @@ abbrev μ-loop : tie.MeasureT-loop
 loop-holds : tie.Need-loop-holds Inv-loop μ-loop
 loop-holds c =
     let p = c .before .before .before .pre in
-    Laws.asking-first (p .1) (Laws.plain-member (p .0) (now (c .before .before .before .args .name)) (p .2))
+    Laws.asking-first (p .0 .logged .chained) (p .1) (Laws.plain-member (p .0) (now (c .before .before .before .args .name)) (p .2))
 
 answers-plain-requires : tie.Need-answers-plain-requires Inv-loop μ-loop
 answers-plain-requires c κs =
@@ -31,10 +31,13 @@ returns c = Laws.asking-found (c .before .before .before .loop .inv) (omega arit
 earlier-requires : tie.Need-earlier-requires Inv-loop μ-loop
 earlier-requires c κs = Laws.earlier-asked (c .before .before .before .before .before .before .before .pre .0) (omega (arith, c .before .before .before .loop .inv .low, c .before .before .loop-test .taken))
 
+loop-less : tie.Need-loop-less Inv-loop μ-loop
+loop-less c = earlier-less (now (c .before .before .before .before .before .before .before .before .args .work)) constChains (omega arith) (c .earlier .ensures)
+
 loop-again : tie.Need-loop-again Inv-loop μ-loop
 loop-again c = Laws.asking-next (c .before .before .before .before .loop .inv) (omega arith) (c .before .before .answers-plain .ensures) (c .before .if1 .left) (c .earlier .ensures)
 
 pub along-plain-spec : {M : Type 1} → statement M
 along-plain-spec =
     tie.close (tie.spec Inv-loop μ-loop loop-holds (λ c. omega arith) answers-plain-requires returns (λ c. omega arith) earlier-requires
-    (λ c. newest-less _ (omega arith) (c .earlier .ensures)) loop-again (λ c. Laws.asking-end (omega arith) (c .before .loop .inv)))
+    loop-less loop-again (λ c. Laws.asking-end (omega arith) (c .before .loop .inv)))

@@ -1,8 +1,8 @@
 -- `names::along_qualified` meets its contract.
 use Rattle.names.proofs.Laws as Laws
-use Rattle.names.specs.Table.{answersQualified}
+use Rattle.names.specs.Table.{constChains, answersQualified}
 use Rattle.chains.specs.Chains.{chainOf}
-use Rattle.chains.proofs.Laws.{newest-less}
+use Rattle.chains.proofs.Laws.{earlier-less}
 use denote.Ref.{now}
 use native.Mathlib.Omega.{arith}
 use Prim.Native.Nat.{ℕ}
@@ -18,7 +18,7 @@ abbrev μ-loop : tie.MeasureT-loop
 loop-holds : tie.Need-loop-holds Inv-loop μ-loop
 loop-holds c =
     let p = c .before .before .before .before .pre in
-    Laws.asking-first (p .1) (Laws.qualified-member (p .0) (now (c .before .before .before .before .args .name)) (p .2) (now (c .before .before .before .before .args .within)))
+    Laws.asking-first (p .0 .logged .chained) (p .1) (Laws.qualified-member (p .0) (now (c .before .before .before .before .args .name)) (p .2) (now (c .before .before .before .before .args .within)))
 
 answers-qualified-requires : tie.Need-answers-qualified-requires Inv-loop μ-loop
 answers-qualified-requires c κs =
@@ -31,10 +31,13 @@ returns c = Laws.asking-found (c .before .before .before .loop .inv) (omega arit
 earlier-requires : tie.Need-earlier-requires Inv-loop μ-loop
 earlier-requires c κs = Laws.earlier-asked (c .before .before .before .before .before .before .before .before .pre .0) (omega (arith, c .before .before .before .loop .inv .low, c .before .before .loop-test .taken))
 
+loop-less : tie.Need-loop-less Inv-loop μ-loop
+loop-less c = earlier-less (now (c .before .before .before .before .before .before .before .before .before .args .work)) constChains (omega arith) (c .earlier .ensures)
+
 loop-again : tie.Need-loop-again Inv-loop μ-loop
 loop-again c = Laws.asking-next (c .before .before .before .before .loop .inv) (omega arith) (c .before .before .answers-qualified .ensures) (c .before .if1 .left) (c .earlier .ensures)
 
 pub along-qualified-spec : {M : Type 1} → statement M
 along-qualified-spec =
     tie.close (tie.spec Inv-loop μ-loop loop-holds (λ c. omega arith) answers-qualified-requires returns (λ c. omega arith) earlier-requires
-    (λ c. newest-less _ (omega arith) (c .earlier .ensures)) loop-again (λ c. Laws.asking-end (omega arith) (c .before .loop .inv)))
+    loop-less loop-again (λ c. Laws.asking-end (omega arith) (c .before .loop .inv)))

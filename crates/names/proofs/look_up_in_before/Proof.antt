@@ -1,7 +1,7 @@
 -- `names::look_up_in_before` meets its contract.
 use Rattle.names.proofs.Laws as Laws
 use Rattle.chains.specs.Chains.{chainOf, digestPlace, chainAt, inChain, newestOf}
-use Rattle.names.specs.Table.{constChain}
+use Rattle.names.specs.Table.{constChains}
 use Rattle.words.specs.Words.{digest}
 use Rattle.chains.proofs.Laws.{newest-most}
 use denote.Ref.{now}
@@ -20,7 +20,7 @@ digest-of-requires c κs = let p = c .before .before .before .before .before .pr
 along-qualified-requires : tie.Need-along-qualified-requires
 along-qualified-requires c κs =
     let p = c .before .before .before .before .before .before .pre in
-    let e = newest-most _ (c .before .earlier .ensures) in
+    let e = newest-most _ (c .before .earlier .ensures ∙ p .0 .logged .chained .links _ (p .1)) in
     (p .0, omega (arith, e, p .1), c .digest-of .ensures ∙ p .0 .logged .digests (c .before .before .before .before .before .before .args .i) (p .1) ∙ ap digest (sym (p .2)))
 
 returns : tie.Need-returns
@@ -28,7 +28,7 @@ unfolding chainAt digestPlace
 returns c =
     let a = c .before .before .before .before .before .before .before .args in
     let p = c .before .before .before .before .before .before .before .pre in
-    let e = c .before .before .earlier .ensures ∙ ap (λ (d : ℕ). newestOf (inChain (now (a .work)) constChain (chainOf d)) (a .i)) (sym (c .before .digest-of .ensures)) in
+    let e = c .before .before .earlier .ensures ∙ p .0 .logged .chained .links _ (p .1) ∙ ap (λ (d : ℕ). newestOf (inChain (now (a .work)) constChains (chainOf d)) (a .i)) (sym (c .before .digest-of .ensures)) in
     Laws.looked (Laws.answers-qualified (now (a .sheet)) (now (a .work)) (now (a .within)) (now (a .name))) (c .along-qualified .ensures (a .i) (omega (arith, p .1)) e)
 
 pub look-up-in-before-spec : {M : Type 1} → statement M

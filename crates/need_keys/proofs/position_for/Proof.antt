@@ -4,14 +4,14 @@ use mathlib.Core.Path.{_∙_}
 use borrow.Author.Needs.{needs}
 use Rattle.chains.specs.Chains.{chainOf}
 use Rattle.chains.proofs.Laws.{Along, along-first, along-next, newest-less, along-end}
-use Rattle.type_keys.specs.Table.{needChain}
+use Rattle.type_keys.specs.Table.{needChains}
 use Rattle.type_keys.proofs.Table.{need-placed}
 use Rattle.need_keys.proofs.Pass.{hasNeedKey, needs-room, known-entry, found-position, found-chain, next-position}
 use Rattle.need_keys.proofs.position_for.Statement.{statement}
 use Rattle.need_keys.proofs.position_for.Tie as tie
 
 abbrev Inv-loop : tie.InvT-loop
-Inv-loop sheet work n i h d q₀ q = Along work needChain (chainOf h) (d .needs) (hasNeedKey sheet work i) q
+Inv-loop sheet work n i h d q₀ q = Along work needChains (chainOf h) (d .needs) (hasNeedKey sheet work i) q
 
 abbrev μ-loop : tie.MeasureT-loop
 μ-loop sheet work n i h d q₀ q = q

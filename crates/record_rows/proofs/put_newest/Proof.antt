@@ -6,6 +6,9 @@ use borrow.Author.Needs.{needs}
 use Rattle.record_rows.proofs.put_newest.Statement.{statement}
 use Rattle.record_rows.proofs.put_newest.Tie as tie
 
+is-first-requires : tie.Need-is-first-requires
+is-first-requires c κs = record { m = _; log = c .before .before .before .before .pre .0; low = c .before .before .before .before .pre .1 }
+
 put-record-requires : tie.Need-put-record-requires
 put-record-requires c κs = record { m = _; log = c .before .before .before .before .before .before .before .before .before .before .pre .0; low = c .before .before .newest-of .ensures .low }
 
@@ -17,5 +20,5 @@ returns-2 c = record { wrote = wrote-as (rows-later (now (c .before .before .bef
 
 pub put-newest-spec : {M : Type 1} → statement M
 put-newest-spec =
-    tie.close (tie.spec (λ c κs. search needs) (λ c κs. search needs) put-record-requires (λ c. search needs) (λ c. search needs) returns
+    tie.close (tie.spec is-first-requires (λ c κs. search needs) put-record-requires (λ c. search needs) (λ c. search needs) returns
     (λ c κs. search needs) (λ c. search needs) (λ c. search needs) returns-2)

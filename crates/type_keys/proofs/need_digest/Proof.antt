@@ -1,10 +1,10 @@
-use Rattle.type_keys.specs.Table.{needDigest}
+use Rattle.type_keys.specs.Table.{needDigestOf}
 use borrow.Author.Needs.{needs}
 use Rattle.type_keys.proofs.need_digest.Statement.{statement}
 use Rattle.type_keys.proofs.need_digest.Tie as tie
 
 returns : tie.Need-returns
-unfolding needDigest
+unfolding needDigestOf
 returns c = c .wide .ensures .0
 
 pub need-digest-spec : {M : Type 1} → statement M

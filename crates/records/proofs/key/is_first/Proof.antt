@@ -1,7 +1,7 @@
 -- `records::key::is_first` meets its contract.
 use borrow.Author.Needs.{needs}
 use Rattle.records.proofs.Newest.{keyIs, record-placed, digest-chain, key-chain, own-chain, first-not, first-is}
-use Rattle.records.specs.Log.{recordedAt, recordChain}
+use Rattle.records.specs.Log.{recordedAt, recordChains}
 use Rattle.chains.proofs.Laws.{newest-less, Along, along-first, along-found, along-next, along-end}
 use Rattle.chains.specs.Chains.{chainAt}
 use denote.Ref.{now}
@@ -12,7 +12,7 @@ use Rattle.records.proofs.key.is_first.Statement.{statement}
 use Rattle.records.proofs.key.is_first.Tie as tie
 
 abbrev Inv-loop : tie.InvT-loop
-Inv-loop sheet work c i j₀ j = Along work recordChain (chainAt work recordChain i) i (keyIs sheet work (recordedAt sheet work i .key)) j
+Inv-loop sheet work c i j₀ j = Along work recordChains (chainAt work recordChains i) i (keyIs sheet work (recordedAt sheet work i .key)) j
 
 abbrev μ-loop : tie.MeasureT-loop
 μ-loop sheet work c i j₀ j = j

@@ -1,7 +1,7 @@
 -- `records::key::newest` meets its contract.
 use borrow.Author.Needs.{needs}
 use Rattle.records.proofs.Newest.{keyIs, record-placed, key-chain, newest-is}
-use Rattle.records.specs.Log.{recordChain}
+use Rattle.records.specs.Log.{recordChains}
 use Rattle.chains.proofs.Laws.{newest-less, Along, along-first, along-found, along-next, along-end}
 use Rattle.chains.specs.Chains.{chainOf}
 use denote.Ref.{now}
@@ -12,7 +12,7 @@ use Rattle.records.proofs.key.newest.Statement.{statement}
 use Rattle.records.proofs.key.newest.Tie as tie
 
 abbrev Inv-loop : tie.InvT-loop
-Inv-loop sheet work c key d i₀ i = Along work recordChain (chainOf d) (c .entries) (keyIs sheet work key) i
+Inv-loop sheet work c key d i₀ i = Along work recordChains (chainOf d) (c .entries) (keyIs sheet work key) i
 
 abbrev μ-loop : tie.MeasureT-loop
 μ-loop sheet work c key d i₀ i = i

@@ -1,7 +1,7 @@
 -- `records::key::newest_of` meets its contract.
 use borrow.Author.Needs.{needs}
 use Rattle.records.proofs.Newest.{keyIs, record-placed, key-chain, own-chain, newest-own, newest-self}
-use Rattle.records.specs.Log.{recordedAt, recordChain}
+use Rattle.records.specs.Log.{recordedAt, recordChains}
 use Rattle.chains.proofs.Laws.{newest-less, Along, along-first, along-found, along-next}
 use Rattle.chains.specs.Chains.{chainOf}
 use denote.Ref.{now}
@@ -12,7 +12,7 @@ use Rattle.records.proofs.key.newest_of.Statement.{statement}
 use Rattle.records.proofs.key.newest_of.Tie as tie
 
 abbrev Inv-loop : tie.InvT-loop
-Inv-loop sheet work c i k j₀ j = Along work recordChain k (c .entries) (keyIs sheet work (recordedAt sheet work i .key)) j
+Inv-loop sheet work c i k j₀ j = Along work recordChains k (c .entries) (keyIs sheet work (recordedAt sheet work i .key)) j
 
 abbrev μ-loop : tie.MeasureT-loop
 μ-loop sheet work c i k j₀ j = j
