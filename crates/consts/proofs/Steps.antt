@@ -19,7 +19,7 @@ use Rattle.implement.specs.Modules.{firstField, moduleAt}
 use Rattle.words.specs.Words.{digest}
 use Rattle.checks.specs.Checks.{Kept}
 use Rattle.checks.proofs.Kept.{kept-then, kept-less}
-use Rattle.chains.specs.Chains.{chainOf, linked}
+use Rattle.chains.specs.Chains.{linked}
 use Rattle.names.specs.Table.{constChains, logIn, namesIn, ConstsLogged}
 use Rattle.names.proofs.Laws.{logged-kept, log-kept}
 use Rattle.values.specs.declared.ConstVal.{ConstVal}
@@ -69,13 +69,13 @@ module _ (s t : Bytes) (n m k i : ℕ) (l : ConstLine s t n m k i) (r : ℕ) (is
     log-after = logged-kept (f .kept) (l .logged)
 
     module _ {d : ℕ} (named : d ≡ digest (firstField s (i + 1))) (w : Bytes) where
-      pub took-value : {v : ConstVal} → x ≡ Value v → (w ≡ linked (over (over u (16384 + 256 * m) (stringOf u v)) (5120 + 16 * m) (entryOf (i + 1) k (kindFor v) (bitsFor (movedTo (16384 + 256 * m) v)) d)) constChains m (chainOf d)) × InRange v → Kept 5120 t w × ConstantEntered s t w n m k i iota true
+      pub took-value : {v : ConstVal} → x ≡ Value v → (w ≡ linked (over (over u (16384 + 256 * m) (stringOf u v)) (5120 + 16 * m) (entryOf (i + 1) k (kindFor v) (bitsFor (movedTo (16384 + 256 * m) v)) d)) constChains m) × InRange v → Kept 5120 t w × ConstantEntered s t w n m k i iota true
       unfolding resultIn
       took-value {v} q h =
           let e = entered-value u w m (i + 1) k d (free (f .kept)) v (at-value q) h s n (omega (arith, l .line)) (l .group) named log-after in
           (all-kept (some (valueIn u v)) w e, (e .logged, λ go. rw (fold-is q, log-is (some (valueIn u v)) w e)))
 
-      pub took-failed : x ≡ Failed → w ≡ linked (over u (5120 + 16 * m) (entryOf (i + 1) k 0 0 d)) constChains m (chainOf d) → Kept 5120 t w × ConstantEntered s t w n m k i iota true
+      pub took-failed : x ≡ Failed → w ≡ linked (over u (5120 + 16 * m) (entryOf (i + 1) k 0 0 d)) constChains m → Kept 5120 t w × ConstantEntered s t w n m k i iota true
       unfolding resultIn
       took-failed q h =
           let e = entered-failed u w m (i + 1) k d (free (f .kept)) h s n (omega (arith, l .line)) (l .group) named log-after in

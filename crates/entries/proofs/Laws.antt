@@ -23,7 +23,7 @@ use Rattle.semantics.specs.Const.{entries}
 use Rattle.write.specs.Wrote.{over}
 use Rattle.write.proofs.Hex.{big-length}
 use Rattle.write.proofs.Back.{bits-back}
-use Rattle.chains.specs.Chains.{chainOf, digestPlace, chainAt, Chained, linked}
+use Rattle.chains.specs.Chains.{digestPlace, Chained, linked}
 use Rattle.chains.proofs.Laws.{SameBytes, chained-kept, chained-next}
 use Rattle.words.specs.Words.{digest, u16At, bitsAt}
 use Rattle.implement.specs.Modules.{firstField, moduleAt}
@@ -83,8 +83,8 @@ module _ (v : ConstVal) {w : ConstVal} (m : ℕ) (e : w ≡ movedTo (16384 + 256
   kept-small h a = rw e (moved-small (16384 + 256 * m) v (omega arith) a)
 
   pub value-entered : (line within d : ℕ) (t : Bytes) {u x : Bytes} {k b : ℕ}
-      → x ≡ over t (16384 + 256 * m) (stringOf t v) → k ≡ kindFor w → (b ≡ bitsFor w) × InRange w → u ≡ linked (over x (5120 + 16 * m) (entryOf line within k b d)) constChains m (chainOf d)
-      → (u ≡ linked (over (over t (16384 + 256 * m) (stringOf t v)) (5120 + 16 * m) (entryOf line within (kindFor v) (bitsFor (movedTo (16384 + 256 * m) v)) d)) constChains m (chainOf d)) × InRange v
+      → x ≡ over t (16384 + 256 * m) (stringOf t v) → k ≡ kindFor w → (b ≡ bitsFor w) × InRange w → u ≡ linked (over x (5120 + 16 * m) (entryOf line within k b d)) constChains m
+      → (u ≡ linked (over (over t (16384 + 256 * m) (stringOf t v)) (5120 + 16 * m) (entryOf line within (kindFor v) (bitsFor (movedTo (16384 + 256 * m) v)) d)) constChains m) × InRange v
   value-entered line within d t f g (h, r) i = (i ∙ rw (f, g, h, e, moved-kind (16384 + 256 * m) v), moved-range (16384 + 256 * m) v (rw e at r))
 
 -- ---- an entry's bytes
@@ -232,15 +232,11 @@ module _ (t u : Bytes) (m line within kind bits d : ℕ) (f : EntryRoom t m line
       } in
       chained-kept same (omega arith)
 
-  own-chain : chainAt u constChains m ≡ chainOf d
-  unfolding chainAt digestPlace
-  own-chain = ap chainOf digest-here
-
-  entered : (v : Option Tree.ConstVal) → valueBy u kind bits ≡ v → (w : Bytes) → w ≡ linked u constChains m (chainOf d) → (s : Bytes) (n : ℕ) → line ≤ n → within ≤ n → d ≡ digest (firstField s line) → ConstsLogged s t n m → Entered s t n m line within v w
+  entered : (v : Option Tree.ConstVal) → valueBy u kind bits ≡ v → (w : Bytes) → w ≡ linked u constChains m → (s : Bytes) (n : ℕ) → line ≤ n → within ≤ n → d ≡ digest (firstField s line) → ConstsLogged s t n m → Entered s t n m line within v w
   entered v e w j s n p q hd l =
       let bounds = each-new n p q (l .each) in
-      let same = linked-entries u m (chainOf d) (f .few) (omega arith) in
-      let outside = const-outside u m (chainOf d) (f .few) (omega arith) in
+      let same = linked-entries u m (f .few) in
+      let outside = const-outside u m (f .few) in
       let long : 65536 ≤ length u = omega (arith, f .long, table-kept .long) in
       rw j
       (record {
@@ -249,13 +245,13 @@ module _ (t u : Bytes) (m line within kind bits d : ℕ) (f : EntryRoom t m line
           few = omega (arith, f .few);
           each = each-same same bounds;
           digests = digests-same same bounds s (digests-new s n hd l);
-          chained = rw add-one (chained-next (const-placed long) const-apart (omega arith) (omega arith) (f .few) (omega arith) (own-chain) (chained-still (l .chained)));
+          chained = rw add-one (chained-next (const-placed long) const-apart (omega arith) (omega arith) (f .few) (chained-still (l .chained)));
         };
         kept = kept-then (kept-less (omega arith) table-kept) (outside .kept);
       })
 
 module _ (t w : Bytes) (m line within d : ℕ) (f : EntryRoom t m line within) where
-  pub entered-failed : w ≡ linked (over t (5120 + 16 * m) (entryOf line within 0 0 d)) constChains m (chainOf d) → (s : Bytes) (n : ℕ) → line ≤ n → within ≤ n → d ≡ digest (firstField s line) → ConstsLogged s t n m → Entered s t n m line within none w
+  pub entered-failed : w ≡ linked (over t (5120 + 16 * m) (entryOf line within 0 0 d)) constChains m → (s : Bytes) (n : ℕ) → line ≤ n → within ≤ n → d ≡ digest (firstField s line) → ConstsLogged s t n m → Entered s t n m line within none w
   entered-failed e =
       let u = over t (5120 + 16 * m) (entryOf line within 0 0 d) in
       entered t u m line within 0 0 d f [] (omega arith) (ap (λ (x : Bytes). over x (5120 + 16 * m) (entryOf line within 0 0 d)) (over-none t (16384 + 256 * m))) (omega arith) (omega arith) (λ k. absurd (omega arith))
@@ -263,7 +259,7 @@ module _ (t w : Bytes) (m line within d : ℕ) (f : EntryRoom t m line within) w
 
   -- a value, by its variant
   pub entered-value : (v : ConstVal) → At 49152 v
-      → (w ≡ linked (over (over t (16384 + 256 * m) (stringOf t v)) (5120 + 16 * m) (entryOf line within (kindFor v) (bitsFor (movedTo (16384 + 256 * m) v)) d)) constChains m (chainOf d)) × InRange v
+      → (w ≡ linked (over (over t (16384 + 256 * m) (stringOf t v)) (5120 + 16 * m) (entryOf line within (kindFor v) (bitsFor (movedTo (16384 + 256 * m) v)) d)) constChains m) × InRange v
       → (s : Bytes) (n : ℕ) → line ≤ n → within ≤ n → d ≡ digest (firstField s line) → ConstsLogged s t n m → Entered s t n m line within (some (valueIn t v)) w
   unfolding valueIn wrap
   entered-value (Int z) a (e, r) =

@@ -7,11 +7,10 @@ use Rattle.entries.proofs.put_entry.Statement.{statement}
 use Rattle.entries.proofs.put_entry.Tie as tie
 
 link-requires : tie.Need-link-requires
-link-requires c κs = (const-placed (search needs), omega (arith, c .before .before .before .before .before .before .before .pre .0 .few), c .chain-of .ensures .1)
+link-requires c κs = (const-placed (search needs), omega (arith, c .before .before .before .before .before .before .pre .0 .few))
 
 returns : tie.Need-returns
-returns c = c .before .before .link .ensures ∙ rw (c .before .before .before .before .before .before .before .put-bytes .ensures, c .before .before .before .chain-of .ensures .0)
+returns c = c .before .before .link .ensures ∙ rw (c .before .before .before .before .before .before .put-bytes .ensures)
 
 pub put-entry-spec : {M : Type 1} → statement M
-put-entry-spec =
-    tie.close (tie.spec (λ c κs. search needs) (λ c κs. search needs) link-requires (λ c. search needs) returns)
+put-entry-spec = tie.close (tie.spec (λ c κs. search needs) link-requires (λ c. search needs) returns)
