@@ -15,6 +15,11 @@ use Rattle.checks.proofs.Kept.{outside-then, outside-set}
 use Rattle.chains.specs.declared.ChainPlaces.{ChainPlaces}
 use Rattle.chains.specs.Chains.{newestOf, chainOf, digestPlace, linkAt, headAt, chainAt, inChain, Placed, entryBelow, newestIn, earlierThan, Chained, linked}
 
+-- a chain is one of 128
+pub chain-small : (t : Bytes) (c : ChainPlaces) (i : ℕ) → chainAt t c i < 128
+unfolding chainAt
+chain-small t c i = omega arith
+
 -- ---- the newest entry that answers
 
 module _ (answers : ℕ → Bool) where
@@ -189,10 +194,6 @@ pub record PlacesApart (c : ChainPlaces) (n : ℕ) : Type 0 where
   pub own : (i j : ℕ) → digestPlace c i ≡ digestPlace c j → i ≡ j
   pub link : (i j : ℕ) → i < n → j < n → digestPlace c i ≡ digestPlace c j + c .gap → ⊥
   pub head : (i k : ℕ) → i < n → k < 128 → digestPlace c i ≡ digestPlace c k + c .gap + c .gap → ⊥
-
-chain-small : (t : Bytes) (c : ChainPlaces) (i : ℕ) → chainAt t c i < 128
-unfolding chainAt
-chain-small t c i = omega arith
 
 -- bytes elsewhere stay
 module _ (t : Bytes) (c : ChainPlaces) (m : ℕ) where

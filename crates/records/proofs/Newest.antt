@@ -15,7 +15,7 @@ use Rattle.laws.proofs.Tests.{same-refl}
 use Rattle.words.specs.Words.{digest}
 use Rattle.words.proofs.Laws.{digest-same}
 use Rattle.chains.specs.Chains.{newestOf, chainOf, chainAt, inChain, digestPlace, Placed}
-use Rattle.chains.proofs.Laws.{newest-low, newest-from, Along}
+use Rattle.chains.proofs.Laws.{newest-low, newest-from, newest-none-later, Along}
 use Rattle.records.specs.Log.{keyDigestOf, recordedAt, recordChains, logOf, noRecord, chosen, RecordsLogged, Newest, NewestOfEntry}
 use Rattle.records.proofs.Keys.{default-same}
 
@@ -55,18 +55,11 @@ module _ (s t : Bytes) (n m : ℕ) (g : RecordsLogged s t n m) (k : Bytes) where
   last-all : (d : Recorded) {j : ℕ} → j ≡ newestOf (keyIs s t k) m → lastOf k d (logOf s) ≡ chosen (logOf s) j d
   last-all d e = ap (lastOf k d) (sym (take-all m (logOf s) (omega (arith, g .count)))) ∙ last-newest d m (omega arith) ∙ ap (λ (x : ℕ). chosen (logOf s) x d) (sym e)
 
-  none-later : {j : ℕ} → j ≡ newestOf (keyIs s t k) m → (i : ℕ) → j ≤ i → i < m → keyIs s t k i ≡ false
-  none-later e i h l = go (keyIs s t k i) refl
-    where
-      go : (b : Bool) → keyIs s t k i ≡ b → b ≡ false
-      go true q = let z = newest-from (keyIs s t k) m i l q in absurd (omega (arith, e, z))
-      go false q = refl
-
   pub newest-is : {j : ℕ} → j ≡ newestOf (keyIs s t k) m → Newest s k j
   newest-is e = record {
     low = let z = newest-low (keyIs s t k) m in omega (arith, e, z, g .count);
     last = λ d. last-all d e;
-    later = λ i a b. let h : i < m = omega (arith, g .count) in rw (← g .each i h) (none-later e i a h);
+    later = λ i a b. let h : i < m = omega (arith, g .count) in rw (← g .each i h) (newest-none-later (keyIs s t k) e i a h);
   }
 
   -- ---- whether it was met
@@ -96,8 +89,8 @@ module _ (s t : Bytes) (n m : ℕ) (g : RecordsLogged s t n m) (i : ℕ) (h : i 
   abbrev own : Bytes
   own = recordedAt s t i .key
 
-  pub own-chain : {c : ℕ} → c ≡ chainOf (keyDigestOf t i) → c ≡ chainOf (digest own)
-  own-chain e = e ∙ ap chainOf (g .digests i h)
+  pub own-chain : chainAt t recordChains i ≡ chainOf (digest own)
+  own-chain = digest-chain t i ∙ ap chainOf (g .digests i h)
 
   -- the last entry of its key is known
   pub newest-own : {j : ℕ} → suc j ≡ newestOf (keyIs s t own) m → NewestOfEntry s t m i j
@@ -106,7 +99,7 @@ module _ (s t : Bytes) (n m : ℕ) (g : RecordsLogged s t n m) (i : ℕ) (h : i 
       record {
         low = l;
         last = λ d. last-all s t n m g own d e ∙ default-same (logOf s) j d noRecord (omega (arith, g .count)) ∙ sym (g .each j l);
-        later = λ x a b. none-later s t n m g own e x (omega arith) b;
+        later = λ x a b. newest-none-later (keyIs s t own) e x (omega arith) b;
       }
 
   -- itself, where the way has come to it

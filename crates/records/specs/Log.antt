@@ -1,5 +1,5 @@
 -- The log of records in the working space: for each its line; of a variant its case, its tag's position and number; the digest of
--- its key; and a link and a head of the chains of entries by these digests.
+-- its key; its link, and the head of chain i.
 use Prim.Native.Nat.{ℕ, zero, suc, _+_, _*_, _-_, _≤_, _<_}
 use mathlib.Core.Path.{_≡_}
 use mathlib.Core.Bool.{true, false}

@@ -11,7 +11,7 @@ ghost use lib.ListN.{length, take};
 ghost use Rattle.semantics.specs.Text.{same};
 ghost use Rattle.semantics.specs.Layout.{seen};
 ghost use Rattle.words.specs.Words.{digest};
-ghost use Rattle.records.specs.Log.{byteOf, entryAt, recordedAt, nameOf, tagOf, keyDigestOf, logOf, EntryIn, RecordsLogged, Newest, NewestOfEntry};
+ghost use Rattle.records.specs.Log.{byteOf, entryAt, recordedAt, nameOf, tagOf, keyDigestOf, logOf, EntryIn, RecordsLogged, LogEntry, Newest, NewestOfEntry};
 
 // Where entries keep digests, links and heads of chains.
 pub const CHAINS: ChainPlaces = ChainPlaces {
