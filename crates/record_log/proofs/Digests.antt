@@ -1,4 +1,4 @@
--- The digests of keys, withDigest and linked one by one.
+-- The digests of keys, entered and linked one by one.
 use mathlib.Core.Path.{_≡_, sym, ap, _∙_, subst}
 use mathlib.Core.Logic.{⊎-elim}
 use Prim.Native.Nat.{ℕ, suc, _+_, _*_, _≤_, _<_}
@@ -22,24 +22,24 @@ module _ (t : Bytes) (i d : ℕ) (hi : i < 128) (room : 65536 ≤ length t) wher
   abbrev withDigest : Bytes
   withDigest = set t (9216 + (8 * i + 5)) d
 
-  abbrev new : Bytes
-  new = linked withDigest recordChains i (chainOf d)
+  abbrev withLink : Bytes
+  withLink = linked withDigest recordChains i
 
   entered-other : (q : ℕ) → (q ≡ 9216 + (8 * i + 5) → ⊥) → getD withDigest q 0 ≡ getD t q 0
   entered-other q n = getD-set-other t (9216 + (8 * i + 5)) q d 0 n
 
   -- links and heads are bytes 6 and 7 of entries
-  byte-linked : (j k : ℕ) → k < 6 → byteOf new j k ≡ byteOf withDigest j k
+  byte-linked : (j k : ℕ) → k < 6 → byteOf withLink j k ≡ byteOf withDigest j k
   unfolding digestPlace
-  byte-linked j k h = linked-other withDigest recordChains i (chainOf d) (9216 + (8 * j + k)) (λ e. omega (arith, e)) (λ e. omega (arith, e))
+  byte-linked j k h = linked-other withDigest recordChains i (9216 + (8 * j + k)) (λ e. omega (arith, e)) (λ l x e. omega (arith, e))
 
-  digest-new : keyDigestOf new i ≡ d
+  digest-new : keyDigestOf withLink i ≡ d
   digest-new = byte-linked i 5 (omega arith) ∙ getD-set-same t (9216 + (8 * i + 5)) d 0 (omega arith)
 
-  byte-old : (j k : ℕ) → k < 6 → (9216 + (8 * j + k) ≡ 9216 + (8 * i + 5) → ⊥) → byteOf new j k ≡ byteOf t j k
+  byte-old : (j k : ℕ) → k < 6 → (9216 + (8 * j + k) ≡ 9216 + (8 * i + 5) → ⊥) → byteOf withLink j k ≡ byteOf t j k
   byte-old j k h n = byte-linked j k h ∙ entered-other (9216 + (8 * j + k)) n
 
-  entry-old : (j : ℕ) → entryAt new j ≡ entryAt t j
+  entry-old : (j : ℕ) → entryAt withLink j ≡ entryAt t j
   unfolding entryAt
   entry-old j =
       rw (
@@ -50,15 +50,14 @@ module _ (t : Bytes) (i d : ℕ) (hi : i < 128) (room : 65536 ≤ length t) wher
         byte-old j 4 (omega arith) (λ e. omega arith),
       )
 
-  recorded-old : (s : Bytes) (j : ℕ) → recordedAt s new j ≡ recordedAt s t j
+  recorded-old : (s : Bytes) (j : ℕ) → recordedAt s withLink j ≡ recordedAt s t j
   unfolding recordedAt
   recorded-old s j = ap (recordOf s) (entry-old j)
 
-  outside-new : Outside 9216 10240 t new
+  outside-new : Outside 9216 10240 t withLink
   unfolding digestPlace
   outside-new =
-      let k : chainOf d < 128 = mod-lt d (omega arith) in
-      outside-then (outside-set 9216 10240 t (9216 + (8 * i + 5)) d (omega arith) (omega arith)) (linked-outside withDigest recordChains i (chainOf d) (omega arith) (omega arith) (omega arith) (omega arith))
+      outside-then (outside-set 9216 10240 t (9216 + (8 * i + 5)) d (omega arith) (omega arith)) (linked-outside withDigest recordChains i (omega arith) (omega arith) (λ k h. (omega arith, omega arith)))
 
   -- ---- chains
 
@@ -74,20 +73,17 @@ module _ (t : Bytes) (i d : ℕ) (hi : i < 128) (room : 65536 ≤ length t) wher
     head = λ k h. entered-other (9221 + 8 * k + 1 + 1) (λ e. omega (arith, e));
   }
 
-  chain-entered : chainAt withDigest recordChains i ≡ chainOf d
-  chain-entered = digest-chain withDigest i ∙ ap chainOf (getD-set-same t (9216 + (8 * i + 5)) d 0 (omega arith))
-
-  chained-new : Chained t recordChains i → Chained new recordChains (suc i)
+  chained-new : Chained t recordChains i → Chained withLink recordChains (suc i)
   chained-new g =
       let long = length-set t (9216 + (8 * i + 5)) d in
-      chained-next (record-placed withDigest (omega (arith, long))) apart (omega arith) (omega arith) hi (mod-lt d (omega arith)) chain-entered
+      chained-next (record-placed withDigest (omega (arith, long))) apart (omega arith) (omega arith) hi
       (chained-kept entered-kept (omega arith) g)
 
   module _ (s : Bytes) (n m : ℕ) (g : Digested s t n m i) (hm : i < m) (e : d ≡ digest (recordedAt s t i .key)) where
-    digests-new : (j : ℕ) → j < i + 1 → keyDigestOf new j ≡ digest (recordedAt s new j .key)
-    digests-new j h = let w : j ≤ i = omega arith in rw (recorded-old s j) (⊎-elim (λ (q : j ≡ i). subst (λ (k : ℕ). keyDigestOf new k ≡ digest (recordedAt s t k .key)) (sym q) (digest-new ∙ e)) (λ (q : j < i). byte-old j 5 (omega arith) (λ z. omega arith) ∙ g .digests j q) (eq-or-lt-of-le w))
+    digests-new : (j : ℕ) → j < i + 1 → keyDigestOf withLink j ≡ digest (recordedAt s withLink j .key)
+    digests-new j h = let w : j ≤ i = omega arith in rw (recorded-old s j) (⊎-elim (λ (q : j ≡ i). subst (λ (k : ℕ). keyDigestOf withLink k ≡ digest (recordedAt s t k .key)) (sym q) (digest-new ∙ e)) (λ (q : j < i). byte-old j 5 (omega arith) (λ z. omega arith) ∙ g .digests j q) (eq-or-lt-of-le w))
 
-    digested-new : Digested s new n m (i + 1)
+    digested-new : Digested s withLink n m (i + 1)
     digested-new =
         let c = checked-kept (kept-less (omega arith) (outside-new .kept)) (g .checked) in
         record {
@@ -100,13 +96,13 @@ module _ (t : Bytes) (i d : ℕ) (hi : i < 128) (room : 65536 ≤ length t) wher
           entries = λ j h. record { checked = c; low = g .entries j h .low; sound = rw (entry-old j) (g .entries j h .sound) };
         }
 
-pub entered-length : (t : Bytes) (i d : ℕ) → i < 128 → 65536 ≤ length t → {v : Bytes} → v ≡ linked (set t (9216 + (8 * i + 5)) d) recordChains i (chainOf d) → length v ≡ length t
+pub entered-length : (t : Bytes) (i d : ℕ) → i < 128 → 65536 ≤ length t → {v : Bytes} → v ≡ linked (set t (9216 + (8 * i + 5)) d) recordChains i → length v ≡ length t
 entered-length t i d h room q = rw q (outside-new t i d h room .kept .long)
 
 pub digests-start : {s t : Bytes} {n m : ℕ} → Digested s t n m 0 → CollectedTo s t t n m 0
 digests-start g = record { log = g; outside = outside-all }
 
-pub digests-next : {s t u v : Bytes} {n m i d : ℕ} → CollectedTo s t u n m i → i < m → d ≡ digest (recordedAt s u i .key) → v ≡ linked (set u (9216 + (8 * i + 5)) d) recordChains i (chainOf d) → CollectedTo s t v n m (i + 1)
+pub digests-next : {s t u v : Bytes} {n m i d : ℕ} → CollectedTo s t u n m i → i < m → d ≡ digest (recordedAt s u i .key) → v ≡ linked (set u (9216 + (8 * i + 5)) d) recordChains i → CollectedTo s t v n m (i + 1)
 digests-next {s} {t} {u} {n = n} {m} {i} {d} g h e q =
     let room = g .log .checked .whole .room in
     let low : i < 128 = omega (arith, g .log .few) in

@@ -3,7 +3,6 @@ use native.Mathlib.Omega.{arith}
 use Rattle.record_log.proofs.Digests.{entered-length}
 use Rattle.records.proofs.Newest.{record-placed}
 use lib.ListN.{length-set}
-use mathlib.Core.Path.{_∙_}
 use Prim.Native.Nat.{_+_, _*_}
 use denote.Ref.{now}
 use borrow.Author.Needs.{needs}
@@ -12,19 +11,14 @@ use Rattle.record_log.proofs.enter_digest.Tie as tie
 
 link-requires : tie.Need-link-requires
 link-requires c κs =
-    let a = c .before .before .before .args in
+    let a = c .before .before .args in
     let l = length-set (now (a .work)) (9216 + (8 * a .i + 5)) (a .d) in
-    (record-placed _ (omega (arith, l, c .before .before .before .pre .2)), omega (arith, c .before .before .before .pre .0), c .chain-of .ensures .1)
+    (record-placed _ (omega (arith, l, c .before .before .pre .2)), omega (arith, c .before .before .pre .0))
 
 same-length : tie.Need-same-length
-same-length c =
-    let b = c .before .before .before .before .before .before in
-    entered-length (now (b .args .work)) (b .args .i) (b .args .d) (b .pre .0) (b .pre .2) (c .before .before .link .ensures ∙ rw (c .before .before .before .chain-of .ensures .0))
-
-returns : tie.Need-returns
-returns c = c .before .before .link .ensures ∙ rw (c .before .before .before .chain-of .ensures .0)
+same-length c = let a = c .before .before .before .before .before in entered-length (now (a .args .work)) (a .args .i) (a .args .d) (a .pre .0) (a .pre .2) (c .before .before .link .ensures)
 
 pub enter-digest-spec : {M : Type 1} → statement M
 enter-digest-spec =
-    tie.close (tie.spec (λ c. search needs) (λ c. search needs) (λ c. search needs) (λ c. search needs) (λ c. search needs) (λ c κs. search needs)
-    link-requires same-length returns)
+    tie.close (tie.spec (λ c. search needs) (λ c. search needs) (λ c. search needs) (λ c. search needs) (λ c. search needs) link-requires
+    same-length (λ c. c .before .before .link .ensures))
