@@ -15,7 +15,7 @@ use Rattle.semantics.specs.Text.{Bytes, same, orElse}
 use Rattle.semantics.specs.Global.{Global, placeOf}
 use Rattle.laws.proofs.Tests.{same-eq}
 use Rattle.words.specs.Words.{digest, u16At}
-use Rattle.words.proofs.Laws.{digest-apart}
+use Rattle.words.proofs.Laws.{digest-same, digest-apart}
 use Rattle.chains.specs.Chains.{newestOf, chainOf, digestPlace, chainAt, inChain, Placed, Chained, linked}
 use Rattle.chains.proofs.Laws.{PlacesApart, SameBytes, newest-yes, newest-no, newest-low, linked-outside, linked-other, linked-long, chained-none, chained-kept, chained-next}
 use Rattle.checks.specs.Checks.{Checked, Kept, Outside}
@@ -61,16 +61,16 @@ stored-by t i line position offset d =
     let e5 : 7168 + 8 * i + 5 ≡ suc (suc (suc (suc (suc (7168 + 8 * i))))) = omega arith in
     rw (e1, e2, e3, e4, e5)
 
-module _ (t : Bytes) (i line position offset d : ℕ) {u : Bytes} {k : ℕ} (hk : k ≡ chainOf d) where
-  pub entered-by : u ≡ linked (set (set (set (set (set (set t (7168 + 8 * i) (line % 256)) (7168 + 8 * i + 1) (line / 256)) (7168 + 8 * i + 2) position) (7168 + 8 * i + 3) (offset % 256)) (7168 + 8 * i + 4) (offset / 256)) (7168 + 8 * i + 5) d) globalChains i k
+module _ (t : Bytes) (i line position offset d : ℕ) {u : Bytes} where
+  pub entered-by : u ≡ linked (set (set (set (set (set (set t (7168 + 8 * i) (line % 256)) (7168 + 8 * i + 1) (line / 256)) (7168 + 8 * i + 2) position) (7168 + 8 * i + 3) (offset % 256)) (7168 + 8 * i + 4) (offset / 256)) (7168 + 8 * i + 5) d) globalChains i
       → u ≡ globalEntered t i line position offset d
   unfolding globalEntered
-  entered-by h = h ∙ rw (stored-by t i line position offset d, hk)
+  entered-by h = h ∙ rw (stored-by t i line position offset d)
 
 pub entered-long : (t : Bytes) (i line position offset d : ℕ) → length (globalEntered t i line position offset d) ≡ length t
 unfolding globalEntered globalStored
 entered-long t i line position offset d =
-    linked-long (globalStored t i line position offset d) globalChains i (chainOf d)
+    linked-long (globalStored t i line position offset d) globalChains i
     ∙ length-sets t (7168 + 8 * i) (line % 256 ∷ line / 256 ∷ position ∷ offset % 256 ∷ offset / 256 ∷ d ∷ [])
 
 -- digests, links and heads lie in the working space, and apart
@@ -89,7 +89,7 @@ module _ (t : Bytes) (i line position offset d : ℕ) (hi : i < 256) (hl : line 
   -- a link or a head is no other byte of an entry
   unlinked : (j k m : ℕ) → k < 6 → m ≡ 7168 + 8 * j + k → getD (globalEntered t i line position offset d) m 0 ≡ getD (globalStored t i line position offset d) m 0
   unfolding globalEntered digestPlace
-  unlinked j k m h e = linked-other (globalStored t i line position offset d) globalChains i (chainOf d) m (λ q. omega arith) (λ q. omega arith)
+  unlinked j k m h e = linked-other (globalStored t i line position offset d) globalChains i m (λ q. omega arith) (λ l x q. omega arith)
 
   cell-at : (k j : ℕ) → k < 6 → j ≡ 7168 + 8 * i + k → getD (globalEntered t i line position offset d) j 0 ≡ getD cells k 0
   unfolding globalStored cells
@@ -148,14 +148,9 @@ module _ (t : Bytes) (i line position offset d : ℕ) (hi : i < 256) (hl : line 
     above = sets-above t (7168 + 8 * i) cells 9216 (omega arith);
   }
 
-  chain-low : chainOf d < 128
-  chain-low = omega arith
-
   pub outside-entered : Outside 7168 9216 t (globalEntered t i line position offset d)
   unfolding globalEntered digestPlace
-  outside-entered =
-      let low = chain-low in
-      outside-then outside-stored (linked-outside (globalStored t i line position offset d) globalChains i (chainOf d) (omega arith) (omega arith) (omega arith) (omega arith))
+  outside-entered = outside-then outside-stored (linked-outside (globalStored t i line position offset d) globalChains i (omega arith) (omega arith) (λ k h. (omega arith, omega arith)))
 
   -- the entries and this one are chained
   stored-same : SameBytes t (globalStored t i line position offset d) globalChains i
@@ -166,14 +161,10 @@ module _ (t : Bytes) (i line position offset d : ℕ) (hi : i < 256) (hl : line 
     head = λ j h. stored-other (7173 + 8 * j + 1 + 1) (λ k l e. omega arith);
   }
 
-  chain-stored : chainAt (globalStored t i line position offset d) globalChains i ≡ chainOf d
-  unfolding chainAt digestPlace globalStored cells
-  chain-stored = let e : 7173 + 8 * i ≡ 7168 + 8 * i + 5 = omega arith in ap chainOf (rw e (sets-at t (7168 + 8 * i) cells 5 (omega arith) (omega arith)))
-
   pub chained-entered : Chained t globalChains i → Chained (globalEntered t i line position offset d) globalChains (suc i)
   unfolding globalEntered
   chained-entered c =
-      chained-next (global-placed (omega (arith, outside-stored .kept .long))) global-apart (omega arith) (omega arith) hi chain-low chain-stored (chained-kept stored-same (omega arith) c)
+      chained-next (global-placed (omega (arith, outside-stored .kept .long))) global-apart (omega arith) (omega arith) hi (chained-kept stored-same (omega arith) c)
 
 -- ---- entries in order
 
@@ -297,8 +288,7 @@ module _ (s t : Bytes) (x : Bytes) where
 pub named-chain : {s t : Bytes} {n g d : ℕ} (x : Bytes) → Tabled s t n g → d ≡ digest x → (j : ℕ) → j < g → hasName s t x j ≡ true → inChain t globalChains (chainOf d) j ≡ true
 unfolding chainAt digestPlace globalDigestOf
 named-chain {s} {t} {d = d} x w e j h q =
-    let z : x ≡ globalAt s t j .name = same-eq x (globalAt s t j .name) q in
-    let y : getD t (7173 + 8 * j) 0 ≡ d = w .entries j h .digest ∙ ap digest (sym z) ∙ sym e in
+    let y : getD t (7173 + 8 * j) 0 ≡ d = w .entries j h .digest ∙ sym (e ∙ digest-same x (globalAt s t j .name) 0 q) in
     eq-eqb (chainAt t globalChains j) (chainOf d) (ap chainOf y)
 
 pub found-is : {s t : Bytes} {n g r : ℕ} (x : Bytes) → Tabled s t n g → r ≡ newestOf (hasName s t x) g → (offsetBy t r ≡ placeOf x (placesIn s t g)) × (r ≤ g) × (r ≡ entryNumber x (placesIn s t g))

@@ -53,7 +53,7 @@ unfolding layName offsetBy
 lay-again t x l w zero e h z = absurd (z refl)
 lay-again t x l w (suc p) e h z = rw (e, ← h)
 
--- ---- a new place
+-- ---- a withEntry place
 
 module _ (s t : Bytes) (n r j : ℕ) (g : Globals) (st : PlacesEntered s t n g) (l : VarLine s t n r) (hj : j < 16) (full : g .count < 256)
     (v : ℕ) (hv : typeAt s v ≡ typeOn s r) (size : ℕ) (hs : size ≡ globalSize (typeAt s v)) (off : ℕ) (ho : off ≡ alignUp size (g .end)) (d : ℕ) (hd : d ≡ digest (nameOn s r j)) (small : d < 256) where
@@ -78,15 +78,15 @@ module _ (s t : Bytes) (n r j : ℕ) (g : Globals) (st : PlacesEntered s t n g) 
   pub end-fits : off + size < 4294967296
   end-fits = omega (arith, off-low, size-low)
 
-  new : Bytes
-  new = globalEntered t (g .count) r j off d
+  withEntry : Bytes
+  withEntry = globalEntered t (g .count) r j off d
 
-  outside-new : Outside 7168 9216 t new
-  unfolding new
+  outside-new : Outside 7168 9216 t withEntry
+  unfolding withEntry
   outside-new = outside-entered t (g .count) r j off d full line-low (omega (arith, off-low)) (l .checked .whole .room)
 
-  entry-new : globalAt s new (g .count) ≡ record { name = nameOn s r j; offset = newOffset (typeOn s r) (g .end); ty = typeOn s r }
-  unfolding new globalAt
+  entry-new : globalAt s withEntry (g .count) ≡ record { name = nameOn s r j; offset = newOffset (typeOn s r) (g .end); ty = typeOn s r }
+  unfolding withEntry globalAt
   entry-new =
       rw (
         line-new t (g .count) r j off d full line-low (omega (arith, off-low)) (l .checked .whole .room),
@@ -95,18 +95,18 @@ module _ (s t : Bytes) (n r j : ℕ) (g : Globals) (st : PlacesEntered s t n g) 
         off-is,
       )
 
-  entries-new : (i : ℕ) → i < g .count + 1 → GlobalEntry s new n i
-  unfolding new
-  entries-new i h = let w : i ≤ g .count = omega arith in ⊎-elim (λ (e : i ≡ g .count). subst (GlobalEntry s new n) (sym e) last) (λ (q : i < g .count). old q) (eq-or-lt-of-le w)
+  entries-new : (i : ℕ) → i < g .count + 1 → GlobalEntry s withEntry n i
+  unfolding withEntry
+  entries-new i h = let w : i ≤ g .count = omega arith in ⊎-elim (λ (e : i ≡ g .count). subst (GlobalEntry s withEntry n) (sym e) last) (λ (q : i < g .count). old q) (eq-or-lt-of-le w)
     where
-      last : GlobalEntry s new n (g .count)
+      last : GlobalEntry s withEntry n (g .count)
       last = record {
         low = full;
         line = rw (line-new t (g .count) r j off d full line-low (omega (arith, off-low)) (l .checked .whole .room)) (var-outside outside-new l);
         digest = digest-new t (g .count) r j off d full line-low (omega (arith, off-low)) (l .checked .whole .room) ∙ hd ∙ ap (λ (e : Global). digest (e .name)) (sym entry-new);
       }
 
-      old : i < g .count → GlobalEntry s new n i
+      old : i < g .count → GlobalEntry s withEntry n i
       old q =
           let x = st .tabled .entries i q in
           record {
@@ -118,17 +118,17 @@ module _ (s t : Bytes) (n r j : ℕ) (g : Globals) (st : PlacesEntered s t n g) 
             ) (x .digest);
           }
 
-  places-old : placesIn s new (g .count) ≡ placesIn s t (g .count)
-  unfolding new
+  places-old : placesIn s withEntry (g .count) ≡ placesIn s t (g .count)
+  unfolding withEntry
   places-old = places-entered s t (g .count) r j off d full line-low (omega (arith, off-low)) (l .checked .whole .room)
 
   module _ (p : ℕ) (hn : same (nameOn s r j) (bytes "nil") ≡ false) (hp : offsetBy t p ≡ placeOf (nameOn s r j) (placesIn s t (g .count))) (hq : p ≡ entryNumber (nameOn s r j) (placesIn s t (g .count))) (hz : p ≡ 0) (h : Globals) (hc : h .count ≡ g .count + 1) (he : h .end ≡ off + size) where
-    places-new : placesIn s new (h .count) ≡ placesIn s t (g .count) ++ (record { name = nameOn s r j; offset = newOffset (typeOn s r) (g .end); ty = typeOn s r } ∷ [])
+    places-new : placesIn s withEntry (h .count) ≡ placesIn s t (g .count) ++ (record { name = nameOn s r j; offset = newOffset (typeOn s r) (g .end); ty = typeOn s r } ∷ [])
     places-new =
-        ap (placesIn s new) hc ∙ places-more s new (g .count)
-        ∙ ap (λ (e : Global). placesIn s new (g .count) ++ (e ∷ [])) entry-new ∙ ap (λ (l : List Global). l ++ (record { name = nameOn s r j; offset = newOffset (typeOn s r) (g .end); ty = typeOn s r } ∷ [])) places-old
+        ap (placesIn s withEntry) hc ∙ places-more s withEntry (g .count)
+        ∙ ap (λ (e : Global). placesIn s withEntry (g .count) ++ (e ∷ [])) entry-new ∙ ap (λ (l : List Global). l ++ (record { name = nameOn s r j; offset = newOffset (typeOn s r) (g .end); ty = typeOn s r } ∷ [])) places-old
 
-    allocation-new : allocationIn s new h ≡ layName (typeOn s r) (nameOn s r j) (allocationIn s t g)
+    allocation-new : allocationIn s withEntry h ≡ layName (typeOn s r) (nameOn s r j) (allocationIn s t g)
     unfolding layName offsetBy
     allocation-new =
         let q : placeOf (nameOn s r j) (placesIn s t (g .count)) ≡ none = sym hp ∙ ap (offsetBy t) hz in
@@ -136,17 +136,17 @@ module _ (s t : Bytes) (n r j : ℕ) (g : Globals) (st : PlacesEntered s t n g) 
         rw (hn, q, places-new, f)
 
     -- no entry has the name yet
-    once-new : (i : ℕ) → i < h .count → entryNumber (globalAt s new i .name) (placesIn s new i) ≡ 0
-    unfolding new
+    once-new : (i : ℕ) → i < h .count → entryNumber (globalAt s withEntry i .name) (placesIn s withEntry i) ≡ 0
+    unfolding withEntry
     once-new i q =
-        let z : entryNumber (globalAt s new (g .count) .name) (placesIn s t (g .count)) ≡ 0 = ap (λ (e : Global). entryNumber (e .name) (placesIn s t (g .count))) entry-new ∙ sym hq ∙ hz in
+        let z : entryNumber (globalAt s withEntry (g .count) .name) (placesIn s t (g .count)) ≡ 0 = ap (λ (e : Global). entryNumber (e .name) (placesIn s t (g .count))) entry-new ∙ sym hq ∙ hz in
         once-entered s t (g .count) r j off d full line-low (omega (arith, off-low)) (l .checked .whole .room) (st .tabled .once) z i (omega arith)
 
-    chained-new : Chained new globalChains (h .count)
-    unfolding new
+    chained-new : Chained withEntry globalChains (h .count)
+    unfolding withEntry
     chained-new = rw (hc, add-one) (chained-entered t (g .count) r j off d full line-low (omega (arith, off-low)) (l .checked .whole .room) (st .tabled .chained))
 
-    laid-new : PlacesLaid s t new n (layName (typeOn s r) (nameOn s r j) (allocationIn s t g)) h (g .count + 1)
+    laid-new : PlacesLaid s t withEntry n (layName (typeOn s r) (nameOn s r j) (allocationIn s t g)) h (g .count + 1)
     laid-new = record {
       standing = record {
         tabled = record { checked = checked-outside outside-new (l .checked); few = omega arith; entries = λ i q. entries-new i (omega arith); once = once-new; chained = chained-new };
@@ -158,7 +158,7 @@ module _ (s t : Bytes) (n r j : ℕ) (g : Globals) (st : PlacesEntered s t n g) 
     }
 
     pub laid-entered : {u : Bytes} → u ≡ globalEntered t (g .count) r j off d → PlacesLaid s t u n (layName (typeOn s r) (nameOn s r j) (allocationIn s t g)) h (g .count + 1)
-    unfolding new
+    unfolding withEntry
     laid-entered e = rw e laid-new
 
 -- ---- one after the other

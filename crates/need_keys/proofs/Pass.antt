@@ -22,7 +22,7 @@ use Rattle.words.specs.Words.{digest}
 use Rattle.source.specs.Walk.{declaredTo}
 use Rattle.laws.proofs.Tests.{same-eq}
 use Rattle.chains.specs.Chains.{newestOf, chainOf, chainAt, inChain, Chained}
-use Rattle.chains.proofs.Laws.{newest-from, chained-none}
+use Rattle.chains.proofs.Laws.{newest-none-later, chained-none}
 use Rattle.type_lines.specs.Needs.{needAt, needsTo, kindBy}
 use Rattle.type_lines.proofs.Codes.{kind-low}
 use Rattle.type_lines.proofs.ByForm.{elem-is}
@@ -39,14 +39,6 @@ use Rattle.need_keys.specs.Pass.{NeedEntry, Collecting, NeedNext}
 -- whether need q has the key of the `need` line i
 abbrev pub hasNeedKey : List ℕ → List ℕ → ℕ → ℕ → Bool
 hasNeedKey s t i q = sameTypeKey (needAt s i) (needAt s (needLineOf t q))
-
--- where no entry is the newest that answers, none does
-not-newest : (answers : ℕ → Bool) (m : ℕ) → 0 ≡ newestOf answers m → (q : ℕ) → q < m → answers q ≡ false
-not-newest answers m z q h = go (answers q) refl
-  where
-    go : (b : Bool) → answers q ≡ b → b ≡ false
-    go true e = let l = newest-from answers m q h e in absurd (omega (arith, z, l))
-    go false e = refl
 
 any-none : (p : TypeKey → Bool) (l : List TypeKey) → ((q : ℕ) → q < length l → p (getD l q opaqueKey) ≡ false) → any p l ≡ false
 any-none p [] h = refl
@@ -88,7 +80,7 @@ module _ {s t : List ℕ} {n i needs keys : ℕ} (x : NeedNext s t n i needs key
 
   pub next-position : 0 ≡ newestOf (hasNeedKey s t i) needs → keys ≡ position (needAt s i) (distinct [] (needsTo s i))
   next-position z =
-      let k = any-none (sameTypeKey (needAt s i)) (needsTo s i) (λ q h. let l : q < needs = omega (arith, x .collecting .count) in sym (same-as q l) ∙ not-newest (hasNeedKey s t i) needs z q l) in
+      let k = any-none (sameTypeKey (needAt s i)) (needsTo s i) (λ q h. let l : q < needs = omega (arith, x .collecting .count) in sym (same-as q l) ∙ newest-none-later (hasNeedKey s t i) z q (omega arith) l) in
       x .collecting .kinds .count ∙ sym (position-none (needAt s i) (distinct [] (needsTo s i)) (none-distinct (needAt s i) (needsTo s i) k))
 
 -- ---- one key more

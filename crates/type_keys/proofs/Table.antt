@@ -152,15 +152,12 @@ need-chain t q = let e : 10752 + 1 * q ≡ 10752 + q = omega arith in rw e
 
 pub digest-long : (t : List ℕ) (q d : ℕ) → length (digestEntered t q d) ≡ length t
 unfolding digestEntered
-digest-long t q d = linked-long (set t (10752 + q) d) needChains q (chainOf d) ∙ length-set t (10752 + q) d
+digest-long t q d = linked-long (set t (10752 + q) d) needChains q ∙ length-set t (10752 + q) d
 
 module _ (t : List ℕ) (room : 65536 ≤ length t) (q d : ℕ) (hq : q < 128) where
-  chain-low : chainOf d < 128
-  chain-low = omega arith
-
   behind-digests : Outside 10880 11264 (set t (10752 + q) d) (digestEntered t q d)
   unfolding digestEntered digestPlace
-  behind-digests = let low = chain-low in linked-outside (set t (10752 + q) d) needChains q (chainOf d) (omega arith) (omega arith) (omega arith) (omega arith)
+  behind-digests = linked-outside (set t (10752 + q) d) needChains q (omega arith) (omega arith) (λ k h. (omega arith, omega arith))
 
   pub digest-outside : Outside 10752 11264 t (digestEntered t q d)
   digest-outside = outside-then (outside-set 10752 11264 t (10752 + q) d (omega arith) (omega arith)) (outside-less 10752 11264 (omega arith) (omega arith) behind-digests)
@@ -182,14 +179,10 @@ module _ (t : List ℕ) (room : 65536 ≤ length t) (q d : ℕ) (hq : q < 128) w
     head = λ k h. getD-set-other t (10752 + q) (10752 + 1 * k + 128 + 128) d 0 (λ e. omega arith);
   }
 
-  own-chain : chainAt (set t (10752 + q) d) needChains q ≡ chainOf d
-  unfolding needDigestOf
-  own-chain = need-chain (set t (10752 + q) d) q ∙ ap chainOf (getD-set-same t (10752 + q) d 0 (omega arith))
-
   pub chained-entered : Chained t needChains q → Chained (digestEntered t q d) needChains (suc q)
   unfolding digestEntered
   chained-entered c =
-      chained-next (need-placed (omega (arith, length-set t (10752 + q) d))) need-apart (omega arith) (omega arith) hq chain-low own-chain (chained-kept before-same (omega arith) c)
+      chained-next (need-placed (omega (arith, length-set t (10752 + q) d))) need-apart (omega arith) (omega arith) hq (chained-kept before-same (omega arith) c)
 
 -- a store before the digests leaves the chains
 pub chained-above : {t u : List ℕ} {a b m : ℕ} → b ≤ 10752 → Outside a b t u → Chained t needChains m → Chained u needChains m

@@ -24,21 +24,21 @@ slice-write-work-6 : tie.Need-slice-write-work-6
 slice-write-work-6 c = simp length-set (omega arith)
 
 link-requires : tie.Need-link-requires
-link-requires c κs = (global-placed (simp length-set (omega arith)), omega arith, c .chain-of .ensures .1)
+link-requires c κs = (global-placed (simp length-set (omega arith)), omega arith)
 
 returns : tie.Need-returns
 returns c =
-    let a = c .before .before .before .before .before .before .args in
-    entered-by (now (a .work)) (a .i) (a .line) (a .position) (a .offset) (a .digest) (c .before .before .before .chain-of .ensures .0) (c .before .before .link .ensures)
+    let a = c .before .before .before .before .before .args in
+    entered-by (now (a .work)) (a .i) (a .line) (a .position) (a .offset) (a .digest) (c .before .before .link .ensures)
 
 same-length : tie.Need-same-length
 same-length c =
-    let a = c .before .before .before .before .before .before .args in
+    let a = c .before .before .before .before .before .args in
     ap length (returns c) ∙ entered-long (now (a .work)) (a .i) (a .line) (a .position) (a .offset) (a .digest)
 
 pub enter-spec : {M : Type 1} → statement M
 enter-spec =
     tie.close (tie.spec (λ c. search needs) (λ c. search needs) (λ c. search needs) (λ c. search needs) (λ c. search needs) (λ c. search needs)
     slice-write-work-2 (λ c. search needs) (λ c. search needs) slice-write-work-3 (λ c. search needs) (λ c. search needs) slice-write-work-4
-    (λ c. search needs) (λ c. search needs) slice-write-work-5 (λ c. search needs) (λ c. search needs) slice-write-work-6 (λ c κs. search needs)
-    link-requires same-length returns)
+    (λ c. search needs) (λ c. search needs) slice-write-work-5 (λ c. search needs) (λ c. search needs) slice-write-work-6 link-requires
+    same-length returns)

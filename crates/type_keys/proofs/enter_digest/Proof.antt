@@ -10,17 +10,17 @@ use Rattle.type_keys.proofs.enter_digest.Statement.{statement}
 use Rattle.type_keys.proofs.enter_digest.Tie as tie
 
 link-requires : tie.Need-link-requires
-link-requires c κs = (need-placed (simp length-set (omega arith)), omega arith, c .chain-of .ensures .1)
+link-requires c κs = (need-placed (simp length-set (omega arith)), omega arith)
 
 returns : tie.Need-returns
 unfolding digestEntered
-returns c = c .before .before .link .ensures ∙ rw (c .before .before .before .chain-of .ensures .0)
+returns c = c .before .before .link .ensures
 
 same-length : tie.Need-same-length
 same-length c =
-    let a = c .before .before .before .before .before .before .args in
+    let a = c .before .before .before .before .before .args in
     ap length (returns c) ∙ digest-long (now (a .work)) (a .q) (a .h)
 
 pub enter-digest-spec : {M : Type 1} → statement M
 enter-digest-spec =
-    tie.close (tie.spec (λ c. search needs) (λ c. search needs) (λ c. search needs) (λ c κs. search needs) link-requires same-length returns)
+    tie.close (tie.spec (λ c. search needs) (λ c. search needs) (λ c. search needs) link-requires same-length returns)
