@@ -27,7 +27,7 @@ use Rattle.lines.specs.Lines.{textAt, readsIn, readAt, nodesIn, formAt, Whole}
 use Rattle.lines.proofs.Line.{line-short, form-low, form-is, kind-is, read-fits}
 use Rattle.refs.specs.Refs as Refs
 use Rattle.refs.specs.Refs.{isRef, wantedBy, fineRef, fineRefs}
-use Rattle.refs.proofs.Letters.{ref-number, refs-begin, stands, refs-step, refs-end}
+use Rattle.refs.proofs.Letters.{asRef, refsLeft, ref-number, refs-begin, stands, refs-step, refs-end}
 use Rattle.refs.proofs.Fine.{needed-ref, refs-fine}
 use Rattle.refs.proofs.Nodes.{node-count, node-at}
 use Rattle.refs.proofs.Fields.{count-exact, first-count, third-count, head-drop, tail-drop, values-length}
@@ -152,8 +152,8 @@ pub record TagsCounted (s : List ℕ) (i f : ℕ) (l : List ℕ) (w : Walk) (d :
   pub same : tagsIn (readsIn s) (refsOf (readAt s i)) ≡ d + tagsIn (readsIn s) (Refs.refsBy (lettersFrom f w) (fieldsLeft l w))
   pub small : d ≤ 65537 * min (w .at) 256
 
-pub tagging-start : (s t : List ℕ) (n i : ℕ) → Whole s t n → badRefFrom (readsIn s) 1 [] (readsIn s) ≡ 0 → i < n → (l : List ℕ) (f : ℕ) → l ≡ textAt s i → f ≡ formAt t i → (w : Walk) → w ≡ beginning f → TagsCounted s i f l w 0
-tagging-start s t n i w good h l f hl hf u hu =
+pub tags-start : (s t : List ℕ) (n i : ℕ) → Whole s t n → badRefFrom (readsIn s) 1 [] (readsIn s) ≡ 0 → i < n → (l : List ℕ) (f : ℕ) → l ≡ textAt s i → f ≡ formAt t i → (w : Walk) → w ≡ beginning f → TagsCounted s i f l w 0
+tags-start s t n i w good h l f hl hf u hu =
     let e = refs-begin s t n i w h l f hl hf in
     rw hu (record {
       standing = stands s t n i w h l f hl hf;
@@ -182,26 +182,20 @@ tags-other ls x f rs n = go (isRef x) refl
     go false e = rw e (omega arith)
 
 module _ (s : List ℕ) (n i : ℕ) (few : n ≤ 1024) (hi : i < n) (f : ℕ) (l : List ℕ) (w u : Walk) (x v d : ℕ) (q : WalkStepped f l w x v u) (g : TagsCounted s i f l w d) where
-  rest : List Ref
-  rest = Refs.refsBy (lettersFrom f u) (fieldsLeft l u)
-
-  fine-here : fineRefs (readsIn s) i (Refs.refBy x (q .field) rest) ≡ true
-  unfolding rest
+  fine-here : fineRefs (readsIn s) i (Refs.refBy x (q .field) (refsLeft f l u)) ≡ true
+  unfolding refsLeft
   fine-here = rw (refs-step f l w u x v q) at (g .fine)
 
-  asRef : Ref
-  asRef = record { kind = wantedBy x; optional = ltb x 64; line = numberOf (q .field) }
-
   module _ (e : isRef x ≡ true) where
-    fine-both : (fineRef (readsIn s) (i + 1) asRef ≡ true) × (fineRefs (readsIn s) i rest ≡ true)
+    fine-both : (fineRef (readsIn s) (i + 1) (asRef x (q .field)) ≡ true) × (fineRefs (readsIn s) i (refsLeft f l u) ≡ true)
     unfolding asRef Refs.refBy fineRefs
-    fine-both = both (fineRef (readsIn s) (i + 1) asRef) (fineRefs (readsIn s) i rest) (rw e at fine-here)
+    fine-both = both (fineRef (readsIn s) (i + 1) (asRef x (q .field))) (fineRefs (readsIn s) i (refsLeft f l u)) (rw e at fine-here)
 
-  fine-rest : fineRefs (readsIn s) i rest ≡ true
+  fine-rest : fineRefs (readsIn s) i (refsLeft f l u) ≡ true
   unfolding Refs.refBy
   fine-rest = go (isRef x) refl
     where
-      go : (b : Bool) → isRef x ≡ b → fineRefs (readsIn s) i rest ≡ true
+      go : (b : Bool) → isRef x ≡ b → fineRefs (readsIn s) i (refsLeft f l u) ≡ true
       go true e = fine-both e .1
       go false e = rw e at fine-here
 
@@ -219,32 +213,32 @@ module _ (s : List ℕ) (n i : ℕ) (few : n ≤ 1024) (hi : i < n) (f : ℕ) (l
         let m : v ≡ min (numberOf (q .field)) 65536 = q .number ∙ ref-number x (q .field) is-ref (q .good) in
         omega (arith, k .1)
 
-    pub tagging-case : (0 < v) × (v ≤ n) × (letter (readAt s (v - 1) .form .kind) ≡ 67)
-    tagging-case = let k = case-ref in (omega (arith, number-is, k .0), omega (arith, number-is, k .1), rw number-is (k .2))
+    pub tags-line : (0 < v) × (v ≤ n) × (letter (readAt s (v - 1) .form .kind) ≡ 67)
+    tags-line = let k = case-ref in (omega (arith, number-is, k .0), omega (arith, number-is, k .1), rw number-is (k .2))
 
   -- the tags of this field
-  tags-here : tagsIn (readsIn s) (Refs.refBy x (q .field) rest) ≡ cond (eqb x 67) (fieldNumber (readAt s (v - 1)) 0) 0 + tagsIn (readsIn s) rest
+  tags-here : tagsIn (readsIn s) (Refs.refBy x (q .field) (refsLeft f l u)) ≡ cond (eqb x 67) (fieldNumber (readAt s (v - 1)) 0) 0 + tagsIn (readsIn s) (refsLeft f l u)
   tags-here = go (eqb x 67) refl
     where
-      go : (b : Bool) → eqb x 67 ≡ b → tagsIn (readsIn s) (Refs.refBy x (q .field) rest) ≡ cond (eqb x 67) (fieldNumber (readAt s (v - 1)) 0) 0 + tagsIn (readsIn s) rest
+      go : (b : Bool) → eqb x 67 ≡ b → tagsIn (readsIn s) (Refs.refBy x (q .field) (refsLeft f l u)) ≡ cond (eqb x 67) (fieldNumber (readAt s (v - 1)) 0) 0 + tagsIn (readsIn s) (refsLeft f l u)
       go true p =
           let e = eqb-true x 67 p in
-          ap (λ (y : ℕ). tagsIn (readsIn s) (Refs.refBy y (q .field) rest)) e ∙ tags-case (readsIn s) (q .field) rest
-          ∙ ap (λ (m : ℕ). fieldNumber (lineAt (readsIn s) m) 0 + tagsIn (readsIn s) rest) (sym (number-is e))
-          ∙ ap (λ (b : Bool). cond b (fieldNumber (readAt s (v - 1)) 0) 0 + tagsIn (readsIn s) rest) (sym p)
-      go false p = tags-other (readsIn s) x (q .field) rest (eqb-false x 67 p) ∙ rw p
+          ap (λ (y : ℕ). tagsIn (readsIn s) (Refs.refBy y (q .field) (refsLeft f l u))) e ∙ tags-case (readsIn s) (q .field) (refsLeft f l u)
+          ∙ ap (λ (m : ℕ). fieldNumber (lineAt (readsIn s) m) 0 + tagsIn (readsIn s) (refsLeft f l u)) (sym (number-is e))
+          ∙ ap (λ (b : Bool). cond b (fieldNumber (readAt s (v - 1)) 0) 0 + tagsIn (readsIn s) (refsLeft f l u)) (sym p)
+      go false p = tags-other (readsIn s) x (q .field) (refsLeft f l u) (eqb-false x 67 p) ∙ rw p
 
-  pub tagging-on : (r k : ℕ) → w .at ≤ 255 → r ≤ 65537 → r ≡ cond (eqb x 67) (fieldNumber (readAt s (v - 1)) 0) 0 → k ≡ d + r → TagsCounted s i f l u k
-  unfolding rest
-  tagging-on r k short low hr hk = record {
+  pub tags-on : (r k : ℕ) → w .at ≤ 255 → r ≤ 65537 → r ≡ cond (eqb x 67) (fieldNumber (readAt s (v - 1)) 0) 0 → k ≡ d + r → TagsCounted s i f l u k
+  unfolding refsLeft
+  tags-on r k short low hr hk = record {
     standing = q .standing;
     fine = fine-rest;
     same = g .same ∙ rw (refs-step f l w u x v q, tags-here, ← hr) (omega (arith, hk));
     small = omega (arith, g .small, q .further, hk);
   }
 
-pub tagging-end : (s : List ℕ) (i f : ℕ) (l : List ℕ) (w : Walk) (d : ℕ) → length l < w .at → TagsCounted s i f l w d → (d ≡ tagsIn (readsIn s) (refsOf (readAt s i))) × (d ≤ 16777472)
-tagging-end s i f l w d h g = (sym (g .same ∙ rw (refs-end f l w h) (omega arith)), omega (arith, g .small))
+pub tags-end : (s : List ℕ) (i f : ℕ) (l : List ℕ) (w : Walk) (d : ℕ) → length l < w .at → TagsCounted s i f l w d → (d ≡ tagsIn (readsIn s) (refsOf (readAt s i))) × (d ≤ 16777472)
+tags-end s i f l w d h g = (sym (g .same ∙ rw (refs-end f l w h) (omega arith)), omega (arith, g .small))
 
 pub length-line : (s t : List ℕ) (n i : ℕ) → Whole s t n → i < n → (l : List ℕ) → l ≡ textAt s i → length l ≤ 255
 length-line s t n i w h l e = rw e (line-short (i + 1) (textAt s i) (w .lined .good i h))

@@ -92,8 +92,8 @@ pub record NamesPrinted (s t : Bytes) (c : Counts) (r : ℕ) (x : First) (count 
   pub rest : done ++ nameItems (typeOn s r) (placesIn s t (c .globals)) (initIn t x) (namesFrom s r count j) ≡ nameItems (typeOn s r) (placesIn s t (c .globals)) (initIn t x) (namesOn s r)
 
 module _ {s t : Bytes} {c : Counts} {r : ℕ} {x : First} {p : Next} (k : NameTask s t c x (p .keys)) (l : VarLine s t (c .lines) r) {count : ℕ} (hc : count ≡ length (namesOn s r)) where
-  pub naming-start : {q : Next} {d e : Bytes} → Wrote d (p .at) [] e (q .at) → q .keys ≡ p .keys → NamesPrinted s t c r x count q e t e q 0
-  naming-start {q} {d} {e} w h = record {
+  pub names-printed-start : {q : Next} {d e : Bytes} → Wrote d (p .at) [] e (q .at) → q .keys ≡ p .keys → NamesPrinted s t c r x count q e t e q 0
+  names-printed-start {q} {d} {e} w h = record {
     task = rw h k;
     line = l;
     outside = outside-all;
@@ -106,9 +106,9 @@ module _ {s t : Bytes} {c : Counts} {r : ℕ} {x : First} {p : Next} (k : NameTa
   }
 
 module _ {s t : Bytes} {c : Counts} {r : ℕ} {x : First} {count : ℕ} {p : Next} {d u e : Bytes} {q : Next} {j : ℕ} (m : NamesPrinted s t c r x count p d u e q j) where
-  pub naming-next : {z : Next} {v f : Bytes} → j < count → length f ≡ length e → {y : Bytes} → y ≡ nameOn s r j
+  pub names-printed-next : {z : Next} {v f : Bytes} → j < count → length f ≡ length e → {y : Bytes} → y ≡ nameOn s r j
       → ItemsPrinted s (nameItems (typeOn s r) (placesIn s u (c .globals)) (initIn u x) (y ∷ [])) q z u v e f × Outside 10624 10629 u v → NamesPrinted s t c r x count p d v f z (j + 1)
-  naming-next {z} {v} {f} h l {y} i a =
+  names-printed-next {z} {v} {f} h l {y} i a =
       let f1 = nameItems (typeOn s r) (placesIn s t (c .globals)) (initIn t x) in
       let is : nameItems (typeOn s r) (placesIn s u (c .globals)) (initIn u x) (y ∷ []) ≡ f1 (nameOn s r j ∷ []) = rw (m .places, m .value, i) in
       record {
@@ -124,9 +124,9 @@ module _ {s t : Bytes} {c : Counts} {r : ℕ} {x : First} {count : ℕ} {p : Nex
             ∙ ap (λ (is : List Item). m .done ++ is) (sym (ap f1 (names-step s r count j h) ∙ items-step (typeOn s r) (placesIn s t (c .globals)) (initIn t x) (nameOn s r j) (namesFrom s r count (j + 1)))) ∙ m .rest;
       }
 
-  pub naming-end : {z : Next} {g : Bytes} → count ≤ j → Wrote g (z .at) [] d (p .at) → p .keys ≡ z .keys
+  pub names-printed-end : {z : Next} {g : Bytes} → count ≤ j → Wrote g (z .at) [] d (p .at) → p .keys ≡ z .keys
       → ItemsPrinted s (nameItems (typeOn s r) (placesIn s t (c .globals)) (initIn t x) (namesOn s r)) z q t u g e × Outside 10624 10629 t u
-  naming-end {z} {g} h w k =
+  names-printed-end {z} {g} h w k =
       let f1 = nameItems (typeOn s r) (placesIn s t (c .globals)) (initIn t x) in
       let is : m .done ≡ f1 (namesOn s r) = sym (append-nil (m .done)) ∙ ap (λ (xs : List Bytes). m .done ++ f1 xs) (sym (names-over s r count j h)) ∙ m .rest in
       (printed-then [] (f1 (namesOn s r)) (printed-none w k) (printed-as is (m .printed)), m .outside)

@@ -57,13 +57,13 @@ pub record NameRowsWritten (size start : ℕ) (ns : List Bytes) (d : Bytes) (a :
   pub rest : done ++ nameRows size off (drop j ns) ≡ nameRows size start ns
 
 module _ (size start : ℕ) (ns : List Bytes) (d : Bytes) (a : ℕ) where
-  pub naming-start : a ≤ length d + 1 → NameRowsWritten size start ns d a d a start 0
-  naming-start h = record { within = omega arith; small = omega arith; done = []; wrote = wrote-none d a h; rest = refl }
+  pub name-rows-start : a ≤ length d + 1 → NameRowsWritten size start ns d a d a start 0
+  name-rows-start h = record { within = omega arith; small = omega arith; done = []; wrote = wrote-none d a h; rest = refl }
 
   module _ (e : Bytes) (b off j : ℕ) (g : NameRowsWritten size start ns d a e b off j) where
-    pub naming-next : j < length ns → (f : Bytes) (q : ℕ) → Wrote e b (fieldText (getD ns j []) off size) f q → NameRowsWritten size start ns d a f q (off + size) (j + 1)
+    pub name-rows-next : j < length ns → (f : Bytes) (q : ℕ) → Wrote e b (fieldText (getD ns j []) off size) f q → NameRowsWritten size start ns d a f q (off + size) (j + 1)
     unfolding nameRows
-    naming-next h f q w =
+    name-rows-next h f q w =
         record {
           within = omega arith;
           small = omega (arith, g .small);
@@ -72,9 +72,9 @@ module _ (size start : ℕ) (ns : List Bytes) (d : Bytes) (a : ℕ) where
           rest = append-assoc (g .done) (fieldText (getD ns j []) off size) (nameRows size (off + size) (drop (j + 1) ns)) ∙ rw (add-one j) (rw (drop-cons ns j [] h) at (g .rest));
         }
 
-    pub naming-end : length ns ≤ j → (Wrote d a (nameRows size start ns) e b) × (off ≡ start + length ns * size)
+    pub name-rows-end : length ns ≤ j → (Wrote d a (nameRows size start ns) e b) × (off ≡ start + length ns * size)
     unfolding nameRows
-    naming-end h =
+    name-rows-end h =
         let z : j ≡ length ns = omega (arith, g .within) in
         (wrote-as (sym (append-nil (g .done)) ∙ rw (drop-of-length-le ns {i = j} h) at (g .rest)) (g .wrote), rw z at (g .small))
 

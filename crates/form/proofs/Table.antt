@@ -93,18 +93,19 @@ width-cell f h = column-at (λ (r : Form.Row). length (r .words) + 96) Form.form
 
 -- ---- what holds of all forms
 
-plain : ℕ → Bool
-plain b = not (eqb b 32) && ltb b 129
+-- a byte that may fill a cell of the table: 32 pads cells
+cellByte : ℕ → Bool
+cellByte b = not (eqb b 32) && ltb b 129
 
 unfoldable pub fine : Form.Part → Bool
 fine (one a) = true
 fine (many a) = leb 65 (code a)
 
 tidy : Form.Row → Bool
-tidy r = Text.all plain (r .words) && (leb (length (r .words)) 16 && (Text.all plain (codes (r .parts)) && (leb (length (codes (r .parts))) 4 && Text.all fine (r .parts))))
+tidy r = Text.all cellByte (r .words) && (leb (length (r .words)) 16 && (Text.all cellByte (codes (r .parts)) && (leb (length (codes (r .parts))) 4 && Text.all fine (r .parts))))
 
 all-tidy : Text.all tidy Form.forms ≡ true
-unfolding Form.forms tidy plain fine
+unfolding Form.forms tidy cellByte fine
 all-tidy = refl
 
 all-at : {A : Type 0} (p : A → Bool) (d : A) (xs : List A) (i : ℕ) → Text.all p xs ≡ true → i < length xs → p (getD xs i d) ≡ true
@@ -112,9 +113,9 @@ all-at p d [] i h k = absurd (omega arith)
 all-at p d (x ∷ xs) zero h k = both (p x) (Text.all p xs) h .0
 all-at p d (x ∷ xs) (suc i) h k = all-at p d xs i (both (p x) (Text.all p xs) h .1) (omega arith)
 
-plain-not : (b : ℕ) → plain b ≡ true → (b ≡ 32 → ⊥) × (b < 129)
-unfolding plain
-plain-not b h =
+cell-byte : (b : ℕ) → cellByte b ≡ true → (b ≡ 32 → ⊥) × (b < 129)
+unfolding cellByte
+cell-byte b h =
     let w = both (not (eqb b 32)) (ltb b 129) h in
     (eqb-false b 32 (not-true (eqb b 32) (w .0)), ltb-true b 129 (w .1))
 
@@ -122,24 +123,24 @@ module _ (f : ℕ) (h : f < 42) where
   row-tidy : tidy (rowAt f) ≡ true
   row-tidy = all-at tidy Form.noRow Form.forms f all-tidy (omega (arith, row-count))
 
-  t0 : (Text.all plain (keywordsAt f) ≡ true) × (leb (length (keywordsAt f)) 16 && (Text.all plain (codesAt f) && (leb (length (codesAt f)) 4 && Text.all fine (rowAt f .parts))) ≡ true)
+  t0 : (Text.all cellByte (keywordsAt f) ≡ true) × (leb (length (keywordsAt f)) 16 && (Text.all cellByte (codesAt f) && (leb (length (codesAt f)) 4 && Text.all fine (rowAt f .parts))) ≡ true)
   unfolding tidy
   t0 = both _ _ row-tidy
 
-  t1 : (leb (length (keywordsAt f)) 16 ≡ true) × (Text.all plain (codesAt f) && (leb (length (codesAt f)) 4 && Text.all fine (rowAt f .parts)) ≡ true)
+  t1 : (leb (length (keywordsAt f)) 16 ≡ true) × (Text.all cellByte (codesAt f) && (leb (length (codesAt f)) 4 && Text.all fine (rowAt f .parts)) ≡ true)
   t1 = both _ _ (t0 .1)
 
-  t2 : (Text.all plain (codesAt f) ≡ true) × (leb (length (codesAt f)) 4 && Text.all fine (rowAt f .parts) ≡ true)
+  t2 : (Text.all cellByte (codesAt f) ≡ true) × (leb (length (codesAt f)) 4 && Text.all fine (rowAt f .parts) ≡ true)
   t2 = both _ _ (t1 .1)
 
   pub keywords-plain : (i : ℕ) → i < length (keywordsAt f) → (getD (keywordsAt f) i 32 ≡ 32 → ⊥)
-  keywords-plain i k = plain-not _ (all-at plain 32 (keywordsAt f) i (t0 .0) k) .0
+  keywords-plain i k = cell-byte _ (all-at cellByte 32 (keywordsAt f) i (t0 .0) k) .0
 
   pub keywords-short : length (keywordsAt f) ≤ 16
   keywords-short = leb-true _ _ (t1 .0)
 
   pub codes-plain : (i : ℕ) → i < length (codesAt f) → (getD (codesAt f) i 32 ≡ 32 → ⊥) × (getD (codesAt f) i 32 < 129)
-  codes-plain i k = plain-not _ (all-at plain 32 (codesAt f) i (t2 .0) k)
+  codes-plain i k = cell-byte _ (all-at cellByte 32 (codesAt f) i (t2 .0) k)
 
   pub codes-short : length (codesAt f) ≤ 4
   codes-short = leb-true _ _ (both (leb (length (codesAt f)) 4) (Text.all fine (rowAt f .parts)) (t2 .1) .0)

@@ -127,27 +127,27 @@ line-text s t n i a e l h ha he =
     rw q (until-take 10 (drop a s) ∙ sym (get-head [] i (Text.lineParts s) (drop 1 (Text.lineParts (drop a s))) (until 10 (drop a s)) (sym (l .lined .at i h) ∙ ap (λ (j : ℕ). Text.lineParts (drop j s)) (sym ha) ∙ parts-cons (drop a s))))
 
 -- the bytes that parts take, with an LF between any two
-abbrev total : List (List ℕ) → ℕ
-total [] = 0
-total (p ∷ []) = length p
-total (p ∷ (q ∷ ps)) = length p + suc (total (q ∷ ps))
+abbrev joinedLength : List (List ℕ) → ℕ
+joinedLength [] = 0
+joinedLength (p ∷ []) = length p
+joinedLength (p ∷ (q ∷ ps)) = length p + suc (joinedLength (q ∷ ps))
 
-total-cons : (p : List ℕ) (ps : List (List ℕ)) → 0 < length ps → total (p ∷ ps) ≡ length p + suc (total ps)
-total-cons p [] h = absurd (omega arith)
-total-cons p (q ∷ ps) h = refl
+joined-cons : (p : List ℕ) (ps : List (List ℕ)) → 0 < length ps → joinedLength (p ∷ ps) ≡ length p + suc (joinedLength ps)
+joined-cons p [] h = absurd (omega arith)
+joined-cons p (q ∷ ps) h = refl
 
-total-first : (b : ℕ) (p : List ℕ) (ps : List (List ℕ)) → total ((b ∷ p) ∷ ps) ≡ suc (total (p ∷ ps))
-total-first b p [] = refl
-total-first b p (q ∷ ps) = omega arith
+joined-first : (b : ℕ) (p : List ℕ) (ps : List (List ℕ)) → joinedLength ((b ∷ p) ∷ ps) ≡ suc (joinedLength (p ∷ ps))
+joined-first b p [] = refl
+joined-first b p (q ∷ ps) = omega arith
 
-parts-total : (s : List ℕ) → total (Text.lineParts s) ≡ length s
-parts-total [] = refl
-parts-total (b ∷ s) = go (eqb b 10) (Text.lineParts s) (parts-some s) (parts-total s)
+parts-joined : (s : List ℕ) → joinedLength (Text.lineParts s) ≡ length s
+parts-joined [] = refl
+parts-joined (b ∷ s) = go (eqb b 10) (Text.lineParts s) (parts-some s) (parts-joined s)
   where
-    go : (t : Bool) (ps : List (List ℕ)) → 0 < length ps → total ps ≡ length s → total (Text.cut t b ps) ≡ suc (length s)
-    go true ps h e = total-cons [] ps h ∙ omega arith
+    go : (t : Bool) (ps : List (List ℕ)) → 0 < length ps → joinedLength ps ≡ length s → joinedLength (Text.cut t b ps) ≡ suc (length s)
+    go true ps h e = joined-cons [] ps h ∙ omega arith
     go false [] h e = absurd (omega arith)
-    go false (p ∷ ps) h e = total-first b p ps ∙ ap suc e
+    go false (p ∷ ps) h e = joined-first b p ps ∙ ap suc e
 
 -- the next line starts behind a line's LF
 next-start : (s t : List ℕ) (n i : ℕ) → Whole s t n → i + 1 < n → start t (i + 1) ≡ start t i + length (until 10 (drop (start t i) s)) + 1
@@ -158,8 +158,8 @@ next-start s t n i l h =
     let tail : Text.lineParts (drop b s) ≡ drop 1 (Text.lineParts (drop a s)) =
     l .lined .at (i + 1) h ∙ drop-tail i (Text.lineParts s) (drop 1 (Text.lineParts (drop a s))) (until 10 (drop a s)) (sym (l .lined .at i q) ∙ parts-cons (drop a s)) in
     let here : length (drop a s) ≡ length (until 10 (drop a s)) + suc (length (drop b s)) =
-    sym (parts-total (drop a s)) ∙ ap total (parts-cons (drop a s) ∙ ap (λ (ps : List (List ℕ)). until 10 (drop a s) ∷ ps) (sym tail))
-    ∙ total-cons (until 10 (drop a s)) (Text.lineParts (drop b s)) (parts-some (drop b s)) ∙ ap (λ (m : ℕ). length (until 10 (drop a s)) + suc m) (parts-total (drop b s)) in
+    sym (parts-joined (drop a s)) ∙ ap joinedLength (parts-cons (drop a s) ∙ ap (λ (ps : List (List ℕ)). until 10 (drop a s) ∷ ps) (sym tail))
+    ∙ joined-cons (until 10 (drop a s)) (Text.lineParts (drop b s)) (parts-some (drop b s)) ∙ ap (λ (m : ℕ). length (until 10 (drop a s)) + suc m) (parts-joined (drop b s)) in
     omega (arith, length-drop a s, length-drop b s, l .lined .within i q, l .lined .within (i + 1) h)
 
 pub next-line : (s t : List ℕ) (n i : ℕ) {a b : ℕ} → Whole s t n → i + 1 < n → a ≡ start t i → b ≡ start t (i + 1) → (b - 1 ≡ a + length (until 10 (drop a s))) × (0 < b) × (b ≤ length s) × (a ≤ b - 1)

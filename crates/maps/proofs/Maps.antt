@@ -152,12 +152,12 @@ pub record OnesCounted (t : List ℕ) (size count i : ℕ) : Type 0 where
   pub few : count ≤ 8 * i
 
 module _ (t : List ℕ) (size : ℕ) (room : MapRoom t size) where
-  pub counting-start : OnesCounted t size 0 0
+  pub ones-start : OnesCounted t size 0 0
   unfolding pointerCount
-  counting-start = record { within = omega arith; ones = refl; few = omega arith }
+  ones-start = record { within = omega arith; ones = refl; few = omega arith }
 
-  pub counting-next : (count i n : ℕ) → OnesCounted t size count i → i < mapLength size → n ≡ onesIn 8 (getD t (49152 + i) 0) → n ≤ 8 → OnesCounted t size (count + n) (i + 1)
-  counting-next count i n c h e k =
+  pub ones-next : (count i n : ℕ) → OnesCounted t size count i → i < mapLength size → n ≡ onesIn 8 (getD t (49152 + i) 0) → n ≤ 8 → OnesCounted t size (count + n) (i + 1)
+  ones-next count i n c h e k =
       let l : i < length (mapIn t size) = omega (arith, in-length t size room) in
       record {
         within = omega arith;
@@ -165,5 +165,5 @@ module _ (t : List ℕ) (size : ℕ) (room : MapRoom t size) where
         few = omega (arith, c .few);
       }
 
-  pub counting-end : (count i : ℕ) → OnesCounted t size count i → mapLength size ≤ i → count ≡ pointerCount (mapIn t size)
-  counting-end count i c h = rw (← take-all i (mapIn t size) (omega (arith, in-length t size room))) (c .ones)
+  pub ones-end : (count i : ℕ) → OnesCounted t size count i → mapLength size ≤ i → count ≡ pointerCount (mapIn t size)
+  ones-end count i c h = rw (← take-all i (mapIn t size) (omega (arith, in-length t size room))) (c .ones)

@@ -55,11 +55,8 @@ unfolding refBy
 deepest-ref ds x f rs e = rw e
 
 module _ (t ds : List ℕ) (i : ℕ) (small : i < 1024) (d : Depths t ds i) (x : ℕ) (f : List ℕ) (v : ℕ) (hv : v ≡ Number.numberUpTo 65536 f) (good : letterHolds x f ≡ true) (rs : List Ref) where
-  m : ℕ
-  m = Form.numberOf f
-
-  same-depth : isRef x ≡ true → v ≡ min m 65536 → cond (eqb m 0) 0 (getD ds (m - 1) 0) ≡ refDepth t i x v
-  same-depth ref v-is = go (eqb m 0) (ltb i m) refl refl
+  same-depth : (m : ℕ) → isRef x ≡ true → v ≡ min m 65536 → cond (eqb m 0) 0 (getD ds (m - 1) 0) ≡ refDepth t i x v
+  same-depth m ref v-is = go (eqb m 0) (ltb i m) refl refl
     where
       go : (y z : Bool) → eqb m 0 ≡ y → ltb i m ≡ z → cond (eqb m 0) 0 (getD ds (m - 1) 0) ≡ refDepth t i x v
       go true z p q = let e = eqb-true m 0 p in rw p (depth-zero t i x v ref (omega (arith, v-is)))
@@ -74,12 +71,11 @@ module _ (t ds : List ℕ) (i : ℕ) (small : i < 1024) (d : Depths t ds i) (x :
           rw p (sym (d .each (m - 1) (omega (arith, e))) ∙ depth-get t (m - 1) ∙ ap (λ (j : ℕ). getD t (4096 + (j - 1)) 0) (sym c) ∙ depth-line t i x v ref (λ z. e (omega arith)) (omega arith))
 
   deepest-turn : deepest ds (refBy x f rs) ≡ max (refDepth t i x v) (deepest ds rs)
-  unfolding m
   deepest-turn = go (isRef x) refl
     where
       go : (y : Bool) → isRef x ≡ y → deepest ds (refBy x f rs) ≡ max (refDepth t i x v) (deepest ds rs)
       go false e = rw (← depth-plain t i x v e, deepest-plain ds x f rs e) (omega arith)
-      go true e = deepest-ref ds x f rs e ∙ rw (← same-depth e (hv ∙ ref-number x f e good)) refl
+      go true e = deepest-ref ds x f rs e ∙ rw (← same-depth (Form.numberOf f) e (hv ∙ ref-number x f e good)) refl
 
 -- ---- the fields of a line
 
@@ -88,8 +84,8 @@ pub record DeepestTo (s t : List ℕ) (i f : ℕ) (l : List ℕ) (w : Walk) (acc
   pub standing : WalkAt f l w
   pub same : (ds : List ℕ) → Depths t ds i → deepest ds (refsOf (readAt s i)) ≡ max acc (deepest ds (refsBy (lettersFrom f w) (fieldsLeft l w)))
 
-pub walking-start : (s t : List ℕ) (n i : ℕ) → Whole s t n → i < n → (l : List ℕ) (f : ℕ) → l ≡ textAt s i → f ≡ formAt t i → (w : Walk) → w ≡ beginning f → DeepestTo s t i f l w 0
-walking-start s t n i w h l f hl hf u hu = rw hu (record {
+pub deepest-start : (s t : List ℕ) (n i : ℕ) → Whole s t n → i < n → (l : List ℕ) (f : ℕ) → l ≡ textAt s i → f ≡ formAt t i → (w : Walk) → w ≡ beginning f → DeepestTo s t i f l w 0
+deepest-start s t n i w h l f hl hf u hu = rw hu (record {
   standing = stands s t n i w h l f hl hf;
   same = λ ds d. ap (deepest ds) (refs-begin s t n i w h l f hl hf) ∙ omega arith;
 })
@@ -97,18 +93,18 @@ walking-start s t n i w h l f hl hf u hu = rw hu (record {
 assoc : (a b c : ℕ) → max a (max b c) ≡ max (max a b) c
 assoc a b c = omega arith
 
-pub walking-on : (s t : List ℕ) (i : ℕ) → i < 1024 → (f : ℕ) (l : List ℕ) (w u : Walk) (x v acc : ℕ) → WalkStepped f l w x v u → DeepestTo s t i f l w acc
+pub deepest-on : (s t : List ℕ) (i : ℕ) → i < 1024 → (f : ℕ) (l : List ℕ) (w u : Walk) (x v acc : ℕ) → WalkStepped f l w x v u → DeepestTo s t i f l w acc
     → (r k : ℕ) → r ≡ refDepth t i x v → k ≡ max acc r → DeepestTo s t i f l u k
-walking-on s t i small f l w u x v acc q g r k hr hk = record {
+deepest-on s t i small f l w u x v acc q g r k hr hk = record {
   standing = q .standing;
   same = λ ds d.
       g .same ds d ∙ rw (refs-step f l w u x v q, deepest-turn t ds i small d x (q .field) v (q .number) (q .good) (refsBy (lettersFrom f u) (fieldsLeft l u)))
       (assoc acc (refDepth t i x v) _ ∙ ap (λ (j : ℕ). max j (deepest ds (refsBy (lettersFrom f u) (fieldsLeft l u)))) (sym (hk ∙ ap (max acc) hr)));
 }
 
-pub walking-end : (s t : List ℕ) (i f : ℕ) (l : List ℕ) (w : Walk) (acc : ℕ) → length l < w .at → DeepestTo s t i f l w acc
+pub deepest-end : (s t : List ℕ) (i f : ℕ) (l : List ℕ) (w : Walk) (acc : ℕ) → length l < w .at → DeepestTo s t i f l w acc
     → (ds : List ℕ) → Depths t ds i → acc ≡ deepest ds (refsOf (readAt s i))
-walking-end s t i f l w acc h g ds d = sym (g .same ds d ∙ rw (refs-end f l w h) (omega arith))
+deepest-end s t i f l w acc h g ds d = sym (g .same ds d ∙ rw (refs-end f l w h) (omega arith))
 
 -- ---- the pass over all lines
 

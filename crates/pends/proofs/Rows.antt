@@ -58,12 +58,12 @@ pub record PendRowsWritten (s : Bytes) (r count : ℕ) (d : Bytes) (a j : ℕ) (
   pub wrote : Wrote d a text e p
   pub rest : text ++ pendRowsOf (namesFrom s r count j) ≡ pendRowsOf (namesOn s r)
 
-pub naming-start : (s : Bytes) (r : ℕ) {count : ℕ} → count ≡ length (namesOn s r) → {d : Bytes} {a p : ℕ} → Wrote d a [] d p → PendRowsWritten s r count d a 0 d p
-naming-start s r hc w = record { long = refl; text = []; wrote = w; rest = ap pendRowsOf (names-all s r hc) }
+pub pend-rows-start : (s : Bytes) (r : ℕ) {count : ℕ} → count ≡ length (namesOn s r) → {d : Bytes} {a p : ℕ} → Wrote d a [] d p → PendRowsWritten s r count d a 0 d p
+pend-rows-start s r hc w = record { long = refl; text = []; wrote = w; rest = ap pendRowsOf (names-all s r hc) }
 
 module _ {s : Bytes} {r count : ℕ} {d : Bytes} {a j : ℕ} {e : Bytes} {p : ℕ} (m : PendRowsWritten s r count d a j e p) where
-  pub naming-next : {f : Bytes} {q : ℕ} → j < count → length f ≡ length e → {x : Bytes} → x ≡ nameOn s r j → Wrote e p (pendRowsOf (x ∷ [])) f q → PendRowsWritten s r count d a (j + 1) f q
-  naming-next h k i w = record {
+  pub pend-rows-next : {f : Bytes} {q : ℕ} → j < count → length f ≡ length e → {x : Bytes} → x ≡ nameOn s r j → Wrote e p (pendRowsOf (x ∷ [])) f q → PendRowsWritten s r count d a (j + 1) f q
+  pend-rows-next h k i w = record {
     long = k ∙ m .long;
     text = m .text ++ pendRowsOf (nameOn s r j ∷ []);
     wrote = then (m .wrote) (wrote-as (ap (λ (x : Bytes). pendRowsOf (x ∷ [])) i) w);
@@ -71,8 +71,8 @@ module _ {s : Bytes} {r count : ℕ} {d : Bytes} {a j : ℕ} {e : Bytes} {p : �
         ∙ ap (λ (x : Bytes). m .text ++ x) (sym (ap pendRowsOf (names-step s r count j h) ∙ rows-step (nameOn s r j) (namesFrom s r count (j + 1)))) ∙ m .rest;
   }
 
-  pub naming-end : count ≤ j → Wrote d a (pendRowsOf (namesOn s r)) e p
-  naming-end h = wrote-as (sym (append-nil (m .text)) ∙ ap (λ (xs : List Bytes). m .text ++ pendRowsOf xs) (sym (names-over s r count j h)) ∙ m .rest) (m .wrote)
+  pub pend-rows-end : count ≤ j → Wrote d a (pendRowsOf (namesOn s r)) e p
+  pend-rows-end h = wrote-as (sym (append-nil (m .text)) ∙ ap (λ (xs : List Bytes). m .text ++ pendRowsOf xs) (sym (names-over s r count j h)) ∙ m .rest) (m .wrote)
 
 -- ---- a line by its value
 

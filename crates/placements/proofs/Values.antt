@@ -44,8 +44,8 @@ pub record NoneOfKind (t : Bytes) (count wanted i : ℕ) : Type 0 where
   pub within : i ≤ count
   pub rest : any (hasKind wanted) (valuesIn t i (count - i)) ≡ any (hasKind wanted) (valuesIn t 0 count)
 
-pub passing-start : (t : Bytes) (count wanted : ℕ) → NoneOfKind t count wanted 0
-passing-start t count wanted = let z : count - 0 ≡ count = omega arith in record { within = omega arith; rest = rw z }
+pub none-of-kind-start : (t : Bytes) (count wanted : ℕ) → NoneOfKind t count wanted 0
+none-of-kind-start t count wanted = let z : count - 0 ≡ count = omega arith in record { within = omega arith; rest = rw z }
 
 module _ {t : Bytes} {count wanted i : ℕ} (p : NoneOfKind t count wanted i) where
   next-value : i < count → any (hasKind wanted) (valuesIn t i (count - i)) ≡ hasKind wanted (elementIn t (placementAt t i)) || any (hasKind wanted) (valuesIn t (i + 1) (count - (i + 1)))
@@ -57,15 +57,15 @@ module _ {t : Bytes} {count wanted i : ℕ} (p : NoneOfKind t count wanted i) wh
     unfolding elementIn
     kind-here = rw e at (q ∙ kind-is t v)
 
-    pub passing-found : r ≡ wanted → true ≡ any (hasKind wanted) (valuesIn t 0 count)
-    passing-found d = sym (sym (p .rest) ∙ next-value h ∙ rw (eq-eqb (valueKind (elementIn t (placementAt t i))) wanted (sym kind-here ∙ d)))
+    pub kind-found : r ≡ wanted → true ≡ any (hasKind wanted) (valuesIn t 0 count)
+    kind-found d = sym (sym (p .rest) ∙ next-value h ∙ rw (eq-eqb (valueKind (elementIn t (placementAt t i))) wanted (sym kind-here ∙ d)))
 
-    pub passing-next : (r ≡ wanted → ⊥) → NoneOfKind t count wanted (i + 1)
-    passing-next d = record { within = omega arith; rest = sym (next-value h ∙ rw (ne-eqb (valueKind (elementIn t (placementAt t i))) wanted (λ x. d (kind-here ∙ x)))) ∙ p .rest }
+    pub none-of-kind-next : (r ≡ wanted → ⊥) → NoneOfKind t count wanted (i + 1)
+    none-of-kind-next d = record { within = omega arith; rest = sym (next-value h ∙ rw (ne-eqb (valueKind (elementIn t (placementAt t i))) wanted (λ x. d (kind-here ∙ x)))) ∙ p .rest }
 
-  pub passing-end : count ≤ i → false ≡ any (hasKind wanted) (valuesIn t 0 count)
+  pub none-of-kind-end : count ≤ i → false ≡ any (hasKind wanted) (valuesIn t 0 count)
   unfolding valuesIn
-  passing-end h = let z : count - i ≡ 0 = omega arith in rw z at (p .rest)
+  none-of-kind-end h = let z : count - i ≡ 0 = omega arith in rw z at (p .rest)
 
 -- ---- the kind of all
 

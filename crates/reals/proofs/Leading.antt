@@ -105,29 +105,30 @@ size-is n j lo hi = le-antisymm (size-le n (suc j) hi) (size-gt n j lo)
 
 -- n, which has j + 1 digits, with its leading digit moved to place 63
 module _ (n j z : ℕ) (e : z + suc j ≡ 64) (lo : 2 ^ j ≤ n) (hi : n < 2 ^ suc j) where
-  abbrev m : ℕ
-  m = n * 2 ^ z
+  abbrev topAligned : ℕ
+  topAligned = n * 2 ^ z
 
-  abbrev k : ℕ
-  k = 1085 - z
+  -- reals near n are 2 ^ gridPlace apart, in units of the smallest value
+  abbrev gridPlace : ℕ
+  gridPlace = 1085 - z
 
   zj : j + z ≡ 63
   zj = omega arith
 
-  m-is : n * 2 ^ z % 18446744073709551616 ≡ m
-  m-is = shl-exact (suc j) z 64 hi (omega arith)
+  top-aligned-is : n * 2 ^ z % 18446744073709551616 ≡ topAligned
+  top-aligned-is = shl-exact (suc j) z 64 hi (omega arith)
 
-  m-lo : 9223372036854775808 ≤ m
-  m-lo = le-trans (le-of-eq (ap (λ (x : ℕ). 2 ^ x) (sym zj) ∙ pow-add 2 j z)) (mul-le-mul-right (2 ^ z) lo)
+  top-aligned-lo : 9223372036854775808 ≤ topAligned
+  top-aligned-lo = le-trans (le-of-eq (ap (λ (x : ℕ). 2 ^ x) (sym zj) ∙ pow-add 2 j z)) (mul-le-mul-right (2 ^ z) lo)
 
-  m-hi : m < 18446744073709551616
-  m-hi = lt-of-lt-of-le (shl-lt (suc j) z hi) (le-of-eq (ap (λ (x : ℕ). 2 ^ x) (sum)))
+  top-aligned-hi : topAligned < 18446744073709551616
+  top-aligned-hi = lt-of-lt-of-le (shl-lt (suc j) z hi) (le-of-eq (ap (λ (x : ℕ). 2 ^ x) (sum)))
     where
       sum : suc j + z ≡ 64
       sum = omega arith
 
   -- in units of the smallest value
-  units-size : size (n * 2 ^ 1074 / 1) - 53 ≡ k
+  units-size : size (n * 2 ^ 1074 / 1) - 53 ≡ gridPlace
   units-size = ap (λ (x : ℕ). size x - 53) (div-one (n * 2 ^ 1074)) ∙ ap (λ (x : ℕ). x - 53) (size-is (n * 2 ^ 1074) (j + 1074)
       (le-trans (le-of-eq (pow-add 2 j 1074)) (mul-le-mul-right (2 ^ 1074) lo))
       (lt-of-lt-of-le (shl-lt (suc j) 1074 hi) (le-of-eq (ap (λ (x : ℕ). 2 ^ x) (suc-add j 1074))))) ∙ sums
@@ -136,50 +137,50 @@ module _ (n j z : ℕ) (e : z + suc j ≡ 64) (lo : 2 ^ j ≤ n) (hi : n < 2 ^ s
       sums = omega arith
 
   -- what `closest` sees is the fraction alone
-  fraction : n * 2 ^ 1074 * 2048 ≡ m * (1 * 2 ^ k)
+  fraction : n * 2 ^ 1074 * 2048 ≡ topAligned * (1 * 2 ^ gridPlace)
   fraction =
       mul-assoc n (2 ^ 1074) 2048
       ∙ ap (λ (x : ℕ). n * x) (ap (λ (x : ℕ). 2 ^ x) sums ∙ pow-add 2 z (1085 - z))
-      ∙ sym (mul-assoc n (2 ^ z) (2 ^ k))
-      ∙ ap (λ (x : ℕ). m * x) (sym (one-mul (2 ^ k)))
+      ∙ sym (mul-assoc n (2 ^ z) (2 ^ gridPlace))
+      ∙ ap (λ (x : ℕ). topAligned * x) (sym (one-mul (2 ^ gridPlace)))
     where
       sums : 1085 ≡ z + (1085 - z)
       sums = omega arith
 
   abbrev q : ℕ
-  q = closest m 2048
+  q = closest topAligned 2048
 
-  grid-is : grid binary64 n 1 ≡ q * 2 ^ k
+  grid-is : grid binary64 n 1 ≡ q * 2 ^ gridPlace
   grid-is =
       ap (λ (x : ℕ). closest (n * 2 ^ 1074) (1 * 2 ^ x) * 2 ^ x) units-size
-      ∙ ap (λ (x : ℕ). x * 2 ^ k) (closest-same (n * 2 ^ 1074) (1 * 2 ^ k) m 2048 (mul-pos (zero-lt-suc 0) (pow-pos k)) (lit< tt) fraction)
+      ∙ ap (λ (x : ℕ). x * 2 ^ gridPlace) (closest-same (n * 2 ^ 1074) (1 * 2 ^ gridPlace) topAligned 2048 (mul-pos (zero-lt-suc 0) (pow-pos gridPlace)) (lit< tt) fraction)
 
   q-lo : 4503599627370496 ≤ q
-  q-lo = le-trans (go m m-lo) (nearest-ge (m / 2048) (compare (m % 2048 * 2) 2048))
+  q-lo = le-trans (go topAligned top-aligned-lo) (nearest-ge (topAligned / 2048) (compare (topAligned % 2048 * 2) 2048))
     where
       go : (m : ℕ) → 9223372036854775808 ≤ m → 4503599627370496 ≤ m / 2048
       go m h = omega arith
 
   q-hi : q ≤ 9007199254740992
-  q-hi = le-trans (nearest-le (m / 2048) (compare (m % 2048 * 2) 2048)) (go m m-hi)
+  q-hi = le-trans (nearest-le (topAligned / 2048) (compare (topAligned % 2048 * 2) 2048)) (go topAligned top-aligned-hi)
     where
       go : (m : ℕ) → m < 18446744073709551616 → suc (m / 2048) ≤ 9007199254740992
       go m h = omega arith
 
-  k-lt : k < 1999
-  k-lt = omega arith
+  grid-place-lt : gridPlace < 1999
+  grid-place-lt = omega arith
 
   -- the two values, in units of the smallest
-  left-val : HasValue (ofBits binary64 (k * 4503599627370496 + q)) false (q * 2 ^ k) (2 ^ 1074)
-  left-val = read k q k-lt q-lo q-hi
+  left-val : HasValue (ofBits binary64 (gridPlace * 4503599627370496 + q)) false (q * 2 ^ gridPlace) (2 ^ 1074)
+  left-val = read gridPlace q grid-place-lt q-lo q-hi
 
-  room : q * 2 ^ k < 2 ^ (1074 + 1024)
-  room = lt-of-lt-of-le (shl-lt 54 k (lt-of-le-of-lt q-hi (lit< tt))) (pow-mono (sums))
+  room : q * 2 ^ gridPlace < 2 ^ (1074 + 1024)
+  room = lt-of-lt-of-le (shl-lt 54 gridPlace (lt-of-le-of-lt q-hi (lit< tt))) (pow-mono (sums))
     where
       sums : 54 + (1085 - z) ≤ 2098
       sums = omega arith
 
-  right-val : HasValue (round binary64 false n 1) false (q * 2 ^ k) (2 ^ 1074)
+  right-val : HasValue (round binary64 false n 1) false (q * 2 ^ gridPlace) (2 ^ 1074)
   right-val =
       subst (λ (a : ℕ). HasValue (round binary64 false n 1) false a (2 ^ 1074)) grid-is
       (round-val binary64 n 1 (subst (λ (a : ℕ). a < 2 ^ (1074 + 1024)) (sym grid-is) room))
@@ -218,19 +219,19 @@ compared a b o h = go (compare a b) (cmp a b) o h
 
 -- ---- what `rounded` returns: the quotient m / 2048, or the next number, by how the remainder compares with half of 2048
 module _ (m : ℕ) where
-  abbrev rest : ℕ
-  rest = bitAnd m 2047
+  abbrev lowBits : ℕ
+  lowBits = bitAnd m 2047
 
   by-rest : (o : Ordering) → Cmp o (m % 2048 * 2) 2048 → nearest (m / 2048) o ≡ closest m 2048
   by-rest o h = ap (nearest (m / 2048)) (sym (compared (m % 2048 * 2) 2048 o h))
 
-  pub rounded-up : 1024 < rest → m / 2048 + 1 ≡ closest m 2048
+  pub rounded-up : 1024 < lowBits → m / 2048 + 1 ≡ closest m 2048
   rounded-up h = add-one (m / 2048) ∙ by-rest Ordering·gt (omega (arith, and-mask m 11))
 
-  pub rounded-tie : {r : ℕ} → rest ≡ 1024 → r ≡ m / 2048 % 2 → m / 2048 + r ≡ closest m 2048
+  pub rounded-tie : {r : ℕ} → lowBits ≡ 1024 → r ≡ m / 2048 % 2 → m / 2048 + r ≡ closest m 2048
   rounded-tie h e = ap (λ (k : ℕ). m / 2048 + k) e ∙ by-rest Ordering·eq (omega (arith, and-mask m 11))
 
-  pub rounded-down : rest ≤ 1024 → (rest ≡ 1024 → ⊥) → m / 2048 ≡ closest m 2048
+  pub rounded-down : lowBits ≤ 1024 → (lowBits ≡ 1024 → ⊥) → m / 2048 ≡ closest m 2048
   rounded-down h g = by-rest Ordering·lt (omega (arith, and-mask m 11))
 
 -- ---- what `from_u64` returns
@@ -296,7 +297,7 @@ module _ (n : ℕ) (N : n < 18446744073709551616) (p : n ≡ 0 → ⊥) where
     pattern = (1085 - leadingZeros 64 n) * 4503599627370496 + r
 
     r-is : r ≡ closest (n * 2 ^ leadingZeros 64 n) 2048
-    r-is = let t = leading-top 64 n some N in e ∙ ap (λ (x : ℕ). closest x 2048) (m-is n (t .0) (leadingZeros 64 n) (t .1) (t .2) (t .3))
+    r-is = let t = leading-top 64 n some N in e ∙ ap (λ (x : ℕ). closest x 2048) (top-aligned-is n (t .0) (leadingZeros 64 n) (t .1) (t .2) (t .3))
 
     pub rounded-le : r ≤ 9007199254740992
     rounded-le = let t = leading-top 64 n some N in subst (λ (x : ℕ). x ≤ 9007199254740992) (sym r-is) (q-hi n (t .0) (leadingZeros 64 n) (t .1) (t .2) (t .3))

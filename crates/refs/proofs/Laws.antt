@@ -22,7 +22,7 @@ use Rattle.form.specs.Letters.{letterHolds, lettersFrom, fieldsLeft, beginning,
 use Rattle.lines.specs.Lines.{textAt, readsIn, readAt, formAt, Whole}
 use Rattle.lines.proofs.Line.{line-count, kind-is, form-low}
 use Rattle.refs.specs.Refs.{isRef, wantedBy, refBy, refsBy, usedAt, claims, usedMarked, asBit, Used, Uses, RefsOutcome}
-use Rattle.refs.proofs.Letters.{ref-number, refs-begin, stands, refs-step, refs-end, whole-set}
+use Rattle.refs.proofs.Letters.{asRef, refsLeft, ref-number, refs-begin, stands, refs-step, refs-end, whole-set}
 
 -- ---- a claim, by the tests that lead to its answer
 
@@ -81,43 +81,39 @@ pub record Turn (ls : List Form.Read) (k : ℕ) (o : Option (List ℕ)) (rs : Li
   pub same : o ≡ useAll ls k rs us
   pub table : Used t us
 
--- what a reference is by its letter and field
-pub asRef : ℕ → List ℕ → Refusal.Ref
-asRef x f = record { kind = wantedBy x; optional = ltb x 64; line = Form.numberOf f }
-
 module _ (s t : List ℕ) (n k : ℕ) (w : Whole s t n) (hk : k ≤ n) (us : List ℕ) (used : Used t us) (x : ℕ) (f : List ℕ) (v : ℕ)
     (hv : v ≡ Number.numberUpTo 65536 f) (good : letterHolds x f ≡ true) (rs : List Refusal.Ref) where
   few : n ≤ 1024
   few = w .lined .few
 
-  m : ℕ
-  m = Form.numberOf f
+  referredLine : ℕ
+  referredLine = Form.numberOf f
 
   module _ (ref : isRef x ≡ true) where
-    v-is : v ≡ min m 65536
-    unfolding m
+    v-is : v ≡ min referredLine 65536
+    unfolding referredLine
     v-is = hv ∙ ref-number x f ref good
 
     same-good : Refusal.goodRef (readsIn s) k us (asRef x f) ≡ claims t k x v
-    unfolding asRef m claims
-    same-good = go (eqb m 0) (ltb m k) refl refl
+    unfolding asRef referredLine claims
+    same-good = go (eqb referredLine 0) (ltb referredLine k) refl refl
       where
-        go : (y z : Bool) → eqb m 0 ≡ y → ltb m k ≡ z → Refusal.goodRef (readsIn s) k us (asRef x f) ≡ claims t k x v
+        go : (y z : Bool) → eqb referredLine 0 ≡ y → ltb referredLine k ≡ z → Refusal.goodRef (readsIn s) k us (asRef x f) ≡ claims t k x v
         go true z p q =
-            let e : m ≡ 0 = eqb-true m 0 p in
+            let e : referredLine ≡ 0 = eqb-true referredLine 0 p in
             simp (p, ref, eq-eqb v 0 (omega (arith, v-is)))
         go false false p q =
-            let e : (m ≡ 0 → ⊥) = eqb-false m 0 p in
-            let l : k ≤ m = ltb-false m k q in
+            let e : (referredLine ≡ 0 → ⊥) = eqb-false referredLine 0 p in
+            let l : k ≤ referredLine = ltb-false referredLine k q in
             simp (p, q, ref, ne-eqb v 0 (λ z. e (omega (arith, v-is))), le-ltb v k (omega (arith, v-is)))
         go false true p q =
-            let e : (m ≡ 0 → ⊥) = eqb-false m 0 p in
-            let l : m < k = ltb-true m k q in
-            let d : v ≡ m = omega (arith, v-is) in
-            let c : suc (m - 1) ≡ m = omega (arith, e) in
-            let h : m - 1 < n = omega (arith, e) in
-            let u : not (any (eqb m) us) ≡ eqb (usedAt t (m - 1)) 0 = not-flag (any (eqb m) us) ∙ ap (λ (j : ℕ). eqb j 0) (sym (used (m - 1) (omega arith) ∙ ap (λ (j : ℕ). asBit (any (eqb j) us)) c)) in
-            rw d (simp (p, q, ref, kind-is s t n w (m - 1) h, u))
+            let e : (referredLine ≡ 0 → ⊥) = eqb-false referredLine 0 p in
+            let l : referredLine < k = ltb-true referredLine k q in
+            let d : v ≡ referredLine = omega (arith, v-is) in
+            let c : suc (referredLine - 1) ≡ referredLine = omega (arith, e) in
+            let h : referredLine - 1 < n = omega (arith, e) in
+            let u : not (any (eqb referredLine) us) ≡ eqb (usedAt t (referredLine - 1)) 0 = not-flag (any (eqb referredLine) us) ∙ ap (λ (j : ℕ). eqb j 0) (sym (used (referredLine - 1) (omega arith) ∙ ap (λ (j : ℕ). asBit (any (eqb j) us)) c)) in
+            rw d (simp (p, q, ref, kind-is s t n w (referredLine - 1) h, u))
 
     claim-early : claims t k x v ≡ true → (v ≡ 0 → ⊥) → v < k
     claim-early c z = go (ltb v k) refl
@@ -126,31 +122,31 @@ module _ (s t : List ℕ) (n k : ℕ) (w : Whole s t n) (hk : k ≤ n) (us : Lis
         go true q = ltb-true v k q
         go false q = never (sym (open-claim t k x v ref z ∙ rw q) ∙ c)
 
-    used-after : claims t k x v ≡ true → Used (usedMarked t x v) (m ∷ us)
-    unfolding usedMarked usedAt m
+    used-after : claims t k x v ≡ true → Used (usedMarked t x v) (referredLine ∷ us)
+    unfolding usedMarked usedAt referredLine
     used-after c i h = go (eqb v 0) refl
       where
-        go : (y : Bool) → eqb v 0 ≡ y → getD (usedMarked t x v) (3072 + i) 0 ≡ asBit (any (eqb (suc i)) (m ∷ us))
+        go : (y : Bool) → eqb v 0 ≡ y → getD (usedMarked t x v) (3072 + i) 0 ≡ asBit (any (eqb (suc i)) (referredLine ∷ us))
         go true q =
             let z : v ≡ 0 = eqb-true v 0 q in
-            simp (ref, q, ne-eqb (suc i) m (λ y. omega (arith, v-is))) (used i h)
+            simp (ref, q, ne-eqb (suc i) referredLine (λ y. omega (arith, v-is))) (used i h)
         go false q =
             let z : (v ≡ 0 → ⊥) = eqb-false v 0 q in
             let e : v < k = claim-early c z in
-            let d : v ≡ m = omega (arith, v-is) in
-            simp (ref, q) (on (eqb (suc i) m) refl z d e)
+            let d : v ≡ referredLine = omega (arith, v-is) in
+            simp (ref, q) (on (eqb (suc i) referredLine) refl z d e)
           where
-            on : (y : Bool) → eqb (suc i) m ≡ y → (v ≡ 0 → ⊥) → v ≡ m → v < k → getD (set t (3072 + (v - 1)) 1) (3072 + i) 0 ≡ asBit (eqb (suc i) m || any (eqb (suc i)) us)
+            on : (y : Bool) → eqb (suc i) referredLine ≡ y → (v ≡ 0 → ⊥) → v ≡ referredLine → v < k → getD (set t (3072 + (v - 1)) 1) (3072 + i) 0 ≡ asBit (eqb (suc i) referredLine || any (eqb (suc i)) us)
             on true p z d e =
-                let a : suc i ≡ m = eqb-true (suc i) m p in
+                let a : suc i ≡ referredLine = eqb-true (suc i) referredLine p in
                 let b : 3072 + (v - 1) ≡ 3072 + i = omega arith in
                 rw (p, b) (getD-set-same t (3072 + i) 1 0 (omega (arith, w .room)))
             on false p z d e =
-                let a : (suc i ≡ m → ⊥) = eqb-false (suc i) m p in
+                let a : (suc i ≡ referredLine → ⊥) = eqb-false (suc i) referredLine p in
                 rw p (getD-set-other t (3072 + (v - 1)) (3072 + i) 1 0 (λ y. a (omega (arith, z, d))) ∙ used i h)
 
-    ref-open : useAll (readsIn s) k (refBy x f rs) us ≡ cond (claims t k x v) (useAll (readsIn s) k rs (m ∷ us)) none
-    unfolding refBy m asRef
+    ref-open : useAll (readsIn s) k (refBy x f rs) us ≡ cond (claims t k x v) (useAll (readsIn s) k rs (referredLine ∷ us)) none
+    unfolding refBy referredLine asRef
     ref-open = simp ref (ap (λ (b : Bool). cond b (useAll (readsIn s) k rs (Form.numberOf f ∷ us)) none) same-good)
 
   -- no reference
@@ -163,7 +159,7 @@ module _ (s t : List ℕ) (n k : ℕ) (w : Whole s t n) (hk : k ≤ n) (us : Lis
     where
       go : (y : Bool) → isRef x ≡ y → Turn (readsIn s) k (useAll (readsIn s) k (refBy x f rs) us) rs (usedMarked t x v)
       go false e = record { us = us; same = plain-open e; table = rw (← claim-plain t k x v e .1) used }
-      go true e = record { us = m ∷ us; same = ref-open e ∙ rw c; table = used-after e c }
+      go true e = record { us = referredLine ∷ us; same = ref-open e ∙ rw c; table = used-after e c }
 
   turn-bad : claims t k x v ≡ false → useAll (readsIn s) k (refBy x f rs) us ≡ none
   turn-bad c = go (isRef x) refl
@@ -180,44 +176,41 @@ pub record UsingRefs (s t : List ℕ) (n i f : ℕ) (l : List ℕ) (w : Walk) (t
   pub standing : WalkAt f l w
   pub turns : (us : List ℕ) → Used t₀ us → Turn (readsIn s) (i + 1) (useAll (readsIn s) (i + 1) (refsOf (readAt s i)) us) (refsBy (lettersFrom f w) (fieldsLeft l w)) t
 
-pub going-start : (s t : List ℕ) (n i : ℕ) → Whole s t n → i < n → (l : List ℕ) (f : ℕ) → l ≡ textAt s i → f ≡ formAt t i → (w : Walk) → w ≡ beginning f → UsingRefs s t n i f l w t
-going-start s t n i w h l f hl hf u hu = rw hu (record {
+pub using-start : (s t : List ℕ) (n i : ℕ) → Whole s t n → i < n → (l : List ℕ) (f : ℕ) → l ≡ textAt s i → f ≡ formAt t i → (w : Walk) → w ≡ beginning f → UsingRefs s t n i f l w t
+using-start s t n i w h l f hl hf u hu = rw hu (record {
   whole = w;
   standing = stands s t n i w h l f hl hf;
   turns = λ us r. record { us = us; same = ap (λ (rs : List Refusal.Ref). useAll (readsIn s) (i + 1) rs us) (refs-begin s t n i w h l f hl hf); table = r };
 })
 
 module _ (s t t₀ : List ℕ) (n i : ℕ) (hi : i < n) (f : ℕ) (l : List ℕ) (w u : Walk) (x v : ℕ) (q : WalkStepped f l w x v u) (g : UsingRefs s t n i f l w t₀) where
-  rest : List Refusal.Ref
-  rest = refsBy (lettersFrom f u) (fieldsLeft l u)
-
-  pub going-stop : {b : Bool} (y : List ℕ) → b ≡ claims t (i + 1) x v → b ≡ false → y ≡ cond b (usedMarked t x v) t
+  pub using-stop : {b : Bool} (y : List ℕ) → b ≡ claims t (i + 1) x v → b ≡ false → y ≡ cond b (usedMarked t x v) t
       → Whole s y n × ((us : List ℕ) → Used t₀ us → useAll (readsIn s) (i + 1) (refsOf (readAt s i)) us ≡ none)
-  unfolding rest
-  going-stop y p c hy =
+  unfolding refsLeft
+  using-stop y p c hy =
       let d : y ≡ t = hy ∙ rw c in (
         rw d (g .whole),
         λ us r.
             let k = g .turns us r in
-            k .same ∙ rw (refs-step f l w u x v q) (turn-bad s t n (i + 1) (g .whole) (omega arith) (k .us) (k .table) x (q .field) v (q .number) (q .good) rest (sym p ∙ c)),
+            k .same ∙ rw (refs-step f l w u x v q) (turn-bad s t n (i + 1) (g .whole) (omega arith) (k .us) (k .table) x (q .field) v (q .number) (q .good) (refsLeft f l u) (sym p ∙ c)),
       )
 
-  pub going-on : {b : Bool} (y : List ℕ) → b ≡ claims t (i + 1) x v → b ≡ true → y ≡ cond b (usedMarked t x v) t → UsingRefs s y n i f l u t₀
-  unfolding rest
-  going-on y p c hy =
+  pub using-on : {b : Bool} (y : List ℕ) → b ≡ claims t (i + 1) x v → b ≡ true → y ≡ cond b (usedMarked t x v) t → UsingRefs s y n i f l u t₀
+  unfolding refsLeft
+  using-on y p c hy =
       let d : y ≡ usedMarked t x v = hy ∙ rw c in
       rw d (record {
         whole = whole-marked s t n x v (g .whole);
         standing = q .standing;
         turns = λ us r.
             let k = g .turns us r in
-            let z = turn-good s t n (i + 1) (g .whole) (omega arith) (k .us) (k .table) x (q .field) v (q .number) (q .good) rest (sym p ∙ c) in
+            let z = turn-good s t n (i + 1) (g .whole) (omega arith) (k .us) (k .table) x (q .field) v (q .number) (q .good) (refsLeft f l u) (sym p ∙ c) in
             record { us = z .us; same = k .same ∙ rw (refs-step f l w u x v q) (z .same); table = z .table };
       })
 
-pub going-end : (s t t₀ : List ℕ) (n i f : ℕ) (l : List ℕ) (w : Walk) → length l < w .at → UsingRefs s t n i f l w t₀
+pub using-end : (s t t₀ : List ℕ) (n i f : ℕ) (l : List ℕ) (w : Walk) → length l < w .at → UsingRefs s t n i f l w t₀
     → (us : List ℕ) → Used t₀ us → Uses t (useAll (readsIn s) (i + 1) (refsOf (readAt s i)) us)
-going-end s t t₀ n i f l w h g us u =
+using-end s t t₀ n i f l w h g us u =
     let q = g .turns us u in
     record { us = q .us; is = q .same ∙ rw (refs-end f l w h); table = q .table }
 

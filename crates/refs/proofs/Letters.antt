@@ -24,7 +24,7 @@ use Rattle.form.proofs.Laws.{fields-end, one-after, many-after, ones-fine, kind
 use Rattle.lines.specs.Lines.{textAt, readAt, formAt, Whole}
 use Rattle.lines.proofs.Line.{form-low, form-is, fields-are, read-fits}
 use Rattle.lines.proofs.Laws.{whole-kept}
-use Rattle.refs.specs.Refs.{isRef, refBy, refsBy}
+use Rattle.refs.specs.Refs.{isRef, wantedBy, refBy, refsBy}
 
 -- ---- letters say what the table's parts say
 
@@ -88,7 +88,15 @@ ref-number x f e h = go (Text.natOf f) (ltb-true _ _ (sym (ref-holds x f (ref-ra
     go none k = absurd (omega arith)
     go (some m) k = refl
 
+-- what a reference is by its letter and field
+unfoldable pub asRef : ℕ → List ℕ → Refusal.Ref
+asRef x f = record { kind = wantedBy x; optional = ltb x 64; line = Form.numberOf f }
+
 -- ---- the walk over a line
+
+-- the references from where the walk stands on
+unfoldable pub refsLeft : ℕ → List ℕ → Walk → List Refusal.Ref
+refsLeft f l w = refsBy (lettersFrom f w) (fieldsLeft l w)
 
 module _ (s t : List ℕ) (n i : ℕ) (w : Whole s t n) (h : i < n) (l : List ℕ) (f : ℕ) (hl : l ≡ textAt s i) (hf : f ≡ formAt t i) where
   pub refs-begin : Refusal.refsOf (readAt s i) ≡ refsBy (lettersFrom f (beginning f)) (fieldsLeft l (beginning f))

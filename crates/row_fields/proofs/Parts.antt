@@ -30,8 +30,8 @@ use Rattle.row_fields.specs.Keywords.{whichOf}
 abbrev firstTrue : Bool → Bool → Bool → Bool → ℕ
 firstTrue a b c d = cond a 1 (cond b 2 (cond c 3 (cond d 4 0)))
 
-abbrev behind : Bool → Bool → Bool → Bool → ℕ
-behind a b c d = cond a 5 (cond b 6 (cond c 7 (cond d 8 0)))
+abbrev laterTrue : Bool → Bool → Bool → Bool → ℕ
+laterTrue a b c d = cond a 5 (cond b 6 (cond c 7 (cond d 8 0)))
 
 module _ (s w x y z : Bytes) where
   pub which-is : {a b c d : Bool} → same s w ≡ a → same s x ≡ b → same s y ≡ c → same s z ≡ d → firstTrue a b c d ≡ whichOf s w x y z
@@ -41,7 +41,7 @@ module _ (s w x y z : Bytes) where
 -- the first four keywords, and those behind them
 module _ (k : Bytes) {v : ℕ} (is : v ≡ whichOf k (bytes "bytes") (bytes "words") (bytes "bigs") (bytes "reals")) where
   abbrev tail : ℕ
-  tail = behind (same k (bytes "str")) (same k (bytes "array")) (same k (bytes "set")) (same k (bytes "back"))
+  tail = laterTrue (same k (bytes "str")) (same k (bytes "array")) (same k (bytes "set")) (same k (bytes "back"))
 
   by-first : (a b c d : Bool) (t : ℕ) → v ≡ firstTrue a b c d → (0 < v → v ≡ cond a 1 (cond b 2 (cond c 3 (cond d 4 t)))) × (v ≤ 0 → t ≡ cond a 1 (cond b 2 (cond c 3 (cond d 4 t))))
   by-first true b c d t e = (λ h. e, λ h. absurd (omega arith))
@@ -55,7 +55,7 @@ module _ (k : Bytes) {v : ℕ} (is : v ≡ whichOf k (bytes "bytes") (bytes "wor
   keyword-first h = by-first (same k (bytes "bytes")) (same k (bytes "words")) (same k (bytes "bigs")) (same k (bytes "reals")) tail is .0 h
 
   module _ (none : v ≤ 0) {u : ℕ} (later : u ≡ whichOf k (bytes "str") (bytes "array") (bytes "set") (bytes "back")) where
-    by-last : (a b c d : Bool) → u ≡ firstTrue a b c d → (u ≡ 0 → 0 ≡ behind a b c d) × ((u ≡ 0 → ⊥) → u + 4 ≡ behind a b c d)
+    by-last : (a b c d : Bool) → u ≡ firstTrue a b c d → (u ≡ 0 → 0 ≡ laterTrue a b c d) × ((u ≡ 0 → ⊥) → u + 4 ≡ laterTrue a b c d)
     by-last true b c d e = (λ h. absurd (omega arith), λ h. omega arith)
     by-last false true c d e = (λ h. absurd (omega arith), λ h. omega arith)
     by-last false false true d e = (λ h. absurd (omega arith), λ h. omega arith)

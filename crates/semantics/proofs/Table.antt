@@ -10,7 +10,7 @@ use Rattle.semantics.specs.Sheet.{concatMap}
 use Rattle.semantics.specs.Refusal.{Outcome, listingOf}
 use Rattle.semantics.specs.Refusal.Outcome.{listed, refused}
 
-pub record Row : Type 0 where
+pub record SheetOutcome : Type 0 where
   pub sheet : Bytes
   pub outcome : Outcome
 
@@ -19,14 +19,14 @@ abbrev opaque : Bytes
 opaque = bytes "typ,0,48,12,FFF0\ntyp,1,48,12,FFF0\n"
 
 -- a sheet whose listing is these lines and the two opaque records
-abbrev lists : String → String → Row
+abbrev lists : String → String → SheetOutcome
 lists sheet lines = record { sheet = bytes sheet; outcome = listed (bytes lines ++ opaque) }
 
-abbrev refuses : Bytes → ℕ → ℕ → Row
+abbrev refuses : Bytes → ℕ → ℕ → SheetOutcome
 refuses sheet n k = record { sheet = sheet; outcome = refused n k }
 
 -- a constant A of an operator on two integers
-abbrev operator : String → String → String → String → Row
+abbrev operator : String → String → String → String → SheetOutcome
 operator op x y value = record {
   sheet = bytes "ex,int," ++ bytes x ++ bytes "\nex,int," ++ bytes y ++ bytes "\nex,bin," ++ bytes op ++ bytes ",1,2\ncon,A,1,1,3\n";
   outcome = listed (bytes "con,A," ++ bytes value ++ bytes "\n" ++ opaque);
@@ -37,17 +37,17 @@ abbrev named : ℕ → Bytes
 named n = bytes "ex,int,1\ncon," ++ replicate n 97 ++ bytes ",1,1,1\n"
 
 -- a literal of a size with no element
-abbrev literal : String → Bytes
-literal size = bytes "ex,int," ++ bytes size ++ bytes "\nex,lit,1,0,0\nty,int\nty,array,3\nvar,4,2,1,a\n"
+abbrev literalSheet : String → Bytes
+literalSheet size = bytes "ex,int," ++ bytes size ++ bytes "\nex,lit,1,0,0\nty,int\nty,array,3\nvar,4,2,1,a\n"
 
 -- a block of size 36 with a pointer at an offset
-abbrev block : String → String → Row
+abbrev block : String → String → SheetOutcome
 block offset type = record {
   sheet = bytes "need,block,36,1," ++ bytes offset ++ bytes "\n";
   outcome = listed (opaque ++ bytes "typ,2,36," ++ bytes type ++ bytes "\nuse,2\n");
 }
 
-abbrev pub rows : List Row
+abbrev pub rows : List SheetOutcome
 rows =
     -- the round sheet, whole
     record {
@@ -77,10 +77,10 @@ rows =
     ∷ record { sheet = named 32; outcome = listed (bytes "con," ++ replicate 32 97 ++ bytes ",i,1\n" ++ opaque) }
     ∷ refuses (named 33) 3 2
     ∷ record {
-      sheet = literal "1024";
+      sheet = literalSheet "1024";
       outcome = listed (bytes "glo,a,0,4,1\ndat,array,0,2,1024\ndat,set,0,0\ndat,words,0,1024" ++ concatMap bytes (replicate 1024 ",0") ++ bytes "\ndat,back\n" ++ opaque ++ bytes "typ,2,4,0,00\n");
     }
-    ∷ refuses (literal "1025") 12 5
+    ∷ refuses (literalSheet "1025") 12 5
     ∷ refuses (bytes "ex,int,-1\nty,int\nex,alloc,1,2\nty,int\nty,array,4\nvar,5,3,1,a\n") 10 6
     -- likely slips: folding top-level constants first
     ∷ lists "ex,int,5\ncon,A,1,1,1\nmod,M\nex,id,A\ncon,B,1,1,4\nend\nex,id,M\nex,qual,7,B\ncon,C,1,1,8\n" "con,M->B,x\ncon,A,i,5\ncon,C,x\n"
@@ -98,6 +98,6 @@ rows =
     ∷ []
 
 -- every row's sheet has its outcome
-pub rows-hold : map (λ (r : Row). listingOf (r .sheet)) rows ≡ map (λ (r : Row). r .outcome) rows
+pub rows-hold : map (λ (r : SheetOutcome). listingOf (r .sheet)) rows ≡ map (λ (r : SheetOutcome). r .outcome) rows
 unfolding computed
 rows-hold = refl

@@ -31,13 +31,13 @@ abbrev pub ownMarks : ℕ → List Case → List ℤ
 ownMarks end ks = concatMap (λ (k : Case). pointersOf (place end (k .fields) .placed)) ks
 
 module _ (fs : List Fd) where
-  abbrev common : List ℤ
-  common = pointersOf (place behindTag fs .placed)
+  abbrev commonMarks : List ℤ
+  commonMarks = pointersOf (place behindTag fs .placed)
 
   abbrev end : ℕ
   end = place behindTag fs .end
 
-  variant-pointers : (k : Case) → variantShape fs k .pointers ≡ common ++ pointersOf (place end (k .fields) .placed)
+  variant-pointers : (k : Case) → variantShape fs k .pointers ≡ commonMarks ++ pointersOf (place end (k .fields) .placed)
   unfolding shapeOf
   variant-pointers k = pointers-append (place behindTag fs .placed) (place end (k .fields) .placed)
 
@@ -48,21 +48,21 @@ module _ (fs : List Fd) where
   again false false o v h = h
 
   same-words : (size w : ℕ) (ks : List Case)
-      → marked size common w || marked size (ownMarks end ks) w ≡ marked size common w || marked size (concatMap (λ (v : Shape). v .pointers) (map (variantShape fs) ks)) w
+      → marked size commonMarks w || marked size (ownMarks end ks) w ≡ marked size commonMarks w || marked size (concatMap (λ (v : Shape). v .pointers) (map (variantShape fs) ks)) w
   same-words size w [] = refl
   same-words size w (k ∷ ks) =
       let own = pointersOf (place end (k .fields) .placed) in
       let rest = concatMap (λ (v : Shape). v .pointers) (map (variantShape fs) ks) in
-      rw (marked-append size own (ownMarks end ks) w, marked-append size (variantShape fs k .pointers) rest w, variant-pointers k, marked-append size common own w)
-      (again (marked size common w) (marked size own w) (marked size (ownMarks end ks) w) (marked size rest w) (same-words size w ks))
+      rw (marked-append size own (ownMarks end ks) w, marked-append size (variantShape fs k .pointers) rest w, variant-pointers k, marked-append size commonMarks own w)
+      (again (marked size commonMarks w) (marked size own w) (marked size (ownMarks end ks) w) (marked size rest w) (same-words size w ks))
 
   pick-map : (size : ℕ) (ks : List Case)
-      → pointerMap size (common ++ ownMarks end ks) ≡ pointerMap size (pickShape (shapeOf behindTag (place behindTag fs .placed)) (map (variantShape fs) ks) .pointers)
+      → pointerMap size (commonMarks ++ ownMarks end ks) ≡ pointerMap size (pickShape (shapeOf behindTag (place behindTag fs .placed)) (map (variantShape fs) ks) .pointers)
   unfolding shapeOf
   pick-map size ks =
       let vs = concatMap (λ (v : Shape). v .pointers) (map (variantShape fs) ks) in
       rw (pick-pointers (shapeOf behindTag (place behindTag fs .placed)) (map (variantShape fs) ks))
-      (map-same size (common ++ ownMarks end ks) (common ++ vs) (λ w. marked-append size common (ownMarks end ks) w ∙ same-words size w ks ∙ sym (marked-append size common vs w)))
+      (map-same size (commonMarks ++ ownMarks end ks) (commonMarks ++ vs) (λ w. marked-append size commonMarks (ownMarks end ks) w ∙ same-words size w ks ∙ sym (marked-append size commonMarks vs w)))
 
 -- ---- case by case
 

@@ -150,8 +150,8 @@ module _ (s t : List ℕ) (n : ℕ) (f : Refs) (l : FieldRefs s t n f) where
     line-number : v ≡ numberOf (getD (readAt s (f .line - 1) .fields) (f .from + j) [])
     line-number = hv ∙ number-exact (getD (readAt s (f .line - 1) .fields) (f .from + j) []) (l .number j h) (omega (arith, l .each j h .last, l .checked .whole .lined .few))
 
-    pub passing-line : FieldLine s t n v
-    passing-line = rw line-number (l .each j h)
+    pub refs-line : FieldLine s t n v
+    refs-line = rw line-number (l .each j h)
 
     pub fields-next : fdsFrom s (f .line) (f .from + j) (f .count - j) ≡ fdAt s v ∷ fdsFrom s (f .line) (f .from + (j + 1)) (f .count - (j + 1))
     fields-next =
@@ -160,19 +160,19 @@ module _ (s t : List ℕ) (n : ℕ) (f : Refs) (l : FieldRefs s t n f) where
         rw (z, y, head-drop (f .from + j) (readAt s (f .line - 1) .fields), tail-drop (f .from + j) (readAt s (f .line - 1) .fields), line-number)
 
   module _ (p : Reached) where
-    pub passing-start : BehindLines s f p p 0
-    passing-start =
+    pub behind-lines-start : BehindLines s f p p 0
+    behind-lines-start =
         let z : f .from + 0 ≡ f .from = omega arith in
         let y : f .count - 0 ≡ f .count = omega arith in
         record { within = omega arith; end = rw (z, y); furthest = rw (z, y); small = omega arith }
 
     module _ (q : Reached) (j : ℕ) (m : BehindLines s f p q j) where
-      pub passing-end : f .count ≤ j → AllPlaced (fdsOfRefs s f) p q
-      passing-end h = let z : f .count - j ≡ 0 = omega arith in record { end = rw z at (m .end); furthest = rw z at (m .furthest) }
+      pub behind-lines-end : f .count ≤ j → AllPlaced (fdsOfRefs s f) p q
+      behind-lines-end h = let z : f .count - j ≡ 0 = omega arith in record { end = rw z at (m .end); furthest = rw z at (m .furthest) }
 
-      pub passing-next : (h : j < f .count) (v : ℕ) → v ≡ Number.numberUpTo 65536 (getD (readAt s (f .line - 1) .fields) (f .from + j) []) → (u : Reached)
+      pub behind-lines-next : (h : j < f .count) (v : ℕ) → v ≡ Number.numberUpTo 65536 (getD (readAt s (f .line - 1) .fields) (f .from + j) []) → (u : Reached)
           → LinePlaced (fdAt s v .ty) (fdAt s v .names) q u → u .end ≤ q .end + lineBytes → BehindLines s f p u (j + 1)
-      passing-next h v hv u x b = record {
+      behind-lines-next h v hv u x b = record {
         within = omega arith;
         end = rw (x .end) (rw (fields-next j h v hv) at (m .end));
         furthest = rw (x .end, x .furthest, ← furthest-append) (rw (fields-next j h v hv) at (m .furthest));

@@ -36,12 +36,12 @@ others-kept (v ∷ vs) t a j (inl h) = others-kept vs (set t a v) (suc a) j (inl
 others-kept (v ∷ vs) t a j (inr h) = others-kept vs (set t a v) (suc a) j (inr (omega arith)) ∙ getD-set-other t a j v 0 (λ e. omega arith)
 
 module _ (t : Bytes) (a k b : ℕ) (room : a + 9 ≤ length t) (fits : b < 2 ^ 64) where
-  rest : Bytes
-  rest = drop (a + length (k ∷ bigEndian 8 b)) t
+  behindSlot : Bytes
+  behindSlot = drop (a + length (k ∷ bigEndian 8 b)) t
 
-  split : over t a (k ∷ bigEndian 8 b) ≡ take a t ++ (k ∷ (bigEndian 8 b ++ rest))
-  unfolding over rest
-  split = sets-eq (k ∷ bigEndian 8 b) t a (omega (arith, big-length 8 b)) ∙ append-assoc (take a t) (k ∷ bigEndian 8 b) rest
+  split : over t a (k ∷ bigEndian 8 b) ≡ take a t ++ (k ∷ (bigEndian 8 b ++ behindSlot))
+  unfolding over behindSlot
+  split = sets-eq (k ∷ bigEndian 8 b) t a (omega (arith, big-length 8 b)) ∙ append-assoc (take a t) (k ∷ bigEndian 8 b) behindSlot
 
   kind-stored : getD (over t a (k ∷ bigEndian 8 b)) a 0 ≡ k
   kind-stored = ap (λ (u : Bytes). getD u a 0) split ∙ getD-at (take a t) k _ 0 a (length-take-le a t (omega arith))
@@ -49,10 +49,10 @@ module _ (t : Bytes) (a k b : ℕ) (room : a + 9 ≤ length t) (fits : b < 2 ^ 6
   bits-stored : bitsAt (over t a (k ∷ bigEndian 8 b)) (a + 1) ≡ b
   unfolding bitsAt
   bits-stored =
-      let d : drop (a + 1) (over t a (k ∷ bigEndian 8 b)) ≡ bigEndian 8 b ++ rest =
-      ap (drop (a + 1)) (split ∙ sym (append-assoc (take a t) (k ∷ []) (bigEndian 8 b ++ rest)))
-      ∙ drop-at (take a t ++ (k ∷ [])) (bigEndian 8 b ++ rest) (a + 1) (length-append (take a t) (k ∷ []) ∙ omega (arith, length-take-le a t (omega arith))) in
-      ap (λ (u : Bytes). fromBigEndian 0 (take 8 u)) d ∙ ap (fromBigEndian 0) (take-at (bigEndian 8 b) rest 8 (big-length 8 b)) ∙ bits-back b fits
+      let d : drop (a + 1) (over t a (k ∷ bigEndian 8 b)) ≡ bigEndian 8 b ++ behindSlot =
+      ap (drop (a + 1)) (split ∙ sym (append-assoc (take a t) (k ∷ []) (bigEndian 8 b ++ behindSlot)))
+      ∙ drop-at (take a t ++ (k ∷ [])) (bigEndian 8 b ++ behindSlot) (a + 1) (length-append (take a t) (k ∷ []) ∙ omega (arith, length-take-le a t (omega arith))) in
+      ap (λ (u : Bytes). fromBigEndian 0 (take 8 u)) d ∙ ap (fromBigEndian 0) (take-at (bigEndian 8 b) behindSlot 8 (big-length 8 b)) ∙ bits-back b fits
 
   stored-bytes : {v : ConstVal} {u : Bytes} → u ≡ over t a (k ∷ bigEndian 8 b) → slotBy k b ≡ v → SlotStored t a v u
   unfolding slotOf over

@@ -121,14 +121,14 @@ module _ (s t : List ℕ) (n i : ℕ) (l : NeedLine s t n i) where
 -- ---- keys of two forms are not the same
 
 -- a number for each form
-tagOf : TypeKey → ℕ
-tagOf (adtKey k) = 0
-tagOf (elemKey k) = suc (kindNumber k)
-tagOf (blockKey s) = 6
-tagOf opaqueKey = 7
+keyTag : TypeKey → ℕ
+keyTag (adtKey k) = 0
+keyTag (elemKey k) = suc (kindNumber k)
+keyTag (blockKey s) = 6
+keyTag opaqueKey = 7
 
-tags-apart : (j k : TypeKey) → (tagOf j ≡ tagOf k → ⊥) → sameTypeKey j k ≡ false
-unfolding tagOf
+tags-apart : (j k : TypeKey) → (keyTag j ≡ keyTag k → ⊥) → sameTypeKey j k ≡ false
+unfolding keyTag
 tags-apart (adtKey a) (adtKey b) h = absurd (h refl)
 tags-apart (adtKey a) (elemKey b) h = refl
 tags-apart (adtKey a) (blockKey b) h = refl
@@ -150,8 +150,8 @@ tags-apart opaqueKey opaqueKey h = absurd (h refl)
 formBy : ℕ → ℕ
 formBy g = cond (eqb g 0) 34 (cond (eqb g 1) 36 (cond (eqb g 2) 35 (cond (eqb g 3) 37 (cond (eqb g 4) 38 (cond (eqb g 5) 39 (cond (eqb g 6) 40 41))))))
 
-form-back : (ns : List Node) (fs : List (List ℕ)) (d : ℕ) → d < 8 → formBy (tagOf (keyBy (34 + d) ns fs)) ≡ 34 + d
-unfolding tagOf formBy
+form-back : (ns : List Node) (fs : List (List ℕ)) (d : ℕ) → d < 8 → formBy (keyTag (keyBy (34 + d) ns fs)) ≡ 34 + d
+unfolding keyTag formBy
 form-back ns fs zero h = refl
 form-back ns fs (suc zero) h = refl
 form-back ns fs (suc (suc zero)) h = refl
@@ -165,7 +165,7 @@ form-back ns fs (suc (suc (suc (suc (suc (suc (suc (suc d)))))))) h = absurd (om
 module _ (s t : List ℕ) (n i j : ℕ) (a : NeedLine s t n i) (b : NeedLine s t n j) where
   pub forms-apart : (formAt t i ≡ formAt t j → ⊥) → sameTypeKey (needAt s i) (needAt s j) ≡ false
   forms-apart h =
-      let back : (k : ℕ) (l : NeedLine s t n k) → formBy (tagOf (needAt s k)) ≡ formAt t k =
+      let back : (k : ℕ) (l : NeedLine s t n k) → formBy (keyTag (needAt s k)) ≡ formAt t k =
       λ k l.
       let z : 34 + (formAt t k - 34) ≡ formAt t k = omega (arith, form-from s t n k l .0) in
       rw (key-is s t n k l) (rw z at (form-back (nodesIn s) (readAt s k .fields) (formAt t k - 34) (omega (arith, form-from s t n k l .1)))) in

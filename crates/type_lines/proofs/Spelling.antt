@@ -207,23 +207,23 @@ module _ (ns : List Node) where
 -- ---- the text of a line
 
 -- parts, each behind a byte c
-behind : ℕ → List Bytes → Bytes
-behind c [] = []
-behind c (p ∷ ps) = c ∷ (p ++ behind c ps)
+eachBehind : ℕ → List Bytes → Bytes
+eachBehind c [] = []
+eachBehind c (p ∷ ps) = c ∷ (p ++ eachBehind c ps)
 
-parts-back : (c : ℕ) (l : Bytes) → behind c (partsAt c l) ≡ c ∷ l
-unfolding behind
+parts-back : (c : ℕ) (l : Bytes) → eachBehind c (partsAt c l) ≡ c ∷ l
+unfolding eachBehind
 parts-back c [] = refl
 parts-back c (b ∷ l) = go (eqb b c) refl (partsAt c l) (parts-back c l)
   where
-    go : (t : Bool) → eqb b c ≡ t → (ps : List Bytes) → behind c ps ≡ c ∷ l → behind c (cut t b ps) ≡ c ∷ (b ∷ l)
+    go : (t : Bool) → eqb b c ≡ t → (ps : List Bytes) → eachBehind c ps ≡ c ∷ l → eachBehind c (cut t b ps) ≡ c ∷ (b ∷ l)
     go true e ps h = let z = eqb-true b c e in cc
     go false e [] h = let z : _≡_ {A = ℕ} 0 1 = cc in absurd (omega arith)
     go false e (p ∷ ps) h = cc
 
 -- it is its keywords and the fields behind them
-line-back : (ws l : Bytes) → begins ws l ≡ true → l ≡ ws ++ behind 44 (fieldsFrom (suc (length ws)) l)
-unfolding behind
+line-back : (ws l : Bytes) → begins ws l ≡ true → l ≡ ws ++ eachBehind 44 (fieldsFrom (suc (length ws)) l)
+unfolding eachBehind
 line-back [] [] h = refl
 line-back [] (b ∷ l) h = rw (le-ltb (suc (length l)) 1 (omega arith)) (ap (λ (x : ℕ). x ∷ l) (eqb-true b 44 h) ∙ sym (parts-back 44 l))
 line-back (w ∷ ws) [] h = never h
@@ -241,7 +241,7 @@ module _ {s t : Bytes} {n i : ℕ} (l : NeedLine s t n i) where
       let e = l .checked .whole .lined .row i (l .within) in
       rw e (begins-chosen forms (textAt s i) (omega (arith, e, row-count, form-low s t n (l .checked .whole) i (l .within))))
 
-  text-is : textAt s i ≡ keywordsAt (formAt t i) ++ behind 44 (readAt s i .fields)
+  text-is : textAt s i ≡ keywordsAt (formAt t i) ++ eachBehind 44 (readAt s i .fields)
   text-is = line-back (keywordsAt (formAt t i)) (textAt s i) text-begins ∙ rw (fields-are s t n (l .checked .whole) i (l .within), add-one)
 
 module _ {s t : Bytes} {n i j : ℕ} (a : NeedLine s t n i) (b : NeedLine s t n j) where

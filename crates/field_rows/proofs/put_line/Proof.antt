@@ -7,7 +7,7 @@ use borrow.Author.Needs.{needs}
 use Rattle.write.proofs.Wrote.{wrote-length}
 use Rattle.sizes.specs.Places.{fdAt}
 use Rattle.sizes.proofs.Places.{type-line, names-few, names-are, names-small}
-use Rattle.field_rows.proofs.Fields.{NameRowsWritten, naming-start, naming-next, naming-end, name-at, line-untyped, line-typed}
+use Rattle.field_rows.proofs.Fields.{NameRowsWritten, name-rows-start, name-rows-next, name-rows-end, name-at, line-untyped, line-typed}
 use Rattle.field_rows.proofs.put_line.Statement.{statement}
 use Rattle.field_rows.proofs.put_line.Tie as tie
 
@@ -24,7 +24,7 @@ type-size-align-requires : tie.Need-type-size-align-requires Inv-loop μ-loop
 type-size-align-requires c κs = type-line (now (c .before .before .before .before .before .args .sheet)) (now (c .before .before .before .before .before .args .work)) (c .before .before .before .before .before .args .n) (c .before .before .before .before .before .args .r) (c .before .before .before .before .before .pre .0) (c .before .number-at .result) (c .before .number-at .ensures .0) (c .if1 .left)
 
 loop-holds : tie.Need-loop-holds Inv-loop μ-loop
-loop-holds c = naming-start (c .before .before .type-size-align .result .size) (c .align-up .result) (fdAt (now (c .before .before .before .before .before .before .before .before .args .sheet)) (c .before .before .before .before .before .before .before .before .args .r) .names) (now (c .before .before .before .before .before .before .before .before .args .out)) (c .before .before .before .before .before .before .before .before .args .p .at) (c .before .before .before .before .before .before .before .before .pre .2)
+loop-holds c = name-rows-start (c .before .before .type-size-align .result .size) (c .align-up .result) (fdAt (now (c .before .before .before .before .before .before .before .before .args .sheet)) (c .before .before .before .before .before .before .before .before .args .r) .names) (now (c .before .before .before .before .before .before .before .before .args .out)) (c .before .before .before .before .before .before .before .before .args .p .at) (c .before .before .before .before .before .before .before .before .pre .2)
 
 sub-field-at : tie.Need-sub-field-at Inv-loop μ-loop
 sub-field-at c = c .before .before .before .before .before .before .before .before .before .before .pre .0 .first
@@ -47,7 +47,7 @@ loop-less c = omega (arith, c .before .before .before .before .before .loop-test
 loop-again : tie.Need-loop-again Inv-loop μ-loop
 loop-again c =
     let h : c .before .before .before .before .before .before .loop .j < length (fdAt (now (c .before .before .before .before .before .before .before .before .before .before .before .before .before .before .before .args .sheet)) (c .before .before .before .before .before .before .before .before .before .before .before .before .before .before .before .args .r) .names) = omega (arith, names-are (now (c .before .before .before .before .before .before .before .before .before .before .before .before .before .before .before .args .sheet)) (now (c .before .before .before .before .before .before .before .before .before .before .before .before .before .before .before .args .work)) (c .before .before .before .before .before .before .before .before .before .before .before .before .before .before .before .args .n) (c .before .before .before .before .before .before .before .before .before .before .before .before .before .before .before .args .r) (c .before .before .before .before .before .before .before .before .before .before .before .before .before .before .before .pre .0) (c .before .before .before .before .before .before .before .before .before .before .before .number-at .result) (c .before .before .before .before .before .before .before .before .before .before .before .number-at .ensures .0) (c .before .before .before .before .before .before .before .before .before .before .if1 .left) (c .before .before .before .before .before .before .before .before .number-at2 .result) (c .before .before .before .before .before .before .before .before .number-at2 .ensures .0), c .before .before .before .before .before .loop-test .taken) in
-    naming-next (c .before .before .before .before .before .before .before .before .before .type-size-align .result .size) (c .before .before .before .before .before .before .before .align-up .result) (fdAt (now (c .before .before .before .before .before .before .before .before .before .before .before .before .before .before .before .args .sheet)) (c .before .before .before .before .before .before .before .before .before .before .before .before .before .before .before .args .r) .names) (now (c .before .before .before .before .before .before .before .before .before .before .before .before .before .before .before .args .out)) (c .before .before .before .before .before .before .before .before .before .before .before .before .before .before .before .args .p .at) _ _ _ _ (c .before .before .before .before .before .before .loop .inv) h _ _ (rw (c .before .before .before .before .field-at .ensures ∙ name-at (now (c .before .before .before .before .before .before .before .before .before .before .before .before .before .before .before .args .sheet)) (now (c .before .before .before .before .before .before .before .before .before .before .before .before .before .before .before .args .work)) (c .before .before .before .before .before .before .before .before .before .before .before .before .before .before .before .args .n) (c .before .before .before .before .before .before .before .before .before .before .before .before .before .before .before .args .r) (c .before .before .before .before .before .before .before .before .before .before .before .before .before .before .before .pre .0) (c .before .before .before .before .before .before .loop .j) h) at (c .before .before .put-row .ensures))
+    name-rows-next (c .before .before .before .before .before .before .before .before .before .type-size-align .result .size) (c .before .before .before .before .before .before .before .align-up .result) (fdAt (now (c .before .before .before .before .before .before .before .before .before .before .before .before .before .before .before .args .sheet)) (c .before .before .before .before .before .before .before .before .before .before .before .before .before .before .before .args .r) .names) (now (c .before .before .before .before .before .before .before .before .before .before .before .before .before .before .before .args .out)) (c .before .before .before .before .before .before .before .before .before .before .before .before .before .before .before .args .p .at) _ _ _ _ (c .before .before .before .before .before .before .loop .inv) h _ _ (rw (c .before .before .before .before .field-at .ensures ∙ name-at (now (c .before .before .before .before .before .before .before .before .before .before .before .before .before .before .before .args .sheet)) (now (c .before .before .before .before .before .before .before .before .before .before .before .before .before .before .before .args .work)) (c .before .before .before .before .before .before .before .before .before .before .before .before .before .before .before .args .n) (c .before .before .before .before .before .before .before .before .before .before .before .before .before .before .before .args .r) (c .before .before .before .before .before .before .before .before .before .before .before .before .before .before .before .pre .0) (c .before .before .before .before .before .before .loop .j) h) at (c .before .before .put-row .ensures))
 
 same-length : tie.Need-same-length Inv-loop μ-loop
 same-length c = wrote-length (c .before .loop .inv .wrote)
@@ -55,7 +55,7 @@ same-length c = wrote-length (c .before .loop .inv .wrote)
 returns-2 : tie.Need-returns-2 Inv-loop μ-loop
 returns-2 c =
     let few : c .before .loop .j ≤ 16 = omega (arith, c .before .loop .inv .within, names-are (now (c .before .before .before .before .before .before .before .before .before .before .args .sheet)) (now (c .before .before .before .before .before .before .before .before .before .before .args .work)) (c .before .before .before .before .before .before .before .before .before .before .args .n) (c .before .before .before .before .before .before .before .before .before .before .args .r) (c .before .before .before .before .before .before .before .before .before .before .pre .0) (c .before .before .before .before .before .before .number-at .result) (c .before .before .before .before .before .before .number-at .ensures .0) (c .before .before .before .before .before .if1 .left) (c .before .before .before .number-at2 .result) (c .before .before .before .number-at2 .ensures .0), names-few (now (c .before .before .before .before .before .before .before .before .before .before .args .sheet)) (now (c .before .before .before .before .before .before .before .before .before .before .args .work)) (c .before .before .before .before .before .before .before .before .before .before .args .n) (c .before .before .before .before .before .before .before .before .before .before .args .r) (c .before .before .before .before .before .before .before .before .before .before .pre .0) (c .before .before .before .before .before .before .number-at .result) (c .before .before .before .before .before .before .number-at .ensures .0) (c .before .before .before .before .before .if1 .left) (c .before .before .before .number-at2 .result) (c .before .before .before .number-at2 .ensures .0)) in
-    (line-typed (now (c .before .before .before .before .before .before .before .before .before .before .args .sheet)) (now (c .before .before .before .before .before .before .before .before .before .before .args .work)) (c .before .before .before .before .before .before .before .before .before .before .args .n) (c .before .before .before .before .before .before .before .before .before .before .args .r) (c .before .before .before .before .before .before .before .before .before .before .pre .0) (c .before .before .before .before .before .before .number-at .result) (c .before .before .before .before .before .before .number-at .ensures .0) (c .before .before .before .before .before .before .before .before .before .before .args .p) (now (c .before .before .before .before .before .before .before .before .before .before .args .out)) (c .before .before .before .before .before .if1 .left) (c .before .before .before .before .type-size-align .ensures) (c .before .before .align-up .ensures .0) _ (naming-end (c .before .before .before .before .type-size-align .result .size) (c .before .before .align-up .result) (fdAt (now (c .before .before .before .before .before .before .before .before .before .before .args .sheet)) (c .before .before .before .before .before .before .before .before .before .before .args .r) .names) (now (c .before .before .before .before .before .before .before .before .before .before .args .out)) (c .before .before .before .before .before .before .before .before .before .before .args .p .at) _ _ _ _ (c .before .loop .inv) (omega (arith, names-are (now (c .before .before .before .before .before .before .before .before .before .before .args .sheet)) (now (c .before .before .before .before .before .before .before .before .before .before .args .work)) (c .before .before .before .before .before .before .before .before .before .before .args .n) (c .before .before .before .before .before .before .before .before .before .before .args .r) (c .before .before .before .before .before .before .before .before .before .before .pre .0) (c .before .before .before .before .before .before .number-at .result) (c .before .before .before .before .before .before .number-at .ensures .0) (c .before .before .before .before .before .if1 .left) (c .before .before .before .number-at2 .result) (c .before .before .before .number-at2 .ensures .0), c .loop-test .left))), omega (arith, c .before .loop .inv .small, c .before .before .align-up .ensures .1, c .before .before .before .before .type-size-align .ensures .low, names-small few (c .before .before .before .before .type-size-align .ensures .small)))
+    (line-typed (now (c .before .before .before .before .before .before .before .before .before .before .args .sheet)) (now (c .before .before .before .before .before .before .before .before .before .before .args .work)) (c .before .before .before .before .before .before .before .before .before .before .args .n) (c .before .before .before .before .before .before .before .before .before .before .args .r) (c .before .before .before .before .before .before .before .before .before .before .pre .0) (c .before .before .before .before .before .before .number-at .result) (c .before .before .before .before .before .before .number-at .ensures .0) (c .before .before .before .before .before .before .before .before .before .before .args .p) (now (c .before .before .before .before .before .before .before .before .before .before .args .out)) (c .before .before .before .before .before .if1 .left) (c .before .before .before .before .type-size-align .ensures) (c .before .before .align-up .ensures .0) _ (name-rows-end (c .before .before .before .before .type-size-align .result .size) (c .before .before .align-up .result) (fdAt (now (c .before .before .before .before .before .before .before .before .before .before .args .sheet)) (c .before .before .before .before .before .before .before .before .before .before .args .r) .names) (now (c .before .before .before .before .before .before .before .before .before .before .args .out)) (c .before .before .before .before .before .before .before .before .before .before .args .p .at) _ _ _ _ (c .before .loop .inv) (omega (arith, names-are (now (c .before .before .before .before .before .before .before .before .before .before .args .sheet)) (now (c .before .before .before .before .before .before .before .before .before .before .args .work)) (c .before .before .before .before .before .before .before .before .before .before .args .n) (c .before .before .before .before .before .before .before .before .before .before .args .r) (c .before .before .before .before .before .before .before .before .before .before .pre .0) (c .before .before .before .before .before .before .number-at .result) (c .before .before .before .before .before .before .number-at .ensures .0) (c .before .before .before .before .before .if1 .left) (c .before .before .before .number-at2 .result) (c .before .before .before .number-at2 .ensures .0), c .loop-test .left))), omega (arith, c .before .loop .inv .small, c .before .before .align-up .ensures .1, c .before .before .before .before .type-size-align .ensures .low, names-small few (c .before .before .before .before .type-size-align .ensures .small)))
 
 pub put-line-spec : {M : Type 1} → statement M
 put-line-spec =

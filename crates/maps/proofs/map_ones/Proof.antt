@@ -1,4 +1,4 @@
-use Rattle.maps.proofs.Maps.{map-fits, OnesCounted, counting-start, counting-next, counting-end}
+use Rattle.maps.proofs.Maps.{map-fits, OnesCounted, ones-start, ones-next, ones-end}
 use Rattle.layout.proofs.Pass.{map-length}
 use denote.Ref.{now}
 use mathlib.Core.List.{[]}
@@ -17,7 +17,7 @@ map-bytes-requires : tie.Need-map-bytes-requires Inv-loop μ-loop
 map-bytes-requires c κs = tt
 
 loop-holds : tie.Need-loop-holds Inv-loop μ-loop
-loop-holds c = counting-start (now (c .before .before .args .work)) (c .before .before .args .size) (c .before .before .pre)
+loop-holds c = ones-start (now (c .before .before .args .work)) (c .before .before .args .size) (c .before .before .pre)
 
 add-ones-of : tie.Need-add-ones-of Inv-loop μ-loop
 add-ones-of c = omega (arith, map-fits (c .before .before .before .before .pre), c .before .before .map-bytes .ensures .0 [], map-length (c .before .before .before .before .args .size) [])
@@ -32,10 +32,10 @@ add-count : tie.Need-add-count Inv-loop μ-loop
 add-count c = omega (arith, c .before .before .before .loop .inv .few, c .before .before .before .loop .inv .within, map-fits (c .before .before .before .before .before .before .pre), c .ones-of .ensures .1)
 
 loop-again : tie.Need-loop-again Inv-loop μ-loop
-loop-again c = counting-next (now (c .before .before .before .before .before .before .args .work)) (c .before .before .before .before .before .before .args .size) (c .before .before .before .before .before .before .pre) (c .before .before .before .loop .count) (c .before .before .before .loop .i) (c .ones-of .result) (c .before .before .before .loop .inv) (omega (arith, c .before .before .before .before .map-bytes .ensures .0 [], map-length (c .before .before .before .before .before .before .args .size) [])) (c .ones-of .ensures .0) (c .ones-of .ensures .1)
+loop-again c = ones-next (now (c .before .before .before .before .before .before .args .work)) (c .before .before .before .before .before .before .args .size) (c .before .before .before .before .before .before .pre) (c .before .before .before .loop .count) (c .before .before .before .loop .i) (c .ones-of .result) (c .before .before .before .loop .inv) (omega (arith, c .before .before .before .before .map-bytes .ensures .0 [], map-length (c .before .before .before .before .before .before .args .size) [])) (c .ones-of .ensures .0) (c .ones-of .ensures .1)
 
 returns : tie.Need-returns Inv-loop μ-loop
-returns c = counting-end (now (c .before .before .before .before .args .work)) (c .before .before .before .before .args .size) (c .before .before .before .before .pre) (c .before .loop .count) (c .before .loop .i) (c .before .loop .inv) (omega (arith, c .before .before .map-bytes .ensures .0 [], map-length (c .before .before .before .before .args .size) []))
+returns c = ones-end (now (c .before .before .before .before .args .work)) (c .before .before .before .before .args .size) (c .before .before .before .before .pre) (c .before .loop .count) (c .before .loop .i) (c .before .loop .inv) (omega (arith, c .before .before .map-bytes .ensures .0 [], map-length (c .before .before .before .before .args .size) []))
 
 pub map-ones-spec : {M : Type 1} → statement M
 map-ones-spec =

@@ -1,7 +1,7 @@
 use Rattle.marks.proofs.Marking.{LinesMarked, lines-marked-start, lines-marked-next, lines-marked-end}
 use Rattle.marks.proofs.Kept.{refs-kept}
 use Rattle.maps.proofs.Maps.{room-kept}
-use Rattle.sizes.proofs.Places.{refs-in, passing-line}
+use Rattle.sizes.proofs.Places.{refs-in, refs-line}
 use Prim.Native.Nat.{_-_}
 use native.Mathlib.Omega.{arith}
 use denote.Ref.{now}
@@ -27,7 +27,7 @@ number-at-requires : tie.Need-number-at-requires Inv-loop μ-loop
 number-at-requires c κs = (refs-kept (c .before .before .before .before .before .loop .inv .marks .kept) (c .before .before .before .before .before .before .before .before .pre .0) .checked .whole, refs-in (now (c .before .before .before .before .before .before .before .before .args .sheet)) (now (c .before .before .before .before .before .before .before .before .args .work)) (c .before .before .before .before .before .before .before .before .args .n) (c .before .before .before .before .before .before .before .before .args .f) (c .before .before .before .before .before .before .before .before .pre .0))
 
 mark-field-requires : tie.Need-mark-field-requires Inv-loop μ-loop
-mark-field-requires c κs = (passing-line (now (c .before .before .before .before .before .before .before .before .before .before .args .sheet)) _ (c .before .before .before .before .before .before .before .before .before .before .args .n) (c .before .before .before .before .before .before .before .before .before .before .args .f) (refs-kept (c .before .before .before .before .before .before .before .loop .inv .marks .kept) (c .before .before .before .before .before .before .before .before .before .before .pre .0)) (c .before .before .before .before .before .before .before .loop .j) (c .before .before .before .before .before .if1 .taken) (c .before .number-at .result) (c .before .number-at .ensures .0), room-kept (c .before .before .before .before .before .before .before .loop .inv .marks .kept) (c .before .before .before .before .before .before .before .before .before .before .pre .1), omega (arith, c .before .before .before .before .before .before .before .loop .inv .small, c .before .before .before .before .before .before .before .before .before .before .pre .2, c .before .before .before .before .before .before .before .before .before .before .pre .0 .few, c .before .before .before .before .before .if1 .taken))
+mark-field-requires c κs = (refs-line (now (c .before .before .before .before .before .before .before .before .before .before .args .sheet)) _ (c .before .before .before .before .before .before .before .before .before .before .args .n) (c .before .before .before .before .before .before .before .before .before .before .args .f) (refs-kept (c .before .before .before .before .before .before .before .loop .inv .marks .kept) (c .before .before .before .before .before .before .before .before .before .before .pre .0)) (c .before .before .before .before .before .before .before .loop .j) (c .before .before .before .before .before .if1 .taken) (c .before .number-at .result) (c .before .number-at .ensures .0), room-kept (c .before .before .before .before .before .before .before .loop .inv .marks .kept) (c .before .before .before .before .before .before .before .before .before .before .pre .1), omega (arith, c .before .before .before .before .before .before .before .loop .inv .small, c .before .before .before .before .before .before .before .before .before .before .pre .2, c .before .before .before .before .before .before .before .before .before .before .pre .0 .few, c .before .before .before .before .before .if1 .taken))
 
 add-j : tie.Need-add-j Inv-loop μ-loop
 add-j c = record { fits = omega (arith, c .before .before .before .before .before .before .before .before .before .before .before .before .before .pre .0 .few, c .before .before .before .before .before .before .before .before .if1 .taken) }
