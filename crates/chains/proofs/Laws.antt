@@ -215,10 +215,10 @@ module _ (t : Bytes) (c : ChainPlaces) (m : ℕ) where
   linked-long = let k = chainAt t c m in length-set (set t (digestPlace c m + c .gap) (headAt t c k)) (digestPlace c k + c .gap + c .gap) m ∙ length-set t (digestPlace c m + c .gap) (headAt t c k)
 
 module _ {t : Bytes} {c : ChainPlaces} {n : ℕ} (p : Placed t c) (a : PlacesApart c n) (many : 128 ≤ n) (few : n ≤ 256) {m : ℕ} (low : m < n) where
-  abbrev own : ℕ
-  own = chainAt t c m
+  abbrev ownChain : ℕ
+  ownChain = chainAt t c m
 
-  small : own < 128
+  small : ownChain < 128
   small = chain-small t c m
 
   chain-stays : (i : ℕ) → i < n → chainAt (linked t c m) c i ≡ chainAt t c i
@@ -231,29 +231,29 @@ module _ {t : Bytes} {c : ChainPlaces} {n : ℕ} (p : Placed t c) (a : PlacesApa
       (λ e. let z : i ≡ m = a .own i m (omega (arith, e)) in absurd (omega arith))
       (λ k h e. a .link i k (omega arith) (omega arith) (omega (arith, e)))
 
-  link-new : linkAt (linked t c m) c m ≡ headAt t c own
+  link-new : linkAt (linked t c m) c m ≡ headAt t c ownChain
   unfolding linkAt linked
   link-new =
       let q = p .low m (omega arith) in
       let l = p .long in
       let s = small in
-      getD-set-other (set t (digestPlace c m + c .gap) (headAt t c own)) (digestPlace c own + c .gap + c .gap) (digestPlace c m + c .gap) m 0 (λ e. a .link m own low (omega arith) (omega (arith, e)))
-      ∙ getD-set-same t (digestPlace c m + c .gap) (headAt t c own) 0 (omega arith)
+      getD-set-other (set t (digestPlace c m + c .gap) (headAt t c ownChain)) (digestPlace c ownChain + c .gap + c .gap) (digestPlace c m + c .gap) m 0 (λ e. a .link m ownChain low (omega arith) (omega (arith, e)))
+      ∙ getD-set-same t (digestPlace c m + c .gap) (headAt t c ownChain) 0 (omega arith)
 
-  head-stays : (j : ℕ) → j < 128 → (j ≡ own → ⊥) → headAt (linked t c m) c j ≡ headAt t c j
+  head-stays : (j : ℕ) → j < 128 → (j ≡ ownChain → ⊥) → headAt (linked t c m) c j ≡ headAt t c j
   unfolding headAt linked
   head-stays j l z =
-      getD-set-other (set t (digestPlace c m + c .gap) (headAt t c own)) (digestPlace c own + c .gap + c .gap) (digestPlace c j + c .gap + c .gap) m 0 (λ e. z (a .own j own (omega (arith, e))))
-      ∙ getD-set-other t (digestPlace c m + c .gap) (digestPlace c j + c .gap + c .gap) (headAt t c own) 0 (λ e. a .link m j low (omega arith) (omega (arith, e)))
+      getD-set-other (set t (digestPlace c m + c .gap) (headAt t c ownChain)) (digestPlace c ownChain + c .gap + c .gap) (digestPlace c j + c .gap + c .gap) m 0 (λ e. z (a .own j ownChain (omega (arith, e))))
+      ∙ getD-set-other t (digestPlace c m + c .gap) (digestPlace c j + c .gap + c .gap) (headAt t c ownChain) 0 (λ e. a .link m j low (omega arith) (omega (arith, e)))
 
-  head-new : headAt (linked t c m) c own ≡ m
+  head-new : headAt (linked t c m) c ownChain ≡ m
   unfolding headAt linked
   head-new =
       let s = small in
-      let q = p .low own (omega arith) in
+      let q = p .low ownChain (omega arith) in
       let l = p .long in
-      let e = length-set t (digestPlace c m + c .gap) (headAt t c own) in
-      getD-set-same (set t (digestPlace c m + c .gap) (headAt t c own)) (digestPlace c own + c .gap + c .gap) m 0 (omega (arith, e))
+      let e = length-set t (digestPlace c m + c .gap) (headAt t c ownChain) in
+      getD-set-same (set t (digestPlace c m + c .gap) (headAt t c ownChain)) (digestPlace c ownChain + c .gap + c .gap) m 0 (omega (arith, e))
 
   module _ (h : Chained t c m) where
     same-below : (l k j : ℕ) → l ≤ suc m → entryBelow (linked t c m) c l k j ≡ entryBelow t c l k j
@@ -263,7 +263,7 @@ module _ {t : Bytes} {c : ChainPlaces} {n : ℕ} (p : Placed t c) (a : PlacesApa
     same-members = members-same t (linked t c m) c (suc m) (λ i l. chain-stays i (omega arith))
 
     -- a head of another chain, as entry m is not of that
-    passed : (k j : ℕ) → (k ≡ own → ⊥) → entryBelow t c (suc m) k j ≡ entryBelow t c m k j
+    passed : (k j : ℕ) → (k ≡ ownChain → ⊥) → entryBelow t c (suc m) k j ≡ entryBelow t c m k j
     unfolding entryBelow
     passed k j z = go (eqb j m) refl
       where
@@ -274,33 +274,33 @@ module _ {t : Bytes} {c : ChainPlaces} {n : ℕ} (p : Placed t c) (a : PlacesApa
             le-ltb j (suc m) (⊎-elim (λ (x : m ≡ j). absurd (q (sym x))) (λ (x : m < j). omega arith) (eq-or-lt-of-le l)) ∙ sym e
 
         go : (b : Bool) → eqb j m ≡ b → cond (ltb j (suc m) && inChain t c k j) (suc j) 0 ≡ cond (ltb j m && inChain t c k j) (suc j) 0
-        go true e = let x = eqb-true j m e in rw (x, ne-eqb own k (λ q. z (sym q)), lt-ltb m (suc m) (omega arith), le-ltb m m (omega arith))
+        go true e = let x = eqb-true j m e in rw (x, ne-eqb ownChain k (λ q. z (sym q)), lt-ltb m (suc m) (omega arith), le-ltb m m (omega arith))
         go false e = rw (other (ltb j m) refl (eqb-false j m e))
 
-    own-below : entryBelow t c (suc m) own m ≡ suc m
+    own-below : entryBelow t c (suc m) ownChain m ≡ suc m
     unfolding entryBelow
-    own-below = rw (eq-eqb own own refl, lt-ltb m (suc m) (omega arith))
+    own-below = rw (eq-eqb ownChain ownChain refl, lt-ltb m (suc m) (omega arith))
 
-    heads-linked : (j : ℕ) → j < 128 → (b : Bool) → eqb j own ≡ b → entryBelow (linked t c m) c (suc m) j (headAt (linked t c m) c j) ≡ newestOf (inChain (linked t c m) c j) (suc m)
+    heads-linked : (j : ℕ) → j < 128 → (b : Bool) → eqb j ownChain ≡ b → entryBelow (linked t c m) c (suc m) j (headAt (linked t c m) c j) ≡ newestOf (inChain (linked t c m) c j) (suc m)
     heads-linked j l true e =
-        let x = eqb-true j own e in
-        rw (x, head-new) (same-below (suc m) own m (omega arith)) ∙ own-below ∙ sym (rw x (same-members (suc m) own (omega arith)) ∙ newest-yes (inChain t c own) m (eq-eqb own own refl))
+        let x = eqb-true j ownChain e in
+        rw (x, head-new) (same-below (suc m) ownChain m (omega arith)) ∙ own-below ∙ sym (rw x (same-members (suc m) ownChain (omega arith)) ∙ newest-yes (inChain t c ownChain) m (eq-eqb ownChain ownChain refl))
     heads-linked j l false e =
-        let x = eqb-false j own e in
+        let x = eqb-false j ownChain e in
         rw (head-stays j l x) (same-below (suc m) j (headAt t c j) (omega arith)) ∙ passed j (headAt t c j) x ∙ h .heads j l
-        ∙ sym (same-members (suc m) j (omega arith) ∙ newest-no (inChain t c j) m (ne-eqb own j (λ q. x (sym q))))
+        ∙ sym (same-members (suc m) j (omega arith) ∙ newest-no (inChain t c j) m (ne-eqb ownChain j (λ q. x (sym q))))
 
     links-linked : (i : ℕ) → i < suc m → (b : Bool) → eqb i m ≡ b
         → entryBelow (linked t c m) c i (chainAt t c i) (linkAt (linked t c m) c i) ≡ newestOf (inChain (linked t c m) c (chainAt t c i)) i
     links-linked i l true e =
         let x = eqb-true i m e in
-        rw (x, link-new) (same-below m own (headAt t c own) (omega arith)) ∙ h .heads own small ∙ sym (rw x (same-members m own (omega arith)))
+        rw (x, link-new) (same-below m ownChain (headAt t c ownChain) (omega arith)) ∙ h .heads ownChain small ∙ sym (rw x (same-members m ownChain (omega arith)))
     links-linked i l false e =
         let y : i < m = ⊎-elim (λ (x : i ≡ m). absurd (eqb-false i m e x)) (λ (x : i < m). x) (eq-or-lt-of-le (omega arith)) in
         rw (link-stays i y) (same-below i (chainAt t c i) (linkAt t c i) (omega arith)) ∙ h .links i y ∙ sym (same-members i (chainAt t c i) (omega arith))
 
     pub chained-next : Chained (linked t c m) c (suc m)
     chained-next = record {
-      heads = λ j l. heads-linked j l (eqb j own) refl;
+      heads = λ j l. heads-linked j l (eqb j ownChain) refl;
       links = λ i l. rw (chain-stays i (omega arith)) (links-linked i l (eqb i m) refl);
     }

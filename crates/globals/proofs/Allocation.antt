@@ -27,51 +27,51 @@ use Rattle.globals.specs.Allocation.{Allocation, noAllocation, allocatio
 
 -- ---- what is declared, without first values
 
-layAll : List Declared → Allocation → Allocation
-layAll [] l = l
-layAll (d ∷ ds) l = layAll ds (layAt (d .ty) (d .name) (placeOf (d .name) (l .places)) l)
+layDeclared : List Declared → Allocation → Allocation
+layDeclared [] l = l
+layDeclared (d ∷ ds) l = layDeclared ds (layAt (d .ty) (d .name) (placeOf (d .name) (l .places)) l)
 
 place-only : (d : Declared) (o : Option ℕ) (g : Globals) → allocationOf (declareAt d o g) ≡ layAt (d .ty) (d .name) o (allocationOf g)
 place-only d none g = refl
 place-only d (some off) g = refl
 
-places-only : (ds : List Declared) (g : Globals) → allocationOf (globalsFrom g ds) ≡ layAll ds (allocationOf g)
-unfolding layAll
+places-only : (ds : List Declared) (g : Globals) → allocationOf (globalsFrom g ds) ≡ layDeclared ds (allocationOf g)
+unfolding layDeclared
 places-only [] g = refl
 places-only (d ∷ ds) g =
     let o = placeOf (d .name) (g .places) in
-    places-only ds (declareAt d o g) ∙ ap (layAll ds) (place-only d o g)
+    places-only ds (declareAt d o g) ∙ ap (layDeclared ds) (place-only d o g)
 
-all-append : (ds es : List Declared) (l : Allocation) → layAll (ds ++ es) l ≡ layAll es (layAll ds l)
-unfolding layAll
+all-append : (ds es : List Declared) (l : Allocation) → layDeclared (ds ++ es) l ≡ layDeclared es (layDeclared ds l)
+unfolding layDeclared
 all-append [] es l = refl
 all-append (d ∷ ds) es l = all-append ds es (layAt (d .ty) (d .name) (placeOf (d .name) (l .places)) l)
 
 module _ (ns : Names) where
   -- a line's names
-  by-names : (f : Bytes → Declared) (t : Ty) → ((n : Bytes) → f n .name ≡ n) → ((n : Bytes) → f n .ty ≡ t) → (xs : List Bytes) (l : Allocation) → layAll (map f (laidNames xs)) l ≡ layNames t xs l
-  unfolding layAll layNames layName
+  by-names : (f : Bytes → Declared) (t : Ty) → ((n : Bytes) → f n .name ≡ n) → ((n : Bytes) → f n .ty ≡ t) → (xs : List Bytes) (l : Allocation) → layDeclared (map f (laidNames xs)) l ≡ layNames t xs l
+  unfolding layDeclared layNames layName
   by-names f t hn ht [] l = refl
   by-names f t hn ht (x ∷ xs) l = go (same x (bytes "nil")) (λ (m : Allocation). by-names f t hn ht xs m)
     where
-      go : (b : Bool) → ((m : Allocation) → layAll (map f (laidNames xs)) m ≡ layNames t xs m)
-          → layAll (map f (cond (not b) (x ∷ laidNames xs) (laidNames xs))) l ≡ layNames t xs (cond b l (layAt t x (placeOf x (l .places)) l))
+      go : (b : Bool) → ((m : Allocation) → layDeclared (map f (laidNames xs)) m ≡ layNames t xs m)
+          → layDeclared (map f (cond (not b) (x ∷ laidNames xs) (laidNames xs))) l ≡ layNames t xs (cond b l (layAt t x (placeOf x (l .places)) l))
       go true ih = ih l
       go false ih = rw (hn x, ht x) (ih (layAt t x (placeOf x (l .places)) l))
 
   -- all lines
   by-lines : (impl : Option Bytes) (vs : List (Located VarDecl)) (l : Allocation)
-      → layAll (concatMap (declaredBy ns) (filter (λ (v : Located VarDecl). ownIn impl (v .within)) vs)) l ≡ layVars impl vs l
-  unfolding layAll layVars
+      → layDeclared (concatMap (declaredBy ns) (filter (λ (v : Located VarDecl). ownIn impl (v .within)) vs)) l ≡ layVars impl vs l
+  unfolding layDeclared layVars
   by-lines impl [] l = refl
   by-lines impl (v ∷ vs) l = go (ownIn impl (v .within)) (λ (m : Allocation). by-lines impl vs m)
     where
-      go : (b : Bool) → ((m : Allocation) → layAll (concatMap (declaredBy ns) (filter (λ (w : Located VarDecl). ownIn impl (w .within)) vs)) m ≡ layVars impl vs m)
-          → layAll (concatMap (declaredBy ns) (cond b (v ∷ filter (λ (w : Located VarDecl). ownIn impl (w .within)) vs) (filter (λ (w : Located VarDecl). ownIn impl (w .within)) vs))) l
+      go : (b : Bool) → ((m : Allocation) → layDeclared (concatMap (declaredBy ns) (filter (λ (w : Located VarDecl). ownIn impl (w .within)) vs)) m ≡ layVars impl vs m)
+          → layDeclared (concatMap (declaredBy ns) (cond b (v ∷ filter (λ (w : Located VarDecl). ownIn impl (w .within)) vs) (filter (λ (w : Located VarDecl). ownIn impl (w .within)) vs))) l
           ≡ layVars impl vs (cond b (layNames (v .it .ty) (v .it .names) l) l)
       go true ih =
           all-append (declaredBy ns v) (concatMap (declaredBy ns) (filter (λ (w : Located VarDecl). ownIn impl (w .within)) vs)) l
-          ∙ ih (layAll (declaredBy ns v) l)
+          ∙ ih (layDeclared (declaredBy ns v) l)
           ∙ ap (layVars impl vs) (by-names (λ (n : Bytes). record { name = n; ty = v .it .ty; first = orNoInit (initOf ns (v .it .ty) (v .it .init)) }) (v .it .ty) (λ n. refl) (λ n. refl) (v .it .names) l)
       go false ih = ih l
 

@@ -2,7 +2,7 @@
 use mathlib.Core.Path.{_≡_, sym, ap, _∙_, subst}
 use mathlib.Core.Logic.{⊎-elim}
 use Prim.Native.Nat.{ℕ, suc, _+_, _*_, _≤_, _<_}
-use native.Mathlib.Nat.{eq-or-lt-of-le, mod-lt}
+use native.Mathlib.Nat.{eq-or-lt-of-le}
 use native.Mathlib.Numerals.{add-one}
 use native.Mathlib.Omega.{arith}
 use lib.ListN.{length, getD, set, length-set}
@@ -11,10 +11,10 @@ use Rattle.semantics.specs.Text.{Bytes}
 use Rattle.words.specs.Words.{digest}
 use Rattle.checks.specs.Checks.{Outside}
 use Rattle.checks.proofs.Kept.{kept-less, outside-all, outside-then, outside-set, checked-kept}
-use Rattle.chains.specs.Chains.{chainOf, digestPlace, chainAt, Chained, linked}
+use Rattle.chains.specs.Chains.{digestPlace, Chained, linked}
 use Rattle.chains.proofs.Laws.{SameBytes, chained-kept, linked-outside, linked-other, PlacesApart, chained-next}
 use Rattle.records.specs.Log.{byteOf, entryAt, recordOf, recordedAt, keyDigestOf, recordChains, Digested}
-use Rattle.records.proofs.Newest.{record-placed, digest-chain}
+use Rattle.records.proofs.Newest.{record-placed}
 use Rattle.record_log.specs.Entries.{CollectedTo}
 
 module _ (t : Bytes) (i d : ℕ) (hi : i < 128) (room : 65536 ≤ length t) where

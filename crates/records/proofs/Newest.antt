@@ -86,26 +86,26 @@ module _ (s t : Bytes) (n m : ℕ) (g : RecordsLogged s t n m) (k : Bytes) where
 -- ---- the key of an entry
 
 module _ (s t : Bytes) (n m : ℕ) (g : RecordsLogged s t n m) (i : ℕ) (h : i < m) where
-  abbrev own : Bytes
-  own = recordedAt s t i .key
+  abbrev ownKey : Bytes
+  ownKey = recordedAt s t i .key
 
-  pub own-chain : chainAt t recordChains i ≡ chainOf (digest own)
+  pub own-chain : chainAt t recordChains i ≡ chainOf (digest ownKey)
   own-chain = digest-chain t i ∙ ap chainOf (g .digests i h)
 
   -- the last entry of its key is known
-  pub newest-own : {j : ℕ} → suc j ≡ newestOf (keyIs s t own) m → NewestOfEntry s t m i j
+  pub newest-own : {j : ℕ} → suc j ≡ newestOf (keyIs s t ownKey) m → NewestOfEntry s t m i j
   newest-own {j} e =
-      let l : j < m = let z = newest-low (keyIs s t own) m in omega (arith, e, z) in
+      let l : j < m = let z = newest-low (keyIs s t ownKey) m in omega (arith, e, z) in
       record {
         low = l;
-        last = λ d. last-all s t n m g own d e ∙ default-same (logOf s) j d noRecord (omega (arith, g .count)) ∙ sym (g .each j l);
-        later = λ x a b. newest-none-later (keyIs s t own) e x (omega arith) b;
+        last = λ d. last-all s t n m g ownKey d e ∙ default-same (logOf s) j d noRecord (omega (arith, g .count)) ∙ sym (g .each j l);
+        later = λ x a b. newest-none-later (keyIs s t ownKey) e x (omega arith) b;
       }
 
   -- itself, where the way has come to it
-  pub newest-self : {c j : ℕ} → Along t recordChains c m (keyIs s t own) j → j ≤ i + 1 → suc i ≡ newestOf (keyIs s t own) m
+  pub newest-self : {c j : ℕ} → Along t recordChains c m (keyIs s t ownKey) j → j ≤ i + 1 → suc i ≡ newestOf (keyIs s t ownKey) m
   newest-self {j = j} a l =
-      let x = newest-from (keyIs s t own) m i h (same-refl own) in
-      let y = newest-low (keyIs s t own) j in
+      let x = newest-from (keyIs s t ownKey) m i h (same-refl ownKey) in
+      let y = newest-low (keyIs s t ownKey) j in
       let z = a .next in
       omega (arith, x, y, z)

@@ -4,10 +4,9 @@ use Rattle.records.specs.Log.{recordedAt, recordChains}
 use Rattle.chains.proofs.Laws.{Along, along-first, along-found, along-next, chain-small, earlier-less}
 use Rattle.chains.specs.Chains.{chainOf, chainAt, newestIn}
 use denote.Ref.{now}
-use Prim.Native.Nat.{ℕ, suc, _-_, _<_}
+use Prim.Native.Nat.{suc, _-_, _<_}
 use mathlib.Core.Path.{_≡_, sym, ap, _∙_}
 use native.Mathlib.Omega.{arith}
-use borrow.Author.Needs.{needs}
 use Rattle.records.proofs.key.newest_of.Statement.{statement}
 use Rattle.records.proofs.key.newest_of.Tie as tie
 
