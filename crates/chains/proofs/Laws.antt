@@ -13,7 +13,7 @@ use Rattle.semantics.specs.Text.{Bytes}
 use Rattle.checks.specs.Checks.{Outside}
 use Rattle.checks.proofs.Kept.{outside-then, outside-set}
 use Rattle.chains.specs.declared.ChainPlaces.{ChainPlaces}
-use Rattle.chains.specs.Chains.{newestOf, chainOf, digestPlace, linkAt, headAt, chainAt, inChain, Placed, entryBelow, newestIn, earlierThan, Chained, linked}
+use Rattle.chains.specs.Chains.{newestOf, chainOf, digestPlace, linkAt, headAt, chainAt, inChain, ChainRoom, entryBelow, newestIn, earlierThan, Chained, linked}
 
 -- a chain is one of 128
 pub chain-small : (t : Bytes) (c : ChainPlaces) (i : ℕ) → chainAt t c i < 128
@@ -214,7 +214,7 @@ module _ (t : Bytes) (c : ChainPlaces) (m : ℕ) where
   unfolding linked
   linked-long = let k = chainAt t c m in length-set (set t (digestPlace c m + c .gap) (headAt t c k)) (digestPlace c k + c .gap + c .gap) m ∙ length-set t (digestPlace c m + c .gap) (headAt t c k)
 
-module _ {t : Bytes} {c : ChainPlaces} {n : ℕ} (p : Placed t c) (a : PlacesApart c n) (many : 128 ≤ n) (few : n ≤ 256) {m : ℕ} (low : m < n) where
+module _ {t : Bytes} {c : ChainPlaces} {n : ℕ} (p : ChainRoom t c) (a : PlacesApart c n) (many : 128 ≤ n) (few : n ≤ 256) {m : ℕ} (low : m < n) where
   abbrev ownChain : ℕ
   ownChain = chainAt t c m
 

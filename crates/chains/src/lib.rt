@@ -4,7 +4,7 @@
 use words::wide;
 ghost use mathlib.Core.Path.{_≡_};
 ghost use Prim.Native.Nat.{_+_, _<_};
-ghost use Rattle.chains.specs.Chains.{chainOf, digestPlace, linkAt, headAt, chainAt, entryBelow, newestIn, earlierThan, linked, Placed};
+ghost use Rattle.chains.specs.Chains.{chainOf, digestPlace, linkAt, headAt, chainAt, entryBelow, newestIn, earlierThan, linked, ChainRoom};
 
 // Where a table keeps its chains: the digest of entry i at byte `at + step * i`, its link `gap` bytes behind that, and the head of
 // chain i `gap` bytes behind the link.
@@ -31,21 +31,21 @@ fn chain_of(d: usize) -> usize
 
 // The chain of entry i.
 fn chain_at(work: &[u8], c: ChainPlaces, i: usize) -> usize
-    requires { ⌜ (Placed (now work) c) × (i < 256) ⌝ }
+    requires { ⌜ (ChainRoom (now work) c) × (i < 256) ⌝ }
     ensures { λ r. ⌜ (r ≡ chainAt (now (work .entry)) c i) × (r < 128) ⌝ }
 {
     chain_of(wide(work[place(c, i)]))
 }
 
 fn link_at(work: &[u8], c: ChainPlaces, i: usize) -> usize
-    requires { ⌜ (Placed (now work) c) × (i < 256) ⌝ }
+    requires { ⌜ (ChainRoom (now work) c) × (i < 256) ⌝ }
     ensures { λ r. ⌜ (r ≡ linkAt (now (work .entry)) c i) × (r < 256) ⌝ }
 {
     wide(work[place(c, i) + c.gap])
 }
 
 fn head_at(work: &[u8], c: ChainPlaces, k: usize) -> usize
-    requires { ⌜ (Placed (now work) c) × (k < 128) ⌝ }
+    requires { ⌜ (ChainRoom (now work) c) × (k < 128) ⌝ }
     ensures { λ r. ⌜ (r ≡ headAt (now (work .entry)) c k) × (r < 256) ⌝ }
 {
     wide(work[place(c, k) + c.gap + c.gap])
@@ -53,7 +53,7 @@ fn head_at(work: &[u8], c: ChainPlaces, k: usize) -> usize
 
 // Where j is one of the first m entries and of chain k, its number from 1; else 0.
 fn entry_below(work: &[u8], c: ChainPlaces, m: usize, k: usize, j: usize) -> usize
-    requires { ⌜ (Placed (now work) c) × (j < 256) ⌝ }
+    requires { ⌜ (ChainRoom (now work) c) × (j < 256) ⌝ }
     ensures { λ r. ⌜ r ≡ entryBelow (now (work .entry)) c m k j ⌝ }
 {
     if m <= j {
@@ -67,7 +67,7 @@ fn entry_below(work: &[u8], c: ChainPlaces, m: usize, k: usize, j: usize) -> usi
 
 // The newest of m entries that is of the chain of the digest d: its number from 1, 0 for none.
 pub fn newest(work: &[u8], c: ChainPlaces, m: usize, d: usize) -> usize
-    requires { ⌜ Placed (now work) c ⌝ }
+    requires { ⌜ ChainRoom (now work) c ⌝ }
     ensures { λ r. ⌜ r ≡ newestIn (now (work .entry)) c m (chainOf d) ⌝ }
 {
     let k = chain_of(d);
@@ -76,7 +76,7 @@ pub fn newest(work: &[u8], c: ChainPlaces, m: usize, d: usize) -> usize
 
 // The newest of the entries before i that is of the chain of i.
 pub fn earlier(work: &[u8], c: ChainPlaces, i: usize) -> usize
-    requires { ⌜ (Placed (now work) c) × (i < 256) ⌝ }
+    requires { ⌜ (ChainRoom (now work) c) × (i < 256) ⌝ }
     ensures { λ r. ⌜ r ≡ earlierThan (now (work .entry)) c i ⌝ }
 {
     entry_below(work, c, i, chain_at(work, c, i), link_at(work, c, i))
@@ -84,7 +84,7 @@ pub fn earlier(work: &[u8], c: ChainPlaces, i: usize) -> usize
 
 // Entry m, which has its digest, becomes the newest of its chain.
 pub fn link(work: &mut [u8], c: ChainPlaces, m: usize)
-    requires { ⌜ (Placed (now work) c) × (m < 256) ⌝ }
+    requires { ⌜ (ChainRoom (now work) c) × (m < 256) ⌝ }
     ensures { λ _. ⌜ now (work .exit) ≡ linked (now (work .entry)) c m ⌝ }
 {
     let k = chain_at(work, c, m);

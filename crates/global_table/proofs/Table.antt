@@ -16,7 +16,7 @@ use Rattle.semantics.specs.Global.{Global, placeOf}
 use Rattle.laws.proofs.Tests.{same-eq}
 use Rattle.words.specs.Words.{digest, u16At}
 use Rattle.words.proofs.Laws.{digest-same, digest-apart}
-use Rattle.chains.specs.Chains.{newestOf, chainOf, digestPlace, chainAt, inChain, Placed, Chained, linked}
+use Rattle.chains.specs.Chains.{newestOf, chainOf, digestPlace, chainAt, inChain, ChainRoom, Chained, linked}
 use Rattle.chains.proofs.Laws.{PlacesApart, SameBytes, newest-yes, newest-no, newest-low, linked-outside, linked-other, linked-long, chained-none, chained-kept, chained-next}
 use Rattle.checks.specs.Checks.{Checked, Kept, Outside}
 use Rattle.checks.proofs.Kept.{kept-less, kept-at, outside-then, checked-kept, kind-line-kept}
@@ -74,7 +74,7 @@ entered-long t i line position offset d =
     ∙ length-sets t (7168 + 8 * i) (line % 256 ∷ line / 256 ∷ position ∷ offset % 256 ∷ offset / 256 ∷ d ∷ [])
 
 -- digests, links and heads lie in the working space, and apart
-pub global-placed : {t : Bytes} → 65536 ≤ length t → Placed t globalChains
+pub global-placed : {t : Bytes} → 65536 ≤ length t → ChainRoom t globalChains
 unfolding digestPlace
 global-placed room = record { low = λ i h. omega arith; long = room }
 

@@ -12,7 +12,7 @@ ghost use Rattle.sizes.specs.Sizes.{typeAt, TypeLine};
 ghost use Rattle.words.specs.Words.{digest};
 ghost use Rattle.global_table.specs.Table.{globalLineOf, globalPositionOf, offsetOf, globalDigestOf, globalEntered, globalAt, placesIn, GlobalEntry, Tabled, offsetBy, entryNumber, offsetIn};
 
-// Where its chains stand.
+// Where the table's chains stand.
 const CHAINS: ChainPlaces = ChainPlaces {
     at: area::GLOBALS + 5,
     gap: 1,

@@ -17,7 +17,7 @@ use Rattle.semantics.specs.Sheet.{sheetSource}
 use Rattle.semantics.specs.Fold.{Key, Const, signed64, plain, qualified, sameOption, lookUp, valueOf}
 use Rattle.semantics.specs.Const.{entries}
 use Rattle.semantics.proofs.Common.{both}
-use Rattle.chains.specs.Chains.{newestOf, chainOf, digestPlace, headAt, chainAt, inChain, Placed, newestIn, earlierThan, Chained, linked}
+use Rattle.chains.specs.Chains.{newestOf, chainOf, digestPlace, headAt, chainAt, inChain, ChainRoom, newestIn, earlierThan, Chained, linked}
 use Rattle.chains.proofs.Laws.{newest-low, newest-most, earlier-less, Along, along-from, along-found, along-next, along-end, chained-kept, PlacesApart, linked-outside}
 use Rattle.words.specs.Words.{digest, u16At, bitsAt}
 use Rattle.words.proofs.Laws.{digest-same, digest-apart}
@@ -177,15 +177,15 @@ answers-qualified s t q x = record {
 pub table-entry : {s t : Bytes} {n m i : ℕ} → ConstTable s t n m → i < m → ConstEntry s t n i
 table-entry {i = i} c h = record { checked = c .checked; low = omega (arith, c .logged .few); entry = c .logged .each i h; digested = c .logged .digests i h }
 
-pub const-placed : {t : Bytes} → 65536 ≤ length t → Placed t constChains
+pub const-placed : {t : Bytes} → 65536 ≤ length t → ChainRoom t constChains
 unfolding digestPlace
 const-placed h = record { low = λ i h. omega arith; long = h }
 
-pub table-placed : {s t : Bytes} {n m : ℕ} → ConstTable s t n m → Placed t constChains
+pub table-placed : {s t : Bytes} {n m : ℕ} → ConstTable s t n m → ChainRoom t constChains
 table-placed c = const-placed (c .checked .whole .room)
 
 -- the entry before one of the table may be asked for
-pub earlier-asked : {s t : Bytes} {n m : ℕ} → ConstTable s t n m → {i : ℕ} → i < m → (Placed t constChains) × (i < 256)
+pub earlier-asked : {s t : Bytes} {n m : ℕ} → ConstTable s t n m → {i : ℕ} → i < m → (ChainRoom t constChains) × (i < 256)
 earlier-asked c h = (table-placed c, omega (arith, c .logged .few))
 
 -- a number up to the table's end is an answer

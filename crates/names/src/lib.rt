@@ -18,7 +18,7 @@ pub struct Known {
     pub consts: usize,
 }
 
-// Where its chains stand.
+// Where the table's chains stand.
 pub const CHAINS: ChainPlaces = ChainPlaces {
     at: area::CONSTANTS + 13,
     gap: 1,

@@ -123,7 +123,7 @@ fn enter_digests(sheet: &[u8], work: &mut [u8], n: usize, m: usize)
     }
 }
 
-// The log of all records, with the digests of their keys; returns how many there are.
+// The log of all records, chained by the digests of their keys; returns how many there are.
 pub fn collect_adts(sheet: &[u8], work: &mut [u8], n: usize) -> usize
     requires { ⌜ Checked (now sheet) (now work) n ⌝ }
     ensures { λ m. ⌜ RecordsCollected (now (sheet .entry)) (now (work .entry)) (now (work .exit)) n m ⌝ }

@@ -14,7 +14,7 @@ use Rattle.laws.proofs.Lists.{any-append, last-append}
 use Rattle.laws.proofs.Tests.{same-refl}
 use Rattle.words.specs.Words.{digest}
 use Rattle.words.proofs.Laws.{digest-same}
-use Rattle.chains.specs.Chains.{newestOf, chainOf, chainAt, inChain, digestPlace, Placed}
+use Rattle.chains.specs.Chains.{newestOf, chainOf, chainAt, inChain, digestPlace, ChainRoom}
 use Rattle.chains.proofs.Laws.{newest-low, newest-from, newest-none-later, Along}
 use Rattle.records.specs.Log.{keyDigestOf, recordedAt, recordChains, logOf, noRecord, chosen, RecordsLogged, Newest, NewestOfEntry}
 use Rattle.records.proofs.Keys.{default-same}
@@ -23,7 +23,7 @@ use Rattle.records.proofs.Keys.{default-same}
 abbrev pub keyIs : Bytes → Bytes → Bytes → ℕ → Bool
 keyIs s t k i = same k (recordedAt s t i .key)
 
-pub record-placed : (t : Bytes) → 65536 ≤ length t → Placed t recordChains
+pub record-placed : (t : Bytes) → 65536 ≤ length t → ChainRoom t recordChains
 unfolding digestPlace
 record-placed t h = record { low = λ i l. omega arith; long = h }
 

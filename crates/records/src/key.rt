@@ -13,7 +13,7 @@ ghost use Rattle.semantics.specs.Layout.{seen};
 ghost use Rattle.words.specs.Words.{digest};
 ghost use Rattle.records.specs.Log.{byteOf, entryAt, recordedAt, nameOf, tagOf, keyDigestOf, logOf, EntryIn, RecordsLogged, LogEntry, Newest, NewestOfEntry};
 
-// Where entries keep digests, links and heads of chains.
+// Where the log's chains stand.
 pub const CHAINS: ChainPlaces = ChainPlaces {
     at: area::RECORDS + 5,
     gap: 1,

@@ -11,7 +11,7 @@ use lib.Seq.{getD-set-same, getD-set-other}
 use borrow.Author.Tests.{ltb-true, ltb-false, eqb-true, eqb-false}
 use Rattle.semantics.specs.Tree.{TypeKey}
 use Rattle.semantics.specs.Array.{kindNumber}
-use Rattle.chains.specs.Chains.{chainOf, digestPlace, chainAt, Placed, Chained}
+use Rattle.chains.specs.Chains.{chainOf, digestPlace, chainAt, ChainRoom, Chained}
 use Rattle.chains.proofs.Laws.{PlacesApart, SameBytes, linked-outside, linked-long, chained-kept, chained-next}
 use Rattle.checks.specs.Checks.{Kept, Outside}
 use Rattle.checks.proofs.Kept.{kept-at, outside-all, outside-then, outside-less, outside-set, outside-above}
@@ -137,7 +137,7 @@ module _ (t : List ℕ) (room : 65536 ≤ length t) (k p : ℕ) where
 -- ---- a digest
 
 -- the chains of needs lie in the working space, and their bytes apart
-pub need-placed : {t : List ℕ} → 65536 ≤ length t → Placed t needChains
+pub need-placed : {t : List ℕ} → 65536 ≤ length t → ChainRoom t needChains
 unfolding digestPlace
 need-placed room = record { low = λ i h. omega arith; long = room }
 
