@@ -3,11 +3,16 @@
     clients(records)      -> a sheet of so many client records, with constants,
                              tables and needs
     largest()             -> such a sheet of 1,024 lines and 65,534 bytes
-    lookups(quarters)     -> look-ups at their worst: tables that are full at four
-                             quarters, and names that begin alike
+    lookups(quarters)     -> tables that are full at four quarters, and names that
+                             begin alike
     blocks(count)         -> so many needs of blocks that differ in the last offset
+    one_digest()          -> look-ups at their worst: full tables of names that have
+                             one digest
+    blocks_alike()        -> 128 needs of blocks whose lines have one digest
     deep(depth)           -> a record of a tuple in a tuple, so many deep
 """
+import itertools
+
 from sheets import Build, hex_text
 
 NAMES = ("Scan", "Upload", "Round", "Tag", "Reader", "Site", "Queue", "Batch", "Guard", "Shift")
@@ -121,6 +126,55 @@ def blocks(count):
     for number in range(count):
         build.put("need", "block", 4096, 16, *range(1000, 1060, 4), 1060 + 4 * number)
     return build.sheet()
+
+
+def digest(text):
+    """As `words::digest`."""
+    number = 0
+    for byte in text.encode():
+        number = (number * 185 + byte) % 256
+    return number
+
+
+def alike(texts, count, wanted=0):
+    """The first so many of these texts that have this digest."""
+    return list(itertools.islice((text for text in texts if digest(text) == wanted), count))
+
+
+def numbered(start):
+    return (f"{start}{number:05}" for number in range(100000))
+
+
+def one_digest():
+    """128 constants, each of which names the first, 68 records and 60 variants of
+    four of them, with a need each, and 256 globals with a value, on 16 lines."""
+    build = Build()
+    build.put("impl", "Client")
+    constants = alike(numbered("c" * 20), 128)
+    for number, name in enumerate(constants):
+        value = build.put("ex", "id", constants[0]) if number else build.put("ex", "int", 1)
+        build.put("con", name, 1, 1, value)
+    for record in alike(numbered("p" * 20), 4):
+        keys = alike(numbered(f"{record}.{'t' * 20}"), 15)
+        tags = [key.split(".")[1] for key in keys]
+        cases = [build.put("pc", 5, *tags[5 * case : 5 * case + 5], 0) for case in range(3)]
+        build.put("pick", record, 0, len(cases), *cases)
+        for key in (record, *keys):
+            build.put("need", "adt", key)
+    for name in alike(numbered("r" * 20), 64):
+        build.put("adt", name, 0)
+        build.put("need", "adt", name)
+    names = alike(numbered("g" * 4), 256)
+    for line in range(16):
+        build.put("var", build.put("ty", "int"), build.put("ex", "int", 7), 16, *names[16 * line : 16 * line + 16])
+    return build.sheet()
+
+
+def blocks_alike():
+    """`need,block` lines that differ in the last two offsets."""
+    begin = "need,block,4096,16," + ",".join(map(str, range(1000, 1056, 4)))
+    lines = (f"{begin},{first},{last}" for first in range(1056, 2056, 4) for last in range(2056, 4092, 4))
+    return "".join(line + "\n" for line in alike(lines, 128)).encode()
 
 
 def deep(depth):
