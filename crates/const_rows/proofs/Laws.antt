@@ -115,11 +115,12 @@ module _ (s t : Bytes) (m i : ℕ) where
           nothing {d = d} {at = at} (qualifiedPart s t m i) (rw (ne-eqb (moduleLineOf t i) 0 (λ e. z (hk ∙ e)), has-is r h, lt-ltb 0 r (omega (arith, p))))
 
       -- the entry itself answers
-      pub qualified-some : {r : ℕ} → i < m → r ≡ newestQualified s t m within name → 0 < r
+      pub qualified-itself : answersQualified s t i within name ≡ true
       unfolding answersQualified
-      qualified-some {r} h e =
-          let w = newest-from (λ (j : ℕ). answersQualified s t j within name) m i h (rw (hw, hk, hn, hl, same-refl (firstField s (constLineOf t i)), ne-eqb (moduleLineOf t i) 0 (λ x. z (hk ∙ x)), same-refl (firstField s (moduleLineOf t i)))) in
-          omega (arith, e)
+      qualified-itself = rw (hw, hk, hn, hl, same-refl (firstField s (constLineOf t i)), ne-eqb (moduleLineOf t i) 0 (λ x. z (hk ∙ x)), same-refl (firstField s (moduleLineOf t i)))
+
+      pub qualified-some : {r : ℕ} → i < m → r ≡ newestQualified s t m within name → 0 < r
+      qualified-some {r} h e = let w = newest-from (λ (j : ℕ). answersQualified s t j within name) m i h qualified-itself in omega (arith, e)
 
       pub qualified-new : (r q : ℕ) → hasKey (qualified within name) (logIn s t i) ≡ ltb 0 r → r ≡ 0 → valueOf (lookUp (qualified within name) (logIn s t m)) ≡ found t q
           → {d e f g o : Bytes} {at a b c p : ℕ} → Wrote d at (99 ∷ (111 ∷ (110 ∷ (44 ∷ [])))) e a → Wrote e a within f b → Wrote f b (45 ∷ (62 ∷ [])) g c → Wrote g c (name ++ (44 ∷ row (valueFields (found t q)))) o p
@@ -152,11 +153,12 @@ module _ (s t : Bytes) (m i : ℕ) where
       plain-old {d} {at} r h p = nothing {d = d} {at = at} (plainPart s t m i) (rw (own-is, z, plain-has r h, lt-ltb 0 r (omega (arith, p))))
 
       -- the entry itself answers
-      pub plain-some : {r : ℕ} → i < m → r ≡ newestPlain s t m name → 0 < r
+      pub plain-itself : answersPlain s t i name ≡ true
       unfolding answersPlain
-      plain-some {r} h e =
-          let w = newest-from (λ (j : ℕ). answersPlain s t j name) m i h (rw (hn, hl, same-refl (firstField s (constLineOf t i)), own-is) (not-false own z)) in
-          omega (arith, e)
+      plain-itself = rw (hn, hl, same-refl (firstField s (constLineOf t i)), own-is) (not-false own z)
+
+      pub plain-some : {r : ℕ} → i < m → r ≡ newestPlain s t m name → 0 < r
+      plain-some {r} h e = let w = newest-from (λ (j : ℕ). answersPlain s t j name) m i h plain-itself in omega (arith, e)
 
       pub plain-new : (r q : ℕ) → hasKey (plain name) (logIn s t i) ≡ ltb 0 r → r ≡ 0 → valueOf (lookUp (plain name) (logIn s t m)) ≡ found t q
           → {d e o : Bytes} {at a p : ℕ} → Wrote d at (99 ∷ (111 ∷ (110 ∷ (44 ∷ [])))) e a → Wrote e a (name ++ (44 ∷ row (valueFields (found t q)))) o p → Wrote d at (plainPart s t m i) o p
@@ -171,9 +173,6 @@ module _ (s t : Bytes) (m i : ℕ) where
 module _ {s t : Bytes} {n m : ℕ} (b : ConstTable s t n m) where
   pub line-in : {i l : ℕ} → i < m → l ≡ constLineOf t i → (0 < l) × (l ≤ n)
   line-in {i} h e = let x = b .logged .each i h in (omega (arith, x .first), omega (arith, x .last))
-
-  pub name-in : {i l : ℕ} {name : Bytes} → i < m → l ≡ constLineOf t i → name ≡ firstField s l → (ConstTable s t n m) × (i < m) × (name ≡ firstField s (constLineOf t i))
-  name-in h e q = (b, h, q ∙ ap (firstField s) e)
 
   pub module-in : {i k : ℕ} → i < m → k ≡ moduleLineOf t i → k ≤ n
   module-in {i} h e = omega (arith, b .logged .each i h .within)

@@ -16,11 +16,10 @@ use Rattle.semantics.specs.Const.{entries}
 use Rattle.decimal.specs.Number as Number
 use Rattle.lines.specs.Lines.{readAt, nodesIn}
 use Rattle.implement.specs.Modules.{firstField, moduleAt}
-use Rattle.words.specs.Words.{digest}
 use Rattle.checks.specs.Checks.{Kept}
 use Rattle.checks.proofs.Kept.{kept-then, kept-less}
 use Rattle.chains.specs.Chains.{linked}
-use Rattle.names.specs.Table.{constChains, logIn, namesIn, ConstsLogged}
+use Rattle.names.specs.Table.{constChains, constDigest, logIn, namesIn, ConstsLogged}
 use Rattle.names.proofs.Laws.{logged-kept, log-kept}
 use Rattle.values.specs.declared.ConstVal.{ConstVal}
 use Rattle.values.specs.declared.Folded.{Folded}
@@ -37,8 +36,8 @@ use Rattle.consts.proofs.Lines.{ex-number, ex-line}
 name-is : (s : Bytes) (i : ℕ) → firstField s (i + 1) ≡ getD (readAt s i .fields) 0 []
 name-is s i = let e : i + 1 - 1 ≡ i = omega arith in rw e
 
-pub digest-is : (s : Bytes) (i : ℕ) {d : ℕ} {x : Bytes} → x ≡ getD (readAt s i .fields) 0 [] → d ≡ digest x → d ≡ digest (firstField s (i + 1))
-digest-is s i h e = e ∙ ap digest (h ∙ sym (name-is s i))
+pub digest-is : (s : Bytes) (k i : ℕ) {d : ℕ} {x : Bytes} → x ≡ getD (readAt s i .fields) 0 [] → d ≡ constDigest s k x → d ≡ constDigest s k (firstField s (i + 1))
+digest-is s k i h e = e ∙ ap (constDigest s k) (h ∙ sym (name-is s i))
 
 module _ (s t : Bytes) (n m k i : ℕ) (l : ConstLine s t n m k i) (r : ℕ) (is : r ≡ Number.numberUpTo 65536 (getD (readAt s i .fields) 3 [])) where
   pub value-foldable : Foldable s t n m r 49152
@@ -68,7 +67,7 @@ module _ (s t : Bytes) (n m k i : ℕ) (l : ConstLine s t n m k i) (r : ℕ) (is
     log-after : ConstsLogged s u n m
     log-after = logged-kept (f .kept) (l .logged)
 
-    module _ {d : ℕ} (named : d ≡ digest (firstField s (i + 1))) (w : Bytes) where
+    module _ {d : ℕ} (named : d ≡ constDigest s k (firstField s (i + 1))) (w : Bytes) where
       pub took-value : {v : ConstVal} → x ≡ Value v → (w ≡ linked (over (over u (16384 + 256 * m) (stringOf u v)) (5120 + 16 * m) (entryOf (i + 1) k (kindFor v) (bitsFor (movedTo (16384 + 256 * m) v)) d)) constChains m) × InRange v → Kept 5120 t w × ConstantEntered s t w n m k i iota true
       unfolding resultIn
       took-value {v} q h =

@@ -35,7 +35,8 @@ fn take_constant(sheet: &[u8], work: &mut [u8], c: Known, k: usize, i: usize, io
     ensures { λ b. ⌜ (Kept 5120 (now (work .entry)) (now (work .exit))) × (ConstantEntered (now (sheet .entry)) (now (work .entry)) (now (work .exit)) (c .lines) (c .consts) k i iota b) ⌝ }
 {
     let r = lines::number_at(sheet, work, c.lines, i, 3);
-    let d = words::digest(lines::field_at(sheet, work, c.lines, i, 0));
+    let name = lines::field_at(sheet, work, c.lines, i, 0);
+    let d = names::const_digest(sheet, work, c.lines, k, name);
     let x = fold::fold_const(sheet, work, c, iota, r, area::STACK);
     match x {
         Folded::Value(v) => {

@@ -25,11 +25,11 @@ use Rattle.write.proofs.Hex.{big-length}
 use Rattle.write.proofs.Back.{bits-back}
 use Rattle.chains.specs.Chains.{digestPlace, Chained, linked}
 use Rattle.chains.proofs.Laws.{SameBytes, chained-kept, chained-next}
-use Rattle.words.specs.Words.{digest, u16At, bitsAt}
+use Rattle.words.specs.Words.{u16At, bitsAt}
 use Rattle.implement.specs.Modules.{firstField, moduleAt}
 use Rattle.checks.specs.Checks.{Kept}
 use Rattle.checks.proofs.Kept.{kept-at, kept-then, kept-less, outside-less}
-use Rattle.names.specs.Table.{constLineOf, moduleLineOf, valueBy, kindOf, bitsOf, constDigestOf, constChains, entriesAt, logIn, EntryBounds, ConstsLogged}
+use Rattle.names.specs.Table.{constLineOf, moduleLineOf, valueBy, kindOf, bitsOf, constDigestOf, constChains, constDigest, entriesAt, logIn, EntryBounds, ConstsLogged}
 use Rattle.names.proofs.Laws.{slot-is, value-failed, value-int, value-real, value-text, part-low, part-kept, SameText, each-same, digests-same, log-same, entries-below, const-placed, const-apart, const-outside, linked-entries}
 use Rattle.values.specs.declared.ConstVal.{ConstVal}
 use Rattle.values.specs.declared.ConstVal.the-variants.{Int, Real, Str}
@@ -207,8 +207,8 @@ module _ (t u : Bytes) (m line within kind bits d : ℕ) (f : EntryRoom t m line
   each-new : (n : ℕ) → line ≤ n → within ≤ n → ((i : ℕ) → i < m → EntryBounds t n i) → (i : ℕ) → i < m + 1 → EntryBounds u n i
   each-new n p q each i h = ⊎-elim (λ (x : i ≡ m). subst (EntryBounds u n) (sym x) (entry-new n p q)) (λ (x : i < m). each-same (entries-below table-kept) each i x) (eq-or-lt-of-le (omega arith))
 
-  digests-new : (s : Bytes) (n : ℕ) → d ≡ digest (firstField s line) → ConstsLogged s t n m → (i : ℕ) → i < m + 1 → constDigestOf u i ≡ digest (firstField s (constLineOf u i))
-  digests-new s n e l i h = ⊎-elim (λ (x : i ≡ m). rw (x, digest-here, line-here) e) (λ (x : i < m). digests-same (entries-below table-kept) (l .each) s (l .digests) i x) (eq-or-lt-of-le (omega arith))
+  digests-new : (s : Bytes) (n : ℕ) → d ≡ constDigest s within (firstField s line) → ConstsLogged s t n m → (i : ℕ) → i < m + 1 → constDigestOf u i ≡ constDigest s (moduleLineOf u i) (firstField s (constLineOf u i))
+  digests-new s n e l i h = ⊎-elim (λ (x : i ≡ m). rw (x, digest-here, within-here, line-here) e) (λ (x : i < m). digests-same (entries-below table-kept) (l .each) s (l .digests) i x) (eq-or-lt-of-le (omega arith))
 
   log-new : (v : Option Tree.ConstVal) → valueBy u kind bits ≡ v → (s : Bytes) (n : ℕ) → ConstsLogged s t n m → logIn s u (m + 1) ≡ entries (sheetSource s .implement) (moduleAt s within) (firstField s line) v ++ logIn s t m
   unfolding logIn entriesAt
@@ -232,7 +232,7 @@ module _ (t u : Bytes) (m line within kind bits d : ℕ) (f : EntryRoom t m line
       } in
       chained-kept same (omega arith)
 
-  entered : (v : Option Tree.ConstVal) → valueBy u kind bits ≡ v → (w : Bytes) → w ≡ linked u constChains m → (s : Bytes) (n : ℕ) → line ≤ n → within ≤ n → d ≡ digest (firstField s line) → ConstsLogged s t n m → Entered s t n m line within v w
+  entered : (v : Option Tree.ConstVal) → valueBy u kind bits ≡ v → (w : Bytes) → w ≡ linked u constChains m → (s : Bytes) (n : ℕ) → line ≤ n → within ≤ n → d ≡ constDigest s within (firstField s line) → ConstsLogged s t n m → Entered s t n m line within v w
   entered v e w j s n p q hd l =
       let bounds = each-new n p q (l .each) in
       let same = linked-entries u m (f .few) in
@@ -251,7 +251,7 @@ module _ (t u : Bytes) (m line within kind bits d : ℕ) (f : EntryRoom t m line
       })
 
 module _ (t w : Bytes) (m line within d : ℕ) (f : EntryRoom t m line within) where
-  pub entered-failed : w ≡ linked (over t (5120 + 16 * m) (entryOf line within 0 0 d)) constChains m → (s : Bytes) (n : ℕ) → line ≤ n → within ≤ n → d ≡ digest (firstField s line) → ConstsLogged s t n m → Entered s t n m line within none w
+  pub entered-failed : w ≡ linked (over t (5120 + 16 * m) (entryOf line within 0 0 d)) constChains m → (s : Bytes) (n : ℕ) → line ≤ n → within ≤ n → d ≡ constDigest s within (firstField s line) → ConstsLogged s t n m → Entered s t n m line within none w
   entered-failed e =
       let u = over t (5120 + 16 * m) (entryOf line within 0 0 d) in
       entered t u m line within 0 0 d f [] (omega arith) (ap (λ (x : Bytes). over x (5120 + 16 * m) (entryOf line within 0 0 d)) (over-none t (16384 + 256 * m))) (omega arith) (omega arith) (λ k. absurd (omega arith))
@@ -260,7 +260,7 @@ module _ (t w : Bytes) (m line within d : ℕ) (f : EntryRoom t m line within) w
   -- a value, by its variant
   pub entered-value : (v : ConstVal) → At 49152 v
       → (w ≡ linked (over (over t (16384 + 256 * m) (stringOf t v)) (5120 + 16 * m) (entryOf line within (kindFor v) (bitsFor (movedTo (16384 + 256 * m) v)) d)) constChains m) × InRange v
-      → (s : Bytes) (n : ℕ) → line ≤ n → within ≤ n → d ≡ digest (firstField s line) → ConstsLogged s t n m → Entered s t n m line within (some (valueIn t v)) w
+      → (s : Bytes) (n : ℕ) → line ≤ n → within ≤ n → d ≡ constDigest s within (firstField s line) → ConstsLogged s t n m → Entered s t n m line within (some (valueIn t v)) w
   unfolding valueIn wrap
   entered-value (Int z) a (e, r) =
       let u = over (over t (16384 + 256 * m) []) (5120 + 16 * m) (entryOf line within 1 (bits64 z) d) in

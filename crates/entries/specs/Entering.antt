@@ -7,7 +7,7 @@ use Rattle.values.specs.declared.ConstVal.{ConstVal}
 use Rattle.values.specs.declared.ConstVal.the-variants.{Int, Real, Str}
 use Rattle.values.specs.Values.{stringIn}
 
--- the bytes of an entry: the `con` line, its module's line, the kind, the bits and the name's digest
+-- the bytes of an entry: the `con` line, its module's line, the kind, the bits and the digest
 unfoldable pub entryOf : ℕ → ℕ → ℕ → ℕ → ℕ → Bytes
 entryOf line within kind bits d = line % 256 ∷ (line / 256 ∷ (within % 256 ∷ (within / 256 ∷ (kind ∷ (bigEndian 8 bits ++ (d ∷ []))))))
 

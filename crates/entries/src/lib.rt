@@ -12,7 +12,7 @@ ghost use Rattle.names.specs.Table.{constChains};
 ghost use Rattle.values.specs.Values.{kindFor, bitsFor, InRange, At};
 ghost use Rattle.entries.specs.Entering.{entryOf, movedTo, stringOf, EntryRoom};
 
-// The bytes of entry m: a `con` line, its module's line, a slot, and the digest of the name.
+// The bytes of entry m: a `con` line, its module's line, a slot, and a digest.
 fn put_bytes(work: &mut [u8], m: usize, line: usize, within: usize, kind: u8, bits: u64, d: usize)
     requires { ⌜ (EntryRoom (now work) m line within) × (d < 256) ⌝ }
     ensures { λ _. ⌜ now (work .exit) ≡ over (now (work .entry)) (5120 + 16 * m) (entryOf line within kind bits d) ⌝ }
@@ -55,7 +55,7 @@ fn keep_string(work: &mut [u8], v: ConstVal, m: usize) -> ConstVal
     }
 }
 
-// A constant that has a value; d is the digest of its name.
+// A constant that has a value; d is its digest.
 pub fn enter(work: &mut [u8], m: usize, line: usize, within: usize, v: ConstVal, d: usize)
     requires { ⌜ (EntryRoom (now work) m line within) × (At 49152 v) × (d < 256) ⌝ }
     ensures { λ _. ⌜ (now (work .exit) ≡ linked (over (over (now (work .entry)) (16384 + 256 * m) (stringOf (now (work .entry)) v)) (5120 + 16 * m) (entryOf line within (kindFor v) (bitsFor (movedTo (16384 + 256 * m) v)) d)) constChains m) × (InRange v) ⌝ }

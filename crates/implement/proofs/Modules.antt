@@ -13,7 +13,7 @@ use Rattle.semantics.specs.Text.{Bytes, same}
 use Rattle.semantics.specs.Tree.{Declares}
 use Rattle.semantics.specs.Form as Form
 use Rattle.semantics.specs.Sheet.{Source, opened, openAfter, sheetSource, firstOf}
-use Rattle.semantics.specs.Const.{implements}
+use Rattle.semantics.specs.Fold.{sameOption}
 use Rattle.form.specs.Table.{kindAt}
 use Rattle.semantics.proofs.Common.{both}
 use Rattle.lines.specs.Lines.{textAt, readAt, nodesIn, formAt}
@@ -62,23 +62,21 @@ module _ (s t : Bytes) (n : ℕ) (c : Checked s t n) where
       go true = refl
       go false = refl
 
-  -- the module of line k, by line 1
-  module _ (k : ℕ) (p : 0 < k) (h : k ≤ n) where
-    module-some : (j : ℕ) → 0 < j → moduleAt s j ≡ some (record { name = firstField s j; line = j })
-    unfolding moduleAt
-    module-some zero q = absurd (omega arith)
-    module-some (suc j) q = refl
+  -- whether a name is that of the implemented module
+  module _ (q : Bytes) where
+    pub implemented-none : n ≡ 0 → false ≡ sameOption (sheetSource s .implement) (some q)
+    unfolding declaredTo
+    implemented-none z =
+        let e : length (nodesIn s) ≡ 0 = node-count s t n (c .whole) ∙ z in
+        let f : sheetSource s .implement ≡ none = ap (λ (o : Source). o .implement) (source-of s) ∙ ap firstOf (declared-all (λ (d : Declares). d .implements) (nodesIn s) ∙ ap (declaredTo (λ (d : Declares). d .implements) (nodesIn s)) e) in
+        rw f
 
-    module _ (f x : ℕ) (hf : f ≡ formAt t 0) (hx : x ≡ kindAt f) where
-      pub implements-not : (x ≡ 73 → ⊥) → implements (sheetSource s .implement) (moduleAt s k) ≡ false
-      implements-not z = rw (module-some k p, implement-is (omega arith), ← kind-by s t n c 0 (omega arith) hf hx, ne-eqb x 73 z)
+    module _ (h : 0 < n) {f x : ℕ} (hf : f ≡ formAt t 0) (hx : x ≡ kindAt f) where
+      pub implemented-not : (x ≡ 73 → ⊥) → false ≡ sameOption (sheetSource s .implement) (some q)
+      implemented-not z = rw (implement-is h, ← kind-by s t n c 0 h hf hx, ne-eqb x 73 z)
 
-      pub implements-by : x ≡ 73 → implements (sheetSource s .implement) (moduleAt s k) ≡ same (firstField s 1) (firstField s k)
-      implements-by z = rw (module-some k p, implement-is (omega arith), ← kind-by s t n c 0 (omega arith) hf hx, eq-eqb x 73 z)
-
-pub implements-none : (o : Option Bytes) (s : Bytes) → implements o (moduleAt s 0) ≡ false
-unfolding moduleAt
-implements-none o s = refl
+      pub implemented-by : x ≡ 73 → same (firstField s 1) q ≡ sameOption (sheetSource s .implement) (some q)
+      implemented-by z = rw (implement-is h, ← kind-by s t n c 0 h hf hx, eq-eqb x 73 z)
 
 -- ---- the open module
 
@@ -108,7 +106,7 @@ unfolding moduleAt
 own-outside s zero e = refl
 own-outside s (suc k) e = absurd (omega arith)
 
-pub own-within : (s : Bytes) (k : ℕ) {b : Bool} → (k ≡ 0 → ⊥) → b ≡ implements (sheetSource s .implement) (moduleAt s k) → b ≡ isOwn s k
+pub own-within : (s : Bytes) (k : ℕ) {b : Bool} → (k ≡ 0 → ⊥) → b ≡ sameOption (sheetSource s .implement) (some (firstField s k)) → b ≡ isOwn s k
 unfolding moduleAt
 own-within s zero z e = absurd (z refl)
 own-within s (suc k) z e = e

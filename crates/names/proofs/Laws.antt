@@ -1,6 +1,6 @@
 -- Laws of the table of constants.
 use mathlib.Core.Path.{_≡_, refl, sym, ap, _∙_}
-use mathlib.Core.Bool.{Bool, true, false, cond, not, _&&_, _||_}
+use mathlib.Core.Bool.{Bool, true, false, cond, not, _&&_, _||_, false≢true}
 use mathlib.Core.List.{List, [], _∷_, _++_}
 use mathlib.Core.Option.{Option, none, some}
 use Prim.Native.Nat.{ℕ, zero, suc, _+_, _-_, _*_, _/_, _%_, _≤_, _<_}
@@ -19,12 +19,12 @@ use Rattle.semantics.specs.Const.{entries}
 use Rattle.semantics.proofs.Common.{both}
 use Rattle.chains.specs.Chains.{newestOf, chainOf, digestPlace, headAt, chainAt, inChain, ChainRoom, newestIn, earlierThan, Chained, linked}
 use Rattle.chains.proofs.Laws.{newest-low, newest-most, earlier-less, Along, along-from, along-found, along-next, along-end, chained-kept, PlacesApart, linked-outside}
-use Rattle.words.specs.Words.{digest, u16At, bitsAt}
-use Rattle.words.proofs.Laws.{digest-same, digest-apart}
+use Rattle.words.specs.Words.{digestFrom, digest, u16At, bitsAt}
+use Rattle.laws.proofs.Tests.{same-eq}
 use Rattle.implement.specs.Modules.{firstField, moduleAt, ownIn, isOwn}
 use Rattle.checks.specs.Checks.{Kept, Outside, Checked}
 use Rattle.checks.proofs.Kept.{kept-at, kept-less}
-use Rattle.names.specs.Table.{constLineOf, moduleLineOf, valueBy, slotValue, kindOf, bitsOf, constDigestOf, constChains, entriesAt, logIn, EntryBounds, ConstsLogged, ConstTable, ConstEntry, found, hasKey, answersPlain, answersQualified, Answered, Looked}
+use Rattle.names.specs.Table.{constLineOf, moduleLineOf, valueBy, slotValue, kindOf, bitsOf, constDigestOf, constChains, qualifiedDigest, constDigest, entriesAt, logIn, EntryBounds, ConstsLogged, ConstTable, ConstEntry, found, hasKey, answersPlain, answersQualified, Answered, Looked}
 
 -- ---- a slot by its kind and bits
 
@@ -192,23 +192,66 @@ earlier-asked c h = (table-placed c, omega (arith, c .logged .few))
 pub answered : {s t : Bytes} {n m : ℕ} → ConstsLogged s t n m → Checked s t n → {r : ℕ} → r ≤ m → Answered t r
 answered l c h = record { few = omega (arith, l .few); long = c .whole .room; text = λ i e q. l .each i (omega arith) .text q }
 
--- names with different digests are different
-pub named-apart : {s t : Bytes} {n i d : ℕ} (x : Bytes) → ConstEntry s t n i → d ≡ digest x → (constDigestOf t i ≡ d → ⊥) → false ≡ same x (firstField s (constLineOf t i))
-named-apart {s} {t} {i = i} x k e z = digest-apart x (firstField s (constLineOf t i)) (λ q. z (k .digested ∙ sym (e ∙ q)))
+-- ---- digests
 
--- entries that answer are in the chain of the name's digest
-module _ {s t : Bytes} {n m : ℕ} (c : ConstTable s t n m) (x : Bytes) {d : ℕ} (e : d ≡ digest x) where
-  named-member : (i : ℕ) → i < m → same x (firstField s (constLineOf t i)) ≡ true → inChain t constChains (chainOf d) i ≡ true
-  unfolding chainAt digestPlace
-  named-member i h q = eq-eqb (chainAt t constChains i) (chainOf d) (ap chainOf (c .logged .digests i h ∙ sym (e ∙ digest-same x (firstField s (constLineOf t i)) 0 q)))
+own-digest : (s : Bytes) (k : ℕ) (y : Bytes) → isOwn s k ≡ true → constDigest s k y ≡ digest y
+unfolding moduleAt constDigest qualifiedDigest
+own-digest s zero y h = refl
+own-digest s (suc k) y h = rw h
 
-  pub plain-member : (i : ℕ) → i < m → answersPlain s t i x ≡ true → inChain t constChains (chainOf d) i ≡ true
+in-digest : (s : Bytes) (k : ℕ) (q y : Bytes) → not (eqb k 0) && same q (firstField s k) ≡ true → constDigest s k y ≡ qualifiedDigest s q y
+unfolding constDigest
+in-digest s zero q y h = absurd (false≢true h)
+in-digest s (suc k) q y h = rw (same-eq q (firstField s (suc k)) (both (not (eqb (suc k) 0)) (same q (firstField s (suc k))) h .1))
+
+-- as they are worked out
+module _ (s q x : Bytes) {b : Bool} (e : b ≡ sameOption (sheetSource s .implement) (some q)) {d : ℕ} (h : d ≡ digest x) where
+  pub digest-implemented : b ≡ true → d ≡ qualifiedDigest s q x
+  unfolding qualifiedDigest
+  digest-implemented f = rw (← e, f) h
+
+  pub digest-of-both : b ≡ false → {r : ℕ} → r ≡ digestFrom d q → r ≡ qualifiedDigest s q x
+  unfolding qualifiedDigest
+  digest-of-both f g = rw (← e, f, ← h) g
+
+module _ (s : Bytes) (k : ℕ) (x : Bytes) {d : ℕ} where
+  pub digest-outside : k ≡ 0 → d ≡ digest x → d ≡ constDigest s k x
+  unfolding constDigest
+  digest-outside z e = rw z e
+
+  pub digest-within : (k ≡ 0 → ⊥) → {q : Bytes} → q ≡ firstField s k → d ≡ qualifiedDigest s q x → d ≡ constDigest s k x
+  unfolding constDigest
+  digest-within z {q} e h = go k z (h ∙ ap (λ (w : Bytes). qualifiedDigest s w x) e)
+    where
+      go : (j : ℕ) → (j ≡ 0 → ⊥) → d ≡ qualifiedDigest s (firstField s j) x → d ≡ constDigest s j x
+      go zero y g = absurd (y refl)
+      go (suc j) y g = g
+
+-- an entry that answers has the digest that is looked for
+module _ (s t : Bytes) (i : ℕ) (x : Bytes) where
+  pub plain-digested : answersPlain s t i x ≡ true → constDigest s (moduleLineOf t i) (firstField s (constLineOf t i)) ≡ digest x
   unfolding answersPlain
-  plain-member i h q = named-member i h (both (same x (firstField s (constLineOf t i))) (isOwn s (moduleLineOf t i)) q .0)
+  plain-digested e =
+      let w = both (same x (firstField s (constLineOf t i))) (isOwn s (moduleLineOf t i)) e in
+      own-digest s (moduleLineOf t i) (firstField s (constLineOf t i)) (w .1) ∙ ap digest (sym (same-eq x (firstField s (constLineOf t i)) (w .0)))
 
-  pub qualified-member : (w : Bytes) (i : ℕ) → i < m → answersQualified s t i w x ≡ true → inChain t constChains (chainOf d) i ≡ true
+  pub qualified-digested : (q : Bytes) → answersQualified s t i q x ≡ true → constDigest s (moduleLineOf t i) (firstField s (constLineOf t i)) ≡ qualifiedDigest s q x
   unfolding answersQualified
-  qualified-member w i h q = named-member i h (both (same x (firstField s (constLineOf t i))) (not (eqb (moduleLineOf t i) 0) && same w (firstField s (moduleLineOf t i))) q .0)
+  qualified-digested q e =
+      let w = both (same x (firstField s (constLineOf t i))) (not (eqb (moduleLineOf t i) 0) && same q (firstField s (moduleLineOf t i))) e in
+      in-digest s (moduleLineOf t i) q (firstField s (constLineOf t i)) (w .1) ∙ ap (qualifiedDigest s q) (sym (same-eq x (firstField s (constLineOf t i)) (w .0)))
+
+-- so it is in the chain of that digest
+module _ {s t : Bytes} {n m : ℕ} (c : ConstTable s t n m) {d : ℕ} where
+  member : (i : ℕ) → i < m → constDigest s (moduleLineOf t i) (firstField s (constLineOf t i)) ≡ d → inChain t constChains (chainOf d) i ≡ true
+  unfolding chainAt digestPlace
+  member i h e = eq-eqb (chainAt t constChains i) (chainOf d) (ap chainOf (c .logged .digests i h ∙ e))
+
+  pub plain-member : (x : Bytes) → d ≡ digest x → (i : ℕ) → i < m → answersPlain s t i x ≡ true → inChain t constChains (chainOf d) i ≡ true
+  plain-member x e i h q = member i h (plain-digested s t i x q ∙ sym e)
+
+  pub qualified-member : (w x : Bytes) → d ≡ qualifiedDigest s w x → (i : ℕ) → i < m → answersQualified s t i w x ≡ true → inChain t constChains (chainOf d) i ≡ true
+  qualified-member w x e i h q = member i h (qualified-digested s t i x w q ∙ sym e)
 
 -- where it begins
 module _ {s t : Bytes} {n m : ℕ} (c : ConstTable s t n m) (d : ℕ) {r : ℕ} where
@@ -234,28 +277,43 @@ module _ {t : Bytes} {k n newest : ℕ} {answers : ℕ → Bool} where
   pub asking-end : {i : ℕ} → i ≡ 0 → Asking t k n newest answers i → (m : ℕ) → m ≤ n → newest ≡ newestOf (inChain t constChains k) m → 0 ≡ newestOf answers m
   asking-end z a m l x = along-end z (a .along m l x)
 
--- which entries answer, as it is tested
-module _ (s t : Bytes) (i : ℕ) (x : Bytes) {b : Bool} (name : b ≡ same x (firstField s (constLineOf t i))) where
-  pub plain-other : not b ≡ true → false ≡ answersPlain s t i x
-  unfolding answersPlain
-  plain-other f = rw (← name, not-true b f)
+-- which entries answer, as it is tested: whether an entry has the digest d, and then whether it has the name
+module _ (D d : ℕ) (a o : Bool) {b : Bool} (e : b ≡ eqb D d && a) where
+  untold : (a && o ≡ true → D ≡ d) → not b ≡ true → false ≡ a && o
+  untold h f = go (a && o) refl
+    where
+      go : (r : Bool) → a && o ≡ r → false ≡ r
+      go false q = refl
+      go true q = absurd (false≢true (sym (not-true b f) ∙ e ∙ rw (eq-eqb D d (h q), both a o q .0)))
 
-  pub qualified-other : (q : Bytes) → not b ≡ true → false ≡ answersQualified s t i q x
-  unfolding answersQualified
-  qualified-other q f = rw (← name, not-true b f)
+  told : not b ≡ false → a ≡ true
+  told f = both (eqb D d) a (sym e ∙ not-false b f) .1
+
+module _ (s t : Bytes) (i d : ℕ) (x : Bytes) {b : Bool} (name : b ≡ eqb (constDigestOf t i) d && same x (firstField s (constLineOf t i))) where
+  module _ {n : ℕ} (k : ConstEntry s t n i) (f : not b ≡ true) where
+    pub plain-other : d ≡ digest x → false ≡ answersPlain s t i x
+    unfolding answersPlain
+    plain-other e = untold (constDigestOf t i) d (same x (firstField s (constLineOf t i))) (isOwn s (moduleLineOf t i)) name (λ q. k .digested ∙ plain-digested s t i x q ∙ sym e) f
+
+    pub qualified-other : (q : Bytes) → d ≡ qualifiedDigest s q x → false ≡ answersQualified s t i q x
+    unfolding answersQualified
+    qualified-other q e = untold (constDigestOf t i) d (same x (firstField s (constLineOf t i))) (not (eqb (moduleLineOf t i) 0) && same q (firstField s (moduleLineOf t i))) name (λ h. k .digested ∙ qualified-digested s t i x q h ∙ sym e) f
 
   module _ (f : not b ≡ false) {j : ℕ} (within : j ≡ moduleLineOf t i) where
+    named : same x (firstField s (constLineOf t i)) ≡ true
+    named = told (constDigestOf t i) d (same x (firstField s (constLineOf t i))) true name f
+
     pub plain-own : {r : Bool} → r ≡ isOwn s j → r ≡ answersPlain s t i x
     unfolding answersPlain
-    plain-own e = rw (← name, not-false b f, ← within) e
+    plain-own e = rw (named, ← within) e
 
     pub qualified-top : (q : Bytes) → j ≡ 0 → false ≡ answersQualified s t i q x
     unfolding answersQualified
-    qualified-top q z = rw (← name, not-false b f, ← within, eq-eqb j 0 z)
+    qualified-top q z = rw (named, ← within, eq-eqb j 0 z)
 
     pub qualified-in : (q : Bytes) → (j ≡ 0 → ⊥) → {r : Bool} → r ≡ same q (firstField s j) → r ≡ answersQualified s t i q x
     unfolding answersQualified
-    qualified-in q z {r} e = rw (← name, not-false b f, ← within, ne-eqb j 0 z) e
+    qualified-in q z {r} e = rw (named, ← within, ne-eqb j 0 z) e
 
 -- ---- what is kept
 
@@ -332,8 +390,8 @@ module _ {t u : Bytes} {n m : ℕ} (w : (i : ℕ) → i < m → SameEntry t u i)
   pub each-same : (i : ℕ) → i < m → EntryBounds u n i
   each-same i h = entry-kept n i (w i h) (each i h)
 
-  pub digests-same : (s : Bytes) → ((i : ℕ) → i < m → constDigestOf t i ≡ digest (firstField s (constLineOf t i))) → (i : ℕ) → i < m → constDigestOf u i ≡ digest (firstField s (constLineOf u i))
-  digests-same s d i h = rw (digest-kept n i (w i h) (each i h), line-kept n i (w i h) (each i h)) (d i h)
+  pub digests-same : (s : Bytes) → ((i : ℕ) → i < m → constDigestOf t i ≡ constDigest s (moduleLineOf t i) (firstField s (constLineOf t i))) → (i : ℕ) → i < m → constDigestOf u i ≡ constDigest s (moduleLineOf u i) (firstField s (constLineOf u i))
+  digests-same s d i h = rw (digest-kept n i (w i h) (each i h), module-kept n i (w i h) (each i h), line-kept n i (w i h) (each i h)) (d i h)
 
   module _ (s : Bytes) (same : (i : ℕ) → i < m → SameText t u i) where
     log-upto : (k : ℕ) → k ≤ m → logIn s u k ≡ logIn s t k

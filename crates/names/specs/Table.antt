@@ -1,6 +1,6 @@
 -- The table of constants in the working space, and the log that it holds.
 -- Entry i takes 16 bytes from 5120 + 16 i: the `con` line and its module's line, 0 for none, two bytes each, the low one first; a slot;
--- the digest of the constant's name; its link, and the head of chain i.
+-- the constant's digest; its link, and the head of chain i.
 -- A slot is a kind and 8 bytes, the highest first: 0 failed, 1 an integer's bits, 2 a real's, 3 a string's place + 65536 times its length.
 use Prim.Native.Nat.{ℕ, zero, suc, _+_, _*_, _/_, _%_, _≤_, _<_}
 use mathlib.Core.Path.{_≡_}
@@ -14,11 +14,11 @@ use Rattle.semantics.specs.Text.{Bytes, same, any}
 use Rattle.semantics.specs.Tree.{ConstVal}
 use Rattle.semantics.specs.Tree.ConstVal.{vInt, vReal, vStr}
 use Rattle.semantics.specs.Sheet.{sheetSource}
-use Rattle.semantics.specs.Fold.{Key, Const, Names, signed64, sameKey, lookUp, valueOf}
+use Rattle.semantics.specs.Fold.{Key, Const, Names, signed64, sameOption, sameKey, lookUp, valueOf}
 use Rattle.semantics.specs.Const.{entries}
 use Rattle.chains.specs.declared.ChainPlaces.{ChainPlaces}
 use Rattle.chains.specs.Chains.{newestOf, Chained}
-use Rattle.words.specs.Words.{digest, u16At, bitsAt}
+use Rattle.words.specs.Words.{digestFrom, digest, u16At, bitsAt}
 use Rattle.implement.specs.Modules.{firstField, moduleAt, isOwn}
 use Rattle.checks.specs.Checks.{Checked}
 
@@ -48,13 +48,22 @@ kindOf t i = getD t (5124 + 16 * i) 0
 abbrev pub bitsOf : Bytes → ℕ → ℕ
 bitsOf t i = bitsAt t (5125 + 16 * i)
 
--- the digest of entry i's name, by which look-ups pass over other names
+-- the digest of entry i, by which look-ups pass over others
 abbrev pub constDigestOf : Bytes → ℕ → ℕ
 constDigestOf t i = getD t (5133 + 16 * i) 0
 
 -- where the digests, links and heads stand
 abbrev pub constChains : ChainPlaces
 constChains = record { at = 5133; gap = 1; step = 16 }
+
+-- the digest for a module and a name: the module counts unless it is implemented, since the names of that one are also plain
+unfoldable pub qualifiedDigest : Bytes → Bytes → Bytes → ℕ
+qualifiedDigest s q x = cond (sameOption (sheetSource s .implement) (some q)) (digest x) (digestFrom (digest x) q)
+
+-- the digest for a name in the module of line k, in none for 0
+unfoldable pub constDigest : Bytes → ℕ → Bytes → ℕ
+constDigest s zero x = digest x
+constDigest s (suc k) x = qualifiedDigest s (firstField s (suc k)) x
 
 -- ---- the log
 
@@ -85,11 +94,11 @@ pub record EntryBounds (t : Bytes) (n i : ℕ) : Type 0 where
   pub text : kindOf t i ≡ 3 → StringPlace (bitsOf t i)
   pub own : kindOf t i ≡ 3 → bitsOf t i % 65536 ≡ 16384 + 256 * i
 
--- the table's m entries, each with the digest of its constant's name, and chained by it
+-- the table's m entries, each with the digest of its constant, and chained by it
 pub record ConstsLogged (s t : Bytes) (n m : ℕ) : Type 0 where
   pub few : m ≤ 128
   pub each : (i : ℕ) → i < m → EntryBounds t n i
-  pub digests : (i : ℕ) → i < m → constDigestOf t i ≡ digest (firstField s (constLineOf t i))
+  pub digests : (i : ℕ) → i < m → constDigestOf t i ≡ constDigest s (moduleLineOf t i) (firstField s (constLineOf t i))
   pub chained : Chained t constChains m
 
 -- the table of a checked sheet has m entries
@@ -102,7 +111,7 @@ pub record ConstEntry (s t : Bytes) (n i : ℕ) : Type 0 where
   pub checked : Checked s t n
   pub low : i < 128
   pub entry : EntryBounds t n i
-  pub digested : constDigestOf t i ≡ digest (firstField s (constLineOf t i))
+  pub digested : constDigestOf t i ≡ constDigest s (moduleLineOf t i) (firstField s (constLineOf t i))
 
 -- what a look-up answers: 0 for no constant, else the entry's number from 1
 unfoldable pub found : Bytes → ℕ → Option ConstVal

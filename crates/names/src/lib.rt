@@ -2,7 +2,9 @@
 use chains::ChainPlaces;
 use codes::area;
 ghost use mathlib.Core.Path.{_≡_};
+ghost use mathlib.Core.Bool.{true, _&&_};
 ghost use Prim.Native.Nat.{ℕ, _+_, _≤_, _<_};
+ghost use lib.Dec.{eqb};
 ghost use lib.ListN.{length};
 ghost use Rattle.semantics.specs.Text as Text;
 ghost use Rattle.semantics.specs.Fold.{plain, qualified};
@@ -10,7 +12,7 @@ ghost use Rattle.words.specs.Words.{digest};
 ghost use Rattle.chains.specs.Chains.{chainOf, inChain, newestOf};
 ghost use Rattle.implement.specs.Modules.{firstField};
 ghost use Rattle.checks.specs.Checks.{Checked};
-ghost use Rattle.names.specs.Table.{constLineOf, moduleLineOf, bitsOf, kindOf, constDigestOf, constChains, answersPlain, answersQualified, newestPlain, newestQualified, Looked, ConstTable, ConstEntry};
+ghost use Rattle.names.specs.Table.{constLineOf, moduleLineOf, bitsOf, kindOf, constDigestOf, constChains, qualifiedDigest, constDigest, answersPlain, answersQualified, newestPlain, newestQualified, Looked, ConstTable, ConstEntry};
 
 // How many lines the sheet has, and how many constants are known.
 pub struct Known {
@@ -57,12 +59,37 @@ pub fn slot_bits(work: &[u8], i: usize) -> u64
     words::bits_at(work, area::CONSTANTS + 5 + area::CONSTANT * i)
 }
 
-// The digest of its name.
+// Its digest.
 fn digest_of(work: &[u8], i: usize) -> usize
     requires { ⌜ (i < 128) × (65536 ≤ length (now work)) ⌝ }
     ensures { λ r. ⌜ r ≡ constDigestOf (now (work .entry)) i ⌝ }
 {
     words::wide(work[area::CONSTANTS + 13 + area::CONSTANT * i])
+}
+
+// The digest for a module and a name. Many modules may have one name, so the module counts too, unless it is implemented: the names
+// of that one are also plain.
+fn qualified_digest(sheet: &[u8], work: &[u8], n: usize, within: &[u8], name: &[u8]) -> usize
+    requires { ⌜ Checked (now sheet) (now work) n ⌝ }
+    ensures { λ r. ⌜ (r ≡ qualifiedDigest (now (sheet .entry)) (now (within .entry)) (now (name .entry))) × (r < 256) ⌝ }
+{
+    let d = words::digest(name);
+    if implement::is_implemented(sheet, work, n, within) {
+        return d;
+    }
+    words::digest_on(d, within)
+}
+
+// The digest for a name in the module of line k, in none for 0.
+pub fn const_digest(sheet: &[u8], work: &[u8], n: usize, k: usize, name: &[u8]) -> usize
+    requires { ⌜ (Checked (now sheet) (now work) n) × (k ≤ n) ⌝ }
+    ensures { λ r. ⌜ (r ≡ constDigest (now (sheet .entry)) k (now (name .entry))) × (r < 256) ⌝ }
+{
+    if k == 0 {
+        return words::digest(name);
+    }
+    let within = lines::field_at(sheet, work, n, k - 1, 0);
+    qualified_digest(sheet, work, n, within, name)
 }
 
 // Whether line k, a `con` or a `mod` line, has this name.
@@ -73,10 +100,10 @@ fn is_named(sheet: &[u8], work: &[u8], n: usize, k: usize, name: &[u8]) -> bool
     lines::first_is(sheet, work, n, k - 1, name)
 }
 
-// Whether the constant of entry i has this name, which has the digest d.
+// Whether entry i has this digest and its constant this name.
 fn has_name(sheet: &[u8], work: &[u8], n: usize, i: usize, name: &[u8], d: usize) -> bool
-    requires { ⌜ (ConstEntry (now sheet) (now work) n i) × (d ≡ digest (now name)) ⌝ }
-    ensures { λ r. ⌜ r ≡ Text.same (now (name .entry)) (firstField (now (sheet .entry)) (constLineOf (now (work .entry)) i)) ⌝ }
+    requires { ⌜ ConstEntry (now sheet) (now work) n i ⌝ }
+    ensures { λ r. ⌜ r ≡ eqb (constDigestOf (now (work .entry)) i) d && Text.same (now (name .entry)) (firstField (now (sheet .entry)) (constLineOf (now (work .entry)) i)) ⌝ }
 {
     if digest_of(work, i) != d {
         return false; // before the line is looked at
@@ -105,7 +132,7 @@ fn answers_qualified(
     name: &[u8],
     d: usize,
 ) -> bool
-    requires { ⌜ (ConstEntry (now sheet) (now work) n i) × (d ≡ digest (now name)) ⌝ }
+    requires { ⌜ (ConstEntry (now sheet) (now work) n i) × (d ≡ qualifiedDigest (now sheet) (now within) (now name)) ⌝ }
     ensures { λ r. ⌜ r ≡ answersQualified (now (sheet .entry)) (now (work .entry)) i (now (within .entry)) (now (name .entry)) ⌝ }
 {
     if !has_name(sheet, work, n, i, name, d) {
@@ -144,7 +171,7 @@ fn along_qualified(
     name: &[u8],
     d: usize,
 ) -> usize
-    requires { ⌜ (ConstTable (now sheet) (now work) (c .lines) (c .consts)) × (newest ≤ c .consts) × (d ≡ digest (now name)) ⌝ }
+    requires { ⌜ (ConstTable (now sheet) (now work) (c .lines) (c .consts)) × (newest ≤ c .consts) × (d ≡ qualifiedDigest (now sheet) (now within) (now name)) ⌝ }
     ensures { λ r. ⌜ ((m : ℕ) → m ≤ c .consts → newest ≡ newestOf (inChain (now (work .entry)) constChains (chainOf d)) m → r ≡ newestQualified (now (sheet .entry)) (now (work .entry)) m (now (within .entry)) (now (name .entry))) ⌝ }
 {
     let mut i = newest;
@@ -172,14 +199,14 @@ pub fn look_up_in(sheet: &[u8], work: &[u8], c: Known, within: &[u8], name: &[u8
     requires { ⌜ ConstTable (now sheet) (now work) (c .lines) (c .consts) ⌝ }
     ensures { λ r. ⌜ Looked (now (sheet .entry)) (now (work .entry)) (qualified (now (within .entry)) (now (name .entry))) (c .consts) (newestQualified (now (sheet .entry)) (now (work .entry)) (c .consts) (now (within .entry)) (now (name .entry))) r ⌝ }
 {
-    let d = words::digest(name);
+    let d = qualified_digest(sheet, work, c.lines, within, name);
     let newest = chains::newest(work, CHAINS, c.consts, d);
     along_qualified(sheet, work, c, newest, within, name, d)
 }
 
-// The newest constant before entry i of the plain name that entry i has.
+// The newest constant before entry i of the plain name by which entry i enters one.
 pub fn look_up_before(sheet: &[u8], work: &[u8], c: Known, i: usize, name: &[u8]) -> usize
-    requires { ⌜ (ConstTable (now sheet) (now work) (c .lines) (c .consts)) × (i < c .consts) × (now name ≡ firstField (now sheet) (constLineOf (now work) i)) ⌝ }
+    requires { ⌜ (ConstTable (now sheet) (now work) (c .lines) (c .consts)) × (i < c .consts) × (answersPlain (now sheet) (now work) i (now name) ≡ true) ⌝ }
     ensures { λ r. ⌜ Looked (now (sheet .entry)) (now (work .entry)) (plain (now (name .entry))) i (newestPlain (now (sheet .entry)) (now (work .entry)) i (now (name .entry))) r ⌝ }
 {
     let newest = chains::earlier(work, CHAINS, i);
@@ -195,7 +222,7 @@ pub fn look_up_in_before(
     within: &[u8],
     name: &[u8],
 ) -> usize
-    requires { ⌜ (ConstTable (now sheet) (now work) (c .lines) (c .consts)) × (i < c .consts) × (now name ≡ firstField (now sheet) (constLineOf (now work) i)) ⌝ }
+    requires { ⌜ (ConstTable (now sheet) (now work) (c .lines) (c .consts)) × (i < c .consts) × (answersQualified (now sheet) (now work) i (now within) (now name) ≡ true) ⌝ }
     ensures { λ r. ⌜ Looked (now (sheet .entry)) (now (work .entry)) (qualified (now (within .entry)) (now (name .entry))) i (newestQualified (now (sheet .entry)) (now (work .entry)) i (now (within .entry)) (now (name .entry))) r ⌝ }
 {
     let newest = chains::earlier(work, CHAINS, i);

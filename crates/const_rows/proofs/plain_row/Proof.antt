@@ -20,7 +20,10 @@ field-at-requires : tie.Need-field-at-requires
 field-at-requires c κs = let h = Laws.line-in (c .before .before .before .before .before .before .before .pre .0) (c .before .before .before .before .before .before .before .pre .1) (c .line-of .ensures) in (c .before .before .before .before .before .before .before .pre .0 .checked .whole, omega arith)
 
 look-up-before-requires : tie.Need-look-up-before-requires
-look-up-before-requires c κs = let p = c .before .before .before .before .before .before .before .before .pre in Laws.name-in (p .0) (p .1) (c .before .line-of .ensures) (c .field-at .ensures)
+look-up-before-requires c κs =
+    let a = c .before .before .before .before .before .before .before .before .args in
+    let p = c .before .before .before .before .before .before .before .before .pre in
+    (p .0, p .1, Laws.plain-itself (now (a .sheet)) (now (a .work)) (a .c .consts) (a .i) (c .before .before .before .before .module-line-of .ensures) (c .before .before .before .is-own .ensures) (c .before .before .if1 .left) (c .before .line-of .ensures) (c .field-at .ensures))
 
 returns-2 : tie.Need-returns-2
 returns-2 c = Laws.plain-old (now (c .before .before .before .before .before .before .before .before .before .before .args .sheet)) (now (c .before .before .before .before .before .before .before .before .before .before .args .work)) (c .before .before .before .before .before .before .before .before .before .before .args .c .consts) (c .before .before .before .before .before .before .before .before .before .before .args .i) (c .before .before .before .before .before .before .module-line-of .ensures) (c .before .before .before .before .before .is-own .ensures) (c .before .before .before .before .if1 .left) (c .before .before .before .line-of .ensures) (c .before .before .field-at .ensures) (c .before .look-up-before .result) (c .before .look-up-before .ensures .has) (c .if2 .taken) (c .before .before .before .before .before .before .before .before .before .before .pre .2)

@@ -20,7 +20,10 @@ field-at-requires-2 : tie.Need-field-at-requires-2
 field-at-requires-2 c κs = let h = Laws.line-in (c .before .before .before .before .before .before .before .pre .0) (c .before .before .before .before .before .before .before .pre .1) (c .line-of .ensures) in (c .before .before .before .before .before .before .before .pre .0 .checked .whole, omega arith)
 
 look-up-in-before-requires : tie.Need-look-up-in-before-requires
-look-up-in-before-requires c κs = let p = c .before .before .before .before .before .before .before .before .pre in Laws.name-in (p .0) (p .1) (c .before .line-of .ensures) (c .field-at2 .ensures)
+look-up-in-before-requires c κs =
+    let a = c .before .before .before .before .before .before .before .before .args in
+    let p = c .before .before .before .before .before .before .before .before .pre in
+    (p .0, p .1, Laws.qualified-itself (now (a .sheet)) (now (a .work)) (a .c .consts) (a .i) (c .before .before .before .before .module-line-of .ensures) (c .before .before .before .if1 .left) (c .before .before .field-at .ensures) (c .before .line-of .ensures) (c .field-at2 .ensures))
 
 returns-2 : tie.Need-returns-2
 returns-2 c = Laws.qualified-old (now (c .before .before .before .before .before .before .before .before .before .before .args .sheet)) (now (c .before .before .before .before .before .before .before .before .before .before .args .work)) (c .before .before .before .before .before .before .before .before .before .before .args .c .consts) (c .before .before .before .before .before .before .before .before .before .before .args .i) (c .before .before .before .before .before .before .module-line-of .ensures) (c .before .before .before .before .before .if1 .left) (c .before .before .before .before .field-at .ensures) (c .before .before .before .line-of .ensures) (c .before .before .field-at2 .ensures) (c .before .look-up-in-before .result) (c .before .look-up-in-before .ensures .has) (c .if2 .taken) (c .before .before .before .before .before .before .before .before .before .before .pre .2)

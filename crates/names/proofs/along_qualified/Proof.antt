@@ -18,7 +18,7 @@ abbrev μ-loop : tie.MeasureT-loop
 loop-holds : tie.Need-loop-holds Inv-loop μ-loop
 loop-holds c =
     let p = c .before .before .before .before .pre in
-    Laws.asking-first (p .0 .logged .chained) (p .1) (Laws.qualified-member (p .0) (now (c .before .before .before .before .args .name)) (p .2) (now (c .before .before .before .before .args .within)))
+    Laws.asking-first (p .0 .logged .chained) (p .1) (Laws.qualified-member (p .0) (now (c .before .before .before .before .args .within)) (now (c .before .before .before .before .args .name)) (p .2))
 
 answers-qualified-requires : tie.Need-answers-qualified-requires Inv-loop μ-loop
 answers-qualified-requires c κs =

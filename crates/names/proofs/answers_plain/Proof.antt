@@ -9,7 +9,7 @@ use Rattle.names.proofs.answers_plain.Tie as tie
 returns : tie.Need-returns
 returns c =
     let a = c .before .before .before .before .before .args in
-    Laws.plain-other (now (a .sheet)) (now (a .work)) (a .i) (now (a .name)) (c .before .has-name .ensures) (c .if1 .taken)
+    Laws.plain-other (now (a .sheet)) (now (a .work)) (a .i) (a .d) (now (a .name)) (c .before .has-name .ensures) (c .before .before .before .before .before .pre .0) (c .if1 .taken) (c .before .before .before .before .before .pre .1)
 
 is-own-requires : tie.Need-is-own-requires
 is-own-requires c κs =
@@ -19,7 +19,7 @@ is-own-requires c κs =
 returns-2 : tie.Need-returns-2
 returns-2 c =
     let a = c .before .before .before .before .before .before .before .args in
-    Laws.plain-own (now (a .sheet)) (now (a .work)) (a .i) (now (a .name)) (c .before .before .before .has-name .ensures) (c .before .before .if1 .left) (c .before .module-line-of .ensures) (c .is-own .ensures)
+    Laws.plain-own (now (a .sheet)) (now (a .work)) (a .i) (a .d) (now (a .name)) (c .before .before .before .has-name .ensures) (c .before .before .if1 .left) (c .before .module-line-of .ensures) (c .is-own .ensures)
 
 pub answers-plain-spec : {M : Type 1} → statement M
 answers-plain-spec =

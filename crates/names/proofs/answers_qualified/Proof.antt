@@ -9,12 +9,12 @@ use Rattle.names.proofs.answers_qualified.Tie as tie
 returns : tie.Need-returns
 returns c =
     let a = c .before .before .before .before .before .before .args in
-    Laws.qualified-other (now (a .sheet)) (now (a .work)) (a .i) (now (a .name)) (c .before .has-name .ensures) (now (a .within)) (c .if1 .taken)
+    Laws.qualified-other (now (a .sheet)) (now (a .work)) (a .i) (a .d) (now (a .name)) (c .before .has-name .ensures) (c .before .before .before .before .before .before .pre .0) (c .if1 .taken) (now (a .within)) (c .before .before .before .before .before .before .pre .1)
 
 returns-2 : tie.Need-returns-2
 returns-2 c =
     let a = c .before .before .before .before .before .before .before .before .args in
-    Laws.qualified-top (now (a .sheet)) (now (a .work)) (a .i) (now (a .name)) (c .before .before .before .has-name .ensures) (c .before .before .if1 .left) (c .before .module-line-of .ensures) (now (a .within)) (c .if2 .taken)
+    Laws.qualified-top (now (a .sheet)) (now (a .work)) (a .i) (a .d) (now (a .name)) (c .before .before .before .has-name .ensures) (c .before .before .if1 .left) (c .before .module-line-of .ensures) (now (a .within)) (c .if2 .taken)
 
 is-named-requires : tie.Need-is-named-requires
 is-named-requires c κs =
@@ -24,7 +24,7 @@ is-named-requires c κs =
 returns-3 : tie.Need-returns-3
 returns-3 c =
     let a = c .before .before .before .before .before .before .before .before .before .args in
-    Laws.qualified-in (now (a .sheet)) (now (a .work)) (a .i) (now (a .name)) (c .before .before .before .before .has-name .ensures) (c .before .before .before .if1 .left) (c .before .before .module-line-of .ensures) (now (a .within)) (c .before .if2 .left) (c .is-named .ensures)
+    Laws.qualified-in (now (a .sheet)) (now (a .work)) (a .i) (a .d) (now (a .name)) (c .before .before .before .before .has-name .ensures) (c .before .before .before .if1 .left) (c .before .before .module-line-of .ensures) (now (a .within)) (c .before .if2 .left) (c .is-named .ensures)
 
 pub answers-qualified-spec : {M : Type 1} → statement M
 answers-qualified-spec =

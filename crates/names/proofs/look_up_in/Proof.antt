@@ -10,12 +10,12 @@ newest-requires : tie.Need-newest-requires
 newest-requires c κs = Laws.table-placed (c .before .before .before .before .before .pre)
 
 along-qualified-requires : tie.Need-along-qualified-requires
-along-qualified-requires c κs = let p = c .before .before .before .before .before .before .pre in (p, Laws.newest-within p (c .before .digest .result) (c .newest .ensures) .0, c .before .digest .ensures .0)
+along-qualified-requires c κs = let p = c .before .before .before .before .before .before .pre in (p, Laws.newest-within p (c .before .qualified-digest .result) (c .newest .ensures) .0, c .before .qualified-digest .ensures .0)
 
 returns : tie.Need-returns
 returns c =
     let a = c .before .before .before .before .before .before .before .args in
-    Laws.looked (Laws.answers-qualified (now (a .sheet)) (now (a .work)) (now (a .within)) (now (a .name))) (c .along-qualified .ensures (a .c .consts) (omega arith) (Laws.newest-within (c .before .before .before .before .before .before .before .pre) (c .before .before .digest .result) (c .before .newest .ensures) .1))
+    Laws.looked (Laws.answers-qualified (now (a .sheet)) (now (a .work)) (now (a .within)) (now (a .name))) (c .along-qualified .ensures (a .c .consts) (omega arith) (Laws.newest-within (c .before .before .before .before .before .before .before .pre) (c .before .before .qualified-digest .result) (c .before .newest .ensures) .1))
 
 pub look-up-in-spec : {M : Type 1} → statement M
 look-up-in-spec = tie.close (tie.spec (λ c κs. search needs) newest-requires along-qualified-requires returns)
