@@ -5,6 +5,8 @@
     largest()             -> such a sheet of 1,024 lines and 65,534 bytes
     lookups(quarters)     -> tables that are full at four quarters, and names that
                              begin alike
+    modules(count)        -> so many modules that each have a constant of one name,
+                             as Limbo's have PATH, and a global for each
     blocks(count)         -> so many needs of blocks that differ in the last offset
     one_digest()          -> look-ups at their worst: full tables of names that have
                              one digest
@@ -117,6 +119,20 @@ def lookups(quarters):
     for line in range(4 * quarters):
         names = [f"{'g' * 9}{16 * line + name:03}" for name in range(16)]
         build.put("var", build.put("ty", "int"), build.put("ex", "int", 7), len(names), *names)
+    return build.sheet()
+
+
+def modules(count):
+    """At most 127 modules."""
+    build = Build()
+    build.put("impl", "Client")
+    for number in range(count):
+        build.put("mod", f"Module{number:03}")
+        build.put("con", "PATH", 1, 1, build.put("ex", "str", hex_text(f"/dis/lib/module{number:03}.dis")))
+        build.put("end")
+    for number in range(count):
+        value = build.put("ex", "qual", build.put("ex", "id", f"Module{number:03}"), "PATH")
+        build.put("var", build.put("ty", "string"), value, 1, f"path{number:03}")
     return build.sheet()
 
 

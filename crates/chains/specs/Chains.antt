@@ -36,7 +36,7 @@ chainAt t c i = chainOf (getD t (digestPlace c i) 0)
 abbrev pub inChain : Bytes → ChainPlaces → ℕ → ℕ → Bool
 inChain t c k i = eqb (chainAt t c i) k
 
--- the table lies in the working space, with room for 256 entries
+-- the places that 256 entries would have lie in the working space
 pub record ChainRoom (t : Bytes) (c : ChainPlaces) : Type 0 where
   pub low : (i : ℕ) → i < 256 → digestPlace c i + c .gap + c .gap < 65536
   pub long : 65536 ≤ length t

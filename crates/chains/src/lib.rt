@@ -65,7 +65,8 @@ fn entry_below(work: &[u8], c: ChainPlaces, m: usize, k: usize, j: usize) -> usi
     j + 1
 }
 
-// The newest of m entries that is of the chain of the digest d: its number from 1, 0 for none.
+// The entry, of m, that the head of the chain of the digest d leads to: its number from 1, 0 for none. Where the table is chained, it
+// is the newest of that chain.
 pub fn newest(work: &[u8], c: ChainPlaces, m: usize, d: usize) -> usize
     requires { ⌜ ChainRoom (now work) c ⌝ }
     ensures { λ r. ⌜ r ≡ newestIn (now (work .entry)) c m (chainOf d) ⌝ }
@@ -74,7 +75,7 @@ pub fn newest(work: &[u8], c: ChainPlaces, m: usize, d: usize) -> usize
     entry_below(work, c, m, k, head_at(work, c, k))
 }
 
-// The newest of the entries before i that is of the chain of i.
+// The entry that the link of entry i leads to. Where the table is chained, it is the newest of the chain before i.
 pub fn earlier(work: &[u8], c: ChainPlaces, i: usize) -> usize
     requires { ⌜ (ChainRoom (now work) c) × (i < 256) ⌝ }
     ensures { λ r. ⌜ r ≡ earlierThan (now (work .entry)) c i ⌝ }
@@ -82,7 +83,7 @@ pub fn earlier(work: &[u8], c: ChainPlaces, i: usize) -> usize
     entry_below(work, c, i, chain_at(work, c, i), link_at(work, c, i))
 }
 
-// Entry m, which has its digest, becomes the newest of its chain.
+// Entry m, which has its digest, becomes the head of its chain.
 pub fn link(work: &mut [u8], c: ChainPlaces, m: usize)
     requires { ⌜ (ChainRoom (now work) c) × (m < 256) ⌝ }
     ensures { λ _. ⌜ now (work .exit) ≡ linked (now (work .entry)) c m ⌝ }

@@ -18,8 +18,8 @@ pub const GLOBALS: usize = 7168;
 pub const RECORDS: usize = 9216;
 
 // For each need its line from 0, low and high byte, and the position of its key among the distinct keys; for each kind of element 0
-// where it is not used, or its position plus 1; for each need the digest of its line's text; from 10880 on for each need its link, and
-// from 11008 on the heads of 128 chains of needs.
+// where it is not used, or its position plus 1; for each need the digest of its line's text, its link 128 bytes after that, and the
+// head of a chain 128 bytes after the link.
 pub const NEED_LOW: usize = 10240;
 
 pub const NEED_HIGH: usize = 10368;

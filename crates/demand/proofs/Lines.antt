@@ -17,7 +17,7 @@ use Rattle.semantics.specs.Global.{Init, Declared, firstValue, initOf, orNoInit
 use Rattle.semantics.specs.Global.Init.{noInit, constInit, arrayInit, pendingInit}
 use Rattle.semantics.specs.Refusal.{Outcome, badForm, badRefFrom, tooDeepFrom, badModuleFrom, tooManyFrom, noCounts, refuseAt, listedIn, orRefused, refuseWork, checked, longestSheet, leastWork, workRefused, sourceListing, worked, compiled}
 use Rattle.semantics.specs.Refusal.Outcome.{listed, refused}
-use Rattle.semantics.specs.Demand.{LaidGlobal, In, DeclaredAt, AllDeclared, sourceDeclared, laidFrom, laidOf}
+use Rattle.semantics.specs.Demand.{In, DeclaredAt, AllDeclared, sourceDeclared}
 use Rattle.semantics.proofs.Common.{never}
 use Rattle.laws.specs.Every.{Every}
 use Rattle.laws.proofs.Every.{every-append, every-map}
@@ -126,34 +126,26 @@ vars-declared ns (v ∷ vs) h =
     (λ x p. record { line = p .line; counts = later (p .counts); named = p .named; sameType = p .sameType; value = p .value })
     rest (vars-declared ns vs (rest-done (v .line) (varValue ns d) o h)))
 
-laid-declared : (ns : Names) (vs : List (Located VarDecl)) (ds : List Declared) (e k a : ℕ) → Every (DeclaredAt ns vs) ds → AllDeclared ns vs (laidFrom e k a ds)
-laid-declared ns vs [] e k a h = tt
-laid-declared ns vs (d ∷ ds) e k a h = (h .0, laid-declared ns vs ds _ _ _ (h .1))
+each-declared : (ns : Names) (vs : List (Located VarDecl)) (ds : List Declared) → Every (DeclaredAt ns vs) ds → AllDeclared ns vs ds
+each-declared ns vs [] h = tt
+each-declared ns vs (d ∷ ds) h = (h .0, each-declared ns vs ds (h .1))
 
-pub all-declared : (L W : ℕ) (s out : Bytes) → compiled L W s ≡ listed out → AllDeclared (namesOf (sheetSource s)) (laidVars (sheetSource s)) (laidOf (sheetSource s))
+pub all-declared : (L W : ℕ) (s out : Bytes) → compiled L W s ≡ listed out → AllDeclared (namesOf (sheetSource s)) (laidVars (sheetSource s)) (sourceDeclared (sheetSource s))
 all-declared L W s out h =
     let src = sheetSource s in
     let ns = namesOf src in
-    laid-declared ns (laidVars src) (sourceDeclared src) 0 0 0 (vars-declared ns (laidVars src) (listed-done L W s out h))
+    each-declared ns (laidVars src) (sourceDeclared src) (vars-declared ns (laidVars src) (listed-done L W s out h))
 
 -- ---- their names
-
-names-laid : (ds : List Declared) (e k a : ℕ) → map (λ (l : LaidGlobal). l .global .name) (laidFrom e k a ds) ≡ map (λ (d : Declared). d .name) ds
-names-laid [] e k a = refl
-names-laid (d ∷ ds) e k a = ap (λ (xs : List Bytes). d .name ∷ xs) (names-laid ds _ _ _)
 
 names-on : (ns : Names) (d : VarDecl) (xs : List Bytes) → map (λ (x : Declared). x .name) (map (namedOn ns d) xs) ≡ xs
 names-on ns d [] = refl
 names-on ns d (x ∷ xs) = ap (λ (ys : List Bytes). x ∷ ys) (names-on ns d xs)
 
-names-declared : (ns : Names) (vs : List (Located VarDecl))
+pub names-declared : (ns : Names) (vs : List (Located VarDecl))
     → map (λ (d : Declared). d .name) (concatMap (declaredBy ns) vs) ≡ concatMap (λ (v : Located VarDecl). laidNames (v .it .names)) vs
 names-declared ns [] = refl
 names-declared ns (v ∷ vs) = rw (map-append, names-on ns (v .it) (laidNames (v .it .names)), names-declared ns vs)
-
-pub laid-names : (ns : Names) (vs : List (Located VarDecl))
-    → map (λ (l : LaidGlobal). l .global .name) (laidFrom 0 0 0 (concatMap (declaredBy ns) vs)) ≡ concatMap (λ (v : Located VarDecl). laidNames (v .it .names)) vs
-laid-names ns vs = names-laid (concatMap (declaredBy ns) vs) 0 0 0 ∙ names-declared ns vs
 
 -- ---- values that are no arrays
 

@@ -21,7 +21,7 @@ use Rattle.semantics.proofs.Common.{never, zeros-at}
 use Rattle.semantics.specs.Demand.{namesDistinct, kindsFit, sourceDeclared, laidFrom, laidOf, AllDeclared, imageEnd, areaEnd, EveryByte, Demand}
 use Rattle.demand.proofs.Records.{records-apart}
 use Rattle.demand.proofs.Elements.{ValuesFit, array-given, init-sized}
-use Rattle.demand.proofs.Lines.{every-declared, all-declared, laid-names, value-folded}
+use Rattle.demand.proofs.Lines.{every-declared, all-declared, names-declared, value-folded}
 use Rattle.demand.proofs.Places.{endFrom, itemsFrom, made}
 use Rattle.demand.proofs.Replay.{AllSized, partsFrom, items-end, replayed as replay-adds}
 use Rattle.demand.proofs.Items.{all-items}
@@ -60,7 +60,7 @@ module _ (image area : Bytes) where
   listing-laid b g (refused n k) h = never-laid n k image area h
 
   lines-laid : (b : Buffers) (s : Bytes) (g : Globals) (o : Outcome) → compiled (b .listing) (b .work) s ≡ o → afterListing b g o ≡ laid image area
-      → AllDeclared (namesOf (sheetSource s)) (laidVars (sheetSource s)) (laidOf (sheetSource s))
+      → AllDeclared (namesOf (sheetSource s)) (laidVars (sheetSource s)) (sourceDeclared (sheetSource s))
   lines-laid b s g (listed out) e h = all-declared (b .listing) (b .work) s out e
   lines-laid b s g (refused n k) e h = never-laid n k image area h
 
@@ -105,7 +105,7 @@ demand b s image area accepted =
       everyByte = λ distinct kinds.
           subst (λ (x : Bytes). EveryByte src x area) (ap imageBytes l) (subst (EveryByte src (memoryOf (sourceGlobals src) .image)) (ap areaBytes l) (every-byte src distinct kinds));
       lines = lines-laid image area b s (sourceGlobals src) (compiled (b .listing) (b .work) s) refl accepted;
-      names = laid-names (namesOf src) (laidVars src);
+      names = names-declared (namesOf src) (laidVars src);
       folded = value-folded (namesOf src);
       elements = array-given (namesOf src);
       recordsApart = records-apart (recordedAdts src);

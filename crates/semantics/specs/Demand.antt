@@ -1,4 +1,4 @@
--- Demand 3: what stands in each byte of the image and of the area, by place. Nothing here speaks of a replay:
+-- Demand 3: what stands in each byte of the image and of the area, by place. Nothing before `Demand` itself speaks of a replay:
 -- a byte is found by the global, or by the array, in whose place it lies.
 use Prim.Native.Nat.{ℕ, zero, suc, _+_, _-_, _*_, _/_, _%_, _^_, _≤_, _<_, max}
 use mathlib.Core.Path.{_≡_}
@@ -9,7 +9,7 @@ use lib.ListN.{length, take, getD, getElem?}
 use lib.IntN.{ℤ, pos, negsuc}
 use lib.Signed.{leZ}
 use lib.Dec.{leb, ltb, eqb}
-use Rattle.semantics.specs.Text.{Bytes, same, any, all, bigEndian}
+use Rattle.semantics.specs.Text.{Bytes, same, any, all, isNone, bigEndian}
 use Rattle.semantics.specs.Tree.{Basic, Ty, Ex, ArrayEx, Els, Fd, Case, AdtDecl, VarDecl, ConstVal, ElemKind, MaybeEx, byForm, elemOf}
 use Rattle.semantics.specs.Tree.Basic.{int, byte, big, real, string}
 use Rattle.semantics.specs.Tree.Ty.{basic, ptr, array, tuple}
@@ -60,10 +60,7 @@ isOf (array t) v = false
 isOf (tuple ts) v = false
 
 abbrev pub isArrayTy : Ty → Bool
-isArrayTy (basic b) = false
-isArrayTy ptr = false
-isArrayTy (array t) = true
-isArrayTy (tuple ts) = false
+isArrayTy t = not (isNone (elemOf t))
 
 -- a literal or `alloc` for an array; a pending value fits any type
 abbrev pub ofKind : Ty → Init → Bool
@@ -77,7 +74,8 @@ kindsFit ds = all (λ (d : Declared). ofKind (d .ty) (d .first)) ds
 
 -- ---- where the globals lie
 
--- a global's place, the number of its first item, and the start of its part of the area
+-- a global's place, the number of its first item, and the start of its part of the area; where it has none, the number and the
+-- start that the next one would have
 pub record LaidGlobal : Type 0 where
   pub global : Declared
   pub offset : ℕ
@@ -328,9 +326,9 @@ pub record DeclaredAt (ns : Names) (vs : List (Located VarDecl)) (d : Declared) 
   pub sameType : d .ty ≡ line .it .ty
   pub value : initOf ns (line .it .ty) (line .it .init) ≡ ok (d .first)
 
-abbrev pub AllDeclared : Names → List (Located VarDecl) → List LaidGlobal → Type 0
+abbrev pub AllDeclared : Names → List (Located VarDecl) → List Declared → Type 0
 AllDeclared ns vs [] = Unit {0}
-AllDeclared ns vs (l ∷ ls) = DeclaredAt ns vs (l .global) × AllDeclared ns vs ls
+AllDeclared ns vs (d ∷ ds) = DeclaredAt ns vs d × AllDeclared ns vs ds
 
 abbrev pub globalOf : LaidGlobal → Global
 globalOf l = record { name = l .global .name; offset = l .offset; ty = l .global .ty }
@@ -403,10 +401,10 @@ pub record EveryByte (s : Source) (image area : Bytes) : Type 0 where
 pub record WholeImage (s : Source) (image area : Bytes) : Type 0 where
   -- where no global's name stands twice and each first value is of its type's kind
   pub everyByte : namesDistinct (sourceDeclared s) ≡ true → kindsFit (sourceDeclared s) ≡ true → EveryByte s image area
-  -- each place is of a name of a `var` line that counts, with the first value of that line's own expression
-  pub lines : AllDeclared (namesOf s) (laidVars s) (laidOf s)
-  -- and every name of these lines but `nil` has its place, in order
-  pub names : map (λ (l : LaidGlobal). l .global .name) (laidOf s) ≡ concatMap (λ (v : Located VarDecl). laidNames (v .it .names)) (laidVars s)
+  -- each global is a name of a `var` line that counts, with the first value of that line's own expression
+  pub lines : AllDeclared (namesOf s) (laidVars s) (sourceDeclared s)
+  -- and every name of these lines but `nil` is a global, in order
+  pub names : map (λ (d : Declared). d .name) (sourceDeclared s) ≡ concatMap (λ (v : Located VarDecl). laidNames (v .it .names)) (laidVars s)
   -- a first value that is no array is what its expression folds to
   pub folded : (t : Ty) (e : Ex) (v : ConstVal) → initOf (namesOf s) t (some e) ≡ ok (constInit v) → foldAt0 (namesOf s) e ≡ ok v
   -- one that is an array has its length, its elements' kind where the type declares one, and index by index the value last given, or

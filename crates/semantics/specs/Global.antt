@@ -86,7 +86,7 @@ firstValue (ok v) a = ok (constInit v)
 firstValue failed a = arrayValue a
 firstValue (refuse r) a = refuse r
 
--- that of a `var` line of type t, whose array type alone says what elements are
+-- that of a `var` line of type t; of its types only an array type declares what the elements are
 abbrev pub initOf : Names → Ty → Option Ex → Result Init
 initOf ns t none = ok noInit
 initOf ns t (some e) = firstValue (foldAt0 ns e) (constArray ns (elemOf t) e)

@@ -1,4 +1,4 @@
--- The declarations of a sheet, in its order, each where its rule needs it with its line and the module that it stands in.
+-- The declarations of a sheet, in its order; records, constants and `var` lines with their line and the module that they stand in.
 use Prim.Native.Nat.{ℕ, suc}
 use mathlib.Core.Bool.{cond}
 use mathlib.Core.List.{List, [], _∷_, _++_, map}
