@@ -1,6 +1,6 @@
 -- The globals are the names of the `var` lines that count, and each one's first value is that of its own line, where no line is refused.
 use Prim.Native.Nat.{ℕ, suc}
-use mathlib.Core.Path.{_≡_, refl, ap, _∙_}
+use mathlib.Core.Path.{_≡_, refl, ap}
 use mathlib.Core.Bool.{Bool, true, false, cond}
 use mathlib.Core.List.{List, [], _∷_, map, map-append}
 use mathlib.Core.Option.{Option, none, some}

@@ -18,7 +18,7 @@ use Rattle.semantics.specs.Refusal.{Buffers, Outcome, Imaged, sourceGlobals, la
 use Rattle.semantics.specs.Refusal.Outcome.{listed, refused}
 use Rattle.semantics.specs.Refusal.Imaged.{laid, notLaid}
 use Rattle.semantics.proofs.Common.{never, zeros-at}
-use Rattle.semantics.specs.Demand.{namesDistinct, kindsFit, sourceDeclared, laidFrom, laidOf, AllDeclared, imageEnd, areaEnd, EveryByte, Demand}
+use Rattle.semantics.specs.Demand.{namesDistinct, kindsFit, sourceDeclared, laidFrom, AllDeclared, imageEnd, areaEnd, EveryByte, Demand}
 use Rattle.demand.proofs.Records.{records-apart}
 use Rattle.demand.proofs.Elements.{ValuesFit, array-given, init-sized}
 use Rattle.demand.proofs.Lines.{every-declared, all-declared, names-declared, value-folded}
