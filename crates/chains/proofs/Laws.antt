@@ -13,7 +13,7 @@ use Rattle.semantics.specs.Text.{Bytes}
 use Rattle.checks.specs.Checks.{Outside}
 use Rattle.checks.proofs.Kept.{outside-then, outside-set}
 use Rattle.chains.specs.declared.ChainPlaces.{ChainPlaces}
-use Rattle.chains.specs.Chains.{newestOf, chainOf, digestPlace, linkAt, headAt, chainAt, inChain, ChainRoom, entryBelow, newestIn, earlierThan, Chained, linked}
+use Rattle.chains.specs.Chains.{newestOf, chainOf, digestPlace, digestAt, linkAt, headAt, chainAt, inChain, ChainRoom, entryBelow, newestIn, earlierThan, Chained, linked}
 
 -- a chain is one of 128
 pub chain-small : (t : Bytes) (c : ChainPlaces) (i : ℕ) → chainAt t c i < 128
@@ -174,7 +174,7 @@ module _ (t u : Bytes) (c : ChainPlaces) (m : ℕ) (chains : (i : ℕ) → i < m
 
 -- the bytes of the first n entries, with their links and heads, are the same
 pub record SameBytes (t u : Bytes) (c : ChainPlaces) (n : ℕ) : Type 0 where
-  pub digest : (i : ℕ) → i < n → getD u (digestPlace c i) 0 ≡ getD t (digestPlace c i) 0
+  pub digest : (i : ℕ) → i < n → digestAt u c i ≡ digestAt t c i
   pub link : (i : ℕ) → i < n → getD u (digestPlace c i + c .gap) 0 ≡ getD t (digestPlace c i + c .gap) 0
   pub head : (k : ℕ) → k < 128 → getD u (digestPlace c k + c .gap + c .gap) 0 ≡ getD t (digestPlace c k + c .gap + c .gap) 0
 
@@ -214,6 +214,11 @@ module _ (t : Bytes) (c : ChainPlaces) (m : ℕ) where
   unfolding linked
   linked-long = let k = chainAt t c m in length-set (set t (digestPlace c m + c .gap) (headAt t c k)) (digestPlace c k + c .gap + c .gap) m ∙ length-set t (digestPlace c m + c .gap) (headAt t c k)
 
+-- so do all digests
+module _ {c : ChainPlaces} {n : ℕ} (a : PlacesApart c n) (t : Bytes) {m : ℕ} (low : m < n) where
+  pub digest-stays : (i : ℕ) → i < n → digestAt (linked t c m) c i ≡ digestAt t c i
+  digest-stays i l = linked-other t c m (digestPlace c i) (a .link i m l low) (λ k h. a .head i k l h)
+
 module _ {t : Bytes} {c : ChainPlaces} {n : ℕ} (p : ChainRoom t c) (a : PlacesApart c n) (many : 128 ≤ n) (few : n ≤ 256) {m : ℕ} (low : m < n) where
   abbrev ownChain : ℕ
   ownChain = chainAt t c m
@@ -223,7 +228,7 @@ module _ {t : Bytes} {c : ChainPlaces} {n : ℕ} (p : ChainRoom t c) (a : Places
 
   chain-stays : (i : ℕ) → i < n → chainAt (linked t c m) c i ≡ chainAt t c i
   unfolding chainAt
-  chain-stays i l = ap chainOf (linked-other t c m (digestPlace c i) (a .link i m l low) (λ k h. a .head i k l h))
+  chain-stays i l = ap chainOf (digest-stays a t low i l)
 
   link-stays : (i : ℕ) → i < m → linkAt (linked t c m) c i ≡ linkAt t c i
   unfolding linkAt

@@ -22,6 +22,9 @@ chainOf d = d % 128
 unfoldable pub digestPlace : ChainPlaces → ℕ → ℕ
 digestPlace c i = c .at + c .step * i
 
+abbrev pub digestAt : Bytes → ChainPlaces → ℕ → ℕ
+digestAt t c i = getD t (digestPlace c i) 0
+
 unfoldable pub linkAt : Bytes → ChainPlaces → ℕ → ℕ
 linkAt t c i = getD t (digestPlace c i + c .gap) 0
 
@@ -30,7 +33,7 @@ headAt t c k = getD t (digestPlace c k + c .gap + c .gap) 0
 
 -- the chain of entry i
 unfoldable pub chainAt : Bytes → ChainPlaces → ℕ → ℕ
-chainAt t c i = chainOf (getD t (digestPlace c i) 0)
+chainAt t c i = chainOf (digestAt t c i)
 
 -- whether entry i is of chain k
 abbrev pub inChain : Bytes → ChainPlaces → ℕ → ℕ → Bool

@@ -4,7 +4,7 @@
 use words::wide;
 ghost use mathlib.Core.Path.{_≡_};
 ghost use Prim.Native.Nat.{_+_, _<_};
-ghost use Rattle.chains.specs.Chains.{chainOf, digestPlace, linkAt, headAt, chainAt, entryBelow, newestIn, earlierThan, linked, ChainRoom};
+ghost use Rattle.chains.specs.Chains.{chainOf, digestPlace, digestAt, linkAt, headAt, chainAt, entryBelow, newestIn, earlierThan, linked, ChainRoom};
 
 // Where a table keeps its chains: the digest of entry i at byte `at + step * i`, its link `gap` bytes behind that, and the head of
 // chain i `gap` bytes behind the link.
@@ -29,12 +29,20 @@ fn chain_of(d: usize) -> usize
     d % 128
 }
 
+// The digest of entry i.
+pub fn digest_at(work: &[u8], c: ChainPlaces, i: usize) -> usize
+    requires { ⌜ (ChainRoom (now work) c) × (i < 256) ⌝ }
+    ensures { λ r. ⌜ (r ≡ digestAt (now (work .entry)) c i) × (r < 256) ⌝ }
+{
+    wide(work[place(c, i)])
+}
+
 // The chain of entry i.
 fn chain_at(work: &[u8], c: ChainPlaces, i: usize) -> usize
     requires { ⌜ (ChainRoom (now work) c) × (i < 256) ⌝ }
     ensures { λ r. ⌜ (r ≡ chainAt (now (work .entry)) c i) × (r < 128) ⌝ }
 {
-    chain_of(wide(work[place(c, i)]))
+    chain_of(digest_at(work, c, i))
 }
 
 fn link_at(work: &[u8], c: ChainPlaces, i: usize) -> usize

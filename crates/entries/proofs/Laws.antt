@@ -23,13 +23,13 @@ use Rattle.semantics.specs.Const.{entries}
 use Rattle.write.specs.Wrote.{over}
 use Rattle.write.proofs.Hex.{big-length}
 use Rattle.write.proofs.Back.{bits-back}
-use Rattle.chains.specs.Chains.{digestPlace, Chained, linked}
+use Rattle.chains.specs.Chains.{digestPlace, digestAt, Chained, linked}
 use Rattle.chains.proofs.Laws.{SameBytes, chained-kept, chained-next}
 use Rattle.words.specs.Words.{u16At, bitsAt}
 use Rattle.implement.specs.Modules.{firstField, moduleAt}
 use Rattle.checks.specs.Checks.{Kept}
 use Rattle.checks.proofs.Kept.{kept-at, kept-then, kept-less, outside-less}
-use Rattle.names.specs.Table.{constLineOf, moduleLineOf, valueBy, kindOf, bitsOf, constDigestOf, constChains, constDigest, entriesAt, logIn, EntryBounds, ConstsLogged}
+use Rattle.names.specs.Table.{constLineOf, moduleLineOf, valueBy, kindOf, bitsOf, constChains, constDigest, entriesAt, logIn, EntryBounds, ConstsLogged}
 use Rattle.names.proofs.Laws.{slot-is, value-failed, value-int, value-real, value-text, part-low, part-kept, SameText, each-same, digests-same, log-same, entries-below, const-placed, const-apart, const-outside, linked-entries}
 use Rattle.values.specs.declared.ConstVal.{ConstVal}
 use Rattle.values.specs.declared.ConstVal.the-variants.{Int, Real, Str}
@@ -176,8 +176,8 @@ module _ (t u : Bytes) (m line within kind bits d : ℕ) (f : EntryRoom t m line
       rw (a, ← drop-drop 5 (5120 + 16 * m) u) (sym (part-low 5 8 14 (drop (5120 + 16 * m) u) (omega arith)) ∙ ap (λ (l : Bytes). take 8 (drop 5 l)) here ∙ take-at (bigEndian 8 bits) (d ∷ []) 8 (big-length 8 bits)) in
       ap (fromBigEndian 0) e ∙ bits-back bits (omega arith)
 
-  digest-here : constDigestOf u m ≡ d
-  unfolding entryOf
+  digest-here : digestAt u constChains m ≡ d
+  unfolding entryOf digestPlace
   digest-here = byte-here (5133 + 16 * m) 13 (omega arith) (omega arith) ∙ getD-at (bigEndian 8 bits) d [] 0 8 (big-length 8 bits)
 
   entry-new : (n : ℕ) → line ≤ n → within ≤ n → EntryBounds u n m
@@ -207,7 +207,7 @@ module _ (t u : Bytes) (m line within kind bits d : ℕ) (f : EntryRoom t m line
   each-new : (n : ℕ) → line ≤ n → within ≤ n → ((i : ℕ) → i < m → EntryBounds t n i) → (i : ℕ) → i < m + 1 → EntryBounds u n i
   each-new n p q each i h = ⊎-elim (λ (x : i ≡ m). subst (EntryBounds u n) (sym x) (entry-new n p q)) (λ (x : i < m). each-same (entries-below table-kept) each i x) (eq-or-lt-of-le (omega arith))
 
-  digests-new : (s : Bytes) (n : ℕ) → d ≡ constDigest s within (firstField s line) → ConstsLogged s t n m → (i : ℕ) → i < m + 1 → constDigestOf u i ≡ constDigest s (moduleLineOf u i) (firstField s (constLineOf u i))
+  digests-new : (s : Bytes) (n : ℕ) → d ≡ constDigest s within (firstField s line) → ConstsLogged s t n m → (i : ℕ) → i < m + 1 → digestAt u constChains i ≡ constDigest s (moduleLineOf u i) (firstField s (constLineOf u i))
   digests-new s n e l i h = ⊎-elim (λ (x : i ≡ m). rw (x, digest-here, within-here, line-here) e) (λ (x : i < m). digests-same (entries-below table-kept) (l .each) s (l .digests) i x) (eq-or-lt-of-le (omega arith))
 
   log-new : (v : Option Tree.ConstVal) → valueBy u kind bits ≡ v → (s : Bytes) (n : ℕ) → ConstsLogged s t n m → logIn s u (m + 1) ≡ entries (sheetSource s .implement) (moduleAt s within) (firstField s line) v ++ logIn s t m

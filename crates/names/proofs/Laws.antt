@@ -17,14 +17,14 @@ use Rattle.semantics.specs.Sheet.{sheetSource}
 use Rattle.semantics.specs.Fold.{Key, Const, signed64, plain, qualified, sameOption, lookUp, valueOf}
 use Rattle.semantics.specs.Const.{entries}
 use Rattle.semantics.proofs.Common.{both}
-use Rattle.chains.specs.Chains.{newestOf, chainOf, digestPlace, headAt, chainAt, inChain, ChainRoom, newestIn, earlierThan, Chained, linked}
+use Rattle.chains.specs.Chains.{newestOf, chainOf, digestPlace, digestAt, headAt, chainAt, inChain, ChainRoom, newestIn, earlierThan, Chained, linked}
 use Rattle.chains.proofs.Laws.{newest-low, newest-most, earlier-less, Along, along-from, along-found, along-next, along-end, chained-kept, PlacesApart, linked-outside}
 use Rattle.words.specs.Words.{digestFrom, digest, u16At, bitsAt}
 use Rattle.laws.proofs.Tests.{same-eq}
 use Rattle.implement.specs.Modules.{firstField, moduleAt, ownIn, isOwn}
 use Rattle.checks.specs.Checks.{Kept, Outside, Checked}
 use Rattle.checks.proofs.Kept.{kept-at, kept-less}
-use Rattle.names.specs.Table.{constLineOf, moduleLineOf, valueBy, slotValue, kindOf, bitsOf, constDigestOf, constChains, qualifiedDigest, constDigest, entriesAt, logIn, EntryBounds, ConstsLogged, ConstTable, ConstEntry, found, hasKey, answersPlain, answersQualified, Answered, Looked}
+use Rattle.names.specs.Table.{constLineOf, moduleLineOf, valueBy, slotValue, kindOf, bitsOf, constChains, qualifiedDigest, constDigest, entriesAt, logIn, EntryBounds, ConstsLogged, ConstTable, ConstEntry, found, hasKey, answersPlain, answersQualified, Answered, Looked}
 
 -- ---- a slot by its kind and bits
 
@@ -184,9 +184,9 @@ const-placed h = record { low = λ i h. omega arith; long = h }
 pub table-placed : {s t : Bytes} {n m : ℕ} → ConstTable s t n m → ChainRoom t constChains
 table-placed c = const-placed (c .checked .whole .room)
 
--- the entry before one of the table may be asked for
-pub earlier-asked : {s t : Bytes} {n m : ℕ} → ConstTable s t n m → {i : ℕ} → i < m → (ChainRoom t constChains) × (i < 256)
-earlier-asked c h = (table-placed c, omega (arith, c .logged .few))
+-- `chains` may be asked about an entry of the table
+pub entry-asked : {s t : Bytes} {n m : ℕ} → ConstTable s t n m → {i : ℕ} → i < m → (ChainRoom t constChains) × (i < 256)
+entry-asked c h = (table-placed c, omega (arith, c .logged .few))
 
 -- a number up to the table's end is an answer
 pub answered : {s t : Bytes} {n m : ℕ} → ConstsLogged s t n m → Checked s t n → {r : ℕ} → r ≤ m → Answered t r
@@ -244,7 +244,7 @@ module _ (s t : Bytes) (i : ℕ) (x : Bytes) where
 -- so it is in the chain of that digest
 module _ {s t : Bytes} {n m : ℕ} (c : ConstTable s t n m) {d : ℕ} where
   member : (i : ℕ) → i < m → constDigest s (moduleLineOf t i) (firstField s (constLineOf t i)) ≡ d → inChain t constChains (chainOf d) i ≡ true
-  unfolding chainAt digestPlace
+  unfolding chainAt
   member i h e = eq-eqb (chainAt t constChains i) (chainOf d) (ap chainOf (c .logged .digests i h ∙ e))
 
   pub plain-member : (x : Bytes) → d ≡ digest x → (i : ℕ) → i < m → answersPlain s t i x ≡ true → inChain t constChains (chainOf d) i ≡ true
@@ -289,19 +289,19 @@ module _ (D d : ℕ) (a o : Bool) {b : Bool} (e : b ≡ eqb D d && a) where
   told : not b ≡ false → a ≡ true
   told f = both (eqb D d) a (sym e ∙ not-false b f) .1
 
-module _ (s t : Bytes) (i d : ℕ) (x : Bytes) {b : Bool} (name : b ≡ eqb (constDigestOf t i) d && same x (firstField s (constLineOf t i))) where
+module _ (s t : Bytes) (i d : ℕ) (x : Bytes) {b : Bool} (name : b ≡ eqb (digestAt t constChains i) d && same x (firstField s (constLineOf t i))) where
   module _ {n : ℕ} (k : ConstEntry s t n i) (f : not b ≡ true) where
     pub plain-other : d ≡ digest x → false ≡ answersPlain s t i x
     unfolding answersPlain
-    plain-other e = untold (constDigestOf t i) d (same x (firstField s (constLineOf t i))) (isOwn s (moduleLineOf t i)) name (λ q. k .digested ∙ plain-digested s t i x q ∙ sym e) f
+    plain-other e = untold (digestAt t constChains i) d (same x (firstField s (constLineOf t i))) (isOwn s (moduleLineOf t i)) name (λ q. k .digested ∙ plain-digested s t i x q ∙ sym e) f
 
     pub qualified-other : (q : Bytes) → d ≡ qualifiedDigest s q x → false ≡ answersQualified s t i q x
     unfolding answersQualified
-    qualified-other q e = untold (constDigestOf t i) d (same x (firstField s (constLineOf t i))) (not (eqb (moduleLineOf t i) 0) && same q (firstField s (moduleLineOf t i))) name (λ h. k .digested ∙ qualified-digested s t i x q h ∙ sym e) f
+    qualified-other q e = untold (digestAt t constChains i) d (same x (firstField s (constLineOf t i))) (not (eqb (moduleLineOf t i) 0) && same q (firstField s (moduleLineOf t i))) name (λ h. k .digested ∙ qualified-digested s t i x q h ∙ sym e) f
 
   module _ (f : not b ≡ false) {j : ℕ} (within : j ≡ moduleLineOf t i) where
     named : same x (firstField s (constLineOf t i)) ≡ true
-    named = told (constDigestOf t i) d (same x (firstField s (constLineOf t i))) true name f
+    named = told (digestAt t constChains i) d (same x (firstField s (constLineOf t i))) true name f
 
     pub plain-own : {r : Bool} → r ≡ isOwn s j → r ≡ answersPlain s t i x
     unfolding answersPlain
@@ -359,7 +359,8 @@ module _ {t u : Bytes} (n i : ℕ) (w : SameEntry t u i) (e : EntryBounds t n i)
       let x : (l : Bytes) → take 8 (drop (5120 + 16 * i + 5) l) ≡ take 8 (drop 5 (take 14 (drop (5120 + 16 * i) l))) = λ l. sym (part-low 5 8 14 (drop (5120 + 16 * i) l) (omega arith) ∙ ap (take 8) (drop-drop 5 (5120 + 16 * i) l)) in
       rw a (ap (fromBigEndian 0) (x u ∙ ap (λ (l : Bytes). take 8 (drop 5 l)) (w .bytes) ∙ sym (x t)))
 
-  digest-kept : constDigestOf u i ≡ constDigestOf t i
+  digest-kept : digestAt u constChains i ≡ digestAt t constChains i
+  unfolding digestPlace
   digest-kept = byte-kept (5133 + 16 * i) 13 (omega arith) (omega arith)
 
   entry-kept : EntryBounds u n i
@@ -390,7 +391,7 @@ module _ {t u : Bytes} {n m : ℕ} (w : (i : ℕ) → i < m → SameEntry t u i)
   pub each-same : (i : ℕ) → i < m → EntryBounds u n i
   each-same i h = entry-kept n i (w i h) (each i h)
 
-  pub digests-same : (s : Bytes) → ((i : ℕ) → i < m → constDigestOf t i ≡ constDigest s (moduleLineOf t i) (firstField s (constLineOf t i))) → (i : ℕ) → i < m → constDigestOf u i ≡ constDigest s (moduleLineOf u i) (firstField s (constLineOf u i))
+  pub digests-same : (s : Bytes) → ((i : ℕ) → i < m → digestAt t constChains i ≡ constDigest s (moduleLineOf t i) (firstField s (constLineOf t i))) → (i : ℕ) → i < m → digestAt u constChains i ≡ constDigest s (moduleLineOf u i) (firstField s (constLineOf u i))
   digests-same s d i h = rw (digest-kept n i (w i h) (each i h), module-kept n i (w i h) (each i h), line-kept n i (w i h) (each i h)) (d i h)
 
   module _ (s : Bytes) (same : (i : ℕ) → i < m → SameText t u i) where

@@ -17,7 +17,7 @@ use Rattle.semantics.specs.Sheet.{sheetSource}
 use Rattle.semantics.specs.Fold.{Key, Const, Names, signed64, sameOption, sameKey, lookUp, valueOf}
 use Rattle.semantics.specs.Const.{entries}
 use Rattle.chains.specs.declared.ChainPlaces.{ChainPlaces}
-use Rattle.chains.specs.Chains.{newestOf, Chained}
+use Rattle.chains.specs.Chains.{newestOf, digestAt, Chained}
 use Rattle.words.specs.Words.{digestFrom, digest, u16At, bitsAt}
 use Rattle.implement.specs.Modules.{firstField, moduleAt, isOwn}
 use Rattle.checks.specs.Checks.{Checked}
@@ -48,11 +48,7 @@ kindOf t i = getD t (5124 + 16 * i) 0
 abbrev pub bitsOf : Bytes → ℕ → ℕ
 bitsOf t i = bitsAt t (5125 + 16 * i)
 
--- the digest of entry i, by which look-ups pass over others
-abbrev pub constDigestOf : Bytes → ℕ → ℕ
-constDigestOf t i = getD t (5133 + 16 * i) 0
-
--- where the digests, links and heads stand
+-- where the digests stand, by which look-ups pass over entries, and the links and heads
 abbrev pub constChains : ChainPlaces
 constChains = record { at = 5133; gap = 1; step = 16 }
 
@@ -98,7 +94,7 @@ pub record EntryBounds (t : Bytes) (n i : ℕ) : Type 0 where
 pub record ConstsLogged (s t : Bytes) (n m : ℕ) : Type 0 where
   pub few : m ≤ 128
   pub each : (i : ℕ) → i < m → EntryBounds t n i
-  pub digests : (i : ℕ) → i < m → constDigestOf t i ≡ constDigest s (moduleLineOf t i) (firstField s (constLineOf t i))
+  pub digests : (i : ℕ) → i < m → digestAt t constChains i ≡ constDigest s (moduleLineOf t i) (firstField s (constLineOf t i))
   pub chained : Chained t constChains m
 
 -- the table of a checked sheet has m entries
@@ -111,7 +107,7 @@ pub record ConstEntry (s t : Bytes) (n i : ℕ) : Type 0 where
   pub checked : Checked s t n
   pub low : i < 128
   pub entry : EntryBounds t n i
-  pub digested : constDigestOf t i ≡ constDigest s (moduleLineOf t i) (firstField s (constLineOf t i))
+  pub digested : digestAt t constChains i ≡ constDigest s (moduleLineOf t i) (firstField s (constLineOf t i))
 
 -- what a look-up answers: 0 for no constant, else the entry's number from 1
 unfoldable pub found : Bytes → ℕ → Option ConstVal

@@ -9,10 +9,10 @@ ghost use lib.ListN.{length};
 ghost use Rattle.semantics.specs.Text as Text;
 ghost use Rattle.semantics.specs.Fold.{plain, qualified};
 ghost use Rattle.words.specs.Words.{digest};
-ghost use Rattle.chains.specs.Chains.{chainOf, inChain, newestOf};
+ghost use Rattle.chains.specs.Chains.{newestOf, chainOf, digestAt, inChain};
 ghost use Rattle.implement.specs.Modules.{firstField};
 ghost use Rattle.checks.specs.Checks.{Checked};
-ghost use Rattle.names.specs.Table.{constLineOf, moduleLineOf, bitsOf, kindOf, constDigestOf, constChains, qualifiedDigest, constDigest, answersPlain, answersQualified, newestPlain, newestQualified, Looked, ConstTable, ConstEntry};
+ghost use Rattle.names.specs.Table.{constLineOf, moduleLineOf, bitsOf, kindOf, constChains, qualifiedDigest, constDigest, answersPlain, answersQualified, newestPlain, newestQualified, Looked, ConstTable, ConstEntry};
 
 // How many lines the sheet has, and how many constants are known.
 pub struct Known {
@@ -59,14 +59,6 @@ pub fn slot_bits(work: &[u8], i: usize) -> u64
     words::bits_at(work, area::CONSTANTS + 5 + area::CONSTANT * i)
 }
 
-// Its digest.
-fn digest_of(work: &[u8], i: usize) -> usize
-    requires { ⌜ (i < 128) × (65536 ≤ length (now work)) ⌝ }
-    ensures { λ r. ⌜ r ≡ constDigestOf (now (work .entry)) i ⌝ }
-{
-    words::wide(work[area::CONSTANTS + 13 + area::CONSTANT * i])
-}
-
 // The digest for a module and a name. Many modules may have one name, so the module counts too, unless it is implemented: the names
 // of that one are also plain.
 fn qualified_digest(sheet: &[u8], work: &[u8], n: usize, within: &[u8], name: &[u8]) -> usize
@@ -103,9 +95,9 @@ fn is_named(sheet: &[u8], work: &[u8], n: usize, k: usize, name: &[u8]) -> bool
 // Whether entry i has this digest and its constant this name.
 fn has_name(sheet: &[u8], work: &[u8], n: usize, i: usize, name: &[u8], d: usize) -> bool
     requires { ⌜ ConstEntry (now sheet) (now work) n i ⌝ }
-    ensures { λ r. ⌜ r ≡ eqb (constDigestOf (now (work .entry)) i) d && Text.same (now (name .entry)) (firstField (now (sheet .entry)) (constLineOf (now (work .entry)) i)) ⌝ }
+    ensures { λ r. ⌜ r ≡ eqb (digestAt (now (work .entry)) constChains i) d && Text.same (now (name .entry)) (firstField (now (sheet .entry)) (constLineOf (now (work .entry)) i)) ⌝ }
 {
-    if digest_of(work, i) != d {
+    if chains::digest_at(work, CHAINS, i) != d {
         return false; // before the line is looked at
     }
     is_named(sheet, work, n, line_of(work, i), name)
@@ -209,8 +201,9 @@ pub fn look_up_before(sheet: &[u8], work: &[u8], c: Known, i: usize, name: &[u8]
     requires { ⌜ (ConstTable (now sheet) (now work) (c .lines) (c .consts)) × (i < c .consts) × (answersPlain (now sheet) (now work) i (now name) ≡ true) ⌝ }
     ensures { λ r. ⌜ Looked (now (sheet .entry)) (now (work .entry)) (plain (now (name .entry))) i (newestPlain (now (sheet .entry)) (now (work .entry)) i (now (name .entry))) r ⌝ }
 {
-    let newest = chains::earlier(work, CHAINS, i);
-    along_plain(sheet, work, c, newest, name, digest_of(work, i))
+    let older = chains::earlier(work, CHAINS, i);
+    let d = chains::digest_at(work, CHAINS, i);
+    along_plain(sheet, work, c, older, name, d)
 }
 
 // The same of a module's name.
@@ -225,6 +218,7 @@ pub fn look_up_in_before(
     requires { ⌜ (ConstTable (now sheet) (now work) (c .lines) (c .consts)) × (i < c .consts) × (answersQualified (now sheet) (now work) i (now within) (now name) ≡ true) ⌝ }
     ensures { λ r. ⌜ Looked (now (sheet .entry)) (now (work .entry)) (qualified (now (within .entry)) (now (name .entry))) i (newestQualified (now (sheet .entry)) (now (work .entry)) i (now (within .entry)) (now (name .entry))) r ⌝ }
 {
-    let newest = chains::earlier(work, CHAINS, i);
-    along_qualified(sheet, work, c, newest, within, name, digest_of(work, i))
+    let older = chains::earlier(work, CHAINS, i);
+    let d = chains::digest_at(work, CHAINS, i);
+    along_qualified(sheet, work, c, older, within, name, d)
 }

@@ -1,5 +1,6 @@
 -- `names::has_name` meets its contract.
-use Rattle.names.specs.Table.{constDigestOf}
+use Rattle.chains.specs.Chains.{digestAt}
+use Rattle.names.specs.Table.{constChains}
 use Rattle.implement.specs.Modules.{firstField}
 use Rattle.semantics.specs.Text.{same}
 use denote.Ref.{now}
@@ -8,13 +9,17 @@ use Prim.Native.Nat.{ℕ}
 use native.Mathlib.Omega.{arith}
 use borrow.Author.Needs.{needs}
 use borrow.Author.Tests.{eq-eqb, ne-eqb}
+use Rattle.names.proofs.Laws.{const-placed}
 use Rattle.names.proofs.has_name.Statement.{statement}
 use Rattle.names.proofs.has_name.Tie as tie
+
+digest-at-requires : tie.Need-digest-at-requires
+digest-at-requires c κs = let p = c .before .before .before .pre in (const-placed (p .checked .whole .room), omega (arith, p .low))
 
 returns : tie.Need-returns
 returns c =
     let a = c .before .before .before .before .before .args in
-    rw (ne-eqb (constDigestOf (now (a .work)) (a .i)) (a .d) (λ e. c .if1 .taken (c .before .digest-of .ensures ∙ e)))
+    rw (ne-eqb (digestAt (now (a .work)) constChains (a .i)) (a .d) (λ e. c .if1 .taken (c .before .digest-at .ensures .0 ∙ e)))
 
 is-named-requires : tie.Need-is-named-requires
 is-named-requires c κs =
@@ -24,8 +29,8 @@ is-named-requires c κs =
 returns-2 : tie.Need-returns-2
 returns-2 c =
     let a = c .before .before .before .before .before .before .before .args in
-    rw (eq-eqb (constDigestOf (now (a .work)) (a .i)) (a .d) (sym (c .before .before .before .digest-of .ensures) ∙ c .before .before .if1 .left)) (c .is-named .ensures ∙ ap (λ (k : ℕ). same (now (a .name)) (firstField (now (a .sheet)) k)) (c .before .line-of .ensures))
+    rw (eq-eqb (digestAt (now (a .work)) constChains (a .i)) (a .d) (sym (c .before .before .before .digest-at .ensures .0) ∙ c .before .before .if1 .left)) (c .is-named .ensures ∙ ap (λ (k : ℕ). same (now (a .name)) (firstField (now (a .sheet)) k)) (c .before .line-of .ensures))
 
 pub has-name-spec : {M : Type 1} → statement M
 has-name-spec =
-    tie.close (tie.spec (λ c κs. search needs) returns (λ c κs. search needs) is-named-requires returns-2)
+    tie.close (tie.spec digest-at-requires returns (λ c κs. search needs) is-named-requires returns-2)
