@@ -104,9 +104,9 @@ fn log_adts(sheet: &[u8], work: &mut [u8], n: usize) -> usize
 // The digest d, into entry i, which becomes the newest of its chain.
 fn enter_digest(work: &mut [u8], i: usize, d: usize)
     requires { ⌜ (i < 128) × (d < 256) × (65536 ≤ length (now work)) ⌝ }
-    ensures { λ _. ⌜ now (work .exit) ≡ linked (set (now (work .entry)) (9216 + (8 * i + 5)) d) recordChains i ⌝ }
+    ensures { λ _. ⌜ now (work .exit) ≡ linked (set (now (work .entry)) (9221 + 8 * i) d) recordChains i ⌝ }
 {
-    work[area::RECORDS + (8 * i + 5)] = d as u8;
+    work[area::RECORDS + 5 + 8 * i] = d as u8;
     chains::link(work, CHAINS, i);
 }
 

@@ -6,7 +6,8 @@ use Prim.Native.Nat.{ℕ}
 use Rattle.semantics.specs.Text.{Bytes, same}
 use Rattle.words.specs.Words.{digestFrom, digest}
 use Rattle.words.proofs.Laws.{digest-append, digest-apart}
-use Rattle.records.specs.Log.{entryAt, recordedAt, nameOf, tagOf, keyDigestOf}
+use Rattle.chains.specs.Chains.{digestAt}
+use Rattle.records.specs.Log.{entryAt, recordedAt, nameOf, tagOf, recordChains}
 use Rattle.records.proofs.Keys.{plain-key, variant-key}
 
 module _ (s t : Bytes) (i : ℕ) {d : ℕ} (e : d ≡ digest (nameOf s (entryAt t i))) where
@@ -20,5 +21,5 @@ module _ (s t : Bytes) (i : ℕ) {d : ℕ} (e : d ≡ digest (nameOf s (entryAt 
       rw (variant-key s t i n) (g ∙ rw (f, e) (sym (digest-append (46 ∷ []) x (digest k)) ∙ sym (digest-append k (46 ∷ x) 0)))
 
 -- keys with different digests are different
-pub keys-apart : (k : Bytes) (s t : Bytes) (i : ℕ) {d : ℕ} → d ≡ digest k → keyDigestOf t i ≡ digest (recordedAt s t i .key) → (keyDigestOf t i ≡ d → ⊥) → false ≡ same k (recordedAt s t i .key)
+pub keys-apart : (k : Bytes) (s t : Bytes) (i : ℕ) {d : ℕ} → d ≡ digest k → digestAt t recordChains i ≡ digest (recordedAt s t i .key) → (digestAt t recordChains i ≡ d → ⊥) → false ≡ same k (recordedAt s t i .key)
 keys-apart k s t i e g n = digest-apart k (recordedAt s t i .key) (λ q. n (g ∙ sym (e ∙ q)))

@@ -37,7 +37,7 @@ module _ {t u : List ℕ} (k : Kept 10240 t u) where
         count = g .count;
         few = g .few;
         each = λ i h. recorded-kept s i (omega (arith, g .few)) ∙ g .each i h;
-        digests = λ i h. rw (byte-kept i (omega (arith, g .few)) 5 (omega arith), recorded-kept s i (omega (arith, g .few))) (g .digests i h);
+        digests = λ i h. rw (chain-kept .digest i (omega (arith, g .few)), recorded-kept s i (omega (arith, g .few))) (g .digests i h);
         chained = chained-kept chain-kept (g .few) (g .chained);
         entries = λ i h. record { checked = c; low = g .entries i h .low; sound = rw (entry-kept i (g .entries i h .low)) (g .entries i h .sound) };
       }

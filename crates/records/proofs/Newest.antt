@@ -2,7 +2,7 @@
 use mathlib.Core.Path.{_≡_, refl, sym, ap, _∙_}
 use mathlib.Core.Bool.{Bool, true, false, not, cond, _||_}
 use mathlib.Core.List.{[], _∷_}
-use Prim.Native.Nat.{ℕ, zero, suc, _+_, _*_, _≤_, _<_}
+use Prim.Native.Nat.{ℕ, zero, suc, _+_, _≤_, _<_}
 use native.Mathlib.Omega.{arith}
 use lib.Dec.{ltb}
 use lib.ListN.{length, take, getD}
@@ -16,7 +16,7 @@ use Rattle.words.specs.Words.{digest}
 use Rattle.words.proofs.Laws.{digest-same}
 use Rattle.chains.specs.Chains.{newestOf, chainOf, chainAt, inChain, digestPlace, ChainRoom}
 use Rattle.chains.proofs.Laws.{newest-low, newest-from, newest-none-later, Along}
-use Rattle.records.specs.Log.{keyDigestOf, recordedAt, recordChains, logOf, noRecord, chosen, RecordsLogged, Newest, NewestOfEntry}
+use Rattle.records.specs.Log.{recordedAt, recordChains, logOf, noRecord, chosen, RecordsLogged, Newest, NewestOfEntry}
 use Rattle.records.proofs.Keys.{default-same}
 
 -- whether entry i has key k
@@ -27,15 +27,11 @@ pub record-placed : (t : Bytes) → 65536 ≤ length t → ChainRoom t recordCha
 unfolding digestPlace
 record-placed t h = record { low = λ i l. omega arith; long = h }
 
--- an entry is of the chain of its digest
-pub digest-chain : (t : Bytes) (i : ℕ) → chainAt t recordChains i ≡ chainOf (keyDigestOf t i)
-unfolding chainAt digestPlace
-digest-chain t i = let z : 9221 + 8 * i ≡ 9216 + (8 * i + 5) = omega arith in rw z
-
 module _ (s t : Bytes) (n m : ℕ) (g : RecordsLogged s t n m) (k : Bytes) where
-  -- and so are all entries of a key
+  -- all entries of a key are of one chain
   pub key-chain : {c : ℕ} → c ≡ chainOf (digest k) → (j : ℕ) → j < m → keyIs s t k j ≡ true → inChain t recordChains c j ≡ true
-  key-chain {c} e j h q = eq-eqb (chainAt t recordChains j) c (digest-chain t j ∙ ap chainOf (g .digests j h ∙ sym (digest-same k (recordedAt s t j .key) 0 q)) ∙ sym e)
+  unfolding chainAt
+  key-chain {c} e j h q = eq-eqb (chainAt t recordChains j) c (ap chainOf (g .digests j h ∙ sym (digest-same k (recordedAt s t j .key) 0 q)) ∙ sym e)
 
   -- ---- the last record
 
@@ -90,7 +86,8 @@ module _ (s t : Bytes) (n m : ℕ) (g : RecordsLogged s t n m) (i : ℕ) (h : i 
   ownKey = recordedAt s t i .key
 
   pub own-chain : chainAt t recordChains i ≡ chainOf (digest ownKey)
-  own-chain = digest-chain t i ∙ ap chainOf (g .digests i h)
+  unfolding chainAt
+  own-chain = ap chainOf (g .digests i h)
 
   -- the last entry of its key is known
   pub newest-own : {j : ℕ} → suc j ≡ newestOf (keyIs s t ownKey) m → NewestOfEntry s t m i j

@@ -13,7 +13,7 @@ use Rattle.semantics.specs.Layout.{Recorded, recordsOf, recordedAdts, recordLog
 use Rattle.semantics.specs.Types.{unknown}
 use Rattle.words.specs.Words.{digest}
 use Rattle.chains.specs.declared.ChainPlaces.{ChainPlaces}
-use Rattle.chains.specs.Chains.{Chained}
+use Rattle.chains.specs.Chains.{digestAt, Chained}
 use Rattle.checks.specs.Checks.{Checked}
 use Rattle.sizes.specs.Places.{declAt, isRecord}
 use Rattle.shapes.specs.Shapes.{casesIn}
@@ -72,11 +72,7 @@ byteOf t i k = getD t (9216 + (8 * i + k)) 0
 unfoldable pub entryAt : Bytes → ℕ → Entry
 entryAt t i = record { line = byteOf t i 0 + 256 * byteOf t i 1; case = byteOf t i 2; position = byteOf t i 3; number = byteOf t i 4 }
 
--- the digest of its key
-abbrev pub keyDigestOf : Bytes → ℕ → ℕ
-keyDigestOf t i = byteOf t i 5
-
--- the chains of digests: the link of an entry is its byte 6, and byte 7 of entry k the head of chain k
+-- the chains: byte 5 of an entry is the digest of its key, byte 6 its link, and byte 7 of entry k the head of chain k
 abbrev pub recordChains : ChainPlaces
 recordChains = record { at = 9221; gap = 1; step = 8 }
 
@@ -113,7 +109,7 @@ pub record Digested (s t : Bytes) (n m d : ℕ) : Type 0 where
   pub few : m ≤ 128
   pub each : (i : ℕ) → i < m → recordedAt s t i ≡ getD (logOf s) i noRecord
   pub entries : (i : ℕ) → i < m → EntryIn s t n i
-  pub digests : (i : ℕ) → i < d → keyDigestOf t i ≡ digest (recordedAt s t i .key)
+  pub digests : (i : ℕ) → i < d → digestAt t recordChains i ≡ digest (recordedAt s t i .key)
   pub chained : Chained t recordChains d
 
 -- the log of all records of the sheet, m of them, with all digests and chains

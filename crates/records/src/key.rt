@@ -11,7 +11,8 @@ ghost use lib.ListN.{length, take};
 ghost use Rattle.semantics.specs.Text.{same};
 ghost use Rattle.semantics.specs.Layout.{seen};
 ghost use Rattle.words.specs.Words.{digest};
-ghost use Rattle.records.specs.Log.{byteOf, entryAt, recordedAt, nameOf, tagOf, keyDigestOf, logOf, EntryIn, RecordsLogged, LogEntry, Newest, NewestOfEntry};
+ghost use Rattle.chains.specs.Chains.{digestAt};
+ghost use Rattle.records.specs.Log.{byteOf, entryAt, recordedAt, nameOf, tagOf, recordChains, logOf, EntryIn, RecordsLogged, LogEntry, Newest, NewestOfEntry};
 
 // Where the log's chains stand.
 pub const CHAINS: ChainPlaces = ChainPlaces {
@@ -83,15 +84,7 @@ pub fn tag_of<'a>(sheet: &'a [u8], work: &[u8], n: usize, i: usize) -> &'a [u8]
     line::tag_at(sheet, work, n, v, position_of(work, i))
 }
 
-// The digest of its key, as the entry has it.
-fn digest_of(work: &[u8], i: usize) -> usize
-    requires { ⌜ (i < 128) × (65536 ≤ length (now work)) ⌝ }
-    ensures { λ r. ⌜ r ≡ keyDigestOf (now (work .entry)) i ⌝ }
-{
-    byte_at(work, i, 5)
-}
-
-// The same from its name and tag.
+// The digest of its key, from its name and tag.
 pub fn digest_for(sheet: &[u8], work: &[u8], n: usize, i: usize) -> usize
     requires { ⌜ EntryIn (now sheet) (now work) n i ⌝ }
     ensures { λ r. ⌜ (r ≡ digest (recordedAt (now (sheet .entry)) (now (work .entry)) i .key)) × (r < 256) ⌝ }
@@ -123,10 +116,10 @@ fn is_joined(key: &[u8], name: &[u8], tag: &[u8]) -> bool
 
 // Whether entry i has this key, which has the digest d.
 fn key_is(sheet: &[u8], work: &[u8], n: usize, i: usize, key: &[u8], d: usize) -> bool
-    requires { ⌜ (EntryIn (now sheet) (now work) n i) × (keyDigestOf (now work) i ≡ digest (recordedAt (now sheet) (now work) i .key)) × (d ≡ digest (now key)) ⌝ }
+    requires { ⌜ (EntryIn (now sheet) (now work) n i) × (digestAt (now work) recordChains i ≡ digest (recordedAt (now sheet) (now work) i .key)) × (d ≡ digest (now key)) ⌝ }
     ensures { λ r. ⌜ r ≡ same (now (key .entry)) (recordedAt (now (sheet .entry)) (now (work .entry)) i .key) ⌝ }
 {
-    if digest_of(work, i) != d {
+    if chains::digest_at(work, CHAINS, i) != d {
         return false; // before the name is looked for
     }
     let name = name_of(sheet, work, n, i);
@@ -138,10 +131,10 @@ fn key_is(sheet: &[u8], work: &[u8], n: usize, i: usize, key: &[u8], d: usize) -
 
 // Whether entries i and j have one key. No name holds a full stop, so T itself and a variant have none in common.
 fn same_key(sheet: &[u8], work: &[u8], n: usize, i: usize, j: usize) -> bool
-    requires { ⌜ (EntryIn (now sheet) (now work) n i) × (EntryIn (now sheet) (now work) n j) × (keyDigestOf (now work) i ≡ digest (recordedAt (now sheet) (now work) i .key)) × (keyDigestOf (now work) j ≡ digest (recordedAt (now sheet) (now work) j .key)) ⌝ }
+    requires { ⌜ (EntryIn (now sheet) (now work) n i) × (EntryIn (now sheet) (now work) n j) × (digestAt (now work) recordChains i ≡ digest (recordedAt (now sheet) (now work) i .key)) × (digestAt (now work) recordChains j ≡ digest (recordedAt (now sheet) (now work) j .key)) ⌝ }
     ensures { λ r. ⌜ r ≡ same (recordedAt (now (sheet .entry)) (now (work .entry)) i .key) (recordedAt (now (sheet .entry)) (now (work .entry)) j .key) ⌝ }
 {
-    if digest_of(work, j) != digest_of(work, i) {
+    if chains::digest_at(work, CHAINS, j) != chains::digest_at(work, CHAINS, i) {
         return false;
     }
     if !words::same(name_of(sheet, work, n, i), name_of(sheet, work, n, j)) {
@@ -178,7 +171,7 @@ pub fn newest_of(sheet: &[u8], work: &[u8], c: Log, i: usize) -> usize
     requires { ⌜ (RecordsLogged (now sheet) (now work) (c .lines) (c .entries)) × (i < c .entries) ⌝ }
     ensures { λ r. ⌜ NewestOfEntry (now (sheet .entry)) (now (work .entry)) (c .entries) i r ⌝ }
 {
-    let mut j = chains::newest(work, CHAINS, c.entries, digest_of(work, i));
+    let mut j = chains::newest(work, CHAINS, c.entries, chains::digest_at(work, CHAINS, i));
     while i + 1 < j {
         let e = j - 1;
         if same_key(sheet, work, c.lines, i, e) {

@@ -12,7 +12,7 @@ use Rattle.record_log.proofs.enter_digest.Tie as tie
 link-requires : tie.Need-link-requires
 link-requires c κs =
     let a = c .before .before .args in
-    let l = length-set (now (a .work)) (9216 + (8 * a .i + 5)) (a .d) in
+    let l = length-set (now (a .work)) (9221 + 8 * a .i) (a .d) in
     (record-placed _ (omega (arith, l, c .before .before .pre .2)), omega (arith, c .before .before .pre .0))
 
 same-length : tie.Need-same-length

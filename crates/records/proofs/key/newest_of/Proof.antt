@@ -1,11 +1,11 @@
 -- `records::key::newest_of` meets its contract.
-use Rattle.records.proofs.Newest.{keyIs, record-placed, digest-chain, key-chain, own-chain, newest-own, newest-self}
+use Rattle.records.proofs.Newest.{keyIs, record-placed, key-chain, own-chain, newest-own, newest-self}
 use Rattle.records.specs.Log.{recordedAt, recordChains}
 use Rattle.chains.proofs.Laws.{Along, along-first, along-found, along-next, chain-small, earlier-less}
-use Rattle.chains.specs.Chains.{chainOf, chainAt, newestIn}
+use Rattle.chains.specs.Chains.{chainAt}
 use denote.Ref.{now}
 use Prim.Native.Nat.{suc, _-_, _<_}
-use mathlib.Core.Path.{_≡_, sym, ap, _∙_}
+use mathlib.Core.Path.{_≡_, _∙_}
 use native.Mathlib.Omega.{arith}
 use Rattle.records.proofs.key.newest_of.Statement.{statement}
 use Rattle.records.proofs.key.newest_of.Tie as tie
@@ -16,21 +16,21 @@ Inv-loop sheet work c i j₀ j = Along work recordChains (chainAt work recordCha
 abbrev μ-loop : tie.MeasureT-loop
 μ-loop sheet work c i j₀ j = j
 
-digest-of-requires : tie.Need-digest-of-requires Inv-loop μ-loop
-digest-of-requires c κs = let p = c .before .before .pre in (omega (arith, p .1, p .0 .few), p .0 .checked .whole .room)
+digest-at-requires : tie.Need-digest-at-requires Inv-loop μ-loop
+digest-at-requires c κs = let p = c .before .before .pre in (record-placed _ (p .0 .checked .whole .room), omega (arith, p .1, p .0 .few))
 
 newest-requires : tie.Need-newest-requires Inv-loop μ-loop
 newest-requires c κs = record-placed _ (c .before .before .before .pre .0 .checked .whole .room)
 
 loop-holds : tie.Need-loop-holds Inv-loop μ-loop
+unfolding chainAt
 loop-holds c =
     let a = c .before .before .before .before .args in
     let s = now (a .sheet) in
     let w = now (a .work) in
     let p = c .before .before .before .before .pre in
     let e = own-chain s w (a .c .lines) (a .c .entries) (p .0) (a .i) (p .1) in
-    let k = ap chainOf (c .before .digest-of .ensures) ∙ sym (digest-chain w (a .i)) in
-    along-first (p .0 .chained) (chain-small w recordChains (a .i)) (key-chain s w (a .c .lines) (a .c .entries) (p .0) (recordedAt s w (a .i) .key) e) (c .newest .ensures ∙ ap (newestIn w recordChains (a .c .entries)) k)
+    along-first (p .0 .chained) (chain-small w recordChains (a .i)) (key-chain s w (a .c .lines) (a .c .entries) (p .0) (recordedAt s w (a .i) .key) e) (rw (c .before .digest-at .ensures .0) at (c .newest .ensures))
 
 add-loop : tie.Need-add-loop Inv-loop μ-loop
 add-loop c = let p = c .before .before .before .before .before .pre in record { fits = omega (arith, p .1, p .0 .few) }
@@ -67,5 +67,5 @@ returns-2 c =
 
 pub newest-of-spec : {M : Type 1} → statement M
 newest-of-spec =
-    tie.close (tie.spec Inv-loop μ-loop digest-of-requires newest-requires loop-holds add-loop (λ c. omega arith) same-key-requires returns
+    tie.close (tie.spec Inv-loop μ-loop digest-at-requires newest-requires loop-holds add-loop (λ c. omega arith) same-key-requires returns
     earlier-requires loop-less loop-again returns-2)
