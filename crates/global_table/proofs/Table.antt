@@ -16,11 +16,11 @@ use Rattle.semantics.specs.Global.{Global, placeOf}
 use Rattle.laws.proofs.Tests.{same-eq}
 use Rattle.words.specs.Words.{digest, u16At}
 use Rattle.words.proofs.Laws.{digest-same, digest-apart}
-use Rattle.chains.specs.Chains.{newestOf, chainOf, digestPlace, chainAt, inChain, ChainRoom, Chained, linked}
+use Rattle.chains.specs.Chains.{newestOf, chainOf, digestPlace, digestAt, chainAt, inChain, ChainRoom, Chained, linked}
 use Rattle.chains.proofs.Laws.{PlacesApart, SameBytes, newest-yes, newest-no, newest-low, linked-outside, linked-other, linked-long, chained-none, chained-kept, chained-next}
 use Rattle.checks.specs.Checks.{Checked, Kept, Outside}
 use Rattle.checks.proofs.Kept.{kept-less, kept-at, outside-then, checked-kept, kind-line-kept}
-use Rattle.global_table.specs.Table.{VarLine, globalLineOf, globalPositionOf, offsetOf, globalDigestOf, globalChains, globalStored, globalEntered, globalAt, entriesFrom, placesIn, GlobalEntry, Tabled, offsetBy, numberFrom, entryNumber}
+use Rattle.global_table.specs.Table.{VarLine, globalLineOf, globalPositionOf, offsetOf, globalChains, globalStored, globalEntered, globalAt, entriesFrom, placesIn, GlobalEntry, Tabled, offsetBy, numberFrom, entryNumber}
 
 -- ---- a run of stores
 
@@ -107,8 +107,8 @@ module _ (t : Bytes) (i line position offset d : ℕ) (hi : i < 256) (hl : line 
   unfolding u16At cells
   offset-new = rw (cell-at 3 (7171 + 8 * i) (omega arith) (omega arith), cell-at 4 (7171 + 8 * i + 1) (omega arith) (omega arith)) (omega arith)
 
-  pub digest-new : globalDigestOf (globalEntered t i line position offset d) i ≡ d
-  unfolding globalDigestOf cells
+  pub digest-new : digestAt (globalEntered t i line position offset d) globalChains i ≡ d
+  unfolding digestPlace cells
   digest-new = cell-at 5 (7173 + 8 * i) (omega arith) (omega arith)
 
   -- a byte that is none of the entry's stays
@@ -133,8 +133,8 @@ module _ (t : Bytes) (i line position offset d : ℕ) (hi : i < 256) (hl : line 
     unfolding u16At
     offset-old = rw (cell-old 3 (omega arith) (7171 + 8 * j) (omega arith), cell-old 4 (omega arith) (7171 + 8 * j + 1) (omega arith))
 
-    pub digest-old : globalDigestOf (globalEntered t i line position offset d) j ≡ globalDigestOf t j
-    unfolding globalDigestOf
+    pub digest-old : digestAt (globalEntered t i line position offset d) globalChains j ≡ digestAt t globalChains j
+    unfolding digestPlace
     digest-old = cell-old 5 (omega arith) (7173 + 8 * j) (omega arith)
 
     pub entry-old : (s : Bytes) → globalAt s (globalEntered t i line position offset d) j ≡ globalAt s t j
@@ -209,7 +209,7 @@ once-entered s t g line position offset d hg hl ho room old last i h = ⊎-elim 
 -- ---- search for a name
 
 -- names with different digests are different
-pub named-apart : {s t : Bytes} {n i d : ℕ} (x : Bytes) → GlobalEntry s t n i → d ≡ digest x → (globalDigestOf t i ≡ d → ⊥) → false ≡ same x (globalAt s t i .name)
+pub named-apart : {s t : Bytes} {n i d : ℕ} (x : Bytes) → GlobalEntry s t n i → d ≡ digest x → (digestAt t globalChains i ≡ d → ⊥) → false ≡ same x (globalAt s t i .name)
 named-apart {s} {t} {i = i} x b e z = digest-apart x (globalAt s t i .name) (λ q. z (b .digest ∙ sym (e ∙ q)))
 
 -- one more place: the first with a name is new where it has that name and none before it has
@@ -286,9 +286,9 @@ module _ (s t : Bytes) (x : Bytes) where
 
 -- an entry with the name x, which has the digest d, is of the chain of d
 pub named-chain : {s t : Bytes} {n g d : ℕ} (x : Bytes) → Tabled s t n g → d ≡ digest x → (j : ℕ) → j < g → hasName s t x j ≡ true → inChain t globalChains (chainOf d) j ≡ true
-unfolding chainAt digestPlace globalDigestOf
+unfolding chainAt
 named-chain {s} {t} {d = d} x w e j h q =
-    let y : getD t (7173 + 8 * j) 0 ≡ d = w .entries j h .digest ∙ sym (e ∙ digest-same x (globalAt s t j .name) 0 q) in
+    let y : digestAt t globalChains j ≡ d = w .entries j h .digest ∙ sym (e ∙ digest-same x (globalAt s t j .name) 0 q) in
     eq-eqb (chainAt t globalChains j) (chainOf d) (ap chainOf y)
 
 pub found-is : {s t : Bytes} {n g r : ℕ} (x : Bytes) → Tabled s t n g → r ≡ newestOf (hasName s t x) g → (offsetBy t r ≡ placeOf x (placesIn s t g)) × (r ≤ g) × (r ≡ entryNumber x (placesIn s t g))
@@ -332,10 +332,6 @@ module _ {t u : Bytes} (a : Kept 9216 t u) where
   pub offset-kept : (i : ℕ) → i < 256 → offsetOf u i ≡ offsetOf t i
   offset-kept i h = u16-kept (7171 + 8 * i) (omega arith)
 
-  digest-kept : (i : ℕ) → i < 256 → globalDigestOf u i ≡ globalDigestOf t i
-  unfolding globalDigestOf
-  digest-kept i h = kept-at a (7173 + 8 * i) (omega arith)
-
   entry-kept : (s : Bytes) (i : ℕ) → i < 256 → globalAt s u i ≡ globalAt s t i
   unfolding globalAt globalPositionOf
   entry-kept s i h = rw (line-kept i h, offset-kept i h, kept-at a (7170 + 8 * i) (omega arith))
@@ -358,7 +354,7 @@ module _ {t u : Bytes} (a : Kept 9216 t u) where
     entries = λ i h. let x = d .entries i h in record {
       low = x .low;
       line = rw (line-kept i (x .low)) (kind-line-kept (kept-less (omega arith) a) (x .line));
-      digest = rw (digest-kept i (x .low), entry-kept s i (x .low)) (x .digest);
+      digest = rw (globals-same .digest i (x .low), entry-kept s i (x .low)) (x .digest);
     };
     once = λ i h. let x = d .entries i h in rw (entry-kept s i (x .low), places-kept s i (omega (arith, x .low))) (d .once i h);
     chained = chained-kept globals-same (d .few) (d .chained);

@@ -14,7 +14,7 @@ use Rattle.semantics.specs.Global.{Global, placeOf}
 use Rattle.lines.specs.Lines.{readAt, nodesIn}
 use Rattle.words.specs.Words.{digest, u16At}
 use Rattle.chains.specs.declared.ChainPlaces.{ChainPlaces}
-use Rattle.chains.specs.Chains.{Chained, linked}
+use Rattle.chains.specs.Chains.{digestAt, Chained, linked}
 use Rattle.checks.specs.Checks.{Checked, KindLine}
 use Rattle.source.specs.Walk.{varOf}
 
@@ -48,10 +48,7 @@ globalPositionOf t i = getD t (7170 + 8 * i) 0
 abbrev pub offsetOf : Bytes → ℕ → ℕ
 offsetOf t i = u16At t (7171 + 8 * i)
 
-unfoldable pub globalDigestOf : Bytes → ℕ → ℕ
-globalDigestOf t i = getD t (7173 + 8 * i) 0
-
--- where their chains stand
+-- where the digests stand, with links and heads
 abbrev pub globalChains : ChainPlaces
 globalChains = record { at = 7173; gap = 1; step = 8 }
 
@@ -78,7 +75,7 @@ placesIn s t g = entriesFrom s t 0 g
 pub record GlobalEntry (s t : Bytes) (n i : ℕ) : Type 0 where
   pub low : i < 256
   pub line : VarLine s t n (globalLineOf t i)
-  pub digest : globalDigestOf t i ≡ digest (globalAt s t i .name)
+  pub digest : digestAt t globalChains i ≡ digest (globalAt s t i .name)
 
 -- the offset of an entry by its number from 1; 0 is none
 unfoldable pub offsetBy : Bytes → ℕ → Option ℕ

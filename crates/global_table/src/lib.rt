@@ -10,7 +10,7 @@ ghost use Rattle.semantics.specs.Text.{same};
 ghost use Rattle.semantics.specs.Global.{globalSize, placeOf};
 ghost use Rattle.sizes.specs.Sizes.{typeAt, TypeLine};
 ghost use Rattle.words.specs.Words.{digest};
-ghost use Rattle.global_table.specs.Table.{globalLineOf, globalPositionOf, offsetOf, globalDigestOf, globalEntered, globalAt, placesIn, GlobalEntry, Tabled, offsetBy, entryNumber, offsetIn};
+ghost use Rattle.global_table.specs.Table.{globalLineOf, globalPositionOf, offsetOf, globalEntered, globalAt, placesIn, GlobalEntry, Tabled, offsetBy, entryNumber, offsetIn};
 
 // Where the table's chains stand.
 const CHAINS: ChainPlaces = ChainPlaces {
@@ -43,14 +43,6 @@ pub fn offset_of(work: &[u8], i: usize) -> usize
     words::u16_at(work, area::GLOBALS + 3 + 8 * i)
 }
 
-// Its name's digest.
-fn digest_of(work: &[u8], i: usize) -> usize
-    requires { ⌜ (i < 256) × (65536 ≤ length (now work)) ⌝ }
-    ensures { λ r. ⌜ r ≡ globalDigestOf (now (work .entry)) i ⌝ }
-{
-    words::wide(work[area::GLOBALS + 5 + 8 * i])
-}
-
 // Makes entry i, the newest of its chain.
 pub fn enter(work: &mut [u8], i: usize, line: usize, position: usize, offset: usize, digest: usize)
     requires { ⌜ (i < 256) × (line < 65536) × (position < 256) × (offset < 65536) × (digest < 256) × (65536 ≤ length (now work)) ⌝ }
@@ -79,7 +71,7 @@ fn is_named(sheet: &[u8], work: &[u8], n: usize, i: usize, name: &[u8], d: usize
     requires { ⌜ (GlobalEntry (now sheet) (now work) n i) × (d ≡ digest (now name)) ⌝ }
     ensures { λ r. ⌜ r ≡ same (now (name .entry)) (globalAt (now (sheet .entry)) (now (work .entry)) i .name) ⌝ }
 {
-    if digest_of(work, i) != d {
+    if chains::digest_at(work, CHAINS, i) != d {
         return false; // before the name is looked for
     }
     words::same(name, name_of(sheet, work, n, i))
