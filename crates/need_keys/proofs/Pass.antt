@@ -21,16 +21,16 @@ use Rattle.checks.proofs.Kept.{kept-less, checked-kept, outside-then, outside-l
 use Rattle.words.specs.Words.{digest}
 use Rattle.source.specs.Walk.{declaredTo}
 use Rattle.laws.proofs.Tests.{same-eq}
-use Rattle.chains.specs.Chains.{newestOf, chainOf, chainAt, inChain, Chained}
+use Rattle.chains.specs.Chains.{newestOf, chainOf, digestAt, chainAt, inChain, Chained}
 use Rattle.chains.proofs.Laws.{newest-none-later, chained-none}
 use Rattle.type_lines.specs.Needs.{needAt, needsTo, kindBy}
 use Rattle.type_lines.proofs.Codes.{kind-low}
 use Rattle.type_lines.proofs.ByForm.{elem-is}
 use Rattle.type_lines.proofs.Spelling.{texts-are}
 use Rattle.type_lines.proofs.Needs.{needs-all, needs-few, needs-next, needs-stay}
-use Rattle.type_keys.specs.Table.{needLineOf, needPositionOf, kindPosition, needDigestOf, needChains, needEntered, digestEntered, kindEntered, Needs, Kinds}
+use Rattle.type_keys.specs.Table.{needLineOf, needPositionOf, kindPosition, needChains, needEntered, digestEntered, kindEntered, Needs, Kinds}
 use Rattle.type_keys.proofs.Distinct.{position-same, position-within, position-none, position-more, distinct-more, distinct-few, key-member, none-distinct, known-more}
-use Rattle.type_keys.proofs.Table.{line-below, position-below, kind-above, kind-kept, entered-outside, entered-line, entered-position, other-line, other-position, kind-outside, kind-entered, need-chain, digest-above, digest-outside, digest-same, digest-other, chained-entered, chained-above}
+use Rattle.type_keys.proofs.Table.{line-below, position-below, kind-above, kind-kept, entered-outside, entered-line, entered-position, other-line, other-position, kind-outside, kind-entered, digest-above, digest-outside, digest-new, digest-old, chained-entered, chained-above}
 use Rattle.type_keys.proofs.Elements.{kinds-more}
 use Rattle.need_keys.specs.Pass.{NeedEntry, Collecting, NeedNext}
 
@@ -73,10 +73,11 @@ module _ {s t : List ℕ} {n i needs keys : ℕ} (x : NeedNext s t n i needs key
 
     -- and the digest of its line's text, so it is of that chain
     pub found-chain : {d : ℕ} → d ≡ digest (textAt s i) → hasNeedKey s t i q ≡ true → inChain t needChains (chainOf d) q ≡ true
+    unfolding chainAt
     found-chain {d} e g =
         let z : textAt s i ≡ textAt s (needLineOf t q) = same-eq (textAt s i) (textAt s (needLineOf t q)) (texts-are (x .line) (known-entry q h .line) ∙ g) in
-        let y : needDigestOf t q ≡ d = x .collecting .digests q h ∙ sym (e ∙ ap (λ (l : List ℕ). digest l) z) in
-        eq-eqb (chainAt t needChains q) (chainOf d) (need-chain t q ∙ ap chainOf y)
+        let y : digestAt t needChains q ≡ d = x .collecting .digests q h ∙ sym (e ∙ ap (λ (l : List ℕ). digest l) z) in
+        eq-eqb (chainAt t needChains q) (chainOf d) (ap chainOf y)
 
   pub next-position : 0 ≡ newestOf (hasNeedKey s t i) needs → keys ≡ position (needAt s i) (distinct [] (needsTo s i))
   next-position z =
@@ -163,21 +164,21 @@ module _ {s t : List ℕ} {n i needs keys : ℕ} (x : NeedNext s t n i needs key
       ∙ kind-entered u (omega (arith, room, first .kept .long)) (kindBy f) p (kindNumber e) (kind-low e)
       ∙ rw (elem-is s t n i (x .line) e, ← hf, ← hp, kind-above first (kindNumber e))
 
-  digests-are : (q : ℕ) → q < needs + 1 → needDigestOf w q ≡ digest (textAt s (needLineOf w q))
+  digests-are : (q : ℕ) → q < needs + 1 → digestAt w needChains q ≡ digest (textAt s (needLineOf w q))
   digests-are q h = go (eqb q needs) refl
     where
       low : needs < 128
       low = needs-room x .0
 
-      go : (b : Bool) → eqb q needs ≡ b → needDigestOf w q ≡ digest (textAt s (needLineOf w q))
+      go : (b : Bool) → eqb q needs ≡ b → digestAt w needChains q ≡ digest (textAt s (needLineOf w q))
       go true e =
           let z : q ≡ needs = eqb-true q needs e in
-          ap (needDigestOf w) z ∙ ap (λ (l : List ℕ). needDigestOf l needs) hw ∙ digest-same v long needs d low ∙ hd
+          ap (digestAt w needChains) z ∙ ap (λ (l : List ℕ). digestAt l needChains needs) hw ∙ digest-new v long needs d low ∙ hd
           ∙ ap (λ (l : ℕ). digest (textAt s l)) (sym new-line ∙ ap (needLineOf w) (sym (x .collecting .count) ∙ sym z))
       go false e =
           let ne = eqb-false q needs e in
           let k : q < length (needsTo s i) = omega (arith, x .collecting .count) in
-          ap (λ (l : List ℕ). needDigestOf l q) hw ∙ digest-other v long needs d low q (omega arith) ne ∙ digest-above (omega arith) second q ∙ digest-above (omega arith) first q
+          ap (λ (l : List ℕ). digestAt l needChains q) hw ∙ digest-old v long needs d low q (omega arith) ∙ digest-above (omega arith) second q ∙ digest-above (omega arith) first q
           ∙ x .collecting .digests q (omega (arith, x .collecting .count)) ∙ ap (λ (l : ℕ). digest (textAt s l)) (sym (old-line q k))
 
   chained-are : Chained w needChains (needs + 1)

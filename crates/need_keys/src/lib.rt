@@ -21,31 +21,38 @@ pub struct NeedCounts {
     pub keys: usize,
 }
 
-// Whether need q has the key of the `need` line i, whose text has the digest h.
-fn has_need_key(sheet: &[u8], work: &[u8], n: usize, i: usize, h: usize, q: usize) -> bool
-    requires { ⌜ (NeedLine (now sheet) (now work) n i) × (h ≡ digest (textAt (now sheet) i)) × (NeedEntry (now sheet) (now work) n q) ⌝ }
+// Whether need q has the key of the `need` line i, whose text has the digest d.
+fn has_need_key(sheet: &[u8], work: &[u8], n: usize, i: usize, d: usize, q: usize) -> bool
+    requires { ⌜ (NeedLine (now sheet) (now work) n i) × (d ≡ digest (textAt (now sheet) i)) × (NeedEntry (now sheet) (now work) n q) ⌝ }
     ensures { λ r. ⌜ r ≡ sameTypeKey (needAt (now (sheet .entry)) i) (needAt (now (sheet .entry)) (needLineOf (now (work .entry)) q)) ⌝ }
 {
-    if type_keys::need_digest(work, q) != h {
+    if chains::digest_at(work, CHAINS, q) != d {
         return false; // before its line is looked at
     }
     type_lines::same_need(sheet, work, n, i, type_keys::need_line(work, q))
 }
 
-// The position of the key of the `need` line i, whose text has the digest h, among those of the lines before; the next position,
+// The position of the key of the `need` line i, whose text has the digest d, among those of the lines before; the next position,
 // where it is new. All needs with that key have its position, so the newest of them does.
-fn position_for(sheet: &[u8], work: &[u8], n: usize, i: usize, h: usize, d: NeedCounts) -> usize
-    requires { ⌜ (NeedNext (now sheet) (now work) n i (d .needs) (d .keys)) × (h ≡ digest (textAt (now sheet) i)) ⌝ }
+fn position_for(
+    sheet: &[u8],
+    work: &[u8],
+    n: usize,
+    i: usize,
+    d: usize,
+    counts: NeedCounts,
+) -> usize
+    requires { ⌜ (NeedNext (now sheet) (now work) n i (counts .needs) (counts .keys)) × (d ≡ digest (textAt (now sheet) i)) ⌝ }
     ensures { λ r. ⌜ r ≡ position (needAt (now (sheet .entry)) i) (distinct [] (needsTo (now (sheet .entry)) i)) ⌝ }
 {
-    let mut q = chains::newest(work, CHAINS, d.needs, h);
+    let mut q = chains::newest(work, CHAINS, counts.needs, d);
     while 0 < q {
-        if has_need_key(sheet, work, n, i, h, q - 1) {
+        if has_need_key(sheet, work, n, i, d, q - 1) {
             return type_keys::need_position(work, q - 1);
         }
         q = chains::earlier(work, CHAINS, q - 1);
     }
-    d.keys
+    counts.keys
 }
 
 // How many keys there are with one more at position p, which is new where p is behind all others.
@@ -60,31 +67,31 @@ fn with_key(p: usize, keys: usize) -> usize
 }
 
 // Enters the `need` line i, with the position of its key: the Rust's `need_type`.
-fn collect_need(sheet: &[u8], work: &mut [u8], n: usize, i: usize, d: NeedCounts) -> NeedCounts
-    requires { ⌜ NeedNext (now sheet) (now work) n i (d .needs) (d .keys) ⌝ }
+fn collect_need(sheet: &[u8], work: &mut [u8], n: usize, i: usize, counts: NeedCounts) -> NeedCounts
+    requires { ⌜ NeedNext (now sheet) (now work) n i (counts .needs) (counts .keys) ⌝ }
     ensures { λ r. ⌜ (Collecting (now (sheet .entry)) (now (work .exit)) n (i + 1) (r .needs) (r .keys)) × (Outside 10240 11264 (now (work .entry)) (now (work .exit))) ⌝ }
 {
-    let h = words::digest(lines::line_at(sheet, work, n, i));
-    let p = position_for(sheet, work, n, i, h, d);
+    let d = words::digest(lines::line_at(sheet, work, n, i));
+    let p = position_for(sheet, work, n, i, d, counts);
     let f = lines::form_at(work, i);
-    type_keys::enter_need(work, d.needs, i, p);
+    type_keys::enter_need(work, counts.needs, i, p);
     type_keys::enter_kind(work, type_lines::kind_needed(f) as usize, p);
-    type_keys::enter_digest(work, d.needs, h);
+    type_keys::enter_digest(work, counts.needs, d);
     NeedCounts {
-        needs: d.needs + 1,
-        keys: with_key(p, d.keys),
+        needs: counts.needs + 1,
+        keys: with_key(p, counts.keys),
     }
 }
 
 // Enters what line i needs.
-fn collect_line(sheet: &[u8], work: &mut [u8], n: usize, i: usize, d: NeedCounts) -> NeedCounts
-    requires { ⌜ (Collecting (now sheet) (now work) n i (d .needs) (d .keys)) × (i < n) ⌝ }
+fn collect_line(sheet: &[u8], work: &mut [u8], n: usize, i: usize, counts: NeedCounts) -> NeedCounts
+    requires { ⌜ (Collecting (now sheet) (now work) n i (counts .needs) (counts .keys)) × (i < n) ⌝ }
     ensures { λ r. ⌜ (Collecting (now (sheet .entry)) (now (work .exit)) n (i + 1) (r .needs) (r .keys)) × (Outside 10240 11264 (now (work .entry)) (now (work .exit))) ⌝ }
 {
     if form::kind(lines::form_at(work, i)) != kind::NEED {
-        return d;
+        return counts;
     }
-    collect_need(sheet, work, n, i, d)
+    collect_need(sheet, work, n, i, counts)
 }
 
 // Enters all needs, in sheet order; equal keys have one position.
@@ -93,11 +100,11 @@ pub fn collect_needs(sheet: &[u8], work: &mut [u8], n: usize) -> NeedCounts
     ensures { λ r. ⌜ (r .needs ≡ length (sheetSource (now (sheet .entry)) .needs)) × (Needs (now (sheet .entry)) (now (work .exit)) n (sheetSource (now (sheet .entry)) .needs)) × (Kinds (now (work .exit)) (sheetSource (now (sheet .entry)) .needs) (r .keys)) × (Outside 10240 11264 (now (work .entry)) (now (work .exit))) ⌝ }
 {
     type_keys::clear_kinds(work);
-    let mut d = NeedCounts { needs: 0, keys: 0 };
+    let mut counts = NeedCounts { needs: 0, keys: 0 };
     let mut i = 0;
     while i < n {
-        d = collect_line(sheet, work, n, i, d);
+        counts = collect_line(sheet, work, n, i, counts);
         i += 1;
     }
-    d
+    counts
 }

@@ -11,11 +11,11 @@ use lib.Seq.{getD-set-same, getD-set-other}
 use borrow.Author.Tests.{ltb-true, ltb-false, eqb-true, eqb-false}
 use Rattle.semantics.specs.Tree.{TypeKey}
 use Rattle.semantics.specs.Array.{kindNumber}
-use Rattle.chains.specs.Chains.{chainOf, digestPlace, chainAt, ChainRoom, Chained}
-use Rattle.chains.proofs.Laws.{PlacesApart, SameBytes, linked-outside, linked-long, chained-kept, chained-next}
+use Rattle.chains.specs.Chains.{digestPlace, digestAt, ChainRoom, Chained}
+use Rattle.chains.proofs.Laws.{PlacesApart, SameBytes, linked-outside, linked-long, digest-stays, chained-kept, chained-next}
 use Rattle.checks.specs.Checks.{Kept, Outside}
-use Rattle.checks.proofs.Kept.{kept-at, outside-all, outside-then, outside-less, outside-set, outside-above}
-use Rattle.type_keys.specs.Table.{needLineOf, needPositionOf, kindPosition, needDigestOf, needChains, kindsUsed, needEntered, digestEntered, kindEntered, Kinds}
+use Rattle.checks.proofs.Kept.{kept-at, outside-all, outside-then, outside-set, outside-above}
+use Rattle.type_keys.specs.Table.{needLineOf, needPositionOf, kindPosition, needChains, kindsUsed, needEntered, digestEntered, kindEntered, Kinds}
 use Rattle.type_lines.proofs.Codes.{kind-low}
 
 -- ---- the parts of the table
@@ -36,9 +36,9 @@ module _ {t u : List ℕ} where
   kind-above x k = outside-above x (10624 + k) (omega arith)
 
   -- both leave the digests
-  pub digest-above : {a b : ℕ} → b ≤ 10752 → Outside a b t u → (q : ℕ) → needDigestOf u q ≡ needDigestOf t q
-  unfolding needDigestOf
-  digest-above h x q = outside-above x (10752 + q) (omega arith)
+  pub digest-above : {a b : ℕ} → b ≤ 10752 → Outside a b t u → (q : ℕ) → digestAt u needChains q ≡ digestAt t needChains q
+  unfolding digestPlace
+  digest-above h x q = outside-above x (10752 + 1 * q) (omega arith)
 
   -- a store behind the kinds leaves them
   pub kind-kept : Kept 10629 t u → (k : ℕ) → k < 5 → kindPosition u k ≡ kindPosition t k
@@ -145,32 +145,19 @@ need-apart : PlacesApart needChains 128
 unfolding digestPlace
 need-apart = record { own = λ i j e. omega arith; link = λ i j h l e. omega arith; head = λ i k h l e. omega arith }
 
--- the chain of need q is that of its digest
-pub need-chain : (t : List ℕ) (q : ℕ) → chainAt t needChains q ≡ chainOf (needDigestOf t q)
-unfolding chainAt digestPlace needDigestOf
-need-chain t q = let e : 10752 + 1 * q ≡ 10752 + q = omega arith in rw e
-
 pub digest-long : (t : List ℕ) (q d : ℕ) → length (digestEntered t q d) ≡ length t
 unfolding digestEntered
 digest-long t q d = linked-long (set t (10752 + q) d) needChains q ∙ length-set t (10752 + q) d
 
 module _ (t : List ℕ) (room : 65536 ≤ length t) (q d : ℕ) (hq : q < 128) where
-  behind-digests : Outside 10880 11264 (set t (10752 + q) d) (digestEntered t q d)
-  unfolding digestEntered digestPlace
-  behind-digests = linked-outside (set t (10752 + q) d) needChains q (omega arith) (omega arith) (λ k h. (omega arith, omega arith))
-
   pub digest-outside : Outside 10752 11264 t (digestEntered t q d)
-  digest-outside = outside-then (outside-set 10752 11264 t (10752 + q) d (omega arith) (omega arith)) (outside-less 10752 11264 (omega arith) (omega arith) behind-digests)
+  unfolding digestEntered digestPlace
+  digest-outside = outside-then (outside-set 10752 11264 t (10752 + q) d (omega arith) (omega arith)) (linked-outside (set t (10752 + q) d) needChains q (omega arith) (omega arith) (λ k h. (omega arith, omega arith)))
 
-  pub digest-same : needDigestOf (digestEntered t q d) q ≡ d
-  unfolding needDigestOf
-  digest-same = kept-at (behind-digests .kept) (10752 + q) (omega arith) ∙ getD-set-same t (10752 + q) d 0 (omega arith)
+  pub digest-new : digestAt (digestEntered t q d) needChains q ≡ d
+  unfolding digestEntered digestPlace
+  digest-new = let e : 10752 + 1 * q ≡ 10752 + q = omega arith in digest-stays need-apart (set t (10752 + q) d) hq q hq ∙ rw e (getD-set-same t (10752 + q) d 0 (omega arith))
 
-  pub digest-other : (j : ℕ) → j < 128 → (j ≡ q → ⊥) → needDigestOf (digestEntered t q d) j ≡ needDigestOf t j
-  unfolding needDigestOf
-  digest-other j h ne = kept-at (behind-digests .kept) (10752 + j) (omega arith) ∙ getD-set-other t (10752 + q) (10752 + j) d 0 (λ e. ne (omega arith))
-
-  -- the needs before it and this one are chained
   before-same : SameBytes t (set t (10752 + q) d) needChains q
   unfolding digestPlace
   before-same = record {
@@ -179,6 +166,11 @@ module _ (t : List ℕ) (room : 65536 ≤ length t) (q d : ℕ) (hq : q < 128) w
     head = λ k h. getD-set-other t (10752 + q) (10752 + 1 * k + 128 + 128) d 0 (λ e. omega arith);
   }
 
+  pub digest-old : (j : ℕ) → j < q → digestAt (digestEntered t q d) needChains j ≡ digestAt t needChains j
+  unfolding digestEntered
+  digest-old j h = digest-stays need-apart (set t (10752 + q) d) hq j (omega arith) ∙ before-same .digest j h
+
+  -- the needs before it and this one are chained
   pub chained-entered : Chained t needChains q → Chained (digestEntered t q d) needChains (suc q)
   unfolding digestEntered
   chained-entered c =
@@ -191,7 +183,7 @@ chained-above {t} {u} {m = m} h x c = chained-kept same (omega arith) c
   where
     same : SameBytes t u needChains m
     same = record {
-      digest = λ i l. outside-above x (10752 + 1 * i) (omega arith);
+      digest = λ i l. digest-above h x i;
       link = λ i l. outside-above x (10752 + 1 * i + 128) (omega arith);
       head = λ k l. outside-above x (10752 + 1 * k + 128 + 128) (omega arith);
     }

@@ -28,10 +28,6 @@ unfoldable pub kindPosition : Bytes → ℕ → ℕ
 kindPosition t k = getD t (10624 + k) 0
 
 -- 128 bytes each: the digest of the text of need q; from 10880 on its link; from 11008 on the head of chain q
-unfoldable pub needDigestOf : Bytes → ℕ → ℕ
-needDigestOf t q = getD t (10752 + q) 0
-
--- where these stand
 abbrev pub needChains : ChainPlaces
 needChains = record { at = 10752; gap = 128; step = 1 }
 

@@ -12,7 +12,7 @@ ghost use Rattle.semantics.specs.Tree.{ElemKind, TypeKey};
 ghost use Rattle.semantics.specs.Tree.TypeKey.{elemKey};
 ghost use Rattle.semantics.specs.Array.{kindNumber};
 ghost use Rattle.checks.specs.Checks.{Outside};
-ghost use Rattle.type_keys.specs.Table.{needLineOf, needPositionOf, kindPosition, needDigestOf, needEntered, digestEntered, kindEntered, Kinds};
+ghost use Rattle.type_keys.specs.Table.{needLineOf, needPositionOf, kindPosition, needEntered, digestEntered, kindEntered, Kinds};
 
 // Where the chains of needs stand.
 pub const CHAINS: ChainPlaces = ChainPlaces {
@@ -37,14 +37,6 @@ pub fn need_position(work: &[u8], q: usize) -> usize
     words::wide(work[area::NEED_POSITIONS + q])
 }
 
-// The digest of its line's text.
-pub fn need_digest(work: &[u8], q: usize) -> usize
-    requires { ⌜ (q < 128) × (65536 ≤ length (now work)) ⌝ }
-    ensures { λ r. ⌜ r ≡ needDigestOf (now (work .entry)) q ⌝ }
-{
-    words::wide(work[area::NEED_DIGESTS + q])
-}
-
 // The position of the key of a kind of element plus 1, 0 where it is not used.
 pub fn kind_position(work: &[u8], kind: usize) -> usize
     requires { ⌜ (kind < 5) × (65536 ≤ length (now work)) ⌝ }
@@ -63,12 +55,12 @@ pub fn enter_need(work: &mut [u8], q: usize, i: usize, p: usize)
     work[area::NEED_POSITIONS + q] = p as u8;
 }
 
-// The text of need q has the digest h; it becomes the newest of its chain.
-pub fn enter_digest(work: &mut [u8], q: usize, h: usize)
-    requires { ⌜ (q < 128) × (h < 256) × (65536 ≤ length (now work)) ⌝ }
-    ensures { λ _. ⌜ now (work .exit) ≡ digestEntered (now (work .entry)) q h ⌝ }
+// The text of need q has the digest d; it becomes the newest of its chain.
+pub fn enter_digest(work: &mut [u8], q: usize, d: usize)
+    requires { ⌜ (q < 128) × (d < 256) × (65536 ≤ length (now work)) ⌝ }
+    ensures { λ _. ⌜ now (work .exit) ≡ digestEntered (now (work .entry)) q d ⌝ }
 {
-    work[area::NEED_DIGESTS + q] = h as u8;
+    work[area::NEED_DIGESTS + q] = d as u8;
     chains::link(work, CHAINS, q);
 }
 

@@ -10,10 +10,10 @@ use Rattle.need_keys.proofs.collect_needs.Statement.{statement}
 use Rattle.need_keys.proofs.collect_needs.Tie as tie
 
 abbrev Inv-loop : tie.InvT-loop
-Inv-loop sheet work₀ n d₀ i₀ work d i = (Collecting sheet work n i (d .needs) (d .keys)) × (Outside 10240 11264 work₀ work)
+Inv-loop sheet work₀ n counts₀ i₀ work counts i = (Collecting sheet work n i (counts .needs) (counts .keys)) × (Outside 10240 11264 work₀ work)
 
 abbrev μ-loop : tie.MeasureT-loop
-μ-loop sheet work₀ n d₀ i₀ work d i = n - i
+μ-loop sheet work₀ n counts₀ i₀ work counts i = n - i
 
 loop-holds : tie.Need-loop-holds Inv-loop μ-loop
 loop-holds c = (collecting-start (now (c .before .before .before .before .before .before .args .sheet)) (c .before .before .clear-kinds .last .0) (c .before .before .before .before .before .before .args .n) (checked-kept (kept-less (omega arith) (c .before .before .clear-kinds .ensures .0 .kept)) (c .before .before .before .before .before .before .pre)) (c .before .before .clear-kinds .ensures .1), outside-all)
@@ -25,7 +25,7 @@ loop-again : tie.Need-loop-again Inv-loop μ-loop
 loop-again c = (c .before .before .collect-line .ensures .0, outside-then (c .before .before .before .before .before .loop .inv .1) (c .before .before .collect-line .ensures .1))
 
 returns : tie.Need-returns Inv-loop μ-loop
-returns c = let w = collecting-end (now (c .before .before .before .before .before .before .before .before .args .sheet)) (c .before .loop .work) (c .before .before .before .before .before .before .before .before .args .n) (c .before .loop .i) (c .before .loop .d .needs) (c .before .loop .d .keys) (c .before .loop .inv .0) (c .loop-test .left) in (w .0, w .1, w .2, outside-then (outside-less 10240 11264 (omega arith) (omega arith) (c .before .before .before .before .clear-kinds .ensures .0)) (c .before .loop .inv .1))
+returns c = let w = collecting-end (now (c .before .before .before .before .before .before .before .before .args .sheet)) (c .before .loop .work) (c .before .before .before .before .before .before .before .before .args .n) (c .before .loop .i) (c .before .loop .counts .needs) (c .before .loop .counts .keys) (c .before .loop .inv .0) (c .loop-test .left) in (w .0, w .1, w .2, outside-then (outside-less 10240 11264 (omega arith) (omega arith) (c .before .before .before .before .clear-kinds .ensures .0)) (c .before .loop .inv .1))
 
 pub collect-needs-spec : {M : Type 1} → statement M
 collect-needs-spec =

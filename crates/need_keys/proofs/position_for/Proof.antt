@@ -12,10 +12,10 @@ use Rattle.need_keys.proofs.position_for.Statement.{statement}
 use Rattle.need_keys.proofs.position_for.Tie as tie
 
 abbrev Inv-loop : tie.InvT-loop
-Inv-loop sheet work n i h d q₀ q = Along work needChains (chainOf h) (d .needs) (hasNeedKey sheet work i) q
+Inv-loop sheet work n i d counts q₀ q = Along work needChains (chainOf d) (counts .needs) (hasNeedKey sheet work i) q
 
 abbrev μ-loop : tie.MeasureT-loop
-μ-loop sheet work n i h d q₀ q = q
+μ-loop sheet work n i d counts q₀ q = q
 
 newest-requires : tie.Need-newest-requires Inv-loop μ-loop
 newest-requires c κs = need-placed (c .before .before .pre .0 .line .checked .whole .room)

@@ -19,7 +19,7 @@ returns c = c .before .before .link .ensures
 same-length : tie.Need-same-length
 same-length c =
     let a = c .before .before .before .before .before .args in
-    ap length (returns c) ∙ digest-long (now (a .work)) (a .q) (a .h)
+    ap length (returns c) ∙ digest-long (now (a .work)) (a .q) (a .d)
 
 pub enter-digest-spec : {M : Type 1} → statement M
 enter-digest-spec =
