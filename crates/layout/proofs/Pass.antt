@@ -59,22 +59,23 @@ module _ (size : ℕ) (zs : List ℤ) (came : Bytes) where
   start = record { bytes = refl; ones = refl }
 
   -- byte n is finished: stored behind the n before it, and its ones are counted
-  pub step : (n : ℕ) (d : Bytes) (count b ones : ℕ) → n < length (pointerMap size zs) → b ≡ mapBits size zs 8 (n * 8) → ones ≡ onesIn 8 b
+  pub step : (n : ℕ) (d : Bytes) (count b ones : ℕ) → n < mapLength size → b ≡ mapBits size zs 8 (n * 8) → ones ≡ onesIn 8 b
       → MapPass size zs came n d count → MapPass size zs came (n + 1) (set d n b) (count + ones)
   step n d count b ones h e f p =
       let m = pointerMap size zs in
+      let l : n < length m = omega (arith, map-length size zs) in
       let w : 8 * n ≡ n * 8 = omega arith in
       let at : getD m n 0 ≡ b = byte-at size zs n ∙ ap (mapBits size zs 8) w ∙ sym e in
-      let more : take (n + 1) m ≡ take n m ++ b ∷ [] = rw (add-one, ← at) (take-suc m n 0 h) in
-      let long : length (take n m) ≡ n = length-take-le n m (le-of-lt h) in
+      let more : take (n + 1) m ≡ take n m ++ b ∷ [] = rw (add-one, ← at) (take-suc m n 0 l) in
+      let long : length (take n m) ≡ n = length-take-le n m (le-of-lt l) in
       record {
         bytes = rw (more, p .bytes) (rw long at (over-more (take n m) came b));
         ones = rw more (omega (arith, count-more (take n m) b, p .ones));
       }
 
-  pub done : (n : ℕ) (d : Bytes) (count : ℕ) → length (pointerMap size zs) ≤ n → MapPass size zs came n d count
+  pub done : (n : ℕ) (d : Bytes) (count : ℕ) → mapLength size ≤ n → MapPass size zs came n d count
       → (d ≡ laidOver (pointerMap size zs) came) × (count ≡ pointerCount (pointerMap size zs))
-  done n d count h p = rw (← take-all n (pointerMap size zs) h) (p .bytes, p .ones)
+  done n d count h p = let l : length (pointerMap size zs) ≤ n = omega (arith, map-length size zs) in rw (← take-all n (pointerMap size zs) l) (p .bytes, p .ones)
 
   pub pass-length : (n : ℕ) (d : Bytes) (count : ℕ) → MapPass size zs came n d count → length d ≡ length came
   pass-length n d count p = rw (p .bytes) (over-length (take n (pointerMap size zs)) came)

@@ -1,16 +1,14 @@
 // Pointer maps, and how many ones they have.
 ghost use mathlib.Core.Path.{_≡_};
 ghost use Prim.Native.Nat.{_^_, _≤_};
-ghost use lib.ListN.{length, set};
-ghost use lib.IntN.{ℤ};
+ghost use lib.ListN.{set};
 ghost use lib.Count.{onesIn};
-ghost use mathlib.Core.List.{List};
-ghost use Rattle.semantics.specs.Layout.{marks, marked, mapBits, pointerMap, pointerCount};
+ghost use Rattle.semantics.specs.Layout.{marks, marked, mapBits, mapLength, pointerMap, pointerCount};
 ghost use Rattle.layout.specs.Pass.{laidOver};
 
 // How many bytes the map of a block of this size has: one for each 8 words of 4 bytes, both rounded up.
 pub fn map_bytes(size: u32) -> usize
-    ensures { λ r. ⌜ ((offs : List ℤ) → r ≡ length (pointerMap size offs)) × (r ≤ 2 ^ 27) ⌝ }
+    ensures { λ r. ⌜ (r ≡ mapLength size) × (r ≤ 2 ^ 27) ⌝ }
 {
     ((size as usize + 3) / 4 + 7) / 8
 }

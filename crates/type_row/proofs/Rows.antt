@@ -1,7 +1,7 @@
 -- Rows of types one behind the other, and one row field by field.
-use mathlib.Core.Path.{_≡_, sym, _∙_}
+use mathlib.Core.Path.{_≡_, sym}
 use mathlib.Core.List.{List, [], _∷_, _++_, append-assoc, append-nil}
-use Prim.Native.Nat.{ℕ, suc, _+_, _≤_}
+use Prim.Native.Nat.{ℕ, suc, _+_}
 use native.Mathlib.Omega.{arith}
 use lib.IntN.{ℤ}
 use lib.ListN.{length, take, drop}
@@ -11,9 +11,7 @@ use Rattle.semantics.specs.Layout.{mapLength, pointerMap, pointerCount}
 use Rattle.semantics.specs.Listing.{row, typeRows}
 use Rattle.write.specs.Wrote.{Wrote}
 use Rattle.write.proofs.Wrote.{wrote-as, then}
-use Rattle.maps.specs.Maps.{mapIn, MapRoom}
-use Rattle.maps.proofs.Maps.{map-fits}
-use Rattle.layout.proofs.Pass.{map-length}
+use Rattle.maps.specs.Maps.{mapIn}
 
 pub rows-append : (id : ℕ) (xs ys : List Shape) → typeRows id (xs ++ ys) ≡ typeRows id xs ++ typeRows (id + length xs) ys
 unfolding typeRows
@@ -31,9 +29,6 @@ rows-then id xs ys j h v w = wrote-as (sym (rows-append id xs ys)) (then v (rw h
 pub map-part : (t : Bytes) (size n : ℕ) → n ≡ mapLength size → take n (drop 49152 t) ≡ mapIn t size
 unfolding mapIn
 map-part t size n e = rw e
-
-pub map-end : {t : Bytes} {size n : ℕ} → MapRoom t size → ((offs : List ℤ) → n ≡ length (pointerMap size offs)) → (n ≡ mapLength size) × (49152 + n ≤ length t)
-map-end {t} {size} m h = let e = h [] ∙ map-length size [] in (e, omega (arith, e, map-fits m, m .room))
 
 -- the row of a shape whose map is m
 module _ (id size : ℕ) (m : Bytes) (offs : List ℤ) (e : m ≡ pointerMap size offs) where

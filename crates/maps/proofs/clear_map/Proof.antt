@@ -1,8 +1,4 @@
-use Rattle.semantics.specs.Layout.{mapLength}
 use Rattle.maps.proofs.Maps.{map-fits, Clearing, clearing-start, clearing-next, clearing-end}
-use Rattle.layout.proofs.Pass.{map-length}
-use mathlib.Core.List.{[]}
-use mathlib.Core.Path.{_≡_}
 use native.Mathlib.Omega.{arith}
 use Prim.Native.Nat.{_-_, _≤_}
 use Rattle.maps.proofs.clear_map.Statement.{statement}
@@ -21,19 +17,19 @@ loop-holds : tie.Need-loop-holds Inv-loop μ-loop
 loop-holds c = (omega arith, clearing-start)
 
 add-work : tie.Need-add-work Inv-loop μ-loop
-add-work c = omega (arith, map-fits (c .before .before .before .before .pre), c .before .before .map-bytes .ensures .0 [], map-length (c .before .before .before .before .args .size) [])
+add-work c = omega (arith, map-fits (c .before .before .before .before .pre))
 
 slice-write-work : tie.Need-slice-write-work Inv-loop μ-loop
-slice-write-work c = omega (arith, c .before .loop .inv .1 .kept .long, c .before .before .before .before .pre .room, map-fits (c .before .before .before .before .pre), c .before .before .map-bytes .ensures .0 [], map-length (c .before .before .before .before .args .size) [])
+slice-write-work c = omega (arith, c .before .loop .inv .1 .kept .long, c .before .before .before .before .pre .room, map-fits (c .before .before .before .before .pre))
 
 loop-again : tie.Need-loop-again Inv-loop μ-loop
-loop-again c = (omega arith, clearing-next (c .before .loop .inv .1) (omega (arith, c .before .loop .inv .1 .kept .long, c .before .before .before .before .pre .room, map-fits (c .before .before .before .before .pre), c .before .before .map-bytes .ensures .0 [], map-length (c .before .before .before .before .args .size) [])))
+loop-again c = (omega arith, clearing-next (c .before .loop .inv .1) (omega (arith, c .before .loop .inv .1 .kept .long, c .before .before .before .before .pre .room, map-fits (c .before .before .before .before .pre))))
 
 same-length : tie.Need-same-length Inv-loop μ-loop
 same-length c = c .before .loop .inv .1 .kept .long
 
 returns : tie.Need-returns Inv-loop μ-loop
-returns c = let e : c .before .loop .i ≡ mapLength (c .before .before .before .before .args .size) = omega (arith, c .before .before .map-bytes .ensures .0 [], map-length (c .before .before .before .before .args .size) []) in clearing-end (c .before .before .before .before .pre) e (c .before .loop .inv .1)
+returns c = clearing-end (c .before .before .before .before .pre) (omega arith) (c .before .loop .inv .1)
 
 pub clear-map-spec : {M : Type 1} → statement M
 clear-map-spec =

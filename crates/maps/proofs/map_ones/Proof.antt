@@ -1,7 +1,5 @@
 use Rattle.maps.proofs.Maps.{map-fits, OnesCounted, ones-start, ones-next, ones-end}
-use Rattle.layout.proofs.Pass.{map-length}
 use denote.Ref.{now}
-use mathlib.Core.List.{[]}
 use native.Mathlib.Omega.{arith}
 use Prim.Native.Nat.{_-_}
 use Rattle.maps.proofs.map_ones.Statement.{statement}
@@ -20,10 +18,10 @@ loop-holds : tie.Need-loop-holds Inv-loop μ-loop
 loop-holds c = ones-start (now (c .before .before .args .work)) (c .before .before .args .size) (c .before .before .pre)
 
 add-ones-of : tie.Need-add-ones-of Inv-loop μ-loop
-add-ones-of c = omega (arith, map-fits (c .before .before .before .before .pre), c .before .before .map-bytes .ensures .0 [], map-length (c .before .before .before .before .args .size) [])
+add-ones-of c = omega (arith, map-fits (c .before .before .before .before .pre))
 
 shared-slice-read-ones-of : tie.Need-shared-slice-read-ones-of Inv-loop μ-loop
-shared-slice-read-ones-of c = omega (arith, c .before .before .before .before .before .pre .room, map-fits (c .before .before .before .before .before .pre), c .before .before .before .map-bytes .ensures .0 [], map-length (c .before .before .before .before .before .args .size) [])
+shared-slice-read-ones-of c = omega (arith, c .before .before .before .before .before .pre .room, map-fits (c .before .before .before .before .before .pre))
 
 ones-of-requires : tie.Need-ones-of-requires Inv-loop μ-loop
 ones-of-requires c κs = tt
@@ -32,10 +30,10 @@ add-count : tie.Need-add-count Inv-loop μ-loop
 add-count c = omega (arith, c .before .before .before .loop .inv .few, c .before .before .before .loop .inv .within, map-fits (c .before .before .before .before .before .before .pre), c .ones-of .ensures .1)
 
 loop-again : tie.Need-loop-again Inv-loop μ-loop
-loop-again c = ones-next (now (c .before .before .before .before .before .before .args .work)) (c .before .before .before .before .before .before .args .size) (c .before .before .before .before .before .before .pre) (c .before .before .before .loop .count) (c .before .before .before .loop .i) (c .ones-of .result) (c .before .before .before .loop .inv) (omega (arith, c .before .before .before .before .map-bytes .ensures .0 [], map-length (c .before .before .before .before .before .before .args .size) [])) (c .ones-of .ensures .0) (c .ones-of .ensures .1)
+loop-again c = ones-next (now (c .before .before .before .before .before .before .args .work)) (c .before .before .before .before .before .before .args .size) (c .before .before .before .before .before .before .pre) (c .before .before .before .loop .count) (c .before .before .before .loop .i) (c .ones-of .result) (c .before .before .before .loop .inv) (omega arith) (c .ones-of .ensures .0) (c .ones-of .ensures .1)
 
 returns : tie.Need-returns Inv-loop μ-loop
-returns c = ones-end (now (c .before .before .before .before .args .work)) (c .before .before .before .before .args .size) (c .before .before .before .before .pre) (c .before .loop .count) (c .before .loop .i) (c .before .loop .inv) (omega (arith, c .before .before .map-bytes .ensures .0 [], map-length (c .before .before .before .before .args .size) []))
+returns c = ones-end (now (c .before .before .before .before .args .work)) (c .before .before .before .before .args .size) (c .before .before .before .before .pre) (c .before .loop .count) (c .before .loop .i) (c .before .loop .inv) (omega arith)
 
 pub map-ones-spec : {M : Type 1} → statement M
 map-ones-spec =

@@ -1,13 +1,11 @@
 use Rattle.maps.proofs.Maps.{map-fits}
-use Rattle.layout.proofs.Pass.{map-length}
-use mathlib.Core.List.{[]}
 use native.Mathlib.Omega.{arith}
 use borrow.Author.Needs.{needs}
 use Rattle.shape_rows.proofs.print_row.Statement.{statement}
 use Rattle.shape_rows.proofs.print_row.Tie as tie
 
 part-put-hex-end : tie.Need-part-put-hex-end
-part-put-hex-end c = omega (arith, c .before .before .before .before .before .before .before .before .before .before .before .before .before .before .before .before .before .before .before .before .before .before .pre .room, map-fits (c .before .before .before .before .before .before .before .before .before .before .before .before .before .before .before .before .before .before .before .before .before .before .pre), c .before .map-bytes .ensures .0 [], map-length (c .before .before .before .before .before .before .before .before .before .before .before .before .before .before .before .before .before .before .before .before .before .before .args .size) [])
+part-put-hex-end c = omega (arith, c .before .before .before .before .before .before .before .before .before .before .before .before .before .before .before .before .before .before .before .before .before .before .pre .room, map-fits (c .before .before .before .before .before .before .before .before .before .before .before .before .before .before .before .before .before .before .before .before .before .before .pre))
 
 pub print-row-spec : {M : Type 1} → statement M
 print-row-spec =

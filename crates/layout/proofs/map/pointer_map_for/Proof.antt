@@ -2,8 +2,7 @@
 -- fits. The measure is the number of bytes still to come. Assumes nothing.
 use Prim.Native.Nat.{_*_, _-_, _≤_, _<_}
 use native.Mathlib.Omega.{arith}
-use lib.ListN.{length}
-use Rattle.semantics.specs.Layout.{pointerMap}
+use Rattle.semantics.specs.Layout.{mapLength}
 use Rattle.layout.specs.Pass.{MapPass}
 use Rattle.layout.proofs.Pass.{start, step, done, pass-length}
 use Rattle.layout.proofs.map.pointer_map_for.Statement.{statement}
@@ -36,7 +35,7 @@ loop-again c =
     let head = counted .before .before .before in
     let size = head .before .before .before .args .size in
     let offs = head .before .before .before .args .offsets .now in
-    let inside : head .loop .n < length (pointerMap size offs) = omega (arith, head .before .map-bytes .ensures .0 offs) in
+    let inside : head .loop .n < mapLength size = omega arith in
     let more = step size offs _ _ _ _ _ _ inside (counted .before .map-byte .ensures) (counted .ones-of .ensures .0) (head .loop .inv .1) in
     (omega arith, rw (c .before .before .put .ensures) more)
 
@@ -48,7 +47,7 @@ returns c =
     let head = c .before in
     let size = head .before .before .before .args .size in
     let offs = head .before .before .before .args .offsets .now in
-    let last : length (pointerMap size offs) ≤ head .loop .n = omega (arith, head .before .map-bytes .ensures .0 offs) in
+    let last : mapLength size ≤ head .loop .n = omega arith in
     done size offs _ _ _ _ last (head .loop .inv .1)
 
 pub pointer-map-for-spec : {M : Type 1} → statement M
