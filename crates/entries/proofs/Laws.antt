@@ -208,11 +208,11 @@ module _ (t u : Bytes) (m line within kind bits d : ℕ) (f : EntryRoom t m line
   each-new n p q each i h = ⊎-elim (λ (x : i ≡ m). subst (EntryBounds u n) (sym x) (entry-new n p q)) (λ (x : i < m). each-same (entries-below table-kept) each i x) (eq-or-lt-of-le (omega arith))
 
   digests-new : (s : Bytes) (n : ℕ) → d ≡ constDigest s within (firstField s line) → ConstsLogged s t n m → (i : ℕ) → i < m + 1 → digestAt u constChains i ≡ constDigest s (moduleLineOf u i) (firstField s (constLineOf u i))
-  digests-new s n e l i h = ⊎-elim (λ (x : i ≡ m). rw (x, digest-here, within-here, line-here) e) (λ (x : i < m). digests-same (entries-below table-kept) (l .each) s (l .digests) i x) (eq-or-lt-of-le (omega arith))
+  digests-new s n e l i h = ⊎-elim (λ (x : i ≡ m). rw (x, digest-here, within-here, line-here) e) (λ (x : i < m). digests-same (entries-below table-kept) s (l .digests) i x) (eq-or-lt-of-le (omega arith))
 
   log-new : (v : Option Tree.ConstVal) → valueBy u kind bits ≡ v → (s : Bytes) (n : ℕ) → ConstsLogged s t n m → logIn s u (m + 1) ≡ entries (sheetSource s .implement) (moduleAt s within) (firstField s line) v ++ logIn s t m
   unfolding logIn entriesAt
-  log-new v e s n l = rw (add-one, line-here, within-here, slot-is u m, kind-here, bits-here, e, log-same (entries-below table-kept) (l .each) s (texts-same s n l))
+  log-new v e s n l = rw (add-one, line-here, within-here, slot-is u m, kind-here, bits-here, e, log-same (entries-below table-kept) s (texts-same s n l))
 
   -- the chains of the earlier ones are as they were
   head-kept : (p k : ℕ) → p ≡ 5135 + 16 * k → k < 128 → getD u p 0 ≡ getD t p 0
@@ -240,11 +240,11 @@ module _ (t u : Bytes) (m line within kind bits d : ℕ) (f : EntryRoom t m line
       let long : 65536 ≤ length u = omega (arith, f .long, table-kept .long) in
       rw j
       (record {
-        log = log-same same bounds s (λ i h x. ap (take (bitsOf u i / 65536)) (outside-less 5120 (bitsOf u i % 65536) (omega arith) (omega (arith, bounds i h .text x .low)) outside .above)) ∙ log-new v e s n l;
+        log = log-same same s (λ i h x. ap (take (bitsOf u i / 65536)) (outside-less 5120 (bitsOf u i % 65536) (omega arith) (omega (arith, bounds i h .text x .low)) outside .above)) ∙ log-new v e s n l;
         logged = record {
           few = omega (arith, f .few);
           each = each-same same bounds;
-          digests = digests-same same bounds s (digests-new s n hd l);
+          digests = digests-same same s (digests-new s n hd l);
           chained = rw add-one (chained-next (const-placed long) const-apart (omega arith) (omega arith) (f .few) (chained-still (l .chained)));
         };
         kept = kept-then (kept-less (omega arith) table-kept) (outside .kept);

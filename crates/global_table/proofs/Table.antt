@@ -82,7 +82,7 @@ global-apart : PlacesApart globalChains 256
 unfolding digestPlace
 global-apart = record { own = λ i j e. omega arith; link = λ i j h l e. omega arith; head = λ i k h l e. omega arith }
 
-module _ (t : Bytes) (i line position offset d : ℕ) (hi : i < 256) (hl : line < 65536) (ho : offset < 65536) (room : 65536 ≤ length t) where
+module _ (t : Bytes) (i line position offset d : ℕ) where
   cells : Bytes
   cells = line % 256 ∷ line / 256 ∷ position ∷ offset % 256 ∷ offset / 256 ∷ d ∷ []
 
@@ -90,26 +90,6 @@ module _ (t : Bytes) (i line position offset d : ℕ) (hi : i < 256) (hl : line 
   unlinked : (j k m : ℕ) → k < 6 → m ≡ 7168 + 8 * j + k → getD (globalEntered t i line position offset d) m 0 ≡ getD (globalStored t i line position offset d) m 0
   unfolding globalEntered digestPlace
   unlinked j k m h e = linked-other (globalStored t i line position offset d) globalChains i m (λ q. omega arith) (λ l x q. omega arith)
-
-  cell-at : (k j : ℕ) → k < 6 → j ≡ 7168 + 8 * i + k → getD (globalEntered t i line position offset d) j 0 ≡ getD cells k 0
-  unfolding globalStored cells
-  cell-at k j h e = unlinked i k j h e ∙ rw e (sets-at t (7168 + 8 * i) cells k h (omega arith))
-
-  pub line-new : globalLineOf (globalEntered t i line position offset d) i ≡ line
-  unfolding u16At cells
-  line-new = rw (cell-at 0 (7168 + 8 * i) (omega arith) (omega arith), cell-at 1 (7168 + 8 * i + 1) (omega arith) refl) (omega arith)
-
-  pub position-new : globalPositionOf (globalEntered t i line position offset d) i ≡ position
-  unfolding globalPositionOf cells
-  position-new = cell-at 2 (7170 + 8 * i) (omega arith) (omega arith)
-
-  pub offset-new : offsetOf (globalEntered t i line position offset d) i ≡ offset
-  unfolding u16At cells
-  offset-new = rw (cell-at 3 (7171 + 8 * i) (omega arith) (omega arith), cell-at 4 (7171 + 8 * i + 1) (omega arith) (omega arith)) (omega arith)
-
-  pub digest-new : digestAt (globalEntered t i line position offset d) globalChains i ≡ d
-  unfolding digestPlace cells
-  digest-new = cell-at 5 (7173 + 8 * i) (omega arith) (omega arith)
 
   -- a byte that is none of the entry's stays
   stored-other : (m : ℕ) → ((k : ℕ) → k < 6 → m ≡ 7168 + 8 * i + k → ⊥) → getD (globalStored t i line position offset d) m 0 ≡ getD t m 0
@@ -141,18 +121,6 @@ module _ (t : Bytes) (i line position offset d : ℕ) (hi : i < 256) (hl : line 
     unfolding globalAt
     entry-old s = rw (line-old, position-old, offset-old)
 
-  outside-stored : Outside 7168 9216 t (globalStored t i line position offset d)
-  unfolding globalStored cells
-  outside-stored = record {
-    kept = record { below = sets-below t (7168 + 8 * i) cells 7168 (omega arith); long = length-sets t (7168 + 8 * i) cells };
-    above = sets-above t (7168 + 8 * i) cells 9216 (omega arith);
-  }
-
-  pub outside-entered : Outside 7168 9216 t (globalEntered t i line position offset d)
-  unfolding globalEntered digestPlace
-  outside-entered = outside-then outside-stored (linked-outside (globalStored t i line position offset d) globalChains i (omega arith) (omega arith) (λ k h. (omega arith, omega arith)))
-
-  -- the entries and this one are chained
   stored-same : SameBytes t (globalStored t i line position offset d) globalChains i
   unfolding digestPlace
   stored-same = record {
@@ -161,10 +129,44 @@ module _ (t : Bytes) (i line position offset d : ℕ) (hi : i < 256) (hl : line 
     head = λ j h. stored-other (7173 + 8 * j + 1 + 1) (λ k l e. omega arith);
   }
 
-  pub chained-entered : Chained t globalChains i → Chained (globalEntered t i line position offset d) globalChains (suc i)
-  unfolding globalEntered
-  chained-entered c =
-      chained-next (global-placed (omega (arith, outside-stored .kept .long))) global-apart (omega arith) (omega arith) hi (chained-kept stored-same (omega arith) c)
+  module _ (hi : i < 256) where
+    outside-stored : Outside 7168 9216 t (globalStored t i line position offset d)
+    unfolding globalStored cells
+    outside-stored = record {
+      kept = record { below = sets-below t (7168 + 8 * i) cells 7168 (omega arith); long = length-sets t (7168 + 8 * i) cells };
+      above = sets-above t (7168 + 8 * i) cells 9216 (omega arith);
+    }
+
+    pub outside-entered : Outside 7168 9216 t (globalEntered t i line position offset d)
+    unfolding globalEntered digestPlace
+    outside-entered = outside-then outside-stored (linked-outside (globalStored t i line position offset d) globalChains i (omega arith) (omega arith) (λ k h. (omega arith, omega arith)))
+
+    module _ (room : 65536 ≤ length t) where
+      cell-at : (k j : ℕ) → k < 6 → j ≡ 7168 + 8 * i + k → getD (globalEntered t i line position offset d) j 0 ≡ getD cells k 0
+      unfolding globalStored cells
+      cell-at k j h e = unlinked i k j h e ∙ rw e (sets-at t (7168 + 8 * i) cells k h (omega arith))
+
+      pub line-new : line < 65536 → globalLineOf (globalEntered t i line position offset d) i ≡ line
+      unfolding u16At cells
+      line-new h = rw (cell-at 0 (7168 + 8 * i) (omega arith) (omega arith), cell-at 1 (7168 + 8 * i + 1) (omega arith) refl) (omega arith)
+
+      pub position-new : globalPositionOf (globalEntered t i line position offset d) i ≡ position
+      unfolding globalPositionOf cells
+      position-new = cell-at 2 (7170 + 8 * i) (omega arith) (omega arith)
+
+      pub offset-new : offset < 65536 → offsetOf (globalEntered t i line position offset d) i ≡ offset
+      unfolding u16At cells
+      offset-new h = rw (cell-at 3 (7171 + 8 * i) (omega arith) (omega arith), cell-at 4 (7171 + 8 * i + 1) (omega arith) (omega arith)) (omega arith)
+
+      pub digest-new : digestAt (globalEntered t i line position offset d) globalChains i ≡ d
+      unfolding digestPlace cells
+      digest-new = cell-at 5 (7173 + 8 * i) (omega arith) (omega arith)
+
+      -- the entries and this one are chained
+      pub chained-entered : Chained t globalChains i → Chained (globalEntered t i line position offset d) globalChains (suc i)
+      unfolding globalEntered
+      chained-entered c =
+          chained-next (global-placed (omega (arith, outside-stored .kept .long))) global-apart (omega arith) (omega arith) hi (chained-kept stored-same (omega arith) c)
 
 -- ---- entries in order
 
@@ -186,25 +188,24 @@ unfolding entriesFrom
 places-count s t i zero = refl
 places-count s t i (suc g) = ap suc (places-count s t (suc i) g)
 
-pub places-entered : (s t : Bytes) (g line position offset d : ℕ) → g < 256 → line < 65536 → offset < 65536 → 65536 ≤ length t
-    → placesIn s (globalEntered t g line position offset d) g ≡ placesIn s t g
-places-entered s t g line position offset d hg hl ho room = entries-same s t (globalEntered t g line position offset d) 0 g (λ j l. entry-old t g line position offset d hg hl ho room j (omega arith) s)
+pub places-entered : (s t : Bytes) (g line position offset d : ℕ) → placesIn s (globalEntered t g line position offset d) g ≡ placesIn s t g
+places-entered s t g line position offset d = entries-same s t (globalEntered t g line position offset d) 0 g (λ j l. entry-old t g line position offset d j (omega arith) s)
 
 -- a name that no entry before it has is entered
-pub once-entered : (s t : Bytes) (g line position offset d : ℕ) → g < 256 → line < 65536 → offset < 65536 → 65536 ≤ length t
+pub once-entered : (s t : Bytes) (g line position offset d : ℕ)
     → ((i : ℕ) → i < g → entryNumber (globalAt s t i .name) (placesIn s t i) ≡ 0)
     → entryNumber (globalAt s (globalEntered t g line position offset d) g .name) (placesIn s t g) ≡ 0
     → (i : ℕ) → i < suc g → entryNumber (globalAt s (globalEntered t g line position offset d) i .name) (placesIn s (globalEntered t g line position offset d) i) ≡ 0
-once-entered s t g line position offset d hg hl ho room old last i h = ⊎-elim (λ (e : i ≡ g). here e) (λ (l : i < g). before l) (eq-or-lt-of-le (omega arith))
+once-entered s t g line position offset d old last i h = ⊎-elim (λ (e : i ≡ g). here e) (λ (l : i < g). before l) (eq-or-lt-of-le (omega arith))
   where
     same-to : (m : ℕ) → m ≤ g → placesIn s (globalEntered t g line position offset d) m ≡ placesIn s t m
-    same-to m l = entries-same s t (globalEntered t g line position offset d) 0 m (λ j q. entry-old t g line position offset d hg hl ho room j (omega arith) s)
+    same-to m l = entries-same s t (globalEntered t g line position offset d) 0 m (λ j q. entry-old t g line position offset d j (omega arith) s)
 
     here : i ≡ g → entryNumber (globalAt s (globalEntered t g line position offset d) i .name) (placesIn s (globalEntered t g line position offset d) i) ≡ 0
     here e = rw (e, same-to g (omega arith)) last
 
     before : i < g → entryNumber (globalAt s (globalEntered t g line position offset d) i .name) (placesIn s (globalEntered t g line position offset d) i) ≡ 0
-    before l = rw (same-to i (omega arith), entry-old t g line position offset d hg hl ho room i l s) (old i l)
+    before l = rw (same-to i (omega arith), entry-old t g line position offset d i l s) (old i l)
 
 -- ---- search for a name
 

@@ -83,15 +83,15 @@ module _ (s t : Bytes) (n r j : ℕ) (g : Globals) (st : PlacesEntered s t n g) 
 
   outside-new : Outside 7168 9216 t withEntry
   unfolding withEntry
-  outside-new = outside-entered t (g .count) r j off d full line-low (omega (arith, off-low)) (l .checked .whole .room)
+  outside-new = outside-entered t (g .count) r j off d full
 
   entry-new : globalAt s withEntry (g .count) ≡ record { name = nameOn s r j; offset = newOffset (typeOn s r) (g .end); ty = typeOn s r }
   unfolding withEntry globalAt
   entry-new =
       rw (
-        line-new t (g .count) r j off d full line-low (omega (arith, off-low)) (l .checked .whole .room),
-        position-new t (g .count) r j off d full line-low (omega (arith, off-low)) (l .checked .whole .room),
-        offset-new t (g .count) r j off d full line-low (omega (arith, off-low)) (l .checked .whole .room),
+        line-new t (g .count) r j off d full (l .checked .whole .room) line-low,
+        position-new t (g .count) r j off d full (l .checked .whole .room),
+        offset-new t (g .count) r j off d full (l .checked .whole .room) (omega (arith, off-low)),
         off-is,
       )
 
@@ -102,8 +102,8 @@ module _ (s t : Bytes) (n r j : ℕ) (g : Globals) (st : PlacesEntered s t n g) 
       last : GlobalEntry s withEntry n (g .count)
       last = record {
         low = full;
-        line = rw (line-new t (g .count) r j off d full line-low (omega (arith, off-low)) (l .checked .whole .room)) (var-outside outside-new l);
-        digest = digest-new t (g .count) r j off d full line-low (omega (arith, off-low)) (l .checked .whole .room) ∙ hd ∙ ap (λ (e : Global). digest (e .name)) (sym entry-new);
+        line = rw (line-new t (g .count) r j off d full (l .checked .whole .room) line-low) (var-outside outside-new l);
+        digest = digest-new t (g .count) r j off d full (l .checked .whole .room) ∙ hd ∙ ap (λ (e : Global). digest (e .name)) (sym entry-new);
       }
 
       old : i < g .count → GlobalEntry s withEntry n i
@@ -111,16 +111,16 @@ module _ (s t : Bytes) (n r j : ℕ) (g : Globals) (st : PlacesEntered s t n g) 
           let x = st .tabled .entries i q in
           record {
             low = x .low;
-            line = rw (line-old t (g .count) r j off d full line-low (omega (arith, off-low)) (l .checked .whole .room) i q) (var-outside outside-new (x .line));
+            line = rw (line-old t (g .count) r j off d i q) (var-outside outside-new (x .line));
             digest = rw (
-              digest-old t (g .count) r j off d full line-low (omega (arith, off-low)) (l .checked .whole .room) i q,
-              entry-old t (g .count) r j off d full line-low (omega (arith, off-low)) (l .checked .whole .room) i q s,
+              digest-old t (g .count) r j off d i q,
+              entry-old t (g .count) r j off d i q s,
             ) (x .digest);
           }
 
   places-old : placesIn s withEntry (g .count) ≡ placesIn s t (g .count)
   unfolding withEntry
-  places-old = places-entered s t (g .count) r j off d full line-low (omega (arith, off-low)) (l .checked .whole .room)
+  places-old = places-entered s t (g .count) r j off d
 
   module _ (p : ℕ) (hn : same (nameOn s r j) (bytes "nil") ≡ false) (hp : offsetBy t p ≡ placeOf (nameOn s r j) (placesIn s t (g .count))) (hq : p ≡ entryNumber (nameOn s r j) (placesIn s t (g .count))) (hz : p ≡ 0) (h : Globals) (hc : h .count ≡ g .count + 1) (he : h .end ≡ off + size) where
     places-new : placesIn s withEntry (h .count) ≡ placesIn s t (g .count) ++ (record { name = nameOn s r j; offset = newOffset (typeOn s r) (g .end); ty = typeOn s r } ∷ [])
@@ -140,11 +140,11 @@ module _ (s t : Bytes) (n r j : ℕ) (g : Globals) (st : PlacesEntered s t n g) 
     unfolding withEntry
     once-new i q =
         let z : entryNumber (globalAt s withEntry (g .count) .name) (placesIn s t (g .count)) ≡ 0 = ap (λ (e : Global). entryNumber (e .name) (placesIn s t (g .count))) entry-new ∙ sym hq ∙ hz in
-        once-entered s t (g .count) r j off d full line-low (omega (arith, off-low)) (l .checked .whole .room) (st .tabled .once) z i (omega arith)
+        once-entered s t (g .count) r j off d (st .tabled .once) z i (omega arith)
 
     chained-new : Chained withEntry globalChains (h .count)
     unfolding withEntry
-    chained-new = rw (hc, add-one) (chained-entered t (g .count) r j off d full line-low (omega (arith, off-low)) (l .checked .whole .room) (st .tabled .chained))
+    chained-new = rw (hc, add-one) (chained-entered t (g .count) r j off d full (l .checked .whole .room) (st .tabled .chained))
 
     laid-new : PlacesLaid s t withEntry n (layName (typeOn s r) (nameOn s r j) (allocationIn s t g)) h (g .count + 1)
     laid-new = record {

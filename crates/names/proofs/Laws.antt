@@ -335,7 +335,7 @@ abbrev pub SameText : Bytes → Bytes → ℕ → Type 0
 SameText t u i = kindOf t i ≡ 3 → take (bitsOf t i / 65536) (drop (bitsOf t i % 65536) u) ≡ take (bitsOf t i / 65536) (drop (bitsOf t i % 65536) t)
 
 -- such an entry stays as it is
-module _ {t u : Bytes} (n i : ℕ) (w : SameEntry t u i) (e : EntryBounds t n i) where
+module _ {t u : Bytes} {i : ℕ} (w : SameEntry t u i) where
   byte-kept : (p j : ℕ) → p ≡ 5120 + 16 * i + j → j < 14 → getD u p 0 ≡ getD t p 0
   byte-kept p j q h =
       let x : (l : Bytes) → getD l p 0 ≡ getD (take 14 (drop (5120 + 16 * i) l)) j 0 = λ l. ap (λ (a : ℕ). getD l a 0) q ∙ sym (getD-take 14 (drop (5120 + 16 * i) l) j 0 h ∙ getD-drop (5120 + 16 * i) l j 0) in
@@ -363,8 +363,8 @@ module _ {t u : Bytes} (n i : ℕ) (w : SameEntry t u i) (e : EntryBounds t n i)
   unfolding digestPlace
   digest-kept = byte-kept (5133 + 16 * i) 13 (omega arith) (omega arith)
 
-  entry-kept : EntryBounds u n i
-  entry-kept = record {
+  entry-kept : {n : ℕ} → EntryBounds t n i → EntryBounds u n i
+  entry-kept e = record {
     first = rw line-kept (e .first);
     last = rw line-kept (e .last);
     within = rw module-kept (e .within);
@@ -387,18 +387,18 @@ module _ {t u : Bytes} (n i : ℕ) (w : SameEntry t u i) (e : EntryBounds t n i)
     entries-kept s = rw (line-kept, module-kept, slot-kept)
 
 -- and so do the first m
-module _ {t u : Bytes} {n m : ℕ} (w : (i : ℕ) → i < m → SameEntry t u i) (each : (i : ℕ) → i < m → EntryBounds t n i) where
-  pub each-same : (i : ℕ) → i < m → EntryBounds u n i
-  each-same i h = entry-kept n i (w i h) (each i h)
+module _ {t u : Bytes} {m : ℕ} (w : (i : ℕ) → i < m → SameEntry t u i) where
+  pub each-same : {n : ℕ} → ((i : ℕ) → i < m → EntryBounds t n i) → (i : ℕ) → i < m → EntryBounds u n i
+  each-same each i h = entry-kept (w i h) (each i h)
 
   pub digests-same : (s : Bytes) → ((i : ℕ) → i < m → digestAt t constChains i ≡ constDigest s (moduleLineOf t i) (firstField s (constLineOf t i))) → (i : ℕ) → i < m → digestAt u constChains i ≡ constDigest s (moduleLineOf u i) (firstField s (constLineOf u i))
-  digests-same s d i h = rw (digest-kept n i (w i h) (each i h), module-kept n i (w i h) (each i h), line-kept n i (w i h) (each i h)) (d i h)
+  digests-same s d i h = rw (digest-kept (w i h), module-kept (w i h), line-kept (w i h)) (d i h)
 
   module _ (s : Bytes) (same : (i : ℕ) → i < m → SameText t u i) where
     log-upto : (k : ℕ) → k ≤ m → logIn s u k ≡ logIn s t k
     unfolding logIn
     log-upto zero h = refl
-    log-upto (suc k) h = rw (entries-kept n k (w k (omega arith)) (each k (omega arith)) (same k (omega arith)) s, log-upto k (omega arith))
+    log-upto (suc k) h = rw (entries-kept (w k (omega arith)) (same k (omega arith)) s, log-upto k (omega arith))
 
     pub log-same : logIn s u m ≡ logIn s t m
     log-same = log-upto m (omega arith)
@@ -416,13 +416,13 @@ module _ {s t u : Bytes} {n m : ℕ} (w : Kept 7168 t u) (l : ConstsLogged s t n
   logged-same = record {
     few = l .few;
     each = each-same same-entries (l .each);
-    digests = digests-same same-entries (l .each) s (l .digests);
+    digests = digests-same same-entries s (l .digests);
     chained = chained-kept (record { digest = λ i h. kept-at w (5133 + 16 * i) (omega arith); link = λ i h. kept-at w (5133 + 16 * i + 1) (omega arith); head = λ k h. kept-at w (5133 + 16 * k + 1 + 1) (omega arith) }) (l .few) (l .chained);
   }
 
   -- and the log, where bytes among the constants' strings are kept
   pub log-stays : ((a b : ℕ) → 16384 ≤ a → a + b ≤ 49152 → take b (drop a u) ≡ take b (drop a t)) → logIn s u m ≡ logIn s t m
-  log-stays parts = log-same same-entries (l .each) s (λ i h q. let x = l .each i h .text q in parts (bitsOf t i % 65536) (bitsOf t i / 65536) (x .low) (x .high))
+  log-stays parts = log-same same-entries s (λ i h q. let x = l .each i h .text q in parts (bitsOf t i % 65536) (bitsOf t i / 65536) (x .low) (x .high))
 
 -- ---- an entry linked
 
