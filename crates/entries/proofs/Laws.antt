@@ -30,7 +30,7 @@ use Rattle.implement.specs.Modules.{firstField, moduleAt}
 use Rattle.checks.specs.Checks.{Kept}
 use Rattle.checks.proofs.Kept.{kept-at, kept-then, kept-less, outside-less}
 use Rattle.names.specs.Table.{constLineOf, moduleLineOf, valueBy, kindOf, bitsOf, constChains, constDigest, entriesAt, logIn, EntryBounds, ConstsLogged}
-use Rattle.names.proofs.Laws.{slot-is, value-failed, value-int, value-real, value-text, part-low, part-kept, SameText, each-same, digests-same, log-same, entries-below, const-placed, const-apart, const-outside, linked-entries}
+use Rattle.names.proofs.Laws.{slot-is, value-failed, value-int, value-real, value-text, part-low, part-kept, SameText, each-same, digests-same, log-same, entries-below, const-room, const-apart, const-outside, linked-entries}
 use Rattle.values.specs.declared.ConstVal.{ConstVal}
 use Rattle.values.specs.declared.ConstVal.the-variants.{Int, Real, Str}
 use Rattle.values.specs.Values.{stringIn, valueIn, kindFor, bitsFor, Small, InRange, At}
@@ -245,7 +245,7 @@ module _ (t u : Bytes) (m line within kind bits d : ℕ) (f : EntryRoom t m line
           few = omega (arith, f .few);
           each = each-same same bounds;
           digests = digests-same same s (digests-new s n hd l);
-          chained = rw add-one (chained-next (const-placed long) const-apart (omega arith) (omega arith) (f .few) (chained-still (l .chained)));
+          chained = rw add-one (chained-next (const-room long) const-apart (omega arith) (omega arith) (f .few) (chained-still (l .chained)));
         };
         kept = kept-then (kept-less (omega arith) table-kept) (outside .kept);
       })

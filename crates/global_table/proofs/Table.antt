@@ -74,9 +74,9 @@ entered-long t i line position offset d =
     ∙ length-sets t (7168 + 8 * i) (line % 256 ∷ line / 256 ∷ position ∷ offset % 256 ∷ offset / 256 ∷ d ∷ [])
 
 -- digests, links and heads lie in the working space, and apart
-pub global-placed : {t : Bytes} → 65536 ≤ length t → ChainRoom t globalChains
+pub global-room : {t : Bytes} → 65536 ≤ length t → ChainRoom t globalChains
 unfolding digestPlace
-global-placed room = record { low = λ i h. omega arith; long = room }
+global-room room = record { low = λ i h. omega arith; long = room }
 
 global-apart : PlacesApart globalChains 256
 unfolding digestPlace
@@ -166,7 +166,7 @@ module _ (t : Bytes) (i line position offset d : ℕ) where
       pub chained-entered : Chained t globalChains i → Chained (globalEntered t i line position offset d) globalChains (suc i)
       unfolding globalEntered
       chained-entered c =
-          chained-next (global-placed (omega (arith, outside-stored .kept .long))) global-apart (omega arith) (omega arith) hi (chained-kept stored-same (omega arith) c)
+          chained-next (global-room (omega (arith, outside-stored .kept .long))) global-apart (omega arith) (omega arith) hi (chained-kept stored-same (omega arith) c)
 
 -- ---- entries in order
 

@@ -92,25 +92,25 @@ pub record LinesLaid (s t u : Bytes) (n : ℕ) (g : Globals) (k i : ℕ) : Type 
   pub here : Open s u n i k
 
 module _ (s t : Bytes) (n : ℕ) (c : Checked s t n) where
-  pub collecting-start : {g : Globals} → g .count ≡ 0 → g .end ≡ 0 → LinesLaid s t t n g 0 0
+  pub lines-laid-start : {g : Globals} → g .count ≡ 0 → g .end ≡ 0 → LinesLaid s t t n g 0 0
   unfolding laidTo locatedTo layVars entriesFrom openAt moduleAt
-  collecting-start {g} e f =
+  lines-laid-start {g} e f =
       record {
         laid = laid-same (record { tabled = tabled-none c e; low = omega arith }) (rw (e, f)) (omega arith);
         here = record { checked = c; within = omega arith; low = omega arith; here = refl };
       }
 
   module _ (u : Bytes) (g : Globals) (k i : ℕ) (m : LinesLaid s t u n g k i) where
-    pub collecting-here : i < n → (PlacesEntered s u n g) × (Open s u n i k) × (i < n) × (g .count + namesAt s i ≤ 256)
-    collecting-here h = (m .laid .standing, m .here, h, omega (arith, m .laid .most, names-few s t n c i h))
+    pub lines-laid-here : i < n → (PlacesEntered s u n g) × (Open s u n i k) × (i < n) × (g .count + namesAt s i ≤ 256)
+    lines-laid-here h = (m .laid .standing, m .here, h, omega (arith, m .laid .most, names-few s t n c i h))
 
-    pub collecting-next : {v : Bytes} {x : Globals} {q : ℕ} → i < n → PlacesLaid s u v n (layLine s i (allocationIn s u g)) x (g .count + namesAt s i) → Open s v n (i + 1) q → LinesLaid s t v n x q (i + 1)
-    collecting-next h a o =
+    pub lines-laid-next : {v : Bytes} {x : Globals} {q : ℕ} → i < n → PlacesLaid s u v n (layLine s i (allocationIn s u g)) x (g .count + namesAt s i) → Open s v n (i + 1) q → LinesLaid s t v n x q (i + 1)
+    lines-laid-next h a o =
         let b = laid-then (layLine s i) (namesAt s i) (m .laid) a in
         record { laid = record { standing = b .standing; outside = b .outside; allocation = b .allocation ∙ sym (laid-next s t n c i h); most = omega (arith, b .most, names-more s i, ap (namesTo s) (add-one i)) }; here = o }
 
-    pub collecting-end : n ≤ i → (GlobalsCollected s u n g) × (Outside 7168 9216 t u)
-    collecting-end h =
+    pub lines-laid-end : n ≤ i → (GlobalsCollected s u n g) × (Outside 7168 9216 t u)
+    lines-laid-end h =
         let z : i ≡ n = omega (arith, m .here .within) in
         let e : (ns : Names) → allocationIn s u g ≡ allocationOf (globals ns (sheetSource s)) = λ ns. m .laid .allocation ∙ ap (laidTo s) z ∙ sym (laid-all s t n c ns) in (
           record {

@@ -53,7 +53,7 @@ unfolding layName offsetBy
 lay-again t x l w zero e h z = absurd (z refl)
 lay-again t x l w (suc p) e h z = rw (e, ← h)
 
--- ---- a withEntry place
+-- ---- a new place
 
 module _ (s t : Bytes) (n r j : ℕ) (g : Globals) (st : PlacesEntered s t n g) (l : VarLine s t n r) (hj : j < 16) (full : g .count < 256)
     (v : ℕ) (hv : typeAt s v ≡ typeOn s r) (size : ℕ) (hs : size ≡ globalSize (typeAt s v)) (off : ℕ) (ho : off ≡ alignUp size (g .end)) (d : ℕ) (hd : d ≡ digest (nameOn s r j)) (small : d < 256) where

@@ -177,16 +177,16 @@ answers-qualified s t q x = record {
 pub table-entry : {s t : Bytes} {n m i : ℕ} → ConstTable s t n m → i < m → ConstEntry s t n i
 table-entry {i = i} c h = record { checked = c .checked; low = omega (arith, c .logged .few); entry = c .logged .each i h; digested = c .logged .digests i h }
 
-pub const-placed : {t : Bytes} → 65536 ≤ length t → ChainRoom t constChains
+pub const-room : {t : Bytes} → 65536 ≤ length t → ChainRoom t constChains
 unfolding digestPlace
-const-placed h = record { low = λ i h. omega arith; long = h }
+const-room h = record { low = λ i h. omega arith; long = h }
 
-pub table-placed : {s t : Bytes} {n m : ℕ} → ConstTable s t n m → ChainRoom t constChains
-table-placed c = const-placed (c .checked .whole .room)
+pub table-room : {s t : Bytes} {n m : ℕ} → ConstTable s t n m → ChainRoom t constChains
+table-room c = const-room (c .checked .whole .room)
 
 -- `chains` may be asked about an entry of the table
 pub entry-asked : {s t : Bytes} {n m : ℕ} → ConstTable s t n m → {i : ℕ} → i < m → (ChainRoom t constChains) × (i < 256)
-entry-asked c h = (table-placed c, omega (arith, c .logged .few))
+entry-asked c h = (table-room c, omega (arith, c .logged .few))
 
 -- a number up to the table's end is an answer
 pub answered : {s t : Bytes} {n m : ℕ} → ConstsLogged s t n m → Checked s t n → {r : ℕ} → r ≤ m → Answered t r

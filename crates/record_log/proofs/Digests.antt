@@ -14,7 +14,7 @@ use Rattle.checks.proofs.Kept.{kept-less, outside-all, outside-then, outside-se
 use Rattle.chains.specs.Chains.{digestPlace, digestAt, Chained, linked}
 use Rattle.chains.proofs.Laws.{SameBytes, chained-kept, linked-outside, linked-other, PlacesApart, digest-stays, chained-next}
 use Rattle.records.specs.Log.{byteOf, entryAt, recordOf, recordedAt, recordChains, Digested}
-use Rattle.records.proofs.Newest.{record-placed}
+use Rattle.records.proofs.Newest.{record-room}
 use Rattle.record_log.specs.Entries.{CollectedTo}
 
 module _ (t : Bytes) (i d : ℕ) (hi : i < 128) (room : 65536 ≤ length t) where
@@ -77,7 +77,7 @@ module _ (t : Bytes) (i d : ℕ) (hi : i < 128) (room : 65536 ≤ length t) wher
   chained-new : Chained t recordChains i → Chained withLink recordChains (suc i)
   chained-new g =
       let long = length-set t (9221 + 8 * i) d in
-      chained-next (record-placed withDigest (omega (arith, long))) apart (omega arith) (omega arith) hi
+      chained-next (record-room withDigest (omega (arith, long))) apart (omega arith) (omega arith) hi
       (chained-kept entered-kept (omega arith) g)
 
   module _ (s : Bytes) (n m : ℕ) (g : Digested s t n m i) (hm : i < m) (e : d ≡ digest (recordedAt s t i .key)) where

@@ -23,9 +23,9 @@ use Rattle.records.proofs.Keys.{default-same}
 abbrev pub keyIs : Bytes → Bytes → Bytes → ℕ → Bool
 keyIs s t k i = same k (recordedAt s t i .key)
 
-pub record-placed : (t : Bytes) → 65536 ≤ length t → ChainRoom t recordChains
+pub record-room : (t : Bytes) → 65536 ≤ length t → ChainRoom t recordChains
 unfolding digestPlace
-record-placed t h = record { low = λ i l. omega arith; long = h }
+record-room t h = record { low = λ i l. omega arith; long = h }
 
 module _ (s t : Bytes) (n m : ℕ) (g : RecordsLogged s t n m) (k : Bytes) where
   -- all entries of a key are of one chain

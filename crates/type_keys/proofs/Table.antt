@@ -137,9 +137,9 @@ module _ (t : List ℕ) (room : 65536 ≤ length t) (k p : ℕ) where
 -- ---- a digest
 
 -- the chains of needs lie in the working space, and their bytes apart
-pub need-placed : {t : List ℕ} → 65536 ≤ length t → ChainRoom t needChains
+pub need-room : {t : List ℕ} → 65536 ≤ length t → ChainRoom t needChains
 unfolding digestPlace
-need-placed room = record { low = λ i h. omega arith; long = room }
+need-room room = record { low = λ i h. omega arith; long = room }
 
 need-apart : PlacesApart needChains 128
 unfolding digestPlace
@@ -174,7 +174,7 @@ module _ (t : List ℕ) (room : 65536 ≤ length t) (q d : ℕ) (hq : q < 128) w
   pub chained-entered : Chained t needChains q → Chained (digestEntered t q d) needChains (suc q)
   unfolding digestEntered
   chained-entered c =
-      chained-next (need-placed (omega (arith, length-set t (10752 + q) d))) need-apart (omega arith) (omega arith) hq (chained-kept before-same (omega arith) c)
+      chained-next (need-room (omega (arith, length-set t (10752 + q) d))) need-apart (omega arith) (omega arith) hq (chained-kept before-same (omega arith) c)
 
 -- a store before the digests leaves the chains
 pub chained-above : {t u : List ℕ} {a b m : ℕ} → b ≤ 10752 → Outside a b t u → Chained t needChains m → Chained u needChains m

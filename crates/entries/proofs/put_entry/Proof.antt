@@ -1,5 +1,5 @@
 -- `entries::put_entry` meets its contract.
-use Rattle.names.proofs.Laws.{const-placed}
+use Rattle.names.proofs.Laws.{const-room}
 use mathlib.Core.Path.{_∙_}
 use native.Mathlib.Omega.{arith}
 use borrow.Author.Needs.{needs}
@@ -7,7 +7,7 @@ use Rattle.entries.proofs.put_entry.Statement.{statement}
 use Rattle.entries.proofs.put_entry.Tie as tie
 
 link-requires : tie.Need-link-requires
-link-requires c κs = (const-placed (search needs), omega (arith, c .before .before .before .before .before .before .pre .0 .few))
+link-requires c κs = (const-room (search needs), omega (arith, c .before .before .before .before .before .before .pre .0 .few))
 
 returns : tie.Need-returns
 returns c = c .before .before .link .ensures ∙ rw (c .before .before .before .before .before .before .put-bytes .ensures)

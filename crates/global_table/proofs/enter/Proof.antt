@@ -4,7 +4,7 @@ use native.Mathlib.Omega.{arith}
 use lib.ListN.{length, length-set}
 use denote.Ref.{now}
 use borrow.Author.Needs.{needs}
-use Rattle.global_table.proofs.Table.{global-placed, entered-by, entered-long}
+use Rattle.global_table.proofs.Table.{global-room, entered-by, entered-long}
 use Rattle.global_table.proofs.enter.Statement.{statement}
 use Rattle.global_table.proofs.enter.Tie as tie
 
@@ -24,7 +24,7 @@ slice-write-work-6 : tie.Need-slice-write-work-6
 slice-write-work-6 c = simp length-set (omega arith)
 
 link-requires : tie.Need-link-requires
-link-requires c κs = (global-placed (simp length-set (omega arith)), omega arith)
+link-requires c κs = (global-room (simp length-set (omega arith)), omega arith)
 
 returns : tie.Need-returns
 returns c =

@@ -5,7 +5,7 @@ use denote.Ref.{now}
 use Rattle.chains.specs.Chains.{chainOf}
 use Rattle.chains.proofs.Laws.{Along, along-first, along-found, along-next, along-end, earlier-less}
 use Rattle.global_table.specs.Table.{globalChains}
-use Rattle.global_table.proofs.Table.{hasName, global-placed, named-chain, found-is}
+use Rattle.global_table.proofs.Table.{hasName, global-room, named-chain, found-is}
 use Rattle.global_table.proofs.entry_number.Statement.{statement}
 use Rattle.global_table.proofs.entry_number.Tie as tie
 
@@ -16,7 +16,7 @@ abbrev μ-loop : tie.MeasureT-loop
 μ-loop sheet work n g name d i₀ i = i
 
 newest-requires : tie.Need-newest-requires Inv-loop μ-loop
-newest-requires c κs = global-placed (c .before .before .before .before .pre .checked .whole .room)
+newest-requires c κs = global-room (c .before .before .before .before .pre .checked .whole .room)
 
 loop-holds : tie.Need-loop-holds Inv-loop μ-loop
 loop-holds c =
@@ -36,7 +36,7 @@ returns c =
 earlier-requires : tie.Need-earlier-requires Inv-loop μ-loop
 earlier-requires c κs =
     let p = c .before .before .before .before .before .before .before .before .before .pre in
-    (global-placed (p .checked .whole .room), omega (arith, c .before .before .loop-test .taken, c .before .before .before .loop .inv .low, p .few))
+    (global-room (p .checked .whole .room), omega (arith, c .before .before .loop-test .taken, c .before .before .before .loop .inv .low, p .few))
 
 loop-less : tie.Need-loop-less Inv-loop μ-loop
 loop-less c = earlier-less (now (c .before .before .before .before .before .before .before .before .before .before .args .work)) globalChains (c .before .before .before .loop-test .taken) (c .earlier .ensures)

@@ -1,12 +1,12 @@
 use denote.Ref.{now}
 use mathlib.Core.Path.{_∙_}
-use Rattle.global_table.proofs.Table.{global-placed, named-apart}
+use Rattle.global_table.proofs.Table.{global-room, named-apart}
 use borrow.Author.Needs.{needs}
 use Rattle.global_table.proofs.is_named.Statement.{statement}
 use Rattle.global_table.proofs.is_named.Tie as tie
 
 digest-at-requires : tie.Need-digest-at-requires
-digest-at-requires c κs = let b = c .before .before .before .pre .0 in (global-placed (b .line .checked .whole .room), b .low)
+digest-at-requires c κs = let b = c .before .before .before .pre .0 in (global-room (b .line .checked .whole .room), b .low)
 
 returns : tie.Need-returns
 returns c = named-apart (now (c .before .before .before .before .before .args .name)) (c .before .before .before .before .before .pre .0) (c .before .before .before .before .before .pre .1) (λ e. c .if1 .taken (c .before .digest-at .ensures .0 ∙ e))

@@ -9,12 +9,12 @@ use Prim.Native.Nat.{ℕ}
 use native.Mathlib.Omega.{arith}
 use borrow.Author.Needs.{needs}
 use borrow.Author.Tests.{eq-eqb, ne-eqb}
-use Rattle.names.proofs.Laws.{const-placed}
+use Rattle.names.proofs.Laws.{const-room}
 use Rattle.names.proofs.has_name.Statement.{statement}
 use Rattle.names.proofs.has_name.Tie as tie
 
 digest-at-requires : tie.Need-digest-at-requires
-digest-at-requires c κs = let p = c .before .before .before .pre in (const-placed (p .checked .whole .room), omega (arith, p .low))
+digest-at-requires c κs = let p = c .before .before .before .pre in (const-room (p .checked .whole .room), omega (arith, p .low))
 
 returns : tie.Need-returns
 returns c =

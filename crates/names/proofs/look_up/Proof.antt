@@ -7,7 +7,7 @@ use Rattle.names.proofs.look_up.Statement.{statement}
 use Rattle.names.proofs.look_up.Tie as tie
 
 newest-requires : tie.Need-newest-requires
-newest-requires c κs = Laws.table-placed (c .before .before .before .before .pre)
+newest-requires c κs = Laws.table-room (c .before .before .before .before .pre)
 
 along-plain-requires : tie.Need-along-plain-requires
 along-plain-requires c κs = let p = c .before .before .before .before .before .pre in (p, Laws.newest-within p (c .before .digest .result) (c .newest .ensures) .0, c .before .digest .ensures .0)

@@ -7,7 +7,7 @@ use Rattle.names.proofs.look_up_in.Statement.{statement}
 use Rattle.names.proofs.look_up_in.Tie as tie
 
 newest-requires : tie.Need-newest-requires
-newest-requires c κs = Laws.table-placed (c .before .before .before .before .before .pre)
+newest-requires c κs = Laws.table-room (c .before .before .before .before .before .pre)
 
 along-qualified-requires : tie.Need-along-qualified-requires
 along-qualified-requires c κs = let p = c .before .before .before .before .before .before .pre in (p, Laws.newest-within p (c .before .qualified-digest .result) (c .newest .ensures) .0, c .before .qualified-digest .ensures .0)

@@ -1,13 +1,13 @@
 use mathlib.Core.Path.{_∙_, sym}
 use Rattle.type_lines.proofs.Spelling.{digests-apart}
-use Rattle.type_keys.proofs.Table.{need-placed}
+use Rattle.type_keys.proofs.Table.{need-room}
 use native.Mathlib.Omega.{arith}
 use borrow.Author.Needs.{needs}
 use Rattle.need_keys.proofs.has_need_key.Statement.{statement}
 use Rattle.need_keys.proofs.has_need_key.Tie as tie
 
 digest-at-requires : tie.Need-digest-at-requires
-digest-at-requires c κs = let x = c .before .before .pre .2 in (need-placed (x .line .checked .whole .room), omega (arith, x .low))
+digest-at-requires c κs = let x = c .before .before .pre .2 in (need-room (x .line .checked .whole .room), omega (arith, x .low))
 
 returns : tie.Need-returns
 returns c = let x = c .before .before .before .before .pre in digests-apart (x .0) (x .2 .line) (λ e. c .if1 .taken (c .before .digest-at .ensures .0 ∙ x .2 .digest ∙ sym e ∙ sym (x .1)))

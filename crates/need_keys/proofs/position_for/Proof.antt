@@ -6,7 +6,7 @@ use borrow.Author.Needs.{needs}
 use Rattle.chains.specs.Chains.{chainOf}
 use Rattle.chains.proofs.Laws.{Along, along-first, along-next, along-end, earlier-less}
 use Rattle.type_keys.specs.Table.{needChains}
-use Rattle.type_keys.proofs.Table.{need-placed}
+use Rattle.type_keys.proofs.Table.{need-room}
 use Rattle.need_keys.proofs.Pass.{hasNeedKey, needs-room, known-entry, found-position, found-chain, next-position}
 use Rattle.need_keys.proofs.position_for.Statement.{statement}
 use Rattle.need_keys.proofs.position_for.Tie as tie
@@ -18,7 +18,7 @@ abbrev μ-loop : tie.MeasureT-loop
 μ-loop sheet work n i d counts q₀ q = q
 
 newest-requires : tie.Need-newest-requires Inv-loop μ-loop
-newest-requires c κs = need-placed (c .before .before .pre .0 .line .checked .whole .room)
+newest-requires c κs = need-room (c .before .before .pre .0 .line .checked .whole .room)
 
 loop-holds : tie.Need-loop-holds Inv-loop μ-loop
 loop-holds c =
@@ -43,7 +43,7 @@ returns c =
 earlier-requires : tie.Need-earlier-requires Inv-loop μ-loop
 earlier-requires c κs =
     let x = c .before .before .before .before .before .before .before .pre .0 in
-    (need-placed (x .line .checked .whole .room), omega (arith, c .before .before .loop-test .taken, c .before .before .before .loop .inv .low, needs-room x .0))
+    (need-room (x .line .checked .whole .room), omega (arith, c .before .before .loop-test .taken, c .before .before .before .loop .inv .low, needs-room x .0))
 
 loop-less : tie.Need-loop-less Inv-loop μ-loop
 loop-less c = earlier-less (now (c .before .before .before .before .before .before .before .before .args .work)) needChains (c .before .before .before .loop-test .taken) (c .earlier .ensures)

@@ -5,12 +5,12 @@ use lib.ListN.{length, length-set}
 use denote.Ref.{now}
 use borrow.Author.Needs.{needs}
 use Rattle.type_keys.specs.Table.{digestEntered}
-use Rattle.type_keys.proofs.Table.{need-placed, digest-long}
+use Rattle.type_keys.proofs.Table.{need-room, digest-long}
 use Rattle.type_keys.proofs.enter_digest.Statement.{statement}
 use Rattle.type_keys.proofs.enter_digest.Tie as tie
 
 link-requires : tie.Need-link-requires
-link-requires c κs = (need-placed (simp length-set (omega arith)), omega arith)
+link-requires c κs = (need-room (simp length-set (omega arith)), omega arith)
 
 returns : tie.Need-returns
 unfolding digestEntered

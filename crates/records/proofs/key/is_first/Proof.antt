@@ -1,5 +1,5 @@
 -- `records::key::is_first` meets its contract.
-use Rattle.records.proofs.Newest.{keyIs, record-placed, key-chain, own-chain, first-not, first-is}
+use Rattle.records.proofs.Newest.{keyIs, record-room, key-chain, own-chain, first-not, first-is}
 use Rattle.records.specs.Log.{recordedAt, recordChains}
 use Rattle.chains.proofs.Laws.{Along, along-from, along-found, along-next, along-end, earlier-less}
 use Rattle.chains.specs.Chains.{chainAt}
@@ -18,7 +18,7 @@ abbrev μ-loop : tie.MeasureT-loop
 μ-loop sheet work n i j₀ j = j
 
 earlier-requires : tie.Need-earlier-requires Inv-loop μ-loop
-earlier-requires c κs = let g = c .before .before .pre in (record-placed _ (g .log .checked .whole .room), omega (arith, g .low, g .log .few))
+earlier-requires c κs = let g = c .before .before .pre in (record-room _ (g .log .checked .whole .room), omega (arith, g .low, g .log .few))
 
 loop-holds : tie.Need-loop-holds Inv-loop μ-loop
 loop-holds c =
@@ -45,7 +45,7 @@ returns c =
     first-not s w (a .n) (g .m) (g .log) (recordedAt s w (a .i) .key) (omega (arith, g .low)) (z ∙ along-found (c .before .before .before .loop .inv) (omega arith) (c .before .same-key .ensures) (c .if1 .taken))
 
 earlier-requires-2 : tie.Need-earlier-requires-2 Inv-loop μ-loop
-earlier-requires-2 c κs = let g = c .before .before .before .before .before .before .before .pre in (record-placed _ (g .log .checked .whole .room), omega (arith, c .before .before .before .loop .inv .low, g .low, g .log .few, c .before .before .loop-test .taken))
+earlier-requires-2 c κs = let g = c .before .before .before .before .before .before .before .pre in (record-room _ (g .log .checked .whole .room), omega (arith, c .before .before .before .loop .inv .low, g .low, g .log .few, c .before .before .loop-test .taken))
 
 loop-less : tie.Need-loop-less Inv-loop μ-loop
 loop-less c = earlier-less (now (c .before .before .before .before .before .before .before .before .args .work)) recordChains (omega arith) (c .earlier2 .ensures)

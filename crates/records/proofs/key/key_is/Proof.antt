@@ -2,14 +2,14 @@ use mathlib.Core.Path.{sym, _∙_}
 use denote.Ref.{now}
 use Rattle.records.proofs.Digests.{keys-apart}
 use Rattle.records.proofs.Keys.{plain-key, variant-key}
-use Rattle.records.proofs.Newest.{record-placed}
+use Rattle.records.proofs.Newest.{record-room}
 use native.Mathlib.Omega.{arith}
 use borrow.Author.Needs.{needs}
 use Rattle.records.proofs.key.key_is.Statement.{statement}
 use Rattle.records.proofs.key.key_is.Tie as tie
 
 digest-at-requires : tie.Need-digest-at-requires
-digest-at-requires c κs = let p = c .before .before .before .pre .0 in (record-placed _ (p .checked .whole .room), omega (arith, p .low))
+digest-at-requires c κs = let p = c .before .before .before .pre .0 in (record-room _ (p .checked .whole .room), omega (arith, p .low))
 
 returns : tie.Need-returns
 returns c = keys-apart (now (c .before .before .before .before .before .args .key)) (now (c .before .before .before .before .before .args .sheet)) (now (c .before .before .before .before .before .args .work)) (c .before .before .before .before .before .args .i) (c .before .before .before .before .before .pre .2) (c .before .before .before .before .before .pre .1) (λ e. c .if1 .taken (c .before .digest-at .ensures .0 ∙ e))

@@ -1,5 +1,5 @@
 -- `records::key::newest` meets its contract.
-use Rattle.records.proofs.Newest.{keyIs, record-placed, key-chain, newest-is}
+use Rattle.records.proofs.Newest.{keyIs, record-room, key-chain, newest-is}
 use Rattle.records.specs.Log.{recordChains}
 use Rattle.chains.proofs.Laws.{Along, along-first, along-found, along-next, along-end, earlier-less}
 use Rattle.chains.specs.Chains.{chainOf}
@@ -18,7 +18,7 @@ abbrev μ-loop : tie.MeasureT-loop
 μ-loop sheet work c key d i₀ i = i
 
 newest-requires : tie.Need-newest-requires Inv-loop μ-loop
-newest-requires c κs = record-placed _ (c .before .before .before .before .pre .checked .whole .room)
+newest-requires c κs = record-room _ (c .before .before .before .before .pre .checked .whole .room)
 
 loop-holds : tie.Need-loop-holds Inv-loop μ-loop
 loop-holds c =
@@ -38,7 +38,7 @@ returns c =
     newest-is (now (a .sheet)) (now (a .work)) (a .c .lines) (a .c .entries) (c .before .before .before .before .before .before .before .before .before .pre) (now (a .key)) (along-found (c .before .before .before .loop .inv) (omega arith) (c .before .key-is .ensures) (c .if1 .taken))
 
 earlier-requires : tie.Need-earlier-requires Inv-loop μ-loop
-earlier-requires c κs = let g = c .before .before .before .before .before .before .before .before .before .pre in (record-placed _ (g .checked .whole .room), omega (arith, c .before .before .before .loop .inv .low, g .few, c .before .before .loop-test .taken))
+earlier-requires c κs = let g = c .before .before .before .before .before .before .before .before .before .pre in (record-room _ (g .checked .whole .room), omega (arith, c .before .before .before .loop .inv .low, g .few, c .before .before .loop-test .taken))
 
 loop-less : tie.Need-loop-less Inv-loop μ-loop
 loop-less c = earlier-less (now (c .before .before .before .before .before .before .before .before .before .before .args .work)) recordChains (omega arith) (c .earlier .ensures)

@@ -1,5 +1,5 @@
 -- `records::key::newest_of` meets its contract.
-use Rattle.records.proofs.Newest.{keyIs, record-placed, key-chain, own-chain, newest-own, newest-self}
+use Rattle.records.proofs.Newest.{keyIs, record-room, key-chain, own-chain, newest-own, newest-self}
 use Rattle.records.specs.Log.{recordedAt, recordChains}
 use Rattle.chains.proofs.Laws.{Along, along-first, along-found, along-next, chain-small, earlier-less}
 use Rattle.chains.specs.Chains.{chainAt}
@@ -17,10 +17,10 @@ abbrev μ-loop : tie.MeasureT-loop
 μ-loop sheet work c i j₀ j = j
 
 digest-at-requires : tie.Need-digest-at-requires Inv-loop μ-loop
-digest-at-requires c κs = let p = c .before .before .pre in (record-placed _ (p .0 .checked .whole .room), omega (arith, p .1, p .0 .few))
+digest-at-requires c κs = let p = c .before .before .pre in (record-room _ (p .0 .checked .whole .room), omega (arith, p .1, p .0 .few))
 
 newest-requires : tie.Need-newest-requires Inv-loop μ-loop
-newest-requires c κs = record-placed _ (c .before .before .before .pre .0 .checked .whole .room)
+newest-requires c κs = record-room _ (c .before .before .before .pre .0 .checked .whole .room)
 
 loop-holds : tie.Need-loop-holds Inv-loop μ-loop
 unfolding chainAt
@@ -49,7 +49,7 @@ returns c =
     newest-own (now (a .sheet)) (now (a .work)) (a .c .lines) (a .c .entries) (p .0) (a .i) (p .1) (z ∙ along-found (c .before .before .before .loop .inv) (omega arith) (c .before .same-key .ensures) (c .if1 .taken))
 
 earlier-requires : tie.Need-earlier-requires Inv-loop μ-loop
-earlier-requires c κs = let g = c .before .before .before .before .before .before .before .before .pre .0 in (record-placed _ (g .checked .whole .room), omega (arith, c .before .before .before .loop .inv .low, g .few, c .before .before .loop-test .taken))
+earlier-requires c κs = let g = c .before .before .before .before .before .before .before .before .pre .0 in (record-room _ (g .checked .whole .room), omega (arith, c .before .before .before .loop .inv .low, g .few, c .before .before .loop-test .taken))
 
 loop-less : tie.Need-loop-less Inv-loop μ-loop
 loop-less c = earlier-less (now (c .before .before .before .before .before .before .before .before .before .args .work)) recordChains (omega arith) (c .earlier .ensures)

@@ -5,17 +5,17 @@ use Rattle.records.specs.Log.{recordedAt}
 use Rattle.records.proofs.Digests.{keys-apart}
 use Rattle.records.proofs.Keys.{keys-unnamed, keys-own, keys-plain, keys-tags}
 use borrow.Author.Tests.{not-true, not-false}
-use Rattle.records.proofs.Newest.{record-placed}
+use Rattle.records.proofs.Newest.{record-room}
 use native.Mathlib.Omega.{arith}
 use borrow.Author.Needs.{needs}
 use Rattle.records.proofs.key.same_key.Statement.{statement}
 use Rattle.records.proofs.key.same_key.Tie as tie
 
 digest-at-requires : tie.Need-digest-at-requires
-digest-at-requires c κs = let p = c .before .before .pre .1 in (record-placed _ (p .checked .whole .room), omega (arith, p .low))
+digest-at-requires c κs = let p = c .before .before .pre .1 in (record-room _ (p .checked .whole .room), omega (arith, p .low))
 
 digest-at-requires-2 : tie.Need-digest-at-requires-2
-digest-at-requires-2 c κs = let p = c .before .before .before .pre .0 in (record-placed _ (p .checked .whole .room), omega (arith, p .low))
+digest-at-requires-2 c κs = let p = c .before .before .before .pre .0 in (record-room _ (p .checked .whole .room), omega (arith, p .low))
 
 returns : tie.Need-returns
 returns c = keys-apart (recordedAt (now (c .before .before .before .before .before .args .sheet)) (now (c .before .before .before .before .before .args .work)) (c .before .before .before .before .before .args .i) .key) (now (c .before .before .before .before .before .args .sheet)) (now (c .before .before .before .before .before .args .work)) (c .before .before .before .before .before .args .j) (c .before .digest-at2 .ensures .0 ∙ c .before .before .before .before .before .pre .2) (c .before .before .before .before .before .pre .3) (λ e. c .if1 .taken (c .before .before .digest-at .ensures .0 ∙ e))
