@@ -153,9 +153,9 @@ word-bytes (pos n) = low-bytes (bits64 (lowest 31 (pos n))) (bits64 (pos n)) (go
         → bits64 (cond b (pos (n % 4294967296)) (negsuc (4294967295 - n % 4294967296))) % 4294967296 ≡ n % 18446744073709551616 % 4294967296
     go true e = omega arith
     go false e = omega arith
-word-bytes (negsuc n) = low-bytes (bits64 (lowest 31 (negsuc n))) (bits64 (negsuc n)) (go (ltb (n % 4294967296) 2147483648) refl)
+word-bytes (negsuc n) = low-bytes (bits64 (lowest 31 (negsuc n))) (bits64 (negsuc n)) (go (ltb (4294967295 - n % 4294967296) 2147483648) refl)
   where
-    go : (b : Bool) → ltb (n % 4294967296) 2147483648 ≡ b
-        → bits64 (cond b (negsuc (n % 4294967296)) (pos (4294967295 - n % 4294967296))) % 4294967296 ≡ (18446744073709551615 - n % 18446744073709551616) % 4294967296
+    go : (b : Bool) → ltb (4294967295 - n % 4294967296) 2147483648 ≡ b
+        → bits64 (cond b (pos (4294967295 - n % 4294967296)) (negsuc (4294967295 - (4294967295 - n % 4294967296)))) % 4294967296 ≡ (18446744073709551615 - n % 18446744073709551616) % 4294967296
     go true e = omega arith
     go false e = omega arith

@@ -1,6 +1,6 @@
 -- Laws of integers that hold at every width: their low bits, the signed reading of these, and what the machine keeps of a signed value.
 use Prim.Native.Nat.{ℕ, zero, suc, _+_, _-_, _*_, _/_, _%_, _^_, _≤_, _<_, min}
-use native.Mathlib.Nat.{add-mul, sub-add-cancel, pow-suc, mod-lt, mod-eq-of-lt, div-le-self, le-trans, le-antisymm, le-of-lt, le-suc, le-of-suc-le-suc, div-lt-self, zero-lt-suc, min-eq-left, min-eq-right}
+use native.Mathlib.Nat.{add-mul, sub-add-cancel, mod-lt, mod-eq-of-lt, div-le-self, le-trans, le-antisymm, le-of-lt, le-suc, le-of-suc-le-suc, div-lt-self, zero-lt-suc, min-eq-left, min-eq-right}
 use native.Mathlib.Numerals.{add-one}
 use native.Mathlib.Omega.{arith}
 use mathlib.Core.Path.{_≡_, refl, sym, ap, _∙_}
@@ -15,24 +15,10 @@ use mir.Syntax.{Width}
 use mir.Val.{Fits, SFits, bits, hbits, ofZ, toZ, sel}
 use mir.ValLaws.{bits-suc, pow-bits, half-full}
 use mir.Facts.{toZ-ofZ, toZ-pos, toZ-neg}
-use borrow.Author.Tests.{ltb-true, ltb-false, leb-true, leb-false, lt-ltb, le-ltb, eq-eqb, ne-eqb}
-use Rattle.semantics.specs.Fold.{bits64, isZero, eqZ}
-use Rattle.semantics.specs.Array.{lowest, lowByte}
+use borrow.Author.Tests.{ltb-true, ltb-false, leb-true, leb-false, eq-eqb, ne-eqb}
+use Rattle.semantics.specs.Fold.{lowBits, signedBits, isZero, eqZ}
 
 -- ---- low bits
-
--- z modulo 2 ^ k
-abbrev pub low : ℕ → ℤ → ℕ
-low k (pos n) = n % 2 ^ k
-low k (negsuc n) = 2 ^ k - 1 - n % 2 ^ k
-
-pub low-64 : (z : ℤ) → low 64 z ≡ bits64 z
-low-64 (pos n) = refl
-low-64 (negsuc n) = refl
-
-pub low-8 : (z : ℤ) → low 8 z ≡ lowByte z
-low-8 (pos n) = refl
-low-8 (negsuc n) = refl
 
 -- two digits of base m are taken away one by one
 digits-sub : (a b q r m : ℕ) → q ≤ a → r ≤ b → a * m + b - (q * m + r) ≡ (a - q) * m + (b - r)
@@ -41,7 +27,7 @@ digits-sub a b q r m h k = go (a * m) (q * m) ((a - q) * m) (sym (add-mul (a - q
     go : (x y d : ℕ) → d + y ≡ x → x + b - (y + r) ≡ d + (b - r)
     go x y d e = omega arith
 
-pub low-low : (j k : ℕ) (z : ℤ) → low (j + k) z % 2 ^ k ≡ low k z
+pub low-low : (j k : ℕ) (z : ℤ) → lowBits (j + k) z % 2 ^ k ≡ lowBits k z
 low-low j k (pos n) = mod-mod-pow n j k
 low-low j k (negsuc n) =
     let q = n / 2 ^ k % 2 ^ j in
@@ -56,28 +42,6 @@ one-by-one p n = omega arith
 
 -- ---- the signed reading of bits
 
--- h bits and a sign: `signed64` is this at 63
-abbrev signedBits : ℕ → ℕ → ℤ
-signedBits h m = cond (ltb m (2 ^ h)) (pos m) (negsuc (2 ^ suc h - 1 - m))
-
-module _ (h m : ℕ) (l : m < 2 ^ suc h) where
-  halves : 2 ^ suc h ≡ 2 ^ h * 2
-  halves = pow-suc 2 h
-
-  turned : (t : Bool) → ltb m (2 ^ h) ≡ t → cond t (negsuc m) (pos (2 ^ suc h - 1 - m)) ≡ signedBits h (2 ^ suc h - 1 - m)
-  turned true e =
-      let k : m < 2 ^ h = ltb-true m (2 ^ h) e in
-      let d : 2 ^ h ≤ 2 ^ suc h - 1 - m = omega (arith, halves) in
-      rw (le-ltb (2 ^ suc h - 1 - m) (2 ^ h) d) (ap negsuc (sym (sub-sub-self (le-ones (suc h) l))))
-  turned false e =
-      let k : 2 ^ h ≤ m = ltb-false m (2 ^ h) e in
-      let d : 2 ^ suc h - 1 - m < 2 ^ h = omega (arith, halves) in
-      rw (lt-ltb (2 ^ suc h - 1 - m) (2 ^ h) d)
-
-pub lowest-is : (h : ℕ) (z : ℤ) → lowest h z ≡ signedBits h (low (suc h) z)
-lowest-is h (pos n) = refl
-lowest-is h (negsuc n) = let m = n % 2 ^ suc h in turned h m (mod-lt n (pow-pos (suc h))) (ltb m (2 ^ h)) refl
-
 pub toZ-is : (w : Width) (n : ℕ) → toZ w n ≡ signedBits (hbits w) n
 toZ-is w n = go (ltb n (2 ^ hbits w)) (ap (λ (k : ℕ). 2 ^ k - suc n) (bits-suc w) ∙ one-by-one (2 ^ suc (hbits w)) n)
   where
@@ -90,7 +54,7 @@ toZ-is w n = go (ltb n (2 ^ hbits w)) (ap (λ (k : ℕ). 2 ^ k - suc n) (bits-su
 abbrev pub held : Width → ℤ → ℤ
 held w z = toZ w (ofZ w z)
 
-pub bits-are : (w : Width) {z : ℤ} → SFits w z → ofZ w z ≡ low (bits w) z
+pub bits-are : (w : Width) {z : ℤ} → SFits w z → ofZ w z ≡ lowBits (bits w) z
 bits-are w {z = pos n} f = sym (mod-eq-of-lt (half-full w (f .sfits)))
 bits-are w {z = negsuc n} f = one-by-one (2 ^ bits w) n ∙ ap (λ (m : ℕ). 2 ^ bits w - 1 - m) (sym (mod-eq-of-lt (half-full w (f .sfits))))
 

@@ -15,10 +15,10 @@ use mir.ValLaws.{sfits-le}
 use mir.Facts.{toZ-ofZ}
 use borrow.Author.Tests.{ltb-true, ltb-false, eq-eqb, ne-eqb}
 use Rattle.semantics.specs.Tree.{ConstVal, IntOp}
-use Rattle.semantics.specs.Fold.{Result, bits64, signed64, wrap, isZero, intOk, bitwise, shiftCount, intOnly}
+use Rattle.semantics.specs.Fold.{Result, lowBits, bits64, signed64, wrap, isZero, intOk, bitwise, shiftCount, intOnly}
 use Rattle.semantics.specs.Fold.Result.{failed}
 use Rattle.semantics.specs.Array.{lowest, lowByte}
-use Rattle.ints.proofs.Widths.{low, low-64, low-8, low-low, lowest-is, toZ-is, held, bits-are, from1, zero-test, mag-quot}
+use Rattle.ints.proofs.Widths.{low-low, toZ-is, held, bits-are, from1, zero-test, mag-quot}
 
 abbrev twoTo64 : ℕ
 twoTo64 = 18446744073709551616
@@ -26,7 +26,7 @@ twoTo64 = 18446744073709551616
 -- ---- bits
 
 pub bits-of : {z : ℤ} → SFits w64 z → ofZ w64 z ≡ bits64 z
-bits-of {z} f = bits-are w64 f ∙ low-64 z
+bits-of f = bits-are w64 f
 
 bits-lt : (z : ℤ) → bits64 z < twoTo64
 bits-lt (pos n) = omega arith
@@ -194,14 +194,13 @@ bit-by-bit op {a} {b} f g = ap intOk (toZ-is w64 (op (ofZ w64 a) (ofZ w64 b)) �
 
 -- ---- the low bits of an n whose bits are B
 
-low-bits : (j k : ℕ) → j + k ≡ 64 → (z : ℤ) → bits64 z % 2 ^ k ≡ low k z
-low-bits j k e z = ap (λ (x : ℕ). x % 2 ^ k) (sym (ap (λ (i : ℕ). low i z) e ∙ low-64 z)) ∙ low-low j k z
+low-bits : (j k : ℕ) → j + k ≡ 64 → (z : ℤ) → bits64 z % 2 ^ k ≡ lowBits k z
+low-bits j k e z = ap (λ (x : ℕ). x % 2 ^ k) (sym (ap (λ (i : ℕ). lowBits i z) e)) ∙ low-low j k z
 
 pub word-of-bits : {n : ℤ} {B : ℕ} → SFits w64 n → B ≡ bits64 (held w64 n) → toZ w32 (bitAnd B 4294967295) ≡ lowest 31 n
 word-of-bits {n} {B} f p =
     ap (toZ w32) (and-mask B 32 ∙ ap (λ (x : ℕ). x % 2 ^ 32) (from1 bits64 f p) ∙ low-bits 32 32 refl n)
-    ∙ toZ-is w32 (low 32 n)
-    ∙ sym (lowest-is 31 n)
+    ∙ toZ-is w32 (lowBits 32 n)
 
 pub byte-of-bits : {n : ℤ} {B : ℕ} → SFits w64 n → B ≡ bits64 (held w64 n) → bitAnd B 255 ≡ lowByte n
-byte-of-bits {n} {B} f p = and-mask B 8 ∙ ap (λ (x : ℕ). x % 2 ^ 8) (from1 bits64 f p) ∙ low-bits 56 8 refl n ∙ low-8 n
+byte-of-bits {n} {B} f p = and-mask B 8 ∙ ap (λ (x : ℕ). x % 2 ^ 8) (from1 bits64 f p) ∙ low-bits 56 8 refl n

@@ -1,5 +1,5 @@
 -- Global and data lines, first half: conversions of elements, and constant arrays.
-use Prim.Native.Nat.{ℕ, zero, suc, _-_, _%_, _^_, max}
+use Prim.Native.Nat.{ℕ, zero, suc, _-_, _^_, max}
 use mathlib.Core.Bool.{Bool, true, false, _&&_, cond}
 use mathlib.Core.List.{List, [], _∷_, _++_}
 use mathlib.Core.Option.{Option, none, some}
@@ -17,7 +17,7 @@ use Rattle.semantics.specs.Tree.El.{next, star, at}
 use Rattle.semantics.specs.Tree.Els.{noEls, andEl}
 use Rattle.semantics.specs.Tree.Ses.{noSes, andSe}
 use Rattle.semantics.specs.Tree.ElemKind.{kByte, kWord, kBig, kReal, kPtr}
-use Rattle.semantics.specs.Fold.{Result, bind, Names, foldAt0, toReal, toWhole}
+use Rattle.semantics.specs.Fold.{Result, bind, lowBits, signedBits, Names, foldAt0, toReal, toWhole}
 use Rattle.semantics.specs.Fold.Result.{ok, failed, refuse}
 
 -- ---- kinds of elements
@@ -50,12 +50,10 @@ isOfKind k t = eqb (kindNumber (elemKind t)) (kindNumber k)
 
 -- the low h + 1 bits of an integer, as signed
 abbrev pub lowest : ℕ → ℤ → ℤ
-lowest h (pos n) = let m = n % 2 ^ suc h in cond (ltb m (2 ^ h)) (pos m) (negsuc (2 ^ suc h - 1 - m))
-lowest h (negsuc n) = let m = n % 2 ^ suc h in cond (ltb m (2 ^ h)) (negsuc m) (pos (2 ^ suc h - 1 - m))
+lowest h z = signedBits h (lowBits (suc h) z)
 
 abbrev pub lowByte : ℤ → ℕ
-lowByte (pos n) = n % 256
-lowByte (negsuc n) = 255 - n % 256
+lowByte z = lowBits 8 z
 
 -- a real saturates at 32 bits, and a string among numbers is 0
 abbrev pub constWord : ConstVal → ℤ

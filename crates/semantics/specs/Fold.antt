@@ -1,5 +1,5 @@
 -- Constant lines, first half: folding an expression.
-use Prim.Native.Nat.{ℕ, _-_, _*_, _%_, _^_}
+use Prim.Native.Nat.{ℕ, suc, _-_, _*_, _%_, _^_}
 use mathlib.Core.Bool.{Bool, true, false, not, _&&_, cond}
 use mathlib.Core.List.{List, [], _∷_, _++_}
 use mathlib.Core.Option.{Option, none, some}
@@ -37,15 +37,23 @@ abbrev pub fromOption : {A : Type 0} → Option A → Result A
 fromOption none = failed
 fromOption (some a) = ok a
 
--- ---- integers of 64 bits
+-- ---- integers
 
--- the low 64 bits of an integer, and the integer that 64 bits are
+-- the low k bits of an integer
+abbrev pub lowBits : ℕ → ℤ → ℕ
+lowBits k (pos n) = n % 2 ^ k
+lowBits k (negsuc n) = 2 ^ k - 1 - n % 2 ^ k
+
+-- the integer that h bits and a sign are
+abbrev pub signedBits : ℕ → ℕ → ℤ
+signedBits h n = cond (ltb n (2 ^ h)) (pos n) (negsuc (2 ^ suc h - 1 - n))
+
+-- integers have 64 bits
 abbrev pub bits64 : ℤ → ℕ
-bits64 (pos n) = n % 2 ^ 64
-bits64 (negsuc n) = 2 ^ 64 - 1 - n % 2 ^ 64
+bits64 z = lowBits 64 z
 
 abbrev pub signed64 : ℕ → ℤ
-signed64 n = cond (ltb n (2 ^ 63)) (pos n) (negsuc (2 ^ 64 - 1 - n))
+signed64 n = signedBits 63 n
 
 -- modulo 2^64
 unfoldable pub wrap : ℤ → ℤ

@@ -1,5 +1,5 @@
 -- The values of the items of globals are in the range of their kind, where the folded values are those of 64 bits.
-use Prim.Native.Nat.{ℕ, _-_, _%_, _^_, _<_}
+use Prim.Native.Nat.{ℕ, _-_, _^_, _<_}
 use native.Mathlib.Omega.{arith}
 use mathlib.Core.Path.{refl}
 use mathlib.Core.Bool.{Bool, true, false, cond}
@@ -17,7 +17,7 @@ use Rattle.semantics.specs.Tree.{Ty, ConstVal, ElemKind}
 use Rattle.semantics.specs.Tree.ConstVal.{vInt, vReal, vStr}
 use Rattle.semantics.specs.Tree.ElemKind.{kByte, kWord, kBig, kReal, kPtr}
 use Rattle.semantics.specs.Sheet.{Source}
-use Rattle.semantics.specs.Fold.{Names, toReal, toWhole}
+use Rattle.semantics.specs.Fold.{Names, lowBits, toReal, toWhole}
 use Rattle.semantics.specs.Array.{isOfKind, lowest, lowByte, constByte, constWord, constBig, constReal}
 use Rattle.semantics.specs.Global.{Init, Declared, Globals, strItems, elementItems, contents, initItems, placeOf, declareAt, globalsFrom, globals, declaredIn, noGlobals}
 use Rattle.semantics.specs.Global.Values.{bigValues, wordValues}
@@ -47,16 +47,15 @@ small (pos n) h = le-leb n (2 ^ 63 - 1) (omega arith)
 small (negsuc n) h = lt-ltb n (2 ^ 63) h
 
 low-small : (z : ℤ) → Fits64 (lowest 31 z)
-low-small (pos n) = go (ltb (n % 4294967296) 2147483648)
+low-small z = go (lowBits 32 z) (low-few z) (ltb (lowBits 32 z) 2147483648)
   where
-    go : (b : Bool) → Fits64 (cond b (pos (n % 4294967296)) (negsuc (4294967295 - n % 4294967296)))
-    go true = small (pos (n % 4294967296)) (omega arith)
-    go false = small (negsuc (4294967295 - n % 4294967296)) (omega arith)
-low-small (negsuc n) = go (ltb (n % 4294967296) 2147483648)
-  where
-    go : (b : Bool) → Fits64 (cond b (negsuc (n % 4294967296)) (pos (4294967295 - n % 4294967296)))
-    go true = small (negsuc (n % 4294967296)) (omega arith)
-    go false = small (pos (4294967295 - n % 4294967296)) (omega arith)
+    low-few : (z : ℤ) → lowBits 32 z < 4294967296
+    low-few (pos n) = omega arith
+    low-few (negsuc n) = omega arith
+
+    go : (m : ℕ) → m < 4294967296 → (b : Bool) → Fits64 (cond b (pos m) (negsuc (4294967295 - m)))
+    go m h true = small (pos m) (omega arith)
+    go m h false = small (negsuc (4294967295 - m)) (omega arith)
 
 whole-small : (x : Float) → Fits64 (toWhole 31 x)
 unfolding toWhole
