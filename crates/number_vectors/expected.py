@@ -83,7 +83,7 @@ def shown(v):
 def write(op, operands):
     name, f = op
     used = operands[: f.__code__.co_argcount if hasattr(f, "__code__") else 1]
-    print(name, *map(shown, used), "gives", shown(f(*used)))
+    print(name.ljust(8), *map(shown, used), "gives", shown(f(*used)))
 
 
 for line in sys.stdin:

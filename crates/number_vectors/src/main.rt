@@ -51,16 +51,22 @@ fn show_quotient(q: Quotient) {
     }
 }
 
-fn real_name(op: u64) {
-    match op {
-        0 => text(b"real add"),
-        1 => text(b"real sub"),
-        2 => text(b"real mul"),
-        3 => text(b"real div"),
-        4 => text(b"real neg"),
-        5 => text(b"to big"),
-        6 => text(b"to word"),
-        _ => text(b"to byte"),
+// The bytes of t from one place up to another.
+fn part(t: &[u8], from: usize, to: usize) {
+    if from <= to && to <= t.len() {
+        text(&t[from..to]);
+    }
+}
+
+// The operation's name, in 8 bytes.
+fn name(op: u64) {
+    if op < 30 {
+        let at = op as usize * 8;
+        part(
+            b"real addreal subreal mulreal divreal negto big  to word to byte add     sub     mul     div     mod     shl     shr     and     or      xor     eq      neq     lt      gt      leq     geq     neg     not     bitnot  word of byte of real of ",
+            at,
+            at + 8,
+        );
     }
 }
 
@@ -89,7 +95,6 @@ fn whole_result(op: u64, x: f64) -> i64 {
 fn real_row(op: u64, a: u64, b: u64) {
     let x = reals::of_bits(bits_again(a));
     let y = reals::of_bits(bits_again(b));
-    real_name(op);
     show_real(x);
     if op < 4 {
         show_real(y);
@@ -101,33 +106,6 @@ fn real_row(op: u64, a: u64, b: u64) {
         show_int(whole_result(op, x));
     }
     text(b"\n");
-}
-
-fn int_name(op: u64) {
-    match op {
-        0 => text(b"add"),
-        1 => text(b"sub"),
-        2 => text(b"mul"),
-        3 => text(b"div"),
-        4 => text(b"mod"),
-        5 => text(b"shl"),
-        6 => text(b"shr"),
-        7 => text(b"and"),
-        8 => text(b"or"),
-        9 => text(b"xor"),
-        10 => text(b"eq"),
-        11 => text(b"neq"),
-        12 => text(b"lt"),
-        13 => text(b"gt"),
-        14 => text(b"leq"),
-        15 => text(b"geq"),
-        16 => text(b"neg"),
-        17 => text(b"not"),
-        18 => text(b"bitnot"),
-        19 => text(b"word of"),
-        20 => text(b"byte of"),
-        _ => text(b"real of"),
-    }
 }
 
 fn binary_result(op: u64, a: i64, b: i64) -> i64 {
@@ -169,7 +147,6 @@ fn int_result(op: u64, a: i64, b: i64) -> Quotient {
 }
 
 fn int_row(op: u64, a: i64, b: i64) {
-    int_name(op);
     show_int(a);
     if op < 16 {
         show_int(b);
@@ -206,6 +183,7 @@ fn number(s: &[u8], from: usize, to: usize) -> u64 {
 }
 
 fn row(op: u64, a: u64, b: u64) {
+    name(op);
     if op < 8 {
         real_row(op, a, b);
     } else {
