@@ -1,11 +1,13 @@
 // The refusals of 01, their numbers and lines, and the row that a program prints for one.
+#![tactic(auto)]
+
 ghost use Rattle.std.specs.Prelude.{◌≡◌, ◌≤◌, length};
 ghost use Rattle.semantics.specs.Refusal.{refused, printed};
 ghost use Rattle.write.specs.Wrote.{Wrote};
 ghost use Rattle.answers.specs.Answers.{refusal_number, refusal_line, RefusalAt};
 
 // One case for each of the thirteen, in their order, with its line where it has one.
-#[derive(Drop)]
+#[derive(Clone, Copy)]
 pub enum Refusal {
     LongSheet,
     SmallSpace,

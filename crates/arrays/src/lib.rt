@@ -1,4 +1,6 @@
 // Constant arrays: `alloc` and literals.
+#![tactic(auto)]
+
 ghost use Rattle.std.specs.Prelude.{◌≡◌, ℕ, ◌≤◌, ◌<◌};
 ghost use Rattle.semantics.specs.Text.{Bytes};
 ghost use Rattle.semantics.specs.Fold.{bind};
@@ -30,7 +32,7 @@ const LOWEST_ALLOC: i64 = -2147483648;
 const LONGEST_LITERAL: u64 = 1024;
 
 // The size of a literal, or why there is none.
-#[derive(Drop)]
+#[derive(Clone, Copy)]
 pub enum Size {
     Of(u64),
     Failed,
@@ -38,7 +40,7 @@ pub enum Size {
 }
 
 // The kind of the elements and their number; the values of a literal stand in the working space.
-#[derive(Drop)]
+#[derive(Clone, Copy)]
 pub enum Arrayed {
     Alloc(u8, u32),
     Literal(u8, usize),

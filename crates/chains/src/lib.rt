@@ -1,6 +1,8 @@
 // Chains of the entries of a table in the working space: entries whose digests are equal modulo 128 form one, the newest first, so
 // that a look-up meets them alone. A head that was never made may hold any byte, and so may a link that was copied from it: each counts
 // only where it leads to an entry of the chain, a link to an earlier one.
+#![tactic(auto)]
+
 ghost use Rattle.std.specs.Prelude.{◌≡◌, ◌+◌, ◌<◌};
 ghost use Rattle.chains.specs.Chains.{chain_of, digest_place, digest_at, link_at, head_at, chain_at, entry_below, newest_in, earlier_than, linked, ChainRoom};
 
@@ -8,7 +10,7 @@ use words::wide;
 
 // Where a table keeps its chains: the digest of entry i at byte `at + step * i`, its link `gap` bytes behind that, and the head of
 // chain i `gap` bytes behind the link.
-#[derive(Drop)]
+#[derive(Clone, Copy)]
 pub struct ChainPlaces {
     pub at: usize,
     pub gap: usize,

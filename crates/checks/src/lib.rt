@@ -1,4 +1,6 @@
 // Refusals 1 to 7, one after the other.
+#![tactic(auto)]
+
 ghost use Rattle.std.specs.Prelude.{◌≡◌, [], ◌≤◌, length};
 ghost use Rattle.semantics.specs.Text.{line_parts};
 ghost use Rattle.semantics.specs.Refusal.{Outcome, ruled, checked, tested, zeros};
@@ -11,7 +13,7 @@ const LONGEST_SHEET: usize = 65535;
 const LEAST_WORK: usize = 65536;
 
 // The number of lines, or a refusal's number and line.
-#[derive(Drop)]
+#[derive(Clone, Copy)]
 pub enum Checks {
     Lines(usize),
     Refused(u8, usize),

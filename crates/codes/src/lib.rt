@@ -1,6 +1,8 @@
 // Numbers that stand for something, in one place: rows of the table of forms, letters of kinds of lines, operators, kinds of elements
 // and of values, keywords of items, and the places of tables in the working space. Contracts name the same numbers, so a wrong one
 // here fails proofs above.
+#![tactic(auto)]
+
 pub mod area;
 pub mod binary;
 pub mod decl;

@@ -1,4 +1,6 @@
 // Compiling: a sheet to its listing, or a refusal.
+#![tactic(auto)]
+
 ghost use Rattle.std.specs.Prelude.{◌≡◌, length};
 ghost use Rattle.semantics.specs.Sheet.{sheet_source};
 ghost use Rattle.semantics.specs.Refusal.{zeros, worked};
@@ -13,14 +15,14 @@ use pends::Pends;
 use tables::{Made, Tables};
 
 // What stands before the working space is zeroed: the listing's length and the end of allocation, or a refusal's number and line.
-#[derive(Drop)]
+#[derive(Clone, Copy)]
 pub enum Listed {
     Written(usize, u32),
     Refused(u8, usize),
 }
 
 // The listing's length, or the refusal.
-#[derive(Drop)]
+#[derive(Clone, Copy)]
 pub enum Answer {
     Listed(usize),
     Refused(Refusal),

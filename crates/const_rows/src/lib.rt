@@ -1,4 +1,6 @@
 // Rows of the listing for constants: all M->NAME, then all plain names, each in the order of first insertion with its last value.
+#![tactic(auto)]
+
 ghost use Rattle.std.specs.Prelude.{◌∷◌, ◌++◌, ◌+◌, ◌≤◌, ◌<◌, length};
 ghost use Rattle.semantics.specs.Listing.{row, value_fields, const_rows};
 ghost use Rattle.write.specs.Wrote.{Wrote};

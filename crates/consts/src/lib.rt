@@ -1,4 +1,6 @@
 // The constants of a sheet, in their passes: one for each module in the sheet's order, then one for the top level.
+#![tactic(auto)]
+
 ghost use Rattle.std.specs.Prelude.{◌≡◌, ◌+◌, ◌<◌};
 ghost use Rattle.checks.specs.Checks.{Checked, Kept};
 ghost use Rattle.consts.specs.Passes.{ConstLine, ConstantEntered, AtConstant, PassAt, Visits, Group, PassDone, PassesBefore, ModulePassed, Collects, left};
@@ -9,14 +11,14 @@ use names::Known;
 use values::Folded;
 
 // How many constants there are, or the line whose string grows too long.
-#[derive(Drop)]
+#[derive(Clone, Copy)]
 pub enum Collected {
     Count(usize),
     Refused(usize),
 }
 
 // A pass before line `line`, from 0, where the module of line `within` is open.
-#[derive(Drop)]
+#[derive(Clone, Copy)]
 pub struct Pass {
     pub line: usize,
     pub within: usize,
@@ -25,7 +27,7 @@ pub struct Pass {
 }
 
 // The pass behind a line, or the line that is refused.
-#[derive(Drop)]
+#[derive(Clone, Copy)]
 pub enum Visited {
     On(Pass),
     Refused(usize),

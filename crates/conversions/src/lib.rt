@@ -1,4 +1,6 @@
 // The conversions that the elements of an array take: each contract names crate semantics' rule at an integer or at a real.
+#![tactic(auto)]
+
 ghost use Rattle.std.specs.Prelude.{◌≡◌};
 ghost use Rattle.semantics.specs.Array.{const_word, const_byte, const_big, const_real, low_byte};
 ghost use Rattle.semantics.specs.Tree.ConstVal.{v_int, v_real};

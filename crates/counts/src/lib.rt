@@ -1,4 +1,6 @@
 // Refusal 7: counts.
+#![tactic(auto)]
+
 ghost use Rattle.std.specs.Prelude.{◌≡◌, false, cond, [], ◌-◌, ◌≤◌, ◌<◌, eqb};
 ghost use Rattle.semantics.specs.Form.{letter};
 ghost use Rattle.semantics.specs.Refusal.{over_limits, no_counts, refs_of, bad_ref_from, too_many_from};
@@ -12,7 +14,7 @@ const MOST_OF_A_KIND: usize = 128;
 const MOST_NAMES: usize = 256;
 
 // `con`, `need` and `frame` lines, records plus tags, and `var` names.
-#[derive(Drop)]
+#[derive(Clone, Copy)]
 pub struct Tally {
     pub consts: usize,
     pub needs: usize,

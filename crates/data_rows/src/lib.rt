@@ -1,4 +1,6 @@
 // The `dat` rows of a sheet's data items, with IDs for the keys of array elements.
+#![tactic(auto)]
+
 ghost use Rattle.std.specs.Prelude.{◌≡◌, [], ◌∷◌, ◌<◌, length};
 ghost use Rattle.semantics.specs.Text.{Bytes};
 ghost use Rattle.semantics.specs.Tree.{Ty};
@@ -20,14 +22,14 @@ use names::Known;
 use vars::First;
 
 // Where the next row goes, and how many keys have an ID.
-#[derive(Drop)]
+#[derive(Clone, Copy)]
 pub struct Next {
     pub at: usize,
     pub keys: usize,
 }
 
 // How many lines, constants, globals and frames there are.
-#[derive(Drop)]
+#[derive(Clone, Copy)]
 pub struct Counts {
     pub lines: usize,
     pub consts: usize,
@@ -36,14 +38,14 @@ pub struct Counts {
 }
 
 // What a global holds first, and whether its type is big.
-#[derive(Drop)]
+#[derive(Clone, Copy)]
 pub struct Held {
     pub first: First,
     pub big: bool,
 }
 
 // The ID of the key of an array's elements, and how many keys have one.
-#[derive(Drop)]
+#[derive(Clone, Copy)]
 pub struct ElementId {
     pub id: usize,
     pub keys: usize,

@@ -1,4 +1,6 @@
 // Decimal numbers and integers without leading zeros, of any number of digits.
+#![tactic(auto)]
+
 ghost use Rattle.std.specs.Prelude.{◌≡◌, ◌+◌, ◌*◌, ◌≤◌, min, drop};
 ghost use Rattle.decimal.specs.Number.{most, digits_of, number_up_to, signed_of, integer_of, is_between};
 
@@ -8,7 +10,7 @@ use text::wide;
 pub const MOST: u64 = 9223372036854775809;
 
 // An integer's magnitude, no further than MOST, with its sign.
-#[derive(Drop)]
+#[derive(Clone, Copy)]
 pub enum Signed {
     Plus(u64),
     Minus(u64),
@@ -16,7 +18,7 @@ pub enum Signed {
 }
 
 // An integer of 64 bits, or none.
-#[derive(Drop)]
+#[derive(Clone, Copy)]
 pub enum Integer {
     Is(i64),
     Bad,

@@ -1,4 +1,6 @@
 // Numbers as elements of arrays of a kind: their text, and rows of them.
+#![tactic(auto)]
+
 ghost use Rattle.std.specs.Prelude.{[], ◌∷◌, ◌<◌};
 ghost use Rattle.semantics.specs.Text.{Bytes};
 ghost use Rattle.semantics.specs.Tree.ConstVal.{v_int, v_real, v_str};

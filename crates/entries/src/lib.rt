@@ -1,4 +1,6 @@
 // Entries of the table of constants.
+#![tactic(auto)]
+
 ghost use Rattle.std.specs.Prelude.{◌≡◌, ◌+◌, ◌*◌, ◌≤◌, ◌<◌, length};
 ghost use Rattle.write.specs.Wrote.{over};
 ghost use Rattle.chains.specs.Chains.{linked};

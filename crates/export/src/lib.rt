@@ -1,4 +1,6 @@
 // The entries for C and Rust. A slice is a pointer and a length there, and a struct is C's.
+#![tactic(auto)]
+
 ghost use Rattle.std.specs.Prelude.{◌≡◌, length};
 ghost use Rattle.semantics.specs.Text.{field_of, field_start};
 ghost use Rattle.image.specs.Image.{lent_of};
@@ -9,7 +11,7 @@ use image::ImageAnswer;
 
 // A part of a sheet.
 #[repr(C)]
-#[derive(Drop)]
+#[derive(Clone, Copy)]
 pub struct Part {
     pub start: usize,
     pub length: usize,
@@ -17,7 +19,7 @@ pub struct Part {
 
 // A refusal's number and line, or 0 and the listing's length.
 #[repr(C)]
-#[derive(Drop)]
+#[derive(Clone, Copy)]
 pub struct Compiled {
     pub number: u8,
     pub line: usize,
@@ -26,7 +28,7 @@ pub struct Compiled {
 
 // A refusal's number and line, or 0 and the three lengths.
 #[repr(C)]
-#[derive(Drop)]
+#[derive(Clone, Copy)]
 pub struct Laid {
     pub number: u8,
     pub line: usize,

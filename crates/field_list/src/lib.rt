@@ -1,8 +1,10 @@
 // Fields of a record, in a list that is lent: where each lies, its size, and whether it is a pointer.
+#![tactic(auto)]
+
 ghost use Rattle.std.specs.Prelude.{◌≡◌, ◌+◌, ◌*◌, ◌^◌, ◌≤◌, ◌<◌, max, take};
 ghost use Rattle.field_list.specs.Fields.{line_fields, furthest_in};
 
-#[derive(Drop)]
+#[derive(Clone, Copy)]
 pub struct Field {
     pub offset: u32,
     pub size: u32,

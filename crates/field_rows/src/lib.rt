@@ -1,4 +1,6 @@
 // `fld` rows: where each field of a record lies, and its size.
+#![tactic(auto)]
+
 ghost use Rattle.std.specs.Prelude.{◌+◌, ◌≤◌, length};
 ghost use Rattle.write.specs.Wrote.{Wrote};
 ghost use Rattle.sizes.specs.Places.{fd_at, fds_of_refs, common_fields, case_fields, FieldLine, FieldRefs, RecordLine, CaseLine, case_end, common_end, group_bytes, line_bytes};
@@ -7,7 +9,7 @@ ghost use Rattle.field_rows.specs.Rows.{field_text, LineWrote, AllWrote};
 use sizes::place::Refs;
 
 // Where the next row goes, and where the fields so far end.
-#[derive(Drop)]
+#[derive(Clone, Copy)]
 pub struct Ends {
     pub at: usize,
     pub end: u32,

@@ -1,4 +1,6 @@
 // Expressions folded: the value of an `ex` line of a checked sheet, left first. Strings stand in the working space as on a stack.
+#![tactic(auto)]
+
 ghost use Rattle.std.specs.Prelude.{◌≡◌, ◌-◌};
 ghost use Rattle.values.specs.Values.{value_in, Answers};
 ghost use Rattle.checks.specs.Checks.{Kept};

@@ -1,4 +1,6 @@
 // The forms of lines: a table, and one walk over a line's fields by it.
+#![tactic(auto)]
+
 ghost use Rattle.std.specs.Prelude.{◌≡◌, [], ℕ, ◌≤◌, ◌<◌, length, drop, get_or};
 ghost use Rattle.semantics.specs.Text.{same};
 ghost use Rattle.semantics.specs.Form.{forms, begins, row_of};
@@ -266,7 +268,7 @@ fn is_good(s: &[u8], x: u8) -> bool
 
 // A walk stands at the field that begins at `at`, past the line's end where none is left. `left` more fields have this letter, and those
 // behind them the form's letters from `next` on.
-#[derive(Drop)]
+#[derive(Clone, Copy)]
 pub struct Walk {
     pub at: usize,
     pub next: usize,
@@ -458,7 +460,7 @@ pub fn begin(f: usize) -> Walk
 }
 
 // What a walk meets: the field's letter and its number, and where it goes on.
-#[derive(Drop)]
+#[derive(Clone, Copy)]
 pub struct Seen {
     pub letter: u8,
     pub number: usize,

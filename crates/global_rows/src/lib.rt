@@ -1,4 +1,6 @@
 // The `glo` rows of globals.
+#![tactic(auto)]
+
 ghost use Rattle.semantics.specs.Sheet.{concat_map};
 ghost use Rattle.semantics.specs.Listing.{global_row};
 ghost use Rattle.write.specs.Wrote.{Wrote};

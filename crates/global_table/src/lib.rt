@@ -1,4 +1,6 @@
 // The table of globals in the working space: for each a name of a `var` line, and its offset.
+#![tactic(auto)]
+
 pub mod line;
 
 ghost use Rattle.std.specs.Prelude.{◌≡◌, ◌≤◌, ◌<◌, length};

@@ -1,4 +1,6 @@
 // Globals collected: a place for each in the table of globals, in the order of their `var` lines.
+#![tactic(auto)]
+
 ghost use Rattle.std.specs.Prelude.{◌≡◌, ◌+◌, ◌≤◌, ◌<◌, length};
 ghost use Rattle.checks.specs.Checks.{Checked, Outside};
 ghost use Rattle.implement.specs.Modules.{Open};
@@ -12,7 +14,7 @@ use global_table::line;
 use layout::align::align_up;
 
 // How many globals have a place, and where allocation ends.
-#[derive(Drop)]
+#[derive(Clone, Copy)]
 pub struct Globals {
     pub count: usize,
     pub end: u32,

@@ -1,11 +1,13 @@
 // Hexadecimal digits, upper case.
+#![tactic(auto)]
+
 ghost use Rattle.std.specs.Prelude.{◌≡◌, ◌≤◌};
 ghost use Rattle.hex_field.specs.Hex.{digit_of, pair_of, byte_at, bits64_of};
 
 use text::{is_within, wide};
 
 // 64 bits, or none.
-#[derive(Drop)]
+#[derive(Clone, Copy)]
 pub enum Bits64 {
     Bits(u64),
     Bad,

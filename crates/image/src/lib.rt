@@ -1,4 +1,6 @@
 // The image of a sheet's data and the area of its arrays: the sheet is compiled, and the items of its listing are replayed.
+#![tactic(auto)]
+
 ghost use Rattle.std.specs.Prelude.{◌≡◌, length};
 ghost use Rattle.semantics.specs.Refusal.{zeros};
 ghost use Rattle.image.specs.Image.{lent_of, Pictures};
@@ -8,7 +10,7 @@ use compile::Listed;
 use replay::Replayed;
 
 // The lengths of listing, image and area, or a refusal.
-#[derive(Drop)]
+#[derive(Clone, Copy)]
 pub enum ImageAnswer {
     Laid(usize, usize, usize),
     Refused(Refusal),

@@ -1,5 +1,7 @@
 // Reads a sheet from standard input and prints the image of its data and the area of its arrays, a row each, in hexadecimal digits; or
 // `no`, the refusal's number and its line.
+#![tactic(auto)]
+
 ghost use Rattle.std.specs.Prelude.{◌≡◌, ◌∷◌, [], ◌+◌, ◌*◌, ◌≤◌, length, take};
 ghost use Rattle.io.specs.Counts.{IsPrefixLen};
 ghost use Rattle.semantics.specs.Text.{hex_of};

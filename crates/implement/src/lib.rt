@@ -1,4 +1,6 @@
 // The modules of a checked sheet: which one is open before a line, and whether the sheet implements it.
+#![tactic(auto)]
+
 ghost use Rattle.std.specs.Prelude.{◌≡◌, ◌+◌, ◌≤◌, ◌<◌};
 ghost use Rattle.std.proofs.Math.Option.{some};
 ghost use Rattle.semantics.specs.Sheet.{sheet_source};

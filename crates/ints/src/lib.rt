@@ -1,4 +1,6 @@
 // Operators on i64, as constants are folded: each contract is an equation with crate semantics' rule for that operator.
+#![tactic(auto)]
+
 ghost use Rattle.std.specs.Prelude.{◌≡◌, ◌*◌, ◌%◌, ◌^◌};
 ghost use Rattle.semantics.specs.Fold.{bits64, signed64, shift_count, int_ok, test, int_arith, int_only, int_unary};
 ghost use Rattle.semantics.specs.Tree.{Arith, IntOp, UnaryOp};
@@ -59,7 +61,7 @@ pub fn neg(a: i64) -> i64
 }
 
 // A quotient or a remainder; a zero divisor has none. `folded` says which result of a fold each case is.
-#[derive(Drop)]
+#[derive(Clone, Copy)]
 pub enum Quotient {
     Value(i64),
     ByZero,

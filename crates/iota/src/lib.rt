@@ -1,10 +1,12 @@
 // The iota counter: a struct that its caller lends, and that each constant of a pass moves on.
+#![tactic(auto)]
+
 ghost use Rattle.std.specs.Prelude.{◌≡◌, ◌+◌};
 ghost use Rattle.semantics.specs.Const.{iota_at};
 ghost use Rattle.iota.specs.Iota.{counter_of, capped_count, moved_of, stepped_of};
 
 // LINE and COL of the previous constant, and the next value of `iota` there.
-#[derive(Drop)]
+#[derive(Clone, Copy)]
 pub struct IotaCounter {
     pub started: bool,
     pub line: usize,
@@ -13,7 +15,7 @@ pub struct IotaCounter {
 }
 
 // The value of `iota` at a constant, and the counter moved on.
-#[derive(Drop)]
+#[derive(Clone, Copy)]
 pub struct Stepped {
     pub value: u32,
     pub next: IotaCounter,

@@ -1,4 +1,6 @@
 // Rows of data items: single values, and arrays with the elements of a literal that stands in the working space.
+#![tactic(auto)]
+
 ghost use Rattle.std.specs.Prelude.{◌≡◌, cond, [], ◌∷◌, ◌++◌, ℕ, ◌+◌, ◌*◌, ◌≤◌, ◌<◌, length};
 ghost use Rattle.semantics.specs.Tree.{Ty, ElemKind, TypeKey};
 ghost use Rattle.semantics.specs.Tree.ElemKind.{k_big};

@@ -1,1 +1,2 @@
 // Laws about the definitions of semantics that several crates cite, in proofs/; `Every`, of which some of them speak, in specs/.
+#![tactic(auto)]

@@ -1,4 +1,6 @@
 // Items laid in image and area.
+#![tactic(auto)]
+
 ghost use Rattle.std.specs.Prelude.{◌≡◌, ◌+◌, ◌*◌, ◌≤◌, ◌<◌, min, length};
 ghost use Rattle.semantics.specs.Image.{handle, part_at};
 ghost use Rattle.semantics.specs.Form.{fields_from};
@@ -13,7 +15,7 @@ const HANDLE: usize = 4;
 
 // The number of the next item; the newest array's part of the area, from `start` to `end`, behind which the next one begins, and
 // whether writing goes there; the image's length; and whether something did not fit.
-#[derive(Drop)]
+#[derive(Clone, Copy)]
 pub struct State {
     pub item: u64,
     pub start: usize,

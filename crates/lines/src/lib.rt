@@ -1,4 +1,6 @@
 // The lines of a sheet: their forms, and tables of them in the working space.
+#![tactic(auto)]
+
 ghost use Rattle.std.specs.Prelude.{◌≡◌, ◌+◌, ◌≤◌, ◌<◌, [], length, get_or};
 ghost use Rattle.semantics.specs.Text.{same};
 ghost use Rattle.decimal.specs.Number.{number_up_to};
@@ -11,7 +13,7 @@ use words::wide;
 const MOST_LINES: usize = 1024;
 
 // How many lines there are, all with a form; or the first line that is refused by 3.
-#[derive(Drop)]
+#[derive(Clone, Copy)]
 pub enum Formed {
     Lines(usize),
     NoForm(usize),

@@ -1,5 +1,7 @@
 // Reads a sheet from standard input and prints its listing, or `no`, the refusal's number and its line. One byte more is read than a
 // sheet may have, so that a longer one is refused.
+#![tactic(auto)]
+
 ghost use Rattle.std.specs.Prelude.{◌≡◌, ◌≤◌, length, take};
 ghost use Rattle.io.specs.Counts.{IsPrefixLen};
 ghost use Rattle.semantics.specs.Refusal.{compiled, printed};

@@ -1,4 +1,6 @@
 // The elements of a literal: each value is folded and stored, then its selectors, and then it is placed.
+#![tactic(auto)]
+
 ghost use Rattle.std.specs.Prelude.{◌≡◌, ◌+◌, ◌≤◌, ◌<◌, List, ℤ, length};
 ghost use Rattle.semantics.specs.Text.{Bytes};
 ghost use Rattle.semantics.specs.Tree as Tree;
@@ -17,7 +19,7 @@ use placements::{Extent, Placed};
 use values::{ConstVal, Folded};
 
 // An index, or why there is none.
-#[derive(Drop)]
+#[derive(Clone, Copy)]
 pub enum Index {
     At(i64),
     Failed,
@@ -25,7 +27,7 @@ pub enum Index {
 }
 
 // The low and high end of a selector, or why there are none.
-#[derive(Drop)]
+#[derive(Clone, Copy)]
 pub enum Span {
     Of(i64, i64),
     Failed,

@@ -1,5 +1,7 @@
 // 01's rows of a pointer map and its edges, through the crate `layout`: a line each of size, count and buffer, which held A5 throughout before.
 // Then offsets with what they are rounded up to. `expected.py` writes `stdout` from 01's words, not from this program.
+#![tactic(auto)]
+
 use libc::STDOUT_FILENO;
 
 fn comma() {

@@ -1,4 +1,6 @@
 // A pointer map in the working space.
+#![tactic(auto)]
+
 ghost use Rattle.std.specs.Prelude.{◌≡◌, cond, [], ◌∷◌, ◌+◌, ◌^◌, ◌-◌, ◌%◌, ◌<◌, pos};
 ghost use Rattle.semantics.specs.Layout.{pointer_count};
 ghost use Rattle.maps.specs.Maps.{map_in, MapRoom, Marks, MapMade};

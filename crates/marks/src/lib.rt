@@ -1,4 +1,6 @@
 // Marks the pointers of fields in the map that stands in the working space. The fields of an `fd` line are gathered in a list, and the list is lent.
+#![tactic(auto)]
+
 ghost use Rattle.std.specs.Prelude.{◌+◌, ◌*◌, ◌≤◌, ◌≡◌, take};
 ghost use Rattle.sizes.specs.Places.{fd_at, fds_of_refs, common_fields, case_fields, FieldLine, FieldRefs, RecordLine, CaseLine, case_end, common_end, group_bytes, line_bytes};
 ghost use Rattle.field_list.specs.Fields.{line_fields_from, pointers_in};

@@ -1,4 +1,6 @@
 // Refusal 6: modules.
+#![tactic(auto)]
+
 ghost use Rattle.std.specs.Prelude.{◌≡◌, false};
 ghost use Rattle.semantics.specs.Refusal.{bad_module_from};
 ghost use Rattle.lines.specs.Lines.{reads_in, Whole};

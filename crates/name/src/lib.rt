@@ -1,4 +1,6 @@
 // Names.
+#![tactic(auto)]
+
 ghost use Rattle.std.specs.Prelude.{◌≡◌};
 ghost use Rattle.semantics.specs.Text.{is_name};
 ghost use Rattle.name.specs.Name.{name_letter, name_byte};

@@ -1,4 +1,6 @@
 // The table of constants: look-ups by name and by module and name, the newest entry first.
+#![tactic(auto)]
+
 ghost use Rattle.std.specs.Prelude.{◌≡◌, true, ◌&&◌, ℕ, ◌+◌, ◌≤◌, ◌<◌, eqb, length};
 ghost use Rattle.semantics.specs.Text as Text;
 ghost use Rattle.semantics.specs.Fold.{plain, qualified};
@@ -12,7 +14,7 @@ use chains::ChainPlaces;
 use codes::area;
 
 // How many lines the sheet has, and how many constants are known.
-#[derive(Drop)]
+#[derive(Clone, Copy)]
 pub struct Known {
     pub lines: usize,
     pub consts: usize,

@@ -1,4 +1,6 @@
 // The keys of needs, each with its position among the distinct keys.
+#![tactic(auto)]
+
 ghost use Rattle.std.specs.Prelude.{◌≡◌, List, [], ◌∷◌, ◌++◌, ◌+◌, ◌<◌, length};
 ghost use Rattle.semantics.specs.Tree.{TypeKey};
 ghost use Rattle.semantics.specs.Sheet.{sheet_source};
@@ -14,7 +16,7 @@ use codes::kind;
 use type_keys::CHAINS;
 
 // How many needs there are, and how many of their keys are distinct.
-#[derive(Drop)]
+#[derive(Clone, Copy)]
 pub struct NeedCounts {
     pub needs: usize,
     pub keys: usize,

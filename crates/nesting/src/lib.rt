@@ -1,4 +1,6 @@
 // Refusal 5: nesting.
+#![tactic(auto)]
+
 ghost use Rattle.std.specs.Prelude.{◌≡◌, List, [], ℕ, ◌≤◌, ◌<◌, length};
 ghost use Rattle.semantics.specs.Refusal.{refs_of, deepest, too_deep_from};
 ghost use Rattle.lines.specs.Lines.{reads_in, read_at, Whole};

@@ -4,6 +4,8 @@
 // is a line of 37 bytes: an operation's number as below, in 2 hexadecimal digits, and two operands' bits, in 16 each. A line is
 // written for each: the operation, its operands and what it gives, reals by their bits and integers in decimal.
 // `stdout` is what expected.py works out from `stdin` with Python's own integers and the machine's floats.
+#![tactic(auto)]
+
 ghost use Rattle.std.specs.Prelude.{◌≡◌, if◌then◌else◌};
 ghost use Rattle.std.specs.Float.{binary64};
 ghost use Rattle.std.specs.Float.Ieee.{nan_bits};

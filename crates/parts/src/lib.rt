@@ -1,4 +1,6 @@
 // The listing of a checked sheet in two parts; `pend` rows come between them.
+#![tactic(auto)]
+
 ghost use Rattle.write.specs.Wrote.{Wrote};
 ghost use Rattle.checks.specs.Checks.{Checked};
 ghost use Rattle.parts.specs.Parts.{Listable, declared_text, types_text};

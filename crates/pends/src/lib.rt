@@ -1,4 +1,6 @@
 // The `pend` rows of globals, and the refusals of their first values.
+#![tactic(auto)]
+
 ghost use Rattle.std.specs.Prelude.{[], ◌∷◌};
 ghost use Rattle.semantics.specs.Sheet.{concat_map};
 ghost use Rattle.semantics.specs.Global.{laid_names};
@@ -15,7 +17,7 @@ use names::Known;
 use vars::{First, var_value};
 
 // The place behind the rows, or a refusal and its line.
-#[derive(Drop)]
+#[derive(Clone, Copy)]
 pub enum Pends {
     Written(usize),
     Refused(u8, usize),

@@ -1,4 +1,6 @@
 // Where the elements of a literal fall: a table of its first 1,024 indices, and slots for the elements' values.
+#![tactic(auto)]
+
 ghost use Rattle.std.specs.Prelude.{◌≡◌, ℕ, ◌+◌, ◌*◌, ◌^◌, ◌≤◌, ◌<◌, min, max, length};
 ghost use Rattle.semantics.specs.Text.{any};
 ghost use Rattle.semantics.specs.Tree as Tree;
@@ -18,14 +20,14 @@ const INDICES: u64 = 1024;
 const BEYOND: u64 = 9223372036854775808;
 
 // How far a literal goes: the next plain index, and the end of its indices.
-#[derive(Drop)]
+#[derive(Clone, Copy)]
 pub struct Extent {
     pub next: u64,
     pub reach: u64,
 }
 
 // A literal so far, or how it ends.
-#[derive(Drop)]
+#[derive(Clone, Copy)]
 pub enum Placed {
     Into(Extent),
     Negative,

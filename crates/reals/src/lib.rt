@@ -1,4 +1,6 @@
 // f64: each contract is an equation with crate semantics' rules for reals, which are those of IEEE 754.
+#![tactic(auto)]
+
 ghost use Rattle.std.specs.Prelude.{◌≡◌, ◌%◌, pos, from_bits, to_bits};
 ghost use Rattle.std.specs.Float.Ieee as Ieee;
 ghost use Rattle.std.specs.Float.{binary64};

@@ -1,4 +1,6 @@
 // The rows of records: `rec`, and `fld` for each field.
+#![tactic(auto)]
+
 ghost use Rattle.std.specs.Prelude.{◌≡◌, ◌∷◌, ◌≤◌, ◌<◌, length};
 ghost use Rattle.semantics.specs.Listing.{record_rows};
 ghost use Rattle.write.specs.Wrote.{Wrote};

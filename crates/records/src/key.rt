@@ -19,7 +19,7 @@ pub const CHAINS: ChainPlaces = ChainPlaces {
 };
 
 // How many lines the sheet has, and how many entries its log.
-#[derive(Drop)]
+#[derive(Clone, Copy)]
 pub struct Log {
     pub lines: usize,
     pub entries: usize,

@@ -1,4 +1,6 @@
 // Refusal 4: references.
+#![tactic(auto)]
+
 ghost use Rattle.std.specs.Prelude.{◌≡◌, cond, List, [], ℕ, ◌+◌, ◌≤◌, ◌<◌, length};
 ghost use Rattle.semantics.specs.Refusal.{refs_of, use_all, bad_ref_from};
 ghost use Rattle.form.specs.Table.{row_count};

@@ -1,11 +1,13 @@
 // Replay of a listing's data items, from its text to image and area.
+#![tactic(auto)]
+
 mod rows;
 
 ghost use Rattle.std.specs.Prelude.{◌≤◌, length};
 ghost use Rattle.replay.specs.Whole.{Replays};
 
 // The lengths of image and area, or that one of them does not fit its buffer.
-#[derive(Drop)]
+#[derive(Clone, Copy)]
 pub enum Replayed {
     Laid(usize, usize),
     Outgrown,

@@ -1,4 +1,6 @@
 // The fields of a listing's row, and values written from them.
+#![tactic(auto)]
+
 pub mod values;
 
 ghost use Rattle.std.specs.Prelude.{◌≡◌, true, false, [], ◌≤◌, min, get_or};

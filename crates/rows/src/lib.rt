@@ -1,4 +1,6 @@
 // Fields of a row of the listing, each behind its comma, and the row's end. Keywords and a row's first field go by `write::put_part`.
+#![tactic(auto)]
+
 ghost use Rattle.std.specs.Prelude.{◌∷◌, []};
 ghost use Rattle.semantics.specs.Text.{decimal, decimalℤ, hex_of, big_endian};
 ghost use Rattle.semantics.specs.Listing.{flag, pend_row};

@@ -1,6 +1,8 @@
 // 01's rows of records and their edges, through the crate `shapes`. A line each: blocks with one offset; then for each `adt` or `pick` line
 // of the sheet on standard input its number, its size, the ones of its map and the map, and behind a `pick` line the same for each of its cases.
 // `expected.py` writes `stdout` from 01's words, not from this program.
+#![tactic(auto)]
+
 ghost use Rattle.std.specs.Prelude.{◌≤◌, ◌<◌};
 ghost use Rattle.checks.specs.Checks.{Checked, Kept};
 ghost use Rattle.sizes.specs.Places.{RecordLine};

@@ -1,4 +1,6 @@
 // Sizes and pointer maps of records, over the lines of a checked sheet.
+#![tactic(auto)]
+
 ghost use Rattle.std.specs.Prelude.{◌≡◌, ◌-◌, ◌≤◌, length};
 ghost use Rattle.semantics.specs.Layout.{rounded_size, furthest, place};
 ghost use Rattle.lines.specs.Lines.{form_at};

@@ -1,4 +1,6 @@
 // Sizes of types and places of fields, over the lines of a checked sheet.
+#![tactic(auto)]
+
 pub mod place;
 
 ghost use Rattle.std.specs.Prelude.{◌≡◌, ◌+◌, ◌≤◌, max};
@@ -7,7 +9,7 @@ ghost use Rattle.sizes.specs.Sizes.{is_long, type_at, TypeLine, TupleLine, Measu
 
 use codes::ty;
 
-#[derive(Drop)]
+#[derive(Clone, Copy)]
 pub struct SizeAlign {
     pub size: u32,
     pub align: u32,

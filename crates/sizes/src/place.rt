@@ -10,7 +10,7 @@ use crate::{SizeAlign, is_pointer, type_size_align};
 use layout::align::align_up;
 
 // The `count` fields of a line from field `from` on, which refer to `fd` lines.
-#[derive(Drop)]
+#[derive(Clone, Copy)]
 pub struct Refs {
     pub line: usize,
     pub from: usize,
@@ -45,7 +45,7 @@ pub fn case_refs(sheet: &[u8], work: &[u8], n: usize, r: usize) -> Refs
 }
 
 // Where the fields placed so far end, and the furthest end of one of them: a line without names aligns, and places none.
-#[derive(Drop)]
+#[derive(Clone, Copy)]
 pub struct Reached {
     pub end: u32,
     pub furthest: u32,

@@ -1,4 +1,6 @@
 // All tables of a checked sheet: its constants, the places of its globals, its record log, and the keys of its needs.
+#![tactic(auto)]
+
 ghost use Rattle.std.specs.Prelude.{◌≡◌};
 ghost use Rattle.checks.specs.Checks.{Checked, Kept};
 ghost use Rattle.names.specs.Table.{log_in, ConstsLogged};
@@ -7,7 +9,7 @@ ghost use Rattle.tables.specs.Tables.{TablesHeld, MakesTables};
 use consts::Collected;
 
 // How many entries each table has, where allocation ends, and how many keys the needs have.
-#[derive(Drop)]
+#[derive(Clone, Copy)]
 pub struct Tables {
     pub consts: usize,
     pub globals: usize,
@@ -18,7 +20,7 @@ pub struct Tables {
 }
 
 // The tables, or the `con` line that is refused by 8.
-#[derive(Drop)]
+#[derive(Clone, Copy)]
 pub enum Made {
     Whole(Tables),
     Refused(usize),

@@ -1,4 +1,6 @@
 // Text: the parts of a sheet, whose lines end in LF and whose fields are parted by commas; and what readers of one field share.
+#![tactic(auto)]
+
 ghost use Rattle.std.specs.Prelude.{◌≡◌, ◌+◌, ◌≤◌, ◌<◌, length, drop};
 ghost use Rattle.semantics.specs.Text.{in_range, field_of, field_start};
 ghost use Rattle.text.specs.Parts.{until, part_start_at, StandsAt};
@@ -36,7 +38,7 @@ pub fn skip(s: &[u8], n: usize, b: u8) -> usize
 }
 
 // A part of a sheet, from its start to its end.
-#[derive(Drop)]
+#[derive(Clone, Copy)]
 pub struct Place {
     pub start: usize,
     pub end: usize,

@@ -1,4 +1,6 @@
 // The table of descriptor keys, with their positions among the distinct keys.
+#![tactic(auto)]
+
 pub mod ids;
 
 ghost use Rattle.std.specs.Prelude.{◌≡◌, List, [], ◌∷◌, ◌++◌, ℕ, ◌+◌, ◌≤◌, ◌<◌, length};

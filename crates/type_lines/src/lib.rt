@@ -1,4 +1,6 @@
 // `need` lines: which have the same key, and which kind of element they ask for.
+#![tactic(auto)]
+
 pub mod frame;
 pub mod shape;
 

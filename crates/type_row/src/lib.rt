@@ -1,4 +1,6 @@
 // One `typ` row: the map is made in the working space, and what is printed is that map and its ones.
+#![tactic(auto)]
+
 ghost use Rattle.std.specs.Prelude.{◌≡◌, true, List, [], ◌∷◌, ◌+◌, ◌≤◌, ◌<◌, ℤ, length};
 ghost use Rattle.semantics.specs.Tree.{ElemKind};
 ghost use Rattle.semantics.specs.Form.{between};
@@ -15,7 +17,7 @@ use codes::{area, element};
 use type_lines::shape::RAISE;
 
 // Where the next row goes, and its ID.
-#[derive(Drop)]
+#[derive(Clone, Copy)]
 pub struct Spot {
     pub at: usize,
     pub id: usize,

@@ -1,4 +1,6 @@
 // `typ` rows.
+#![tactic(auto)]
+
 pub mod kinds;
 pub mod record;
 
@@ -24,7 +26,7 @@ use records::key::Log;
 use type_row::Spot;
 
 // How many needs there are, and how many keys: those of needs, then those of array elements.
-#[derive(Drop)]
+#[derive(Clone, Copy)]
 pub struct KeyCounts {
     pub needs: usize,
     pub keys: usize,

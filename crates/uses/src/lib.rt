@@ -1,4 +1,6 @@
 // `use` rows.
+#![tactic(auto)]
+
 ghost use Rattle.std.specs.Prelude.{List, ◌∷◌, [], ◌≤◌, length};
 ghost use Rattle.semantics.specs.Text.{Bytes, bytes, decimal};
 ghost use Rattle.semantics.specs.Sheet.{sheet_source, concat_map};

@@ -1,4 +1,6 @@
 // UTF-8 (RFC 3629): plain bytes, and the bytes that pairs of hexadecimal digits write.
+#![tactic(auto)]
+
 ghost use Rattle.std.specs.Prelude.{◌≡◌, ◌≤◌, length};
 ghost use Rattle.semantics.specs.Text.{characters};
 ghost use Rattle.utf8.specs.Utf8.{lead_of, to_come, no_lead, lead_at, followed, ends, starts_one, is_text};
@@ -6,7 +8,7 @@ ghost use Rattle.utf8.specs.Utf8.{lead_of, to_come, no_lead, lead_at, followed, 
 use text::is_within;
 
 // Within a text: whether it is good so far, how many bytes of a character are to come, and the bounds of the first of them.
-#[derive(Drop)]
+#[derive(Clone, Copy)]
 pub struct Lead {
     pub good: bool,
     pub more: u8,

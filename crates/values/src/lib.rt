@@ -1,4 +1,6 @@
 // Folded values, and what operators make of them. Bytes of strings stand in the working space, as on a stack.
+#![tactic(auto)]
+
 ghost use Rattle.std.specs.Prelude.{◌≡◌, ℕ, ◌+◌, ◌≤◌, length, take, drop};
 ghost use Rattle.semantics.specs.Text.{Bytes};
 ghost use Rattle.semantics.specs.Tree.ConstVal.{v_int, v_real};
@@ -13,7 +15,7 @@ use codes::{binary, ty, unary, value};
 pub const LONGEST_STRING: usize = 256;
 
 // An integer, a real, or a string's place in the working space and its length.
-#[derive(Drop)]
+#[derive(Clone, Copy)]
 pub enum ConstVal {
     Int(i64),
     Real(f64),
@@ -21,7 +23,7 @@ pub enum ConstVal {
 }
 
 // What a fold gives: a string that grows too long refuses the sheet.
-#[derive(Drop)]
+#[derive(Clone, Copy)]
 pub enum Folded {
     Value(ConstVal),
     Failed,

@@ -1,4 +1,6 @@
 // First values of globals.
+#![tactic(auto)]
+
 ghost use Rattle.std.specs.Prelude.{◌≡◌, not};
 ghost use Rattle.semantics.specs.Text.{Bytes};
 ghost use Rattle.semantics.specs.Tree.{elem_of};
@@ -19,7 +21,7 @@ use values::{ConstVal, Folded};
 
 // The first value of a global: none, a folded one, the kind and the number of an array's elements, or one that is left pending.
 // Strings and the values of a literal stand in the working space.
-#[derive(Drop)]
+#[derive(Clone, Copy)]
 pub enum First {
     NoValue,
     Value(ConstVal),

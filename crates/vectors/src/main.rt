@@ -1,6 +1,8 @@
 // Runs the cases on standard input (cases/README.md) through `compile` and `image`, and holds what they give to what is stored. A listing without an
 // image is held to `compile` alone. Prints the number of each case that differs, from 1, and then how many cases there are, how many listings, images
 // and refusals of each number are equal, and how many cases differ.
+#![tactic(auto)]
+
 ghost use Rattle.std.specs.Prelude.{◌≤◌, length};
 
 use answers::Refusal;
@@ -143,7 +145,7 @@ fn case_outcome(
 }
 
 // The bytes of a case's sheet, answer and image. No answer is empty: 0 there says that the list has ended.
-#[derive(Drop)]
+#[derive(Clone, Copy)]
 struct Header {
     sheet: usize,
     answer: usize,

@@ -1,5 +1,7 @@
 // Writers of text: each stores from a place on and returns the next place. Past the end nothing is stored, and the place is one past
 // the length and stays there, so that one test at the very end tells whether all fitted.
+#![tactic(auto)]
+
 ghost use Rattle.std.specs.Prelude.{◌≡◌, ◌≤◌, ◌<◌, ◌/◌, ◌%◌, ◌^◌, ◌∷◌, [], length, replicate};
 ghost use Rattle.semantics.specs.Text.{decimal, decimalℤ, hex_digit, hex_of, big_endian};
 ghost use Rattle.write.specs.Wrote.{Wrote};
