@@ -15,7 +15,7 @@ START = {"args", "requires", "ranges", "fits", "well_formed", "lifetimes"}
 
 
 def norm(name):
-    return name.replace("_", "-")
+    return re.sub(r"-lem$", "", name.replace("_", "-").lower())
 
 
 def base(name):
@@ -137,12 +137,19 @@ class Function:
             for n, old, fields in arm[2]:
                 if norm(old) == norm(name) and fields and rest.startswith("." + ".".join(fields)):
                     return f"c.{arm[0]}.{n}" + rest[len("." + ".".join(fields)):]
-        rest = self.tail(i, rest)
+        rest = self.tail(i, rest.replace(".type-inv", ".type_inv"))
         return f"c.{new}{rest}"
 
     def term(self, text, place):
         chain = self.ancestors(place)
         steps = {}
+        # let s = c.before.before in .. s.f.ensures
+        while True:
+            m = re.search(rf"let ({IDENT})(?: :[^=]*)? = (c(?:\.before)*) in\s*", text)
+            if not m:
+                break
+            head, behind = text[:m.start()], text[m.end():]
+            text = head + re.sub(rf"(?<![\w.'-]){re.escape(m[1])}(?=\.)", m[2], behind)
 
         def one(m):
             depth = len(m[1]) // len(".before")

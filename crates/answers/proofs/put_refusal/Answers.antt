@@ -1,0 +1,9 @@
+-- `answers::put_refusal` meets its contract.
+use Rattle.answers.specs.Answers.{refusal_number, refusal_line}
+use Rattle.answers.proofs.Rows.{refusal-row}
+use native.Mathlib.Omega.{arith}
+use borrow.Author.Rules.{rules}
+use Rattle.answers.proofs.put_refusal.Goals as goal
+
+pub returns : goal.returns
+returns c = refusal-row (refusal_number c.args.r) (refusal_line c.args.r) (omega arith) (omega arith) c.number_of.ensures c.line_of.ensures c.put_part-p.ensures c.put_comma_nat-q.ensures c.put_comma_nat-s.ensures c.put_lf.ensures

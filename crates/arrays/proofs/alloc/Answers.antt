@@ -1,0 +1,19 @@
+use Rattle.arrays.proofs.Allocs.{alloc-low, length-foldable, alloc-answers}
+use Rattle.literals.proofs.Lines.{line-in}
+use borrow.Author.Rules.{rules}
+use Rattle.arrays.proofs.alloc.Goals as goal
+
+pub overflow_sub-r : goal.overflow_sub-r
+overflow_sub-r c = c.requires.0.array.line.first
+
+pub number_at-q-requires : goal.number_at-q-requires
+number_at-q-requires c = (c.requires.0.array.line.checked.whole, line-in c.requires.0.array.line)
+
+pub fold_const-requires : goal.fold_const-requires
+fold_const-requires c = length-foldable c.requires.0 c.number_at-q.ensures.0 c.requires.1
+
+pub allocated-requires : goal.allocated-requires
+allocated-requires c = alloc-low c.requires.0 c.alloc_kind-kind.ensures
+
+pub returns : goal.returns
+returns c = alloc-answers c.requires.0 c.number_at-q.ensures.0 c.alloc_kind-kind.ensures c.fold_const.ensures c.allocated.result (c.allocated.ensures _).0 (c.allocated.ensures _).1

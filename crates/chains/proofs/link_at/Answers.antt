@@ -1,0 +1,12 @@
+-- `chains::link_at` meets its contract.
+use Rattle.chains.specs.Chains.{link_at}
+use mathlib.Core.Path.{◌∙◌}
+use borrow.Author.Rules.{rules}
+use Rattle.chains.proofs.link_at.Goals as goal
+
+pub place-requires : goal.place-requires
+place-requires c = c.requires.0.low c.args.i c.requires.1
+
+pub returns : goal.returns
+unfolding link_at
+returns c = (c.wide.ensures.0 ∙ rw c.place.ensures.0, c.wide.ensures.1)

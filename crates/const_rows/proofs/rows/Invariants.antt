@@ -1,0 +1,15 @@
+-- `const_rows::rows` meets its contract.
+use Rattle.const_rows.proofs.Laws as Laws
+use Rattle.const_rows.specs.Rows.{rows_to}
+use Rattle.write.proofs.Wrote.{place-low, wrote-length}
+use Rattle.write.specs.Wrote.{Wrote}
+use borrow.Author.Rules.{rules}
+use native.Mathlib.Omega.{arith}
+use Prim.Native.Nat.{◌-◌, ◌≤◌}
+use Rattle.const_rows.proofs.rows.Given as goal
+
+abbrev pub invariant-loop-i : goal.invariant-loop-i
+invariant-loop-i l = (l.i ≤ l.c.consts) × (Wrote l.initial.out l.at (rows_to l.plain l.sheet l.work l.c.consts l.i) l.out l.p)
+
+abbrev pub decreases-loop-i : goal.decreases-loop-i
+decreases-loop-i l = l.c.consts - l.i

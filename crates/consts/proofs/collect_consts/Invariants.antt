@@ -1,0 +1,18 @@
+-- `consts::collect_consts` meets its contract.
+use Rattle.consts.proofs.Walk as Walk
+use Rattle.consts.specs.Passes.{PassesBefore, passes_left}
+use Rattle.checks.proofs.Kept.{kept-all, kept_then}
+use Rattle.checks.specs.Checks.{Kept}
+use Rattle.semantics.specs.Const.{constants}
+use Rattle.semantics.specs.Sheet.{sheet_source}
+use borrow.Author.Rules.{rules}
+use native.Mathlib.Omega.{arith}
+use mathlib.Core.Path.{◌≡◌, ◌∙◌}
+use Prim.Native.Nat.{◌-◌, ◌≤◌}
+use Rattle.consts.proofs.collect_consts.Given as goal
+
+abbrev pub invariant-loop-i : goal.invariant-loop-i
+invariant-loop-i l = (PassesBefore l.sheet l.work l.n l.m l.i) × (Kept 5120 l.initial.work l.work) × (passes_left l.sheet l.work l.m l.i ≡ constants (sheet_source l.sheet)) × (l.i ≤ l.n)
+
+abbrev pub decreases-loop-i : goal.decreases-loop-i
+decreases-loop-i l = l.n - l.i

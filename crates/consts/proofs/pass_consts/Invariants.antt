@@ -1,0 +1,17 @@
+-- `consts::pass_consts` meets its contract.
+use Prim.Native.Nat.{◌-◌, ◌+◌, ◌≤◌}
+use mathlib.Core.Path.{◌≡◌, ◌∙◌, refl}
+use native.Mathlib.Omega.{arith}
+use lib.ListN.{length}
+use borrow.Author.Rules.{rules}
+use Rattle.checks.specs.Checks.{Kept}
+use Rattle.checks.proofs.Kept.{kept-all, kept_then}
+use Rattle.consts.specs.Passes.{PassAt, pass_from, group_from}
+use Rattle.consts.proofs.Walk as Walk
+use Rattle.consts.proofs.pass_consts.Given as goal
+
+abbrev pub invariant-loop-p : goal.invariant-loop-p
+invariant-loop-p l = (PassAt l.sheet l.work l.n l.k l.p) × (Kept 5120 l.initial.work l.work) × (pass_from l.sheet l.work l.k l.p ≡ pass_from l.sheet l.initial.work l.k (Walk.pass_start l.k l.m)) × (l.p.count + length (group_from l.sheet l.k l.p.line) ≡ l.m + length (group_from l.sheet l.k 0)) × (l.k ≤ l.p.line)
+
+abbrev pub decreases-loop-p : goal.decreases-loop-p
+decreases-loop-p l = l.n - l.p.line

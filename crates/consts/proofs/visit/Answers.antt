@@ -1,0 +1,20 @@
+-- `consts::visit` meets its contract.
+use Rattle.consts.proofs.Walk as Walk
+use Rattle.checks.proofs.Kept.{kept-all}
+use borrow.Author.Rules.{rules}
+use Rattle.consts.proofs.visit.Goals as goal
+
+pub kind-requires : goal.kind-requires
+kind-requires c = Walk.form_small c.requires.0.checked c.requires.1 c.form_at.ensures
+
+pub open_after-requires : goal.open_after-requires
+open_after-requires c = (Walk.open-here _ _ _ _ _ c.requires.0 c.requires.1, c.requires.1)
+
+pub returns-then-kind-ne-CON : goal.returns-then-kind-ne-CON
+returns-then-kind-ne-CON c = (kept-all, Walk.moves-other c.args.sheet.now c.args.work.now c.args.n c.args.k c.args.p c.requires.0 c.requires.1 (Walk.kind-read c.requires.0.checked c.requires.1 c.form_at.ensures c.kind.ensures) c.if-kind-ne-CON.true c.open_after.ensures)
+
+pub visit_constant-requires : goal.visit_constant-requires
+visit_constant-requires c = (c.requires.0, Walk.at_constant c.args.sheet.now c.args.work.now c.args.n c.args.k c.args.p c.requires.0 c.requires.1 (Walk.kind-read c.requires.0.checked c.requires.1 c.form_at.ensures c.kind.ensures) c.if-kind-ne-CON.false c.if-within-k.true)
+
+pub returns : goal.returns
+returns c = (kept-all, Walk.moves_out c.args.sheet.now c.args.work.now c.args.n c.args.k c.args.p c.requires.0 c.requires.1 (Walk.kind-read c.requires.0.checked c.requires.1 c.form_at.ensures c.kind.ensures) c.if-kind-ne-CON.false c.if-within-k.false)

@@ -1,0 +1,11 @@
+-- `fold::operand` meets its contract.
+use Rattle.fold.proofs.Steps.{operand-first, operand-second}
+use mathlib.Core.Path.{sym, ◌∙◌}
+use borrow.Author.Rules.{rules}
+use Rattle.fold.proofs.operand.Goals as goal
+
+pub returns-then-form_at-eq-LEN : goal.returns-then-form_at-eq-LEN
+returns-then-form_at-eq-LEN c = operand-first c.requires (sym c.form_at.ensures ∙ c.if-form_at-eq-LEN.true) c.number_at.ensures.0
+
+pub returns : goal.returns
+returns c = operand-second c.requires (λ e. c.if-form_at-eq-LEN.false (c.form_at.ensures ∙ e)) c.number_at-2.ensures.0

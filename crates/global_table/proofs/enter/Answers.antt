@@ -1,0 +1,35 @@
+-- `global_table::enter` meets its contract.
+use mathlib.Core.Path.{ap, ◌∙◌}
+use native.Mathlib.Omega.{arith}
+use lib.ListN.{length, length-set}
+use borrow.Author.Rules.{rules}
+use Rattle.global_table.proofs.Table.{global-room, entered_by, entered-long}
+use Rattle.global_table.proofs.enter.Goals as goal
+
+pub bounds-work-a-2 : goal.bounds-work-a-2
+bounds-work-a-2 c = simp length-set (omega arith)
+
+pub bounds-work-a-3 : goal.bounds-work-a-3
+bounds-work-a-3 c = simp length-set (omega arith)
+
+pub bounds-work-a-4 : goal.bounds-work-a-4
+bounds-work-a-4 c = simp length-set (omega arith)
+
+pub bounds-work-a-5 : goal.bounds-work-a-5
+bounds-work-a-5 c = simp length-set (omega arith)
+
+pub bounds-work-a-6 : goal.bounds-work-a-6
+bounds-work-a-6 c = simp length-set (omega arith)
+
+pub link-requires : goal.link-requires
+link-requires c = (global-room (simp length-set (omega arith)), omega arith)
+
+pub returns : goal.returns
+returns c =
+    let a = c.args in
+    entered_by a.work.now a.i a.line a.position a.offset a.digest c.link.ensures
+
+pub shape_of-work : goal.shape_of-work
+shape_of-work c =
+    let a = c.args in
+    ap length (returns c) ∙ entered-long a.work.now a.i a.line a.position a.offset a.digest

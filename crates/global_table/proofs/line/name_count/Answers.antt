@@ -1,0 +1,9 @@
+-- `global_table::line::name_count` meets its contract.
+use Rattle.global_table.proofs.VarLine.{count-on}
+use borrow.Author.Rules.{rules}
+use Rattle.global_table.proofs.line.name_count.Goals as goal
+
+pub returns : goal.returns
+returns c =
+    let a = c.args in
+    count-on a.sheet.now a.work.now a.n a.r c.requires c.number_at.result c.number_at.ensures.0

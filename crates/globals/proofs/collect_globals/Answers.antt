@@ -1,0 +1,29 @@
+use Prim.Native.Nat.{◌-◌}
+use mathlib.Core.Path.{refl}
+use borrow.Author.Rules.{rules}
+use Rattle.globals.proofs.Collect.{open-outside, LinesLaid, lines-laid-start, lines-laid-here, lines-laid-next, lines-laid-end}
+use Rattle.globals.proofs.collect_globals.Goals as goal
+
+pub loop-i-init : goal.loop-i-init
+loop-i-init c = lines-laid-start c.args.sheet.now c.args.work.now c.args.n c.requires refl refl
+
+pub declare_line-g-requires : goal.declare_line-g-requires
+declare_line-g-requires c =
+    let l = c.loop-i in
+    lines-laid-here c.args.sheet.now c.args.work.now c.args.n c.requires l.work l.g l.k l.i l.invariant c.loop-i-test.true
+
+pub open_after-k-requires : goal.open_after-k-requires
+open_after-k-requires c = (open-outside c.declare_line-g.ensures.outside c.loop-i.invariant.here, c.loop-i-test.true)
+
+pub loop-i-preserved : goal.loop-i-preserved
+loop-i-preserved c =
+    let l = c.loop-i in
+    lines-laid-next c.args.sheet.now c.args.work.now c.args.n c.requires l.work l.g l.k l.i l.invariant c.loop-i-test.true c.declare_line-g.ensures c.open_after-k.ensures
+
+pub shape_of-work : goal.shape_of-work
+shape_of-work c = c.loop-i.invariant.laid.outside.kept.long
+
+pub returns : goal.returns
+returns c =
+    let l = c.loop-i in
+    lines-laid-end c.args.sheet.now c.args.work.now c.args.n c.requires l.work l.g l.k l.i l.invariant c.loop-i-test.false

@@ -1,0 +1,12 @@
+-- `globals::collect_globals` meets its contract.
+use Prim.Native.Nat.{◌-◌}
+use mathlib.Core.Path.{refl}
+use borrow.Author.Rules.{rules}
+use Rattle.globals.proofs.Collect.{open-outside, LinesLaid, lines-laid-start, lines-laid-here, lines-laid-next, lines-laid-end}
+use Rattle.globals.proofs.collect_globals.Given as goal
+
+abbrev pub invariant-loop-i : goal.invariant-loop-i
+invariant-loop-i l = LinesLaid l.sheet l.initial.work l.work l.n l.g l.k l.i
+
+abbrev pub decreases-loop-i : goal.decreases-loop-i
+decreases-loop-i l = l.n - l.i

@@ -1,0 +1,11 @@
+-- `globals::declare_global` meets its contract.
+use borrow.Author.Rules.{rules}
+use Rattle.globals.proofs.Declare.{Naming, naming-start, naming-here, naming-next, naming-end}
+use Prim.Native.Nat.{◌-◌}
+use Rattle.globals.proofs.declare_global.Given as goal
+
+abbrev pub invariant-loop-j : goal.invariant-loop-j
+invariant-loop-j l = Naming l.sheet l.initial.work l.work l.n l.r l.count l.initial.h l.h l.j
+
+abbrev pub decreases-loop-j : goal.decreases-loop-j
+decreases-loop-j l = l.count - l.j

@@ -1,0 +1,45 @@
+use Rattle.literals.proofs.Turns.{Turning, into-not, begun, few-elements, turning-start, turning-line, turning-end, turn-line, turning-stop, turning-next}
+use Rattle.literals.proofs.Lines.{line-in}
+use borrow.Author.Rules.{rules}
+use Prim.Native.Nat.{◌-◌}
+use native.Mathlib.Omega.{arith}
+use Rattle.literals.proofs.fill.Goals as goal
+
+pub empty-requires : goal.empty-requires
+empty-requires c = c.requires.0.line.checked.whole.room
+
+pub overflow_sub-r : goal.overflow_sub-r
+overflow_sub-r c = c.requires.0.line.first
+
+pub number_at-count-requires : goal.number_at-count-requires
+number_at-count-requires c = let l = begun c.requires.0 c.requires.1 c.empty.ensures in (l.checked.whole, line-in l)
+
+pub loop-j-init : goal.loop-j-init
+loop-j-init c = turning-start c.requires.0 c.requires.1 c.empty.ensures c.number_at-count.ensures.0
+
+pub overflow_sub-r-in-loop-j : goal.overflow_sub-r-in-loop-j
+overflow_sub-r-in-loop-j c = c.requires.0.line.first
+
+pub overflow_add-j : goal.overflow_add-j
+overflow_add-j c = record { fits = omega (arith, few-elements c.requires.0 c.number_at-count.ensures.0, c.loop-j-test.true) }
+
+pub number_at-q-requires : goal.number_at-q-requires
+number_at-q-requires c = let l = turning-line c.requires.0 c.requires.1 c.empty.ensures c.number_at-count.ensures.0 c.loop-j.invariant in (l.checked.whole, line-in l)
+
+pub fill_element-y-requires : goal.fill_element-y-requires
+fill_element-y-requires c = turn-line c.requires.0 c.requires.1 c.empty.ensures c.number_at-count.ensures.0 c.loop-j.invariant c.loop-j-test.true c.number_at-q.ensures.0
+
+pub returns-in_default : goal.returns-in_default
+returns-in_default c = turning-stop c.requires.0 c.requires.1 c.empty.ensures c.number_at-count.ensures.0 c.loop-j.invariant c.loop-j-test.true c.number_at-q.ensures.0 c.fill_element-y.result c.fill_element-y.ensures (into-not c.fill_element-y.result c.in_default.keys2)
+
+pub overflow_add-j-in-loop-j : goal.overflow_add-j-in-loop-j
+overflow_add-j-in-loop-j c = record { fits = omega (arith, few-elements c.requires.0 c.number_at-count.ensures.0, c.loop-j-test.true) }
+
+pub loop-j-smaller : goal.loop-j-smaller
+loop-j-smaller c = omega (arith, c.loop-j-test.true)
+
+pub loop-j-preserved : goal.loop-j-preserved
+loop-j-preserved c = turning-next c.requires.0 c.requires.1 c.empty.ensures c.number_at-count.ensures.0 c.loop-j.invariant c.loop-j-test.true c.number_at-q.ensures.0 c.fill_element-y.result c.fill_element-y.ensures c.in-Into.is
+
+pub returns : goal.returns
+returns c = turning-end c.requires.0 c.requires.1 c.empty.ensures c.number_at-count.ensures.0 c.loop-j.invariant c.loop-j-test.false

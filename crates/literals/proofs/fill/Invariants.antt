@@ -1,0 +1,12 @@
+use Rattle.literals.proofs.Turns.{Turning, into-not, begun, few-elements, turning-start, turning-line, turning-end, turn-line, turning-stop, turning-next}
+use Rattle.literals.proofs.Lines.{line-in}
+use borrow.Author.Rules.{rules}
+use Prim.Native.Nat.{◌-◌}
+use native.Mathlib.Omega.{arith}
+use Rattle.literals.proofs.fill.Given as goal
+
+abbrev pub invariant-loop-j : goal.invariant-loop-j
+invariant-loop-j l = Turning l.sheet l.initial.work l.c.consts l.r l.count l.work l.x l.j
+
+abbrev pub decreases-loop-j : goal.decreases-loop-j
+decreases-loop-j l = l.count - l.j

@@ -1,0 +1,43 @@
+use Rattle.literals.proofs.Spans.{extent_of, Selecting, few-selectors, selecting_start, selecting-line, selecting-end, selector-task, selecting-stop, selecting-next}
+use Rattle.literals.proofs.Lines.{line-in}
+use borrow.Author.Rules.{rules}
+use mathlib.Core.Path.{sym, ◌∙◌}
+use Prim.Native.Nat.{◌-◌}
+use native.Mathlib.Omega.{arith}
+use Rattle.literals.proofs.place_selectors.Goals as goal
+
+pub overflow_sub-r : goal.overflow_sub-r
+overflow_sub-r c = c.requires.task.line.first
+
+pub number_at-count-requires : goal.number_at-count-requires
+number_at-count-requires c = (c.requires.task.line.checked.whole, line-in c.requires.task.line)
+
+pub loop-j-init : goal.loop-j-init
+loop-j-init c = selecting_start c.requires c.args.x c.number_at-count.ensures.0
+
+pub overflow_sub-r-in-loop-j : goal.overflow_sub-r-in-loop-j
+overflow_sub-r-in-loop-j c = c.requires.task.line.first
+
+pub overflow_add-j : goal.overflow_add-j
+overflow_add-j c = record { fits = omega (arith, few-selectors c.requires c.args.x c.number_at-count.ensures.0, c.loop-j-test.true) }
+
+pub number_at-q-requires : goal.number_at-q-requires
+number_at-q-requires c = let l = selecting-line c.requires c.args.x c.number_at-count.ensures.0 c.loop-j.invariant in (l.checked.whole, line-in l)
+
+pub place_selector-y-requires : goal.place_selector-y-requires
+place_selector-y-requires c = selector-task c.requires c.args.x c.number_at-count.ensures.0 c.loop-j.invariant c.loop-j-test.true c.number_at-q.ensures.0
+
+pub returns-then-is_stopped : goal.returns-then-is_stopped
+returns-then-is_stopped c = selecting-stop c.requires c.args.x c.number_at-count.ensures.0 c.loop-j.invariant c.loop-j-test.true c.number_at-q.ensures.0 c.place_selector-y.result c.place_selector-y.ensures (sym c.is_stopped.ensures ∙ c.if-is_stopped.true)
+
+pub overflow_add-j-in-loop-j : goal.overflow_add-j-in-loop-j
+overflow_add-j-in-loop-j c = record { fits = omega (arith, few-selectors c.requires c.args.x c.number_at-count.ensures.0, c.loop-j-test.true) }
+
+pub loop-j-smaller : goal.loop-j-smaller
+loop-j-smaller c = omega (arith, c.loop-j-test.true)
+
+pub loop-j-preserved : goal.loop-j-preserved
+loop-j-preserved c = selecting-next c.requires c.args.x c.number_at-count.ensures.0 c.loop-j.invariant c.loop-j-test.true c.number_at-q.ensures.0 c.place_selector-y.result c.place_selector-y.ensures (sym c.is_stopped.ensures ∙ c.if-is_stopped.false)
+
+pub returns : goal.returns
+returns c = selecting-end c.requires c.args.x c.number_at-count.ensures.0 c.loop-j.invariant c.loop-j-test.false

@@ -1,0 +1,13 @@
+use Rattle.literals.proofs.Spans.{extent_of, Selecting, few-selectors, selecting_start, selecting-line, selecting-end, selector-task, selecting-stop, selecting-next}
+use Rattle.literals.proofs.Lines.{line-in}
+use borrow.Author.Rules.{rules}
+use mathlib.Core.Path.{sym, ◌∙◌}
+use Prim.Native.Nat.{◌-◌}
+use native.Mathlib.Omega.{arith}
+use Rattle.literals.proofs.place_selectors.Given as goal
+
+abbrev pub invariant-loop-j : goal.invariant-loop-j
+invariant-loop-j l = Selecting l.sheet l.initial.work l.c.consts l.r l.e (extent_of l.initial.y) l.count l.work l.y l.j
+
+abbrev pub decreases-loop-j : goal.decreases-loop-j
+decreases-loop-j l = l.count - l.j

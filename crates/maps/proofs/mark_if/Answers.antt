@@ -1,0 +1,10 @@
+-- `maps::mark_if` meets its contract.
+use borrow.Author.Rules.{rules}
+use Rattle.maps.proofs.Maps.{marks-none}
+use Rattle.maps.proofs.mark_if.Goals as goal
+
+pub returns-then-pointer : goal.returns-then-pointer
+returns-then-pointer c = rw c.if-pointer.true c.mark_at.ensures
+
+pub returns : goal.returns
+returns c = rw c.if-pointer.false marks-none

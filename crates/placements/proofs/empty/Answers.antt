@@ -1,0 +1,6 @@
+use Rattle.placements.proofs.Steps.{started}
+use borrow.Author.Rules.{rules}
+use Rattle.placements.proofs.empty.Goals as goal
+
+pub returns : goal.returns
+returns c = started c.args.work.now _ _ c.requires c.set_span.ensures c.put_value.ensures

@@ -1,0 +1,14 @@
+use Rattle.placements.proofs.Ranges.{Setting, setting-start, setting-next, setting-end}
+use borrow.Author.Rules.{rules}
+use native.Mathlib.Omega.{arith}
+use Prim.Native.Nat.{◌-◌}
+use Rattle.placements.proofs.set_span.Goals as goal
+
+pub loop-i-init : goal.loop-i-init
+loop-i-init c = setting-start c.args.work.now c.args.low c.args.high c.args.e c.clipped-i.ensures
+
+pub loop-i-preserved : goal.loop-i-preserved
+loop-i-preserved c = setting-next c.loop-i.invariant (omega (arith, c.clipped-end.ensures, c.loop-i-test.true)) c.requires.1
+
+pub returns : goal.returns
+returns c = setting-end c.loop-i.invariant (omega (arith, c.clipped-end.ensures, c.loop-i-test.false))

@@ -1,0 +1,29 @@
+use native.Mathlib.Omega.{arith}
+use Prim.Native.Nat.{◌-◌, ◌≤◌}
+use Rattle.record_log.specs.Entries.{CollectedTo}
+use Rattle.record_log.proofs.Digests.{digests-start, digests-next, digests-end}
+use Rattle.record_log.proofs.enter_digests.Goals as goal
+
+pub loop-i-init : goal.loop-i-init
+loop-i-init c = (omega arith, digests-start c.requires)
+
+pub digest_for-d-requires : goal.digest_for-d-requires
+digest_for-d-requires c = c.loop-i.invariant.1.log.entries _ c.loop-i-test.true
+
+pub enter_digest-requires : goal.enter_digest-requires
+enter_digest-requires c = (omega (arith, c.loop-i.invariant.1.log.few, c.loop-i-test.true), c.digest_for-d.ensures.1, c.loop-i.invariant.1.log.checked.whole.room)
+
+pub overflow_add-i : goal.overflow_add-i
+overflow_add-i c = record { fits = omega (arith, c.loop-i.invariant.1.log.few, c.loop-i-test.true) }
+
+pub loop-i-smaller : goal.loop-i-smaller
+loop-i-smaller c = omega (arith, c.loop-i-test.true)
+
+pub loop-i-preserved : goal.loop-i-preserved
+loop-i-preserved c = (omega (arith, c.loop-i-test.true), digests-next c.loop-i.invariant.1 c.loop-i-test.true c.digest_for-d.ensures.0 c.enter_digest.ensures)
+
+pub shape_of-work : goal.shape_of-work
+shape_of-work c = c.loop-i.invariant.1.outside.kept.long
+
+pub returns : goal.returns
+returns c = digests-end c.loop-i.invariant.1 c.loop-i.invariant.0 c.loop-i-test.false

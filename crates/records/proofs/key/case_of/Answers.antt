@@ -1,0 +1,7 @@
+use Rattle.records.specs.Log.{entry_at}
+use borrow.Author.Rules.{rules}
+use Rattle.records.proofs.key.case_of.Goals as goal
+
+pub returns : goal.returns
+unfolding entry_at
+returns c = c.byte_at.ensures

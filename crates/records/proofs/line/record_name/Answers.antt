@@ -1,0 +1,7 @@
+use Rattle.records.proofs.Picks.{name-is}
+use mathlib.Core.Path.{sym, ◌∙◌}
+use borrow.Author.Rules.{rules}
+use Rattle.records.proofs.line.record_name.Goals as goal
+
+pub returns : goal.returns
+returns c = c.field_at.ensures ∙ sym (name-is c.args.sheet.now c.args.work.now c.args.n c.args.r c.requires)

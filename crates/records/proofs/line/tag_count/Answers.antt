@@ -1,0 +1,6 @@
+use Rattle.records.proofs.Picks.{tags-count}
+use borrow.Author.Rules.{rules}
+use Rattle.records.proofs.line.tag_count.Goals as goal
+
+pub returns : goal.returns
+returns c = tags-count c.args.sheet.now c.args.work.now c.args.n c.args.v c.requires c.number_at.result c.number_at.ensures.0

@@ -1,0 +1,7 @@
+use Rattle.write.proofs.Wrote.{then}
+use mathlib.Core.Path.{◌∙◌}
+use borrow.Author.Rules.{rules}
+use Rattle.slots.proofs.put_value.Goals as goal
+
+pub returns : goal.returns
+returns c = ((then c.put-p.ensures c.put_bits.ensures).bytes ∙ rw (c.kind_of.ensures, c.bits_of.ensures.0), c.bits_of.ensures.1)

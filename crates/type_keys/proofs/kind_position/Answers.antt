@@ -1,0 +1,7 @@
+use Rattle.type_keys.specs.Table.{kind_position}
+use borrow.Author.Rules.{rules}
+use Rattle.type_keys.proofs.kind_position.Goals as goal
+
+pub returns : goal.returns
+unfolding kind_position
+returns c = c.wide.ensures

@@ -1,0 +1,26 @@
+use native.Mathlib.Omega.{arith}
+use borrow.Author.Rules.{rules}
+use Prim.Native.Nat.{◌+◌}
+use Prim.Native.Nat.{◌≤◌, ◌-◌, ℕ}
+use lib.ListN.{length}
+use mathlib.Core.Path.{◌≡◌, refl, ◌∙◌, ap}
+use Rattle.source.specs.Walk.{declared_to}
+use Rattle.type_lines.specs.Shapes.{frames_to}
+use Rattle.type_lines.proofs.Frames.{frames-all, frames-few, frames-step}
+use Rattle.type_lines.proofs.frame.frame_count.Goals as goal
+
+pub loop-i-init : goal.loop-i-init
+unfolding declared_to
+loop-i-init c = (omega arith, refl)
+
+pub frames_of-frames-requires : goal.frames_of-frames-requires
+frames_of-frames-requires c = (c.requires, c.loop-i-test.true)
+
+pub overflow_add-frames : goal.overflow_add-frames
+overflow_add-frames c = record { fits = omega (arith, c.loop-i.invariant.1, c.frames_of-frames.ensures, frames-step c.args.sheet.now c.args.work.now c.args.n c.requires c.loop-i.i c.loop-i-test.true, frames-few c.args.sheet.now c.args.work.now c.args.n c.requires (c.loop-i.i + 1) (omega (arith, c.loop-i-test.true))) }
+
+pub loop-i-preserved : goal.loop-i-preserved
+loop-i-preserved c = (omega (arith, c.loop-i-test.true), omega (arith, c.loop-i.invariant.1, c.frames_of-frames.ensures, frames-step c.args.sheet.now c.args.work.now c.args.n c.requires c.loop-i.i c.loop-i-test.true))
+
+pub returns : goal.returns
+returns c = let e : c.loop-i.i ≡ c.args.n = omega (arith, c.loop-i.invariant.0, c.loop-i-test.false) in let g = c.loop-i.invariant.1 ∙ ap (λ (j : ℕ). length (frames_to c.args.sheet.now j)) e in (g ∙ ap length (frames-all c.args.sheet.now c.args.work.now c.args.n c.requires), omega (arith, g, frames-few c.args.sheet.now c.args.work.now c.args.n c.requires c.args.n (omega arith)))

@@ -1,0 +1,7 @@
+use mathlib.Core.Path.{◌∙◌}
+use Rattle.type_lines.proofs.Spelling.{texts-are}
+use borrow.Author.Rules.{rules}
+use Rattle.type_lines.proofs.same_need.Goals as goal
+
+pub returns : goal.returns
+returns c = c.same.ensures ∙ rw (c.line_at-l.ensures, c.line_at.ensures) (texts-are c.requires.0 c.requires.1)

@@ -1,0 +1,14 @@
+-- `vars::has_names` meets its contract.
+use native.Mathlib.Omega.{arith}
+use borrow.Author.Rules.{rules}
+use Rattle.vars.proofs.Names.{NoneLaid, names-all, searched, search-found, search-on}
+use Rattle.semantics.specs.Global.{laid_names}
+use mathlib.Core.Path.{ap, sym}
+use Prim.Native.Nat.{◌-◌}
+use Rattle.vars.proofs.has_names.Given as goal
+
+abbrev pub invariant-loop-j : goal.invariant-loop-j
+invariant-loop-j l = NoneLaid l.sheet l.r l.count l.j
+
+abbrev pub decreases-loop-j : goal.decreases-loop-j
+decreases-loop-j l = l.count - l.j

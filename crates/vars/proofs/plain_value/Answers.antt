@@ -1,0 +1,20 @@
+-- `vars::plain_value` meets its contract.
+use Rattle.vars.proofs.Values.{plain-none, plain-folded, plain-failed, plain-long}
+use Rattle.vars.proofs.Lines.{value-foldable}
+use borrow.Author.Rules.{rules}
+use Rattle.vars.proofs.plain_value.Goals as goal
+
+pub returns-then-q-eq0 : goal.returns-then-q-eq0
+returns-then-q-eq0 c = plain-none c.requires.0 c.number_at-q.ensures.0 _ c.if-q-eq0.true
+
+pub fold_const-requires : goal.fold_const-requires
+fold_const-requires c = value-foldable c.requires.0 c.number_at-q.ensures.0 c.if-q-eq0.false c.requires.1
+
+pub returns-in-Value : goal.returns-in-Value
+returns-in-Value c = plain-folded c.requires.0 c.number_at-q.ensures.0 c.if-q-eq0.false c.requires.1 c.fold_const.ensures c.in-Value.is
+
+pub returns-in-Failed : goal.returns-in-Failed
+returns-in-Failed c = plain-failed c.requires.0 c.number_at-q.ensures.0 c.if-q-eq0.false c.requires.1 c.fold_const.ensures c.in-Failed.is
+
+pub returns-in-TooLong : goal.returns-in-TooLong
+returns-in-TooLong c = plain-long c.requires.0 c.number_at-q.ensures.0 c.if-q-eq0.false c.requires.1 c.fold_const.ensures c.in-TooLong.is

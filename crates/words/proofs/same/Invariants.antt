@@ -1,0 +1,15 @@
+-- `words::same` meets its contract.
+use Rattle.words.proofs.Laws as Laws
+use Rattle.semantics.specs.Text as Text
+use borrow.Author.Rules.{rules}
+use lib.ListN.{length, drop}
+use native.Mathlib.Omega.{arith}
+use mathlib.Core.Path.{◌≡◌, ◌∙◌, sym, refl}
+use Prim.Native.Nat.{◌≤◌, ◌-◌}
+use Rattle.words.proofs.same.Given as goal
+
+abbrev pub invariant-loop-i : goal.invariant-loop-i
+invariant-loop-i l = (l.i ≤ length l.a) × (length l.a ≡ length l.b) × (Text.same l.a l.b ≡ Text.same (drop l.i l.a) (drop l.i l.b))
+
+abbrev pub decreases-loop-i : goal.decreases-loop-i
+decreases-loop-i l = length l.a - l.i

@@ -1,0 +1,14 @@
+-- `write::put_part` meets its contract. The first k bytes are written.
+use Prim.Native.Nat.{◌-◌, ◌≤◌}
+use lib.Seq.{take_all}
+use lib.ListN.{length, take}
+use borrow.Author.Rules.{rules}
+use Rattle.write.specs.Wrote.{Wrote}
+use Rattle.write.proofs.Wrote.{wrote-next, wrote_as, wrote-length}
+use Rattle.write.proofs.put_part.Given as goal
+
+abbrev pub invariant-loop-k : goal.invariant-loop-k
+invariant-loop-k l = (l.k ≤ length l.part) × Wrote l.initial.out l.at (take l.k l.part) l.out l.p
+
+abbrev pub decreases-loop-k : goal.decreases-loop-k
+decreases-loop-k l = length l.part - l.k
