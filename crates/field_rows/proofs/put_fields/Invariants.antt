@@ -1,0 +1,13 @@
+use Prim.Native.Nat.{◌-◌}
+use native.Mathlib.Omega.{arith}
+use borrow.Author.Rules.{rules}
+use Rattle.write.proofs.Wrote.{wrote-length, place-low}
+use Rattle.sizes.proofs.Places.{refs-in, refs-line}
+use Rattle.field_rows.proofs.Fields.{Fielding, fielding-start, fielding-next, fielding-end, rows-from}
+use Rattle.field_rows.proofs.put_fields.Given as goal
+
+abbrev pub invariant-loop-j : goal.invariant-loop-j
+invariant-loop-j l = Fielding l.sheet l.f l.initial.q l.initial.out l.out l.q l.j
+
+abbrev pub decreases-loop-j : goal.decreases-loop-j
+decreases-loop-j l = l.f.count - l.j

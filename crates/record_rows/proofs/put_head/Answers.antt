@@ -1,0 +1,7 @@
+use Rattle.record_rows.proofs.Entries.{head-text}
+use Rattle.records.specs.Log.{recorded_at}
+use borrow.Author.Rules.{rules}
+use Rattle.record_rows.proofs.put_head.Goals as goal
+
+pub returns : goal.returns
+returns c = head-text (recorded_at c.args.sheet.now c.args.work.now c.args.i) c.put_part-p.ensures c.put_key-q.ensures (c.put_tag.ensures c.args.sheet.now)

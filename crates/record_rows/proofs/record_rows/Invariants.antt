@@ -1,0 +1,13 @@
+use native.Mathlib.Omega.{arith}
+use Rattle.record_rows.proofs.Keys.{Keying, keying-start, keying-next, keying-end, log-now}
+use Rattle.write.proofs.Wrote.{wrote-length}
+use borrow.Author.Rules.{rules}
+use Prim.Native.Nat.{◌-◌}
+use mathlib.Core.Path.{refl}
+use Rattle.record_rows.proofs.record_rows.Given as goal
+
+abbrev pub invariant-loop-i : goal.invariant-loop-i
+invariant-loop-i l = Keying l.sheet l.c.entries l.initial.out l.at l.out l.p l.initial.work l.work l.i
+
+abbrev pub decreases-loop-i : goal.decreases-loop-i
+decreases-loop-i l = l.c.entries - l.i
