@@ -208,6 +208,8 @@ module _ (s : Bytes) {r : Signed} (is : r ≡ signed_of s) where
         go : (o : Option ℤ) (r : Signed) → KnownSign o r → r ≡ Plus n → (m : ℕ) × (o ≡ some (pos m)) × (n ≡ min m most)
         go none r unknown e = never cc
         go (some (pos m)) (Plus k) (plus p) e = let q : k ≡ n = cc in (m, refl, omega arith)
+        go (some (pos m)) (Minus _) k e = elim k [ ]
+        go (some (pos m)) NoInteger k e = elim k [ ]
         go (some (negsuc m)) r (minus p) e = never cc
 
     minus-by-magnitude : r ≡ Minus n → (m : ℕ) × (int_of s ≡ some (negsuc m)) × (n ≡ min (suc m) most)
@@ -217,6 +219,8 @@ module _ (s : Bytes) {r : Signed} (is : r ≡ signed_of s) where
         go none r unknown e = never cc
         go (some (pos m)) r (plus p) e = never cc
         go (some (negsuc m)) (Minus k) (minus p) e = let q : k ≡ n = cc in (m, refl, omega arith)
+        go (some (negsuc m)) (Plus _) k e = elim k [ ]
+        go (some (negsuc m)) NoInteger k e = elim k [ ]
 
     module _ (e : r ≡ Plus n) where
       pub plus-large : 9223372036854775807 < n → Bad ≡ integer_of s

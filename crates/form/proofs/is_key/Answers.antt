@@ -13,7 +13,7 @@ pub returns-then-q-s : goal.returns-then-q-s
 returns-then-q-s c = key-three c.args.s.now c.find-p.result c.find-p.ensures.0 c.find-q.result c.if-p-s.false (omega (arith, c.find-p.ensures)) c.find-q.ensures.0 c.if-q-s.true
 
 pub returns-then-not-is_name : goal.returns-then-not-is_name
-returns-then-not-is_name c = key-first c.args.s.now c.find-p.result c.find-p.ensures.0 c.find-q.result c.if-p-s.false (omega (arith, c.find-p.ensures)) c.find-q.ensures.0 c.if-q-s.false (sym c.is_name-2.ensures ∙ not-true c.is_name-2.result c.if-not-is_name.true)
+returns-then-not-is_name c = key-first c.args.s.now c.find-p.result c.find-p.ensures.0 c.find-q.result c.if-p-s.false (omega (arith, c.find-p.ensures)) c.find-q.ensures.0 c.if-q-s.false (sym c.is_name-2.ensures ∙ c.if-not-is_name.true)
 
 pub returns : goal.returns
-returns c = c.is_name-3.ensures ∙ key-last c.args.s.now c.find-p.result c.find-p.ensures.0 c.find-q.result c.if-p-s.false (omega (arith, c.find-p.ensures)) c.find-q.ensures.0 c.if-q-s.false (sym c.is_name-2.ensures ∙ not-false c.is_name-2.result c.if-not-is_name.false)
+returns c = c.is_name-3.ensures ∙ key-last c.args.s.now c.find-p.result c.find-p.ensures.0 c.find-q.result c.if-p-s.false (omega (arith, c.find-p.ensures)) c.find-q.ensures.0 c.if-q-s.false (sym c.is_name-2.ensures ∙ c.if-not-is_name.false)

@@ -14,10 +14,10 @@ pub returns-then-l-at : goal.returns-then-l-at
 returns-then-l-at c = stands-short c.args.name.now c.args.l.now c.args.at c.requires c.if-l-at.true
 
 pub returns-then-not-ends_at : goal.returns-then-not-ends_at
-returns-then-not-ends_at c = stands_on c.args.name.now c.args.l.now c.args.at (omega (arith, c.if-l-at.false, c.requires)) (sym c.ends_at.ensures ∙ not-true _ c.if-not-ends_at.true)
+returns-then-not-ends_at c = stands_on c.args.name.now c.args.l.now c.args.at (omega (arith, c.if-l-at.false, c.requires)) (sym c.ends_at.ensures ∙ c.if-not-ends_at.true)
 
 pub loop-i-init : goal.loop-i-init
-loop-i-init c = (omega arith, omega (arith, c.if-l-at.false, c.requires), stands-end c.args.name.now c.args.l.now c.args.at (sym c.ends_at.ensures ∙ not-false _ c.if-not-ends_at.false))
+loop-i-init c = (omega arith, omega (arith, c.if-l-at.false, c.requires), stands-end c.args.name.now c.args.l.now c.args.at (sym c.ends_at.ensures ∙ c.if-not-ends_at.false))
 
 pub returns-then-x-name : goal.returns-then-x-name
 returns-then-x-name c = stands-not c.args.name.now c.args.l.now c.args.at _ (omega arith) (omega arith) c.if-x-name.true

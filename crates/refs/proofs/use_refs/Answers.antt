@@ -27,13 +27,13 @@ pub claim-requires : goal.claim-requires
 claim-requires c = (omega (arith, c.loop-w.invariant.1.whole.lined.few, c.requires.1), c.loop-w.invariant.1.whole.room, forms-low c.args.sheet.now c.loop-w.work c.args.n (c.args.i + 1) c.loop-w.invariant.1.whole (omega (arith, c.requires.1)))
 
 pub returns-then-not-claim : goal.returns-then-not-claim
-returns-then-not-claim c = using-stop c.args.sheet.now c.loop-w.work c.args.work.now c.args.n c.args.i c.requires.1 c.form_at-f.result c.line_at-l.result.now c.loop-w.w c.next-s.result.next c.next-s.result.letter c.next-s.result.number c.next-s.ensures c.loop-w.invariant.1 c.claim.new.work c.claim.ensures.0 (not-true c.claim.result c.if-not-claim.true) c.claim.ensures.1
+returns-then-not-claim c = using-stop c.args.sheet.now c.loop-w.work c.args.work.now c.args.n c.args.i c.requires.1 c.form_at-f.result c.line_at-l.result.now c.loop-w.w c.next-s.result.next c.next-s.result.letter c.next-s.result.number c.next-s.ensures c.loop-w.invariant.1 c.claim.new.work c.claim.ensures.0 (c.if-not-claim.true) c.claim.ensures.1
 
 pub loop-w-smaller : goal.loop-w-smaller
 loop-w-smaller c = omega (arith, c.next-s.ensures.further, c.loop-w-test.true)
 
 pub loop-w-preserved : goal.loop-w-preserved
-loop-w-preserved c = (c.claim.auto.work ∙ c.loop-w.invariant.0, using-on c.args.sheet.now c.loop-w.work c.args.work.now c.args.n c.args.i c.requires.1 c.form_at-f.result c.line_at-l.result.now c.loop-w.w c.next-s.result.next c.next-s.result.letter c.next-s.result.number c.next-s.ensures c.loop-w.invariant.1 c.claim.new.work c.claim.ensures.0 (not-false c.claim.result c.if-not-claim.false) c.claim.ensures.1)
+loop-w-preserved c = (c.claim.auto.work ∙ c.loop-w.invariant.0, using-on c.args.sheet.now c.loop-w.work c.args.work.now c.args.n c.args.i c.requires.1 c.form_at-f.result c.line_at-l.result.now c.loop-w.w c.next-s.result.next c.next-s.result.letter c.next-s.result.number c.next-s.ensures c.loop-w.invariant.1 c.claim.new.work c.claim.ensures.0 (c.if-not-claim.false) c.claim.ensures.1)
 
 pub returns : goal.returns
 returns c = (c.loop-w.invariant.1.whole, using-end c.args.sheet.now c.loop-w.work c.args.work.now c.args.n c.args.i c.form_at-f.result c.line_at-l.result.now c.loop-w.w c.loop-w-test.false c.loop-w.invariant.1)
