@@ -1,5 +1,5 @@
 -- `ints::count` meets its contract: the low 6 bits are the rest modulo 64.
-use Rattle.std.proofs.Common.{ℕ, ◌%◌, ap, ◌∙◌, rules}
+use Rattle.std.proofs.Common.{ℕ, ◌%◌, ap, ◌∙◌}
 use lib.Bits.{and_mask}
 use Rattle.semantics.specs.Fold.{bits64}
 use Rattle.ints.proofs.Widths.{from1}

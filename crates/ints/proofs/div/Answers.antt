@@ -1,5 +1,4 @@
 -- `ints::div` meets its contract: a divisor is 0, or -1, or one by which the machine divides.
-use Rattle.std.proofs.Common.{rules}
 use Rattle.semantics.specs.Fold.{int_unary}
 use Rattle.semantics.specs.Tree.{UnaryOp}
 use Rattle.ints.proofs.Widths.{from1}

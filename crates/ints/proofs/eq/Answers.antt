@@ -1,5 +1,5 @@
 -- `ints::eq` meets its contract: bits are equal where the numbers are.
-use Rattle.std.proofs.Common.{ap, ◌∙◌, w64, rules}
+use Rattle.std.proofs.Common.{ap, ◌∙◌, w64}
 use Rattle.semantics.specs.Fold.{test}
 use Rattle.ints.proofs.Widths.{equal-test}
 use Rattle.ints.proofs.Wrapping.{outcome}

@@ -1,5 +1,4 @@
 -- `ints::lt` meets its contract: the machine compares the numbers that it keeps, which are the arguments.
-use Rattle.std.proofs.Common.{rules}
 use Rattle.semantics.specs.Fold.{int_only}
 use Rattle.semantics.specs.Tree.{IntOp}
 use Rattle.ints.proofs.Widths.{from2}

@@ -1,5 +1,4 @@
 -- `ints::mul` meets its contract: the product of the bits, modulo 2 ^ 64, is the bits of the product.
-use Rattle.std.proofs.Common.{rules}
 use Rattle.ints.proofs.Wrapping.{wrapped, product-bits}
 use Rattle.ints.proofs.mul.Goals as goal
 

@@ -1,5 +1,5 @@
 -- `ints::neg` meets its contract: 0 less a number is its negation.
-use Rattle.std.proofs.Common.{ℤ, pos, neg_ℤ, ap, ◌∙◌, rules}
+use Rattle.std.proofs.Common.{ℤ, pos, neg_ℤ, ap, ◌∙◌}
 use lib.IntN.{+ℤ_idl}
 use Rattle.semantics.specs.Fold.{wrap, int_ok, int_arith}
 use Rattle.semantics.specs.Tree.{Arith}

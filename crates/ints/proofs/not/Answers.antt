@@ -1,5 +1,5 @@
 -- `ints::not` meets its contract: bits are 0 where the number is.
-use Rattle.std.proofs.Common.{ap, ◌∙◌, w64, rules}
+use Rattle.std.proofs.Common.{ap, ◌∙◌, w64}
 use Rattle.semantics.specs.Fold.{test}
 use Rattle.ints.proofs.Widths.{zero_test}
 use Rattle.ints.proofs.Wrapping.{outcome}

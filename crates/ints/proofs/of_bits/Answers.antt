@@ -1,5 +1,5 @@
 -- `ints::of_bits` meets its contract: bits below the sign's are their own number; others are turned over, cast and turned back.
-use Rattle.std.proofs.Common.{ap, ◌∙◌, w64, to_z, rules}
+use Rattle.std.proofs.Common.{ap, ◌∙◌, w64, to_z}
 use Rattle.ints.proofs.Widths.{to_z-is, twice}
 use Rattle.ints.proofs.of_bits.Goals as goal
 

@@ -1,5 +1,4 @@
 -- `ints::shl` meets its contract: a shift of the bits to the left is a product with a power of 2.
-use Rattle.std.proofs.Common.{rules}
 use Rattle.ints.proofs.Wrapping.{shifted-left}
 use Rattle.ints.proofs.shl.Goals as goal
 

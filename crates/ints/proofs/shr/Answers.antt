@@ -1,5 +1,4 @@
 -- `ints::shr` meets its contract: the machine's shift of a signed number rounds down, and its result fits.
-use Rattle.std.proofs.Common.{rules}
 use Rattle.ints.proofs.Wrapping.{shifted-right}
 use Rattle.ints.proofs.shr.Goals as goal
 
