@@ -1,5 +1,4 @@
 use mathlib.Core.Path.{◌≡◌, refl}
-use Prim.Native.Nat.{◌+◌, ◌-◌, ◌*◌, ◌≤◌}
 use native.Mathlib.Omega.{arith}
 use Rattle.field_list.specs.Fields.{line_fields_from, line_fields}
 use Rattle.field_list.proofs.Laws.{line_set, next-offset, next_low}

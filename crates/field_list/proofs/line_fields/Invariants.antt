@@ -1,9 +1,7 @@
 -- `field_list::line_fields` meets its contract. The loop's invariant: the array holds the first i fields, and the next one begins at `at`.
-use mathlib.Core.Path.{◌≡◌, refl}
+use mathlib.Core.Path.{◌≡◌}
 use Prim.Native.Nat.{◌+◌, ◌-◌, ◌*◌, ◌≤◌}
-use native.Mathlib.Omega.{arith}
-use Rattle.field_list.specs.Fields.{line_fields_from, line_fields}
-use Rattle.field_list.proofs.Laws.{line_set, next-offset, next_low}
+use Rattle.field_list.specs.Fields.{line_fields}
 use Rattle.field_list.proofs.line_fields.Given as goal
 
 abbrev pub invariant-loop-i : goal.invariant-loop-i
