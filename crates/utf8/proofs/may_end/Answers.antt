@@ -5,8 +5,8 @@ use Rattle.utf8.proofs.may_end.Goals as goal
 
 pub returns-then-not-a : goal.returns-then-not-a
 unfolding lead_of ends
-returns-then-not-a c = simp (c.if-not-a.true)
+returns-then-not-a c = simp (not-true c.args.a.good c.if-not-a.true)
 
 pub returns : goal.returns
 unfolding lead_of ends
-returns c = simp (c.if-not-a.false)
+returns c = simp (not-false c.args.a.good c.if-not-a.false)
