@@ -1,13 +1,8 @@
 -- `words::bits_at` meets its contract.
-use Rattle.words.proofs.Laws as Laws
 use Rattle.words.specs.Words.{bits_at}
-use Rattle.hex_field.proofs.Hexes.{bytes-grow, bytes_fit}
 use Rattle.semantics.specs.Text.{from_big_endian}
-use borrow.Author.Rules.{rules}
 use lib.ListN.{take, drop}
-use lib.Dec.{lit<}
-use native.Mathlib.Omega.{arith}
-use mathlib.Core.Path.{◌≡◌, ◌∙◌}
+use mathlib.Core.Path.{◌≡◌}
 use Prim.Native.Nat.{◌≤◌, ◌<◌, ◌+◌, ◌-◌, ◌^◌}
 use Rattle.words.proofs.bits_at.Given as goal
 

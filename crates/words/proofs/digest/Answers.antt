@@ -1,5 +1,4 @@
 -- `words::digest` meets its contract.
-use native.Mathlib.Omega.{arith}
 use Rattle.words.proofs.digest.Goals as goal
 
 pub returns : goal.returns

@@ -1,9 +1,5 @@
-use borrow.Author.Rules.{rules}
-use lib.ListN.{length, drop}
-use Prim.Native.Nat.{◌-◌, ◌≤◌, ◌<◌}
-use mathlib.Core.Path.{◌≡◌, refl, ◌∙◌}
+use mathlib.Core.Path.{refl, ◌∙◌}
 use native.Mathlib.Omega.{arith}
-use Rattle.words.specs.Words.{digest_from}
 use Rattle.words.proofs.Laws.{digest-next, digest-end}
 use Rattle.words.proofs.digest_on.Goals as goal
 

@@ -1,10 +1,7 @@
-use borrow.Author.Rules.{rules}
 use lib.ListN.{length, drop}
 use Prim.Native.Nat.{◌-◌, ◌≤◌, ◌<◌}
-use mathlib.Core.Path.{◌≡◌, refl, ◌∙◌}
-use native.Mathlib.Omega.{arith}
+use mathlib.Core.Path.{◌≡◌}
 use Rattle.words.specs.Words.{digest_from}
-use Rattle.words.proofs.Laws.{digest-next, digest-end}
 use Rattle.words.proofs.digest_on.Given as goal
 
 abbrev pub invariant-loop-i : goal.invariant-loop-i

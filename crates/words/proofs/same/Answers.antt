@@ -1,10 +1,7 @@
 use Rattle.words.proofs.Laws as Laws
-use Rattle.semantics.specs.Text as Text
 use borrow.Author.Rules.{rules}
-use lib.ListN.{length, drop}
 use native.Mathlib.Omega.{arith}
-use mathlib.Core.Path.{◌≡◌, ◌∙◌, sym, refl}
-use Prim.Native.Nat.{◌≤◌, ◌-◌}
+use mathlib.Core.Path.{◌∙◌, sym, refl}
 use Rattle.words.proofs.same.Goals as goal
 
 pub returns-then-a-b : goal.returns-then-a-b

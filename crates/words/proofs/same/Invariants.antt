@@ -1,10 +1,7 @@
 -- `words::same` meets its contract.
-use Rattle.words.proofs.Laws as Laws
 use Rattle.semantics.specs.Text as Text
-use borrow.Author.Rules.{rules}
 use lib.ListN.{length, drop}
-use native.Mathlib.Omega.{arith}
-use mathlib.Core.Path.{◌≡◌, ◌∙◌, sym, refl}
+use mathlib.Core.Path.{◌≡◌}
 use Prim.Native.Nat.{◌≤◌, ◌-◌}
 use Rattle.words.proofs.same.Given as goal
 
