@@ -1,5 +1,5 @@
 -- The names in a listing hold no separators where those of the declarations hold none.
-use Prim.Native.Nat.{ℕ, suc, ◌≤◌, ◌<◌}
+use Prim.Native.Nat.{ℕ, suc, ◌+◌, ◌≤◌, ◌<◌}
 use native.Mathlib.Omega.{arith}
 use mathlib.Core.Path.{◌≡◌, refl}
 use mathlib.Core.Bool.{Bool, true, false, ◌&&◌, ◌||◌, cond}
@@ -14,7 +14,7 @@ use Rattle.semantics.proofs.Common.{never}
 use Rattle.laws.proofs.Tests.{and_left, and_right}
 use Rattle.semantics.specs.Tree.{Ty, Fd, Case, AdtDecl, ConstDecl, VarDecl, ConstVal, Shape}
 use Rattle.semantics.specs.Sheet.{Module, Located, Source, concat_map}
-use Rattle.semantics.specs.Layout.{PlacedField, place_names, place_line, place, behind_tag, variant_fields, variant_shape, Recorded, variants_of, cases_from, records_for, records_of, record_log, last_of, seen, records_by_key, records, recorded_adts}
+use Rattle.semantics.specs.Layout.{PlacedField, size_of, place_names, place_line, place, behind_tag, variant_fields, variant_shape, Recorded, variants_of, cases_from, records_for, records_of, record_log, last_of, seen, records_by_key, records, recorded_adts}
 use Rattle.semantics.specs.Fold.{Result, plain, qualified, Key, Const, Names, same_key, fold}
 use Rattle.semantics.specs.Fold.Result.{ok, failed, refuse}
 use Rattle.semantics.specs.Const.{Folding, IotaCounter, new_counter, iota_at, iota_next, implements, entries, entered, pass, stands_in, module_passes, top_level, passes_of, passes_from, constants}
@@ -88,7 +88,7 @@ NamePlain p = is_plain_text p.name ≡ true
 
 names-placed : (t : Ty) (off : ℕ) (ns : List Bytes) → Plain ns → Every NamePlain (place_names t off ns).placed
 names-placed t off [] h = tt
-names-placed t off (n ∷ ns) h = (h.0, names-placed t _ ns h.1)
+names-placed t off (n ∷ ns) h = (h.0, names-placed t (off + size_of t) ns h.1)
 
 line-placed : (t : Option Ty) (ns : List Bytes) (off : ℕ) → Plain ns → Every NamePlain (place_line t ns off).placed
 line-placed none ns off h = tt
@@ -96,7 +96,7 @@ line-placed (some t) ns off h = names-placed t _ ns h
 
 fields-placed : (off : ℕ) (fs : List Fd) → PlainFields fs → Every NamePlain (place off fs).placed
 fields-placed off [] h = tt
-fields-placed off (f ∷ fs) h = every_append NamePlain (place_line f.ty f.names off).placed _ (line-placed f.ty f.names off h.0) (fields-placed _ fs h.1)
+fields-placed off (f ∷ fs) h = every_append NamePlain (place_line f.ty f.names off).placed _ (line-placed f.ty f.names off h.0) (fields-placed (place_line f.ty f.names off).end fs h.1)
 
 variants-plain : (t : Bytes) (s : Shape) (ps : List PlacedField) (g n : ℕ) (xs : List Bytes) → is_plain_text t ≡ true → Every NamePlain ps → Plain xs → Every PlainRecord (variants_of t s ps g n xs)
 unfolding is_plain_text
@@ -232,7 +232,7 @@ declare-plain d (some off) g h e = (e.0, plain-join g.pends _ e.1 (pend-plain d.
 
 globals-plain : (g : Globals) (ds : List Declared) → Every DeclaredPlain ds → GlobalsPlain g → GlobalsPlain (globals_from g ds)
 globals-plain g [] h e = e
-globals-plain g (d ∷ ds) h e = globals-plain _ ds h.1 (declare-plain d (place_of d.name g.places) g h.0 e)
+globals-plain g (d ∷ ds) h e = globals-plain (declare_at d (place_of d.name g.places) g) ds h.1 (declare-plain d (place_of d.name g.places) g h.0 e)
 
 -- ---- the whole
 

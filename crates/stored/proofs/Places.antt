@@ -91,7 +91,7 @@ declare-closed d (some off) g h c = closed-join g.items _ c (init-closed off d.t
 
 globals-closed : (g : Globals) (ds : List Declared) → AllSized ds → Closed g.items → Closed (globals_from g ds).items
 globals-closed g [] h c = c
-globals-closed g (d ∷ ds) h c = globals-closed _ ds h.1 (declare-closed d (place_of d.name g.places) g h.0 c)
+globals-closed g (d ∷ ds) h c = globals-closed (declare_at d (place_of d.name g.places) g) ds h.1 (declare-closed d (place_of d.name g.places) g h.0 c)
 
 pub globals-in-place : (ns : Names) (s : Source) (p n : ℕ) → InPlace p n false (map stored_of (globals ns s).items)
 globals-in-place ns s p n =

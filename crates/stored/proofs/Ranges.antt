@@ -1,5 +1,5 @@
 -- The values of the items of globals are in the range of their kind, where the folded values are those of 64 bits.
-use Prim.Native.Nat.{ℕ, ◌-◌, ◌^◌, ◌<◌}
+use Prim.Native.Nat.{ℕ, ◌+◌, ◌-◌, ◌^◌, ◌<◌}
 use native.Mathlib.Omega.{arith}
 use mathlib.Core.Path.{refl}
 use mathlib.Core.Bool.{Bool, true, false, cond}
@@ -96,9 +96,9 @@ every_value Q f h (v ∷ vs) e = (h v e.0, every_value Q f h vs e.1)
 
 strings-ranged : (o : ℕ) (vs : List ConstVal) → Every Ranged (str_items o vs)
 strings-ranged o [] = tt
-strings-ranged o (v_int z ∷ vs) = strings-ranged _ vs
-strings-ranged o (v_real x ∷ vs) = strings-ranged _ vs
-strings-ranged o (v_str s ∷ vs) = (tt, strings-ranged _ vs)
+strings-ranged o (v_int z ∷ vs) = strings-ranged (o + 4) vs
+strings-ranged o (v_real x ∷ vs) = strings-ranged (o + 4) vs
+strings-ranged o (v_str s ∷ vs) = (tt, strings-ranged (o + 4) vs)
 
 elements-ranged : (k : ElemKind) (vs : List ConstVal) → Every Sound vs → Every Ranged (element_items k vs)
 elements-ranged k_byte vs h = (every_value (λ (b : ℕ). b < 256) const_byte (λ v e. byte_small (const_word v)) vs h, tt)
@@ -129,7 +129,7 @@ declare-ranged d (some off) g h e = every_append Ranged g.items _ e (init-ranged
 
 all-ranged : (g : Globals) (ds : List Declared) → Every (λ (d : Declared). SoundFirst d.first) ds → Every Ranged g.items → Every Ranged (globals_from g ds).items
 all-ranged g [] h e = e
-all-ranged g (d ∷ ds) h e = all-ranged _ ds h.1 (declare-ranged d (place_of d.name g.places) g h.0 e)
+all-ranged g (d ∷ ds) h e = all-ranged (declare_at d (place_of d.name g.places) g) ds h.1 (declare-ranged d (place_of d.name g.places) g h.0 e)
 
 pub globals-ranged : (ns : Names) (s : Source) → Every (λ (d : Declared). SoundFirst d.first) (declared_in ns s) → Every Ranged (globals ns s).items
 globals-ranged ns s h = all-ranged no_globals (declared_in ns s) h tt
