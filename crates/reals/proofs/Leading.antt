@@ -181,6 +181,8 @@ module _ (n j z : ℕ) (e : z + suc j ≡ 64) (lo : 2 ^ j ≤ n) (hi : n < 2 ^ s
 -- ---- a value of c * l / l is c
 whole_of : (v : Float) (a c : ℕ) → a ≡ c * 2 ^ 1074 → HasValue v false a (2 ^ 1074) → HasValue v false c 1
 whole_of (fin s u e) a c p h = (h.0, mul-one (u * up e) ∙ eq_of_mul-eq-mul_right (2 ^ 1074) (pow_pos 1074) (u * up e) (c * down e) (h.1 ∙ ap (λ (x : ℕ). x * down e) p ∙ mul_right_comm c (2 ^ 1074) (down e)))
+whole_of lib.Ieee.nan a c p h = elim h [ ]
+whole_of (inf _) a c p h = elim h [ ]
 
 -- ---- what `compare` says of two numbers
 abbrev Cmp : Ordering → ℕ → ℕ → Type 0

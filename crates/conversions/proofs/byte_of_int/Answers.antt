@@ -2,7 +2,6 @@
 use mathlib.Core.Path.{ap, ◌∙◌}
 use mir.Syntax.{w32}
 use mir.Val.{SFits}
-use borrow.Author.Rules.{rules}
 use Rattle.semantics.specs.Array.{lowest, low_byte}
 use Rattle.ints.proofs.Widths.{from1}
 use Rattle.conversions.proofs.byte_of_int.Goals as goal

@@ -1,7 +1,6 @@
 -- `conversions::byte_of_word` meets its contract: the low 8 of the 64 bits are the low 8 bits of w.
 use mathlib.Core.Path.{ap, ◌∙◌}
 use mir.Facts.{Fits-mask, sfits_widen, sfits_to_z, Fits-of_z, to_z-of_z}
-use borrow.Author.Rules.{rules}
 use Rattle.semantics.specs.Array.{low_byte}
 use Rattle.ints.proofs.Wrapping.{byte-of-bits}
 use Rattle.conversions.proofs.byte_of_word.Goals as goal

@@ -1,5 +1,4 @@
 -- `conversions::real_of_int` meets its contract: by what `from_i64` ensures.
-use borrow.Author.Rules.{rules}
 use Rattle.semantics.specs.Fold.{to_real}
 use Rattle.ints.proofs.Widths.{from1}
 use Rattle.conversions.proofs.real_of_int.Goals as goal

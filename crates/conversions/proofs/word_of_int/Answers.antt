@@ -5,7 +5,6 @@ use lib.Bits.{mask_lt}
 use mir.Syntax.{w32}
 use mir.Val.{to_z}
 use mir.Facts.{Fits-mask}
-use borrow.Author.Rules.{rules}
 use Rattle.ints.proofs.Widths.{twice}
 use Rattle.ints.proofs.Wrapping.{word-of-bits}
 use Rattle.conversions.proofs.word_of_int.Goals as goal

@@ -1,5 +1,4 @@
 -- `reals::bits` meets its contract: only a NaN differs from itself, and all others have bits.
-use Rattle.std.proofs.Common.{rules}
 use Rattle.reals.proofs.Patterns.{equals_itself, one-pattern}
 use Rattle.reals.proofs.bits.Goals as goal
 

@@ -1,5 +1,5 @@
 -- `reals::from_i64` meets its contract: a negative integer's real is that of its magnitude, negated.
-use Rattle.std.proofs.Common.{w64, rules}
+use Rattle.std.proofs.Common.{w64}
 use Rattle.ints.proofs.Widths.{plain, turned-over}
 use Rattle.reals.proofs.Leading.{real-of-positive, magnitude-fits, real-of-negative}
 use Rattle.reals.proofs.from_i64.Goals as goal

@@ -1,5 +1,5 @@
 -- `reals::from_u64` meets its contract: the pattern is that of n rounded (`real-of-pattern`); a leading zero count below 64 keeps each step in range.
-use Rattle.std.proofs.Common.{arith, rules}
+use Rattle.std.proofs.Common.{arith}
 use Rattle.reals.proofs.Leading.{real-of-zero, zeros-lt, rounded-le, finite, real-of-pattern}
 use Rattle.reals.proofs.from_u64.Goals as goal
 

@@ -1,5 +1,5 @@
 -- `reals::of_bits` meets its contract: without the sign, the patterns above infinity's are the NaNs'.
-use Rattle.std.proofs.Common.{arith, rules}
+use Rattle.std.proofs.Common.{arith}
 use Rattle.reals.proofs.Patterns.{no_nan, some_nan}
 use Rattle.reals.proofs.of_bits.Goals as goal
 

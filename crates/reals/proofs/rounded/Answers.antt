@@ -1,6 +1,5 @@
 -- `reals::rounded` meets its contract: the rest is above half of 2048, half of it, or below.
 use Rattle.reals.proofs.Leading.{rounded-up, rounded-tie, rounded-down}
-use Rattle.std.proofs.Common.{rules}
 use Rattle.reals.proofs.rounded.Goals as goal
 
 pub returns-then-rest-gt1024 : goal.returns-then-rest-gt1024

@@ -1,5 +1,4 @@
 -- `reals::to_i32` meets its contract: saturating the whole number of `to_i64` gives that of the smaller range (`narrowed`).
-use Rattle.std.proofs.Common.{rules}
 use Rattle.reals.proofs.Whole.{narrow-above, narrow_below, narrow-inside}
 use Rattle.reals.proofs.to_i32.Goals as goal
 

@@ -6,7 +6,7 @@ pub returns-then-x : goal.returns-then-x
 returns-then-x c = whole_above c.args.x c.if-x.true
 
 pub truncating_f64_to_i64-requires : goal.truncating_f64_to_i64-requires
-truncating_f64_to_i64-requires c = in-range c.args.x c.if-x.false c.if-x-2.true
+truncating_f64_to_i64-requires c = let h = in-range c.args.x c.if-x.false c.if-x-2.true in record { lower_bound = h.0; upper_bound = h.1 }
 
 pub returns-then-x-2 : goal.returns-then-x-2
 returns-then-x-2 c = truncated c.args.x (record { sfits = c.truncating_f64_to_i64.type_inv }) c.truncating_f64_to_i64.ensures
