@@ -1,7 +1,6 @@
 -- `iota::behind` meets its contract.
 use Prim.Native.Nat.{◌+◌}
 use native.Mathlib.Omega.{arith}
-use borrow.Author.Rules.{rules}
 use Rattle.iota.proofs.Counter.{capped_small, capped-greatest}
 use Rattle.iota.proofs.behind.Goals as goal
 

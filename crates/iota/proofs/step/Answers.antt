@@ -1,5 +1,4 @@
 -- `iota::step` meets its contract.
-use borrow.Author.Rules.{rules}
 use Rattle.iota.proofs.Counter.{stepped-is}
 use Rattle.iota.proofs.step.Goals as goal
 
