@@ -3,7 +3,6 @@
 #![tactic(auto)]
 
 ghost use Rattle.std.specs.Prelude.{◌≡◌, ◌∷◌, [], ◌+◌, ◌*◌, ◌≤◌, length, take};
-ghost use Rattle.io.specs.Counts.{IsPrefixLen};
 ghost use Rattle.semantics.specs.Text.{hex_of};
 ghost use Rattle.semantics.specs.Listing.{row};
 ghost use Rattle.semantics.specs.Refusal.{imaged, printed_image};
@@ -11,7 +10,11 @@ ghost use Rattle.write.specs.Wrote.{Wrote};
 ghost use Rattle.image.specs.Image.{lent_of};
 
 use image::ImageAnswer;
-use libc::{STDIN_FILENO, STDOUT_FILENO};
+use std::io;
+use std::io::{Read, Write};
+
+// The bytes that are read at most, and those of each buffer.
+const BYTES: usize = 65536;
 
 // 2 digits for each byte of image and area, and what stands around them.
 const ROWS: usize = 262208;
@@ -35,7 +38,7 @@ fn put_answer(
     out: &mut [u8],
 ) -> usize
     requires { 64 + 2 * (length image.old + length area.old) ≤ length out.old }
-    ensures { (IsPrefixLen result out.new) × (take result out.new ≡ printed_image (imaged (lent_of listing.old image.old area.old work.old) sheet.now)) }
+    ensures { (result ≤ length out.new) × (take result out.new ≡ printed_image (imaged (lent_of listing.old image.old area.old work.old) sheet.now)) }
 {
     match image::image(sheet, listing, image, area, work) {
         ImageAnswer::Refused(r) => answers::put_refusal(out, 0, r),
@@ -46,21 +49,21 @@ fn put_answer(
     }
 }
 
-fn main() {
-    let mut sheet = io::large_buffer();
-    let mut listing = io::large_buffer();
-    let mut picture = io::large_buffer();
-    let mut area = io::large_buffer();
-    let mut work = io::large_buffer();
-    let mut out = [0u8; ROWS];
-    let n = io::read_full(STDIN_FILENO, &mut sheet);
+fn main(rt: HostRuntime) -> io::Result<()> {
+    let mut sheet = Vec::new(rt.alloc());
+    rt.stdin().take(BYTES as u64).read_to_end(&mut sheet)?;
+    let mut listing = vec![in rt.alloc(); 0u8; BYTES]?;
+    let mut picture = vec![in rt.alloc(); 0u8; BYTES]?;
+    let mut area = vec![in rt.alloc(); 0u8; BYTES]?;
+    let mut work = vec![in rt.alloc(); 0u8; BYTES]?;
+    let mut out = vec![in rt.alloc(); 0u8; ROWS]?;
     let k = put_answer(
-        &sheet[..n],
+        &sheet,
         &mut listing,
         &mut picture,
         &mut area,
         &mut work,
         &mut out,
     );
-    io::write_all(STDOUT_FILENO, &out[..k]);
+    rt.stdout().write_all(&out[..k])
 }

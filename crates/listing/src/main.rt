@@ -3,16 +3,19 @@
 #![tactic(auto)]
 
 ghost use Rattle.std.specs.Prelude.{◌≡◌, ◌≤◌, length, take};
-ghost use Rattle.io.specs.Counts.{IsPrefixLen};
 ghost use Rattle.semantics.specs.Refusal.{compiled, printed};
 
 use compile::Answer;
-use libc::{STDIN_FILENO, STDOUT_FILENO};
+use std::io;
+use std::io::{Read, Write};
+
+// The bytes that are read at most, and those of each buffer.
+const BYTES: usize = 65536;
 
 // Puts what is to be printed at the start of `out`, and answers its length.
 fn put_answer(sheet: &[u8], out: &mut [u8], work: &mut [u8]) -> usize
     requires { 64 ≤ length out.old }
-    ensures { (IsPrefixLen result out.new) × (take result out.new ≡ printed (compiled (length out.old) (length work.old) sheet.now)) }
+    ensures { (result ≤ length out.new) × (take result out.new ≡ printed (compiled (length out.old) (length work.old) sheet.now)) }
 {
     match compile::compile(sheet, out, work) {
         Answer::Listed(n) => n,
@@ -20,11 +23,11 @@ fn put_answer(sheet: &[u8], out: &mut [u8], work: &mut [u8]) -> usize
     }
 }
 
-fn main() {
-    let mut sheet = io::large_buffer();
-    let mut out = io::large_buffer();
-    let mut work = io::large_buffer();
-    let n = io::read_full(STDIN_FILENO, &mut sheet);
-    let k = put_answer(&sheet[..n], &mut out, &mut work);
-    io::write_all(STDOUT_FILENO, &out[..k]);
+fn main(rt: HostRuntime) -> io::Result<()> {
+    let mut sheet = Vec::new(rt.alloc());
+    rt.stdin().take(BYTES as u64).read_to_end(&mut sheet)?;
+    let mut out = vec![in rt.alloc(); 0u8; BYTES]?;
+    let mut work = vec![in rt.alloc(); 0u8; BYTES]?;
+    let k = put_answer(&sheet, &mut out, &mut work);
+    rt.stdout().write_all(&out[..k])
 }

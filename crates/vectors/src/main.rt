@@ -3,12 +3,13 @@
 // and refusals of each number are equal, and how many cases differ.
 #![tactic(auto)]
 
-ghost use Rattle.std.specs.Prelude.{◌≤◌, length};
+ghost use Rattle.std.specs.Prelude.{◌≤◌, length, IfOk};
 
 use answers::Refusal;
 use compile::Answer;
 use image::ImageAnswer;
-use libc::{STDIN_FILENO, STDOUT_FILENO};
+use std::io;
+use std::io::{BufReader, Read, Write};
 
 // More cases than a list has.
 const CASES: usize = 10000000;
@@ -17,6 +18,9 @@ const CASES: usize = 10000000;
 const HEADER: usize = 255;
 
 const LARGE: usize = 1000000;
+
+// The bytes of each buffer, which no sheet, listing or image passes.
+const BYTES: usize = 65536;
 
 // 2 digits for each byte of image and area, and what stands around them.
 const ROWS: usize = 262160;
@@ -30,11 +34,8 @@ const IMAGED: usize = 15;
 
 const OUTCOMES: usize = 16;
 
-fn print_count(name: &[u8], n: u64) {
-    io::write_all(STDOUT_FILENO, name);
-    io::write_all(STDOUT_FILENO, b",");
-    io::print_decimal(STDOUT_FILENO, n);
-    io::write_all(STDOUT_FILENO, b"\n");
+fn print_count(out: &mut impl Write, name: &str, n: u64) -> io::Result<()> {
+    writeln!(out, "{name},{n}")
 }
 
 // Whether the first n bytes of a buffer are the wanted ones.
@@ -153,10 +154,10 @@ struct Header {
 }
 
 // The next byte, or LF where there is none.
-fn next_byte() -> u8 {
+fn next_byte(input: &mut impl Read) -> io::Result<u8> {
     let mut b = [b'\n'; 1];
-    io::read_full(STDIN_FILENO, &mut b);
-    b[0]
+    input.read(&mut b)?;
+    Ok(b[0])
 }
 
 // A number with one byte more of its text: only digits count.
@@ -187,7 +188,7 @@ fn step(h: Header, c: u8) -> Header {
 }
 
 // Reads a header, with its LF.
-fn read_header() -> Header {
+fn read_header(input: &mut impl Read) -> io::Result<Header> {
     let mut h = Header {
         sheet: 0,
         answer: 0,
@@ -195,37 +196,53 @@ fn read_header() -> Header {
     };
     let mut left = HEADER;
     while left > 0 {
-        let c = next_byte();
+        let c = next_byte(input)?;
         if c == b'\n' {
-            return h;
+            return Ok(h);
         }
         h = step(h, c);
         left -= 1;
     }
-    h
+    Ok(h)
+}
+
+// Fills a buffer as far as the input goes, and says how many bytes that are.
+fn read_full(input: &mut impl Read, buf: &mut [u8]) -> io::Result<usize>
+    ensures { IfOk result (λ n. n ≤ length buf.new) }
+{
+    let mut done: usize = 0;
+    while done < buf.len() {
+        let n = input.read(&mut buf[done..])?;
+        if n == 0 {
+            return Ok(done);
+        }
+        done += n;
+    }
+    Ok(done)
 }
 
 // Passes over the next n bytes.
-fn skip(n: usize) {
-    let mut space = io::buffer();
+fn skip(input: &mut impl Read, n: usize) -> io::Result<()> {
+    let mut space = [0u8; 4096];
     let mut left = n;
     while left > 4096 {
-        io::read_full(STDIN_FILENO, &mut space);
+        read_full(input, &mut space)?;
         left -= 4096;
     }
-    io::read_full(STDIN_FILENO, &mut space[0..left]);
+    read_full(input, &mut space[0..left])?;
+    Ok(())
 }
 
 // Reads the next n bytes, as many of them into the buffer as it holds, and says how many those are.
-fn read_part(buf: &mut [u8], n: usize) -> usize
-    ensures { result ≤ length buf.new }
+fn read_part(input: &mut impl Read, buf: &mut [u8], n: usize) -> io::Result<usize>
+    ensures { IfOk result (λ n. n ≤ length buf.new) }
 {
     if n <= buf.len() {
-        return io::read_full(STDIN_FILENO, &mut buf[0..n]);
+        return read_full(input, &mut buf[0..n]);
     }
-    let r = io::read_full(STDIN_FILENO, buf);
-    skip(n - buf.len());
-    r
+    let r = read_full(input, buf)?;
+    skip(input, n - buf.len())?;
+    Ok(r)
 }
 
 fn add(counts: &mut [u64; OUTCOMES], outcome: usize) {
@@ -234,17 +251,25 @@ fn add(counts: &mut [u64; OUTCOMES], outcome: usize) {
     }
 }
 
-fn count(counts: &mut [u64; OUTCOMES], outcome: usize, number: u64) {
+fn count(
+    out: &mut impl Write,
+    counts: &mut [u64; OUTCOMES],
+    outcome: usize,
+    number: u64,
+) -> io::Result<()> {
     add(counts, outcome);
     if outcome == IMAGED {
         add(counts, LISTED);
     }
     if outcome == DIFFERS {
-        print_count(b"differs", number);
+        print_count(out, "differs", number)?;
     }
+    Ok(())
 }
 
 fn run_cases(
+    input: &mut impl Read,
+    out: &mut impl Write,
     sheet: &mut [u8],
     wanted: &mut [u8],
     text: &mut [u8],
@@ -253,17 +278,17 @@ fn run_cases(
     area: &mut [u8],
     work: &mut [u8],
     counts: &mut [u64; OUTCOMES],
-) -> usize {
+) -> io::Result<usize> {
     let mut k = 0;
     while k < CASES {
-        let h = read_header();
+        let h = read_header(input)?;
         if h.answer == 0 {
-            return k;
+            return Ok(k);
         }
         k += 1;
-        let n = read_part(sheet, h.sheet);
-        let m = read_part(wanted, h.answer);
-        let l = read_part(text, h.image);
+        let n = read_part(input, sheet, h.sheet)?;
+        let m = read_part(input, wanted, h.answer)?;
+        let l = read_part(input, text, h.image)?;
         let o = case_outcome(
             &sheet[0..n],
             &wanted[0..m],
@@ -273,31 +298,35 @@ fn run_cases(
             area,
             work,
         );
-        count(counts, o, k as u64);
+        count(out, counts, o, k as u64)?;
     }
-    k
+    Ok(k)
 }
 
-fn print_refusals(counts: &[u64; OUTCOMES]) {
+fn print_refusals(out: &mut impl Write, counts: &[u64; OUTCOMES]) -> io::Result<()> {
     let mut k: usize = 1;
     while k < DIFFERS {
-        io::write_all(STDOUT_FILENO, b"refused,");
-        io::print_decimal(STDOUT_FILENO, k as u64);
-        print_count(b"", counts[k]);
+        write!(out, "refused,{k}")?;
+        print_count(out, "", counts[k])?;
         k += 1;
     }
+    Ok(())
 }
 
-fn main() {
-    let mut sheet = io::large_buffer();
-    let mut wanted = io::large_buffer();
-    let mut text = [0u8; ROWS];
-    let mut listing = io::large_buffer();
-    let mut picture = io::large_buffer();
-    let mut area = io::large_buffer();
-    let mut work = io::large_buffer();
+fn main(rt: HostRuntime) -> io::Result<()> {
+    let mut input = BufReader::new(rt.alloc(), rt.stdin())?;
+    let mut out = rt.stdout();
+    let mut sheet = vec![in rt.alloc(); 0u8; BYTES]?;
+    let mut wanted = vec![in rt.alloc(); 0u8; BYTES]?;
+    let mut text = vec![in rt.alloc(); 0u8; ROWS]?;
+    let mut listing = vec![in rt.alloc(); 0u8; BYTES]?;
+    let mut picture = vec![in rt.alloc(); 0u8; BYTES]?;
+    let mut area = vec![in rt.alloc(); 0u8; BYTES]?;
+    let mut work = vec![in rt.alloc(); 0u8; BYTES]?;
     let mut counts = [0u64; OUTCOMES];
     let n = run_cases(
+        &mut input,
+        &mut out,
         &mut sheet,
         &mut wanted,
         &mut text,
@@ -306,10 +335,10 @@ fn main() {
         &mut area,
         &mut work,
         &mut counts,
-    );
-    print_count(b"cases", n as u64);
-    print_count(b"listed", counts[LISTED]);
-    print_count(b"imaged", counts[IMAGED]);
-    print_refusals(&counts);
-    print_count(b"differ", counts[DIFFERS]);
+    )?;
+    print_count(&mut out, "cases", n as u64)?;
+    print_count(&mut out, "listed", counts[LISTED])?;
+    print_count(&mut out, "imaged", counts[IMAGED])?;
+    print_refusals(&mut out, &counts)?;
+    print_count(&mut out, "differ", counts[DIFFERS])
 }
