@@ -121,10 +121,10 @@ class Function:
         exact = [i for i in chain if norm(places[i][2][0]) == norm(name)]
         based = [i for i in chain if base(places[i][2][0]) == base(name)]
         at_depth = chain[depth] if depth < len(chain) else None
-        if at_depth in based:
-            i = at_depth
-        elif exact:
+        if exact:
             i = exact[0]
+        elif at_depth in based:
+            i = at_depth
         elif based:
             # the ordinal in the function's order
             i = based[0]

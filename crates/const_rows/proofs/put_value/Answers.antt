@@ -19,4 +19,4 @@ pub returns-then-k-eq-STRING : goal.returns-then-k-eq-STRING
 returns-then-k-eq-STRING c = Laws.shows-text c.args.work.now c.args.r c.requires c.slot_kind-k.result c.slot_bits-b.result c.slot_kind-k.ensures c.slot_bits-b.ensures c.if-k-eq-STRING.true c.put_part-p-then-k-eq-STRING.ensures c.put_hex-q.ensures c.put-then-k-eq-STRING.ensures
 
 pub returns : goal.returns
-returns c = wrote_as (sym (Laws.shows-failed c.args.work.now c.args.r c.requires c.slot_kind-k.result c.slot_bits-b.result c.slot_kind-k.ensures c.slot_bits-b.ensures c.if-k-eq-REAL.false c.if-k-eq-STRING.false c.if-k-eq-STRING.false)) c.put_part.ensures
+returns c = wrote_as (sym (Laws.shows-failed c.args.work.now c.args.r c.requires c.slot_kind-k.result c.slot_bits-b.result c.slot_kind-k.ensures c.slot_bits-b.ensures c.if-k-eq-INT.false c.if-k-eq-REAL.false c.if-k-eq-STRING.false)) c.put_part.ensures

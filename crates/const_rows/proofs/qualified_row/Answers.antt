@@ -27,7 +27,7 @@ pub returns-then-look_up_in_before-ne0 : goal.returns-then-look_up_in_before-ne0
 returns-then-look_up_in_before-ne0 c = Laws.qualified-old c.args.sheet.now c.args.work.now c.args.c.consts c.args.i c.module_line_of-k.ensures c.if-k-eq0.false c.field_at-within.ensures c.line_of.ensures c.field_at-name.ensures c.look_up_in_before.result c.look_up_in_before.ensures.has c.if-look_up_in_before-ne0.true c.requires.2
 
 pub put_rest-requires : goal.put_rest-requires
-put_rest-requires c = (answered c.requires.0.logged c.requires.0.checked c.look_up_in-r.ensures.low, Laws.qualified-some c.args.sheet.now c.args.work.now c.args.c.consts c.args.i c.module_line_of-k.ensures c.if-k-eq0.false c.field_at-name.ensures c.line_of.ensures c.field_at-name.ensures c.requires.1 c.look_up_in-r.ensures.newest-is)
+put_rest-requires c = (answered c.requires.0.logged c.requires.0.checked c.look_up_in-r.ensures.low, Laws.qualified-some c.args.sheet.now c.args.work.now c.args.c.consts c.args.i c.module_line_of-k.ensures c.if-k-eq0.false c.field_at-within.ensures c.line_of.ensures c.field_at-name.ensures c.requires.1 c.look_up_in-r.ensures.newest-is)
 
 pub returns : goal.returns
-returns c = Laws.qualified-new c.args.sheet.now c.args.work.now c.args.c.consts c.args.i c.module_line_of-k.ensures c.if-k-eq0.false c.field_at-name.ensures c.line_of.ensures c.field_at-name.ensures c.look_up_in_before.result c.look_up_in-r.result c.look_up_in_before.ensures.has c.if-look_up_in_before-ne0.false c.look_up_in-r.ensures.value c.put_part-p.ensures c.put_part-q.ensures c.put_part-a.ensures c.put_rest.ensures
+returns c = Laws.qualified-new c.args.sheet.now c.args.work.now c.args.c.consts c.args.i c.module_line_of-k.ensures c.if-k-eq0.false c.field_at-within.ensures c.line_of.ensures c.field_at-name.ensures c.look_up_in_before.result c.look_up_in-r.result c.look_up_in_before.ensures.has c.if-look_up_in_before-ne0.false c.look_up_in-r.ensures.value c.put_part-p.ensures c.put_part-q.ensures c.put_part-a.ensures c.put_rest.ensures

@@ -17,4 +17,4 @@ unfolding kind_name
 returns-then-kind-eq-BIG c = kind-named c.args.kind 2 c.if-kind-eq-BIG.true c.put_comma_part-then-kind-eq-BIG.ensures
 
 pub returns : goal.returns
-returns c = kind-reals c.args.kind c.if-kind-eq-WORD.false c.if-kind-eq-BIG.false c.if-kind-eq-BIG.false c.put_comma_part-2.ensures
+returns c = kind-reals c.args.kind c.if-kind-eq-BYTE.false c.if-kind-eq-WORD.false c.if-kind-eq-BIG.false c.put_comma_part-2.ensures

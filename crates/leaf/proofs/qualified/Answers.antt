@@ -25,4 +25,4 @@ pub constant-requires : goal.constant-requires
 constant-requires c = answered-at c.requires.fold c.look_up_in-k.ensures.low
 
 pub returns : goal.returns
-returns c = λ iota. qualified-found c.requires.fold c.requires.form c.number_at-q.ensures.0 (sym c.form_at.ensures ∙ c.if-form_at-ne-ID.false) c.field_at-within.ensures c.field_at-within.ensures c.look_up_in-k.result c.look_up_in-k.ensures.value c.constant.ensures
+returns c = λ iota. qualified-found c.requires.fold c.requires.form c.number_at-q.ensures.0 (sym c.form_at.ensures ∙ c.if-form_at-ne-ID.false) c.field_at-within.ensures c.field_at-name.ensures c.look_up_in-k.result c.look_up_in-k.ensures.value c.constant.ensures

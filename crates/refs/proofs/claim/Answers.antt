@@ -20,18 +20,18 @@ pub returns-then-k-r : goal.returns-then-k-r
 returns-then-k-r c = claim-late c.args.work.now c.args.k c.args.x c.args.r (sym c.is_ref.ensures ∙ c.if-not-is_ref.false) c.if-r-eq0.false c.if-k-r.true
 
 pub kind-requires : goal.kind-requires
-kind-requires c = omega (arith, c.form_at.ensures, c.requires.2 (c.args.r - 1) (omega (arith, c.if-not-is_ref.false, c.if-r-eq0.false)))
+kind-requires c = omega (arith, c.form_at.ensures, c.requires.2 (c.args.r - 1) (omega (arith, c.if-r-eq0.false, c.if-k-r.false)))
 
 pub wanted-requires : goal.wanted-requires
 wanted-requires c = (ref-range c.args.x (sym c.is_ref.ensures ∙ c.if-not-is_ref.false)).1
 
 pub returns-then-kind-wanted : goal.returns-then-kind-wanted
-returns-then-kind-wanted c = claim-kind c.args.work.now c.args.k c.args.x c.args.r (sym c.is_ref.ensures ∙ c.if-not-is_ref.false) c.if-not-is_ref.false c.if-r-eq0.false (λ q. c.if-kind-wanted.true (c.kind.ensures ∙ ap kind_at c.form_at.ensures ∙ q ∙ sym c.wanted.ensures))
+returns-then-kind-wanted c = claim-kind c.args.work.now c.args.k c.args.x c.args.r (sym c.is_ref.ensures ∙ c.if-not-is_ref.false) c.if-r-eq0.false c.if-k-r.false (λ q. c.if-kind-wanted.true (c.kind.ensures ∙ ap kind_at c.form_at.ensures ∙ q ∙ sym c.wanted.ensures))
 
 pub returns-then-work-i-ne0 : goal.returns-then-work-i-ne0
 unfolding used_at
-returns-then-work-i-ne0 c = claim-used c.args.work.now c.args.k c.args.x c.args.r (sym c.is_ref.ensures ∙ c.if-not-is_ref.false) c.if-not-is_ref.false c.if-r-eq0.false (ap kind_at (sym c.form_at.ensures) ∙ sym c.kind.ensures ∙ c.if-kind-wanted.false ∙ c.wanted.ensures) c.if-work-i-ne0.true
+returns-then-work-i-ne0 c = claim-used c.args.work.now c.args.k c.args.x c.args.r (sym c.is_ref.ensures ∙ c.if-not-is_ref.false) c.if-r-eq0.false c.if-k-r.false (ap kind_at (sym c.form_at.ensures) ∙ sym c.kind.ensures ∙ c.if-kind-wanted.false ∙ c.wanted.ensures) c.if-work-i-ne0.true
 
 pub returns : goal.returns
 unfolding used_at
-returns c = claim-good c.args.work.now c.args.k c.args.x c.args.r (sym c.is_ref.ensures ∙ c.if-not-is_ref.false) c.if-not-is_ref.false c.if-r-eq0.false (ap kind_at (sym c.form_at.ensures) ∙ sym c.kind.ensures ∙ c.if-kind-wanted.false ∙ c.wanted.ensures) c.if-work-i-ne0.false
+returns c = claim-good c.args.work.now c.args.k c.args.x c.args.r (sym c.is_ref.ensures ∙ c.if-not-is_ref.false) c.if-r-eq0.false c.if-k-r.false (ap kind_at (sym c.form_at.ensures) ∙ sym c.kind.ensures ∙ c.if-kind-wanted.false ∙ c.wanted.ensures) c.if-work-i-ne0.false
