@@ -113,7 +113,9 @@ SizeAtMost n r = r.shape.size ≤ n
 largest-bound : (n : ℕ) (fs : List Fd) (s : Shape) (ks : List Case) → s.size ≤ n → Every (λ (k : Case). (variant_shape fs k).size ≤ n) ks
     → (pick_shape s (map (variant_shape fs) ks)).size ≤ n
 largest-bound n fs s [] h u = h
-largest-bound n fs s (k ∷ ks) h u = largest-bound n fs _ ks (omega arith) u.1
+largest-bound n fs s (k ∷ ks) h u =
+    let v = variant_shape fs k in
+    largest-bound n fs (record { size = max s.size v.size; pointers = s.pointers ++ v.pointers }) ks (omega arith) u.1
 
 variants-bound : (n : ℕ) (t : Bytes) (s : Shape) (ps : List PlacedField) (g tag : ℕ) (xs : List Bytes) → s.size ≤ n → Every (SizeAtMost n) (variants_of t s ps g tag xs)
 variants-bound n t s ps g tag [] h = tt

@@ -4,7 +4,6 @@ use mathlib.Core.Path.{refl, sym}
 use native.Mathlib.Nat.{div-mul-le_self, lt_of_le_of_lt}
 use native.Mathlib.Omega.{arith}
 use Rattle.layout.proofs.Rounding.{zero-align, below_next}
-use borrow.Author.Rules.{rules}
 use Rattle.layout.proofs.align.align_up.Goals as goal
 
 pub returns-then-align-eq0 : goal.returns-then-align-eq0

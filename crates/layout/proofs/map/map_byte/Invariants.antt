@@ -1,11 +1,8 @@
 -- `map::map_byte` meets its contract. The invariant: `byte` has the bits of the first k words. The measure is the number of words still to come.
 -- Assumes nothing.
-use Prim.Native.Nat.{◌-◌, ◌≤◌, ◌<◌}
-use mathlib.Core.Path.{◌≡◌, refl}
-use native.Mathlib.Omega.{arith}
-use mir.Val.{bool_byte}
+use Prim.Native.Nat.{◌-◌, ◌≤◌}
+use mathlib.Core.Path.{◌≡◌}
 use Rattle.semantics.specs.Layout.{map_bits}
-use Rattle.layout.proofs.Marks.{next_bit, room}
 use Rattle.layout.proofs.map.map_byte.Given as goal
 
 abbrev pub invariant-loop-k : goal.invariant-loop-k

@@ -3,7 +3,6 @@
 use mathlib.Core.Path.{refl}
 use native.Mathlib.Omega.{arith}
 use Rattle.semantics.specs.Layout.{map_length}
-use borrow.Author.Rules.{rules}
 use Rattle.layout.proofs.map.map_bytes.Goals as goal
 
 pub returns : goal.returns

@@ -1,24 +1,11 @@
-use Prim.Native.Nat.{◌*◌, ◌-◌, ◌≤◌, ◌<◌}
+use Prim.Native.Nat.{◌≤◌, ◌<◌}
 use native.Mathlib.Omega.{arith}
 use Rattle.semantics.specs.Layout.{map_length}
-use Rattle.layout.specs.Pass.{MapPass}
 use Rattle.layout.proofs.Pass.{start, step, done, pass-length}
 use Rattle.layout.proofs.map.pointer_map_for.Goals as goal
 
-pub map_bytes-end-requires : goal.map_bytes-end-requires
-map_bytes-end-requires c = tt
-
 pub loop-n-init : goal.loop-n-init
 loop-n-init c = (omega arith, start _ _ _)
-
-pub map_byte-b-requires : goal.map_byte-b-requires
-map_byte-b-requires c = tt
-
-pub ones_of-count-requires : goal.ones_of-count-requires
-ones_of-count-requires c = tt
-
-pub put-requires : goal.put-requires
-put-requires c = tt
 
 pub loop-n-preserved : goal.loop-n-preserved
 loop-n-preserved c =
@@ -36,4 +23,5 @@ returns c =
     let size = c.args.size in
     let offs = c.args.offsets.now in
     let last : map_length size ≤ c.loop-n.n = omega arith in
-    done size offs _ _ _ _ last c.loop-n.invariant.1
+    let all = done size offs _ _ _ _ last c.loop-n.invariant.1 in
+    record { bytes = all.0; count = all.1 }

@@ -1,10 +1,7 @@
 -- `map::pointer_map_for` meets its contract. The invariant is what the pass holds after n finished bytes, with a bound on the count, so that it
 -- fits. The measure is the number of bytes still to come. Assumes nothing.
-use Prim.Native.Nat.{◌*◌, ◌-◌, ◌≤◌, ◌<◌}
-use native.Mathlib.Omega.{arith}
-use Rattle.semantics.specs.Layout.{map_length}
+use Prim.Native.Nat.{◌*◌, ◌-◌, ◌≤◌}
 use Rattle.layout.specs.Pass.{MapPass}
-use Rattle.layout.proofs.Pass.{start, step, done, pass-length}
 use Rattle.layout.proofs.map.pointer_map_for.Given as goal
 
 abbrev pub invariant-loop-n : goal.invariant-loop-n

@@ -2,7 +2,6 @@
 -- Assumes nothing.
 use mathlib.Core.Path.{sym}
 use lib.Seq.{set_out}
-use borrow.Author.Rules.{rules}
 use Rattle.layout.proofs.map.put.Goals as goal
 
 pub returns-else-at-d : goal.returns-else-at-d

@@ -1,31 +1,27 @@
-use Prim.Native.Nat.{◌+◌, ◌-◌}
-use mathlib.Core.Path.{◌≡◌, refl, sym, ◌∙◌}
-use mathlib.Core.Bool.{◌||◌}
+use mathlib.Core.Path.{refl, sym, ◌∙◌}
+use Prim.Native.Nat.{◌<◌, ◌^◌}
 use native.Mathlib.Omega.{arith}
-use lib.ListN.{length, drop}
-use Rattle.semantics.specs.Layout.{marked}
+use lib.IntN.{pos}
+use lib.ListN.{get_or}
+use lib.Signed.{mag}
 use Rattle.layout.proofs.Marks.{turn, at-end}
 use Rattle.layout.proofs.map.word_marked.Goals as goal
-
--- the word is marked where this offset marks it or a later one does
-seen : (c : tie.After-marks-word invariant-loop decreases-loop)
-    → let a = c.before.before.before.before.args in
-    marked a.size a.offsets.now a.w ≡ c.marks-word.result || marked a.size (drop (c.before.before.before.loop.i + 1) a.offsets.now) a.w
-seen c =
-    let head = c.before.before.before in
-    head.loop.invariant ∙ turn _ _ head.loop.i _ _ c.before.before.loop-test.true c.before.off.given c.marks-word.ensures
 
 pub loop-i-init : goal.loop-i-init
 loop-i-init c = refl
 
-pub marks_word-requires : goal.marks_word-requires
-marks_word-requires c = tt
-
+-- the word is marked where this offset marks it or a later one does
 pub returns-then-marks_word : goal.returns-then-marks_word
-returns-then-marks_word c = sym (rw c.if-marks_word.true at (seen c.before))
+returns-then-marks_word c =
+    let f : mag (get_or c.args.offsets.now c.loop-i.i (pos 0)) < 2 ^ 31 = omega arith in
+    let seen = c.loop-i.invariant ∙ turn _ _ c.loop-i.i _ _ c.loop-i-test.true f c.marks_word.ensures in
+    sym (rw c.if-marks_word.true at seen)
 
 pub loop-i-preserved : goal.loop-i-preserved
-loop-i-preserved c = rw c.if-marks_word.false at (seen c.before)
+loop-i-preserved c =
+    let f : mag (get_or c.args.offsets.now c.loop-i.i (pos 0)) < 2 ^ 31 = omega arith in
+    let seen = c.loop-i.invariant ∙ turn _ _ c.loop-i.i _ _ c.loop-i-test.true f c.marks_word.ensures in
+    rw c.if-marks_word.false at seen
 
 pub returns : goal.returns
 returns c = sym (c.loop-i.invariant ∙ at-end _ _ c.loop-i.i _ c.loop-i-test.false)
