@@ -5,4 +5,4 @@ use lib.Ieee.Bits.{of_bits-to_bits}
 use Rattle.number_vectors.proofs.again.Goals as goal
 
 pub returns : goal.returns
-returns c = c.of_bits.ensures ∙ ap (of_bits binary64) c.bits.ensures ∙ of_bits-to_bits binary64 c.args.x (subst T (sym c.well-formed.0.1) tt)
+returns c = c.of_bits.ensures ∙ ap (of_bits binary64) c.bits.ensures ∙ of_bits-to_bits binary64 c.args.x (subst T (sym c.well_formed.0.1) tt)

@@ -14,7 +14,7 @@ returns-then-k-eq0 c =
 pub returns-then-k-lt-STR : goal.returns-then-k-lt-STR
 returns-then-k-lt-STR c =
     let a = c.args in
-    let good = c.well-formed in
+    let good = c.well_formed in
     let h = c.requires in
     let if1 = c.if-k-eq0 in
     let f = c.field in
@@ -28,7 +28,7 @@ returns-then-k-lt-STR c =
 pub returns-then-k-eq-STR : goal.returns-then-k-eq-STR
 returns-then-k-eq-STR c =
     let a = c.args in
-    let good = c.well-formed in
+    let good = c.well_formed in
     let h = c.requires in
     let if1 = c.if-k-eq0 in
     let f = c.field in
@@ -41,7 +41,7 @@ returns-then-k-eq-STR c =
 pub returns-then-k-eq-ARRAY : goal.returns-then-k-eq-ARRAY
 returns-then-k-eq-ARRAY c =
     let a = c.args in
-    let good = c.well-formed in
+    let good = c.well_formed in
     let h = c.requires in
     let if1 = c.if-k-eq0 in
     let f = c.field in
@@ -59,7 +59,7 @@ returns-then-k-eq-ARRAY c =
 pub returns : goal.returns
 returns c =
     let a = c.args in
-    let good = c.well-formed in
+    let good = c.well_formed in
     let h = c.requires in
     let if1 = c.if-k-eq0 in
     let f = c.field in

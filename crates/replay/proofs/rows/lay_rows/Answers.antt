@@ -25,7 +25,7 @@ returns-then-s c =
 
 pub step-s-requires : goal.step-s-requires
 step-s-requires c =
-    let good = c.well-formed in
+    let good = c.well_formed in
     let l = c.loop-at in
     let if1 = c.if-s in
     record { fitted = if1.false; low = l.invariant.0; high = l.invariant.1; item = omega (arith, l.invariant.2, good) }
