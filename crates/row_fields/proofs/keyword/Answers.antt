@@ -1,5 +1,4 @@
 -- `row_fields::keyword` meets its contract.
-use borrow.Author.Rules.{rules}
 use Rattle.row_fields.proofs.Parts.{keyword-first, keyword-none, keyword-last}
 use Rattle.row_fields.proofs.keyword.Goals as goal
 

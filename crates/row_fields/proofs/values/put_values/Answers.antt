@@ -1,12 +1,6 @@
-use native.Mathlib.Omega.{arith}
-use borrow.Author.Rules.{rules}
-use Rattle.write.proofs.Left.{Left, left-all, left-next, left-none}
+use Rattle.std.proofs.Common.{refl, ◌∙◌, arith}
+use Rattle.write.proofs.Left.{left-all, left-next, left-none}
 use Rattle.row_fields.proofs.Writes.{values-next, values-none}
-use Rattle.semantics.specs.Form.{fields_from}
-use Rattle.stored.specs.Reading.{row_values}
-use lib.ListN.{length}
-use mathlib.Core.Path.{◌≡◌, ◌∙◌, refl}
-use Prim.Native.Nat.{◌≤◌, ◌+◌, ◌-◌}
 use Rattle.row_fields.proofs.values.put_values.Goals as goal
 
 pub loop-i-init : goal.loop-i-init
@@ -16,13 +10,8 @@ pub loop-i-preserved : goal.loop-i-preserved
 loop-i-preserved c =
     let a = c.args in
     let l = c.loop-i in
-    let e = c.find-e in
-    let v = c.value in
     let put = c.put_big_endian-p in
-    (put.auto.out ∙ l.invariant.0, omega (arith, put.ensures.place, put.auto.out), left-next (values-next a.w a.reals a.row.now l.i e.result (omega arith) e.ensures.0 v.ensures) l.invariant.2 put.ensures)
+    (put.auto.out ∙ l.invariant.0, omega (arith, put.ensures.place, put.auto.out), left-next (values-next a.w a.reals a.row.now l.i c.find-e.result (omega arith) c.find-e.ensures.0 c.value.ensures) l.invariant.2 put.ensures)
 
 pub returns : goal.returns
-returns c =
-    let a = c.args in
-    let l = c.loop-i in
-    left-none (values-none a.w a.reals a.row.now l.i (omega arith)) l.invariant.2 l.invariant.1
+returns c = left-none (values-none c.args.w c.args.reals c.args.row.now c.loop-i.i (omega arith)) c.loop-i.invariant.2 c.loop-i.invariant.1

@@ -1,13 +1,8 @@
 -- `row_fields::values::put_values` meets its contract. What is left to be written at p are the values of the fields from i on.
-use native.Mathlib.Omega.{arith}
-use borrow.Author.Rules.{rules}
-use Rattle.write.proofs.Left.{Left, left-all, left-next, left-none}
-use Rattle.row_fields.proofs.Writes.{values-next, values-none}
+use Rattle.std.proofs.Common.{length, ◌+◌, ◌-◌, ◌≡◌, ◌≤◌}
+use Rattle.write.proofs.Left.{Left}
 use Rattle.semantics.specs.Form.{fields_from}
 use Rattle.stored.specs.Reading.{row_values}
-use lib.ListN.{length}
-use mathlib.Core.Path.{◌≡◌, ◌∙◌, refl}
-use Prim.Native.Nat.{◌≤◌, ◌+◌, ◌-◌}
 use Rattle.row_fields.proofs.values.put_values.Given as goal
 
 abbrev pub invariant-loop-i : goal.invariant-loop-i
