@@ -1,9 +1,6 @@
 -- `laying::moved` meets its contract.
-use native.Mathlib.Omega.{arith}
-use mathlib.Core.Path.{refl}
+use Rattle.std.proofs.Common.{refl, arith, add-one}
 use Rattle.laying.specs.Steps.{seen_laying, laying_of}
-use native.Mathlib.Numerals.{add-one}
-use borrow.Author.Rules.{rules}
 use Rattle.laying.proofs.moved.Goals as goal
 
 pub returns : goal.returns

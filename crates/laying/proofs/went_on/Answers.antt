@@ -1,11 +1,8 @@
 -- `laying::went_on` meets its contract.
-use native.Mathlib.Omega.{arith}
-use Rattle.laying.proofs.Steps.{went-out}
-use Rattle.laying.specs.Steps.{seen_laying, laying_of}
-use native.Mathlib.Numerals.{add-one}
+use Rattle.std.proofs.Common.{refl, arith, add-one}
 use borrow.Author.Tests.{le-ltb}
-use mathlib.Core.Path.{refl}
-use borrow.Author.Rules.{rules}
+use Rattle.laying.specs.Steps.{seen_laying, laying_of}
+use Rattle.laying.proofs.Steps.{went-out}
 use Rattle.laying.proofs.went_on.Goals as goal
 
 pub returns-then-n-p : goal.returns-then-n-p
@@ -13,6 +10,4 @@ returns-then-n-p c = went-out c.if-n-p.true c.outgrown.ensures
 
 pub returns : goal.returns
 unfolding seen_laying laying_of
-returns c =
-    let a = c.args in
-    record { is = λ im ar. rw (le-ltb a.n a.p (omega arith), add-one); start = refl; end = refl; item = omega arith }
+returns c = record { is = λ image area. rw (le-ltb c.args.n c.args.p c.if-n-p.false, add-one); start = refl; end = refl; item = omega arith }
