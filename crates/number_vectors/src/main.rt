@@ -11,7 +11,7 @@ ghost use Rattle.std.specs.Float.{binary64};
 ghost use Rattle.std.specs.Float.Ieee.{nan_bits};
 
 use ints::Quotient;
-use libc::{STDIN_FILENO, STDOUT_FILENO};
+use std::io::{self, BufWriter, Read, Write};
 
 // There and back: a real is what its bits say.
 fn again(x: f64) -> f64
@@ -27,49 +27,42 @@ fn bits_again(b: u64) -> u64
     reals::bits(reals::of_bits(b))
 }
 
-fn text(t: &[u8]) {
-    io::write_all(STDOUT_FILENO, t);
+fn show_real<W: Write>(out: &mut W, x: f64) -> io::Result<()> {
+    let bits = reals::bits(again(x));
+    write!(out, " {bits:016x}")
 }
 
-fn show_real(x: f64) {
-    text(b" ");
-    io::print_hex(STDOUT_FILENO, reals::bits(again(x)), 16);
+fn show_int<W: Write>(out: &mut W, n: i64) -> io::Result<()> {
+    write!(out, " {n}")
 }
 
-fn show_int(n: i64) {
-    if n >= 0 {
-        text(b" ");
-        io::print_decimal(STDOUT_FILENO, ints::bits(n));
-    } else {
-        text(b" -");
-        io::print_decimal(STDOUT_FILENO, std::num::wrapping_sub_u64(0, ints::bits(n)));
-    }
-}
-
-fn show_quotient(q: Quotient) {
+fn show_quotient<W: Write>(out: &mut W, q: Quotient) -> io::Result<()> {
     match q {
-        Quotient::Value(n) => show_int(n),
-        Quotient::ByZero => text(b" failed"),
+        Quotient::Value(n) => show_int(out, n),
+        Quotient::ByZero => write!(out, " failed"),
     }
 }
 
 // The bytes of t from one place up to another.
-fn part(t: &[u8], from: usize, to: usize) {
+fn part<W: Write>(out: &mut W, t: &[u8], from: usize, to: usize) -> io::Result<()> {
     if from <= to && to <= t.len() {
-        text(&t[from..to]);
+        return out.write_all(&t[from..to]);
     }
+    Ok(())
 }
 
 // The operation's name, in 8 bytes.
-fn name(op: u64) {
+fn name<W: Write>(out: &mut W, op: u64) -> io::Result<()> {
     if op < 30 {
         let at = op as usize * 8;
-        part(
+        return part(
+            out,
             b"real addreal subreal mulreal divreal negto big  to word to byte add     sub     mul     div     mod     shl     shr     and     or      xor     eq      neq     lt      gt      leq     geq     neg     not     bitnot  word of byte of real of ",
             at,
             at + 8,
         );
     }
+    Ok(())
 }
 
 fn real_result(op: u64, a: f64, b: f64) -> f64 {
@@ -94,20 +87,20 @@ fn whole_result(op: u64, x: f64) -> i64 {
     }
 }
 
-fn real_row(op: u64, a: u64, b: u64) {
+fn real_row<W: Write>(out: &mut W, op: u64, a: u64, b: u64) -> io::Result<()> {
     let x = reals::of_bits(bits_again(a));
     let y = reals::of_bits(bits_again(b));
-    show_real(x);
+    show_real(out, x)?;
     if op < 4 {
-        show_real(y);
+        show_real(out, y)?;
     }
-    text(b" gives");
+    write!(out, " gives")?;
     if op < 5 {
-        show_real(real_result(op, x, y));
+        show_real(out, real_result(op, x, y))?;
     } else {
-        show_int(whole_result(op, x));
+        show_int(out, whole_result(op, x))?;
     }
-    text(b"\n");
+    writeln!(out)
 }
 
 fn binary_result(op: u64, a: i64, b: i64) -> i64 {
@@ -148,18 +141,18 @@ fn int_result(op: u64, a: i64, b: i64) -> Quotient {
     }
 }
 
-fn int_row(op: u64, a: i64, b: i64) {
-    show_int(a);
+fn int_row<W: Write>(out: &mut W, op: u64, a: i64, b: i64) -> io::Result<()> {
+    show_int(out, a)?;
     if op < 16 {
-        show_int(b);
+        show_int(out, b)?;
     }
-    text(b" gives");
+    write!(out, " gives")?;
     if op < 21 {
-        show_quotient(int_result(op, a, b));
+        show_quotient(out, int_result(op, a, b))?;
     } else {
-        show_real(conversions::real_of_int(a));
+        show_real(out, conversions::real_of_int(a))?;
     }
-    text(b"\n");
+    writeln!(out)
 }
 
 // The value of an upper-case hexadecimal digit.
@@ -184,26 +177,35 @@ fn number(s: &[u8], from: usize, to: usize) -> u64 {
     n
 }
 
-fn row(op: u64, a: u64, b: u64) {
-    name(op);
+fn row<W: Write>(out: &mut W, op: u64, a: u64, b: u64) -> io::Result<()> {
+    name(out, op)?;
     if op < 8 {
-        real_row(op, a, b);
+        real_row(out, op, a, b)
     } else {
-        int_row(op - 8, ints::of_bits(a), ints::of_bits(b));
+        int_row(out, op - 8, ints::of_bits(a), ints::of_bits(b))
     }
 }
 
-fn rows(s: &[u8]) {
+fn rows<W: Write>(out: &mut W, s: &[u8]) -> io::Result<()> {
     let mut at: usize = 0;
     while s.len() - at >= 37 {
         let op = number(s, at, at + 2);
-        row(op, number(s, at + 3, at + 19), number(s, at + 20, at + 36));
+        row(
+            out,
+            op,
+            number(s, at + 3, at + 19),
+            number(s, at + 20, at + 36),
+        )?;
         at += 37;
     }
+    Ok(())
 }
 
-fn main() {
-    let mut space = io::large_buffer();
-    let n = io::read_full(STDIN_FILENO, &mut space);
-    rows(&space[..n]);
+fn main(rt: HostRuntime) -> io::Result<()> {
+    let alloc = rt.alloc();
+    let mut lines = Vec::new(alloc);
+    rt.reader().read_to_end(&mut lines)?;
+    let mut out = BufWriter::new(alloc, io::writer(&rt))?;
+    rows(&mut out, lines.as_slice())?;
+    out.flush()
 }

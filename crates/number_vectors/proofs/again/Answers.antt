@@ -1,5 +1,5 @@
 -- `again` meets its contract: a real of the format is what its bits say.
-use Rattle.std.proofs.Common.{T, sym, ap, ◌∙◌, subst, rules}
+use Rattle.std.proofs.Common.{T, sym, ap, ◌∙◌, subst}
 use lib.Ieee.{binary64, of_bits}
 use lib.Ieee.Bits.{of_bits-to_bits}
 use Rattle.number_vectors.proofs.again.Goals as goal

@@ -1,5 +1,5 @@
--- `number` meets its contract: the place is looked at only within the slice, and comes closer to the end each turn.
-use Rattle.std.proofs.Common.{◌-◌, ◌≤◌, arith, rules}
+-- A turn comes closer to the end.
+use Rattle.std.proofs.Common.{◌≤◌, ◌-◌}
 use Rattle.number_vectors.proofs.number.Given as goal
 
 abbrev pub invariant-loop-i : goal.invariant-loop-i
