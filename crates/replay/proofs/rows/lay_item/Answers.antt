@@ -53,8 +53,8 @@ returns-then-k-eq-ARRAY c =
     let number2 = c.number-id in
     let field3 = c.field-then-k-eq-ARRAY-2 in
     let number3 = c.number-n in
-    let type_size = c.type_size in
-    lays-as (item-array a.work.now a.k a.row.now a.image.now a.area.now a.s if1.false (omega (arith, good.1.1.1.1)) (omega (arith, good.1.1.1.1)) (h) number.ensures.0 f.ensures if2.false if3.false if4.true number2.ensures.0 field2.ensures number3.ensures.0 field3.ensures type_size.ensures) c.lay_array.ensures
+    let size = c.size_of in
+    lays-as (item-array a.work.now a.k a.row.now a.image.now a.area.now a.s if1.false (omega (arith, good.1.1.1.1)) (omega (arith, good.1.1.1.1)) (h) number.ensures.0 f.ensures if2.false if3.false if4.true number2.ensures.0 field2.ensures number3.ensures.0 field3.ensures size.ensures) c.lay_array.ensures
 
 pub returns : goal.returns
 returns c =
