@@ -1,7 +1,6 @@
 -- `replay::replay` meets its contract.
 use Rattle.replay.proofs.Wholes.{replays-none, replays-some}
 use mathlib.Core.Path.{◌∙◌}
-use borrow.Author.Rules.{rules}
 use Rattle.replay.proofs.replay.Goals as goal
 
 pub returns-then-s : goal.returns-then-s

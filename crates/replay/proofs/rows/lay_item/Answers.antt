@@ -2,7 +2,6 @@
 use native.Mathlib.Omega.{arith}
 use Rattle.laying.proofs.Steps.{moved-lays}
 use Rattle.replay.proofs.Texts.{lays-as, lays-none, item-none, item-values, item-string, item-array, item-moved}
-use borrow.Author.Rules.{rules}
 use Rattle.replay.proofs.rows.lay_item.Goals as goal
 
 pub returns-then-k-eq0 : goal.returns-then-k-eq0

@@ -2,13 +2,9 @@ use Rattle.stored.specs.Laying.{Laying}
 use mathlib.Core.Option.{Option}
 use mathlib.Core.Path.{ap}
 use native.Mathlib.Omega.{arith}
-use borrow.Author.Rules.{rules}
 use Rattle.replay.proofs.Loops.{text-turn, text-full, text-end}
-use Rattle.replay.specs.Rows.{element_size_at, begun, laid_text}
-use Rattle.laying.specs.Steps.{seen_laying}
-use lib.ListN.{length, drop}
-use mathlib.Core.Path.{◌≡◌, ◌∙◌, sym, refl}
-use Prim.Native.Nat.{◌≤◌, ◌-◌}
+use Rattle.replay.specs.Rows.{element_size_at, laid_text}
+use mathlib.Core.Path.{◌∙◌, sym, refl}
 use Rattle.replay.proofs.rows.lay_rows.Goals as goal
 
 pub loop-at-init : goal.loop-at-init

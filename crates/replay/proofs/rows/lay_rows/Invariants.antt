@@ -1,14 +1,8 @@
 -- `replay::rows::lay_rows` meets its contract. What the whole text comes to is what the rows from `at` on come to, from the state so far.
-use Rattle.stored.specs.Laying.{Laying}
-use mathlib.Core.Option.{Option}
-use mathlib.Core.Path.{ap}
-use native.Mathlib.Omega.{arith}
-use borrow.Author.Rules.{rules}
-use Rattle.replay.proofs.Loops.{text-turn, text-full, text-end}
 use Rattle.replay.specs.Rows.{element_size_at, begun, laid_text}
 use Rattle.laying.specs.Steps.{seen_laying}
 use lib.ListN.{length, drop}
-use mathlib.Core.Path.{◌≡◌, ◌∙◌, sym, refl}
+use mathlib.Core.Path.{◌≡◌}
 use Prim.Native.Nat.{◌≤◌, ◌-◌}
 use Rattle.replay.proofs.rows.lay_rows.Given as goal
 

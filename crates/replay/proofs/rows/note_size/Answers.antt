@@ -2,7 +2,6 @@
 use native.Mathlib.Omega.{arith}
 use Rattle.replay.proofs.Loops.{noted_other, noted-far, noted-at}
 use mathlib.Core.Path.{◌∙◌, sym}
-use borrow.Author.Rules.{rules}
 use Rattle.replay.proofs.rows.note_size.Goals as goal
 
 pub returns-then-id-lt-TYPES : goal.returns-then-id-lt-TYPES

@@ -1,10 +1,6 @@
 use Rattle.replay.proofs.Loops.{table_same}
 use native.Mathlib.Omega.{arith}
-use borrow.Author.Rules.{rules}
-use Rattle.replay.proofs.Loops.{SizesAt, sizes-on, sizes-all, cleared-rest, cleared-sizes, table-then}
-use Rattle.replay.specs.Rows.{OutOfTable}
-use lib.ListN.{length}
-use Prim.Native.Nat.{◌≤◌, ◌-◌}
+use Rattle.replay.proofs.Loops.{sizes-on, sizes-all, cleared-rest, cleared-sizes, table-then}
 use Rattle.replay.proofs.rows.read_sizes.Goals as goal
 
 pub loop-at-init : goal.loop-at-init

@@ -1,8 +1,5 @@
 -- `replay::rows::read_sizes` meets its contract. The rows from `at` on are still to be noted in the table.
-use Rattle.replay.proofs.Loops.{table_same}
-use native.Mathlib.Omega.{arith}
-use borrow.Author.Rules.{rules}
-use Rattle.replay.proofs.Loops.{SizesAt, sizes-on, sizes-all, cleared-rest, cleared-sizes, table-then}
+use Rattle.replay.proofs.Loops.{SizesAt}
 use Rattle.replay.specs.Rows.{OutOfTable}
 use lib.ListN.{length}
 use Prim.Native.Nat.{◌≤◌, ◌-◌}

@@ -2,7 +2,6 @@
 use Rattle.replay.proofs.Texts.{no_size, short-table, a-size}
 use Prim.Native.Nat.{◌+◌}
 use native.Mathlib.Omega.{arith}
-use borrow.Author.Rules.{rules}
 use Rattle.replay.proofs.rows.size_of.Goals as goal
 
 pub returns-then-id-ge-TYPES : goal.returns-then-id-ge-TYPES

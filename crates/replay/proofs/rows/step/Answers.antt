@@ -2,7 +2,6 @@
 use Rattle.replay.proofs.Texts.{lays-as, lays-none, row_other, row-item}
 use Rattle.replay.specs.Rows.{element_size_at}
 use mathlib.Core.Path.{◌∙◌, sym}
-use borrow.Author.Rules.{rules}
 use Rattle.replay.proofs.rows.step.Goals as goal
 
 pub returns-then-same : goal.returns-then-same
