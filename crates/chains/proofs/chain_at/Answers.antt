@@ -1,7 +1,6 @@
 -- `chains::chain_at` meets its contract.
 use Rattle.chains.specs.Chains.{chain_at}
 use mathlib.Core.Path.{◌∙◌}
-use borrow.Author.Rules.{rules}
 use Rattle.chains.proofs.chain_at.Goals as goal
 
 pub returns : goal.returns

@@ -1,6 +1,5 @@
 -- `chains::digest_at` meets its contract.
 use mathlib.Core.Path.{◌∙◌}
-use borrow.Author.Rules.{rules}
 use Rattle.chains.proofs.digest_at.Goals as goal
 
 pub place-requires : goal.place-requires

@@ -1,6 +1,5 @@
 -- `chains::earlier` meets its contract.
 use mathlib.Core.Path.{◌∙◌}
-use borrow.Author.Rules.{rules}
 use Rattle.chains.proofs.earlier.Goals as goal
 
 pub returns : goal.returns

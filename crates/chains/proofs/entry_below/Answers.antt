@@ -2,7 +2,6 @@
 use native.Mathlib.Omega.{arith}
 use borrow.Author.Tests.{lt-ltb, le-ltb, eq-eqb, ne_eqb}
 use Rattle.chains.specs.Chains.{entry_below}
-use borrow.Author.Rules.{rules}
 use Rattle.chains.proofs.entry_below.Goals as goal
 
 pub returns-then-m-j : goal.returns-then-m-j

@@ -2,7 +2,6 @@
 use native.Mathlib.Omega.{arith}
 use Rattle.chains.specs.Chains.{head_at}
 use mathlib.Core.Path.{◌∙◌}
-use borrow.Author.Rules.{rules}
 use Rattle.chains.proofs.head_at.Goals as goal
 
 pub place-requires : goal.place-requires

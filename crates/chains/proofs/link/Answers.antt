@@ -3,7 +3,6 @@ use native.Mathlib.Omega.{arith}
 use Prim.Native.Nat.{◌+◌}
 use lib.ListN.{length-set}
 use Rattle.chains.specs.Chains.{linked}
-use borrow.Author.Rules.{rules}
 use Rattle.chains.proofs.link.Goals as goal
 
 pub place-requires : goal.place-requires

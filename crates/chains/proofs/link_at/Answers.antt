@@ -1,7 +1,6 @@
 -- `chains::link_at` meets its contract.
 use Rattle.chains.specs.Chains.{link_at}
 use mathlib.Core.Path.{◌∙◌}
-use borrow.Author.Rules.{rules}
 use Rattle.chains.proofs.link_at.Goals as goal
 
 pub place-requires : goal.place-requires

@@ -1,6 +1,5 @@
 -- `chains::newest` meets its contract.
 use mathlib.Core.Path.{◌∙◌}
-use borrow.Author.Rules.{rules}
 use Rattle.chains.proofs.newest.Goals as goal
 
 pub returns : goal.returns
