@@ -15,7 +15,7 @@ pub returns-in-Int : goal.returns-in-Int
 returns-in-Int c = bits-int c.in-Int.is (search rules) c.bits.ensures
 
 pub returns-in-Real : goal.returns-in-Real
-returns-in-Real c = bits-real c.in-Real.is c.known_told-in-Real-1.given.0.1 c.bits-in-Real.ensures
+returns-in-Real c = bits-real c.in-Real.is (search rules) c.bits-in-Real.ensures
 
 pub returns-in-Str : goal.returns-in-Str
 returns-in-Str c = bits-text c.in-Str.is refl

@@ -1,6 +1,5 @@
 -- `values::cast_int` meets its contract.
 use Rattle.values.proofs.Values.{int-real, int-string, int_same}
-use borrow.Author.Rules.{rules}
 use Rattle.values.proofs.cast_int.Goals as goal
 
 pub returns-then-code-eq-REAL : goal.returns-then-code-eq-REAL

@@ -1,6 +1,5 @@
 -- `values::cast_real` meets its contract.
 use Rattle.values.proofs.Values.{real-whole, real_same}
-use borrow.Author.Rules.{rules}
 use Rattle.values.proofs.cast_real.Goals as goal
 
 pub returns-then-code-lt-REAL : goal.returns-then-code-lt-REAL

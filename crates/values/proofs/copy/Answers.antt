@@ -1,10 +1,9 @@
-use Rattle.write.specs.Wrote.{over, Wrote}
-use Prim.Native.Nat.{ℕ, ◌-◌, ◌≤◌}
+use Rattle.write.specs.Wrote.{over}
+use Prim.Native.Nat.{ℕ}
 use native.Mathlib.Omega.{arith}
-use borrow.Author.Rules.{rules}
 use Rattle.values.proofs.Written.{copied_more}
 use Rattle.write.proofs.Wrote.{wrote_none, wrote-length}
-use lib.ListN.{length, take, drop}
+use lib.ListN.{take, drop}
 use mathlib.Core.Path.{◌≡◌, refl, ◌∙◌, ap}
 use Rattle.values.proofs.copy.Goals as goal
 

@@ -1,12 +1,8 @@
 -- `values::copy` meets its contract.
-use Rattle.write.specs.Wrote.{over, Wrote}
-use Prim.Native.Nat.{ℕ, ◌-◌, ◌≤◌}
-use native.Mathlib.Omega.{arith}
-use borrow.Author.Rules.{rules}
-use Rattle.values.proofs.Written.{copied_more}
-use Rattle.write.proofs.Wrote.{wrote_none, wrote-length}
+use Rattle.write.specs.Wrote.{Wrote}
+use Prim.Native.Nat.{◌-◌, ◌≤◌}
 use lib.ListN.{length, take, drop}
-use mathlib.Core.Path.{◌≡◌, refl, ◌∙◌, ap}
+use mathlib.Core.Path.{◌≡◌}
 use Rattle.values.proofs.copy.Given as goal
 
 abbrev pub invariant-loop-k : goal.invariant-loop-k

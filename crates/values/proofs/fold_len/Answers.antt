@@ -9,7 +9,6 @@ use Prim.Native.Nat.{ℕ, ◌+◌, ◌-◌}
 use mathlib.Core.Path.{◌≡◌, ◌∙◌, ap, refl}
 use native.Mathlib.Omega.{arith}
 use Rattle.values.proofs.Values.{string-within, len-fails, len-counts}
-use borrow.Author.Rules.{rules}
 use Rattle.values.proofs.fold_len.Goals as goal
 
 pub overflow_add-e : goal.overflow_add-e

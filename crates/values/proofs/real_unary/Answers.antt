@@ -6,7 +6,6 @@ use Rattle.semantics.specs.Fold.Result.{ok}
 use Rattle.semantics.specs.Fold.{real_unary}
 use mathlib.Core.Path.{sym, ap, ◌∙◌}
 use Rattle.values.proofs.Values.{answers-real, answers-failed, no-real-unary}
-use borrow.Author.Rules.{rules}
 use Rattle.values.proofs.real_unary.Goals as goal
 
 pub returns-then-op-eq-NEG : goal.returns-then-op-eq-NEG

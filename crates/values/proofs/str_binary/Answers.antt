@@ -5,7 +5,6 @@ use Rattle.values.proofs.Values.{joins, joins_long, fails-at, answers-failed}
 use Rattle.values.specs.Values.{string_in}
 use Rattle.semantics.specs.Fold.{str_binary}
 use mathlib.Core.Path.{refl}
-use borrow.Author.Rules.{rules}
 use Rattle.values.proofs.str_binary.Goals as goal
 
 pub returns-then-op-ne-ADD : goal.returns-then-op-ne-ADD
