@@ -101,7 +101,7 @@ module _ (s t : List ℕ) (n : ℕ) (c : Checked s t n) (i : ℕ) (h : i < n) wh
   pub needs-line : (declares_at (nodes_in s) i).needs ≡ cond (eqb (letter (read_at s i).form.kind) 78) (need_at s i ∷ []) []
   unfolding need_at
   needs-line =
-      let e = ap (λ (m : Node). m.declares.needs) (node-at s t n c.whole c.well-formed i h) in
+      let e = ap (λ (m : Node). m.declares.needs) (node-at s t n c.whole c.good i h) in
       let g = each_at NeedsOne forms all-need (form_at t i) (omega (arith, row-count, form-low s t n c.whole i h)) (nodes_in s) (read_at s i).fields in
       e ∙ g ∙ rw (kind-is s t n c.whole i h, ← e)
 

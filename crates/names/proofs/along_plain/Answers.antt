@@ -27,3 +27,6 @@ loop-i-smaller c = earlier-less c.args.work.now const_chains (omega arith) c.ear
 
 pub loop-i-preserved : goal.loop-i-preserved
 loop-i-preserved c = Laws.asking-next c.loop-i.invariant (omega arith) c.answers_plain.ensures c.if-answers_plain.false c.earlier-i.ensures
+
+pub returns : goal.returns
+returns c = Laws.asking-end (omega arith) c.loop-i.invariant
