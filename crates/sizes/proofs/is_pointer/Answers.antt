@@ -1,5 +1,4 @@
 use Rattle.sizes.proofs.Types.{marks-first}
-use borrow.Author.Rules.{rules}
 use Rattle.sizes.proofs.is_pointer.Goals as goal
 
 pub returns : goal.returns

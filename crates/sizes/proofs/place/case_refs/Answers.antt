@@ -1,6 +1,5 @@
 use mathlib.Core.Path.{sym}
 use Rattle.sizes.proofs.Places.{case-refs, case-is}
-use borrow.Author.Rules.{rules}
 use Rattle.sizes.proofs.place.case_refs.Goals as goal
 
 pub returns : goal.returns

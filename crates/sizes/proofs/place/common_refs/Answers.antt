@@ -1,6 +1,5 @@
 use mathlib.Core.Path.{sym}
 use Rattle.sizes.proofs.Places.{common-refs, common-is}
-use borrow.Author.Rules.{rules}
 use Rattle.sizes.proofs.place.common_refs.Goals as goal
 
 pub returns : goal.returns

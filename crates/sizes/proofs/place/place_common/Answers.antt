@@ -1,5 +1,4 @@
 use native.Mathlib.Omega.{arith}
-use borrow.Author.Rules.{rules}
 use Rattle.sizes.proofs.place.place_common.Goals as goal
 
 pub place_fields-requires : goal.place_fields-requires

@@ -1,7 +1,6 @@
 -- `sizes::place::place_field` meets its contract.
 use Rattle.sizes.proofs.Places.{placed-untyped, type-line, names-few, placed-typed}
 use native.Mathlib.Omega.{arith}
-use borrow.Author.Rules.{rules}
 use Rattle.sizes.proofs.place.place_field.Goals as goal
 
 pub returns-then-t-eq0 : goal.returns-then-t-eq0

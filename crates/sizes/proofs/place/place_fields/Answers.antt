@@ -1,6 +1,5 @@
 use native.Mathlib.Omega.{arith}
-use Rattle.sizes.proofs.Places.{BehindLines, refs-in, behind-lines-start, behind-lines-end, refs-line, behind-lines-next}
-use Prim.Native.Nat.{◌-◌}
+use Rattle.sizes.proofs.Places.{refs-in, behind-lines-start, behind-lines-end, refs-line, behind-lines-next}
 use Rattle.sizes.proofs.place.place_fields.Goals as goal
 
 pub loop-j-init : goal.loop-j-init

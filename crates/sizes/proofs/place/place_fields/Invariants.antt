@@ -1,5 +1,4 @@
-use native.Mathlib.Omega.{arith}
-use Rattle.sizes.proofs.Places.{BehindLines, refs-in, behind-lines-start, behind-lines-end, refs-line, behind-lines-next}
+use Rattle.sizes.proofs.Places.{BehindLines}
 use Prim.Native.Nat.{◌-◌}
 use Rattle.sizes.proofs.place.place_fields.Given as goal
 
