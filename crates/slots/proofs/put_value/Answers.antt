@@ -1,6 +1,5 @@
 use Rattle.write.proofs.Wrote.{then}
 use mathlib.Core.Path.{◌∙◌}
-use borrow.Author.Rules.{rules}
 use Rattle.slots.proofs.put_value.Goals as goal
 
 pub returns : goal.returns
