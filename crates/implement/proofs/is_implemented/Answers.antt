@@ -1,7 +1,6 @@
 -- `implement::is_implemented` meets its contract.
 use native.Mathlib.Omega.{arith}
 use mathlib.Core.Path.{◌∙◌, ap}
-use borrow.Author.Rules.{rules}
 use Rattle.lines.proofs.Line.{form-low}
 use Rattle.semantics.specs.Text.{Bytes, same}
 use Rattle.implement.proofs.Modules.{implemented-none, implemented-not, implemented-by}

@@ -1,7 +1,6 @@
 -- `implement::is_own` meets its contract.
 use mathlib.Core.Option.{some}
 use mathlib.Core.Path.{◌∙◌, ap}
-use borrow.Author.Rules.{rules}
 use Rattle.semantics.specs.Text.{Bytes}
 use Rattle.semantics.specs.Fold.{same_option}
 use Rattle.semantics.specs.Sheet.{sheet_source}

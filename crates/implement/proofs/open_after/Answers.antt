@@ -1,5 +1,4 @@
 -- `implement::open_after` meets its contract.
-use borrow.Author.Rules.{rules}
 use Rattle.lines.proofs.Line.{form-low}
 use Rattle.implement.proofs.Modules.{open-mod, open-end, open-other}
 use Rattle.implement.proofs.open_after.Goals as goal
