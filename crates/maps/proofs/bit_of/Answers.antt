@@ -1,7 +1,6 @@
 use Rattle.maps.proofs.Maps.{halves}
 use native.Mathlib.Omega.{arith}
 use Prim.Native.Nat.{◌%◌}
-use borrow.Author.Rules.{rules}
 use Rattle.maps.proofs.bit_of.Goals as goal
 
 pub returns : goal.returns

@@ -1,6 +1,5 @@
-use Rattle.maps.proofs.Maps.{map-fits, Clearing, clearing-start, clearing-next, clearing-end}
+use Rattle.maps.proofs.Maps.{map-fits, clearing-start, clearing-next, clearing-end}
 use native.Mathlib.Omega.{arith}
-use Prim.Native.Nat.{◌-◌, ◌≤◌}
 use Rattle.maps.proofs.clear_map.Goals as goal
 
 pub map_bytes-end-requires : goal.map_bytes-end-requires

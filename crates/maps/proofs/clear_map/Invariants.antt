@@ -1,5 +1,4 @@
-use Rattle.maps.proofs.Maps.{map-fits, Clearing, clearing-start, clearing-next, clearing-end}
-use native.Mathlib.Omega.{arith}
+use Rattle.maps.proofs.Maps.{Clearing}
 use Prim.Native.Nat.{◌-◌, ◌≤◌}
 use Rattle.maps.proofs.clear_map.Given as goal
 

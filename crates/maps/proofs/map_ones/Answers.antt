@@ -1,6 +1,5 @@
-use Rattle.maps.proofs.Maps.{map-fits, OnesCounted, ones-start, ones-next, ones-end}
+use Rattle.maps.proofs.Maps.{map-fits, ones-start, ones-next, ones-end}
 use native.Mathlib.Omega.{arith}
-use Prim.Native.Nat.{◌-◌}
 use Rattle.maps.proofs.map_ones.Goals as goal
 
 pub map_bytes-end-requires : goal.map_bytes-end-requires

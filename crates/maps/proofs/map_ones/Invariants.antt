@@ -1,5 +1,4 @@
-use Rattle.maps.proofs.Maps.{map-fits, OnesCounted, ones-start, ones-next, ones-end}
-use native.Mathlib.Omega.{arith}
+use Rattle.maps.proofs.Maps.{OnesCounted}
 use Prim.Native.Nat.{◌-◌}
 use Rattle.maps.proofs.map_ones.Given as goal
 

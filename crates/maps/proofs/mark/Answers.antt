@@ -1,7 +1,6 @@
 use Rattle.maps.proofs.Maps.{marks-skip}
 use Rattle.layout.proofs.Marks.{below-zero, plain}
 use native.Mathlib.Omega.{arith}
-use borrow.Author.Rules.{rules}
 use Rattle.maps.proofs.mark.Goals as goal
 
 pub returns-then-off-lt0 : goal.returns-then-off-lt0

@@ -7,7 +7,6 @@ use lib.IntN.{pos}
 use Rattle.maps.proofs.Maps.{marks-skip, marks-set}
 use mathlib.Core.Path.{refl}
 use native.Mathlib.Omega.{arith}
-use borrow.Author.Rules.{rules}
 use Rattle.maps.proofs.mark_at.Goals as goal
 
 pub returns-then-size-lt4 : goal.returns-then-size-lt4

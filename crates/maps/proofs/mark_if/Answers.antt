@@ -1,5 +1,4 @@
 -- `maps::mark_if` meets its contract.
-use borrow.Author.Rules.{rules}
 use Rattle.maps.proofs.Maps.{marks-none}
 use Rattle.maps.proofs.mark_if.Goals as goal
 
