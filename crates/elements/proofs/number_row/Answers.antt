@@ -2,7 +2,6 @@
 use Rattle.elements.proofs.Rows.{numbers-row, one_field}
 use Rattle.values.specs.Values.{value_in}
 use mathlib.Core.List.{◌∷◌, []}
-use borrow.Author.Rules.{rules}
 use Rattle.elements.proofs.number_row.Goals as goal
 
 pub returns : goal.returns

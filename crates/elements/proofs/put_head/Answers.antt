@@ -1,7 +1,6 @@
 -- `elements::put_head` meets its contract.
 use Rattle.elements.specs.Elements.{head_text}
 use Rattle.write.proofs.Wrote.{then}
-use borrow.Author.Rules.{rules}
 use Rattle.elements.proofs.put_head.Goals as goal
 
 pub returns : goal.returns

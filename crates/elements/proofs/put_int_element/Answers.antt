@@ -5,7 +5,6 @@ use Rattle.semantics.specs.Fold.{to_real}
 use Rattle.semantics.specs.Array.{lowest, low_byte}
 use Rattle.semantics.specs.Tree.ConstVal.{v_int}
 use mathlib.Core.Path.{refl}
-use borrow.Author.Rules.{rules}
 use Rattle.elements.proofs.put_int_element.Goals as goal
 
 pub returns-then-kind-eq-BYTE : goal.returns-then-kind-eq-BYTE

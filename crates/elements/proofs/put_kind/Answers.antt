@@ -1,7 +1,6 @@
 -- `elements::put_kind` meets its contract.
 use Rattle.elements.specs.Elements.{kind_name}
 use Rattle.elements.proofs.Rows.{kind-named, kind-reals}
-use borrow.Author.Rules.{rules}
 use Rattle.elements.proofs.put_kind.Goals as goal
 
 pub returns-then-kind-eq-BYTE : goal.returns-then-kind-eq-BYTE

@@ -2,7 +2,6 @@
 use Rattle.elements.proofs.Elements.{widened, as_byte, as-word, as-big, as-real}
 use Rattle.semantics.specs.Tree.ConstVal.{v_real}
 use mathlib.Core.Path.{refl}
-use borrow.Author.Rules.{rules}
 use Rattle.elements.proofs.put_real_element.Goals as goal
 
 pub returns-then-kind-eq-BYTE : goal.returns-then-kind-eq-BYTE

@@ -1,6 +1,5 @@
 -- `elements::put_zero_element` meets its contract.
 use Rattle.elements.proofs.Elements.{as-zero, as-real-zero}
-use borrow.Author.Rules.{rules}
 use Rattle.elements.proofs.put_zero_element.Goals as goal
 
 pub returns-then-kind-lt-REAL : goal.returns-then-kind-lt-REAL
