@@ -1,5 +1,4 @@
 use native.Mathlib.Omega.{arith}
-use borrow.Author.Rules.{rules}
 use Rattle.marks.proofs.mark_common.Goals as goal
 
 pub mark_fields-requires : goal.mark_fields-requires

@@ -2,7 +2,6 @@
 use native.Mathlib.Omega.{arith}
 use Rattle.sizes.proofs.Places.{type-line, names-few, names-small}
 use Rattle.marks.proofs.Marking.{line-untyped, line-typed}
-use borrow.Author.Rules.{rules}
 use Rattle.marks.proofs.mark_field.Goals as goal
 
 pub returns-then-t-eq0 : goal.returns-then-t-eq0

@@ -1,8 +1,7 @@
-use Rattle.marks.proofs.Marking.{LinesMarked, lines-marked-start, lines-marked-next, lines-marked-end}
+use Rattle.marks.proofs.Marking.{lines-marked-start, lines-marked-next, lines-marked-end}
 use Rattle.marks.proofs.Kept.{refs-kept}
 use Rattle.maps.proofs.Maps.{room-kept}
 use Rattle.sizes.proofs.Places.{refs-in, refs-line}
-use Prim.Native.Nat.{◌-◌}
 use native.Mathlib.Omega.{arith}
 use Rattle.marks.proofs.mark_fields.Goals as goal
 

@@ -1,9 +1,5 @@
-use Rattle.marks.proofs.Marking.{LinesMarked, lines-marked-start, lines-marked-next, lines-marked-end}
-use Rattle.marks.proofs.Kept.{refs-kept}
-use Rattle.maps.proofs.Maps.{room-kept}
-use Rattle.sizes.proofs.Places.{refs-in, refs-line}
+use Rattle.marks.proofs.Marking.{LinesMarked}
 use Prim.Native.Nat.{◌-◌}
-use native.Mathlib.Omega.{arith}
 use Rattle.marks.proofs.mark_fields.Given as goal
 
 abbrev pub invariant-loop-j : goal.invariant-loop-j

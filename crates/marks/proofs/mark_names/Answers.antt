@@ -3,7 +3,6 @@ use native.Mathlib.Omega.{arith}
 use mathlib.Core.Path.{refl}
 use Rattle.sizes.proofs.Places.{names-small}
 use Rattle.marks.proofs.Marking.{names_marked}
-use borrow.Author.Rules.{rules}
 use Rattle.marks.proofs.mark_names.Goals as goal
 
 pub line_fields-a-requires : goal.line_fields-a-requires
