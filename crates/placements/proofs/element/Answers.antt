@@ -2,7 +2,6 @@ use Rattle.placements.specs.Placements.{slot_at, placement_at}
 use Rattle.slots.specs.Slots.{slot_of}
 use Prim.Native.Nat.{ℕ, ◌+◌, ◌*◌}
 use mathlib.Core.Path.{◌∙◌, ap}
-use borrow.Author.Rules.{rules}
 use Rattle.placements.proofs.element.Goals as goal
 
 pub returns : goal.returns

@@ -1,5 +1,4 @@
 use Rattle.placements.proofs.Steps.{started}
-use borrow.Author.Rules.{rules}
 use Rattle.placements.proofs.empty.Goals as goal
 
 pub returns : goal.returns

@@ -1,6 +1,4 @@
-use Rattle.placements.proofs.Values.{NoneOfKind, none-of-kind-start, kind-found, none-of-kind-next, none-of-kind-end}
-use borrow.Author.Rules.{rules}
-use Prim.Native.Nat.{◌-◌}
+use Rattle.placements.proofs.Values.{none-of-kind-start, kind-found, none-of-kind-next, none-of-kind-end}
 use native.Mathlib.Omega.{arith}
 use Rattle.placements.proofs.has.Goals as goal
 

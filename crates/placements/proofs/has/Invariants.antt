@@ -1,7 +1,5 @@
-use Rattle.placements.proofs.Values.{NoneOfKind, none-of-kind-start, kind-found, none-of-kind-next, none-of-kind-end}
-use borrow.Author.Rules.{rules}
+use Rattle.placements.proofs.Values.{NoneOfKind}
 use Prim.Native.Nat.{◌-◌}
-use native.Mathlib.Omega.{arith}
 use Rattle.placements.proofs.has.Given as goal
 
 abbrev pub invariant-loop-i : goal.invariant-loop-i

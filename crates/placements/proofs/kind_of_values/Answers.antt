@@ -1,7 +1,6 @@
 use Rattle.placements.proofs.Values.{kind-strings, kind-reals, kind-words}
 use Rattle.placements.specs.Placements.{values_in}
 use mathlib.Core.Path.{◌∙◌, sym}
-use borrow.Author.Rules.{rules}
 use Rattle.placements.proofs.kind_of_values.Goals as goal
 
 pub returns-then-has : goal.returns-then-has

@@ -1,5 +1,4 @@
 use Rattle.placements.proofs.Steps.{indices-none, indices-negative, low_fits, high_fits, indices-placed}
-use borrow.Author.Rules.{rules}
 use Rattle.placements.proofs.place_indices.Goals as goal
 
 pub returns-then-high-low : goal.returns-then-high-low

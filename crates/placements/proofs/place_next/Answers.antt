@@ -1,5 +1,4 @@
 use Rattle.placements.proofs.Steps.{next-placed, next-beyond}
-use borrow.Author.Rules.{rules}
 use Rattle.placements.proofs.place_next.Goals as goal
 
 pub returns-then-x-lt-BEYOND : goal.returns-then-x-lt-BEYOND

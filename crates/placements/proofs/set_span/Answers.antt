@@ -1,7 +1,5 @@
-use Rattle.placements.proofs.Ranges.{Setting, setting-start, setting-next, setting-end}
-use borrow.Author.Rules.{rules}
+use Rattle.placements.proofs.Ranges.{setting-start, setting-next, setting-end}
 use native.Mathlib.Omega.{arith}
-use Prim.Native.Nat.{◌-◌}
 use Rattle.placements.proofs.set_span.Goals as goal
 
 pub loop-i-init : goal.loop-i-init

@@ -1,6 +1,4 @@
-use Rattle.placements.proofs.Ranges.{Setting, setting-start, setting-next, setting-end}
-use borrow.Author.Rules.{rules}
-use native.Mathlib.Omega.{arith}
+use Rattle.placements.proofs.Ranges.{Setting}
 use Prim.Native.Nat.{◌-◌}
 use Rattle.placements.proofs.set_span.Given as goal
 
