@@ -9,7 +9,7 @@ use lib.Dec.{ltb, eqb}
 use lib.Ieee.{binary64, of_bits}
 use lib.ListN.{length, take, drop, get_or, set}
 use lib.Seq.{take-take, take-set-le, get_or-take, get_or-drop, drop-drop, drop-set-lt}
-use borrow.Author.Tests.{lt-ltb, ltb-true, ltb-false, eq-eqb, ne_eqb, eqb-true, not-true, not-false}
+use borrow.Author.Tests.{lt-ltb, ltb-true, ltb-false, eq-eqb, ne_eqb, eqb-true}
 use Rattle.semantics.specs.Text.{Bytes, same, from_big_endian}
 use Rattle.semantics.specs.Tree.{ConstVal}
 use Rattle.semantics.specs.Tree.ConstVal.{v_int, v_real, v_str}
@@ -279,18 +279,18 @@ module _ {t : Bytes} {k n newest : ℕ} {answers : ℕ → Bool} where
 
 -- which entries answer, as it is tested: whether an entry has the digest d, and then whether it has the name
 module _ (D d : ℕ) (a o : Bool) {b : Bool} (e : b ≡ eqb D d && a) where
-  untold : (a && o ≡ true → D ≡ d) → not b ≡ true → false ≡ a && o
+  untold : (a && o ≡ true → D ≡ d) → b ≡ false → false ≡ a && o
   untold h f = go (a && o) refl
     where
       go : (r : Bool) → a && o ≡ r → false ≡ r
       go false q = refl
-      go true q = absurd (false≢true (sym (not-true b f) ∙ e ∙ rw (eq-eqb D d (h q), (both a o q).0)))
+      go true q = absurd (false≢true (sym f ∙ e ∙ rw (eq-eqb D d (h q), (both a o q).0)))
 
-  told : not b ≡ false → a ≡ true
-  told f = (both (eqb D d) a (sym e ∙ not-false b f)).1
+  told : b ≡ true → a ≡ true
+  told f = (both (eqb D d) a (sym e ∙ f)).1
 
 module _ (s t : Bytes) (i d : ℕ) (x : Bytes) {b : Bool} (name : b ≡ eqb (digest_at t const_chains i) d && same x (first_field s (const_line_of t i))) where
-  module _ {n : ℕ} (k : ConstEntry s t n i) (f : not b ≡ true) where
+  module _ {n : ℕ} (k : ConstEntry s t n i) (f : b ≡ false) where
     pub plain_other : d ≡ digest x → false ≡ answers_plain s t i x
     unfolding answers_plain
     plain_other e = untold (digest_at t const_chains i) d (same x (first_field s (const_line_of t i))) (is_own s (module_line_of t i)) name (λ q. k.digested ∙ plain-digested s t i x q ∙ sym e) f
@@ -299,7 +299,7 @@ module _ (s t : Bytes) (i d : ℕ) (x : Bytes) {b : Bool} (name : b ≡ eqb (dig
     unfolding answers_qualified
     qualified-other q e = untold (digest_at t const_chains i) d (same x (first_field s (const_line_of t i))) (not (eqb (module_line_of t i) 0) && same q (first_field s (module_line_of t i))) name (λ h. k.digested ∙ qualified-digested s t i x q h ∙ sym e) f
 
-  module _ (f : not b ≡ false) {j : ℕ} (within : j ≡ module_line_of t i) where
+  module _ (f : b ≡ true) {j : ℕ} (within : j ≡ module_line_of t i) where
     named : same x (first_field s (const_line_of t i)) ≡ true
     named = told (digest_at t const_chains i) d (same x (first_field s (const_line_of t i))) true name f
 

@@ -1,9 +1,7 @@
 use Rattle.names.proofs.Laws as Laws
-use Rattle.names.specs.Table.{const_chains, answers_plain}
-use Rattle.chains.specs.Chains.{chain_of}
+use Rattle.names.specs.Table.{const_chains}
 use Rattle.chains.proofs.Laws.{earlier-less}
 use native.Mathlib.Omega.{arith}
-use Prim.Native.Nat.{ℕ}
 use Rattle.names.proofs.along_plain.Goals as goal
 
 pub loop-i-init : goal.loop-i-init

@@ -1,9 +1,7 @@
 -- `names::along_plain` meets its contract.
 use Rattle.names.proofs.Laws as Laws
-use Rattle.names.specs.Table.{const_chains, answers_plain}
+use Rattle.names.specs.Table.{answers_plain}
 use Rattle.chains.specs.Chains.{chain_of}
-use Rattle.chains.proofs.Laws.{earlier-less}
-use native.Mathlib.Omega.{arith}
 use Prim.Native.Nat.{ℕ}
 use Rattle.names.proofs.along_plain.Given as goal
 

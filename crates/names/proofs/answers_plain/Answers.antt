@@ -1,14 +1,12 @@
 -- `names::answers_plain` meets its contract.
-use Rattle.std.proofs.Common.{ap, not}
 use Rattle.names.proofs.Laws as Laws
 use native.Mathlib.Omega.{arith}
-use borrow.Author.Rules.{rules}
 use Rattle.names.proofs.answers_plain.Goals as goal
 
 pub returns-then-not-has_name : goal.returns-then-not-has_name
 returns-then-not-has_name c =
     let a = c.args in
-    Laws.plain_other a.sheet.now a.work.now a.i a.d a.name.now c.has_name.ensures c.requires.0 (ap not c.if-not-has_name.true) c.requires.1
+    Laws.plain_other a.sheet.now a.work.now a.i a.d a.name.now c.has_name.ensures c.requires.0 c.if-not-has_name.true c.requires.1
 
 pub is_own-requires : goal.is_own-requires
 is_own-requires c =
@@ -18,4 +16,4 @@ is_own-requires c =
 pub returns : goal.returns
 returns c =
     let a = c.args in
-    Laws.plain-own a.sheet.now a.work.now a.i a.d a.name.now c.has_name.ensures (ap not c.if-not-has_name.false) c.module_line_of.ensures c.is_own.ensures
+    Laws.plain-own a.sheet.now a.work.now a.i a.d a.name.now c.has_name.ensures c.if-not-has_name.false c.module_line_of.ensures c.is_own.ensures

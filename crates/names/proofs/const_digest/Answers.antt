@@ -1,6 +1,5 @@
 -- `names::const_digest` meets its contract.
 use Rattle.names.proofs.Laws.{digest-outside, digest-within}
-use borrow.Author.Rules.{rules}
 use Rattle.names.proofs.const_digest.Goals as goal
 
 pub returns-then-k-eq0 : goal.returns-then-k-eq0

@@ -6,7 +6,6 @@ use Rattle.semantics.specs.Text.{same}
 use mathlib.Core.Path.{sym, ◌∙◌, ap}
 use Prim.Native.Nat.{ℕ}
 use native.Mathlib.Omega.{arith}
-use borrow.Author.Rules.{rules}
 use borrow.Author.Tests.{eq-eqb, ne_eqb}
 use Rattle.names.proofs.Laws.{const-room}
 use Rattle.names.proofs.has_name.Goals as goal

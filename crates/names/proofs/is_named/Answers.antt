@@ -1,5 +1,4 @@
 -- `names::is_named` meets its contract.
-use borrow.Author.Rules.{rules}
 use Rattle.names.proofs.is_named.Goals as goal
 
 pub returns : goal.returns

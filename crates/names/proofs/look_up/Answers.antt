@@ -1,7 +1,6 @@
 -- `names::look_up` meets its contract.
 use Rattle.names.proofs.Laws as Laws
 use native.Mathlib.Omega.{arith}
-use borrow.Author.Rules.{rules}
 use Rattle.names.proofs.look_up.Goals as goal
 
 pub newest-newest-requires : goal.newest-newest-requires

@@ -1,6 +1,5 @@
 -- `names::qualified_digest` meets its contract.
 use Rattle.names.proofs.Laws.{digest-implemented, digest-of-both}
-use borrow.Author.Rules.{rules}
 use Rattle.names.proofs.qualified_digest.Goals as goal
 
 pub returns-then-is_implemented : goal.returns-then-is_implemented
