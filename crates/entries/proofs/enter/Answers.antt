@@ -1,6 +1,5 @@
 -- `entries::enter` meets its contract.
 use Rattle.entries.proofs.Laws as Laws
-use borrow.Author.Rules.{rules}
 use Rattle.entries.proofs.enter.Goals as goal
 
 pub bits_of-bits-requires : goal.bits_of-bits-requires

@@ -3,7 +3,6 @@ use Rattle.entries.proofs.Laws as Laws
 use mathlib.Core.Logic.{inr}
 use mathlib.Core.Path.{refl}
 use native.Mathlib.Omega.{arith}
-use borrow.Author.Rules.{rules}
 use Rattle.entries.proofs.keep_string.Goals as goal
 
 pub copy-requires : goal.copy-requires

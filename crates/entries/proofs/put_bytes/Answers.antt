@@ -1,7 +1,6 @@
 -- `entries::put_bytes` meets its contract.
 use Rattle.entries.specs.Entering.{entry_of}
 use Rattle.write.proofs.Wrote.{then}
-use borrow.Author.Rules.{rules}
 use Rattle.entries.proofs.put_bytes.Goals as goal
 
 pub returns : goal.returns
