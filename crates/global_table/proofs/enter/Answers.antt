@@ -2,7 +2,6 @@
 use mathlib.Core.Path.{ap, ◌∙◌}
 use native.Mathlib.Omega.{arith}
 use lib.ListN.{length, length-set}
-use borrow.Author.Rules.{rules}
 use Rattle.global_table.proofs.Table.{global-room, entered_by, entered-long}
 use Rattle.global_table.proofs.enter.Goals as goal
 

@@ -1,9 +1,7 @@
 use native.Mathlib.Omega.{arith}
-use borrow.Author.Rules.{rules}
-use Rattle.chains.specs.Chains.{chain_of}
-use Rattle.chains.proofs.Laws.{Along, along-first, along-found, along-next, along-end, earlier-less}
+use Rattle.chains.proofs.Laws.{along-first, along-found, along-next, along-end, earlier-less}
 use Rattle.global_table.specs.Table.{global_chains}
-use Rattle.global_table.proofs.Table.{has_name, global-room, named-chain, found-is}
+use Rattle.global_table.proofs.Table.{global-room, named-chain, found-is}
 use Rattle.global_table.proofs.entry_number.Goals as goal
 
 pub newest-i-requires : goal.newest-i-requires

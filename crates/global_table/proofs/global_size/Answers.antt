@@ -1,7 +1,6 @@
 -- `global_table::global_size` meets its contract.
 use mathlib.Core.Path.{sym, ◌∙◌}
 use native.Mathlib.Omega.{arith}
-use borrow.Author.Rules.{rules}
 use Rattle.sizes.specs.Sizes.{type_at}
 use Rattle.global_table.proofs.VarLine.{size_word, size-plain}
 use Rattle.global_table.proofs.global_size.Goals as goal

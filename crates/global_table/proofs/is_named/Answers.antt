@@ -1,6 +1,5 @@
 use mathlib.Core.Path.{◌∙◌}
 use Rattle.global_table.proofs.Table.{global-room, named-apart}
-use borrow.Author.Rules.{rules}
 use Rattle.global_table.proofs.is_named.Goals as goal
 
 pub digest_at-requires : goal.digest_at-requires

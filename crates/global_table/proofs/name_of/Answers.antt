@@ -1,6 +1,5 @@
 -- `global_table::name_of` meets its contract.
 use mathlib.Core.Path.{◌∙◌}
-use borrow.Author.Rules.{rules}
 use Rattle.global_table.specs.Table.{global_at}
 use Rattle.global_table.proofs.name_of.Goals as goal
 

@@ -1,7 +1,6 @@
 -- `global_table::offset_in` meets its contract.
 use native.Mathlib.Omega.{arith}
 use mathlib.Core.Path.{◌∙◌}
-use borrow.Author.Rules.{rules}
 use Rattle.global_table.proofs.Table.{offset-none, offset-found}
 use Rattle.global_table.proofs.offset_in.Goals as goal
 

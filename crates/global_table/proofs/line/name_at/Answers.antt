@@ -1,6 +1,5 @@
 -- `global_table::line::name_at` meets its contract.
 use native.Mathlib.Omega.{arith}
-use borrow.Author.Rules.{rules}
 use Rattle.global_table.proofs.line.name_at.Goals as goal
 
 pub overflow_add-j : goal.overflow_add-j

@@ -1,6 +1,5 @@
 -- `global_table::line::name_count` meets its contract.
 use Rattle.global_table.proofs.VarLine.{count-on}
-use borrow.Author.Rules.{rules}
 use Rattle.global_table.proofs.line.name_count.Goals as goal
 
 pub returns : goal.returns

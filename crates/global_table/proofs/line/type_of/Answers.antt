@@ -1,6 +1,5 @@
 -- `global_table::line::type_of` meets its contract.
 use Rattle.global_table.proofs.VarLine.{type-line, type-on}
-use borrow.Author.Rules.{rules}
 use Rattle.global_table.proofs.line.type_of.Goals as goal
 
 pub returns : goal.returns
