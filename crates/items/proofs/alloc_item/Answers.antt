@@ -1,7 +1,6 @@
 -- `items::alloc_item` meets its contract.
 use Rattle.items.proofs.Arrays.{array-alone}
 use mathlib.Core.Path.{refl}
-use borrow.Author.Rules.{rules}
 use Rattle.items.proofs.alloc_item.Goals as goal
 
 pub returns : goal.returns

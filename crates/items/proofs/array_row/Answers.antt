@@ -5,7 +5,6 @@ use Rattle.semantics.specs.Text.{decimal}
 use Prim.Native.Nat.{ℕ}
 use mathlib.Core.List.{◌∷◌}
 use mathlib.Core.Path.{ap, sym}
-use borrow.Author.Rules.{rules}
 use Rattle.items.proofs.array_row.Goals as goal
 
 pub returns : goal.returns

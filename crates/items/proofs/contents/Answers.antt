@@ -2,7 +2,6 @@
 use Rattle.items.proofs.Arrays.{contents-rows}
 use Rattle.placements.specs.Placements.{values_in}
 use Rattle.semantics.specs.Listing.{row, item_row}
-use borrow.Author.Rules.{rules}
 use Rattle.items.proofs.contents.Goals as goal
 
 pub returns : goal.returns

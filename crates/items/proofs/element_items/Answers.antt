@@ -1,7 +1,6 @@
 -- `items::element_items` meets its contract.
 use Rattle.items.proofs.Arrays.{number-items, string-items}
 use Rattle.placements.specs.Placements.{values_in}
-use borrow.Author.Rules.{rules}
 use Rattle.items.proofs.element_items.Goals as goal
 
 pub returns-then-kind-lt-POINTER : goal.returns-then-kind-lt-POINTER

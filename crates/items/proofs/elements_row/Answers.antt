@@ -5,7 +5,6 @@ use Rattle.elements.specs.Elements.{head_text}
 use Rattle.placements.specs.Placements.{values_in}
 use Rattle.write.proofs.Wrote.{wrote_as}
 use mathlib.Core.Path.{ap, sym}
-use borrow.Author.Rules.{rules}
 use Rattle.items.proofs.elements_row.Goals as goal
 
 pub returns : goal.returns

@@ -4,10 +4,8 @@ use Rattle.items.proofs.Arrays.{elements-next, up_to}
 use Rattle.elements.specs.Elements.{element_texts}
 use Rattle.placements.specs.Placements.{values_in}
 use Rattle.rows.specs.Rows.{commaed}
-use Rattle.write.specs.Wrote.{Wrote}
-use lib.ListN.{length}
-use mathlib.Core.Path.{◌≡◌, ◌∙◌, refl}
-use Prim.Native.Nat.{ℕ, ◌-◌, ◌≤◌}
+use mathlib.Core.Path.{◌∙◌, refl}
+use Prim.Native.Nat.{ℕ}
 use Rattle.items.proofs.put_elements.Goals as goal
 
 pub loop-i-init : goal.loop-i-init

@@ -1,14 +1,11 @@
 -- `items::put_elements` meets its contract.
-use native.Mathlib.Omega.{arith}
-use borrow.Author.Rules.{rules}
-use Rattle.items.proofs.Arrays.{elements-next, up_to}
 use Rattle.elements.specs.Elements.{element_texts}
 use Rattle.placements.specs.Placements.{values_in}
 use Rattle.rows.specs.Rows.{commaed}
 use Rattle.write.specs.Wrote.{Wrote}
 use lib.ListN.{length}
-use mathlib.Core.Path.{◌≡◌, ◌∙◌, refl}
-use Prim.Native.Nat.{ℕ, ◌-◌, ◌≤◌}
+use mathlib.Core.Path.{◌≡◌}
+use Prim.Native.Nat.{◌-◌, ◌≤◌}
 use Rattle.items.proofs.put_elements.Given as goal
 
 abbrev pub invariant-loop-i : goal.invariant-loop-i

@@ -1,7 +1,6 @@
 -- `items::set_row` meets its contract.
 use Rattle.semantics.specs.Listing.{row, item_row}
 use Rattle.write.proofs.Wrote.{then}
-use borrow.Author.Rules.{rules}
 use Rattle.items.proofs.set_row.Goals as goal
 
 pub returns : goal.returns

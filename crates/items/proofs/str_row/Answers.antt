@@ -2,7 +2,6 @@
 use Rattle.items.proofs.Rows.{part-text}
 use Rattle.semantics.specs.Listing.{row, item_row}
 use Rattle.write.proofs.Wrote.{then, wrote_as}
-use borrow.Author.Rules.{rules}
 use Rattle.items.proofs.str_row.Goals as goal
 
 pub returns : goal.returns

@@ -2,7 +2,6 @@
 use Rattle.items.proofs.Rows.{string-within, no-int-row, no-real-row, one-row}
 use Rattle.placements.specs.Placements.{placement_at}
 use Prim.Native.Nat.{◌*◌}
-use borrow.Author.Rules.{rules}
 use Rattle.items.proofs.string_row.Goals as goal
 
 pub str_row-requires : goal.str_row-requires

@@ -3,12 +3,9 @@ use borrow.Author.Rules.{rules}
 use Rattle.items.proofs.Arrays.{strings-next, up_to}
 use Rattle.items.specs.Items.{item_rows}
 use Rattle.placements.specs.Placements.{values_in}
-use Rattle.write.specs.Wrote.{Wrote}
 use Rattle.semantics.specs.Global.{str_items}
-use Rattle.semantics.specs.Tree.{TypeKey}
-use lib.ListN.{length}
-use mathlib.Core.Path.{◌≡◌, ◌∙◌, refl}
-use Prim.Native.Nat.{ℕ, ◌-◌, ◌≤◌}
+use mathlib.Core.Path.{◌∙◌, refl}
+use Prim.Native.Nat.{ℕ}
 use Rattle.items.proofs.string_rows.Goals as goal
 
 pub loop-i-init : goal.loop-i-init

@@ -1,14 +1,11 @@
 -- `items::string_rows` meets its contract.
-use native.Mathlib.Omega.{arith}
-use borrow.Author.Rules.{rules}
-use Rattle.items.proofs.Arrays.{strings-next, up_to}
 use Rattle.items.specs.Items.{item_rows}
 use Rattle.placements.specs.Placements.{values_in}
 use Rattle.write.specs.Wrote.{Wrote}
 use Rattle.semantics.specs.Global.{str_items}
 use Rattle.semantics.specs.Tree.{TypeKey}
 use lib.ListN.{length}
-use mathlib.Core.Path.{◌≡◌, ◌∙◌, refl}
+use mathlib.Core.Path.{◌≡◌}
 use Prim.Native.Nat.{ℕ, ◌-◌, ◌≤◌}
 use Rattle.items.proofs.string_rows.Given as goal
 

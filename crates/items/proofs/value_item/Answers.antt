@@ -1,6 +1,5 @@
 -- `items::value_item` meets its contract.
 use Rattle.items.proofs.Rows.{string-within, int-item, real-item, string-item}
-use borrow.Author.Rules.{rules}
 use Rattle.items.proofs.value_item.Goals as goal
 
 pub str_row-requires : goal.str_row-requires
