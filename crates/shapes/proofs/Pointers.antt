@@ -2,7 +2,7 @@
 use mathlib.Core.Path.{◌≡◌, refl, sym, ap, ◌∙◌}
 use mathlib.Core.Bool.{Bool, true, false, ◌||◌}
 use mathlib.Core.List.{List, [], ◌∷◌, ◌++◌, map, append_assoc}
-use Prim.Native.Nat.{ℕ, suc, ◌+◌, ◌-◌, ◌≤◌, ◌<◌}
+use Prim.Native.Nat.{ℕ, suc, ◌+◌, ◌-◌, ◌≤◌, ◌<◌, max}
 use native.Mathlib.Numerals.{add-one}
 use lib.IntN.{ℤ}
 use lib.ListN.{length, drop, get_or, drop_of_length-le}
@@ -24,7 +24,9 @@ use Rattle.marks.proofs.Marking.{append-none, pointers-append}
 
 pick-pointers : (x : Shape) (vs : List Shape) → (pick_shape x vs).pointers ≡ x.pointers ++ concat_map (λ (v : Shape). v.pointers) vs
 pick-pointers x [] = sym (append-none x.pointers)
-pick-pointers x (v ∷ vs) = pick-pointers _ vs ∙ append_assoc x.pointers v.pointers (concat_map (λ (y : Shape). y.pointers) vs)
+pick-pointers x (v ∷ vs) =
+    pick-pointers (record { size = max x.size v.size; pointers = x.pointers ++ v.pointers }) vs ∙
+    append_assoc x.pointers v.pointers (concat_map (λ (y : Shape). y.pointers) vs)
 
 -- what cases mark by themselves, from `end` on
 abbrev pub own_marks : ℕ → List Case → List ℤ

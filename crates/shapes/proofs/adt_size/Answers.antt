@@ -2,7 +2,6 @@ use Rattle.shapes.proofs.Sizes.{furthest-low, adt-size}
 use Rattle.sizes.specs.Places.{common_fields}
 use mathlib.Core.Path.{refl}
 use native.Mathlib.Omega.{arith}
-use borrow.Author.Rules.{rules}
 use Rattle.shapes.proofs.adt_size.Goals as goal
 
 pub rounded_size-requires : goal.rounded_size-requires

@@ -1,5 +1,4 @@
 use Rattle.shapes.proofs.Cases.{case_count}
-use borrow.Author.Rules.{rules}
 use Rattle.shapes.proofs.case_count.Goals as goal
 
 pub returns : goal.returns

@@ -1,6 +1,5 @@
 use Rattle.shapes.proofs.Cases.{cases-few, case-line}
 use native.Mathlib.Omega.{arith}
-use borrow.Author.Rules.{rules}
 use Rattle.shapes.proofs.case_line.Goals as goal
 
 pub overflow_add-fields-2 : goal.overflow_add-fields-2

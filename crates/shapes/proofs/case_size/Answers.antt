@@ -1,7 +1,6 @@
 use Rattle.shapes.proofs.Sizes.{furthest-low}
 use Rattle.sizes.specs.Places.{case_fields}
 use native.Mathlib.Omega.{arith}
-use borrow.Author.Rules.{rules}
 use Rattle.shapes.proofs.case_size.Goals as goal
 
 pub rounded_size-requires : goal.rounded_size-requires

@@ -4,7 +4,6 @@ use Rattle.shapes.proofs.Kept.{record-kept}
 use Rattle.maps.proofs.Maps.{room-kept, made_then}
 use mathlib.Core.Path.{◌∙◌, sym}
 use native.Mathlib.Omega.{arith}
-use borrow.Author.Rules.{rules}
 use Rattle.shapes.proofs.map_record.Goals as goal
 
 pub mark_common-requires : goal.mark_common-requires

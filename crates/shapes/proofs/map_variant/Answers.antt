@@ -4,7 +4,6 @@ use Rattle.shapes.proofs.Kept.{pick-kept, variant-kept}
 use Rattle.maps.proofs.Maps.{room-kept, made_then}
 use Rattle.checks.proofs.Kept.{kept_then}
 use native.Mathlib.Omega.{arith}
-use borrow.Author.Rules.{rules}
 use Rattle.shapes.proofs.map_variant.Goals as goal
 
 pub mark_common-behind-requires : goal.mark_common-behind-requires

@@ -1,9 +1,8 @@
-use Rattle.shapes.proofs.Pointers.{CasesMarked, cases-marked-start, cases-marked-next, cases-marked-end}
+use Rattle.shapes.proofs.Pointers.{cases-marked-start, cases-marked-next, cases-marked-end}
 use Rattle.shapes.proofs.Cases.{pick-record}
 use Rattle.shapes.proofs.Kept.{pick-kept}
 use Rattle.maps.proofs.Maps.{room-kept}
 use Rattle.checks.proofs.Kept.{kept_then}
-use Prim.Native.Nat.{◌-◌}
 use native.Mathlib.Omega.{arith}
 use Rattle.shapes.proofs.mark_pick.Goals as goal
 

@@ -1,10 +1,5 @@
-use Rattle.shapes.proofs.Pointers.{CasesMarked, cases-marked-start, cases-marked-next, cases-marked-end}
-use Rattle.shapes.proofs.Cases.{pick-record}
-use Rattle.shapes.proofs.Kept.{pick-kept}
-use Rattle.maps.proofs.Maps.{room-kept}
-use Rattle.checks.proofs.Kept.{kept_then}
+use Rattle.shapes.proofs.Pointers.{CasesMarked}
 use Prim.Native.Nat.{◌-◌}
-use native.Mathlib.Omega.{arith}
 use Rattle.shapes.proofs.mark_pick.Given as goal
 
 abbrev pub invariant-loop-c : goal.invariant-loop-c

@@ -1,5 +1,4 @@
-use Rattle.shapes.proofs.Sizes.{Largest, largest-start, largest-next, largest-end, variant-size}
-use Prim.Native.Nat.{◌-◌}
+use Rattle.shapes.proofs.Sizes.{largest-start, largest-next, largest-end, variant-size}
 use native.Mathlib.Omega.{arith}
 use Rattle.shapes.proofs.pick_size.Goals as goal
 

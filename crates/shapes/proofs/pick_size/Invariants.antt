@@ -1,6 +1,5 @@
-use Rattle.shapes.proofs.Sizes.{Largest, largest-start, largest-next, largest-end, variant-size}
+use Rattle.shapes.proofs.Sizes.{Largest}
 use Prim.Native.Nat.{◌-◌}
-use native.Mathlib.Omega.{arith}
 use Rattle.shapes.proofs.pick_size.Given as goal
 
 abbrev pub invariant-loop-c : goal.invariant-loop-c

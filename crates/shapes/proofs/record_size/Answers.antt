@@ -1,6 +1,5 @@
 use Rattle.shapes.proofs.Cases.{else-pick}
 use mathlib.Core.Path.{◌∙◌, sym}
-use borrow.Author.Rules.{rules}
 use Rattle.shapes.proofs.record_size.Goals as goal
 
 pub adt_size-requires : goal.adt_size-requires

@@ -1,5 +1,4 @@
 use Rattle.shapes.proofs.Sizes.{variant-size}
-use borrow.Author.Rules.{rules}
 use Rattle.shapes.proofs.variant_size.Goals as goal
 
 pub returns : goal.returns
