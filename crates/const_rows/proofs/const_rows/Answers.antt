@@ -1,7 +1,6 @@
 -- `const_rows::const_rows` meets its contract.
 use Rattle.const_rows.proofs.Laws as Laws
 use Rattle.write.proofs.Wrote.{place-low}
-use borrow.Author.Rules.{rules}
 use Rattle.const_rows.proofs.const_rows.Goals as goal
 
 pub rows-q-requires : goal.rows-q-requires

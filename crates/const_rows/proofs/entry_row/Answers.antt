@@ -1,6 +1,5 @@
 -- `const_rows::entry_row` meets its contract.
 use Rattle.const_rows.proofs.Laws as Laws
-use borrow.Author.Rules.{rules}
 use Rattle.const_rows.proofs.entry_row.Goals as goal
 
 pub returns-then-plain : goal.returns-then-plain

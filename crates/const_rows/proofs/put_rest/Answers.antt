@@ -2,7 +2,6 @@
 use Rattle.const_rows.proofs.Laws as Laws
 use Rattle.names.specs.Table.{found}
 use Rattle.semantics.specs.Listing.{row, value_fields}
-use borrow.Author.Rules.{rules}
 use Rattle.const_rows.proofs.put_rest.Goals as goal
 
 pub returns : goal.returns

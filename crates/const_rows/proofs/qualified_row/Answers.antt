@@ -2,7 +2,6 @@
 use Rattle.const_rows.proofs.Laws as Laws
 use Rattle.names.proofs.Laws.{answered}
 use native.Mathlib.Omega.{arith}
-use borrow.Author.Rules.{rules}
 use Rattle.const_rows.proofs.qualified_row.Goals as goal
 
 pub returns-then-k-eq0 : goal.returns-then-k-eq0

@@ -1,10 +1,6 @@
 use Rattle.const_rows.proofs.Laws as Laws
-use Rattle.const_rows.specs.Rows.{rows_to}
 use Rattle.write.proofs.Wrote.{place-low, wrote-length}
-use Rattle.write.specs.Wrote.{Wrote}
-use borrow.Author.Rules.{rules}
 use native.Mathlib.Omega.{arith}
-use Prim.Native.Nat.{◌-◌, ◌≤◌}
 use Rattle.const_rows.proofs.rows.Goals as goal
 
 pub loop-i-init : goal.loop-i-init

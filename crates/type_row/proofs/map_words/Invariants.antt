@@ -1,14 +1,6 @@
-use mathlib.Core.Path.{◌≡◌, ◌∙◌}
-use Rattle.maps.proofs.Maps.{room-kept, made_then}
 use Rattle.maps.specs.Maps.{Marks}
-use Rattle.type_row.proofs.Maps.{words-next, words-none}
-use native.Mathlib.Omega.{arith}
-use borrow.Author.Rules.{rules}
 use Prim.Native.Nat.{◌≤◌, ◌-◌}
-use mathlib.Core.Path.{◌≡◌}
-use Rattle.maps.proofs.Maps.{room-kept}
 use Rattle.type_row.specs.Row.{word_offsets}
-use Rattle.type_row.proofs.Maps.{words-next}
 use Rattle.type_row.proofs.map_words.Given as goal
 
 abbrev pub invariant-loop-k : goal.invariant-loop-k

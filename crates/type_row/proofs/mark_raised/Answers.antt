@@ -1,5 +1,4 @@
 use Rattle.type_row.proofs.Maps.{below-zero, from_zero}
-use borrow.Author.Rules.{rules}
 use Rattle.type_row.proofs.mark_raised.Goals as goal
 
 pub returns-then-z-lt-RAISE : goal.returns-then-z-lt-RAISE

@@ -2,7 +2,6 @@ use native.Mathlib.Omega.{arith}
 use Rattle.type_row.specs.Row.{word_offsets}
 use Rattle.semantics.specs.Types.{elem_shape}
 use Rattle.type_row.proofs.Maps.{shape_is, types-as}
-use borrow.Author.Rules.{rules}
 use Rattle.type_row.proofs.put_elem.Goals as goal
 
 pub put_words-requires : goal.put_words-requires

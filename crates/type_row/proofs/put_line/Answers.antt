@@ -3,7 +3,6 @@ use mathlib.Core.Path.{refl}
 use Rattle.maps.proofs.Maps.{room-kept}
 use Rattle.type_lines.specs.Shapes.{written_shape}
 use Rattle.type_row.proofs.Maps.{shape_is, types-as}
-use borrow.Author.Rules.{rules}
 use Rattle.type_row.proofs.put_line.Goals as goal
 
 pub map_line-requires : goal.map_line-requires

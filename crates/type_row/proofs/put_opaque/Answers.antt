@@ -2,7 +2,6 @@ use native.Mathlib.Omega.{arith}
 use Rattle.type_row.specs.Row.{word_offsets}
 use Rattle.semantics.specs.Types.{opaque_shape}
 use Rattle.type_row.proofs.Maps.{opaque-words, opaque-size, shape_is, types-as}
-use borrow.Author.Rules.{rules}
 use Rattle.type_row.proofs.put_opaque.Goals as goal
 
 pub put_words-requires : goal.put_words-requires

@@ -7,7 +7,6 @@ use native.Mathlib.Omega.{arith}
 use mathlib.Core.Path.{refl, ap}
 use Rattle.maps.specs.Maps.{map_in}
 use Rattle.maps.proofs.Maps.{map-fits}
-use borrow.Author.Rules.{rules}
 use Rattle.type_row.proofs.put_type.Goals as goal
 
 pub slice_bounds-put_comma_hex-end : goal.slice_bounds-put_comma_hex-end

@@ -1,5 +1,4 @@
 use Rattle.maps.proofs.Maps.{room-kept}
-use borrow.Author.Rules.{rules}
 use Rattle.type_row.proofs.put_words.Goals as goal
 
 pub put_type-requires : goal.put_type-requires
