@@ -1,7 +1,5 @@
-use Prim.Native.Nat.{◌-◌}
 use mathlib.Core.Path.{refl}
-use borrow.Author.Rules.{rules}
-use Rattle.globals.proofs.Collect.{open-outside, LinesLaid, lines-laid-start, lines-laid-here, lines-laid-next, lines-laid-end}
+use Rattle.globals.proofs.Collect.{open-outside, lines-laid-start, lines-laid-here, lines-laid-next, lines-laid-end}
 use Rattle.globals.proofs.collect_globals.Goals as goal
 
 pub loop-i-init : goal.loop-i-init

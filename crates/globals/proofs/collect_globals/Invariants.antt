@@ -1,8 +1,6 @@
 -- `globals::collect_globals` meets its contract.
 use Prim.Native.Nat.{◌-◌}
-use mathlib.Core.Path.{refl}
-use borrow.Author.Rules.{rules}
-use Rattle.globals.proofs.Collect.{open-outside, LinesLaid, lines-laid-start, lines-laid-here, lines-laid-next, lines-laid-end}
+use Rattle.globals.proofs.Collect.{LinesLaid}
 use Rattle.globals.proofs.collect_globals.Given as goal
 
 abbrev pub invariant-loop-i : goal.invariant-loop-i

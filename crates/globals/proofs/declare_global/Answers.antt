@@ -1,6 +1,4 @@
-use borrow.Author.Rules.{rules}
-use Rattle.globals.proofs.Declare.{Naming, naming-start, naming-here, naming-next, naming-end}
-use Prim.Native.Nat.{◌-◌}
+use Rattle.globals.proofs.Declare.{naming-start, naming-here, naming-next, naming-end}
 use Rattle.globals.proofs.declare_global.Goals as goal
 
 pub loop-j-init : goal.loop-j-init

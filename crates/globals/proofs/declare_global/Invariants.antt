@@ -1,6 +1,5 @@
 -- `globals::declare_global` meets its contract.
-use borrow.Author.Rules.{rules}
-use Rattle.globals.proofs.Declare.{Naming, naming-start, naming-here, naming-next, naming-end}
+use Rattle.globals.proofs.Declare.{Naming}
 use Prim.Native.Nat.{◌-◌}
 use Rattle.globals.proofs.declare_global.Given as goal
 

@@ -1,6 +1,5 @@
 -- `globals::declare_line` meets its contract.
 use Rattle.globals.proofs.Collect.{line-none, line-room, line-laid}
-use borrow.Author.Rules.{rules}
 use Rattle.globals.proofs.declare_line.Goals as goal
 
 pub returns-then-r-eq0 : goal.returns-then-r-eq0

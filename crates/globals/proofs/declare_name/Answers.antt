@@ -4,7 +4,6 @@ use Rattle.global_table.specs.Table.{name_on, type_on}
 use Rattle.globals.proofs.Declare.{laid_same, nil-test, lay-nil, lay-again, enter-fits, end_fits, laid-entered}
 use mathlib.Core.Path.{refl, ◌∙◌}
 use native.Mathlib.Omega.{arith}
-use borrow.Author.Rules.{rules}
 use Rattle.globals.proofs.declare_name.Goals as goal
 
 pub returns-then-is_nil : goal.returns-then-is_nil

@@ -1,7 +1,5 @@
 -- `globals::laid_line` meets its contract.
 use Rattle.globals.proofs.Laid.{laid-other, laid-skipped, laid-here}
-use borrow.Author.Tests.{not-true, not-false}
-use borrow.Author.Rules.{rules}
 use Rattle.globals.proofs.laid_line.Goals as goal
 
 pub returns-then-form_at-ne-VAR : goal.returns-then-form_at-ne-VAR
