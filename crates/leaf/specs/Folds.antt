@@ -11,7 +11,6 @@ use Rattle.semantics.specs.Fold.{Result, fold}
 use Rattle.lines.specs.Lines.{reads_in, nodes_in, form_at}
 use Rattle.nesting.specs.Nesting.{depth_of}
 use Rattle.checks.specs.Checks.{Kept, KindLine}
-use Rattle.values.specs.declared.ConstVal.{ConstVal}
 use Rattle.values.specs.declared.Folded.{Folded}
 use Rattle.values.specs.Values.{Answers}
 use Rattle.names.specs.Table.{names_in, ConstsLogged, Answered}

@@ -1,6 +1,5 @@
 -- `leaf::constant` meets its contract.
 use Rattle.leaf.proofs.Leaves.{found_none, found-int, found-real, found-apart, found-string, found-failed}
-use borrow.Author.Rules.{rules}
 use Rattle.leaf.proofs.constant.Goals as goal
 
 pub returns-then-k-eq0 : goal.returns-then-k-eq0

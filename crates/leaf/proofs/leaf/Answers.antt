@@ -1,6 +1,5 @@
 -- `leaf::leaf` meets its contract.
 use Rattle.leaf.proofs.Leaves.{room-here, scalar-folds, scalar-form}
-use borrow.Author.Rules.{rules}
 use Rattle.leaf.proofs.leaf.Goals as goal
 
 pub scalar-requires : goal.scalar-requires

@@ -3,7 +3,6 @@ use native.Mathlib.Omega.{arith}
 use Rattle.leaf.proofs.Lines.{in-sheet}
 use Rattle.leaf.proofs.Leaves.{answered-at, module-line, qualified-failed, qualified-found}
 use mathlib.Core.Path.{sym, ◌∙◌}
-use borrow.Author.Rules.{rules}
 use Rattle.leaf.proofs.qualified.Goals as goal
 
 pub overflow_sub-q : goal.overflow_sub-q

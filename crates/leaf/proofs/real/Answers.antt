@@ -1,6 +1,5 @@
 -- `leaf::real` meets its contract.
 use Rattle.leaf.proofs.Leaves.{real-is, real-not}
-use borrow.Author.Rules.{rules}
 use Rattle.leaf.proofs.real.Goals as goal
 
 pub returns-in-Bits : goal.returns-in-Bits

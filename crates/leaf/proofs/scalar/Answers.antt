@@ -5,7 +5,6 @@ use Rattle.leaf.specs.Folds.{scalar_of}
 use Rattle.lines.specs.Lines.{form_at}
 use Prim.Native.Nat.{◌-◌}
 use mathlib.Core.Path.{sym, ap, ◌∙◌}
-use borrow.Author.Rules.{rules}
 use Rattle.leaf.proofs.scalar.Goals as goal
 
 pub integer-requires : goal.integer-requires

@@ -1,13 +1,7 @@
 use native.Mathlib.Omega.{arith}
-use borrow.Author.Rules.{rules}
 use Rattle.leaf.proofs.Leaves.{string-more, string-put}
 use Rattle.write.proofs.Wrote.{wrote_none, wrote-length}
-use Rattle.write.specs.Wrote.{Wrote}
-use Rattle.semantics.specs.Text.{or_else, unhex}
-use lib.ListN.{length, take}
-use mathlib.Core.List.{[]}
-use mathlib.Core.Path.{◌≡◌, refl, ◌∙◌}
-use Prim.Native.Nat.{◌-◌, ◌≤◌}
+use mathlib.Core.Path.{refl, ◌∙◌}
 use Rattle.leaf.proofs.string.Goals as goal
 
 pub loop-i-init : goal.loop-i-init
