@@ -5,7 +5,6 @@ use Rattle.semantics.specs.Layout.{is_ptr}
 use Rattle.semantics.specs.Global.{global_size}
 use Rattle.write.proofs.Wrote.{then, wrote_as}
 use mathlib.Core.Path.{ap, ◌∙◌}
-use borrow.Author.Rules.{rules}
 use Rattle.global_rows.proofs.global_row.Goals as goal
 
 pub type_of-ty-requires : goal.type_of-ty-requires

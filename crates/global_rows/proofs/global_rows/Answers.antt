@@ -1,12 +1,9 @@
 use Prim.Native.Nat.{ℕ}
 use mathlib.Core.Path.{◌≡◌, refl, ap, ◌∙◌}
 use native.Mathlib.Omega.{arith}
-use lib.ListN.{length}
-use Prim.Native.Nat.{◌-◌, ◌≤◌}
 use mathlib.Core.Path.{◌≡◌, refl, ◌∙◌}
 use borrow.Author.Rules.{rules}
 use Rattle.write.proofs.Wrote.{wrote-length, wrote_as}
-use Rattle.write.specs.Wrote.{Wrote}
 use Rattle.semantics.specs.Listing.{global_row}
 use Rattle.semantics.specs.Sheet.{concat_map}
 use Rattle.global_rows.proofs.Rows.{rows_next}

@@ -1,17 +1,12 @@
 -- `global_rows::global_rows` meets its contract.
-use Prim.Native.Nat.{ℕ}
-use mathlib.Core.Path.{◌≡◌, refl, ap, ◌∙◌}
-use native.Mathlib.Omega.{arith}
+use mathlib.Core.Path.{◌≡◌}
 use lib.ListN.{length}
 use Prim.Native.Nat.{◌-◌, ◌≤◌}
-use mathlib.Core.Path.{◌≡◌, refl, ◌∙◌}
-use borrow.Author.Rules.{rules}
-use Rattle.write.proofs.Wrote.{wrote-length, wrote_as}
+use mathlib.Core.Path.{◌≡◌}
 use Rattle.write.specs.Wrote.{Wrote}
 use Rattle.semantics.specs.Listing.{global_row}
 use Rattle.semantics.specs.Sheet.{concat_map}
-use Rattle.global_rows.proofs.Rows.{rows_next}
-use Rattle.global_table.specs.Table.{places_in, entries_from}
+use Rattle.global_table.specs.Table.{places_in}
 use Rattle.global_rows.proofs.global_rows.Given as goal
 
 abbrev pub invariant-loop-i : goal.invariant-loop-i
