@@ -2,7 +2,6 @@
 use Rattle.answers.specs.Answers.{refusal_number, refusal_line}
 use Rattle.answers.proofs.Rows.{refusal-row}
 use native.Mathlib.Omega.{arith}
-use borrow.Author.Rules.{rules}
 use Rattle.answers.proofs.put_refusal.Goals as goal
 
 pub returns : goal.returns
