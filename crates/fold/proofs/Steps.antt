@@ -1,8 +1,7 @@
 -- A step of a fold: what a line asks of the lines that it refers to, and what it makes of their values.
 use mathlib.Core.Path.{◌≡◌, refl, sym, ap, ◌∙◌, subst}
 use mathlib.Core.Bool.{Bool, true, false, cond}
-use mathlib.Core.List.{List, [], ◌∷◌}
-use mathlib.Core.Logic.{inl, inr}
+use mathlib.Core.List.{List, []}
 use Prim.Native.Nat.{ℕ, ◌+◌, ◌-◌, ◌≤◌, ◌<◌}
 use native.Mathlib.Omega.{arith}
 use lib.Dec.{eqb}
@@ -27,9 +26,6 @@ use Rattle.values.specs.declared.ConstVal.{ConstVal}
 use Rattle.values.specs.declared.ConstVal.TheVariants.{Int, Real, Str}
 use Rattle.values.specs.declared.Folded.{Folded}
 use Rattle.values.specs.declared.Folded.TheVariants.{Value, Failed, TooLong}
-use Rattle.values.specs.contracts.Folded.{the_type}
-use denote.Enum.Declared.{tag_of}
-use types.Run.{OneOf}
 use Rattle.values.specs.Values.{string_in, value_in, result_in, unary_at, binary_at, basic_at, string_size, At, ResultAt, Within, Answers, Casts}
 use Rattle.values.proofs.Values.{answers-as, answers-failed}
 use Rattle.names.specs.Table.{names_in, ConstsLogged}
@@ -174,18 +170,16 @@ module _ {s t : Bytes} {n r : ℕ} {v : ConstVal} {top : ℕ} (a : Applies s t n
 
 -- a result that is no value ends it
 abbrev pub EndsFold : Folded → Type 0
-EndsFold x = OneOf (1 ∷ 2 ∷ []) (tag_of the_type x)
+EndsFold x = (v : ConstVal) → x ≡ Value v → ⊥
 
 stopped : (u : Bytes) (x : Folded) → EndsFold x → (K : Tree.ConstVal → Result Tree.ConstVal) → bind (result_in u x) K ≡ result_in u x
 unfolding result_in
-stopped u (Value v) (inl e) K = absurd (omega arith)
-stopped u (Value v) (inr e) K = absurd (omega arith)
+stopped u (Value v) h K = absurd (h v refl)
 stopped u Failed h K = refl
 stopped u TooLong h K = refl
 
 stopped-at : (p q : ℕ) (x : Folded) → EndsFold x → ResultAt p x → ResultAt q x
-stopped-at p q (Value v) (inl e) h = absurd (omega arith)
-stopped-at p q (Value v) (inr e) h = absurd (omega arith)
+stopped-at p q (Value v) h k = absurd (h v refl)
 stopped-at p q Failed h k = tt
 stopped-at p q TooLong h k = tt
 

@@ -2,7 +2,6 @@
 use native.Mathlib.Omega.{arith}
 use Rattle.fold.proofs.Steps.{within_of, applies-unary, cast-line, applies-cast, applies-len}
 use mathlib.Core.Path.{sym, ◌∙◌}
-use borrow.Author.Rules.{rules}
 use Rattle.fold.proofs.apply.Goals as goal
 
 pub returns-then-f-eq-UN : goal.returns-then-f-eq-UN

@@ -1,7 +1,6 @@
 -- `fold::operand` meets its contract.
 use Rattle.fold.proofs.Steps.{operand-first, operand-second}
 use mathlib.Core.Path.{sym, ◌∙◌}
-use borrow.Author.Rules.{rules}
 use Rattle.fold.proofs.operand.Goals as goal
 
 pub returns-then-form_at-eq-LEN : goal.returns-then-form_at-eq-LEN
