@@ -11,122 +11,158 @@ ghost use Rattle.maps.specs.Maps.{MapRoom};
 
 use checks::Checks;
 use codes::{area, decl};
-use libc::{STDIN_FILENO, STDOUT_FILENO};
+use std::io;
+use std::io::{Read, Write};
+
+// The bytes that are read at most, and those of the working space.
+const BYTES: usize = 65536;
 
 const LARGEST: u32 = 131080;
 
 // A number, a size, and the map that stands in the working space.
-fn print_row(work: &[u8], number: usize, size: u32)
+fn print_row(out: &mut impl Write, work: &[u8], number: usize, size: u32) -> io::Result<()>
     requires { MapRoom work.now size }
 {
-    let mut out = [0u8; 8300];
-    let mut p = write::put_nat(&mut out, 0, number as u64);
-    p = write::put(&mut out, p, b',');
-    p = write::put_nat(&mut out, p, size as u64);
-    p = write::put(&mut out, p, b',');
-    p = write::put_nat(&mut out, p, maps::map_ones(work, size) as u64);
-    p = write::put(&mut out, p, b',');
+    let mut row = [0u8; 8300];
+    let mut p = write::put_nat(&mut row, 0, number as u64);
+    p = write::put(&mut row, p, b',');
+    p = write::put_nat(&mut row, p, size as u64);
+    p = write::put(&mut row, p, b',');
+    p = write::put_nat(&mut row, p, maps::map_ones(work, size) as u64);
+    p = write::put(&mut row, p, b',');
     let end = area::MAP + layout::map::map_bytes(size);
-    p = write::put_hex(&mut out, p, &work[area::MAP..end]);
-    p = write::put(&mut out, p, b'\n');
+    p = write::put_hex(&mut row, p, &work[area::MAP..end]);
+    p = write::put(&mut row, p, b'\n');
     if p <= 8300 {
-        io::write_all(STDOUT_FILENO, &out[0..p]);
+        out.write_all(&row[0..p])?;
     }
+    Ok(())
 }
 
-fn print_record(sheet: &[u8], work: &mut [u8], n: usize, r: usize)
+fn print_record(
+    out: &mut impl Write,
+    sheet: &[u8],
+    work: &mut [u8],
+    n: usize,
+    r: usize,
+) -> io::Result<()>
     requires { RecordLine sheet.now work.old n r }
     ensures { Kept 49152 work.old work.new }
 {
     let size = shapes::record_size(sheet, work, n, r);
     if LARGEST < size {
-        return;
+        return Ok(());
     }
     shapes::map_record(sheet, work, n, r, size);
-    print_row(work, r, size);
+    print_row(out, work, r, size)
 }
 
-fn print_variant(sheet: &[u8], work: &mut [u8], n: usize, r: usize, c: usize)
+fn print_variant(
+    out: &mut impl Write,
+    sheet: &[u8],
+    work: &mut [u8],
+    n: usize,
+    r: usize,
+    c: usize,
+) -> io::Result<()>
     requires { VariantLine sheet.now work.old n r c }
     ensures { Kept 49152 work.old work.new }
 {
     let size = shapes::variant_size(sheet, work, n, r, c);
     if LARGEST < size {
-        return;
+        return Ok(());
     }
     shapes::map_variant(sheet, work, n, r, c, size);
-    print_row(work, c, size);
+    print_row(out, work, c, size)
 }
 
-fn print_variants(sheet: &[u8], work: &mut [u8], n: usize, r: usize)
+fn print_variants(
+    out: &mut impl Write,
+    sheet: &[u8],
+    work: &mut [u8],
+    n: usize,
+    r: usize,
+) -> io::Result<()>
     requires { PickLine sheet.now work.old n r }
     ensures { Kept 49152 work.old work.new }
 {
     let count = shapes::case_count(sheet, work, n, r);
     let mut c = 0;
     while c < count {
-        print_variant(sheet, work, n, r, c);
+        print_variant(out, sheet, work, n, r, c)?;
         c += 1;
     }
+    Ok(())
 }
 
-fn print_line(sheet: &[u8], work: &mut [u8], n: usize, r: usize)
+fn print_line(
+    out: &mut impl Write,
+    sheet: &[u8],
+    work: &mut [u8],
+    n: usize,
+    r: usize,
+) -> io::Result<()>
     requires { (Checked sheet.now work.old n) × (0 < r) × (r ≤ n) }
     ensures { Kept 49152 work.old work.new }
 {
     let f = lines::form_at(work, r - 1);
     if f == decl::ADT {
-        print_record(sheet, work, n, r);
-        return;
+        return print_record(out, sheet, work, n, r);
     }
     if f == decl::PICK {
-        print_record(sheet, work, n, r);
-        print_variants(sheet, work, n, r);
-        return;
+        print_record(out, sheet, work, n, r)?;
+        return print_variants(out, sheet, work, n, r);
     }
+    Ok(())
 }
 
-fn print_lines(sheet: &[u8], work: &mut [u8], n: usize)
+fn print_lines(out: &mut impl Write, sheet: &[u8], work: &mut [u8], n: usize) -> io::Result<()>
     requires { Checked sheet.now work.old n }
 {
     let mut r = 0;
     while r < n {
         r += 1;
-        print_line(sheet, work, n, r);
+        print_line(out, sheet, work, n, r)?;
     }
+    Ok(())
 }
 
-fn print_block(work: &mut [u8], number: usize, size: u32, off: i32)
+fn print_block(
+    out: &mut impl Write,
+    work: &mut [u8],
+    number: usize,
+    size: u32,
+    off: i32,
+) -> io::Result<()>
     requires { MapRoom work.old size }
     ensures { MapRoom work.new size }
 {
     maps::clear_map(work, size);
     maps::mark(work, size, off);
-    print_row(work, number, size);
+    print_row(out, work, number, size)
 }
 
-fn print_blocks(work: &mut [u8])
+fn print_blocks(out: &mut impl Write, work: &mut [u8]) -> io::Result<()>
     requires { MapRoom work.old 36 }
 {
-    print_block(work, 1, 36, 32);
-    print_block(work, 2, 36, 33);
-    print_block(work, 3, 36, 7);
-    print_block(work, 4, 36, -4);
+    print_block(out, work, 1, 36, 32)?;
+    print_block(out, work, 2, 36, 33)?;
+    print_block(out, work, 3, 36, 7)?;
+    print_block(out, work, 4, 36, -4)
 }
 
-fn print_sheet(sheet: &[u8], work: &mut [u8]) {
+fn print_sheet(out: &mut impl Write, sheet: &[u8], work: &mut [u8]) -> io::Result<()> {
     match checks::check(sheet, work) {
-        Checks::Refused(_, _) => {
-            io::write_all(STDOUT_FILENO, b"no\n");
-        }
-        Checks::Lines(n) => print_lines(sheet, work, n),
+        Checks::Refused(_, _) => writeln!(out, "no"),
+        Checks::Lines(n) => print_lines(out, sheet, work, n),
     }
 }
 
-fn main() {
-    let mut sheet = [0u8; 65536];
-    let mut work = [0u8; 65536];
-    print_blocks(&mut work);
-    let n = io::read_full(STDIN_FILENO, &mut sheet);
-    print_sheet(&sheet[..n], &mut work);
+fn main(rt: HostRuntime) -> io::Result<()> {
+    let mut out = rt.stdout();
+    let mut work = vec![in rt.alloc(); 0u8; BYTES]?;
+    print_blocks(&mut out, &mut work)?;
+    let mut sheet = Vec::new(rt.alloc());
+    rt.stdin().take(BYTES as u64).read_to_end(&mut sheet)?;
+    print_sheet(&mut out, &sheet, &mut work)
 }

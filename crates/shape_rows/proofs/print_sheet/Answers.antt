@@ -1,5 +1,4 @@
-use borrow.Author.Rules.{rules}
 use Rattle.shape_rows.proofs.print_sheet.Goals as goal
 
 pub print_lines-requires : goal.print_lines-requires
-print_lines-requires c = rw c.in-Lines.is at c.check.ensures.1
+print_lines-requires g c = rw c.in-Lines.is at c.check.ensures.1

@@ -1,30 +1,28 @@
 use Rattle.shapes.proofs.Kept.{pick-kept}
 use Rattle.checks.proofs.Kept.{kept-all, kept_then}
-use Rattle.checks.specs.Checks.{Kept}
-use Prim.Native.Nat.{◌-◌}
 use native.Mathlib.Omega.{arith}
 use Rattle.shape_rows.proofs.print_variants.Goals as goal
 
 pub case_count-count-requires : goal.case_count-count-requires
-case_count-count-requires c = c.requires
+case_count-count-requires g c = c.requires
 
 pub loop-c-init : goal.loop-c-init
-loop-c-init c = kept-all
+loop-c-init g c = kept-all
 
 pub print_variant-requires : goal.print_variant-requires
-print_variant-requires c = record { line = pick-kept c.loop-c.invariant c.requires; case = omega (arith, c.loop-c-test.true, c.case_count-count.ensures.0) }
+print_variant-requires g c = record { line = pick-kept c.loop-c.invariant c.requires; case = omega (arith, c.loop-c-test.true, c.case_count-count.ensures.0) }
 
 pub overflow_add-c : goal.overflow_add-c
-overflow_add-c c = record { fits = omega (arith, c.loop-c-test.true, c.case_count-count.ensures.1) }
+overflow_add-c g c = record { fits = omega (arith, c.loop-c-test.true, c.case_count-count.ensures.1) }
 
 pub loop-c-smaller : goal.loop-c-smaller
-loop-c-smaller c = omega (arith, c.loop-c-test.true)
+loop-c-smaller g c = omega (arith, c.loop-c-test.true)
 
 pub loop-c-preserved : goal.loop-c-preserved
-loop-c-preserved c = kept_then c.loop-c.invariant c.print_variant.ensures
+loop-c-preserved g c = kept_then c.loop-c.invariant c.print_variant.ensures
 
 pub shape_of-work : goal.shape_of-work
-shape_of-work c = c.loop-c.invariant.long
+shape_of-work g c = c.loop-c.invariant.long
 
 pub returns : goal.returns
-returns c = c.loop-c.invariant
+returns g c = c.loop-c.invariant

@@ -1,12 +1,9 @@
-use Rattle.shapes.proofs.Kept.{pick-kept}
-use Rattle.checks.proofs.Kept.{kept-all, kept_then}
 use Rattle.checks.specs.Checks.{Kept}
 use Prim.Native.Nat.{◌-◌}
-use native.Mathlib.Omega.{arith}
 use Rattle.shape_rows.proofs.print_variants.Given as goal
 
 abbrev pub invariant-loop-c : goal.invariant-loop-c
-invariant-loop-c l = Kept 49152 l.initial.work l.work
+invariant-loop-c g l = Kept 49152 l.initial.work l.work
 
 abbrev pub decreases-loop-c : goal.decreases-loop-c
-decreases-loop-c l = l.count - l.c
+decreases-loop-c g l = l.count - l.c
