@@ -32,9 +32,7 @@ use Rattle.iota.specs.Iota.{counter_of, stepped_of}
 use Rattle.iota.proofs.Counter.{moved-counter, moved_value}
 use Rattle.consts.specs.declared.Pass.{Pass}
 use Rattle.consts.specs.declared.Visited.{Visited}
-use Rattle.consts.specs.declared.Visited.TheVariants as Visited
 use Rattle.consts.specs.declared.Collected.{Collected}
-use Rattle.consts.specs.declared.Collected.TheVariants as Collected
 use Rattle.consts.specs.Passes.{group_from, passes_after, const_at, ConstLine, step, too_long, ConstantEntered, AtConstant, PassAt, pass_from, PassMoves, Visits, Group, Logs, PassDone, PassesBefore, passes_left, ModulePassed, Collects, left}
 use Rattle.consts.proofs.Passes.{open-mod, open-other, group-other, group-in, group-out, group-end, passes-start, passes-mod, passes-other, passes-end, count-mod, count-top}
 use Rattle.consts.proofs.Group.{group-start, group-left}

@@ -15,9 +15,7 @@ use Rattle.names.specs.Table.{log_in, names_in, ConstsLogged}
 use Rattle.iota.specs.Iota.{counter_of}
 use Rattle.consts.specs.declared.Pass.{Pass}
 use Rattle.consts.specs.declared.Visited.{Visited}
-use Rattle.consts.specs.declared.Visited.TheVariants as Visited
 use Rattle.consts.specs.declared.Collected.{Collected}
-use Rattle.consts.specs.declared.Collected.TheVariants as Collected
 
 -- what the lines from line i on declare
 unfoldable pub rest_from : {A : Type 0} → (Declares → List A) → List Node → ℕ → List (Located A)

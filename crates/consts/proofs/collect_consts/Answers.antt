@@ -1,13 +1,7 @@
 use Rattle.consts.proofs.Walk as Walk
-use Rattle.consts.specs.Passes.{PassesBefore, passes_left}
 use Rattle.checks.proofs.Kept.{kept-all, kept_then}
-use Rattle.checks.specs.Checks.{Kept}
-use Rattle.semantics.specs.Const.{constants}
-use Rattle.semantics.specs.Sheet.{sheet_source}
-use borrow.Author.Rules.{rules}
 use native.Mathlib.Omega.{arith}
-use mathlib.Core.Path.{◌≡◌, ◌∙◌}
-use Prim.Native.Nat.{◌-◌, ◌≤◌}
+use mathlib.Core.Path.{◌∙◌}
 use Rattle.consts.proofs.collect_consts.Goals as goal
 
 pub loop-i-init : goal.loop-i-init

@@ -2,7 +2,6 @@
 use Rattle.consts.proofs.Walk as Walk
 use Rattle.checks.proofs.Kept.{kept-all}
 use mathlib.Core.Path.{◌∙◌, sym}
-use borrow.Author.Rules.{rules}
 use Rattle.consts.proofs.module_consts.Goals as goal
 
 pub kind-requires : goal.kind-requires

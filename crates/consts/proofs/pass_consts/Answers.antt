@@ -1,11 +1,6 @@
-use Prim.Native.Nat.{◌-◌, ◌+◌, ◌≤◌}
-use mathlib.Core.Path.{◌≡◌, ◌∙◌, refl}
+use mathlib.Core.Path.{◌∙◌, refl}
 use native.Mathlib.Omega.{arith}
-use lib.ListN.{length}
-use borrow.Author.Rules.{rules}
-use Rattle.checks.specs.Checks.{Kept}
 use Rattle.checks.proofs.Kept.{kept-all, kept_then}
-use Rattle.consts.specs.Passes.{PassAt, pass_from, group_from}
 use Rattle.consts.proofs.Walk as Walk
 use Rattle.consts.proofs.pass_consts.Goals as goal
 

@@ -1,11 +1,8 @@
 -- `consts::pass_consts` meets its contract.
 use Prim.Native.Nat.{◌-◌, ◌+◌, ◌≤◌}
-use mathlib.Core.Path.{◌≡◌, ◌∙◌, refl}
-use native.Mathlib.Omega.{arith}
+use mathlib.Core.Path.{◌≡◌}
 use lib.ListN.{length}
-use borrow.Author.Rules.{rules}
 use Rattle.checks.specs.Checks.{Kept}
-use Rattle.checks.proofs.Kept.{kept-all, kept_then}
 use Rattle.consts.specs.Passes.{PassAt, pass_from, group_from}
 use Rattle.consts.proofs.Walk as Walk
 use Rattle.consts.proofs.pass_consts.Given as goal

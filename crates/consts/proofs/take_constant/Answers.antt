@@ -1,6 +1,5 @@
 -- `consts::take_constant` meets its contract.
 use Rattle.consts.proofs.Steps as Steps
-use borrow.Author.Rules.{rules}
 use Rattle.consts.proofs.take_constant.Goals as goal
 
 pub fold_const-x-requires : goal.fold_const-x-requires

@@ -1,7 +1,6 @@
 -- `consts::visit` meets its contract.
 use Rattle.consts.proofs.Walk as Walk
 use Rattle.checks.proofs.Kept.{kept-all}
-use borrow.Author.Rules.{rules}
 use Rattle.consts.proofs.visit.Goals as goal
 
 pub kind-requires : goal.kind-requires

@@ -1,7 +1,5 @@
 -- `consts::visit_constant` meets its contract.
 use Rattle.consts.proofs.Walk as Walk
-use borrow.Author.Tests.{not-true, not-false}
-use borrow.Author.Rules.{rules}
 use Rattle.consts.proofs.visit_constant.Goals as goal
 
 pub take_constant-requires : goal.take_constant-requires
