@@ -18,7 +18,6 @@ use Rattle.lines.specs.Lines.{read_at, form_at}
 use Rattle.values.specs.declared.ConstVal.{ConstVal}
 use Rattle.values.specs.declared.ConstVal.TheVariants.{Int, Real, Str}
 use Rattle.values.specs.declared.Folded.{Folded}
-use Rattle.values.specs.declared.Folded.TheVariants as Folded
 use Rattle.values.specs.Values.{value_in, result_in, Small, InRange, At, ResultAt}
 use Rattle.slots.specs.Slots.{slot_bytes}
 use Rattle.slots.proofs.Bits.{SlotStored, stored}

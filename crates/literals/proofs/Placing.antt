@@ -21,7 +21,6 @@ use Rattle.placements.specs.Placements.{element_in, LiteralSoFar, Step, stopped,
 use Rattle.placements.proofs.Same.{keeps-all, keeps_then, keeps-kept}
 use Rattle.placements.proofs.Fillings.{element-kept, filling-kept}
 use Rattle.literals.specs.declared.Span.{Span}
-use Rattle.literals.specs.declared.Span.TheVariants as Span
 use Rattle.literals.specs.Literals.{above, span_result, Moves, SpanPlaced, SelectorResult, Selects}
 
 -- ---- a literal that has ended

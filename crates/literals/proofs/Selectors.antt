@@ -21,14 +21,12 @@ use Rattle.checks.specs.Checks.{Kept}
 use Rattle.values.specs.declared.ConstVal.{ConstVal}
 use Rattle.values.specs.declared.ConstVal.TheVariants.{Int, Real, Str}
 use Rattle.values.specs.declared.Folded.{Folded}
-use Rattle.values.specs.declared.Folded.TheVariants as Folded
 use Rattle.values.specs.Values.{value_in, result_in}
 use Rattle.placements.specs.Placements.{Keeps}
 use Rattle.placements.proofs.Same.{keeps-less, keeps-kept}
 use Rattle.leaf.specs.Folds.{ex_at, fold_at, Foldable, Folds}
 use Rattle.fold.proofs.Steps as Steps
 use Rattle.literals.specs.declared.Index.{Index}
-use Rattle.literals.specs.declared.Index.TheVariants as Index
 use Rattle.names.specs.Table.{names_in}
 use Rattle.literals.specs.Literals.{se_at, Task, above, index_result}
 use Rattle.literals.proofs.Names.{log-kept, logged-kept, line_kept}

@@ -2,11 +2,8 @@
 use mathlib.Core.Path.{◌≡◌, refl, sym, ap, ◌∙◌, subst}
 use mathlib.Core.Bool.{false}
 use mathlib.Core.List.{[], ◌∷◌}
-use mathlib.Core.Logic.{inl, inr}
 use Prim.Native.Nat.{ℕ, suc, ◌+◌, ◌-◌, ◌≤◌, ◌<◌}
 use native.Mathlib.Omega.{arith}
-use denote.Enum.Declared.{tag_of}
-use types.Run.{OneOf}
 use lib.ListN.{drop, get_or}
 use lib.Seq.{get_or-drop, drop-drop}
 use Rattle.checks.specs.Checks.{KindLine}
@@ -29,7 +26,6 @@ use Rattle.placements.specs.declared.Extent.{Extent}
 use Rattle.placements.specs.declared.Placed.{Placed}
 use Rattle.placements.specs.declared.Placed.TheVariants.{Into, Negative, Failed, TooLong}
 use Rattle.placements.specs.Placements.{Keeps, Filling, LiteralSoFar, Step}
-use Rattle.placements.specs.contracts.Placed.{the_type}
 use Rattle.placements.proofs.Same.{keeps-all, keeps_then}
 use Rattle.placements.proofs.Fillings.{filling-wider}
 use Rattle.leaf.specs.Folds.{ex_at}
@@ -94,10 +90,8 @@ pub record Turning (s t : Bytes) (m r count : ℕ) (u : Bytes) (x : Extent) (j :
   pub filling : Filling u (above j) j x.next x.reach literal
   pub left : fill (names_in s t m) (els_from s r count j) literal ≡ fill (names_in s t m) (els_from s r count 0) none_filled
 
-pub into-not : (y : Placed) → OneOf (1 ∷ 2 ∷ 3 ∷ []) (tag_of the_type y) → is_into y ≡ false
-into-not (Into a) (inl e) = absurd (omega arith)
-into-not (Into a) (inr (inl e)) = absurd (omega arith)
-into-not (Into a) (inr (inr e)) = absurd (omega arith)
+pub into-not : (y : Placed) → ((a : Extent) → y ≡ Into a → ⊥) → is_into y ≡ false
+into-not (Into a) h = absurd (h a refl)
 into-not Negative h = refl
 into-not Failed h = refl
 into-not TooLong h = refl

@@ -20,9 +20,7 @@ use Rattle.placements.specs.declared.Placed.{Placed}
 use Rattle.placements.specs.declared.Placed.TheVariants.{Into, Negative, Failed, TooLong}
 use Rattle.placements.specs.Placements.{slot_at, element_in, Keeps, StringStands, Filling, Step, stopped}
 use Rattle.literals.specs.declared.Index.{Index}
-use Rattle.literals.specs.declared.Index.TheVariants as Index
 use Rattle.literals.specs.declared.Span.{Span}
-use Rattle.literals.specs.declared.Span.TheVariants as Span
 
 -- ---- lines
 

@@ -3,7 +3,7 @@ use borrow.Author.Rules.{rules}
 use Rattle.literals.proofs.as_int.Goals as goal
 
 pub returns-in-Int : goal.returns-in-Int
-returns-in-Int c = λ t. int-value t c.in-Value.is c.in-Int.is (record { sfits = c.known_told-in-Value-1.given.0.1 })
+returns-in-Int c = λ t. int-value t c.in-Value.is c.in-Int.is (search rules)
 
 pub returns-in-Real : goal.returns-in-Real
 returns-in-Real c = λ t. real-value t c.in-Value.is c.in-Real.is

@@ -1,7 +1,5 @@
-use Rattle.literals.proofs.Turns.{Turning, into-not, begun, few-elements, turning-start, turning-line, turning-end, turn-line, turning-stop, turning-next}
+use Rattle.literals.proofs.Turns.{into-not, begun, few-elements, turning-start, turning-line, turning-end, turn-line, turning-stop, turning-next}
 use Rattle.literals.proofs.Lines.{line-in}
-use borrow.Author.Rules.{rules}
-use Prim.Native.Nat.{◌-◌}
 use native.Mathlib.Omega.{arith}
 use Rattle.literals.proofs.fill.Goals as goal
 
@@ -30,7 +28,7 @@ pub fill_element-y-requires : goal.fill_element-y-requires
 fill_element-y-requires c = turn-line c.requires.0 c.requires.1 c.empty.ensures c.number_at-count.ensures.0 c.loop-j.invariant c.loop-j-test.true c.number_at-q.ensures.0
 
 pub returns-in_default : goal.returns-in_default
-returns-in_default c = turning-stop c.requires.0 c.requires.1 c.empty.ensures c.number_at-count.ensures.0 c.loop-j.invariant c.loop-j-test.true c.number_at-q.ensures.0 c.fill_element-y.result c.fill_element-y.ensures (into-not c.fill_element-y.result c.in_default.keys2)
+returns-in_default c = turning-stop c.requires.0 c.requires.1 c.empty.ensures c.number_at-count.ensures.0 c.loop-j.invariant c.loop-j-test.true c.number_at-q.ensures.0 c.fill_element-y.result c.fill_element-y.ensures (into-not c.fill_element-y.result c.in_default.not-Into)
 
 pub overflow_add-j-in-loop-j : goal.overflow_add-j-in-loop-j
 overflow_add-j-in-loop-j c = record { fits = omega (arith, few-elements c.requires.0 c.number_at-count.ensures.0, c.loop-j-test.true) }

@@ -1,8 +1,5 @@
-use Rattle.literals.proofs.Turns.{Turning, into-not, begun, few-elements, turning-start, turning-line, turning-end, turn-line, turning-stop, turning-next}
-use Rattle.literals.proofs.Lines.{line-in}
-use borrow.Author.Rules.{rules}
+use Rattle.literals.proofs.Turns.{Turning}
 use Prim.Native.Nat.{◌-◌}
-use native.Mathlib.Omega.{arith}
 use Rattle.literals.proofs.fill.Given as goal
 
 abbrev pub invariant-loop-j : goal.invariant-loop-j

@@ -1,6 +1,5 @@
 use Rattle.literals.proofs.Elements.{value-foldable, value-small, value-stored, turn-failed, turn-long, turn-placed}
 use native.Mathlib.Omega.{arith}
-use borrow.Author.Rules.{rules}
 use Rattle.literals.proofs.fill_element.Goals as goal
 
 pub fold_const-requires : goal.fold_const-requires

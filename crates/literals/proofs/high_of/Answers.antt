@@ -1,7 +1,6 @@
 use Rattle.literals.proofs.Selectors.{high-task, high-none, high-some}
 use Rattle.names.specs.Table.{names_in}
 use Rattle.checks.proofs.Kept.{kept-all}
-use borrow.Author.Rules.{rules}
 use Rattle.literals.proofs.high_of.Goals as goal
 
 pub returns-then-h-eq0 : goal.returns-then-h-eq0

@@ -1,5 +1,4 @@
 use Rattle.literals.proofs.Selectors.{foldable, index_is}
-use borrow.Author.Rules.{rules}
 use Rattle.literals.proofs.index_of.Goals as goal
 
 pub fold_const-requires : goal.fold_const-requires

@@ -1,6 +1,5 @@
 use Rattle.literals.proofs.Elements.{element-small, element-next, element-star, element-at, element-spans}
 use native.Mathlib.Omega.{arith}
-use borrow.Author.Rules.{rules}
 use Rattle.literals.proofs.place_element.Goals as goal
 
 pub returns-then-f-eq-NEXT : goal.returns-then-f-eq-NEXT

@@ -1,7 +1,6 @@
 use mathlib.Core.Path.{refl}
 use Rattle.placements.specs.declared.Placed.TheVariants.{Negative, Failed, TooLong}
 use Rattle.literals.proofs.Placing.{moves-into, moves-ended}
-use borrow.Author.Rules.{rules}
 use Rattle.literals.proofs.place_on.Goals as goal
 
 pub returns-in-Into : goal.returns-in-Into

@@ -1,8 +1,6 @@
-use Rattle.literals.proofs.Spans.{extent_of, Selecting, few-selectors, selecting_start, selecting-line, selecting-end, selector-task, selecting-stop, selecting-next}
+use Rattle.literals.proofs.Spans.{few-selectors, selecting_start, selecting-line, selecting-end, selector-task, selecting-stop, selecting-next}
 use Rattle.literals.proofs.Lines.{line-in}
-use borrow.Author.Rules.{rules}
 use mathlib.Core.Path.{sym, ◌∙◌}
-use Prim.Native.Nat.{◌-◌}
 use native.Mathlib.Omega.{arith}
 use Rattle.literals.proofs.place_selectors.Goals as goal
 

@@ -1,9 +1,5 @@
-use Rattle.literals.proofs.Spans.{extent_of, Selecting, few-selectors, selecting_start, selecting-line, selecting-end, selector-task, selecting-stop, selecting-next}
-use Rattle.literals.proofs.Lines.{line-in}
-use borrow.Author.Rules.{rules}
-use mathlib.Core.Path.{sym, ◌∙◌}
+use Rattle.literals.proofs.Spans.{extent_of, Selecting}
 use Prim.Native.Nat.{◌-◌}
-use native.Mathlib.Omega.{arith}
 use Rattle.literals.proofs.place_selectors.Given as goal
 
 abbrev pub invariant-loop-j : goal.invariant-loop-j
