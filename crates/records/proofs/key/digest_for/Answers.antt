@@ -1,6 +1,5 @@
 use mathlib.Core.Path.{◌∙◌, sym}
 use Rattle.records.proofs.Digests.{digest-plain, digest-variant}
-use borrow.Author.Rules.{rules}
 use Rattle.records.proofs.key.digest_for.Goals as goal
 
 pub returns-then-case_of-eq0 : goal.returns-then-case_of-eq0

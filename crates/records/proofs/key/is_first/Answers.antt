@@ -1,11 +1,9 @@
-use Rattle.records.proofs.Newest.{key_is, record-room, key-chain, own-chain, first-not, first-is}
+use Rattle.records.proofs.Newest.{record-room, key-chain, own-chain, first-not, first-is}
 use Rattle.records.specs.Log.{recorded_at, record_chains}
-use Rattle.chains.proofs.Laws.{Along, along-from, along-found, along-next, along-end, earlier-less}
-use Rattle.chains.specs.Chains.{chain_at}
+use Rattle.chains.proofs.Laws.{along-from, along-found, along-next, along-end, earlier-less}
 use Prim.Native.Nat.{suc, ◌-◌, ◌<◌}
 use mathlib.Core.Path.{◌≡◌, ◌∙◌}
 use native.Mathlib.Omega.{arith}
-use borrow.Author.Rules.{rules}
 use Rattle.records.proofs.key.is_first.Goals as goal
 
 pub earlier-j-requires : goal.earlier-j-requires

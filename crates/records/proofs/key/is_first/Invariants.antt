@@ -1,12 +1,8 @@
 -- `records::key::is_first` meets its contract.
-use Rattle.records.proofs.Newest.{key_is, record-room, key-chain, own-chain, first-not, first-is}
+use Rattle.records.proofs.Newest.{key_is}
 use Rattle.records.specs.Log.{recorded_at, record_chains}
-use Rattle.chains.proofs.Laws.{Along, along-from, along-found, along-next, along-end, earlier-less}
+use Rattle.chains.proofs.Laws.{Along}
 use Rattle.chains.specs.Chains.{chain_at}
-use Prim.Native.Nat.{suc, ◌-◌, ◌<◌}
-use mathlib.Core.Path.{◌≡◌, ◌∙◌}
-use native.Mathlib.Omega.{arith}
-use borrow.Author.Rules.{rules}
 use Rattle.records.proofs.key.is_first.Given as goal
 
 abbrev pub invariant-loop-j : goal.invariant-loop-j

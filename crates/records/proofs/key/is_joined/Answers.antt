@@ -1,6 +1,4 @@
-use borrow.Author.Tests.{not-true, not-false}
 use Rattle.records.proofs.Keys.{joined-short, joined-undotted, joined-unnamed, joined-tag}
-use borrow.Author.Rules.{rules}
 use Rattle.records.proofs.key.is_joined.Goals as goal
 
 pub returns-then-key-k : goal.returns-then-key-k

@@ -3,7 +3,6 @@ use Rattle.records.proofs.Digests.{keys-apart}
 use Rattle.records.proofs.Keys.{plain-key, variant-key}
 use Rattle.records.proofs.Newest.{record-room}
 use native.Mathlib.Omega.{arith}
-use borrow.Author.Rules.{rules}
 use Rattle.records.proofs.key.key_is.Goals as goal
 
 pub digest_at-requires : goal.digest_at-requires

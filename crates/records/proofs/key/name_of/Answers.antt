@@ -1,7 +1,6 @@
 use Rattle.records.proofs.Keys.{entry-line}
 use Rattle.records.specs.Log.{name_of}
 use mathlib.Core.Path.{◌∙◌}
-use borrow.Author.Rules.{rules}
 use Rattle.records.proofs.key.name_of.Goals as goal
 
 pub record_name-requires : goal.record_name-requires

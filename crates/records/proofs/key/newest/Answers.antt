@@ -1,11 +1,10 @@
-use Rattle.records.proofs.Newest.{key_is, record-room, key-chain, newest-is}
+use Rattle.records.proofs.Newest.{record-room, key-chain, newest-is}
 use Rattle.records.specs.Log.{record_chains}
-use Rattle.chains.proofs.Laws.{Along, along-first, along-found, along-next, along-end, earlier-less}
+use Rattle.chains.proofs.Laws.{along-first, along-found, along-next, along-end, earlier-less}
 use Rattle.chains.specs.Chains.{chain_of}
 use Prim.Native.Nat.{◌-◌, ◌<◌}
 use mathlib.Core.Path.{ap}
 use native.Mathlib.Omega.{arith}
-use borrow.Author.Rules.{rules}
 use Rattle.records.proofs.key.newest.Goals as goal
 
 pub newest-i-requires : goal.newest-i-requires

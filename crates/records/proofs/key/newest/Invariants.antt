@@ -1,12 +1,8 @@
 -- `records::key::newest` meets its contract.
-use Rattle.records.proofs.Newest.{key_is, record-room, key-chain, newest-is}
+use Rattle.records.proofs.Newest.{key_is}
 use Rattle.records.specs.Log.{record_chains}
-use Rattle.chains.proofs.Laws.{Along, along-first, along-found, along-next, along-end, earlier-less}
+use Rattle.chains.proofs.Laws.{Along}
 use Rattle.chains.specs.Chains.{chain_of}
-use Prim.Native.Nat.{◌-◌, ◌<◌}
-use mathlib.Core.Path.{ap}
-use native.Mathlib.Omega.{arith}
-use borrow.Author.Rules.{rules}
 use Rattle.records.proofs.key.newest.Given as goal
 
 abbrev pub invariant-loop-i : goal.invariant-loop-i

@@ -1,6 +1,6 @@
-use Rattle.records.proofs.Newest.{key_is, record-room, key-chain, own-chain, newest-own, newest-self}
+use Rattle.records.proofs.Newest.{record-room, key-chain, own-chain, newest-own, newest-self}
 use Rattle.records.specs.Log.{recorded_at, record_chains}
-use Rattle.chains.proofs.Laws.{Along, along-first, along-found, along-next, chain-small, earlier-less}
+use Rattle.chains.proofs.Laws.{along-first, along-found, along-next, chain-small, earlier-less}
 use Rattle.chains.specs.Chains.{chain_at}
 use Prim.Native.Nat.{suc, ◌-◌, ◌<◌}
 use mathlib.Core.Path.{◌≡◌, ◌∙◌}

@@ -1,11 +1,8 @@
 -- `records::key::newest_of` meets its contract.
-use Rattle.records.proofs.Newest.{key_is, record-room, key-chain, own-chain, newest-own, newest-self}
+use Rattle.records.proofs.Newest.{key_is}
 use Rattle.records.specs.Log.{recorded_at, record_chains}
-use Rattle.chains.proofs.Laws.{Along, along-first, along-found, along-next, chain-small, earlier-less}
+use Rattle.chains.proofs.Laws.{Along}
 use Rattle.chains.specs.Chains.{chain_at}
-use Prim.Native.Nat.{suc, ◌-◌, ◌<◌}
-use mathlib.Core.Path.{◌≡◌, ◌∙◌}
-use native.Mathlib.Omega.{arith}
 use Rattle.records.proofs.key.newest_of.Given as goal
 
 abbrev pub invariant-loop-j : goal.invariant-loop-j

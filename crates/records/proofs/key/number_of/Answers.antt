@@ -1,5 +1,4 @@
 use Rattle.records.specs.Log.{entry_at}
-use borrow.Author.Rules.{rules}
 use Rattle.records.proofs.key.number_of.Goals as goal
 
 pub returns : goal.returns

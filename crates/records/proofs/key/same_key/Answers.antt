@@ -3,10 +3,8 @@ use mathlib.Core.Path.{sym, ap, ◌∙◌}
 use Rattle.records.specs.Log.{recorded_at}
 use Rattle.records.proofs.Digests.{keys-apart}
 use Rattle.records.proofs.Keys.{keys-unnamed, keys-own, keys-plain, keys-tags}
-use borrow.Author.Tests.{not-true, not-false}
 use Rattle.records.proofs.Newest.{record-room}
 use native.Mathlib.Omega.{arith}
-use borrow.Author.Rules.{rules}
 use Rattle.records.proofs.key.same_key.Goals as goal
 
 pub digest_at-requires : goal.digest_at-requires

@@ -1,6 +1,5 @@
 use Rattle.records.proofs.Keys.{entry-variant, entry-tag, tag_read}
 use mathlib.Core.Path.{◌∙◌}
-use borrow.Author.Rules.{rules}
 use Rattle.records.proofs.key.tag_of.Goals as goal
 
 pub case_line-v-requires : goal.case_line-v-requires

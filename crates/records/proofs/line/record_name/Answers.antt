@@ -1,6 +1,5 @@
 use Rattle.records.proofs.Picks.{name-is}
 use mathlib.Core.Path.{sym, ◌∙◌}
-use borrow.Author.Rules.{rules}
 use Rattle.records.proofs.line.record_name.Goals as goal
 
 pub returns : goal.returns

@@ -1,7 +1,6 @@
 use Rattle.records.proofs.Picks.{tags-few, tag_is}
 use native.Mathlib.Omega.{arith}
 use mathlib.Core.Path.{sym, ◌∙◌}
-use borrow.Author.Rules.{rules}
 use Rattle.records.proofs.line.tag_at.Goals as goal
 
 pub overflow_add-p : goal.overflow_add-p

@@ -1,5 +1,4 @@
 use Rattle.records.proofs.Picks.{tags-count}
-use borrow.Author.Rules.{rules}
 use Rattle.records.proofs.line.tag_count.Goals as goal
 
 pub returns : goal.returns
