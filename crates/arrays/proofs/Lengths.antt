@@ -23,7 +23,6 @@ use Rattle.ints.proofs.Widths.{held}
 use Rattle.values.specs.declared.Folded.{Folded}
 use Rattle.values.specs.Values.{result_in}
 use Rattle.literals.specs.declared.Index.{Index}
-use Rattle.literals.specs.declared.Index.TheVariants as Index
 use Rattle.literals.specs.Literals.{index_result}
 
 module _ (k : ElemKind) where

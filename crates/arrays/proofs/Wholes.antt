@@ -39,7 +39,6 @@ use Rattle.literals.proofs.Placing.{is_into}
 use Rattle.literals.proofs.Lines.{line-in, line-form, makes, may-line}
 use Rattle.literals.proofs.Turns.{literal-refs, literal-is}
 use Rattle.arrays.specs.declared.Size.{Size}
-use Rattle.arrays.specs.declared.Size.TheVariants as Size
 use Rattle.arrays.specs.declared.Arrayed.{Arrayed}
 use Rattle.arrays.specs.declared.Arrayed.TheVariants.{Literal, Pending, Refused}
 use Rattle.arrays.specs.Arrays.{arrayed_in, size_result, ArrayStands, ArrayResult, ArrayAnswers, type_of, lit_size, own_type, ArrayLine, DeclaredLiteral, Counted, Sized}

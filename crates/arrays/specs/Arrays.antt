@@ -15,7 +15,6 @@ use Rattle.placements.specs.Placements.{placement_at, slot_at, values_in, Keeps,
 use Rattle.names.specs.Table.{names_in}
 use Rattle.literals.specs.Literals.{els_at, LiteralLine, above}
 use Rattle.arrays.specs.declared.Size.{Size}
-use Rattle.arrays.specs.declared.Size.TheVariants as Size
 use Rattle.arrays.specs.declared.Arrayed.{Arrayed}
 use Rattle.arrays.specs.declared.Arrayed.TheVariants.{Alloc, Literal, Pending, Refused}
 

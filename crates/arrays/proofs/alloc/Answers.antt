@@ -1,6 +1,5 @@
 use Rattle.arrays.proofs.Allocs.{alloc-low, length-foldable, alloc-answers}
 use Rattle.literals.proofs.Lines.{line-in}
-use borrow.Author.Rules.{rules}
 use Rattle.arrays.proofs.alloc.Goals as goal
 
 pub overflow_sub-r : goal.overflow_sub-r

@@ -6,7 +6,7 @@ use borrow.Author.Rules.{rules}
 use Rattle.arrays.proofs.allocated.Goals as goal
 
 pub returns-in-At : goal.returns-in-At
-returns-in-At c = λ t. ((c.allocated_int.ensures t).0 ∙ of-int t c.args.x c.as_int.result (c.as_int.ensures t) (Array.allocated (kind_of_number c.args.kind)) (λ y. refl) (λ y. refl) c.in-At.is (record { sfits = c.known_told-1.given.0.1 }), (c.allocated_int.ensures t).1)
+returns-in-At c = λ t. ((c.allocated_int.ensures t).0 ∙ of-int t c.args.x c.as_int.result (c.as_int.ensures t) (Array.allocated (kind_of_number c.args.kind)) (λ y. refl) (λ y. refl) c.in-At.is (search rules), (c.allocated_int.ensures t).1)
 
 pub returns-in-Failed : goal.returns-in-Failed
 returns-in-Failed c = λ t. (of_none t c.args.x c.as_int.result (c.as_int.ensures t) (Array.allocated (kind_of_number c.args.kind)) (λ y. refl) (λ y. refl) c.in-Failed.is, tt)

@@ -5,13 +5,13 @@ use borrow.Author.Rules.{rules}
 use Rattle.arrays.proofs.as_size.Goals as goal
 
 pub returns-then-z-lt0 : goal.returns-then-z-lt0
-returns-then-z-lt0 c = λ t. size-negative {z = c.in-At.z} (record { sfits = c.known_told-1.given.0.1 }) c.if-z-lt0.true ∙ of-int t c.args.x c.as_int.result (c.as_int.ensures t) as_size (λ y. refl) (λ y. refl) c.in-At.is (record { sfits = c.known_told-1.given.0.1 })
+returns-then-z-lt0 c = λ t. size-negative {z = c.in-At.z} (search rules) c.if-z-lt0.true ∙ of-int t c.args.x c.as_int.result (c.as_int.ensures t) as_size (λ y. refl) (λ y. refl) c.in-At.is (search rules)
 
 pub overflow_cast-result : goal.overflow_cast-result
-overflow_cast-result c = size_fits {z = c.in-At.z} (record { sfits = c.known_told-1.given.0.1 }) c.if-z-lt0.false
+overflow_cast-result c = size_fits {z = c.in-At.z} (search rules) c.if-z-lt0.false
 
 pub returns-else-z-lt0 : goal.returns-else-z-lt0
-returns-else-z-lt0 c = λ t. size-whole {z = c.in-At.z} (record { sfits = c.known_told-1.given.0.1 }) c.if-z-lt0.false ∙ of-int t c.args.x c.as_int.result (c.as_int.ensures t) as_size (λ y. refl) (λ y. refl) c.in-At.is (record { sfits = c.known_told-1.given.0.1 })
+returns-else-z-lt0 c = λ t. size-whole {z = c.in-At.z} (search rules) c.if-z-lt0.false ∙ of-int t c.args.x c.as_int.result (c.as_int.ensures t) as_size (λ y. refl) (λ y. refl) c.in-At.is (search rules)
 
 pub returns-in-Failed : goal.returns-in-Failed
 returns-in-Failed c = λ t. of_none t c.args.x c.as_int.result (c.as_int.ensures t) as_size (λ y. refl) (λ y. refl) c.in-Failed.is

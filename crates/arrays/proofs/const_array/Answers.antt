@@ -1,5 +1,4 @@
 use Rattle.arrays.proofs.Wholes.{other-line}
-use borrow.Author.Rules.{rules}
 use Rattle.arrays.proofs.const_array.Goals as goal
 
 pub returns : goal.returns

@@ -1,6 +1,5 @@
 use Rattle.arrays.proofs.Elements.{kind-int, kind-byte, kind-long, kind-pointer}
 use native.Mathlib.Omega.{arith}
-use borrow.Author.Rules.{rules}
 use Rattle.arrays.proofs.elem_kind.Goals as goal
 
 pub returns-then-f-eq-INT : goal.returns-then-f-eq-INT

@@ -1,6 +1,5 @@
 use Rattle.arrays.proofs.Elements.{cast-not, cast-line, cast_is}
 use Rattle.literals.proofs.Lines.{line-in}
-use borrow.Author.Rules.{rules}
 use Rattle.arrays.proofs.is_byte_cast.Goals as goal
 
 pub returns-then-form_at-ne-CAST : goal.returns-then-form_at-ne-CAST

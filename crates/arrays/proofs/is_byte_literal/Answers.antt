@@ -1,10 +1,8 @@
-use Rattle.arrays.proofs.Elements.{Casting, casting-start, casting-end, element-at, value_line, casting-stop, casting-next}
+use Rattle.arrays.proofs.Elements.{casting-start, casting-end, element-at, value_line, casting-stop, casting-next}
 use Rattle.literals.proofs.Turns.{few-elements}
 use Rattle.literals.proofs.Lines.{line-in}
 use mathlib.Core.Path.{sym, ◌∙◌}
-use Prim.Native.Nat.{◌-◌}
 use native.Mathlib.Omega.{arith}
-use borrow.Author.Tests.{not-true, not-false}
 use Rattle.arrays.proofs.is_byte_literal.Goals as goal
 
 pub overflow_sub-r : goal.overflow_sub-r

@@ -1,7 +1,6 @@
 use mathlib.Core.Path.{refl}
 use Rattle.placements.specs.declared.Placed.TheVariants.{Negative, Failed, TooLong}
 use Rattle.arrays.proofs.Wholes.{literal-kept, literal-ended, literal-well}
-use borrow.Author.Rules.{rules}
 use Rattle.arrays.proofs.literal.Goals as goal
 
 pub fill-requires : goal.fill-requires

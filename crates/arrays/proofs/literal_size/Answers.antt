@@ -2,7 +2,6 @@ use Rattle.arrays.proofs.Sizes.{size-foldable, size_none, size-given}
 use Rattle.literals.proofs.Lines.{line-in}
 use Rattle.names.specs.Table.{names_in}
 use Rattle.checks.proofs.Kept.{kept-all}
-use borrow.Author.Rules.{rules}
 use Rattle.arrays.proofs.literal_size.Goals as goal
 
 pub overflow_sub-r : goal.overflow_sub-r

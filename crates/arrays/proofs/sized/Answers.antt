@@ -1,5 +1,4 @@
 use Rattle.arrays.proofs.Wholes.{lit-kept, size-keeps, sized-outside, sized-failed, sized-long, sized-well}
-use borrow.Author.Rules.{rules}
 use Rattle.arrays.proofs.sized.Goals as goal
 
 pub literal_size-requires : goal.literal_size-requires
