@@ -1,5 +1,4 @@
 use Rattle.record_log.proofs.Digests.{collected-then}
-use borrow.Author.Rules.{rules}
 use Rattle.record_log.proofs.collect_adts.Goals as goal
 
 pub returns : goal.returns

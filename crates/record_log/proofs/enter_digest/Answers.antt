@@ -4,7 +4,6 @@ use Rattle.record_log.proofs.Digests.{entered-length}
 use Rattle.records.proofs.Newest.{record-room}
 use lib.ListN.{length-set}
 use Prim.Native.Nat.{◌+◌, ◌*◌}
-use borrow.Author.Rules.{rules}
 use Rattle.record_log.proofs.enter_digest.Goals as goal
 
 pub link-requires : goal.link-requires

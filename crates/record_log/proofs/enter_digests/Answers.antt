@@ -1,6 +1,4 @@
 use native.Mathlib.Omega.{arith}
-use Prim.Native.Nat.{◌-◌, ◌≤◌}
-use Rattle.record_log.specs.Entries.{CollectedTo}
 use Rattle.record_log.proofs.Digests.{digests-start, digests-next, digests-end}
 use Rattle.record_log.proofs.enter_digests.Goals as goal
 

@@ -1,9 +1,5 @@
 use Rattle.record_log.proofs.Log.{entries-start, entries_next, entries-end, checked_wrote, place-on}
-use Rattle.record_log.specs.Entries.{entries_to, log_bytes}
-use Rattle.lines.specs.Lines.{nodes_in}
 use Rattle.write.proofs.Wrote.{wrote-length, place-low}
-use Rattle.write.specs.Wrote.{Wrote}
-use Prim.Native.Nat.{◌-◌, ◌≤◌}
 use native.Mathlib.Omega.{arith}
 use mathlib.Core.Path.{refl}
 use Rattle.record_log.proofs.log_adts.Goals as goal

@@ -1,7 +1,6 @@
 use Rattle.records.proofs.Picks.{cases-count, variant-line}
-use Rattle.record_log.proofs.Log.{Casing, casing-start, casing-next, casing-end, pick-wrote}
+use Rattle.record_log.proofs.Log.{casing-start, casing-next, casing-end, pick-wrote}
 use Rattle.write.proofs.Wrote.{wrote-length, place-low}
-use Prim.Native.Nat.{◌-◌}
 use native.Mathlib.Omega.{arith}
 use Rattle.record_log.proofs.put_cases.Goals as goal
 

@@ -1,8 +1,5 @@
-use Rattle.records.proofs.Picks.{cases-count, variant-line}
-use Rattle.record_log.proofs.Log.{Casing, casing-start, casing-next, casing-end, pick-wrote}
-use Rattle.write.proofs.Wrote.{wrote-length, place-low}
+use Rattle.record_log.proofs.Log.{Casing}
 use Prim.Native.Nat.{◌-◌}
-use native.Mathlib.Omega.{arith}
 use Rattle.record_log.proofs.put_cases.Given as goal
 
 abbrev pub invariant-loop-c : goal.invariant-loop-c

@@ -1,6 +1,5 @@
-use Rattle.record_log.proofs.Table.{Tagging, tagging-start, tagging-next, tagging-end}
+use Rattle.record_log.proofs.Table.{tagging-start, tagging-next, tagging-end}
 use Rattle.write.proofs.Wrote.{wrote-length}
-use Prim.Native.Nat.{◌-◌}
 use native.Mathlib.Omega.{arith}
 use Rattle.record_log.proofs.put_tags.Goals as goal
 

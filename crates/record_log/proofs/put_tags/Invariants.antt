@@ -1,7 +1,5 @@
-use Rattle.record_log.proofs.Table.{Tagging, tagging-start, tagging-next, tagging-end}
-use Rattle.write.proofs.Wrote.{wrote-length}
+use Rattle.record_log.proofs.Table.{Tagging}
 use Prim.Native.Nat.{◌-◌}
-use native.Mathlib.Omega.{arith}
 use Rattle.record_log.proofs.put_tags.Given as goal
 
 abbrev pub invariant-loop-j : goal.invariant-loop-j

@@ -1,6 +1,5 @@
 use Rattle.record_log.proofs.Log.{adt-entries, pick-entries, no-entries, line-pick, pick-wrote, place-on}
 use Rattle.write.proofs.Wrote.{wrote_none, then, wrote_as, place-low}
-use borrow.Author.Rules.{rules}
 use Rattle.record_log.proofs.record_adt.Goals as goal
 
 pub returns-then-f-eq-ADT : goal.returns-then-f-eq-ADT
