@@ -1,5 +1,4 @@
 use native.Mathlib.Omega.{arith}
-use borrow.Author.Rules.{rules}
 use Rattle.field_rows.proofs.put_common.Goals as goal
 
 pub put_fields-requires : goal.put_fields-requires

@@ -1,9 +1,7 @@
-use Prim.Native.Nat.{◌-◌}
 use native.Mathlib.Omega.{arith}
-use borrow.Author.Rules.{rules}
 use Rattle.write.proofs.Wrote.{wrote-length, place-low}
 use Rattle.sizes.proofs.Places.{refs-in, refs-line}
-use Rattle.field_rows.proofs.Fields.{Fielding, fielding-start, fielding-next, fielding-end, rows-from}
+use Rattle.field_rows.proofs.Fields.{fielding-start, fielding-next, fielding-end, rows-from}
 use Rattle.field_rows.proofs.put_fields.Goals as goal
 
 pub loop-j-init : goal.loop-j-init

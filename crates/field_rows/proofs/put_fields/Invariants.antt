@@ -1,9 +1,5 @@
 use Prim.Native.Nat.{◌-◌}
-use native.Mathlib.Omega.{arith}
-use borrow.Author.Rules.{rules}
-use Rattle.write.proofs.Wrote.{wrote-length, place-low}
-use Rattle.sizes.proofs.Places.{refs-in, refs-line}
-use Rattle.field_rows.proofs.Fields.{Fielding, fielding-start, fielding-next, fielding-end, rows-from}
+use Rattle.field_rows.proofs.Fields.{Fielding}
 use Rattle.field_rows.proofs.put_fields.Given as goal
 
 abbrev pub invariant-loop-j : goal.invariant-loop-j

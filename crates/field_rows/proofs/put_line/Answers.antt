@@ -1,12 +1,11 @@
-use Prim.Native.Nat.{◌<◌, ◌≤◌, ◌-◌}
+use Prim.Native.Nat.{◌<◌, ◌≤◌}
 use mathlib.Core.Path.{◌∙◌}
 use native.Mathlib.Omega.{arith}
 use lib.ListN.{length}
-use borrow.Author.Rules.{rules}
 use Rattle.write.proofs.Wrote.{wrote-length}
 use Rattle.sizes.specs.Places.{fd_at}
 use Rattle.sizes.proofs.Places.{type-line, names-few, names-are, names-small}
-use Rattle.field_rows.proofs.Fields.{NameRowsWritten, name-rows-start, name-rows-next, name-rows-end, name-at, line-untyped, line-typed}
+use Rattle.field_rows.proofs.Fields.{name-rows-start, name-rows-next, name-rows-end, name-at, line-untyped, line-typed}
 use Rattle.field_rows.proofs.put_line.Goals as goal
 
 pub returns-then-t-eq0 : goal.returns-then-t-eq0

@@ -1,12 +1,6 @@
-use Prim.Native.Nat.{◌<◌, ◌≤◌, ◌-◌}
-use mathlib.Core.Path.{◌∙◌}
-use native.Mathlib.Omega.{arith}
-use lib.ListN.{length}
-use borrow.Author.Rules.{rules}
-use Rattle.write.proofs.Wrote.{wrote-length}
+use Prim.Native.Nat.{◌-◌}
 use Rattle.sizes.specs.Places.{fd_at}
-use Rattle.sizes.proofs.Places.{type-line, names-few, names-are, names-small}
-use Rattle.field_rows.proofs.Fields.{NameRowsWritten, name-rows-start, name-rows-next, name-rows-end, name-at, line-untyped, line-typed}
+use Rattle.field_rows.proofs.Fields.{NameRowsWritten}
 use Rattle.field_rows.proofs.put_line.Given as goal
 
 abbrev pub invariant-loop-j : goal.invariant-loop-j

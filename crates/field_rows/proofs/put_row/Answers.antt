@@ -1,7 +1,6 @@
 use Rattle.field_rows.specs.Rows.{field_text}
 use Rattle.write.proofs.Wrote.{then}
 use Rattle.semantics.specs.Listing.{row}
-use borrow.Author.Rules.{rules}
 use Rattle.field_rows.proofs.put_row.Goals as goal
 
 pub returns : goal.returns
