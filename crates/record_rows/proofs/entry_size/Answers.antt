@@ -1,6 +1,5 @@
 use Rattle.record_rows.proofs.Entries.{line-is, shape-plain, shape-variant, variant-line, sized}
 use mathlib.Core.Path.{◌∙◌}
-use borrow.Author.Rules.{rules}
 use Rattle.record_rows.proofs.entry_size.Goals as goal
 
 pub record_size-requires : goal.record_size-requires

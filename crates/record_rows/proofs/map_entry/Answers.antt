@@ -1,5 +1,4 @@
 use Rattle.record_rows.proofs.Entries.{line-is, shape-plain, shape-variant, variant-line}
-use borrow.Author.Rules.{rules}
 use Rattle.record_rows.proofs.map_entry.Goals as goal
 
 pub map_record-requires : goal.map_record-requires

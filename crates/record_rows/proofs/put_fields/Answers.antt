@@ -2,7 +2,6 @@ use native.Mathlib.Omega.{arith}
 use Rattle.record_rows.proofs.Entries.{line-is, variant-line, fields-adt, fields-plain, fields-variant}
 use Rattle.write.proofs.Wrote.{wrote_as, then}
 use mathlib.Core.Path.{refl, sym, ◌∙◌}
-use borrow.Author.Rules.{rules}
 use Rattle.record_rows.proofs.put_fields.Goals as goal
 
 pub put_common-q-requires : goal.put_common-q-requires

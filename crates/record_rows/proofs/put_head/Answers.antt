@@ -1,6 +1,5 @@
 use Rattle.record_rows.proofs.Entries.{head-text}
 use Rattle.records.specs.Log.{recorded_at}
-use borrow.Author.Rules.{rules}
 use Rattle.record_rows.proofs.put_head.Goals as goal
 
 pub returns : goal.returns

@@ -1,6 +1,5 @@
 use Rattle.record_rows.proofs.Entries.{key-plain, key-variant}
 use Rattle.write.proofs.Wrote.{wrote_as, then}
-use borrow.Author.Rules.{rules}
 use Rattle.record_rows.proofs.put_key.Goals as goal
 
 pub returns-then-case_of-eq0 : goal.returns-then-case_of-eq0

@@ -1,7 +1,6 @@
 use Rattle.record_rows.proofs.Keys.{rows-first, rows-later}
 use Rattle.checks.proofs.Kept.{kept-all}
 use Rattle.write.proofs.Wrote.{wrote_as}
-use borrow.Author.Rules.{rules}
 use Rattle.record_rows.proofs.put_newest.Goals as goal
 
 pub is_first-requires : goal.is_first-requires

@@ -4,7 +4,6 @@ use Rattle.records.proofs.Kept.{recorded-kept, logged-kept}
 use Rattle.records.specs.Log.{recorded_at}
 use Rattle.checks.proofs.Kept.{kept_less}
 use Rattle.write.proofs.Wrote.{wrote_as, then}
-use borrow.Author.Rules.{rules}
 use Rattle.record_rows.proofs.put_record.Goals as goal
 
 pub put_head-p-requires : goal.put_head-p-requires

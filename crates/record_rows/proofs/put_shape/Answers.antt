@@ -4,7 +4,6 @@ use Rattle.records.specs.Log.{recorded_at}
 use Rattle.maps.proofs.Maps.{map-fits}
 use Rattle.write.proofs.Wrote.{wrote_as, then}
 use mathlib.Core.Path.{refl}
-use borrow.Author.Rules.{rules}
 use Rattle.record_rows.proofs.put_shape.Goals as goal
 
 pub map_entry-requires : goal.map_entry-requires

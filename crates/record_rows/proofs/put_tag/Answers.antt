@@ -1,6 +1,5 @@
 use Rattle.record_rows.proofs.Entries.{tag-plain, tag-variant}
 use Rattle.write.proofs.Wrote.{wrote_as, then}
-use borrow.Author.Rules.{rules}
 use Rattle.record_rows.proofs.put_tag.Goals as goal
 
 pub returns-then-c-eq0 : goal.returns-then-c-eq0

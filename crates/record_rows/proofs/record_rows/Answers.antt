@@ -1,8 +1,6 @@
 use native.Mathlib.Omega.{arith}
-use Rattle.record_rows.proofs.Keys.{Keying, keying-start, keying-next, keying-end, log-now}
+use Rattle.record_rows.proofs.Keys.{keying-start, keying-next, keying-end, log-now}
 use Rattle.write.proofs.Wrote.{wrote-length}
-use borrow.Author.Rules.{rules}
-use Prim.Native.Nat.{◌-◌}
 use mathlib.Core.Path.{refl}
 use Rattle.record_rows.proofs.record_rows.Goals as goal
 

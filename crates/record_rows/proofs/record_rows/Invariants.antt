@@ -1,9 +1,5 @@
-use native.Mathlib.Omega.{arith}
-use Rattle.record_rows.proofs.Keys.{Keying, keying-start, keying-next, keying-end, log-now}
-use Rattle.write.proofs.Wrote.{wrote-length}
-use borrow.Author.Rules.{rules}
+use Rattle.record_rows.proofs.Keys.{Keying}
 use Prim.Native.Nat.{◌-◌}
-use mathlib.Core.Path.{refl}
 use Rattle.record_rows.proofs.record_rows.Given as goal
 
 abbrev pub invariant-loop-i : goal.invariant-loop-i
