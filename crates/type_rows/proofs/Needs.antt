@@ -7,6 +7,7 @@ use lib.ListN.{get_or}
 use borrow.Author.Tests.{ne_eqb}
 use Rattle.semantics.specs.Tree.TypeKey.{adt_key, elem_key}
 use Rattle.semantics.specs.Layout.{Recorded, last_of}
+use Rattle.semantics.specs.Tree.{Shape}
 use Rattle.semantics.specs.Array.{kind_number}
 use Rattle.semantics.specs.Types.{opaque_shape, elem_shape, key_shape, unknown}
 use Rattle.lines.specs.Lines.{read_at, form_at}
@@ -59,12 +60,17 @@ module _ (s t : List ℕ) (n i : ℕ) (l : NeedLine s t n i) (e : form_at t i �
   named : need_at s i ≡ adt_key key
   named = name-key s t n i l e ∙ ap adt_key (sym hk)
 
+  unknown-shape : j ≡ 0 → key_shape (log_of s) (need_at s i) ≡ (unknown key).shape
+  unknown-shape z =
+      let h : last_of key (unknown key) (log_of s) ≡ unknown key = rw z at (x.last (unknown key)) in
+      ap (key_shape (log_of s)) named ∙ ap (λ (r : Recorded). r.shape) h
+
   pub unknown-size : j ≡ 0 → 4 ≡ (key_shape (log_of s) (need_at s i)).size
-  unknown-size z = sym (rw (named, x.last (unknown key), z))
+  unknown-size z = sym (ap (λ (q : Shape). q.size) (unknown-shape z))
 
   pub unknown-words : j ≡ 0 → word_offsets 0 ≡ (key_shape (log_of s) (need_at s i)).pointers
   unfolding word_offsets
-  unknown-words z = sym (rw (named, x.last (unknown key), z))
+  unknown-words z = sym (ap (λ (q : Shape). q.pointers) (unknown-shape z))
 
   module _ (m : ℕ) (g : RecordsLogged s t n m) (z : j ≡ 0 → ⊥) where
     pub known-low : j - 1 < m
