@@ -1,6 +1,6 @@
 -- The names of a `var` line, from any on.
 use mathlib.Core.Path.{◌≡◌, sym, ap, ◌∙◌}
-use mathlib.Core.Bool.{Bool, true, false, not, true≢false, false≢true}
+use mathlib.Core.Bool.{Bool, true, false, not}
 use mathlib.Core.List.{List, [], ◌∷◌}
 use Prim.Native.Nat.{ℕ, suc, ◌+◌, ◌-◌, ◌≤◌, ◌<◌}
 use native.Mathlib.Omega.{arith}
@@ -47,16 +47,8 @@ module _ {s : Bytes} {r count j : ℕ} (a : NoneLaid s r count j) where
     nil_is : same (name_on s r j) (bytes "nil") ≡ b
     nil_is = sym (hb ∙ rw hx)
 
-    pub search-found : not b ≡ true → true ≡ not (none_of (laid_names (names_on s r)))
-    search-found e = go b nil_is e
-      where
-        go : (c : Bool) → same (name_on s r j) (bytes "nil") ≡ c → not c ≡ true → true ≡ not (none_of (laid_names (names_on s r)))
-        go true i e' = absurd (false≢true e')
-        go false i e' = sym (rw (a.same, names-step s r count j h, i))
+    pub search-found : b ≡ false → true ≡ not (none_of (laid_names (names_on s r)))
+    search-found e = let i = nil_is ∙ e in sym (rw (a.same, names-step s r count j h, i))
 
-    pub search-on : not b ≡ false → NoneLaid s r count (j + 1)
-    search-on e = record { same = go b nil_is e }
-      where
-        go : (c : Bool) → same (name_on s r j) (bytes "nil") ≡ c → not c ≡ false → laid_names (names_on s r) ≡ laid_names (names_from s r count (j + 1))
-        go true i e' = a.same ∙ rw (names-step s r count j h, i)
-        go false i e' = absurd (true≢false e')
+    pub search-on : b ≡ true → NoneLaid s r count (j + 1)
+    search-on e = let i = nil_is ∙ e in record { same = a.same ∙ rw (names-step s r count j h, i) }

@@ -17,7 +17,6 @@ use Rattle.decimal.specs.Number as Number
 use Rattle.lines.specs.Lines.{read_at}
 use Rattle.values.specs.declared.ConstVal.{ConstVal}
 use Rattle.values.specs.declared.Folded.{Folded}
-use Rattle.values.specs.declared.Folded.TheVariants as Folded
 use Rattle.values.specs.Values.{result_in, ResultAt}
 use Rattle.names.specs.Table.{ConstsLogged, names_in}
 use Rattle.placements.specs.Placements.{Keeps}
@@ -26,7 +25,6 @@ use Rattle.leaf.specs.Folds.{ex_at, Folds}
 use Rattle.literals.proofs.Names.{log-kept, logged-kept, line_kept}
 use Rattle.literals.proofs.Selectors.{folds-to}
 use Rattle.arrays.specs.declared.Arrayed.{Arrayed}
-use Rattle.arrays.specs.declared.Arrayed.TheVariants as Arrayed
 use Rattle.arrays.specs.Arrays as Arrays
 use Rattle.arrays.specs.Arrays.{arrayed_in, type_of, ArrayLine, DeclaredElement}
 use Rattle.global_table.specs.Table.{VarLine, var_on, names_on}

@@ -1,6 +1,5 @@
 -- `vars::array_value` meets its contract.
 use Rattle.vars.proofs.Values.{array-line, array-is}
-use borrow.Author.Rules.{rules}
 use Rattle.vars.proofs.array_value.Goals as goal
 
 pub const_array-requires : goal.const_array-requires

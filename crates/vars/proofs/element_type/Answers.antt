@@ -1,7 +1,6 @@
 -- `vars::element_type` meets its contract.
 use Rattle.vars.proofs.Lines.{element-none, element-line, element-some}
 use mathlib.Core.Path.{refl}
-use borrow.Author.Rules.{rules}
 use Rattle.vars.proofs.element_type.Goals as goal
 
 pub returns-then-form_at-ne-ARRAY : goal.returns-then-form_at-ne-ARRAY

@@ -1,7 +1,6 @@
 -- `vars::first_value` meets its contract.
 use Rattle.vars.proofs.Values.{first-none, first-folded, first-long, first-array, array-task}
 use Rattle.vars.proofs.Lines.{value-foldable}
-use borrow.Author.Rules.{rules}
 use Rattle.vars.proofs.first_value.Goals as goal
 
 pub returns-then-q-eq0 : goal.returns-then-q-eq0

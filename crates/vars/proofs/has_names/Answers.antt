@@ -1,9 +1,7 @@
 use native.Mathlib.Omega.{arith}
-use borrow.Author.Rules.{rules}
-use Rattle.vars.proofs.Names.{NoneLaid, names-all, searched, search-found, search-on}
+use Rattle.vars.proofs.Names.{names-all, searched, search-found, search-on}
 use Rattle.semantics.specs.Global.{laid_names}
 use mathlib.Core.Path.{ap, sym}
-use Prim.Native.Nat.{◌-◌}
 use Rattle.vars.proofs.has_names.Goals as goal
 
 pub loop-j-init : goal.loop-j-init

@@ -1,9 +1,5 @@
 -- `vars::has_names` meets its contract.
-use native.Mathlib.Omega.{arith}
-use borrow.Author.Rules.{rules}
-use Rattle.vars.proofs.Names.{NoneLaid, names-all, searched, search-found, search-on}
-use Rattle.semantics.specs.Global.{laid_names}
-use mathlib.Core.Path.{ap, sym}
+use Rattle.vars.proofs.Names.{NoneLaid}
 use Prim.Native.Nat.{◌-◌}
 use Rattle.vars.proofs.has_names.Given as goal
 

@@ -1,6 +1,5 @@
 -- `vars::of_array` meets its contract.
 use Rattle.vars.proofs.Values.{array-alloc, array-literal, array-pending, array-refused}
-use borrow.Author.Rules.{rules}
 use Rattle.vars.proofs.of_array.Goals as goal
 
 pub returns-in-Alloc : goal.returns-in-Alloc

@@ -1,7 +1,6 @@
 -- `vars::plain_value` meets its contract.
 use Rattle.vars.proofs.Values.{plain-none, plain-folded, plain-failed, plain-long}
 use Rattle.vars.proofs.Lines.{value-foldable}
-use borrow.Author.Rules.{rules}
 use Rattle.vars.proofs.plain_value.Goals as goal
 
 pub returns-then-q-eq0 : goal.returns-then-q-eq0

@@ -1,6 +1,5 @@
 -- `vars::var_value` meets its contract.
 use Rattle.vars.proofs.Values.{value-named, value-plain}
-use borrow.Author.Rules.{rules}
 use Rattle.vars.proofs.var_value.Goals as goal
 
 pub returns-then-has_names : goal.returns-then-has_names
