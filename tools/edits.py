@@ -12,7 +12,7 @@ import re
 import oracle
 
 # What the prover says of a fact that only rests on another one that it refused.
-RESTS = "was not admitted (it has holes or undetermined implicits, or was rejected)"
+RESTS = "was not admitted"
 # And of a proof file that no longer fits its function.
 MISFITS = re.compile(r"not in scope|can be named from here|has no (?:field )?`|binders, but its type has room|too many arguments")
 
@@ -83,19 +83,31 @@ def owners(crate, folder, program):
     return sorted(found - {None})
 
 
+def applied(folder, text):
+    """The files of a crate's folder that an edit changes, as it makes them. Each old text stands there once."""
+    made = {}
+    for program in programs(text):
+        for file, old, new in program.pairs:
+            source = made.get(file) or read(os.path.join(folder, file))
+            if source.count(old) != 1:
+                raise ValueError(f"{program.name}: {old!r} stands in {file} {source.count(old)} times")
+            made[file] = source.replace(old, new)
+    return made
+
+
 def proof_of(folder, function):
-    """The proof file of a function, which functions that call each other share; it may be absent."""
+    """The folder of a function's proof, which functions that call each other share; it may be absent."""
     parts = function.split("::")[1:]
     above = os.path.join(folder, "proofs", *parts[:-1])
     for shared in glob.glob(os.path.join(above, "+*")):
         if parts[-1] in os.path.basename(shared).split("+"):
-            return os.path.join(os.path.relpath(shared, folder), "Proof.antt")
-    return os.path.join(os.path.relpath(above, folder), parts[-1], "Proof.antt")
+            return os.path.relpath(shared, folder)
+    return os.path.join(os.path.relpath(above, folder), parts[-1])
 
 
 def errors(log):
-    """The prover's errors on the edited copy of a crate: the file, and what it says there."""
-    return re.findall(r"^\S*/must-fail/[^/\s]+/[^/\s]+/(\S+?):\d+:\d+: error: (.*)$", log, re.M)
+    """The prover's errors on a crate: the file, and what it says there."""
+    return re.findall(r"^(?:\./)?(\S+?):\d+:\d+: error: (.*)$", log, re.M)
 
 
 def is_fact(said):
@@ -105,17 +117,16 @@ def is_fact(said):
 
 def refused_at(folder, log, function):
     """What the prover says against a fact of this function itself, or None."""
-    unproved = re.search(rf"^fn {function}: (not proved|no proof)(.*)$", log, re.M)
-    if not unproved:
+    told = re.search(rf"((?:^(?!fn ).*\n)*)^fn {function}: (?:not proved|no proof)(.*)$", log, re.M)
+    if not told:
         return None
-    searched = re.search(r"`search` does not close `(\S+)`", unproved[2])
-    if searched:
-        return searched[1]
     proof = proof_of(folder, function)
     for file, said in errors(log):
-        if file == proof and is_fact(said):
+        if os.path.dirname(file) == proof and is_fact(said):
             return said.split(":")[0].strip("`")
-    return None
+    # goals that the prover tries by itself, named in the function's line or in those before it
+    searched = re.search(r"`search` did not prove `(\S+?)`", told[2]) or re.search(r"it is not proved that .* \(`(\S+?)`\)", told[1])
+    return searched and searched[1]
 
 
 def edits(crate):

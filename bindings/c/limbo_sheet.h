@@ -1,5 +1,5 @@
-/* A sheet of Limbo declarations to its listing, and to the image of its data. Link libexport.a, which `rt staticlib export`
- * writes to target/staticlib. The code is proved; a caller in C is checked by nothing and owes this:
+/* A sheet of Limbo declarations to its listing, and to the image of its data. Link libexport.a, which `rt lib`, called
+ * in crates/export, writes to crates/export/out. The code is proved; a caller in C is checked by nothing and owes this:
  *
  * - A buffer is a pointer to its first byte and its length in bytes, all of which may be read, and written where the buffer is not
  *   const. No pointer is NULL, also where the length is 0. No length passes PTRDIFF_MAX.

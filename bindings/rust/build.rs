@@ -1,10 +1,10 @@
-//! Links libexport.a, from the folder that LIMBO_SHEET_LIB names, an absolute path, or from the repository's target/staticlib.
+//! Links libexport.a, from the folder that LIMBO_SHEET_LIB names, an absolute path, or from the repository's crates/export/out.
 use std::env;
 use std::path::PathBuf;
 
 fn main() {
     let beside =
-        || PathBuf::from(env::var_os("CARGO_MANIFEST_DIR").unwrap()).join("../../target/staticlib");
+        || PathBuf::from(env::var_os("CARGO_MANIFEST_DIR").unwrap()).join("../../crates/export/out");
     let folder = env::var_os("LIMBO_SHEET_LIB").map_or_else(beside, PathBuf::from);
     println!("cargo:rerun-if-env-changed=LIMBO_SHEET_LIB");
     // A build script runs in its crate's folder and the linker in another.
@@ -16,7 +16,7 @@ fn main() {
     let library = folder.join("libexport.a");
     assert!(
         library.exists(),
-        "{} is not there: `rt staticlib export` writes target/staticlib/libexport.a, and LIMBO_SHEET_LIB names its folder where it lies elsewhere",
+        "{} is not there: `rt lib` in crates/export writes crates/export/out/libexport.a, and LIMBO_SHEET_LIB names its folder where it lies elsewhere",
         library.display()
     );
     println!("cargo:rerun-if-changed={}", library.display());
