@@ -91,7 +91,7 @@ module _ (ns : Names) (v : VarDecl) where
     where
       go : (xs : List Bytes) → (none_of xs ≡ false → first_init ns v ≡ i) → concat_map (λ (x : Bytes). f x (first_init ns v)) xs ≡ concat_map (λ (x : Bytes). f x i) xs
       go [] h = refl
-      go (x ∷ xs) h = rw (h refl)
+      go (x ∷ xs) h = ap (λ (j : Init). concat_map (λ (y : Bytes). f y j) (x ∷ xs)) (h refl)
 
   pends-are : {i : Init} → or_pending (var_value ns v) ≡ ok i → var_pends ns v ≡ concat_map (λ (x : Bytes). pend_of x i) (laid_names v.names)
   pends-are e = by_first pend_of e

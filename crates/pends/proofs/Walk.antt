@@ -6,8 +6,6 @@ use mathlib.Core.Option.{Option, none, some}
 use Prim.Native.Nat.{ℕ, zero, suc, ◌+◌, ◌-◌, ◌≤◌, ◌<◌}
 use native.Mathlib.Numerals.{add-one}
 use native.Mathlib.Omega.{arith}
-use denote.Enum.Declared.{tag_of}
-use types.Run.{OneOf}
 use lib.Dec.{eqb}
 use lib.ListN.{length}
 use Rattle.semantics.specs.Text.{Bytes}
@@ -38,7 +36,6 @@ use Rattle.pends.specs.declared.Pends.{Pends}
 use Rattle.pends.specs.declared.Pends.TheVariants.{Written, Refused}
 use Rattle.vars.proofs.Items.{refused-append}
 use Rattle.pends.specs.Pends.{pends_of, Pended, AllPended}
-use Rattle.pends.specs.contracts.Pends.{the_type}
 
 -- ---- lines one after the other: the first that is refused
 
@@ -101,9 +98,8 @@ abbrev is_written : Pends → Bool
 is_written (Written p) = true
 is_written (Refused q k) = false
 
-pub not_written : (y : Pends) → OneOf (1 ∷ []) (tag_of the_type y) → is_written y ≡ false
-not_written (Written p) h = absurd (omega arith)
-not_written (Refused q k) h = refl
+pub not_written : {y : Pends} {q k : ℕ} → y ≡ Refused q k → is_written y ≡ false
+not_written e = ap is_written e
 
 -- the rows of the first i lines are written, and none is refused
 pub record LinesPended (s t : Bytes) (n m : ℕ) (d : Bytes) (a : ℕ) (u : Bytes) (k i : ℕ) (e : Bytes) (p : ℕ) : Type 0 where

@@ -5,7 +5,6 @@ use Rattle.pends.proofs.Walk.{none-laid}
 use Rattle.placements.proofs.Same.{keeps-all}
 use Rattle.vars.specs.First.{init_in}
 use mathlib.Core.Path.{ap, refl}
-use borrow.Author.Rules.{rules}
 use Rattle.pends.proofs.pend_line.Goals as goal
 
 pub var_value-requires : goal.var_value-requires

@@ -1,6 +1,5 @@
 -- `pends::pend_name` meets its contract.
 use Rattle.pends.proofs.Rows.{name-nil, name-row}
-use borrow.Author.Rules.{rules}
 use Rattle.pends.proofs.pend_name.Goals as goal
 
 pub returns-then-is_nil : goal.returns-then-is_nil

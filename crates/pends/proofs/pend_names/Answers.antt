@@ -1,7 +1,5 @@
-use borrow.Author.Rules.{rules}
-use Rattle.pends.proofs.Rows.{PendRowsWritten, pend-rows-start, pend-rows-next, pend-rows-end}
+use Rattle.pends.proofs.Rows.{pend-rows-start, pend-rows-next, pend-rows-end}
 use Rattle.write.proofs.Wrote.{wrote-length}
-use Prim.Native.Nat.{◌-◌}
 use native.Mathlib.Omega.{arith}
 use Rattle.pends.proofs.pend_names.Goals as goal
 

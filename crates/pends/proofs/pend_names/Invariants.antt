@@ -1,9 +1,6 @@
 -- `pends::pend_names` meets its contract.
-use borrow.Author.Rules.{rules}
-use Rattle.pends.proofs.Rows.{PendRowsWritten, pend-rows-start, pend-rows-next, pend-rows-end}
-use Rattle.write.proofs.Wrote.{wrote-length}
+use Rattle.pends.proofs.Rows.{PendRowsWritten}
 use Prim.Native.Nat.{◌-◌}
-use native.Mathlib.Omega.{arith}
 use Rattle.pends.proofs.pend_names.Given as goal
 
 abbrev pub invariant-loop-j : goal.invariant-loop-j

@@ -1,7 +1,5 @@
-use borrow.Author.Rules.{rules}
-use Rattle.pends.proofs.Walk.{LinesPended, not_written, walk_start, walk-log, walk-open, walk-next, walk-stop, walk_end}
+use Rattle.pends.proofs.Walk.{not_written, walk_start, walk-log, walk-open, walk-next, walk-stop, walk_end}
 use mathlib.Core.Path.{◌∙◌}
-use Prim.Native.Nat.{◌-◌}
 use Rattle.pends.proofs.pend_rows.Goals as goal
 
 pub loop-i-init : goal.loop-i-init
@@ -20,7 +18,7 @@ pub shape_of-out-in_default : goal.shape_of-out-in_default
 shape_of-out-in_default c = c.out-1.given ∙ c.loop-i.invariant.long
 
 pub returns-in_default : goal.returns-in_default
-returns-in_default c = walk-stop c.requires c.loop-i.invariant c.laid_line-r.result c.laid_line-r.ensures.0 c.pend_line-y.result _ c.pend_line-y.ensures c.loop-i-test.true (not_written c.pend_line-y.result c.in_default.keys2)
+returns-in_default c = walk-stop c.requires c.loop-i.invariant c.laid_line-r.result c.laid_line-r.ensures.0 c.pend_line-y.result _ c.pend_line-y.ensures c.loop-i-test.true (not_written c.in_default.is)
 
 pub open_after-k-requires : goal.open_after-k-requires
 open_after-k-requires c = (walk-open c.requires c.loop-i.invariant c.laid_line-r.result c.laid_line-r.ensures.0 c.pend_line-y.result _ c.pend_line-y.ensures, c.loop-i-test.true)

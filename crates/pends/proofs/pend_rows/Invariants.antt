@@ -1,7 +1,5 @@
 -- `pends::pend_rows` meets its contract.
-use borrow.Author.Rules.{rules}
-use Rattle.pends.proofs.Walk.{LinesPended, not_written, walk_start, walk-log, walk-open, walk-next, walk-stop, walk_end}
-use mathlib.Core.Path.{◌∙◌}
+use Rattle.pends.proofs.Walk.{LinesPended}
 use Prim.Native.Nat.{◌-◌}
 use Rattle.pends.proofs.pend_rows.Given as goal
 
