@@ -3,8 +3,9 @@ use std::env;
 use std::path::PathBuf;
 
 fn main() {
-    let beside =
-        || PathBuf::from(env::var_os("CARGO_MANIFEST_DIR").unwrap()).join("../../crates/export/out");
+    let beside = || {
+        PathBuf::from(env::var_os("CARGO_MANIFEST_DIR").unwrap()).join("../../crates/export/out")
+    };
     let folder = env::var_os("LIMBO_SHEET_LIB").map_or_else(beside, PathBuf::from);
     println!("cargo:rerun-if-env-changed=LIMBO_SHEET_LIB");
     // A build script runs in its crate's folder and the linker in another.
