@@ -19,7 +19,6 @@ use Rattle.global_table.specs.Table.{VarLine, places_in, Tabled}
 use Rattle.global_table.proofs.Table.{places-kept, tabled-kept}
 use Rattle.items.specs.Items.{LiteralIn}
 use Rattle.vars.specs.declared.First.{First}
-use Rattle.vars.specs.declared.First.TheVariants as First
 use Rattle.vars.specs.First.{init_in, FirstStands}
 use Rattle.arrays.specs.Arrays.{ValuesStand}
 use Rattle.data_rows.specs.Data.{PrintKept}

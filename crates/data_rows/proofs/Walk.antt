@@ -9,7 +9,7 @@ use Rattle.semantics.specs.Text.{Bytes}
 use Rattle.semantics.specs.Tree.{VarDecl}
 use Rattle.semantics.specs.Sheet.{Located, concat_map, sheet_source}
 use Rattle.semantics.specs.Fold.{Result, Names}
-use Rattle.semantics.specs.Global.{Item, Init, Global, init_of, globals}
+use Rattle.semantics.specs.Global.{Item, Init, Global, init_of}
 use Rattle.semantics.specs.Types.{id_of}
 use Rattle.semantics.specs.Listing.{item_row}
 use Rattle.laws.proofs.Lists.{concat-append}

@@ -1,6 +1,4 @@
-use Rattle.data_rows.proofs.Walk.{Walking, walk_start, walk-open, walk-next, walk_end}
-use Prim.Native.Nat.{◌-◌}
-use borrow.Author.Rules.{rules}
+use Rattle.data_rows.proofs.Walk.{walk_start, walk-open, walk-next, walk_end}
 use Rattle.data_rows.proofs.data_rows.Goals as goal
 
 pub loop-i-init : goal.loop-i-init

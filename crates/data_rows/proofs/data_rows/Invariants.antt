@@ -1,7 +1,6 @@
 -- `data_rows::data_rows` meets its contract.
-use Rattle.data_rows.proofs.Walk.{Walking, walk_start, walk-open, walk-next, walk_end}
+use Rattle.data_rows.proofs.Walk.{Walking}
 use Prim.Native.Nat.{◌-◌}
-use borrow.Author.Rules.{rules}
 use Rattle.data_rows.proofs.data_rows.Given as goal
 
 abbrev pub invariant-loop-i : goal.invariant-loop-i

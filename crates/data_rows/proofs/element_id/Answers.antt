@@ -5,7 +5,6 @@ use Rattle.semantics.specs.Tree.TypeKey.{elem_key}
 use mathlib.Core.List.{[], ◌∷◌, ◌++◌}
 use mathlib.Core.Path.{sym}
 use native.Mathlib.Omega.{arith}
-use borrow.Author.Rules.{rules}
 use Rattle.data_rows.proofs.element_id.Goals as goal
 
 pub collect_kind-count-requires : goal.collect_kind-count-requires

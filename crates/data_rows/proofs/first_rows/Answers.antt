@@ -9,7 +9,6 @@ use Rattle.data_rows.proofs.Kept.{literal-filled, filled-still, values-still}
 use Rattle.data_rows.proofs.Keys.{kind-own, array_by}
 use Rattle.data_rows.proofs.Printed.{printed-none, printed-value, printed-array}
 use Rattle.data_rows.proofs.Firsts.{first-within, first-allocated, first-filled, first-none, first-value, first-alloc, first-literal, first-pending, first-refused}
-use borrow.Author.Rules.{rules}
 use Rattle.data_rows.proofs.first_rows.Goals as goal
 
 pub value_item-requires : goal.value_item-requires

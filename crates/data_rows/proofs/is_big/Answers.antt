@@ -1,6 +1,5 @@
 -- `data_rows::is_big` meets its contract.
 use Rattle.data_rows.proofs.Firsts.{big-is}
-use borrow.Author.Rules.{rules}
 use Rattle.data_rows.proofs.is_big.Goals as goal
 
 pub returns : goal.returns

@@ -3,7 +3,6 @@ use Rattle.data_rows.proofs.Walk.{none-laid, line-task, line-items}
 use Rattle.global_table.specs.Table.{places_in}
 use Rattle.names.specs.Table.{names_in}
 use Rattle.literals.proofs.Names.{line_kept}
-use borrow.Author.Rules.{rules}
 use Rattle.data_rows.proofs.line_rows.Goals as goal
 
 pub returns-then-r-eq0 : goal.returns-then-r-eq0

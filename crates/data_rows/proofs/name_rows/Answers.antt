@@ -5,7 +5,6 @@ use Rattle.checks.proofs.Kept.{outside-all}
 use Rattle.data_rows.proofs.Printed.{printed-as, printed-none}
 use Rattle.data_rows.proofs.Firsts.{held-keyed}
 use Rattle.data_rows.proofs.Names.{name-nil, name-items}
-use borrow.Author.Rules.{rules}
 use Rattle.data_rows.proofs.name_rows.Goals as goal
 
 pub returns-then-is_nil : goal.returns-then-is_nil

@@ -1,8 +1,6 @@
-use borrow.Author.Rules.{rules}
 use native.Mathlib.Omega.{arith}
 use Rattle.global_table.specs.Table.{type_on}
-use Prim.Native.Nat.{◌-◌}
-use Rattle.data_rows.proofs.Names.{NamesPrinted, names-printed-start, names-printed-next, names-printed-end}
+use Rattle.data_rows.proofs.Names.{names-printed-start, names-printed-next, names-printed-end}
 use Rattle.data_rows.proofs.names_rows.Goals as goal
 
 pub loop-j-init : goal.loop-j-init
