@@ -1,7 +1,6 @@
 -- `laying::part_bytes` meets its contract. A product that passes the room is not worked out.
 use native.Mathlib.Omega.{arith}
 use Rattle.laying.proofs.Steps.{no_bytes, too_many, not-many}
-use borrow.Author.Rules.{rules}
 use Rattle.laying.proofs.part_bytes.Goals as goal
 
 pub returns-then-size-eq0 : goal.returns-then-size-eq0
