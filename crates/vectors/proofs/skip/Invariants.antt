@@ -1,9 +1,9 @@
--- `skip` is safe and ends: a turn leaves fewer bytes, and the buffer keeps its length. Assumes nothing.
-use Rattle.std.proofs.Common.{◌≡◌, length, arith, rules}
+-- `skip` is safe and ends: a turn leaves fewer bytes, and the buffer keeps its length.
+use Rattle.std.proofs.Common.{◌≡◌, length}
 use Rattle.vectors.proofs.skip.Given as goal
 
 abbrev pub invariant-loop-left : goal.invariant-loop-left
-invariant-loop-left l = length l.space ≡ 4096
+invariant-loop-left g l = length l.space ≡ 4096
 
 abbrev pub decreases-loop-left : goal.decreases-loop-left
-decreases-loop-left l = l.left
+decreases-loop-left g l = l.left
