@@ -16,7 +16,6 @@ use Rattle.answers.proofs.Rows.{at-start}
 use Rattle.image.specs.declared.ImageAnswer.{ImageAnswer}
 use Rattle.image.specs.declared.ImageAnswer.TheVariants.{Laid, Refused}
 use Rattle.image.specs.Image.{Pictures}
-use Rattle.io.specs.Counts.{IsPrefixLen}
 
 -- ---- a row
 
@@ -37,7 +36,7 @@ row-length name bs = omega (arith, length-append name (44 ∷ (hex_of bs ++ (10 
 -- ---- the answers
 
 abbrev ImagePrinted : Buffers → Bytes → ℕ → Bytes → Type 0
-ImagePrinted b s r e = IsPrefixLen r e × (take r e ≡ printed_image (imaged b s))
+ImagePrinted b s r e = (r ≤ length e) × (take r e ≡ printed_image (imaged b s))
 
 module _ (s : Bytes) (b : Buffers) (listing image area : Bytes) {q : ImageAnswer} (h : Pictures s b q listing image area) (d : Bytes) (room : 64 + 2 * (b.image + b.area) ≤ length d) where
   pub refusal-printed : {x : Refusal} → q ≡ Refused x → {e : Bytes} {r : ℕ}
@@ -45,7 +44,7 @@ module _ (s : Bytes) (b : Buffers) (listing image area : Bytes) {q : ImageAnswer
   refusal-printed given w =
       let y = subst (λ (z : ImageAnswer). Pictures s b z listing image area) given h in
       let p = at-start w.0 (omega (arith, w.1)) in
-      (p.0, p.1 ∙ ap printed_image y.answer)
+      (p.0.0, p.1 ∙ ap printed_image y.answer)
 
   pub image-printed : {l i a : ℕ} → q ≡ Laid l i a → {e f : Bytes} {m r : ℕ}
       → Wrote d 0 (row (bytes "image" ∷ hex_of (take (i - 0) image) ∷ [])) e m → Wrote e m (row (bytes "area" ∷ hex_of (take (a - 0) area) ∷ [])) f r → ImagePrinted b s r f
@@ -55,4 +54,4 @@ module _ (s : Bytes) (b : Buffers) (listing image area : Bytes) {q : ImageAnswer
       let z = row (bytes "area" ∷ hex_of (take a area) ∷ []) in
       let u = then (wrote_as (ap (λ (n : ℕ). row (bytes "image" ∷ hex_of (take n image) ∷ [])) (sub-zero i)) v) (wrote_as (ap (λ (n : ℕ). row (bytes "area" ∷ hex_of (take n area) ∷ [])) (sub-zero a)) w) in
       let p = at-start u (omega (arith, room, length-append x z, row-length (bytes "image") (take i image), row-length (bytes "area") (take a area), length-take i image, length-take a area, y.lengths.2, y.lengths.3)) in
-      (p.0, p.1 ∙ ap printed_image y.answer)
+      (p.0.0, p.1 ∙ ap printed_image y.answer)
