@@ -1,4 +1,5 @@
 -- `iota::value_at` meets its contract.
+use Rattle.std.proofs.Common.{rules}
 use Rattle.iota.proofs.Counter.{value-first, value_line, value-col, value_on}
 use Rattle.iota.proofs.value_at.Goals as goal
 
@@ -12,4 +13,4 @@ pub returns-then-col-c : goal.returns-then-col-c
 returns-then-col-c c = value-col c.args.c c.args.line c.args.col c.if-not-c.false c.if-line-c.false c.if-col-c.true
 
 pub returns : goal.returns
-returns c = value_on c.args.c c.args.line c.args.col c.if-not-c.false c.if-line-c.false c.if-col-c.false
+returns c = search (value_on, rules)
