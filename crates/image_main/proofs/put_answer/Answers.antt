@@ -6,9 +6,6 @@ use native.Mathlib.Omega.{arith}
 use borrow.Author.Rules.{rules}
 use Rattle.image_main.proofs.put_answer.Goals as goal
 
---? part-put-row-end-2 : tie.Need-slice-bounds-put-row-end-2
---? part-put-row-end-2 c = let w = laid-within c.before.before.before.before.before.before.before.before.before.before.before.i.given.1 c.before.before.before.before.before.before.before.before.before.before.before.before.before.before.before.before.before.before.before.before.before.image.ensures.0 in omega (arith, w.2, c.before.before.before.before.before.before.before.before.before.before.before.before.before.before.before.before.before.before.before.before.before.image.auto.1.1.1.0)
-
 pub returns-in-Refused : goal.returns-in-Refused
 returns-in-Refused c = refusal-printed c.args.sheet.now (lent_of c.args.listing.now c.args.image.now c.args.area.now c.args.work.now) _ _ _ c.image.ensures.0 _ c.requires c.in-Refused.is c.put_refusal.ensures
 

@@ -12,8 +12,5 @@ use Rattle.type_row.proofs.put_type.Goals as goal
 pub slice_bounds-put_comma_hex-end : goal.slice_bounds-put_comma_hex-end
 slice_bounds-put_comma_hex-end c = omega (arith, map-fits c.requires.0, c.requires.0.room)
 
---? add-t8 : tie.Need-overflow-add-t8
---? add-t8 c = record { fits = omega (arith, c.before.before.before.before.before.before.before.before.before.before.before.before.before.before.before.before.before.before.before.before.before.before.before.before.before.before.before.before.before.before.before.requires.1) }
-
 pub returns : goal.returns
 returns c = (λ offs x. type_row c.args.p.id c.args.size (map_in c.args.work.now c.args.size) offs x.bytes c.map_ones.result c.map_ones.ensures c.put_part-at.ensures c.put_comma_nat-at.ensures c.put_comma_nat-at-2.ensures c.put_comma_nat-at-3.ensures (wrote_as (ap (λ (m : List ℕ). 44 ∷ hex_of m) (map-part c.args.work.now c.args.size (49152 + c.map_bytes-end.result - 49152) (omega arith))) c.put_comma_hex-at.ensures) c.put_lf-at.ensures, refl)
