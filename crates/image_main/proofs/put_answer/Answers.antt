@@ -1,9 +1,6 @@
 -- `image_main::put_answer` meets its contract.
 use Rattle.image_main.proofs.Laws.{refusal-printed, image-printed}
-use Rattle.image.proofs.Laws.{laid-within}
 use Rattle.image.specs.Image.{lent_of}
-use native.Mathlib.Omega.{arith}
-use borrow.Author.Rules.{rules}
 use Rattle.image_main.proofs.put_answer.Goals as goal
 
 pub returns-in-Refused : goal.returns-in-Refused

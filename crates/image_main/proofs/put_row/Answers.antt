@@ -1,6 +1,5 @@
 -- `image_main::put_row` meets its contract.
 use Rattle.image_main.proofs.Laws.{row_put}
-use borrow.Author.Rules.{rules}
 use Rattle.image_main.proofs.put_row.Goals as goal
 
 pub returns : goal.returns

@@ -1,7 +1,6 @@
 -- `listing::put_answer` meets its contract.
 use Rattle.listing.proofs.Laws.{listing-printed, refusal-printed}
 use lib.ListN.{length}
-use borrow.Author.Rules.{rules}
 use Rattle.listing.proofs.put_answer.Goals as goal
 
 pub returns-in-Listed : goal.returns-in-Listed
