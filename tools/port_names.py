@@ -1,5 +1,5 @@
 #!/usr/bin/env python3
-"""Brings the repository's own names to Rattle's spelling, after /opt/rattle/port/port.py has run.
+"""Brings the repository's own names to Rattle's spelling, after the kit's port.py has run.
 
     tools/port_names.py          in the repository's top folder: rewrites crates/, crates.txt and docs/ in place
 
