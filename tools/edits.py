@@ -96,11 +96,11 @@ def applied(folder, text):
 
 
 def proof_of(folder, function):
-    """The folder of a function's proof, which functions that call each other share; it may be absent."""
+    """The folder of a function's proof, which functions that call each other share under a name of their names; it may be absent."""
     parts = function.split("::")[1:]
     above = os.path.join(folder, "proofs", *parts[:-1])
     for shared in glob.glob(os.path.join(above, "+*")):
-        if parts[-1] in os.path.basename(shared).split("+"):
+        if f"_{parts[-1]}_" in f"_{os.path.basename(shared)[1:]}_":
             return os.path.relpath(shared, folder)
     return os.path.join(os.path.relpath(above, folder), parts[-1])
 

@@ -204,7 +204,7 @@ fn rows<W: Write>(out: &mut W, s: &[u8]) -> io::Result<()> {
 fn main(rt: HostRuntime) -> io::Result<()> {
     let alloc = rt.alloc();
     let mut lines = Vec::new(alloc);
-    rt.reader().read_to_end(&mut lines)?;
+    rt.stdin().take(65536).read_to_end(&mut lines)?;
     let mut out = BufWriter::new(alloc, io::writer(&rt))?;
     rows(&mut out, lines.as_slice())?;
     out.flush()
