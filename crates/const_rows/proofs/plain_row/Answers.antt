@@ -30,4 +30,4 @@ pub put_rest-requires : goal.put_rest-requires
 put_rest-requires c = (answered c.requires.0.logged c.requires.0.checked c.look_up-r.ensures.low, Laws.plain-some c.args.sheet.now c.args.work.now c.args.c.consts c.args.i c.module_line_of.ensures c.is_own.ensures (ap not c.if-not-is_own.false) c.line_of.ensures c.field_at-name.ensures c.requires.1 c.look_up-r.ensures.newest-is)
 
 pub returns : goal.returns
-returns c = Laws.plain-new c.args.sheet.now c.args.work.now c.args.c.consts c.args.i c.module_line_of.ensures c.is_own.ensures (ap not c.if-not-is_own.false) c.line_of.ensures c.field_at-name.ensures c.look_up_before.result c.look_up-r.result c.look_up_before.ensures.has c.if-look_up_before-ne0.false c.look_up-r.ensures.value c.put_part-p.ensures c.put_rest.ensures
+returns c = Laws.plain-new c.args.sheet.now c.args.work.now c.args.c.consts c.args.i c.module_line_of.ensures c.is_own.ensures (ap not c.if-not-is_own.false) c.line_of.ensures c.field_at-name.ensures c.look_up_before.result c.look_up-r.result c.look_up_before.ensures.has (omega arith) c.look_up-r.ensures.value c.put_part-p.ensures c.put_rest.ensures

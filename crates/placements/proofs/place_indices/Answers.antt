@@ -1,3 +1,4 @@
+use Rattle.std.proofs.Common.{rules}
 use Rattle.placements.proofs.Steps.{indices-none, indices-negative, low_fits, high_fits, indices-placed}
 use Rattle.placements.proofs.place_indices.Goals as goal
 
@@ -17,4 +18,4 @@ pub place_span-requires : goal.place_span-requires
 place_span-requires c = ((high_fits c.args.work.now c.args.e c.args.x c.ranges.low c.ranges.high c.if-high-low.false c.if-low-lt0.false).2, c.requires.0, c.requires.1)
 
 pub returns : goal.returns
-returns c = indices-placed c.args.work.now c.args.e c.args.x c.ranges.low c.ranges.high c.if-high-low.false c.if-low-lt0.false _ _ c.place_span.ensures.2 c.place_span.ensures.0 c.place_span.ensures.1
+returns c = indices-placed c.args.work.now c.args.e c.args.x c.ranges.low c.ranges.high c.if-high-low.false (search rules) _ _ c.place_span.ensures.2 c.place_span.ensures.0 c.place_span.ensures.1
