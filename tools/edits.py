@@ -95,12 +95,19 @@ def applied(folder, text):
     return made
 
 
+def in_cycle(folder, name, function):
+    """Whether the source names this cycle at this function."""
+    head = re.compile(rf"^ *#\[cycle\({name}\)\]\n(?: *#\[.*\n)* *(?:pub )?fn {function}\b", re.M)
+    return any(head.search(read(path)) for path in glob.glob(os.path.join(folder, "src", "**", "*.rt"), recursive=True))
+
+
 def proof_of(folder, function):
-    """The folder of a function's proof, which functions that call each other share under a name of their names; it may be absent."""
+    """The folder of a function's proof, which functions that call each other share under their cycle's name; it may be absent."""
     parts = function.split("::")[1:]
     above = os.path.join(folder, "proofs", *parts[:-1])
     for shared in glob.glob(os.path.join(above, "+*")):
-        if f"_{parts[-1]}_" in f"_{os.path.basename(shared)[1:]}_":
+        name = os.path.basename(shared)[1:]
+        if name == parts[-1] or in_cycle(folder, name, parts[-1]):
             return os.path.relpath(shared, folder)
     return os.path.join(os.path.relpath(above, folder), parts[-1])
 
