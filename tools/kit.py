@@ -7,10 +7,11 @@
 import os
 import shutil
 import subprocess
+import sys
 
 import oracle
 
-KIT = os.path.dirname(os.path.dirname(os.path.realpath(shutil.which("rt") or "/opt/rattle/bin/rt")))
+KIT = os.path.dirname(os.path.dirname(os.path.realpath(shutil.which("rt") or sys.exit("rt is not in PATH"))))
 
 
 def crates():
