@@ -1,7 +1,7 @@
 -- `alloc` lines.
 use mathlib.Core.Path.{◌≡◌, refl, sym, ap, ◌∙◌}
 use mathlib.Core.List.{[], ◌∷◌}
-use mathlib.Core.Option.{some}
+use Rattle.std.specs.Prelude.{Some}
 use Prim.Native.Nat.{ℕ, zero, suc, ◌-◌, ◌<◌}
 use native.Mathlib.Omega.{arith}
 use lib.ListN.{get_or, drop}
@@ -48,7 +48,7 @@ kind-low k_big e = omega arith
 kind-low k_real e = omega arith
 kind-low k_ptr e = omega arith
 
-pub type-given : (s : Bytes) (r : ℕ) → (r ≡ 0 → ⊥) → type_of s r ≡ some (type_at s r)
+pub type-given : (s : Bytes) (r : ℕ) → (r ≡ 0 → ⊥) → type_of s r ≡ Some (type_at s r)
 type-given s zero h = absurd (h refl)
 type-given s (suc r) h = refl
 

@@ -1,6 +1,5 @@
 -- Constant arrays, as the code answers them.
-use Rattle.std.specs.Prelude.{ℕ, ◌-◌, ◌≤◌, ◌<◌, ◌≡◌, [], ◌∷◌, get_or}
-use Rattle.std.proofs.Math.Option.{Option}
+use Rattle.std.specs.Prelude.{ℕ, ◌-◌, ◌≤◌, ◌<◌, ◌≡◌, [], ◌∷◌, get_or, Option}
 use Rattle.semantics.specs.Text.{Bytes, or_else}
 use Rattle.semantics.specs.Tree.{Ty, MaybeEx, ElemKind}
 use Rattle.semantics.specs.Tree.ElemKind.{k_byte, k_word, k_big, k_real, k_ptr}

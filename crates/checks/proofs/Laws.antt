@@ -2,7 +2,7 @@
 use mathlib.Core.Path.{◌≡◌, refl, sym, ap, ◌∙◌, subst}
 use mathlib.Core.Bool.{false}
 use mathlib.Core.List.{List, [], ◌∷◌, map}
-use mathlib.Core.Option.{Option, none}
+use Rattle.std.specs.Prelude.{Option, None}
 use Prim.Native.Nat.{ℕ, suc, ◌+◌, ◌≤◌, ◌<◌}
 use native.Mathlib.Omega.{arith}
 use lib.ListN.{length, get_or, length-append, length-map, length-replicate}
@@ -116,4 +116,4 @@ located-length {A} f k o (n ∷ ns) =
 
 pub few-consts : {s t : List ℕ} {n : ℕ} → Checked s t n → length (sheet_source s).consts ≤ 128
 unfolding sheet_source
-few-consts {s} c = omega (arith, located-length (λ (d : Declares). d.consts) 1 none (nodes_in s), c.bounds.consts)
+few-consts {s} c = omega (arith, located-length (λ (d : Declares). d.consts) 1 None (nodes_in s), c.bounds.consts)

@@ -1,7 +1,7 @@
 -- The rows together are the listing, and what compiling gives by each answer.
 use mathlib.Core.Path.{◌≡◌, sym, ap, ◌∙◌, subst}
 use mathlib.Core.List.{◌++◌, append_assoc}
-use mathlib.Core.Option.{none, some}
+use Rattle.std.specs.Prelude.{None, Some}
 use Prim.Native.Nat.{ℕ, ◌≤◌, ◌<◌}
 use native.Mathlib.Omega.{arith}
 use lib.ListN.{length}
@@ -37,10 +37,10 @@ three-last a b c d = sym (append_assoc a (b ++ c) d) ∙ ap (λ (l : Bytes). l +
 module _ {s t : Bytes} {n : ℕ} {x : Tables} (k : Listable s t n x) where
   -- the pending names' rows, where no line is refused
   module _ (d e : Bytes) (a : ℕ) (y : Pends) (h : AllPended (names_in s t x.consts) s d a y e) where
-    pub pends-written : {b : ℕ} → y ≡ Pends.Written b → (vars_refused (names_of (sheet_source s)) (laid_vars (sheet_source s)) ≡ none) × Wrote d a (concat_map pend_row (source_globals (sheet_source s)).pends) e b
+    pub pends-written : {b : ℕ} → y ≡ Pends.Written b → (vars_refused (names_of (sheet_source s)) (laid_vars (sheet_source s)) ≡ None) × Wrote d a (concat_map pend_row (source_globals (sheet_source s)).pends) e b
     pends-written {b} q = subst (λ (ns : Names). AllPended ns s d a (Pends.Written b) e) (names-are k) (subst (λ (z : Pends). AllPended (names_in s t x.consts) s d a z e) q h)
 
-    pub pends-refused : {q l : ℕ} → y ≡ Pends.Refused q l → vars_refused (names_of (sheet_source s)) (laid_vars (sheet_source s)) ≡ some (record { number = q; line = l })
+    pub pends-refused : {q l : ℕ} → y ≡ Pends.Refused q l → vars_refused (names_of (sheet_source s)) (laid_vars (sheet_source s)) ≡ Some (record { number = q; line = l })
     pends-refused {q} {l} g = (subst (λ (ns : Names). AllPended ns s d a (Pends.Refused q l) e) (names-are k) (subst (λ (z : Pends). AllPended (names_in s t x.consts) s d a z e) g h)).0
 
   -- all rows
@@ -56,7 +56,7 @@ module _ {s t : Bytes} {n : ℕ} {x : Tables} (k : Listable s t n x) where
   -- ---- outcomes
 
   module _ {d e f g : Bytes} {p q r : ℕ} (L : ℕ) (z : d ≡ zeros (length d)) (l : length d ≡ L)
-      (a : Wrote d 0 (declared_text s) e p) (v : vars_refused (names_of (sheet_source s)) (laid_vars (sheet_source s)) ≡ none)
+      (a : Wrote d 0 (declared_text s) e p) (v : vars_refused (names_of (sheet_source s)) (laid_vars (sheet_source s)) ≡ None)
       (b : Wrote e p (concat_map pend_row (source_globals (sheet_source s)).pends) f q) (c : Wrote f q (types_text s) g r)
     where
       whole : Wrote (zeros L) 0 (source_listing (sheet_source s)) g r
@@ -79,7 +79,7 @@ module _ {s t : Bytes} {n : ℕ} {x : Tables} (k : Listable s t n x) where
       pub outgrows : L < r → Stops (worked L (sheet_source s)) 13 0
       outgrows h = record { outcome = rw (k.folded, v, lt-ltb L (length (source_listing (sheet_source s))) ((on-zeros whole).1 h)); numbered = without-line (omega arith) (omega arith) }
 
-  pub value-refused : (L : ℕ) {q l : ℕ} → vars_refused (names_of (sheet_source s)) (laid_vars (sheet_source s)) ≡ some (record { number = q; line = l }) → Stops (worked L (sheet_source s)) q l
+  pub value-refused : (L : ℕ) {q l : ℕ} → vars_refused (names_of (sheet_source s)) (laid_vars (sheet_source s)) ≡ Some (record { number = q; line = l }) → Stops (worked L (sheet_source s)) q l
   value-refused L e = record { outcome = rw (k.folded, e); numbered = vars-numbered (names_of (sheet_source s)) (laid_vars (sheet_source s)) e }
 
 -- ---- tables, or a constant that is refused

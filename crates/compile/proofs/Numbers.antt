@@ -2,7 +2,7 @@
 use mathlib.Core.Path.{◌≡◌, refl, subst}
 use mathlib.Core.Bool.{Bool, true, false, not, cond}
 use mathlib.Core.List.{List, [], ◌∷◌, ◌++◌}
-use mathlib.Core.Option.{Option, none, some}
+use Rattle.std.specs.Prelude.{Option, None, Some}
 use Prim.Native.Nat.{ℕ, ◌^◌, ◌≤◌}
 use native.Mathlib.Omega.{arith}
 use lib.IntN.{ℤ, pos, negsuc}
@@ -60,8 +60,8 @@ module _ {A : Type 0} where
   either false p q = q
 
   late-option : (o : Option A) → Late (from_option o)
-  late-option none = fails
-  late-option (some a) = fine
+  late-option None = fails
+  late-option (Some a) = fine
 
 late-bind : {A B : Type 0} (x : Result A) {f : A → Result B} → Late x → ((a : A) → Late (f a)) → Late (bind x f)
 unfolding LateIs
@@ -256,19 +256,19 @@ module _ (ns : Names) where
   first-late (refuse r) y p q = refuses p.is.0 p.is.1
 
   init-late : (t : Ty) (o : Option Ex) → Late (init_of ns t o)
-  init-late t none = fine
-  init-late t (some e) = first-late (fold_at0 ns e) (const_array ns (elem_of t) e) (at0-late ns e) (form-late (elem_of t) e)
+  init-late t None = fine
+  init-late t (Some e) = first-late (fold_at0 ns e) (const_array ns (elem_of t) e) (at0-late ns e) (form-late (elem_of t) e)
 
   parts-late : (t : Ty) (o : Option Ex) (xs : List Bytes) → Late (var_value ns (record { ty = t; init = o; names = xs }))
-  parts-late t none xs = either (none_of (laid_names xs)) fine fine
-  parts-late t (some e) xs = either (none_of (laid_names xs)) (late-bind (fold_at0 ns e) (at0-late ns e) (λ v. fine)) (init-late t (some e))
+  parts-late t None xs = either (none_of (laid_names xs)) fine fine
+  parts-late t (Some e) xs = either (none_of (laid_names xs)) (late-bind (fold_at0 ns e) (at0-late ns e) (λ v. fine)) (init-late t (Some e))
 
   var-late : (d : VarDecl) → Late (var_value ns d)
   var-late d = parts-late d.ty d.init d.names
 
 LateRefusal : Option Refusal → Type 0
-LateRefusal none = Unit {0}
-LateRefusal (some x) = (8 ≤ x.number) × (x.number ≤ 12)
+LateRefusal None = Unit {0}
+LateRefusal (Some x) = (8 ≤ x.number) × (x.number ≤ 12)
 
 by-late : {A : Type 0} (k : ℕ) (x : Result A) (o : Option Refusal) → Late x → LateRefusal o → LateRefusal (refused_by k x o)
 unfolding LateIs LateRefusal
@@ -286,7 +286,7 @@ vars-late ns (v ∷ vs) = by-late v.line (var_value ns v.it) (vars_refused ns vs
 pub with-line : {q k : ℕ} → 3 ≤ q → q ≤ 12 → RefusalAt q k
 with-line a b = record { first = omega arith; last = omega arith; sheet = λ e. absurd (omega arith); space = λ e. absurd (omega arith); outgrown = λ e. absurd (omega arith) }
 
-pub vars-numbered : (ns : Names) (vs : List (Located VarDecl)) {q k : ℕ} → vars_refused ns vs ≡ some (record { number = q; line = k }) → RefusalAt q k
+pub vars-numbered : (ns : Names) (vs : List (Located VarDecl)) {q k : ℕ} → vars_refused ns vs ≡ Some (record { number = q; line = k }) → RefusalAt q k
 unfolding LateRefusal
 vars-numbered ns vs e = let p = subst LateRefusal e (vars-late ns vs) in with-line (omega (arith, p.0)) p.1
 

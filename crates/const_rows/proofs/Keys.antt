@@ -2,7 +2,7 @@
 use mathlib.Core.Path.{◌≡◌, refl, sym, ap, ◌∙◌}
 use mathlib.Core.Bool.{Bool, true, false, cond, not, ◌||◌, or-true, or-false}
 use mathlib.Core.List.{List, [], ◌∷◌, ◌++◌, append-nil}
-use mathlib.Core.Option.{Option, none, some}
+use Rattle.std.specs.Prelude.{Option, None, Some}
 use Prim.Native.Nat.{ℕ, zero, suc, ◌+◌, ◌*◌}
 use native.Mathlib.Omega.{arith}
 use lib.Dec.{eqb}
@@ -23,10 +23,10 @@ use Rattle.semantics.proofs.Common.{never, both}
 -- ---- equal keys
 
 option-equal : (x y : Option Bytes) → same_option x y ≡ true → x ≡ y
-option-equal none none h = refl
-option-equal none (some y) h = never h
-option-equal (some x) none h = never h
-option-equal (some x) (some y) h = rw (same-eq x y h)
+option-equal None None h = refl
+option-equal None (Some y) h = never h
+option-equal (Some x) None h = never h
+option-equal (Some x) (Some y) h = rw (same-eq x y h)
 
 key-equal : (j k : Key) → same_key j k ≡ true → j ≡ k
 key-equal j k h =
@@ -90,7 +90,7 @@ module _ (impl : Option Bytes) (s y : Bytes) (v : Option ConstVal) (log : List C
       ≡ filter is_qualified (keys_in log) ++ cond (eqb k 0 || has_key (qualified (first_field s k) y) log) [] (qualified (first_field s k) y ∷ [])
   unfolding module_at
   qualified-entry zero = filter-other is_qualified (any (same_key (plain y)) (keys_in log)) (keys_in log) (plain y) refl ∙ sym (append-nil (filter is_qualified (keys_in log)))
-  qualified-entry (suc k) = rw (ne_eqb (suc k) 0 (λ e. omega arith)) (qualified-in (same_option impl (some (first_field s (suc k)))) (first_field s (suc k)))
+  qualified-entry (suc k) = rw (ne_eqb (suc k) 0 (λ e. omega arith)) (qualified-in (same_option impl (Some (first_field s (suc k)))) (first_field s (suc k)))
 
   plain_in : (i : Bool) (m : Bytes)
       → filter is_plain (keys_in ((cond i (record { key = plain y; value = v } ∷ []) [] ++ (record { key = qualified m y; value = v } ∷ [])) ++ log))
@@ -106,7 +106,7 @@ module _ (impl : Option Bytes) (s y : Bytes) (v : Option ConstVal) (log : List C
       ≡ filter is_plain (keys_in log) ++ cond (not (own_in impl (module_at s k)) || has_key (plain y) log) [] (plain y ∷ [])
   unfolding module_at
   plain_entry zero = filter-one is_plain (any (same_key (plain y)) (keys_in log)) (keys_in log) (plain y) refl ∙ rw (keys-has (plain y) log)
-  plain_entry (suc k) = plain_in (same_option impl (some (first_field s (suc k)))) (first_field s (suc k))
+  plain_entry (suc k) = plain_in (same_option impl (Some (first_field s (suc k)))) (first_field s (suc k))
 
 -- ---- the rows
 

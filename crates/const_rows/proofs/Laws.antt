@@ -2,7 +2,7 @@
 use mathlib.Core.Path.{◌≡◌, refl, sym, ap, ◌∙◌}
 use mathlib.Core.Bool.{Bool, true, false, not}
 use mathlib.Core.List.{[], ◌∷◌, ◌++◌, append_assoc}
-use mathlib.Core.Option.{Option, none, some}
+use Rattle.std.specs.Prelude.{Option, None, Some}
 use Prim.Native.Nat.{ℕ, ◌+◌, ◌-◌, ◌/◌, ◌%◌, ◌≤◌, ◌<◌}
 use native.Mathlib.Omega.{arith}
 use native.Mathlib.Numerals.{add-one}
@@ -35,19 +35,19 @@ use Rattle.const_rows.proofs.Keys.{qualified-none, plain-none, qualified-more, p
 abbrev value_row : Option ConstVal → Bytes
 value_row o = row (value_fields o)
 
-row-none : value_row none ≡ bytes "x" ++ (10 ∷ [])
+row-none : value_row None ≡ bytes "x" ++ (10 ∷ [])
 unfolding row
 row-none = refl
 
-row-int : (z : ℤ) → value_row (some (v_int z)) ≡ (bytes "i," ++ decimalℤ z) ++ (10 ∷ [])
+row-int : (z : ℤ) → value_row (Some (v_int z)) ≡ (bytes "i," ++ decimalℤ z) ++ (10 ∷ [])
 unfolding row
 row-int z = refl
 
-row-real : (x : Float) → value_row (some (v_real x)) ≡ (bytes "r," ++ hex_of (big_endian 8 (to_bits binary64 x))) ++ (10 ∷ [])
+row-real : (x : Float) → value_row (Some (v_real x)) ≡ (bytes "r," ++ hex_of (big_endian 8 (to_bits binary64 x))) ++ (10 ∷ [])
 unfolding row to_bits
 row-real x = refl
 
-row-text : (b : Bytes) → value_row (some (v_str b)) ≡ (bytes "s," ++ hex_of b) ++ (10 ∷ [])
+row-text : (b : Bytes) → value_row (Some (v_str b)) ≡ (bytes "s," ++ hex_of b) ++ (10 ∷ [])
 unfolding row
 row-text b = refl
 
@@ -84,10 +84,10 @@ module _ (t : Bytes) (r : ℕ) (a : Answered t r × (0 < r)) (k b : ℕ) (hk : k
 
 row-key : (k : Bytes) (v : Option ConstVal) → row (bytes "con" ∷ (k ∷ value_fields v)) ≡ bytes "con," ++ (k ++ (44 ∷ row (value_fields v)))
 unfolding row
-row-key k none = refl
-row-key k (some (v_int z)) = refl
-row-key k (some (v_real x)) = refl
-row-key k (some (v_str b)) = refl
+row-key k None = refl
+row-key k (Some (v_int z)) = refl
+row-key k (Some (v_real x)) = refl
+row-key k (Some (v_str b)) = refl
 
 -- the key M->NAME, as it is written
 row-qualified : (m n r : Bytes) → bytes "con," ++ ((m ++ bytes "->" ++ n) ++ r) ≡ (((bytes "con," ++ m) ++ bytes "->") ++ (n ++ r))

@@ -2,7 +2,7 @@
 use mathlib.Core.Path.{◌≡◌, sym, ap, ◌∙◌}
 use mathlib.Core.Bool.{true, false}
 use mathlib.Core.List.{List, [], ◌∷◌}
-use mathlib.Core.Option.{Option, none, some}
+use Rattle.std.specs.Prelude.{Option, None, Some}
 use Prim.Native.Nat.{ℕ, ◌+◌, ◌-◌, ◌<◌}
 use native.Mathlib.Omega.{arith}
 use lib.Dec.{leb}
@@ -62,8 +62,8 @@ unfolding Number.number_up_to
 place-exact f = go (Text.nat_of f)
   where
     go : (o : Option ℕ) → Text.holds_of (λ (m : ℕ). leb m 65535) o ≡ true → Number.capped 65536 o ≡ Text.or_else 0 o
-    go none h = never h
-    go (some m) h = omega (arith, leb-true m 65535 h)
+    go None h = never h
+    go (Some m) h = omega (arith, leb-true m 65535 h)
 
 module _ (s t : List ℕ) (n i : ℕ) (c : Checked s t n) (h : i < n) (con : letter (read_at s i).form.kind ≡ 68) where
   form-con : form_at t i ≡ 28

@@ -2,7 +2,7 @@
 use mathlib.Core.Path.{◌≡◌, refl, sym, ap, ◌∙◌}
 use mathlib.Core.Bool.{Bool, true, false, cond}
 use mathlib.Core.List.{List, [], ◌∷◌, ◌++◌, map}
-use mathlib.Core.Option.{Option, none, some}
+use Rattle.std.specs.Prelude.{Option, None, Some}
 use Prim.Native.Nat.{ℕ, zero, suc, ◌+◌, ◌-◌, ◌≤◌, ◌<◌}
 use native.Mathlib.Omega.{arith}
 use lib.Dec.{leb, eqb}
@@ -149,8 +149,8 @@ filter-add p q r h (x ∷ xs) = omega (arith, filter-step p x xs, filter-step q 
 
 earlier-or-here : (i : ℕ) (o : Option Module)
     → one_if (holds_of (λ (m : Module). leb m.line i) o) + one_if (holds_of (λ (m : Module). eqb m.line (suc i)) o) ≤ one_if (holds_of (λ (m : Module). leb m.line (suc i)) o)
-earlier-or-here i none = omega arith
-earlier-or-here i (some m) = go (leb m.line i) refl (eqb m.line (suc i)) refl (leb m.line (suc i)) refl
+earlier-or-here i None = omega arith
+earlier-or-here i (Some m) = go (leb m.line i) refl (eqb m.line (suc i)) refl (leb m.line (suc i)) refl
   where
     go : (a : Bool) → leb m.line i ≡ a → (b : Bool) → eqb m.line (suc i) ≡ b → (d : Bool) → leb m.line (suc i) ≡ d → cond a 1 0 + cond b 1 0 ≤ cond d 1 0
     go true p true q true r = absurd (omega (arith, leb-true m.line i p, eqb-true m.line (suc i) q))
@@ -163,8 +163,8 @@ earlier-or-here i (some m) = go (leb m.line i) refl (eqb m.line (suc i)) refl (l
     go false p false q false r = omega arith
 
 earlier-or-top : (i : ℕ) (o : Option Module) → one_if (holds_of (λ (m : Module). leb m.line i) o) + one_if (is_none o) ≤ 1
-earlier-or-top i none = omega arith
-earlier-or-top i (some m) = go (leb m.line i)
+earlier-or-top i None = omega arith
+earlier-or-top i (Some m) = go (leb m.line i)
   where
     go : (b : Bool) → cond b 1 0 + 0 ≤ 1
     go true = omega arith

@@ -2,7 +2,7 @@
 use mathlib.Core.Path.{◌≡◌, sym, ap, ◌∙◌}
 use mathlib.Core.Bool.{true, false}
 use mathlib.Core.List.{[], ◌++◌}
-use mathlib.Core.Option.{Option, none, some}
+use Rattle.std.specs.Prelude.{Option, None, Some}
 use Prim.Native.Nat.{ℕ, ◌+◌, ◌-◌, ◌*◌}
 use native.Mathlib.Omega.{arith}
 use lib.IntN.{pos}
@@ -72,13 +72,13 @@ module _ (s t : Bytes) (n m k i : ℕ) (l : ConstLine s t n m k i) (r : ℕ) (is
       unfolding result_in
       took-value {v} q h =
           let e = entered-value u w m (i + 1) k d (free f.kept) v (at_value q) h s n (omega (arith, l.line)) l.group named log-after in
-          (all-kept (some (value_in u v)) w e, (e.logged, λ go. rw (fold_is q, log_is (some (value_in u v)) w e)))
+          (all-kept (Some (value_in u v)) w e, (e.logged, λ go. rw (fold_is q, log_is (Some (value_in u v)) w e)))
 
       pub took-failed : x ≡ Failed → w ≡ linked (over u (5120 + 16 * m) (entry_of (i + 1) k 0 0 d)) const_chains m → Kept 5120 t w × ConstantEntered s t w n m k i iota true
       unfolding result_in
       took-failed q h =
           let e = entered-failed u w m (i + 1) k d (free f.kept) h s n (omega (arith, l.line)) l.group named log-after in
-          (all-kept none w e, (e.logged, λ go. rw (fold_is q, log_is none w e)))
+          (all-kept None w e, (e.logged, λ go. rw (fold_is q, log_is None w e)))
 
     pub took-none : x ≡ TooLong → Kept 5120 t u × ConstantEntered s t u n m k i iota false
     unfolding result_in

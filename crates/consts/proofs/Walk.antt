@@ -2,7 +2,7 @@
 use mathlib.Core.Path.{◌≡◌, refl, sym, ap, ◌∙◌}
 use mathlib.Core.Bool.{Bool, true, false, not}
 use mathlib.Core.List.{List, [], ◌∷◌}
-use mathlib.Core.Option.{Option, none, some}
+use Rattle.std.specs.Prelude.{Option, None, Some}
 use Prim.Native.Nat.{ℕ, suc, ◌+◌, ◌≤◌, ◌<◌}
 use native.Mathlib.Omega.{arith}
 use native.Mathlib.Numerals.{add-one}
@@ -125,7 +125,7 @@ module _ (s t : Bytes) (n k : ℕ) (p : Pass) (st : PassAt s t n k p) (a : AtCon
     pass-from-is = rw (group-is, value-is, line-is, col-is)
 
     module _ (u : Bytes) (kept : Kept 5120 t u) where
-      pub visit-refused : ConstantEntered s t u n p.count k p.line x.value false → (pass_from s t k p).refused ≡ some (too_long (p.line + 1))
+      pub visit-refused : ConstantEntered s t u n p.count k p.line x.value false → (pass_from s t k p).refused ≡ Some (too_long (p.line + 1))
       visit-refused f = ap (λ (g : Folding). g.refused) (pass-from-is ∙ f (pass (sheet_source s).implement (group_from s k (suc p.line)) (iota_next line col (counter_of p.iota)))) ∙ rw add-one
 
       pub visit-on : ConstantEntered s t u n p.count k p.line x.value true → PassMoves s t u n k p (record { line = p.line + 1; within = p.within; count = p.count + 1; iota = x.next })
@@ -152,7 +152,7 @@ module _ (s t u : Bytes) (n k : ℕ) (p : Pass) where
   pub went_on : {r : Visited} {q : Pass} → r ≡ Visited.On q → Visits s t u n k p r → PassMoves s t u n k p q
   went_on e v = rw e at v
 
-  pub stopped : {r : Visited} {j : ℕ} → r ≡ Visited.Refused j → Visits s t u n k p r → (pass_from s t k p).refused ≡ some (too_long j)
+  pub stopped : {r : Visited} {j : ℕ} → r ≡ Visited.Refused j → Visits s t u n k p r → (pass_from s t k p).refused ≡ Some (too_long j)
   stopped e v = rw e at v
 
 abbrev pub pass_start : ℕ → ℕ → Pass
@@ -182,7 +182,7 @@ module _ (s t : Bytes) (n m k : ℕ) (g : Group s t n m k) where
   begin-is = rw start_is
 
   module _ (u : Bytes) (p : Pass) (st : PassAt s u n k p) (same : pass_from s u k p ≡ pass_from s t k (pass_start k m)) where
-    pub pass-refused : {j : ℕ} → (pass_from s u k p).refused ≡ some (too_long j) → (pass (sheet_source s).implement (group_from s k 0) new_counter (log_in s t m)).refused ≡ some (too_long j)
+    pub pass-refused : {j : ℕ} → (pass_from s u k p).refused ≡ Some (too_long j) → (pass (sheet_source s).implement (group_from s k 0) new_counter (log_in s t m)).refused ≡ Some (too_long j)
     pass-refused e = ap (λ (f : Folding). f.refused) (sym begin-is ∙ sym same) ∙ e
 
     -- the pass is done at the last line, and where the module is left
@@ -203,11 +203,11 @@ module _ (s t : Bytes) (n m k : ℕ) (g : Group s t n m k) where
 -- ---- all passes
 
 then-on : (g : List (Located ConstDecl)) (ps : List (List (Located ConstDecl))) (impl : Option Bytes) (log new : List Const)
-    → pass impl g new_counter log ≡ record { log = new; refused = none } → passes_from impl (g ∷ ps) log ≡ passes_from impl ps new
+    → pass impl g new_counter log ≡ record { log = new; refused = None } → passes_from impl (g ∷ ps) log ≡ passes_from impl ps new
 then-on g ps impl log new e = rw e
 
 then-stop : (g : List (Located ConstDecl)) (ps : List (List (Located ConstDecl))) (impl : Option Bytes) (log : List Const) {x : Refusal}
-    → (pass impl g new_counter log).refused ≡ some x → (passes_from impl (g ∷ ps) log).refused ≡ some x
+    → (pass impl g new_counter log).refused ≡ Some x → (passes_from impl (g ∷ ps) log).refused ≡ Some x
 then-stop g ps impl log e = rw e e
 
 module _ (s t : Bytes) (n m i : ℕ) (b : PassesBefore s t n m i) where
@@ -252,7 +252,7 @@ module _ (s t : Bytes) (n m i : ℕ) (b : PassesBefore s t n m i) where
   pub past_all : n ≤ i → passes_left s t m i ≡ constants (sheet_source s) → (u : Bytes) → (r : Collected) → PassDone s t u n m 0 r → Collects s u n r
   unfolding passes_left
   past_all h same u (Collected.Count c) (l, q) =
-      let e : constants (sheet_source s) ≡ record { log = log_in s u c; refused = none } =
+      let e : constants (sheet_source s) ≡ record { log = log_in s u c; refused = None } =
       sym same ∙ rw (passes-end s t n b.checked i h) (then-on (group_from s 0 0) [] (sheet_source s).implement (log_in s t m) (log_in s u c) l.same) in
       (ap (λ (f : Folding). f.refused) e, ap (λ (f : Folding). f.log) e, l.logged)
   past_all h same u (Collected.Refused j) q =
@@ -269,5 +269,5 @@ module _ (s t u : Bytes) (n m i : ℕ) where
   pub went-past : {r : Collected} {c : ℕ} → r ≡ Collected.Count c → ModulePassed s t u n m i r → PassesBefore s u n c (i + 1) × (passes_left s u c (i + 1) ≡ passes_left s t m i)
   went-past e p = rw e at p
 
-  pub refused-at : {r : Collected} {j : ℕ} → r ≡ Collected.Refused j → ModulePassed s t u n m i r → passes_left s t m i ≡ constants (sheet_source s) → (constants (sheet_source s)).refused ≡ some (too_long j)
+  pub refused-at : {r : Collected} {j : ℕ} → r ≡ Collected.Refused j → ModulePassed s t u n m i r → passes_left s t m i ≡ constants (sheet_source s) → (constants (sheet_source s)).refused ≡ Some (too_long j)
   refused-at e p same = ap (λ (f : Folding). f.refused) (sym same) ∙ (rw e at p)

@@ -1,6 +1,5 @@
 -- The constants of a sheet pass by pass, as a walk over its lines meets them. Lines are counted from 0 here.
-use Rattle.std.specs.Prelude.{ℕ, zero, suc, ◌+◌, ◌≤◌, ◌<◌, ◌≡◌, Bool, true, false, not, ◌&&◌, List, [], ◌∷◌, ◌++◌, map, leb, eqb, pos, length, drop}
-use Rattle.std.proofs.Math.Option.{none, some}
+use Rattle.std.specs.Prelude.{ℕ, zero, suc, ◌+◌, ◌≤◌, ◌<◌, ◌≡◌, Bool, true, false, not, ◌&&◌, List, [], ◌∷◌, ◌++◌, map, leb, eqb, pos, length, drop, None, Some}
 use Rattle.semantics.specs.Text.{Bytes, filter, is_none, holds_of}
 use Rattle.semantics.specs.Tree.{ConstDecl, Declares, Node}
 use Rattle.semantics.specs.Form.{letter}
@@ -76,7 +75,7 @@ too_long j = record { number = 8; line = j }
 -- it is entered, or its string is too long
 abbrev pub ConstantEntered : Bytes → Bytes → Bytes → ℕ → ℕ → ℕ → ℕ → ℕ → Bool → Type 0
 ConstantEntered s t u n m k i iota true = ConstsLogged s u n (m + 1) × ((go : List Const → Folding) → step s t m k i iota go ≡ go (log_in s u (m + 1)))
-ConstantEntered s t u n m k i iota false = (go : List Const → Folding) → step s t m k i iota go ≡ record { log = log_in s t m; refused = some (too_long (suc i)) }
+ConstantEntered s t u n m k i iota false = (go : List Const → Folding) → step s t m k i iota go ≡ record { log = log_in s t m; refused = Some (too_long (suc i)) }
 
 -- ---- a pass
 
@@ -111,7 +110,7 @@ pub record PassMoves (s t u : Bytes) (n k : ℕ) (p q : Pass) : Type 0 where
 -- a line is visited: the pass moves on, or the line is refused
 abbrev pub Visits : Bytes → Bytes → Bytes → ℕ → ℕ → Pass → Visited → Type 0
 Visits s t u n k p (Visited.On q) = PassMoves s t u n k p q
-Visits s t u n k p (Visited.Refused j) = (pass_from s t k p).refused ≡ some (too_long j)
+Visits s t u n k p (Visited.Refused j) = (pass_from s t k p).refused ≡ Some (too_long j)
 
 -- a group whose constants are to be entered from entry m on
 pub record Group (s t : Bytes) (n m k : ℕ) : Type 0 where
@@ -124,13 +123,13 @@ pub record Group (s t : Bytes) (n m k : ℕ) : Type 0 where
 -- they are entered, up to entry m
 pub record Logs (s u : Bytes) (n m : ℕ) (f : Folding) : Type 0 where
   pub logged : ConstsLogged s u n m
-  pub same : f ≡ record { log = log_in s u m; refused = none }
+  pub same : f ≡ record { log = log_in s u m; refused = None }
 
 -- a pass over the group of line k is done: c entries stand then, or line j is refused
 abbrev pub PassDone : Bytes → Bytes → Bytes → ℕ → ℕ → ℕ → Collected → Type 0
 PassDone s t u n m k (Collected.Count c) =
     Logs s u n c (pass (sheet_source s).implement (group_from s k 0) new_counter (log_in s t m)) × (c ≡ m + length (group_from s k 0))
-PassDone s t u n m k (Collected.Refused j) = (pass (sheet_source s).implement (group_from s k 0) new_counter (log_in s t m)).refused ≡ some (too_long j)
+PassDone s t u n m k (Collected.Refused j) = (pass (sheet_source s).implement (group_from s k 0) new_counter (log_in s t m)).refused ≡ Some (too_long j)
 
 -- ---- all passes
 
@@ -147,9 +146,9 @@ passes_left s t m i = passes_from (sheet_source s).implement (passes_after s i) 
 -- line i is done: the passes behind it give what was left, or line j is refused
 abbrev pub ModulePassed : Bytes → Bytes → Bytes → ℕ → ℕ → ℕ → Collected → Type 0
 ModulePassed s t u n m i (Collected.Count c) = PassesBefore s u n c (i + 1) × (passes_left s u c (i + 1) ≡ passes_left s t m i)
-ModulePassed s t u n m i (Collected.Refused j) = (passes_left s t m i).refused ≡ some (too_long j)
+ModulePassed s t u n m i (Collected.Refused j) = (passes_left s t m i).refused ≡ Some (too_long j)
 
 -- the constants are the first m of the table, or line j is refused
 abbrev pub Collects : Bytes → Bytes → ℕ → Collected → Type 0
-Collects s u n (Collected.Count m) = ((constants (sheet_source s)).refused ≡ none) × ((constants (sheet_source s)).log ≡ log_in s u m) × ConstsLogged s u n m
-Collects s u n (Collected.Refused j) = (constants (sheet_source s)).refused ≡ some (too_long j)
+Collects s u n (Collected.Count m) = ((constants (sheet_source s)).refused ≡ None) × ((constants (sheet_source s)).log ≡ log_in s u m) × ConstsLogged s u n m
+Collects s u n (Collected.Refused j) = (constants (sheet_source s)).refused ≡ Some (too_long j)

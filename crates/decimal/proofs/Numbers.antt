@@ -3,7 +3,7 @@ use Prim.Native.Nat.{ℕ, zero, suc, ◌+◌, ◌-◌, ◌*◌, ◌≤◌, ◌<�
 use mathlib.Core.Path.{◌≡◌, refl, sym, ap, ◌∙◌}
 use mathlib.Core.Bool.{Bool, true, false, cond}
 use mathlib.Core.List.{[], ◌∷◌}
-use mathlib.Core.Option.{Option, none, some}
+use Rattle.std.specs.Prelude.{Option, None, Some}
 use native.Mathlib.Numerals.{add-one}
 use native.Mathlib.Omega.{arith}
 use lib.IntN.{ℤ, pos, negsuc}
@@ -29,7 +29,7 @@ saturated cap n m [] h k = omega arith
 saturated cap n m (b ∷ bs) h k = go (is_digit b) (saturated cap (n * 10 + (b - 48)) (m * 10 + (b - 48)) bs (omega arith) (omega arith))
   where
     go : (t : Bool) → capped cap (digits_value (n * 10 + (b - 48)) bs) ≡ capped cap (digits_value (m * 10 + (b - 48)) bs)
-        → capped cap (cond t (digits_value (n * 10 + (b - 48)) bs) none) ≡ capped cap (cond t (digits_value (m * 10 + (b - 48)) bs) none)
+        → capped cap (cond t (digits_value (n * 10 + (b - 48)) bs) None) ≡ capped cap (cond t (digits_value (m * 10 + (b - 48)) bs) None)
     go true ih = ih
     go false ih = refl
 
@@ -41,7 +41,7 @@ at_most cap n r s h = go (leb n cap) refl
     go false q = let l = leb-false n cap q in saturated cap n r s (omega arith) (omega arith)
 
 module _ (cap acc i : ℕ) (s : Bytes) (h : i < length s) where
-  opened : digits_of cap acc (drop i s) ≡ capped cap (cond (is_digit (get_or s i 0)) (digits_value (acc * 10 + (get_or s i 0 - 48)) (drop (suc i) s)) none)
+  opened : digits_of cap acc (drop i s) ≡ capped cap (cond (is_digit (get_or s i 0)) (digits_value (acc * 10 + (get_or s i 0 - 48)) (drop (suc i) s)) None)
   unfolding digits_of
   opened = rw (drop-cons s i 0 h)
 
@@ -68,13 +68,13 @@ nat-digits [] n h = absurd (omega arith)
 nat-digits (b ∷ []) n h = refl
 nat-digits (b ∷ (c ∷ bs)) n h = simp (ne_eqb b 48 n)
 
-nat-leading : (s : Bytes) → get_or s 0 0 ≡ 48 → 1 < length s → nat_of s ≡ none
+nat-leading : (s : Bytes) → get_or s 0 0 ≡ 48 → 1 < length s → nat_of s ≡ None
 unfolding nat_of
 nat-leading [] e h = absurd (omega arith)
 nat-leading (b ∷ []) e h = absurd (omega arith)
 nat-leading (b ∷ (c ∷ bs)) e h = simp (eq-eqb b 48 e)
 
-nat-zero : (s : Bytes) → get_or s 0 0 ≡ 48 → length s ≡ 1 → nat_of s ≡ some 0
+nat-zero : (s : Bytes) → get_or s 0 0 ≡ 48 → length s ≡ 1 → nat_of s ≡ Some 0
 unfolding nat_of
 nat-zero [] e h = absurd (omega arith)
 nat-zero (b ∷ []) e h = rw e
@@ -103,8 +103,8 @@ module _ (cap i : ℕ) (s : Bytes) where
 -- a smaller cap, by what is known at `most`
 module _ (cap : ℕ) (s : Bytes) (small : cap < most) {n : ℕ} (is : n ≡ number_up_to most (drop 0 s)) where
   recap : (o : Option ℕ) → n ≡ capped most o → (most < n → cap + 1 ≡ capped cap o) × (n ≤ most → cap < n → cap ≡ capped cap o) × (n ≤ cap → n ≡ capped cap o)
-  recap none e = (λ h. refl, λ h k. absurd (omega arith), λ h. absurd (omega arith))
-  recap (some m) e = (λ h. absurd (omega arith), λ h k. omega arith, λ h. omega arith)
+  recap None e = (λ h. refl, λ h k. absurd (omega arith), λ h. absurd (omega arith))
+  recap (Some m) e = (λ h. absurd (omega arith), λ h k. omega arith, λ h. omega arith)
 
   pub cap-none : most < n → cap + 1 ≡ number_up_to cap s
   unfolding number_up_to
@@ -139,9 +139,9 @@ module _ (s : Bytes) (h : 0 < length s) {m : ℕ} where
   module _ (e : get_or s 0 0 ≡ 45) (is : m ≡ number_up_to most (drop 1 s)) where
     minus-by : (o : Option ℕ) → m ≡ capped most o
         → (m ≡ 0 → NoInteger ≡ signed (negative o)) × (most < m → NoInteger ≡ signed (negative o)) × ((m ≡ 0 → ⊥) → m ≤ most → Minus m ≡ signed (negative o))
-    minus-by none p = (λ z. refl, λ l. refl, λ z l. absurd (omega arith))
-    minus-by (some zero) p = (λ z. refl, λ l. refl, λ z l. absurd (z (omega arith)))
-    minus-by (some (suc n)) p = (λ z. absurd (omega arith), λ l. absurd (omega arith), λ z l. ap Minus p)
+    minus-by None p = (λ z. refl, λ l. refl, λ z l. absurd (omega arith))
+    minus-by (Some zero) p = (λ z. refl, λ l. refl, λ z l. absurd (z (omega arith)))
+    minus-by (Some (suc n)) p = (λ z. absurd (omega arith), λ l. absurd (omega arith), λ z l. ap Minus p)
 
     pub minus-zero : m ≡ 0 → NoInteger ≡ signed_of s
     unfolding signed_of number_up_to
@@ -157,8 +157,8 @@ module _ (s : Bytes) (h : 0 < length s) {m : ℕ} where
 
   module _ (e : get_or s 0 0 ≡ 45 → ⊥) (is : m ≡ number_up_to most (drop 0 s)) where
     plus-by : (o : Option ℕ) → m ≡ capped most o → (most < m → NoInteger ≡ signed (map_option pos o)) × (m ≤ most → Plus m ≡ signed (map_option pos o))
-    plus-by none p = (λ l. refl, λ l. absurd (omega arith))
-    plus-by (some n) p = (λ l. absurd (omega arith), λ l. ap Plus p)
+    plus-by None p = (λ l. refl, λ l. absurd (omega arith))
+    plus-by (Some n) p = (λ l. absurd (omega arith), λ l. ap Plus p)
 
     pub plus_none : most < m → NoInteger ≡ signed_of s
     unfolding signed_of number_up_to
@@ -170,14 +170,14 @@ module _ (s : Bytes) (h : 0 < length s) {m : ℕ} where
 
 -- what sign and magnitude say of the integer
 data KnownSign : Option ℤ → Signed → Type 0 where
-  unknown : KnownSign none NoInteger
-  plus : {n m : ℕ} → m ≡ min n most → KnownSign (some (pos n)) (Plus m)
-  minus : {n m : ℕ} → m ≡ min (suc n) most → KnownSign (some (negsuc n)) (Minus m)
+  unknown : KnownSign None NoInteger
+  plus : {n m : ℕ} → m ≡ min n most → KnownSign (Some (pos n)) (Plus m)
+  minus : {n m : ℕ} → m ≡ min (suc n) most → KnownSign (Some (negsuc n)) (Minus m)
 
 known : (o : Option ℤ) → KnownSign o (signed o)
-known none = unknown
-known (some (pos n)) = plus refl
-known (some (negsuc n)) = minus refl
+known None = unknown
+known (Some (pos n)) = plus refl
+known (Some (negsuc n)) = minus refl
 
 cut-leb : (k n m : ℕ) → m ≡ min n most → k < most → leb m k ≡ leb n k
 cut-leb k n m e h = go (leb n k) refl
@@ -196,31 +196,31 @@ module _ (s : Bytes) {r : Signed} (is : r ≡ signed_of s) where
   integer-none e = go (int_of s) r known_of e
     where
       go : (o : Option ℤ) (r : Signed) → KnownSign o r → r ≡ NoInteger → Bad ≡ whole o
-      go none r unknown e = refl
-      go (some (pos n)) r (plus p) e = never cc
-      go (some (negsuc n)) r (minus p) e = never cc
+      go None r unknown e = refl
+      go (Some (pos n)) r (plus p) e = never cc
+      go (Some (negsuc n)) r (minus p) e = never cc
 
   -- by the magnitude n that the code has
   module _ {n : ℕ} where
-    plus-by-magnitude : r ≡ Plus n → (m : ℕ) × (int_of s ≡ some (pos m)) × (n ≡ min m most)
+    plus-by-magnitude : r ≡ Plus n → (m : ℕ) × (int_of s ≡ Some (pos m)) × (n ≡ min m most)
     plus-by-magnitude e = go (int_of s) r known_of e
       where
-        go : (o : Option ℤ) (r : Signed) → KnownSign o r → r ≡ Plus n → (m : ℕ) × (o ≡ some (pos m)) × (n ≡ min m most)
-        go none r unknown e = never cc
-        go (some (pos m)) (Plus k) (plus p) e = let q : k ≡ n = cc in (m, refl, omega arith)
-        go (some (pos m)) (Minus _) k e = elim k [ ]
-        go (some (pos m)) NoInteger k e = elim k [ ]
-        go (some (negsuc m)) r (minus p) e = never cc
+        go : (o : Option ℤ) (r : Signed) → KnownSign o r → r ≡ Plus n → (m : ℕ) × (o ≡ Some (pos m)) × (n ≡ min m most)
+        go None r unknown e = never cc
+        go (Some (pos m)) (Plus k) (plus p) e = let q : k ≡ n = cc in (m, refl, omega arith)
+        go (Some (pos m)) (Minus _) k e = elim k [ ]
+        go (Some (pos m)) NoInteger k e = elim k [ ]
+        go (Some (negsuc m)) r (minus p) e = never cc
 
-    minus-by-magnitude : r ≡ Minus n → (m : ℕ) × (int_of s ≡ some (negsuc m)) × (n ≡ min (suc m) most)
+    minus-by-magnitude : r ≡ Minus n → (m : ℕ) × (int_of s ≡ Some (negsuc m)) × (n ≡ min (suc m) most)
     minus-by-magnitude e = go (int_of s) r known_of e
       where
-        go : (o : Option ℤ) (r : Signed) → KnownSign o r → r ≡ Minus n → (m : ℕ) × (o ≡ some (negsuc m)) × (n ≡ min (suc m) most)
-        go none r unknown e = never cc
-        go (some (pos m)) r (plus p) e = never cc
-        go (some (negsuc m)) (Minus k) (minus p) e = let q : k ≡ n = cc in (m, refl, omega arith)
-        go (some (negsuc m)) (Plus _) k e = elim k [ ]
-        go (some (negsuc m)) NoInteger k e = elim k [ ]
+        go : (o : Option ℤ) (r : Signed) → KnownSign o r → r ≡ Minus n → (m : ℕ) × (o ≡ Some (negsuc m)) × (n ≡ min (suc m) most)
+        go None r unknown e = never cc
+        go (Some (pos m)) r (plus p) e = never cc
+        go (Some (negsuc m)) (Minus k) (minus p) e = let q : k ≡ n = cc in (m, refl, omega arith)
+        go (Some (negsuc m)) (Plus _) k e = elim k [ ]
+        go (Some (negsuc m)) NoInteger k e = elim k [ ]
 
     module _ (e : r ≡ Plus n) where
       pub plus-large : 9223372036854775807 < n → Bad ≡ integer_of s
@@ -262,6 +262,6 @@ module _ (s : Bytes) {r : Signed} (is : r ≡ signed_of s) where
   none_within lo hi e = go (int_of s) r known_of e
     where
       go : (o : Option ℤ) (r : Signed) → KnownSign o r → r ≡ NoInteger → false ≡ holds_of (between lo hi) o
-      go none r unknown e = refl
-      go (some (pos n)) r (plus p) e = never cc
-      go (some (negsuc n)) r (minus p) e = never cc
+      go None r unknown e = refl
+      go (Some (pos n)) r (plus p) e = never cc
+      go (Some (negsuc n)) r (minus p) e = never cc

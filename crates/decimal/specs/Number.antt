@@ -1,6 +1,5 @@
 -- What the readers of numbers return.
-use Rattle.std.specs.Prelude.{ℕ, suc, ◌+◌, ◌-◌, ◌^◌, min, Bool, cond, ℤ, pos, negsuc}
-use Rattle.std.proofs.Math.Option.{Option, none, some}
+use Rattle.std.specs.Prelude.{ℕ, suc, ◌+◌, ◌-◌, ◌^◌, min, Bool, cond, ℤ, pos, negsuc, Option, None, Some}
 use Rattle.semantics.specs.Text.{Bytes, digits_value, nat_of, int_of, holds_of}
 use Rattle.semantics.specs.Form.{between}
 use Rattle.decimal.specs.declared.Signed.{Signed}
@@ -14,8 +13,8 @@ most = 9223372036854775809
 
 -- a number, or cap where it passes cap; cap + 1 where there is none
 abbrev pub capped : ℕ → Option ℕ → ℕ
-capped cap none = cap + 1
-capped cap (some n) = min n cap
+capped cap None = cap + 1
+capped cap (Some n) = min n cap
 
 unfoldable pub digits_of : ℕ → ℕ → Bytes → ℕ
 digits_of cap n s = capped cap (digits_value n s)
@@ -25,17 +24,17 @@ number_up_to cap s = capped cap (nat_of s)
 
 -- an integer's sign and its magnitude, no further than `most`
 abbrev pub signed : Option ℤ → Signed
-signed none = NoInteger
-signed (some (pos n)) = Plus (min n most)
-signed (some (negsuc n)) = Minus (min (suc n) most)
+signed None = NoInteger
+signed (Some (pos n)) = Plus (min n most)
+signed (Some (negsuc n)) = Minus (min (suc n) most)
 
 unfoldable pub signed_of : Bytes → Signed
 signed_of s = signed (int_of s)
 
 -- an integer of 64 bits
 abbrev pub whole : Option ℤ → Integer
-whole none = Bad
-whole (some z) = cond (between (2 ^ 63) (2 ^ 63 - 1) z) (Is z) Bad
+whole None = Bad
+whole (Some z) = cond (between (2 ^ 63) (2 ^ 63 - 1) z) (Is z) Bad
 
 unfoldable pub integer_of : Bytes → Integer
 integer_of s = whole (int_of s)

@@ -5,7 +5,7 @@ use native.Mathlib.Omega.{arith}
 use mathlib.Core.Path.{◌≡◌, refl, sym, ap}
 use mathlib.Core.Bool.{Bool, true, false, ◌&&◌, ◌||◌, cond, and-false}
 use mathlib.Core.List.{List, [], ◌∷◌, ◌++◌}
-use mathlib.Core.Option.{Option, none, some}
+use Rattle.std.specs.Prelude.{Option, None, Some}
 use lib.ListN.{length, get_or}
 use lib.IntN.{ℤ, pos, negsuc}
 use lib.Signed.{le_z}
@@ -216,15 +216,15 @@ from-array failed failed a p = cc
 from-array failed (refuse r) a p = cc
 from-array (refuse r) x a p = cc
 
-init-known : (ns : Names) (t : Ty) (e : Ex) (a : ConstArray) → init_of ns t (some e) ≡ ok (array_init a) → KnownArray ns (elem_of t) e a
+init-known : (ns : Names) (t : Ty) (e : Ex) (a : ConstArray) → init_of ns t (Some e) ≡ ok (array_init a) → KnownArray ns (elem_of t) e a
 init-known ns t e a p = of (from-array (fold_at0 ns e) _ a p) (array_known ns (elem_of t) e)
 
 -- of any first value that is an array: its values are, index by index, those last given, or else the filler
-pub array-given : (ns : Names) (t : Ty) (e : Ex) (a : ConstArray) → init_of ns t (some e) ≡ ok (array_init a) → GivenBy ns (elem_of t) e a
+pub array-given : (ns : Names) (t : Ty) (e : Ex) (a : ConstArray) → init_of ns t (Some e) ≡ ok (array_init a) → GivenBy ns (elem_of t) e a
 array-given ns t e a p = (init-known ns t e a p).0
 
 -- and an array has no more values than its length
-pub array-fits : (ns : Names) (t : Ty) (e : Ex) (a : ConstArray) → init_of ns t (some e) ≡ ok (array_init a) → length a.values ≤ a.count
+pub array-fits : (ns : Names) (t : Ty) (e : Ex) (a : ConstArray) → init_of ns t (Some e) ≡ ok (array_init a) → length a.values ≤ a.count
 array-fits ns t e a p = (init-known ns t e a p).1
 
 abbrev pub ValuesFit : Init → Type 0
@@ -234,10 +234,10 @@ ValuesFit (array_init a) = length a.values ≤ a.count
 ValuesFit pending_init = Unit {0}
 
 pub init-sized : (ns : Names) (t : Ty) (o : Option Ex) → ValuesFit (or_no_init (init_of ns t o))
-init-sized ns t none = tt
-init-sized ns t (some e) = go (init_of ns t (some e)) refl
+init-sized ns t None = tt
+init-sized ns t (Some e) = go (init_of ns t (Some e)) refl
   where
-    go : (x : Result Init) → init_of ns t (some e) ≡ x → ValuesFit (or_no_init x)
+    go : (x : Result Init) → init_of ns t (Some e) ≡ x → ValuesFit (or_no_init x)
     go (ok no_init) p = tt
     go (ok (const_init v)) p = tt
     go (ok (array_init a)) p = array-fits ns t e a p

@@ -3,7 +3,7 @@ use Prim.Native.Nat.{ℕ, suc}
 use mathlib.Core.Path.{◌≡◌, refl, ap}
 use mathlib.Core.Bool.{Bool, true, false, cond}
 use mathlib.Core.List.{List, [], ◌∷◌, map, map-append}
-use mathlib.Core.Option.{Option, none, some}
+use Rattle.std.specs.Prelude.{Option, None, Some}
 use lib.ListN.{length}
 use lib.Dec.{ltb, eqb}
 use Rattle.semantics.specs.Text.{Bytes, line_parts}
@@ -38,7 +38,7 @@ every-declared P ns v h = every-name P (named_on ns v.it) (laid_names v.it.names
 
 -- ---- a sheet that is listed has no refused line
 
-some-none : {A B : Type 0} {x : A} → some x ≡ none → B
+some-none : {A B : Type 0} {x : A} → Some x ≡ None → B
 some-none h = never cc
 
 module _ (out : Bytes) where
@@ -66,15 +66,15 @@ module _ (out : Bytes) where
       let e = too_many_from 1 no_counts (nodes_from [] rs) in
       no_line 7 e _ (no_line 6 d _ (no_line 5 c _ (no_line 4 b _ (no_line 3 a _ h))))
 
-  work-done : (o : Option Refusal) (x : Outcome) → refuse_work o x ≡ listed out → o ≡ none
-  work-done none x h = refl
-  work-done (some r) x h = never-listed r.number r.line h
+  work-done : (o : Option Refusal) (x : Outcome) → refuse_work o x ≡ listed out → o ≡ None
+  work-done None x h = refl
+  work-done (Some r) x h = never-listed r.number r.line h
 
-vars-done : (a b : Option Refusal) → or_refused a b ≡ none → b ≡ none
-vars-done none b h = h
-vars-done (some r) b h = some-none h
+vars-done : (a b : Option Refusal) → or_refused a b ≡ None → b ≡ None
+vars-done None b h = h
+vars-done (Some r) b h = some-none h
 
-listed-done : (L W : ℕ) (s out : Bytes) → compiled L W s ≡ listed out → vars_refused (names_of (sheet_source s)) (laid_vars (sheet_source s)) ≡ none
+listed-done : (L W : ℕ) (s out : Bytes) → compiled L W s ≡ listed out → vars_refused (names_of (sheet_source s)) (laid_vars (sheet_source s)) ≡ None
 unfolding compiled
 listed-done L W s out h =
     let src = sheet_source s in
@@ -85,28 +85,28 @@ listed-done L W s out h =
 
 -- ---- the lines
 
-rest-done : {A : Type 0} (k : ℕ) (r : Result A) (o : Option Refusal) → refused_by k r o ≡ none → o ≡ none
+rest-done : {A : Type 0} (k : ℕ) (r : Result A) (o : Option Refusal) → refused_by k r o ≡ None → o ≡ None
 rest-done k (ok a) o h = h
 rest-done k failed o h = h
 rest-done k (refuse r) o h = some-none h
 
 -- no first value fails
-first-there : (k : ℕ) (v : Result ConstVal) (x : Result ConstArray) (o : Option Refusal) → refused_by k (first_value v x) o ≡ none → first_value v x ≡ ok (or_no_init (first_value v x))
+first-there : (k : ℕ) (v : Result ConstVal) (x : Result ConstArray) (o : Option Refusal) → refused_by k (first_value v x) o ≡ None → first_value v x ≡ ok (or_no_init (first_value v x))
 first-there k (ok v) x o h = refl
 first-there k failed (ok a) o h = refl
 first-there k failed failed o h = refl
 first-there k failed (refuse r) o h = some-none h
 first-there k (refuse r) x o h = some-none h
 
-init-there : (ns : Names) (t : Ty) (i : Option Ex) (k : ℕ) (o : Option Refusal) → refused_by k (init_of ns t i) o ≡ none → init_of ns t i ≡ ok (or_no_init (init_of ns t i))
-init-there ns t none k o h = refl
-init-there ns t (some e) k o h = first-there k (fold_at0 ns e) (const_array ns (elem_of t) e) o h
+init-there : (ns : Names) (t : Ty) (i : Option Ex) (k : ℕ) (o : Option Refusal) → refused_by k (init_of ns t i) o ≡ None → init_of ns t i ≡ ok (or_no_init (init_of ns t i))
+init-there ns t None k o h = refl
+init-there ns t (Some e) k o h = first-there k (fold_at0 ns e) (const_array ns (elem_of t) e) o h
 
 some-name : {n : Bytes} (ns : List Bytes) → In n ns → none_of ns ≡ false
 some-name [] i = let h = i.there in never cc
 some-name (m ∷ ms) i = refl
 
-pub vars-declared : (ns : Names) (vs : List (Located VarDecl)) → vars_refused ns vs ≡ none → Every (DeclaredAt ns vs) (concat_map (declared_by ns) vs)
+pub vars-declared : (ns : Names) (vs : List (Located VarDecl)) → vars_refused ns vs ≡ None → Every (DeclaredAt ns vs) (concat_map (declared_by ns) vs)
 vars-declared ns [] h = tt
 vars-declared ns (v ∷ vs) h =
     let o = vars_refused ns vs in
@@ -157,7 +157,7 @@ constant_in (ok pending_init) = failed
 constant_in failed = failed
 constant_in (refuse r) = refuse r
 
-pub value-folded : (ns : Names) (t : Ty) (e : Ex) (v : ConstVal) → init_of ns t (some e) ≡ ok (const_init v) → fold_at0 ns e ≡ ok v
+pub value-folded : (ns : Names) (t : Ty) (e : Ex) (v : ConstVal) → init_of ns t (Some e) ≡ ok (const_init v) → fold_at0 ns e ≡ ok v
 value-folded ns t e v = go (fold_at0 ns e) (const_array ns (elem_of t) e)
   where
     go : (r : Result ConstVal) (a : Result ConstArray) → first_value r a ≡ ok (const_init v) → r ≡ ok v

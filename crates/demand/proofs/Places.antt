@@ -3,7 +3,7 @@ use Prim.Native.Nat.{ℕ, ◌+◌}
 use mathlib.Core.Path.{◌≡◌, refl, sym, ap, ◌∙◌, subst}
 use mathlib.Core.Bool.{Bool, true, false, not, cond}
 use mathlib.Core.List.{List, [], ◌∷◌, ◌++◌, map, append_assoc, append-nil}
-use mathlib.Core.Option.{Option, none, some}
+use Rattle.std.specs.Prelude.{Option, None, Some}
 use Rattle.semantics.specs.Text.{Bytes, same, any}
 use Rattle.semantics.specs.Sheet.{Source}
 use Rattle.semantics.specs.Global.{Item, Declared, Global, Globals, place_of, declare_at, globals_from, no_globals, global_size, new_offset, init_items}
@@ -43,14 +43,14 @@ placed-laid (d ∷ ds) e k a = ap (λ (r : List Global). place_at d e ∷ r) (pl
 
 abbrev Free : List Global → List Declared → Type 0
 Free gs [] = Unit {0}
-Free gs (d ∷ ds) = (place_of d.name gs ≡ none) × Free gs ds
+Free gs (d ∷ ds) = (place_of d.name gs ≡ None) × Free gs ds
 
-place_other : (n : Bytes) (gs : List Global) (g : Global) → place_of n gs ≡ none → same n g.name ≡ false → place_of n (gs ++ (g ∷ [])) ≡ none
+place_other : (n : Bytes) (gs : List Global) (g : Global) → place_of n gs ≡ None → same n g.name ≡ false → place_of n (gs ++ (g ∷ [])) ≡ None
 place_other n [] g h e = rw e
 place_other n (x ∷ xs) g h e = go (same n x.name) h (λ q. place_other n xs g q e)
   where
-    go : (b : Bool) → cond b (some x.offset) (place_of n xs) ≡ none → (place_of n xs ≡ none → place_of n (xs ++ (g ∷ [])) ≡ none)
-        → cond b (some x.offset) (place_of n (xs ++ (g ∷ []))) ≡ none
+    go : (b : Bool) → cond b (Some x.offset) (place_of n xs) ≡ None → (place_of n xs ≡ None → place_of n (xs ++ (g ∷ [])) ≡ None)
+        → cond b (Some x.offset) (place_of n (xs ++ (g ∷ []))) ≡ None
     go true p f = p
     go false p f = f p
 
@@ -81,7 +81,7 @@ grown (d ∷ ds) g f h =
     let e = g.end in
     let again = stands d.name ds in
     let apart = not-true again (and_left (not again) (names_distinct ds) h) in
-    let i = grown ds (declare_at d none g) (free_more g.places (place_at d e) ds apart f.1) (and_right (not again) (names_distinct ds) h) in
+    let i = grown ds (declare_at d None g) (free_more g.places (place_at d e) ds apart f.1) (and_right (not again) (names_distinct ds) h) in
     subst (Grown g (d ∷ ds)) (ap (λ (o : Option ℕ). globals_from (declare_at d o g) ds) (sym f.0))
     (record {
       places = i.places ∙ append_assoc g.places (place_at d e ∷ []) (places_from (end_at d e) ds);

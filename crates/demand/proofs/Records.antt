@@ -5,7 +5,7 @@ use native.Mathlib.Omega.{arith}
 use mathlib.Core.Path.{◌≡◌, refl, sym}
 use mathlib.Core.Bool.{Bool, true, false, ◌&&◌, ◌||◌, cond}
 use mathlib.Core.List.{List, [], ◌∷◌, ◌++◌, map, map-append}
-use mathlib.Core.Option.{Option, none, some}
+use Rattle.std.specs.Prelude.{Option, None, Some}
 use lib.IntN.{pos}
 use lib.Dec.{eqb}
 use borrow.Author.Tests.{eqb-true, le-leb, eq-eqb}
@@ -45,8 +45,8 @@ names-laid t off (n ∷ ns) ps h l = (le_refl off, h, names-laid t (off + size_o
 
 line-laid : (t : Option Ty) (off : ℕ) (ns : List Bytes) (ps : List PlacedField) → InWordOrder (place_line t ns off).end ps
     → InWordOrder off ((place_line t ns off).placed ++ ps)
-line-laid none off ns ps l = l
-line-laid (some t) off ns ps l =
+line-laid None off ns ps l = l
+line-laid (Some t) off ns ps l =
     let at = align_up (align_of t) off in
     let a = aligned t off in
     laid-from off at ((place_names t at ns).placed ++ ps) a.0 (names-laid t at ns ps a.1 l)
@@ -69,13 +69,13 @@ in-order e f size (p ∷ ps) l h =
 
 -- ---- they are the typed fields of the line
 
-names-theirs : (t : Ty) (off : ℕ) (ns : List Bytes) → map typed_of (place_names t off ns).placed ≡ typed_names (some t) ns
+names-theirs : (t : Ty) (off : ℕ) (ns : List Bytes) → map typed_of (place_names t off ns).placed ≡ typed_names (Some t) ns
 names-theirs t off [] = refl
 names-theirs t off (n ∷ ns) = rw (names-theirs t (off + size_of t) ns)
 
 line-theirs : (t : Option Ty) (off : ℕ) (ns : List Bytes) → map typed_of (place_line t ns off).placed ≡ typed_names t ns
-line-theirs none off ns = refl
-line-theirs (some t) off ns = names-theirs t (align_up (align_of t) off) ns
+line-theirs None off ns = refl
+line-theirs (Some t) off ns = names-theirs t (align_up (align_of t) off) ns
 
 fields-theirs : (fs : List Fd) (off : ℕ) → map typed_of (place off fs).placed ≡ typed_fields fs
 fields-theirs [] off = refl
@@ -117,8 +117,8 @@ adt-apart t fs =
 
 -- nothing is said of a record that no `adt` line fills
 abbrev ApartBy : Option (List Fd) → Recorded → Type 0
-ApartBy none r = Unit {0}
-ApartBy (some fs) r = Apart fs r
+ApartBy None r = Unit {0}
+ApartBy (Some fs) r = Apart fs r
 
 last-unseen : (k : Bytes) (r : Recorded) (xs : List Recorded) → seen k xs ≡ false → last_of k r xs ≡ r
 last-unseen k r [] h = refl
@@ -126,14 +126,14 @@ last-unseen k r (x ∷ xs) h = rw (or_left (same k x.key) (seen k xs) h) (last-u
 
 filled_apart : (k : Bytes) (o : Option (List Fd)) (r : Recorded) (t : Bytes) (fs : List Fd) (ks : Option (List Case)) → ApartBy o r
     → ApartBy (filled_by k o (record { name = t; fields = fs; pick = ks })) (last_of k r (records_for t fs ks))
-filled_apart k o r t fs none a = go (same k t)
+filled_apart k o r t fs None a = go (same k t)
   where
-    go : (b : Bool) → ApartBy (cond (b || false) (some fs) o) (cond b (without_pick t fs) r)
+    go : (b : Bool) → ApartBy (cond (b || false) (Some fs) o) (cond b (without_pick t fs) r)
     go true = adt-apart t fs
     go false = a
-filled_apart k o r t fs (some ks) a = go (with_pick t fs ks) (seen k (with_pick t fs ks)) refl
+filled_apart k o r t fs (Some ks) a = go (with_pick t fs ks) (seen k (with_pick t fs ks)) refl
   where
-    go : (xs : List Recorded) (b : Bool) → seen k xs ≡ b → ApartBy (cond b none o) (last_of k r xs)
+    go : (xs : List Recorded) (b : Bool) → seen k xs ≡ b → ApartBy (cond b None o) (last_of k r xs)
     go xs true e = tt
     go xs false e = rw (last-unseen k r xs e) a
 
@@ -154,7 +154,7 @@ last-key k r (x ∷ xs) h = last-key k (cond (same k x.key) x r) xs (go (same k 
 
 -- xs are the records still to come, and r k is the last record of key k before them
 settled-apart : (ds : List AdtDecl) (before xs : List Recorded) (r : Bytes → Recorded)
-    → ((k : Bytes) → ApartBy (filling k none ds) (last_of k (r k) xs)) → AllApart ds (records_by_key before xs)
+    → ((k : Bytes) → ApartBy (filling k None ds) (last_of k (r k) xs)) → AllApart ds (records_by_key before xs)
 settled-apart ds before [] r a = tt
 settled-apart ds before (x ∷ xs) r a =
     go (seen x.key before) (records_by_key (x ∷ before) xs) (settled-apart ds (x ∷ before) xs (λ k. cond (same k x.key) x (r k)) a)
@@ -162,7 +162,7 @@ settled-apart ds before (x ∷ xs) r a =
     last : Recorded
     last = last_of x.key x xs
 
-    apart : ApartBy (filling last.key none ds) last
+    apart : ApartBy (filling last.key None ds) last
     apart = rw (last-key x.key x xs refl) (rw (same_refl x.key) at (a x.key))
 
     go : (b : Bool) (ys : List Recorded) → AllApart ds ys → AllApart ds (cond b ys (last ∷ ys))
@@ -171,4 +171,4 @@ settled-apart ds before (x ∷ xs) r a =
 
 pub records-apart : (ds : List AdtDecl) → AllApart ds (records ds)
 unfolding records
-records-apart ds = settled-apart ds [] (record_log ds) (λ k. without_pick k []) (λ k. last_apart k ds none (without_pick k []) tt)
+records-apart ds = settled-apart ds [] (record_log ds) (λ k. without_pick k []) (λ k. last_apart k ds None (without_pick k []) tt)

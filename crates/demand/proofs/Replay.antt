@@ -5,7 +5,7 @@ use native.Mathlib.Omega.{arith}
 use mathlib.Core.Path.{◌≡◌, refl, sym, ap, ◌∙◌, subst}
 use mathlib.Core.Bool.{Bool, true, false, cond}
 use mathlib.Core.List.{List, [], ◌∷◌, ◌++◌, map, append-nil}
-use mathlib.Core.Option.{Option, none, some}
+use Rattle.std.specs.Prelude.{Option, None, Some}
 use lib.ListN.{length, get_or, length-append}
 use lib.Dec.{leb}
 use lib.Ieee.{Float, to_bits}
@@ -40,8 +40,8 @@ replay-append [] js r = refl
 replay-append (i ∷ is) js r = replay-append is js (replay_item i r)
 
 lay-keeps : (off : ℕ) (ys : Bytes) (i : Option ℕ) (r : Replay) → ((lay off ys i r).item ≡ suc r.item) × ((lay off ys i r).end ≡ r.end)
-lay-keeps off ys none r = (refl, refl)
-lay-keeps off ys (some start) r = (refl, refl)
+lay-keeps off ys None r = (refl, refl)
+lay-keeps off ys (Some start) r = (refl, refl)
 
 item-next : (i : Item) (r : Replay) → ((replay_item i r).item ≡ suc r.item) × ((replay_item i r).end ≡ end_after r.end i)
 item-next (values_item o vs) r = lay-keeps o _ r.inside r
@@ -95,7 +95,7 @@ skipped r im ar start o bs h = record {
 }
 
 strings : (vs : List ConstVal) (k : ℕ) (im ar : Bytes) (a : ℕ) (ps : List ArrayPart) (start o : ℕ) → start + o + 4 * length vs ≤ length ar → ZeroFrom (start + o) ar
-    → Inside (replay_all (str_items o vs) (st k im ar a ps (some start))) im ar (start + o) (elements_bytes k_ptr k vs)
+    → Inside (replay_all (str_items o vs) (st k im ar a ps (Some start))) im ar (start + o) (elements_bytes k_ptr k vs)
 unfolding big_endian
 strings [] k im ar a ps start o h z = record { image = refl; long = refl; adds = λ p. rw (shifted-nil (start + o) p, add-zero) }
 strings (v_int x ∷ vs) k im ar a ps start o h z = skipped _ im ar start o (elements_bytes k_ptr k vs) (strings vs k im ar a ps start (o + 4) (omega arith) (λ p l. z p (omega arith)))
@@ -154,7 +154,7 @@ elements-long e k (v ∷ vs) =
     length-append (element_bytes e k v) (elements_bytes e (after_string k v) vs) ∙ omega arith
 
 one-item : (k : ℕ) (im ar : Bytes) (a : ℕ) (ps : List ArrayPart) (start : ℕ) (ys bs : Bytes) → ys ≡ bs → start + length bs ≤ length ar → ZeroFrom start ar
-    → Inside (st (suc k) im (written ar (start + 0) ys) a ps (some start)) im ar start bs
+    → Inside (st (suc k) im (written ar (start + 0) ys) a ps (Some start)) im ar start bs
 one-item k im ar a ps start ys bs e h z =
     let w : written ar (start + 0) ys ≡ written ar start bs = ap (λ (n : ℕ). written ar n ys) (add-zero start) ∙ ap (written ar start) e in
     record {
@@ -164,7 +164,7 @@ one-item k im ar a ps start ys bs e h z =
     }
 
 elements : (e : ElemKind) (vs : List ConstVal) (k : ℕ) (im ar : Bytes) (a : ℕ) (ps : List ArrayPart) (start : ℕ) → start + elem_size e * length vs ≤ length ar → ZeroFrom start ar
-    → Inside (replay_all (element_items e vs) (st k im ar a ps (some start))) im ar start (elements_bytes e k vs)
+    → Inside (replay_all (element_items e vs) (st k im ar a ps (Some start))) im ar start (elements_bytes e k vs)
 elements k_byte vs k im ar a ps start h z = one-item k im ar a ps start _ _ (byte-elements vs k) (rw (elements-long k_byte k vs) h) z
 elements k_word vs k im ar a ps start h z = one-item k im ar a ps start _ _ (each-element k_word const_word word_bytes (λ j v. refl) vs k) (rw (elements-long k_word k vs) h) z
 elements k_big vs k im ar a ps start h z = one-item k im ar a ps start _ _ (each-element k_big const_big big_bytes (λ j v. refl) vs k) (rw (elements-long k_big k vs) h) z
@@ -178,14 +178,14 @@ elements k_ptr vs k im ar a ps start h z =
 
 -- a replay has laid the bytes bs at off of the image, and added part to the area
 record LaidOutside (r : Replay) (im ar : Bytes) (off : ℕ) (bs : Bytes) (part : ℕ → ℕ) : Type 0 where
-  inside : r.inside ≡ none
+  inside : r.inside ≡ None
   image_long : length r.image ≡ length im
   area_long : length r.area ≡ length ar
   image_adds : (p : ℕ) → get_or r.image p 0 ≡ get_or im p 0 + shifted off bs p
   area_adds : (p : ℕ) → get_or r.area p 0 ≡ get_or ar p 0 + part p
 
 -- no item
-nothing : (k : ℕ) (im ar : Bytes) (a : ℕ) (ps : List ArrayPart) (off : ℕ) → LaidOutside (st k im ar a ps none) im ar off [] (λ p. 0)
+nothing : (k : ℕ) (im ar : Bytes) (a : ℕ) (ps : List ArrayPart) (off : ℕ) → LaidOutside (st k im ar a ps None) im ar off [] (λ p. 0)
 nothing k im ar a ps off = record {
   inside = refl;
   image_long = refl;
@@ -196,7 +196,7 @@ nothing k im ar a ps off = record {
 
 -- an item of the image
 value : (k : ℕ) (im ar : Bytes) (a : ℕ) (ps : List ArrayPart) (off : ℕ) (ys bs : Bytes) → ys ≡ bs → off + length bs ≤ length im → ZeroFrom off im
-    → LaidOutside (st (suc k) (written im off ys) ar a ps none) im ar off bs (λ p. 0)
+    → LaidOutside (st (suc k) (written im off ys) ar a ps None) im ar off bs (λ p. 0)
 value k im ar a ps off ys bs e h z = record {
   inside = refl;
   image_long = ap (λ (xs : Bytes). length (written im off xs)) e ∙ length-written im off bs h;
@@ -214,7 +214,7 @@ size-le k_ptr m n h = omega arith
 
 array-items : (k : ℕ) (im ar : Bytes) (a : ℕ) (ps : List ArrayPart) (off : ℕ) (e : ElemKind) (n : ℕ) (vs : List ConstVal)
     → off + 4 ≤ length im → ZeroFrom off im → part_at a + elem_size e * n ≤ length ar → ZeroFrom a ar → length vs ≤ n
-    → LaidOutside (replay_all (array_item off e n ∷ contents off e vs) (st k im ar a ps none)) im ar off (handle k) (λ p. shifted (part_at a) (elements_bytes e (suc (suc k)) vs) p)
+    → LaidOutside (replay_all (array_item off e n ∷ contents off e vs) (st k im ar a ps None)) im ar off (handle k) (λ p. shifted (part_at a) (elements_bytes e (suc (suc k)) vs) p)
 unfolding big_endian
 array-items k im ar a ps off e n [] fits z room zr l = record {
   inside = refl;
@@ -231,8 +231,8 @@ array-items k im ar a ps off e n (v ∷ vs) fits z room zr l =
     let s = size-le e (length (v ∷ vs)) n l in
     let i = elements e (v ∷ vs) (suc (suc k)) im₁ ar a₁ ps₁ start (omega arith) (λ p h. zr p (omega arith)) in
     let is =
-    ap (λ (b : Bool). replay_all (element_items e (v ∷ vs) ++ (back_item ∷ [])) (st (suc (suc k)) im₁ ar a₁ ps₁ (some (cond b start (start_of off ps))))) (eq-eqb off off refl)
-    ∙ replay-append (element_items e (v ∷ vs)) (back_item ∷ []) (st (suc (suc k)) im₁ ar a₁ ps₁ (some start)) in
+    ap (λ (b : Bool). replay_all (element_items e (v ∷ vs) ++ (back_item ∷ [])) (st (suc (suc k)) im₁ ar a₁ ps₁ (Some (cond b start (start_of off ps))))) (eq-eqb off off refl)
+    ∙ replay-append (element_items e (v ∷ vs)) (back_item ∷ []) (st (suc (suc k)) im₁ ar a₁ ps₁ (Some start)) in
     subst (λ (r : Replay). LaidOutside r im ar off (handle k) (λ p. shifted start (elements_bytes e (suc (suc k)) (v ∷ vs)) p)) (sym is)
     (record {
       inside = refl;
@@ -299,7 +299,7 @@ first-long t k (array_init a) h = size-4 t
 first-long t k pending_init h = omega arith
 
 value-item : (t : Ty) (v : ConstVal) (k : ℕ) (im ar : Bytes) (a : ℕ) (ps : List ArrayPart) (off : ℕ) → TypedValue t v → off + length (value_bytes t k v) ≤ length im → ZeroFrom off im
-    → LaidOutside (replay_all (init_items off t (const_init v)) (st k im ar a ps none)) im ar off (value_bytes t k v) (λ p. 0)
+    → LaidOutside (replay_all (init_items off t (const_init v)) (st k im ar a ps None)) im ar off (value_bytes t k v) (λ p. 0)
 unfolding big_endian
 value-item t v k im ar a ps off (an_int x) h z = value k im ar a ps off (word_bytes (lowest 31 x)) (big_endian 4 (bits64 x)) (word-bytes x) h z
 value-item t v k im ar a ps off (a_byte x) h z = value k im ar a ps off (word_bytes (lowest 31 x)) (big_endian 4 (bits64 x)) (word-bytes x) h z
@@ -317,7 +317,7 @@ area_added k a pending_init p = 0
 
 init-items : (t : Ty) (i : Init) (k : ℕ) (im ar : Bytes) (a : ℕ) (ps : List ArrayPart) (off : ℕ) → of_kind t i ≡ true → ValuesFit i
     → off + global_size t ≤ length im → ZeroFrom off im → after_part a i ≤ length ar → ZeroFrom a ar
-    → LaidOutside (replay_all (init_items off t i) (st k im ar a ps none)) im ar off (first_bytes t k i) (area_added k a i)
+    → LaidOutside (replay_all (init_items off t i) (st k im ar a ps None)) im ar off (first_bytes t k i) (area_added k a i)
 init-items t no_init k im ar a ps off h s fits z room zr = nothing k im ar a ps off
 init-items t (const_init v) k im ar a ps off h s fits z room zr =
     let w = value_of t v h in
@@ -437,7 +437,7 @@ joined b l r p q h = omega arith
 
 pub replayed : (ds : List Declared) (e k : ℕ) (im ar : Bytes) (a : ℕ) (ps : List ArrayPart) → kinds_fit ds ≡ true → AllSized ds
     → end_from e ds ≤ length im → ZeroFrom e im → parts_from a ds ≤ length ar → ZeroFrom a ar
-    → ReplayAdds (replay_all (items_from e ds) (st k im ar a ps none)) im ar (laid_from e k a ds)
+    → ReplayAdds (replay_all (items_from e ds) (st k im ar a ps None)) im ar (laid_from e k a ds)
 replayed [] e k im ar a ps h s fits z room zr =
     record { image_long = refl; area_long = refl; image = λ p. sym (add-zero (get_or im p 0)); area = λ p. sym (add-zero (get_or ar p 0)) }
 replayed (d ∷ ds) e k im ar a ps h s fits z room zr =
@@ -448,7 +448,7 @@ replayed (d ∷ ds) e k im ar a ps h s fits z room zr =
     let u = align-up t e in
     let v = end-above ds (end_at d e) in
     let w = parts-above ds (after_part a i) in
-    let r₀ = st k im ar a ps none in
+    let r₀ = st k im ar a ps None in
     let r₁ = replay_all (items_at d e) r₀ in
     let o = init-items t i k im ar a ps off kind s.0 (omega arith) (λ p l. z p (omega arith)) (omega arith) zr in
     let long = first-long t k i kind in
@@ -459,7 +459,7 @@ replayed (d ∷ ds) e k im ar a ps h s fits z room zr =
     let ih = replayed ds (end_at d e) k₁ r₁.image r₁.area a₁ r₁.parts (and_right (of_kind t i) (kinds_fit ds) h) s.1
     (omega arith) (λ p l. o.image_adds p ∙ rw (z p (omega arith), shifted_past off (first_bytes t k i) p (omega arith)))
     (omega arith) (λ p l. let b = part-above i a in o.area_adds p ∙ rw (zr p (omega arith), added-past k a i p s.0 l)) in
-    let state : st k₁ r₁.image r₁.area a₁ r₁.parts none ≡ r₁ =
+    let state : st k₁ r₁.image r₁.area a₁ r₁.parts None ≡ r₁ =
     sym (λ x. record { item = replay-item (items_at d e) r₀ x; image = r₁.image; area = r₁.area; end = (replay-end (items_at d e) r₀ ∙ init-end t i off a) x; parts = r₁.parts; inside = o.inside x }) in
     let same = ap (replay_all (items_from (end_at d e) ds)) state ∙ sym (replay-append (items_at d e) (items_from (end_at d e) ds) r₀) in
     let rest = laid_from (end_at d e) k₁ a₁ ds in

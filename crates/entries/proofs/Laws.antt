@@ -3,7 +3,7 @@ use mathlib.Core.Path.{◌≡◌, refl, sym, ap, ◌∙◌, subst}
 use mathlib.Core.Bool.{Bool, true, false}
 use mathlib.Core.List.{[], ◌∷◌, ◌++◌}
 use mathlib.Core.Logic.{⊎_elim}
-use mathlib.Core.Option.{Option, none, some}
+use Rattle.std.specs.Prelude.{Option, None, Some}
 use Prim.Native.Nat.{ℕ, ◌+◌, ◌*◌, ◌/◌, ◌%◌, ◌≤◌, ◌<◌}
 use native.Mathlib.Omega.{arith}
 use native.Mathlib.Numerals.{add-one}
@@ -165,7 +165,7 @@ module _ (t u : Bytes) (m line within kind bits d : ℕ) (f : EntryRoom t m line
   }
 
   -- the string that was copied
-  text-here : kind ≡ 3 → bits / 65536 ≡ length str → value_by u kind bits ≡ some (v_str str)
+  text-here : kind ≡ 3 → bits / 65536 ≡ length str → value_by u kind bits ≡ Some (v_str str)
   text-here k e =
       value-text u kind bits k
       ∙ rw ((text k).0, e, behind (16384 + 256 * m) (omega arith), over-there t (16384 + 256 * m) str string-room)
@@ -225,25 +225,25 @@ module _ (t u : Bytes) (m line within kind bits d : ℕ) (f : EntryRoom t m line
       })
 
 module _ (t w : Bytes) (m line within d : ℕ) (f : EntryRoom t m line within) where
-  pub entered-failed : w ≡ linked (over t (5120 + 16 * m) (entry_of line within 0 0 d)) const_chains m → (s : Bytes) (n : ℕ) → line ≤ n → within ≤ n → d ≡ const_digest s within (first_field s line) → ConstsLogged s t n m → Entered s t n m line within none w
+  pub entered-failed : w ≡ linked (over t (5120 + 16 * m) (entry_of line within 0 0 d)) const_chains m → (s : Bytes) (n : ℕ) → line ≤ n → within ≤ n → d ≡ const_digest s within (first_field s line) → ConstsLogged s t n m → Entered s t n m line within None w
   entered-failed e =
       let u = over t (5120 + 16 * m) (entry_of line within 0 0 d) in
       entered t u m line within 0 0 d f [] (omega arith) (ap (λ (x : Bytes). over x (5120 + 16 * m) (entry_of line within 0 0 d)) (over_none t (16384 + 256 * m))) (omega arith) (omega arith) (λ k. absurd (omega arith))
-      none (value-failed u 0 0 (λ k. omega arith) (λ k. omega arith) (λ k. omega arith)) w e
+      None (value-failed u 0 0 (λ k. omega arith) (λ k. omega arith) (λ k. omega arith)) w e
 
   -- a value, by its variant
   pub entered-value : (v : ConstVal) → At 49152 v
       → (w ≡ linked (over (over t (16384 + 256 * m) (string_of t v)) (5120 + 16 * m) (entry_of line within (kind_for v) (bits_for (moved_to (16384 + 256 * m) v)) d)) const_chains m) × InRange v
-      → (s : Bytes) (n : ℕ) → line ≤ n → within ≤ n → d ≡ const_digest s within (first_field s line) → ConstsLogged s t n m → Entered s t n m line within (some (value_in t v)) w
+      → (s : Bytes) (n : ℕ) → line ≤ n → within ≤ n → d ≡ const_digest s within (first_field s line) → ConstsLogged s t n m → Entered s t n m line within (Some (value_in t v)) w
   unfolding value_in wrap
   entered-value (Int z) a (e, r) =
       let u = over (over t (16384 + 256 * m) []) (5120 + 16 * m) (entry_of line within 1 (bits64 z) d) in
       entered t u m line within 1 (bits64 z) d f [] (omega arith) refl (omega arith) (word (Int z) tt r) (λ k. absurd (omega arith))
-      (some (v_int z)) (value-int u 1 (bits64 z) refl ∙ ap (λ (x : ℤ). some (v_int x)) r) w e
+      (Some (v_int z)) (value-int u 1 (bits64 z) refl ∙ ap (λ (x : ℤ). Some (v_int x)) r) w e
   entered-value (Real x) a (e, r) =
       let u = over (over t (16384 + 256 * m) []) (5120 + 16 * m) (entry_of line within 2 (to_bits binary64 x) d) in
       entered t u m line within 2 (to_bits binary64 x) d f [] (omega arith) refl (omega arith) (word (Real x) tt r) (λ k. absurd (omega arith))
-      (some (v_real x)) (value-real u 2 (to_bits binary64 x) refl ∙ ap (λ (y : Float). some (v_real y)) (real-back x r)) w e
+      (Some (v_real x)) (value-real u 2 (to_bits binary64 x) refl ∙ ap (λ (y : Float). Some (v_real y)) (real-back x r)) w e
   entered-value (Str p l) a (e, r) =
       let b : ℕ = 16384 + 256 * m + 65536 * l in
       let u = over (over t (16384 + 256 * m) (string_in t p l)) (5120 + 16 * m) (entry_of line within 3 b d) in
@@ -253,4 +253,4 @@ module _ (t w : Bytes) (m line within d : ℕ) (f : EntryRoom t m line within) w
       let y : length (string_in t p l) ≤ 256 = omega arith in
       let h : b < 18446744073709551616 = omega (arith, f.few) in
       entered t u m line within 3 b d f (string_in t p l) y refl (omega arith) h x
-      (some (v_str (string_in t p l))) (text-here t u m line within 3 b d f (string_in t p l) y refl (omega arith) h x refl ((c b refl).1 ∙ sym g)) w e
+      (Some (v_str (string_in t p l))) (text-here t u m line within 3 b d f (string_in t p l) y refl (omega arith) h x refl ((c b refl).1 ∙ sym g)) w e

@@ -2,7 +2,7 @@
 use mathlib.Core.Path.{◌≡◌, refl, sym, ap, ◌∙◌}
 use mathlib.Core.Bool.{Bool, true, false, cond, ◌&&◌}
 use mathlib.Core.List.{List, [], ◌∷◌}
-use mathlib.Core.Option.{Option, none, some}
+use Rattle.std.specs.Prelude.{Option, None, Some}
 use Prim.Native.Nat.{ℕ, suc, ◌+◌, ◌-◌, ◌%◌, ◌≤◌, ◌<◌}
 use native.Mathlib.Omega.{arith}
 use lib.Dec.{leb, ltb, eqb}
@@ -79,8 +79,8 @@ module _ (s : List ℕ) where
       of false y e = never cc
 
       go : (o : Option ℤ) → whole o ≡ Integer.Is z → true ≡ holds_of (Form.between 9223372036854775808 9223372036854775807) o
-      go none e = never cc
-      go (some y) e = of (Form.between 9223372036854775808 9223372036854775807 y) y e
+      go None e = never cc
+      go (Some y) e = of (Form.between 9223372036854775808 9223372036854775807 y) y e
 
   pub i64-bad : integer_of s ≡ Integer.Bad → false ≡ is_between 9223372036854775808 9223372036854775807 s
   unfolding integer_of is_between
@@ -91,8 +91,8 @@ module _ (s : List ℕ) where
       of true y e = never cc
 
       go : (o : Option ℤ) → whole o ≡ Integer.Bad → false ≡ holds_of (Form.between 9223372036854775808 9223372036854775807) o
-      go none e = refl
-      go (some y) e = of (Form.between 9223372036854775808 9223372036854775807 y) y e
+      go None e = refl
+      go (Some y) e = of (Form.between 9223372036854775808 9223372036854775807 y) y e
 
   -- ---- reals
 
@@ -105,8 +105,8 @@ module _ (s : List ℕ) where
       of false m e = never cc
 
       go : (o : Option (List ℕ)) → eight_bytes o ≡ Bits64.Bits n → leb (n % 9223372036854775808) 9218868437227405312 ≡ holds_of Form.is_real_bytes o
-      go none e = never cc
-      go (some bs) e = of (eqb (length bs) 8) (from_big_endian 0 bs) e
+      go None e = never cc
+      go (Some bs) e = of (eqb (length bs) 8) (from_big_endian 0 bs) e
 
   pub real-bad : bits64_of s ≡ Bits64.Bad → false ≡ is_real_field s
   unfolding bits64_of is_real_field
@@ -117,5 +117,5 @@ module _ (s : List ℕ) where
       of false m e = refl
 
       go : (o : Option (List ℕ)) → eight_bytes o ≡ Bits64.Bad → false ≡ holds_of Form.is_real_bytes o
-      go none e = refl
-      go (some bs) e = of (eqb (length bs) 8) (from_big_endian 0 bs) e
+      go None e = refl
+      go (Some bs) e = of (eqb (length bs) 8) (from_big_endian 0 bs) e

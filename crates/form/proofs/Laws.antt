@@ -2,7 +2,7 @@
 use mathlib.Core.Path.{◌≡◌, refl, sym, ap, ◌∙◌}
 use mathlib.Core.Bool.{Bool, true, false, cond, not, ◌&&◌, ◌||◌, or-true}
 use mathlib.Core.List.{List, [], ◌∷◌, ◌++◌}
-use mathlib.Core.Option.{Option, none, some}
+use Rattle.std.specs.Prelude.{Option, None, Some}
 use Prim.Native.Nat.{ℕ, zero, suc, ◌+◌, ◌-◌, ◌≤◌, ◌<◌, min}
 use native.Mathlib.Omega.{arith}
 use native.Mathlib.Numerals.{add-one}
@@ -172,8 +172,8 @@ holds-count x s h =
     simp (ne_eqb x 87 (λ q. omega arith), ne_eqb x 81 (λ q. omega arith), ne_eqb x 88 (λ q. omega arith), ne_eqb x 89 (λ q. omega arith), ne_eqb x 82 (λ q. omega arith), ne_eqb x 84 (λ q. omega arith), le-leb 97 x h)
 
 exact : (o : Option ℕ) → Number.capped 65536 o < 17 → Number.capped 65536 o ≡ Text.or_else 0 o
-exact none h = absurd (omega arith)
-exact (some n) h = omega arith
+exact None h = absurd (omega arith)
+exact (Some n) h = omega arith
 
 -- the number that the code hands over is the field's own where it counts
 after-number : (x n : ℕ) (xs s : List ℕ) → x ≡ get_or xs 0 32 → letter_holds x s ≡ true → n ≡ Number.number_up_to 65536 s → after n xs ≡ after (Form.number_of s) xs
@@ -213,16 +213,16 @@ fits-start f l h w e = rw e (ready-start f h, refl)
 -- ---- letters say what the table's parts say
 
 up_to : (m : ℕ) (o : Option ℕ) → m < 65536 → ltb (Number.capped 65536 o) (suc m) ≡ Text.holds_of (λ (n : ℕ). leb n m) o
-up_to m none h = le-ltb 65537 (suc m) (omega arith)
-up_to m (some n) h = go (leb n m) refl
+up_to m None h = le-ltb 65537 (suc m) (omega arith)
+up_to m (Some n) h = go (leb n m) refl
   where
     go : (t : Bool) → leb n m ≡ t → ltb (min n 65536) (suc m) ≡ leb n m
     go true q = let k = leb-true n m q in lt-ltb (min n 65536) (suc m) (omega arith) ∙ sym q
     go false q = let k = leb-false n m q in le-ltb (min n 65536) (suc m) (omega arith) ∙ sym q
 
 is-number : (o : Option ℕ) → ltb (Number.capped 65536 o) 65537 ≡ Text.holds_of (λ (n : ℕ). true) o
-is-number none = refl
-is-number (some n) = lt-ltb (min n 65536) 65537 (omega arith)
+is-number None = refl
+is-number (Some n) = lt-ltb (min n 65536) 65537 (omega arith)
 
 -- letters of kinds are A to O
 pub kind-letter : (k : Form.Kind) → (64 < Form.letter k) × (Form.letter k < 80)

@@ -3,7 +3,7 @@ use mathlib.Core.Path.{◌≡◌, refl, sym, ap, ◌∙◌}
 use mathlib.Core.Logic.{⊎_elim}
 use mathlib.Core.Bool.{Bool, true, false, cond}
 use mathlib.Core.List.{List, [], ◌∷◌, ◌++◌}
-use mathlib.Core.Option.{Option, some}
+use Rattle.std.specs.Prelude.{Option, Some}
 use Prim.Native.Nat.{ℕ, zero, suc, ◌+◌, ◌-◌, ◌*◌, ◌/◌, ◌%◌, ◌≤◌, ◌<◌}
 use native.Mathlib.Numerals.{add-one}
 use native.Mathlib.Nat.{eq-or-lt_of_le}
@@ -206,12 +206,12 @@ module _ (x : Bytes) (p : Global) (e : same x p.name ≡ true) where
       go true h f = absurd (omega arith)
       go false h f = f h ∙ omega arith
 
-  place-new : (k : ℕ) (ps : List Global) → number_from (suc k) x ps ≡ 0 → place_of x (ps ++ (p ∷ [])) ≡ some p.offset
+  place-new : (k : ℕ) (ps : List Global) → number_from (suc k) x ps ≡ 0 → place_of x (ps ++ (p ∷ [])) ≡ Some p.offset
   place-new k [] z = rw e
   place-new k (q ∷ ps) z = go (same x q.name) z (place-new (suc k) ps)
     where
-      go : (b : Bool) → cond b (suc k) (number_from (suc (suc k)) x ps) ≡ 0 → (number_from (suc (suc k)) x ps ≡ 0 → place_of x (ps ++ (p ∷ [])) ≡ some p.offset)
-          → cond b (some q.offset) (place_of x (ps ++ (p ∷ []))) ≡ some p.offset
+      go : (b : Bool) → cond b (suc k) (number_from (suc (suc k)) x ps) ≡ 0 → (number_from (suc (suc k)) x ps ≡ 0 → place_of x (ps ++ (p ∷ [])) ≡ Some p.offset)
+          → cond b (Some q.offset) (place_of x (ps ++ (p ∷ []))) ≡ Some p.offset
       go true h f = absurd (omega arith)
       go false h f = f h
 

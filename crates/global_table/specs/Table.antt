@@ -1,8 +1,7 @@
 -- The table of globals in the working space, and the places that it holds.
 -- Entry i takes 8 bytes from 7168 + 8 i: the `var` line, from 1, in two bytes, the low one first; the position of the name among the
 -- line's names, from 0; the offset, as the line; the name's digest; its link; and for i < 128 the head of chain i.
-use Rattle.std.specs.Prelude.{ℕ, zero, suc, ◌+◌, ◌-◌, ◌*◌, ◌/◌, ◌%◌, ◌≤◌, ◌<◌, ◌≡◌, cond, List, [], ◌∷◌, get_or}
-use Rattle.std.proofs.Math.Option.{Option, none, some}
+use Rattle.std.specs.Prelude.{ℕ, zero, suc, ◌+◌, ◌-◌, ◌*◌, ◌/◌, ◌%◌, ◌≤◌, ◌<◌, ◌≡◌, cond, List, [], ◌∷◌, get_or, Option, None, Some}
 use Rattle.std.proofs.lemmas.List.Edits.{sets}
 use Rattle.semantics.specs.Text.{Bytes, or_else, same}
 use Rattle.semantics.specs.Tree.{Ty, VarDecl}
@@ -75,8 +74,8 @@ pub record GlobalEntry (s t : Bytes) (n i : ℕ) : Type 0 where
 
 -- the offset of an entry by its number from 1; 0 is none
 unfoldable pub offset_by : Bytes → ℕ → Option ℕ
-offset_by t zero = none
-offset_by t (suc i) = some (offset_of t i)
+offset_by t zero = None
+offset_by t (suc i) = Some (offset_of t i)
 
 -- the number of the first place with a name, where the first of all has the number k; 0 where there is none
 abbrev pub number_from : ℕ → Bytes → List Global → ℕ

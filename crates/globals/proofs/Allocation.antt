@@ -2,7 +2,7 @@
 use mathlib.Core.Path.{◌≡◌, refl, ap, ◌∙◌}
 use mathlib.Core.Bool.{Bool, true, false, not, cond}
 use mathlib.Core.List.{List, [], ◌∷◌, ◌++◌, map}
-use mathlib.Core.Option.{Option, none, some}
+use Rattle.std.specs.Prelude.{Option, None, Some}
 use Prim.Native.Nat.{ℕ, zero, suc, ◌+◌, ◌<◌}
 use native.Mathlib.Numerals.{add-one}
 use lib.Dec.{eqb}
@@ -32,8 +32,8 @@ lay_declared [] l = l
 lay_declared (d ∷ ds) l = lay_declared ds (lay_at d.ty d.name (place_of d.name l.places) l)
 
 place-only : (d : Declared) (o : Option ℕ) (g : Globals) → allocation_of (declare_at d o g) ≡ lay_at d.ty d.name o (allocation_of g)
-place-only d none g = refl
-place-only d (some off) g = refl
+place-only d None g = refl
+place-only d (Some off) g = refl
 
 places-only : (ds : List Declared) (g : Globals) → allocation_of (globals_from g ds) ≡ lay_declared ds (allocation_of g)
 unfolding lay_declared

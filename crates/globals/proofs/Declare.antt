@@ -3,7 +3,7 @@ use mathlib.Core.Path.{◌≡◌, refl, sym, ap, ◌∙◌, subst}
 use mathlib.Core.Logic.{⊎_elim}
 use mathlib.Core.Bool.{Bool, true, false}
 use mathlib.Core.List.{List, [], ◌∷◌, ◌++◌}
-use mathlib.Core.Option.{none}
+use Rattle.std.specs.Prelude.{None}
 use Prim.Native.Nat.{ℕ, zero, suc, ◌+◌, ◌-◌, ◌*◌, ◌≤◌, ◌<◌}
 use native.Mathlib.Nat.{eq-or-lt_of_le}
 use native.Mathlib.Numerals.{add-one}
@@ -131,7 +131,7 @@ module _ (s t : Bytes) (n r j : ℕ) (g : Globals) (st : PlacesEntered s t n g) 
     allocation-new : allocation_in s with_entry h ≡ lay_name (type_on s r) (name_on s r j) (allocation_in s t g)
     unfolding lay_name offset_by
     allocation-new =
-        let q : place_of (name_on s r j) (places_in s t g.count) ≡ none = sym hp ∙ ap (offset_by t) hz in
+        let q : place_of (name_on s r j) (places_in s t g.count) ≡ None = sym hp ∙ ap (offset_by t) hz in
         let f : h.end ≡ new_offset (type_on s r) g.end + global_size (type_on s r) = he ∙ rw (off-is, size_is) in
         rw (hn, q, places-new, f)
 

@@ -2,7 +2,7 @@
 use mathlib.Core.Path.{◌≡◌, refl, sym, ap, ◌∙◌}
 use mathlib.Core.Bool.{Bool, true, false, cond}
 use mathlib.Core.List.{List, [], ◌∷◌, ◌++◌, map, append_assoc, append-nil}
-use mathlib.Core.Option.{Option, none, some}
+use Rattle.std.specs.Prelude.{Option, None, Some}
 use Prim.Native.Nat.{ℕ, zero, suc, ◌≤◌}
 use native.Mathlib.Omega.{arith}
 use lib.Dec.{eqb}
@@ -25,40 +25,40 @@ use Rattle.globals.specs.Vars.{located_at, laid_vars_to, first_init, var_items, 
 
 -- ---- a place stays
 
-place-append : (x : Bytes) (ps qs : List Global) {off : ℕ} → place_of x ps ≡ some off → place_of x (ps ++ qs) ≡ some off
+place-append : (x : Bytes) (ps qs : List Global) {off : ℕ} → place_of x ps ≡ Some off → place_of x (ps ++ qs) ≡ Some off
 place-append x [] qs h = let z : ◌≡◌ {A = ℕ} 0 1 = cc in absurd (omega arith)
 place-append x (p ∷ ps) qs {off} h = go (same x p.name) h (λ q. place-append x ps qs q)
   where
-    go : (b : Bool) → cond b (some p.offset) (place_of x ps) ≡ some off → (place_of x ps ≡ some off → place_of x (ps ++ qs) ≡ some off) → cond b (some p.offset) (place_of x (ps ++ qs)) ≡ some off
+    go : (b : Bool) → cond b (Some p.offset) (place_of x ps) ≡ Some off → (place_of x ps ≡ Some off → place_of x (ps ++ qs) ≡ Some off) → cond b (Some p.offset) (place_of x (ps ++ qs)) ≡ Some off
     go true q ih = q
     go false q ih = ih q
 
-place-last : (x : Bytes) (ps : List Global) (p : Global) → place_of x ps ≡ none → p.name ≡ x → place_of x (ps ++ (p ∷ [])) ≡ some p.offset
+place-last : (x : Bytes) (ps : List Global) (p : Global) → place_of x ps ≡ None → p.name ≡ x → place_of x (ps ++ (p ∷ [])) ≡ Some p.offset
 place-last x [] p h e = rw (e, same_refl x)
 place-last x (q ∷ ps) p h e = go (same x q.name) h (λ k. place-last x ps p k e)
   where
-    go : (b : Bool) → cond b (some q.offset) (place_of x ps) ≡ none → (place_of x ps ≡ none → place_of x (ps ++ (p ∷ [])) ≡ some p.offset) → cond b (some q.offset) (place_of x (ps ++ (p ∷ []))) ≡ some p.offset
+    go : (b : Bool) → cond b (Some q.offset) (place_of x ps) ≡ None → (place_of x ps ≡ None → place_of x (ps ++ (p ∷ [])) ≡ Some p.offset) → cond b (Some q.offset) (place_of x (ps ++ (p ∷ []))) ≡ Some p.offset
     go true k ih = let z : ◌≡◌ {A = ℕ} 0 1 = cc in absurd (omega arith)
     go false k ih = ih k
 
-declared-stays : (x : Bytes) (d : Declared) (o : Option ℕ) (g : Globals) {off : ℕ} → place_of x g.places ≡ some off → place_of x (declare_at d o g).places ≡ some off
-declared-stays x d none g h = place-append x g.places (record { name = d.name; offset = new_offset d.ty g.end; ty = d.ty } ∷ []) h
-declared-stays x d (some o) g h = h
+declared-stays : (x : Bytes) (d : Declared) (o : Option ℕ) (g : Globals) {off : ℕ} → place_of x g.places ≡ Some off → place_of x (declare_at d o g).places ≡ Some off
+declared-stays x d None g h = place-append x g.places (record { name = d.name; offset = new_offset d.ty g.end; ty = d.ty } ∷ []) h
+declared-stays x d (Some o) g h = h
 
-place-stays : (x : Bytes) (ds : List Declared) (g : Globals) {off : ℕ} → place_of x g.places ≡ some off → place_of x (globals_from g ds).places ≡ some off
+place-stays : (x : Bytes) (ds : List Declared) (g : Globals) {off : ℕ} → place_of x g.places ≡ Some off → place_of x (globals_from g ds).places ≡ Some off
 place-stays x [] g h = h
 place-stays x (d ∷ ds) g h = place-stays x ds (declare_at d (place_of d.name g.places) g) (declared-stays x d (place_of d.name g.places) g h)
 
 -- what one declaration adds, with its place
 module _ (ps : List Global) (d : Declared) (g : Globals) where
-  item-added : (o : Option ℕ) → place_of d.name g.places ≡ o → ((off : ℕ) → place_of d.name (declare_at d o g).places ≡ some off → place_of d.name ps ≡ some off)
+  item-added : (o : Option ℕ) → place_of d.name g.places ≡ o → ((off : ℕ) → place_of d.name (declare_at d o g).places ≡ Some off → place_of d.name ps ≡ Some off)
       → (declare_at d o g).items ≡ g.items ++ init_items (offset_in d.name ps) d.ty d.first
-  item-added none h k = rw (k (new_offset d.ty g.end) (place-last d.name g.places (record { name = d.name; offset = new_offset d.ty g.end; ty = d.ty }) h refl))
-  item-added (some off) h k = rw (k off h)
+  item-added None h k = rw (k (new_offset d.ty g.end) (place-last d.name g.places (record { name = d.name; offset = new_offset d.ty g.end; ty = d.ty }) h refl))
+  item-added (Some off) h k = rw (k off h)
 
   pend-added : (o : Option ℕ) → (declare_at d o g).pends ≡ g.pends ++ pend_of d.name d.first
-  pend-added none = refl
-  pend-added (some off) = refl
+  pend-added None = refl
+  pend-added (Some off) = refl
 
 items-from : (ps : List Global) (ds : List Declared) (g : Globals) → (globals_from g ds).places ≡ ps → (globals_from g ds).items ≡ g.items ++ concat_map (λ (d : Declared). init_items (offset_in d.name ps) d.ty d.first) ds
 items-from ps [] g h = sym (append-nil g.items)

@@ -1,6 +1,5 @@
 -- Places of globals by names alone: first values have no part in them.
-use Rattle.std.specs.Prelude.{ℕ, ◌+◌, cond, List, [], ◌∷◌, ◌++◌}
-use Rattle.std.proofs.Math.Option.{Option, none, some}
+use Rattle.std.specs.Prelude.{ℕ, ◌+◌, cond, List, [], ◌∷◌, ◌++◌, Option, None, Some}
 use Rattle.semantics.specs.Text.{Bytes, bytes, same}
 use Rattle.semantics.specs.Tree.{Ty, VarDecl, Declares}
 use Rattle.semantics.specs.Sheet.{Located, sheet_source}
@@ -22,8 +21,8 @@ allocation_of g = record { places = g.places; end = g.end }
 
 -- one more name of a type: a name met again keeps its place
 abbrev pub lay_at : Ty → Bytes → Option ℕ → Allocation → Allocation
-lay_at t n (some off) l = l
-lay_at t n none l = record { places = l.places ++ (record { name = n; offset = new_offset t l.end; ty = t } ∷ []); end = new_offset t l.end + global_size t }
+lay_at t n (Some off) l = l
+lay_at t n None l = record { places = l.places ++ (record { name = n; offset = new_offset t l.end; ty = t } ∷ []); end = new_offset t l.end + global_size t }
 
 -- `nil` has no place
 unfoldable pub lay_name : Ty → Bytes → Allocation → Allocation

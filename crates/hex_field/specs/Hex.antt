@@ -1,6 +1,5 @@
 -- What the readers of hexadecimal digits return.
-use Rattle.std.specs.Prelude.{ℕ, ◌+◌, ◌*◌, cond, length, get_or, eqb}
-use Rattle.std.proofs.Math.Option.{Option, none, some}
+use Rattle.std.specs.Prelude.{ℕ, ◌+◌, ◌*◌, cond, length, get_or, eqb, Option, None, Some}
 use Rattle.semantics.specs.Text.{Bytes, or_else, hex_value, unhex, from_big_endian}
 use Rattle.hex_field.specs.declared.Bits64.{Bits64}
 use Rattle.hex_field.specs.declared.Bits64.TheVariants.{Bits, Bad}
@@ -11,9 +10,9 @@ digit_of b = or_else 16 (hex_value b)
 
 -- the byte that two digits write
 abbrev pub pair_byte : Option ℕ → Option ℕ → Option ℕ
-pair_byte none l = none
-pair_byte (some h) none = none
-pair_byte (some h) (some l) = some (h * 16 + l)
+pair_byte None l = None
+pair_byte (Some h) None = None
+pair_byte (Some h) (Some l) = Some (h * 16 + l)
 
 -- the same, and 256 where there is none
 unfoldable pub pair_of : ℕ → ℕ → ℕ
@@ -25,8 +24,8 @@ byte_at s i = or_else 0 (pair_byte (hex_value (get_or s (2 * i) 0)) (hex_value (
 
 -- 64 bits from eight bytes
 abbrev pub eight_bytes : Option Bytes → Bits64
-eight_bytes none = Bad
-eight_bytes (some bs) = cond (eqb (length bs) 8) (Bits (from_big_endian 0 bs)) Bad
+eight_bytes None = Bad
+eight_bytes (Some bs) = cond (eqb (length bs) 8) (Bits (from_big_endian 0 bs)) Bad
 
 -- the 64 bits that 16 digits write
 unfoldable pub bits64_of : Bytes → Bits64
@@ -34,5 +33,5 @@ bits64_of s = eight_bytes (unhex s)
 
 -- the same from eight bytes or fewer, behind the bytes of n
 abbrev pub bits64_from : ℕ → Option Bytes → Bits64
-bits64_from n none = Bad
-bits64_from n (some bs) = Bits (from_big_endian n bs)
+bits64_from n None = Bad
+bits64_from n (Some bs) = Bits (from_big_endian n bs)

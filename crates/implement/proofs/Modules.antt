@@ -2,7 +2,7 @@
 use mathlib.Core.Path.{◌≡◌, refl, sym, ap, ◌∙◌}
 use mathlib.Core.Bool.{Bool, true, false, cond, not, ◌&&◌, ◌||◌}
 use mathlib.Core.List.{[], ◌∷◌, append-nil}
-use mathlib.Core.Option.{none, some}
+use Rattle.std.specs.Prelude.{None, Some}
 use Prim.Native.Nat.{ℕ, zero, suc, ◌+◌, ◌-◌, ◌≤◌, ◌<◌}
 use native.Mathlib.Omega.{arith}
 use native.Mathlib.Numerals.{add-one}
@@ -51,37 +51,37 @@ module _ (s t : Bytes) (n : ℕ) (c : Checked s t n) where
   implements-first (suc i) h =
       rw (implements-first i (omega arith), implements-at (suc i) h, no-impl (suc i) h (omega arith)) (append-nil (cond (eqb (Form.letter (read_at s 0).form.kind) 73) (first_field s 1 ∷ []) []))
 
-  implement-is : 0 < n → (sheet_source s).implement ≡ cond (eqb (Form.letter (read_at s 0).form.kind) 73) (some (first_field s 1)) none
+  implement-is : 0 < n → (sheet_source s).implement ≡ cond (eqb (Form.letter (read_at s 0).form.kind) 73) (Some (first_field s 1)) None
   implement-is h =
       let e : length (nodes_in s) ≡ suc (n - 1) = node-count s t n c.whole ∙ omega arith in
       ap (λ (o : Source). o.implement) (source-of s)
       ∙ ap first_of (declared-all (λ (d : Declares). d.implements) (nodes_in s) ∙ ap (declared_to (λ (d : Declares). d.implements) (nodes_in s)) e ∙ implements-first (n - 1) (omega arith))
       ∙ go (eqb (Form.letter (read_at s 0).form.kind) 73)
     where
-      go : (b : Bool) → first_of (cond b (first_field s 1 ∷ []) []) ≡ cond b (some (first_field s 1)) none
+      go : (b : Bool) → first_of (cond b (first_field s 1 ∷ []) []) ≡ cond b (Some (first_field s 1)) None
       go true = refl
       go false = refl
 
   -- whether a name is that of the implemented module
   module _ (q : Bytes) where
-    pub implemented-none : n ≡ 0 → false ≡ same_option (sheet_source s).implement (some q)
+    pub implemented-none : n ≡ 0 → false ≡ same_option (sheet_source s).implement (Some q)
     unfolding declared_to
     implemented-none z =
         let e : length (nodes_in s) ≡ 0 = node-count s t n c.whole ∙ z in
-        let f : (sheet_source s).implement ≡ none = ap (λ (o : Source). o.implement) (source-of s) ∙ ap first_of (declared-all (λ (d : Declares). d.implements) (nodes_in s) ∙ ap (declared_to (λ (d : Declares). d.implements) (nodes_in s)) e) in
+        let f : (sheet_source s).implement ≡ None = ap (λ (o : Source). o.implement) (source-of s) ∙ ap first_of (declared-all (λ (d : Declares). d.implements) (nodes_in s) ∙ ap (declared_to (λ (d : Declares). d.implements) (nodes_in s)) e) in
         rw f
 
     module _ (h : 0 < n) {f x : ℕ} (hf : f ≡ form_at t 0) (hx : x ≡ kind_at f) where
-      pub implemented-not : (x ≡ 73 → ⊥) → false ≡ same_option (sheet_source s).implement (some q)
+      pub implemented-not : (x ≡ 73 → ⊥) → false ≡ same_option (sheet_source s).implement (Some q)
       implemented-not z = rw (implement-is h, ← kind-by s t n c 0 h hf hx, ne_eqb x 73 z)
 
-      pub implemented-by : x ≡ 73 → same (first_field s 1) q ≡ same_option (sheet_source s).implement (some q)
+      pub implemented-by : x ≡ 73 → same (first_field s 1) q ≡ same_option (sheet_source s).implement (Some q)
       implemented-by z = rw (implement-is h, ← kind-by s t n c 0 h hf hx, eq-eqb x 73 z)
 
 -- ---- the open module
 
 module _ (s t : Bytes) (n i k : ℕ) (o : Open s t n i k) (h : i < n) (f x : ℕ) (hf : f ≡ form_at t i) (hx : x ≡ kind_at f) where
-  behind : open_at (nodes_in s) (i + 1) ≡ cond (eqb x 79) none (opened (suc i) (cond (eqb x 77) (get_or (read_at s i).fields 0 [] ∷ []) []) (open_at (nodes_in s) i))
+  behind : open_at (nodes_in s) (i + 1) ≡ cond (eqb x 79) None (opened (suc i) (cond (eqb x 77) (get_or (read_at s i).fields 0 [] ∷ []) []) (open_at (nodes_in s) i))
   unfolding open_at by_kind
   behind = rw (add-one, kind-by s t n o.checked i h hf hx) (ap (λ (d : Declares). open_after (suc i) d (open_at (nodes_in s) i)) (line-declares s t n o.checked i h))
 
@@ -106,7 +106,7 @@ unfolding module_at
 own-outside s zero e = refl
 own-outside s (suc k) e = absurd (omega arith)
 
-pub own-within : (s : Bytes) (k : ℕ) {b : Bool} → (k ≡ 0 → ⊥) → b ≡ same_option (sheet_source s).implement (some (first_field s k)) → b ≡ is_own s k
+pub own-within : (s : Bytes) (k : ℕ) {b : Bool} → (k ≡ 0 → ⊥) → b ≡ same_option (sheet_source s).implement (Some (first_field s k)) → b ≡ is_own s k
 unfolding module_at
 own-within s zero z e = absurd (z refl)
 own-within s (suc k) z e = e

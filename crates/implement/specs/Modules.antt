@@ -1,6 +1,5 @@
 -- Modules by the numbers of their lines.
-use Rattle.std.specs.Prelude.{ℕ, zero, suc, ◌-◌, ◌≤◌, ◌≡◌, Bool, ◌||◌, [], get_or}
-use Rattle.std.proofs.Math.Option.{Option, none, some}
+use Rattle.std.specs.Prelude.{ℕ, zero, suc, ◌-◌, ◌≤◌, ◌≡◌, Bool, ◌||◌, [], get_or, Option, None, Some}
 use Rattle.semantics.specs.Text.{Bytes, is_none}
 use Rattle.semantics.specs.Sheet.{Module, sheet_source}
 use Rattle.semantics.specs.Const.{implements}
@@ -14,8 +13,8 @@ first_field s k = get_or (read_at s (k - 1)).fields 0 []
 
 -- the module of a `mod` line, none for 0
 unfoldable pub module_at : Bytes → ℕ → Option Module
-module_at s zero = none
-module_at s (suc k) = some (record { name = first_field s (suc k); line = suc k })
+module_at s zero = None
+module_at s (suc k) = Some (record { name = first_field s (suc k); line = suc k })
 
 -- whether what is declared in a module is the sheet's own: outside modules, and in the implemented one
 abbrev pub own_in : Option Bytes → Option Module → Bool

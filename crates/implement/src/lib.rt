@@ -1,8 +1,7 @@
 // The modules of a checked sheet: which one is open before a line, and whether the sheet implements it.
 #![tactic(auto)]
 
-ghost use Rattle.std.specs.Prelude.{◌≡◌, ◌+◌, ◌≤◌, ◌<◌};
-ghost use Rattle.std.proofs.Math.Option.{some};
+ghost use Rattle.std.specs.Prelude.{◌≡◌, ◌+◌, ◌≤◌, ◌<◌, Some};
 ghost use Rattle.semantics.specs.Sheet.{sheet_source};
 ghost use Rattle.semantics.specs.Fold.{same_option};
 ghost use Rattle.checks.specs.Checks.{Checked};
@@ -13,7 +12,7 @@ use codes::kind;
 // Whether the sheet implements a module of this name.
 pub fn is_implemented(sheet: &[u8], work: &[u8], n: usize, name: &[u8]) -> bool
     requires { Checked sheet.now work.now n }
-    ensures { result ≡ same_option (sheet_source sheet.now).implement (some name.now) }
+    ensures { result ≡ same_option (sheet_source sheet.now).implement (Some name.now) }
 {
     if n == 0 {
         return false;

@@ -1,13 +1,12 @@
 -- The iota counter as the code has it: what a constant at LINE and COL gets, and the counter behind it.
-use Rattle.std.specs.Prelude.{ℕ, true, cond, leb}
-use Rattle.std.proofs.Math.Option.{none, some}
+use Rattle.std.specs.Prelude.{ℕ, true, cond, leb, None, Some}
 use Rattle.semantics.specs.Const as Const
 use Rattle.semantics.specs.Const.{iota_at, iota_next}
 use Rattle.iota.specs.declared.IotaCounter.{IotaCounter}
 use Rattle.iota.specs.declared.Stepped.{Stepped}
 
 unfoldable pub counter_of : IotaCounter → Const.IotaCounter
-counter_of c = record { group = cond c.started (some (c.line, c.col)) none; value = c.value }
+counter_of c = record { group = cond c.started (Some (c.line, c.col)) None; value = c.value }
 
 -- a count stays at the greatest u32
 unfoldable pub capped_count : ℕ → ℕ

@@ -2,7 +2,7 @@
 use Prim.Native.Nat.{ℕ, zero, suc, ◌+◌, ◌-◌, ◌*◌, ◌/◌, ◌≤◌, ◌<◌, max, min}
 use mathlib.Core.Path.{◌≡◌, refl, sym, ap, ◌∙◌}
 use mathlib.Core.Bool.{Bool, true, false, cond}
-use mathlib.Core.Option.{Option, none, some}
+use Rattle.std.specs.Prelude.{Option, None, Some}
 use native.Mathlib.Numerals.{add-one}
 use native.Mathlib.Nat.{div-lt_iff_lt-mul, le-div_iff_mul-le, mul_comm, zero-mul}
 use native.Mathlib.Omega.{arith}
@@ -21,7 +21,7 @@ use Rattle.laying.specs.Steps.{laying_of, seen_laying, MoreFits, Lays, Went, Mov
 pub went-out : {n p long : ℕ} {s r : State} → n < p → Outgrown s r → Went n p long s r
 went-out {n} {p} h o = record { is = λ im ar. rw (lt-ltb n p h) (o.is im ar); start = o.start; end = o.end; item = omega (arith, o.item) }
 
-pub moved-lays : {inside : Bool} {s r : State} (im ar : Bytes) → MoreFits s (length ar) → Moved inside s r → Lays (some (move_to inside (laying_of s im ar))) s r im ar
+pub moved-lays : {inside : Bool} {s r : State} (im ar : Bytes) → MoreFits s (length ar) → Moved inside s r → Lays (Some (move_to inside (laying_of s im ar))) s r im ar
 moved-lays im ar h m = record { is = m.is im ar; low = omega (arith, m.start, m.end, h.low); high = omega (arith, m.end, h.high); item = m.item }
 
 -- ---- bytes laid
@@ -36,8 +36,8 @@ module _ (o : ℕ) (ys : Bytes) (im ar : Bytes) (s r : State) {p : ℕ} where
       long = wrote-length w
 
       go : (t : Bool) → ltb (length im) (o + length ys) ≡ t
-          → cond {A = Option Laying} (ltb (length im') p) none (some (record { item = suc s.item; image = im'; area = ar; start = s.start; end = s.end; inside = s.inside; long = max s.long p }))
-          ≡ cond {A = Option Laying} t none (some (record { item = suc s.item; image = over im o ys; area = ar; start = s.start; end = s.end; inside = s.inside; long = max s.long (o + length ys) }))
+          → cond {A = Option Laying} (ltb (length im') p) None (Some (record { item = suc s.item; image = im'; area = ar; start = s.start; end = s.end; inside = s.inside; long = max s.long p }))
+          ≡ cond {A = Option Laying} t None (Some (record { item = suc s.item; image = over im o ys; area = ar; start = s.start; end = s.end; inside = s.inside; long = max s.long (o + length ys) }))
       go true e =
           let h = ltb-true (length im) (o + length ys) e in
           let l = long in
@@ -47,7 +47,7 @@ module _ (o : ℕ) (ys : Bytes) (im ar : Bytes) (s r : State) {p : ℕ} where
           let l = long in
           let q : p ≡ o + length ys = omega (arith, w.place) in
           rw (le-ltb (length im') p (omega arith))
-          (λ i. some (record { item = suc s.item; image = w.bytes i; area = ar; start = s.start; end = s.end; inside = s.inside; long = max s.long (q i) }))
+          (λ i. Some (record { item = suc s.item; image = w.bytes i; area = ar; start = s.start; end = s.end; inside = s.inside; long = max s.long (q i) }))
 
   -- in the newest array's part
   part-laid : {part : Bytes} → s.end ≤ length ar → Wrote (mid_of s.start (s.end - s.start) ar) o ys part p → Went (s.end - s.start) p s.long s r
@@ -65,8 +65,8 @@ module _ (o : ℕ) (ys : Bytes) (im ar : Bytes) (s r : State) {p : ℕ} where
       long = mid_len s.start s.end ar fits
 
       go : (t : Bool) → ltb n (o + length ys) ≡ t
-          → cond {A = Option Laying} (ltb n p) none (some (record { item = suc s.item; image = im; area = put_mid s.start n ar part; start = s.start; end = s.end; inside = s.inside; long = s.long }))
-          ≡ cond {A = Option Laying} t none (some (record { item = suc s.item; image = im; area = put_mid s.start n ar (over mid o ys); start = s.start; end = s.end; inside = s.inside; long = s.long }))
+          → cond {A = Option Laying} (ltb n p) None (Some (record { item = suc s.item; image = im; area = put_mid s.start n ar part; start = s.start; end = s.end; inside = s.inside; long = s.long }))
+          ≡ cond {A = Option Laying} t None (Some (record { item = suc s.item; image = im; area = put_mid s.start n ar (over mid o ys); start = s.start; end = s.end; inside = s.inside; long = s.long }))
       go true e =
           let h = ltb-true n (o + length ys) e in
           let l = long in
@@ -75,7 +75,7 @@ module _ (o : ℕ) (ys : Bytes) (im ar : Bytes) (s r : State) {p : ℕ} where
           let h = ltb-false n (o + length ys) e in
           let l = long in
           rw (le-ltb n p (omega (arith, w.place)))
-          (λ i. some (record { item = suc s.item; image = im; area = put_mid s.start n ar (w.bytes i); start = s.start; end = s.end; inside = s.inside; long = s.long }))
+          (λ i. Some (record { item = suc s.item; image = im; area = put_mid s.start n ar (w.bytes i); start = s.start; end = s.end; inside = s.inside; long = s.long }))
 
 module _ (o : ℕ) (ys : Bytes) (im ar : Bytes) (s r : State) {p : ℕ} (ready : MoreFits s (length ar)) where
   pub lays-image : {im' : Bytes} → s.inside ≡ false → Wrote im o ys im' p → Went (length im') p (max s.long p) s r → Lays (lay_bytes o ys (laying_of s im ar)) s r im' ar
@@ -117,9 +117,9 @@ handled k w = wrote_as (ap (big_endian 4) (add-one k)) w
 pub no_bytes : (size n room : ℕ) → size ≡ 0 → 0 ≡ min (size * n) (room + 1)
 no_bytes size n room e = rw (e, zero-mul n) (omega arith)
 
-module _ (size n room : ℕ) (some : size ≡ 0 → ⊥) where
+module _ (size n room : ℕ) (Some : size ≡ 0 → ⊥) where
   size-some : 0 < size
-  size-some = go size some
+  size-some = go size Some
     where
       go : (m : ℕ) → (m ≡ 0 → ⊥) → 0 < m
       go zero h = absurd (h refl)

@@ -4,7 +4,7 @@ use Prim.Native.Nat.{ℕ, suc, ◌+◌, ◌*◌, ◌≤◌, max}
 use native.Mathlib.Nat.{le_refl, le_trans, mul-le-mul_right, suc-mul}
 use native.Mathlib.Omega.{arith}
 use mathlib.Core.List.{List, [], ◌∷◌, ◌++◌, map}
-use mathlib.Core.Option.{Option, none, some}
+use Rattle.std.specs.Prelude.{Option, None, Some}
 use lib.ListN.{length}
 use Rattle.semantics.specs.Text.{Bytes}
 use Rattle.semantics.specs.Tree.{Ty, Tys, Fd, Case, AdtDecl, Shape}
@@ -37,8 +37,8 @@ names-end t off [] = omega arith
 names-end t off (n ∷ ns) = omega (arith, size-bound t, names-end t (off + size_of t) ns, suc-mul (length ns) (8 * lines_of t))
 
 line-end : (t : Option Ty) (off : ℕ) (ns : List Bytes) → length ns ≤ 16 → (place_line t ns off).end ≤ align_up 8 off + 128 * type_lines t
-line-end none off ns h = omega arith
-line-end (some t) off ns h = omega (arith, aligned t off, names-end t (align_up (align_of t) off) ns, mul-le-mul_right (8 * lines_of t) h)
+line-end None off ns h = omega arith
+line-end (Some t) off ns h = omega (arith, aligned t off, names-end t (align_up (align_of t) off) ns, mul-le-mul_right (8 * lines_of t) h)
 
 place-bound : (fs : List Fd) (off : ℕ) → FewNames fs → (place off fs).end ≤ align_up 8 off + 128 * field_lines fs
 place-bound [] off h = omega arith
@@ -51,8 +51,8 @@ names-above t off [] = le_refl off
 names-above t off (n ∷ ns) = omega (arith, names-above t (off + size_of t) ns)
 
 line-above : (t : Option Ty) (off : ℕ) (ns : List Bytes) → off ≤ (place_line t ns off).end
-line-above none off ns = le_refl off
-line-above (some t) off ns = omega (arith, aligned t off, names-above t (align_up (align_of t) off) ns)
+line-above None off ns = le_refl off
+line-above (Some t) off ns = omega (arith, aligned t off, names-above t (align_up (align_of t) off) ns)
 
 pub place-above : (fs : List Fd) (off : ℕ) → off ≤ (place off fs).end
 place-above [] off = le_refl off
@@ -70,8 +70,8 @@ names-within t off end [] h = tt
 names-within t off end (n ∷ ns) h = (le_trans (names-above t (off + size_of t) ns) h, names-within t (off + size_of t) end ns h)
 
 line-within : (t : Option Ty) (off end : ℕ) (ns : List Bytes) → (place_line t ns off).end ≤ end → FieldsWithin end (place_line t ns off).placed
-line-within none off end ns h = tt
-line-within (some t) off end ns h = names-within t (align_up (align_of t) off) end ns h
+line-within None off end ns h = tt
+line-within (Some t) off end ns h = names-within t (align_up (align_of t) off) end ns h
 
 pub place-within : (fs : List Fd) (off end : ℕ) → (place off fs).end ≤ end → FieldsWithin end (place off fs).placed
 place-within [] off end h = tt
@@ -129,7 +129,7 @@ cases-bound n t fs g tag (k ∷ ks) u =
     (variants-bound n t (variant_shape fs k) (variant_fields fs k) g tag k.tags u.0) (cases-bound n t fs (suc g) (tag + length k.tags) ks u.1)
 
 -- each variant by itself, where all cases together take so many lines
-each-variant : (n : ℕ) (fs : List Fd) (ks : List Case) → FewNames fs → FewInPick (some ks) → 8 + 128 * (field_lines fs + case_lines ks) ≤ n
+each-variant : (n : ℕ) (fs : List Fd) (ks : List Case) → FewNames fs → FewInPick (Some ks) → 8 + 128 * (field_lines fs + case_lines ks) ≤ n
     → Every (λ (k : Case). (variant_shape fs k).size ≤ n) ks
 each-variant n fs [] h u b = tt
 each-variant n fs (k ∷ ks) h u b = (omega (arith, variant-bound fs k h u.0), each-variant n fs ks h u.1 (omega arith))
@@ -138,8 +138,8 @@ records-bound : (n : ℕ) (d : AdtDecl) → FewNames d.fields → FewInPick d.pi
 records-bound n d h u b = go d.pick u b
   where
     go : (p : Option (List Case)) → FewInPick p → 8 + 128 * suc (field_lines d.fields + pick_lines p) ≤ n → Every (SizeAtMost n) (records_for d.name d.fields p)
-    go none u b = (omega (arith, shape-bound d.fields 0 h), tt)
-    go (some ks) u b =
+    go None u b = (omega (arith, shape-bound d.fields 0 h), tt)
+    go (Some ks) u b =
         let v = each-variant n d.fields ks h u (omega arith) in (
           largest-bound n d.fields (shape_of behind_tag (place behind_tag d.fields).placed) ks (omega (arith, shape-bound d.fields behind_tag h)) v,
           cases-bound n d.name d.fields 0 0 ks v,

@@ -1,7 +1,6 @@
 -- How many lines of a sheet types and fields take. Every line is referred to at most once, so no line is counted twice, and the lines of a whole
 -- sheet are a bound for those of any of its records.
-use Rattle.std.specs.Prelude.{ℕ, suc, ◌+◌, ◌≤◌, List, [], ◌∷◌, length}
-use Rattle.std.proofs.Math.Option.{Option, none, some}
+use Rattle.std.specs.Prelude.{ℕ, suc, ◌+◌, ◌≤◌, List, [], ◌∷◌, length, Option, None, Some}
 use Rattle.semantics.specs.Tree.{Ty, Tys, Fd, Case, AdtDecl}
 use Rattle.semantics.specs.Tree.Ty.{basic, ptr, array, tuple}
 use Rattle.semantics.specs.Tree.Tys.{no_tys, and_ty}
@@ -20,8 +19,8 @@ abbrev mutual
   lines_of_all (and_ty t ts) = lines_of t + lines_of_all ts
 
 abbrev pub type_lines : Option Ty → ℕ
-type_lines none = 0
-type_lines (some t) = lines_of t
+type_lines None = 0
+type_lines (Some t) = lines_of t
 
 -- `fd` lines with their types
 abbrev pub field_lines : List Fd → ℕ
@@ -34,8 +33,8 @@ case_lines [] = 0
 case_lines (k ∷ ks) = suc (field_lines k.fields + case_lines ks)
 
 abbrev pub pick_lines : Option (List Case) → ℕ
-pick_lines none = 0
-pick_lines (some ks) = case_lines ks
+pick_lines None = 0
+pick_lines (Some ks) = case_lines ks
 
 -- an `adt` or `pick` line with all that it refers to
 abbrev pub decl_lines : AdtDecl → ℕ
@@ -46,5 +45,5 @@ abbrev pub FewNames : List Fd → Type 0
 FewNames fs = Every (λ (f : Fd). length f.names ≤ 16) fs
 
 abbrev pub FewInPick : Option (List Case) → Type 0
-FewInPick none = Unit {0}
-FewInPick (some ks) = Every (λ (k : Case). FewNames k.fields) ks
+FewInPick None = Unit {0}
+FewInPick (Some ks) = Every (λ (k : Case). FewNames k.fields) ks

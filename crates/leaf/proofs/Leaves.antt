@@ -3,7 +3,7 @@ use mathlib.Core.Path.{◌≡◌, refl, sym, ap, ◌∙◌}
 use mathlib.Core.Bool.{Bool, true, false, cond, ◌&&◌}
 use mathlib.Core.List.{List, [], ◌∷◌}
 use mathlib.Core.Logic.{inl}
-use mathlib.Core.Option.{Option, none, some}
+use Rattle.std.specs.Prelude.{Option, None, Some}
 use Prim.Native.Nat.{ℕ, zero, suc, ◌+◌, ◌-◌, ◌/◌, ◌%◌, ◌≤◌, ◌<◌, min}
 use native.Mathlib.Omega.{arith}
 use lib.Dec.{ltb, eqb}
@@ -57,8 +57,8 @@ unfolding integer_of
 integer-read x = go (int_of x)
   where
     go : (o : Option ℤ) → holds_of (between 9223372036854775808 9223372036854775807) o ≡ true → whole o ≡ Is (or_else (pos 0) o)
-    go none h = never h
-    go (some z) h = rw h
+    go None h = never h
+    go (Some z) h = rw h
 
 pub integer-is : (x : Bytes) {o : Integer} {n : ℤ} → holds Atom.i64 x ≡ true → o ≡ integer_of x → o ≡ Is n → SFits w64 n → (t : Bytes) (top : ℕ) → (value_in t (Int (held w64 n)) ≡ v_int (or_else (pos 0) (int_of x))) × At top (Int (held w64 n))
 unfolding value_in
@@ -72,8 +72,8 @@ unfolding bits64_of
 real_read x = go (unhex x)
   where
     go : (o : Option Bytes) → holds_of (λ (bs : Bytes). eqb (length bs) 8 && not_nan (from_big_endian 0 bs)) o ≡ true → eight_bytes o ≡ Bits (from_big_endian 0 (or_else [] o))
-    go none h = never h
-    go (some bs) h = rw (both (eqb (length bs) 8) (not_nan (from_big_endian 0 bs)) h).0
+    go None h = never h
+    go (Some bs) h = rw (both (eqb (length bs) 8) (not_nan (from_big_endian 0 bs)) h).0
 
 pub real-is : (x : Bytes) {o : Bits64} {n : ℕ} {y : Float} → holds Atom.real x ≡ true → o ≡ bits64_of x → o ≡ Bits n → y ≡ of_bits binary64 n
     → (t : Bytes) (top : ℕ) → (value_in t (Real y) ≡ v_real (of_bits binary64 (from_big_endian 0 (or_else [] (unhex x))))) × At top (Real y)
@@ -88,12 +88,12 @@ real-not x h p q = let e = real_read x h in never cc
 
 -- ---- strings
 
-text-read : (x : Bytes) → holds Atom.text x ≡ true → unhex x ≡ some (or_else [] (unhex x))
+text-read : (x : Bytes) → holds Atom.text x ≡ true → unhex x ≡ Some (or_else [] (unhex x))
 text-read x = go (unhex x)
   where
-    go : (o : Option Bytes) → holds_of is_utf8 o ≡ true → o ≡ some (or_else [] o)
-    go none h = never h
-    go (some bs) h = refl
+    go : (o : Option Bytes) → holds_of is_utf8 o ≡ true → o ≡ Some (or_else [] o)
+    go None h = never h
+    go (Some bs) h = refl
 
 module _ (x : Bytes) (h : holds Atom.text x ≡ true) where
   string-length : length x / 2 ≡ length (or_else [] (unhex x))

@@ -2,7 +2,7 @@
 use mathlib.Core.Path.{◌≡◌, refl, sym, ap, ◌∙◌, subst}
 use mathlib.Core.Bool.{Bool, true, false, cond}
 use mathlib.Core.List.{List, [], ◌∷◌, ◌++◌}
-use mathlib.Core.Option.{Option, none, some}
+use Rattle.std.specs.Prelude.{Option, None, Some}
 use Prim.Native.Nat.{ℕ, zero, suc, ◌+◌, ◌-◌, ◌≤◌, ◌<◌}
 use native.Mathlib.Omega.{arith}
 use lib.Dec.{leb, ltb, eqb}
@@ -106,8 +106,8 @@ up_to : (m : ℕ) (f : Bytes) → Text.holds_of (λ (k : ℕ). leb k m) (Text.na
 up_to m f = go (Text.nat_of f)
   where
     go : (o : Option ℕ) → Text.holds_of (λ (k : ℕ). leb k m) o ≡ true → (Text.holds_of (λ (k : ℕ). true) o ≡ true) × (Text.or_else 0 o ≤ m)
-    go none h = never h
-    go (some k) h = (refl, leb-true k m h)
+    go None h = never h
+    go (Some k) h = (refl, leb-true k m h)
 
 pub small-number : (m : ℕ) (f : Bytes) → m ≤ 65536 → Text.holds_of (λ (k : ℕ). leb k m) (Text.nat_of f) ≡ true → Number.number_up_to 65536 f ≡ number_of f
 small-number m f l h = let w = up_to m f h in number-exact f w.0 (omega (arith, w.1))

@@ -1,6 +1,5 @@
 -- Fields whose pointers are marked in the map that stands in the working space.
-use Rattle.std.specs.Prelude.{ℕ, ◌≡◌, List}
-use Rattle.std.proofs.Math.Option.{Option}
+use Rattle.std.specs.Prelude.{ℕ, ◌≡◌, List, Option}
 use Rattle.semantics.specs.Text.{Bytes}
 use Rattle.semantics.specs.Tree.{Ty, Fd}
 use Rattle.semantics.specs.Layout.{place_line, place, pointers_of}

@@ -2,7 +2,7 @@
 use mathlib.Core.Path.{◌≡◌, refl, sym, ap, ◌∙◌}
 use mathlib.Core.Bool.{Bool, true, false, cond, not, ◌&&◌, ◌||◌, false≢true}
 use mathlib.Core.List.{List, [], ◌∷◌, ◌++◌}
-use mathlib.Core.Option.{Option, none, some}
+use Rattle.std.specs.Prelude.{Option, None, Some}
 use Prim.Native.Nat.{ℕ, zero, suc, ◌+◌, ◌-◌, ◌*◌, ◌/◌, ◌%◌, ◌≤◌, ◌<◌}
 use native.Mathlib.Omega.{arith}
 use lib.Dec.{ltb, eqb}
@@ -33,19 +33,19 @@ unfolding slot_value
 slot_is t i = let e : 5124 + 16 * i + 1 ≡ 5125 + 16 * i = omega arith in rw e
 
 module _ (t : Bytes) (k b : ℕ) where
-  pub value-failed : (k ≡ 1 → ⊥) → (k ≡ 2 → ⊥) → (k ≡ 3 → ⊥) → value_by t k b ≡ none
+  pub value-failed : (k ≡ 1 → ⊥) → (k ≡ 2 → ⊥) → (k ≡ 3 → ⊥) → value_by t k b ≡ None
   unfolding value_by
   value-failed p q r = rw (ne_eqb k 1 p, ne_eqb k 2 q, ne_eqb k 3 r)
 
-  pub value-int : k ≡ 1 → value_by t k b ≡ some (v_int (signed64 b))
+  pub value-int : k ≡ 1 → value_by t k b ≡ Some (v_int (signed64 b))
   unfolding value_by
   value-int e = rw e
 
-  pub value-real : k ≡ 2 → value_by t k b ≡ some (v_real (of_bits binary64 b))
+  pub value-real : k ≡ 2 → value_by t k b ≡ Some (v_real (of_bits binary64 b))
   unfolding value_by
   value-real e = rw e
 
-  pub value-text : k ≡ 3 → value_by t k b ≡ some (v_str (take (b / 65536) (drop (b % 65536) t)))
+  pub value-text : k ≡ 3 → value_by t k b ≡ Some (v_str (take (b / 65536) (drop (b % 65536) t)))
   unfolding value_by
   value-text e = rw e
 
@@ -57,7 +57,7 @@ found-is t (suc i) z = let e : suc i - 1 ≡ i = omega arith in rw e (slot_is t 
 
 -- ---- look-ups
 
-chosen : (b : Bool) (v : Option ConstVal) (k : Key) (o : Option Const) → value_of (cond b (some (record { key = k; value = v })) o) ≡ cond (b && true) v (value_of o)
+chosen : (b : Bool) (v : Option ConstVal) (k : Key) (o : Option Const) → value_of (cond b (Some (record { key = k; value = v })) o) ≡ cond (b && true) v (value_of o)
 chosen true v k o = refl
 chosen false v k o = refl
 
@@ -89,7 +89,7 @@ module _ (impl : Option Bytes) (s x y : Bytes) (v : Option ConstVal) (rest : Lis
   plain-has : (k : ℕ) → has_key (plain x) (entries impl (module_at s k) y v ++ rest) ≡ (same x y && own_in impl (module_at s k)) || has_key (plain x) rest
   unfolding module_at has_key
   plain-has zero = has_one (same x y) (has_key (plain x) rest)
-  plain-has (suc k) = plain-has-within (same_option impl (some (first_field s (suc k)))) (first_field s (suc k))
+  plain-has (suc k) = plain-has-within (same_option impl (Some (first_field s (suc k)))) (first_field s (suc k))
 
   qualified-has-within : (q : Bytes) (i : Bool) (m : Bytes)
       → has_key (qualified q x) ((cond i (record { key = plain y; value = v } ∷ []) [] ++ (record { key = qualified m y; value = v } ∷ [])) ++ rest) ≡ (same x y && (true && same q m)) || has_key (qualified q x) rest
@@ -100,7 +100,7 @@ module _ (impl : Option Bytes) (s x y : Bytes) (v : Option ConstVal) (rest : Lis
   qualified-has : (q : Bytes) (k : ℕ) → has_key (qualified q x) (entries impl (module_at s k) y v ++ rest) ≡ (same x y && (not (eqb k 0) && same q (first_field s k))) || has_key (qualified q x) rest
   unfolding module_at has_key
   qualified-has q zero = has-none (same x y) (has_key (qualified q x) rest)
-  qualified-has q (suc k) = rw (ne_eqb (suc k) 0 (λ e. omega arith)) (qualified-has-within q (same_option impl (some (first_field s (suc k)))) (first_field s (suc k)))
+  qualified-has q (suc k) = rw (ne_eqb (suc k) 0 (λ e. omega arith)) (qualified-has-within q (same_option impl (Some (first_field s (suc k)))) (first_field s (suc k)))
 
   plain-within : (i : Bool) (m : Bytes)
       → value_of (look_up (plain x) ((cond i (record { key = plain y; value = v } ∷ []) [] ++ (record { key = qualified m y; value = v } ∷ [])) ++ rest)) ≡ cond (same x y && i) v (value_of (look_up (plain x) rest))
@@ -110,14 +110,14 @@ module _ (impl : Option Bytes) (s x y : Bytes) (v : Option ConstVal) (rest : Lis
   plain_step : (k : ℕ) → value_of (look_up (plain x) (entries impl (module_at s k) y v ++ rest)) ≡ cond (same x y && own_in impl (module_at s k)) v (value_of (look_up (plain x) rest))
   unfolding module_at
   plain_step zero = chosen (same x y) v (plain y) (look_up (plain x) rest)
-  plain_step (suc k) = plain-within (same_option impl (some (first_field s (suc k)))) (first_field s (suc k))
+  plain_step (suc k) = plain-within (same_option impl (Some (first_field s (suc k)))) (first_field s (suc k))
 
   module _ (q : Bytes) where
     last : (m : Bytes)
-        → value_of (cond (same q m && same x y) (some (record { key = qualified m y; value = v })) (look_up (qualified q x) rest)) ≡ cond (same x y && (true && same q m)) v (value_of (look_up (qualified q x) rest))
+        → value_of (cond (same q m && same x y) (Some (record { key = qualified m y; value = v })) (look_up (qualified q x) rest)) ≡ cond (same x y && (true && same q m)) v (value_of (look_up (qualified q x) rest))
     last m = go (same q m) (same x y)
       where
-        go : (a b : Bool) → value_of (cond (a && b) (some (record { key = qualified m y; value = v })) (look_up (qualified q x) rest)) ≡ cond (b && (true && a)) v (value_of (look_up (qualified q x) rest))
+        go : (a b : Bool) → value_of (cond (a && b) (Some (record { key = qualified m y; value = v })) (look_up (qualified q x) rest)) ≡ cond (b && (true && a)) v (value_of (look_up (qualified q x) rest))
         go true true = refl
         go true false = refl
         go false true = refl
@@ -131,7 +131,7 @@ module _ (impl : Option Bytes) (s x y : Bytes) (v : Option ConstVal) (rest : Lis
     qualified-step : (k : ℕ) → value_of (look_up (qualified q x) (entries impl (module_at s k) y v ++ rest)) ≡ cond (same x y && (not (eqb k 0) && same q (first_field s k))) v (value_of (look_up (qualified q x) rest))
     unfolding module_at
     qualified-step zero = passed (same x y) v (value_of (look_up (qualified q x) rest))
-    qualified-step (suc k) = rw (ne_eqb (suc k) 0 (λ e. omega arith)) (qualified-within (same_option impl (some (first_field s (suc k)))) (first_field s (suc k)))
+    qualified-step (suc k) = rw (ne_eqb (suc k) 0 (λ e. omega arith)) (qualified-within (same_option impl (Some (first_field s (suc k)))) (first_field s (suc k)))
 
 -- a look-up, where it is known which entries answer it
 pub record Answering (s t : Bytes) (k : Key) (answers : ℕ → Bool) : Type 0 where
@@ -205,7 +205,7 @@ in-digest s zero q y h = absurd (false≢true h)
 in-digest s (suc k) q y h = rw (same-eq q (first_field s (suc k)) (both (not (eqb (suc k) 0)) (same q (first_field s (suc k))) h).1)
 
 -- as they are worked out
-module _ (s q x : Bytes) {b : Bool} (e : b ≡ same_option (sheet_source s).implement (some q)) {d : ℕ} (h : d ≡ digest x) where
+module _ (s q x : Bytes) {b : Bool} (e : b ≡ same_option (sheet_source s).implement (Some q)) {d : ℕ} (h : d ≡ digest x) where
   pub digest-implemented : b ≡ true → d ≡ qualified_digest s q x
   unfolding qualified_digest
   digest-implemented f = rw (← e, f) h

@@ -2,8 +2,7 @@
 -- Entry i takes 16 bytes from 5120 + 16 i: the `con` line and its module's line, 0 for none, two bytes each, the low one first; a slot;
 -- the constant's digest; its link, and the head of chain i.
 -- A slot is a kind and 8 bytes, the highest first: 0 failed, 1 an integer's bits, 2 a real's, 3 a string's place + 65536 times its length.
-use Rattle.std.specs.Prelude.{ℕ, zero, suc, ◌+◌, ◌*◌, ◌/◌, ◌%◌, ◌≤◌, ◌<◌, ◌≡◌, Bool, cond, not, ◌&&◌, List, [], ◌++◌, ltb, eqb, length, take, drop, get_or}
-use Rattle.std.proofs.Math.Option.{Option, none, some}
+use Rattle.std.specs.Prelude.{ℕ, zero, suc, ◌+◌, ◌*◌, ◌/◌, ◌%◌, ◌≤◌, ◌<◌, ◌≡◌, Bool, cond, not, ◌&&◌, List, [], ◌++◌, ltb, eqb, length, take, drop, get_or, Option, None, Some}
 use Rattle.std.specs.Float.{binary64}
 use Rattle.std.specs.Float.Ieee.{of_bits}
 use Rattle.semantics.specs.Text.{Bytes, same, any}
@@ -30,9 +29,9 @@ module_line_of t i = u16_at t (5122 + 16 * i)
 unfoldable pub value_by : Bytes → ℕ → ℕ → Option ConstVal
 unfolding of_bits
 value_by t k b =
-    cond (eqb k 1) (some (v_int (signed64 b)))
-    (cond (eqb k 2) (some (v_real (of_bits binary64 b)))
-    (cond (eqb k 3) (some (v_str (take (b / 65536) (drop (b % 65536) t)))) none))
+    cond (eqb k 1) (Some (v_int (signed64 b)))
+    (cond (eqb k 2) (Some (v_real (of_bits binary64 b)))
+    (cond (eqb k 3) (Some (v_str (take (b / 65536) (drop (b % 65536) t)))) None))
 
 unfoldable pub slot_value : Bytes → ℕ → Option ConstVal
 slot_value t a = value_by t (get_or t a 0) (bits_at t (a + 1))
@@ -50,7 +49,7 @@ const_chains = record { at = 5133; gap = 1; step = 16 }
 
 -- the digest for a module and a name: the module counts unless it is implemented, since the names of that one are also plain
 unfoldable pub qualified_digest : Bytes → Bytes → Bytes → ℕ
-qualified_digest s q x = cond (same_option (sheet_source s).implement (some q)) (digest x) (digest_from (digest x) q)
+qualified_digest s q x = cond (same_option (sheet_source s).implement (Some q)) (digest x) (digest_from (digest x) q)
 
 -- the digest for a name in the module of line k, in none for 0
 unfoldable pub const_digest : Bytes → ℕ → Bytes → ℕ
@@ -107,7 +106,7 @@ pub record ConstEntry (s t : Bytes) (n i : ℕ) : Type 0 where
 
 -- what a look-up answers: 0 for no constant, else the entry's number from 1
 unfoldable pub found : Bytes → ℕ → Option ConstVal
-found t zero = none
+found t zero = None
 found t (suc i) = slot_value t (5124 + 16 * i)
 
 -- r is such an answer, and a string that it names lies at its place

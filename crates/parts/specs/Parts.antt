@@ -1,6 +1,5 @@
 -- The two parts of a listing, and the tables that they are written from.
-use Rattle.std.specs.Prelude.{ℕ, ◌≡◌, ◌++◌}
-use Rattle.std.proofs.Math.Option.{none}
+use Rattle.std.specs.Prelude.{ℕ, ◌≡◌, ◌++◌, None}
 use Rattle.semantics.specs.Text.{Bytes}
 use Rattle.semantics.specs.Sheet.{sheet_source, concat_map}
 use Rattle.semantics.specs.Layout.{recorded_adts, records}
@@ -30,5 +29,5 @@ types_text s =
 -- the tables stand, and no constant is refused
 pub record Listable (s t : Bytes) (n : ℕ) (x : Tables) : Type 0 where
   pub held : TablesHeld s t n x
-  pub folded : (constants (sheet_source s)).refused ≡ none
+  pub folded : (constants (sheet_source s)).refused ≡ None
   pub log : (constants (sheet_source s)).log ≡ log_in s t x.consts

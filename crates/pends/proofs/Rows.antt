@@ -2,7 +2,7 @@
 use mathlib.Core.Path.{◌≡◌, refl, sym, ap, ◌∙◌}
 use mathlib.Core.Bool.{Bool, true, false, not, cond}
 use mathlib.Core.List.{List, [], ◌∷◌, ◌++◌, append_assoc, append-nil}
-use mathlib.Core.Option.{Option, none, some}
+use Rattle.std.specs.Prelude.{Option, None, Some}
 use Prim.Native.Nat.{ℕ, suc, ◌+◌, ◌-◌, ◌≤◌, ◌<◌}
 use native.Mathlib.Omega.{arith}
 use lib.ListN.{length}
@@ -105,8 +105,8 @@ all-pend [] = refl
 all-pend (x ∷ xs) = rw (all-pend xs)
 
 module _ (s : Bytes) (r : ℕ) (ns : Names) (h : 0 < r) {x : First} {t u : Bytes} (a : Inits t (or_pending (var_value ns (var_on s r))) x u) where
-  not-refused : {i : Init} → init_in u x ≡ ok i → vars_refused ns (laid_on s r) ≡ none
-  not-refused i = ap (vars_refused ns) (laid-on s r h) ∙ sym (refused-settled (suc (r - 1)) (var_value ns (var_on s r)) none) ∙ ap (λ (y : Result Init). refused_by (suc (r - 1)) y none) (sym a.result ∙ i)
+  not-refused : {i : Init} → init_in u x ≡ ok i → vars_refused ns (laid_on s r) ≡ None
+  not-refused i = ap (vars_refused ns) (laid-on s r h) ∙ sym (refused-settled (suc (r - 1)) (var_value ns (var_on s r)) None) ∙ ap (λ (y : Result Init). refused_by (suc (r - 1)) y None) (sym a.result ∙ i)
 
   pub line_quiet : {d : Bytes} {at : ℕ} {e : Bytes} {p : ℕ} (i : Init) → init_in u x ≡ ok i → ((y : Bytes) → pend_of y i ≡ []) → Wrote d at [] e p → Pended ns (laid_on s r) d at (Written p) e
   line_quiet i k q w = (not-refused k, wrote_as (sym (rw (laid-on s r h, pends-are ns (var_on s r) (sym a.result ∙ k), no-pends i q (laid_names (names_on s r))))) w)
@@ -114,10 +114,10 @@ module _ (s : Bytes) (r : ℕ) (ns : Names) (h : 0 < r) {x : First} {t u : Bytes
   pub line-pending : {d : Bytes} {at : ℕ} {e : Bytes} {p : ℕ} → init_in u x ≡ ok pending_init → Wrote d at (pend_rows_of (names_on s r)) e p → Pended ns (laid_on s r) d at (Written p) e
   line-pending k w = (not-refused k, wrote_as (sym (rw (laid-on s r h, pends-are ns (var_on s r) (sym a.result ∙ k), all-pend (laid_names (names_on s r)), append-nil (laid_names (names_on s r))))) w)
 
-  pub line_refused : {q : ℕ} → init_in u x ≡ refuse q → vars_refused ns (laid_on s r) ≡ some (record { number = q; line = r })
+  pub line_refused : {q : ℕ} → init_in u x ≡ refuse q → vars_refused ns (laid_on s r) ≡ Some (record { number = q; line = r })
   line_refused {q} k =
       let z : suc (r - 1) ≡ r = omega arith in
-      ap (vars_refused ns) (laid-on s r h) ∙ sym (refused-settled (suc (r - 1)) (var_value ns (var_on s r)) none) ∙ ap (λ (y : Result Init). refused_by (suc (r - 1)) y none) (sym a.result ∙ k) ∙ rw z
+      ap (vars_refused ns) (laid-on s r h) ∙ sym (refused-settled (suc (r - 1)) (var_value ns (var_on s r)) None) ∙ ap (λ (y : Result Init). refused_by (suc (r - 1)) y None) (sym a.result ∙ k) ∙ rw z
 
   pub quiet_none : x ≡ NoValue → {d : Bytes} {at : ℕ} {e : Bytes} {p : ℕ} → Wrote d at [] e p → Pended ns (laid_on s r) d at (Written p) e
   quiet_none k = line_quiet no_init (rw k) (λ y. refl)

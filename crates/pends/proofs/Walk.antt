@@ -2,7 +2,7 @@
 use mathlib.Core.Path.{◌≡◌, refl, sym, ap, ◌∙◌, subst}
 use mathlib.Core.Bool.{Bool, true, false, cond, true≢false}
 use mathlib.Core.List.{List, [], ◌∷◌, ◌++◌}
-use mathlib.Core.Option.{Option, none, some}
+use Rattle.std.specs.Prelude.{Option, None, Some}
 use Prim.Native.Nat.{ℕ, zero, suc, ◌+◌, ◌-◌, ◌≤◌, ◌<◌}
 use native.Mathlib.Numerals.{add-one}
 use native.Mathlib.Omega.{arith}
@@ -47,17 +47,17 @@ pended-then ns vs ws h k = (refused-append ns vs ws ∙ rw (h.0, k.0), wrote_as 
 
 -- a refusal's line
 abbrev line_in : ℕ → Option Refusal → ℕ
-line_in k none = k
-line_in k (some r) = r.line
+line_in k None = k
+line_in k (Some r) = r.line
 
-refused-line : {A : Type 0} (k : ℕ) (x : Result A) → line_in k (refused_by k x none) ≡ k
+refused-line : {A : Type 0} (k : ℕ) (x : Result A) → line_in k (refused_by k x None) ≡ k
 refused-line k (ok a) = refl
 refused-line k failed = refl
 refused-line k (refuse r) = refl
 
 module _ (ns : Names) (s : Bytes) where
   -- a refusal stands whatever comes behind
-  refused-later : (i j : ℕ) {r : Refusal} → vars_refused ns (laid_vars_to s i) ≡ some r → vars_refused ns (laid_vars_to s (i + j)) ≡ some r
+  refused-later : (i j : ℕ) {r : Refusal} → vars_refused ns (laid_vars_to s i) ≡ Some r → vars_refused ns (laid_vars_to s (i + j)) ≡ Some r
   unfolding laid_vars_to
   refused-later i zero h = let z : i + 0 ≡ i = omega arith in rw z h
   refused-later i (suc j) h = let z : i + suc j ≡ suc (i + j) = omega arith in rw z (refused-append ns (laid_vars_to s (i + j)) (laid_at s (i + j)) ∙ rw (refused-later i j h))
@@ -82,7 +82,7 @@ module _ (ns : Names) (s : Bytes) where
         let z : suc i + (n - suc i) ≡ n = omega arith in
         let k : l ≡ suc i = sym (ap (line_in (suc i)) b.0) ∙ laid-line i in
         let y : i ≡ l - 1 = omega arith in
-        let g : vars_refused ns (laid_vars_to s i ++ laid_at s i) ≡ some (record { number = q; line = l }) = refused-append ns (laid_vars_to s i) (laid_at s i) ∙ rw (w.0, b.0) in (
+        let g : vars_refused ns (laid_vars_to s i ++ laid_at s i) ≡ Some (record { number = q; line = l }) = refused-append ns (laid_vars_to s i) (laid_at s i) ∙ rw (w.0, b.0) in (
           rw (laid-lines s t n c) (rw z at (refused-later (suc i) (n - suc i) g)),
           b.1 ∙ w.1.bytes ∙ ap (λ (j : ℕ). over d a (concat_map pend_row (pends_of ns (laid_vars_to s j)))) y,
         )

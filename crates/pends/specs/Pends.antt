@@ -1,6 +1,5 @@
 -- `pend` rows and refusals of `var` lines.
-use Rattle.std.specs.Prelude.{ℕ, ◌-◌, ◌≡◌, List}
-use Rattle.std.proofs.Math.Option.{none, some}
+use Rattle.std.specs.Prelude.{ℕ, ◌-◌, ◌≡◌, List, None, Some}
 use Rattle.semantics.specs.Text.{Bytes}
 use Rattle.semantics.specs.Tree.{VarDecl}
 use Rattle.semantics.specs.Sheet.{Located, concat_map, sheet_source}
@@ -18,10 +17,10 @@ pends_of ns vs = concat_map (λ (v : Located VarDecl). var_pends ns v.it) vs
 
 -- what is written on d at a for lines: their rows, where none is refused; of one that is, nothing
 abbrev pub Pended : Names → List (Located VarDecl) → Bytes → ℕ → Pends → Bytes → Type 0
-Pended ns vs d a (Written p) e = (vars_refused ns vs ≡ none) × Wrote d a (concat_map pend_row (pends_of ns vs)) e p
-Pended ns vs d a (Refused q k) e = (vars_refused ns vs ≡ some (record { number = q; line = k })) × (e ≡ d)
+Pended ns vs d a (Written p) e = (vars_refused ns vs ≡ None) × Wrote d a (concat_map pend_row (pends_of ns vs)) e p
+Pended ns vs d a (Refused q k) e = (vars_refused ns vs ≡ Some (record { number = q; line = k })) × (e ≡ d)
 
 -- for a whole sheet: all rows, or those of the lines before the refused one
 abbrev pub AllPended : Names → Bytes → Bytes → ℕ → Pends → Bytes → Type 0
-AllPended ns s d a (Written p) e = (vars_refused ns (laid_vars (sheet_source s)) ≡ none) × Wrote d a (concat_map pend_row (globals ns (sheet_source s)).pends) e p
-AllPended ns s d a (Refused q k) e = (vars_refused ns (laid_vars (sheet_source s)) ≡ some (record { number = q; line = k })) × (e ≡ over d a (concat_map pend_row (pends_of ns (laid_vars_to s (k - 1)))))
+AllPended ns s d a (Written p) e = (vars_refused ns (laid_vars (sheet_source s)) ≡ None) × Wrote d a (concat_map pend_row (globals ns (sheet_source s)).pends) e p
+AllPended ns s d a (Refused q k) e = (vars_refused ns (laid_vars (sheet_source s)) ≡ Some (record { number = q; line = k })) × (e ≡ over d a (concat_map pend_row (pends_of ns (laid_vars_to s (k - 1)))))

@@ -2,7 +2,7 @@
 use mathlib.Core.Path.{◌≡◌, refl, sym, ap, ◌∙◌}
 use mathlib.Core.Bool.{true, ◌||◌}
 use mathlib.Core.List.{List, [], ◌∷◌, map, append-nil, map-append}
-use mathlib.Core.Option.{Option, none, some}
+use Rattle.std.specs.Prelude.{Option, None, Some}
 use Prim.Native.Nat.{ℕ, zero, suc, ◌+◌, ◌-◌, ◌≤◌, ◌<◌}
 use native.Mathlib.Omega.{arith}
 use lib.Dec.{eqb}
@@ -56,8 +56,8 @@ module _ (s : Bytes) (r : ℕ) where
     where
       go : (o : Option (List Case)) → (decl_at s r).pick ≡ o
           → first_record (records_for (decl_at s r).name (decl_at s r).fields o) ∷ map (record_of s) (case_entries r 0 0 (or_else [] o)) ≡ records_for (decl_at s r).name (decl_at s r).fields o
-      go none q = refl
-      go (some ks) q = rw (cases-log ks 0 0 (ap (or_else []) q))
+      go None q = refl
+      go (Some ks) q = rw (cases-log ks 0 0 (ap (or_else []) q))
 
   -- a line declares one at most
   pub line-log : (ds : List AdtDecl) → first_decl ds ≡ decl_at s r → take 1 ds ≡ ds → map (record_of s) (line_entries r ds) ≡ record_log ds
@@ -78,8 +78,8 @@ cases-length t fs g k (x ∷ xs) =
     ∙ rw (variants_length t (variant_shape fs x) (variant_fields fs x) g k x.tags, cases-length t fs (suc g) (k + length x.tags) xs)
 
 records-length : (t : Bytes) (fs : List Fd) (o : Option (List Case)) → length (records_for t fs o) ≡ record_count o
-records-length t fs none = refl
-records-length t fs (some ks) = omega (arith, cases-length t fs 0 0 ks)
+records-length t fs None = refl
+records-length t fs (Some ks) = omega (arith, cases-length t fs 0 0 ks)
 
 pub log-length : (ds : List AdtDecl) → length (record_log ds) ≡ sum_of (λ (d : AdtDecl). record_count d.pick) ds
 log-length [] = refl

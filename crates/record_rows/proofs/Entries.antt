@@ -1,7 +1,7 @@
 -- What the rows of an entry's record hold, by the line and the case that it names.
 use mathlib.Core.Path.{◌≡◌, refl, sym, ap, ◌∙◌}
 use mathlib.Core.List.{List, [], ◌∷◌, ◌++◌, append_assoc}
-use mathlib.Core.Option.{Option, none, some}
+use Rattle.std.specs.Prelude.{Option, None, Some}
 use mathlib.Core.Logic.{⊎_elim}
 use Prim.Native.Nat.{ℕ, zero, suc, ◌+◌, ◌-◌, ◌≤◌, ◌<◌}
 use native.Mathlib.Omega.{arith}
@@ -36,22 +36,22 @@ unfolding own_record
 own-tag d = go d.pick
   where
     go : (o : Option (List Case)) → ((first_record (records_for d.name d.fields o)).tag ≡ negsuc 0) × ((first_record (records_for d.name d.fields o)).group ≡ negsuc 0)
-    go none = (refl, refl)
-    go (some ks) = (refl, refl)
+    go None = (refl, refl)
+    go (Some ks) = (refl, refl)
 
 own-shape : (s : Bytes) (r : ℕ) → (own_record (decl_at s r)).shape ≡ shape_at s r
 unfolding own_record shape_at
 own-shape s r = go (decl_at s r).pick
   where
     go : (o : Option (List Case)) → (first_record (records_for (decl_at s r).name (decl_at s r).fields o)).shape ≡ first_shape (records_for (decl_at s r).name (decl_at s r).fields o)
-    go none = refl
-    go (some ks) = refl
+    go None = refl
+    go (Some ks) = refl
 
-own-fields-none : (d : AdtDecl) → d.pick ≡ none → (own_record d).fields ≡ (place 0 d.fields).placed
+own-fields-none : (d : AdtDecl) → d.pick ≡ None → (own_record d).fields ≡ (place 0 d.fields).placed
 unfolding own_record
 own-fields-none d e = rw e
 
-own-fields-some : (d : AdtDecl) (ks : List Case) → d.pick ≡ some ks → (own_record d).fields ≡ (place 4 d.fields).placed
+own-fields-some : (d : AdtDecl) (ks : List Case) → d.pick ≡ Some ks → (own_record d).fields ≡ (place 4 d.fields).placed
 unfolding own_record
 own-fields-some d ks e = rw e
 
@@ -136,7 +136,7 @@ module _ (s t : Bytes) (n i : ℕ) (l : EntryIn s t n i) {r : ℕ} (hr : r ≡ (
   unfolding decl_at field_rows
   fields-adt e =
       let q = adt-decl s t n l.checked (r - 1) r-in e in
-      let p : (decl_at s r).pick ≡ none = ap (λ (ds : List AdtDecl). (first_decl ds).pick) q in
+      let p : (decl_at s r).pick ≡ None = ap (λ (ds : List AdtDecl). (first_decl ds).pick) q in
       let z : cases_in (decl_at s r) ≡ [] = ap (λ (ds : List AdtDecl). cases_in (first_decl ds)) q in
       let w : recorded_at s t i ≡ own_record (decl_at s r) = plain-is s t i (case-none z) ∙ ap (λ (x : ℕ). own_record (decl_at s x)) (sym hr) in
       sym (ap (λ (x : Recorded). placed_rows x.fields) w ∙ ap placed_rows (own-fields-none (decl_at s r) p))

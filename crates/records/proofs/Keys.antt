@@ -2,7 +2,7 @@
 use mathlib.Core.Path.{◌≡◌, refl, sym, ap, ◌∙◌}
 use mathlib.Core.Bool.{Bool, true, false, not, ◌&&◌, ◌||◌, and-false, and_assoc}
 use mathlib.Core.List.{List, [], ◌∷◌, ◌++◌}
-use mathlib.Core.Option.{Option, none, some}
+use Rattle.std.specs.Prelude.{Option, None, Some}
 use Prim.Native.Nat.{ℕ, zero, suc, ◌+◌, ◌-◌, ◌≤◌, ◌<◌}
 use native.Mathlib.Numerals.{add-one}
 use native.Mathlib.Omega.{arith}
@@ -114,8 +114,8 @@ unfolding own_record
 own-key d = go d.pick
   where
     go : (o : Option (List Case)) → (first_record (records_for d.name d.fields o)).key ≡ d.name
-    go none = refl
-    go (some ks) = refl
+    go None = refl
+    go (Some ks) = refl
 
 module _ (s t : Bytes) (i : ℕ) where
   pub plain-key : (entry_at t i).case ≡ 0 → (recorded_at s t i).key ≡ name_of s (entry_at t i)

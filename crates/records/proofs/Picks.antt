@@ -2,7 +2,7 @@
 use mathlib.Core.Path.{◌≡◌, refl, sym, ap, ◌∙◌}
 use mathlib.Core.Bool.{Bool, true, false}
 use mathlib.Core.List.{List, [], ◌∷◌}
-use mathlib.Core.Option.{none, some}
+use Rattle.std.specs.Prelude.{None, Some}
 use mathlib.Core.Logic.{◌⊎◌, inl, inr, ⊎_elim}
 use Prim.Native.Nat.{ℕ, zero, suc, ◌+◌, ◌-◌, ◌≤◌, ◌<◌}
 use native.Mathlib.Omega.{arith}
@@ -43,7 +43,7 @@ module _ (s t : List ℕ) (n : ℕ) (c : Checked s t n) (i : ℕ) (h : i < n) wh
       ∙ ap (λ (g : ℕ). (row_node (nodes_in s) g (read_at s i).fields).declares.adts) e
 
   pub adt-decl : form_at t i ≡ 26
-      → (declares_at (nodes_in s) i).adts ≡ record { name = get_or (read_at s i).fields 0 []; fields = fds_of (values (ref k_fd) (nodes_in s) (number_of (get_or (read_at s i).fields 1 [])) (drop 2 (read_at s i).fields)); pick = none } ∷ []
+      → (declares_at (nodes_in s) i).adts ≡ record { name = get_or (read_at s i).fields 0 []; fields = fds_of (values (ref k_fd) (nodes_in s) (number_of (get_or (read_at s i).fields 1 [])) (drop 2 (read_at s i).fields)); pick = None } ∷ []
   unfolding forms
   adt-decl e =
       adts-row 26 e
@@ -53,7 +53,7 @@ module _ (s t : List ℕ) (n : ℕ) (c : Checked s t n) (i : ℕ) (h : i < n) wh
       → (declares_at (nodes_in s) i).adts ≡ record {
         name = get_or (read_at s i).fields 0 [];
         fields = fds_of (values (ref k_fd) (nodes_in s) (number_of (get_or (read_at s i).fields 1 [])) (drop 2 (read_at s i).fields));
-        pick = some (cases_of (values (ref k_pc) (nodes_in s) (number_of (get_or (read_at s i).fields (2 + number_of (get_or (read_at s i).fields 1 [])) [])) (drop (3 + number_of (get_or (read_at s i).fields 1 [])) (read_at s i).fields)));
+        pick = Some (cases_of (values (ref k_pc) (nodes_in s) (number_of (get_or (read_at s i).fields (2 + number_of (get_or (read_at s i).fields 1 [])) [])) (drop (3 + number_of (get_or (read_at s i).fields 1 [])) (read_at s i).fields)));
       } ∷ []
   unfolding forms
   pick-decl e =

@@ -2,7 +2,7 @@
 use mathlib.Core.Path.{◌≡◌, refl, ap, ◌∙◌}
 use mathlib.Core.Bool.{true}
 use mathlib.Core.List.{List, [], ◌∷◌, ◌++◌}
-use mathlib.Core.Option.{Option, none, some}
+use Rattle.std.specs.Prelude.{Option, None, Some}
 use Prim.Native.Nat.{ℕ, zero, suc, ◌≤◌}
 use native.Mathlib.Omega.{arith}
 use lib.Dec.{leb}
@@ -24,15 +24,15 @@ unfolding Number.number_up_to
 number-exact f = go (Text.nat_of f)
   where
     go : (o : Option ℕ) → Text.holds_of (λ (m : ℕ). true) o ≡ true → Text.or_else 0 o ≤ 65536 → Number.capped 65536 o ≡ Text.or_else 0 o
-    go none h k = never h
-    go (some m) h k = omega arith
+    go None h k = never h
+    go (Some m) h k = omega arith
 
 pub count-number : (f : List ℕ) → is_count f ≡ true → (is_number f ≡ true) × (number_of f ≤ 16)
 count-number f = go (Text.nat_of f)
   where
     go : (o : Option ℕ) → Text.holds_of (λ (m : ℕ). leb m 16) o ≡ true → (Text.holds_of (λ (m : ℕ). true) o ≡ true) × (Text.or_else 0 o ≤ 16)
-    go none h = never h
-    go (some m) h = (refl, leb-true m 16 h)
+    go None h = never h
+    go (Some m) h = (refl, leb-true m 16 h)
 
 pub count-exact : (f : List ℕ) → is_count f ≡ true → {v : ℕ} → v ≡ Number.number_up_to 65536 f → (v ≡ number_of f) × (v ≤ 16)
 count-exact f h {v} hv =

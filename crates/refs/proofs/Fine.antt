@@ -2,7 +2,7 @@
 use mathlib.Core.Path.{◌≡◌, refl}
 use mathlib.Core.Bool.{Bool, true, false, cond, not, ◌&&◌}
 use mathlib.Core.List.{List, [], ◌∷◌}
-use mathlib.Core.Option.{Option, none, some}
+use Rattle.std.specs.Prelude.{Option, None, Some}
 use Prim.Native.Nat.{ℕ, zero, suc, ◌+◌, ◌<◌}
 use native.Mathlib.Omega.{arith}
 use lib.Dec.{ltb, eqb}
@@ -34,14 +34,14 @@ good-fine ls k us r = go (eqb r.line 0)
     go true e = e
     go false e = (both (ltb r.line k && eqb (letter (line_at ls r.line).form.kind) r.kind) (not (any (eqb r.line) us)) e).0
 
-uses-fine : (ls : List Read) (i : ℕ) (rs : List Ref) (us vs : List ℕ) → use_all ls (i + 1) rs us ≡ some vs → fine_refs ls i rs ≡ true
+uses-fine : (ls : List Read) (i : ℕ) (rs : List Ref) (us vs : List ℕ) → use_all ls (i + 1) rs us ≡ Some vs → fine_refs ls i rs ≡ true
 unfolding fine_refs
 uses-fine ls i [] us vs e = refl
 uses-fine ls i (r ∷ rs) us vs e = go (good_ref ls (i + 1) us r) refl (λ x. uses-fine ls i rs (r.line ∷ us) vs x)
   where
-    go : (b : Bool) → good_ref ls (i + 1) us r ≡ b → (use_all ls (i + 1) rs (r.line ∷ us) ≡ some vs → fine_refs ls i rs ≡ true) → fine_refs ls i (r ∷ rs) ≡ true
+    go : (b : Bool) → good_ref ls (i + 1) us r ≡ b → (use_all ls (i + 1) rs (r.line ∷ us) ≡ Some vs → fine_refs ls i rs ≡ true) → fine_refs ls i (r ∷ rs) ≡ true
     go true q ih = rw (good-fine ls (i + 1) us r q) (ih (rw q at e))
-    go false q ih = let p : none ≡ some vs = rw q at e in never cc
+    go false q ih = let p : None ≡ Some vs = rw q at e in never cc
 
 pass-fine : (ls ms : List Read) (k : ℕ) (us : List ℕ) → bad_ref_from ls (k + 1) us ms ≡ 0 → (i : ℕ) → i < length ms → fine_refs ls (k + i) (refs_of (get_or ms i no_read)) ≡ true
 unfolding bad_ref_from
@@ -51,9 +51,9 @@ pass-fine ls (m ∷ ms) k us e i l = go (use_all ls (k + 1) (refs_of m) us) refl
     go : (o : Option (List ℕ)) → use_all ls (k + 1) (refs_of m) us ≡ o
         → ((vs : List ℕ) → bad_ref_from ls (k + 1 + 1) vs ms ≡ 0 → (j : ℕ) → j < length ms → fine_refs ls (k + 1 + j) (refs_of (get_or ms j no_read)) ≡ true)
         → (i : ℕ) → i < suc (length ms) → fine_refs ls (k + i) (refs_of (get_or (m ∷ ms) i no_read)) ≡ true
-    go none q ih i l = let p : k + 1 ≡ 0 = rw q at e in absurd (omega arith)
-    go (some vs) q ih zero l = let z : k + 0 ≡ k = omega arith in rw z (uses-fine ls k (refs_of m) us vs q)
-    go (some vs) q ih (suc j) l =
+    go None q ih i l = let p : k + 1 ≡ 0 = rw q at e in absurd (omega arith)
+    go (Some vs) q ih zero l = let z : k + 0 ≡ k = omega arith in rw z (uses-fine ls k (refs_of m) us vs q)
+    go (Some vs) q ih (suc j) l =
         let z : k + suc j ≡ k + 1 + j = omega arith in
         let y : suc (k + 1) ≡ k + 1 + 1 = omega arith in
         rw z (ih vs (rw (q, y) at e) j (omega arith))

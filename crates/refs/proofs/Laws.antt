@@ -2,7 +2,7 @@
 use mathlib.Core.Path.{◌≡◌, refl, sym, ap, ◌∙◌}
 use mathlib.Core.Bool.{Bool, true, false, cond, not, ◌&&◌, ◌||◌}
 use mathlib.Core.List.{List, [], ◌∷◌}
-use mathlib.Core.Option.{Option, none}
+use Rattle.std.specs.Prelude.{Option, None}
 use Prim.Native.Nat.{ℕ, suc, ◌+◌, ◌-◌, ◌≤◌, ◌<◌, min}
 use native.Mathlib.Omega.{arith}
 use native.Mathlib.Numerals.{add-one}
@@ -41,10 +41,10 @@ module _ (t : List ℕ) (k x r : ℕ) where
     unfolding claims
     claim-zero z = (rw (ref, eq-eqb r 0 z), same-either (ltb x 64) z)
 
-    module _ (some : r ≡ 0 → ⊥) where
+    module _ (Some : r ≡ 0 → ⊥) where
       open-claim : claims t k x r ≡ ltb r k && eqb (kind_at (form_at t (r - 1))) (wanted_by x) && eqb (used_at t (r - 1)) 0
       unfolding claims
-      open-claim = rw (ref, ne_eqb r 0 some)
+      open-claim = rw (ref, ne_eqb r 0 Some)
 
       pub claim-late : k ≤ r → (false ≡ claims t k x r) × (t ≡ t)
       claim-late h = (sym (open-claim ∙ rw (le-ltb r k h)), refl)
@@ -59,7 +59,7 @@ module _ (t : List ℕ) (k x r : ℕ) where
 
           pub claim-good : used_at t (r - 1) ≡ 0 → (true ≡ claims t k x r) × (set t (3072 + (r - 1)) 1 ≡ used_marked t x r)
           unfolding used_marked
-          claim-good e = (sym (open-claim ∙ rw (lt-ltb r k early, eq-eqb _ _ kind, eq-eqb _ _ e)), rw (ref, ne_eqb r 0 some))
+          claim-good e = (sym (open-claim ∙ rw (lt-ltb r k early, eq-eqb _ _ kind, eq-eqb _ _ e)), rw (ref, ne_eqb r 0 Some))
 
 whole-marked : (s t : List ℕ) (n x r : ℕ) → Whole s t n → Whole s (used_marked t x r) n
 unfolding used_marked
@@ -145,9 +145,9 @@ module _ (s t : List ℕ) (n k : ℕ) (w : Whole s t n) (hk : k ≤ n) (us : Lis
                 let a : (suc i ≡ referred_line → ⊥) = eqb-false (suc i) referred_line p in
                 rw p (get_or-set_other t (3072 + (v - 1)) (3072 + i) 1 0 (λ y. a (omega (arith, z, d))) ∙ used i h)
 
-    ref-open : use_all (reads_in s) k (ref_by x f rs) us ≡ cond (claims t k x v) (use_all (reads_in s) k rs (referred_line ∷ us)) none
+    ref-open : use_all (reads_in s) k (ref_by x f rs) us ≡ cond (claims t k x v) (use_all (reads_in s) k rs (referred_line ∷ us)) None
     unfolding ref_by referred_line as_ref
-    ref-open = simp ref (ap (λ (b : Bool). cond b (use_all (reads_in s) k rs (Form.number_of f ∷ us)) none) same_good)
+    ref-open = simp ref (ap (λ (b : Bool). cond b (use_all (reads_in s) k rs (Form.number_of f ∷ us)) None) same_good)
 
   -- no reference
   plain-open : is_ref x ≡ false → use_all (reads_in s) k (ref_by x f rs) us ≡ use_all (reads_in s) k rs us
@@ -161,10 +161,10 @@ module _ (s t : List ℕ) (n k : ℕ) (w : Whole s t n) (hk : k ≤ n) (us : Lis
       go false e = record { us = us; same = plain-open e; table = rw (← (claim-plain t k x v e).1) used }
       go true e = record { us = referred_line ∷ us; same = ref-open e ∙ rw c; table = used-after e c }
 
-  turn-bad : claims t k x v ≡ false → use_all (reads_in s) k (ref_by x f rs) us ≡ none
+  turn-bad : claims t k x v ≡ false → use_all (reads_in s) k (ref_by x f rs) us ≡ None
   turn-bad c = go (is_ref x) refl
     where
-      go : (y : Bool) → is_ref x ≡ y → use_all (reads_in s) k (ref_by x f rs) us ≡ none
+      go : (y : Bool) → is_ref x ≡ y → use_all (reads_in s) k (ref_by x f rs) us ≡ None
       go false e = never (sym c ∙ sym (claim-plain t k x v e).0)
       go true e = ref-open e ∙ rw c
 
@@ -185,7 +185,7 @@ using-start s t n i w h l f hl hf u hu = rw hu (record {
 
 module _ (s t t₀ : List ℕ) (n i : ℕ) (hi : i < n) (f : ℕ) (l : List ℕ) (w u : Walk) (x v : ℕ) (q : WalkStepped f l w x v u) (g : UsingRefs s t n i f l w t₀) where
   pub using-stop : {b : Bool} (y : List ℕ) → b ≡ claims t (i + 1) x v → b ≡ false → y ≡ cond b (used_marked t x v) t
-      → Whole s y n × ((us : List ℕ) → Used t₀ us → use_all (reads_in s) (i + 1) (refs_of (read_at s i)) us ≡ none)
+      → Whole s y n × ((us : List ℕ) → Used t₀ us → use_all (reads_in s) (i + 1) (refs_of (read_at s i)) us ≡ None)
   unfolding refs_left
   using-stop y p c hy =
       let d : y ≡ t = hy ∙ rw c in (
@@ -251,7 +251,7 @@ module _ (s t : List ℕ) (n i : ℕ) (p : Passing s t n i) where
         ∙ bad-cons (reads_in s) (i + 1) p.us (read_at s i) (drop (suc i) (reads_in s))
         ∙ rw (← add-one (i + 1), ← add-one i)
 
-    pub passing-bad : use_all (reads_in s) (i + 1) (refs_of (read_at s i)) p.us ≡ none → i + 1 ≡ bad_ref_from (reads_in s) 1 [] (reads_in s)
+    pub passing-bad : use_all (reads_in s) (i + 1) (refs_of (read_at s i)) p.us ≡ None → i + 1 ≡ bad_ref_from (reads_in s) 1 [] (reads_in s)
     passing-bad e = sym (opened-line ∙ rw e)
 
     pub passing-next : (u : List ℕ) → Whole s u n → Uses u (use_all (reads_in s) (i + 1) (refs_of (read_at s i)) p.us) → Passing s u n (i + 1)
@@ -259,7 +259,7 @@ module _ (s t : List ℕ) (n i : ℕ) (p : Passing s t n i) where
 
 -- ---- an outcome by its answer
 
-pub outcome-bad : (t : List ℕ) (o : Option (List ℕ)) (b : Bool) → b ≡ false → RefsOutcome t o b → o ≡ none
+pub outcome-bad : (t : List ℕ) (o : Option (List ℕ)) (b : Bool) → b ≡ false → RefsOutcome t o b → o ≡ None
 outcome-bad t o true e h = never (sym e)
 outcome-bad t o false e h = h
 

@@ -2,7 +2,7 @@
 use mathlib.Core.Path.{◌≡◌, refl, sym, ap, ◌∙◌}
 use mathlib.Core.Bool.{true}
 use mathlib.Core.List.{List, [], ◌∷◌, ◌++◌}
-use mathlib.Core.Option.{Option, none, some}
+use Rattle.std.specs.Prelude.{Option, None, Some}
 use Prim.Native.Nat.{ℕ, ◌+◌, ◌-◌, ◌≤◌, ◌<◌, min}
 use native.Mathlib.Omega.{arith}
 use lib.Dec.{leb, ltb}
@@ -85,8 +85,8 @@ unfolding Number.number_up_to
 ref-number x f e h = go (Text.nat_of f) (ltb-true _ _ (sym (ref-holds x f (ref-range x e).0 (ref-range x e).1) ∙ h))
   where
     go : (o : Option ℕ) → Number.capped 65536 o < 65537 → Number.capped 65536 o ≡ min (Text.or_else 0 o) 65536
-    go none k = absurd (omega arith)
-    go (some m) k = refl
+    go None k = absurd (omega arith)
+    go (Some m) k = refl
 
 -- what a reference is by its letter and field
 unfoldable pub as_ref : ℕ → List ℕ → Refusal.Ref

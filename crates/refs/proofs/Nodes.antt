@@ -2,7 +2,7 @@
 use mathlib.Core.Path.{◌≡◌, refl, sym, ap, ◌∙◌}
 use mathlib.Core.Bool.{Bool, true, false, cond, ◌&&◌}
 use mathlib.Core.List.{List, [], ◌∷◌, ◌++◌}
-use mathlib.Core.Option.{some}
+use Rattle.std.specs.Prelude.{Some}
 use Prim.Native.Nat.{ℕ, zero, suc, ◌+◌, ◌-◌, ◌≤◌, ◌<◌}
 use native.Mathlib.Omega.{arith}
 use lib.Dec.{ltb, eqb}
@@ -62,7 +62,7 @@ module _ (ls : List Read) (ns : List Node) (i : ℕ) where
   perhaps-same zero q h = refl
   perhaps-same (suc m) q h =
       let k : suc m < i + 1 = ltb-true (suc m) (i + 1) (both (ltb (suc m) (i + 1)) q (rw (ne_eqb (suc m) 0 (λ z. omega arith)) at h)).0 in
-      ap some (same-node ns i (suc m) (λ z. omega arith) (omega arith))
+      ap Some (same-node ns i (suc m) (λ z. omega arith) (omega arith))
 
   value_same : (a : Form.Atom) (f : List ℕ) (rs : List Ref) → fine_refs ls i (ref_of a f rs) ≡ true → (value a (take i ns) f ≡ value a ns f) × (fine_refs ls i rs ≡ true)
   unfolding fine_refs

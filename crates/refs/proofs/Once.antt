@@ -2,7 +2,7 @@
 use mathlib.Core.Path.{◌≡◌, refl, ◌∙◌}
 use mathlib.Core.Bool.{Bool, true, false, cond, not, ◌&&◌, ◌||◌}
 use mathlib.Core.List.{List, [], ◌∷◌}
-use mathlib.Core.Option.{Option, none, some}
+use Rattle.std.specs.Prelude.{Option, None, Some}
 use Prim.Native.Nat.{ℕ, suc, ◌+◌, ◌≤◌, ◌<◌}
 use native.Mathlib.Omega.{arith}
 use lib.Dec.{ltb, eqb}
@@ -27,14 +27,14 @@ module _ (ls : List Read) (r : ℕ) (pos : 0 < r) where
       go true p = rw (p, good-first k us x (eqb-true r x.line p) h)
       go false p = rw p (omega arith)
 
-  uses-all : (k : ℕ) (rs : List Ref) (us vs : List ℕ) → use_all ls k rs us ≡ some vs → as_bit (any (eqb r) vs) ≡ as_bit (any (eqb r) us) + uses_of r rs
+  uses-all : (k : ℕ) (rs : List Ref) (us vs : List ℕ) → use_all ls k rs us ≡ Some vs → as_bit (any (eqb r) vs) ≡ as_bit (any (eqb r) us) + uses_of r rs
   uses-all k [] us vs e = let p : us ≡ vs = cc in rw (← p) (omega arith)
   uses-all k (x ∷ rs) us vs e = go (good_ref ls k us x) refl (λ p. uses-all k rs (x.line ∷ us) vs p)
     where
-      go : (b : Bool) → good_ref ls k us x ≡ b → (use_all ls k rs (x.line ∷ us) ≡ some vs → as_bit (any (eqb r) vs) ≡ as_bit (any (eqb r) (x.line ∷ us)) + uses_of r rs)
+      go : (b : Bool) → good_ref ls k us x ≡ b → (use_all ls k rs (x.line ∷ us) ≡ Some vs → as_bit (any (eqb r) vs) ≡ as_bit (any (eqb r) (x.line ∷ us)) + uses_of r rs)
           → as_bit (any (eqb r) vs) ≡ as_bit (any (eqb r) us) + (cond (eqb r x.line) 1 0 + uses_of r rs)
       go true q ih = ih (rw q at e) ∙ omega (arith, one_more k us x q)
-      go false q ih = let p : none ≡ some vs = rw q at e in never cc
+      go false q ih = let p : None ≡ Some vs = rw q at e in never cc
 
   flag-low : (b : Bool) → as_bit b ≤ 1
   flag-low true = omega arith
@@ -47,8 +47,8 @@ module _ (ls : List Read) (r : ℕ) (pos : 0 < r) where
     where
       go : (o : Option (List ℕ)) → use_all ls k (refs_of m) us ≡ o → ((vs : List ℕ) → bad_ref_from ls (suc k) vs ms ≡ 0 → as_bit (any (eqb r) vs) + uses_in r ms ≤ 1)
           → as_bit (any (eqb r) us) + (uses_of r (refs_of m) + uses_in r ms) ≤ 1
-      go none q ih = let p : k ≡ 0 = rw q at e in absurd (omega arith)
-      go (some vs) q ih = omega (arith, ih vs (rw q at e), uses-all k (refs_of m) us vs q)
+      go None q ih = let p : k ≡ 0 = rw q at e in absurd (omega arith)
+      go (Some vs) q ih = omega (arith, ih vs (rw q at e), uses-all k (refs_of m) us vs q)
 
   pub used-once : bad_ref_from ls 1 [] ls ≡ 0 → uses_in r ls ≤ 1
   used-once e = omega (arith, pass-once ls 1 [] (omega arith) e)

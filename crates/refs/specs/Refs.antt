@@ -1,6 +1,5 @@
 -- Refusal 4 over the tables: the references among the fields of a line by their letters, and the table of used lines.
-use Rattle.std.specs.Prelude.{ℕ, suc, ◌+◌, ◌-◌, ◌<◌, ◌≡◌, Bool, true, false, cond, not, ◌&&◌, List, [], ◌∷◌, get_or, set, ltb, eqb}
-use Rattle.std.proofs.Math.Option.{Option, none, some}
+use Rattle.std.specs.Prelude.{ℕ, suc, ◌+◌, ◌-◌, ◌<◌, ◌≡◌, Bool, true, false, cond, not, ◌&&◌, List, [], ◌∷◌, get_or, set, ltb, eqb, Option, None, Some}
 use Rattle.semantics.specs.Text.{Bytes, all, any}
 use Rattle.semantics.specs.Form.{Read, letter, number_of}
 use Rattle.semantics.specs.Refusal.{Ref, line_at, refs_of}
@@ -51,12 +50,12 @@ Used t us = (i : ℕ) → i < 1024 → used_at t i ≡ as_bit (any (eqb (suc i))
 
 pub record Uses (t : Bytes) (o : Option (List ℕ)) : Type 0 where
   pub us : List ℕ
-  pub is : o ≡ some us
+  pub is : o ≡ Some us
   pub table : Used t us
 
 -- what a line's references make of the lines used
 abbrev pub RefsOutcome : Bytes → Option (List ℕ) → Bool → Type 0
-RefsOutcome t o false = o ≡ none
+RefsOutcome t o false = o ≡ None
 RefsOutcome t o true = Uses t o
 
 -- ---- what good references are, apart from whether they are the first

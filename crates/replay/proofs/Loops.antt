@@ -3,7 +3,7 @@ use Prim.Native.Nat.{ℕ, suc, ◌+◌, ◌-◌, ◌≤◌, ◌<◌, min}
 use mathlib.Core.Path.{◌≡◌, refl, sym, ap, ◌∙◌}
 use mathlib.Core.Bool.{Bool, true, false, cond}
 use mathlib.Core.List.{List, [], ◌∷◌, ◌++◌}
-use mathlib.Core.Option.{Option, none, some}
+use Rattle.std.specs.Prelude.{Option, None, Some}
 use native.Mathlib.Omega.{arith}
 use lib.Dec.{ltb, eqb}
 use lib.ListN.{length, take, drop, get_or, set, replicate, drop_of_length-le, length-drop, length-set, length-replicate}
@@ -78,7 +78,7 @@ module _ (sizes : ℕ → ℕ) (t : Bytes) (at : ℕ) where
   text-turn e s {r} im ar {im'} {ar'} h f fitted l =
       ap (λ (xs : List Stored). lay_all xs (seen_laying s im ar)) (items-turn t at e h f sizes)
       ∙ lay-append (read_row sizes (fields_of (take (e - at) (drop at t)))) (read_all sizes (drop (e + 1) t)) (seen_laying s im ar)
-      ∙ ap (λ (b : Bool). lay_all (read_all sizes (drop (e + 1) t)) (lay_all (read_row sizes (fields_of (take (e - at) (drop at t)))) (cond b none (some (laying_of s im ar))))) fitted
+      ∙ ap (λ (b : Bool). lay_all (read_all sizes (drop (e + 1) t)) (lay_all (read_row sizes (fields_of (take (e - at) (drop at t)))) (cond b None (Some (laying_of s im ar))))) fitted
       ∙ ap (lay_all (read_all sizes (drop (e + 1) t))) (sym l.is)
 
   pub text-full : (s : State) (im ar : Bytes) → s.full ≡ true → laid_text sizes (drop at t) (seen_laying s im ar) ≡ seen_laying s im ar

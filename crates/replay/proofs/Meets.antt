@@ -6,7 +6,7 @@ use native.Mathlib.Nat.{sub-zero}
 use mathlib.Core.Path.{◌≡◌, refl, sym, ap, ◌∙◌}
 use mathlib.Core.Bool.{false}
 use mathlib.Core.List.{List, map}
-use mathlib.Core.Option.{Option, none, some}
+use Rattle.std.specs.Prelude.{Option, None, Some}
 use lib.ListN.{length}
 use Rattle.semantics.specs.Text.{Bytes}
 use Rattle.semantics.specs.Sheet.{Source}
@@ -41,8 +41,8 @@ pub record Meets (q : Imaged) (image area : ℕ) (r : Replayed) (image' area' : 
   pub area_is : area' ≡ padded area (area_bytes q)
 
 by_answer : (q : Imaged) (b : Buffers) (m : Option Laying) → LaysAs q b.image b.area m → Meets q b.image b.area (answer_of m) (laid_image b.image m) (laid_area b.area m)
-by_answer q b none h = rw h (record { answer = refl; image_is = ap zeros (sym (sub-zero b.image)); area_is = ap zeros (sym (sub-zero b.area)) })
-by_answer q b (some m) h = record {
+by_answer q b None h = rw h (record { answer = refl; image_is = ap zeros (sym (sub-zero b.image)); area_is = ap zeros (sym (sub-zero b.area)) })
+by_answer q b (Some m) h = record {
   answer = (λ j. Laid (h.long j) (h.end j)) ∙ sym (ap lengths_of h.is);
   image_is = h.image_is;
   area_is = h.area_is;

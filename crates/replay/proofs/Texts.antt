@@ -3,7 +3,7 @@ use Prim.Native.Nat.{ℕ, zero, suc, ◌+◌, ◌-◌, ◌*◌, ◌≤◌, ◌<�
 use mathlib.Core.Path.{◌≡◌, refl, sym, ap, ◌∙◌}
 use mathlib.Core.Bool.{Bool, true, false, cond}
 use mathlib.Core.List.{List, [], ◌∷◌}
-use mathlib.Core.Option.{Option, none, some}
+use Rattle.std.specs.Prelude.{Option, None, Some}
 use native.Mathlib.Nat.{zero-mul, suc-mul, le_refl}
 use native.Mathlib.Omega.{arith}
 use lib.Dec.{ltb, leb, eqb}
@@ -27,9 +27,9 @@ use Rattle.row_fields.proofs.Writes.{fields-from}
 pub lays-as : {q q' : Option Laying} {s r : State} {im ar : Bytes} → q ≡ q' → Lays q s r im ar → Lays q' s r im ar
 lays-as e l = record { is = l.is ∙ e; low = l.low; high = l.high; item = l.item }
 
-pub lays-none : {q : Option Laying} {s : State} (im ar : Bytes) → MoreFits s (length ar) → some (laying_of s im ar) ≡ q → Lays q s s im ar
+pub lays-none : {q : Option Laying} {s : State} (im ar : Bytes) → MoreFits s (length ar) → Some (laying_of s im ar) ≡ q → Lays q s s im ar
 unfolding seen_laying
-lays-none {q} {s} im ar h e = record { is = ap (λ (b : Bool). cond b none (some (laying_of s im ar))) h.fitted ∙ e; low = h.low; high = h.high; item = omega arith }
+lays-none {q} {s} im ar h e = record { is = ap (λ (b : Bool). cond b None (Some (laying_of s im ar))) h.fitted ∙ e; low = h.low; high = h.high; item = omega arith }
 
 -- ---- numbers that are cut off at a size that no buffer has
 
@@ -45,11 +45,11 @@ x-le : (size x : ℕ) → x ≤ suc size * x
 x-le size x = rw (suc-mul size x) (omega arith)
 
 module _ (m : Laying) (image : length m.image < most) where
-  cut-image : (o : ℕ) (ys : Bytes) → most ≤ o → lay_image o ys m ≡ none
+  cut-image : (o : ℕ) (ys : Bytes) → most ≤ o → lay_image o ys m ≡ None
   unfolding lay_image
   cut-image o ys h = rw (lt-ltb (length m.image) (o + length ys) (omega arith))
 
-  array-none : (o n : ℕ) → length m.area < part_at m.end + n → lay_array o n m ≡ none
+  array-none : (o n : ℕ) → length m.area < part_at m.end + n → lay_array o n m ≡ None
   unfolding lay_array
   array-none o n h = rw (lt-ltb (length m.area) (part_at m.end + n) h)
 
@@ -64,11 +64,11 @@ module _ (m : Laying) (image : length m.image < most) where
   cut-length o zero n h = cut_off (λ (x : ℕ). lay_array o (0 * x) m ≡ lay_array o (0 * n) m) n refl (λ l. rw (zero-mul most, zero-mul n))
   cut-length o (suc size) n h = cut_off (λ (x : ℕ). lay_array o (suc size * x) m ≡ lay_array o (suc size * n) m) n refl (λ l. none-of most (le_refl most) ∙ sym (none-of n (omega arith)))
     where
-      none-of : (x : ℕ) → most ≤ x → lay_array o (suc size * x) m ≡ none
+      none-of : (x : ℕ) → most ≤ x → lay_array o (suc size * x) m ≡ None
       none-of x k = array-none o (suc size * x) (omega (arith, x-le size x))
 
   module _ (part : m.end - m.start < most) where
-    cut-part : (o : ℕ) (ys : Bytes) → most ≤ o → lay_part o ys m ≡ none
+    cut-part : (o : ℕ) (ys : Bytes) → most ≤ o → lay_part o ys m ≡ None
     unfolding lay_part
     cut-part o ys h = rw (lt-ltb (m.end - m.start) (o + length ys) (omega arith))
 
@@ -109,7 +109,7 @@ module _ (work : Bytes) (k : ℕ) (row im ar : Bytes) (s : State) where
   abbrev fs : List Bytes
   fs = fields_of row
 
-  pub item-none : k ≡ 0 → some laying_now ≡ laid_item sizes k row laying_now
+  pub item-none : k ≡ 0 → Some laying_now ≡ laid_item sizes k row laying_now
   unfolding laid_item
   item-none e = rw (eq-eqb k 0 e)
 
@@ -147,18 +147,18 @@ module _ (work : Bytes) (k : ℕ) (row im ar : Bytes) (s : State) where
         ∙ ap (λ (x : ℕ). lay_array x (element_size_at work (number_read (get_or fs 3 [])) * number_read (get_or fs 4 [])) laying_now) at
         ∙ cut_array laying_now image (number_read (get_or fs 2 [])) (element_size_at work (number_read (get_or fs 3 [])) * number_read (get_or fs 4 [])))
 
-    pub item-moved : 5 ≤ k → (k ≡ 5 → ⊥) → (k ≡ 6 → ⊥) → some (move_to (eqb k 7) laying_now) ≡ laid_item sizes k row laying_now
+    pub item-moved : 5 ≤ k → (k ≡ 5 → ⊥) → (k ≡ 6 → ⊥) → Some (move_to (eqb k 7) laying_now) ≡ laid_item sizes k row laying_now
     unfolding laid_item
     item-moved h d e = rw (ne_eqb k 0 some_item, le-ltb k 5 h, ne_eqb k 5 d, ne_eqb k 6 e) (go (eqb k 7))
       where
-        go : (b : Bool) → some (move_to b laying_now) ≡ lay_all (cond b (Stored.set_at (number_read (get_or fs 2 [])) ∷ []) (Stored.go_back ∷ [])) (some laying_now)
+        go : (b : Bool) → Some (move_to b laying_now) ≡ lay_all (cond b (Stored.set_at (number_read (get_or fs 2 [])) ∷ []) (Stored.go_back ∷ [])) (Some laying_now)
         go true = refl
         go false = refl
 
 -- ---- a row
 
 module _ (sizes : ℕ → ℕ) (row : Bytes) (m : Laying) {f : Bytes} (field : f ≡ get_or (fields_of row) 0 []) where
-  pub row_other : same f (bytes "dat") ≡ false → some m ≡ laid_row sizes row m
+  pub row_other : same f (bytes "dat") ≡ false → Some m ≡ laid_row sizes row m
   unfolding laid_row read_row
   row_other e = rw (← field, e)
 

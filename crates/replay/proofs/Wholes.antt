@@ -2,7 +2,7 @@
 use Prim.Native.Nat.{ℕ}
 use mathlib.Core.Path.{◌≡◌, sym, ap, ◌∙◌}
 use mathlib.Core.Bool.{Bool, true, false, cond}
-use mathlib.Core.Option.{Option, none, some}
+use Rattle.std.specs.Prelude.{Option, None, Some}
 use lib.ListN.{length, replicate, length-replicate}
 use lib.Dec.{ltb}
 use Rattle.semantics.specs.Text.{Bytes}
@@ -19,7 +19,7 @@ module _ (listing : Bytes) (end : ℕ) (t u im im₁ im₂ ar ar₁ ar₂ : Byte
     (laid : seen_laying s im₂ ar₂ ≡ laid_text (element_size_at u) listing (begun end im₁ ar₁)) where
   begun-is : begun end im₁ ar₁ ≡ laying_start end (length im) (length ar)
   unfolding begun laying_start
-  begun-is = rw (zi, za) (ap (λ (n : ℕ). cond {A = Option Laying} (ltb n end) none (some (record { item = 0; image = replicate (length im) 0; area = replicate (length ar) 0; start = 0; end = 0; inside = false; long = end }))) (length-replicate {A = ℕ} (length im) 0))
+  begun-is = rw (zi, za) (ap (λ (n : ℕ). cond {A = Option Laying} (ltb n end) None (Some (record { item = 0; image = replicate (length im) 0; area = replicate (length ar) 0; start = 0; end = 0; inside = false; long = end }))) (length-replicate {A = ℕ} (length im) 0))
 
   laid-is : seen_laying s im₂ ar₂ ≡ laid_listing listing end (length im) (length ar)
   unfolding laid_text laid_listing
@@ -29,7 +29,7 @@ module _ (listing : Bytes) (end : ℕ) (t u im im₁ im₂ ar ar₁ ar₂ : Byte
       → Replays listing end t u im im₃ ar ar₃ Outgrown
   unfolding seen_laying
   replays-none {im₃} {ar₃} full li la ei ea =
-      let q : none ≡ laid_listing listing end (length im) (length ar) = sym (ap (λ (b : Bool). cond b none (some (laying_of s im₂ ar₂))) full) ∙ laid-is in
+      let q : None ≡ laid_listing listing end (length im) (length ar) = sym (ap (λ (b : Bool). cond b None (Some (laying_of s im₂ ar₂))) full) ∙ laid-is in
       record {
         answer = ap answer_of q;
         image_is = ei ∙ ap (λ (n : ℕ). replicate n 0) li ∙ ap (laid_image (length im)) q;
@@ -40,5 +40,5 @@ module _ (listing : Bytes) (end : ℕ) (t u im im₁ im₂ ar ar₁ ar₂ : Byte
   pub replays-some : s.full ≡ false → Replays listing end t u im im₂ ar ar₂ (Laid s.long s.end)
   unfolding seen_laying laying_of
   replays-some fitted =
-      let q : some (laying_of s im₂ ar₂) ≡ laid_listing listing end (length im) (length ar) = sym (ap (λ (b : Bool). cond b none (some (laying_of s im₂ ar₂))) fitted) ∙ laid-is in
+      let q : Some (laying_of s im₂ ar₂) ≡ laid_listing listing end (length im) (length ar) = sym (ap (λ (b : Bool). cond b None (Some (laying_of s im₂ ar₂))) fitted) ∙ laid-is in
       record { answer = ap answer_of q; image_is = ap (laid_image (length im)) q; area_is = ap (laid_area (length ar)) q; table = sizes }

@@ -1,6 +1,5 @@
 -- What the rows of a listing come to, with a table of the sizes of descriptors in the working space.
-use Rattle.std.specs.Prelude.{ℕ, ◌+◌, ◌≤◌, ◌<◌, ◌≡◌, false, cond, [], length, drop, get_or, ltb}
-use Rattle.std.proofs.Math.Option.{Option, none, some}
+use Rattle.std.specs.Prelude.{ℕ, ◌+◌, ◌≤◌, ◌<◌, ◌≡◌, false, cond, [], length, drop, get_or, ltb, Option, None, Some}
 use Rattle.semantics.specs.Text.{Bytes, fields_of}
 use Rattle.stored.specs.Reading.{number_read, width_of, item_by, read_row, read_all, size_by, most_types, size_in}
 use Rattle.stored.specs.Laying.{Laying, lay_all}
@@ -20,16 +19,16 @@ width k = width_of k
 unfoldable pub laid_item : (ℕ → ℕ) → ℕ → Bytes → Laying → Option Laying
 laid_item sizes k row m =
     let fs = fields_of row in
-    lay_all (item_by sizes k (number_read (get_or fs 2 [])) (number_read (get_or fs 3 [])) (number_read (get_or fs 4 [])) (drop 4 fs)) (some m)
+    lay_all (item_by sizes k (number_read (get_or fs 2 [])) (number_read (get_or fs 3 [])) (number_read (get_or fs 4 [])) (drop 4 fs)) (Some m)
 
 unfoldable pub laid_row : (ℕ → ℕ) → Bytes → Laying → Option Laying
-laid_row sizes row m = lay_all (read_row sizes (fields_of row)) (some m)
+laid_row sizes row m = lay_all (read_row sizes (fields_of row)) (Some m)
 
 -- over the buffers as they are
 unfoldable pub begun : ℕ → Bytes → Bytes → Option Laying
 begun end image area =
-    cond (ltb (length image) end) none
-    (some (record { item = 0; image = image; area = area; start = 0; end = 0; inside = false; long = end }))
+    cond (ltb (length image) end) None
+    (Some (record { item = 0; image = image; area = area; start = 0; end = 0; inside = false; long = end }))
 
 unfoldable pub laid_text : (ℕ → ℕ) → Bytes → Option Laying → Option Laying
 laid_text sizes t m = lay_all (read_all sizes t) m

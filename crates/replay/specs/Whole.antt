@@ -1,6 +1,5 @@
 -- What a replay leaves in the lent buffers.
-use Rattle.std.specs.Prelude.{ℕ, ◌≡◌, length}
-use Rattle.std.proofs.Math.Option.{Option, none, some}
+use Rattle.std.specs.Prelude.{ℕ, ◌≡◌, length, Option, None, Some}
 use Rattle.semantics.specs.Text.{Bytes}
 use Rattle.semantics.specs.Refusal.{zeros}
 use Rattle.stored.specs.Reading.{read_all, size_in}
@@ -15,16 +14,16 @@ laid_listing listing end image area = lay_all (read_all (size_in listing) listin
 
 -- the lengths of image and area; `Outgrown` is refusal 13, with no line
 abbrev pub answer_of : Option Laying → Replayed
-answer_of none = Outgrown
-answer_of (some m) = Laid m.long m.end
+answer_of None = Outgrown
+answer_of (Some m) = Laid m.long m.end
 
 abbrev pub laid_image : ℕ → Option Laying → Bytes
-laid_image n none = zeros n
-laid_image n (some m) = m.image
+laid_image n None = zeros n
+laid_image n (Some m) = m.image
 
 abbrev pub laid_area : ℕ → Option Laying → Bytes
-laid_area n none = zeros n
-laid_area n (some m) = m.area
+laid_area n None = zeros n
+laid_area n (Some m) = m.area
 
 -- of a listing whose allocation ends at `end`: the answer r, image and area before and after, the working space t before and u after
 pub record Replays (listing : Bytes) (end : ℕ) (t u image image' area area' : Bytes) (r : Replayed) : Type 0 where

@@ -3,7 +3,7 @@ use Prim.Native.Nat.{ℕ, ◌+◌, ◌-◌, ◌^◌, ◌≤◌, ◌<◌, min}
 use mathlib.Core.Path.{◌≡◌, refl, sym, ap, ◌∙◌}
 use mathlib.Core.Bool.{Bool, true, false, cond}
 use mathlib.Core.List.{[]}
-use mathlib.Core.Option.{Option, none, some}
+use Rattle.std.specs.Prelude.{Option, None, Some}
 use native.Mathlib.Omega.{arith}
 use lib.IntN.{ℤ, pos, negsuc}
 use mir.Syntax.{w64}
@@ -54,7 +54,7 @@ module _ (k : Bytes) {v : ℕ} (is : v ≡ which_of k (bytes "bytes") (bytes "wo
   unfolding keyword_of which_of
   keyword-first h = (by_first (same k (bytes "bytes")) (same k (bytes "words")) (same k (bytes "bigs")) (same k (bytes "reals")) tail is).0 h
 
-  module _ (none : v ≤ 0) {u : ℕ} (later : u ≡ which_of k (bytes "str") (bytes "array") (bytes "set") (bytes "back")) where
+  module _ (None : v ≤ 0) {u : ℕ} (later : u ≡ which_of k (bytes "str") (bytes "array") (bytes "set") (bytes "back")) where
     by_last : (a b c d : Bool) → u ≡ first_true a b c d → (u ≡ 0 → 0 ≡ later_true a b c d) × ((u ≡ 0 → ⊥) → u + 4 ≡ later_true a b c d)
     by_last true b c d e = (λ h. absurd (omega arith), λ h. omega arith)
     by_last false true c d e = (λ h. absurd (omega arith), λ h. omega arith)
@@ -66,13 +66,13 @@ module _ (k : Bytes) {v : ℕ} (is : v ≡ which_of k (bytes "bytes") (bytes "wo
     unfolding keyword_of which_of
     keyword-none h =
         (by_last (same k (bytes "str")) (same k (bytes "array")) (same k (bytes "set")) (same k (bytes "back")) later).0 h
-        ∙ (by_first (same k (bytes "bytes")) (same k (bytes "words")) (same k (bytes "bigs")) (same k (bytes "reals")) tail is).1 none
+        ∙ (by_first (same k (bytes "bytes")) (same k (bytes "words")) (same k (bytes "bigs")) (same k (bytes "reals")) tail is).1 None
 
     pub keyword-last : (u ≡ 0 → ⊥) → u + 4 ≡ keyword_of k
     unfolding keyword_of which_of
     keyword-last h =
         (by_last (same k (bytes "str")) (same k (bytes "array")) (same k (bytes "set")) (same k (bytes "back")) later).1 h
-        ∙ (by_first (same k (bytes "bytes")) (same k (bytes "words")) (same k (bytes "bigs")) (same k (bytes "reals")) tail is).1 none
+        ∙ (by_first (same k (bytes "bytes")) (same k (bytes "words")) (same k (bytes "bigs")) (same k (bytes "reals")) tail is).1 None
 
 -- ---- fields
 
@@ -86,8 +86,8 @@ no_field row i a ha h = sym (get_or-eq_default (fields_of row) [] (ltb-false i (
 
 module _ (f : Bytes) {n : ℕ} (is : n ≡ number_up_to most (drop 0 f)) where
   by_number : (o : Option ℕ) → n ≡ capped most o → (most < n → 0 ≡ min (or_else 0 o) most) × (n ≤ most → n ≡ min (or_else 0 o) most)
-  by_number none e = (λ h. omega arith, λ h. absurd (omega arith))
-  by_number (some m) e = (λ h. absurd (omega arith), λ h. e)
+  by_number None e = (λ h. omega arith, λ h. absurd (omega arith))
+  by_number (Some m) e = (λ h. absurd (omega arith), λ h. e)
 
   pub no_number : most < n → 0 ≡ min (number_read f) most
   unfolding number_read number_up_to
@@ -108,8 +108,8 @@ unfolding integer_of bits_in
 integer-is f {z} e = go (int_of f) e
   where
     go : (o : Option ℤ) → whole o ≡ Is z → bits64 (to_z w64 (of_z w64 z)) ≡ integer_bits o
-    go none e = never cc
-    go (some y) e = by (between (2 ^ 63) (2 ^ 63 - 1) y) refl e
+    go None e = never cc
+    go (Some y) e = by (between (2 ^ 63) (2 ^ 63 - 1) y) refl e
       where
         by : (b : Bool) → between (2 ^ 63) (2 ^ 63 - 1) y ≡ b → cond b (Is y) Bad ≡ Is z → bits64 (to_z w64 (of_z w64 z)) ≡ cond b (bits64 y) 0
         by true h e = let q : z ≡ y = cc in ap (λ (x : ℤ). bits64 (to_z w64 (of_z w64 x))) q ∙ ap bits64 (to_z-of_z w64 y (fits-64 y h))
@@ -120,8 +120,8 @@ unfolding integer_of bits_in
 integer-bad f e = go (int_of f) e
   where
     go : (o : Option ℤ) → whole o ≡ Bad → 0 ≡ integer_bits o
-    go none e = refl
-    go (some y) e = by (between (2 ^ 63) (2 ^ 63 - 1) y) e
+    go None e = refl
+    go (Some y) e = by (between (2 ^ 63) (2 ^ 63 - 1) y) e
       where
         by : (b : Bool) → cond b (Is y) Bad ≡ Bad → 0 ≡ cond b (bits64 y) 0
         by true e = never cc
@@ -132,8 +132,8 @@ unfolding bits64_of bits_in
 real-is f {b} e = go (unhex f) e
   where
     go : (o : Option Bytes) → eight_bytes o ≡ Bits b → b ≡ real_bits o
-    go none e = never cc
-    go (some bs) e = by (eqb (length bs) 8) e
+    go None e = never cc
+    go (Some bs) e = by (eqb (length bs) 8) e
       where
         by : (t : Bool) → cond t (Bits (from_big_endian 0 bs)) NoBits ≡ Bits b → b ≡ cond t (from_big_endian 0 bs) 0
         by true e = cc
@@ -144,8 +144,8 @@ unfolding bits64_of bits_in
 real-bad f e = go (unhex f) e
   where
     go : (o : Option Bytes) → eight_bytes o ≡ NoBits → 0 ≡ real_bits o
-    go none e = refl
-    go (some bs) e = by (eqb (length bs) 8) e
+    go None e = refl
+    go (Some bs) e = by (eqb (length bs) 8) e
       where
         by : (t : Bool) → cond t (Bits (from_big_endian 0 bs)) NoBits ≡ NoBits → 0 ≡ cond t (from_big_endian 0 bs) 0
         by true e = never cc

@@ -1,6 +1,5 @@
 -- Global and data lines, first half: conversions of elements, and constant arrays.
-use Rattle.std.specs.Prelude.{ℕ, zero, suc, ◌-◌, ◌^◌, max, Bool, true, false, ◌&&◌, cond, List, [], ◌∷◌, ◌++◌, ℤ, pos, negsuc, leb, ltb, eqb, Float}
-use Rattle.std.proofs.Math.Option.{Option, none, some}
+use Rattle.std.specs.Prelude.{ℕ, zero, suc, ◌-◌, ◌^◌, max, Bool, true, false, ◌&&◌, cond, List, [], ◌∷◌, ◌++◌, ℤ, pos, negsuc, leb, ltb, eqb, Float, Option, None, Some}
 use Rattle.std.specs.Float.{fin}
 use Rattle.semantics.specs.Text.{Bytes, any, or_else}
 use Rattle.semantics.specs.Tree.{Basic, Ty, Ex, ArrayEx, MaybeEx, El, Els, Ses, ConstVal, ElemKind, by_form}
@@ -103,7 +102,7 @@ pub record Filled : Type 0 where
   pub wildcard : Option ConstVal
 
 abbrev pub none_filled : Filled
-none_filled = record { next_index = 0; reach = 0; placements = []; wildcard = none }
+none_filled = record { next_index = 0; reach = 0; placements = []; wildcard = None }
 
 abbrev pub place_span : ConstVal → ℕ → ℕ → Filled → Filled
 place_span v l h f = record { next_index = suc h; reach = max f.reach (suc h); placements = f.placements ++ (record { low = l; high = h; value = v } ∷ []); wildcard = f.wildcard }
@@ -124,7 +123,7 @@ place_spans v [] f = ok f
 place_spans v (s ∷ ss) f = bind (place_indices v s.0 s.1 f) (place_spans v ss)
 
 abbrev pub set_wildcard : ConstVal → Filled → Filled
-set_wildcard v f = record { next_index = f.next_index; reach = f.reach; placements = f.placements; wildcard = some v }
+set_wildcard v f = record { next_index = f.next_index; reach = f.reach; placements = f.placements; wildcard = Some v }
 
 -- ---- selectors
 
@@ -209,9 +208,9 @@ kind_of_values vs = cond (any is_str vs) k_ptr (cond (any is_real vs) k_real k_w
 
 -- by the element type of the global's type, or else the literal's own, or else by the values
 abbrev pub literal_kind : Option Ty → Option Ty → Els → List ConstVal → ElemKind
-literal_kind (some t) u es vs = elem_kind t
-literal_kind none (some u) es vs = elem_kind u
-literal_kind none none es vs = cond (is_byte_literal es) k_byte (kind_of_values vs)
+literal_kind (Some t) u es vs = elem_kind t
+literal_kind None (Some u) es vs = elem_kind u
+literal_kind None None es vs = cond (is_byte_literal es) k_byte (kind_of_values vs)
 
 -- ---- a literal
 

@@ -1,6 +1,5 @@
 -- Constant lines, second half: the constants of a sheet in their passes.
-use Rattle.std.specs.Prelude.{ℕ, suc, Bool, ◌&&◌, cond, List, [], ◌∷◌, ◌++◌, map, pos, eqb}
-use Rattle.std.proofs.Math.Option.{Option, none, some}
+use Rattle.std.specs.Prelude.{ℕ, suc, Bool, ◌&&◌, cond, List, [], ◌∷◌, ◌++◌, map, pos, eqb, Option, None, Some}
 use Rattle.semantics.specs.Text.{Bytes, filter, is_none, holds_of}
 use Rattle.semantics.specs.Tree.{ConstVal, ConstDecl}
 use Rattle.semantics.specs.Sheet.{Module, Located, Source}
@@ -15,7 +14,7 @@ pub record IotaCounter : Type 0 where
   pub value : ℕ
 
 abbrev pub new_counter : IotaCounter
-new_counter = record { group = none; value = 0 }
+new_counter = record { group = None; value = 0 }
 
 abbrev pub same_group : ℕ → ℕ → Option (ℕ × ℕ) → Bool
 same_group line col g = holds_of (λ (p : ℕ × ℕ). eqb line p.0 && eqb col p.1) g
@@ -26,7 +25,7 @@ iota_at line col i = cond (same_group line col i.group) i.value 0
 
 -- the counter, moved on
 unfoldable pub iota_next : ℕ → ℕ → IotaCounter → IotaCounter
-iota_next line col i = record { group = some (line, col); value = suc (iota_at line col i) }
+iota_next line col i = record { group = Some (line, col); value = suc (iota_at line col i) }
 
 -- ---- a pass
 
@@ -42,22 +41,22 @@ pub record Folding : Type 0 where
 
 -- whether the sheet implements a module
 abbrev pub implements : Option Bytes → Option Module → Bool
-implements impl m = holds_of (λ (n : Module). same_option impl (some n.name)) m
+implements impl m = holds_of (λ (n : Module). same_option impl (Some n.name)) m
 
 -- a constant enters as NAME outside modules and as M->NAME in M; the `impl` module's names are also plain
 abbrev pub entries : Option Bytes → Option Module → Bytes → Option ConstVal → List Const
-entries impl none n v = record { key = plain n; value = v } ∷ []
-entries impl (some m) n v =
-    (cond (implements impl (some m)) (record { key = plain n; value = v } ∷ []) [])
+entries impl None n v = record { key = plain n; value = v } ∷ []
+entries impl (Some m) n v =
+    (cond (implements impl (Some m)) (record { key = plain n; value = v } ∷ []) [])
     ++ (record { key = qualified m.name n; value = v } ∷ [])
 
 abbrev pub entered : Option Bytes → Located ConstDecl → Result ConstVal → (List Const → Folding) → List Const → Folding
-entered impl c (ok v) go log = go (entries impl c.within c.it.name (some v) ++ log)
-entered impl c failed go log = go (entries impl c.within c.it.name none ++ log)
-entered impl c (refuse r) go log = record { log = log; refused = some (record { number = r; line = c.line }) }
+entered impl c (ok v) go log = go (entries impl c.within c.it.name (Some v) ++ log)
+entered impl c failed go log = go (entries impl c.within c.it.name None ++ log)
+entered impl c (refuse r) go log = record { log = log; refused = Some (record { number = r; line = c.line }) }
 
 abbrev pub pass : Option Bytes → List (Located ConstDecl) → IotaCounter → List Const → Folding
-pass impl [] i log = record { log = log; refused = none }
+pass impl [] i log = record { log = log; refused = None }
 pass impl (c ∷ cs) i log =
     let d = c.it in
     entered impl c (fold (record { log = log }) (pos (iota_at d.line d.col i)) d.value) (pass impl cs (iota_next d.line d.col i)) log
@@ -80,7 +79,7 @@ abbrev pub and_then : Folding → (List Const → Folding) → Folding
 and_then f go = cond (is_none f.refused) (go f.log) f
 
 abbrev pub passes_from : Option Bytes → List (List (Located ConstDecl)) → List Const → Folding
-passes_from impl [] log = record { log = log; refused = none }
+passes_from impl [] log = record { log = log; refused = None }
 passes_from impl (p ∷ ps) log = and_then (pass impl p new_counter log) (passes_from impl ps)
 
 unfoldable pub constants : Source → Folding

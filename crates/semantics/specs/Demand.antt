@@ -1,8 +1,7 @@
 -- Demand 3: what stands in each byte of the image and of the area, by place. Nothing before `Demand` itself speaks of a replay:
 -- a byte is found by the global, or by the array, in whose place it lies.
-use Rattle.std.specs.Prelude.{ℕ, zero, suc, ◌+◌, ◌-◌, ◌*◌, ◌/◌, ◌%◌, ◌^◌, ◌≤◌, ◌<◌, max, ◌≡◌, Bool, true, false, not, ◌&&◌, cond, List, [], ◌∷◌, ◌++◌, map, length, take, get_or, ℤ, pos, negsuc, leb, ltb, eqb}
-use Rattle.std.proofs.Math.Option.{Option, none, some}
-use Rattle.std.proofs.Math.ListN.{get_elem?}
+use Rattle.std.specs.Prelude.{ℕ, zero, suc, ◌+◌, ◌-◌, ◌*◌, ◌/◌, ◌%◌, ◌^◌, ◌≤◌, ◌<◌, max, ◌≡◌, Bool, true, false, not, ◌&&◌, cond, List, [], ◌∷◌, ◌++◌, map, length, take, get_or, ℤ, pos, negsuc, leb, ltb, eqb, Option, None, Some}
+use Rattle.std.specs.List.{slice_get}
 use Rattle.std.specs.Int.Signed.{le_z}
 use Rattle.semantics.specs.Text.{Bytes, same, any, all, is_none, big_endian}
 use Rattle.semantics.specs.Tree.{Basic, Ty, Ex, ArrayEx, Els, Fd, Case, AdtDecl, VarDecl, ConstVal, ElemKind, MaybeEx, by_form, elem_of}
@@ -243,7 +242,7 @@ Given ns a (lit s t es) =
 -- no other expression is an array; the elements are of the kind of the array type's elements
 pub record GivenBy (ns : Names) (declared : Option Ty) (e : Ex) (a : ConstArray) : Type 0 where
   pub values : by_form (λ (n : Bytes). ⊥) (λ (t : Ty). ⊥) (Given ns a) ⊥ e
-  pub kind : (u : Ty) → declared ≡ some u → a.kind ≡ elem_kind u
+  pub kind : (u : Ty) → declared ≡ Some u → a.kind ≡ elem_kind u
 
 -- ---- handles and the items of the sheet
 
@@ -256,8 +255,8 @@ abbrev pub put_after : Item → Option ℕ → Option ℕ
 put_after (values_item o vs) w = w
 put_after (str_item o s) w = w
 put_after (array_item o k n) w = w
-put_after (set_item o) w = some o
-put_after back_item w = none
+put_after (set_item o) w = Some o
+put_after back_item w = None
 
 -- what item k is put into, where the first is put into w
 abbrev pub put_in : Option ℕ → List Item → ℕ → Option ℕ
@@ -267,14 +266,14 @@ put_in w (i ∷ is) (suc k) = put_in (put_after i w) is k
 
 -- item k is x, and is put into the image, or into the array at a place of the image
 pub record Put (is : List Item) (k : ℕ) (w : Option ℕ) (x : Item) : Type 0 where
-  pub item : get_elem? is k ≡ some x
-  pub into : put_in none is k ≡ w
+  pub item : slice_get is k ≡ Some x
+  pub into : put_in None is k ≡ w
 
 -- item k is that of a string element at o of the part of the array at off
 abbrev pub StringAt : List Item → ℕ → ℕ → ℕ → ConstVal → Type 0
 StringAt is off k o (v_int x) = Unit {0}
 StringAt is off k o (v_real x) = Unit {0}
-StringAt is off k o (v_str s) = Put is k (some off) (str_item o s)
+StringAt is off k o (v_str s) = Put is k (Some off) (str_item o s)
 
 -- the items from k on are those of the strings among the elements of the array at off, the first of which lies at o of its part
 abbrev pub StringsAt : List Item → ℕ → ℕ → ℕ → List ConstVal → Type 0
@@ -292,14 +291,14 @@ ElementsAt is off k k_ptr vs = StringsAt is off k 0 vs
 abbrev pub ValueAt : List Item → ℕ → ℕ → ConstVal → Type 0
 ValueAt is off k (v_int x) = Unit {0}
 ValueAt is off k (v_real x) = Unit {0}
-ValueAt is off k (v_str s) = Put is k none (str_item off s)
+ValueAt is off k (v_str s) = Put is k None (str_item off s)
 
 -- a global's array: item k carries the array's length, and start is where its part starts
 abbrev pub ItemAt : List Item → ℕ → ℕ → ℕ → Init → Type 0
 ItemAt is off k start no_init = Unit {0}
 ItemAt is off k start (const_init v) = ValueAt is off k v
 ItemAt is off k start (array_init a) =
-    Put is k none (array_item off a.kind a.count) × (part_of is k ≡ start) × ElementsAt is off (suc (suc k)) a.kind a.values
+    Put is k None (array_item off a.kind a.count) × (part_of is k ≡ start) × ElementsAt is off (suc (suc k)) a.kind a.values
 ItemAt is off k start pending_init = Unit {0}
 
 abbrev pub ItemsAt : List Item → List LaidGlobal → Type 0
@@ -311,7 +310,7 @@ ItemsAt is (l ∷ ls) = ItemAt is l.offset l.item l.start l.global.first × Item
 -- x stands in a list
 pub record In {A : Type 0} (x : A) (xs : List A) : Type 0 where
   pub index : ℕ
-  pub there : get_elem? xs index ≡ some x
+  pub there : slice_get xs index ≡ Some x
 
 -- a global is one of the names of a `var` line among vs, has that line's type, and its first value is that of the line's own expression
 pub record DeclaredAt (ns : Names) (vs : List (Located VarDecl)) (d : Declared) : Type 0 where
@@ -335,8 +334,8 @@ abbrev pub filled_by : Bytes → Option (List Fd) → AdtDecl → Option (List F
 filled_by k o d = cond (seen k (records_of d)) (adt_fields d.pick) o
   where
     adt_fields : Option (List Case) → Option (List Fd)
-    adt_fields none = some d.fields
-    adt_fields (some ks) = none
+    adt_fields None = Some d.fields
+    adt_fields (Some ks) = None
 
 abbrev pub filling : Bytes → Option (List Fd) → List AdtDecl → Option (List Fd)
 filling k o [] = o
@@ -348,8 +347,8 @@ pub record Typed : Type 0 where
   pub ty : Ty
 
 abbrev pub typed_names : Option Ty → List Bytes → List Typed
-typed_names none ns = []
-typed_names (some t) ns = map (λ (n : Bytes). record { name = n; ty = t }) ns
+typed_names None ns = []
+typed_names (Some t) ns = map (λ (n : Bytes). record { name = n; ty = t }) ns
 
 -- the typed fields of an `adt` line, in order
 abbrev pub typed_fields : List Fd → List Typed
@@ -379,7 +378,7 @@ pub record Apart (fs : List Fd) (r : Recorded) : Type 0 where
 
 abbrev pub AllApart : List AdtDecl → List Recorded → Type 0
 AllApart ds [] = Unit {0}
-AllApart ds (r ∷ rs) = ((fs : List Fd) → filling r.key none ds ≡ some fs → Apart fs r) × AllApart ds rs
+AllApart ds (r ∷ rs) = ((fs : List Fd) → filling r.key None ds ≡ Some fs → Apart fs r) × AllApart ds rs
 
 -- ---- demand 3
 
@@ -401,10 +400,10 @@ pub record WholeImage (s : Source) (image area : Bytes) : Type 0 where
   -- and every name of these lines but `nil` is a global, in order
   pub names : map (λ (d : Declared). d.name) (source_declared s) ≡ concat_map (λ (v : Located VarDecl). laid_names v.it.names) (laid_vars s)
   -- a first value that is no array is what its expression folds to
-  pub folded : (t : Ty) (e : Ex) (v : ConstVal) → init_of (names_of s) t (some e) ≡ ok (const_init v) → fold_at0 (names_of s) e ≡ ok v
+  pub folded : (t : Ty) (e : Ex) (v : ConstVal) → init_of (names_of s) t (Some e) ≡ ok (const_init v) → fold_at0 (names_of s) e ≡ ok v
   -- one that is an array has its length, its elements' kind where the type declares one, and index by index the value last given, or
   -- else the filler
-  pub elements : (t : Ty) (e : Ex) (a : ConstArray) → init_of (names_of s) t (some e) ≡ ok (array_init a) → GivenBy (names_of s) (elem_of t) e a
+  pub elements : (t : Ty) (e : Ex) (a : ConstArray) → init_of (names_of s) t (Some e) ≡ ok (array_init a) → GivenBy (names_of s) (elem_of t) e a
   -- each record that an `adt` line fills
   pub records_apart : AllApart (recorded_adts s) (records (recorded_adts s))
 

@@ -1,6 +1,5 @@
 -- Constant lines, first half: folding an expression.
-use Rattle.std.specs.Prelude.{ℕ, suc, ◌-◌, ◌*◌, ◌%◌, ◌^◌, Bool, true, false, not, ◌&&◌, cond, List, [], ◌∷◌, ◌++◌, length, ℤ, pos, negsuc, neg_ℤ, ◌+ℤ◌, ◌*ℤ◌, leb, ltb, eqb, Float}
-use Rattle.std.proofs.Math.Option.{Option, none, some}
+use Rattle.std.specs.Prelude.{ℕ, suc, ◌-◌, ◌*◌, ◌%◌, ◌^◌, Bool, true, false, not, ◌&&◌, cond, List, [], ◌∷◌, ◌++◌, length, ℤ, pos, negsuc, neg_ℤ, ◌+ℤ◌, ◌*ℤ◌, leb, ltb, eqb, Float, Option, None, Some}
 use Rattle.std.specs.Int.Signed.{lt_z, le_z, quot_z, rem_z, shr_z}
 use Rattle.std.specs.Int.Bits.{bit_and, bit_or, bit_xor}
 use Rattle.std.specs.Float.Ieee as F
@@ -29,8 +28,8 @@ bind failed f = failed
 bind (refuse r) f = refuse r
 
 abbrev pub from_option : {A : Type 0} → Option A → Result A
-from_option none = failed
-from_option (some a) = ok a
+from_option None = failed
+from_option (Some a) = ok a
 
 -- ---- integers
 
@@ -206,10 +205,10 @@ cast_real string x = v_real x
 
 -- all else passes unchanged
 abbrev pub fold_cast : Option Basic → ConstVal → ConstVal
-fold_cast none v = v
-fold_cast (some b) (v_int x) = cast_int b x
-fold_cast (some b) (v_real x) = cast_real b x
-fold_cast (some b) (v_str s) = v_str s
+fold_cast None v = v
+fold_cast (Some b) (v_int x) = cast_int b x
+fold_cast (Some b) (v_real x) = cast_real b x
+fold_cast (Some b) (v_str s) = v_str s
 
 abbrev pub fold_len : ConstVal → Result ConstVal
 fold_len (v_int x) = failed
@@ -224,16 +223,16 @@ pub record Key : Type 0 where
   pub name : Bytes
 
 abbrev pub plain : Bytes → Key
-plain n = record { within = none; name = n }
+plain n = record { within = None; name = n }
 
 abbrev pub qualified : Bytes → Bytes → Key
-qualified m n = record { within = some m; name = n }
+qualified m n = record { within = Some m; name = n }
 
 abbrev pub same_option : Option Bytes → Option Bytes → Bool
-same_option none none = true
-same_option none (some y) = false
-same_option (some x) none = false
-same_option (some x) (some y) = same x y
+same_option None None = true
+same_option None (Some y) = false
+same_option (Some x) None = false
+same_option (Some x) (Some y) = same x y
 
 abbrev pub same_key : Key → Key → Bool
 same_key j k = same_option j.within k.within && same j.name k.name
@@ -249,12 +248,12 @@ pub record Names : Type 0 where
 
 -- the newest constant of a key
 abbrev pub look_up : Key → List Const → Option Const
-look_up k [] = none
-look_up k (c ∷ cs) = cond (same_key k c.key) (some c) (look_up k cs)
+look_up k [] = None
+look_up k (c ∷ cs) = cond (same_key k c.key) (Some c) (look_up k cs)
 
 abbrev pub value_of : Option Const → Option ConstVal
-value_of none = none
-value_of (some c) = c.value
+value_of None = None
+value_of (Some c) = c.value
 
 -- a bare name: an unknown one fails, and so does one of a constant that failed
 abbrev pub const_value : Names → Bytes → Result ConstVal

@@ -1,7 +1,6 @@
 -- The table of forms: which lines there are, and what each of them makes of its fields.
-use Rattle.std.specs.Prelude.{ℕ, zero, suc, ◌+◌, ◌-◌, ◌*◌, ◌%◌, ◌^◌, Bool, true, false, not, ◌&&◌, ◌||◌, cond, List, [], ◌∷◌, ◌++◌, map, length, drop, get_or, replicate, ℤ, pos, negsuc, leb, ltb, eqb, Float}
+use Rattle.std.specs.Prelude.{ℕ, zero, suc, ◌+◌, ◌-◌, ◌*◌, ◌%◌, ◌^◌, Bool, true, false, not, ◌&&◌, ◌||◌, cond, List, [], ◌∷◌, ◌++◌, map, length, drop, get_or, replicate, ℤ, pos, negsuc, leb, ltb, eqb, Float, Option, None, Some}
 use Prim.Native.String.{String}
-use Rattle.std.proofs.Math.Option.{Option, none, some}
 use Rattle.std.specs.Float.{binary64}
 use Rattle.std.specs.Float.Ieee.{of_bits}
 use Rattle.semantics.specs.Text.{Bytes, bytes, nat_of, int_of, unhex, from_big_endian, is_name, is_utf8, parts_at, fields_of, head_part, tail_parts, or_else, map_option, holds_of}
@@ -128,8 +127,8 @@ node_at ns r = get_or ns (r - 1) no_node
 
 -- and of 0 none
 abbrev pub perhaps_at : List Node → ℕ → Option Node
-perhaps_at ns zero = none
-perhaps_at ns (suc r) = some (node_at ns (suc r))
+perhaps_at ns zero = None
+perhaps_at ns (suc r) = Some (node_at ns (suc r))
 
 abbrev pub value : (a : Atom) → List Node → Bytes → Value a
 value name ns f = f
@@ -187,8 +186,8 @@ abbrev pub ex_of : Option Node → Option Ex
 ex_of o = map_option (λ (n : Node). n.ex) o
 
 abbrev pub maybe_ex : Option Node → MaybeEx
-maybe_ex none = absent
-maybe_ex (some n) = given n.ex
+maybe_ex None = absent
+maybe_ex (Some n) = given n.ex
 
 abbrev pub to_ty : Part
 to_ty = one (ref k_ty)
@@ -231,8 +230,8 @@ forms =
     ∷ form k_se "se" (to_ex ∷ perhaps_ex ∷ []) (λ l h. a_se l.ex (maybe_ex h))
     ∷ form k_fd "fd" (perhaps_ty ∷ many name ∷ []) (λ t ns. an_fd (ty_of t) ns)
     ∷ form k_pc "pc" (many name ∷ many (ref k_fd) ∷ []) (λ ts fs. a_case ts (fds_of fs))
-    ∷ form k_adt "adt" (one name ∷ many (ref k_fd) ∷ []) (λ n fs. an_adt n (fds_of fs) none)
-    ∷ form k_pick "pick" (one name ∷ many (ref k_fd) ∷ many (ref k_pc) ∷ []) (λ n fs ks. an_adt n (fds_of fs) (some (cases_of ks)))
+    ∷ form k_adt "adt" (one name ∷ many (ref k_fd) ∷ []) (λ n fs. an_adt n (fds_of fs) None)
+    ∷ form k_pick "pick" (one name ∷ many (ref k_fd) ∷ many (ref k_pc) ∷ []) (λ n fs ks. an_adt n (fds_of fs) (Some (cases_of ks)))
     ∷ form k_con "con" (one name ∷ one line_or_col ∷ one line_or_col ∷ to_ex ∷ []) (λ n l c e. a_const n l c e.ex)
     ∷ form k_var "var" (to_ty ∷ perhaps_ex ∷ many name ∷ []) (λ t e ns. a_var t.ty (ex_of e) ns)
     ∷ form k_mod "mod" (one name ∷ []) a_module

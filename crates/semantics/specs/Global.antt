@@ -1,6 +1,5 @@
 -- Global and data lines, second half: globals, their first values, and data items.
-use Rattle.std.specs.Prelude.{ℕ, ◌+◌, Bool, true, false, not, ◌||◌, cond, List, [], ◌∷◌, ◌++◌, map, ℤ, Float}
-use Rattle.std.proofs.Math.Option.{Option, none, some}
+use Rattle.std.specs.Prelude.{ℕ, ◌+◌, Bool, true, false, not, ◌||◌, cond, List, [], ◌∷◌, ◌++◌, map, ℤ, Float, Option, None, Some}
 use Rattle.semantics.specs.Text.{Bytes, bytes, same, filter, is_none}
 use Rattle.semantics.specs.Tree.{Ty, Ex, VarDecl, ConstVal, ElemKind, elem_of}
 use Rattle.semantics.specs.Tree.Ty.{basic, ptr, array, tuple}
@@ -84,8 +83,8 @@ first_value (refuse r) a = refuse r
 
 -- that of a `var` line of type t; of its types only an array type declares what the elements are
 abbrev pub init_of : Names → Ty → Option Ex → Result Init
-init_of ns t none = ok no_init
-init_of ns t (some e) = first_value (fold_at0 ns e) (const_array ns (elem_of t) e)
+init_of ns t None = ok no_init
+init_of ns t (Some e) = first_value (fold_at0 ns e) (const_array ns (elem_of t) e)
 
 abbrev pub init_items : ℕ → Ty → Init → List Item
 init_items off t no_init = []
@@ -131,8 +130,8 @@ none_of (x ∷ xs) = false
 
 -- a value that is folded where no name is laid out
 abbrev pub plain_init : Names → Option Ex → Result Init
-plain_init ns none = ok no_init
-plain_init ns (some e) = bind (fold_at0 ns e) (λ (v : ConstVal). ok (const_init v))
+plain_init ns None = ok no_init
+plain_init ns (Some e) = bind (fold_at0 ns e) (λ (v : ConstVal). ok (const_init v))
 
 -- a value is folded once per line, also where no name is laid out; arrays are looked at only for a name
 abbrev pub var_value : Names → VarDecl → Result Init
@@ -141,11 +140,11 @@ var_value ns d = cond (none_of (laid_names d.names)) (plain_init ns d.init) (ini
 abbrev pub refused_by : {A : Type 0} → ℕ → Result A → Option Refusal → Option Refusal
 refused_by k (ok a) o = o
 refused_by k failed o = o
-refused_by k (refuse r) o = some (record { number = r; line = k })
+refused_by k (refuse r) o = Some (record { number = r; line = k })
 
 -- the first line that is refused
 abbrev pub vars_refused : Names → List (Located VarDecl) → Option Refusal
-vars_refused ns [] = none
+vars_refused ns [] = None
 vars_refused ns (v ∷ vs) = refused_by v.line (var_value ns v.it) (vars_refused ns vs)
 
 -- ---- places
@@ -173,8 +172,8 @@ abbrev pub no_globals : Globals
 no_globals = record { places = []; end = 0; pends = []; items = [] }
 
 abbrev pub place_of : Bytes → List Global → Option ℕ
-place_of n [] = none
-place_of n (g ∷ gs) = cond (same n g.name) (some g.offset) (place_of n gs)
+place_of n [] = None
+place_of n (g ∷ gs) = cond (same n g.name) (Some g.offset) (place_of n gs)
 
 abbrev pub pend_of : Bytes → Init → List Bytes
 pend_of n no_init = []
@@ -195,8 +194,8 @@ new_place d g =
 
 -- a name met again keeps its place
 abbrev pub declare_at : Declared → Option ℕ → Globals → Globals
-declare_at d (some off) g = with_first_value off d g
-declare_at d none g = with_first_value (new_offset d.ty g.end) d (new_place d g)
+declare_at d (Some off) g = with_first_value off d g
+declare_at d None g = with_first_value (new_offset d.ty g.end) d (new_place d g)
 
 abbrev pub globals_from : Globals → List Declared → Globals
 globals_from g [] = g

@@ -1,6 +1,5 @@
 -- The image of the module's data, and the area its arrays are filled in: zeros, then each item in order.
-use Rattle.std.specs.Prelude.{ℕ, suc, ◌+◌, ◌-◌, ◌*◌, cond, List, [], ◌∷◌, ◌++◌, length, take, drop, replicate, ℤ, eqb}
-use Rattle.std.proofs.Math.Option.{Option, none, some}
+use Rattle.std.specs.Prelude.{ℕ, suc, ◌+◌, ◌-◌, ◌*◌, cond, List, [], ◌∷◌, ◌++◌, length, take, drop, replicate, ℤ, eqb, Option, None, Some}
 use Rattle.semantics.specs.Text.{Bytes, big_endian}
 use Rattle.semantics.specs.Tree.{ElemKind}
 use Rattle.semantics.specs.Sheet.{concat_map}
@@ -78,8 +77,8 @@ start_of off (p ∷ ps) = cond (eqb off p.place) p.start (start_of off ps)
 
 -- bytes laid at an offset of the image, or of the part that is written to
 abbrev pub lay : ℕ → Bytes → Option ℕ → Replay → Replay
-lay off ys none r = record { item = suc r.item; image = written r.image off ys; area = r.area; end = r.end; parts = r.parts; inside = none }
-lay off ys (some start) r = record { item = suc r.item; image = r.image; area = written r.area (start + off) ys; end = r.end; parts = r.parts; inside = some start }
+lay off ys None r = record { item = suc r.item; image = written r.image off ys; area = r.area; end = r.end; parts = r.parts; inside = None }
+lay off ys (Some start) r = record { item = suc r.item; image = r.image; area = written r.area (start + off) ys; end = r.end; parts = r.parts; inside = Some start }
 
 abbrev pub with_part : ℕ → ℕ → Replay → Replay
 with_part off end r = record { item = r.item; image = r.image; area = r.area; end = end; parts = record { place = off; start = part_at r.end } ∷ r.parts; inside = r.inside }
@@ -92,8 +91,8 @@ abbrev pub replay_item : Item → Replay → Replay
 replay_item (values_item o vs) r = lay o (values_bytes vs) r.inside r
 replay_item (str_item o s) r = lay o (handle r.item) r.inside r
 replay_item (array_item o k n) r = lay o (handle r.item) r.inside (with_part o (end_after r.end (array_item o k n)) r)
-replay_item (set_item o) r = moved (some (start_of o r.parts)) r
-replay_item back_item r = moved none r
+replay_item (set_item o) r = moved (Some (start_of o r.parts)) r
+replay_item back_item r = moved None r
 
 abbrev pub replay_all : List Item → Replay → Replay
 replay_all [] r = r
@@ -101,7 +100,7 @@ replay_all (i ∷ is) r = replay_all is (replay_item i r)
 
 -- over zeros: an image up to the end of allocation, which grows with a write past it, and an area for all parts
 abbrev pub replay : ℕ → List Item → Replay
-replay end is = replay_all is (record { item = 0; image = replicate end 0; area = replicate (area_after 0 is) 0; end = 0; parts = []; inside = none })
+replay end is = replay_all is (record { item = 0; image = replicate end 0; area = replicate (area_after 0 is) 0; end = 0; parts = []; inside = None })
 
 pub record Memory : Type 0 where
   pub image : Bytes

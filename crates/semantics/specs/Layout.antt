@@ -1,6 +1,5 @@
 -- Record lines: where fields lie, a record's size and its pointer map, and the records of a sheet.
-use Rattle.std.specs.Prelude.{ℕ, zero, suc, ◌+◌, ◌-◌, ◌*◌, ◌/◌, ◌^◌, max, Bool, true, false, ◌&&◌, cond, List, [], ◌∷◌, ◌++◌, map, length, ℤ, pos, negsuc, leb, eqb}
-use Rattle.std.proofs.Math.Option.{Option, none, some}
+use Rattle.std.specs.Prelude.{ℕ, zero, suc, ◌+◌, ◌-◌, ◌*◌, ◌/◌, ◌^◌, max, Bool, true, false, ◌&&◌, cond, List, [], ◌∷◌, ◌++◌, map, length, ℤ, pos, negsuc, leb, eqb, Option, None, Some}
 use Rattle.std.specs.Int.Count.{ones_in}
 use Rattle.semantics.specs.Text.{Bytes, same, any}
 use Rattle.semantics.specs.Tree.{Basic, Ty, Tys, Fd, Case, AdtDecl, Shape}
@@ -132,8 +131,8 @@ place_names t off (n ∷ ns) = with_field (record { name = n; ty = t; offset = o
 
 -- alignment is done once, before the first name, also where there is none; an untyped line is skipped
 abbrev pub place_line : Option Ty → List Bytes → ℕ → Placing
-place_line none ns off = record { placed = []; end = off }
-place_line (some t) ns off = place_names t (align_up (align_of t) off) ns
+place_line None ns off = record { placed = []; end = off }
+place_line (Some t) ns off = place_names t (align_up (align_of t) off) ns
 
 abbrev pub joined : Placing → Placing → Placing
 joined r s = record { placed = r.placed ++ s.placed; end = s.end }
@@ -205,8 +204,8 @@ abbrev pub without_pick : Bytes → List Fd → Recorded
 without_pick t fs = let ps = (place 0 fs).placed in plain_record t (shape_of 0 ps) ps
 
 abbrev pub records_for : Bytes → List Fd → Option (List Case) → List Recorded
-records_for t fs none = without_pick t fs ∷ []
-records_for t fs (some ks) = with_pick t fs ks
+records_for t fs None = without_pick t fs ∷ []
+records_for t fs (Some ks) = with_pick t fs ks
 
 abbrev pub records_of : AdtDecl → List Recorded
 records_of d = records_for d.name d.fields d.pick

@@ -1,6 +1,5 @@
 -- Every line of the listing.
-use Rattle.std.specs.Prelude.{ℕ, suc, Bool, true, false, not, cond, List, [], ◌∷◌, ◌++◌, map, length, Float}
-use Rattle.std.proofs.Math.Option.{Option, none, some}
+use Rattle.std.specs.Prelude.{ℕ, suc, Bool, true, false, not, cond, List, [], ◌∷◌, ◌++◌, map, length, Float, Option, None, Some}
 use Rattle.semantics.specs.Text.{Bytes, bytes, any, filter, is_none, decimal, decimalℤ, hex_of}
 use Rattle.semantics.specs.Tree.{ConstVal, Shape, TypeKey}
 use Rattle.semantics.specs.Tree.ConstVal.{v_int, v_real, v_str}
@@ -42,14 +41,14 @@ abbrev pub key_text : Key → Bytes
 key_text k = prefix k.within ++ k.name
   where
     prefix : Option Bytes → Bytes
-    prefix none = []
-    prefix (some m) = m ++ bytes "->"
+    prefix None = []
+    prefix (Some m) = m ++ bytes "->"
 
 abbrev pub value_fields : Option ConstVal → List Bytes
-value_fields none = bytes "x" ∷ []
-value_fields (some (v_int z)) = bytes "i" ∷ decimalℤ z ∷ []
-value_fields (some (v_real x)) = bytes "r" ∷ real_text x ∷ []
-value_fields (some (v_str s)) = bytes "s" ∷ hex_of s ∷ []
+value_fields None = bytes "x" ∷ []
+value_fields (Some (v_int z)) = bytes "i" ∷ decimalℤ z ∷ []
+value_fields (Some (v_real x)) = bytes "r" ∷ real_text x ∷ []
+value_fields (Some (v_str s)) = bytes "s" ∷ hex_of s ∷ []
 
 -- each key of a log, newest first, once: in the order of first insertion
 abbrev pub keys_in : List Const → List Key

@@ -1,6 +1,5 @@
 -- The thirteen refusals in their order, and the outcome of compiling a sheet and of replaying its items.
-use Rattle.std.specs.Prelude.{ℕ, suc, ◌+◌, ◌-◌, max, Bool, true, false, not, ◌&&◌, ◌||◌, cond, List, [], ◌∷◌, ◌++◌, length, get_or, replicate, leb, ltb, eqb}
-use Rattle.std.proofs.Math.Option.{Option, none, some}
+use Rattle.std.specs.Prelude.{ℕ, suc, ◌+◌, ◌-◌, max, Bool, true, false, not, ◌&&◌, ◌||◌, cond, List, [], ◌∷◌, ◌++◌, length, get_or, replicate, leb, ltb, eqb, Option, None, Some}
 use Rattle.semantics.specs.Text.{Bytes, bytes, any, line_parts, decimal, hex_of}
 use Rattle.semantics.specs.Tree.{Case, AdtDecl, VarDecl, Declares, Node}
 use Rattle.semantics.specs.Form.{Kind, Atom, Part, Read, no_row, letter, same_kind, ones, number_of, formed}
@@ -74,12 +73,12 @@ good_ref ls k used r =
 
 -- the lines used after a line's references, none where one is bad
 abbrev pub use_all : List Read → ℕ → List Ref → List ℕ → Option (List ℕ)
-use_all ls k [] used = some used
-use_all ls k (r ∷ rs) used = cond (good_ref ls k used r) (use_all ls k rs (r.line ∷ used)) none
+use_all ls k [] used = Some used
+use_all ls k (r ∷ rs) used = cond (good_ref ls k used r) (use_all ls k rs (r.line ∷ used)) None
 
 abbrev pub or_bad : ℕ → (List ℕ → ℕ) → Option (List ℕ) → ℕ
-or_bad k go none = k
-or_bad k go (some used) = go used
+or_bad k go None = k
+or_bad k go (Some used) = go used
 
 unfoldable pub bad_ref_from : List Read → ℕ → List ℕ → List Read → ℕ
 bad_ref_from ls k used [] = 0
@@ -129,8 +128,8 @@ sum_of f [] = 0
 sum_of f (x ∷ xs) = f x + sum_of f xs
 
 abbrev pub record_count : Option (List Case) → ℕ
-record_count none = 1
-record_count (some ks) = 1 + sum_of (λ (k : Case). length k.tags) ks
+record_count None = 1
+record_count (Some ks) = 1 + sum_of (λ (k : Case). length k.tags) ks
 
 abbrev pub counted : Declares → Counts → Counts
 counted d c = record {
@@ -169,12 +168,12 @@ abbrev pub listed_in : ℕ → Bytes → Outcome
 listed_in n out = refuse_if 13 (ltb n (length out)) (listed out)
 
 abbrev pub or_refused : Option Refusal → Option Refusal → Option Refusal
-or_refused none o = o
-or_refused (some r) o = some r
+or_refused None o = o
+or_refused (Some r) o = Some r
 
 abbrev pub refuse_work : Option Refusal → Outcome → Outcome
-refuse_work none o = o
-refuse_work (some r) o = refused r.number r.line
+refuse_work None o = o
+refuse_work (Some r) o = refused r.number r.line
 
 -- 4 to 7
 abbrev pub ruled : List Read → Outcome → Outcome

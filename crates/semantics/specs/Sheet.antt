@@ -1,6 +1,5 @@
 -- The declarations of a sheet, in its order; records, constants and `var` lines with their line and the module that they stand in.
-use Rattle.std.specs.Prelude.{ℕ, suc, cond, List, [], ◌∷◌, ◌++◌, map}
-use Rattle.std.proofs.Math.Option.{Option, none, some}
+use Rattle.std.specs.Prelude.{ℕ, suc, cond, List, [], ◌∷◌, ◌++◌, map, Option, None, Some}
 use Rattle.semantics.specs.Text.{Bytes, line_parts}
 use Rattle.semantics.specs.Tree.{AdtDecl, ConstDecl, VarDecl, Shape, TypeKey, Declares, Node}
 use Rattle.semantics.specs.Form.{Read, read_of, node_of}
@@ -29,11 +28,11 @@ pub record Located (A : Type 0) : Type 0 where
 
 abbrev pub opened : ℕ → List Bytes → Option Module → Option Module
 opened k [] o = o
-opened k (n ∷ ns) o = some (record { name = n; line = k })
+opened k (n ∷ ns) o = Some (record { name = n; line = k })
 
 -- the module that is open behind line k
 abbrev pub open_after : ℕ → Declares → Option Module → Option Module
-open_after k d o = cond d.closes none (opened k d.opens o)
+open_after k d o = cond d.closes None (opened k d.opens o)
 
 -- what lines declare, from line k on, where the module o is open
 abbrev pub located_from : {A : Type 0} → (Declares → List A) → ℕ → Option Module → List Node → List (Located A)
@@ -42,7 +41,7 @@ located_from {A} f k o (n ∷ ns) =
     map (λ (a : A). record { line = k; within = o; it = a }) (f n.declares) ++ located_from f (suc k) (open_after k n.declares o) ns
 
 abbrev pub located : {A : Type 0} → (Declares → List A) → List Node → List (Located A)
-located f ns = located_from f 1 none ns
+located f ns = located_from f 1 None ns
 
 abbrev pub concat_map : {A B : Type 0} → (A → List B) → List A → List B
 concat_map f [] = []
@@ -52,8 +51,8 @@ abbrev pub declared : {A : Type 0} → (Declares → List A) → List Node → L
 declared f ns = concat_map (λ (n : Node). f n.declares) ns
 
 abbrev pub first_of : {A : Type 0} → List A → Option A
-first_of [] = none
-first_of (x ∷ xs) = some x
+first_of [] = None
+first_of (x ∷ xs) = Some x
 
 -- a sheet's declarations
 pub record Source : Type 0 where

@@ -1,8 +1,7 @@
 -- Bytes as text: parts between separators, decimal and hexadecimal numbers, names, UTF-8.
-use Rattle.std.specs.Prelude.{ℕ, zero, suc, ◌+◌, ◌-◌, ◌*◌, ◌/◌, ◌%◌, ◌^◌, Bool, true, false, ◌&&◌, ◌||◌, cond, List, [], ◌∷◌, length, get_or, ℤ, pos, negsuc, leb, ltb, eqb}
+use Rattle.std.specs.Prelude.{ℕ, zero, suc, ◌+◌, ◌-◌, ◌*◌, ◌/◌, ◌%◌, ◌^◌, Bool, true, false, ◌&&◌, ◌||◌, cond, List, [], ◌∷◌, length, get_or, ℤ, pos, negsuc, leb, ltb, eqb, Option, None, Some}
 use Prim.Native.String.{String, [] as empty, ◌∷◌ as character}
 use Prim.Native.Char.{code}
-use Rattle.std.proofs.Math.Option.{Option, none, some}
 
 abbrev pub Bytes : Type 0
 Bytes = List ℕ
@@ -30,22 +29,22 @@ abbrev pub filter {ℓ} : {A : Type ℓ} → (A → Bool) → List A → List A
 filter p [] = []
 filter p (x ∷ xs) = cond (p x) (x ∷ filter p xs) (filter p xs)
 
-abbrev pub is_none {ℓ} : {A : Type ℓ} → Option A → Bool
-is_none none = true
-is_none (some a) = false
+abbrev pub is_none : {A : Type 0} → Option A → Bool
+is_none None = true
+is_none (Some a) = false
 
-abbrev pub or_else {ℓ} : {A : Type ℓ} → A → Option A → A
-or_else d none = d
-or_else d (some a) = a
+abbrev pub or_else : {A : Type 0} → A → Option A → A
+or_else d None = d
+or_else d (Some a) = a
 
-abbrev pub map_option {ℓ κ} : {A : Type ℓ} {B : Type κ} → (A → B) → Option A → Option B
-map_option f none = none
-map_option f (some a) = some (f a)
+abbrev pub map_option : {A B : Type 0} → (A → B) → Option A → Option B
+map_option f None = None
+map_option f (Some a) = Some (f a)
 
 -- whether there is a value, and it passes a test
-abbrev pub holds_of {ℓ} : {A : Type ℓ} → (A → Bool) → Option A → Bool
-holds_of p none = false
-holds_of p (some a) = p a
+abbrev pub holds_of : {A : Type 0} → (A → Bool) → Option A → Bool
+holds_of p None = false
+holds_of p (Some a) = p a
 
 -- ---- parts
 
@@ -115,23 +114,23 @@ is_digit b = in_range 48 57 b
 
 -- the number that decimal digits write behind the digits of n, none where a byte is no digit
 abbrev pub digits_value : ℕ → Bytes → Option ℕ
-digits_value n [] = some n
-digits_value n (b ∷ bs) = cond (is_digit b) (digits_value (n * 10 + (b - 48)) bs) none
+digits_value n [] = Some n
+digits_value n (b ∷ bs) = cond (is_digit b) (digits_value (n * 10 + (b - 48)) bs) None
 
 -- a decimal number without leading zeros
 unfoldable pub nat_of : Bytes → Option ℕ
-nat_of [] = none
+nat_of [] = None
 nat_of (b ∷ []) = digits_value 0 (b ∷ [])
-nat_of (b ∷ (c ∷ bs)) = cond (eqb b 48) none (digits_value 0 (b ∷ (c ∷ bs)))
+nat_of (b ∷ (c ∷ bs)) = cond (eqb b 48) None (digits_value 0 (b ∷ (c ∷ bs)))
 
 abbrev pub negative : Option ℕ → Option ℤ
-negative none = none
-negative (some zero) = none
-negative (some (suc n)) = some (negsuc n)
+negative None = None
+negative (Some zero) = None
+negative (Some (suc n)) = Some (negsuc n)
 
 -- an integer: `-` stands only before a nonzero number
 unfoldable pub int_of : Bytes → Option ℤ
-int_of [] = none
+int_of [] = None
 int_of (b ∷ bs) = cond (eqb b 45) (negative (nat_of bs)) (map_option pos (nat_of (b ∷ bs)))
 
 -- The decimal digits of n in front of acc, at most k of them: n has no more than n + 1.
@@ -154,22 +153,22 @@ abbrev pub hex_digit : ℕ → ℕ
 hex_digit d = cond (ltb d 10) (48 + d) (55 + d)
 
 abbrev pub hex_value : ℕ → Option ℕ
-hex_value b = cond (is_digit b) (some (b - 48)) (cond (in_range 65 70 b) (some (b - 55)) none)
+hex_value b = cond (is_digit b) (Some (b - 48)) (cond (in_range 65 70 b) (Some (b - 55)) None)
 
 unfoldable pub hex_of : Bytes → Bytes
 hex_of [] = []
 hex_of (b ∷ bs) = hex_digit (b / 16) ∷ (hex_digit (b % 16) ∷ hex_of bs)
 
 abbrev pub hex_pair : Option ℕ → Option ℕ → Option Bytes → Option Bytes
-hex_pair none l r = none
-hex_pair (some h) none r = none
-hex_pair (some h) (some l) none = none
-hex_pair (some h) (some l) (some bs) = some ((h * 16 + l) ∷ bs)
+hex_pair None l r = None
+hex_pair (Some h) None r = None
+hex_pair (Some h) (Some l) None = None
+hex_pair (Some h) (Some l) (Some bs) = Some ((h * 16 + l) ∷ bs)
 
 -- the bytes that pairs of digits write
 unfoldable pub unhex : Bytes → Option Bytes
-unhex [] = some []
-unhex (h ∷ []) = none
+unhex [] = Some []
+unhex (h ∷ []) = None
 unhex (h ∷ (l ∷ ds)) = hex_pair (hex_value h) (hex_value l) (unhex ds)
 
 -- n's k lowest bytes, the highest first
@@ -201,22 +200,22 @@ Lead = ℕ × ℕ × ℕ
 
 abbrev pub lead : ℕ → Option Lead
 lead b =
-    cond (in_range 0x00 0x7F b) (some (0, 0, 0))
-    (cond (in_range 0xC2 0xDF b) (some (1, 0x80, 0xBF))
-    (cond (in_range 0xE0 0xE0 b) (some (2, 0xA0, 0xBF))
-    (cond (in_range 0xED 0xED b) (some (2, 0x80, 0x9F))
-    (cond (in_range 0xE1 0xEF b) (some (2, 0x80, 0xBF))
-    (cond (in_range 0xF0 0xF0 b) (some (3, 0x90, 0xBF))
-    (cond (in_range 0xF1 0xF3 b) (some (3, 0x80, 0xBF))
-    (cond (in_range 0xF4 0xF4 b) (some (3, 0x80, 0x8F)) none)))))))
+    cond (in_range 0x00 0x7F b) (Some (0, 0, 0))
+    (cond (in_range 0xC2 0xDF b) (Some (1, 0x80, 0xBF))
+    (cond (in_range 0xE0 0xE0 b) (Some (2, 0xA0, 0xBF))
+    (cond (in_range 0xED 0xED b) (Some (2, 0x80, 0x9F))
+    (cond (in_range 0xE1 0xEF b) (Some (2, 0x80, 0xBF))
+    (cond (in_range 0xF0 0xF0 b) (Some (3, 0x90, 0xBF))
+    (cond (in_range 0xF1 0xF3 b) (Some (3, 0x80, 0xBF))
+    (cond (in_range 0xF4 0xF4 b) (Some (3, 0x80, 0x8F)) None)))))))
 
 -- the state behind one more byte, none where it is a fault
 abbrev pub after_byte : ℕ → Lead → Option Lead
-after_byte b l = cond (eqb l.0 0) (lead b) (cond (in_range l.1 l.2 b) (some (l.0 - 1, 0x80, 0xBF)) none)
+after_byte b l = cond (eqb l.0 0) (lead b) (cond (in_range l.1 l.2 b) (Some (l.0 - 1, 0x80, 0xBF)) None)
 
 abbrev pub follows : ℕ → Option Lead → Option Lead
-follows b none = none
-follows b (some l) = after_byte b l
+follows b None = None
+follows b (Some l) = after_byte b l
 
 -- whether bytes go on from a state, none after a fault, to the end of a character
 abbrev pub goes_on : Option Lead → Bytes → Bool
@@ -224,7 +223,7 @@ goes_on s [] = holds_of (λ (l : Lead). eqb l.0 0) s
 goes_on s (b ∷ bs) = goes_on (follows b s) bs
 
 unfoldable pub is_utf8 : Bytes → Bool
-is_utf8 bs = goes_on (some (0, 0, 0)) bs
+is_utf8 bs = goes_on (Some (0, 0, 0)) bs
 
 -- how many characters UTF-8 text has: its bytes other than 80 to BF
 unfoldable pub characters : Bytes → ℕ

@@ -1,6 +1,5 @@
 -- What lines say, with each reference resolved to what it names: types, expressions, elements, fields, cases, declarations.
-use Rattle.std.specs.Prelude.{ℕ, Bool, true, false, List, [], ◌∷◌, ℤ, Float}
-use Rattle.std.proofs.Math.Option.{Option, none, some}
+use Rattle.std.specs.Prelude.{ℕ, Bool, true, false, List, [], ◌∷◌, ℤ, Float, Option, None, Some}
 use Rattle.semantics.specs.Text.{Bytes}
 
 -- ---- types
@@ -22,17 +21,17 @@ mutual
 
 -- the basic type that a type is
 abbrev pub basic_of : Ty → Option Basic
-basic_of (basic b) = some b
-basic_of ptr = none
-basic_of (array t) = none
-basic_of (tuple ts) = none
+basic_of (basic b) = Some b
+basic_of ptr = None
+basic_of (array t) = None
+basic_of (tuple ts) = None
 
 -- an array type's element type
 abbrev pub elem_of : Ty → Option Ty
-elem_of (basic b) = none
-elem_of ptr = none
-elem_of (array t) = some t
-elem_of (tuple ts) = none
+elem_of (basic b) = None
+elem_of ptr = None
+elem_of (array t) = Some t
+elem_of (tuple ts) = None
 
 -- ---- expressions
 
@@ -185,7 +184,7 @@ pub record Node : Type 0 where
   pub declares : Declares
 
 abbrev pub no_fd : Fd
-no_fd = record { ty = none; names = [] }
+no_fd = record { ty = None; names = [] }
 
 abbrev pub no_case : Case
 no_case = record { tags = []; fields = [] }

@@ -2,7 +2,7 @@
 use mathlib.Core.Path.{◌≡◌, refl, sym, ap, ◌∙◌}
 use mathlib.Core.Bool.{Bool, true, false, ◌||◌}
 use mathlib.Core.List.{List, [], ◌∷◌, ◌++◌, map}
-use mathlib.Core.Option.{none, some}
+use Rattle.std.specs.Prelude.{None, Some}
 use Prim.Native.Nat.{ℕ, zero, suc, ◌+◌, ◌-◌, ◌≤◌, ◌<◌}
 use native.Mathlib.Omega.{arith}
 use lib.Dec.{eqb}
@@ -81,7 +81,7 @@ module _ (s t : List ℕ) (n r : ℕ) (c : Checked s t n) (first : 0 < r) (last 
   unfolding forms
   pick-line e = record { checked = c; first = first; last = last; kind = kind-of 27 e }
 
-pub adt-plain : (s t : List ℕ) (n r : ℕ) → RecordLine s t n r → form_at t (r - 1) ≡ 26 → (decl_at s r).pick ≡ none
+pub adt-plain : (s t : List ℕ) (n r : ℕ) → RecordLine s t n r → form_at t (r - 1) ≡ 26 → (decl_at s r).pick ≡ None
 unfolding forms
 adt-plain s t n r l e = ap (λ (d : AdtDecl). d.pick) (decl-of s t n r l.checked l.first l.last 26 e)
 
@@ -139,11 +139,11 @@ module _ (s t : List ℕ) (n r : ℕ) (l : PickLine s t n r) where
       let e : get_or (drop (common + 2) parts) 0 [] ≡ get_or parts (common + 2) [] = get_or-drop (common + 2) parts 0 [] ∙ rw z in
       (rw e at g.0, λ j k. let y : common + 3 + j ≡ common + 2 + suc j = omega arith in rw (y, ← get_or-drop (common + 2) parts (suc j) []) (g.1 j (rw e k)))
 
-  pub pick_some : (decl_at s r).pick ≡ some (cases_at s r)
+  pub pick_some : (decl_at s r).pick ≡ Some (cases_at s r)
   unfolding cases_at forms
   pick_some = from (ap (λ (d : AdtDecl). d.pick) (decl-of s t n r l.checked l.first l.last 27 form-pick))
     where
-      from : {ks : List Case} → (decl_at s r).pick ≡ some ks → (decl_at s r).pick ≡ some (cases_in (decl_at s r))
+      from : {ks : List Case} → (decl_at s r).pick ≡ Some ks → (decl_at s r).pick ≡ Some (cases_in (decl_at s r))
       from e = rw e
 
   cases-are : cases_at s r ≡ cases_of (values (ref k_pc) (nodes_in s) (number_of (get_or parts (common + 2) [])) (drop (common + 3) parts))

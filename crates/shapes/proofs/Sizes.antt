@@ -1,7 +1,7 @@
 -- Sizes of records: of an `adt` line's, of the variants of a `pick` line, and of all of them together.
 use mathlib.Core.Path.{◌≡◌, refl, sym, ap, ◌∙◌}
 use mathlib.Core.List.{List, [], ◌∷◌, ◌++◌, map}
-use mathlib.Core.Option.{none, some}
+use Rattle.std.specs.Prelude.{None, Some}
 use Prim.Native.Nat.{ℕ, ◌+◌, ◌-◌, ◌≤◌, ◌<◌, max}
 use native.Mathlib.Nat.{le_refl}
 use native.Mathlib.Numerals.{add-one}
@@ -20,10 +20,10 @@ use Rattle.shapes.proofs.Cases.{adt-plain, pick_some}
 
 -- ---- the shape of T
 
-plain-shape : (d : AdtDecl) → d.pick ≡ none → first_shape (records_of d) ≡ shape_of 0 (place 0 d.fields).placed
+plain-shape : (d : AdtDecl) → d.pick ≡ None → first_shape (records_of d) ≡ shape_of 0 (place 0 d.fields).placed
 plain-shape d e = rw e
 
-picked-shape : (d : AdtDecl) (ks : List Case) → d.pick ≡ some ks
+picked-shape : (d : AdtDecl) (ks : List Case) → d.pick ≡ Some ks
     → first_shape (records_of d) ≡ pick_shape (shape_of behind_tag (place behind_tag d.fields).placed) (map (variant_shape d.fields) ks)
 picked-shape d ks e = rw e
 

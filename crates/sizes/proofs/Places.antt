@@ -2,7 +2,7 @@
 use mathlib.Core.Path.{◌≡◌, refl, sym, ap, ◌∙◌}
 use mathlib.Core.Bool.{Bool, true, false}
 use mathlib.Core.List.{List, [], ◌∷◌, ◌++◌}
-use mathlib.Core.Option.{none, some}
+use Rattle.std.specs.Prelude.{None, Some}
 use Prim.Native.Nat.{ℕ, zero, suc, ◌+◌, ◌-◌, ◌*◌, ◌≤◌, ◌<◌, max}
 use native.Mathlib.Nat.{mul-le-mul_left, mul-le-mul_right, suc-mul}
 use native.Mathlib.Numerals.{add-one}
@@ -58,7 +58,7 @@ pub list-furthest : (size at names f : ℕ) (pointer : Bool) {a : List Field} {e
 list-furthest size at names f pointer h k = k ∙ rw (h, line-take size pointer at names)
 
 pub line-placed : (p q : Reached) (size align names at : ℕ) (pointer : Bool) → at ≡ align_up align p.end → q.end ≡ at + names * size → q.furthest ≡ furthest_in p.furthest (line_fields_from at size pointer names)
-    → (t : Ty) (ns : List Bytes) → Measures t size align → names ≡ length ns → LinePlaced (some t) ns p q
+    → (t : Ty) (ns : List Bytes) → Measures t size align → names ≡ length ns → LinePlaced (Some t) ns p q
 line-placed p q size align names at pointer ha he hf t ns m hn = record {
   end = rw (names-end t (align_up (align_of t) p.end) ns, he, ha, hn, m.whole, m.step);
   furthest = hf ∙ rw (← names-furthest t pointer (align_up (align_of t) p.end) p.furthest ns, ha, hn, m.whole, m.step);
@@ -100,7 +100,7 @@ module _ (s t : List ℕ) (n r : ℕ) (l : FieldLine s t n r) where
             let w = given-ref (reads_in s) (r - 1 + 1) 75 (number_of (get_or (read_at s (r - 1)).fields 0 [])) parts-good.0.fine (eqb-false (number_of (get_or (read_at s (r - 1)).fields 0 [])) 0 e) in
             omega (arith, w.0, l.last, l.checked.whole.lined.few)
 
-    pub untyped : v ≡ 0 → (fd_at s r).ty ≡ none
+    pub untyped : v ≡ 0 → (fd_at s r).ty ≡ None
     untyped z = rw (fd_is, sym type-number ∙ z)
 
     pub placed-untyped : v ≡ 0 → (p : Reached) → LinePlaced (fd_at s r).ty (fd_at s r).names p p
@@ -112,10 +112,10 @@ module _ (s t : List ℕ) (n r : ℕ) (l : FieldLine s t n r) where
           let w = given-ref (reads_in s) (r - 1 + 1) 75 v (rw (← type-number) at parts-good.0.fine) z in
           record { checked = l.checked; first = omega (arith, z); last = omega (arith, w.0, l.first, l.last); kind = w.1 }
 
-      pub typed : (fd_at s r).ty ≡ some (type_at s v)
+      pub typed : (fd_at s r).ty ≡ Some (type_at s v)
       typed = rw (fd_is, ← type-number) (ap ty_of (perhaps-some v z))
         where
-          perhaps-some : (m : ℕ) → (m ≡ 0 → ⊥) → perhaps_at (nodes_in s) m ≡ some (node_at (nodes_in s) m)
+          perhaps-some : (m : ℕ) → (m ≡ 0 → ⊥) → perhaps_at (nodes_in s) m ≡ Some (node_at (nodes_in s) m)
           perhaps-some zero e = absurd (e refl)
           perhaps-some (suc m) e = refl
 
@@ -126,7 +126,7 @@ module _ (s t : List ℕ) (n r : ℕ) (l : FieldLine s t n r) where
         pub names-are : w ≡ length (fd_at s r).names
         names-are = rw fd_is ((count-exact (get_or (read_at s (r - 1)).fields 1 []) parts-good.1 hw).0 ∙ sym (values_length name (nodes_in s) _ _))
 
-        pub placed-typed : (p q : Reached) → ((ns : List Bytes) → w ≡ length ns → LinePlaced (some (type_at s v)) ns p q) → LinePlaced (fd_at s r).ty (fd_at s r).names p q
+        pub placed-typed : (p q : Reached) → ((ns : List Bytes) → w ≡ length ns → LinePlaced (Some (type_at s v)) ns p q) → LinePlaced (fd_at s r).ty (fd_at s r).names p q
         placed-typed p q h = rw typed (h (fd_at s r).names names-are)
 
 -- ---- several `fd` lines

@@ -1,7 +1,7 @@
 -- How large the records of a checked sheet are: 131,080 bytes at most.
 use mathlib.Core.Path.{◌≡◌}
 use mathlib.Core.List.{List, [], ◌∷◌, map}
-use mathlib.Core.Option.{Option, none}
+use Rattle.std.specs.Prelude.{Option, None}
 use Prim.Native.Nat.{ℕ, suc, ◌-◌, ◌≤◌, ◌<◌}
 use native.Mathlib.Omega.{arith}
 use Rattle.semantics.specs.Tree.{AdtDecl, Declares, Node, no_node}
@@ -52,7 +52,7 @@ module _ (s t : List ℕ) (n : ℕ) (c : Checked s t n) where
   unfolding sheet_source
   checked-small =
       every-under FitsSheet (λ (l : Located AdtDecl). l.it) (sheet_source s).adts
-      (every-located FitsSheet (λ (d : Declares). d.adts) 1 none (nodes_in s) all_small)
+      (every-located FitsSheet (λ (d : Declares). d.adts) 1 None (nodes_in s) all_small)
 
   -- every record of a checked sheet
   pub checked-records-bound : Every (SizeAtMost 131080) (record_log (recorded_adts (sheet_source s)))

@@ -2,7 +2,7 @@
 use mathlib.Core.Path.{◌≡◌}
 use mathlib.Core.Bool.{true, false}
 use mathlib.Core.List.{List, [], ◌∷◌, ◌++◌}
-use mathlib.Core.Option.{Option, none, some}
+use Rattle.std.specs.Prelude.{Option, None, Some}
 use Prim.Native.Nat.{ℕ, zero, suc, ◌+◌, ◌≤◌, max}
 use native.Mathlib.Omega.{arith}
 use lib.ListN.{length, drop}
@@ -27,8 +27,8 @@ abbrev pub node_lines : Node → ℕ
 node_lines m = max (lines_of m.ty) (max (suc (type_lines m.fd.ty)) (max (suc (field_lines m.case.fields)) (sum_of decl_lines m.declares.adts)))
 
 abbrev pub perhaps_lines : Option Node → ℕ
-perhaps_lines none = 0
-perhaps_lines (some m) = node_lines m
+perhaps_lines None = 0
+perhaps_lines (Some m) = node_lines m
 
 abbrev pub value_lines : (a : Atom) → Value a → ℕ
 value_lines name v = 0
@@ -72,8 +72,8 @@ cases-lines [] = omega arith
 cases-lines (m ∷ ms) = omega (arith, cases-lines ms)
 
 type-lines-of : (o : Option Node) → type_lines (ty_of o) ≤ perhaps_lines o
-type-lines-of none = omega arith
-type-lines-of (some m) = omega arith
+type-lines-of None = omega arith
+type-lines-of (Some m) = omega arith
 
 -- ---- by forms
 
@@ -98,7 +98,7 @@ module _ (ns : List Node) where
   few-fields zero fs h = tt
   few-fields (suc n) fs h = ((h (number_of (head_part fs))).0, few-fields n (tail_parts fs) h)
 
-  few-cases : (n : ℕ) (fs : List (List ℕ)) → FewBefore → FewInPick (some (cases_of (values (ref k_pc) ns n fs)))
+  few-cases : (n : ℕ) (fs : List (List ℕ)) → FewBefore → FewInPick (Some (cases_of (values (ref k_pc) ns n fs)))
   few-cases zero fs h = tt
   few-cases (suc n) fs h = ((h (number_of (head_part fs))).1, few-cases n (tail_parts fs) h)
 

@@ -1,6 +1,5 @@
 -- The `fd` lines of a checked sheet, and where they are placed.
-use Rattle.std.specs.Prelude.{ℕ, ◌+◌, ◌-◌, ◌≤◌, ◌<◌, ◌≡◌, Bool, true, ◌||◌, List, [], ◌∷◌, eqb, drop, get_or}
-use Rattle.std.proofs.Math.Option.{Option, none}
+use Rattle.std.specs.Prelude.{ℕ, ◌+◌, ◌-◌, ◌≤◌, ◌<◌, ◌≡◌, Bool, true, ◌||◌, List, [], ◌∷◌, eqb, drop, get_or, Option, None}
 use Rattle.semantics.specs.Text.{Bytes}
 use Rattle.semantics.specs.Tree.{Ty, Fd, AdtDecl}
 use Rattle.semantics.specs.Form.{letter, node_at, values, number_of, is_number, fds_of}
@@ -40,7 +39,7 @@ pub record FieldRefs (s t : Bytes) (n : ℕ) (f : Refs) : Type 0 where
 
 -- what line r declares
 abbrev pub first_decl : List AdtDecl → AdtDecl
-first_decl [] = record { name = []; fields = []; pick = none }
+first_decl [] = record { name = []; fields = []; pick = None }
 first_decl (d ∷ ds) = d
 
 unfoldable pub decl_at : Bytes → ℕ → AdtDecl

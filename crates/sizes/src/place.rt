@@ -1,6 +1,5 @@
 // Where the fields of a record lie.
-ghost use Rattle.std.specs.Prelude.{◌+◌, ◌≤◌, List, ◌≡◌, length};
-ghost use Rattle.std.proofs.Math.Option.{some};
+ghost use Rattle.std.specs.Prelude.{◌+◌, ◌≤◌, List, ◌≡◌, length, Some};
 ghost use Rattle.semantics.specs.Text.{Bytes};
 ghost use Rattle.semantics.specs.Tree.{Ty};
 ghost use Rattle.sizes.specs.Sizes.{Measures};
@@ -54,7 +53,7 @@ pub struct Reached {
 // Behind one more `fd` line, with so many names of a type of size and alignment x. Its fields are gathered in a list, and the list is lent.
 fn place_line(p: Reached, x: SizeAlign, pointer: bool, names: usize) -> Reached
     requires { (p.end ≤ case_end) × (x.size ≤ 8192) × (x.align ≤ 8) × (names ≤ 16) }
-    ensures { ((t : Ty) (ns : List Bytes) → Measures t x.size x.align → names ≡ length ns → LinePlaced (some t) ns p result) × (result.end ≤ p.end + line_bytes) }
+    ensures { ((t : Ty) (ns : List Bytes) → Measures t x.size x.align → names ≡ length ns → LinePlaced (Some t) ns p result) × (result.end ≤ p.end + line_bytes) }
 {
     let at = align_up(p.end, x.align) as u32;
     let fields = field_list::line_fields(at, x.size, pointer, names);

@@ -3,7 +3,7 @@ use Prim.Native.Nat.{ℕ, zero, suc, ◌^◌}
 use mathlib.Core.Path.{refl}
 use mathlib.Core.Bool.{Bool, true, false, cond, ◌&&◌}
 use mathlib.Core.List.{List, [], ◌∷◌, map}
-use mathlib.Core.Option.{Option, none, some}
+use Rattle.std.specs.Prelude.{Option, None, Some}
 use lib.IntN.{ℤ, pos, negsuc}
 use lib.Dec.{leb, ltb}
 use Rattle.semantics.specs.Text.{Bytes, any}
@@ -82,8 +82,8 @@ values-sound ps v i zero h e = tt
 values-sound ps v i (suc n) h e = (sound (value_at ps v i) (value-limited ps v i h e), values-sound ps v (suc i) n h e)
 
 filler-limited : (o : Option ConstVal) → LimitedOption o → Limited (filler o)
-filler-limited none h = refl
-filler-limited (some v) h = h
+filler-limited None h = refl
+filler-limited (Some v) h = h
 
 abbrev SoundArray : ConstArray → Type 0
 SoundArray a = Every Sound a.values
@@ -160,8 +160,8 @@ module _ (ns : Names) (known : Every LimitedConst ns.log) where
   first-sound (refuse r) a h g = tt
 
   init-sound : (t : Ty) (o : Option Ex) → LimitedInit o → SoundFirst (or_no_init (init_of ns t o))
-  init-sound t none h = tt
-  init-sound t (some e) h = first-sound (fold_at0 ns e) (const_array ns (elem_of t) e) (at-0 e h) (constant-array-sound (elem_of t) e h)
+  init-sound t None h = tt
+  init-sound t (Some e) h = first-sound (fold_at0 ns e) (const_array ns (elem_of t) e) (at-0 e h) (constant-array-sound (elem_of t) e h)
 
   names-sound : (t : Ty) (i : Init) (xs : List Bytes) → SoundFirst i → Every (λ (d : Declared). SoundFirst d.first) (map (λ (n : Bytes). record { name = n; ty = t; first = i }) xs)
   names-sound t i [] h = tt

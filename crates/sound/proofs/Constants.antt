@@ -3,7 +3,7 @@ use Prim.Native.Nat.{ℕ, suc, ◌+◌, ◌≤◌}
 use native.Mathlib.Omega.{arith}
 use mathlib.Core.Bool.{Bool, true, false, cond}
 use mathlib.Core.List.{List, [], ◌∷◌, ◌++◌, map}
-use mathlib.Core.Option.{Option, none, some}
+use Rattle.std.specs.Prelude.{Option, None, Some}
 use lib.IntN.{pos}
 use lib.ListN.{length}
 use borrow.Author.Tests.{le-leb}
@@ -45,8 +45,8 @@ next-few line col i = omega (arith, iota-few line col i)
 -- ---- a pass
 
 entries-limited : (impl : Option Bytes) (w : Option Module) (n : Bytes) (v : Option ConstVal) → LimitedOption v → Every LimitedConst (entries impl w n v)
-entries-limited impl none n v h = (h, tt)
-entries-limited impl (some m) n v h = go (implements impl (some m))
+entries-limited impl None n v h = (h, tt)
+entries-limited impl (Some m) n v h = go (implements impl (Some m))
   where
     go : (b : Bool) → Every LimitedConst ((cond b (record { key = plain n; value = v } ∷ []) []) ++ (record { key = qualified m.name n; value = v } ∷ []))
     go true = (h, (h, tt))
@@ -55,8 +55,8 @@ entries-limited impl (some m) n v h = go (implements impl (some m))
 entered-limited : (impl : Option Bytes) (c : Located ConstDecl) (r : Result ConstVal) (go : List Const → Folding) (log : List Const) → LimitedResult r → Every LimitedConst log
     → ((l : List Const) → Every LimitedConst l → LimitedLog (go l)) → LimitedLog (entered impl c r go log)
 unfolding LimitedLog
-entered-limited impl c (ok v) go log h e next = next _ (every_append LimitedConst (entries impl c.within c.it.name (some v)) log (entries-limited impl c.within c.it.name (some v) h) e)
-entered-limited impl c failed go log h e next = next _ (every_append LimitedConst (entries impl c.within c.it.name none) log (entries-limited impl c.within c.it.name none tt) e)
+entered-limited impl c (ok v) go log h e next = next _ (every_append LimitedConst (entries impl c.within c.it.name (Some v)) log (entries-limited impl c.within c.it.name (Some v) h) e)
+entered-limited impl c failed go log h e next = next _ (every_append LimitedConst (entries impl c.within c.it.name None) log (entries-limited impl c.within c.it.name None tt) e)
 entered-limited impl c (refuse r) go log h e next = e
 
 pass-limited : (impl : Option Bytes) (cs : List (Located ConstDecl)) (i : IotaCounter) (log : List Const) → i.value + length cs ≤ 128 → Every LimitedValue cs → Every LimitedConst log

@@ -2,7 +2,7 @@
 use Prim.Native.Nat.{ℕ, suc, ◌≤◌}
 use mathlib.Core.Bool.{Bool, true, false, cond}
 use mathlib.Core.List.{List, [], ◌∷◌, map}
-use mathlib.Core.Option.{Option, none}
+use Rattle.std.specs.Prelude.{Option, None}
 use lib.ListN.{length}
 use Rattle.semantics.specs.Text.{Bytes}
 use Rattle.semantics.specs.Tree.{AdtDecl, ConstDecl, VarDecl, Declares, Node}
@@ -32,7 +32,7 @@ opened-plain k (n ∷ ns) o h w = h.0
 after-plain : (k : ℕ) (d : Declares) (o : Option Module) → Plain d.opens → PlainWithin o → PlainWithin (open_after k d o)
 after-plain k d o h w = go d.closes
   where
-    go : (b : Bool) → PlainWithin (cond b none (opened k d.opens o))
+    go : (b : Bool) → PlainWithin (cond b None (opened k d.opens o))
     go true = tt
     go false = opened-plain k d.opens o h w
 
@@ -62,15 +62,15 @@ module _ (s t : Bytes) (n : ℕ) (c : Checked s t n) where
 
   adts-plain : Every (λ (a : Located AdtDecl). PlainAdt a.it × PlainWithin a.within) (sheet_source s).adts
   unfolding sheet_source
-  adts-plain = all-located (λ (d : Declares). d.adts) PlainAdt (λ m h. h.adts) 1 none (nodes_in s) tt nodes
+  adts-plain = all-located (λ (d : Declares). d.adts) PlainAdt (λ m h. h.adts) 1 None (nodes_in s) tt nodes
 
   consts-limited : Every (λ (a : Located ConstDecl). LimitedDecl a.it × PlainWithin a.within) (sheet_source s).consts
   unfolding sheet_source
-  consts-limited = all-located (λ (d : Declares). d.consts) LimitedDecl (λ m h. h.consts) 1 none (nodes_in s) tt nodes
+  consts-limited = all-located (λ (d : Declares). d.consts) LimitedDecl (λ m h. h.consts) 1 None (nodes_in s) tt nodes
 
   vars-limited : Every (λ (a : Located VarDecl). LimitedVar a.it × PlainWithin a.within) (sheet_source s).vars
   unfolding sheet_source
-  vars-limited = all-located (λ (d : Declares). d.vars) LimitedVar (λ m h. h.vars) 1 none (nodes_in s) tt nodes
+  vars-limited = all-located (λ (d : Declares). d.vars) LimitedVar (λ m h. h.vars) 1 None (nodes_in s) tt nodes
 
   -- names hold no separators
   pub plain-source : PlainSource (sheet_source s)

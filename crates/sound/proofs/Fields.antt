@@ -4,7 +4,7 @@ use native.Mathlib.Omega.{arith}
 use mathlib.Core.Path.{◌≡◌, refl}
 use mathlib.Core.Bool.{Bool, true, false, cond}
 use mathlib.Core.List.{List, [], ◌∷◌, ◌++◌}
-use mathlib.Core.Option.{Option, none, some}
+use Rattle.std.specs.Prelude.{Option, None, Some}
 use lib.ListN.{length, drop, get_or, length-drop}
 use lib.Dec.{T, ltb, eqb}
 use lib.IntN.{ℤ, pos}
@@ -68,16 +68,16 @@ unhex-short (h ∷ []) = omega arith
 unhex-short (h ∷ (l ∷ ds)) = go (hex_value h) (hex_value l) (unhex ds) (unhex-short ds)
   where
     go : (a b : Option ℕ) (o : Option Bytes) → length (or_else [] o) ≤ length ds → length (or_else [] (hex_pair a b o)) ≤ suc (suc (length ds))
-    go none b o e = omega arith
-    go (some a) none o e = omega arith
-    go (some a) (some b) none e = omega arith
-    go (some a) (some b) (some bs) e = omega (arith, e)
+    go None b o e = omega arith
+    go (Some a) None o e = omega arith
+    go (Some a) (Some b) None e = omega arith
+    go (Some a) (Some b) (Some bs) e = omega (arith, e)
 
 -- ---- what a field says
 
 abbrev pub LimitedPerhaps : Option Node → Type 0
-LimitedPerhaps none = Unit {0}
-LimitedPerhaps (some m) = LimitedNode m
+LimitedPerhaps None = Unit {0}
+LimitedPerhaps (Some m) = LimitedNode m
 
 abbrev pub LimitedField : (a : Atom) → Value a → Type 0
 LimitedField name v = is_plain_text v ≡ true
@@ -112,8 +112,8 @@ perhaps-limited ns zero h = tt
 perhaps-limited ns (suc r) h = node-limited ns (suc r - 1) h
 
 integer-fits : (o : Option ℤ) → holds_of (between 9223372036854775808 9223372036854775807) o ≡ true → Fits64 (or_else (pos 0) o)
-integer-fits none h = refl
-integer-fits (some z) h = h
+integer-fits None h = refl
+integer-fits (Some z) h = h
 
 module _ (ns : List Node) (before : Every LimitedNode ns) where
   value-limited : (a : Atom) (f : Bytes) → holds a f ≡ true → Short 255 f → LimitedField a (value a ns f)

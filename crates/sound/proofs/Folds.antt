@@ -5,7 +5,7 @@ use native.Mathlib.Numerals.{add-one}
 use mathlib.Core.Path.{◌≡◌, refl}
 use mathlib.Core.Bool.{Bool, true, false, cond, not as notb}
 use mathlib.Core.List.{List, [], ◌∷◌, ◌++◌}
-use mathlib.Core.Option.{Option, none, some}
+use Rattle.std.specs.Prelude.{Option, None, Some}
 use lib.ListN.{length}
 use lib.Dec.{leb, ltb}
 use lib.IntN.{ℤ, pos, negsuc, neg_ℤ, ◌+ℤ◌, ◌*ℤ◌}
@@ -176,10 +176,10 @@ cast-real real x h = h
 cast-real string x h = h
 
 cast-limited : (o : Option Basic) (v : ConstVal) → Limited v → Limited (fold_cast o v)
-cast-limited none v h = h
-cast-limited (some b) (v_int x) h = cast-int b x h
-cast-limited (some b) (v_real x) h = cast-real b x h
-cast-limited (some b) (v_str s) h = h
+cast-limited None v h = h
+cast-limited (Some b) (v_int x) h = cast-int b x h
+cast-limited (Some b) (v_real x) h = cast-real b x h
+cast-limited (Some b) (v_str s) h = h
 
 characters-few : (s : Bytes) → characters s ≤ length s
 unfolding characters
@@ -201,14 +201,14 @@ abbrev pub LimitedConst : Const → Type 0
 LimitedConst c = LimitedOption c.value
 
 value_found : (o : Option ConstVal) → LimitedOption o → LimitedResult (from_option o)
-value_found none h = tt
-value_found (some v) h = h
+value_found None h = tt
+value_found (Some v) h = h
 
 found-limited : (k : Key) (cs : List Const) → Every LimitedConst cs → LimitedResult (from_option (value_of (look_up k cs)))
 found-limited k [] h = tt
 found-limited k (c ∷ cs) h = go (same_key k c.key) (found-limited k cs h.1)
   where
-    go : (b : Bool) → LimitedResult (from_option (value_of (look_up k cs))) → LimitedResult (from_option (value_of (cond b (some c) (look_up k cs))))
+    go : (b : Bool) → LimitedResult (from_option (value_of (look_up k cs))) → LimitedResult (from_option (value_of (cond b (Some c) (look_up k cs))))
     go true r = value_found c.value h.0
     go false r = r
 

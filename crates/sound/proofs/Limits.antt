@@ -2,7 +2,7 @@
 use Prim.Native.Nat.{◌≤◌}
 use mathlib.Core.Path.{◌≡◌}
 use mathlib.Core.Bool.{true}
-use mathlib.Core.Option.{Option, none, some}
+use Rattle.std.specs.Prelude.{Option, None, Some}
 use lib.ListN.{length}
 use lib.Dec.{T}
 use lib.Ieee.{binary64, fits}
@@ -25,8 +25,8 @@ Limited (v_real x) = T (fits binary64 x)
 Limited (v_str s) = length s ≤ 256
 
 abbrev pub LimitedOption : Option ConstVal → Type 0
-LimitedOption none = Unit {0}
-LimitedOption (some v) = Limited v
+LimitedOption None = Unit {0}
+LimitedOption (Some v) = Limited v
 
 -- the literals that a fold can reach; the length of an `alloc`, sizes and selectors leave no values
 abbrev mutual
@@ -55,8 +55,8 @@ abbrev mutual
   LimitedEls (and_el e es) = LimitedEl e × LimitedEls es
 
 abbrev pub LimitedInit : Option Ex → Type 0
-LimitedInit none = Unit {0}
-LimitedInit (some e) = LimitedEx e
+LimitedInit None = Unit {0}
+LimitedInit (Some e) = LimitedEx e
 
 abbrev pub LimitedDecl : ConstDecl → Type 0
 LimitedDecl c = (is_plain_text c.name ≡ true) × LimitedEx c.value

@@ -4,7 +4,7 @@ use native.Mathlib.Omega.{arith}
 use mathlib.Core.Path.{◌≡◌}
 use mathlib.Core.Bool.{Bool, true}
 use mathlib.Core.List.{List, [], ◌∷◌, ◌++◌}
-use mathlib.Core.Option.{Option, none, some}
+use Rattle.std.specs.Prelude.{Option, None, Some}
 use lib.ListN.{length}
 use Rattle.semantics.specs.Text.{Bytes}
 use Rattle.semantics.specs.Tree.{Ty, Ex, El, Se, Fd, Case, AdtDecl, ConstDecl, VarDecl, Shape, TypeKey, Node, no_fd, no_case, tree, declaring, an_ex, an_el}
@@ -59,7 +59,7 @@ fields-plain : (ms : List Node) → Every LimitedNode ms → PlainFields (fds_of
 fields-plain [] h = tt
 fields-plain (m ∷ ms) h = (h.0.fd, fields-plain ms h.1)
 
-cases-plain : (ms : List Node) → Every LimitedNode ms → PlainPick (some (cases_of ms))
+cases-plain : (ms : List Node) → Every LimitedNode ms → PlainPick (Some (cases_of ms))
 cases-plain [] h = tt
 cases-plain (m ∷ ms) h = ((h.0.tags, h.0.fields), cases-plain ms h.1)
 
@@ -68,8 +68,8 @@ elements-limited [] h = tt
 elements-limited (m ∷ ms) h = (h.0.el, elements-limited ms h.1)
 
 init-limited : (o : Option Node) → LimitedPerhaps o → LimitedInit (ex_of o)
-init-limited none h = tt
-init-limited (some m) h = h.ex
+init-limited None h = tt
+init-limited (Some m) h = h.ex
 
 -- ---- the table of forms
 

@@ -1,6 +1,5 @@
 -- What the first lines of a sheet declare, line by line, and what a line declares by its kind.
-use Rattle.std.specs.Prelude.{ℕ, zero, suc, ◌||◌, cond, List, [], ◌∷◌, ◌++◌, map, eqb, get_or, drop}
-use Rattle.std.proofs.Math.Option.{Option, none}
+use Rattle.std.specs.Prelude.{ℕ, zero, suc, ◌||◌, cond, List, [], ◌∷◌, ◌++◌, map, eqb, get_or, drop, Option, None}
 use Rattle.semantics.specs.Text.{Bytes}
 use Rattle.semantics.specs.Tree.{ConstDecl, VarDecl, Shape, Declares, Node, no_node}
 use Rattle.semantics.specs.Form.{node_at, perhaps_at, number_of, values, ex_of}
@@ -13,7 +12,7 @@ declares_at ns i = (get_or ns i no_node).declares
 
 -- the module that is open before line i, from 0
 unfoldable pub open_at : List Node → ℕ → Option Module
-open_at ns zero = none
+open_at ns zero = None
 open_at ns (suc i) = open_after (suc i) (declares_at ns i) (open_at ns i)
 
 -- what the first i lines declare

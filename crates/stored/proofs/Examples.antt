@@ -3,7 +3,7 @@ use Prim.Native.Nat.{ℕ}
 use mathlib.Core.Path.{◌≡◌, refl}
 use mathlib.Core.Bool.{false}
 use mathlib.Core.List.{[], ◌∷◌}
-use mathlib.Core.Option.{Option, none, some}
+use Rattle.std.specs.Prelude.{Option, None, Some}
 use Rattle.semantics.specs.Text.{Bytes, bytes, nat_of, int_of, unhex, big_endian}
 use Rattle.write.specs.Wrote.{over}
 use Rattle.stored.specs.Reading.{number_read, bits_in, row_values, keyword_of, read_row, read_rows, read_all, size_by, size_rows, size_in}
@@ -29,6 +29,6 @@ all_laid = record {
   long = 16;
 }
 
-text-laid : (laid 17 13 ∷ laid 15 13 ∷ laid 17 11 ∷ []) ≡ (some all_laid ∷ none ∷ none ∷ [])
+text-laid : (laid 17 13 ∷ laid 15 13 ∷ laid 17 11 ∷ []) ≡ (Some all_laid ∷ None ∷ None ∷ [])
 unfolding nat_of int_of unhex big_endian over number_read bits_in row_values keyword_of read_row read_rows read_all size_by size_rows size_in lay_image lay_part lay_bytes lay_array laying_start
 text-laid = refl

@@ -4,7 +4,7 @@ use native.Mathlib.Omega.{arith}
 use mathlib.Core.Path.{◌≡◌, refl, sym, ap, ◌∙◌, subst}
 use mathlib.Core.Bool.{Bool, true, false, ◌||◌, cond, or-true}
 use mathlib.Core.List.{List, [], ◌∷◌, map}
-use mathlib.Core.Option.{Option, none, some}
+use Rattle.std.specs.Prelude.{Option, None, Some}
 use lib.ListN.{length, get_or, replicate, length-append, length-replicate}
 use lib.Seq.{ext_get_or}
 use lib.Dec.{ltb}
@@ -51,8 +51,8 @@ area-grows (set_at o ∷ xs) e = area-grows xs e
 area-grows (go_back ∷ xs) e = area-grows xs e
 
 lay-grows : (o : ℕ) (ys : Bytes) (i : Option ℕ) (r : Replay) → length r.image ≤ length (lay o ys i r).image
-lay-grows o ys none r = let h = written-long r.image o ys in omega arith
-lay-grows o ys (some s) r = omega arith
+lay-grows o ys None r = let h = written-long r.image o ys in omega arith
+lay-grows o ys (Some s) r = omega arith
 
 image-grows : (xs : List Stored) (r : Replay) → length r.image ≤ length (replay_stored xs r).image
 image-grows [] r = omega arith
@@ -68,7 +68,7 @@ image-grows (go_back ∷ xs) r = image-grows xs (replay_one go_back r)
 -- ---- a replay and the one in buffers, side by side; the newest array stands at place p and has n bytes
 
 abbrev inside_of : Laying → Option ℕ
-inside_of m = cond m.inside (some m.start) none
+inside_of m = cond m.inside (Some m.start) None
 
 record Same (r : Replay) (m : Laying) (p n : ℕ) : Type 0 where
   item : m.item ≡ r.item
@@ -93,25 +93,25 @@ record ComesTo (r : Replay) (e image area : ℕ) (m : Laying) : Type 0 where
   area_is : m.area ≡ padded area r.area
 
 abbrev Ending : Replay → ℕ → ℕ → ℕ → Option Laying → Type 0
-Ending r e image area none = ltb area e || ltb image (length r.image) ≡ true
-Ending r e image area (some m) = ComesTo r e image area m
+Ending r e image area None = ltb area e || ltb image (length r.image) ≡ true
+Ending r e image area (Some m) = ComesTo r e image area m
 
 abbrev Claim : List Stored → Type 0
 Claim xs = (r : Replay) (m : Laying) (p n : ℕ) → Same r m p n → length r.area ≡ area_end_behind r.end xs → InPlace p n m.inside xs
-    → Ending (replay_stored xs r) (area_end_behind r.end xs) (length m.image) (length m.area) (lay_all xs (some m))
+    → Ending (replay_stored xs r) (area_end_behind r.end xs) (length m.image) (length m.area) (lay_all xs (Some m))
 
 -- ---- nothing follows where something did not fit
 
-pub lay-none : (xs : List Stored) → lay_all xs none ≡ none
+pub lay-none : (xs : List Stored) → lay_all xs None ≡ None
 lay-none [] = refl
 lay-none (x ∷ xs) = lay-none xs
 
-image-short : (xs : List Stored) (r : Replay) (e image area : ℕ) → image < length r.image → Ending (replay_stored xs r) e image area (lay_all xs none)
+image-short : (xs : List Stored) (r : Replay) (e image area : ℕ) → image < length r.image → Ending (replay_stored xs r) e image area (lay_all xs None)
 image-short xs r e image area h =
     let g = image-grows xs r in
     rw (lay-none xs) (rw (lt-ltb image (length (replay_stored xs r).image) (omega arith)) (or-true (ltb area e)))
 
-area-short : (xs : List Stored) (r : Replay) (e e₁ image area : ℕ) → area < e → e ≤ e₁ → Ending (replay_stored xs r) e₁ image area (lay_all xs none)
+area-short : (xs : List Stored) (r : Replay) (e e₁ image area : ℕ) → area < e → e ≤ e₁ → Ending (replay_stored xs r) e₁ image area (lay_all xs None)
 area-short xs r e e₁ image area h g = rw (lay-none xs) (rw (lt-ltb area e₁ (omega arith)))
 
 -- ---- the end
@@ -150,11 +150,11 @@ module _ (o : ℕ) (ys : Bytes) (xs : List Stored) (r : Replay) (m : Laying) (p 
   unfolding lay_image
   in_image out = rw outside (go (ltb (length m.image) (o + length ys)) refl)
     where
-      outside : r.inside ≡ none
-      outside = s.inside ∙ ap (λ (b : Bool). cond b (some m.start) none) out
+      outside : r.inside ≡ None
+      outside = s.inside ∙ ap (λ (b : Bool). cond b (Some m.start) None) out
 
       r₁ : Replay
-      r₁ = lay o ys none r
+      r₁ = lay o ys None r
 
       m₁ : Laying
       m₁ = record { item = suc m.item; image = over m.image o ys; area = m.area; start = m.start; end = m.end; inside = m.inside; long = max m.long (o + length ys) }
@@ -178,23 +178,23 @@ module _ (o : ℕ) (ys : Bytes) (xs : List Stored) (r : Replay) (m : Laying) (p 
             inside = sym outside ∙ s.inside;
           }
 
-      go : (t : Bool) → ltb (length m.image) (o + length ys) ≡ t → Ending (replay_stored xs r₁) (area_end_behind r.end xs) (length m.image) (length m.area) (lay_all xs (cond t none (some m₁)))
+      go : (t : Bool) → ltb (length m.image) (o + length ys) ≡ t → Ending (replay_stored xs r₁) (area_end_behind r.end xs) (length m.image) (length m.area) (lay_all xs (cond t None (Some m₁)))
       go true e =
           let h = ltb-true (length m.image) (o + length ys) e in
           let l = written-long r.image o ys in
           image-short xs r₁ (area_end_behind r.end xs) (length m.image) (length m.area) (omega arith)
       go false e =
-          subst (λ (i : ℕ). Ending (replay_stored xs r₁) (area_end_behind r.end xs) i (length m.area) (lay_all xs (some m₁))) (length_over m.image o ys)
+          subst (λ (i : ℕ). Ending (replay_stored xs r₁) (area_end_behind r.end xs) i (length m.area) (lay_all xs (Some m₁))) (length_over m.image o ys)
           (next r₁ m₁ p n (same₁ (ltb-false (length m.image) (o + length ys) e)) room place)
 
   in-part : m.inside ≡ true → o + length ys ≤ n → Ending (replay_stored xs (lay o ys r.inside r)) (area_end_behind r.end xs) (length m.image) (length m.area) (lay_all xs (lay_part o ys m))
   unfolding lay_part
   in-part within fit =
       rw within-part (rw fitting
-      (subst (λ (a : ℕ). Ending (replay_stored xs r₁) (area_end_behind r.end xs) (length m.image) a (lay_all xs (some m₁))) area-long (next r₁ m₁ p n same₁ room₁ place)))
+      (subst (λ (a : ℕ). Ending (replay_stored xs r₁) (area_end_behind r.end xs) (length m.image) a (lay_all xs (Some m₁))) area-long (next r₁ m₁ p n same₁ room₁ place)))
     where
-      within-part : r.inside ≡ some m.start
-      within-part = s.inside ∙ ap (λ (b : Bool). cond b (some m.start) none) within
+      within-part : r.inside ≡ Some m.start
+      within-part = s.inside ∙ ap (λ (b : Bool). cond b (Some m.start) None) within
 
       bytes_in : ℕ
       bytes_in = m.end - m.start
@@ -203,7 +203,7 @@ module _ (o : ℕ) (ys : Bytes) (xs : List Stored) (r : Replay) (m : Laying) (p 
       fitting = let e = s.size in le-ltb bytes_in (o + length ys) (omega arith)
 
       r₁ : Replay
-      r₁ = lay o ys (some m.start) r
+      r₁ = lay o ys (Some m.start) r
 
       area₁ : Bytes
       area₁ = put_mid m.start bytes_in m.area (over (mid_of m.start bytes_in m.area) o ys)
@@ -265,8 +265,8 @@ module _ (o n : ℕ) (xs : List Stored) (r : Replay) (m : Laying) (p k : ℕ) (s
       m₁ : Laying
       m₁ = new_part n m
 
-      outside : r.inside ≡ none
-      outside = s.inside ∙ ap (λ (b : Bool). cond b (some m.start) none) out
+      outside : r.inside ≡ None
+      outside = s.inside ∙ ap (λ (b : Bool). cond b (Some m.start) None) out
 
       same₁ : part_at m.end + n ≤ length m.area → Same r₁ m₁ o n
       same₁ h =
@@ -281,11 +281,11 @@ module _ (o n : ℕ) (xs : List Stored) (r : Replay) (m : Laying) (p k : ℕ) (s
             start = ap (λ (b : Bool). cond b (part_at r.end) (start_of o r.parts)) (eq-eqb o o refl) ∙ ap part_at s.end;
             size = refl;
             high = h;
-            inside = outside ∙ sym (ap (λ (b : Bool). cond b (some (part_at m.end)) none) out);
+            inside = outside ∙ sym (ap (λ (b : Bool). cond b (Some (part_at m.end)) None) out);
           }
 
       go : (t : Bool) → ltb (length m.area) (part_at m.end + n) ≡ t
-          → Ending (replay_stored xs (lay o (handle r.item) r.inside r₁)) (area_end_behind (part_at r.end + n) xs) (length m.image) (length m.area) (lay_all xs (cond t none (lay_image o (handle m.item) m₁)))
+          → Ending (replay_stored xs (lay o (handle r.item) r.inside r₁)) (area_end_behind (part_at r.end + n) xs) (length m.image) (length m.area) (lay_all xs (cond t None (lay_image o (handle m.item) m₁)))
       go true e =
           let h = ltb-true (length m.area) (part_at m.end + n) e in
           let f = s.end in
@@ -297,7 +297,7 @@ module _ (o n : ℕ) (xs : List Stored) (r : Replay) (m : Laying) (p k : ℕ) (s
 
 -- ---- all of it
 
-moved_same : {r : Replay} {m : Laying} {p n : ℕ} → Same r m p n → (i : Option ℕ) (b : Bool) → i ≡ cond b (some m.start) none → Same (moved i r) (move_to b m) p n
+moved_same : {r : Replay} {m : Laying} {p n : ℕ} → Same r m p n → (i : Option ℕ) (b : Bool) → i ≡ cond b (Some m.start) None → Same (moved i r) (move_to b m) p n
 moved_same s i b e = record {
   item = ap suc s.item;
   image = s.image;
@@ -319,8 +319,8 @@ laid-all (string_at o ∷ xs) r m p n s room place =
     subst (λ (i : ℕ). Ending (replay_stored xs (lay o (handle r.item) r.inside r)) (area_end_behind r.end xs) (length m.image) (length m.area) (lay_all xs (lay_bytes o (handle i) m))) (sym s.item)
     (in_either o (handle r.item) xs r m p n s room place.1 (laid-all xs) place.0)
 laid-all (array_at o size k ∷ xs) r m p n s room place = an-array o (size * k) xs r m p n s room place.0 place.1 (laid-all xs)
-laid-all (set_at o ∷ xs) r m p n s room place = laid-all xs _ (move_to true m) p n (moved_same s (some (start_of o r.parts)) true (ap (λ (q : ℕ). some (start_of q r.parts)) place.0 ∙ ap some s.start)) room place.1
-laid-all (go_back ∷ xs) r m p n s room place = laid-all xs _ (move_to false m) p n (moved_same s none false refl) room place
+laid-all (set_at o ∷ xs) r m p n s room place = laid-all xs _ (move_to true m) p n (moved_same s (Some (start_of o r.parts)) true (ap (λ (q : ℕ). Some (start_of q r.parts)) place.0 ∙ ap Some s.start)) room place.1
+laid-all (go_back ∷ xs) r m p n s room place = laid-all xs _ (move_to false m) p n (moved_same s None false refl) room place
 
 -- ---- from the beginning, over zeros
 
@@ -333,8 +333,8 @@ pub record BuffersHold (q : Imaged) (image area : ℕ) (m : Laying) : Type 0 whe
   pub end : m.end ≡ length (area_bytes q)
 
 abbrev pub LaysAs : Imaged → ℕ → ℕ → Option Laying → Type 0
-LaysAs q image area none = q ≡ not_laid 13 0
-LaysAs q image area (some m) = BuffersHold q image area m
+LaysAs q image area None = q ≡ not_laid 13 0
+LaysAs q image area (Some m) = BuffersHold q image area m
 
 module _ (b : Buffers) (g : Globals) where
   abbrev xs : List Stored
@@ -343,18 +343,18 @@ module _ (b : Buffers) (g : Globals) where
   abbrev e : ℕ
   e = area_after 0 g.items
 
-  all-items : replay_stored xs (record { item = 0; image = replicate g.end 0; area = replicate e 0; end = 0; parts = []; inside = none }) ≡ replay g.end g.items
+  all-items : replay_stored xs (record { item = 0; image = replicate g.end 0; area = replicate e 0; end = 0; parts = []; inside = None }) ≡ replay g.end g.items
   all-items = replay-stored g.items _
 
   answer-by : (t : Option Laying) → Ending (replay g.end g.items) e b.image b.area t → LaysAs (replayed b g) b.image b.area t
   unfolding memory_of
-  answer-by none h = go (ltb b.area e) (ltb b.image (length (replay g.end g.items).image)) h
+  answer-by None h = go (ltb b.area e) (ltb b.image (length (replay g.end g.items).image)) h
     where
       go : (x y : Bool) → x || y ≡ true → cond x (not_laid 13 0) (cond y (not_laid 13 0) (laid (memory_of g).image (memory_of g).area)) ≡ not_laid 13 0
       go true y h = refl
       go false true h = refl
       go false false h = never h
-  answer-by (some m) h =
+  answer-by (Some m) h =
       let q : replayed b g ≡ laid (memory_of g).image (memory_of g).area = rw (le-ltb b.area e h.room, le-ltb b.image (length (replay g.end g.items).image) h.fits) in
       rw q (record { is = refl; image_is = h.image_is; area_is = h.area_is; long = h.long; end = h.end ∙ sym h.area_long })
 
@@ -363,7 +363,7 @@ module _ (b : Buffers) (g : Globals) where
   replayed-by place = answer-by (lay_all xs (laying_start g.end b.image b.area)) (go (ltb b.image g.end) refl)
     where
       start₀ : Replay
-      start₀ = record { item = 0; image = replicate g.end 0; area = replicate e 0; end = 0; parts = []; inside = none }
+      start₀ = record { item = 0; image = replicate g.end 0; area = replicate e 0; end = 0; parts = []; inside = None }
 
       m₀ : Laying
       m₀ = record { item = 0; image = zeros b.image; area = zeros b.area; start = 0; end = 0; inside = false; long = g.end }
@@ -385,7 +385,7 @@ module _ (b : Buffers) (g : Globals) where
       room₀ : length start₀.area ≡ area_end_behind 0 xs
       room₀ = length-replicate {A = ℕ} e 0 ∙ sym (area-end g.items 0)
 
-      go : (t : Bool) → ltb b.image g.end ≡ t → Ending (replay g.end g.items) e b.image b.area (lay_all xs (cond t none (some m₀)))
+      go : (t : Bool) → ltb b.image g.end ≡ t → Ending (replay g.end g.items) e b.image b.area (lay_all xs (cond t None (Some m₀)))
       go true k =
           let l = ltb-true b.image g.end k in
           let n = length-replicate {A = ℕ} g.end 0 in
@@ -393,7 +393,7 @@ module _ (b : Buffers) (g : Globals) where
       go false k =
           let l = ltb-false b.image g.end k in
           rw (← all-items)
-          (subst (λ (z : ℕ). Ending (replay_stored xs start₀) z b.image b.area (lay_all xs (some m₀))) (area-end g.items 0)
-          (subst (λ (i : ℕ). Ending (replay_stored xs start₀) (area_end_behind 0 xs) i b.area (lay_all xs (some m₀))) (length-replicate {A = ℕ} b.image 0)
-          (subst (λ (a : ℕ). Ending (replay_stored xs start₀) (area_end_behind 0 xs) (length (zeros b.image)) a (lay_all xs (some m₀))) (length-replicate {A = ℕ} b.area 0)
+          (subst (λ (z : ℕ). Ending (replay_stored xs start₀) z b.image b.area (lay_all xs (Some m₀))) (area-end g.items 0)
+          (subst (λ (i : ℕ). Ending (replay_stored xs start₀) (area_end_behind 0 xs) i b.area (lay_all xs (Some m₀))) (length-replicate {A = ℕ} b.image 0)
+          (subst (λ (a : ℕ). Ending (replay_stored xs start₀) (area_end_behind 0 xs) (length (zeros b.image)) a (lay_all xs (Some m₀))) (length-replicate {A = ℕ} b.area 0)
           (laid-all xs start₀ m₀ 0 0 (same₀ l) room₀ place))))

@@ -4,7 +4,7 @@ use native.Mathlib.Omega.{arith}
 use mathlib.Core.Path.{◌≡◌, refl}
 use mathlib.Core.Bool.{Bool, true, false, ◌&&◌, ◌||◌, cond}
 use mathlib.Core.List.{List, [], ◌∷◌, ◌++◌, map}
-use mathlib.Core.Option.{Option, none, some}
+use Rattle.std.specs.Prelude.{Option, None, Some}
 use lib.IntN.{pos}
 use lib.ListN.{length}
 use lib.Dec.{leb, eqb}
@@ -63,15 +63,15 @@ abbrev pub PlainFields : List Fd → Type 0
 PlainFields fs = Every (λ (f : Fd). Plain f.names) fs
 
 abbrev pub PlainPick : Option (List Case) → Type 0
-PlainPick none = Unit {0}
-PlainPick (some ks) = Every (λ (k : Case). Plain k.tags × PlainFields k.fields) ks
+PlainPick None = Unit {0}
+PlainPick (Some ks) = Every (λ (k : Case). Plain k.tags × PlainFields k.fields) ks
 
 abbrev pub PlainAdt : AdtDecl → Type 0
 PlainAdt a = (is_plain_text a.name ≡ true) × PlainFields a.fields × PlainPick a.pick
 
 abbrev pub PlainWithin : Option Module → Type 0
-PlainWithin none = Unit {0}
-PlainWithin (some m) = is_plain_text m.name ≡ true
+PlainWithin None = Unit {0}
+PlainWithin (Some m) = is_plain_text m.name ≡ true
 
 abbrev pub PlainConst : Located ConstDecl → Type 0
 PlainConst c = (is_plain_text c.it.name ≡ true) × PlainWithin c.within
@@ -91,8 +91,8 @@ names-placed t off [] h = tt
 names-placed t off (n ∷ ns) h = (h.0, names-placed t (off + size_of t) ns h.1)
 
 line-placed : (t : Option Ty) (ns : List Bytes) (off : ℕ) → Plain ns → Every NamePlain (place_line t ns off).placed
-line-placed none ns off h = tt
-line-placed (some t) ns off h = names-placed t _ ns h
+line-placed None ns off h = tt
+line-placed (Some t) ns off h = names-placed t _ ns h
 
 fields-placed : (off : ℕ) (fs : List Fd) → PlainFields fs → Every NamePlain (place off fs).placed
 fields-placed off [] h = tt
@@ -103,7 +103,7 @@ unfolding is_plain_text
 variants-plain t s ps g n [] h p x = tt
 variants-plain t s ps g n (y ∷ ys) h p x = ((plain-append t (46 ∷ y) h x.0, p), variants-plain t s ps g (suc n) ys h p x.1)
 
-cases-plain : (t : Bytes) (common : List Fd) (g n : ℕ) (ks : List Case) → is_plain_text t ≡ true → PlainFields common → PlainPick (some ks) → Every PlainRecord (cases_from t common g n ks)
+cases-plain : (t : Bytes) (common : List Fd) (g n : ℕ) (ks : List Case) → is_plain_text t ≡ true → PlainFields common → PlainPick (Some ks) → Every PlainRecord (cases_from t common g n ks)
 cases-plain t common g n [] h c p = tt
 cases-plain t common g n (k ∷ ks) h c p =
     every_append PlainRecord (variants_of t (variant_shape common k) (variant_fields common k) g n k.tags) _
@@ -112,8 +112,8 @@ cases-plain t common g n (k ∷ ks) h c p =
     (cases-plain t common (suc g) _ ks h c p.1)
 
 records-plain : (t : Bytes) (fs : List Fd) (o : Option (List Case)) → is_plain_text t ≡ true → PlainFields fs → PlainPick o → Every PlainRecord (records_for t fs o)
-records-plain t fs none h f p = ((h, fields-placed 0 fs f), tt)
-records-plain t fs (some ks) h f p = ((h, fields-placed behind_tag fs f), cases-plain t fs 0 0 ks h f p)
+records-plain t fs None h f p = ((h, fields-placed 0 fs f), tt)
+records-plain t fs (Some ks) h f p = ((h, fields-placed behind_tag fs f), cases-plain t fs 0 0 ks h f p)
 
 log-plain : (ds : List (Located AdtDecl)) → Every (λ (a : Located AdtDecl). PlainAdt a.it) ds → Every PlainRecord (concat_map records_of (map (λ (a : Located AdtDecl). a.it) ds))
 log-plain [] h = tt
@@ -142,8 +142,8 @@ KeyPlain c = is_plain_text (key_text c.key) ≡ true
 
 entries-plain : (impl : Option Bytes) (w : Option Module) (n : Bytes) (v : Option ConstVal) → PlainWithin w → is_plain_text n ≡ true → Every KeyPlain (entries impl w n v)
 unfolding is_plain_text
-entries-plain impl none n v w h = (h, tt)
-entries-plain impl (some m) n v w h = go (implements impl (some m))
+entries-plain impl None n v w h = (h, tt)
+entries-plain impl (Some m) n v w h = go (implements impl (Some m))
   where
     go : (b : Bool) → Every KeyPlain ((cond b (record { key = plain n; value = v } ∷ []) []) ++ (record { key = qualified m.name n; value = v } ∷ []))
     go true = (h, (plain-append (m.name ++ bytes "->") n (plain-append m.name (bytes "->") w refl) h, tt))
@@ -155,8 +155,8 @@ LogPlain f = Every KeyPlain f.log
 entered-plain : (impl : Option Bytes) (c : Located ConstDecl) (v : Result ConstVal) (go : List Const → Folding) (log : List Const) → PlainConst c → Every KeyPlain log
     → ((l : List Const) → Every KeyPlain l → LogPlain (go l)) → LogPlain (entered impl c v go log)
 unfolding LogPlain
-entered-plain impl c (ok v) go log h e next = next _ (every_append KeyPlain (entries impl c.within c.it.name (some v)) log (entries-plain impl c.within c.it.name (some v) h.1 h.0) e)
-entered-plain impl c failed go log h e next = next _ (every_append KeyPlain (entries impl c.within c.it.name none) log (entries-plain impl c.within c.it.name none h.1 h.0) e)
+entered-plain impl c (ok v) go log h e next = next _ (every_append KeyPlain (entries impl c.within c.it.name (Some v)) log (entries-plain impl c.within c.it.name (Some v) h.1 h.0) e)
+entered-plain impl c failed go log h e next = next _ (every_append KeyPlain (entries impl c.within c.it.name None) log (entries-plain impl c.within c.it.name None h.1 h.0) e)
 entered-plain impl c (refuse r) go log h e next = e
 
 pass-plain : (impl : Option Bytes) (cs : List (Located ConstDecl)) (i : IotaCounter) (log : List Const) → Every PlainConst cs → Every KeyPlain log → LogPlain (pass impl cs i log)
@@ -227,8 +227,8 @@ abbrev GlobalsPlain : Globals → Type 0
 GlobalsPlain g = Every GlobalPlain g.places × Plain g.pends
 
 declare-plain : (d : Declared) (o : Option ℕ) (g : Globals) → DeclaredPlain d → GlobalsPlain g → GlobalsPlain (declare_at d o g)
-declare-plain d none g h e = (every_append GlobalPlain g.places _ e.0 (h, tt), plain-join g.pends _ e.1 (pend-plain d.name d.first h))
-declare-plain d (some off) g h e = (e.0, plain-join g.pends _ e.1 (pend-plain d.name d.first h))
+declare-plain d None g h e = (every_append GlobalPlain g.places _ e.0 (h, tt), plain-join g.pends _ e.1 (pend-plain d.name d.first h))
+declare-plain d (Some off) g h e = (e.0, plain-join g.pends _ e.1 (pend-plain d.name d.first h))
 
 globals-plain : (g : Globals) (ds : List Declared) → Every DeclaredPlain ds → GlobalsPlain g → GlobalsPlain (globals_from g ds)
 globals-plain g [] h e = e

@@ -4,7 +4,7 @@ use native.Mathlib.Omega.{arith}
 use mathlib.Core.Path.{◌≡◌, refl, sym, ap, ◌∙◌}
 use mathlib.Core.Bool.{Bool, true, false, not, cond}
 use mathlib.Core.List.{List, [], ◌∷◌, ◌++◌, map, append_assoc, append-nil}
-use mathlib.Core.Option.{Option, none, some}
+use Rattle.std.specs.Prelude.{Option, None, Some}
 use lib.Dec.{eqb}
 use lib.ListN.{length, get_or}
 use lib.Ieee.{binary64, to_bits}
@@ -163,10 +163,10 @@ flag-plain false = refl
 
 value-plain : (v : Option ConstVal) → Plain (value_fields v)
 unfolding is_plain_text to_bits
-value-plain none = (refl, tt)
-value-plain (some (v_int z)) = (refl, (integer-plain z, tt))
-value-plain (some (v_real x)) = (refl, (hex-plain (big_endian 8 (to_bits binary64 x)), tt))
-value-plain (some (v_str s)) = (refl, (hex-plain s, tt))
+value-plain None = (refl, tt)
+value-plain (Some (v_int z)) = (refl, (integer-plain z, tt))
+value-plain (Some (v_real x)) = (refl, (hex-plain (big_endian 8 (to_bits binary64 x)), tt))
+value-plain (Some (v_str s)) = (refl, (hex-plain s, tt))
 
 -- the rows in front of the items
 abbrev front_of : Source → List Const → Globals → Bytes

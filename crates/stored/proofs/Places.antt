@@ -5,7 +5,7 @@ use native.Mathlib.Omega.{arith}
 use mathlib.Core.Path.{◌≡◌, refl, sym, ◌∙◌}
 use mathlib.Core.Bool.{true, false}
 use mathlib.Core.List.{List, [], ◌∷◌, ◌++◌, map, append_assoc, append-nil}
-use mathlib.Core.Option.{Option, none, some}
+use Rattle.std.specs.Prelude.{Option, None, Some}
 use lib.ListN.{length, length-append, length-map}
 use lib.IntN.{ℤ}
 use Rattle.semantics.specs.Text.{Bytes, big_endian}
@@ -86,8 +86,8 @@ init-closed off t pending_init h js out p n = out p n
 -- ---- all globals
 
 declare-closed : (d : Declared) (o : Option ℕ) (g : Globals) → ValuesFit d.first → Closed g.items → Closed (declare_at d o g).items
-declare-closed d none g h c = closed-join g.items _ c (init-closed _ d.ty d.first h)
-declare-closed d (some off) g h c = closed-join g.items _ c (init-closed off d.ty d.first h)
+declare-closed d None g h c = closed-join g.items _ c (init-closed _ d.ty d.first h)
+declare-closed d (Some off) g h c = closed-join g.items _ c (init-closed off d.ty d.first h)
 
 globals-closed : (g : Globals) (ds : List Declared) → AllSized ds → Closed g.items → Closed (globals_from g ds).items
 globals-closed g [] h c = c

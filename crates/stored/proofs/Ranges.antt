@@ -4,7 +4,7 @@ use native.Mathlib.Omega.{arith}
 use mathlib.Core.Path.{refl}
 use mathlib.Core.Bool.{Bool, true, false, cond}
 use mathlib.Core.List.{List, [], ◌∷◌, map}
-use mathlib.Core.Option.{Option, none, some}
+use Rattle.std.specs.Prelude.{Option, None, Some}
 use lib.IntN.{ℤ, pos, negsuc}
 use lib.Signed.{mag}
 use lib.Dec.{T, ltb}
@@ -124,8 +124,8 @@ init-ranged off t (array_init a) h = (tt, contents-ranged off a.kind a.values h)
 init-ranged off t pending_init h = tt
 
 declare-ranged : (d : Declared) (o : Option ℕ) (g : Globals) → SoundFirst d.first → Every Ranged g.items → Every Ranged (declare_at d o g).items
-declare-ranged d none g h e = every_append Ranged g.items _ e (init-ranged _ d.ty d.first h)
-declare-ranged d (some off) g h e = every_append Ranged g.items _ e (init-ranged off d.ty d.first h)
+declare-ranged d None g h e = every_append Ranged g.items _ e (init-ranged _ d.ty d.first h)
+declare-ranged d (Some off) g h e = every_append Ranged g.items _ e (init-ranged off d.ty d.first h)
 
 all-ranged : (g : Globals) (ds : List Declared) → Every (λ (d : Declared). SoundFirst d.first) ds → Every Ranged g.items → Every Ranged (globals_from g ds).items
 all-ranged g [] h e = e

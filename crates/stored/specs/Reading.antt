@@ -1,6 +1,5 @@
 -- What the rows of a listing say of items and of the sizes of descriptors. Each function is total: a number that is missing is 0.
-use Rattle.std.specs.Prelude.{ℕ, ◌-◌, ◌^◌, min, Bool, true, false, ◌&&◌, cond, List, [], ◌∷◌, ◌++◌, length, drop, get_or, ltb, eqb, ℤ}
-use Rattle.std.proofs.Math.Option.{Option, none, some}
+use Rattle.std.specs.Prelude.{ℕ, ◌-◌, ◌^◌, min, Bool, true, false, ◌&&◌, cond, List, [], ◌∷◌, ◌++◌, length, drop, get_or, ltb, eqb, ℤ, Option, None, Some}
 use Rattle.semantics.specs.Text.{Bytes, bytes, same, int_of, unhex, big_endian, from_big_endian, line_parts, fields_of}
 use Rattle.semantics.specs.Form.{between, number_of}
 use Rattle.semantics.specs.Fold.{bits64}
@@ -15,13 +14,13 @@ number_read f = number_of f
 
 -- the bits of an integer of 64 bits
 abbrev pub integer_bits : Option ℤ → ℕ
-integer_bits none = 0
-integer_bits (some z) = cond (between (2 ^ 63) (2 ^ 63 - 1) z) (bits64 z) 0
+integer_bits None = 0
+integer_bits (Some z) = cond (between (2 ^ 63) (2 ^ 63 - 1) z) (bits64 z) 0
 
 -- the bits that eight bytes hold
 abbrev pub real_bits : Option Bytes → ℕ
-real_bits none = 0
-real_bits (some bs) = cond (eqb (length bs) 8) (from_big_endian 0 bs) 0
+real_bits None = 0
+real_bits (Some bs) = cond (eqb (length bs) 8) (from_big_endian 0 bs) 0
 
 -- the bits of a value: a real's, or an integer's
 unfoldable pub bits_in : Bool → Bytes → ℕ

@@ -1,6 +1,5 @@
 -- What is stored of a data item: bytes at an offset, without the text of a string or the kind of an element.
-use Rattle.std.specs.Prelude.{ℕ, ◌+◌, ◌*◌, List, [], ◌∷◌}
-use Rattle.std.proofs.Math.Option.{none, some}
+use Rattle.std.specs.Prelude.{ℕ, ◌+◌, ◌*◌, List, [], ◌∷◌, None, Some}
 use Rattle.semantics.specs.Text.{Bytes}
 use Rattle.semantics.specs.Global.{Item}
 use Rattle.semantics.specs.Global.Item.{values_item, str_item, array_item, set_item, back_item}
@@ -27,8 +26,8 @@ abbrev pub replay_one : Stored → Replay → Replay
 replay_one (bytes_at o ys) r = lay o ys r.inside r
 replay_one (string_at o) r = lay o (handle r.item) r.inside r
 replay_one (array_at o size n) r = lay o (handle r.item) r.inside (with_part o (part_at r.end + size * n) r)
-replay_one (set_at o) r = moved (some (start_of o r.parts)) r
-replay_one go_back r = moved none r
+replay_one (set_at o) r = moved (Some (start_of o r.parts)) r
+replay_one go_back r = moved None r
 
 abbrev pub replay_stored : List Stored → Replay → Replay
 replay_stored [] r = r

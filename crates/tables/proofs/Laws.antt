@@ -1,6 +1,6 @@
 -- Tables that stand stay as they are while others are made.
 use mathlib.Core.Path.{◌≡◌, sym, ap, ◌∙◌}
-use mathlib.Core.Option.{none, some}
+use Rattle.std.specs.Prelude.{None, Some}
 use Prim.Native.Nat.{ℕ, ◌+◌, ◌-◌, ◌≤◌}
 use native.Mathlib.Omega.{arith}
 use lib.ListN.{length, take, drop}
@@ -71,10 +71,10 @@ module _ {s t t2 t3 t4 : Bytes} {n m r : ℕ} {g : Globals} {d : NeedCounts} (l 
 
 -- ---- with the constants
 
-pub constants-there : (s u : Bytes) (n : ℕ) {m : ℕ} {r : Collected} → r ≡ Count m → Collects s u n r → ((constants (sheet_source s)).refused ≡ none) × ((constants (sheet_source s)).log ≡ log_in s u m) × ConstsLogged s u n m
+pub constants-there : (s u : Bytes) (n : ℕ) {m : ℕ} {r : Collected} → r ≡ Count m → Collects s u n r → ((constants (sheet_source s)).refused ≡ None) × ((constants (sheet_source s)).log ≡ log_in s u m) × ConstsLogged s u n m
 constants-there s u n e h = rw e at h
 
-pub constants-refused : (s u : Bytes) (n : ℕ) {k : ℕ} {r : Collected} → r ≡ Collected.Refused k → Collects s u n r → (constants (sheet_source s)).refused ≡ some (too_long k)
+pub constants-refused : (s u : Bytes) (n : ℕ) {k : ℕ} {r : Collected} → r ≡ Collected.Refused k → Collects s u n r → (constants (sheet_source s)).refused ≡ Some (too_long k)
 constants-refused s u n e h = rw e at h
 
 pub still-checked : {s t u : Bytes} {n : ℕ} → Checked s t n → Kept 5120 t u → Checked s u n

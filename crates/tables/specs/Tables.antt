@@ -1,6 +1,5 @@
 -- What the tables of a checked sheet hold.
-use Rattle.std.specs.Prelude.{ℕ, ◌≡◌, length}
-use Rattle.std.proofs.Math.Option.{none, some}
+use Rattle.std.specs.Prelude.{ℕ, ◌≡◌, length, None, Some}
 use Rattle.semantics.specs.Text.{Bytes}
 use Rattle.semantics.specs.Sheet.{sheet_source}
 use Rattle.semantics.specs.Const.{constants}
@@ -27,5 +26,5 @@ pub record TablesHeld (s t : Bytes) (n : ℕ) (x : Tables) : Type 0 where
 
 -- the constants are those of the sheet, or line k is refused by 8
 abbrev pub MakesTables : Bytes → Bytes → ℕ → Made → Type 0
-MakesTables s t n (Whole x) = TablesHeld s t n x × ((constants (sheet_source s)).refused ≡ none) × ((constants (sheet_source s)).log ≡ log_in s t x.consts)
-MakesTables s t n (Refused k) = (constants (sheet_source s)).refused ≡ some (too_long k)
+MakesTables s t n (Whole x) = TablesHeld s t n x × ((constants (sheet_source s)).refused ≡ None) × ((constants (sheet_source s)).log ≡ log_in s t x.consts)
+MakesTables s t n (Refused k) = (constants (sheet_source s)).refused ≡ Some (too_long k)

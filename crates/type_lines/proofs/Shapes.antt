@@ -2,7 +2,7 @@
 use mathlib.Core.Path.{◌≡◌, refl, sym, ap, ◌∙◌}
 use mathlib.Core.Bool.{Bool, true, false, ◌&&◌, ◌||◌}
 use mathlib.Core.List.{List, [], ◌∷◌, ◌++◌}
-use mathlib.Core.Option.{Option, none, some}
+use Rattle.std.specs.Prelude.{Option, None, Some}
 use Prim.Native.Nat.{ℕ, zero, suc, ◌+◌, ◌-◌, ◌≤◌, ◌<◌, min}
 use native.Mathlib.Omega.{arith}
 use lib.Dec.{leb, eqb}
@@ -31,8 +31,8 @@ size_number : (f : List ℕ) → up_to 4096 f ≡ true → (is_number f ≡ true
 size_number f = go (Text.nat_of f)
   where
     go : (o : Option ℕ) → Text.holds_of (λ (m : ℕ). leb m 4096) o ≡ true → (Text.holds_of (λ (m : ℕ). true) o ≡ true) × (Text.or_else 0 o ≤ 4096)
-    go none h = never h
-    go (some m) h = (refl, leb-true m 4096 h)
+    go None h = never h
+    go (Some m) h = (refl, leb-true m 4096 h)
 
 offsets-hold : (m : ℕ) (fs : List (List ℕ)) → fits (ones m offset ++ []) fs ≡ true → (j : ℕ) → j < m → holds offset (get_or fs j []) ≡ true
 offsets-hold zero fs h j l = absurd (omega arith)
@@ -115,19 +115,19 @@ module _ (s t : List ℕ) (n i : ℕ) (l : ShapeLine s t n i) where
     offset_near = rw (← offset-is) (go (Text.int_of (get_or (read_at s i).fields (2 + j) [])) offset-holds)
       where
         go : (o : Option ℤ) → Text.holds_of (between 4096 4096) o ≡ true → between 4096 4096 (Text.or_else (pos 0) o) ≡ true
-        go none h = never h
-        go (some z) h = h
+        go None h = never h
+        go (Some z) h = h
 
 -- ---- an offset as it is read
 
 module _ (f : List ℕ) (h : holds offset f ≡ true) where
   read : (o : Option ℤ) → Text.holds_of (between 4096 4096) o ≡ true → (r : Signed) → r ≡ Number.signed o
       → ((m : ℕ) → r ≡ Signed.Plus m → (m ≤ 4096) × (4096 + m ≡ raised (Text.or_else (pos 0) o))) × ((m : ℕ) → r ≡ Signed.Minus m → (m ≤ 4096) × (4096 - m ≡ raised (Text.or_else (pos 0) o)))
-  read none k r e = never k
-  read (some (pos a)) k r e =
+  read None k r e = never k
+  read (Some (pos a)) k r e =
       let l = leb-true a 4096 k in
       (λ m q. let z : m ≡ min a 9223372036854775809 = cc in (omega arith, omega arith), λ m q. let z : ◌≡◌ {A = ℕ} 0 1 = cc in absurd (omega arith))
-  read (some (negsuc a)) k r e =
+  read (Some (negsuc a)) k r e =
       let l = ltb-true a 4096 k in
       (λ m q. let z : ◌≡◌ {A = ℕ} 0 1 = cc in absurd (omega arith), λ m q. let z : m ≡ min (suc a) 9223372036854775809 = cc in (omega arith, omega arith))
 
@@ -145,6 +145,6 @@ unfolding Number.signed_of
 read_none f r e q = go (Text.int_of f) (sym e ∙ q)
   where
     go : (o : Option ℤ) → Number.signed o ≡ Signed.NoInteger → 4096 ≡ raised (Text.or_else (pos 0) o)
-    go none x = refl
-    go (some (pos a)) x = let z : ◌≡◌ {A = ℕ} 0 1 = cc in absurd (omega arith)
-    go (some (negsuc a)) x = let z : ◌≡◌ {A = ℕ} 0 1 = cc in absurd (omega arith)
+    go None x = refl
+    go (Some (pos a)) x = let z : ◌≡◌ {A = ℕ} 0 1 = cc in absurd (omega arith)
+    go (Some (negsuc a)) x = let z : ◌≡◌ {A = ℕ} 0 1 = cc in absurd (omega arith)

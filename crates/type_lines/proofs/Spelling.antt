@@ -2,7 +2,7 @@
 use mathlib.Core.Path.{◌≡◌, refl, sym, ap, ◌∙◌}
 use mathlib.Core.Bool.{Bool, true, false, cond, ◌&&◌}
 use mathlib.Core.List.{List, [], ◌∷◌, ◌++◌, map}
-use mathlib.Core.Option.{Option, none, some}
+use Rattle.std.specs.Prelude.{Option, None, Some}
 use Prim.Native.Nat.{ℕ, zero, suc, ◌+◌, ◌-◌, ◌*◌, ◌≤◌, ◌<◌}
 use native.Mathlib.Omega.{arith}
 use native.Mathlib.Numerals.{add-one}
@@ -31,21 +31,21 @@ use Rattle.type_lines.proofs.Codes.{ints-eq, same_self}
 use Rattle.type_lines.proofs.Forms.{key_by, key-is, form-from, forms-apart}
 use Rattle.refs.proofs.Fields.{values_length}
 
-nothing : {A B : Type 0} {b : B} → none ≡ some b → A
+nothing : {A B : Type 0} {b : B} → None ≡ Some b → A
 nothing h = let z : ◌≡◌ {A = ℕ} 0 1 = cc in absurd (omega arith)
 
 -- ---- decimal numbers
 
 module _ (x : ℕ) (l : Bytes) (a v : ℕ) where
-  first-digit : digits_value a (x ∷ l) ≡ some v → (48 ≤ x) × (x ≤ 57) × (digits_value (a * 10 + (x - 48)) l ≡ some v)
+  first-digit : digits_value a (x ∷ l) ≡ Some v → (48 ≤ x) × (x ≤ 57) × (digits_value (a * 10 + (x - 48)) l ≡ Some v)
   first-digit p = go (is_digit x) refl p
     where
-      go : (t : Bool) → is_digit x ≡ t → cond t (digits_value (a * 10 + (x - 48)) l) none ≡ some v → (48 ≤ x) × (x ≤ 57) × (digits_value (a * 10 + (x - 48)) l ≡ some v)
+      go : (t : Bool) → is_digit x ≡ t → cond t (digits_value (a * 10 + (x - 48)) l) None ≡ Some v → (48 ≤ x) × (x ≤ 57) × (digits_value (a * 10 + (x - 48)) l ≡ Some v)
       go true e q = let w = both (leb 48 x) (leb x 57) e in (leb-true 48 x w.0, leb-true x 57 w.1, q)
       go false e q = nothing q
 
 -- as many digits, behind those of a and of b
-digits-one : (l m : Bytes) (a b v : ℕ) → length l ≡ length m → digits_value a l ≡ some v → digits_value b m ≡ some v → (a ≡ b) × (l ≡ m)
+digits-one : (l m : Bytes) (a b v : ℕ) → length l ≡ length m → digits_value a l ≡ Some v → digits_value b m ≡ Some v → (a ≡ b) × (l ≡ m)
 digits-one [] [] a b v h p q = (cc, refl)
 digits-one [] (y ∷ m) a b v h p q = absurd (omega arith)
 digits-one (x ∷ l) [] a b v h p q = absurd (omega arith)
@@ -58,7 +58,7 @@ digits-one (x ∷ l) (y ∷ m) a b v h p q =
     (omega arith, cc)
 
 -- more digits, of which the first is not 0
-digits_more : (l m : Bytes) (b v : ℕ) → 0 < b → length l ≤ length m → digits_value 0 l ≡ some v → digits_value b m ≡ some v → ⊥
+digits_more : (l m : Bytes) (b v : ℕ) → 0 < b → length l ≤ length m → digits_value 0 l ≡ Some v → digits_value b m ≡ Some v → ⊥
 digits_more l [] b v h k p q = omega (arith, (digits-one l [] 0 b v (omega arith) p q).0)
 digits_more l (y ∷ m) b v h k p q = go (leb (length l) (length m)) refl (λ k. digits_more l m (b * 10 + (y - 48)) v (omega arith) k p (first-digit y m b v q).2)
   where
@@ -66,29 +66,29 @@ digits_more l (y ∷ m) b v h k p q = go (leb (length l) (length m)) refl (λ k.
     go true e ih = ih (leb-true (length l) (length m) e)
     go false e ih = omega (arith, leb-false (length l) (length m) e, (digits-one l (y ∷ m) 0 b v (omega (arith, leb-false (length l) (length m) e)) p q).0)
 
-nat-digits : (l : Bytes) (v : ℕ) → nat_of l ≡ some v → (0 < length l) × (digits_value 0 l ≡ some v)
+nat-digits : (l : Bytes) (v : ℕ) → nat_of l ≡ Some v → (0 < length l) × (digits_value 0 l ≡ Some v)
 unfolding nat_of
 nat-digits [] v p = nothing p
 nat-digits (x ∷ []) v p = (omega arith, p)
 nat-digits (x ∷ (y ∷ l)) v p = go (eqb x 48) p
   where
-    go : (t : Bool) → cond t none (digits_value 0 (x ∷ (y ∷ l))) ≡ some v → (0 < suc (suc (length l))) × (digits_value 0 (x ∷ (y ∷ l)) ≡ some v)
+    go : (t : Bool) → cond t None (digits_value 0 (x ∷ (y ∷ l))) ≡ Some v → (0 < suc (suc (length l))) × (digits_value 0 (x ∷ (y ∷ l)) ≡ Some v)
     go true q = nothing q
     go false q = (omega arith, q)
 
-nat-longer : (l m : Bytes) (v : ℕ) → nat_of l ≡ some v → nat_of m ≡ some v → length l < length m → ⊥
+nat-longer : (l m : Bytes) (v : ℕ) → nat_of l ≡ Some v → nat_of m ≡ Some v → length l < length m → ⊥
 unfolding nat_of
 nat-longer l [] v p q h = omega arith
 nat-longer l (y ∷ []) v p q h = omega (arith, (nat-digits l v p).0)
 nat-longer l (y ∷ (z ∷ m)) v p q h = go (eqb y 48) refl q
   where
-    go : (t : Bool) → eqb y 48 ≡ t → cond t none (digits_value 0 (y ∷ (z ∷ m))) ≡ some v → ⊥
+    go : (t : Bool) → eqb y 48 ≡ t → cond t None (digits_value 0 (y ∷ (z ∷ m))) ≡ Some v → ⊥
     go true e r = nothing r
     go false e r =
         let d = first-digit y (z ∷ m) 0 v r in
         digits_more l (z ∷ m) (0 * 10 + (y - 48)) v (omega (arith, eqb-false y 48 e)) (omega arith) (nat-digits l v p).1 d.2
 
-nat-one : (l m : Bytes) (v : ℕ) → nat_of l ≡ some v → nat_of m ≡ some v → l ≡ m
+nat-one : (l m : Bytes) (v : ℕ) → nat_of l ≡ Some v → nat_of m ≡ Some v → l ≡ m
 nat-one l m v p q = go (ltb (length l) (length m)) refl (ltb (length m) (length l)) refl
   where
     go : (s : Bool) → ltb (length l) (length m) ≡ s → (t : Bool) → ltb (length m) (length l) ≡ t → l ≡ m
@@ -99,24 +99,24 @@ nat-one l m v p q = go (ltb (length l) (length m)) refl (ltb (length m) (length 
 -- ---- integers
 
 Writes : ℤ → Bytes → Type 0
-Writes (pos n) l = nat_of l ≡ some n
-Writes (negsuc n) l = (l ≡ 45 ∷ drop 1 l) × (nat_of (drop 1 l) ≡ some (suc n))
+Writes (pos n) l = nat_of l ≡ Some n
+Writes (negsuc n) l = (l ≡ 45 ∷ drop 1 l) × (nat_of (drop 1 l) ≡ Some (suc n))
 
-int-writes : (l : Bytes) (z : ℤ) → int_of l ≡ some z → Writes z l
+int-writes : (l : Bytes) (z : ℤ) → int_of l ≡ Some z → Writes z l
 unfolding int_of Writes
 int-writes [] z p = nothing p
 int-writes (b ∷ l) z p = go (eqb b 45) refl (nat_of l) refl (nat_of (b ∷ l)) refl z p
   where
-    go : (t : Bool) → eqb b 45 ≡ t → (o : Option ℕ) → nat_of l ≡ o → (r : Option ℕ) → nat_of (b ∷ l) ≡ r → (z : ℤ) → cond t (negative o) (map_option pos r) ≡ some z → Writes z (b ∷ l)
-    go true e none f r g z q = nothing q
-    go true e (some zero) f r g z q = nothing q
-    go true e (some (suc n)) f r g (pos m) q = let o : ◌≡◌ {A = ℕ} 0 1 = cc in absurd (omega arith)
-    go true e (some (suc n)) f r g (negsuc m) q = let k : n ≡ m = cc in (ap (λ (x : ℕ). x ∷ l) (eqb-true b 45 e), f ∙ ap (λ (x : ℕ). some (suc x)) k)
-    go false e o f none g z q = nothing q
-    go false e o f (some n) g (pos m) q = let k : n ≡ m = cc in g ∙ ap some k
-    go false e o f (some n) g (negsuc m) q = let o : ◌≡◌ {A = ℕ} 0 1 = cc in absurd (omega arith)
+    go : (t : Bool) → eqb b 45 ≡ t → (o : Option ℕ) → nat_of l ≡ o → (r : Option ℕ) → nat_of (b ∷ l) ≡ r → (z : ℤ) → cond t (negative o) (map_option pos r) ≡ Some z → Writes z (b ∷ l)
+    go true e None f r g z q = nothing q
+    go true e (Some zero) f r g z q = nothing q
+    go true e (Some (suc n)) f r g (pos m) q = let o : ◌≡◌ {A = ℕ} 0 1 = cc in absurd (omega arith)
+    go true e (Some (suc n)) f r g (negsuc m) q = let k : n ≡ m = cc in (ap (λ (x : ℕ). x ∷ l) (eqb-true b 45 e), f ∙ ap (λ (x : ℕ). Some (suc x)) k)
+    go false e o f None g z q = nothing q
+    go false e o f (Some n) g (pos m) q = let k : n ≡ m = cc in g ∙ ap Some k
+    go false e o f (Some n) g (negsuc m) q = let o : ◌≡◌ {A = ℕ} 0 1 = cc in absurd (omega arith)
 
-int-one : (l m : Bytes) (z : ℤ) → int_of l ≡ some z → int_of m ≡ some z → l ≡ m
+int-one : (l m : Bytes) (z : ℤ) → int_of l ≡ Some z → int_of m ≡ Some z → l ≡ m
 unfolding Writes
 int-one l m z p q = go z (int-writes l z p) (int-writes m z q)
   where
@@ -127,18 +127,18 @@ int-one l m z p q = go z (int-writes l z p) (int-writes m z q)
 -- ---- the fields of a line
 
 number-one : (k : ℕ) (f g : Bytes) → up_to k f ≡ true → up_to k g ≡ true → number_of f ≡ number_of g → f ≡ g
-number-one k f g p q e = nat-one f g (number_of f) (go (nat_of f) p) (go (nat_of g) q ∙ ap some (sym e))
+number-one k f g p q e = nat-one f g (number_of f) (go (nat_of f) p) (go (nat_of g) q ∙ ap Some (sym e))
   where
-    go : (o : Option ℕ) → holds_of (λ (n : ℕ). leb n k) o ≡ true → o ≡ some (or_else 0 o)
-    go none h = never h
-    go (some n) h = refl
+    go : (o : Option ℕ) → holds_of (λ (n : ℕ). leb n k) o ≡ true → o ≡ Some (or_else 0 o)
+    go None h = never h
+    go (Some n) h = refl
 
 offset-one : (f g : Bytes) → holds offset f ≡ true → holds offset g ≡ true → or_else (pos 0) (int_of f) ≡ or_else (pos 0) (int_of g) → f ≡ g
-offset-one f g p q e = int-one f g (or_else (pos 0) (int_of f)) (go (int_of f) p) (go (int_of g) q ∙ ap some (sym e))
+offset-one f g p q e = int-one f g (or_else (pos 0) (int_of f)) (go (int_of f) p) (go (int_of g) q ∙ ap Some (sym e))
   where
-    go : (o : Option ℤ) → holds_of (between 4096 4096) o ≡ true → o ≡ some (or_else (pos 0) o)
-    go none h = never h
-    go (some z) h = refl
+    go : (o : Option ℤ) → holds_of (between 4096 4096) o ≡ true → o ≡ Some (or_else (pos 0) o)
+    go None h = never h
+    go (Some z) h = refl
 
 offsets-one : (ns : List Node) (m : ℕ) (fs gs : List Bytes) → fits (ones m offset ++ []) fs ≡ true → fits (ones m offset ++ []) gs ≡ true → values offset ns m fs ≡ values offset ns m gs → fs ≡ gs
 offsets-one ns zero [] [] p q e = refl

@@ -3,7 +3,7 @@ use Prim.Native.Nat.{ℕ, ◌+◌, ◌≤◌, ◌<◌}
 use mathlib.Core.Path.{◌≡◌, refl, sym, ap, ◌∙◌}
 use mathlib.Core.Bool.{false}
 use mathlib.Core.List.{◌∷◌}
-use mathlib.Core.Option.{Option, none, some}
+use Rattle.std.specs.Prelude.{Option, None, Some}
 use native.Mathlib.Numerals.{add-one}
 use lib.ListN.{length, drop, get_or, drop_of_length-le}
 use lib.Seq.{drop-cons}
@@ -14,7 +14,7 @@ use Rattle.hex_field.proofs.Hexes.{unhex-bad, unhex-next, unhex-odd, unhex-end}
 
 -- ---- hexadecimal digits
 
-pub text-start : (s : Bytes) → is_text s ≡ text_from (some (0, 0, 0)) (drop 0 s)
+pub text-start : (s : Bytes) → is_text s ≡ text_from (Some (0, 0, 0)) (drop 0 s)
 unfolding is_text text_from is_utf8
 text-start s = refl
 
@@ -29,8 +29,8 @@ module _ (s : Bytes) (i : ℕ) (o : Option Lead) where
     text-next p z e = rw (unhex-next s i h is z) (go (unhex (drop (i + 2) s)) ∙ ap (λ (q : Option Lead). holds_of (goes_on q) (unhex (drop (i + 2) s))) (sym e))
       where
         go : (u : Option Bytes) → holds_of (goes_on o) (map_option (λ (bs : Bytes). v ∷ bs) u) ≡ holds_of (goes_on (follows v o)) u
-        go none = refl
-        go (some bs) = refl
+        go None = refl
+        go (Some bs) = refl
 
   pub text-odd : i < length s → length s ≤ i + 1 → text_from o (drop i s) ≡ false
   unfolding text_from

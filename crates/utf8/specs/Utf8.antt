@@ -1,18 +1,17 @@
 -- The states of reading UTF-8.
-use Rattle.std.specs.Prelude.{ℕ, Bool, cond, eqb}
-use Rattle.std.proofs.Math.Option.{Option, none, some}
+use Rattle.std.specs.Prelude.{ℕ, Bool, cond, eqb, Option, None, Some}
 use Rattle.semantics.specs.Text.{Bytes, Lead, lead, follows, goes_on, holds_of, in_range, unhex, is_utf8}
 use Rattle.utf8.specs.declared.Lead as Code
 
 -- the state that the code has: none after a fault
 unfoldable pub lead_of : Code.Lead → Option Lead
-lead_of a = cond a.good (some (a.more, a.low, a.high)) none
+lead_of a = cond a.good (Some (a.more, a.low, a.high)) None
 
 abbrev pub to_come : ℕ → ℕ → ℕ → Option Lead
-to_come n lo hi = some (n, lo, hi)
+to_come n lo hi = Some (n, lo, hi)
 
 abbrev pub no_lead : Option Lead
-no_lead = none
+no_lead = None
 
 unfoldable pub lead_at : ℕ → Option Lead
 lead_at b = lead b

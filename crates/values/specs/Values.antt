@@ -1,6 +1,5 @@
 -- Folded values as the code has them, and what they are in the working space.
-use Rattle.std.specs.Prelude.{ℕ, ◌+◌, ◌*◌, ◌≤◌, ◌<◌, ◌≡◌, true, [], ◌∷◌, ◌⊎◌, take, drop, get_or}
-use Rattle.std.proofs.Math.Option.{Option, none, some}
+use Rattle.std.specs.Prelude.{ℕ, ◌+◌, ◌*◌, ◌≤◌, ◌<◌, ◌≡◌, true, [], ◌∷◌, ◌⊎◌, take, drop, get_or, Option, None, Some}
 use Rattle.std.specs.Float.{binary64}
 use Rattle.std.specs.Float.Ieee.{fits, to_bits}
 use Rattle.semantics.specs.Text.{Bytes}
@@ -99,7 +98,7 @@ binary_at op = get_or bin_ops op BinOp.power
 
 -- the forms of types from 0; those behind `string` are not basic
 abbrev pub basic_at : ℕ → Option Basic
-basic_at f = get_or (some int ∷ some byte ∷ some big ∷ some real ∷ some string ∷ []) f none
+basic_at f = get_or (Some int ∷ Some byte ∷ Some big ∷ Some real ∷ Some string ∷ []) f None
 
 -- ---- copies
 

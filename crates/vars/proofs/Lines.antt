@@ -1,7 +1,7 @@
 -- A `var` line: its type, and the line of its value.
 use mathlib.Core.Path.{◌≡◌, refl, sym, ap, ◌∙◌}
 use mathlib.Core.List.{List, []}
-use mathlib.Core.Option.{none, some}
+use Rattle.std.specs.Prelude.{None, Some}
 use Prim.Native.Nat.{ℕ, zero, suc, ◌-◌, ◌<◌}
 use native.Mathlib.Omega.{arith}
 use lib.ListN.{get_or}
@@ -27,7 +27,7 @@ use Rattle.global_table.proofs.VarLine.{parts-good}
 use Rattle.refs.proofs.Fields.{head-drop}
 
 -- only arrays have an element type
-elem-of-form : (ns : List Node) (fs : List Bytes) (f : ℕ) → f < 8 → (f ≡ 6 → ⊥) → none ≡ elem_of (row_node ns f fs).ty
+elem-of-form : (ns : List Node) (fs : List Bytes) (f : ℕ) → f < 8 → (f ≡ 6 → ⊥) → None ≡ elem_of (row_node ns f fs).ty
 unfolding forms
 elem-of-form ns fs zero h z = refl
 elem-of-form ns fs (suc zero) h z = refl
@@ -39,7 +39,7 @@ elem-of-form ns fs (suc (suc (suc (suc (suc (suc zero)))))) h z = absurd (z refl
 elem-of-form ns fs (suc (suc (suc (suc (suc (suc (suc zero))))))) h z = refl
 elem-of-form ns fs (suc (suc (suc (suc (suc (suc (suc (suc f)))))))) h z = absurd (omega arith)
 
-value-given : (ns : List Node) (r : ℕ) → (r ≡ 0 → ⊥) → ex_of (perhaps_at ns r) ≡ some (node_at ns r).ex
+value-given : (ns : List Node) (r : ℕ) → (r ≡ 0 → ⊥) → ex_of (perhaps_at ns r) ≡ Some (node_at ns r).ex
 value-given ns zero h = absurd (h refl)
 value-given ns (suc r) h = refl
 
@@ -75,7 +75,7 @@ module _ {s t : Bytes} {n r : ℕ} (l : VarLine s t n r) where
     value-ref : (q ≡ number_of (get_or (read_at s (r - 1)).fields 1 [])) × ((q ≡ 0 → ⊥) → KindLine 69 s t n q)
     value-ref = may-line l 69 (get_or (read_at s (r - 1)).fields 1 []) q hq (parts-good s t n r l).1
 
-    pub init-none : q ≡ 0 → (var_on s r).init ≡ none
+    pub init-none : q ≡ 0 → (var_on s r).init ≡ None
     init-none z = rw (sym value-ref.0 ∙ z)
 
     module _ (z : q ≡ 0 → ⊥) where
@@ -85,5 +85,5 @@ module _ {s t : Bytes} {n r : ℕ} (l : VarLine s t n r) where
       pub value-foldable : {m : ℕ} → ConstsLogged s t n m → Foldable s t n m q 49152
       value-foldable g = foldable {e = 0} (record { line = value_line; log = g; few = omega arith })
 
-      pub init-some : (var_on s r).init ≡ some (ex_at s q)
+      pub init-some : (var_on s r).init ≡ Some (ex_at s q)
       init-some = rw (← value-ref.0) (value-given (nodes_in s) q z)

@@ -2,7 +2,7 @@
 use mathlib.Core.Path.{◌≡◌, refl, sym, ap, ◌∙◌, subst}
 use mathlib.Core.Bool.{Bool, true, false, not}
 use mathlib.Core.List.{List, []}
-use mathlib.Core.Option.{Option, none, some}
+use Rattle.std.specs.Prelude.{Option, None, Some}
 use Prim.Native.Nat.{ℕ, ◌-◌}
 use native.Mathlib.Omega.{arith}
 use lib.ListN.{get_or}
@@ -81,7 +81,7 @@ module _ {s t : Bytes} {n r : ℕ} (l : VarLine s t n r) {q : ℕ} (hq : q ≡ N
     folded = sym (folds-to g)
 
     -- the first value is f of what the fold gives
-    module _ (f : Option Ex → Result Init) (h : Result Tree.ConstVal → Result Init) (i : f (some (ex_at s q)) ≡ h (fold_at0 (names_in s t m) (ex_at s q))) where
+    module _ (f : Option Ex → Result Init) (h : Result Tree.ConstVal → Result Init) (i : f (Some (ex_at s q)) ≡ h (fold_at0 (names_in s t m) (ex_at s q))) where
       by-fold : f (var_on s r).init ≡ h (result_in u x)
       by-fold = ap f (init-some l hq z) ∙ i ∙ ap h folded
 
@@ -131,8 +131,8 @@ settled-first failed (refuse r) = refl
 settled-first (refuse r) b = refl
 
 pub settled-init : (ns : Names) (t : Ty) (o : Option Ex) → or_pending (init_of ns t o) ≡ init_of ns t o
-settled-init ns t none = refl
-settled-init ns t (some e) = settled-first (fold_at0 ns e) (const_array ns (elem_of t) e)
+settled-init ns t None = refl
+settled-init ns t (Some e) = settled-first (fold_at0 ns e) (const_array ns (elem_of t) e)
 
 none_named : (b : Bool) → not b ≡ true → b ≡ false
 none_named true h = sym h

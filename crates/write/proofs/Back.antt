@@ -3,7 +3,7 @@ use Prim.Native.Nat.{ℕ, zero, suc, ◌+◌, ◌-◌, ◌*◌, ◌/◌, ◌%◌
 use mathlib.Core.Path.{◌≡◌, refl, sym, ap, ◌∙◌}
 use mathlib.Core.Bool.{Bool, true, false, cond}
 use mathlib.Core.List.{[], ◌∷◌, ◌++◌, append_assoc, append-nil}
-use mathlib.Core.Option.{some}
+use Rattle.std.specs.Prelude.{Some}
 use native.Mathlib.Nat.{le_refl, add-mul, add_assoc, mul_assoc, mul_comm, mul-one, zero-add, mod-one, add-zero, pow-suc}
 use native.Mathlib.Omega.{arith}
 use lib.Dec.{ltb}
@@ -58,7 +58,7 @@ unfolding nat_of
 nat-plain c [] n = refl
 nat-plain c (d ∷ ds) n = simp (ne_eqb c 48 n)
 
-pub nat-back : (n : ℕ) → nat_of (decimal n) ≡ some n
+pub nat-back : (n : ℕ) → nat_of (decimal n) ≡ Some n
 unfolding nat_of Headed
 nat-back zero = rw (decimal-one 0 (omega arith))
 nat-back (suc n) =
@@ -69,7 +69,7 @@ nat-back (suc n) =
     ∙ ap (digits_value 0) (sym r.2 ∙ sym (append-nil (decimal (suc n))))
     ∙ digits-back (suc n) (suc n) [] (ltb (suc n) 10) refl (le_refl (suc n))
 
-pub int-back : (z : ℤ) → int_of (decimalℤ z) ≡ some z
+pub int-back : (z : ℤ) → int_of (decimalℤ z) ≡ Some z
 unfolding int_of decimalℤ Headed
 int-back (pos n) =
     let r = head_of n in
@@ -80,10 +80,10 @@ int-back (negsuc n) = ap negative (nat-back (suc n))
 
 -- ---- hexadecimal digits
 
-hex-digit-back : (d : ℕ) → d < 16 → hex_value (hex_digit d) ≡ some d
+hex-digit-back : (d : ℕ) → d < 16 → hex_value (hex_digit d) ≡ Some d
 hex-digit-back d h = go (ltb d 10) refl
   where
-    go : (t : Bool) → ltb d 10 ≡ t → hex_value (cond t (48 + d) (55 + d)) ≡ some d
+    go : (t : Bool) → ltb d 10 ≡ t → hex_value (cond t (48 + d) (55 + d)) ≡ Some d
     go true e =
         let l = ltb-true d 10 e in
         let w : 48 + d - 48 ≡ d = omega arith in
@@ -93,7 +93,7 @@ hex-digit-back d h = go (ltb d 10) refl
         let w : 55 + d - 55 ≡ d = omega arith in
         simp (le-leb 48 (55 + d) (omega arith), lt-leb (55 + d) 57 (omega arith), le-leb 65 (55 + d) (omega arith), le-leb (55 + d) 70 (omega arith), w)
 
-pub hex-back : (bs : Bytes) → ((k : ℕ) → get_or bs k 0 < 256) → unhex (hex_of bs) ≡ some bs
+pub hex-back : (bs : Bytes) → ((k : ℕ) → get_or bs k 0 < 256) → unhex (hex_of bs) ≡ Some bs
 unfolding hex_of unhex
 hex-back [] h = refl
 hex-back (b ∷ bs) h =

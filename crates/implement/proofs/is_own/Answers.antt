@@ -1,5 +1,5 @@
 -- `implement::is_own` meets its contract.
-use mathlib.Core.Option.{some}
+use Rattle.std.specs.Prelude.{Some}
 use mathlib.Core.Path.{◌∙◌, ap}
 use Rattle.semantics.specs.Text.{Bytes}
 use Rattle.semantics.specs.Fold.{same_option}
@@ -13,4 +13,4 @@ returns-then-k-eq0 c = let a = c.args in own-outside a.sheet.now a.k c.if-k-eq0.
 pub returns : goal.returns
 returns c =
     let a = c.args in
-    own-within a.sheet.now a.k c.if-k-eq0.false (c.is_implemented.ensures ∙ ap (λ (x : Bytes). same_option (sheet_source a.sheet.now).implement (some x)) c.field_at.ensures)
+    own-within a.sheet.now a.k c.if-k-eq0.false (c.is_implemented.ensures ∙ ap (λ (x : Bytes). same_option (sheet_source a.sheet.now).implement (Some x)) c.field_at.ensures)

@@ -1,5 +1,5 @@
 use Rattle.stored.specs.Laying.{Laying}
-use mathlib.Core.Option.{Option}
+use Rattle.std.specs.Prelude.{Option}
 use mathlib.Core.Path.{ap}
 use native.Mathlib.Omega.{arith}
 use Rattle.replay.proofs.Loops.{text-turn, text-full, text-end}
