@@ -136,5 +136,11 @@ def refused_at(folder, log, function):
     return searched and searched[1]
 
 
+def left(log):
+    """A goal that the prover tried by itself and left, with its function, or None."""
+    told = re.search(r"^fn (\S+): no proof:.*`search` did not prove `(\S+?)`", log, re.M)
+    return told and f"`{told[2]}` of {told[1]}"
+
+
 def edits(crate):
     return sorted(glob.glob(os.path.join(oracle.ROOT, "crates", crate, "must-fail", "*.edit")))

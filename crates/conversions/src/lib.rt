@@ -9,12 +9,7 @@ ghost use Rattle.semantics.specs.Tree.ConstVal.{v_int, v_real};
 pub fn word_of_int(n: i64) -> i32
     ensures { result ≡ const_word (v_int n) }
 {
-    let low = ints::bits(n) & 0xffff_ffff;
-    if low <= 0x7fff_ffff {
-        low as i32
-    } else {
-        !((0xffff_ffff - low) as i32)
-    }
+    ((ints::bits(n) & 0xffff_ffff) as u32).cast_signed()
 }
 
 pub fn word_of_real(x: f64) -> i32
@@ -27,7 +22,7 @@ pub fn word_of_real(x: f64) -> i32
 fn byte_of_word(w: i32) -> u8
     ensures { result ≡ low_byte w }
 {
-    (ints::bits(w as i64) & 0xff) as u8
+    (w.cast_unsigned() & 0xff) as u8
 }
 
 pub fn byte_of_int(n: i64) -> u8

@@ -1,10 +1,9 @@
 -- What a quotient is to a fold: a value, or a failure.
+use Rattle.std.specs.Prelude.{ℤ, Option, None, Some}
 use Rattle.semantics.specs.Tree.{ConstVal}
 use Rattle.semantics.specs.Fold.{Result, int_ok}
 use Rattle.semantics.specs.Fold.Result.{failed}
-use Rattle.ints.specs.declared.Quotient.{Quotient}
-use Rattle.ints.specs.declared.Quotient.TheVariants.{Value, ByZero}
 
-abbrev pub folded : Quotient → Result ConstVal
-folded (Value n) = int_ok n
-folded ByZero = failed
+abbrev pub folded : Option ℤ → Result ConstVal
+folded None = failed
+folded (Some n) = int_ok n

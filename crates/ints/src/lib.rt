@@ -6,93 +6,69 @@ ghost use Rattle.semantics.specs.Fold.{bits64, signed64, shift_count, int_ok, te
 ghost use Rattle.semantics.specs.Tree.{Arith, IntOp, UnaryOp};
 ghost use Rattle.ints.specs.Quotients.{folded};
 
-// The bit pattern of n. A cast may not lose the sign, so a negative n is cast with its bits complemented.
+// The bit pattern of n.
 pub fn bits(n: i64) -> u64
     ensures { result ≡ bits64 n }
 {
-    if n >= 0 { n as u64 } else { !((!n) as u64) }
+    n.cast_unsigned()
 }
 
 // The integer of a bit pattern.
 pub fn of_bits(b: u64) -> i64
     ensures { result ≡ signed64 b }
 {
-    if b <= 0x7fff_ffff_ffff_ffff {
-        b as i64
-    } else {
-        !((!b) as i64)
-    }
+    b.cast_signed()
 }
 
-// a times b, modulo 2^64, by halves of 32 bits: the product of the upper halves is a multiple of 2^64.
-fn mul_bits(a: u64, b: u64) -> u64
-    ensures { result ≡ (a * b) % 2 ^ 64 }
-{
-    let ah = a >> 32;
-    let al = a & 0xffff_ffff;
-    let bh = b >> 32;
-    let bl = b & 0xffff_ffff;
-    let cross = std::num::wrapping_add_u64(ah * bl, al * bh);
-    std::num::wrapping_add_u64(al * bl, cross << 32)
-}
-
+#[tactic(auto, using(crate::proofs::Wrapping::wrapped_sum))]
 pub fn add(a: i64, b: i64) -> i64
     ensures { int_ok result ≡ int_arith Arith.add a b }
 {
-    of_bits(std::num::wrapping_add_u64(bits(a), bits(b)))
+    a.wrapping_add(b)
 }
 
+#[tactic(auto, using(crate::proofs::Wrapping::wrapped_difference))]
 pub fn sub(a: i64, b: i64) -> i64
     ensures { int_ok result ≡ int_arith Arith.sub a b }
 {
-    of_bits(std::num::wrapping_sub_u64(bits(a), bits(b)))
+    a.wrapping_sub(b)
 }
 
+#[tactic(auto, using(crate::proofs::Wrapping::wrapped_product))]
 pub fn mul(a: i64, b: i64) -> i64
     ensures { int_ok result ≡ int_arith Arith.mul a b }
 {
-    of_bits(mul_bits(bits(a), bits(b)))
+    a.wrapping_mul(b)
 }
 
+#[tactic(auto, using(crate::proofs::Wrapping::wrapped_negation))]
 pub fn neg(a: i64) -> i64
     ensures { int_ok result ≡ int_unary UnaryOp.neg a }
 {
-    sub(0, a)
+    a.wrapping_neg()
 }
 
-// A quotient or a remainder; a zero divisor has none. `folded` says which result of a fold each case is.
-#[derive(Clone, Copy)]
-pub enum Quotient {
-    Value(i64),
-    ByZero,
-}
-
-// Toward zero. By -1 it is the negation, which wraps: the machine has no quotient of -2^63 by -1.
-pub fn div(a: i64, b: i64) -> Quotient
+// Toward zero, and none by 0. The machine has no quotient of -2^63 by -1, which wraps.
+#[tactic(auto, using(crate::proofs::Wrapping::dividing))]
+pub fn div(a: i64, b: i64) -> Option<i64>
     ensures { folded result ≡ int_arith Arith.div a b }
 {
     if b == 0 {
-        return Quotient::ByZero;
+        None
+    } else {
+        Some(a.wrapping_div(b))
     }
-    if b == -1 {
-        return Quotient::Value(neg(a));
-    }
-    let q = a / b;
-    Quotient::Value(q)
 }
 
-// With the sign of a. By -1 it is 0: the machine has no remainder of -2^63 by -1.
-pub fn rem(a: i64, b: i64) -> Quotient
+// With the sign of a, and none by 0. By -1 it is 0: the machine has no remainder of -2^63 by -1.
+pub fn rem(a: i64, b: i64) -> Option<i64>
     ensures { folded result ≡ int_only IntOp.rem a b }
 {
     if b == 0 {
-        return Quotient::ByZero;
+        None
+    } else {
+        Some(a.wrapping_rem(b))
     }
-    if b == -1 {
-        return Quotient::Value(0);
-    }
-    let q = a % b;
-    Quotient::Value(q)
 }
 
 // By how many places a shift of n goes.
@@ -105,7 +81,7 @@ fn count(n: i64) -> u64
 pub fn shl(a: i64, n: i64) -> i64
     ensures { int_ok result ≡ int_only IntOp.lshift a n }
 {
-    of_bits(bits(a) << count(n))
+    a << count(n)
 }
 
 pub fn shr(a: i64, n: i64) -> i64
@@ -142,7 +118,7 @@ pub fn bit_not(a: i64) -> i64
 fn flag(holds: bool) -> i64
     ensures { int_ok result ≡ test holds }
 {
-    if holds { 1 } else { 0 }
+    i64::from(holds)
 }
 
 pub fn not(a: i64) -> i64

@@ -10,7 +10,6 @@ ghost use Rattle.std.specs.Prelude.{◌≡◌, if◌then◌else◌};
 ghost use Rattle.std.specs.Float.{binary64};
 ghost use Rattle.std.specs.Float.Ieee.{nan_bits};
 
-use ints::Quotient;
 use std::io::{self, BufWriter, Read, Write};
 
 // There and back: a real is what its bits say.
@@ -36,10 +35,10 @@ fn show_int<W: Write>(out: &mut W, n: i64) -> io::Result<()> {
     write!(out, " {n}")
 }
 
-fn show_quotient<W: Write>(out: &mut W, q: Quotient) -> io::Result<()> {
+fn show_quotient<W: Write>(out: &mut W, q: Option<i64>) -> io::Result<()> {
     match q {
-        Quotient::Value(n) => show_int(out, n),
-        Quotient::ByZero => write!(out, " failed"),
+        Some(n) => show_int(out, n),
+        None => write!(out, " failed"),
     }
 }
 
@@ -132,12 +131,12 @@ fn unary_result(op: u64, a: i64) -> i64 {
     }
 }
 
-fn int_result(op: u64, a: i64, b: i64) -> Quotient {
+fn int_result(op: u64, a: i64, b: i64) -> Option<i64> {
     match op {
         3 => ints::div(a, b),
         4 => ints::rem(a, b),
-        16..=20 => Quotient::Value(unary_result(op, a)),
-        _ => Quotient::Value(binary_result(op, a, b)),
+        16..=20 => Some(unary_result(op, a)),
+        _ => Some(binary_result(op, a, b)),
     }
 }
 

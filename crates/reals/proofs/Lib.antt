@@ -1,3 +1,1 @@
-pub mod Leading
-pub mod Whole
-pub mod Patterns
+pub mod Operators

@@ -109,12 +109,12 @@ pub fn fold_unary(op: usize, v: ConstVal) -> Folded
 }
 
 // A quotient or remainder of integers.
-fn quotient(q: ints::Quotient) -> Folded
+fn quotient(q: Option<i64>) -> Folded
     ensures { (t : Bytes) (top : ℕ) → Answers t top result (folded q) }
 {
     match q {
-        ints::Quotient::Value(n) => Folded::Value(ConstVal::Int(n)),
-        ints::Quotient::ByZero => Folded::Failed,
+        Some(n) => Folded::Value(ConstVal::Int(n)),
+        None => Folded::Failed,
     }
 }
 

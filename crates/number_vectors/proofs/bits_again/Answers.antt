@@ -1,7 +1,7 @@
 -- `bits_again` meets its contract: a NaN has one pattern, and all other bits come back.
 use Rattle.std.proofs.Common.{ap, ◌∙◌}
 use lib.Ieee.{binary64, to_bits}
-use Rattle.reals.proofs.Patterns.{bits_back}
+use Rattle.number_vectors.proofs.Patterns.{bits_back}
 use Rattle.number_vectors.proofs.bits_again.Goals as goal
 
 pub returns : goal.returns

@@ -5,8 +5,8 @@ use mathlib.Core.Path.{sym, ap}
 use borrow.Author.Rules.{rules}
 use Rattle.values.proofs.quotient.Goals as goal
 
-pub returns-in-Value : goal.returns-in-Value
-returns-in-Value c = answers-int (search rules) (ap folded (sym c.in-Value.is))
+pub returns-in-Some : goal.returns-in-Some
+returns-in-Some c = answers-int (search rules) (ap folded (sym c.in-Some.is))
 
-pub returns-in-ByZero : goal.returns-in-ByZero
-returns-in-ByZero c = answers-failed (ap folded (sym c.in-ByZero.is))
+pub returns-in-None : goal.returns-in-None
+returns-in-None c = answers-failed (ap folded (sym c.in-None.is))

@@ -1,8 +1,0 @@
--- `reals::add` meets its contract: the machine's operator is the rule's.
-use Rattle.std.proofs.Common.{refl}
-use lib.Ieee.{add, sub, mul, div}
-use Rattle.reals.proofs.add.Goals as goal
-
-pub returns : goal.returns
-unfolding add sub mul div
-returns c = refl
