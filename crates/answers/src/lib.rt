@@ -6,8 +6,8 @@ ghost use Rattle.semantics.specs.Refusal.{refused, printed};
 ghost use Rattle.write.specs.Wrote.{Wrote};
 ghost use Rattle.answers.specs.Answers.{refusal_number, refusal_line, RefusalAt};
 
-// One case for each of the thirteen, in their order, with its line where it has one.
-#[derive(Clone, Copy)]
+// One case for each of the thirteen, in their order, with its line, from 1, where it has one.
+#[derive(Clone, Copy, Debug, PartialEq, Eq)]
 pub enum Refusal {
     LongSheet,
     SmallSpace,
@@ -24,45 +24,45 @@ pub enum Refusal {
     Outgrown,
 }
 
-// 01's number of a refusal.
-pub fn number_of(r: Refusal) -> u8
-    ensures { result ≡ refusal_number r }
-{
-    match r {
-        Refusal::LongSheet => 1,
-        Refusal::SmallSpace => 2,
-        Refusal::NoForm(_) => 3,
-        Refusal::BadReference(_) => 4,
-        Refusal::DeepNesting(_) => 5,
-        Refusal::BadModule(_) => 6,
-        Refusal::TooMany(_) => 7,
-        Refusal::LongString(_) => 8,
-        Refusal::LongAlloc(_) => 9,
-        Refusal::NegativeAlloc(_) => 10,
-        Refusal::OutsideLiteral(_) => 11,
-        Refusal::LongLiteral(_) => 12,
-        Refusal::Outgrown => 13,
+impl Refusal {
+    // 01's number.
+    pub fn number(self) -> u8
+        ensures { result ≡ refusal_number self }
+    {
+        match self {
+            Refusal::LongSheet => 1,
+            Refusal::SmallSpace => 2,
+            Refusal::NoForm(_) => 3,
+            Refusal::BadReference(_) => 4,
+            Refusal::DeepNesting(_) => 5,
+            Refusal::BadModule(_) => 6,
+            Refusal::TooMany(_) => 7,
+            Refusal::LongString(_) => 8,
+            Refusal::LongAlloc(_) => 9,
+            Refusal::NegativeAlloc(_) => 10,
+            Refusal::OutsideLiteral(_) => 11,
+            Refusal::LongLiteral(_) => 12,
+            Refusal::Outgrown => 13,
+        }
     }
-}
 
-// Its line, from 1; 0 where it has none.
-pub fn line_of(r: Refusal) -> usize
-    ensures { result ≡ refusal_line r }
-{
-    match r {
-        Refusal::LongSheet => 0,
-        Refusal::SmallSpace => 0,
-        Refusal::NoForm(k) => k,
-        Refusal::BadReference(k) => k,
-        Refusal::DeepNesting(k) => k,
-        Refusal::BadModule(k) => k,
-        Refusal::TooMany(k) => k,
-        Refusal::LongString(k) => k,
-        Refusal::LongAlloc(k) => k,
-        Refusal::NegativeAlloc(k) => k,
-        Refusal::OutsideLiteral(k) => k,
-        Refusal::LongLiteral(k) => k,
-        Refusal::Outgrown => 0,
+    // Its line, from 1; 0 where it has none.
+    pub fn line(self) -> usize
+        ensures { result ≡ refusal_line self }
+    {
+        match self {
+            Refusal::LongSheet | Refusal::SmallSpace | Refusal::Outgrown => 0,
+            Refusal::NoForm(k)
+            | Refusal::BadReference(k)
+            | Refusal::DeepNesting(k)
+            | Refusal::BadModule(k)
+            | Refusal::TooMany(k)
+            | Refusal::LongString(k)
+            | Refusal::LongAlloc(k)
+            | Refusal::NegativeAlloc(k)
+            | Refusal::OutsideLiteral(k)
+            | Refusal::LongLiteral(k) => k,
+        }
     }
 }
 
@@ -93,7 +93,7 @@ pub fn put_refusal(out: &mut [u8], at: usize, r: Refusal) -> usize
     ensures { (Wrote out.old at (printed (refused (refusal_number r) (refusal_line r))) out.new result) × (length (printed (refused (refusal_number r) (refusal_line r))) ≤ 64) }
 {
     let p = write::put_part(out, at, b"no");
-    let q = rows::put_comma_nat(out, p, number_of(r) as u64);
-    let s = rows::put_comma_nat(out, q, line_of(r) as u64);
+    let q = rows::put_comma_nat(out, p, u64::from(r.number()));
+    let s = rows::put_comma_nat(out, q, r.line() as u64);
     rows::put_lf(out, s)
 }

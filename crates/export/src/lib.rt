@@ -61,8 +61,8 @@ pub extern "C" fn limbo_sheet_compile(sheet: &[u8], listing: &mut [u8], work: &m
             listing: n,
         },
         Answer::Refused(r) => Compiled {
-            number: answers::number_of(r),
-            line: answers::line_of(r),
+            number: r.number(),
+            line: r.line(),
             listing: 0,
         },
     }
@@ -88,8 +88,8 @@ pub extern "C" fn limbo_sheet_image(
             area: a,
         },
         ImageAnswer::Refused(r) => Laid {
-            number: answers::number_of(r),
-            line: answers::line_of(r),
+            number: r.number(),
+            line: r.line(),
             listing: 0,
             image: 0,
             area: 0,

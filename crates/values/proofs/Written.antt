@@ -17,7 +17,7 @@ use Rattle.semantics.specs.Text.{Bytes, decimal, decimalℤ}
 use Rattle.write.specs.Wrote.{Wrote}
 use Rattle.write.proofs.Wrote.{wrote_as, wrote-next}
 use Rattle.write.proofs.Over.{get_d_over, over-there}
-use Rattle.write.proofs.Decimal.{decimal-one, decimal-more}
+use Rattle.write.proofs.Decimal.{decimal-short}
 use Rattle.values.specs.Values.{string_in, RunsApart}
 
 -- ---- a write
@@ -59,26 +59,13 @@ string-length t p l h = length-take-le l (drop p t) (omega (arith, length-drop p
 
 -- ---- decimals are short
 
--- b says whether n is one digit
-digits-few : (k n : ℕ) (b : Bool) → ltb n 10 ≡ b → n < 10 ^ suc k → length (decimal n) ≤ suc k
-digits-few zero n true e h = rw (decimal-one n (ltb-true n 10 e)) (omega arith)
-digits-few (suc k) n true e h = rw (decimal-one n (ltb-true n 10 e)) (omega arith)
-digits-few zero n false e h = let l = ltb-false n 10 e in absurd (omega arith)
-digits-few (suc k) n false e h =
-    let l = ltb-false n 10 e in
-    let q : n < 10 ^ suc k * 10 = rw (pow-suc 10 (suc k)) at h in
-    rw (decimal-more n l) (omega (arith, length-append (decimal (n / 10)) ((48 + n % 10) ∷ []), digits-few k (n / 10) (ltb (n / 10) 10) refl (tenth (10 ^ suc k) q)))
-  where
-    tenth : (m : ℕ) → n < m * 10 → n / 10 < m
-    tenth m h = omega arith
-
 pub integer-short : {z : ℤ} → SFits w64 z → length (decimalℤ z) ≤ 20
 unfolding decimalℤ
-integer-short {z = pos n} f = omega (arith, digits-few 18 n (ltb n 10) refl (wide n f.sfits))
+integer-short {z = pos n} f = omega (arith, decimal-short 18 n (wide n f.sfits))
   where
     wide : (n : ℕ) → n < 9223372036854775808 → n < 10 ^ 19
     wide n h = omega arith
-integer-short {z = negsuc n} f = omega (arith, digits-few 18 (suc n) (ltb (suc n) 10) refl (wide n f.sfits))
+integer-short {z = negsuc n} f = omega (arith, decimal-short 18 (suc n) (wide n f.sfits))
   where
     wide : (n : ℕ) → n < 9223372036854775808 → suc n < 10 ^ 19
     wide n h = omega arith

@@ -57,7 +57,7 @@ fn refused(r: Refusal, wanted: &[u8]) -> usize {
     let mut text = [0u8; 64];
     let p = answers::put_refusal(&mut text, 0, r);
     if are_first(wanted, &text, p) {
-        return answers::number_of(r) as usize;
+        return usize::from(r.number());
     }
     DIFFERS
 }

@@ -1,11 +1,13 @@
 -- Laws of decimal numbers: a number's digits are those of its tenth part, and one more.
-use Prim.Native.Nat.{ℕ, zero, suc, ◌+◌, ◌/◌, ◌%◌, ◌≤◌, ◌<◌}
+use Prim.Native.Nat.{ℕ, zero, suc, ◌+◌, ◌*◌, ◌/◌, ◌%◌, ◌^◌, ◌≤◌, ◌<◌}
 use mathlib.Core.Path.{◌≡◌, refl, sym, ap, ◌∙◌}
 use mathlib.Core.Bool.{Bool, true, false}
 use mathlib.Core.List.{[], ◌∷◌, ◌++◌, append_assoc}
+use native.Mathlib.Nat.{pow-suc}
 use native.Mathlib.Omega.{arith}
 use lib.Dec.{ltb}
-use borrow.Author.Tests.{lt-ltb, le-ltb, ltb-false}
+use lib.ListN.{length, length-append}
+use borrow.Author.Tests.{lt-ltb, le-ltb, ltb-true, ltb-false}
 use Rattle.semantics.specs.Text.{Bytes, digits_from, decimal}
 
 digits-behind : (k n : ℕ) (t : Bool) (acc : Bytes) → digits_from k t n acc ≡ digits_from k t n [] ++ acc
@@ -35,3 +37,19 @@ decimal-more n h =
     rw (le-ltb n 10 h)
     (digits-fuel n (suc (n / 10)) (n / 10) (ltb (n / 10) 10) ((48 + n % 10) ∷ []) refl (omega arith) (omega arith)
     ∙ digits-behind (suc (n / 10)) (n / 10) (ltb (n / 10) 10) ((48 + n % 10) ∷ []))
+
+-- a number below 10 ^ suc k has no more digits than that
+pub decimal-short : (k n : ℕ) → n < 10 ^ suc k → length (decimal n) ≤ suc k
+decimal-short k n h = few k n (ltb n 10) refl h
+  where
+    few : (k n : ℕ) (b : Bool) → ltb n 10 ≡ b → n < 10 ^ suc k → length (decimal n) ≤ suc k
+    few zero n true e h = rw (decimal-one n (ltb-true n 10 e)) (omega arith)
+    few (suc k) n true e h = rw (decimal-one n (ltb-true n 10 e)) (omega arith)
+    few zero n false e h = let l = ltb-false n 10 e in absurd (omega arith)
+    few (suc k) n false e h =
+        let l = ltb-false n 10 e in
+        let q : n < 10 ^ suc k * 10 = rw (pow-suc 10 (suc k)) at h in
+        rw (decimal-more n l) (omega (arith, length-append (decimal (n / 10)) ((48 + n % 10) ∷ []), few k (n / 10) (ltb (n / 10) 10) refl (tenth n (10 ^ suc k) q)))
+      where
+        tenth : (n m : ℕ) → n < m * 10 → n / 10 < m
+        tenth n m h = omega arith

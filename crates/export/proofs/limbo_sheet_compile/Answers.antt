@@ -13,4 +13,4 @@ returns-in-Listed c =
 pub returns-in-Refused : goal.returns-in-Refused
 returns-in-Refused c =
     let a = c.args in
-    refused_as a.sheet.now (length a.listing.now) (length a.work.now) _ _ c.in-Refused.is c.number_of.ensures c.line_of.ensures c.compile.ensures
+    refused_as a.sheet.now (length a.listing.now) (length a.work.now) _ _ c.in-Refused.is c.number.ensures c.line.ensures c.compile.ensures

@@ -14,4 +14,4 @@ pub returns-in-Refused : goal.returns-in-Refused
 returns-in-Refused c =
     let a = c.args in
     let f = c.image in
-    not-laid-as a.sheet.now (lent_of a.listing.now a.image.now a.area.now a.work.now) _ _ _ _ c.in-Refused.is c.number_of.ensures c.line_of.ensures f.ensures.0 f.ensures.1
+    not-laid-as a.sheet.now (lent_of a.listing.now a.image.now a.area.now a.work.now) _ _ _ _ c.in-Refused.is c.number.ensures c.line.ensures f.ensures.0 f.ensures.1
