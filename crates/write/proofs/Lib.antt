@@ -6,3 +6,4 @@ pub mod Hex
 pub mod Signed
 pub mod Back
 pub mod Uncut
+pub mod Writes

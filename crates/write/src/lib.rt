@@ -1,8 +1,8 @@
-// Writers of text: each stores from a place on and returns the next place. Past the end nothing is stored, and the place is one past
-// the length and stays there, so that one test at the very end tells whether all fitted.
+// Text written into a buffer that is lent. Past its end nothing is stored, and the place is one past the length and stays there, so that
+// one test at the very end tells whether all fitted.
 #![tactic(auto)]
 
-ghost use Rattle.std.specs.Prelude.{◌≡◌, ◌≤◌, ◌<◌, ◌/◌, ◌%◌, ◌^◌, ◌∷◌, [], length, replicate};
+ghost use Rattle.std.specs.Prelude.{◌≡◌, ◌+◌, ◌≤◌, ◌<◌, ◌/◌, ◌%◌, ◌^◌, ◌∷◌, [], length, replicate};
 ghost use Rattle.semantics.specs.Text.{decimal, decimalℤ, hex_digit, hex_of, big_endian};
 ghost use Rattle.write.specs.Wrote.{Wrote};
 
@@ -10,12 +10,90 @@ ghost use Rattle.write.specs.Wrote.{Wrote};
 pub fn zero(out: &mut [u8])
     ensures { out.new ≡ replicate (length out.old) 0 }
 {
-    let mut i = 0;
-    while i < out.len() {
-        out[i] = 0;
-        i += 1;
+    out.fill(0);
+}
+
+// A buffer and the next place in it.
+#[derive(Drop)]
+pub struct Writer<'a> {
+    pub out: &'a mut [u8],
+    pub at: usize,
+    pub ghost room: { at ≤ length out.now + 1 },
+}
+
+impl<'a> Writer<'a> {
+    ghost use Rattle.std.specs.Prelude.{◌∷◌, []};
+    ghost use Rattle.semantics.specs.Text.{decimal, decimalℤ, hex_of, big_endian};
+    ghost use Rattle.write.specs.Writes.{Writes};
+
+    // One byte.
+    pub fn put(&mut self, b: u8)
+        ensures { Writes self.old (b ∷ []) self.new }
+    {
+        if self.at < self.out.len() {
+            self.out[self.at] = b;
+            self.at += 1;
+        } else {
+            self.at = self.out.len() + 1;
+        }
+    }
+
+    // The bytes of a part.
+    pub fn put_part(&mut self, part: &[u8])
+        ensures { Writes self.old part.now self.new }
+    {
+        for b in part {
+            self.put(*b);
+        }
+    }
+
+    // A number in decimal: the digits but the last, then the last.
+    pub fn put_nat(&mut self, n: u64)
+        ensures { Writes self.old (decimal n) self.new }
+    {
+        if 9 < n {
+            self.put_nat(n / 10);
+        }
+        self.put(b'0' + (n % 10) as u8);
+    }
+
+    // An integer in decimal.
+    pub fn put_int(&mut self, n: i64)
+        ensures { Writes self.old (decimalℤ n) self.new }
+    {
+        if n < 0 {
+            self.put(b'-');
+        }
+        self.put_nat(n.unsigned_abs());
+    }
+
+    // Bytes as two hexadecimal digits each.
+    pub fn put_hex(&mut self, part: &[u8])
+        ensures { Writes self.old (hex_of part.now) self.new }
+    {
+        for b in part {
+            self.put(hex_digit(b / 16));
+            self.put(hex_digit(b % 16));
+        }
+    }
+
+    // The w lowest bytes of n, the highest first.
+    pub fn put_big_endian(&mut self, w: usize, n: u64)
+        requires { w ≤ 8 }
+        ensures { Writes self.old (big_endian w n) self.new }
+    {
+        self.put_part(&n.to_be_bytes()[8 - w..]);
+    }
+
+    // 64 bits as 16 hexadecimal digits.
+    pub fn put_hex_bits(&mut self, n: u64)
+        ensures { Writes self.old (hex_of (big_endian 8 n)) self.new }
+    {
+        self.put_hex(&n.to_be_bytes());
     }
 }
+
+// ---- the same for a buffer and a place that are held apart: each function returns the next place
 
 // No text: the place, or the one past the end.
 pub fn nothing(out: &[u8], at: usize) -> usize

@@ -1,5 +1,4 @@
 -- `rows::pend_row` meets its contract.
-use borrow.Author.Rules.{rules}
 use Rattle.write.proofs.Wrote.{then}
 use Rattle.semantics.specs.Listing.{row}
 use Rattle.rows.proofs.pend_row.Goals as goal

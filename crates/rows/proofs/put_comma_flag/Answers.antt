@@ -2,7 +2,6 @@
 use mathlib.Core.Path.{ap, sym}
 use mathlib.Core.Bool.{Bool}
 use mathlib.Core.List.{◌∷◌}
-use borrow.Author.Rules.{rules}
 use Rattle.semantics.specs.Listing.{flag}
 use Rattle.write.proofs.Wrote.{then, wrote_as}
 use Rattle.rows.proofs.put_comma_flag.Goals as goal

@@ -1,5 +1,4 @@
 -- `rows::put_comma_hex` meets its contract.
-use borrow.Author.Rules.{rules}
 use Rattle.write.proofs.Wrote.{then}
 use Rattle.rows.proofs.put_comma_hex.Goals as goal
 

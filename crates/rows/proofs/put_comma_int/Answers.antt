@@ -4,7 +4,6 @@ use mathlib.Core.Path.{ap}
 use lib.IntN.{ℤ}
 use mir.ValLaws.{to_z-of_z}
 use mathlib.Core.List.{◌∷◌}
-use borrow.Author.Rules.{rules}
 use Rattle.semantics.specs.Text.{decimalℤ}
 use Rattle.write.proofs.Wrote.{then, wrote_as}
 use Rattle.rows.proofs.put_comma_int.Goals as goal

@@ -2,7 +2,6 @@
 use Rattle.write.proofs.Hex.{byte_low}
 use Prim.Native.Nat.{◌*◌, ◌/◌, ◌^◌}
 use lib.Bits.{mask_lt}
-use borrow.Author.Rules.{rules}
 use Rattle.write.proofs.byte_at.Goals as goal
 
 pub overflow_cast-result : goal.overflow_cast-result

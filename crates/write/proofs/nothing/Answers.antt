@@ -1,7 +1,6 @@
 -- `write::nothing` meets its contract.
 use native.Mathlib.Omega.{arith}
 use Rattle.write.proofs.Wrote.{wrote_none, wrote-past}
-use borrow.Author.Rules.{rules}
 use Rattle.write.proofs.nothing.Goals as goal
 
 pub returns-then-out-at : goal.returns-then-out-at

@@ -1,6 +1,5 @@
 -- `write::put` meets its contract.
 use native.Mathlib.Omega.{arith}
-use borrow.Author.Rules.{rules}
 use Rattle.write.proofs.Wrote.{wrote-byte, wrote-past}
 use Rattle.write.proofs.put.Goals as goal
 

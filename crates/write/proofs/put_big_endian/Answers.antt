@@ -1,11 +1,8 @@
 use native.Mathlib.Omega.{arith}
 use borrow.Author.Rules.{rules}
-use Rattle.write.proofs.Left.{Left, left-all, left-next, left-none}
+use Rattle.write.proofs.Left.{left-all, left-next, left-none}
 use Rattle.write.proofs.Hex.{big-next, big-none}
-use Rattle.semantics.specs.Text.{big_endian}
-use lib.ListN.{length}
-use mathlib.Core.Path.{◌≡◌, ◌∙◌, refl}
-use Prim.Native.Nat.{◌≤◌, ◌+◌}
+use mathlib.Core.Path.{◌∙◌, refl}
 use Rattle.write.proofs.put_big_endian.Goals as goal
 
 pub loop-j-init : goal.loop-j-init

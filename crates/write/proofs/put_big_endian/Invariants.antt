@@ -1,11 +1,8 @@
 -- `write::put_big_endian` meets its contract. What is left to be written at p is the j lowest bytes.
-use native.Mathlib.Omega.{arith}
-use borrow.Author.Rules.{rules}
-use Rattle.write.proofs.Left.{Left, left-all, left-next, left-none}
-use Rattle.write.proofs.Hex.{big-next, big-none}
+use Rattle.write.proofs.Left.{Left}
 use Rattle.semantics.specs.Text.{big_endian}
 use lib.ListN.{length}
-use mathlib.Core.Path.{◌≡◌, ◌∙◌, refl}
+use mathlib.Core.Path.{◌≡◌}
 use Prim.Native.Nat.{◌≤◌, ◌+◌}
 use Rattle.write.proofs.put_big_endian.Given as goal
 

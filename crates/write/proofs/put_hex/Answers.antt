@@ -1,11 +1,9 @@
-use Prim.Native.Nat.{ℕ, ◌-◌, ◌≤◌}
+use Prim.Native.Nat.{ℕ}
 use mathlib.Core.Path.{ap}
 use native.Mathlib.Numerals.{add-one}
 use lib.Seq.{take_all, take-suc}
-use lib.ListN.{length, take}
 use borrow.Author.Rules.{rules}
 use Rattle.semantics.specs.Text.{hex_of}
-use Rattle.write.specs.Wrote.{Wrote}
 use Rattle.write.proofs.Wrote.{then, wrote_as, wrote-length}
 use Rattle.write.proofs.Hex.{hex-append}
 use Rattle.write.proofs.put_hex.Goals as goal

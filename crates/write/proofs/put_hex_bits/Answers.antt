@@ -1,5 +1,4 @@
 -- `write::put_hex_bits` meets its contract.
-use borrow.Author.Rules.{rules}
 use Rattle.write.proofs.Hex.{hex-of-bits}
 use Rattle.write.proofs.put_hex_bits.Goals as goal
 

@@ -1,5 +1,4 @@
 -- `write::put_hex_byte` meets its contract.
-use borrow.Author.Rules.{rules}
 use Rattle.semantics.specs.Text.{hex_of}
 use Rattle.write.proofs.Wrote.{then}
 use Rattle.write.proofs.put_hex_byte.Goals as goal

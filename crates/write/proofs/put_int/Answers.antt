@@ -1,5 +1,4 @@
 -- `write::put_int` meets its contract.
-use borrow.Author.Rules.{rules}
 use Rattle.write.proofs.Wrote.{then, wrote_as}
 use Rattle.write.proofs.Signed.{plus, minus}
 use Rattle.write.proofs.put_int.Goals as goal

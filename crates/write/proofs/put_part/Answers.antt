@@ -1,8 +1,5 @@
-use Prim.Native.Nat.{◌-◌, ◌≤◌}
 use lib.Seq.{take_all}
-use lib.ListN.{length, take}
 use borrow.Author.Rules.{rules}
-use Rattle.write.specs.Wrote.{Wrote}
 use Rattle.write.proofs.Wrote.{wrote-next, wrote_as, wrote-length}
 use Rattle.write.proofs.put_part.Goals as goal
 

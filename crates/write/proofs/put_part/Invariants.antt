@@ -1,10 +1,7 @@
 -- `write::put_part` meets its contract. The first k bytes are written.
 use Prim.Native.Nat.{◌-◌, ◌≤◌}
-use lib.Seq.{take_all}
 use lib.ListN.{length, take}
-use borrow.Author.Rules.{rules}
 use Rattle.write.specs.Wrote.{Wrote}
-use Rattle.write.proofs.Wrote.{wrote-next, wrote_as, wrote-length}
 use Rattle.write.proofs.put_part.Given as goal
 
 abbrev pub invariant-loop-k : goal.invariant-loop-k

@@ -1,0 +1,5 @@
+use Rattle.write.proofs.Writes.{writes_then}
+use Rattle.rows.proofs.comma_part.Goals as goal
+
+pub returns : goal.returns
+returns c = writes_then c.put.ensures c.put_part.ensures
