@@ -1,10 +1,9 @@
 // Decimal numbers and integers without leading zeros, of any number of digits.
 #![tactic(auto)]
 
-ghost use Rattle.std.specs.Prelude.{◌≡◌, ◌+◌, ◌*◌, ◌≤◌, min, drop};
-ghost use Rattle.decimal.specs.Number.{most, digits_of, number_up_to, signed_of, integer_of, is_between};
-
-use text::wide;
+ghost use Rattle.std.specs.Prelude.{◌≡◌, ◌+◌, ◌*◌, min};
+ghost use Rattle.semantics.specs.Text.{digits_value, nat_of};
+ghost use Rattle.decimal.specs.Number.{most, up_to, signed_of, integer_of, is_between};
 
 // One more than the magnitude of the lowest i64: a number that is larger need not be told from it.
 pub const MOST: u64 = 9223372036854775809;
@@ -14,121 +13,68 @@ pub const MOST: u64 = 9223372036854775809;
 pub enum Signed {
     Plus(u64),
     Minus(u64),
-    NoInteger,
-}
-
-// An integer of 64 bits, or none.
-#[derive(Clone, Copy)]
-pub enum Integer {
-    Is(i64),
-    Bad,
 }
 
 // One digit more, no further than MOST, so that no number of digits wraps.
-fn more(acc: u64, d: u64) -> u64
-    requires { (acc ≤ most) × (d ≤ 9) }
-    ensures { result ≡ min (acc * 10 + d) most }
+fn more(n: u64, digit: u64) -> u64
+    ensures { result ≡ min (n * 10 + digit) most }
 {
-    if MOST / 10 < acc {
-        return MOST;
-    }
-    acc * 10 + d
+    n.saturating_mul(10).saturating_add(digit).min(MOST)
 }
 
-// The number that the digits from `from` on write; MOST + 1 where a byte is no digit.
-fn digits(s: &[u8], from: usize) -> u64
-    ensures { result ≡ digits_of most 0 (drop from s.now) }
+// The number that digits write.
+fn digits(s: &[u8]) -> Option<u64>
+    ensures { result ≡ up_to most (digits_value 0 s.now) }
 {
-    let mut acc: u64 = 0;
-    let mut i = from;
-    while i < s.len() {
-        let x = s[i];
-        if x < b'0' {
-            return MOST + 1;
+    let mut n = 0;
+    for b in s {
+        if !b.is_ascii_digit() {
+            return None;
         }
-        if b'9' < x {
-            return MOST + 1;
-        }
-        acc = more(acc, wide(x - b'0'));
-        i += 1;
+        n = more(n, u64::from(*b - b'0'));
     }
-    acc
+    Some(n)
 }
 
-// The number that the bytes from `from` on write, MOST where it is larger, MOST + 1 where there is none: a zero stands alone.
-pub fn natural(s: &[u8], from: usize) -> u64
-    ensures { result ≡ number_up_to most (drop from s.now) }
+// A number, MOST where it is larger: a zero stands alone.
+pub fn natural(s: &[u8]) -> Option<u64>
+    ensures { result ≡ up_to most (nat_of s.now) }
 {
-    if s.len() <= from {
-        return MOST + 1;
+    if s.is_empty() {
+        return None;
     }
-    if s[from] == b'0' {
-        if from + 1 < s.len() {
-            return MOST + 1;
-        }
-        return 0;
+    if s[0] == b'0' && 1 < s.len() {
+        return None;
     }
-    digits(s, from)
+    digits(s)
 }
 
-// A number, cap where it is larger, and cap + 1 where there is none.
-pub fn read_number(s: &[u8], cap: u32) -> u64
-    ensures { (result ≡ number_up_to cap s.now) × (result ≤ cap + 1) }
+// A number, cap where it is larger.
+pub fn read_number(s: &[u8], cap: u32) -> Option<u64>
+    ensures { result ≡ up_to cap (nat_of s.now) }
 {
-    let n = natural(s, 0);
-    let c = cap as u64;
-    if MOST < n {
-        return c + 1;
-    }
-    if c < n {
-        return c;
-    }
-    n
+    Some(natural(s)?.min(u64::from(cap)))
 }
 
 // An integer's sign and magnitude: `-` stands only before a number other than 0.
-pub fn read_signed(s: &[u8]) -> Signed
+pub fn read_signed(s: &[u8]) -> Option<Signed>
     ensures { result ≡ signed_of s.now }
 {
-    if s.len() == 0 {
-        return Signed::NoInteger;
+    if let Some(magnitude) = s.strip_prefix(b"-") {
+        let n = natural(magnitude)?;
+        return if n == 0 { None } else { Some(Signed::Minus(n)) };
     }
-    if s[0] == b'-' {
-        let m = natural(s, 1);
-        if m == 0 {
-            return Signed::NoInteger;
-        }
-        if MOST < m {
-            return Signed::NoInteger;
-        }
-        return Signed::Minus(m);
-    }
-    let n = natural(s, 0);
-    if MOST < n {
-        return Signed::NoInteger;
-    }
-    Signed::Plus(n)
+    let n = natural(s)?;
+    Some(Signed::Plus(n))
 }
 
-// An integer from -2^63 to 2^63 - 1. The lowest has no negation, so a negative one is made from its magnitude less 1, complemented.
-pub fn read_integer(s: &[u8]) -> Integer
+// An integer from -2^63 to 2^63 - 1.
+pub fn read_integer(s: &[u8]) -> Option<i64>
     ensures { result ≡ integer_of s.now }
 {
-    let r = read_signed(s);
-    match r {
-        Signed::Plus(n) => {
-            if MOST - 2 < n {
-                return Integer::Bad;
-            }
-            Integer::Is(n as i64)
-        }
-        Signed::Minus(n) => {
-            if MOST - 1 < n {
-                return Integer::Bad;
-            }
-            Integer::Is(!((n - 1) as i64))
-        }
-        Signed::NoInteger => Integer::Bad,
+    match read_signed(s)? {
+        Signed::Plus(n) => i64::try_from(n).ok(),
+        Signed::Minus(n) => 0_i64.checked_sub_unsigned(n),
     }
 }
 
@@ -136,10 +82,9 @@ pub fn read_integer(s: &[u8]) -> Integer
 pub fn is_between(s: &[u8], lo: u32, hi: u32) -> bool
     ensures { result ≡ is_between lo hi s.now }
 {
-    let r = read_signed(s);
-    match r {
-        Signed::Plus(n) => n <= hi as u64,
-        Signed::Minus(n) => n <= lo as u64,
-        Signed::NoInteger => false,
+    match read_signed(s) {
+        Some(Signed::Plus(n)) => n <= u64::from(hi),
+        Some(Signed::Minus(n)) => n <= u64::from(lo),
+        None => false,
     }
 }

@@ -1,27 +1,13 @@
--- `decimal::natural` meets its contract.
-use mathlib.Core.Path.{◌∙◌}
-use native.Mathlib.Omega.{arith}
-use borrow.Author.Rules.{rules}
-use Rattle.decimal.specs.Number.{most}
-use Rattle.decimal.proofs.Numbers.{number-none, number-leading, number-zero, number_digits}
+use Rattle.std.proofs.Common.{◌∙◌, sym, ap}
+use Rattle.decimal.specs.Number.{most, up_to}
+use Rattle.decimal.proofs.Numbers.{nat-none, nat-leading, nat-digits}
 use Rattle.decimal.proofs.natural.Goals as goal
 
-pub returns-then-s-from : goal.returns-then-s-from
-returns-then-s-from c =
-    let a = c.args in
-    number-none most a.from a.s.now c.if-s-from.true
+pub returns-then-is_empty : goal.returns-then-is_empty
+returns-then-is_empty c = sym (ap (up_to most) (nat-none c.args.s.now (sym c.if-is_empty.ensures)))
 
-pub returns-then-from-s : goal.returns-then-from-s
-returns-then-from-s c =
-    let a = c.args in
-    number-leading most a.from a.s.now c.if-s-from-eq48.true c.if-from-s.true
-
-pub returns-then-s-from-eq48 : goal.returns-then-s-from-eq48
-returns-then-s-from-eq48 c =
-    let a = c.args in
-    number-zero most a.from a.s.now c.if-s-from-eq48.true (omega arith) c.if-from-s.false
+pub returns-then-s-gt1 : goal.returns-then-s-gt1
+returns-then-s-gt1 c = sym (ap (up_to most) (nat-leading c.args.s.now c.if-s-eq48.true c.if-s-gt1.true))
 
 pub returns : goal.returns
-returns c =
-    let a = c.args in
-    c.digits.ensures ∙ number_digits most a.from a.s.now c.if-s-from-eq48.false (omega arith)
+returns c = c.digits.ensures ∙ sym (ap (up_to most) (nat-digits c.args.s.now (sym c.if-is_empty.ensures) c.else-s-eq48.either))

@@ -1,23 +1,19 @@
--- `decimal::read_signed` meets its contract.
-use native.Mathlib.Omega.{arith}
-use borrow.Author.Rules.{rules}
-use Rattle.decimal.proofs.Numbers.{signed-nil, minus-zero, minus-none, minus-some, plus_none, plus-some}
+use Rattle.std.proofs.Common.{◌∙◌, sym}
+use borrow.Author.Tests.{ne_eqb}
+use Rattle.decimal.proofs.Numbers.{signed-minus, signed-plus}
 use Rattle.decimal.proofs.read_signed.Goals as goal
 
-pub returns-then-s-eq0 : goal.returns-then-s-eq0
-returns-then-s-eq0 c = signed-nil c.args.s.now c.if-s-eq0.true
+pub returns-in_err-n : goal.returns-in_err-n
+returns-in_err-n c = let p = c.in-Some.ensures.cases in c.from_residual.ensures ∙ sym (signed-minus c.args.s.now p.0 p.1 c.in_err-n.ensures)
 
-pub returns-then-m-eq0 : goal.returns-then-m-eq0
-returns-then-m-eq0 c = minus-zero c.args.s.now (omega arith) c.if-s-eq45.true c.natural-m.ensures c.if-m-eq0.true
+pub returns-then-n-eq0 : goal.returns-then-n-eq0
+returns-then-n-eq0 c = let p = c.in-Some.ensures.cases in sym (signed-minus c.args.s.now p.0 p.1 c.in_ok-n.ensures ∙ simp c.if-n-eq0.true)
 
-pub returns-then-m-gt-MOST : goal.returns-then-m-gt-MOST
-returns-then-m-gt-MOST c = minus-none c.args.s.now (omega arith) c.if-s-eq45.true c.natural-m.ensures c.if-m-gt-MOST.true
+pub returns-else-n-eq0 : goal.returns-else-n-eq0
+returns-else-n-eq0 c = let p = c.in-Some.ensures.cases in sym (signed-minus c.args.s.now p.0 p.1 c.in_ok-n.ensures ∙ simp (ne_eqb _ _ c.if-n-eq0.false))
 
-pub returns-then-s-eq45 : goal.returns-then-s-eq45
-returns-then-s-eq45 c = minus-some c.args.s.now (omega arith) c.if-s-eq45.true c.natural-m.ensures c.if-m-eq0.false c.if-m-gt-MOST.false
-
-pub returns-then-n-gt-MOST : goal.returns-then-n-gt-MOST
-returns-then-n-gt-MOST c = plus_none c.args.s.now (omega arith) c.if-s-eq45.false c.natural-n.ensures c.if-n-gt-MOST.true
+pub returns-in_err-n-2 : goal.returns-in_err-n-2
+returns-in_err-n-2 c = c.from_residual-in_err-n-2.ensures ∙ sym (signed-plus c.args.s.now c.in_default.ensures.cases c.in_err-n-2.ensures)
 
 pub returns : goal.returns
-returns c = plus-some c.args.s.now (omega arith) c.if-s-eq45.false c.natural-n.ensures c.if-n-gt-MOST.false
+returns c = sym (signed-plus c.args.s.now c.in_default.ensures.cases c.in_ok-n-2.ensures)
