@@ -2,139 +2,86 @@
 #![tactic(auto)]
 
 ghost use Rattle.std.specs.Prelude.{◌≡◌, ◌≤◌, length};
-ghost use Rattle.semantics.specs.Text.{characters};
-ghost use Rattle.utf8.specs.Utf8.{lead_of, to_come, no_lead, lead_at, followed, ends, starts_one, is_text};
+ghost use Rattle.std.specs.Option.{option_map};
+ghost use Rattle.semantics.specs.Text.{characters, lead, after_byte};
+ghost use Rattle.utf8.specs.Utf8.{lead_of, starts_one, is_text};
 
-use text::is_within;
-
-// Within a text: whether it is good so far, how many bytes of a character are to come, and the bounds of the first of them.
+// Within a text: how many bytes of a character are to come, and the bounds of the first of them.
 #[derive(Clone, Copy)]
-pub struct Lead {
-    pub good: bool,
-    pub more: u8,
-    pub low: u8,
-    pub high: u8,
+struct Lead {
+    more: u8,
+    low: u8,
+    high: u8,
 }
 
 fn to_come(more: u8, low: u8, high: u8) -> Lead
-    ensures { lead_of result ≡ to_come more low high }
+    ensures { lead_of result ≡ (more, low, high) }
 {
-    Lead {
-        good: true,
-        more,
-        low,
-        high,
-    }
-}
-
-fn fault() -> Lead
-    ensures { lead_of result ≡ no_lead }
-{
-    Lead {
-        good: false,
-        more: 0,
-        low: 0,
-        high: 0,
-    }
+    Lead { more, low, high }
 }
 
 // What a character's first byte asks of those behind it. The bounds of the second shut out overlong forms, surrogates, and what
 // lies above 10FFFF.
-fn leading(b: u8) -> Lead
-    ensures { lead_of result ≡ lead_at b }
+fn leading(b: u8) -> Option<Lead>
+    ensures { option_map lead_of result ≡ lead b }
 {
-    if is_within(b, 0x00, 0x7F) {
-        return to_come(0, 0, 0);
+    match b {
+        0x00..=0x7F => Some(to_come(0, 0, 0)),
+        0xC2..=0xDF => Some(to_come(1, 0x80, 0xBF)),
+        0xE0 => Some(to_come(2, 0xA0, 0xBF)),
+        0xED => Some(to_come(2, 0x80, 0x9F)),
+        0xE1..=0xEF => Some(to_come(2, 0x80, 0xBF)),
+        0xF0 => Some(to_come(3, 0x90, 0xBF)),
+        0xF1..=0xF3 => Some(to_come(3, 0x80, 0xBF)),
+        0xF4 => Some(to_come(3, 0x80, 0x8F)),
+        _ => None,
     }
-    if is_within(b, 0xC2, 0xDF) {
-        return to_come(1, 0x80, 0xBF);
-    }
-    if is_within(b, 0xE0, 0xE0) {
-        return to_come(2, 0xA0, 0xBF);
-    }
-    if is_within(b, 0xED, 0xED) {
-        return to_come(2, 0x80, 0x9F);
-    }
-    if is_within(b, 0xE1, 0xEF) {
-        return to_come(2, 0x80, 0xBF);
-    }
-    if is_within(b, 0xF0, 0xF0) {
-        return to_come(3, 0x90, 0xBF);
-    }
-    if is_within(b, 0xF1, 0xF3) {
-        return to_come(3, 0x80, 0xBF);
-    }
-    if is_within(b, 0xF4, 0xF4) {
-        return to_come(3, 0x80, 0x8F);
-    }
-    fault()
 }
 
 // One byte further.
-fn next(a: Lead, b: u8) -> Lead
-    ensures { lead_of result ≡ followed b (lead_of a) }
+fn next(a: Lead, b: u8) -> Option<Lead>
+    ensures { option_map lead_of result ≡ after_byte b (lead_of a) }
 {
-    if !a.good {
-        return a;
-    }
     if a.more == 0 {
         return leading(b);
     }
-    if is_within(b, a.low, a.high) {
-        return to_come(a.more - 1, 0x80, 0xBF);
+    if b < a.low || a.high < b {
+        return None;
     }
-    fault()
-}
-
-// Whether a text may end here.
-fn may_end(a: Lead) -> bool
-    ensures { result ≡ ends (lead_of a) }
-{
-    if !a.good {
-        return false;
-    }
-    a.more == 0
+    Some(to_come(a.more - 1, 0x80, 0xBF))
 }
 
 // Whether a field is pairs of hexadecimal digits that write UTF-8.
 pub fn is_text(s: &[u8]) -> bool
     ensures { result ≡ is_text s.now }
 {
-    let mut a = to_come(0, 0, 0);
-    let mut i: usize = 0;
-    while i + 1 < s.len() {
-        let v = hex_field::pair(s[i], s[i + 1]);
-        if v == 256 {
-            return false;
-        }
-        a = next(a, v as u8);
-        i += 2;
-    }
-    if i < s.len() {
+    if s.len() % 2 != 0 {
         return false;
     }
-    may_end(a)
+    let mut a = to_come(0, 0, 0);
+    for i in 0..s.len() / 2 {
+        let Some(b) = hex_field::pair(s[2 * i], s[2 * i + 1]) else {
+            return false;
+        };
+        let Some(behind) = next(a, b) else {
+            return false;
+        };
+        a = behind;
+    }
+    a.more == 0
 }
 
-// 1 where a byte is the first of a character, and 0 where it is not.
-fn starts_one(b: u8) -> usize
-    ensures { (result ≡ starts_one b) × (result ≤ 1) }
+// Whether a byte is the first of a character.
+fn starts_one(b: u8) -> bool
+    ensures { result ≡ starts_one b }
 {
-    if is_within(b, 0x80, 0xBF) {
-        return 0;
-    }
-    1
+    !matches!(b, 0x80..=0xBF)
 }
 
 // How many characters UTF-8 text has.
+#[tactic(auto, using(crate::proofs::Utf8s::characters_count))]
 pub fn count(s: &[u8]) -> usize
     ensures { (result ≡ characters s.now) × (result ≤ length s.now) }
 {
-    let mut n: usize = 0;
-    let mut i: usize = 0;
-    while i < s.len() {
-        n += starts_one(s[i]);
-        i += 1;
-    }
-    n
+    s.iter().filter(|b| starts_one(**b)).count()
 }

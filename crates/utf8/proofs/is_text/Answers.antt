@@ -1,31 +1,30 @@
-use Prim.Native.Nat.{◌≤◌, ◌-◌}
-use mathlib.Core.Path.{◌≡◌, ◌∙◌, sym}
-use native.Mathlib.Omega.{arith}
-use lib.ListN.{length, drop}
-use borrow.Author.Rules.{rules}
-use Rattle.utf8.specs.Utf8.{lead_of, is_text, text_from}
-use Rattle.utf8.proofs.Utf8s.{text-start, text-bad, text-next, text-odd, text-end}
+use Rattle.std.proofs.Common.{◌∙◌, sym, ◌*◌, arith}
+use Rattle.utf8.specs.Utf8.{lead_of}
+use Rattle.utf8.proofs.Utf8s.{text_odd, text-start, text-bad, text-fault, text-next, text-end}
 use Rattle.utf8.proofs.is_text.Goals as goal
 
-pub loop-i-init : goal.loop-i-init
-loop-i-init c = (search rules, rw c.to_come-a.ensures (text-start c.args.s.now))
+pub returns-then-s-ne0 : goal.returns-then-s-ne0
+returns-then-s-ne0 c = text_odd c.args.s.now c.if-s-ne0.true
 
-pub returns-then-v-eq256 : goal.returns-then-v-eq256
-returns-then-v-eq256 c =
+pub loop-i-init : goal.loop-i-init
+loop-i-init c = rw c.to_come-a.ensures (text-start c.args.s.now)
+
+pub returns-in_default : goal.returns-in_default
+returns-in_default c =
     let l = c.loop-i in
-    sym (l.invariant.1 ∙ text-bad c.args.s.now l.i (lead_of l.a) c.loop-i-test.true c.pair-v.ensures.0 c.if-v-eq256.true)
+    sym (l.invariant ∙ text-bad c.args.s.now l.i (lead_of l.a) (omega arith) (sym c.in_default.ensures))
+
+pub returns-in_default-next : goal.returns-in_default-next
+returns-in_default-next c =
+    let l = c.loop-i in
+    sym (l.invariant ∙ text-fault c.args.s.now l.i (lead_of l.a) (omega arith) (sym c.in-Some.ensures) (sym c.in_default-next.ensures))
 
 pub loop-i-preserved : goal.loop-i-preserved
 loop-i-preserved c =
     let l = c.loop-i in
-    (omega arith, l.invariant.1 ∙ text-next c.args.s.now l.i (lead_of l.a) c.loop-i-test.true c.pair-v.ensures.0 (lead_of c.next-a.result) c.if-v-eq256.false c.next-a.ensures)
-
-pub returns-then-i-s : goal.returns-then-i-s
-returns-then-i-s c =
-    let l = c.loop-i in
-    sym (l.invariant.1 ∙ text-odd c.args.s.now l.i (lead_of l.a) c.if-i-s.true (omega arith))
+    l.invariant ∙ text-next c.args.s.now l.i (lead_of l.a) (omega arith) (sym c.in-Some.ensures) (sym c.in-Some-next.ensures)
 
 pub returns : goal.returns
 returns c =
     let l = c.loop-i in
-    c.may_end.ensures ∙ text-end c.args.s.now l.i (lead_of l.a) c.if-i-s.false ∙ sym l.invariant.1
+    sym (l.invariant ∙ text-end c.args.s.now (2 * l.i) (lead_of l.a) (omega arith))
