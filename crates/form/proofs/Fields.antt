@@ -3,6 +3,7 @@ use mathlib.Core.Path.{◌≡◌, refl, sym, ap, ◌∙◌}
 use mathlib.Core.Bool.{Bool, true, false, cond, ◌&&◌}
 use mathlib.Core.List.{List, [], ◌∷◌}
 use Rattle.std.specs.Prelude.{Option, None, Some}
+use Rattle.std.specs.Option.{is_some, option_and_then}
 use Prim.Native.Nat.{ℕ, suc, ◌+◌, ◌-◌, ◌%◌, ◌≤◌, ◌<◌}
 use native.Mathlib.Omega.{arith}
 use lib.Dec.{leb, ltb, eqb}
@@ -10,16 +11,11 @@ use lib.IntN.{ℤ}
 use lib.ListN.{length, take, drop, length-drop}
 use lib.Seq.{take_all}
 use borrow.Author.Tests.{ltb-true, ltb-false}
-use Rattle.semantics.specs.Text.{parts_at, holds_of, from_big_endian, int_of, unhex, is_name}
+use Rattle.semantics.specs.Text.{parts_at, holds_of, from_big_endian, or_else, nat_of, int_of, unhex, is_name}
 use Rattle.semantics.specs.Form as Form
-use Rattle.semantics.proofs.Common.{never}
 use Rattle.text.specs.Parts.{until}
-use Rattle.decimal.specs.Number.{whole, integer_of, is_between}
+use Rattle.decimal.specs.Number.{up_to, capped, number_up_to, whole, integer_of, is_between}
 use Rattle.hex_field.specs.Hex.{eight_bytes, bits64_of}
-use Rattle.decimal.specs.declared.Integer.{Integer}
-use Rattle.decimal.specs.declared.Integer.TheVariants as Integer
-use Rattle.hex_field.specs.declared.Bits64.{Bits64}
-use Rattle.hex_field.specs.declared.Bits64.TheVariants as Bits64
 use Rattle.text.proofs.Parts.{until-take, parts-step, parts-one}
 use Rattle.form.specs.Letters.{is_key_field, is_real_field}
 
@@ -67,55 +63,38 @@ module _ (s : List ℕ) (p : ℕ) (hp : p ≡ 0 + length (until 46 (drop 0 s))) 
     pub key-last : length s ≤ q → is_name (take (p - 0) (drop 0 s)) ≡ true → is_name (take (q - (p + 1)) (drop (p + 1) s)) ≡ is_key_field s
     key-last l e = rw e at (key-two l)
 
--- ---- integers of 64 bits
+-- ---- integers of 64 bits, and reals
 
-module _ (s : List ℕ) where
-  pub i64-good : {z : ℤ} → integer_of s ≡ Integer.Is z → true ≡ is_between 9223372036854775808 9223372036854775807 s
-  unfolding integer_of is_between
-  i64-good {z} = go (int_of s)
-    where
-      of : (b : Bool) (y : ℤ) → cond b (Integer.Is y) Integer.Bad ≡ Integer.Is z → true ≡ b
-      of true y e = refl
-      of false y e = never cc
+pub is_i64_some : (s : List ℕ) → is_some (integer_of s) ≡ is_between 9223372036854775808 9223372036854775807 s
+unfolding integer_of is_between
+is_i64_some s = go (int_of s)
+  where
+    of : (b : Bool) (z : ℤ) → is_some (cond b (Some z) None) ≡ b
+    of true z = refl
+    of false z = refl
 
-      go : (o : Option ℤ) → whole o ≡ Integer.Is z → true ≡ holds_of (Form.between 9223372036854775808 9223372036854775807) o
-      go None e = never cc
-      go (Some y) e = of (Form.between 9223372036854775808 9223372036854775807 y) y e
+    go : (o : Option ℤ) → is_some (option_and_then whole o) ≡ holds_of (Form.between 9223372036854775808 9223372036854775807) o
+    go None = refl
+    go (Some z) = of (Form.between 9223372036854775808 9223372036854775807 z) z
 
-  pub i64-bad : integer_of s ≡ Integer.Bad → false ≡ is_between 9223372036854775808 9223372036854775807 s
-  unfolding integer_of is_between
-  i64-bad = go (int_of s)
-    where
-      of : (b : Bool) (y : ℤ) → cond b (Integer.Is y) Integer.Bad ≡ Integer.Bad → false ≡ b
-      of false y e = refl
-      of true y e = never cc
+pub is_real_bits : (s : List ℕ) {o : Option ℕ} → o ≡ bits64_of s → holds_of (λ (n : ℕ). leb (n % 9223372036854775808) 9218868437227405312) o ≡ is_real_field s
+unfolding bits64_of is_real_field
+is_real_bits s e = rw e (go (unhex s))
+  where
+    of : (b : Bool) (n : ℕ) → holds_of (λ (n : ℕ). leb (n % 9223372036854775808) 9218868437227405312) (cond b (Some n) None) ≡ b && Form.not_nan n
+    of true n = refl
+    of false n = refl
 
-      go : (o : Option ℤ) → whole o ≡ Integer.Bad → false ≡ holds_of (Form.between 9223372036854775808 9223372036854775807) o
-      go None e = refl
-      go (Some y) e = of (Form.between 9223372036854775808 9223372036854775807 y) y e
+    go : (o : Option (List ℕ)) → holds_of (λ (n : ℕ). leb (n % 9223372036854775808) 9218868437227405312) (option_and_then eight_bytes o) ≡ holds_of Form.is_real_bytes o
+    go None = refl
+    go (Some bs) = of (eqb (length bs) 8) (from_big_endian 0 bs)
 
-  -- ---- reals
+-- ---- numbers
 
-  pub real-bits : {n : ℕ} → bits64_of s ≡ Bits64.Bits n → leb (n % 9223372036854775808) 9218868437227405312 ≡ is_real_field s
-  unfolding bits64_of is_real_field
-  real-bits {n} = go (unhex s)
-    where
-      of : (b : Bool) (m : ℕ) → cond b (Bits64.Bits m) Bits64.Bad ≡ Bits64.Bits n → leb (n % 9223372036854775808) 9218868437227405312 ≡ b && Form.not_nan m
-      of true m e = let q : m ≡ n = cc in rw q
-      of false m e = never cc
-
-      go : (o : Option (List ℕ)) → eight_bytes o ≡ Bits64.Bits n → leb (n % 9223372036854775808) 9218868437227405312 ≡ holds_of Form.is_real_bytes o
-      go None e = never cc
-      go (Some bs) e = of (eqb (length bs) 8) (from_big_endian 0 bs) e
-
-  pub real-bad : bits64_of s ≡ Bits64.Bad → false ≡ is_real_field s
-  unfolding bits64_of is_real_field
-  real-bad = go (unhex s)
-    where
-      of : (b : Bool) (m : ℕ) → cond b (Bits64.Bits m) Bits64.Bad ≡ Bits64.Bad → false ≡ b && Form.not_nan m
-      of true m e = never cc
-      of false m e = refl
-
-      go : (o : Option (List ℕ)) → eight_bytes o ≡ Bits64.Bad → false ≡ holds_of Form.is_real_bytes o
-      go None e = refl
-      go (Some bs) e = of (eqb (length bs) 8) (from_big_endian 0 bs) e
+pub number_told : (s : List ℕ) {o : Option ℕ} → o ≡ up_to 65536 (nat_of s) → (or_else 65537 o ≡ number_up_to 65536 s) × (or_else 65537 o ≤ 65537)
+unfolding number_up_to
+number_told s e = rw e (go (nat_of s))
+  where
+    go : (o : Option ℕ) → (or_else 65537 (up_to 65536 o) ≡ capped 65536 o) × (or_else 65537 (up_to 65536 o) ≤ 65537)
+    go None = (refl, omega arith)
+    go (Some n) = (refl, omega arith)

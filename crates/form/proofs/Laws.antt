@@ -2,7 +2,8 @@
 use mathlib.Core.Path.{◌≡◌, refl, sym, ap, ◌∙◌}
 use mathlib.Core.Bool.{Bool, true, false, cond, not, ◌&&◌, ◌||◌, or-true}
 use mathlib.Core.List.{List, [], ◌∷◌, ◌++◌}
-use Rattle.std.specs.Prelude.{Option, None, Some}
+use Rattle.std.specs.Prelude.{Option, None, Some, ◌⊎◌}
+use Rattle.std.proofs.Common.{inl, inr}
 use Prim.Native.Nat.{ℕ, zero, suc, ◌+◌, ◌-◌, ◌≤◌, ◌<◌, min}
 use native.Mathlib.Omega.{arith}
 use native.Mathlib.Numerals.{add-one}
@@ -19,7 +20,7 @@ use Rattle.semantics.specs.Form.Part.{one, many}
 use Rattle.decimal.specs.Number as Number
 use Rattle.utf8.specs.Utf8 as Utf8
 use Rattle.text.proofs.Parts.{until-take, parts-step, parts-one}
-use Rattle.form.specs.Table.{code, codes, row_at, keywords_at, kind_at, codes_at, fields_behind, form_of}
+use Rattle.form.specs.Table.{code, codes, row_at, keywords_at, kind_at, codes_at, fields_behind, row_if, form_of}
 use Rattle.form.specs.declared.Walk.{Walk}
 use Rattle.form.specs.Letters.{is_key_field, is_real_field, limit_of, letter_holds, after, letters_fit, letters_left, WalkBounds, letters_from, fields_left, WalkAt, WalkStepped, beginning}
 use Rattle.semantics.proofs.Common.{never, both}
@@ -65,8 +66,10 @@ module _ (l : List ℕ) (f : ℕ) (h : f < 42) (same : Form.row_of Form.forms l 
   opened : Form.row_of Form.forms l ≡ f + cond (Form.begins (keywords_at f) l) 0 (suc (Form.row_of (drop (suc f) Form.forms) l))
   opened = same ∙ ap (λ (r : List Form.Row). f + Form.row_of r l) (drop-cons Form.forms f Form.no_row (omega (arith, row-count)))
 
-  pub row_here : Form.begins (keywords_at f) l ≡ true → f ≡ Form.row_of Form.forms l
-  row_here q = sym (opened ∙ rw q (omega arith))
+  pub row_here : Form.begins (keywords_at f) l ≡ true → Some f ≡ row_if (Form.row_of Form.forms l)
+  row_here q =
+      let e : f ≡ Form.row_of Form.forms l = sym (opened ∙ rw q (omega arith)) in
+      rw (← e, lt-ltb f 42 h)
 
   pub row_next : Form.begins (keywords_at f) l ≡ false → Form.row_of Form.forms l ≡ f + 1 + Form.row_of (drop (f + 1) Form.forms) l
   row_next q = opened ∙ rw (q, add-one) (omega arith)
@@ -74,8 +77,10 @@ module _ (l : List ℕ) (f : ℕ) (h : f < 42) (same : Form.row_of Form.forms l 
 pub row-start : (l : List ℕ) → Form.row_of Form.forms l ≡ 0 + Form.row_of (drop 0 Form.forms) l
 row-start l = omega arith
 
-pub row-end : (l : List ℕ) (f : ℕ) → f ≡ 42 → Form.row_of Form.forms l ≡ f + Form.row_of (drop f Form.forms) l → f ≡ Form.row_of Form.forms l
-row-end l f e same = sym (same ∙ rw (drop_of_length-le Form.forms {i = f} (omega (arith, row-count))) (omega arith))
+pub row-end : (l : List ℕ) (f : ℕ) → f ≡ 42 → Form.row_of Form.forms l ≡ f + Form.row_of (drop f Form.forms) l → None ≡ row_if (Form.row_of Form.forms l)
+row-end l f e same =
+    let k : Form.row_of Form.forms l ≡ 42 = same ∙ rw (drop_of_length-le Form.forms {i = f} (omega (arith, row-count))) (omega arith) in
+    rw (le-ltb (Form.row_of Form.forms l) 42 (omega arith))
 
 -- ---- the walk
 
@@ -342,36 +347,41 @@ begins-chosen (r ∷ rs) l h = go (Form.begins r.words l) refl (λ k. begins-cho
     go false q ih = rw q (ih (let k : suc (Form.row_of rs l) < suc (length rs) = rw q at h in omega arith))
 
 module _ (k : ℕ) (l : List ℕ) where
-  form-open : form_of k l ≡ cond (leb (length l) 255 && ltb (Form.row_of Form.forms l) 42 && Form.fits (row_at (Form.row_of Form.forms l)).parts (Form.fields_from (length (keywords_at (Form.row_of Form.forms l)) + 1) l) && (eqb k 1 || not (eqb (kind_at (Form.row_of Form.forms l)) 73))) (Form.row_of Form.forms l) 42
+  form-open : form_of k l ≡ cond (leb (length l) 255 && ltb (Form.row_of Form.forms l) 42 && Form.fits (row_at (Form.row_of Form.forms l)).parts (Form.fields_from (length (keywords_at (Form.row_of Form.forms l)) + 1) l) && (eqb k 1 || not (eqb (kind_at (Form.row_of Form.forms l)) 73))) (Some (Form.row_of Form.forms l)) None
   unfolding Form.formed Form.read_of
   form-open = rw row-count
 
-  pub form-long : 255 < length l → 42 ≡ form_of k l
+  pub form-long : 255 < length l → None ≡ form_of k l
   form-long h = sym (form-open ∙ rw (lt-leb (length l) 255 h))
 
-  module _ (f : ℕ) (short : length l ≤ 255) (hf : f ≡ Form.row_of Form.forms l) where
-    form-row : form_of k l ≡ cond (ltb f 42 && Form.fits (row_at f).parts (Form.fields_from (length (keywords_at f) + 1) l) && (eqb k 1 || not (eqb (kind_at f) 73))) f 42
-    form-row = form-open ∙ rw (le-leb (length l) 255 short, ← hf)
+  pub form-none : length l ≤ 255 → None ≡ row_if (Form.row_of Form.forms l) → None ≡ form_of k l
+  form-none short e = sym (form-open ∙ rw (le-leb (length l) 255 short, go (ltb (Form.row_of Form.forms l) 42) e))
+    where
+      go : (t : Bool) → None ≡ cond t (Some (Form.row_of Form.forms l)) None → t ≡ false
+      go true e = never cc
+      go false e = refl
 
-    pub form-none : f ≡ 42 → 42 ≡ form_of k l
-    form-none e = sym (form-row ∙ rw (le-ltb f 42 (omega arith)))
+  module _ (f : ℕ) (short : length l ≤ 255) (hf : Some f ≡ row_if (Form.row_of Form.forms l)) where
+    row-is : (f ≡ Form.row_of Form.forms l) × (f < 42)
+    row-is = go (ltb (Form.row_of Form.forms l) 42) refl hf
+      where
+        go : (t : Bool) → ltb (Form.row_of Form.forms l) 42 ≡ t → Some f ≡ cond t (Some (Form.row_of Form.forms l)) None → (f ≡ Form.row_of Form.forms l) × (f < 42)
+        go true q e = let k : f ≡ Form.row_of Form.forms l = cc in (k, omega (arith, ltb-true _ _ q))
+        go false q e = never cc
 
-    module _ (low : f < 42) where
-      form-fields : form_of k l ≡ cond (letters_fit (codes_at f) (fields_behind f l) && (eqb k 1 || not (eqb (kind_at f) 73))) f 42
-      form-fields = form-row ∙ rw (lt-ltb f 42 low, fits-codes (fields_behind f l) (row_at f).parts (parts-fine f low))
+    form-fields : form_of k l ≡ cond (letters_fit (codes_at f) (fields_behind f l) && (eqb k 1 || not (eqb (kind_at f) 73))) (Some f) None
+    form-fields = form-open ∙ rw (le-leb (length l) 255 short, ← row-is.0, lt-ltb f 42 row-is.1, fits-codes (fields_behind f l) (row_at f).parts (parts-fine f row-is.1))
 
-      pub form-unfit : letters_fit (codes_at f) (fields_behind f l) ≡ false → 42 ≡ form_of k l
-      form-unfit e = sym (form-fields ∙ rw e)
+    pub form-unfit : letters_fit (codes_at f) (fields_behind f l) ≡ false → None ≡ form_of k l
+    form-unfit e = sym (form-fields ∙ rw e)
 
-      module _ (fit : letters_fit (codes_at f) (fields_behind f l) ≡ true) where
-        pub form-other : (kind_at f ≡ 73 → ⊥) → f ≡ form_of k l
-        form-other n = sym (form-fields ∙ simp (fit, ne_eqb (kind_at f) 73 n, or-true))
+    module _ (fit : letters_fit (codes_at f) (fields_behind f l) ≡ true) where
+      pub form-good : (kind_at f ≡ 73) × (k ≡ 1) ⊎ (kind_at f ≡ 73 → ⊥) → Some f ≡ form_of k l
+      form-good (inl e) = sym (form-fields ∙ rw (fit, eq-eqb k 1 e.1))
+      form-good (inr n) = sym (form-fields ∙ simp (fit, ne_eqb (kind_at f) 73 n, or-true))
 
-        pub form-first : k ≡ 1 → f ≡ form_of k l
-        form-first e = sym (form-fields ∙ rw (fit, eq-eqb k 1 e))
-
-        pub form-late : kind_at f ≡ 73 → (k ≡ 1 → ⊥) → 42 ≡ form_of k l
-        form-late e n = sym (form-fields ∙ rw (fit, ne_eqb k 1 n, eq-eqb (kind_at f) 73 e))
+      pub form-late : kind_at f ≡ 73 → (k ≡ 1 → ⊥) → None ≡ form_of k l
+      form-late e n = sym (form-fields ∙ rw (fit, ne_eqb k 1 n, eq-eqb (kind_at f) 73 e))
 
 -- ---- readers
 

@@ -1,5 +1,5 @@
 -- The table of forms as bytes: 24 a row, an LF, 17 for the keywords, the kind's letter, and 5 for the fields, blank behind.
-use Rattle.std.specs.Prelude.{ℕ, zero, suc, ◌+◌, ◌-◌, cond, List, [], ◌∷◌, ◌++◌, length, get_or}
+use Rattle.std.specs.Prelude.{ℕ, zero, suc, ◌+◌, ◌-◌, cond, List, [], ◌∷◌, ◌++◌, length, get_or, ltb, Option, None, Some}
 use Rattle.semantics.specs.Text.{Bytes}
 use Rattle.semantics.specs.Tree.{Node}
 use Rattle.semantics.specs.Form.{Atom, Part, Row, letter, forms, no_row, row_of, fields_from, formed, make}
@@ -61,9 +61,13 @@ codes_at f = codes (row_at f).parts
 abbrev pub fields_behind : ℕ → Bytes → List Bytes
 fields_behind f l = fields_from (length (keywords_at f) + 1) l
 
--- the number of line k's form, 42 where it has none
-abbrev pub form_of : ℕ → Bytes → ℕ
-form_of k l = cond (formed k l) (row_of forms l) row_count
+-- row f, none behind the last
+abbrev pub row_if : ℕ → Option ℕ
+row_if f = cond (ltb f row_count) (Some f) None
+
+-- the number of line k's form
+abbrev pub form_of : ℕ → Bytes → Option ℕ
+form_of k l = cond (formed k l) (Some (row_of forms l)) None
 
 -- what form f makes of fields, where ns are nodes
 abbrev pub row_node : List Node → ℕ → List Bytes → Node

@@ -1,12 +1,12 @@
 // The forms of lines: a table, and one walk over a line's fields by it.
 #![tactic(auto)]
 
-ghost use Rattle.std.specs.Prelude.{◌≡◌, [], ℕ, ◌≤◌, ◌<◌, length, drop, get_or};
+ghost use Rattle.std.specs.Prelude.{◌≡◌, [], ℕ, ◌≤◌, ◌<◌, length, drop, get_or, IfSome};
 ghost use Rattle.semantics.specs.Text.{same};
 ghost use Rattle.semantics.specs.Form.{forms, begins, row_of};
 ghost use Rattle.decimal.specs.Number.{number_up_to, is_between};
 ghost use Rattle.text.specs.Parts.{until};
-ghost use Rattle.form.specs.Table.{table, row_count, keywords_at, kind_at, codes_at, fields_behind, form_of};
+ghost use Rattle.form.specs.Table.{table, row_count, row_if, keywords_at, kind_at, codes_at, fields_behind, form_of};
 ghost use Rattle.form.specs.Letters.{is_key_field, is_real_field, limit_of, letter_holds, after, letters_fit, letters_from, WalkBounds, WalkAt, WalkStepped, beginning};
 
 use codes::kind;
@@ -66,8 +66,7 @@ const FIELDS: [u8; 210] =
 // How long the keywords of each row are: a stands for 1.
 const WIDTHS: [u8; 42] = *b"fgfgifhhfgfegefgfhfhggebbbcdccccdehmnmnpjk";
 
-// Behind the last row: no form.
-pub const ROWS: usize = 42;
+const ROWS: usize = 42;
 
 const ROW_BYTES: usize = 24;
 
@@ -151,22 +150,22 @@ fn begins_with(t: &[u8; 1008], l: &[u8], f: usize) -> bool
 }
 
 // The first form whose keywords a line begins with.
-fn row_in(t: &[u8; 1008], l: &[u8]) -> usize
+fn row_in(t: &[u8; 1008], l: &[u8]) -> Option<usize>
     requires { t.now ≡ table forms }
-    ensures { (result ≡ row_of forms l.now) × (result ≤ row_count) }
+    ensures value { result ≡ row_if (row_of forms l.now) }
+    ensures low { IfSome result (λ f. f < row_count) }
 {
-    let mut f = 0;
-    while f < ROWS {
+    for f in 0..ROWS {
         if begins_with(t, l, f) {
-            return f;
+            return Some(f);
         }
-        f += 1;
     }
-    f
+    None
 }
 
-fn row_of(l: &[u8]) -> usize
-    ensures { (result ≡ row_of forms l.now) × (result ≤ row_count) }
+fn row_of(l: &[u8]) -> Option<usize>
+    ensures value { result ≡ row_if (row_of forms l.now) }
+    ensures low { IfSome result (λ f. f < row_count) }
 {
     let t = FORMS;
     row_in(&t, l)
@@ -175,28 +174,19 @@ fn row_of(l: &[u8]) -> usize
 // ---- fields
 
 // What a number must be below where its letter is x.
+#[tactic(auto, unfolding(crate::specs::Letters::limit_of))]
 fn limit(x: u8) -> usize
     ensures { result ≡ limit_of x }
 {
-    if MANY <= x {
-        return 17;
+    match x {
+        MANY.. => 17,
+        UNARY => 4,
+        BINARY => 19,
+        LINE_OR_COL => 65536,
+        SIZE => 4097,
+        b' ' => 0,
+        _ => 65537,
     }
-    if x == UNARY {
-        return 4;
-    }
-    if x == BINARY {
-        return 19;
-    }
-    if x == LINE_OR_COL {
-        return CAP as usize;
-    }
-    if x == SIZE {
-        return 4097;
-    }
-    if x == b' ' {
-        return 0;
-    }
-    CAP as usize + 1
 }
 
 // NAME or NAME.NAME.
@@ -218,50 +208,37 @@ fn is_key(s: &[u8]) -> bool
     name::is_name(&s[a..q])
 }
 
+#[tactic(auto, using(crate::proofs::Fields::is_i64_some))]
 fn is_i64(s: &[u8]) -> bool
     ensures { result ≡ is_between 9223372036854775808 9223372036854775807 s.now }
 {
-    let r = decimal::read_integer(s);
-    match r {
-        decimal::Integer::Is(_) => true,
-        decimal::Integer::Bad => false,
-    }
+    decimal::read_integer(s).is_some()
 }
 
 // 16 digits of a real that is no NaN: without its sign, it is not above infinity.
 fn is_real(s: &[u8]) -> bool
     ensures { result ≡ is_real_field s.now }
 {
-    let w = hex_field::read_bits(s);
-    match w {
-        hex_field::Bits64::Bits(b) => b % SIGN <= INFINITY,
-        hex_field::Bits64::Bad => false,
+    match hex_field::read_bits(s) {
+        Some(b) => b % SIGN <= INFINITY,
+        None => false,
     }
 }
 
 // Whether a field holds what its letter says.
+#[tactic(auto, unfolding(crate::specs::Letters::letter_holds))]
 fn is_good(s: &[u8], x: u8) -> bool
     ensures { result ≡ letter_holds x s.now }
 {
-    if x == NAME {
-        return name::is_name(s);
+    match x {
+        NAME => name::is_name(s),
+        KEY => is_key(s),
+        I64 => is_i64(s),
+        OFFSET => decimal::is_between(s, 4096, 4096),
+        REAL => is_real(s),
+        TEXT => utf8::is_text(s),
+        _ => number(s) < limit(x),
     }
-    if x == KEY {
-        return is_key(s);
-    }
-    if x == I64 {
-        return is_i64(s);
-    }
-    if x == OFFSET {
-        return decimal::is_between(s, 4096, 4096);
-    }
-    if x == REAL {
-        return is_real(s);
-    }
-    if x == TEXT {
-        return utf8::is_text(s);
-    }
-    number(s) < limit(x)
 }
 
 // ---- the walk
@@ -321,11 +298,14 @@ fn step(w: Walk, x: u8, n: usize, at: usize) -> Walk
 
 // ---- the form of a line
 
-// A field as a number: CAP where it is larger, CAP + 1 where it is none.
+// A field as a number, CAP where it is larger. Where there is none it is CAP + 1 and no `None`: all but the check of forms read numbers alone.
 pub fn number(s: &[u8]) -> usize
     ensures { (result ≡ number_up_to 65536 s.now) × (result ≤ 65537) }
 {
-    decimal::read_number(s, CAP) as usize
+    match decimal::read_number(s, CAP) {
+        Some(n) => n as usize,
+        None => CAP as usize + 1,
+    }
 }
 
 // Whether the fields behind the keywords are those of form f.
@@ -347,27 +327,22 @@ fn fits_form(l: &[u8], f: usize) -> bool
     letter(f, w) == b' '
 }
 
-// The number of line k's form, 42 where it has none.
-pub fn form_of(l: &[u8], k: usize) -> usize
-    ensures { (result ≡ form_of k l.now) × (result ≤ row_count) }
+// The number of line k's form.
+pub fn form_of(l: &[u8], k: usize) -> Option<usize>
+    ensures value { result ≡ form_of k l.now }
+    ensures low { IfSome result (λ f. f < row_count) }
 {
     if LONGEST_LINE < l.len() {
-        return ROWS;
+        return None;
     }
-    let f = row_of(l);
-    if f == ROWS {
-        return ROWS;
-    }
+    let f = row_of(l)?;
     if !fits_form(l, f) {
-        return ROWS;
+        return None;
     }
-    if kind(f) != kind::IMPL {
-        return f;
+    if kind(f) == kind::IMPL && k != 1 {
+        return None;
     }
-    if k == 1 {
-        return f;
-    }
-    ROWS
+    Some(f)
 }
 
 // ---- readers of a line that has form f

@@ -2,6 +2,7 @@
 use mathlib.Core.Path.{◌≡◌, refl, sym, ap, ◌∙◌, subst}
 use mathlib.Core.Bool.{Bool, true, false, cond, ◌&&◌}
 use mathlib.Core.List.{List, [], ◌∷◌}
+use Rattle.std.specs.Prelude.{Option, None, Some}
 use Prim.Native.Nat.{ℕ, zero, suc, ◌+◌, ◌-◌, ◌/◌, ◌%◌, ◌≤◌, ◌<◌}
 use native.Mathlib.Omega.{arith}
 use native.Mathlib.Numerals.{add-one}
@@ -19,7 +20,6 @@ use Rattle.semantics.proofs.Common.{never}
 use Rattle.text.proofs.Parts.{until-take, parts-step, parts-one}
 use Rattle.form.specs.Table.{form_of}
 use Rattle.lines.specs.Lines.{text_at, start, form_at, line_entered, Lined, Whole, Above}
-use Rattle.lines.proofs.Line.{row_below}
 
 -- ---- the tables
 
@@ -215,19 +215,19 @@ module _ (s : List ℕ) (at n e : ℕ) (low : at ≤ length s) (here : Text.line
       form-good k b = same ∙ bad-open ∙ rw (le-leb (n + 1) 1024 (omega arith), b)
 
 -- what the form's number says
-form-number : (t : Bool) (r f : ℕ) → f ≡ cond t r 42 → (f ≡ 42 → ⊥) → (t ≡ true) × (f ≡ r)
-form-number true r f e n = (refl, e)
-form-number false r f e n = absurd (n e)
+has-form : (k f : ℕ) (l : List ℕ) → Some f ≡ form_of k l → (Form.formed k l ≡ true) × (f ≡ Form.row_of Form.forms l)
+has-form k f l e = go (Form.formed k l) e
+  where
+    go : (t : Bool) → Some f ≡ cond t (Some (Form.row_of Form.forms l)) None → (t ≡ true) × (f ≡ Form.row_of Form.forms l)
+    go true e = (refl, cc)
+    go false e = never cc
 
-has-form : (k f : ℕ) (l : List ℕ) → f ≡ form_of k l → (f ≡ 42 → ⊥) → (Form.formed k l ≡ true) × (f ≡ Form.row_of Form.forms l)
-has-form k f l e n = form-number (Form.formed k l) (Form.row_of Form.forms l) f e n
-
-no_number : (t : Bool) (r f : ℕ) → f ≡ cond t r 42 → f ≡ 42 → (t ≡ true → r < 42) → t ≡ false
-no_number true r f e z h = absurd (omega (arith, h refl))
-no_number false r f e z h = refl
-
-has-no-form : (k f : ℕ) (l : List ℕ) → f ≡ form_of k l → f ≡ 42 → Form.formed k l ≡ false
-has-no-form k f l e z = no_number (Form.formed k l) (Form.row_of Form.forms l) f e z (λ h. row_below k l h)
+has-no-form : (k : ℕ) (l : List ℕ) → None ≡ form_of k l → Form.formed k l ≡ false
+has-no-form k l e = go (Form.formed k l) e
+  where
+    go : (t : Bool) → None ≡ cond t (Some (Form.row_of Form.forms l)) None → t ≡ false
+    go true e = never cc
+    go false e = refl
 
 -- one line more in the tables
 lined-none : (s t : List ℕ) → Lined s t 0
@@ -286,19 +286,19 @@ module _ (s t : List ℕ) (at n e : ℕ) (g : Going s t at n) (he : e ≡ at + l
     pub going-full : n ≡ 1024 → (Refusal.bad_form 1 (Text.line_parts s) ≡ n + 1) × (0 < n + 1)
     going-full k = (full-bad s at n e g.low g.here he more g.same k, omega arith)
 
-    module _ (f : ℕ) (few : (n ≡ 1024 → ⊥)) (hf : f ≡ form_of (n + 1) (take (e - at) (drop at s))) where
-      hf' : f ≡ form_of (n + 1) (text_at s n)
-      hf' = hf ∙ ap (λ (l : List ℕ). form_of (n + 1) l) (text-is s at n e g.low g.here he more)
+    module _ (o : Option ℕ) (few : (n ≡ 1024 → ⊥)) (ho : o ≡ form_of (n + 1) (take (e - at) (drop at s))) where
+      ho' : o ≡ form_of (n + 1) (text_at s n)
+      ho' = ho ∙ ap (λ (l : List ℕ). form_of (n + 1) l) (text-is s at n e g.low g.here he more)
 
       less : n < 1024
       less = omega (arith, g.lined.few, few)
 
-      pub going-none : f ≡ 42 → (Refusal.bad_form 1 (Text.line_parts s) ≡ n + 1) × (0 < n + 1)
-      going-none z = (form-bad s at n e g.low g.here he more g.same less (has-no-form (n + 1) f (text_at s n) hf' z), omega arith)
+      pub going-none : o ≡ None → (Refusal.bad_form 1 (Text.line_parts s) ≡ n + 1) × (0 < n + 1)
+      going-none z = (form-bad s at n e g.low g.here he more g.same less (has-no-form (n + 1) (text_at s n) (sym z ∙ ho')), omega arith)
 
-      pub going_on : (u : List ℕ) → (f ≡ 42 → ⊥) → length s ≤ 65535 → 65536 ≤ length t → u ≡ line_entered t n at f → Going s u (e + 1) (n + 1)
-      going_on u z small room hu =
-          let w = has-form (n + 1) f (text_at s n) hf' z in
+      pub going_on : (u : List ℕ) {f : ℕ} → o ≡ Some f → length s ≤ 65535 → 65536 ≤ length t → u ≡ line_entered t n at f → Going s u (e + 1) (n + 1)
+      going_on u {f} z small room hu =
+          let w = has-form (n + 1) f (text_at s n) (sym z ∙ ho') in
           record {
             lined = lined-more s t u n at f g.lined room hu less (omega (arith, g.low)) g.here g.low w.1 w.0;
             low = omega arith;

@@ -7,7 +7,6 @@ ghost use Rattle.decimal.specs.Number.{number_up_to};
 ghost use Rattle.lines.specs.Lines.{text_at, read_at, start, form_at, line_entered, Whole, Passed, Above};
 
 use codes::area;
-use form::ROWS;
 use words::wide;
 
 const MOST_LINES: usize = 1024;
@@ -103,10 +102,9 @@ pub fn index(sheet: &[u8], work: &mut [u8]) -> Formed
         if n == MOST_LINES {
             return Formed::NoForm(n + 1);
         }
-        let f = form::form_of(&sheet[at..e], n + 1);
-        if f == ROWS {
+        let Some(f) = form::form_of(&sheet[at..e], n + 1) else {
             return Formed::NoForm(n + 1);
-        }
+        };
         enter(work, n, at, f);
         n += 1;
         at = e + 1;

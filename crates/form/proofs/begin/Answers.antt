@@ -1,7 +1,6 @@
 -- `form::begin` meets its contract.
 use Prim.Native.Nat.{ℕ, ◌+◌}
 use mathlib.Core.Path.{ap}
-use borrow.Author.Rules.{rules}
 use Rattle.form.proofs.begin.Goals as goal
 
 pub returns : goal.returns

@@ -1,13 +1,10 @@
-use Rattle.semantics.specs.Form.{begins}
-use lib.ListN.{length, drop, get_or}
+use lib.ListN.{get_or}
 use native.Mathlib.Omega.{arith}
-use borrow.Author.Rules.{rules}
 use Rattle.form.proofs.Laws.{inside, begins-start, begins-ended, begins-short, begins-differ, begins-next}
 use Rattle.form.proofs.Compared.{begins-none}
 use Rattle.form.proofs.Table.{keywords-short}
 use Rattle.form.specs.Table.{keywords_at}
 use mathlib.Core.Path.{◌≡◌, ◌∙◌, sym}
-use Prim.Native.Nat.{◌≤◌, ◌-◌}
 use Rattle.form.proofs.begins_with.Goals as goal
 
 pub loop-f-init : goal.loop-f-init

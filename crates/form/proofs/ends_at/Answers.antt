@@ -1,6 +1,5 @@
 use native.Mathlib.Omega.{arith}
 use Rattle.form.proofs.Compared.{ends-hit, ends-end}
-use borrow.Author.Rules.{rules}
 use Rattle.form.proofs.ends_at.Goals as goal
 
 pub returns-then-e-l : goal.returns-then-e-l

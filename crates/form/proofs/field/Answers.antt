@@ -1,12 +1,6 @@
-use Rattle.semantics.specs.Form.{fields_from}
 use native.Mathlib.Omega.{arith}
-use borrow.Author.Rules.{rules}
 use Rattle.form.proofs.Laws.{field-here, field_next, field-none, field-start}
-use Rattle.form.specs.Table.{fields_behind}
-use lib.ListN.{length, get_or}
-use mathlib.Core.List.{[]}
-use mathlib.Core.Path.{◌≡◌, ◌∙◌, sym}
-use Prim.Native.Nat.{◌≤◌, ◌-◌, ◌+◌}
+use mathlib.Core.Path.{◌∙◌, sym}
 use Rattle.form.proofs.field.Goals as goal
 
 pub loop-at-init : goal.loop-at-init

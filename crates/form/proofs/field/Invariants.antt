@@ -1,12 +1,9 @@
 -- `form::field` meets its contract.
 use Rattle.semantics.specs.Form.{fields_from}
-use native.Mathlib.Omega.{arith}
-use borrow.Author.Rules.{rules}
-use Rattle.form.proofs.Laws.{field-here, field_next, field-none, field-start}
 use Rattle.form.specs.Table.{fields_behind}
 use lib.ListN.{length, get_or}
 use mathlib.Core.List.{[]}
-use mathlib.Core.Path.{◌≡◌, ◌∙◌, sym}
+use mathlib.Core.Path.{◌≡◌}
 use Prim.Native.Nat.{◌≤◌, ◌-◌, ◌+◌}
 use Rattle.form.proofs.field.Given as goal
 

@@ -1,7 +1,6 @@
 -- `form::field_letter` meets its contract.
 use Rattle.form.proofs.Table.{letters, letter-cell}
 use Rattle.semantics.specs.Form.{forms}
-use borrow.Author.Rules.{rules}
 use Rattle.form.proofs.field_letter.Goals as goal
 
 pub returns : goal.returns

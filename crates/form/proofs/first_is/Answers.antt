@@ -2,7 +2,6 @@ use Prim.Native.Nat.{◌+◌}
 use mathlib.Core.Path.{◌∙◌, sym}
 use native.Mathlib.Omega.{arith}
 use Rattle.form.proofs.Compared.{first-none, first-field}
-use borrow.Author.Rules.{rules}
 use Rattle.form.proofs.first_is.Goals as goal
 
 pub returns-then-l-at : goal.returns-then-l-at

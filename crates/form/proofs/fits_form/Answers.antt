@@ -1,12 +1,8 @@
 use native.Mathlib.Omega.{arith}
-use borrow.Author.Rules.{rules}
-use Prim.Native.Nat.{ℕ, ◌-◌, ◌+◌}
-use mathlib.Core.Path.{◌≡◌, ◌∙◌, sym, ap}
-use lib.ListN.{length}
+use Prim.Native.Nat.{ℕ}
+use mathlib.Core.Path.{◌∙◌, sym, ap}
 use lib.Dec.{eqb}
-use borrow.Author.Tests.{not-true, not-false}
-use Rattle.form.specs.Letters.{letters_fit, letters_from, fields_left, WalkBounds}
-use Rattle.form.specs.Table.{codes_at, fields_behind}
+use Rattle.form.specs.Letters.{letters_fit, letters_from}
 use Rattle.form.proofs.Table.{codes-short}
 use Rattle.form.proofs.Laws.{fits-start, fits-bad, fits-turn, fits-end, not-blank}
 use Rattle.semantics.specs.Form.{fields_from}

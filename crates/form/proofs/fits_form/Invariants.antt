@@ -1,16 +1,9 @@
 -- `form::fits_form` meets its contract.
-use native.Mathlib.Omega.{arith}
-use borrow.Author.Rules.{rules}
-use Prim.Native.Nat.{ℕ, ◌-◌, ◌+◌}
-use mathlib.Core.Path.{◌≡◌, ◌∙◌, sym, ap}
+use Prim.Native.Nat.{◌-◌, ◌+◌}
+use mathlib.Core.Path.{◌≡◌}
 use lib.ListN.{length}
-use lib.Dec.{eqb}
-use borrow.Author.Tests.{not-true, not-false}
 use Rattle.form.specs.Letters.{letters_fit, letters_from, fields_left, WalkBounds}
 use Rattle.form.specs.Table.{codes_at, fields_behind}
-use Rattle.form.proofs.Table.{codes-short}
-use Rattle.form.proofs.Laws.{fits-start, fits-bad, fits-turn, fits-end, not-blank}
-use Rattle.semantics.specs.Form.{fields_from}
 use Rattle.form.proofs.fits_form.Given as goal
 
 abbrev pub invariant-loop-w : goal.invariant-loop-w

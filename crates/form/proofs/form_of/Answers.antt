@@ -1,25 +1,19 @@
 -- `form::form_of` meets its contract.
-use native.Mathlib.Omega.{arith}
-use Rattle.form.proofs.Laws.{form-long, form-none, form-unfit, form-other, form-first, form-late}
-use borrow.Author.Tests.{not-true, not-false}
-use mathlib.Core.Path.{◌∙◌, sym}
-use borrow.Author.Rules.{rules}
+use Rattle.std.proofs.Common.{◌∙◌, sym}
+use Rattle.form.proofs.Laws.{form-long, form-none, form-unfit, form-good, form-late}
 use Rattle.form.proofs.form_of.Goals as goal
 
-pub returns-then-l-gt-LONGEST_LINE : goal.returns-then-l-gt-LONGEST_LINE
-returns-then-l-gt-LONGEST_LINE c = (form-long c.args.k c.args.l.now c.if-l-gt-LONGEST_LINE.true, omega arith)
+pub returns-then-l-gt-LONGEST_LINE-clause-value : goal.returns-then-l-gt-LONGEST_LINE-clause-value
+returns-then-l-gt-LONGEST_LINE-clause-value c = form-long c.args.k c.args.l.now c.if-l-gt-LONGEST_LINE.true
 
-pub returns-then-f-eq-ROWS : goal.returns-then-f-eq-ROWS
-returns-then-f-eq-ROWS c = (form-none c.args.k c.args.l.now c.row_of-f.result c.if-l-gt-LONGEST_LINE.false c.row_of-f.ensures.0 c.if-f-eq-ROWS.true, omega arith)
+pub returns-in_err-f-clause-value : goal.returns-in_err-f-clause-value
+returns-in_err-f-clause-value c = c.from_residual.ensures ∙ form-none c.args.k c.args.l.now c.if-l-gt-LONGEST_LINE.false c.in_err-f.ensures.value
 
-pub returns-then-not-fits_form : goal.returns-then-not-fits_form
-returns-then-not-fits_form c = (form-unfit c.args.k c.args.l.now c.row_of-f.result c.if-l-gt-LONGEST_LINE.false c.row_of-f.ensures.0 (omega arith) (sym c.fits_form.ensures ∙ c.if-not-fits_form.true), omega arith)
+pub returns-then-not-fits_form-clause-value : goal.returns-then-not-fits_form-clause-value
+returns-then-not-fits_form-clause-value c = form-unfit c.args.k c.args.l.now c.in_ok-f.f c.if-l-gt-LONGEST_LINE.false c.in_ok-f.ensures.value (sym c.if-not-fits_form.ensures)
 
-pub returns-then-kind-ne-IMPL : goal.returns-then-kind-ne-IMPL
-returns-then-kind-ne-IMPL c = (form-other c.args.k c.args.l.now c.row_of-f.result c.if-l-gt-LONGEST_LINE.false c.row_of-f.ensures.0 (omega arith) (sym c.fits_form.ensures ∙ c.if-not-fits_form.false) (λ q. c.if-kind-ne-IMPL.true (c.kind.ensures ∙ q)), omega arith)
+pub returns-then-k-ne1-clause-value : goal.returns-then-k-ne1-clause-value
+returns-then-k-ne1-clause-value c = form-late c.args.k c.args.l.now c.in_ok-f.f c.if-l-gt-LONGEST_LINE.false c.in_ok-f.ensures.value (sym c.if-not-fits_form.ensures) (sym c.kind.ensures ∙ c.if-kind-eq-IMPL.true) c.if-k-ne1.true
 
-pub returns-then-k-eq1 : goal.returns-then-k-eq1
-returns-then-k-eq1 c = (form-first c.args.k c.args.l.now c.row_of-f.result c.if-l-gt-LONGEST_LINE.false c.row_of-f.ensures.0 (omega arith) (sym c.fits_form.ensures ∙ c.if-not-fits_form.false) c.if-k-eq1.true, omega arith)
-
-pub returns : goal.returns
-returns c = (form-late c.args.k c.args.l.now c.row_of-f.result c.if-l-gt-LONGEST_LINE.false c.row_of-f.ensures.0 (omega arith) (sym c.fits_form.ensures ∙ c.if-not-fits_form.false) (sym c.kind.ensures ∙ c.if-kind-ne-IMPL.false) c.if-k-eq1.false, omega arith)
+pub returns-clause-value : goal.returns-clause-value
+returns-clause-value c = form-good c.args.k c.args.l.now c.in_ok-f.f c.if-l-gt-LONGEST_LINE.false c.in_ok-f.ensures.value (sym c.if-not-fits_form.ensures) (rw c.kind.ensures at c.else-kind-eq-IMPL.either)

@@ -1,9 +1,7 @@
 -- `form::is_key` meets its contract.
 use native.Mathlib.Omega.{arith}
 use mathlib.Core.Path.{◌∙◌, sym}
-use borrow.Author.Tests.{not-true, not-false}
 use Rattle.form.proofs.Fields.{key_one, key-first, key-last, key-three}
-use borrow.Author.Rules.{rules}
 use Rattle.form.proofs.is_key.Goals as goal
 
 pub returns-then-p-s : goal.returns-then-p-s

@@ -4,7 +4,6 @@ use mathlib.Core.Path.{ap, ◌∙◌}
 use mathlib.Core.List.{List}
 use lib.ListN.{get_or}
 use Rattle.form.proofs.Table.{keyword-cell}
-use borrow.Author.Rules.{rules}
 use Rattle.form.proofs.keyword_byte.Goals as goal
 
 pub returns : goal.returns

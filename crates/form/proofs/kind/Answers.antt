@@ -1,7 +1,6 @@
 -- `form::kind` meets its contract.
 use Rattle.form.proofs.Table.{column, kind-cell}
 use Rattle.semantics.specs.Form.{forms}
-use borrow.Author.Rules.{rules}
 use Rattle.form.proofs.kind.Goals as goal
 
 pub returns : goal.returns

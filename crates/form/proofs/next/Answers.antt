@@ -2,7 +2,6 @@
 use native.Mathlib.Omega.{arith}
 use Rattle.form.proofs.Table.{codes-short}
 use Rattle.form.proofs.Laws.{not-ended, walk-stepped}
-use borrow.Author.Rules.{rules}
 use Rattle.form.proofs.next.Goals as goal
 
 pub step-u-requires : goal.step-u-requires

@@ -1,7 +1,6 @@
 -- `form::row_of` meets its contract.
 use mathlib.Core.Path.{refl}
 use Rattle.semantics.specs.Form.{forms}
-use borrow.Author.Rules.{rules}
 use Rattle.form.proofs.row_of.Goals as goal
 
 pub row_in-requires : goal.row_in-requires

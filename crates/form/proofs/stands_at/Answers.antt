@@ -1,12 +1,6 @@
-use borrow.Author.Rules.{rules}
-use Rattle.text.specs.Parts.{until}
-use Rattle.semantics.specs.Text.{same}
-use lib.ListN.{length, drop}
-use Prim.Native.Nat.{◌+◌, ◌-◌, ◌≤◌}
-use mathlib.Core.Bool.{true}
+use Prim.Native.Nat.{◌-◌}
 use mathlib.Core.Path.{◌≡◌, sym, ◌∙◌}
 use native.Mathlib.Omega.{arith}
-use borrow.Author.Tests.{not-true, not-false}
 use Rattle.form.proofs.Compared.{stands-short, stands_on, stands-end, stands-all, stands-comma, stands-next, stands-not}
 use Rattle.form.proofs.stands_at.Goals as goal
 

@@ -1,7 +1,6 @@
 -- `form::step` meets its contract.
 use mathlib.Core.Path.{refl}
 use Rattle.form.proofs.Laws.{step-within, step-many, step-one}
-use borrow.Author.Rules.{rules}
 use Rattle.form.proofs.step.Goals as goal
 
 pub returns-then-left-gt0 : goal.returns-then-left-gt0

@@ -2,7 +2,6 @@
 use native.Mathlib.Omega.{arith}
 use Rattle.semantics.specs.Form.{forms}
 use Rattle.form.proofs.Table.{column, width-cell, keywords-short}
-use borrow.Author.Rules.{rules}
 use Rattle.form.proofs.width.Goals as goal
 
 pub overflow_sub-result : goal.overflow_sub-result

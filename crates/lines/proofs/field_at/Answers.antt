@@ -2,7 +2,6 @@
 use native.Mathlib.Omega.{arith}
 use mathlib.Core.Path.{◌∙◌}
 use Rattle.lines.proofs.Line.{form-low, fields-are}
-use borrow.Author.Rules.{rules}
 use Rattle.lines.proofs.field_at.Goals as goal
 
 pub field-requires : goal.field-requires

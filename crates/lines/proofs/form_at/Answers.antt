@@ -1,6 +1,5 @@
 -- `lines::form_at` meets its contract.
 use Rattle.lines.specs.Lines.{form_at}
-use borrow.Author.Rules.{rules}
 use Rattle.lines.proofs.form_at.Goals as goal
 
 pub returns : goal.returns

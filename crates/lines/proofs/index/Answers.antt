@@ -1,10 +1,7 @@
 use native.Mathlib.Omega.{arith}
 use borrow.Author.Rules.{rules}
-use Rattle.lines.proofs.Laws.{Going, going_start, going_done, going-unended, going-full, going-none, going_on, above-entered}
-use Rattle.lines.specs.Lines.{Above}
-use mathlib.Core.Path.{refl, ◌≡◌, ◌∙◌}
-use lib.ListN.{length}
-use Prim.Native.Nat.{◌-◌, ◌+◌}
+use Rattle.lines.proofs.Laws.{going_start, going_done, going-unended, going-full, going-none, going_on, above-entered}
+use mathlib.Core.Path.{refl, ◌∙◌}
 use Rattle.lines.proofs.index.Goals as goal
 
 pub loop-at-init : goal.loop-at-init
@@ -31,18 +28,18 @@ returns-then-n-eq-MOST_LINES c = (going-full c.args.sheet.now c.loop-at.work c.l
 pub overflow_add-n : goal.overflow_add-n
 overflow_add-n c = record { fits = omega (arith, c.loop-at.invariant.1.lined.few) }
 
-pub overflow_add-result-then-f-eq-ROWS : goal.overflow_add-result-then-f-eq-ROWS
-overflow_add-result-then-f-eq-ROWS c = record { fits = omega (arith, c.loop-at.invariant.1.lined.few) }
+pub overflow_add-result-in_default : goal.overflow_add-result-in_default
+overflow_add-result-in_default c = record { fits = omega (arith, c.loop-at.invariant.1.lined.few) }
 
-pub returns-then-f-eq-ROWS : goal.returns-then-f-eq-ROWS
-returns-then-f-eq-ROWS c = (going-none c.args.sheet.now c.loop-at.work c.loop-at.at c.loop-at.n c.find-e.result c.loop-at.invariant.1 c.find-e.ensures.0 (omega (arith, c.if-e-sheet.false)) c.form_of-f.result c.if-n-eq-MOST_LINES.false c.form_of-f.ensures.0 c.if-f-eq-ROWS.true, c.loop-at.invariant.2)
+pub returns-in_default : goal.returns-in_default
+returns-in_default c = (going-none c.args.sheet.now c.loop-at.work c.loop-at.at c.loop-at.n c.find-e.result c.loop-at.invariant.1 c.find-e.ensures.0 (omega (arith, c.if-e-sheet.false)) c.form_of.result c.if-n-eq-MOST_LINES.false c.form_of.ensures.value c.in_default.is, c.loop-at.invariant.2)
 
 pub enter-requires : goal.enter-requires
-enter-requires c = (omega (arith, c.if-n-eq-MOST_LINES.false, c.loop-at.invariant.1.lined.few), omega (arith, c.loop-at.invariant.1.low), omega (arith, c.form_of-f.ensures.1), omega (arith, c.loop-at.invariant.0))
+enter-requires c = (omega (arith, c.if-n-eq-MOST_LINES.false, c.loop-at.invariant.1.lined.few), omega (arith, c.loop-at.invariant.1.low), omega (arith, c.in-Some.ensures.low), omega (arith, c.loop-at.invariant.0))
 
 pub loop-at-preserved : goal.loop-at-preserved
 loop-at-preserved c = (
   c.enter.auto.work ∙ c.loop-at.invariant.0,
-  going_on c.args.sheet.now c.loop-at.work c.loop-at.at c.loop-at.n c.find-e.result c.loop-at.invariant.1 c.find-e.ensures.0 (omega (arith, c.if-e-sheet.false)) c.form_of-f.result c.if-n-eq-MOST_LINES.false c.form_of-f.ensures.0 c.enter.new.work c.if-f-eq-ROWS.false c.requires.0 (omega (arith, c.loop-at.invariant.0)) c.enter.ensures,
-  above-entered c.args.work.now c.loop-at.work c.enter.new.work c.loop-at.n c.loop-at.at c.form_of-f.result (omega (arith, c.if-n-eq-MOST_LINES.false, c.loop-at.invariant.1.lined.few)) (omega (arith, c.loop-at.invariant.1.low)) (omega (arith, c.loop-at.invariant.0)) c.loop-at.invariant.2 c.enter.ensures,
+  going_on c.args.sheet.now c.loop-at.work c.loop-at.at c.loop-at.n c.find-e.result c.loop-at.invariant.1 c.find-e.ensures.0 (omega (arith, c.if-e-sheet.false)) c.form_of.result c.if-n-eq-MOST_LINES.false c.form_of.ensures.value c.enter.new.work c.in-Some.is c.requires.0 (omega (arith, c.loop-at.invariant.0)) c.enter.ensures,
+  above-entered c.args.work.now c.loop-at.work c.enter.new.work c.loop-at.n c.loop-at.at c.in-Some.f (omega (arith, c.if-n-eq-MOST_LINES.false, c.loop-at.invariant.1.lined.few)) (omega (arith, c.loop-at.invariant.1.low)) (omega (arith, c.loop-at.invariant.0)) c.loop-at.invariant.2 c.enter.ensures,
 )

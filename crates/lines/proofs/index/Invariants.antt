@@ -1,9 +1,7 @@
 -- `lines::index` meets its contract.
-use native.Mathlib.Omega.{arith}
-use borrow.Author.Rules.{rules}
-use Rattle.lines.proofs.Laws.{Going, going_start, going_done, going-unended, going-full, going-none, going_on, above-entered}
+use Rattle.lines.proofs.Laws.{Going}
 use Rattle.lines.specs.Lines.{Above}
-use mathlib.Core.Path.{refl, ◌≡◌, ◌∙◌}
+use mathlib.Core.Path.{◌≡◌}
 use lib.ListN.{length}
 use Prim.Native.Nat.{◌-◌, ◌+◌}
 use Rattle.lines.proofs.index.Given as goal

@@ -1,6 +1,5 @@
 use Rattle.lines.proofs.Laws.{line-text, next-line}
 use native.Mathlib.Omega.{arith}
-use borrow.Author.Rules.{rules}
 use Rattle.lines.proofs.line_at.Goals as goal
 
 pub start_of-a-requires : goal.start_of-a-requires

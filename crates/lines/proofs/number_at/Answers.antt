@@ -1,7 +1,6 @@
 -- `lines::number_at` meets its contract.
 use mathlib.Core.Path.{◌∙◌, ap}
 use Rattle.decimal.specs.Number.{number_up_to}
-use borrow.Author.Rules.{rules}
 use Rattle.lines.proofs.number_at.Goals as goal
 
 pub returns : goal.returns

@@ -1,7 +1,6 @@
 -- `lines::start_of` meets its contract.
 use native.Mathlib.Omega.{arith}
 use Rattle.lines.specs.Lines.{start}
-use borrow.Author.Rules.{rules}
 use Rattle.lines.proofs.start_of.Goals as goal
 
 pub returns : goal.returns
