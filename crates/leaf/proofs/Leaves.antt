@@ -4,6 +4,7 @@ use mathlib.Core.Bool.{Bool, true, false, cond, ◌&&◌}
 use mathlib.Core.List.{List, [], ◌∷◌}
 use mathlib.Core.Logic.{inl}
 use Rattle.std.specs.Prelude.{Option, None, Some}
+use Rattle.std.specs.Option.{option_and_then, unwrap_or}
 use Prim.Native.Nat.{ℕ, zero, suc, ◌+◌, ◌-◌, ◌/◌, ◌%◌, ◌≤◌, ◌<◌, min}
 use native.Mathlib.Omega.{arith}
 use lib.Dec.{ltb, eqb}
@@ -24,11 +25,7 @@ use Rattle.semantics.specs.Fold.Result.{ok, failed}
 use Rattle.ints.proofs.Widths.{held}
 use Rattle.decimal.specs.Number as Number
 use Rattle.decimal.specs.Number.{integer_of, whole}
-use Rattle.decimal.specs.declared.Integer.{Integer}
-use Rattle.decimal.specs.declared.Integer.TheVariants.{Is, Bad as NoInteger}
 use Rattle.hex_field.specs.Hex.{byte_at, eight_bytes, bits64_of}
-use Rattle.hex_field.specs.declared.Bits64.{Bits64}
-use Rattle.hex_field.specs.declared.Bits64.TheVariants.{Bits, Bad}
 use Rattle.hex_field.proofs.Hexes.{byte_of, unhex-length}
 use Rattle.write.specs.Wrote.{over, Wrote}
 use Rattle.write.proofs.Wrote.{wrote_as, wrote-next}
@@ -52,39 +49,30 @@ use Rattle.leaf.proofs.Lines.{RefTo, in-sheet, ex-is, form-span, depth-some, fie
 
 -- ---- integers and reals
 
-integer-read : (x : Bytes) → holds Atom.i64 x ≡ true → integer_of x ≡ Is (or_else (pos 0) (int_of x))
+integer_read : (x : Bytes) → holds Atom.i64 x ≡ true → integer_of x ≡ Some (or_else (pos 0) (int_of x))
 unfolding integer_of
-integer-read x = go (int_of x)
+integer_read x = go (int_of x)
   where
-    go : (o : Option ℤ) → holds_of (between 9223372036854775808 9223372036854775807) o ≡ true → whole o ≡ Is (or_else (pos 0) o)
+    go : (o : Option ℤ) → holds_of (between 9223372036854775808 9223372036854775807) o ≡ true → option_and_then whole o ≡ Some (or_else (pos 0) o)
     go None h = never h
     go (Some z) h = rw h
 
-pub integer-is : (x : Bytes) {o : Integer} {n : ℤ} → holds Atom.i64 x ≡ true → o ≡ integer_of x → o ≡ Is n → SFits w64 n → (t : Bytes) (top : ℕ) → (value_in t (Int (held w64 n)) ≡ v_int (or_else (pos 0) (int_of x))) × At top (Int (held w64 n))
+pub integer-is : (x : Bytes) {n : ℤ} → holds Atom.i64 x ≡ true → n ≡ unwrap_or (integer_of x) (pos 0) → SFits w64 n → (t : Bytes) (top : ℕ) → (value_in t (Int (held w64 n)) ≡ v_int (or_else (pos 0) (int_of x))) × At top (Int (held w64 n))
 unfolding value_in
-integer-is x h p q f t top = let e = integer-read x h in (ap v_int (to_z-of_z f ∙ (cc)), tt)
+integer-is x h e f t top = (ap v_int (to_z-of_z f ∙ e ∙ rw (integer_read x h) refl), tt)
 
-pub integer-not : {A : Type 0} (x : Bytes) {o : Integer} → holds Atom.i64 x ≡ true → o ≡ integer_of x → o ≡ NoInteger → A
-integer-not x h p q = let e = integer-read x h in never cc
-
-real_read : (x : Bytes) → holds Atom.real x ≡ true → bits64_of x ≡ Bits (from_big_endian 0 (or_else [] (unhex x)))
+real_read : (x : Bytes) → holds Atom.real x ≡ true → bits64_of x ≡ Some (from_big_endian 0 (or_else [] (unhex x)))
 unfolding bits64_of
 real_read x = go (unhex x)
   where
-    go : (o : Option Bytes) → holds_of (λ (bs : Bytes). eqb (length bs) 8 && not_nan (from_big_endian 0 bs)) o ≡ true → eight_bytes o ≡ Bits (from_big_endian 0 (or_else [] o))
+    go : (o : Option Bytes) → holds_of (λ (bs : Bytes). eqb (length bs) 8 && not_nan (from_big_endian 0 bs)) o ≡ true → option_and_then eight_bytes o ≡ Some (from_big_endian 0 (or_else [] o))
     go None h = never h
     go (Some bs) h = rw (both (eqb (length bs) 8) (not_nan (from_big_endian 0 bs)) h).0
 
-pub real-is : (x : Bytes) {o : Bits64} {n : ℕ} {y : Float} → holds Atom.real x ≡ true → o ≡ bits64_of x → o ≡ Bits n → y ≡ of_bits binary64 n
+pub real-is : (x : Bytes) {n : ℕ} {y : Float} → holds Atom.real x ≡ true → n ≡ unwrap_or (bits64_of x) 0 → y ≡ of_bits binary64 n
     → (t : Bytes) (top : ℕ) → (value_in t (Real y) ≡ v_real (of_bits binary64 (from_big_endian 0 (or_else [] (unhex x))))) × At top (Real y)
 unfolding value_in
-real-is x {n = n} h p q e t top =
-    let d = real_read x h in
-    let g : n ≡ from_big_endian 0 (or_else [] (unhex x)) = cc in
-    (ap v_real (e ∙ ap (of_bits binary64) g), tt)
-
-pub real-not : {A : Type 0} (x : Bytes) {o : Bits64} → holds Atom.real x ≡ true → o ≡ bits64_of x → o ≡ Bad → A
-real-not x h p q = let e = real_read x h in never cc
+real-is x h p e t top = (ap v_real (e ∙ ap (of_bits binary64) (p ∙ rw (real_read x h) refl)), tt)
 
 -- ---- strings
 
@@ -99,10 +87,10 @@ module _ (x : Bytes) (h : holds Atom.text x ≡ true) where
   string-length : length x / 2 ≡ length (or_else [] (unhex x))
   string-length = let e = unhex-length x (or_else [] (unhex x)) (text-read x h) in omega (arith, e)
 
-  pub string-more : {d : Bytes} {top i v : ℕ} {e : Bytes} {p : ℕ} {f : Bytes} {q : ℕ} → i < length x / 2 → v ≡ byte_at x i
+  pub string-more : {d : Bytes} {top i v : ℕ} {e : Bytes} {p : ℕ} {f : Bytes} {q : ℕ} → i < length x / 2 → v ≡ unwrap_or (byte_at x i) 0
       → Wrote d top (take i (or_else [] (unhex x))) e p → Wrote e p (v ∷ []) f q → Wrote d top (take (i + 1) (or_else [] (unhex x))) f q
   string-more {i = i} k g w y =
-      wrote-next (or_else [] (unhex x)) i (omega (arith, string-length)) w (wrote_as (ap (λ (b : ℕ). b ∷ []) (g ∙ byte_of x (or_else [] (unhex x)) i (text-read x h))) y)
+      wrote-next (or_else [] (unhex x)) i (omega (arith, string-length)) w (wrote_as (ap (λ (b : ℕ). b ∷ []) (g ∙ ap (λ (o : Option ℕ). unwrap_or o 0) (byte_of x (or_else [] (unhex x)) i (text-read x h) (omega (arith, string-length))))) y)
 
   pub string-put : {d : Bytes} {top : ℕ} {i : ℕ} {e : Bytes} {p : ℕ} → length x ≤ 255 → top + 256 ≤ length d → length x / 2 ≤ i → Wrote d top (take i (or_else [] (unhex x))) e p
       → Casts d top (v_str (or_else [] (unhex x))) e (Str top (length x / 2))

@@ -22,22 +22,14 @@ fn integer(x: &[u8]) -> ConstVal
     requires { Form.holds Form.Atom.i64 x.now ≡ true }
     ensures { (t : Bytes) (top : ℕ) → (value_in t result ≡ v_int (or_else (pos 0) (int_of x.now))) × At top result }
 {
-    let z = decimal::read_integer(x);
-    match z {
-        decimal::Integer::Is(n) => ConstVal::Int(n),
-        decimal::Integer::Bad => ConstVal::Int(0),
-    }
+    ConstVal::Int(decimal::read_integer(x).unwrap_or(0))
 }
 
 fn real(x: &[u8]) -> ConstVal
     requires { Form.holds Form.Atom.real x.now ≡ true }
     ensures { (t : Bytes) (top : ℕ) → (value_in t result ≡ v_real (of_bits binary64 (from_big_endian 0 (or_else [] (unhex x.now))))) × At top result }
 {
-    let b = hex_field::read_bits(x);
-    match b {
-        hex_field::Bits64::Bits(n) => ConstVal::Real(reals::of_bits(n)),
-        hex_field::Bits64::Bad => ConstVal::Real(0.0),
-    }
+    ConstVal::Real(reals::of_bits(hex_field::read_bits(x).unwrap_or(0)))
 }
 
 // The bytes that pairs of digits write, put at `top`.
@@ -47,10 +39,8 @@ fn string(x: &[u8], work: &mut [u8], top: usize) -> ConstVal
 {
     let l = x.len() / 2;
     let mut p = top;
-    let mut i = 0;
-    while i < l {
-        p = write::put(work, p, hex_field::byte(x, i));
-        i += 1;
+    for i in 0..l {
+        p = write::put(work, p, hex_field::byte(x, i).unwrap_or(0));
     }
     ConstVal::Str(top, l)
 }

@@ -1,14 +1,14 @@
 -- Laws of the fields of a row.
 use Prim.Native.Nat.{ℕ, ◌+◌, ◌-◌, ◌^◌, ◌≤◌, ◌<◌, min}
-use mathlib.Core.Path.{◌≡◌, refl, sym, ap, ◌∙◌}
+use mathlib.Core.Path.{◌≡◌, refl, sym, ◌∙◌}
 use mathlib.Core.Bool.{Bool, true, false, cond}
 use mathlib.Core.List.{[]}
 use Rattle.std.specs.Prelude.{Option, None, Some}
+use Rattle.std.specs.Option.{option_and_then, unwrap_or}
 use native.Mathlib.Omega.{arith}
 use lib.IntN.{ℤ, pos, negsuc}
 use mir.Syntax.{w64}
-use mir.Val.{SFits, to_z, of_z}
-use mir.ValLaws.{to_z-of_z}
+use mir.Val.{SFits}
 use lib.Dec.{eqb}
 use lib.ListN.{length, take, drop, get_or, get_or-eq_default}
 use borrow.Author.Tests.{leb-true, ltb-true, ltb-false}
@@ -17,10 +17,8 @@ use Rattle.semantics.specs.Form.{between}
 use Rattle.semantics.specs.Fold.{bits64}
 use Rattle.semantics.proofs.Common.{never}
 use Rattle.text.specs.Parts.{until, part_start_at}
-use Rattle.decimal.specs.Number.{most, capped, number_up_to, whole, integer_of}
+use Rattle.decimal.specs.Number.{most, up_to, whole, integer_of}
 use Rattle.hex_field.specs.Hex.{eight_bytes, bits64_of}
-use Rattle.decimal.specs.declared.Integer.TheVariants.{Is, Bad}
-use Rattle.hex_field.specs.declared.Bits64.TheVariants.{Bits, Bad as NoBits}
 use Rattle.text.proofs.Parts.{part-view, part-absent}
 use Rattle.stored.specs.Reading.{number_read, keyword_of, integer_bits, real_bits, bits_in}
 use Rattle.row_fields.specs.Keywords.{which_of}
@@ -84,18 +82,13 @@ no_field row i a ha h = sym (get_or-eq_default (fields_of row) [] (ltb-false i (
 
 -- ---- numbers
 
-module _ (f : Bytes) {n : ℕ} (is : n ≡ number_up_to most (drop 0 f)) where
-  by_number : (o : Option ℕ) → n ≡ capped most o → (most < n → 0 ≡ min (or_else 0 o) most) × (n ≤ most → n ≡ min (or_else 0 o) most)
-  by_number None e = (λ h. omega arith, λ h. absurd (omega arith))
-  by_number (Some m) e = (λ h. absurd (omega arith), λ h. e)
-
-  pub no_number : most < n → 0 ≡ min (number_read f) most
-  unfolding number_read number_up_to
-  no_number h = (by_number (nat_of f) is).0 h
-
-  pub a-number : n ≤ most → n ≡ min (number_read f) most
-  unfolding number_read number_up_to
-  a-number h = (by_number (nat_of f) is).1 h
+pub number_told : (f : Bytes) → (unwrap_or (up_to most (nat_of f)) 0 ≡ min (number_read f) most) × (unwrap_or (up_to most (nat_of f)) 0 ≤ most)
+unfolding number_read
+number_told f = go (nat_of f)
+  where
+    go : (o : Option ℕ) → (unwrap_or (up_to most o) 0 ≡ min (or_else 0 o) most) × (unwrap_or (up_to most o) 0 ≤ most)
+    go None = (refl, omega arith)
+    go (Some n) = (refl, omega arith)
 
 -- ---- values
 
@@ -103,50 +96,39 @@ fits-64 : (y : ℤ) → between (2 ^ 63) (2 ^ 63 - 1) y ≡ true → SFits w64 y
 fits-64 (pos n) h = let l = leb-true n (2 ^ 63 - 1) h in record { sfits = omega arith }
 fits-64 (negsuc n) h = let l = ltb-true n (2 ^ 63) h in record { sfits = l }
 
-pub integer-is : (f : Bytes) {z : ℤ} → integer_of f ≡ Is z → bits64 (to_z w64 (of_z w64 z)) ≡ bits_in false f
+-- the integer, if it has 64 bits
+pub integer-is : (f : Bytes) {z : ℤ} → Some z ≡ integer_of f → SFits w64 z × (bits64 z ≡ bits_in false f)
 unfolding integer_of bits_in
 integer-is f {z} e = go (int_of f) e
   where
-    go : (o : Option ℤ) → whole o ≡ Is z → bits64 (to_z w64 (of_z w64 z)) ≡ integer_bits o
+    go : (o : Option ℤ) → Some z ≡ option_and_then whole o → SFits w64 z × (bits64 z ≡ integer_bits o)
     go None e = never cc
     go (Some y) e = by (between (2 ^ 63) (2 ^ 63 - 1) y) refl e
       where
-        by : (b : Bool) → between (2 ^ 63) (2 ^ 63 - 1) y ≡ b → cond b (Is y) Bad ≡ Is z → bits64 (to_z w64 (of_z w64 z)) ≡ cond b (bits64 y) 0
-        by true h e = let q : z ≡ y = cc in ap (λ (x : ℤ). bits64 (to_z w64 (of_z w64 x))) q ∙ ap bits64 (to_z-of_z w64 y (fits-64 y h))
+        by : (b : Bool) → between (2 ^ 63) (2 ^ 63 - 1) y ≡ b → Some z ≡ cond b (Some y) None → SFits w64 z × (bits64 z ≡ cond b (bits64 y) 0)
+        by true h e = let q : z ≡ y = cc in rw q (fits-64 y h, refl)
         by false h e = never cc
 
-pub integer-bad : (f : Bytes) → integer_of f ≡ Bad → 0 ≡ bits_in false f
+pub integer-none : (f : Bytes) → None ≡ integer_of f → 0 ≡ bits_in false f
 unfolding integer_of bits_in
-integer-bad f e = go (int_of f) e
+integer-none f e = go (int_of f) e
   where
-    go : (o : Option ℤ) → whole o ≡ Bad → 0 ≡ integer_bits o
+    go : (o : Option ℤ) → None ≡ option_and_then whole o → 0 ≡ integer_bits o
     go None e = refl
     go (Some y) e = by (between (2 ^ 63) (2 ^ 63 - 1) y) e
       where
-        by : (b : Bool) → cond b (Is y) Bad ≡ Bad → 0 ≡ cond b (bits64 y) 0
+        by : (b : Bool) → None ≡ cond b (Some y) None → 0 ≡ cond b (bits64 y) 0
         by true e = never cc
         by false e = refl
 
-pub real-is : (f : Bytes) {b : ℕ} → bits64_of f ≡ Bits b → b ≡ bits_in true f
+pub real_told : (f : Bytes) → unwrap_or (bits64_of f) 0 ≡ bits_in true f
 unfolding bits64_of bits_in
-real-is f {b} e = go (unhex f) e
+real_told f = go (unhex f)
   where
-    go : (o : Option Bytes) → eight_bytes o ≡ Bits b → b ≡ real_bits o
-    go None e = never cc
-    go (Some bs) e = by (eqb (length bs) 8) e
-      where
-        by : (t : Bool) → cond t (Bits (from_big_endian 0 bs)) NoBits ≡ Bits b → b ≡ cond t (from_big_endian 0 bs) 0
-        by true e = cc
-        by false e = never cc
+    by : (t : Bool) (n : ℕ) → unwrap_or (cond t (Some n) None) 0 ≡ cond t n 0
+    by true n = refl
+    by false n = refl
 
-pub real-bad : (f : Bytes) → bits64_of f ≡ NoBits → 0 ≡ bits_in true f
-unfolding bits64_of bits_in
-real-bad f e = go (unhex f) e
-  where
-    go : (o : Option Bytes) → eight_bytes o ≡ NoBits → 0 ≡ real_bits o
-    go None e = refl
-    go (Some bs) e = by (eqb (length bs) 8) e
-      where
-        by : (t : Bool) → cond t (Bits (from_big_endian 0 bs)) NoBits ≡ NoBits → 0 ≡ cond t (from_big_endian 0 bs) 0
-        by true e = never cc
-        by false e = refl
+    go : (o : Option Bytes) → unwrap_or (option_and_then eight_bytes o) 0 ≡ real_bits o
+    go None = refl
+    go (Some bs) = by (eqb (length bs) 8) (from_big_endian 0 bs)

@@ -10,8 +10,6 @@ ghost use Rattle.stored.specs.Reading.{number_read, bits_in, keyword_of};
 ghost use Rattle.row_fields.specs.Keywords.{which_of};
 
 use codes::item;
-use decimal::{Integer, MOST};
-use hex_field::Bits64;
 
 // Which of four words a field is, from 1 on, 0 where it is none.
 fn which(s: &[u8], a: &[u8], b: &[u8], c: &[u8], d: &[u8]) -> usize
@@ -60,34 +58,27 @@ pub fn field(row: &[u8], i: usize) -> &[u8]
 }
 
 // The number that a field writes, MOST where it is larger, and 0 where there is none.
+#[tactic(auto, using(crate::proofs::Parts::number_told))]
 pub fn number(f: &[u8]) -> u64
     ensures { (result ≡ min (number_read f.now) most) × (result ≤ most) }
 {
-    let n = decimal::natural(f, 0);
-    if MOST < n {
-        return 0;
-    }
-    n
+    decimal::natural(f).unwrap_or(0)
 }
 
 // The bits of an integer, 0 where there is none of 64 bits.
 pub fn integer(f: &[u8]) -> u64
     ensures { result ≡ bits_in false f.now }
 {
-    let n = decimal::read_integer(f);
-    match n {
-        Integer::Is(z) => ints::bits(z),
-        Integer::Bad => 0,
+    match decimal::read_integer(f) {
+        Some(z) => ints::bits(z),
+        None => 0,
     }
 }
 
 // The bits of a real, 0 where there are no 16 digits.
+#[tactic(auto, using(crate::proofs::Parts::real_told))]
 pub fn real(f: &[u8]) -> u64
     ensures { result ≡ bits_in true f.now }
 {
-    let w = hex_field::read_bits(f);
-    match w {
-        Bits64::Bits(b) => b,
-        Bits64::Bad => 0,
-    }
+    hex_field::read_bits(f).unwrap_or(0)
 }

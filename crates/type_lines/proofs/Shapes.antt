@@ -3,6 +3,7 @@ use mathlib.Core.Path.{◌≡◌, refl, sym, ap, ◌∙◌}
 use mathlib.Core.Bool.{Bool, true, false, ◌&&◌, ◌||◌}
 use mathlib.Core.List.{List, [], ◌∷◌, ◌++◌}
 use Rattle.std.specs.Prelude.{Option, None, Some}
+use Rattle.std.specs.Option.{option_map}
 use Prim.Native.Nat.{ℕ, zero, suc, ◌+◌, ◌-◌, ◌≤◌, ◌<◌, min}
 use native.Mathlib.Omega.{arith}
 use lib.Dec.{leb, eqb}
@@ -17,7 +18,6 @@ use Rattle.semantics.specs.Form.Atom.{size, offset}
 use Rattle.semantics.specs.Form.Part.{one, many}
 use Rattle.decimal.specs.Number as Number
 use Rattle.decimal.specs.declared.Signed.{Signed}
-use Rattle.decimal.specs.declared.Signed.TheVariants as Signed
 use Rattle.form.specs.Table.{row_at}
 use Rattle.lines.specs.Lines.{read_at, nodes_in, form_at}
 use Rattle.lines.proofs.Line.{read_fits}
@@ -121,30 +121,28 @@ module _ (s t : List ℕ) (n i : ℕ) (l : ShapeLine s t n i) where
 -- ---- an offset as it is read
 
 module _ (f : List ℕ) (h : holds offset f ≡ true) where
-  read : (o : Option ℤ) → Text.holds_of (between 4096 4096) o ≡ true → (r : Signed) → r ≡ Number.signed o
+  read : (o : Option ℤ) → Text.holds_of (between 4096 4096) o ≡ true → (r : Signed) → Some r ≡ option_map Number.signed o
       → ((m : ℕ) → r ≡ Signed.Plus m → (m ≤ 4096) × (4096 + m ≡ raised (Text.or_else (pos 0) o))) × ((m : ℕ) → r ≡ Signed.Minus m → (m ≤ 4096) × (4096 - m ≡ raised (Text.or_else (pos 0) o)))
   read None k r e = never k
   read (Some (pos a)) k r e =
       let l = leb-true a 4096 k in
-      (λ m q. let z : m ≡ min a 9223372036854775809 = cc in (omega arith, omega arith), λ m q. let z : ◌≡◌ {A = ℕ} 0 1 = cc in absurd (omega arith))
+      (λ m q. let z : m ≡ min a 9223372036854775809 = cc in (omega arith, omega arith), λ m q. never cc)
   read (Some (negsuc a)) k r e =
       let l = ltb-true a 4096 k in
-      (λ m q. let z : ◌≡◌ {A = ℕ} 0 1 = cc in absurd (omega arith), λ m q. let z : m ≡ min (suc a) 9223372036854775809 = cc in (omega arith, omega arith))
+      (λ m q. never cc, λ m q. let z : m ≡ min (suc a) 9223372036854775809 = cc in (omega arith, omega arith))
 
-  module _ (r : Signed) (e : r ≡ Number.signed_of f) where
-    pub read-plus : (m : ℕ) → r ≡ Signed.Plus m → (m ≤ 4096) × (4096 + m ≡ raised (Text.or_else (pos 0) (Text.int_of f)))
-    unfolding Number.signed_of
-    read-plus = (read (Text.int_of f) h r e).0
+  pub read-plus : (m : ℕ) → Some (Signed.Plus m) ≡ Number.signed_of f → (m ≤ 4096) × (4096 + m ≡ raised (Text.or_else (pos 0) (Text.int_of f)))
+  unfolding Number.signed_of
+  read-plus m e = (read (Text.int_of f) h (Signed.Plus m) e).0 m refl
 
-    pub read-minus : (m : ℕ) → r ≡ Signed.Minus m → (m ≤ 4096) × (4096 - m ≡ raised (Text.or_else (pos 0) (Text.int_of f)))
-    unfolding Number.signed_of
-    read-minus = (read (Text.int_of f) h r e).1
+  pub read-minus : (m : ℕ) → Some (Signed.Minus m) ≡ Number.signed_of f → (m ≤ 4096) × (4096 - m ≡ raised (Text.or_else (pos 0) (Text.int_of f)))
+  unfolding Number.signed_of
+  read-minus m e = (read (Text.int_of f) h (Signed.Minus m) e).1 m refl
 
-pub read_none : (f : List ℕ) (r : Signed) → r ≡ Number.signed_of f → r ≡ Signed.NoInteger → 4096 ≡ raised (Text.or_else (pos 0) (Text.int_of f))
+pub read_none : (f : List ℕ) → None ≡ Number.signed_of f → 4096 ≡ raised (Text.or_else (pos 0) (Text.int_of f))
 unfolding Number.signed_of
-read_none f r e q = go (Text.int_of f) (sym e ∙ q)
+read_none f e = go (Text.int_of f) e
   where
-    go : (o : Option ℤ) → Number.signed o ≡ Signed.NoInteger → 4096 ≡ raised (Text.or_else (pos 0) o)
+    go : (o : Option ℤ) → None ≡ option_map Number.signed o → 4096 ≡ raised (Text.or_else (pos 0) o)
     go None x = refl
-    go (Some (pos a)) x = let z : ◌≡◌ {A = ℕ} 0 1 = cc in absurd (omega arith)
-    go (Some (negsuc a)) x = let z : ◌≡◌ {A = ℕ} 0 1 = cc in absurd (omega arith)
+    go (Some z) x = never cc

@@ -15,11 +15,10 @@ fn read_offset(f: &[u8]) -> usize
     requires { holds offset f.now ≡ true }
     ensures { (result ≡ raised (or_else (pos 0) (int_of f.now))) × (result ≤ 8192) }
 {
-    let z = decimal::read_signed(f);
-    match z {
-        Signed::Plus(m) => RAISE + m as usize,
-        Signed::Minus(m) => RAISE - m as usize,
-        Signed::NoInteger => RAISE,
+    match decimal::read_signed(f) {
+        Some(Signed::Plus(m)) => RAISE + m as usize,
+        Some(Signed::Minus(m)) => RAISE - m as usize,
+        None => RAISE,
     }
 }
 

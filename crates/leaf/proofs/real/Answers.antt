@@ -1,9 +1,6 @@
 -- `leaf::real` meets its contract.
-use Rattle.leaf.proofs.Leaves.{real-is, real-not}
+use Rattle.leaf.proofs.Leaves.{real-is}
 use Rattle.leaf.proofs.real.Goals as goal
 
-pub returns-in-Bits : goal.returns-in-Bits
-returns-in-Bits c = real-is c.args.x.now c.requires c.read_bits-b.ensures c.in-Bits.is c.of_bits.ensures
-
-pub returns-in-Bad : goal.returns-in-Bad
-returns-in-Bad c = real-not c.args.x.now c.requires c.read_bits-b.ensures c.in-Bad.is
+pub returns : goal.returns
+returns c = real-is c.args.x.now c.requires (rw c.read_bits.ensures at c.unwrap_or.ensures) c.of_bits.ensures

@@ -2,7 +2,6 @@ use Prim.Native.Nat.{◌+◌, ◌-◌}
 use mathlib.Core.Path.{◌≡◌}
 use native.Mathlib.Omega.{arith}
 use borrow.Author.Tests.{le-leb, lt-leb, eq-eqb, ne_eqb}
-use borrow.Author.Rules.{rules}
 use Rattle.type_lines.proofs.kind_needed.Goals as goal
 
 pub returns-then-f-eq-INT : goal.returns-then-f-eq-INT

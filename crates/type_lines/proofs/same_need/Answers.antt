@@ -1,6 +1,5 @@
 use mathlib.Core.Path.{◌∙◌}
 use Rattle.type_lines.proofs.Spelling.{texts-are}
-use borrow.Author.Rules.{rules}
 use Rattle.type_lines.proofs.same_need.Goals as goal
 
 pub returns : goal.returns

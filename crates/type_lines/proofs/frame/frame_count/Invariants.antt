@@ -1,12 +1,7 @@
-use native.Mathlib.Omega.{arith}
-use borrow.Author.Rules.{rules}
-use Prim.Native.Nat.{◌+◌}
-use Prim.Native.Nat.{◌≤◌, ◌-◌, ℕ}
+use Prim.Native.Nat.{◌≤◌, ◌-◌}
 use lib.ListN.{length}
-use mathlib.Core.Path.{◌≡◌, refl, ◌∙◌, ap}
-use Rattle.source.specs.Walk.{declared_to}
+use mathlib.Core.Path.{◌≡◌}
 use Rattle.type_lines.specs.Shapes.{frames_to}
-use Rattle.type_lines.proofs.Frames.{frames-all, frames-few, frames-step}
 use Rattle.type_lines.proofs.frame.frame_count.Given as goal
 
 abbrev pub invariant-loop-i : goal.invariant-loop-i

@@ -1,7 +1,6 @@
 use mathlib.Core.Bool.{true, false}
 use mathlib.Core.Path.{◌∙◌, sym}
 use Rattle.type_lines.proofs.Frames.{frames-count}
-use borrow.Author.Rules.{rules}
 use Rattle.type_lines.proofs.frame.frames_of.Goals as goal
 
 pub returns-then-is_frame : goal.returns-then-is_frame

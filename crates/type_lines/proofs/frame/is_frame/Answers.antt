@@ -4,7 +4,6 @@ use lib.Dec.{eqb}
 use mathlib.Core.Path.{◌∙◌, sym, ap}
 use Rattle.form.specs.Table.{kind_at}
 use Rattle.lines.proofs.Line.{form-low, kind-is}
-use borrow.Author.Rules.{rules}
 use Rattle.type_lines.proofs.frame.is_frame.Goals as goal
 
 pub kind-requires : goal.kind-requires

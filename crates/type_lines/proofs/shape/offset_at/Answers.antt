@@ -6,7 +6,6 @@ use Prim.Native.Nat.{ℕ}
 use native.Mathlib.Omega.{arith}
 use mathlib.Core.Path.{◌∙◌, ap}
 use Rattle.type_lines.proofs.Shapes.{offset-holds, offset-is, count_low}
-use borrow.Author.Rules.{rules}
 use Rattle.type_lines.proofs.shape.offset_at.Goals as goal
 
 pub overflow_add-j : goal.overflow_add-j

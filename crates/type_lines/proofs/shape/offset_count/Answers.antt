@@ -1,7 +1,6 @@
 use native.Mathlib.Omega.{arith}
 use mathlib.Core.Path.{◌∙◌}
 use Rattle.type_lines.proofs.Shapes.{count-is, count_low}
-use borrow.Author.Rules.{rules}
 use Rattle.type_lines.proofs.shape.offset_count.Goals as goal
 
 pub returns : goal.returns

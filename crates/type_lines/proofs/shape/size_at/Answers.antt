@@ -1,7 +1,6 @@
 use native.Mathlib.Omega.{arith}
 use mathlib.Core.Path.{◌∙◌}
 use Rattle.type_lines.proofs.Shapes.{size_is, size_low}
-use borrow.Author.Rules.{rules}
 use Rattle.type_lines.proofs.shape.size_at.Goals as goal
 
 pub returns : goal.returns
