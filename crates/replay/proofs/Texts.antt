@@ -19,6 +19,11 @@ use Rattle.stored.specs.Reading.{number_read, keyword_of, width_of, row_values, 
 use Rattle.stored.specs.Laying.{Laying, lay_image, lay_part, lay_bytes, lay_array, move_to, lay_all}
 use Rattle.laying.specs.declared.State.{State}
 use Rattle.laying.specs.Steps.{laying_of, seen_laying, MoreFits, Lays}
+use denote.Enum.Bare.{sameb}
+use Rattle.codes.specs.contracts.item.Item.{the_type}
+use Rattle.codes.specs.declared.item.Item.{Item}
+use Rattle.codes.specs.declared.item.Item.TheVariants as I
+use Rattle.codes.specs.Kinds.{item_number}
 use Rattle.replay.specs.Rows.{table_at, element_size_at, width, laid_item, laid_row}
 use Rattle.row_fields.proofs.Writes.{fields-from}
 
@@ -99,6 +104,27 @@ a-size work i h = rw (lt-ltb i most_types h)
 cut-size : (work : Bytes) (i : ℕ) → element_size_at work (min i most) ≡ element_size_at work i
 cut-size work i = cut_off (λ (x : ℕ). element_size_at work x ≡ element_size_at work i) i refl (λ l. sym (no_size work most (omega arith)) ∙ no_size work i (omega arith))
 
+-- a keyword of none of the four other items is one of values
+pub value-kind : (k : Item) → (k ≡ I.Str → ⊥) → (k ≡ I.Array → ⊥) → (k ≡ I.Set → ⊥) → (k ≡ I.Back → ⊥) → (item_number k ≡ 0 → ⊥) × (item_number k < 5)
+value-kind I.Bytes a b c d = (λ h. omega arith, omega arith)
+value-kind I.Words a b c d = (λ h. omega arith, omega arith)
+value-kind I.Bigs a b c d = (λ h. omega arith, omega arith)
+value-kind I.Reals a b c d = (λ h. omega arith, omega arith)
+value-kind I.Str a b c d = absurd (a refl)
+value-kind I.Array a b c d = absurd (b refl)
+value-kind I.Set a b c d = absurd (c refl)
+value-kind I.Back a b c d = absurd (d refl)
+
+pub real-test : (k : Item) → sameb the_type k I.Reals ≡ eqb (item_number k) 4
+real-test I.Bytes = refl
+real-test I.Words = refl
+real-test I.Bigs = refl
+real-test I.Reals = refl
+real-test I.Str = refl
+real-test I.Array = refl
+real-test I.Set = refl
+real-test I.Back = refl
+
 module _ (work : Bytes) (k : ℕ) (row im ar : Bytes) (s : State) where
   abbrev sizes : ℕ → ℕ
   sizes = element_size_at work
@@ -108,10 +134,6 @@ module _ (work : Bytes) (k : ℕ) (row im ar : Bytes) (s : State) where
 
   abbrev fs : List Bytes
   fs = fields_of row
-
-  pub item-none : k ≡ 0 → Some laying_now ≡ laid_item sizes k row laying_now
-  unfolding laid_item
-  item-none e = rw (eq-eqb k 0 e)
 
   module _ (some_item : k ≡ 0 → ⊥) (image : length im < most) (area : length ar < most) (ready : MoreFits s (length ar)) {off : ℕ} {f : Bytes}
       (offset : off ≡ min (number_read f) most) (field : f ≡ get_or fs 2 []) where
@@ -165,3 +187,7 @@ module _ (sizes : ℕ → ℕ) (row : Bytes) (m : Laying) {f : Bytes} (field : f
   pub row-item : {k : ℕ} {g : Bytes} → same f (bytes "dat") ≡ true → k ≡ keyword_of g → g ≡ get_or (fields_of row) 1 [] → laid_item sizes k row m ≡ laid_row sizes row m
   unfolding laid_row laid_item read_row
   row-item e hk hg = rw (← field, e, hk, hg)
+
+  pub row-none : {g : Bytes} → same f (bytes "dat") ≡ true → 0 ≡ keyword_of g → g ≡ get_or (fields_of row) 1 [] → Some m ≡ laid_row sizes row m
+  unfolding laid_row read_row
+  row-none e hk hg = rw (← field, e, ← hg, ← hk)

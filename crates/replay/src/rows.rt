@@ -4,8 +4,10 @@ ghost use Rattle.stored.specs.Reading.{largest_size};
 ghost use Rattle.laying.specs.Steps.{laying_of, seen_laying, MoreFits, Lays};
 ghost use Rattle.replay.specs.Rows.{element_size_at, width, laid_item, laid_row, begun, laid_text, Noted, Sizes};
 ghost use Rattle.replay.specs.Firsts.{FirstState};
+ghost use Rattle.codes.specs.Kinds.{item_number};
 
-use codes::{area, item};
+use codes::area;
+use codes::item::Item;
 use laying::State;
 
 // IDs of descriptors lie below this number.
@@ -28,49 +30,38 @@ fn size_of(work: &[u8], id: u64) -> usize
     work[i] as usize
 }
 
-fn width_of(k: usize) -> usize
-    ensures { (result ≡ width k) × (result ≤ 8) }
+#[tactic(auto, unfolding(crate::specs::Rows::width))]
+fn width_of(k: Item) -> usize
+    ensures { (result ≡ width (item_number k)) × (result ≤ 8) }
 {
-    if k == item::BYTES {
-        return 1;
+    match k {
+        Item::Bytes => 1,
+        Item::Words => 4,
+        _ => 8,
     }
-    if k == item::WORDS {
-        return 4;
-    }
-    8
 }
 
-// The item of a row by its keyword's number.
-fn lay_item(s: State, k: usize, row: &[u8], work: &[u8], image: &mut [u8], area: &mut [u8]) -> State
+// The item of a row by its keyword.
+fn lay_item(s: State, k: Item, row: &[u8], work: &[u8], image: &mut [u8], area: &mut [u8]) -> State
     requires { MoreFits s (length area.old) }
-    ensures { Lays (laid_item (element_size_at work.now) k row.now (laying_of s image.old area.old)) s result image.new area.new }
+    ensures { Lays (laid_item (element_size_at work.now) (item_number k) row.now (laying_of s image.old area.old)) s result image.new area.new }
 {
-    if k == 0 {
-        return s;
-    }
     let off = row_fields::number(row_fields::field(row, 2)) as usize;
-    if k < item::STR {
-        let from = text::skip(row, 4, b',');
-        return laying::lay_values(
-            s,
-            image,
-            area,
-            off,
-            row,
-            from,
-            width_of(k),
-            k == item::REALS,
-        );
+    match k {
+        Item::Str => laying::lay_handle(s, image, area, off),
+        Item::Array => {
+            let id = row_fields::number(row_fields::field(row, 3));
+            let n = row_fields::number(row_fields::field(row, 4));
+            laying::lay_array(s, image, area, off, size_of(work, id), n)
+        }
+        Item::Set => laying::moved(s, true),
+        Item::Back => laying::moved(s, false),
+        _ => {
+            let from = text::skip(row, 4, b',');
+            let w = width_of(k);
+            laying::lay_values(s, image, area, off, row, from, w, k == Item::Reals)
+        }
     }
-    if k == item::STR {
-        return laying::lay_handle(s, image, area, off);
-    }
-    if k == item::ARRAY {
-        let id = row_fields::number(row_fields::field(row, 3));
-        let n = row_fields::number(row_fields::field(row, 4));
-        return laying::lay_array(s, image, area, off, size_of(work, id), n);
-    }
-    laying::moved(s, k == item::SET)
 }
 
 // A row: its item where it is a `dat` row.
@@ -78,17 +69,13 @@ fn step(s: State, row: &[u8], work: &[u8], image: &mut [u8], area: &mut [u8]) ->
     requires { MoreFits s (length area.old) }
     ensures { Lays (laid_row (element_size_at work.now) row.now (laying_of s image.old area.old)) s result image.new area.new }
 {
-    if words::same(row_fields::field(row, 0), b"dat") {
-        return lay_item(
-            s,
-            row_fields::keyword(row_fields::field(row, 1)),
-            row,
-            work,
-            image,
-            area,
-        );
+    if !words::same(row_fields::field(row, 0), b"dat") {
+        return s;
     }
-    s
+    match row_fields::keyword(row_fields::field(row, 1)) {
+        Some(k) => lay_item(s, k, row, work, image, area),
+        None => s,
+    }
 }
 
 // Before the first row: n is the image buffer's length, and `end` where allocation ends.

@@ -12,7 +12,7 @@ use mir.Val.{SFits}
 use lib.Dec.{eqb}
 use lib.ListN.{length, take, drop, get_or, get_or-eq_default}
 use borrow.Author.Tests.{leb-true, ltb-true, ltb-false}
-use Rattle.semantics.specs.Text.{Bytes, bytes, same, or_else, nat_of, int_of, unhex, fields_of, from_big_endian}
+use Rattle.semantics.specs.Text.{Bytes, or_else, nat_of, int_of, unhex, fields_of, from_big_endian}
 use Rattle.semantics.specs.Form.{between}
 use Rattle.semantics.specs.Fold.{bits64}
 use Rattle.semantics.proofs.Common.{never}
@@ -20,57 +20,7 @@ use Rattle.text.specs.Parts.{until, part_start_at}
 use Rattle.decimal.specs.Number.{most, up_to, whole, integer_of}
 use Rattle.hex_field.specs.Hex.{eight_bytes, bits64_of}
 use Rattle.text.proofs.Parts.{part-view, part-absent}
-use Rattle.stored.specs.Reading.{number_read, keyword_of, integer_bits, real_bits, bits_in}
-use Rattle.row_fields.specs.Keywords.{which_of}
-
--- ---- keywords
-
-abbrev first_true : Bool → Bool → Bool → Bool → ℕ
-first_true a b c d = cond a 1 (cond b 2 (cond c 3 (cond d 4 0)))
-
-abbrev later_true : Bool → Bool → Bool → Bool → ℕ
-later_true a b c d = cond a 5 (cond b 6 (cond c 7 (cond d 8 0)))
-
-module _ (s w x y z : Bytes) where
-  pub which-is : {a b c d : Bool} → same s w ≡ a → same s x ≡ b → same s y ≡ c → same s z ≡ d → first_true a b c d ≡ which_of s w x y z
-  unfolding which_of
-  which-is a b c d = sym (λ i. first_true (a i) (b i) (c i) (d i))
-
--- the first four keywords, and those behind them
-module _ (k : Bytes) {v : ℕ} (is : v ≡ which_of k (bytes "bytes") (bytes "words") (bytes "bigs") (bytes "reals")) where
-  abbrev tail : ℕ
-  tail = later_true (same k (bytes "str")) (same k (bytes "array")) (same k (bytes "set")) (same k (bytes "back"))
-
-  by_first : (a b c d : Bool) (t : ℕ) → v ≡ first_true a b c d → (0 < v → v ≡ cond a 1 (cond b 2 (cond c 3 (cond d 4 t)))) × (v ≤ 0 → t ≡ cond a 1 (cond b 2 (cond c 3 (cond d 4 t))))
-  by_first true b c d t e = (λ h. e, λ h. absurd (omega arith))
-  by_first false true c d t e = (λ h. e, λ h. absurd (omega arith))
-  by_first false false true d t e = (λ h. e, λ h. absurd (omega arith))
-  by_first false false false true t e = (λ h. e, λ h. absurd (omega arith))
-  by_first false false false false t e = (λ h. absurd (omega arith), λ h. refl)
-
-  pub keyword-first : 0 < v → v ≡ keyword_of k
-  unfolding keyword_of which_of
-  keyword-first h = (by_first (same k (bytes "bytes")) (same k (bytes "words")) (same k (bytes "bigs")) (same k (bytes "reals")) tail is).0 h
-
-  module _ (None : v ≤ 0) {u : ℕ} (later : u ≡ which_of k (bytes "str") (bytes "array") (bytes "set") (bytes "back")) where
-    by_last : (a b c d : Bool) → u ≡ first_true a b c d → (u ≡ 0 → 0 ≡ later_true a b c d) × ((u ≡ 0 → ⊥) → u + 4 ≡ later_true a b c d)
-    by_last true b c d e = (λ h. absurd (omega arith), λ h. omega arith)
-    by_last false true c d e = (λ h. absurd (omega arith), λ h. omega arith)
-    by_last false false true d e = (λ h. absurd (omega arith), λ h. omega arith)
-    by_last false false false true e = (λ h. absurd (omega arith), λ h. omega arith)
-    by_last false false false false e = (λ h. refl, λ h. absurd (h e))
-
-    pub keyword-none : u ≡ 0 → 0 ≡ keyword_of k
-    unfolding keyword_of which_of
-    keyword-none h =
-        (by_last (same k (bytes "str")) (same k (bytes "array")) (same k (bytes "set")) (same k (bytes "back")) later).0 h
-        ∙ (by_first (same k (bytes "bytes")) (same k (bytes "words")) (same k (bytes "bigs")) (same k (bytes "reals")) tail is).1 None
-
-    pub keyword-last : (u ≡ 0 → ⊥) → u + 4 ≡ keyword_of k
-    unfolding keyword_of which_of
-    keyword-last h =
-        (by_last (same k (bytes "str")) (same k (bytes "array")) (same k (bytes "set")) (same k (bytes "back")) later).1 h
-        ∙ (by_first (same k (bytes "bytes")) (same k (bytes "words")) (same k (bytes "bigs")) (same k (bytes "reals")) tail is).1 None
+use Rattle.stored.specs.Reading.{number_read, integer_bits, real_bits, bits_in}
 
 -- ---- fields
 

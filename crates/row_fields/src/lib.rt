@@ -7,42 +7,40 @@ ghost use Rattle.std.specs.Prelude.{◌≡◌, true, false, [], ◌≤◌, min, 
 ghost use Rattle.semantics.specs.Text.{fields_of};
 ghost use Rattle.decimal.specs.Number.{most};
 ghost use Rattle.stored.specs.Reading.{number_read, bits_in, keyword_of};
-ghost use Rattle.row_fields.specs.Keywords.{which_of};
+ghost use Rattle.codes.specs.Kinds.{keyword_number};
 
-use codes::item;
+use codes::item::Item;
 
-// Which of four words a field is, from 1 on, 0 where it is none.
-fn which(s: &[u8], a: &[u8], b: &[u8], c: &[u8], d: &[u8]) -> usize
-    ensures { (result ≡ which_of s.now a.now b.now c.now d.now) × (result ≤ 4) }
+// The keyword behind `dat`.
+#[tactic(auto, unfolding(stored::specs::Reading::keyword_of))]
+pub fn keyword(s: &[u8]) -> Option<Item>
+    ensures { keyword_number result ≡ keyword_of s.now }
 {
-    if words::same(s, a) {
-        return 1;
+    if words::same(s, b"bytes") {
+        return Some(Item::Bytes);
     }
-    if words::same(s, b) {
-        return 2;
+    if words::same(s, b"words") {
+        return Some(Item::Words);
     }
-    if words::same(s, c) {
-        return 3;
+    if words::same(s, b"bigs") {
+        return Some(Item::Bigs);
     }
-    if words::same(s, d) {
-        return 4;
+    if words::same(s, b"reals") {
+        return Some(Item::Reals);
     }
-    0
-}
-
-// The number of a keyword behind `dat`, 0 where it is none.
-pub fn keyword(s: &[u8]) -> usize
-    ensures { result ≡ keyword_of s.now }
-{
-    let v = which(s, b"bytes", b"words", b"bigs", b"reals");
-    if 0 < v {
-        return v;
+    if words::same(s, b"str") {
+        return Some(Item::Str);
     }
-    let k = which(s, b"str", b"array", b"set", b"back");
-    if k == 0 {
-        return 0;
+    if words::same(s, b"array") {
+        return Some(Item::Array);
     }
-    k + item::REALS
+    if words::same(s, b"set") {
+        return Some(Item::Set);
+    }
+    if words::same(s, b"back") {
+        return Some(Item::Back);
+    }
+    None
 }
 
 // Field i of a row, the empty part at its end where there is none.

@@ -1,69 +1,41 @@
 -- `replay::rows::lay_item` meets its contract. Each return is one law.
-use native.Mathlib.Omega.{arith}
+use Rattle.std.proofs.Common.{◌≡◌, ap, arith}
 use Rattle.laying.proofs.Steps.{moved-lays}
-use Rattle.replay.proofs.Texts.{lays-as, lays-none, item-none, item-values, item-string, item-array, item-moved}
+use Rattle.codes.specs.Kinds.{item_number}
+use Rattle.replay.proofs.Texts.{lays-as, value-kind, real-test, item-values, item-string, item-array, item-moved}
 use Rattle.replay.proofs.rows.lay_item.Goals as goal
 
-pub returns-then-k-eq0 : goal.returns-then-k-eq0
-returns-then-k-eq0 c =
-    let a = c.args in
-    let h = c.requires in
-    lays-none a.image.now a.area.now (h) (item-none a.work.now a.k a.row.now a.image.now a.area.now a.s c.if-k-eq0.true)
-
-pub returns-then-k-lt-STR : goal.returns-then-k-lt-STR
-returns-then-k-lt-STR c =
+pub returns-in-Str : goal.returns-in-Str
+returns-in-Str c =
     let a = c.args in
     let good = c.well_formed in
-    let h = c.requires in
-    let if1 = c.if-k-eq0 in
-    let f = c.field in
-    let number = c.number-off in
-    let if2 = c.if-k-lt-STR in
-    let skip = c.skip-from in
-    let width_of_lem = c.width_of in
-    let lay-values = c.lay_values in
-    lays-as (item-values a.work.now a.k a.row.now a.image.now a.area.now a.s if1.false (omega (arith, good.1.1.1.1)) (omega (arith, good.1.1.1.1)) (h) number.ensures.0 f.ensures if2.true skip.ensures width_of_lem.ensures.0) lay-values.ensures
+    let n : item_number a.k ≡ 5 = ap item_number c.in-Str.is in
+    lays-as (item-string a.work.now (item_number a.k) a.row.now a.image.now a.area.now a.s (λ h. omega arith) (omega (arith, good.1.1.1.1)) (omega (arith, good.1.1.1.1)) c.requires c.number-off.ensures.0 c.field.ensures (omega arith) n) c.lay_handle.ensures
 
-pub returns-then-k-eq-STR : goal.returns-then-k-eq-STR
-returns-then-k-eq-STR c =
+pub returns-in-Array : goal.returns-in-Array
+returns-in-Array c =
     let a = c.args in
     let good = c.well_formed in
-    let h = c.requires in
-    let if1 = c.if-k-eq0 in
-    let f = c.field in
-    let number = c.number-off in
-    let if2 = c.if-k-lt-STR in
-    let if3 = c.if-k-eq-STR in
-    let lay-handle = c.lay_handle in
-    lays-as (item-string a.work.now a.k a.row.now a.image.now a.area.now a.s if1.false (omega (arith, good.1.1.1.1)) (omega (arith, good.1.1.1.1)) (h) number.ensures.0 f.ensures if2.false if3.true) lay-handle.ensures
+    let n : item_number a.k ≡ 6 = ap item_number c.in-Array.is in
+    lays-as (item-array a.work.now (item_number a.k) a.row.now a.image.now a.area.now a.s (λ h. omega arith) (omega (arith, good.1.1.1.1)) (omega (arith, good.1.1.1.1)) c.requires c.number-off.ensures.0 c.field.ensures (omega arith) (λ h. omega arith) n c.number-id.ensures.0 c.field-in-Array.ensures c.number-n.ensures.0 c.field-in-Array-2.ensures c.size_of.ensures) c.lay_array.ensures
 
-pub returns-then-k-eq-ARRAY : goal.returns-then-k-eq-ARRAY
-returns-then-k-eq-ARRAY c =
+pub returns-in-Set : goal.returns-in-Set
+returns-in-Set c =
     let a = c.args in
     let good = c.well_formed in
-    let h = c.requires in
-    let if1 = c.if-k-eq0 in
-    let f = c.field in
-    let number = c.number-off in
-    let if2 = c.if-k-lt-STR in
-    let if3 = c.if-k-eq-STR in
-    let if4 = c.if-k-eq-ARRAY in
-    let field2 = c.field-then-k-eq-ARRAY in
-    let number2 = c.number-id in
-    let field3 = c.field-then-k-eq-ARRAY-2 in
-    let number3 = c.number-n in
-    let size = c.size_of in
-    lays-as (item-array a.work.now a.k a.row.now a.image.now a.area.now a.s if1.false (omega (arith, good.1.1.1.1)) (omega (arith, good.1.1.1.1)) (h) number.ensures.0 f.ensures if2.false if3.false if4.true number2.ensures.0 field2.ensures number3.ensures.0 field3.ensures size.ensures) c.lay_array.ensures
+    let n : item_number a.k ≡ 7 = ap item_number c.in-Set.is in
+    rw n (lays-as (item-moved a.work.now 7 a.row.now a.image.now a.area.now a.s (λ h. omega arith) (omega (arith, good.1.1.1.1)) (omega (arith, good.1.1.1.1)) c.requires c.number-off.ensures.0 c.field.ensures (omega arith) (λ h. omega arith) (λ h. omega arith)) (moved-lays a.image.now a.area.now c.requires c.moved.ensures))
 
-pub returns : goal.returns
-returns c =
+pub returns-in-Back : goal.returns-in-Back
+returns-in-Back c =
     let a = c.args in
     let good = c.well_formed in
-    let h = c.requires in
-    let if1 = c.if-k-eq0 in
-    let f = c.field in
-    let number = c.number-off in
-    let if2 = c.if-k-lt-STR in
-    let if3 = c.if-k-eq-STR in
-    let if4 = c.if-k-eq-ARRAY in
-    lays-as (item-moved a.work.now a.k a.row.now a.image.now a.area.now a.s if1.false (omega (arith, good.1.1.1.1)) (omega (arith, good.1.1.1.1)) (h) number.ensures.0 f.ensures if2.false if3.false if4.false) (moved-lays a.image.now a.area.now h c.moved.ensures)
+    let n : item_number a.k ≡ 8 = ap item_number c.in-Back.is in
+    rw n (lays-as (item-moved a.work.now 8 a.row.now a.image.now a.area.now a.s (λ h. omega arith) (omega (arith, good.1.1.1.1)) (omega (arith, good.1.1.1.1)) c.requires c.number-off.ensures.0 c.field.ensures (omega arith) (λ h. omega arith) (λ h. omega arith)) (moved-lays a.image.now a.area.now c.requires c.moved-in-Back.ensures))
+
+pub returns-in_default : goal.returns-in_default
+returns-in_default c =
+    let a = c.args in
+    let good = c.well_formed in
+    let v = value-kind a.k c.in_default.not-Str c.in_default.not-Array c.in_default.not-Set c.in_default.not-Back in
+    lays-as (rw (c.eq.ensures, real-test a.k) (item-values a.work.now (item_number a.k) a.row.now a.image.now a.area.now a.s v.0 (omega (arith, good.1.1.1.1)) (omega (arith, good.1.1.1.1)) c.requires c.number-off.ensures.0 c.field.ensures v.1 c.skip-from.ensures c.width_of-w.ensures.0)) c.lay_values.ensures
