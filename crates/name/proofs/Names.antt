@@ -1,46 +1,32 @@
 -- Laws of names.
-use Prim.Native.Nat.{ℕ, ◌+◌, ◌≤◌, ◌<◌}
-use mathlib.Core.Path.{◌≡◌, refl, sym, ◌∙◌}
-use mathlib.Core.Bool.{true, false, ◌&&◌, and-false, and-true}
-use mathlib.Core.List.{[], ◌∷◌}
-use native.Mathlib.Numerals.{add-one}
-use native.Mathlib.Omega.{arith}
-use lib.Dec.{leb}
-use lib.ListN.{length, drop, get_or, drop_of_length-le}
-use lib.Seq.{drop-cons}
-use borrow.Author.Tests.{le-leb, lt-leb}
-use Rattle.semantics.specs.Text.{Bytes, is_name}
-use Rattle.name.specs.Name.{name_letter, name_byte, name_bytes}
+use Rattle.std.proofs.Common.{◌≡◌, refl, sym, ap, ◌≤◌, ◌<◌, Bool, true, false, ◌&&◌, ◌||◌, [], ◌∷◌, length, get_or, eqb, arith}
+use Rattle.std.specs.List.{list_all}
+use mathlib.Core.Bool.{and-false, and-true}
+use borrow.Author.Tests.{le-leb, lt-leb, eqb-true}
+use Rattle.semantics.specs.Text.{Bytes, all, is_letter, is_digit, is_name}
+use Rattle.semantics.proofs.Common.{never}
+use Rattle.name.specs.Name.{name_letter, name_byte}
 
-name-parts : (s : Bytes) → 0 < length s → is_name s ≡ name_letter (get_or s 0 0) && name_bytes (drop 1 s) && leb (length s) 32
-unfolding is_name name_letter name_bytes
-name-parts [] h = absurd (omega arith)
-name-parts (b ∷ bs) h = refl
+same_all : (s : Bytes) → list_all name_byte s ≡ all (λ x. is_letter x || is_digit x) s
+same_all [] = refl
+same_all (b ∷ bs) = ap (λ (t : Bool). name_byte b && t) (same_all bs)
 
-pub name-nil : (s : Bytes) → length s ≡ 0 → false ≡ is_name s
+pub no_bytes : (s : Bytes) → eqb (length s) 0 ≡ true → false ≡ is_name s
 unfolding is_name
-name-nil [] h = refl
-name-nil (b ∷ bs) h = absurd (omega arith)
+no_bytes [] h = refl
+no_bytes (b ∷ bs) h = absurd (omega (arith, eqb-true _ _ h))
 
-module _ (s : Bytes) (h : 0 < length s) where
-  pub name-long : 32 < length s → false ≡ is_name s
-  name-long l = sym (name-parts s h ∙ rw (lt-leb (length s) 32 l) (simp and-false))
+pub too_long : (s : Bytes) → 32 < length s → false ≡ is_name s
+unfolding is_name
+too_long [] h = absurd (omega arith)
+too_long (b ∷ bs) h = sym (rw (lt-leb (length (b ∷ bs)) 32 h) (simp and-false))
 
-  pub name-first : name_letter (get_or s 0 0) ≡ false → false ≡ is_name s
-  name-first e = sym (name-parts s h ∙ rw e)
+pub no_letter : (s : Bytes) → name_letter (get_or s 0 0) ≡ false → false ≡ is_name s
+unfolding is_name
+no_letter [] h = refl
+no_letter (b ∷ bs) h = sym (rw h)
 
-  pub name-rest : length s ≤ 32 → name_letter (get_or s 0 0) ≡ true → is_name s ≡ name_bytes (drop 1 s)
-  name-rest l e = name-parts s h ∙ simp (e, le-leb (length s) 32 l, and-true)
-
-module _ (s : Bytes) (i : ℕ) (h : i < length s) where
-  pub byte-bad : name_byte (get_or s i 0) ≡ false → name_bytes (drop i s) ≡ false
-  unfolding name_byte name_bytes
-  byte-bad e = rw (drop-cons s i 0 h) (rw e)
-
-  pub byte_next : name_byte (get_or s i 0) ≡ true → name_bytes (drop i s) ≡ name_bytes (drop (i + 1) s)
-  unfolding name_byte name_bytes
-  byte_next e = rw (drop-cons s i 0 h) (rw (e, add-one))
-
-pub byte-end : (s : Bytes) (i : ℕ) → length s ≤ i → name_bytes (drop i s) ≡ true
-unfolding name_bytes
-byte-end s i h = rw (drop_of_length-le s h)
+pub name_all : (s : Bytes) → eqb (length s) 0 ≡ false → length s ≤ 32 → name_letter (get_or s 0 0) ≡ true → list_all name_byte s ≡ is_name s
+unfolding is_name
+name_all [] e h k = never (sym e)
+name_all (b ∷ bs) e h k = rw (same_all bs, le-leb (length (b ∷ bs)) 32 h, k) (simp and-true)

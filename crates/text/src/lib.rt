@@ -10,14 +10,12 @@ pub fn find(s: &[u8], at: usize, b: u8) -> usize
     requires { at ≤ length s.now }
     ensures { (result ≡ at + length (until b (drop at s.now))) × (at ≤ result) × (result ≤ length s.now) }
 {
-    let mut i = at;
-    while i < s.len() {
+    for i in at..s.len() {
         if s[i] == b {
             return i;
         }
-        i += 1;
     }
-    i
+    s.len()
 }
 
 // Where part n begins, of those that b parts; one past the length where there is none, which is the start of no part.
@@ -25,14 +23,12 @@ pub fn skip(s: &[u8], n: usize, b: u8) -> usize
     ensures { result ≡ part_start_at b n s.now }
 {
     let mut at = 0;
-    let mut k = 0;
-    while k < n {
+    for _k in 0..n {
         let e = find(s, at, b);
         if e == s.len() {
             return e + 1;
         }
         at = e + 1;
-        k += 1;
     }
     at
 }
@@ -77,18 +73,13 @@ pub fn field(sheet: &[u8], line: usize, i: usize) -> &[u8]
     ensures { (result.now ≡ field_of sheet.now line i) × (result.ref_ptr.0 ≡ sheet.entry.ref_ptr.0) × (result.ref_ptr.1 ≡ sheet.entry.ref_ptr.1 + field_start sheet.now line i) }
 {
     let p = field_place(sheet, line, i);
-    let a = p.start;
-    let e = p.end;
-    &sheet[a..e]
+    &sheet[p.start..p.end]
 }
 
 pub fn is_within(b: u8, lo: u8, hi: u8) -> bool
     ensures { result ≡ in_range lo hi b }
 {
-    if b < lo {
-        return false;
-    }
-    b <= hi
+    (lo..=hi).contains(&b)
 }
 
 // A byte as a number.

@@ -1,5 +1,4 @@
 -- `text::field_place` meets its contract. Each return is one law: no line 0, no such line, no such field of the line, and the field.
-use borrow.Author.Rules.{rules}
 use Rattle.text.proofs.Parts.{no-line-zero, no_line, no_field, a-field}
 use Rattle.text.proofs.field_place.Goals as goal
 

@@ -1,9 +1,6 @@
-use Prim.Native.Nat.{◌+◌, ◌-◌, ◌≤◌}
-use mathlib.Core.Path.{◌≡◌, ◌∙◌, ap}
+use mathlib.Core.Path.{◌∙◌, ap}
 use native.Mathlib.Omega.{arith}
-use lib.ListN.{length, drop}
-use borrow.Author.Rules.{rules}
-use Rattle.text.specs.Parts.{until}
+use lib.ListN.{length}
 use Rattle.text.proofs.Parts.{until-hit, until-miss, until_end}
 use Rattle.text.proofs.find.Goals as goal
 
@@ -16,7 +13,7 @@ pub loop-i-preserved : goal.loop-i-preserved
 loop-i-preserved c =
     let l = c.loop-i in
     let a = c.args in
-    (search rules, search rules, l.invariant.2 ∙ until-miss a.s.now a.b l.i c.loop-i-test.true c.if-s-i.false)
+    l.invariant ∙ until-miss a.s.now a.b l.i c.loop-i-test.true c.if-s-i.false
 
 pub returns : goal.returns
 returns c =
