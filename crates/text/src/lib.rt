@@ -1,8 +1,8 @@
-// Text: the parts of a sheet, whose lines end in LF and whose fields are parted by commas; and what readers of one field share.
+// Text: the parts of a sheet, whose lines end in LF and whose fields are parted by commas.
 #![tactic(auto)]
 
 ghost use Rattle.std.specs.Prelude.{◌≡◌, ◌+◌, ◌≤◌, ◌<◌, length, drop};
-ghost use Rattle.semantics.specs.Text.{in_range, field_of, field_start};
+ghost use Rattle.semantics.specs.Text.{field_of, field_start};
 ghost use Rattle.text.specs.Parts.{until, part_start_at, StandsAt};
 
 // The place of the first byte b at or after `at`, or the length where there is none.
@@ -74,17 +74,4 @@ pub fn field(sheet: &[u8], line: usize, i: usize) -> &[u8]
 {
     let p = field_place(sheet, line, i);
     &sheet[p.start..p.end]
-}
-
-pub fn is_within(b: u8, lo: u8, hi: u8) -> bool
-    ensures { result ≡ in_range lo hi b }
-{
-    (lo..=hi).contains(&b)
-}
-
-// A byte as a number.
-pub fn wide(x: u8) -> u64
-    ensures { (result ≡ x) × (result < 256) }
-{
-    x as u64
 }

@@ -6,9 +6,10 @@ use Prim.Native.Nat.{ℕ, suc, ◌+◌, ◌-◌, ◌*◌, ◌%◌, ◌≤◌, �
 use native.Mathlib.Omega.{arith}
 use native.Mathlib.Numerals.{add-one}
 use lib.Dec.{eqb}
+use Rattle.std.specs.Cmp.Lexicographic.{pointwise}
 use lib.ListN.{length, take, drop, get_or, drop_of_length-le}
 use lib.Seq.{drop-cons}
-use borrow.Author.Tests.{eq-eqb, ne_eqb, eqb-true}
+use borrow.Author.Tests.{eqb-true}
 use Rattle.semantics.specs.Text.{Bytes, same, from_big_endian}
 use Rattle.words.specs.Words.{digest_from, digest}
 
@@ -24,18 +25,11 @@ same_length (x ∷ a) (y ∷ b) h = go (eqb x y) (same_length a b (λ e. h (ap s
     go true e = e
     go false e = refl
 
-module _ (a b : Bytes) (i : ℕ) (h : i < length a) (k : i < length b) where
-  same-open : same (drop i a) (drop i b) ≡ eqb (get_or a i 0) (get_or b i 0) && same (drop (i + 1) a) (drop (i + 1) b)
-  same-open = rw (add-one, drop-cons a i 0 h, drop-cons b i 0 k)
-
-  pub same_next : get_or a i 0 ≡ get_or b i 0 → same (drop i a) (drop i b) ≡ same (drop (i + 1) a) (drop (i + 1) b)
-  same_next e = same-open ∙ rw (eq-eqb (get_or a i 0) (get_or b i 0) e)
-
-  pub same_not : (get_or a i 0 ≡ get_or b i 0 → ⊥) → same (drop i a) (drop i b) ≡ false
-  same_not e = same-open ∙ rw (ne_eqb (get_or a i 0) (get_or b i 0) e)
-
-pub same_end : (a b : Bytes) (i : ℕ) → length a ≤ i → length b ≤ i → same (drop i a) (drop i b) ≡ true
-same_end a b i h k = rw (drop_of_length-le a {i = i} h, drop_of_length-le b {i = i} k)
+pub equal_same : (a b : Bytes) → pointwise eqb a b ≡ same a b
+equal_same [] [] = refl
+equal_same [] (y ∷ b) = refl
+equal_same (x ∷ a) [] = refl
+equal_same (x ∷ a) (y ∷ b) = ap (λ (t : Bool). eqb x y && t) (equal_same a b)
 
 -- ---- the digest of a text
 

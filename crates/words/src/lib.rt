@@ -7,36 +7,24 @@ ghost use Rattle.semantics.specs.Text.{big_endian};
 ghost use Rattle.write.specs.Wrote.{Wrote};
 ghost use Rattle.words.specs.Words.{digest_from, digest, u16_at, bits_at};
 
+#[tactic(auto, using(crate::proofs::Laws::equal_same))]
 pub fn same(a: &[u8], b: &[u8]) -> bool
     ensures { result ≡ Text.same a.now b.now }
 {
-    if a.len() != b.len() {
-        return false;
-    }
-    let mut i = 0;
-    while i < a.len() {
-        if a[i] != b[i] {
-            return false;
-        }
-        i += 1;
-    }
-    true
+    a == b
 }
 
-// A byte as an index; `text::wide` is the same in 64 bits.
+// A byte as an index.
 pub fn wide(x: u8) -> usize
     ensures { (result ≡ x) × (result < 256) }
 {
-    x as usize
+    usize::from(x)
 }
 
 pub fn larger(a: usize, b: usize) -> usize
     ensures { result ≡ max a b }
 {
-    if a < b {
-        return b;
-    }
-    a
+    a.max(b)
 }
 
 // The digest of a text behind one that has the digest `before`.
@@ -45,10 +33,8 @@ pub fn digest_on(before: usize, s: &[u8]) -> usize
     ensures { (result ≡ digest_from before s.now) × (result < 256) }
 {
     let mut h = before;
-    let mut i = 0;
-    while i < s.len() {
-        h = (h * 185 + wide(s[i])) % 256;
-        i += 1;
+    for b in s {
+        h = (h * 185 + usize::from(*b)) % 256;
     }
     h
 }
@@ -61,25 +47,24 @@ pub fn digest(s: &[u8]) -> usize
 }
 
 // The number in two bytes, the low one first.
+#[tactic(auto, unfolding(crate::specs::Words::u16_at))]
 pub fn u16_at(work: &[u8], a: usize) -> usize
     requires { a + 1 < length work.now }
     ensures { (result ≡ u16_at work.now a) × (result < 65536) }
 {
-    wide(work[a]) + 256 * wide(work[a + 1])
+    usize::from(work[a]) + 256 * usize::from(work[a + 1])
 }
 
-// The 64 bits in eight bytes, the highest first.
+// The 64 bits in eight bytes, the highest first: a slice of eight is no array, so a loop and no `from_be_bytes`.
 pub fn bits_at(work: &[u8], a: usize) -> u64
     requires { a + 8 ≤ length work.now }
     ensures { result ≡ bits_at work.now a }
 {
-    let mut acc: u64 = 0;
-    let mut k = 0;
-    while k < 8 {
-        acc = acc * 256 + text::wide(work[a + k]);
-        k += 1;
+    let mut bits = 0;
+    for k in 0..8 {
+        bits = bits * 256 + u64::from(work[a + k]);
     }
-    acc
+    bits
 }
 
 // 64 bits stored in eight bytes, the highest first.

@@ -1,13 +1,10 @@
-use mathlib.Core.Path.{refl, ◌∙◌}
+use mathlib.Core.Path.{◌∙◌}
 use native.Mathlib.Omega.{arith}
 use Rattle.words.proofs.Laws.{digest-next, digest-end}
 use Rattle.words.proofs.digest_on.Goals as goal
 
-pub loop-i-init : goal.loop-i-init
-loop-i-init c = (omega arith, omega arith, refl)
-
-pub loop-i-preserved : goal.loop-i-preserved
-loop-i-preserved c = (omega arith, omega arith, c.loop-i.invariant.2 ∙ digest-next c.args.s.now c.loop-i.i c.loop-i.h (omega arith) c.wide.ensures.0)
+pub loop-b-preserved : goal.loop-b-preserved
+loop-b-preserved c = (omega arith, c.loop-b.invariant.1 ∙ digest-next c.args.s.now c.loop-b.b-index c.loop-b.h (omega arith) c.from.ensures)
 
 pub returns : goal.returns
-returns c = (digest-end c.args.s.now c.loop-i.i c.loop-i.h (omega arith) c.loop-i.invariant.2, c.loop-i.invariant.1)
+returns c = (digest-end c.args.s.now c.loop-b.b-index c.loop-b.h (omega arith) c.loop-b.invariant.1, c.loop-b.invariant.0)

@@ -1,11 +1,7 @@
-use lib.ListN.{length, drop}
-use Prim.Native.Nat.{◌-◌, ◌≤◌, ◌<◌}
-use mathlib.Core.Path.{◌≡◌}
+-- `words::digest_on` meets its contract.
+use Rattle.std.proofs.Common.{◌≡◌, ◌<◌, drop}
 use Rattle.words.specs.Words.{digest_from}
 use Rattle.words.proofs.digest_on.Given as goal
 
-abbrev pub invariant-loop-i : goal.invariant-loop-i
-invariant-loop-i l = (l.i ≤ length l.s) × (l.h < 256) × (digest_from l.before l.s ≡ digest_from l.h (drop l.i l.s))
-
-abbrev pub decreases-loop-i : goal.decreases-loop-i
-decreases-loop-i l = length l.s - l.i
+abbrev pub invariant-loop-b : goal.invariant-loop-b
+invariant-loop-b l = (l.h < 256) × (digest_from l.before l.s ≡ digest_from l.h (drop l.b-index l.s))
