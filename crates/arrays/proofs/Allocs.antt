@@ -23,8 +23,8 @@ use Rattle.lines.specs.Lines.{reads_in, read_at}
 use Rattle.sizes.specs.Sizes.{type_at, TypeLine}
 use Rattle.refs.proofs.Fields.{head-drop, tail-drop}
 use Rattle.sizes.proofs.Types.{Good, ref-head}
-use Rattle.values.specs.declared.Folded.{Folded}
-use Rattle.values.specs.Values.{result_in}
+use Rattle.values.specs.declared.ConstVal.{ConstVal}
+use Rattle.values.specs.Values.{result_in, Outcome}
 use Rattle.names.specs.Table.{ConstsLogged, names_in}
 use Rattle.placements.proofs.Same.{keeps-less, keeps-kept}
 use Rattle.leaf.specs.Folds.{ex_at, Foldable, Folds}
@@ -93,7 +93,7 @@ module _ {s t : Bytes} {n declared r : ℕ} (k : AllocLine s t n declared r) whe
     pub length-foldable : {m : ℕ} → ConstsLogged s t n m → Foldable s t n m q 49152
     length-foldable g = foldable {e = 0} (record { line = length-line.1; log = g; few = omega arith })
 
-    pub alloc-answers : {m kind : ℕ} → kind ≡ kind_number (elem_kind (alloc_type s declared r)) → {u : Bytes} {x : Folded} → Folds s t m 0 q 49152 u x
+    pub alloc-answers : {m kind : ℕ} → kind ≡ kind_number (elem_kind (alloc_type s declared r)) → {u : Bytes} {x : Outcome ConstVal} → Folds s t m 0 q 49152 u x
         → (y : Arrayed) → arrayed_in u y ≡ bind (result_in u x) (allocated (kind_of_number kind)) → ArrayStands u y → ArrayAnswers t (const_array (names_in s t m) (type_of s declared) (ex_at s r)) y u
     alloc-answers {m} {kind} e {u} {x} g y h st = record {
       array = record { result = rw (folds-to g, e, kind-back (elem_kind (alloc_type s declared r))) at h ∙ sym (rw (alloc-is, ← length-line.0)); stands = st };

@@ -20,10 +20,11 @@ use Rattle.semantics.specs.Fold.{Result, bind}
 use Rattle.semantics.specs.Fold.Result.{ok, failed, refuse}
 use Rattle.semantics.specs.Array.{allocated, as_int, as_size}
 use Rattle.ints.proofs.Widths.{held}
-use Rattle.values.specs.declared.Folded.{Folded}
-use Rattle.values.specs.Values.{result_in}
-use Rattle.literals.specs.declared.Index.{Index}
-use Rattle.literals.specs.Literals.{index_result}
+use Rattle.std.specs.Prelude.{Ok, Err}
+use Rattle.values.specs.declared.ConstVal.{ConstVal}
+use Rattle.values.specs.declared.NoValue.{NoValue}
+use Rattle.values.specs.declared.NoValue.TheVariants as N
+use Rattle.values.specs.Values.{result_in, answered, Outcome}
 
 module _ (k : ElemKind) where
   above : (z : ℤ) → lt_z (pos 2147483647) z ≡ true → refuse 9 ≡ allocated k (v_int z)
@@ -74,17 +75,21 @@ by_int f a b failed = refl
 by_int f a b (refuse r) = refl
 
 -- where i is the integer x, f is of integers alone
-module _ (t : Bytes) (x : Folded) (i : Index) (h : index_result i ≡ bind (result_in t x) as_int) {A : Type 0} (f : Tree.ConstVal → Result A) (a : (y : Float) → failed ≡ f (v_real y)) (b : (y : Bytes) → failed ≡ f (v_str y)) where
-  by_index : {j : Index} → i ≡ j → bind (index_result j) (λ (z : ℤ). f (v_int z)) ≡ bind (result_in t x) f
-  by_index e = ap (λ (k : Index). bind (index_result k) (λ (z : ℤ). f (v_int z))) (sym e) ∙ ap (λ (r : Result ℤ). bind r (λ (z : ℤ). f (v_int z))) h ∙ by_int f a b (result_in t x)
+module _ (t : Bytes) (x : Outcome ConstVal) (i : Outcome ℤ) (h : answered i ≡ bind (result_in t x) as_int) {A : Type 0} (f : Tree.ConstVal → Result A) (a : (y : Float) → failed ≡ f (v_real y)) (b : (y : Bytes) → failed ≡ f (v_str y)) where
+  by_index : {j : Outcome ℤ} → i ≡ j → bind (answered j) (λ (z : ℤ). f (v_int z)) ≡ bind (result_in t x) f
+  by_index e = ap (λ (k : Outcome ℤ). bind (answered k) (λ (z : ℤ). f (v_int z))) (sym e) ∙ ap (λ (r : Result ℤ). bind r (λ (z : ℤ). f (v_int z))) h ∙ by_int f a b (result_in t x)
 
-  pub of-int : {z : ℤ} → i ≡ Index.At z → SFits w64 z → f (v_int (held w64 z)) ≡ bind (result_in t x) f
+  pub of-int : {z : ℤ} → i ≡ Ok z → SFits w64 z → f (v_int (held w64 z)) ≡ bind (result_in t x) f
   of-int e w = rw (to_z-of_z w) (by_index e)
 
-  pub of_none : i ≡ Index.Failed → failed ≡ bind (result_in t x) f
+  pub of_none : i ≡ Err N.Failed → failed ≡ bind (result_in t x) f
   of_none e = by_index e
 
-  pub of-long : i ≡ Index.TooLong → refuse 8 ≡ bind (result_in t x) f
+  pub of-no-value : (e : NoValue) → i ≡ Err e → (g : NoValue → Result A) → g N.Failed ≡ failed → g N.LongString ≡ refuse 8 → g e ≡ bind (result_in t x) f
+  of-no-value N.Failed e g p q = p ∙ by_index e
+  of-no-value N.LongString e g p q = q ∙ by_index e
+
+  pub of-long : i ≡ Err N.LongString → refuse 8 ≡ bind (result_in t x) f
   of-long e = by_index e
 
 -- ---- the size of a literal

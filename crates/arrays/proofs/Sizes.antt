@@ -12,16 +12,15 @@ use Rattle.semantics.specs.Fold.Result.{ok}
 use Rattle.semantics.specs.Array.{Filled, as_size, literal_size}
 use Rattle.decimal.specs.Number as Number
 use Rattle.lines.specs.Lines.{read_at, nodes_in}
-use Rattle.values.specs.declared.Folded.{Folded}
-use Rattle.values.specs.Values.{result_in}
+use Rattle.values.specs.declared.ConstVal.{ConstVal}
+use Rattle.values.specs.Values.{result_in, answered, Outcome}
 use Rattle.names.specs.Table.{ConstsLogged, names_in}
 use Rattle.leaf.specs.Folds.{Foldable, Folds}
 use Rattle.literals.specs.Literals.{LiteralLine, above}
 use Rattle.literals.proofs.Lines.{may-line, maybe-given, maybe-absent}
 use Rattle.literals.proofs.Selectors.{foldable, folds-to}
 use Rattle.literals.proofs.Turns.{literal-refs}
-use Rattle.arrays.specs.declared.Size.{Size}
-use Rattle.arrays.specs.Arrays.{size_result, lit_size}
+use Rattle.arrays.specs.Arrays.{lit_size}
 
 module _ {s t : Bytes} {n r : ℕ} (k : LiteralLine s t n r) {q : ℕ} (hq : q ≡ Number.number_up_to 65536 (get_or (read_at s (r - 1)).fields 0 [])) where
   size-line : (q ≡ number_of (get_or (read_at s (r - 1)).fields 0 [])) × ((q ≡ 0 → ⊥) → KindLine 69 s t n q)
@@ -33,5 +32,5 @@ module _ {s t : Bytes} {n r : ℕ} (k : LiteralLine s t n r) {q : ℕ} (hq : q �
   pub size_none : (ns : Names) {reach : ℕ} → q ≡ 0 → (f : Filled) → reach ≡ f.reach → ok reach ≡ literal_size ns (lit_size s r) f
   size_none ns z f e = rw (← size-line.0, maybe-absent (nodes_in s) q z, e)
 
-  pub size-given : (q ≡ 0 → ⊥) → {m : ℕ} {u : Bytes} {x : Folded} → Folds s t m 0 q (above 16) u x → (y : Size) → size_result y ≡ bind (result_in u x) as_size → (f : Filled) → size_result y ≡ literal_size (names_in s t m) (lit_size s r) f
+  pub size-given : (q ≡ 0 → ⊥) → {m : ℕ} {u : Bytes} {x : Outcome ConstVal} → Folds s t m 0 q (above 16) u x → (y : Outcome ℕ) → answered y ≡ bind (result_in u x) as_size → (f : Filled) → answered y ≡ literal_size (names_in s t m) (lit_size s r) f
   size-given z g y h f = rw (folds-to g) at h ∙ sym (rw (← size-line.0, maybe-given (nodes_in s) q z))

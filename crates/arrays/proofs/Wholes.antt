@@ -38,10 +38,12 @@ use Rattle.literals.proofs.Names.{log-kept, logged-kept, line_kept}
 use Rattle.literals.proofs.Placing.{is_into}
 use Rattle.literals.proofs.Lines.{line-in, line-form, makes, may-line}
 use Rattle.literals.proofs.Turns.{literal-refs, literal-is}
-use Rattle.arrays.specs.declared.Size.{Size}
 use Rattle.arrays.specs.declared.Arrayed.{Arrayed}
 use Rattle.arrays.specs.declared.Arrayed.TheVariants.{Literal, Pending, Refused}
-use Rattle.arrays.specs.Arrays.{arrayed_in, size_result, ArrayStands, ArrayResult, ArrayAnswers, type_of, lit_size, own_type, ArrayLine, DeclaredLiteral, Counted, Sized}
+use Rattle.std.specs.Prelude.{Ok, Err}
+use Rattle.values.specs.declared.NoValue.TheVariants as N
+use Rattle.values.specs.Values.{answered, Outcome}
+use Rattle.arrays.specs.Arrays.{arrayed_in, ArrayStands, ArrayResult, ArrayAnswers, type_of, lit_size, own_type, ArrayLine, DeclaredLiteral, Counted, Sized}
 use Rattle.arrays.proofs.Allocs.{kind-back, kind-low, type-given}
 use Rattle.arrays.proofs.Elements.{outside-forms}
 
@@ -108,22 +110,22 @@ pub size-keeps : {t u : Bytes} → Kept (above 16) t u → Keeps 16384 49152 t u
 size-keeps c = keeps-less (omega arith) (omega arith) (keeps-kept {a = 0} (omega arith) c)
 
 module _ {s t u : Bytes} {n m declared r : ℕ} (l : DeclaredLiteral s t n declared r) (o : ConstsLogged s t n m) (c : Kept (above 16) t u) where
-  module _ {reach : ℕ} (x : Size) (h : (f : Filled) → reach ≡ f.reach → size_result x ≡ literal_size (names_in s t m) (lit_size s r) f) where
-    pub sized-failed : x ≡ Size.Failed → Sized s t m declared r reach Pending u
+  module _ {reach : ℕ} (x : Outcome ℕ) (h : (f : Filled) → reach ≡ f.reach → answered x ≡ literal_size (names_in s t m) (lit_size s r) f) where
+    pub sized-failed : x ≡ Err N.Failed → Sized s t m declared r reach Pending u
     sized-failed d = record {
-      answers = λ k next f few p. let e : literal_size (names_in s t m) (lit_size s r) f ≡ failed = sym (h f p.reach-is) ∙ ap size_result d in record { result = sym (rw e); stands = tt };
+      answers = λ k next f few p. let e : literal_size (names_in s t m) (lit_size s r) f ≡ failed = sym (h f p.reach-is) ∙ ap answered d in record { result = sym (rw e); stands = tt };
       keeps = size-keeps c;
     }
 
-    pub sized-long : x ≡ Size.TooLong → Sized s t m declared r reach (Refused 8) u
+    pub sized-long : x ≡ Err N.LongString → Sized s t m declared r reach (Refused 8) u
     sized-long d = record {
-      answers = λ k next f few p. let e : literal_size (names_in s t m) (lit_size s r) f ≡ refuse 8 = sym (h f p.reach-is) ∙ ap size_result d in record { result = sym (rw e); stands = tt };
+      answers = λ k next f few p. let e : literal_size (names_in s t m) (lit_size s r) f ≡ refuse 8 = sym (h f p.reach-is) ∙ ap answered d in record { result = sym (rw e); stands = tt };
       keeps = size-keeps c;
     }
 
-    module _ {size : ℕ} (d : x ≡ Size.Of size) where
+    module _ {size : ℕ} (d : x ≡ Ok size) where
       size_is : (k next : ℕ) (f : Filled) → Filling t (above 16) k next reach f → literal_size (names_in s t m) (lit_size s r) f ≡ ok size
-      size_is k next f p = sym (h f p.reach-is) ∙ ap size_result d
+      size_is k next f p = sym (h f p.reach-is) ∙ ap answered d
 
       pub sized-outside : size < reach → Sized s t m declared r reach (Refused 11) u
       sized-outside g = record {

@@ -13,7 +13,6 @@ use Rattle.leaf.specs.Folds.{ExLine}
 use Rattle.placements.specs.Placements.{placement_at, slot_at, values_in, Keeps, StringStands, Filling}
 use Rattle.names.specs.Table.{names_in}
 use Rattle.literals.specs.Literals.{els_at, LiteralLine, above}
-use Rattle.arrays.specs.declared.Size.{Size}
 use Rattle.arrays.specs.declared.Arrayed.{Arrayed}
 use Rattle.arrays.specs.declared.Arrayed.TheVariants.{Alloc, Literal, Pending, Refused}
 
@@ -29,11 +28,6 @@ arrayed_in t (Alloc k n) = ok (record { kind = kind_of_number k; count = n; valu
 arrayed_in t (Literal k n) = ok (record { kind = kind_of_number k; count = n; values = values_in t 0 n })
 arrayed_in t Pending = failed
 arrayed_in t (Refused r) = refuse r
-
-abbrev pub size_result : Size → Result ℕ
-size_result (Size.Of n) = ok n
-size_result Size.Failed = failed
-size_result Size.TooLong = refuse 8
 
 -- a literal has at most 1,024 values, and their strings stand on the stack
 abbrev pub ValuesStand : Bytes → ℕ → Type 0

@@ -9,18 +9,17 @@ ghost use Rattle.semantics.specs.Array as Array;
 ghost use Rattle.semantics.specs.Array.{Filled, kind_number, elem_kind, is_byte_cast, is_byte_literal, as_size, literal_kind, const_array};
 ghost use Rattle.checks.specs.Checks.{Kept};
 ghost use Rattle.sizes.specs.Sizes.{type_at, TypeLine};
-ghost use Rattle.values.specs.Values.{result_in};
+ghost use Rattle.values.specs.Values.{answered, result_in};
 ghost use Rattle.names.specs.Table.{ConstsLogged, names_in};
 ghost use Rattle.placements.specs.Placements.{values_in, Filling};
 ghost use Rattle.leaf.specs.Folds.{ex_at, ExLine};
 ghost use Rattle.literals.specs.Literals.{els_at, LiteralLine, above};
-ghost use Rattle.arrays.specs.Arrays.{kind_of_number, arrayed_in, size_result, ArrayStands, ArrayResult, ArrayAnswers, type_of, lit_size, own_type, alloc_type, ArrayLine, AllocLine, DeclaredLiteral, Counted, Sized};
+ghost use Rattle.arrays.specs.Arrays.{kind_of_number, arrayed_in, ArrayStands, ArrayResult, ArrayAnswers, type_of, lit_size, own_type, alloc_type, ArrayLine, AllocLine, DeclaredLiteral, Counted, Sized};
 
 use codes::{area, element, ex, ty};
-use literals::Index;
 use names::Known;
 use placements::Placed;
-use values::Folded;
+use values::{Folded, NoValue};
 
 // Above the strings of 16 elements.
 const ABOVE: usize = area::STACK + 256 * 16;
@@ -30,14 +29,6 @@ const LONGEST_ALLOC: i64 = 2147483647;
 const LOWEST_ALLOC: i64 = -2147483648;
 
 const LONGEST_LITERAL: u64 = 1024;
-
-// The size of a literal, or why there is none.
-#[derive(Clone, Copy)]
-pub enum Size {
-    Of(u64),
-    Failed,
-    TooLong,
-}
 
 // The kind of the elements and their number; the values of a literal stand in the working space.
 #[derive(Clone, Copy)]
@@ -90,9 +81,9 @@ fn allocated(kind: u8, x: Folded) -> Arrayed
     ensures { (t : Bytes) → (arrayed_in t result ≡ bind (result_in t x) (Array.allocated (kind_of_number kind))) × (ArrayStands t result) }
 {
     match literals::as_int(x) {
-        Index::At(z) => allocated_int(kind, z),
-        Index::Failed => Arrayed::Pending,
-        Index::TooLong => Arrayed::Refused(8),
+        Ok(z) => allocated_int(kind, z),
+        Err(NoValue::Failed) => Arrayed::Pending,
+        Err(NoValue::LongString) => Arrayed::Refused(8),
     }
 }
 
@@ -118,29 +109,30 @@ fn alloc(sheet: &[u8], work: &mut [u8], c: Known, declared: usize, r: usize) -> 
 
 // ---- literals
 
-fn as_size(x: Folded) -> Size
-    ensures { (t : Bytes) → size_result result ≡ bind (result_in t x) as_size }
+fn as_size(x: Folded) -> Result<u64, NoValue>
+    ensures { (t : Bytes) → answered result ≡ bind (result_in t x) as_size }
 {
-    match literals::as_int(x) {
-        Index::At(z) => {
-            if z < 0 {
-                return Size::Failed;
-            }
-            Size::Of(z as u64)
-        }
-        Index::Failed => Size::Failed,
-        Index::TooLong => Size::TooLong,
+    let z = literals::as_int(x)?;
+    if z < 0 {
+        return Err(NoValue::Failed);
     }
+    Ok(z as u64)
 }
 
 // The size of a literal: its own, or as many as its indices reach.
-fn literal_size(sheet: &[u8], work: &mut [u8], c: Known, r: usize, reach: u64) -> Size
+fn literal_size(
+    sheet: &[u8],
+    work: &mut [u8],
+    c: Known,
+    r: usize,
+    reach: u64,
+) -> Result<u64, NoValue>
     requires { (LiteralLine sheet.now work.old c.lines r) × (ConstsLogged sheet.now work.old c.lines c.consts) }
-    ensures { ((f : Filled) → reach ≡ f.reach → size_result result ≡ Array.literal_size (names_in sheet.now work.old c.consts) (lit_size sheet.now r) f) × (Kept (above 16) work.old work.new) }
+    ensures { ((f : Filled) → reach ≡ f.reach → answered result ≡ Array.literal_size (names_in sheet.now work.old c.consts) (lit_size sheet.now r) f) × (Kept (above 16) work.old work.new) }
 {
     let q = lines::number_at(sheet, work, c.lines, r - 1, 0);
     if q == 0 {
-        return Size::Of(reach);
+        return Ok(reach);
     }
     as_size(fold::fold_const(sheet, work, c, 0, q, ABOVE))
 }
@@ -209,14 +201,14 @@ fn sized(sheet: &[u8], work: &mut [u8], c: Known, declared: usize, r: usize, rea
     ensures { Sized sheet.now work.old c.consts declared r reach result work.new }
 {
     match literal_size(sheet, work, c, r, reach) {
-        Size::Of(size) => {
+        Ok(size) => {
             if size < reach {
                 return Arrayed::Refused(11);
             }
             measured(sheet, work, c.lines, declared, r, size)
         }
-        Size::Failed => Arrayed::Pending,
-        Size::TooLong => Arrayed::Refused(8),
+        Err(NoValue::Failed) => Arrayed::Pending,
+        Err(NoValue::LongString) => Arrayed::Refused(8),
     }
 }
 

@@ -1,5 +1,6 @@
 -- The definitions' operators, by the enums of the code.
-use Rattle.semantics.specs.Tree.{UnaryOp, Arith, IntOp, BinOp}
+use Rattle.std.specs.Prelude.{ℕ, get_or}
+use Rattle.semantics.specs.Tree.{UnaryOp, Arith, IntOp, BinOp, unary_ops, bin_ops}
 use Rattle.semantics.specs.Tree.BinOp.{arith, int_op}
 use Rattle.codes.specs.declared.unary.Unary.{Unary}
 use Rattle.codes.specs.declared.unary.Unary.TheVariants as U
@@ -32,3 +33,11 @@ binary_op B.Leq = int_op IntOp.leq
 binary_op B.Geq = int_op IntOp.geq
 binary_op B.LogAnd = BinOp.log_and
 binary_op B.LogOr = BinOp.log_or
+
+-- ---- operators by their numbers
+
+abbrev pub unary_at : ℕ → UnaryOp
+unary_at n = get_or unary_ops n UnaryOp.ref
+
+abbrev pub binary_at : ℕ → BinOp
+binary_at n = get_or bin_ops n BinOp.power

@@ -1,7 +1,6 @@
 // Binary operators.
-ghost use Rattle.std.specs.Prelude.{◌≡◌, get_or};
-ghost use Rattle.semantics.specs.Tree.{BinOp, bin_ops};
-ghost use Rattle.codes.specs.Operators.{binary_op};
+ghost use Rattle.std.specs.Prelude.{◌≡◌};
+ghost use Rattle.codes.specs.Operators.{binary_op, binary_at};
 
 #[derive(Clone, Copy, PartialEq, Eq)]
 pub enum Binary {
@@ -28,7 +27,7 @@ pub enum Binary {
 
 // The operator of a number in an `ex bin` line.
 pub fn of_number(n: usize) -> Binary
-    ensures { binary_op result ≡ get_or bin_ops n BinOp.power }
+    ensures { binary_op result ≡ binary_at n }
 {
     match n {
         0 => Binary::Add,
@@ -52,35 +51,3 @@ pub fn of_number(n: usize) -> Binary
         _ => Binary::Power,
     }
 }
-
-pub const ADD: usize = 0;
-
-pub const SUB: usize = 1;
-
-pub const MUL: usize = 2;
-
-pub const DIV: usize = 3;
-
-pub const MOD: usize = 4;
-
-pub const AND: usize = 6;
-
-pub const OR: usize = 7;
-
-pub const XOR: usize = 8;
-
-pub const LSHIFT: usize = 9;
-
-pub const RSHIFT: usize = 10;
-
-pub const EQ: usize = 11;
-
-pub const NEQ: usize = 12;
-
-pub const LT: usize = 13;
-
-pub const GT: usize = 14;
-
-pub const LEQ: usize = 15;
-
-pub const GEQ: usize = 16;

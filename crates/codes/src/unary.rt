@@ -1,7 +1,6 @@
 // Unary operators.
-ghost use Rattle.std.specs.Prelude.{◌≡◌, get_or};
-ghost use Rattle.semantics.specs.Tree.{UnaryOp, unary_ops};
-ghost use Rattle.codes.specs.Operators.{unary_op};
+ghost use Rattle.std.specs.Prelude.{◌≡◌};
+ghost use Rattle.codes.specs.Operators.{unary_op, unary_at};
 
 #[derive(Clone, Copy, PartialEq, Eq)]
 pub enum Unary {
@@ -13,7 +12,7 @@ pub enum Unary {
 
 // The operator of a number in an `ex un` line.
 pub fn of_number(n: usize) -> Unary
-    ensures { unary_op result ≡ get_or unary_ops n UnaryOp.ref }
+    ensures { unary_op result ≡ unary_at n }
 {
     match n {
         0 => Unary::Neg,
@@ -22,9 +21,3 @@ pub fn of_number(n: usize) -> Unary
         _ => Unary::Ref,
     }
 }
-
-pub const NEG: usize = 0;
-
-pub const NOT: usize = 1;
-
-pub const BIT_NOT: usize = 2;

@@ -31,9 +31,3 @@ pub fn of_number(n: u8) -> Option<Value>
         _ => None,
     }
 }
-
-pub const INT: u8 = 1;
-
-pub const REAL: u8 = 2;
-
-pub const STRING: u8 = 3;

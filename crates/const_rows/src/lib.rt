@@ -7,7 +7,7 @@ ghost use Rattle.write.specs.Wrote.{Wrote};
 ghost use Rattle.names.specs.Table.{found, log_in, ConstTable, Answered};
 ghost use Rattle.const_rows.specs.Rows.{qualified_part, plain_part, rows_to, entry_rows};
 
-use codes::value;
+use codes::value::{self, Value};
 use names::Known;
 
 // The fields of the value that a look-up found, to the row's end.
@@ -15,26 +15,27 @@ fn put_value(work: &[u8], out: &mut [u8], at: usize, r: usize) -> usize
     requires { (Answered work.now r) × (0 < r) }
     ensures { Wrote out.old at (row (value_fields (found work.now r))) out.new result }
 {
-    let k = names::slot_kind(work, r - 1);
     let b = names::slot_bits(work, r - 1);
-    if k == value::INT {
-        let p = write::put_part(out, at, b"i,");
-        let q = write::put_int(out, p, ints::of_bits(b));
-        return write::put(out, q, b'\n');
+    match value::of_number(names::slot_kind(work, r - 1)) {
+        Some(Value::Int) => {
+            let p = write::put_part(out, at, b"i,");
+            let q = write::put_int(out, p, ints::of_bits(b));
+            write::put(out, q, b'\n')
+        }
+        Some(Value::Real) => {
+            let p = write::put_part(out, at, b"r,");
+            let q = write::put_hex_bits(out, p, reals::bits(reals::of_bits(b))); // one pattern for every NaN
+            write::put(out, q, b'\n')
+        }
+        Some(Value::Str) => {
+            let a = (b % 65536) as usize;
+            let e = a + (b / 65536) as usize;
+            let p = write::put_part(out, at, b"s,");
+            let q = write::put_hex(out, p, &work[a..e]);
+            write::put(out, q, b'\n')
+        }
+        None => write::put_part(out, at, b"x\n"),
     }
-    if k == value::REAL {
-        let p = write::put_part(out, at, b"r,");
-        let q = write::put_hex_bits(out, p, reals::bits(reals::of_bits(b))); // one pattern for every NaN
-        return write::put(out, q, b'\n');
-    }
-    if k == value::STRING {
-        let a = (b % 65536) as usize;
-        let e = a + (b / 65536) as usize;
-        let p = write::put_part(out, at, b"s,");
-        let q = write::put_hex(out, p, &work[a..e]);
-        return write::put(out, q, b'\n');
-    }
-    write::put_part(out, at, b"x\n")
 }
 
 // A name, and behind it the value.

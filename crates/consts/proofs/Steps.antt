@@ -22,9 +22,9 @@ use Rattle.chains.specs.Chains.{linked}
 use Rattle.names.specs.Table.{const_chains, const_digest, log_in, names_in, ConstsLogged}
 use Rattle.names.proofs.Laws.{logged-kept, log-kept}
 use Rattle.values.specs.declared.ConstVal.{ConstVal}
-use Rattle.values.specs.declared.Folded.{Folded}
-use Rattle.values.specs.declared.Folded.TheVariants.{Value, Failed, TooLong}
-use Rattle.values.specs.Values.{value_in, result_in, kind_for, bits_for, InRange, At}
+use Rattle.std.specs.Prelude.{Ok, Err}
+use Rattle.values.specs.declared.NoValue.TheVariants.{Failed, LongString}
+use Rattle.values.specs.Values.{Outcome, value_in, result_in, kind_for, bits_for, InRange, At}
 use Rattle.write.specs.Wrote.{over}
 use Rattle.entries.specs.Entering.{entry_of, moved_to, string_of, EntryRoom}
 use Rattle.entries.proofs.Laws.{Entered, entered-value, entered-failed}
@@ -46,9 +46,9 @@ module _ (s t : Bytes) (n m k i : ℕ) (l : ConstLine s t n m k i) (r : ℕ) (is
   pub free : {u : Bytes} → Kept 49152 t u → EntryRoom u m (i + 1) k
   free w = record { few = l.few; first = omega arith; last = omega (arith, l.line, l.checked.whole.lined.few); owner = omega (arith, l.group, l.checked.whole.lined.few); long = omega (arith, w.long, l.checked.whole.room) }
 
-  module _ (iota : ℕ) (u : Bytes) (x : Folded) (f : Folds s t m iota r 49152 u x) where
+  module _ (iota : ℕ) (u : Bytes) (x : Outcome ConstVal) (f : Folds s t m iota r 49152 u x) where
     -- the fold, by what the code has
-    fold_is : {y : Folded} → x ≡ y → fold (names_in s t m) (pos iota) (const_at s k i).it.value ≡ result_in u y
+    fold_is : {y : Outcome ConstVal} → x ≡ y → fold (names_in s t m) (pos iota) (const_at s k i).it.value ≡ result_in u y
     unfolding fold_at
     fold_is q =
         ap (λ (j : ℕ). fold (names_in s t m) (pos iota) (node_at (nodes_in s) j).ex) (sym (ex-number s t n i l.checked l.line l.kind r is))
@@ -61,25 +61,25 @@ module _ (s t : Bytes) (n m k i : ℕ) (l : ConstLine s t n m k i) (r : ℕ) (is
       all-kept : Kept 5120 t w
       all-kept = kept_then (kept_less (omega arith) f.kept) e.kept
 
-    pub at_value : {v : ConstVal} → x ≡ Value v → At 49152 v
+    pub at_value : {v : ConstVal} → x ≡ Ok v → At 49152 v
     at_value q = rw q at f.answer.at
 
     log-after : ConstsLogged s u n m
     log-after = logged-kept f.kept l.logged
 
     module _ {d : ℕ} (named : d ≡ const_digest s k (first_field s (i + 1))) (w : Bytes) where
-      pub took-value : {v : ConstVal} → x ≡ Value v → (w ≡ linked (over (over u (16384 + 256 * m) (string_of u v)) (5120 + 16 * m) (entry_of (i + 1) k (kind_for v) (bits_for (moved_to (16384 + 256 * m) v)) d)) const_chains m) × InRange v → Kept 5120 t w × ConstantEntered s t w n m k i iota true
+      pub took-value : {v : ConstVal} → x ≡ Ok v → (w ≡ linked (over (over u (16384 + 256 * m) (string_of u v)) (5120 + 16 * m) (entry_of (i + 1) k (kind_for v) (bits_for (moved_to (16384 + 256 * m) v)) d)) const_chains m) × InRange v → Kept 5120 t w × ConstantEntered s t w n m k i iota true
       unfolding result_in
       took-value {v} q h =
           let e = entered-value u w m (i + 1) k d (free f.kept) v (at_value q) h s n (omega (arith, l.line)) l.group named log-after in
           (all-kept (Some (value_in u v)) w e, (e.logged, λ go. rw (fold_is q, log_is (Some (value_in u v)) w e)))
 
-      pub took-failed : x ≡ Failed → w ≡ linked (over u (5120 + 16 * m) (entry_of (i + 1) k 0 0 d)) const_chains m → Kept 5120 t w × ConstantEntered s t w n m k i iota true
+      pub took-failed : x ≡ Err Failed → w ≡ linked (over u (5120 + 16 * m) (entry_of (i + 1) k 0 0 d)) const_chains m → Kept 5120 t w × ConstantEntered s t w n m k i iota true
       unfolding result_in
       took-failed q h =
           let e = entered-failed u w m (i + 1) k d (free f.kept) h s n (omega (arith, l.line)) l.group named log-after in
           (all-kept None w e, (e.logged, λ go. rw (fold_is q, log_is None w e)))
 
-    pub took-none : x ≡ TooLong → Kept 5120 t u × ConstantEntered s t u n m k i iota false
+    pub took-none : x ≡ Err LongString → Kept 5120 t u × ConstantEntered s t u n m k i iota false
     unfolding result_in
     took-none q = (kept_less (omega arith) f.kept, λ go. rw (fold_is q))

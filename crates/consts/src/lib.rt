@@ -8,7 +8,7 @@ ghost use Rattle.consts.specs.Passes.{ConstLine, ConstantEntered, AtConstant, Pa
 use codes::{area, kind};
 use iota::IotaCounter;
 use names::Known;
-use values::Folded;
+use values::NoValue;
 
 // How many constants there are, or the line whose string grows too long.
 #[derive(Clone, Copy)]
@@ -41,17 +41,16 @@ fn take_constant(sheet: &[u8], work: &mut [u8], c: Known, k: usize, i: usize, io
     let r = lines::number_at(sheet, work, c.lines, i, 3);
     let name = lines::field_at(sheet, work, c.lines, i, 0);
     let d = names::const_digest(sheet, work, c.lines, k, name);
-    let x = fold::fold_const(sheet, work, c, iota, r, area::STACK);
-    match x {
-        Folded::Value(v) => {
+    match fold::fold_const(sheet, work, c, iota, r, area::STACK) {
+        Ok(v) => {
             entries::enter(work, c.consts, i + 1, k, v, d);
             true
         }
-        Folded::Failed => {
+        Err(NoValue::Failed) => {
             entries::enter_failed(work, c.consts, i + 1, k, d);
             true
         }
-        Folded::TooLong => false,
+        Err(NoValue::LongString) => false,
     }
 }
 

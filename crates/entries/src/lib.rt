@@ -8,7 +8,7 @@ ghost use Rattle.names.specs.Table.{const_chains};
 ghost use Rattle.values.specs.Values.{kind_for, bits_for, InRange, At};
 ghost use Rattle.entries.specs.Entering.{entry_of, moved_to, string_of, EntryRoom};
 
-use codes::area;
+use codes::{area, value};
 use names::CHAINS;
 use values::{ConstVal, LONGEST_STRING};
 
@@ -62,7 +62,8 @@ pub fn enter(work: &mut [u8], m: usize, line: usize, within: usize, v: ConstVal,
 {
     let kept = keep_string(work, v, m);
     let bits = values::bits_of(kept);
-    put_entry(work, m, line, within, values::kind_of(kept), bits, d);
+    let kind = value::number(values::kind_of(kept));
+    put_entry(work, m, line, within, kind, bits, d);
 }
 
 // One that failed.

@@ -15,7 +15,9 @@ use Rattle.semantics.specs.Tree.Ex.{unary, binary, cast, len}
 use Rattle.semantics.specs.Tree.ConstVal.{v_str}
 use Rattle.semantics.specs.Form.{Atom, forms, number_of, node_at}
 use Rattle.semantics.specs.Form.Kind.{k_ty, k_ex}
-use Rattle.semantics.specs.Fold.{Result, Names, bind, fold, fold_unary, fold_binary, fold_cast, fold_len}
+use Rattle.std.specs.Prelude.{Result, Ok, Err}
+use Rattle.semantics.specs.Fold as Fold
+use Rattle.semantics.specs.Fold.{Names, bind, fold, fold_unary, fold_binary, fold_cast, fold_len}
 use Rattle.semantics.specs.Fold.Result.{ok}
 use Rattle.decimal.specs.Number as Number
 use Rattle.form.specs.Table.{row_node}
@@ -24,10 +26,13 @@ use Rattle.checks.specs.Checks.{Checked, Kept}
 use Rattle.checks.proofs.Kept.{kept-all, kept_then, kept_less, kept_at, checked-kept}
 use Rattle.values.specs.declared.ConstVal.{ConstVal}
 use Rattle.values.specs.declared.ConstVal.TheVariants.{Int, Real, Str}
-use Rattle.values.specs.declared.Folded.{Folded}
-use Rattle.values.specs.declared.Folded.TheVariants.{Value, Failed, TooLong}
-use Rattle.values.specs.Values.{string_in, value_in, result_in, unary_at, binary_at, basic_at, string_size, At, ResultAt, Within, Answers, Casts}
+use Rattle.values.specs.declared.NoValue.{NoValue}
+use Rattle.values.specs.declared.NoValue.TheVariants.{Failed, LongString}
+use Rattle.values.specs.Values.{string_in, value_in, result_in, basic_at, string_size, At, ResultAt, Within, Answers, Casts}
 use Rattle.values.proofs.Values.{answers-as, answers-failed}
+use Rattle.codes.specs.declared.unary.Unary.{Unary}
+use Rattle.codes.specs.declared.binary.Binary.{Binary}
+use Rattle.codes.specs.Operators.{unary_at, binary_at, unary_op, binary_op}
 use Rattle.names.specs.Table.{names_in, ConstsLogged}
 use Rattle.names.proofs.Laws.{part-kept, logged-kept, log-kept}
 use Rattle.leaf.specs.Folds.{ex_at, fold_at, ExLine, Foldable, Folds}
@@ -135,12 +140,13 @@ module _ {s t : Bytes} {n r : ℕ} {v : ConstVal} {top : ℕ} (a : Applies s t n
   made : {f : ℕ} → form_at t (r - 1) ≡ f → ex_at s r ≡ (row_node (nodes_in s) f (read_at s (r - 1)).fields).ex
   made e = ex-is a.line.line ∙ ap (λ (f : ℕ). (row_node (nodes_in s) f (read_at s (r - 1)).fields).ex) e
 
-  pub applies-unary : form_at t (r - 1) ≡ 13 → {o : ℕ} {x : Folded} → o ≡ Number.number_up_to 65536 (get_or (read_at s (r - 1)).fields 0 []) → ((u : Bytes) (p : ℕ) → Answers u p x (fold_unary (unary_at o) (value_in u v)))
+  pub applies-unary : form_at t (r - 1) ≡ 13 → {o : ℕ} (op : Unary) {x : Result ConstVal NoValue} → o ≡ Number.number_up_to 65536 (get_or (read_at s (r - 1)).fields 0 []) → unary_op op ≡ unary_at o
+      → ((u : Bytes) (p : ℕ) → Answers u p x (fold_unary (unary_op op) (value_in u v)))
       → Answers t top x (on_one (ex_at s r) (value_in t v)) × Kept top t t
   unfolding forms
-  applies-unary e {o} h b =
+  applies-unary e {o} op h w b =
       let q : o ≡ number_of (get_or (read_at s (r - 1)).fields 0 []) = h ∙ small-number 3 (get_or (read_at s (r - 1)).fields 0 []) (omega arith) (field-good a.line.line 13 0 e Atom.unary_op refl) in
-      let d : ex_at s r ≡ unary (unary_at o) (ex_at s (number_of (get_or (read_at s (r - 1)).fields 1 []))) = made e ∙ made-unary (nodes_in s) (read_at s (r - 1)).fields ∙ rw q in
+      let d : ex_at s r ≡ unary (unary_op op) (ex_at s (number_of (get_or (read_at s (r - 1)).fields 1 []))) = made e ∙ made-unary (nodes_in s) (read_at s (r - 1)).fields ∙ rw (w, q) in
       (answers-as (sym (ap (λ (x : Ex). on_one x (value_in t v)) d)) (b t top), kept-all)
 
   -- the line of the type
@@ -149,7 +155,7 @@ module _ {s t : Bytes} {n r : ℕ} {v : ConstVal} {top : ℕ} (a : Applies s t n
   cast-line e = ref-good a.line.line 15 0 e k_ty refl
 
   pub applies-cast : form_at t (r - 1) ≡ 15 → {k code : ℕ} → k ≡ Number.number_up_to 65536 (get_or (read_at s (r - 1)).fields 0 []) → code ≡ form_at t (k - 1) → {u : Bytes} {w : ConstVal}
-      → Casts t top (fold_cast (basic_at code) (value_in t v)) u w → Answers u top (Value w) (on_one (ex_at s r) (value_in t v)) × Kept top t u
+      → Casts t top (fold_cast (basic_at code) (value_in t v)) u w → Answers u top (Ok w) (on_one (ex_at s r) (value_in t v)) × Kept top t u
   unfolding result_in
   applies-cast e {k} {code} h g b =
       let l = cast-line e in
@@ -159,7 +165,7 @@ module _ {s t : Bytes} {n r : ℕ} {v : ConstVal} {top : ℕ} (a : Applies s t n
       let c : basic_at code ≡ basic_of (node_at (nodes_in s) j).ty = ap basic_at (g ∙ ap (λ (i : ℕ). form_at t (i - 1)) q) ∙ sym (basic-is s t n a.line.line.checked j l.first l.last l.kind) in
       (record { value = ap ok (b.value ∙ ap (λ z. fold_cast z (value_in t v)) c) ∙ sym (ap (λ (x : Ex). on_one x (value_in t v)) d); at = b.at }, b.kept)
 
-  pub applies-len : (form_at t (r - 1) ≡ 13 → ⊥) → (form_at t (r - 1) ≡ 15 → ⊥) → {x : Folded} → ((p : ℕ) → Answers t p x (fold_len (value_in t v)))
+  pub applies-len : (form_at t (r - 1) ≡ 13 → ⊥) → (form_at t (r - 1) ≡ 15 → ⊥) → {x : Result ConstVal NoValue} → ((p : ℕ) → Answers t p x (fold_len (value_in t v)))
       → Answers t top x (on_one (ex_at s r) (value_in t v)) × Kept top t t
   applies-len n1 n2 b =
       let e : form_at t (r - 1) ≡ 16 = omega (arith, n1, n2, a.one, a.line.low, a.line.high) in
@@ -169,19 +175,10 @@ module _ {s t : Bytes} {n r : ℕ} {v : ConstVal} {top : ℕ} (a : Applies s t n
 -- ---- a step of the fold
 
 -- a result that is no value ends it
-abbrev pub EndsFold : Folded → Type 0
-EndsFold x = (v : ConstVal) → x ≡ Value v → ⊥
-
-stopped : (u : Bytes) (x : Folded) → EndsFold x → (K : Tree.ConstVal → Result Tree.ConstVal) → bind (result_in u x) K ≡ result_in u x
+stopped : (u : Bytes) (e : NoValue) (K : Tree.ConstVal → Fold.Result Tree.ConstVal) → bind (result_in u (Err e)) K ≡ result_in u (Err e)
 unfolding result_in
-stopped u (Value v) h K = absurd (h v refl)
-stopped u Failed h K = refl
-stopped u TooLong h K = refl
-
-stopped-at : (p q : ℕ) (x : Folded) → EndsFold x → ResultAt p x → ResultAt q x
-stopped-at p q (Value v) h k = absurd (h v refl)
-stopped-at p q Failed h k = tt
-stopped-at p q TooLong h k = tt
+stopped u Failed K = refl
+stopped u LongString K = refl
 
 -- a string keeps its bytes
 value-kept : (top : ℕ) (u w : Bytes) (v : ConstVal) → At top v → Kept (top + string_size v) u w → value_in w v ≡ value_in u v
@@ -196,7 +193,7 @@ size_small top (Real x) h = omega arith
 size_small top (Str p l) h = h.1
 
 module _ {s t : Bytes} {n m r top : ℕ} (a : Foldable s t n m r top) where
-  pub fails-behind : {iota : ℕ} → 16 < form_at t (r - 1) → Folds s t m iota r top t Failed
+  pub fails-behind : {iota : ℕ} → 16 < form_at t (r - 1) → Folds s t m iota r top t (Err Failed)
   unfolding fold_at
   fails-behind {iota} h =
       let w = form-span a.line in
@@ -231,12 +228,12 @@ module _ {s t : Bytes} {n m r top : ℕ} (a : Foldable s t n m r top) where
     operand-before e = omega (arith, e, (operand-line operator-line).before)
 
     -- the fold of the operand gave x
-    module _ {iota k : ℕ} (hk : k ≡ operand_of s t r) {u : Bytes} {x : Folded} (f : Folds s t m iota k top u x) where
+    module _ {iota k : ℕ} (hk : k ≡ operand_of s t r) {u : Bytes} {x : Result ConstVal NoValue} (f : Folds s t m iota k top u x) where
       operand-result : fold (names_in s t m) (pos iota) (ex_at s (operand_of s t r)) ≡ result_in u x
       unfolding fold_at
       operand-result = rw (← hk) (sym f.answer.value)
 
-      goes-on : (K : Tree.ConstVal → Result Tree.ConstVal) → fold (names_in s t m) (pos iota) (ex_at s r) ≡ bind (fold (names_in s t m) (pos iota) (ex_at s (operand_of s t r))) K → fold_at s t m iota r ≡ bind (result_in u x) K
+      goes-on : (K : Tree.ConstVal → Fold.Result Tree.ConstVal) → fold (names_in s t m) (pos iota) (ex_at s r) ≡ bind (fold (names_in s t m) (pos iota) (ex_at s (operand_of s t r))) K → fold_at s t m iota r ≡ bind (result_in u x) K
       unfolding fold_at
       goes-on K e = e ∙ ap (λ z. bind z K) operand-result
 
@@ -244,17 +241,17 @@ module _ {s t : Bytes} {n m r top : ℕ} (a : Foldable s t n m r top) where
       unfolding form_at
       same-form = kept_at f.kept (2048 + (r - 1)) (omega (arith, a.low, a.line.last, a.line.checked.whole.lined.few, a.line.first))
 
-      pub left-stops : EndsFold x → Folds s t m iota r top u x
-      left-stops h = go (eqb (form_at t (r - 1)) 14) refl
+      pub left-stops : {e : NoValue} → x ≡ Err e → Folds s t m iota r top u (Err e)
+      left-stops {e} h = go (eqb (form_at t (r - 1)) 14) refl
         where
-          ends : (K : Tree.ConstVal → Result Tree.ConstVal) → fold_at s t m iota r ≡ bind (result_in u x) K → Folds s t m iota r top u x
-          ends K e = record { answer = record { value = sym (e ∙ stopped u x h K); at = f.answer.at }; kept = f.kept }
+          ends : (K : Tree.ConstVal → Fold.Result Tree.ConstVal) → fold_at s t m iota r ≡ bind (result_in u x) K → Folds s t m iota r top u (Err e)
+          ends K q = record { answer = record { value = sym (q ∙ ap (λ z. bind (result_in u z) K) h ∙ stopped u e K); at = tt }; kept = f.kept }
 
-          go : (b : Bool) → eqb (form_at t (r - 1)) 14 ≡ b → Folds s t m iota r top u x
+          go : (b : Bool) → eqb (form_at t (r - 1)) 14 ≡ b → Folds s t m iota r top u (Err e)
           go true q = ends _ (goes-on _ (fold-two operator-line (names_in s t m) (pos iota) (eqb-true (form_at t (r - 1)) 14 q)))
           go false q = ends _ (goes-on _ (fold-one operator-line (names_in s t m) (pos iota) (eqb-false (form_at t (r - 1)) 14 q)))
 
-      module _ {v : ConstVal} (hv : x ≡ Value v) where
+      module _ {v : ConstVal} (hv : x ≡ Ok v) where
         value-at : At top v
         value-at = subst (ResultAt top) hv f.answer.at
 
@@ -266,7 +263,7 @@ module _ {s t : Bytes} {n m r top : ℕ} (a : Foldable s t n m r top) where
           room = omega (arith, a.room, depth-some a.line, f.kept.long);
         }
 
-        pub applied : (form_at t (r - 1) ≡ 14 → ⊥) → {w : Bytes} {y : Folded} → Answers w top y (on_one (ex_at s r) (value_in u v)) × Kept top u w → Folds s t m iota r top w y
+        pub applied : (form_at t (r - 1) ≡ 14 → ⊥) → {w : Bytes} {y : Result ConstVal NoValue} → Answers w top y (on_one (ex_at s r) (value_in u v)) × Kept top u w → Folds s t m iota r top w y
         unfolding result_in
         applied z b = record {
           answer = answers-as (sym (goes-on (on_one (ex_at s r)) (fold-one operator-line (names_in s t m) (pos iota) z) ∙ rw hv)) b.0;
@@ -287,7 +284,7 @@ module _ {s t : Bytes} {n m r top : ℕ} (a : Foldable s t n m r top) where
           right-fits = omega (arith, hp, size_small top v value-at, a.room, depth-some a.line)
 
           -- the fold of the right operand gave y
-          module _ {w : Bytes} {y : Folded} (b : Folds s u m iota g (top + p) w y) where
+          module _ {w : Bytes} {y : Result ConstVal NoValue} (b : Folds s u m iota g (top + p) w y) where
             pub right_kept : Kept top t w
             right_kept = kept_then f.kept (kept_less (omega arith) b.kept)
 
@@ -299,15 +296,15 @@ module _ {s t : Bytes} {n m r top : ℕ} (a : Foldable s t n m r top) where
             unfolding result_in
             both-results = goes-on _ (fold-two operator-line (names_in s t m) (pos iota) e) ∙ rw (hv, right-result)
 
-            pub right-stops : EndsFold y → Folds s t m iota r top w y
-            right-stops h = record { answer = record { value = sym (both-results ∙ stopped w y h _); at = stopped-at (top + p) top y h b.answer.at }; kept = right_kept }
+            pub right-stops : {g : NoValue} → y ≡ Err g → Folds s t m iota r top w (Err g)
+            right-stops {g} h = record { answer = record { value = sym (both-results ∙ ap (λ z. bind (result_in w z) (fold_binary (binary_at (number_of (get_or (read_at s (r - 1)).fields 0 []))) (value_in u v))) h ∙ stopped w g _); at = tt }; kept = right_kept }
 
-            pub binary-folds : {z : ConstVal} → y ≡ Value z → {o : ℕ} → o ≡ Number.number_up_to 65536 (get_or (read_at s (r - 1)).fields 0 []) → {q : Folded}
-                → ((t : Bytes) (top : ℕ) → At top v → At (top + string_size v) z → top + 512 ≤ length t → Answers t top q (fold_binary (binary_at o) (value_in t v) (value_in t z)))
+            pub binary-folds : {z : ConstVal} → y ≡ Ok z → {o : ℕ} (op : Binary) → o ≡ Number.number_up_to 65536 (get_or (read_at s (r - 1)).fields 0 []) → binary_op op ≡ binary_at o → {q : Result ConstVal NoValue}
+                → ((t : Bytes) (top : ℕ) → At top v → At (top + string_size v) z → top + 512 ≤ length t → Answers t top q (fold_binary (binary_op op) (value_in t v) (value_in t z)))
                 → Folds s t m iota r top w q
             unfolding result_in
-            binary-folds {z} hz {o} ho {q} c =
-                let i : o ≡ number_of (get_or (read_at s (r - 1)).fields 0 []) = binary-number operator-line e ho in
+            binary-folds {z} hz {o} op ho hop {q} c =
+                let i : binary_op op ≡ binary_at (number_of (get_or (read_at s (r - 1)).fields 0 [])) = hop ∙ ap binary_at (binary-number operator-line e ho) in
                 let k : Kept (top + string_size v) u w = rw (← hp) b.kept in
                 let x : At (top + string_size v) z = rw (← hp) (subst (ResultAt (top + p)) hz b.answer.at) in
                 let d = (right-line operator-line e).lower in

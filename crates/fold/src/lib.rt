@@ -7,9 +7,9 @@ ghost use Rattle.checks.specs.Checks.{Kept};
 ghost use Rattle.leaf.specs.Folds.{ex_at, Foldable, Folds};
 ghost use Rattle.fold.specs.Operators.{on_one, operand_of, OperatorLine, Applies};
 
-use codes::ex;
+use codes::{binary, ex, unary};
 use names::Known;
-use values::{ConstVal, Folded};
+use values::{ConstVal, Folded, NoValue};
 
 // The line of the only or left operand of line r.
 fn operand(sheet: &[u8], work: &[u8], n: usize, r: usize) -> usize
@@ -17,9 +17,10 @@ fn operand(sheet: &[u8], work: &[u8], n: usize, r: usize) -> usize
     ensures { result ≡ operand_of sheet.now work.now r }
 {
     if lines::form_at(work, r - 1) == ex::LEN {
-        return lines::number_at(sheet, work, n, r - 1, 0);
+        lines::number_at(sheet, work, n, r - 1, 0)
+    } else {
+        lines::number_at(sheet, work, n, r - 1, 1)
     }
-    lines::number_at(sheet, work, n, r - 1, 1)
 }
 
 // What line r makes of the value of its only operand, which stands at `top` where it is a string.
@@ -27,15 +28,17 @@ fn apply(sheet: &[u8], work: &mut [u8], n: usize, r: usize, v: ConstVal, top: us
     requires { Applies sheet.now work.old n r v top }
     ensures { (Answers work.new top result (on_one (ex_at sheet.now r) (value_in work.old v))) × (Kept top work.old work.new) }
 {
-    let f = lines::form_at(work, r - 1);
-    if f == ex::UN {
-        return values::fold_unary(lines::number_at(sheet, work, n, r - 1, 0), v);
+    match lines::form_at(work, r - 1) {
+        ex::UN => {
+            let op = unary::of_number(lines::number_at(sheet, work, n, r - 1, 0));
+            values::fold_unary(op, v)
+        }
+        ex::CAST => {
+            let code = lines::form_at(work, lines::number_at(sheet, work, n, r - 1, 0) - 1);
+            Ok(values::fold_cast(work, code, v, top))
+        }
+        _ => values::fold_len(work, v),
     }
-    if f == ex::CAST {
-        let code = lines::form_at(work, lines::number_at(sheet, work, n, r - 1, 0) - 1);
-        return Folded::Value(values::fold_cast(work, code, v, top));
-    }
-    values::fold_len(work, v)
 }
 
 // The value of line r, by the constants that are known: a string stands at `top`. Each line under r is visited once.
@@ -55,19 +58,14 @@ pub fn fold_const(
         return leaf::leaf(sheet, work, c, iota, r, top);
     }
     if ex::LEN < f {
-        return Folded::Failed;
+        return Err(NoValue::Failed);
     }
-    let x = fold_const(sheet, work, c, iota, operand(sheet, work, c.lines, r), top);
-    let Folded::Value(v) = x else {
-        return x;
-    };
+    let v = fold_const(sheet, work, c, iota, operand(sheet, work, c.lines, r), top)?;
     if f != ex::BIN {
         return apply(sheet, work, c.lines, r, v, top);
     }
     let right = lines::number_at(sheet, work, c.lines, r - 1, 2);
-    let y = fold_const(sheet, work, c, iota, right, top + values::size(v));
-    let Folded::Value(w) = y else {
-        return y;
-    };
-    values::fold_binary(lines::number_at(sheet, work, c.lines, r - 1, 0), v, w)
+    let w = fold_const(sheet, work, c, iota, right, top + values::size(v))?;
+    let op = binary::of_number(lines::number_at(sheet, work, c.lines, r - 1, 0));
+    values::fold_binary(op, v, w)
 }

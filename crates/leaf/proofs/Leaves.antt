@@ -3,7 +3,7 @@ use mathlib.Core.Path.{◌≡◌, refl, sym, ap, ◌∙◌}
 use mathlib.Core.Bool.{Bool, true, false, cond, ◌&&◌}
 use mathlib.Core.List.{List, [], ◌∷◌}
 use mathlib.Core.Logic.{inl}
-use Rattle.std.specs.Prelude.{Option, None, Some}
+use Rattle.std.specs.Prelude.{Option, None, Some, Result, Ok, Err}
 use Rattle.std.specs.Option.{option_and_then, unwrap_or}
 use Prim.Native.Nat.{ℕ, zero, suc, ◌+◌, ◌-◌, ◌/◌, ◌%◌, ◌≤◌, ◌<◌, min}
 use native.Mathlib.Omega.{arith}
@@ -37,8 +37,8 @@ use Rattle.checks.specs.Checks.{Kept}
 use Rattle.checks.proofs.Kept.{kept-all, wrote_kept}
 use Rattle.values.specs.declared.ConstVal.{ConstVal}
 use Rattle.values.specs.declared.ConstVal.TheVariants.{Int, Real, Str}
-use Rattle.values.specs.declared.Folded.{Folded}
-use Rattle.values.specs.declared.Folded.TheVariants.{Value, Failed}
+use Rattle.values.specs.declared.NoValue.{NoValue}
+use Rattle.values.specs.declared.NoValue.TheVariants.{Failed}
 use Rattle.values.specs.Values.{string_in, value_in, result_in, At, Answers, Casts, RunsApart}
 use Rattle.values.proofs.Values.{answers-as, answers-int, answers-real, answers-failed}
 use Rattle.values.proofs.Written.{wrote-there}
@@ -181,7 +181,7 @@ scalar-casts t top q h = let w = h t top in record { value = w.0 ∙ q; at = w.1
 -- ---- the value of a constant that was found
 
 module _ {t : Bytes} {k top : ℕ} (w : AnsweredAt t k top) where
-  pub found_none : k ≡ 0 → Answers t top Failed (from_option (found t k)) × Kept top t t
+  pub found_none : k ≡ 0 → Answers t top (Err Failed) (from_option (found t k)) × Kept top t t
   unfolding found
   found_none e = (answers-failed (rw e) t top, kept-all)
 
@@ -189,10 +189,10 @@ module _ {t : Bytes} {k top : ℕ} (w : AnsweredAt t k top) where
     by-slot : found t k ≡ value_by t kind b
     by-slot = found-is t k some-k ∙ rw (hk, hb)
 
-    pub found-int : kind ≡ 1 → {z : ℤ} → SFits w64 z → z ≡ signed64 b → Answers t top (Value (Int (held w64 z))) (from_option (found t k)) × Kept top t t
+    pub found-int : kind ≡ 1 → {z : ℤ} → SFits w64 z → z ≡ signed64 b → Answers t top (Ok (Int (held w64 z))) (from_option (found t k)) × Kept top t t
     found-int e f q = (answers-int f (rw (by-slot, value-int t kind b e) (ap int_ok q)) t top, kept-all)
 
-    pub found-real : kind ≡ 2 → {y : Float} → y ≡ of_bits binary64 b → Answers t top (Value (Real y)) (from_option (found t k)) × Kept top t t
+    pub found-real : kind ≡ 2 → {y : Float} → y ≡ of_bits binary64 b → Answers t top (Ok (Real y)) (from_option (found t k)) × Kept top t t
     found-real e q = (answers-real (rw (by-slot, value-real t kind b e) (ap (λ (u : Float). ok (v_real u)) q)) t top, kept-all)
 
     found-text : kind ≡ 3 → StringPlace b
@@ -205,7 +205,7 @@ module _ {t : Bytes} {k top : ℕ} (w : AnsweredAt t k top) where
         let x = found-text e in
         record { source = omega (arith, x.high, w.answered.long); target = omega (arith, x.short, w.room); apart = inl (omega (arith, x.high, w.low)) }
 
-    pub found-string : kind ≡ 3 → {u : Bytes} → u ≡ over t top (take (b / 65536) (drop (b % 65536) t)) → Answers u top (Value (Str top (b / 65536))) (from_option (found t k)) × Kept top t u
+    pub found-string : kind ≡ 3 → {u : Bytes} → u ≡ over t top (take (b / 65536) (drop (b % 65536) t)) → Answers u top (Ok (Str top (b / 65536))) (from_option (found t k)) × Kept top t u
     unfolding result_in value_in
     found-string e {u} q =
         let x = found-text e in
@@ -215,7 +215,7 @@ module _ {t : Bytes} {k top : ℕ} (w : AnsweredAt t k top) where
         let z : string_in u top (b / 65536) ≡ y = ap (string_in u top) (sym l) ∙ wrote-there v (omega (arith, l, x.short, w.room)) in
         (record { value = rw (by-slot, value-text t kind b e) (ap (λ (a : Bytes). ok (v_str a)) z); at = (refl, x.short) }, wrote_kept v)
 
-    pub found-failed : (kind ≡ 1 → ⊥) → (kind ≡ 2 → ⊥) → (kind ≡ 3 → ⊥) → Answers t top Failed (from_option (found t k)) × Kept top t t
+    pub found-failed : (kind ≡ 1 → ⊥) → (kind ≡ 2 → ⊥) → (kind ≡ 3 → ⊥) → Answers t top (Err Failed) (from_option (found t k)) × Kept top t t
     found-failed n1 n2 n3 = (answers-failed (rw (by-slot, value-failed t kind b n1 n2 n3)) t top, kept-all)
 
 -- ---- names
@@ -238,10 +238,10 @@ module _ {s t : Bytes} {n m r top : ℕ} (a : Foldable s t n m r top) where
   fold-name iota e = rw (ex-is a.line, e, made-ident (nodes_in s) (read_at s (r - 1)).fields)
 
   module _ (e : form_at t (r - 1) ≡ 11) {x : Bytes} (hx : x ≡ get_or (read_at s (r - 1)).fields 0 []) where
-    pub name-iota : {iota : ℕ} → same x (bytes "iota") ≡ true → SFits w64 (pos iota) → Folds s t m iota r top t (Value (Int (held w64 (pos iota))))
+    pub name-iota : {iota : ℕ} → same x (bytes "iota") ≡ true → SFits w64 (pos iota) → Folds s t m iota r top t (Ok (Int (held w64 (pos iota))))
     name-iota {iota} q f = record { answer = answers-int f (sym (fold-name iota e ∙ rw (← hx, q))) t top; kept = kept-all }
 
-    pub name-found : {iota : ℕ} → same x (bytes "iota") ≡ false → (k : ℕ) → value_of (look_up (plain x) (log_in s t m)) ≡ found t k → {u : Bytes} {y : Folded}
+    pub name-found : {iota : ℕ} → same x (bytes "iota") ≡ false → (k : ℕ) → value_of (look_up (plain x) (log_in s t m)) ≡ found t k → {u : Bytes} {y : Result ConstVal NoValue}
         → Answers u top y (from_option (found t k)) × Kept top t u → Folds s t m iota r top u y
     name-found {iota} q k p b = record { answer = answers-as (sym (fold-name iota e ∙ rw (← hx, q, p))) b.0; kept = b.1 }
 
@@ -261,7 +261,7 @@ module _ {s t : Bytes} {n m r top : ℕ} (a : Foldable s t n m r top) where
     unfolding fold_at fold
     fold-qualified iota = rw (ex-is a.line, e, made-qualified (nodes_in s) (read_at s (r - 1)).fields, ← module-is)
 
-    pub qualified-failed : {iota : ℕ} → (form_at t (k - 1) ≡ 11 → ⊥) → Folds s t m iota r top t Failed
+    pub qualified-failed : {iota : ℕ} → (form_at t (k - 1) ≡ 11 → ⊥) → Folds s t m iota r top t (Err Failed)
     qualified-failed {iota} z =
         let w = form-span module-line in
         let f : form_at t (k - 1) ≡ 8 + (form_at t (k - 1) - 8) = omega (arith, w.0) in
@@ -272,14 +272,14 @@ module _ {s t : Bytes} {n m r top : ℕ} (a : Foldable s t n m r top) where
         }
 
     pub qualified-found : {iota : ℕ} → form_at t (k - 1) ≡ 11 → {x y : Bytes} → x ≡ get_or (read_at s (k - 1)).fields 0 [] → y ≡ get_or (read_at s (r - 1)).fields 1 [] → (i : ℕ) → value_of (look_up (qualified x y) (log_in s t m)) ≡ found t i
-        → {u : Bytes} {z : Folded} → Answers u top z (from_option (found t i)) × Kept top t u → Folds s t m iota r top u z
+        → {u : Bytes} {z : Result ConstVal NoValue} → Answers u top z (from_option (found t i)) × Kept top t u → Folds s t m iota r top u z
     qualified-found {iota} f {x} {y} hx hy i p b =
         record {
           answer = answers-as (sym (fold-qualified iota ∙ rw (ex-is module-line, f, made-ident (nodes_in s) (read_at s (k - 1)).fields, ← hx, ← hy, p))) b.0;
           kept = b.1;
         }
 
-  pub scalar-folds : {iota : ℕ} → form_at t (r - 1) < 11 → {u : Bytes} {v : ConstVal} → Casts t top (scalar_of (form_at t (r - 1)) (get_or (read_at s (r - 1)).fields 0 [])) u v → Folds s t m iota r top u (Value v)
+  pub scalar-folds : {iota : ℕ} → form_at t (r - 1) < 11 → {u : Bytes} {v : ConstVal} → Casts t top (scalar_of (form_at t (r - 1)) (get_or (read_at s (r - 1)).fields 0 [])) u v → Folds s t m iota r top u (Ok v)
   unfolding result_in
   scalar-folds {iota} h b = record { answer = record { value = ap ok b.value ∙ sym (scalar-fold a.line m iota h); at = b.at }; kept = b.kept }
 

@@ -33,7 +33,8 @@ use Rattle.checks.specs.Checks.{Checked}
 use Rattle.sizes.specs.Sizes.{type_at}
 use Rattle.sizes.proofs.Forms.{type-form, ex-form, of_types}
 use Rattle.refs.proofs.Fields.{number-exact}
-use Rattle.values.specs.Values.{unary_at, binary_at, basic_at}
+use Rattle.codes.specs.Operators.{unary_at, binary_at}
+use Rattle.values.specs.Values.{basic_at}
 use Rattle.leaf.specs.Folds.{ex_at, scalar_of, ExLine}
 
 -- ---- fields by their places

@@ -1,5 +1,5 @@
 -- Expressions of a checked sheet's lines, and what folds of them ask and leave.
-use Rattle.std.specs.Prelude.{ℕ, ◌+◌, ◌-◌, ◌*◌, ◌≤◌, ◌<◌, ◌≡◌, cond, [], eqb, pos, length}
+use Rattle.std.specs.Prelude.{ℕ, ◌+◌, ◌-◌, ◌*◌, ◌≤◌, ◌<◌, ◌≡◌, cond, [], eqb, pos, length, Result}
 use Rattle.std.specs.Float.{binary64}
 use Rattle.std.specs.Float.Ieee.{of_bits}
 use Rattle.semantics.specs.Text.{Bytes, or_else, int_of, unhex, from_big_endian}
@@ -7,11 +7,13 @@ use Rattle.semantics.specs.Tree as Tree
 use Rattle.semantics.specs.Tree.{Ex}
 use Rattle.semantics.specs.Tree.ConstVal.{v_int, v_real, v_str}
 use Rattle.semantics.specs.Form.{node_at}
-use Rattle.semantics.specs.Fold.{Result, fold}
+use Rattle.semantics.specs.Fold as Fold
+use Rattle.semantics.specs.Fold.{fold}
 use Rattle.lines.specs.Lines.{reads_in, nodes_in, form_at}
 use Rattle.nesting.specs.Nesting.{depth_of}
 use Rattle.checks.specs.Checks.{Kept, KindLine}
-use Rattle.values.specs.declared.Folded.{Folded}
+use Rattle.values.specs.declared.ConstVal.{ConstVal}
+use Rattle.values.specs.declared.NoValue.{NoValue}
 use Rattle.values.specs.Values.{Answers}
 use Rattle.names.specs.Table.{names_in, ConstsLogged, Answered}
 
@@ -20,7 +22,7 @@ abbrev pub ex_at : Bytes → ℕ → Ex
 ex_at s r = (node_at (nodes_in s) r).ex
 
 -- what it folds to, where the first m constants are known
-unfoldable pub fold_at : Bytes → Bytes → ℕ → ℕ → ℕ → Result Tree.ConstVal
+unfoldable pub fold_at : Bytes → Bytes → ℕ → ℕ → ℕ → Fold.Result Tree.ConstVal
 fold_at s t m iota r = fold (names_in s t m) (pos iota) (ex_at s r)
 
 -- line r of a checked sheet is an `ex` line, 69
@@ -35,7 +37,7 @@ pub record Foldable (s t : Bytes) (n m r top : ℕ) : Type 0 where
   pub room : top + 256 * depth_of (reads_in s) (r - 1) ≤ length t
 
 -- what it leaves: x is what line r folds to, in the working space u
-pub record Folds (s t : Bytes) (m iota r top : ℕ) (u : Bytes) (x : Folded) : Type 0 where
+pub record Folds (s t : Bytes) (m iota r top : ℕ) (u : Bytes) (x : Result ConstVal NoValue) : Type 0 where
   pub answer : Answers u top x (fold_at s t m iota r)
   pub kept : Kept top t u
 

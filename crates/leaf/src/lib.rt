@@ -14,9 +14,10 @@ ghost use Rattle.values.specs.Values.{value_in, At, Answers, Casts};
 ghost use Rattle.names.specs.Table.{found};
 ghost use Rattle.leaf.specs.Folds.{scalar_of, Folds, Leaf, ScalarLine, Ident, Qualified, AnsweredAt};
 
-use codes::{ex, value};
+use codes::ex;
+use codes::value::{self, Value};
 use names::Known;
-use values::{ConstVal, Folded};
+use values::{ConstVal, Folded, NoValue};
 
 fn integer(x: &[u8]) -> ConstVal
     requires { Form.holds Form.Atom.i64 x.now ≡ true }
@@ -49,15 +50,12 @@ fn scalar(sheet: &[u8], work: &mut [u8], n: usize, r: usize, top: usize) -> Cons
     requires { ScalarLine sheet.now work.old n r top }
     ensures { Casts work.old top (scalar_of (form_at work.old (r - 1)) (get_or (read_at sheet.now (r - 1)).fields 0 [])) work.new result }
 {
-    let f = lines::form_at(work, r - 1);
     let x = lines::field_at(sheet, work, n, r - 1, 0);
-    if f == ex::INT {
-        return integer(x);
+    match lines::form_at(work, r - 1) {
+        ex::INT => integer(x),
+        ex::REAL => real(x),
+        _ => string(x, work, top),
     }
-    if f == ex::REAL {
-        return real(x);
-    }
-    string(x, work, top)
 }
 
 // The value of the constant that a look-up found, 0 for none: a string is put at `top`.
@@ -66,22 +64,19 @@ fn constant(work: &mut [u8], k: usize, top: usize) -> Folded
     ensures { (Answers work.new top result (from_option (found work.old k))) × (Kept top work.old work.new) }
 {
     if k == 0 {
-        return Folded::Failed;
+        return Err(NoValue::Failed);
     }
-    let kind = names::slot_kind(work, k - 1);
     let b = names::slot_bits(work, k - 1);
-    if kind == value::INT {
-        return Folded::Value(ConstVal::Int(ints::of_bits(b)));
+    match value::of_number(names::slot_kind(work, k - 1)) {
+        Some(Value::Int) => Ok(ConstVal::Int(ints::of_bits(b))),
+        Some(Value::Real) => Ok(ConstVal::Real(reals::of_bits(b))),
+        Some(Value::Str) => {
+            let l = (b / 65536) as usize;
+            values::copy(work, (b % 65536) as usize, top, l);
+            Ok(ConstVal::Str(top, l))
+        }
+        None => Err(NoValue::Failed),
     }
-    if kind == value::REAL {
-        return Folded::Value(ConstVal::Real(reals::of_bits(b)));
-    }
-    if kind == value::STRING {
-        let l = (b / 65536) as usize;
-        values::copy(work, (b % 65536) as usize, top, l);
-        return Folded::Value(ConstVal::Str(top, l));
-    }
-    Folded::Failed
 }
 
 // `iota` outranks a constant of that name.
@@ -91,7 +86,7 @@ fn ident(sheet: &[u8], work: &mut [u8], c: Known, iota: u32, r: usize, top: usiz
 {
     let name = lines::field_at(sheet, work, c.lines, r - 1, 0);
     if words::same(name, b"iota") {
-        return Folded::Value(ConstVal::Int(iota as i64));
+        return Ok(ConstVal::Int(iota as i64));
     }
     let k = names::look_up(sheet, work, c, name);
     constant(work, k, top)
@@ -104,7 +99,7 @@ fn qualified(sheet: &[u8], work: &mut [u8], c: Known, r: usize, top: usize) -> F
 {
     let q = lines::number_at(sheet, work, c.lines, r - 1, 0);
     if lines::form_at(work, q - 1) != ex::ID {
-        return Folded::Failed;
+        return Err(NoValue::Failed);
     }
     let within = lines::field_at(sheet, work, c.lines, q - 1, 0);
     let name = lines::field_at(sheet, work, c.lines, r - 1, 1);
@@ -117,12 +112,9 @@ pub fn leaf(sheet: &[u8], work: &mut [u8], c: Known, iota: u32, r: usize, top: u
     requires { Leaf sheet.now work.old c.lines c.consts r top }
     ensures { Folds sheet.now work.old c.consts iota r top work.new result }
 {
-    let f = lines::form_at(work, r - 1);
-    if f == ex::ID {
-        return ident(sheet, work, c, iota, r, top);
+    match lines::form_at(work, r - 1) {
+        ex::ID => ident(sheet, work, c, iota, r, top),
+        ex::QUAL => qualified(sheet, work, c, r, top),
+        _ => Ok(scalar(sheet, work, c.lines, r, top)),
     }
-    if f == ex::QUAL {
-        return qualified(sheet, work, c, r, top);
-    }
-    Folded::Value(scalar(sheet, work, c.lines, r, top))
 }

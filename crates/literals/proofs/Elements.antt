@@ -17,8 +17,9 @@ use Rattle.decimal.specs.Number as Number
 use Rattle.lines.specs.Lines.{read_at, form_at}
 use Rattle.values.specs.declared.ConstVal.{ConstVal}
 use Rattle.values.specs.declared.ConstVal.TheVariants.{Int, Real, Str}
-use Rattle.values.specs.declared.Folded.{Folded}
-use Rattle.values.specs.Values.{value_in, result_in, Small, InRange, At, ResultAt}
+use Rattle.std.specs.Prelude.{Ok, Err}
+use Rattle.values.specs.declared.NoValue.TheVariants as N
+use Rattle.values.specs.Values.{value_in, result_in, Small, InRange, At, ResultAt, Outcome}
 use Rattle.slots.specs.Slots.{slot_bytes}
 use Rattle.slots.proofs.Bits.{SlotStored, stored}
 use Rattle.write.specs.Wrote.{over}
@@ -100,24 +101,24 @@ module _ {s t : Bytes} {n m r k : ℕ} (c : ElementTask s t n m r k) (far : Exte
   value-is : el_value (el_at s r) ≡ ex_at s q
   value-is = rw (el-value c.line, value_line.0)
 
-  module _ {u : Bytes} {x : Folded} (g : Folds s t m 0 q (49152 + 256 * k) u x) where
+  module _ {u : Bytes} {x : Outcome ConstVal} (g : Folds s t m 0 q (49152 + 256 * k) u x) where
     fills-to : (f : Filled) → fill_element (names_in s t m) (el_at s r) f ≡ bind (result_in u x) (λ (v : Tree.ConstVal). placed (names_in s t m) (el_at s r) v f)
     fills-to f = fills-as (names_in s t m) (el_at s r) f ∙ rw (value-is, ← folds-to g)
 
     keeps-fold : Keeps 16384 49152 t u
     keeps-fold = keeps-less (omega arith) (omega arith) (keeps-kept {a = 0} (omega arith) g.kept)
 
-    pub turn-failed : x ≡ Folded.Failed → ElementFilled t k far (fill_element (names_in s t m) (el_at s r)) Failed u
+    pub turn-failed : x ≡ Err N.Failed → ElementFilled t k far (fill_element (names_in s t m) (el_at s r)) Failed u
     unfolding result_in
     turn-failed d = record { keeps = keeps-fold; step = λ f p. fills-to f ∙ rw d }
 
-    pub turn-long : x ≡ Folded.TooLong → ElementFilled t k far (fill_element (names_in s t m) (el_at s r)) TooLong u
+    pub turn-long : x ≡ Err N.LongString → ElementFilled t k far (fill_element (names_in s t m) (el_at s r)) TooLong u
     unfolding result_in
     turn-long d = record { keeps = keeps-fold; step = λ f p. fills-to f ∙ rw d }
 
-    module _ {v : ConstVal} (d : x ≡ Folded.Value v) where
+    module _ {v : ConstVal} (d : x ≡ Ok v) where
       value-stands : StringStands (49152 + 256 * (k + 1)) v
-      value-stands = at-stands k v (subst (λ (z : Folded). ResultAt (49152 + 256 * k) z) d g.answer.at)
+      value-stands = at-stands k v (subst (λ (z : Outcome ConstVal). ResultAt (49152 + 256 * k) z) d g.answer.at)
 
       pub value-small : Small v
       value-small = standing-small (49152 + 256 * (k + 1)) v (omega (arith, c.few)) value-stands

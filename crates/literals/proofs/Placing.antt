@@ -20,8 +20,10 @@ use Rattle.placements.specs.declared.Placed.TheVariants.{Into, Negative, Failed,
 use Rattle.placements.specs.Placements.{element_in, LiteralSoFar, Step, stopped, Places}
 use Rattle.placements.proofs.Same.{keeps-all, keeps_then, keeps-kept}
 use Rattle.placements.proofs.Fillings.{element-kept, filling-kept}
-use Rattle.literals.specs.declared.Span.{Span}
-use Rattle.literals.specs.Literals.{above, span_result, Moves, SpanPlaced, SelectorResult, Selects}
+use Rattle.std.specs.Prelude.{Ok, Err}
+use Rattle.values.specs.declared.NoValue.TheVariants as N
+use Rattle.values.specs.Values.{answered, Outcome}
+use Rattle.literals.specs.Literals.{above, Moves, SpanPlaced, SelectorResult, Selects}
 
 -- ---- a literal that has ended
 
@@ -80,18 +82,18 @@ module _ (t : Bytes) (e : ℕ) {u : Bytes} (c : Kept (above e) t u) where
   value-kept Failed r a b few h g = never (sym h)
   value-kept TooLong r a b few h g = never (sym h)
 
-  module _ (x : Placed) {span : Result (ℤ × ℤ)} (z : Span) (hz : span_result z ≡ span) where
-    pub selects-span : {a b : ℤ} → z ≡ Span.Of a b → SFits w64 a → SFits w64 b → {y : Placed} {w : Bytes}
+  module _ (x : Placed) {span : Result (ℤ × ℤ)} (z : Outcome (ℤ × ℤ)) (hz : answered z ≡ span) where
+    pub selects-span : {a b : ℤ} → z ≡ Ok (a, b) → SFits w64 a → SFits w64 b → {y : Placed} {w : Bytes}
         → Moves u e x (λ (v : Tree.ConstVal) (r : Result Filled). bind r (place_indices v (held w64 a) (held w64 b))) y w → Selects t e x span y w
     selects-span {a} {b} d fa fb {y} {w} m = record {
       keeps = keeps_then (keeps-kept (omega arith) c) m.keeps;
       result = λ r one few h g.
           took w e span (element_in t e) r y (m.ongoing ∙ h)
-          (record { low = a; high = b; is = sym hz ∙ ap span_result d; step = subst (λ (q : Result Filled). Step w (above e) e y q) (value-kept x r a b few h g) (rw (to_z-of_z fa, to_z-of_z fb) at (m.step r one few (step_kept x r few g))) });
+          (record { low = a; high = b; is = sym hz ∙ ap answered d; step = subst (λ (q : Result Filled). Step w (above e) e y q) (value-kept x r a b few h g) (rw (to_z-of_z fa, to_z-of_z fb) at (m.step r one few (step_kept x r few g))) });
     }
 
-    pub selects-failed : z ≡ Span.Failed → Selects t e x span Failed u
-    selects-failed d = record { keeps = keeps-kept (omega arith) c; result = λ r one few h g. sym hz ∙ ap span_result d }
+    pub selects-failed : z ≡ Err N.Failed → Selects t e x span Failed u
+    selects-failed d = record { keeps = keeps-kept (omega arith) c; result = λ r one few h g. sym hz ∙ ap answered d }
 
-    pub selects-long : z ≡ Span.TooLong → Selects t e x span TooLong u
-    selects-long d = record { keeps = keeps-kept (omega arith) c; result = λ r one few h g. sym hz ∙ ap span_result d }
+    pub selects-long : z ≡ Err N.LongString → Selects t e x span TooLong u
+    selects-long d = record { keeps = keeps-kept (omega arith) c; result = λ r one few h g. sym hz ∙ ap answered d }

@@ -19,8 +19,6 @@ use Rattle.placements.specs.declared.Extent.{Extent}
 use Rattle.placements.specs.declared.Placed.{Placed}
 use Rattle.placements.specs.declared.Placed.TheVariants.{Into, Negative, Failed, TooLong}
 use Rattle.placements.specs.Placements.{slot_at, element_in, Keeps, StringStands, Filling, Step, stopped}
-use Rattle.literals.specs.declared.Index.{Index}
-use Rattle.literals.specs.declared.Span.{Span}
 
 -- ---- lines
 
@@ -72,16 +70,6 @@ pub record LiteralLine (s t : Bytes) (n r : ℕ) : Type 0 where
   pub form : form_at t (r - 1) ≡ 18
 
 -- ---- answers
-
-abbrev pub index_result : Index → Result ℤ
-index_result (Index.At z) = ok z
-index_result Index.Failed = failed
-index_result Index.TooLong = refuse 8
-
-abbrev pub span_result : Span → Result (ℤ × ℤ)
-span_result (Span.Of l h) = ok (l, h)
-span_result Span.Failed = failed
-span_result Span.TooLong = refuse 8
 
 -- t has become u, where y is what `act` makes of the literal so far
 pub record Moves (t : Bytes) (e : ℕ) (x : Placed) (act : Tree.ConstVal → Result Filled → Result Filled) (y : Placed) (u : Bytes) : Type 0 where

@@ -9,80 +9,66 @@ ghost use Rattle.semantics.specs.Array.{Filled, fill, as_int, index_of, high_of,
 ghost use Rattle.checks.specs.Checks.{Kept};
 ghost use Rattle.names.specs.Table.{ConstsLogged, names_in};
 ghost use Rattle.placements.specs.Placements.{stopped};
-ghost use Rattle.values.specs.Values.{result_in};
+ghost use Rattle.values.specs.Values.{answered, result_in};
 ghost use Rattle.leaf.specs.Folds.{ex_at};
-ghost use Rattle.literals.specs.Literals.{se_at, Task, above, index_result, span_result, ses_at, AtTask, el_at, els_at, ValuedTask, ElementTask, LiteralLine, placed, Moves, Selects, Fills, ElementFilled, AllFilled};
+ghost use Rattle.literals.specs.Literals.{se_at, Task, above, ses_at, AtTask, el_at, els_at, ValuedTask, ElementTask, LiteralLine, placed, Moves, Selects, Fills, ElementFilled, AllFilled};
 
 use codes::{area, el};
 use names::Known;
 use placements::{Extent, Placed};
-use values::{ConstVal, Folded};
+use values::{ConstVal, Folded, NoValue};
 
-// An index, or why there is none.
-#[derive(Clone, Copy)]
-pub enum Index {
-    At(i64),
-    Failed,
-    TooLong,
-}
-
-// The low and high end of a selector, or why there are none.
-#[derive(Clone, Copy)]
-pub enum Span {
-    Of(i64, i64),
-    Failed,
-    TooLong,
-}
-
-// The integer that a fold gives, or why there is none.
-pub fn as_int(x: Folded) -> Index
-    ensures { (t : Bytes) → index_result result ≡ bind (result_in t x) as_int }
+// The integer that a fold gives.
+pub fn as_int(x: Folded) -> Result<i64, NoValue>
+    ensures { (t : Bytes) → answered result ≡ bind (result_in t x) as_int }
 {
-    match x {
-        Folded::Value(v) => match v {
-            ConstVal::Int(z) => Index::At(z),
-            ConstVal::Real(_) => Index::Failed,
-            ConstVal::Str(_, _) => Index::Failed,
-        },
-        Folded::Failed => Index::Failed,
-        Folded::TooLong => Index::TooLong,
+    match x? {
+        ConstVal::Int(z) => Ok(z),
+        _ => Err(NoValue::Failed),
     }
 }
 
-fn index_of(sheet: &[u8], work: &mut [u8], c: Known, r: usize, e: usize) -> Index
+fn index_of(sheet: &[u8], work: &mut [u8], c: Known, r: usize, e: usize) -> Result<i64, NoValue>
     requires { Task 69 sheet.now work.old c.lines c.consts r e }
-    ensures { (index_result result ≡ index_of (names_in sheet.now work.old c.consts) (ex_at sheet.now r)) × (Kept (above e) work.old work.new) }
+    ensures { (answered result ≡ index_of (names_in sheet.now work.old c.consts) (ex_at sheet.now r)) × (Kept (above e) work.old work.new) }
 {
     as_int(fold::fold_const(sheet, work, c, 0, r, area::STACK + 256 * e))
 }
 
 // The high end of a selector's line r, where its low end is known.
-fn high_of(sheet: &[u8], work: &mut [u8], c: Known, r: usize, e: usize, low: i64) -> Index
+fn high_of(
+    sheet: &[u8],
+    work: &mut [u8],
+    c: Known,
+    r: usize,
+    e: usize,
+    low: i64,
+) -> Result<i64, NoValue>
     requires { Task 74 sheet.now work.old c.lines c.consts r e }
-    ensures { (index_result result ≡ high_of (names_in sheet.now work.old c.consts) low (se_at sheet.now r).high) × (Kept (above e) work.old work.new) }
+    ensures { (answered result ≡ high_of (names_in sheet.now work.old c.consts) low (se_at sheet.now r).high) × (Kept (above e) work.old work.new) }
 {
     let h = lines::number_at(sheet, work, c.lines, r - 1, 1);
     if h == 0 {
-        return Index::At(low);
+        return Ok(low);
     }
     index_of(sheet, work, c, h, e)
 }
 
-// A low end that is no integer ends it before the high end is folded.
-fn span_of(sheet: &[u8], work: &mut [u8], c: Known, r: usize, e: usize) -> Span
+// The low and high end of a selector; a low end that is no integer ends it before the high end is folded.
+fn span_of(
+    sheet: &[u8],
+    work: &mut [u8],
+    c: Known,
+    r: usize,
+    e: usize,
+) -> Result<(i64, i64), NoValue>
     requires { Task 74 sheet.now work.old c.lines c.consts r e }
-    ensures { (span_result result ≡ span_of (names_in sheet.now work.old c.consts) (se_at sheet.now r).low (se_at sheet.now r).high) × (Kept (above e) work.old work.new) }
+    ensures { (answered result ≡ span_of (names_in sheet.now work.old c.consts) (se_at sheet.now r).low (se_at sheet.now r).high) × (Kept (above e) work.old work.new) }
 {
     let q = lines::number_at(sheet, work, c.lines, r - 1, 0);
-    match index_of(sheet, work, c, q, e) {
-        Index::At(low) => match high_of(sheet, work, c, r, e, low) {
-            Index::At(high) => Span::Of(low, high),
-            Index::Failed => Span::Failed,
-            Index::TooLong => Span::TooLong,
-        },
-        Index::Failed => Span::Failed,
-        Index::TooLong => Span::TooLong,
-    }
+    let low = index_of(sheet, work, c, q, e)?;
+    let high = high_of(sheet, work, c, r, e, low)?;
+    Ok((low, high))
 }
 
 // Behind a negative index selectors are still folded, and nothing is placed.
@@ -104,9 +90,9 @@ fn place_selector(sheet: &[u8], work: &mut [u8], c: Known, r: usize, e: usize, x
     ensures { Selects work.old e x (span_of (names_in sheet.now work.old c.consts) (se_at sheet.now r).low (se_at sheet.now r).high) result work.new }
 {
     match span_of(sheet, work, c, r, e) {
-        Span::Of(low, high) => place_on(work, e, low, high, x),
-        Span::Failed => Placed::Failed,
-        Span::TooLong => Placed::TooLong,
+        Ok((low, high)) => place_on(work, e, low, high, x),
+        Err(NoValue::Failed) => Placed::Failed,
+        Err(NoValue::LongString) => Placed::TooLong,
     }
 }
 
@@ -171,12 +157,12 @@ fn fill_element(sheet: &[u8], work: &mut [u8], c: Known, r: usize, k: usize, x: 
 {
     let q = lines::number_at(sheet, work, c.lines, r - 1, 0);
     match fold::fold_const(sheet, work, c, 0, q, area::STACK + 256 * k) {
-        Folded::Value(v) => {
+        Ok(v) => {
             placements::put_value(work, k + 1, v);
             place_element(sheet, work, c, r, k + 1, v, x)
         }
-        Folded::Failed => Placed::Failed,
-        Folded::TooLong => Placed::TooLong,
+        Err(NoValue::Failed) => Placed::Failed,
+        Err(NoValue::LongString) => Placed::TooLong,
     }
 }
 

@@ -13,6 +13,12 @@ use Rattle.semantics.specs.Array.{Filled, value_at, values_from, filler, is_str,
 use Rattle.values.specs.declared.ConstVal.{ConstVal}
 use Rattle.values.specs.declared.ConstVal.TheVariants.{Int, Real, Str}
 use Rattle.values.specs.Values.{value_in, kind_for}
+use denote.Enum.Bare.{sameb}
+use borrow.Author.Tests.{eqb-true, eqb-false}
+use Rattle.codes.specs.contracts.value.Value.{the_type}
+use Rattle.codes.specs.declared.value.Value.{Value}
+use Rattle.codes.specs.Kinds.{value_number}
+use Rattle.codes.proofs.Values.{same-kinds}
 use Rattle.placements.specs.Placements.{placement_at, slot_at, element_in, values_in, StringStands, value_named, Filling, value_kind, has_kind}
 
 module _ {t : Bytes} {top k next reach : ℕ} {f : Filled} (p : Filling t top k next reach f) where
@@ -68,6 +74,12 @@ module _ {t : Bytes} {count wanted i : ℕ} (p : NoneOfKind t count wanted i) wh
   none-of-kind-end h = let z : count - i ≡ 0 = omega arith in rw z at p.rest
 
 -- ---- the kind of all
+
+pub equal-kinds : (j k : Value) → sameb the_type j k ≡ true → value_number j ≡ value_number k
+equal-kinds j k e = eqb-true (value_number j) (value_number k) (sym (same-kinds j k) ∙ e)
+
+pub other-kinds : (j k : Value) → sameb the_type j k ≡ false → value_number j ≡ value_number k → ⊥
+other-kinds j k e = eqb-false (value_number j) (value_number k) (sym (same-kinds j k) ∙ e)
 
 any-alike : (p q : Tree.ConstVal → Bool) → ((v : Tree.ConstVal) → p v ≡ q v) → (vs : List Tree.ConstVal) → any p vs ≡ any q vs
 any-alike p q h [] = refl

@@ -7,10 +7,12 @@ ghost use Rattle.semantics.specs.Tree as Tree;
 ghost use Rattle.semantics.specs.Array.{none_filled, place_indices, place_next, kind_number, kind_of_values};
 ghost use Rattle.write.specs.Wrote.{over};
 ghost use Rattle.values.specs.Values.{Small, InRange};
+ghost use Rattle.codes.specs.Kinds.{value_number};
 ghost use Rattle.slots.specs.Slots.{slot_bytes};
 ghost use Rattle.placements.specs.Placements.{placement_at, slot_at, values_in, Keeps, SpanSet, Filling, Places, has_kind};
 
-use codes::{area, element, value};
+use codes::value::Value;
+use codes::{area, element};
 use values::ConstVal;
 use words::wide;
 
@@ -35,22 +37,10 @@ pub enum Placed {
     TooLong,
 }
 
-fn larger(a: u64, b: u64) -> u64
-    ensures { result ≡ max a b }
-{
-    if a < b {
-        return b;
-    }
-    a
-}
-
 fn clipped(i: u64) -> usize
     ensures { result ≡ min i 1024 }
 {
-    if i < INDICES {
-        return i as usize;
-    }
-    INDICES as usize
+    i.min(INDICES) as usize
 }
 
 // Indices low to high take the value of element e, from 1; those past the table are not kept.
@@ -58,11 +48,8 @@ fn set_span(work: &mut [u8], low: u64, high: u64, e: u8)
     requires { (high < 2 ^ 63) × (65536 ≤ length work.old) }
     ensures { SpanSet work.old low high e work.new }
 {
-    let mut i = clipped(low);
-    let end = clipped(high + 1);
-    while i < end {
+    for i in clipped(low)..clipped(high + 1) {
         work[area::PLACEMENTS + i] = e;
-        i += 1;
     }
 }
 
@@ -90,7 +77,7 @@ fn place_span(work: &mut [u8], e: usize, low: u64, high: u64, reach: u64) -> Ext
     set_span(work, low, high, e as u8);
     Extent {
         next: high + 1,
-        reach: larger(reach, high + 1),
+        reach: reach.max(high + 1),
     }
 }
 
@@ -128,16 +115,14 @@ pub fn element(work: &[u8], i: usize) -> ConstVal
 }
 
 // Whether one of the first `count` values is of a kind.
-fn has(work: &[u8], count: usize, wanted: u8) -> bool
+fn has(work: &[u8], count: usize, wanted: Value) -> bool
     requires { (count ≤ 1024) × (65536 ≤ length work.now) }
-    ensures { result ≡ any (has_kind wanted) (values_in work.now 0 count) }
+    ensures { result ≡ any (has_kind (value_number wanted)) (values_in work.now 0 count) }
 {
-    let mut i = 0;
-    while i < count {
+    for i in 0..count {
         if values::kind_of(element(work, i)) == wanted {
             return true;
         }
-        i += 1;
     }
     false
 }
@@ -147,11 +132,11 @@ pub fn kind_of_values(work: &[u8], count: usize) -> u8
     requires { (count ≤ 1024) × (65536 ≤ length work.now) }
     ensures { result ≡ kind_number (kind_of_values (values_in work.now 0 count)) }
 {
-    if has(work, count, value::STRING) {
-        return element::POINTER;
+    if has(work, count, Value::Str) {
+        element::POINTER
+    } else if has(work, count, Value::Real) {
+        element::REAL
+    } else {
+        element::WORD
     }
-    if has(work, count, value::REAL) {
-        return element::REAL;
-    }
-    element::WORD
 }

@@ -4,13 +4,10 @@ use mathlib.Core.List.{[], ◌∷◌, ◌++◌, append_assoc}
 use mathlib.Core.Logic.{◌⊎◌, inl, inr}
 use Prim.Native.Nat.{ℕ, ◌+◌, ◌*◌, ◌/◌, ◌%◌, ◌^◌, ◌≤◌, ◌<◌}
 use native.Mathlib.Omega.{arith}
-use lib.IntN.{ℤ}
-use lib.Ieee.{Float, binary64, of_bits}
 use lib.ListN.{length, take, drop, get_or, length-append}
 use lib.Seq.{take_at, drop_at, get_or_at, length-take-le}
 use Rattle.semantics.specs.Text.{Bytes, big_endian, from_big_endian}
-use borrow.Author.Tests.{eq-eqb, ne_eqb}
-use Rattle.semantics.specs.Fold.{signed64, wrap}
+use Rattle.semantics.specs.Fold.{wrap}
 use Rattle.write.specs.Wrote.{over}
 use Rattle.write.proofs.Wrote.{length_over}
 use Rattle.write.proofs.Over.{get_d_over, over-is}
@@ -21,6 +18,9 @@ use Rattle.values.specs.declared.ConstVal.TheVariants.{Int, Real, Str}
 use Rattle.words.specs.Words.{bits_at}
 use Rattle.values.specs.Values.{kind_for, bits_for, Small, InRange}
 use Rattle.values.proofs.Values.{word, real-back}
+use Rattle.std.specs.Prelude.{unwrap_or}
+use Rattle.codes.specs.Kinds.{value_by}
+use Rattle.codes.specs.declared.value.Value.TheVariants as V
 use Rattle.slots.specs.Slots.{slot_by, slot_of, slot_bytes}
 
 -- ---- storing
@@ -50,7 +50,7 @@ module _ (t : Bytes) (a k b : ℕ) (room : a + 9 ≤ length t) (fits : b < 2 ^ 6
       ∙ drop_at (take a t ++ (k ∷ [])) (big_endian 8 b ++ behind_slot) (a + 1) (length-append (take a t) (k ∷ []) ∙ omega (arith, length-take-le a t (omega arith))) in
       ap (λ (u : Bytes). from_big_endian 0 (take 8 u)) d ∙ ap (from_big_endian 0) (take_at (big_endian 8 b) behind_slot 8 (big-length 8 b)) ∙ bits_back b fits
 
-  stored_bytes : {v : ConstVal} {u : Bytes} → u ≡ over t a (k ∷ big_endian 8 b) → slot_by k b ≡ v → SlotStored t a v u
+  stored_bytes : {v : ConstVal} {u : Bytes} → u ≡ over t a (k ∷ big_endian 8 b) → slot_by (unwrap_or (value_by k) V.Int) b ≡ v → SlotStored t a v u
   unfolding slot_of
   stored_bytes {v} {u} e h = rw e (record {
     value = rw (kind-stored, bits-stored) h;
@@ -62,7 +62,7 @@ module _ (t : Bytes) (a k b : ℕ) (room : a + 9 ≤ length t) (fits : b < 2 ^ 6
       outside i (inl h) g e = omega arith
       outside i (inr h) g e = omega arith
 
-slot-back : (v : ConstVal) → Small v → InRange v → slot_by (kind_for v) (bits_for v) ≡ v
+slot-back : (v : ConstVal) → Small v → InRange v → slot_by (unwrap_or (value_by (kind_for v)) V.Int) (bits_for v) ≡ v
 unfolding slot_by wrap
 slot-back (Int z) s h = ap Int h
 slot-back (Real x) s h = ap Real (real-back x h)
@@ -73,18 +73,3 @@ slot-back (Str p l) s h =
 
 pub stored : (t : Bytes) (a : ℕ) (v : ConstVal) {u : Bytes} → a + 9 ≤ length t → Small v → (u ≡ over t a (slot_bytes v)) × InRange v → SlotStored t a v u
 stored t a v room s (e, h) = stored_bytes t a (kind_for v) (bits_for v) room (word v s h) e (slot-back v s h)
-
--- ---- what a slot's kind and bits say
-
-module _ (t : Bytes) (a : ℕ) {k b : ℕ} (hk : k ≡ get_or t a 0) (hb : b ≡ bits_at t (a + 1)) where
-  pub real-slot : {x : Float} → k ≡ 2 → x ≡ of_bits binary64 b → Real x ≡ slot_of t a
-  unfolding slot_of slot_by
-  real-slot e q = rw (← hk, ← hb, e, q)
-
-  pub string-slot : (k ≡ 2 → ⊥) → k ≡ 3 → Str (b % 65536) (b / 65536) ≡ slot_of t a
-  unfolding slot_of slot_by
-  string-slot n e = rw (← hk, ← hb, ne_eqb k 2 n, eq-eqb k 3 e)
-
-  pub int-slot : {z : ℤ} → (k ≡ 2 → ⊥) → (k ≡ 3 → ⊥) → z ≡ signed64 b → Int z ≡ slot_of t a
-  unfolding slot_of slot_by
-  int-slot n m e = rw (← hk, ← hb, ne_eqb k 2 n, ne_eqb k 3 m, e)

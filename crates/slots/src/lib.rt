@@ -6,7 +6,7 @@ ghost use Rattle.write.specs.Wrote.{over};
 ghost use Rattle.values.specs.Values.{Small, InRange};
 ghost use Rattle.slots.specs.Slots.{slot_of, slot_bytes};
 
-use codes::value;
+use codes::value::{self, Value};
 use values::ConstVal;
 
 // Stores a value in the slot at a.
@@ -14,22 +14,20 @@ pub fn put_value(work: &mut [u8], a: usize, v: ConstVal)
     requires { Small v }
     ensures { (work.new ≡ over work.old a (slot_bytes v)) × (InRange v) }
 {
-    let p = write::put(work, a, values::kind_of(v));
+    let p = write::put(work, a, value::number(values::kind_of(v)));
     let _ = words::put_bits(work, p, values::bits_of(v));
 }
 
 // The value in the slot at a.
+#[tactic(auto, unfolding(crate::specs::Slots::slot_of, crate::specs::Slots::slot_by))]
 pub fn value_at(work: &[u8], a: usize) -> ConstVal
     requires { a + 9 ≤ length work.now }
     ensures { result ≡ slot_of work.now a }
 {
     let b = words::bits_at(work, a + 1);
-    let kind = work[a];
-    if kind == value::REAL {
-        return ConstVal::Real(reals::of_bits(b));
+    match value::of_number(work[a]).unwrap_or(Value::Int) {
+        Value::Int => ConstVal::Int(ints::of_bits(b)),
+        Value::Real => ConstVal::Real(reals::of_bits(b)),
+        Value::Str => ConstVal::Str((b % 65536) as usize, (b / 65536) as usize),
     }
-    if kind == value::STRING {
-        return ConstVal::Str((b % 65536) as usize, (b / 65536) as usize);
-    }
-    ConstVal::Int(ints::of_bits(b))
 }

@@ -1,22 +1,16 @@
 -- What a write leaves: what stands below it is kept, and what was written can be read there.
-use Prim.Native.Nat.{ℕ, zero, suc, ◌+◌, ◌*◌, ◌/◌, ◌%◌, ◌^◌, ◌≤◌, ◌<◌}
-use mathlib.Core.Path.{◌≡◌, refl, sym, ap, ◌∙◌}
-use mathlib.Core.Bool.{Bool, true, false}
-use mathlib.Core.List.{[], ◌∷◌, ◌++◌}
-use mathlib.Core.Logic.{◌⊎◌, inl, inr}
-use native.Mathlib.Nat.{pow-suc}
+use Prim.Native.Nat.{ℕ, suc, ◌+◌, ◌^◌, ◌≤◌, ◌<◌}
+use mathlib.Core.Path.{◌≡◌, sym, ap, ◌∙◌}
+use mathlib.Core.List.{◌++◌, append_assoc}
 use native.Mathlib.Omega.{arith}
-use lib.Dec.{ltb}
 use lib.IntN.{ℤ, pos, negsuc}
-use lib.ListN.{length, take, drop, get_or, length-append, length-take, length-drop}
-use lib.Seq.{get_or-drop, take-add, drop-drop, length-take-le}
+use lib.ListN.{length, take, drop, length-drop}
+use lib.Seq.{paste, take-add, drop-drop, length-take-le}
 use mir.Syntax.{w64}
 use mir.Val.{SFits}
-use borrow.Author.Tests.{ltb-true, ltb-false}
-use Rattle.semantics.specs.Text.{Bytes, decimal, decimalℤ}
-use Rattle.write.specs.Wrote.{Wrote}
-use Rattle.write.proofs.Wrote.{wrote_as, wrote-next}
-use Rattle.write.proofs.Over.{get_d_over, over-there}
+use Rattle.semantics.specs.Text.{Bytes, decimalℤ}
+use Rattle.write.specs.Wrote.{Wrote, over}
+use Rattle.write.proofs.Over.{over-there, over-is}
 use Rattle.write.proofs.Decimal.{decimal-short}
 use Rattle.values.specs.Values.{string_in, RunsApart}
 
@@ -32,20 +26,13 @@ module _ {d : Bytes} {a : ℕ} {t e : Bytes} {b : ℕ} (w : Wrote d a t e b) whe
 
 -- ---- a copy
 
--- one more byte of the part that is copied
-module _ {d : Bytes} {from to len k : ℕ} {e : Bytes} {p : ℕ} (x : RunsApart (length d) from to len) (h : k < len) (w : Wrote d to (take k (drop from d)) e p) where
-  same_byte : get_or e (from + k) 0 ≡ get_or (drop from d) k 0
-  same_byte =
-      let l : length (take k (drop from d)) ≤ k = omega (arith, length-take k (drop from d)) in
-      ap (λ (m : Bytes). get_or m (from + k) 0) w.bytes ∙ get_d_over d to (take k (drop from d)) (from + k) (λ i g. outside i x.apart (omega arith)) ∙ sym (get_or-drop from d k 0)
-    where
-      outside : (i : ℕ) → (from + len ≤ to) ⊎ (to + len ≤ from) → i < k → from + k ≡ to + i → ⊥
-      outside i (inl a) g e = omega arith
-      outside i (inr a) g e = omega arith
-
-  pub copied_more : {f : Bytes} {q : ℕ} → Wrote e p (get_or e (from + k) 0 ∷ []) f q → Wrote d to (take (k + 1) (drop from d)) f q
-  copied_more v =
-      wrote-next (drop from d) k (omega (arith, x.source, length-drop from d)) w (wrote_as (ap (λ (b : ℕ). b ∷ []) same_byte) v)
+-- what `copy_within` leaves
+pub copied : (t : Bytes) {from to len n : ℕ} → RunsApart (length t) from to len → n ≡ len → paste t to (drop from t) n ≡ over t to (take len (drop from t))
+copied t {from} {to} {len} x e =
+    let l : length (take len (drop from t)) ≡ len = length-take-le len (drop from t) (omega (arith, x.source, length-drop from t)) in
+    rw e (append_assoc (take to t) (take len (drop from t)) (drop (to + len) t)
+    ∙ ap (λ (k : ℕ). take to t ++ (take len (drop from t) ++ drop (to + k) t)) (sym l)
+    ∙ sym (over-is t to (take len (drop from t)) (omega (arith, x.target, l))))
 
 -- ---- two strings, one behind the other
 

@@ -1,19 +1,20 @@
 -- Folded values as the code has them, and what they are in the working space.
-use Rattle.std.specs.Prelude.{ℕ, ◌+◌, ◌*◌, ◌≤◌, ◌<◌, ◌≡◌, true, [], ◌∷◌, ◌⊎◌, take, drop, get_or, Option, None, Some}
+use Rattle.std.specs.Prelude.{ℕ, ◌+◌, ◌*◌, ◌≤◌, ◌<◌, ◌≡◌, true, [], ◌∷◌, ◌⊎◌, take, drop, get_or, Option, None, Some, Result, Ok, Err}
 use Rattle.std.specs.Float.{binary64}
 use Rattle.std.specs.Float.Ieee.{fits, to_bits}
 use Rattle.semantics.specs.Text.{Bytes}
 use Rattle.semantics.specs.Tree as Tree
-use Rattle.semantics.specs.Tree.{Basic, UnaryOp, BinOp, unary_ops, bin_ops}
+use Rattle.semantics.specs.Tree.{Basic}
 use Rattle.semantics.specs.Tree.Basic.{int, byte, big, real, string}
 use Rattle.semantics.specs.Tree.ConstVal.{v_int, v_real, v_str}
-use Rattle.semantics.specs.Fold.{Result, bits64, wrap}
+use Rattle.semantics.specs.Fold as Fold
+use Rattle.semantics.specs.Fold.{bits64, wrap}
 use Rattle.semantics.specs.Fold.Result.{ok, failed, refuse}
 use Rattle.checks.specs.Checks.{Kept}
 use Rattle.values.specs.declared.ConstVal.{ConstVal}
 use Rattle.values.specs.declared.ConstVal.TheVariants.{Int, Real, Str}
-use Rattle.values.specs.declared.Folded.{Folded}
-use Rattle.values.specs.declared.Folded.TheVariants.{Value, Failed, TooLong}
+use Rattle.values.specs.declared.NoValue.{NoValue}
+use Rattle.values.specs.declared.NoValue.TheVariants.{Failed, LongString}
 
 -- ---- values in a working space t
 
@@ -26,11 +27,20 @@ value_in t (Int z) = v_int z
 value_in t (Real x) = v_real x
 value_in t (Str p l) = v_str (string_in t p l)
 
+-- what works on values gives: something, or no value
+abbrev pub Outcome : Type 0 → Type 0
+Outcome A = Result A NoValue
+
 -- a string that is too long is refusal 8
-unfoldable pub result_in : Bytes → Folded → Result Tree.ConstVal
-result_in t (Value v) = ok (value_in t v)
-result_in t Failed = failed
-result_in t TooLong = refuse 8
+abbrev pub answered : {A : Type 0} → Outcome A → Fold.Result A
+answered (Ok a) = ok a
+answered (Err Failed) = failed
+answered (Err LongString) = refuse 8
+
+unfoldable pub result_in : Bytes → Result ConstVal NoValue → Fold.Result Tree.ConstVal
+result_in t (Ok v) = ok (value_in t v)
+result_in t (Err Failed) = failed
+result_in t (Err LongString) = refuse 8
 
 abbrev pub string_size : ConstVal → ℕ
 string_size (Int z) = 0
@@ -66,10 +76,9 @@ At top (Int z) = Unit {0}
 At top (Real x) = Unit {0}
 At top (Str p l) = (p ≡ top) × (l ≤ 256)
 
-abbrev pub ResultAt : ℕ → Folded → Type 0
-ResultAt top (Value v) = At top v
-ResultAt top Failed = Unit {0}
-ResultAt top TooLong = Unit {0}
+abbrev pub ResultAt : ℕ → Result ConstVal NoValue → Type 0
+ResultAt top (Ok v) = At top v
+ResultAt top (Err e) = Unit {0}
 
 -- a string stands within the first n bytes
 abbrev pub Within : ℕ → ConstVal → Type 0
@@ -78,7 +87,7 @@ Within n (Real x) = Unit {0}
 Within n (Str p l) = (p + l ≤ n) × (l ≤ 256)
 
 -- r is the result e, with a string at `top`
-pub record Answers (t : Bytes) (top : ℕ) (r : Folded) (e : Result Tree.ConstVal) : Type 0 where
+pub record Answers (t : Bytes) (top : ℕ) (r : Result ConstVal NoValue) (e : Fold.Result Tree.ConstVal) : Type 0 where
   pub value : result_in t r ≡ e
   pub at : ResultAt top r
 
@@ -88,13 +97,7 @@ pub record Casts (t : Bytes) (top : ℕ) (e : Tree.ConstVal) (u : Bytes) (v : Co
   pub at : At top v
   pub kept : Kept top t u
 
--- ---- operators and types by their numbers
-
-abbrev pub unary_at : ℕ → UnaryOp
-unary_at op = get_or unary_ops op UnaryOp.ref
-
-abbrev pub binary_at : ℕ → BinOp
-binary_at op = get_or bin_ops op BinOp.power
+-- ---- types by their numbers
 
 -- the forms of types from 0; those behind `string` are not basic
 abbrev pub basic_at : ℕ → Option Basic

@@ -16,8 +16,9 @@ use Rattle.semantics.specs.Global.{Init, array_value, first_value, init_of, plai
 use Rattle.decimal.specs.Number as Number
 use Rattle.lines.specs.Lines.{read_at}
 use Rattle.values.specs.declared.ConstVal.{ConstVal}
-use Rattle.values.specs.declared.Folded.{Folded}
-use Rattle.values.specs.Values.{result_in, ResultAt}
+use Rattle.std.specs.Prelude.{Ok, Err}
+use Rattle.values.specs.declared.NoValue.TheVariants as N
+use Rattle.values.specs.Values.{Outcome, result_in, ResultAt}
 use Rattle.names.specs.Table.{ConstsLogged, names_in}
 use Rattle.placements.specs.Placements.{Keeps}
 use Rattle.placements.proofs.Same.{keeps-all, keeps_then, keeps-less, keeps-kept}
@@ -73,7 +74,7 @@ module _ {s t : Bytes} {n r : ℕ} (l : VarLine s t n r) {q : ℕ} (hq : q ≡ N
   pub plain-none : (ns : Names) → q ≡ 0 → Inits t (or_pending (plain_init ns (var_on s r).init)) NoValue t
   plain-none ns z = record { result = sym (rw (init-none l hq z)); stands = tt; keeps = keeps-all }
 
-  module _ (z : q ≡ 0 → ⊥) {m : ℕ} (o : ConstsLogged s t n m) {u : Bytes} {x : Folded} (g : Folds s t m 0 q 49152 u x) where
+  module _ (z : q ≡ 0 → ⊥) {m : ℕ} (o : ConstsLogged s t n m) {u : Bytes} {x : Outcome ConstVal} (g : Folds s t m 0 q 49152 u x) where
     keeps-fold : Keeps 16384 49152 t u
     keeps-fold = keeps-less (omega arith) (omega arith) (keeps-kept {a = 0} (omega arith) g.kept)
 
@@ -85,27 +86,27 @@ module _ {s t : Bytes} {n r : ℕ} (l : VarLine s t n r) {q : ℕ} (hq : q ≡ N
       by-fold : f (var_on s r).init ≡ h (result_in u x)
       by-fold = ap f (init-some l hq z) ∙ i ∙ ap h folded
 
-      fold-value : {v : ConstVal} → x ≡ Folded.Value v → ((w : Tree.ConstVal) → h (ok w) ≡ ok (Init.const_init w)) → Inits t (f (var_on s r).init) (Value v) u
+      fold-value : {v : ConstVal} → x ≡ Ok v → ((w : Tree.ConstVal) → h (ok w) ≡ ok (Init.const_init w)) → Inits t (f (var_on s r).init) (Value v) u
       unfolding result_in
       fold-value d p = record { result = sym (by-fold ∙ rw d (p _)); stands = subst (ResultAt 49152) d g.answer.at; keeps = keeps-fold }
 
-      fold-long : x ≡ Folded.TooLong → h (refuse 8) ≡ refuse 8 → Inits t (f (var_on s r).init) (Refused 8) u
+      fold-long : x ≡ Err N.LongString → h (refuse 8) ≡ refuse 8 → Inits t (f (var_on s r).init) (Refused 8) u
       unfolding result_in
       fold-long d p = record { result = sym (by-fold ∙ rw d p); stands = tt; keeps = keeps-fold }
 
-    pub first-folded : {v : ConstVal} → x ≡ Folded.Value v → Inits t (init_of (names_in s t m) (var_on s r).ty (var_on s r).init) (Value v) u
+    pub first-folded : {v : ConstVal} → x ≡ Ok v → Inits t (init_of (names_in s t m) (var_on s r).ty (var_on s r).init) (Value v) u
     first-folded d = fold-value (init_of (names_in s t m) (var_on s r).ty) (λ (a : Result Tree.ConstVal). first_value a (const_array (names_in s t m) (elem_of (var_on s r).ty) (ex_at s q))) refl d (λ w. refl)
 
-    pub first-long : x ≡ Folded.TooLong → Inits t (init_of (names_in s t m) (var_on s r).ty (var_on s r).init) (Refused 8) u
+    pub first-long : x ≡ Err N.LongString → Inits t (init_of (names_in s t m) (var_on s r).ty (var_on s r).init) (Refused 8) u
     first-long d = fold-long (init_of (names_in s t m) (var_on s r).ty) (λ (a : Result Tree.ConstVal). first_value a (const_array (names_in s t m) (elem_of (var_on s r).ty) (ex_at s q))) refl d refl
 
-    pub plain-folded : {v : ConstVal} → x ≡ Folded.Value v → Inits t (or_pending (plain_init (names_in s t m) (var_on s r).init)) (Value v) u
+    pub plain-folded : {v : ConstVal} → x ≡ Ok v → Inits t (or_pending (plain_init (names_in s t m) (var_on s r).init)) (Value v) u
     plain-folded d = fold-value (λ (o : Option Ex). or_pending (plain_init (names_in s t m) o)) (λ (a : Result Tree.ConstVal). or_pending (bind a (λ (w : Tree.ConstVal). ok (Init.const_init w)))) refl d (λ w. refl)
 
-    pub plain-long : x ≡ Folded.TooLong → Inits t (or_pending (plain_init (names_in s t m) (var_on s r).init)) (Refused 8) u
+    pub plain-long : x ≡ Err N.LongString → Inits t (or_pending (plain_init (names_in s t m) (var_on s r).init)) (Refused 8) u
     plain-long d = fold-long (λ (o : Option Ex). or_pending (plain_init (names_in s t m) o)) (λ (a : Result Tree.ConstVal). or_pending (bind a (λ (w : Tree.ConstVal). ok (Init.const_init w)))) refl d refl
 
-    module _ (d : x ≡ Folded.Failed) where
+    module _ (d : x ≡ Err N.Failed) where
       pub plain-failed : Inits t (or_pending (plain_init (names_in s t m) (var_on s r).init)) Pending u
       unfolding result_in
       plain-failed = record { result = sym (rw (init-some l hq z, folded, d)); stands = tt; keeps = keeps-fold }

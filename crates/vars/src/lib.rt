@@ -17,7 +17,7 @@ use arrays::Arrayed;
 use codes::{area, ty};
 use global_table::line;
 use names::Known;
-use values::{ConstVal, Folded};
+use values::{ConstVal, NoValue};
 
 // The first value of a global: none, a folded one, the kind and the number of an array's elements, or one that is left pending.
 // Strings and the values of a literal stand in the working space.
@@ -74,9 +74,9 @@ pub fn first_value(sheet: &[u8], work: &mut [u8], c: Known, r: usize) -> First
         return First::NoValue;
     }
     match fold::fold_const(sheet, work, c, 0, q, area::STACK) {
-        Folded::Value(v) => First::Value(v),
-        Folded::Failed => array_value(sheet, work, c, r, q),
-        Folded::TooLong => First::Refused(8),
+        Ok(v) => First::Value(v),
+        Err(NoValue::Failed) => array_value(sheet, work, c, r, q),
+        Err(NoValue::LongString) => First::Refused(8),
     }
 }
 
@@ -106,9 +106,9 @@ fn plain_value(sheet: &[u8], work: &mut [u8], c: Known, r: usize) -> First
         return First::NoValue;
     }
     match fold::fold_const(sheet, work, c, 0, q, area::STACK) {
-        Folded::Value(v) => First::Value(v),
-        Folded::Failed => First::Pending,
-        Folded::TooLong => First::Refused(8), // met without a name too
+        Ok(v) => First::Value(v),
+        Err(NoValue::Failed) => First::Pending,
+        Err(NoValue::LongString) => First::Refused(8), // met without a name too
     }
 }
 

@@ -5,11 +5,11 @@ use mathlib.Core.Path.{refl, ◌∙◌}
 use borrow.Author.Rules.{rules}
 use Rattle.arrays.proofs.allocated.Goals as goal
 
-pub returns-in-At : goal.returns-in-At
-returns-in-At c = λ t. ((c.allocated_int.ensures t).0 ∙ of-int t c.args.x c.as_int.result (c.as_int.ensures t) (Array.allocated (kind_of_number c.args.kind)) (λ y. refl) (λ y. refl) c.in-At.is (search rules), (c.allocated_int.ensures t).1)
+pub returns-in-Ok : goal.returns-in-Ok
+returns-in-Ok c = λ t. ((c.allocated_int.ensures t).0 ∙ of-int t c.args.x c.as_int.result (c.as_int.ensures t) (Array.allocated (kind_of_number c.args.kind)) (λ y. refl) (λ y. refl) c.in-Ok.is (search rules), (c.allocated_int.ensures t).1)
 
-pub returns-in-Failed : goal.returns-in-Failed
-returns-in-Failed c = λ t. (of_none t c.args.x c.as_int.result (c.as_int.ensures t) (Array.allocated (kind_of_number c.args.kind)) (λ y. refl) (λ y. refl) c.in-Failed.is, tt)
+pub returns-in-Err-Failed : goal.returns-in-Err-Failed
+returns-in-Err-Failed c = λ t. (of_none t c.args.x c.as_int.result (c.as_int.ensures t) (Array.allocated (kind_of_number c.args.kind)) (λ y. refl) (λ y. refl) (rw c.in-Err-Failed.field-0-is at c.in-Err-Failed.is), tt)
 
-pub returns-in-TooLong : goal.returns-in-TooLong
-returns-in-TooLong c = λ t. (of-long t c.args.x c.as_int.result (c.as_int.ensures t) (Array.allocated (kind_of_number c.args.kind)) (λ y. refl) (λ y. refl) c.in-TooLong.is, tt)
+pub returns-in-Err-LongString : goal.returns-in-Err-LongString
+returns-in-Err-LongString c = λ t. (of-long t c.args.x c.as_int.result (c.as_int.ensures t) (Array.allocated (kind_of_number c.args.kind)) (λ y. refl) (λ y. refl) (rw c.in-Err-LongString.field-0-is at c.in-Err-LongString.is), tt)

@@ -8,13 +8,13 @@ pub measured-requires : goal.measured-requires
 measured-requires c = lit-kept (size-keeps c.literal_size.ensures.1) c.requires.0
 
 pub returns-then-size-reach : goal.returns-then-size-reach
-returns-then-size-reach c = sized-outside c.requires.0 c.requires.1 c.literal_size.ensures.1 c.literal_size.result c.literal_size.ensures.0 c.in-Of.is c.if-size-reach.true
+returns-then-size-reach c = sized-outside c.requires.0 c.requires.1 c.literal_size.ensures.1 c.literal_size.result c.literal_size.ensures.0 c.in-Ok.is c.if-size-reach.true
 
 pub returns-else-size-reach : goal.returns-else-size-reach
-returns-else-size-reach c = sized-well c.requires.0 c.requires.1 c.literal_size.ensures.1 c.literal_size.result c.literal_size.ensures.0 c.in-Of.is c.if-size-reach.false c.measured.result c.measured.ensures
+returns-else-size-reach c = sized-well c.requires.0 c.requires.1 c.literal_size.ensures.1 c.literal_size.result c.literal_size.ensures.0 c.in-Ok.is c.if-size-reach.false c.measured.result c.measured.ensures
 
-pub returns-in-Failed : goal.returns-in-Failed
-returns-in-Failed c = sized-failed c.requires.0 c.requires.1 c.literal_size.ensures.1 c.literal_size.result c.literal_size.ensures.0 c.in-Failed.is
+pub returns-in-Err-Failed : goal.returns-in-Err-Failed
+returns-in-Err-Failed c = sized-failed c.requires.0 c.requires.1 c.literal_size.ensures.1 c.literal_size.result c.literal_size.ensures.0 (rw c.in-Err-Failed.field-0-is at c.in-Err-Failed.is)
 
-pub returns-in-TooLong : goal.returns-in-TooLong
-returns-in-TooLong c = sized-long c.requires.0 c.requires.1 c.literal_size.ensures.1 c.literal_size.result c.literal_size.ensures.0 c.in-TooLong.is
+pub returns-in-Err-LongString : goal.returns-in-Err-LongString
+returns-in-Err-LongString c = sized-long c.requires.0 c.requires.1 c.literal_size.ensures.1 c.literal_size.result c.literal_size.ensures.0 (rw c.in-Err-LongString.field-0-is at c.in-Err-LongString.is)

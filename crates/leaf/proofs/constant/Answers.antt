@@ -1,21 +1,33 @@
 -- `leaf::constant` meets its contract.
+use Rattle.codes.specs.declared.value.Value.TheVariants as V
+use Rattle.codes.proofs.Values.{value-number, no-value}
 use Rattle.leaf.proofs.Leaves.{found_none, found-int, found-real, found-apart, found-string, found-failed}
 use Rattle.leaf.proofs.constant.Goals as goal
 
 pub returns-then-k-eq0 : goal.returns-then-k-eq0
 returns-then-k-eq0 c = found_none c.requires c.if-k-eq0.true
 
-pub returns-then-kind-eq-INT : goal.returns-then-kind-eq-INT
-returns-then-kind-eq-INT c = found-int c.requires c.if-k-eq0.false c.slot_kind-kind.ensures c.slot_bits-b.ensures c.if-kind-eq-INT.true (record { sfits = c.of_bits.type_inv }) c.of_bits.ensures
+pub returns-in-Some-Int : goal.returns-in-Some-Int
+returns-in-Some-Int c =
+    let n = value-number c.slot_kind.result V.Int (rw c.in-Some-Int.field-0-is at c.in-Some-Int.ensures) in
+    found-int c.requires c.if-k-eq0.false c.slot_kind.ensures c.slot_bits-b.ensures n (record { sfits = c.of_bits.type_inv }) c.of_bits.ensures
 
-pub returns-then-kind-eq-REAL : goal.returns-then-kind-eq-REAL
-returns-then-kind-eq-REAL c = found-real c.requires c.if-k-eq0.false c.slot_kind-kind.ensures c.slot_bits-b.ensures c.if-kind-eq-REAL.true c.of_bits-then-kind-eq-REAL.ensures
+pub returns-in-Some-Real : goal.returns-in-Some-Real
+returns-in-Some-Real c =
+    let n = value-number c.slot_kind.result V.Real (rw c.in-Some-Real.field-0-is at c.in-Some-Real.ensures) in
+    found-real c.requires c.if-k-eq0.false c.slot_kind.ensures c.slot_bits-b.ensures n c.of_bits-in-Some-Real.ensures
 
 pub copy-requires : goal.copy-requires
-copy-requires c = found-apart c.requires c.if-k-eq0.false c.slot_kind-kind.ensures c.slot_bits-b.ensures c.if-kind-eq-STRING.true
+copy-requires c =
+    let n = value-number c.slot_kind.result V.Str (rw c.in-Some-Str.field-0-is at c.in-Some-Str.ensures) in
+    found-apart c.requires c.if-k-eq0.false c.slot_kind.ensures c.slot_bits-b.ensures n
 
-pub returns-then-kind-eq-STRING : goal.returns-then-kind-eq-STRING
-returns-then-kind-eq-STRING c = found-string c.requires c.if-k-eq0.false c.slot_kind-kind.ensures c.slot_bits-b.ensures c.if-kind-eq-STRING.true c.copy.ensures
+pub returns-in-Some-Str : goal.returns-in-Some-Str
+returns-in-Some-Str c =
+    let n = value-number c.slot_kind.result V.Str (rw c.in-Some-Str.field-0-is at c.in-Some-Str.ensures) in
+    found-string c.requires c.if-k-eq0.false c.slot_kind.ensures c.slot_bits-b.ensures n c.copy.ensures
 
-pub returns : goal.returns
-returns c = found-failed c.requires c.if-k-eq0.false c.slot_kind-kind.ensures c.slot_bits-b.ensures c.if-kind-eq-INT.false c.if-kind-eq-REAL.false c.if-kind-eq-STRING.false
+pub returns-in-None : goal.returns-in-None
+returns-in-None c =
+    let n = no-value c.slot_kind.result c.in-None.ensures in
+    found-failed c.requires c.if-k-eq0.false c.slot_kind.ensures c.slot_bits-b.ensures n.0 n.1 n.2

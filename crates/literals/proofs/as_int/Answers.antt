@@ -1,18 +1,16 @@
-use Rattle.literals.proofs.Selectors.{int-value, real-value, string-value, no_value, long-value}
-use borrow.Author.Rules.{rules}
+-- `literals::as_int` meets its contract.
+use Rattle.std.proofs.Common.{rules}
+use Rattle.std.proofs.lemmas.Result.{err_from_is_err_and}
+use Rattle.literals.proofs.Selectors.{int-value, no-int, no_value}
 use Rattle.literals.proofs.as_int.Goals as goal
 
+pub returns-in_err-z : goal.returns-in_err-z
+returns-in_err-z c =
+    let p = err_from_is_err_and c.from_residual.result c.from_residual.ensures.1 in
+    rw (p.1, p.2) (λ t. no_value t c.in_err-z.field-0.0 c.in_err-z.was)
+
 pub returns-in-Int : goal.returns-in-Int
-returns-in-Int c = λ t. int-value t c.in-Value.is c.in-Int.is (search rules)
+returns-in-Int c = λ t. int-value t c.in_ok-z.was c.in-Int.is (search rules)
 
-pub returns-in-Real : goal.returns-in-Real
-returns-in-Real c = λ t. real-value t c.in-Value.is c.in-Real.is
-
-pub returns-in-Str : goal.returns-in-Str
-returns-in-Str c = λ t. string-value t c.in-Value.is c.in-Str.is
-
-pub returns-in-Failed : goal.returns-in-Failed
-returns-in-Failed c = λ t. no_value t c.in-Failed.is
-
-pub returns-in-TooLong : goal.returns-in-TooLong
-returns-in-TooLong c = λ t. long-value t c.in-TooLong.is
+pub returns-in_default : goal.returns-in_default
+returns-in_default c = λ t. no-int t c.in_ok-z.was c.in_default.not-Int

@@ -7,7 +7,7 @@ pub returns-then-has : goal.returns-then-has
 returns-then-has c = kind-strings (values_in c.args.work.now 0 c.args.count) (sym c.if-has.true ∙ c.has.ensures)
 
 pub returns-then-has-2 : goal.returns-then-has-2
-returns-then-has-2 c = kind-reals (values_in c.args.work.now 0 c.args.count) (sym c.if-has.false ∙ c.has.ensures) (sym c.if-has-2.true ∙ c.has-2.ensures)
+returns-then-has-2 c = kind-reals (values_in c.args.work.now 0 c.args.count) (sym c.if-has.false ∙ c.has.ensures) (sym c.if-has-2.true ∙ c.has-else-has.ensures)
 
-pub returns : goal.returns
-returns c = kind-words (values_in c.args.work.now 0 c.args.count) (sym c.if-has.false ∙ c.has.ensures) (sym c.if-has-2.false ∙ c.has-2.ensures)
+pub returns-else-has-2 : goal.returns-else-has-2
+returns-else-has-2 c = kind-words (values_in c.args.work.now 0 c.args.count) (sym c.if-has.false ∙ c.has.ensures) (sym c.if-has-2.false ∙ c.has-else-has.ensures)

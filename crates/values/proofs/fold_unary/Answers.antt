@@ -1,7 +1,5 @@
--- `values::fold_unary` meets its contract.
-use Rattle.values.proofs.Values.{unary_of_int, unary-of, answers-failed}
+use Rattle.values.proofs.Values.{unary_of_int, unary-of}
 use Rattle.values.specs.Values.{value_in}
-use mathlib.Core.Path.{refl}
 use borrow.Author.Rules.{rules}
 use Rattle.values.proofs.fold_unary.Goals as goal
 
@@ -11,7 +9,3 @@ returns-in-Int c = unary_of_int c.args.op c.in-Int.is (search rules) c.int_unary
 pub returns-in-Real : goal.returns-in-Real
 unfolding value_in
 returns-in-Real c = unary-of c.args.op c.in-Real.is c.real_unary.ensures
-
-pub returns-in-Str : goal.returns-in-Str
-unfolding value_in
-returns-in-Str c = unary-of c.args.op c.in-Str.is (answers-failed refl)

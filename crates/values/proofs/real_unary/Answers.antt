@@ -1,16 +1,13 @@
 -- `values::real_unary` meets its contract.
 use lib.Ieee.{neg}
-use Rattle.values.specs.Values.{unary_at}
-use Rattle.semantics.specs.Tree.ConstVal.{v_real}
-use Rattle.semantics.specs.Fold.Result.{ok}
-use Rattle.semantics.specs.Fold.{real_unary}
-use mathlib.Core.Path.{sym, ap, ◌∙◌}
-use Rattle.values.proofs.Values.{answers-real, answers-failed, no-real-unary}
+use borrow.Author.Rules.{rules}
+use Rattle.values.specs.Values.{value_in, result_in}
+use Rattle.values.proofs.Values.{answers-failed, real-fails}
 use Rattle.values.proofs.real_unary.Goals as goal
 
-pub returns-then-op-eq-NEG : goal.returns-then-op-eq-NEG
-unfolding neg
-returns-then-op-eq-NEG c = answers-real (ap (λ u. ok (v_real u)) c.neg.ensures ∙ ap (λ o. real_unary (unary_at o) c.args.x) (sym c.if-op-eq-NEG.true))
+pub returns-in-Neg : goal.returns-in-Neg
+unfolding neg value_in result_in
+returns-in-Neg c = search rules
 
-pub returns : goal.returns
-returns c = answers-failed (no-real-unary c.args.x c.args.op c.if-op-eq-NEG.false)
+pub returns-in_default : goal.returns-in_default
+returns-in_default c = answers-failed (real-fails c.args.op c.args.x c.in_default.not-Neg)

@@ -9,11 +9,11 @@ returns-then-q-eq0 c = plain-none c.requires.0 c.number_at-q.ensures.0 _ c.if-q-
 pub fold_const-requires : goal.fold_const-requires
 fold_const-requires c = value-foldable c.requires.0 c.number_at-q.ensures.0 c.if-q-eq0.false c.requires.1
 
-pub returns-in-Value : goal.returns-in-Value
-returns-in-Value c = plain-folded c.requires.0 c.number_at-q.ensures.0 c.if-q-eq0.false c.requires.1 c.fold_const.ensures c.in-Value.is
+pub returns-in-Ok : goal.returns-in-Ok
+returns-in-Ok c = plain-folded c.requires.0 c.number_at-q.ensures.0 c.if-q-eq0.false c.requires.1 c.fold_const.ensures c.in-Ok.is
 
-pub returns-in-Failed : goal.returns-in-Failed
-returns-in-Failed c = plain-failed c.requires.0 c.number_at-q.ensures.0 c.if-q-eq0.false c.requires.1 c.fold_const.ensures c.in-Failed.is
+pub returns-in-Err-Failed : goal.returns-in-Err-Failed
+returns-in-Err-Failed c = plain-failed c.requires.0 c.number_at-q.ensures.0 c.if-q-eq0.false c.requires.1 c.fold_const.ensures (rw c.in-Err-Failed.field-0-is at c.in-Err-Failed.is)
 
-pub returns-in-TooLong : goal.returns-in-TooLong
-returns-in-TooLong c = plain-long c.requires.0 c.number_at-q.ensures.0 c.if-q-eq0.false c.requires.1 c.fold_const.ensures c.in-TooLong.is
+pub returns-in-Err-LongString : goal.returns-in-Err-LongString
+returns-in-Err-LongString c = plain-long c.requires.0 c.number_at-q.ensures.0 c.if-q-eq0.false c.requires.1 c.fold_const.ensures (rw c.in-Err-LongString.field-0-is at c.in-Err-LongString.is)
