@@ -13,8 +13,9 @@ use Rattle.semantics.specs.Form.Atom.{name}
 use Rattle.semantics.specs.Layout.{PlacedField, align_up, size_of, align_of, place_names, place_line, place}
 use Rattle.semantics.specs.Listing.{field_row}
 use Rattle.decimal.specs.Number as Number
-use Rattle.write.specs.Wrote.{Wrote}
-use Rattle.write.proofs.Wrote.{wrote_none, wrote_as, then}
+use Rattle.write.specs.declared.Writer.{Writer}
+use Rattle.write.specs.Writes.{Writes}
+use Rattle.write.proofs.Writes.{writes_none, writes_as, writes_then}
 use Rattle.lines.specs.Lines.{read_at, nodes_in}
 use Rattle.sizes.specs.declared.place.Refs.{Refs}
 use Rattle.sizes.specs.Sizes.{type_at, Measures}
@@ -23,7 +24,6 @@ use Rattle.refs.proofs.Fields.{values_length}
 use Rattle.sizes.proofs.Places.{fd_is, names-end, untyped, typed, fields-next}
 use Rattle.records.proofs.Picks.{names_at}
 use Rattle.laws.proofs.Lists.{concat-append}
-use Rattle.field_rows.specs.declared.Ends.{Ends}
 use Rattle.field_rows.specs.Rows.{field_text, name_rows, placed_rows, line_rows, field_rows, LineWrote, AllWrote}
 
 pub placed-append : (ps qs : List PlacedField) → placed_rows (ps ++ qs) ≡ placed_rows ps ++ placed_rows qs
@@ -49,51 +49,51 @@ module _ (s t : List ℕ) (n r : ℕ) (l : FieldLine s t n r) where
       ∙ get_or-drop 2 (read_at s (r - 1)).fields j [])
 
 -- the rows of the first j names are written, and the next name lies at `off`
-pub record NameRowsWritten (size start : ℕ) (ns : List Bytes) (d : Bytes) (a : ℕ) (e : Bytes) (b off j : ℕ) : Type 0 where
+pub record NameRowsWritten (size start : ℕ) (ns : List Bytes) (u v : Writer) (off j : ℕ) : Type 0 where
   pub within : j ≤ length ns
   pub small : off ≡ start + j * size
   pub done : Bytes
-  pub wrote : Wrote d a done e b
+  pub wrote : Writes u done v
   pub rest : done ++ name_rows size off (drop j ns) ≡ name_rows size start ns
 
-module _ (size start : ℕ) (ns : List Bytes) (d : Bytes) (a : ℕ) where
-  pub name-rows-start : a ≤ length d + 1 → NameRowsWritten size start ns d a d a start 0
-  name-rows-start h = record { within = omega arith; small = omega arith; done = []; wrote = wrote_none d a h; rest = refl }
+module _ (size start : ℕ) (ns : List Bytes) (u : Writer) where
+  pub name-rows-start : NameRowsWritten size start ns u u start 0
+  name-rows-start = record { within = omega arith; small = omega arith; done = []; wrote = writes_none u u.room; rest = refl }
 
-  module _ (e : Bytes) (b off j : ℕ) (g : NameRowsWritten size start ns d a e b off j) where
-    pub name-rows-next : j < length ns → (f : Bytes) (q : ℕ) → Wrote e b (field_text (get_or ns j []) off size) f q → NameRowsWritten size start ns d a f q (off + size) (j + 1)
+  module _ (v : Writer) (off j : ℕ) (g : NameRowsWritten size start ns u v off j) where
+    pub name-rows-next : j < length ns → (w : Writer) → Writes v (field_text (get_or ns j []) off size) w → NameRowsWritten size start ns u w (off + size) (j + 1)
     unfolding name_rows
-    name-rows-next h f q w =
+    name-rows-next h w x =
         record {
           within = omega arith;
           small = omega (arith, g.small);
           done = g.done ++ field_text (get_or ns j []) off size;
-          wrote = then g.wrote w;
+          wrote = writes_then g.wrote x;
           rest = append_assoc g.done (field_text (get_or ns j []) off size) (name_rows size (off + size) (drop (j + 1) ns)) ∙ rw (add-one j) (rw (drop-cons ns j [] h) at g.rest);
         }
 
-    pub name-rows-end : length ns ≤ j → (Wrote d a (name_rows size start ns) e b) × (off ≡ start + length ns * size)
+    pub name-rows-end : length ns ≤ j → Writes u (name_rows size start ns) v × (off ≡ start + length ns * size)
     unfolding name_rows
     name-rows-end h =
         let z : j ≡ length ns = omega (arith, g.within) in
-        (wrote_as (sym (append-nil g.done) ∙ rw (drop_of_length-le ns {i = j} h) at g.rest) g.wrote, rw z at g.small)
+        (writes_as (sym (append-nil g.done) ∙ rw (drop_of_length-le ns {i = j} h) at g.rest) g.wrote, rw z at g.small)
 
 -- ---- an `fd` line
 
-module _ (s t : List ℕ) (n r : ℕ) (l : FieldLine s t n r) (v : ℕ) (hv : v ≡ Number.number_up_to 65536 (get_or (read_at s (r - 1)).fields 0 [])) (p : Ends) (d : Bytes) where
-  pub line-untyped : v ≡ 0 → p.at ≤ length d + 1 → LineWrote (fd_at s r) p p d d
+module _ (s t : List ℕ) (n r : ℕ) (l : FieldLine s t n r) (v : ℕ) (hv : v ≡ Number.number_up_to 65536 (get_or (read_at s (r - 1)).fields 0 [])) (a : ℕ) (u : Writer) where
+  pub line-untyped : v ≡ 0 → LineWrote (fd_at s r) a a u u
   unfolding line_rows placed_rows
-  line-untyped z h = let e = untyped s t n r l v hv z in record { wrote = rw e (wrote_none d p.at h); end = rw e }
+  line-untyped z = let e = untyped s t n r l v hv z in record { wrote = rw e (writes_none u u.room); end = rw e }
 
-  pub line-typed : (z : v ≡ 0 → ⊥) {size align at : ℕ} → Measures (type_at s v) size align → at ≡ align_up align p.end → {e : Bytes} (q : Ends)
-      → (Wrote d p.at (name_rows size at (fd_at s r).names) e q.at) × (q.end ≡ at + length (fd_at s r).names * size) → LineWrote (fd_at s r) p q d e
+  pub line-typed : (z : v ≡ 0 → ⊥) {size align at : ℕ} → Measures (type_at s v) size align → at ≡ align_up align a → {b : ℕ} {w : Writer}
+      → Writes u (name_rows size at (fd_at s r).names) w × (b ≡ at + length (fd_at s r).names * size) → LineWrote (fd_at s r) a b u w
   unfolding line_rows
-  line-typed z m k q w =
-      let a = align_up (align_of (type_at s v)) p.end in
+  line-typed z m k x =
+      let off = align_up (align_of (type_at s v)) a in
       let ns = (fd_at s r).names in
       record {
-        wrote = wrote_as (rw (typed s t n r l v hv z, k, m.whole, m.step) (names-rows (type_at s v) a ns)) w.0;
-        end = rw (typed s t n r l v hv z, names-end (type_at s v) a ns, w.1, k, m.whole, m.step);
+        wrote = writes_as (rw (typed s t n r l v hv z, k, m.whole, m.step) (names-rows (type_at s v) off ns)) x.0;
+        end = rw (typed s t n r l v hv z, names-end (type_at s v) off ns, x.1, k, m.whole, m.step);
       }
 
 -- ---- several
@@ -102,45 +102,41 @@ rows-cons : (off : ℕ) (f : Fd) (fs : List Fd) → field_rows off (f ∷ fs) �
 unfolding field_rows line_rows
 rows-cons off f fs = placed-append (place_line f.ty f.names off).placed (place (place_line f.ty f.names off).end fs).placed
 
--- the rows of the first j lines are written, from p to q
-pub record Fielding (s : List ℕ) (f : Refs) (p : Ends) (d e : Bytes) (q : Ends) (j : ℕ) : Type 0 where
+-- the rows of the first j lines are written, and their fields lie from a to b
+pub record Fielding (s : List ℕ) (f : Refs) (a : ℕ) (u v : Writer) (b j : ℕ) : Type 0 where
   pub within : j ≤ f.count
-  pub small : q.end ≤ p.end + line_bytes * j
-  pub end : (place q.end (fds_from s f.line (f.from + j) (f.count - j))).end ≡ (place p.end (fds_of_refs s f)).end
+  pub small : b ≤ a + line_bytes * j
+  pub end : (place b (fds_from s f.line (f.from + j) (f.count - j))).end ≡ (place a (fds_of_refs s f)).end
   pub done : Bytes
-  pub wrote : Wrote d p.at done e q.at
-  pub rest : done ++ field_rows q.end (fds_from s f.line (f.from + j) (f.count - j)) ≡ field_rows p.end (fds_of_refs s f)
+  pub wrote : Writes u done v
+  pub rest : done ++ field_rows b (fds_from s f.line (f.from + j) (f.count - j)) ≡ field_rows a (fds_of_refs s f)
 
-module _ (s t : List ℕ) (n : ℕ) (f : Refs) (l : FieldRefs s t n f) (p : Ends) (d : Bytes) where
-  pub fielding-start : p.at ≤ length d + 1 → Fielding s f p d d p 0
-  fielding-start h =
+module _ (s t : List ℕ) (n : ℕ) (f : Refs) (l : FieldRefs s t n f) (a : ℕ) (u : Writer) where
+  pub fielding-start : Fielding s f a u u a 0
+  fielding-start =
       let z : f.from + 0 ≡ f.from = omega arith in
       let y : f.count - 0 ≡ f.count = omega arith in
-      record { within = omega arith; small = omega arith; end = rw (z, y); done = []; wrote = wrote_none d p.at h; rest = rw (z, y) }
+      record { within = omega arith; small = omega arith; end = rw (z, y); done = []; wrote = writes_none u u.room; rest = rw (z, y) }
 
-  module _ (e : Bytes) (q : Ends) (j : ℕ) (g : Fielding s f p d e q j) where
-    pub fielding-end : f.count ≤ j → AllWrote (fds_of_refs s f) p q d e
+  module _ (v : Writer) (b j : ℕ) (g : Fielding s f a u v b j) where
+    pub fielding-end : f.count ≤ j → AllWrote (fds_of_refs s f) a b u v
     unfolding field_rows placed_rows
     fielding-end h =
         let z : f.count - j ≡ 0 = omega arith in
-        record { wrote = wrote_as (sym (append-nil g.done) ∙ rw z at g.rest) g.wrote; end = rw z at g.end }
+        record { wrote = writes_as (sym (append-nil g.done) ∙ rw z at g.rest) g.wrote; end = rw z at g.end }
 
-    pub fielding-next : (h : j < f.count) (v : ℕ) (hv : v ≡ Number.number_up_to 65536 (get_or (read_at s (f.line - 1)).fields (f.from + j) [])) (b : Bytes) (u : Ends)
-        → LineWrote (fd_at s v) q u e b → u.end ≤ q.end + line_bytes → Fielding s f p d b u (j + 1)
-    fielding-next h v hv b u w k =
-        let x = fields-next s t n f l j h v hv in
+    pub fielding-next : (h : j < f.count) (r : ℕ) (hr : r ≡ Number.number_up_to 65536 (get_or (read_at s (f.line - 1)).fields (f.from + j) [])) (c : ℕ) (w : Writer)
+        → LineWrote (fd_at s r) b c v w → c ≤ b + line_bytes → Fielding s f a u w c (j + 1)
+    fielding-next h r hr c w x k =
+        let e = fields-next s t n f l j h r hr in
         let more = fds_from s f.line (f.from + (j + 1)) (f.count - (j + 1)) in
         record {
           within = omega arith;
           small = omega (arith, g.small);
-          end = rw w.end (rw x at g.end);
-          done = g.done ++ line_rows (fd_at s v) q.end;
-          wrote = then g.wrote w.wrote;
+          end = rw x.end (rw e at g.end);
+          done = g.done ++ line_rows (fd_at s r) b;
+          wrote = writes_then g.wrote x.wrote;
           rest =
-              append_assoc g.done (line_rows (fd_at s v) q.end) (field_rows u.end more)
-              ∙ rw (w.end, ← rows-cons q.end (fd_at s v) more) (rw x at g.rest);
+              append_assoc g.done (line_rows (fd_at s r) b) (field_rows c more)
+              ∙ rw (x.end, ← rows-cons b (fd_at s r) more) (rw e at g.rest);
         }
-
--- the place may lie behind the buffer
-pub rows-from : (p : Ends) {b : ℕ} {q : Ends} {fs : List Fd} {d e : Bytes} → Wrote d p.at [] d b → AllWrote fs (record { at = b; end = p.end }) q d e → AllWrote fs p q d e
-rows-from p w x = record { wrote = then w x.wrote; end = x.end }

@@ -5,8 +5,8 @@ use Rattle.semantics.specs.Tree.{Fd}
 use Rattle.semantics.specs.Sheet.{concat_map}
 use Rattle.semantics.specs.Layout.{PlacedField, place_line, place}
 use Rattle.semantics.specs.Listing.{row, field_row}
-use Rattle.write.specs.Wrote.{Wrote}
-use Rattle.field_rows.specs.declared.Ends.{Ends}
+use Rattle.write.specs.declared.Writer.{Writer}
+use Rattle.write.specs.Writes.{Writes}
 
 -- fld,NAME,OFFSET,SIZE
 unfoldable pub field_text : Bytes → ℕ → ℕ → Bytes
@@ -27,12 +27,12 @@ line_rows f off = placed_rows (place_line f.ty f.names off).placed
 unfoldable pub field_rows : ℕ → List Fd → Bytes
 field_rows off fs = placed_rows (place off fs).placed
 
--- those of one line were written, from p to q
-pub record LineWrote (f : Fd) (p q : Ends) (d e : Bytes) : Type 0 where
-  pub wrote : Wrote d p.at (line_rows f p.end) e q.at
-  pub end : q.end ≡ (place_line f.ty f.names p.end).end
+-- those of one line were written, and their fields lie from a to b
+pub record LineWrote (f : Fd) (a b : ℕ) (v w : Writer) : Type 0 where
+  pub wrote : Writes v (line_rows f a) w
+  pub end : b ≡ (place_line f.ty f.names a).end
 
 -- and of several
-pub record AllWrote (fs : List Fd) (p q : Ends) (d e : Bytes) : Type 0 where
-  pub wrote : Wrote d p.at (field_rows p.end fs) e q.at
-  pub end : q.end ≡ (place p.end fs).end
+pub record AllWrote (fs : List Fd) (a b : ℕ) (v w : Writer) : Type 0 where
+  pub wrote : Writes v (field_rows a fs) w
+  pub end : b ≡ (place a fs).end

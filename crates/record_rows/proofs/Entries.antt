@@ -12,8 +12,9 @@ use Rattle.semantics.specs.Tree.{AdtDecl, Case, Shape}
 use Rattle.semantics.specs.Sheet.{concat_map}
 use Rattle.semantics.specs.Layout.{map_length, Recorded, place, records_for, variant_fields, map_of}
 use Rattle.semantics.specs.Listing.{row, record_rows, field_row}
-use Rattle.write.specs.Wrote.{Wrote}
-use Rattle.write.proofs.Wrote.{then}
+use Rattle.write.specs.declared.Writer.{Writer}
+use Rattle.write.specs.Writes.{Writes}
+use Rattle.write.proofs.Writes.{writes_then}
 use Rattle.layout.proofs.Bounds.{SizeAtMost}
 use Rattle.lines.specs.Lines.{form_at}
 use Rattle.sizes.specs.Places.{common_fields, case_fields, RecordLine, first_decl, decl_at}
@@ -191,6 +192,6 @@ key-plain s t i e h z = rw (plain-key s t i (sym h ∙ z), e)
 pub key-variant : (s t : Bytes) (i : ℕ) {x y : Bytes} → x ≡ name_of s (entry_at t i) → {c : ℕ} → c ≡ (entry_at t i).case → (c ≡ 0 → ⊥) → y ≡ tag_of s (entry_at t i) → ((44 ∷ x) ++ (46 ∷ [])) ++ y ≡ 44 ∷ (recorded_at s t i).key
 key-variant s t i {x} {y} e h z f = rw (variant-key s t i (λ q. z (h ∙ q)), e, f) (append_assoc (44 ∷ name_of s (entry_at t i)) (46 ∷ []) (tag_of s (entry_at t i)))
 
-pub head-text : (r : Recorded) {d : Bytes} {a : ℕ} {e : Bytes} {b : ℕ} {f : Bytes} {c : ℕ} {g : Bytes} {x : ℕ} → Wrote d a (bytes "rec") e b → Wrote e b (44 ∷ r.key) f c → Wrote f c (tag_text r) g x → Wrote d a (rec_text r) g x
+pub head-text : (r : Recorded) {u v w x : Writer} → Writes u (bytes "rec") v → Writes v (44 ∷ r.key) w → Writes w (tag_text r) x → Writes u (rec_text r) x
 unfolding rec_text
-head-text r u v w = then (then u v) w
+head-text r a b c = writes_then (writes_then a b) c

@@ -14,8 +14,9 @@ use Rattle.semantics.specs.Layout.{Recorded, last_of, seen, records_by_key, reco
 use Rattle.semantics.specs.Listing.{record_rows}
 use Rattle.laws.proofs.Tests.{same_refl}
 use Rattle.laws.proofs.Lists.{any_append, last-append}
-use Rattle.write.specs.Wrote.{Wrote}
-use Rattle.write.proofs.Wrote.{wrote_as, then}
+use Rattle.write.specs.declared.Writer.{Writer}
+use Rattle.write.specs.Writes.{Writes}
+use Rattle.write.proofs.Writes.{writes_none, writes_as, writes_then}
 use Rattle.checks.specs.Checks.{Kept}
 use Rattle.checks.proofs.Kept.{kept-all, kept_then, kept_less}
 use Rattle.records.specs.Log.{recorded_at, log_of, no_record, RecordsLogged, LogEntry, NewestOfEntry}
@@ -62,33 +63,33 @@ rows-cond true r rs = refl
 rows-cond false r rs = refl
 
 -- the rows of the keys of the first i entries are written
-pub record Keying (s : Bytes) (m : ℕ) (d : Bytes) (a : ℕ) (e : Bytes) (b : ℕ) (t u : Bytes) (i : ℕ) : Type 0 where
+pub record Keying (s : Bytes) (m : ℕ) (v w : Writer) (t u : Bytes) (i : ℕ) : Type 0 where
   pub within : i ≤ m
   pub done : Bytes
-  pub wrote : Wrote d a done e b
+  pub wrote : Writes v done w
   pub kept : Kept 49152 t u
   pub before : List Recorded
   pub met : (k : Bytes) → seen k before ≡ seen k (take i (log_of s))
   pub rest : done ++ concat_map record_rows (records_by_key before (drop i (log_of s))) ≡ all_rows s
 
-module _ (s t : Bytes) (n m : ℕ) (g : RecordsLogged s t n m) (d : Bytes) (a : ℕ) where
-  pub keying-start : {b : ℕ} → Wrote d a [] d b → Keying s m d a d b t t 0
+module _ (s t : Bytes) (n m : ℕ) (g : RecordsLogged s t n m) (v : Writer) where
+  pub keying-start : Keying s m v v t t 0
   unfolding all_rows records log_of
-  keying-start h = record { within = omega arith; done = []; wrote = h; kept = kept-all; before = []; met = λ k. refl; rest = refl }
+  keying-start = record { within = omega arith; done = []; wrote = writes_none v v.room; kept = kept-all; before = []; met = λ k. refl; rest = refl }
 
-  module _ (e : Bytes) (b : ℕ) (u : Bytes) (i : ℕ) (w : Keying s m d a e b t u i) where
+  module _ (x : Writer) (u : Bytes) (i : ℕ) (w : Keying s m v x t u i) where
     pub log-now : RecordsLogged s u n m
     log-now = logged-kept (kept_less (omega arith) w.kept) g
 
-    pub keying-end : m ≤ i → {v : Bytes} → u ≡ v → Printed d a (all_rows s) e b t v
-    keying-end h q = rw (← q) (record {
-      wrote = wrote_as (sym (append-nil w.done) ∙ rw (drop_of_length-le (log_of s) {i = i} (omega (arith, g.count))) at w.rest) w.wrote;
+    pub keying-end : m ≤ i → Printed (all_rows s) v x t u
+    keying-end h = record {
+      wrote = writes_as (sym (append-nil w.done) ∙ rw (drop_of_length-le (log_of s) {i = i} (omega (arith, g.count))) at w.rest) w.wrote;
       kept = w.kept;
-    })
+    }
 
-    pub keying-next : i < m → (f : Bytes) (c : ℕ) (v : Bytes) → Printed e b (key_rows s i) f c u v → Keying s m d a f c t v (i + 1)
+    pub keying-next : i < m → (y : Writer) (z : Bytes) → Printed (key_rows s i) x y u z → Keying s m v y t z (i + 1)
     unfolding key_rows
-    keying-next h f c v p =
+    keying-next h y z p =
         let r = get_or (log_of s) i no_record in
         let l : i < length (log_of s) = omega (arith, g.count) in
         let rs = records_by_key (r ∷ w.before) (drop (suc i) (log_of s)) in
@@ -96,7 +97,7 @@ module _ (s t : Bytes) (n m : ℕ) (g : RecordsLogged s t n m) (d : Bytes) (a : 
         record {
           within = omega arith;
           done = w.done ++ key_rows s i;
-          wrote = then w.wrote p.wrote;
+          wrote = writes_then w.wrote p.wrote;
           kept = kept_then w.kept p.kept;
           before = r ∷ w.before;
           met = λ k. rw (w.met k, add-one i, take-suc (log_of s) i no_record l) (or_turn (same k r.key) (seen k (take i (log_of s))) ∙ sym (any_append (λ (x : Recorded). same k x.key) (take i (log_of s)) (r ∷ [])));

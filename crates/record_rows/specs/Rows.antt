@@ -5,7 +5,8 @@ use Rattle.semantics.specs.Tree.{Shape}
 use Rattle.semantics.specs.Sheet.{concat_map, sheet_source}
 use Rattle.semantics.specs.Layout.{Recorded, recorded_adts, records, last_of, seen, map_of}
 use Rattle.semantics.specs.Listing.{record_rows}
-use Rattle.write.specs.Wrote.{Wrote}
+use Rattle.write.specs.declared.Writer.{Writer}
+use Rattle.write.specs.Writes.{Writes}
 use Rattle.checks.specs.Checks.{Kept}
 use Rattle.records.specs.Log.{recorded_at, log_of, no_record}
 
@@ -14,8 +15,8 @@ unfoldable pub tag_text : Recorded → Bytes
 tag_text r = (44 ∷ decimalℤ r.tag) ++ (44 ∷ decimalℤ r.group)
 
 -- those of entry i were written: the sheet has no part in them
-abbrev pub TagWrote : Bytes → ℕ → Bytes → ℕ → Bytes → ℕ → Type 0
-TagWrote t i d a e b = (s : Bytes) → Wrote d a (tag_text (recorded_at s t i)) e b
+abbrev pub TagWrote : Bytes → ℕ → Writer → Writer → Type 0
+TagWrote t i v w = (s : Bytes) → Writes v (tag_text (recorded_at s t i)) w
 
 -- rec,KEY,TAG,GROUP
 unfoldable pub rec_text : Recorded → Bytes
@@ -35,6 +36,6 @@ unfoldable pub all_rows : Bytes → Bytes
 all_rows s = concat_map record_rows (records (recorded_adts (sheet_source s)))
 
 -- text was written, while the working space t became u, which is changed above 49152 alone
-pub record Printed (d : Bytes) (a : ℕ) (x e : Bytes) (b : ℕ) (t u : Bytes) : Type 0 where
-  pub wrote : Wrote d a x e b
+pub record Printed (x : Bytes) (v w : Writer) (t u : Bytes) : Type 0 where
+  pub wrote : Writes v x w
   pub kept : Kept 49152 t u

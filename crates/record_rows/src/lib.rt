@@ -3,51 +3,52 @@
 
 ghost use Rattle.std.specs.Prelude.{◌≡◌, ◌∷◌, ◌≤◌, ◌<◌, length};
 ghost use Rattle.semantics.specs.Listing.{record_rows};
-ghost use Rattle.write.specs.Wrote.{Wrote};
+ghost use Rattle.write.specs.Writes.{Writes};
 ghost use Rattle.maps.specs.Maps.{MapRoom, MapMade};
 ghost use Rattle.records.specs.Log.{recorded_at, EntryIn, RecordsLogged, LogEntry};
 ghost use Rattle.field_rows.specs.Rows.{placed_rows};
 ghost use Rattle.record_rows.specs.Rows.{TagWrote, rec_text, shape_text, key_rows, all_rows, Printed};
 
 use codes::{area, decl};
-use field_rows::Ends;
 use layout::map::map_bytes;
 use records::key::{Log, case_of, is_first, line_of, name_of, newest_of, number_of, tag_of};
 use shapes::TAG_BYTES;
+use write::Writer;
 
 // KEY, with its comma: T, or T.tag.
-fn put_key(sheet: &[u8], work: &[u8], n: usize, i: usize, out: &mut [u8], at: usize) -> usize
+fn put_key(sheet: &[u8], work: &[u8], n: usize, i: usize, w: &mut Writer)
     requires { EntryIn sheet.now work.now n i }
-    ensures { Wrote out.old at (44 ∷ (recorded_at sheet.now work.now i).key) out.new result }
+    ensures { Writes w.old (44 ∷ (recorded_at sheet.now work.now i).key) w.new }
 {
-    let p = rows::put_comma_part(out, at, name_of(sheet, work, n, i));
+    rows::comma_part(w, name_of(sheet, work, n, i));
     if case_of(work, i) == 0 {
-        return p;
+        return;
     }
-    let q = write::put(out, p, b'.');
-    write::put_part(out, q, tag_of(sheet, work, n, i))
+    w.put(b'.');
+    w.put_part(tag_of(sheet, work, n, i));
 }
 
 // TAG and GROUP, with their commas: -1 for T itself.
-fn put_tag(work: &[u8], i: usize, out: &mut [u8], at: usize) -> usize
+fn put_tag(work: &[u8], i: usize, w: &mut Writer)
     requires { (i < 128) × (65536 ≤ length work.now) }
-    ensures { TagWrote work.now i out.old at out.new result }
+    ensures { TagWrote work.now i w.old w.new }
 {
     let c = case_of(work, i);
     if c == 0 {
-        return write::put_part(out, at, b",-1,-1");
+        w.put_part(b",-1,-1");
+        return;
     }
-    let p = rows::put_comma_nat(out, at, number_of(work, i) as u64);
-    rows::put_comma_nat(out, p, (c - 1) as u64)
+    rows::comma_nat(w, number_of(work, i) as u64);
+    rows::comma_nat(w, (c - 1) as u64);
 }
 
-fn put_head(sheet: &[u8], work: &[u8], n: usize, i: usize, out: &mut [u8], at: usize) -> usize
+fn put_head(sheet: &[u8], work: &[u8], n: usize, i: usize, w: &mut Writer)
     requires { EntryIn sheet.now work.now n i }
-    ensures { Wrote out.old at (rec_text (recorded_at sheet.now work.now i)) out.new result }
+    ensures { Writes w.old (rec_text (recorded_at sheet.now work.now i)) w.new }
 {
-    let p = write::put_part(out, at, b"rec");
-    let q = put_key(sheet, work, n, i, out, p);
-    put_tag(work, i, out, q)
+    w.put_part(b"rec");
+    put_key(sheet, work, n, i, w);
+    put_tag(work, i, w);
 }
 
 // The size of the record of entry i.
@@ -78,71 +79,64 @@ pub fn map_entry(sheet: &[u8], work: &mut [u8], n: usize, i: usize, size: u32)
 }
 
 // SIZE and MAP, and the end of the row.
-fn put_shape(sheet: &[u8], work: &mut [u8], n: usize, i: usize, out: &mut [u8], at: usize) -> usize
+fn put_shape(sheet: &[u8], work: &mut [u8], n: usize, i: usize, w: &mut Writer)
     requires { LogEntry sheet.now work.old n i }
-    ensures { Printed out.old at (shape_text (recorded_at sheet.now work.old i).shape) out.new result work.old work.new }
+    ensures { Printed (shape_text (recorded_at sheet.now work.old i).shape) w.old w.new work.old work.new }
 {
     let size = entry_size(sheet, work, n, i);
     map_entry(sheet, work, n, i, size);
-    let p = rows::put_comma_nat(out, at, size as u64);
+    rows::comma_nat(w, size as u64);
     let end = area::MAP + map_bytes(size);
-    let q = rows::put_comma_hex(out, p, &work[area::MAP..end]);
-    rows::put_lf(out, q)
+    rows::comma_hex(w, &work[area::MAP..end]);
+    rows::lf(w);
 }
 
 // The rows of the fields: T's are the common ones, a variant's the common ones and then its own.
-fn put_fields(sheet: &[u8], work: &[u8], n: usize, i: usize, out: &mut [u8], at: usize) -> usize
+fn put_fields(sheet: &[u8], work: &[u8], n: usize, i: usize, w: &mut Writer)
     requires { EntryIn sheet.now work.now n i }
-    ensures { Wrote out.old at (placed_rows (recorded_at sheet.now work.now i).fields) out.new result }
+    ensures { Writes w.old (placed_rows (recorded_at sheet.now work.now i).fields) w.new }
 {
     let r = line_of(work, i);
     if lines::form_at(work, r - 1) == decl::ADT {
-        let q = field_rows::put_common(sheet, work, n, r, out, Ends { at, end: 0 });
-        return q.at;
+        field_rows::put_common(sheet, work, n, r, w, 0);
+        return;
     }
-    let start = Ends { at, end: TAG_BYTES };
-    let p = field_rows::put_common(sheet, work, n, r, out, start);
+    let end = field_rows::put_common(sheet, work, n, r, w, TAG_BYTES);
     let c = case_of(work, i);
     if c == 0 {
-        return p.at;
+        return;
     }
     let v = shapes::case_line(sheet, work, n, r, c - 1);
-    let q = field_rows::put_case(sheet, work, n, v, out, p);
-    q.at
+    field_rows::put_case(sheet, work, n, v, w, end);
 }
 
 // The rows of the record of entry i.
-fn put_record(sheet: &[u8], work: &mut [u8], n: usize, i: usize, out: &mut [u8], at: usize) -> usize
+fn put_record(sheet: &[u8], work: &mut [u8], n: usize, i: usize, w: &mut Writer)
     requires { LogEntry sheet.now work.old n i }
-    ensures { Printed out.old at (record_rows (recorded_at sheet.now work.old i)) out.new result work.old work.new }
+    ensures { Printed (record_rows (recorded_at sheet.now work.old i)) w.old w.new work.old work.new }
 {
-    let p = put_head(sheet, work, n, i, out, at);
-    let q = put_shape(sheet, work, n, i, out, p);
-    put_fields(sheet, work, n, i, out, q)
+    put_head(sheet, work, n, i, w);
+    put_shape(sheet, work, n, i, w);
+    put_fields(sheet, work, n, i, w);
 }
 
 // The rows of entry i's key, where entry i is the first of that key: those of its newest entry.
-fn put_newest(sheet: &[u8], work: &mut [u8], c: Log, i: usize, out: &mut [u8], at: usize) -> usize
+fn put_newest(sheet: &[u8], work: &mut [u8], c: Log, i: usize, w: &mut Writer)
     requires { (RecordsLogged sheet.now work.old c.lines c.entries) × (i < c.entries) }
-    ensures { Printed out.old at (key_rows sheet.now i) out.new result work.old work.new }
+    ensures { Printed (key_rows sheet.now i) w.old w.new work.old work.new }
 {
     if is_first(sheet, work, c.lines, i) {
         let j = newest_of(sheet, work, c, i);
-        return put_record(sheet, work, c.lines, j, out, at);
+        put_record(sheet, work, c.lines, j, w);
     }
-    write::nothing(out, at)
 }
 
 // The rows of all records: each key once, where it was first recorded.
-pub fn record_rows(sheet: &[u8], work: &mut [u8], c: Log, out: &mut [u8], at: usize) -> usize
+pub fn record_rows(sheet: &[u8], work: &mut [u8], c: Log, w: &mut Writer)
     requires { RecordsLogged sheet.now work.old c.lines c.entries }
-    ensures { Printed out.old at (all_rows sheet.now) out.new result work.old work.new }
+    ensures { Printed (all_rows sheet.now) w.old w.new work.old work.new }
 {
-    let mut p = write::nothing(out, at);
-    let mut i = 0;
-    while i < c.entries {
-        p = put_newest(sheet, work, c, i, out, p);
-        i += 1;
+    for i in 0..c.entries {
+        put_newest(sheet, work, c, i, w);
     }
-    p
 }

@@ -1,6 +1,6 @@
 use Rattle.record_rows.proofs.Keys.{rows-first, rows-later}
 use Rattle.checks.proofs.Kept.{kept-all}
-use Rattle.write.proofs.Wrote.{wrote_as}
+use Rattle.write.proofs.Writes.{writes_none, writes_as}
 use Rattle.record_rows.proofs.put_newest.Goals as goal
 
 pub is_first-requires : goal.is_first-requires
@@ -10,7 +10,7 @@ pub put_record-requires : goal.put_record-requires
 put_record-requires c = record { m = _; log = c.requires.0; low = c.newest_of-j.ensures.low }
 
 pub returns-then-is_first : goal.returns-then-is_first
-returns-then-is_first c = record { wrote = wrote_as (rows-first c.args.sheet.now c.args.work.now c.args.c.lines c.args.i (record { m = _; log = c.requires.0; low = c.requires.1 }) c.is_first.ensures c.if-is_first.true c.newest_of-j.result c.newest_of-j.ensures) c.put_record.ensures.wrote; kept = c.put_record.ensures.kept }
+returns-then-is_first c = record { wrote = writes_as (rows-first c.args.sheet.now c.args.work.now c.args.c.lines c.args.i (record { m = _; log = c.requires.0; low = c.requires.1 }) c.is_first.ensures c.if-is_first.true c.newest_of-j.result c.newest_of-j.ensures) c.put_record.ensures.wrote; kept = c.put_record.ensures.kept }
 
-pub returns : goal.returns
-returns c = record { wrote = wrote_as (rows-later c.args.sheet.now c.args.work.now c.args.c.lines c.args.i (record { m = _; log = c.requires.0; low = c.requires.1 }) c.is_first.ensures c.if-is_first.false) c.nothing.ensures; kept = kept-all }
+pub returns-else-is_first : goal.returns-else-is_first
+returns-else-is_first c = record { wrote = writes_as (rows-later c.args.sheet.now c.args.work.now c.args.c.lines c.args.i (record { m = _; log = c.requires.0; low = c.requires.1 }) c.is_first.ensures c.if-is_first.false) (writes_none _ c.args.w.now.room); kept = kept-all }
