@@ -18,7 +18,7 @@ use Rattle.semantics.specs.Types.{opaque_shape, elem_shape}
 use Rattle.maps.specs.Maps.{Marks}
 use Rattle.maps.proofs.Maps.{marks-none, marks_then, marks-skip}
 use Rattle.type_lines.specs.Shapes.{raised}
-use Rattle.type_row.specs.declared.Spot.{Spot}
+use Rattle.write.specs.declared.Writer.{Writer}
 use Rattle.type_row.specs.Row.{word_offsets, TypesWrote}
 
 pub opaque-words : word_offsets 12 ≡ opaque_shape.pointers
@@ -77,5 +77,5 @@ words-by kind k_ptr e = rw e
 pub shape_is : (x : Shape) (a : ℕ) (l : List ℤ) → a ≡ x.size → l ≡ x.pointers → record { size = a; pointers = l } ≡ x
 shape_is x a l e f = rw (e, f)
 
-pub types-as : {x y : Shape} {p q : Spot} {t u d e : List ℕ} → x ≡ y → TypesWrote (x ∷ []) p q t u d e → TypesWrote (y ∷ []) p q t u d e
-types-as q w = rw (← q) w
+pub types-as : {x y : Shape} {a b : ℕ} {v w : Writer} {t u : List ℕ} → x ≡ y → TypesWrote (x ∷ []) a b v w t u → TypesWrote (y ∷ []) a b v w t u
+types-as q x = rw (← q) x

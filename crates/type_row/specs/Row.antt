@@ -4,16 +4,16 @@ use Rattle.semantics.specs.Text.{Bytes}
 use Rattle.semantics.specs.Tree.{Shape}
 use Rattle.semantics.specs.Listing.{type_rows}
 use Rattle.checks.specs.Checks.{Kept}
-use Rattle.write.specs.Wrote.{Wrote}
-use Rattle.type_row.specs.declared.Spot.{Spot}
+use Rattle.write.specs.declared.Writer.{Writer}
+use Rattle.write.specs.Writes.{Writes}
 
 -- the offsets of the first k words
 unfoldable pub word_offsets : ℕ → List ℤ
 word_offsets zero = []
 word_offsets (suc k) = word_offsets k ++ (pos (4 * k) ∷ [])
 
--- rows of these shapes, whose maps were made in the working space, were written, from p to q
-pub record TypesWrote (xs : List Shape) (p q : Spot) (t u d e : Bytes) : Type 0 where
-  pub wrote : Wrote d p.at (type_rows p.id xs) e q.at
-  pub id : q.id ≡ p.id + length xs
+-- rows of these shapes, with IDs from a up to b, whose maps were made in the working space, were written
+pub record TypesWrote (xs : List Shape) (a b : ℕ) (v w : Writer) (t u : Bytes) : Type 0 where
+  pub wrote : Writes v (type_rows a xs) w
+  pub id : b ≡ a + length xs
   pub kept : Kept 49152 t u

@@ -7,7 +7,7 @@ ghost use Rattle.semantics.specs.Form.{between};
 ghost use Rattle.semantics.specs.Array.{kind_number};
 ghost use Rattle.semantics.specs.Types.{opaque_shape, elem_shape};
 ghost use Rattle.semantics.specs.Listing.{type_rows};
-ghost use Rattle.write.specs.Wrote.{Wrote};
+ghost use Rattle.write.specs.Writes.{Writes};
 ghost use Rattle.checks.specs.Checks.{Kept};
 ghost use Rattle.maps.specs.Maps.{MapRoom, Mapped, Marks, MapMade};
 ghost use Rattle.type_lines.specs.Shapes.{written_shape, ShapeLine, raised};
@@ -15,27 +15,22 @@ ghost use Rattle.type_row.specs.Row.{word_offsets, TypesWrote};
 
 use codes::{area, element};
 use type_lines::shape::RAISE;
+use write::Writer;
 
-// Where the next row goes, and its ID.
-#[derive(Clone, Copy)]
-pub struct Spot {
-    pub at: usize,
-    pub id: usize,
-}
-
-// The row of a block of this size whose map stands in the working space.
-pub fn put_type(work: &[u8], size: u32, out: &mut [u8], p: Spot) -> Spot
-    requires { (MapRoom work.now size) × (p.id < 2048) }
-    ensures { ((offs : List ℤ) → Mapped work.now size offs → Wrote out.old p.at (type_rows p.id (record { size = size; pointers = offs } ∷ [])) out.new result.at) × (result.id ≡ p.id + 1) }
+// The row of a block of this size whose map stands in the working space. As all that write `typ` rows it takes the ID of the first and
+// returns the ID behind the last.
+pub fn put_type(work: &[u8], size: u32, w: &mut Writer, id: usize) -> usize
+    requires { (MapRoom work.now size) × (id < 2048) }
+    ensures { ((offs : List ℤ) → Mapped work.now size offs → Writes w.old (type_rows id (record { size = size; pointers = offs } ∷ [])) w.new) × (result ≡ id + 1) }
 {
     let end = area::MAP + layout::map::map_bytes(size);
-    let mut at = write::put_part(out, p.at, b"typ");
-    at = rows::put_comma_nat(out, at, p.id as u64);
-    at = rows::put_comma_nat(out, at, size as u64);
-    at = rows::put_comma_nat(out, at, maps::map_ones(work, size) as u64);
-    at = rows::put_comma_hex(out, at, &work[area::MAP..end]);
-    at = rows::put_lf(out, at);
-    Spot { at, id: p.id + 1 }
+    w.put_part(b"typ");
+    rows::comma_nat(w, id as u64);
+    rows::comma_nat(w, size as u64);
+    rows::comma_nat(w, maps::map_ones(work, size) as u64);
+    rows::comma_hex(w, &work[area::MAP..end]);
+    rows::lf(w);
+    id + 1
 }
 
 // ---- blocks that begin with pointers
@@ -46,31 +41,29 @@ fn map_words(work: &mut [u8], size: u32, count: u32)
     ensures { MapMade size (word_offsets count) work.old work.new }
 {
     maps::clear_map(work, size);
-    let mut k = 0;
-    while k < count {
+    for k in 0..count {
         maps::mark_at(work, size, 4 * k);
-        k += 1;
     }
 }
 
 // The row of such a block.
-pub fn put_words(work: &mut [u8], size: u32, count: u32, out: &mut [u8], p: Spot) -> Spot
-    requires { (MapRoom work.old size) × (count ≤ 12) × (p.id < 2048) }
-    ensures { TypesWrote ((record { size = size; pointers = word_offsets count }) ∷ []) p result work.old work.new out.old out.new }
+pub fn put_words(work: &mut [u8], size: u32, count: u32, w: &mut Writer, id: usize) -> usize
+    requires { (MapRoom work.old size) × (count ≤ 12) × (id < 2048) }
+    ensures { TypesWrote ((record { size = size; pointers = word_offsets count }) ∷ []) id result w.old w.new work.old work.new }
 {
     map_words(work, size, count);
-    put_type(work, size, out, p)
+    put_type(work, size, w, id)
 }
 
 // The words of an opaque record, all of them pointers.
 const OPAQUE_WORDS: u32 = 12;
 
 // An opaque record.
-pub fn put_opaque(work: &mut [u8], out: &mut [u8], p: Spot) -> Spot
-    requires { (65536 ≤ length work.old) × (p.id < 2048) }
-    ensures { TypesWrote (opaque_shape ∷ []) p result work.old work.new out.old out.new }
+pub fn put_opaque(work: &mut [u8], w: &mut Writer, id: usize) -> usize
+    requires { (65536 ≤ length work.old) × (id < 2048) }
+    ensures { TypesWrote (opaque_shape ∷ []) id result w.old w.new work.old work.new }
 {
-    put_words(work, 4 * OPAQUE_WORDS, OPAQUE_WORDS, out, p)
+    put_words(work, 4 * OPAQUE_WORDS, OPAQUE_WORDS, w, id)
 }
 
 fn elem_size(kind: u8) -> u32
@@ -99,11 +92,11 @@ fn elem_pointers(kind: u8) -> u32
 }
 
 // An array's elements.
-pub fn put_elem(work: &mut [u8], kind: u8, out: &mut [u8], p: Spot) -> Spot
-    requires { (65536 ≤ length work.old) × (p.id < 2048) }
-    ensures { ((k : ElemKind) → kind ≡ kind_number k → TypesWrote ((elem_shape k) ∷ []) p result work.old work.new out.old out.new) × (result.id ≡ p.id + 1) × (Kept 49152 work.old work.new) }
+pub fn put_elem(work: &mut [u8], kind: u8, w: &mut Writer, id: usize) -> usize
+    requires { (65536 ≤ length work.old) × (id < 2048) }
+    ensures { ((k : ElemKind) → kind ≡ kind_number k → TypesWrote ((elem_shape k) ∷ []) id result w.old w.new work.old work.new) × (result ≡ id + 1) × (Kept 49152 work.old work.new) }
 {
-    put_words(work, elem_size(kind), elem_pointers(kind), out, p)
+    put_words(work, elem_size(kind), elem_pointers(kind), w, id)
 }
 
 // ---- what a line writes out
@@ -126,20 +119,28 @@ fn map_line(sheet: &[u8], work: &mut [u8], n: usize, i: usize, size: u32)
 {
     maps::clear_map(work, size);
     let count = type_lines::shape::offset_count(sheet, work, n, i);
-    let mut j = 0;
-    while j < count {
-        let z = type_lines::shape::offset_at(sheet, work, n, i, j);
-        mark_raised(work, size, z);
-        j += 1;
+    for j in 0..count {
+        mark_raised(
+            work,
+            size,
+            type_lines::shape::offset_at(sheet, work, n, i, j),
+        );
     }
 }
 
 // A frame, or a block that a need writes out.
-pub fn put_line(sheet: &[u8], work: &mut [u8], n: usize, i: usize, out: &mut [u8], p: Spot) -> Spot
-    requires { (ShapeLine sheet.now work.old n i) × (p.id < 2048) }
-    ensures { TypesWrote ((written_shape sheet.now i) ∷ []) p result work.old work.new out.old out.new }
+pub fn put_line(
+    sheet: &[u8],
+    work: &mut [u8],
+    n: usize,
+    i: usize,
+    w: &mut Writer,
+    id: usize,
+) -> usize
+    requires { (ShapeLine sheet.now work.old n i) × (id < 2048) }
+    ensures { TypesWrote ((written_shape sheet.now i) ∷ []) id result w.old w.new work.old work.new }
 {
     let size = type_lines::shape::size_at(sheet, work, n, i);
     map_line(sheet, work, n, i, size);
-    put_type(work, size, out, p)
+    put_type(work, size, w, id)
 }

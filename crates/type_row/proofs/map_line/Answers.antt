@@ -15,14 +15,14 @@ offset_count-count-requires c = shape-kept c.clear_map.ensures.kept c.requires.0
 pub loop-j-init : goal.loop-j-init
 loop-j-init c = (omega arith, c.offset_count-count.ensures.0, marks-none)
 
-pub offset_at-z-requires : goal.offset_at-z-requires
-offset_at-z-requires c = (shape-kept c.loop-j.invariant.2.kept (shape-kept c.clear_map.ensures.kept c.requires.0), omega (arith, c.loop-j-test.true, c.loop-j.invariant.1))
+pub offset_at-requires : goal.offset_at-requires
+offset_at-requires c = (shape-kept c.loop-j.invariant.2.kept (shape-kept c.clear_map.ensures.kept c.requires.0), omega (arith, c.loop-j-test.true, c.loop-j.invariant.1))
 
 pub mark_raised-requires : goal.mark_raised-requires
-mark_raised-requires c = (room-kept c.loop-j.invariant.2.kept (room-kept c.clear_map.ensures.kept c.requires.1), c.offset_at-z.ensures.1)
+mark_raised-requires c = (room-kept c.loop-j.invariant.2.kept (room-kept c.clear_map.ensures.kept c.requires.1), c.offset_at.ensures.1)
 
 pub loop-j-preserved : goal.loop-j-preserved
-loop-j-preserved c = (omega (arith, c.loop-j-test.true), c.loop-j.invariant.1, offsets-next (written_shape c.args.sheet.now c.args.i).pointers c.loop-j.j (omega (arith, c.loop-j-test.true, c.loop-j.invariant.1)) c.loop-j.invariant.2 (c.mark_raised.ensures _ (offset_near c.args.sheet.now c.args.work.now c.args.n c.args.i c.requires.0 c.loop-j.j (omega (arith, c.loop-j-test.true, c.loop-j.invariant.1))) c.offset_at-z.ensures.0))
+loop-j-preserved c = (omega (arith, c.loop-j-test.true), c.loop-j.invariant.1, offsets-next (written_shape c.args.sheet.now c.args.i).pointers c.loop-j.j (omega (arith, c.loop-j-test.true, c.loop-j.invariant.1)) c.loop-j.invariant.2 (c.mark_raised.ensures _ (offset_near c.args.sheet.now c.args.work.now c.args.n c.args.i c.requires.0 c.loop-j.j (omega (arith, c.loop-j-test.true, c.loop-j.invariant.1))) c.offset_at.ensures.0))
 
 pub shape_of-work : goal.shape_of-work
 shape_of-work c = c.loop-j.invariant.2.kept.long ∙ c.clear_map.ensures.kept.long
