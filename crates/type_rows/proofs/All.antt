@@ -10,13 +10,13 @@ use Rattle.semantics.specs.Sheet.{sheet_source, concat_map}
 use Rattle.semantics.specs.Global.{Item}
 use Rattle.semantics.specs.Types.{distinct, array_key, keys, key_shape, opaque_shape, descriptors}
 use Rattle.semantics.specs.Listing.{type_rows}
-use Rattle.write.specs.Wrote.{Wrote}
-use Rattle.write.proofs.Wrote.{wrote_as}
+use Rattle.write.specs.declared.Writer.{Writer}
+use Rattle.write.specs.Writes.{Writes}
+use Rattle.write.proofs.Writes.{writes_as}
 use Rattle.checks.specs.Checks.{Checked}
 use Rattle.records.specs.Log.{log_of}
 use Rattle.type_keys.proofs.Distinct.{new_key, distinct_more}
 use Rattle.type_lines.proofs.Frames.{frames-all, frames-few}
-use Rattle.type_row.specs.declared.Spot.{Spot}
 use Rattle.type_row.specs.Row.{TypesWrote}
 use Rattle.type_rows.specs.Rows.{shapes_of}
 use Rattle.type_rows.proofs.Wrotes.{types-then}
@@ -45,16 +45,16 @@ descriptors-are s is =
     ap (λ (xs : List Shape). opaque_shape ∷ (opaque_shape ∷ ((sheet_source s).frames ++ xs)))
     (ap (map (key_shape (log_of s))) (keys-split (sheet_source s).needs (concat_map array_key is)) ∙ map-append (key_shape (log_of s)) (distinct [] (sheet_source s).needs) (drop (length (distinct [] (sheet_source s).needs)) (distinct [] ((sheet_source s).needs ++ concat_map array_key is))))
 
-pub all-rows : (s : List ℕ) (is : List Item) {p q r z : Spot} {at : ℕ} {d0 d1 d2 d3 d4 t0 t1 t2 t3 t4 : List ℕ}
-    → TypesWrote (opaque_shape ∷ opaque_shape ∷ []) (record { at = at; id = 0 }) p t0 t1 d0 d1 → TypesWrote (sheet_source s).frames p q t1 t2 d1 d2
-    → TypesWrote (shapes_of s (distinct [] (sheet_source s).needs)) q r t2 t3 d2 d3
-    → TypesWrote (shapes_of s (drop (length (distinct [] (sheet_source s).needs)) (distinct [] ((sheet_source s).needs ++ concat_map array_key is)))) r z t3 t4 d3 d4
-    → Wrote d0 at (type_rows 0 (descriptors (sheet_source s) is)) d4 z.at
-all-rows s is w0 w1 w2 w3 =
+pub all-rows : (s : List ℕ) (is : List Item) {a b c d : ℕ} {w0 w1 w2 w3 w4 : Writer} {t0 t1 t2 t3 t4 : List ℕ}
+    → TypesWrote (opaque_shape ∷ opaque_shape ∷ []) 0 a w0 w1 t0 t1 → TypesWrote (sheet_source s).frames a b w1 w2 t1 t2
+    → TypesWrote (shapes_of s (distinct [] (sheet_source s).needs)) b c w2 w3 t2 t3
+    → TypesWrote (shapes_of s (drop (length (distinct [] (sheet_source s).needs)) (distinct [] ((sheet_source s).needs ++ concat_map array_key is)))) c d w3 w4 t3 t4
+    → Writes w0 (type_rows 0 (descriptors (sheet_source s) is)) w4
+all-rows s is x0 x1 x2 x3 =
     let a = shapes_of s (distinct [] (sheet_source s).needs) in
     let b = shapes_of s (drop (length (distinct [] (sheet_source s).needs)) (distinct [] ((sheet_source s).needs ++ concat_map array_key is))) in
     let fs = (sheet_source s).frames in
-    wrote_as (ap (type_rows 0) (sym (descriptors-are s is))) (types-then (opaque_shape ∷ opaque_shape ∷ []) (fs ++ (a ++ b)) w0 (types-then fs (a ++ b) w1 (types-then a b w2 w3))).wrote
+    writes_as (ap (type_rows 0) (sym (descriptors-are s is))) (types-then (opaque_shape ∷ opaque_shape ∷ []) (fs ++ (a ++ b)) x0 (types-then fs (a ++ b) x1 (types-then a b x2 x3))).wrote
 
 pub frames-low : (s t : List ℕ) (n : ℕ) → Checked s t n → length (sheet_source s).frames ≤ 128
 frames-low s t n c = rw (← frames-all s t n c) (frames-few s t n c n (omega arith))

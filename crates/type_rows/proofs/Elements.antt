@@ -24,7 +24,9 @@ use Rattle.type_keys.specs.Table.{kind_position, position_from_one, Kinds}
 use Rattle.type_keys.proofs.Distinct.{new_key, position-none, position-new, position-known, distinct_more, from-one-some}
 use Rattle.type_keys.proofs.Table.{kind-kept}
 use Rattle.type_lines.proofs.Codes.{kind-low, elems-are}
-use Rattle.type_row.specs.declared.Spot.{Spot}
+use Rattle.write.specs.declared.Writer.{Writer}
+use Rattle.write.specs.Writes.{Writes}
+use Rattle.semantics.specs.Listing.{type_rows}
 use Rattle.type_row.specs.Row.{TypesWrote}
 use Rattle.type_rows.specs.Rows.{shapes_of}
 use Rattle.type_rows.proofs.Wrotes.{types-none, keys-then}
@@ -178,39 +180,40 @@ module _ (t : List ℕ) (ls : List TypeKey) (is : List Item) (keys : ℕ) (x : K
       e ∙ eqb-true (kind_number m) (kind_number at.kind) (sym (elems-are m at.kind) ∙ (rw at.is at w))
 
   -- so the row that is written is that of the key there
-  pub elem-row : (s : List ℕ) {y z : Spot} {b u d e : List ℕ} → ((m : ElemKind) → r ≡ kind_number m → TypesWrote ((elem_shape m) ∷ []) y z b u d e) → TypesWrote ((key_shape (log_of s) (get_or (distinct [] (ls ++ concat_map array_key is)) p opaque_key)) ∷ []) y z b u d e
-  elem-row s w = types-as (sym (ap (key_shape (log_of s)) at.is)) (w at.kind r-is)
+  pub elem-row : (s : List ℕ) {a b : ℕ} {v w : Writer} {y z : List ℕ} → ((m : ElemKind) → r ≡ kind_number m → TypesWrote ((elem_shape m) ∷ []) a b v w y z) → TypesWrote ((key_shape (log_of s) (get_or (distinct [] (ls ++ concat_map array_key is)) p opaque_key)) ∷ []) a b v w y z
+  elem-row s row = types-as (sym (ap (key_shape (log_of s)) at.is)) (row at.kind r-is)
 
 -- ---- row by row
 
--- the first rows of keys behind those of ls, from p to q
-abbrev pub KindRows : ℕ → Spot → Spot → List ℕ → List ℕ → List ℕ → List ℕ → ℕ → Type 0
-KindRows base p q t u d e keys =
-    (s : List ℕ) (ls : List TypeKey) (is : List Item) → p.id ≡ base + length (distinct [] ls) → Kinds t (ls ++ concat_map array_key is) keys
-    → TypesWrote (shapes_of s (take (q.id - p.id) (drop (length (distinct [] ls)) (distinct [] (ls ++ concat_map array_key is))))) p q t u d e
+-- the first rows of keys behind those of ls, with IDs from a up to b
+abbrev pub KindRows : ℕ → ℕ → ℕ → Writer → Writer → List ℕ → List ℕ → ℕ → Type 0
+KindRows base a b v w t u keys =
+    (s : List ℕ) (ls : List TypeKey) (is : List Item) → a ≡ base + length (distinct [] ls) → Kinds t (ls ++ concat_map array_key is) keys
+    → TypesWrote (shapes_of s (take (b - a) (drop (length (distinct [] ls)) (distinct [] (ls ++ concat_map array_key is))))) a b v w t u
 
-pub kinds-start : (base keys : ℕ) (p : Spot) {t d : List ℕ} → p.at ≤ length d + 1 → KindRows base p p t t d d keys
-kinds-start base keys p h s ls is e x = let z : p.id - p.id ≡ 0 = omega arith in rw z (types-none h)
+pub kinds-start : (base keys a : ℕ) {w : Writer} {t : List ℕ} → KindRows base a a w w t t keys
+kinds-start base keys a s ls is e x = let z : a - a ≡ 0 = omega arith in rw z types-none
 
-module _ (base keys : ℕ) (p q : Spot) {t u d e : List ℕ} (lo : p.id ≤ q.id) (hi : q.id < base + keys) (b : base ≤ p.id) (w : KindRows base p q t u d e keys) (kept : Kept 49152 t u) where
-  pub kinds-next : (r : ℕ) (n : Spot) {v f : List ℕ} → (r < 5 → kind_position u r ≡ q.id - base + 1) → ((j : ℕ) → j < 5 → kind_position u j ≡ q.id - base + 1 → r ≤ j)
-      → ((m : ElemKind) → r ≡ kind_number m → TypesWrote ((elem_shape m) ∷ []) q n u v e f) → n.id ≡ q.id + 1 → KindRows base p n t v d f keys
+module _ (base keys a b : ℕ) {v w : Writer} {t u : List ℕ} (lo : a ≤ b) (hi : b < base + keys) (h : base ≤ a) (rows : KindRows base a b v w t u keys) (kept : Kept 49152 t u) where
+  pub kinds-next : (r n : ℕ) {y : Writer} {z : List ℕ} → (r < 5 → kind_position u r ≡ b - base + 1) → ((j : ℕ) → j < 5 → kind_position u j ≡ b - base + 1 → r ≤ j)
+      → ((m : ElemKind) → r ≡ kind_number m → TypesWrote ((elem_shape m) ∷ []) b n w y u z) → n ≡ b + 1 → KindRows base a (b + 1) v y t z keys
   kinds-next r n found first row next s ls is g x =
       let l = length (distinct [] ls) in
       let K = distinct [] (ls ++ concat_map array_key is) in
-      let j = q.id - p.id in
-      let z : n.id - p.id ≡ suc j = omega (arith, lo, next) in
-      let y : l + j ≡ q.id - base = omega (arith, lo, g) in
+      let j = b - a in
+      let z : b + 1 - a ≡ suc j = omega (arith, lo) in
+      let y : l + j ≡ b - base = omega (arith, lo, g) in
       let low-kept : Kept 10629 t u = kept_less (omega arith) kept in
       let low : j < length (drop l K) = omega (arith, length-drop l K, x.count, lo, g, hi) in
-      let o : get_or (drop l K) j opaque_key ≡ get_or K (q.id - base) opaque_key = get_or-drop l K j opaque_key ∙ ap (λ (i : ℕ). get_or K i opaque_key) y in
-      let one = elem-row t ls is keys x (q.id - base) (omega (arith, lo, g)) (omega (arith, hi, b, lo)) r (λ h. sym (kind-kept low-kept r h) ∙ found h) (λ i h c. first i h (kind-kept low-kept i h ∙ c)) s row in
-      rw (z, take-suc (drop l K) j opaque_key low, o) (keys-then s (take j (drop l K)) (get_or K (q.id - base) opaque_key) (w s ls is g x) one)
+      let o : get_or (drop l K) j opaque_key ≡ get_or K (b - base) opaque_key = get_or-drop l K j opaque_key ∙ ap (λ (i : ℕ). get_or K i opaque_key) y in
+      let one = elem-row t ls is keys x (b - base) (omega (arith, lo, g)) (omega (arith, hi, h, lo)) r (λ q. sym (kind-kept low-kept r q) ∙ found q) (λ i q c. first i q (kind-kept low-kept i q ∙ c)) s (λ m e. rw next at (row m e)) in
+      rw (z, take-suc (drop l K) j opaque_key low, o) (keys-then s (take j (drop l K)) (get_or K (b - base) opaque_key) (rows s ls is g x) one)
 
-pub kinds-end : (base keys : ℕ) (p q : Spot) {t u d e : List ℕ} → p.id ≤ q.id → base + keys ≤ q.id → KindRows base p q t u d e keys
-    → (s : List ℕ) (ls : List TypeKey) (is : List Item) → p.id ≡ base + length (distinct [] ls) → Kinds t (ls ++ concat_map array_key is) keys
-    → TypesWrote (shapes_of s (drop (length (distinct [] ls)) (distinct [] (ls ++ concat_map array_key is)))) p q t u d e
-kinds-end base keys p q lo hi w s ls is g x =
+pub kinds-end : (base keys a b : ℕ) {v w : Writer} {t u : List ℕ} → a ≤ b → base + keys ≤ b → KindRows base a b v w t u keys
+    → (s : List ℕ) (ls : List TypeKey) (is : List Item) → a ≡ base + length (distinct [] ls) → Kinds t (ls ++ concat_map array_key is) keys
+    → Writes v (type_rows a (shapes_of s (drop (length (distinct [] ls)) (distinct [] (ls ++ concat_map array_key is))))) w
+kinds-end base keys a b {v} {w} lo hi rows s ls is g x =
     let l = length (distinct [] ls) in
     let K = distinct [] (ls ++ concat_map array_key is) in
-    rw (take_all (q.id - p.id) (drop l K) (omega (arith, length-drop l K, x.count, lo, g, hi))) at (w s ls is g x)
+    let e : take (b - a) (drop l K) ≡ drop l K = take_all (b - a) (drop l K) (omega (arith, length-drop l K, x.count, lo, g, hi)) in
+    (rw e at (rows s ls is g x)).wrote

@@ -13,8 +13,8 @@ use Rattle.semantics.specs.Tree.TypeKey.{opaque_key}
 use Rattle.semantics.specs.Sheet.{sheet_source}
 use Rattle.semantics.specs.Types.{same_type_key, distinct, position, key_shape}
 use Rattle.semantics.specs.Listing.{type_rows}
-use Rattle.write.specs.Wrote.{Wrote}
-use Rattle.write.proofs.Wrote.{wrote_none, then}
+use Rattle.write.specs.declared.Writer.{Writer}
+use Rattle.write.proofs.Writes.{writes_none}
 use Rattle.checks.specs.Checks.{Kept}
 use Rattle.checks.proofs.Kept.{kept-all, kept_then, kept_less, kept_at}
 use Rattle.records.specs.Log.{log_of}
@@ -23,24 +23,19 @@ use Rattle.type_lines.specs.Needs.{need_at, NeedLine}
 use Rattle.type_keys.specs.Table.{need_line_of, need_position_of}
 use Rattle.type_keys.proofs.Distinct.{new_key, position-none, position-low, position-more, distinct_more, key-member, known_more}
 use Rattle.records.specs.declared.key.Log.{Log}
-use Rattle.type_row.specs.declared.Spot.{Spot}
 use Rattle.type_row.specs.Row.{TypesWrote}
 use Rattle.type_rows.specs.Rows.{keys_to, shapes_of, TypeTables}
 use Rattle.type_row.proofs.Rows.{rows_then}
 
-pub types-none : {p : Spot} {t d : List ℕ} → p.at ≤ length d + 1 → TypesWrote [] p p t t d d
+pub types-none : {a : ℕ} {w : Writer} {t : List ℕ} → TypesWrote [] a a w w t t
 unfolding type_rows
-types-none {p} {t} {d} h = record { wrote = wrote_none d p.at h; id = omega arith; kept = kept-all }
+types-none {a} {w} = record { wrote = writes_none w w.room; id = omega arith; kept = kept-all }
 
--- the place may lie behind the buffer
-pub types-from : (p : Spot) {b : ℕ} {q : Spot} {xs : List Shape} {t u d e : List ℕ} → Wrote d p.at [] d b → TypesWrote xs (record { at = b; id = p.id }) q t u d e → TypesWrote xs p q t u d e
-types-from p w x = record { wrote = then w x.wrote; id = x.id; kept = x.kept }
-
-pub types-then : (xs ys : List Shape) {p q r : Spot} {t u v d e f : List ℕ} → TypesWrote xs p q t u d e → TypesWrote ys q r u v e f → TypesWrote (xs ++ ys) p r t v d f
-types-then xs ys {p} {q} {r} a b = record {
-  wrote = rows_then p.id xs ys q.id a.id a.wrote b.wrote;
-  id = omega (arith, a.id, b.id, length-append xs ys);
-  kept = kept_then a.kept b.kept;
+pub types-then : (xs ys : List Shape) {a b c : ℕ} {u v w : Writer} {t1 t2 t3 : List ℕ} → TypesWrote xs a b u v t1 t2 → TypesWrote ys b c v w t2 t3 → TypesWrote (xs ++ ys) a c u w t1 t3
+types-then xs ys {a} {b} x y = record {
+  wrote = rows_then a xs ys b x.id x.wrote y.wrote;
+  id = omega (arith, x.id, y.id, length-append xs ys);
+  kept = kept_then x.kept y.kept;
 }
 
 -- ---- needs
@@ -106,8 +101,8 @@ module _ (s t : List ℕ) (c : Log) (x : TypeTables s t c) (q : ℕ) (low : q < 
         go false e = refl
 
 -- one more key's row
-pub keys-then : (s : List ℕ) (l : List TypeKey) (y : TypeKey) {p q r : Spot} {t u v d e f : List ℕ} → TypesWrote (shapes_of s l) p q t u d e → TypesWrote (key_shape (log_of s) y ∷ []) q r u v e f → TypesWrote (shapes_of s (l ++ (y ∷ []))) p r t v d f
-keys-then s l y a b = rw (map-append (key_shape (log_of s)) l (y ∷ [])) (types-then (shapes_of s l) (key_shape (log_of s) y ∷ []) a b)
+pub keys-then : (s : List ℕ) (l : List TypeKey) (y : TypeKey) {a b c : ℕ} {u v w : Writer} {t1 t2 t3 : List ℕ} → TypesWrote (shapes_of s l) a b u v t1 t2 → TypesWrote (key_shape (log_of s) y ∷ []) b c v w t2 t3 → TypesWrote (shapes_of s (l ++ (y ∷ []))) a c u w t1 t3
+keys-then s l y p q = rw (map-append (key_shape (log_of s)) l (y ∷ [])) (types-then (shapes_of s l) (key_shape (log_of s) y ∷ []) p q)
 
 pub shapes-length : (s : List ℕ) (l : List TypeKey) → length (shapes_of s l) ≡ length l
 shapes-length s [] = refl

@@ -7,27 +7,35 @@ ghost use Rattle.type_lines.specs.Needs.{need_at, NeedLine};
 ghost use Rattle.type_row.specs.Row.{TypesWrote};
 
 use records::key::Log;
-use type_row::{Spot, put_type, put_words};
+use type_row::{put_type, put_words};
+use write::Writer;
 
 // The record of entry e of the log.
-fn put_entry(sheet: &[u8], work: &mut [u8], n: usize, e: usize, out: &mut [u8], p: Spot) -> Spot
-    requires { (LogEntry sheet.now work.old n e) × (p.id < 2048) }
-    ensures { TypesWrote ((recorded_at sheet.now work.old e).shape ∷ []) p result work.old work.new out.old out.new }
+fn put_entry(sheet: &[u8], work: &mut [u8], n: usize, e: usize, w: &mut Writer, id: usize) -> usize
+    requires { (LogEntry sheet.now work.old n e) × (id < 2048) }
+    ensures { TypesWrote ((recorded_at sheet.now work.old e).shape ∷ []) id result w.old w.new work.old work.new }
 {
     let size = record_rows::entry_size(sheet, work, n, e);
     record_rows::map_entry(sheet, work, n, e, size);
-    put_type(work, size, out, p)
+    put_type(work, size, w, id)
 }
 
 // The last record of the key on the `need,adt` line i. An unknown one takes 4 bytes, without pointers.
-pub fn put_record(sheet: &[u8], work: &mut [u8], c: Log, i: usize, out: &mut [u8], p: Spot) -> Spot
-    requires { (RecordsLogged sheet.now work.old c.lines c.entries) × (NeedLine sheet.now work.old c.lines i) × (form_at work.old i ≡ 34) × (p.id < 2048) }
-    ensures { TypesWrote ((key_shape (log_of sheet.now) (need_at sheet.now i)) ∷ []) p result work.old work.new out.old out.new }
+pub fn put_record(
+    sheet: &[u8],
+    work: &mut [u8],
+    c: Log,
+    i: usize,
+    w: &mut Writer,
+    id: usize,
+) -> usize
+    requires { (RecordsLogged sheet.now work.old c.lines c.entries) × (NeedLine sheet.now work.old c.lines i) × (form_at work.old i ≡ 34) × (id < 2048) }
+    ensures { TypesWrote ((key_shape (log_of sheet.now) (need_at sheet.now i)) ∷ []) id result w.old w.new work.old work.new }
 {
     let key = lines::field_at(sheet, work, c.lines, i, 0);
     let j = records::key::newest(sheet, work, c, key);
     if j == 0 {
-        return put_words(work, 4, 0, out, p);
+        return put_words(work, 4, 0, w, id);
     }
-    put_entry(sheet, work, c.lines, j - 1, out, p)
+    put_entry(sheet, work, c.lines, j - 1, w, id)
 }

@@ -1,32 +1,24 @@
-use native.Mathlib.Omega.{arith}
-use borrow.Author.Rules.{rules}
-use Prim.Native.Nat.{◌≤◌, ◌-◌}
-use mathlib.Core.Path.{◌≡◌}
-use Rattle.write.proofs.Wrote.{wrote-length, place-low}
+use Rattle.std.proofs.Common.{◌≡◌, arith}
 use Rattle.lines.specs.Lines.{nodes_in}
 use Rattle.source.specs.Walk.{declared_to, declares_at}
 use Rattle.type_lines.specs.Shapes.{frames_to}
 use Rattle.type_lines.proofs.Frames.{frames-more, frames-few, frames-all}
-use Rattle.type_row.specs.Row.{TypesWrote}
 use Rattle.type_row.proofs.Kept.{map-checked}
 use Rattle.type_rows.proofs.Wrotes.{types-none, types-then}
 use Rattle.type_rows.proofs.frame_rows.Goals as goal
 
 pub loop-i-init : goal.loop-i-init
 unfolding declared_to
-loop-i-init c = (omega arith, types-none c.requires.2)
+loop-i-init c = (omega arith, types-none)
 
-pub next_frame-r-requires : goal.next_frame-r-requires
-next_frame-r-requires c = (map-checked c.loop-i.invariant.1.kept c.requires.0, c.loop-i-test.true, omega (arith, c.requires.1, c.loop-i.invariant.1.id, frames-few c.args.sheet.now c.args.work.now c.args.n c.requires.0 c.loop-i.i c.loop-i.invariant.0), place-low c.loop-i.invariant.1.wrote)
+pub next_frame-next-requires : goal.next_frame-next-requires
+next_frame-next-requires c = (map-checked c.loop-i.invariant.1.kept c.requires.0, c.loop-i-test.true, omega (arith, c.requires.1, c.loop-i.invariant.1.id, frames-few c.args.sheet.now c.args.work.now c.args.n c.requires.0 c.loop-i.i c.loop-i.invariant.0))
 
 pub loop-i-preserved : goal.loop-i-preserved
-loop-i-preserved c = (omega (arith, c.loop-i-test.true), rw (frames-more c.args.sheet.now c.args.work.now c.args.n c.requires.0 c.loop-i.i c.loop-i-test.true) (types-then (frames_to c.args.sheet.now c.loop-i.i) (declares_at (nodes_in c.args.sheet.now) c.loop-i.i).frames c.loop-i.invariant.1 c.next_frame-r.ensures))
+loop-i-preserved c = (omega (arith, c.loop-i-test.true), rw (frames-more c.args.sheet.now c.args.work.now c.args.n c.requires.0 c.loop-i.i c.loop-i-test.true) (types-then (frames_to c.args.sheet.now c.loop-i.i) (declares_at (nodes_in c.args.sheet.now) c.loop-i.i).frames c.loop-i.invariant.1 c.next_frame-next.ensures))
 
 pub shape_of-work : goal.shape_of-work
 shape_of-work c = c.loop-i.invariant.1.kept.long
-
-pub shape_of-out : goal.shape_of-out
-shape_of-out c = wrote-length c.loop-i.invariant.1.wrote
 
 pub returns : goal.returns
 returns c = let e : c.loop-i.i ≡ c.args.n = omega (arith, c.loop-i-test.false, c.loop-i.invariant.0) in rw (← frames-all c.args.sheet.now c.args.work.now c.args.n c.requires.0, ← e) c.loop-i.invariant.1

@@ -4,7 +4,6 @@ use mathlib.Core.Path.{◌∙◌, sym}
 use borrow.Author.Tests.{eqb-true}
 use Rattle.type_lines.proofs.Frames.{frames-by, frame-line}
 use Rattle.type_rows.proofs.Wrotes.{types-none}
-use borrow.Author.Rules.{rules}
 use Rattle.type_rows.proofs.next_frame.Goals as goal
 
 pub put_line-requires : goal.put_line-requires
@@ -14,4 +13,4 @@ pub returns-then-is_frame : goal.returns-then-is_frame
 returns-then-is_frame c = rw (frames-by c.args.sheet.now c.args.work.now c.args.n c.requires.0 c.args.i c.requires.1 true (sym c.if-is_frame.true ∙ c.is_frame.ensures)) c.put_line.ensures
 
 pub returns : goal.returns
-returns c = rw (frames-by c.args.sheet.now c.args.work.now c.args.n c.requires.0 c.args.i c.requires.1 false (sym c.if-is_frame.false ∙ c.is_frame.ensures)) (types-none c.requires.3)
+returns c = rw (frames-by c.args.sheet.now c.args.work.now c.args.n c.requires.0 c.args.i c.requires.1 false (sym c.if-is_frame.false ∙ c.is_frame.ensures)) types-none

@@ -10,14 +10,13 @@ use Rattle.type_keys.specs.Table.{need_line_of}
 use Rattle.type_rows.specs.Rows.{keys_to}
 use Rattle.type_rows.proofs.Wrotes.{need-at, need-low, keys-stay, keys-next, keys-then}
 use Rattle.type_row.proofs.Maps.{types-as}
-use borrow.Author.Rules.{rules}
 use Rattle.type_rows.proofs.next_need.Goals as goal
 
 pub need_position-requires : goal.need_position-requires
 need_position-requires c = (need-low c.args.sheet.now c.args.work.now c.args.c c.requires.0 c.args.q c.requires.1, c.requires.0.log.checked.whole.room)
 
 pub returns-then-base-need_position : goal.returns-then-base-need_position
-returns-then-base-need_position c = let e = keys-stay c.args.sheet.now c.args.work.now c.args.c c.requires.0 c.args.q c.requires.1 c.args.base c.args.r.id c.requires.3 (λ z. c.if-base-need_position.true (ap (λ (y : ℕ). c.args.base + y) c.need_position.ensures.0 ∙ z)) in (λ p t d w. rw e w, c.requires.3 ∙ ap (λ (y : ℕ). c.args.base + y) (sym (ap length e)))
+returns-then-base-need_position c = let e = keys-stay c.args.sheet.now c.args.work.now c.args.c c.requires.0 c.args.q c.requires.1 c.args.base c.args.id c.requires.3 (λ z. c.if-base-need_position.true (ap (λ (y : ℕ). c.args.base + y) c.need_position.ensures.0 ∙ z)) in (λ a v t w. rw e w, c.requires.3 ∙ ap (λ (y : ℕ). c.args.base + y) (sym (ap length e)))
 
 pub need_line-i-requires : goal.need_line-i-requires
 need_line-i-requires c = (need-low c.args.sheet.now c.args.work.now c.args.c c.requires.0 c.args.q c.requires.1, c.requires.0.log.checked.whole.room)
@@ -26,6 +25,6 @@ pub put_need-requires : goal.put_need-requires
 put_need-requires c = (c.requires.0.log, rw c.need_line-i.ensures (need-at c.args.sheet.now c.args.work.now c.args.c c.requires.0 c.args.q c.requires.1), omega (arith, c.requires.2, c.requires.3, c.if-base-need_position.false, c.need_position.ensures.1))
 
 pub returns : goal.returns
-returns c = let e = keys-next c.args.sheet.now c.args.work.now c.args.c c.requires.0 c.args.q c.requires.1 c.args.base c.args.r.id c.requires.3 (sym (ap (λ (y : ℕ). c.args.base + y) c.need_position.ensures.0) ∙ c.if-base-need_position.false) in
+returns c = let e = keys-next c.args.sheet.now c.args.work.now c.args.c c.requires.0 c.args.q c.requires.1 c.args.base c.args.id c.requires.3 (sym (ap (λ (y : ℕ). c.args.base + y) c.need_position.ensures.0) ∙ c.if-base-need_position.false) in
     let y = need_at c.args.sheet.now (need_line_of c.args.work.now c.args.q) in
-    (λ p t d w. rw e (keys-then c.args.sheet.now (keys_to c.args.sheet.now c.args.q) y w (types-as (ap (λ (j : ℕ). key_shape (log_of c.args.sheet.now) (need_at c.args.sheet.now j)) c.need_line-i.ensures) c.put_need.ensures)), omega (arith, c.requires.3, ap length e, length-append (keys_to c.args.sheet.now c.args.q) (y ∷ [])))
+    (λ a v t w. rw e (keys-then c.args.sheet.now (keys_to c.args.sheet.now c.args.q) y w (types-as (ap (λ (j : ℕ). key_shape (log_of c.args.sheet.now) (need_at c.args.sheet.now j)) c.need_line-i.ensures) c.put_need.ensures)), omega (arith, c.requires.3, ap length e, length-append (keys_to c.args.sheet.now c.args.q) (y ∷ [])))

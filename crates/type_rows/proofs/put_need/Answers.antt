@@ -4,7 +4,6 @@ use Rattle.type_lines.proofs.Forms.{elem_by}
 use Rattle.type_lines.proofs.ByForm.{block-line}
 use Rattle.type_rows.proofs.Needs.{block-shape, opaque-shape, elem-shape, elem-number}
 use Rattle.type_row.proofs.Maps.{types-as}
-use borrow.Author.Rules.{rules}
 use Rattle.type_rows.proofs.put_need.Goals as goal
 
 pub put_line-requires : goal.put_line-requires

@@ -2,7 +2,6 @@ use mathlib.Core.Path.{refl}
 use Rattle.maps.proofs.Maps.{room-kept}
 use Rattle.records.specs.Log.{recorded_at}
 use Rattle.type_row.proofs.Maps.{shape_is, types-as}
-use borrow.Author.Rules.{rules}
 use Rattle.type_rows.proofs.record.put_entry.Goals as goal
 
 pub map_entry-requires : goal.map_entry-requires

@@ -5,7 +5,6 @@ use Rattle.records.specs.Log.{log_of}
 use Rattle.type_row.specs.Row.{word_offsets}
 use Rattle.type_rows.proofs.Needs.{unknown-size, unknown-words, known-low, known-shape}
 use Rattle.type_row.proofs.Maps.{shape_is, types-as}
-use borrow.Author.Rules.{rules}
 use Rattle.type_rows.proofs.record.put_record.Goals as goal
 
 pub put_words-requires : goal.put_words-requires
