@@ -1,7 +1,7 @@
 -- Laws of the rows of globals.
 use mathlib.Core.Path.{◌≡◌, refl, sym, ap, ◌∙◌}
 use mathlib.Core.Bool.{Bool}
-use mathlib.Core.List.{List, [], ◌∷◌, ◌++◌, append_assoc, append-nil}
+use mathlib.Core.List.{[], ◌∷◌, ◌++◌}
 use Prim.Native.Nat.{ℕ, ◌+◌}
 use Rattle.semantics.specs.Text.{Bytes, bytes, decimal}
 use Rattle.semantics.specs.Tree.{Ty}
@@ -9,8 +9,10 @@ use Rattle.semantics.specs.Layout.{is_ptr}
 use Rattle.semantics.specs.Sheet.{concat_map}
 use Rattle.semantics.specs.Global.{Global, global_size}
 use Rattle.semantics.specs.Listing.{row, flag, global_row}
-use Rattle.write.specs.Wrote.{Wrote}
-use Rattle.write.proofs.Wrote.{then, wrote_as}
+use Rattle.rows.proofs.Rows.{concat-more}
+use Rattle.write.specs.declared.Writer.{Writer}
+use Rattle.write.specs.Writes.{Writes}
+use Rattle.write.proofs.Writes.{writes_as, writes_then}
 use Rattle.global_table.specs.Table.{type_on, global_line_of, offset_of, global_at, places_in}
 use Rattle.global_table.proofs.Table.{places-more}
 
@@ -28,11 +30,6 @@ pub entry-type : (s t : Bytes) (i : ℕ) {r : ℕ} {x : Ty} → r ≡ global_lin
 unfolding global_at
 entry-type s t i hr e = e ∙ rw hr
 
-concat-more : (xs : List Global) (y : Global) → concat_map global_row (xs ++ (y ∷ [])) ≡ concat_map global_row xs ++ global_row y
-concat-more [] y = append-nil (global_row y)
-concat-more (x ∷ xs) y = rw (concat-more xs y) (sym (append_assoc (global_row x) (concat_map global_row xs) (global_row y)))
-
 -- one more row
-pub rows_next : (s t : Bytes) (i : ℕ) {d : Bytes} {a : ℕ} {e : Bytes} {b : ℕ} {f : Bytes} {c : ℕ}
-    → Wrote d a (concat_map global_row (places_in s t i)) e b → Wrote e b (global_row (global_at s t i)) f c → Wrote d a (concat_map global_row (places_in s t (i + 1))) f c
-rows_next s t i v w = wrote_as (sym (ap (concat_map global_row) (places-more s t i) ∙ concat-more (places_in s t i) (global_at s t i))) (then v w)
+pub rows_next : (s t : Bytes) (i : ℕ) {u v w : Writer} → Writes u (concat_map global_row (places_in s t i)) v → Writes v (global_row (global_at s t i)) w → Writes u (concat_map global_row (places_in s t (i + 1))) w
+rows_next s t i x y = writes_as (sym (ap (concat_map global_row) (places-more s t i) ∙ concat-more global_row (places_in s t i) (global_at s t i))) (writes_then x y)

@@ -3,7 +3,7 @@ use Rattle.global_table.specs.Table.{global_at}
 use Rattle.global_rows.proofs.Rows.{row_is, entry-offset, entry-type}
 use Rattle.semantics.specs.Layout.{is_ptr}
 use Rattle.semantics.specs.Global.{global_size}
-use Rattle.write.proofs.Wrote.{then, wrote_as}
+use Rattle.write.proofs.Writes.{writes_then, writes_as}
 use mathlib.Core.Path.{ap, ◌∙◌}
 use Rattle.global_rows.proofs.global_row.Goals as goal
 
@@ -14,5 +14,5 @@ pub returns : goal.returns
 returns c =
     let a = c.args in
     let t = entry-type a.sheet.now a.work.now a.i c.line_of.ensures c.type_of-ty.ensures.1 in
-    wrote_as (row_is (global_at a.sheet.now a.work.now a.i) c.name_of.ensures (c.offset_of.ensures.0 ∙ entry-offset a.sheet.now a.work.now a.i) (c.global_size.ensures.0 ∙ ap global_size t) (c.is_pointer.ensures ∙ ap is_ptr t))
-    (then c.put_part-p.ensures (then c.put_comma_part-p.ensures (then c.put_comma_nat-p.ensures (then c.put_comma_nat-p-2.ensures (then c.put_comma_flag-p.ensures c.put_lf.ensures)))))
+    writes_as (row_is (global_at a.sheet.now a.work.now a.i) c.name_of.ensures (c.offset_of.ensures.0 ∙ entry-offset a.sheet.now a.work.now a.i) (c.global_size.ensures.0 ∙ ap global_size t) (c.is_pointer.ensures ∙ ap is_ptr t))
+    (writes_then c.put_part.ensures (writes_then c.comma_part.ensures (writes_then c.comma_nat.ensures (writes_then c.comma_nat-2.ensures (writes_then c.comma_flag.ensures c.lf.ensures)))))
