@@ -14,8 +14,11 @@ use Rattle.semantics.specs.Global.{laid_vars, vars_refused}
 use Rattle.semantics.specs.Types.{id_of, descriptors}
 use Rattle.semantics.specs.Listing.{pend_row, item_row, type_rows, use_row, listing}
 use Rattle.semantics.specs.Refusal.{Outcome, zeros, worked, source_globals, source_listing}
+use Rattle.write.specs.declared.Writer.{Writer}
 use Rattle.write.specs.Wrote.{Wrote}
-use Rattle.write.proofs.Wrote.{wrote_as, then, on-zeros}
+use Rattle.write.specs.Writes.{Writes}
+use Rattle.write.proofs.Wrote.{on-zeros}
+use Rattle.write.proofs.Writes.{writes_as, writes_then}
 use Rattle.checks.specs.Checks.{Checked}
 use Rattle.names.specs.Table.{names_in}
 use Rattle.pends.specs.declared.Pends.{Pends}
@@ -44,23 +47,21 @@ module _ {s t : Bytes} {n : ℕ} {x : Tables} (k : Listable s t n x) where
     pends-refused {q} {l} g = (subst (λ (ns : Names). AllPended ns s d a (Pends.Refused q l) e) (names-are k) (subst (λ (z : Pends). AllPended (names_in s t x.consts) s d a z e) g h)).0
 
   -- all rows
-  listing-rows : {d e f g : Bytes} {p q r : ℕ}
-      → Wrote d 0 (declared_text s) e p → Wrote e p (concat_map pend_row (source_globals (sheet_source s)).pends) f q → Wrote f q (types_text s) g r
-      → Wrote d 0 (source_listing (sheet_source s)) g r
+  pub listing-rows : {v0 v1 v2 v3 : Writer} → Writes v0 (declared_text s) v1 → Writes v1 (concat_map pend_row (source_globals (sheet_source s)).pends) v2 → Writes v2 (types_text s) v3
+      → Writes v0 (source_listing (sheet_source s)) v3
   unfolding declared_text types_text listing
   listing-rows a b c =
       let i = (source_globals (sheet_source s)).items in
       let h = declared_text s ++ concat_map pend_row (source_globals (sheet_source s)).pends in
-      wrote_as (three-last h (concat_map (item_row (id_of (sheet_source s) i)) i) (type_rows 0 (descriptors (sheet_source s) i)) (concat_map (use_row (id_of (sheet_source s) i)) (sheet_source s).needs)) (then (then a b) c)
+      writes_as (three-last h (concat_map (item_row (id_of (sheet_source s) i)) i) (type_rows 0 (descriptors (sheet_source s) i)) (concat_map (use_row (id_of (sheet_source s) i)) (sheet_source s).needs)) (writes_then (writes_then a b) c)
 
   -- ---- outcomes
 
-  module _ {d e f g : Bytes} {p q r : ℕ} (L : ℕ) (z : d ≡ zeros (length d)) (l : length d ≡ L)
-      (a : Wrote d 0 (declared_text s) e p) (v : vars_refused (names_of (sheet_source s)) (laid_vars (sheet_source s)) ≡ None)
-      (b : Wrote e p (concat_map pend_row (source_globals (sheet_source s)).pends) f q) (c : Wrote f q (types_text s) g r)
+  module _ {d f g : Bytes} {r : ℕ} (L : ℕ) (z : d ≡ zeros (length d)) (l : length d ≡ L) (same : g ≡ f)
+      (v : vars_refused (names_of (sheet_source s)) (laid_vars (sheet_source s)) ≡ None) (wrote : Wrote d 0 (source_listing (sheet_source s)) f r)
     where
       whole : Wrote (zeros L) 0 (source_listing (sheet_source s)) g r
-      whole = subst (λ (y : Bytes). Wrote y 0 (source_listing (sheet_source s)) g r) (z ∙ ap zeros l) (listing-rows a b c)
+      whole = subst (λ (y : Bytes). Wrote y 0 (source_listing (sheet_source s)) g r) (z ∙ ap zeros l) (rw (← same) at wrote)
 
       pub lays : {u : Bytes} {W end : ℕ} → r ≤ L → end ≡ x.end → 65536 ≤ W → Checked s u n → ListingStands s (worked L (sheet_source s)) L W r end g u
       lays h e w y =

@@ -1,9 +1,15 @@
 -- What compiling leaves, step by step.
-use Rattle.std.specs.Prelude.{ℕ, ◌≤◌, ◌≡◌, length, take}
+use Rattle.std.specs.Prelude.{ℕ, ◌≤◌, ◌≡◌, length, take, None, Some}
 use Rattle.semantics.specs.Text.{Bytes}
 use Rattle.semantics.specs.Sheet.{sheet_source}
+use Rattle.semantics.specs.Const.{names_of}
+use Rattle.semantics.specs.Global.{laid_vars, vars_refused}
 use Rattle.semantics.specs.Refusal.{Outcome, listed, refused, zeros, padded, listing_bytes, worked, source_globals, source_listing, compiled}
 use Rattle.checks.specs.Checks.{Checked}
+use Rattle.write.specs.declared.Writer.{Writer}
+use Rattle.write.specs.Writes.{Writes}
+use Rattle.pends.specs.declared.Pends.{Pends}
+use Rattle.pends.specs.declared.Pends.TheVariants as Pends
 use Rattle.answers.specs.Answers.{refusal_number, refusal_line, RefusalAt}
 use Rattle.compile.specs.declared.Listed.{Listed}
 use Rattle.compile.specs.declared.Listed.TheVariants.{Written, Refused}
@@ -41,6 +47,11 @@ Tries s o L W (Refused q k) d u = Stops o q k
 abbrev pub Settles : Bytes → Outcome → ℕ → ℕ → Listed → Bytes → Bytes → Type 0
 Settles s o L W (Written p end) d u = ListingStands s o L W p end d u
 Settles s o L W (Refused q k) d u = Refuses o L W q k d u
+
+-- the rows of a sheet of n lines, whose tables stand, were written, with the place behind them; or what a first value's line refuses
+abbrev pub RowsPut : Bytes → ℕ → Writer → Writer → Pends → Bytes → Type 0
+RowsPut s n v w (Pends.Written p) u = (vars_refused (names_of (sheet_source s)) (laid_vars (sheet_source s)) ≡ None) × Writes v (source_listing (sheet_source s)) w × (p ≡ w.at) × Checked s u n
+RowsPut s n v w (Pends.Refused q k) u = vars_refused (names_of (sheet_source s)) (laid_vars (sheet_source s)) ≡ Some (record { number = q; line = k })
 
 -- that of a checked sheet
 abbrev pub Works : Bytes → ℕ → ℕ → Listed → Bytes → Bytes → Type 0

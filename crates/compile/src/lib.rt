@@ -5,7 +5,7 @@ ghost use Rattle.std.specs.Prelude.{◌≡◌, length};
 ghost use Rattle.semantics.specs.Sheet.{sheet_source};
 ghost use Rattle.semantics.specs.Refusal.{zeros, worked};
 ghost use Rattle.checks.specs.Checks.{Checked};
-ghost use Rattle.compile.specs.Compile.{Lists, Works, Tries, Compiles};
+ghost use Rattle.compile.specs.Compile.{Lists, Works, Tries, RowsPut, Compiles};
 ghost use Rattle.parts.specs.Parts.{Listable};
 
 use answers::Refusal;
@@ -13,6 +13,7 @@ use checks::Checks;
 use names::Known;
 use pends::Pends;
 use tables::{Made, Tables};
+use write::Writer;
 
 // What stands before the working space is zeroed: the listing's length and the end of allocation, or a refusal's number and line.
 #[derive(Clone, Copy)]
@@ -28,21 +29,41 @@ pub enum Answer {
     Refused(Refusal),
 }
 
-// All rows, where the constants are not refused. 8 to 12 come before 13: first values are looked at also where the listing is already full.
-fn list_rows(sheet: &[u8], listing: &mut [u8], work: &mut [u8], n: usize, x: Tables) -> Listed
-    requires { (Listable sheet.now work.old n x) × (listing.old ≡ zeros (length listing.old)) }
-    ensures { Tries sheet.now (worked (length listing.old) (sheet_source sheet.now)) (length listing.old) (length work.old) result listing.new work.new }
+// Where allocation ends and the place behind all rows, or the refusal of a first value, where the constants are not refused. 8 to 12 come
+// before 13: first values are looked at also where the listing is already full.
+fn put_rows(sheet: &[u8], work: &mut [u8], n: usize, x: Tables, w: &mut Writer) -> Pends
+    requires { Listable sheet.now work.old n x }
+    ensures { RowsPut sheet.now n w.old w.new result work.new }
 {
-    let p = parts::put_declared(sheet, work, n, x, listing);
+    parts::put_declared(sheet, work, n, x, w);
     let c = Known {
         lines: n,
         consts: x.consts,
     };
-    match pends::pend_rows(sheet, work, c, listing, p) {
-        Pends::Refused(q, k) => Listed::Refused(q, k),
+    match pends::pend_rows(sheet, work, c, w.out, w.at) {
+        Pends::Refused(q, k) => Pends::Refused(q, k),
         Pends::Written(q) => {
-            let end = parts::put_types(sheet, work, n, x, listing, q);
-            if end <= listing.len() {
+            w.at = q;
+            parts::put_types(sheet, work, n, x, w);
+            Pends::Written(w.at)
+        }
+    }
+}
+
+// All rows, where the constants are not refused.
+fn list_rows(sheet: &[u8], listing: &mut [u8], work: &mut [u8], n: usize, x: Tables) -> Listed
+    requires { (Listable sheet.now work.old n x) × (listing.old ≡ zeros (length listing.old)) }
+    ensures { Tries sheet.now (worked (length listing.old) (sheet_source sheet.now)) (length listing.old) (length work.old) result listing.new work.new }
+{
+    let long = listing.len();
+    let mut w = Writer {
+        out: listing,
+        at: 0,
+    };
+    match put_rows(sheet, work, n, x, &mut w) {
+        Pends::Refused(q, k) => Listed::Refused(q, k),
+        Pends::Written(end) => {
+            if end <= long {
                 return Listed::Written(end, x.end);
             }
             Listed::Refused(13, 0)

@@ -10,8 +10,9 @@ use Rattle.semantics.specs.Fold.{Names}
 use Rattle.semantics.specs.Global.{Item, globals}
 use Rattle.semantics.specs.Types.{id_of, descriptors}
 use Rattle.semantics.specs.Listing.{type_rows, use_row}
-use Rattle.write.specs.Wrote.{Wrote}
-use Rattle.write.proofs.Wrote.{wrote_as, then}
+use Rattle.write.specs.declared.Writer.{Writer}
+use Rattle.write.specs.Writes.{Writes}
+use Rattle.write.proofs.Writes.{writes_as, writes_then}
 use Rattle.checks.specs.Checks.{Checked, Kept}
 use Rattle.checks.proofs.Kept.{kept_less, checked-kept}
 use Rattle.records.proofs.Kept.{logged-kept}
@@ -38,10 +39,10 @@ module _ {s t : Bytes} {n frames : ℕ} {x : Tables} (k : Listable s t n x) (fr 
 abbrev text_of : Bytes → List Item → Bytes
 text_of s is = (rows_of s is ++ type_rows 0 (descriptors (sheet_source s) is)) ++ concat_map (use_row (id_of (sheet_source s) is)) (sheet_source s).needs
 
-pub types-rows : {s t : Bytes} {n : ℕ} {x : Tables} → Listable s t n x → {d e f g : Bytes} {a b c r : ℕ}
-    → Wrote d a (rows_of s (items_in s t x.consts)) e b → Wrote e b (type_rows 0 (descriptors (sheet_source s) (items_in s t x.consts))) f c
-    → ((is : List Item) → Wrote f c (concat_map (use_row (id_of (sheet_source s) is)) (sheet_source s).needs) g r)
-    → Wrote d a (types_text s) g r
+pub types-rows : {s t : Bytes} {n : ℕ} {x : Tables} → Listable s t n x → {v0 v1 v2 v3 : Writer}
+    → Writes v0 (rows_of s (items_in s t x.consts)) v1 → Writes v1 (type_rows 0 (descriptors (sheet_source s) (items_in s t x.consts))) v2
+    → ((is : List Item) → Writes v2 (concat_map (use_row (id_of (sheet_source s) is)) (sheet_source s).needs) v3)
+    → Writes v0 (types_text s) v3
 unfolding types_text
-types-rows {s} {t} {n} {x} k v w z =
-    wrote_as (ap (λ (ns : Names). text_of s (globals ns (sheet_source s)).items) (names-are k)) (then (then v w) (z (items_in s t x.consts)))
+types-rows {s} {t} {n} {x} k a b c =
+    writes_as (ap (λ (ns : Names). text_of s (globals ns (sheet_source s)).items) (names-are k)) (writes_then (writes_then a b) (c (items_in s t x.consts)))

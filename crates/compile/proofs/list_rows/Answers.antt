@@ -1,21 +1,16 @@
--- `compile::list_rows` meets its contract.
-use native.Mathlib.Omega.{arith}
-use Rattle.compile.proofs.Laws.{pends-written, pends-refused, lays, outgrows, value-refused}
-use Rattle.parts.proofs.Kept.{listable-keeps}
-use Rattle.write.proofs.Wrote.{wrote-length}
-use lib.ListN.{length}
-use mathlib.Core.Path.{refl}
-use borrow.Author.Rules.{rules}
+use Rattle.std.proofs.Common.{rules, refl, length, arith}
+use Rattle.compile.proofs.Laws.{lays, outgrows, value-refused}
 use Rattle.compile.proofs.list_rows.Goals as goal
 
-pub put_types-end-requires : goal.put_types-end-requires
-put_types-end-requires c = listable-keeps c.pend_rows.ensures.1 c.put_declared-p.ensures.1
+pub returns-then-end-long : goal.returns-then-end-long
+returns-then-end-long c =
+    let e = c.in-Written.ensures in
+    lays c.requires.0 (length c.args.listing.now) c.requires.1 refl (search (rules, e.1.same_buffer)) e.0 (rw (← e.2) at e.1.wrote) c.if-end-long.true refl c.requires.0.held.checked.whole.room e.3
 
-pub returns-then-end-listing : goal.returns-then-end-listing
-returns-then-end-listing c = let k = c.put_declared-p.ensures.1 in let w = pends-written k _ _ _ c.pend_rows.result c.pend_rows.ensures.0 c.in-Written.is in let a = c.put_declared-p.ensures.0 in let b = c.put_types-end.ensures.0 in lays k (length c.args.listing.now) c.requires.1 refl a w.0 w.1 b (omega (arith, c.if-end-listing.true, wrote-length a, wrote-length w.1, wrote-length b)) refl c.requires.0.held.checked.whole.room c.put_types-end.ensures.1
+pub returns-else-end-long : goal.returns-else-end-long
+returns-else-end-long c =
+    let e = c.in-Written.ensures in
+    outgrows c.requires.0 (length c.args.listing.now) c.requires.1 refl refl e.0 (rw (← e.2) at e.1.wrote) (omega (arith, c.if-end-long.false))
 
 pub returns-in-Refused : goal.returns-in-Refused
-returns-in-Refused c = let k = c.put_declared-p.ensures.1 in value-refused k (length c.args.listing.now) (pends-refused k _ _ _ c.pend_rows.result c.pend_rows.ensures.0 c.in-Refused.is)
-
-pub returns-else-end-listing : goal.returns-else-end-listing
-returns-else-end-listing c = let k = c.put_declared-p.ensures.1 in let w = pends-written k _ _ _ c.pend_rows.result c.pend_rows.ensures.0 c.in-Written.is in let a = c.put_declared-p.ensures.0 in let b = c.put_types-end.ensures.0 in outgrows k (length c.args.listing.now) c.requires.1 refl a w.0 w.1 b (omega (arith, c.if-end-listing.false, wrote-length a, wrote-length w.1, wrote-length b))
+returns-in-Refused c = value-refused c.requires.0 (length c.args.listing.now) (c.in-Refused.ensures)
