@@ -22,11 +22,9 @@ use Rattle.write.proofs.Writes.{writes_as, writes_then}
 use Rattle.checks.specs.Checks.{Checked}
 use Rattle.names.specs.Table.{names_in}
 use Rattle.pends.specs.declared.Pends.{Pends}
-use Rattle.pends.specs.declared.Pends.TheVariants as Pends
 use Rattle.pends.specs.Pends.{AllPended}
 use Rattle.tables.specs.declared.Tables.{Tables}
 use Rattle.tables.specs.declared.Made.{Made}
-use Rattle.tables.specs.declared.Made.TheVariants as Made
 use Rattle.tables.specs.Tables.{MakesTables}
 use Rattle.compile.specs.declared.Listed.{Listed}
 use Rattle.compile.specs.Compile.{ListingStands, Stops, Tries}

@@ -9,12 +9,10 @@ use Rattle.checks.specs.Checks.{Checked}
 use Rattle.write.specs.declared.Writer.{Writer}
 use Rattle.write.specs.Writes.{Writes}
 use Rattle.pends.specs.declared.Pends.{Pends}
-use Rattle.pends.specs.declared.Pends.TheVariants as Pends
 use Rattle.answers.specs.Answers.{refusal_number, refusal_line, RefusalAt}
 use Rattle.compile.specs.declared.Listed.{Listed}
 use Rattle.compile.specs.declared.Listed.TheVariants.{Written, Refused}
 use Rattle.compile.specs.declared.Answer.{Answer}
-use Rattle.compile.specs.declared.Answer.TheVariants as Answer
 
 -- o is what compiling gives: the listing of p bytes stands on L bytes, and the sheet's tables in the working space u of W bytes;
 -- `end` is where allocation ends

@@ -3,7 +3,6 @@ use Rattle.compile.proofs.Outcomes.{listed-numbered, compiles-listed, compiles-r
 use Rattle.semantics.specs.Refusal.{zeros}
 use lib.ListN.{length}
 use mathlib.Core.Path.{◌∙◌, ap}
-use borrow.Author.Rules.{rules}
 use Rattle.compile.proofs.compile.Goals as goal
 
 pub refuse-requires : goal.refuse-requires

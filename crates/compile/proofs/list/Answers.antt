@@ -2,7 +2,6 @@
 use Rattle.compile.proofs.Outcomes.{tables-lines, check-refused, check-passed}
 use Rattle.checks.proofs.Laws.{zeros_of}
 use lib.ListN.{length}
-use borrow.Author.Rules.{rules}
 use Rattle.compile.proofs.list.Goals as goal
 
 pub list_checked-requires : goal.list_checked-requires

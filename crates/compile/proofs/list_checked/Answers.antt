@@ -3,7 +3,6 @@ use lib.ListN.{length}
 use Rattle.semantics.specs.Sheet.{sheet_source}
 use Rattle.semantics.specs.Refusal.{worked, zeros}
 use Rattle.compile.proofs.Outcomes.{tried-written, tried-refused}
-use borrow.Author.Rules.{rules}
 use Rattle.compile.proofs.list_checked.Goals as goal
 
 pub returns-in-Written : goal.returns-in-Written

@@ -3,7 +3,6 @@ use Rattle.compile.proofs.Laws.{tables-listable, constant-refused, tries-as}
 use Rattle.semantics.specs.Refusal.{worked}
 use Rattle.semantics.specs.Sheet.{sheet_source}
 use lib.ListN.{length}
-use borrow.Author.Rules.{rules}
 use Rattle.compile.proofs.list_sheet.Goals as goal
 
 pub list_rows-requires : goal.list_rows-requires

@@ -2,7 +2,6 @@
 use Rattle.std.proofs.Common.{refl, arith}
 use Rattle.data_rows.specs.Data.{items_in}
 use Rattle.parts.proofs.Types.{types-ready, still-checked, uses-ready, types-rows}
-use borrow.Author.Rules.{rules}
 use Rattle.parts.proofs.put_types.Goals as goal
 
 pub type_rows-requires : goal.type_rows-requires
