@@ -154,13 +154,11 @@ fn is_byte_literal(sheet: &[u8], work: &[u8], n: usize, r: usize) -> bool
     ensures { result ≡ is_byte_literal (els_at sheet.now r) }
 {
     let count = lines::number_at(sheet, work, n, r - 1, 2);
-    let mut j = 0;
-    while j < count {
+    for j in 0..count {
         let q = lines::number_at(sheet, work, n, r - 1, 3 + j);
         if !is_byte_cast(sheet, work, n, lines::number_at(sheet, work, n, q - 1, 0)) {
             return false;
         }
-        j += 1;
     }
     0 < count
 }

@@ -111,10 +111,8 @@ fn rows(sheet: &[u8], work: &[u8], c: Known, out: &mut [u8], at: usize, plain: b
     ensures { Wrote out.old at (rows_to plain sheet.now work.now c.consts c.consts) out.new result }
 {
     let mut p = at;
-    let mut i = 0;
-    while i < c.consts {
+    for i in 0..c.consts {
         p = entry_row(sheet, work, c, out, p, i, plain);
-        i += 1;
     }
     p
 }

@@ -64,10 +64,8 @@ fn put_elements(work: &[u8], out: &mut [u8], at: usize, kind: u8, count: usize) 
     ensures { Wrote out.old at (commaed (element_texts kind (values_in work.now 0 count))) out.new result }
 {
     let mut p = write::nothing(out, at);
-    let mut i = 0;
-    while i < count {
+    for i in 0..count {
         p = elements::put_element(out, p, kind, placements::element(work, i));
-        i += 1;
     }
     p
 }
@@ -100,10 +98,8 @@ fn string_rows(work: &[u8], out: &mut [u8], at: usize, count: usize) -> usize
     ensures { (id : TypeKey → ℕ) → Wrote out.old at (item_rows id (str_items 0 (values_in work.now 0 count))) out.new result }
 {
     let mut p = write::nothing(out, at);
-    let mut i = 0;
-    while i < count {
+    for i in 0..count {
         p = string_row(work, out, p, i);
-        i += 1;
     }
     p
 }

@@ -114,14 +114,12 @@ fn place_selectors(sheet: &[u8], work: &mut [u8], c: Known, r: usize, e: usize, 
 {
     let count = lines::number_at(sheet, work, c.lines, r - 1, 1);
     let mut y = Placed::Into(x);
-    let mut j = 0;
-    while j < count {
+    for j in 0..count {
         let q = lines::number_at(sheet, work, c.lines, r - 1, 2 + j);
         y = place_selector(sheet, work, c, q, e, y);
         if is_stopped(y) {
             return y;
         }
-        j += 1;
     }
     y
 }
@@ -174,15 +172,13 @@ pub fn fill(sheet: &[u8], work: &mut [u8], c: Known, r: usize) -> Placed
     placements::empty(work);
     let count = lines::number_at(sheet, work, c.lines, r - 1, 2);
     let mut x = Extent { next: 0, reach: 0 };
-    let mut j = 0;
-    while j < count {
+    for j in 0..count {
         let q = lines::number_at(sheet, work, c.lines, r - 1, 3 + j);
         let y = fill_element(sheet, work, c, q, j, x);
         let Placed::Into(a) = y else {
             return y;
         };
         x = a;
-        j += 1;
     }
     Placed::Into(x)
 }

@@ -86,12 +86,10 @@ fn has_names(sheet: &[u8], work: &[u8], n: usize, r: usize) -> bool
     ensures { result ≡ not (none_of (laid_names (names_on sheet.now r))) }
 {
     let count = line::name_count(sheet, work, n, r);
-    let mut j = 0;
-    while j < count {
+    for j in 0..count {
         if !line::is_nil(line::name_at(sheet, work, n, r, j)) {
             return true;
         }
-        j += 1;
     }
     false
 }

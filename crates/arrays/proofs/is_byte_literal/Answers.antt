@@ -35,12 +35,6 @@ is_byte_cast-requires c = value_line c.requires c.number_at-count.ensures.0 c.lo
 pub returns-then-not-is_byte_cast : goal.returns-then-not-is_byte_cast
 returns-then-not-is_byte_cast c = casting-stop c.requires c.number_at-count.ensures.0 c.loop-j.invariant c.loop-j-test.true c.number_at-q.ensures.0 c.number_at.ensures.0 (sym (c.if-not-is_byte_cast.true) ∙ c.is_byte_cast.ensures)
 
-pub overflow_add-j-in-loop-j : goal.overflow_add-j-in-loop-j
-overflow_add-j-in-loop-j c = record { fits = omega (arith, few-elements c.requires c.number_at-count.ensures.0, c.loop-j-test.true) }
-
-pub loop-j-smaller : goal.loop-j-smaller
-loop-j-smaller c = omega (arith, c.loop-j-test.true)
-
 pub loop-j-preserved : goal.loop-j-preserved
 loop-j-preserved c = casting-next c.requires c.number_at-count.ensures.0 c.loop-j.invariant c.loop-j-test.true c.number_at-q.ensures.0 c.number_at.ensures.0 (sym (c.if-not-is_byte_cast.false) ∙ c.is_byte_cast.ensures)
 

@@ -1,9 +1,5 @@
 use Rattle.arrays.proofs.Elements.{Casting}
-use Prim.Native.Nat.{◌-◌}
 use Rattle.arrays.proofs.is_byte_literal.Given as goal
 
 abbrev pub invariant-loop-j : goal.invariant-loop-j
 invariant-loop-j l = Casting l.sheet l.r l.count l.j
-
-abbrev pub decreases-loop-j : goal.decreases-loop-j
-decreases-loop-j l = l.count - l.j

@@ -30,12 +30,6 @@ fill_element-y-requires c = turn-line c.requires.0 c.requires.1 c.empty.ensures 
 pub returns-in_default : goal.returns-in_default
 returns-in_default c = turning-stop c.requires.0 c.requires.1 c.empty.ensures c.number_at-count.ensures.0 c.loop-j.invariant c.loop-j-test.true c.number_at-q.ensures.0 c.fill_element-y.result c.fill_element-y.ensures (into-not c.fill_element-y.result c.in_default.not-Into)
 
-pub overflow_add-j-in-loop-j : goal.overflow_add-j-in-loop-j
-overflow_add-j-in-loop-j c = record { fits = omega (arith, few-elements c.requires.0 c.number_at-count.ensures.0, c.loop-j-test.true) }
-
-pub loop-j-smaller : goal.loop-j-smaller
-loop-j-smaller c = omega (arith, c.loop-j-test.true)
-
 pub loop-j-preserved : goal.loop-j-preserved
 loop-j-preserved c = turning-next c.requires.0 c.requires.1 c.empty.ensures c.number_at-count.ensures.0 c.loop-j.invariant c.loop-j-test.true c.number_at-q.ensures.0 c.fill_element-y.result c.fill_element-y.ensures c.in-Into.is
 

@@ -1,9 +1,5 @@
 use Rattle.literals.proofs.Turns.{Turning}
-use Prim.Native.Nat.{◌-◌}
 use Rattle.literals.proofs.fill.Given as goal
 
 abbrev pub invariant-loop-j : goal.invariant-loop-j
 invariant-loop-j l = Turning l.sheet l.initial.work l.c.consts l.r l.count l.work l.x l.j
-
-abbrev pub decreases-loop-j : goal.decreases-loop-j
-decreases-loop-j l = l.count - l.j

@@ -28,12 +28,6 @@ place_selector-y-requires c = selector-task c.requires c.args.x c.number_at-coun
 pub returns-then-is_stopped : goal.returns-then-is_stopped
 returns-then-is_stopped c = selecting-stop c.requires c.args.x c.number_at-count.ensures.0 c.loop-j.invariant c.loop-j-test.true c.number_at-q.ensures.0 c.place_selector-y.result c.place_selector-y.ensures (sym c.is_stopped.ensures ∙ c.if-is_stopped.true)
 
-pub overflow_add-j-in-loop-j : goal.overflow_add-j-in-loop-j
-overflow_add-j-in-loop-j c = record { fits = omega (arith, few-selectors c.requires c.args.x c.number_at-count.ensures.0, c.loop-j-test.true) }
-
-pub loop-j-smaller : goal.loop-j-smaller
-loop-j-smaller c = omega (arith, c.loop-j-test.true)
-
 pub loop-j-preserved : goal.loop-j-preserved
 loop-j-preserved c = selecting-next c.requires c.args.x c.number_at-count.ensures.0 c.loop-j.invariant c.loop-j-test.true c.number_at-q.ensures.0 c.place_selector-y.result c.place_selector-y.ensures (sym c.is_stopped.ensures ∙ c.if-is_stopped.false)
 
