@@ -42,24 +42,17 @@ fn show_quotient<W: Write>(out: &mut W, q: Option<i64>) -> io::Result<()> {
     }
 }
 
-// The bytes of t from one place up to another.
-fn part<W: Write>(out: &mut W, t: &[u8], from: usize, to: usize) -> io::Result<()> {
-    if from <= to && to <= t.len() {
-        return out.write_all(&t[from..to]);
-    }
-    Ok(())
-}
+// The operations' names, by their numbers.
+const NAMES: [&str; 30] = [
+    "real add", "real sub", "real mul", "real div", "real neg", "to big", "to word", "to byte",
+    "add", "sub", "mul", "div", "mod", "shl", "shr", "and", "or", "xor", "eq", "neq", "lt", "gt",
+    "leq", "geq", "neg", "not", "bitnot", "word of", "byte of", "real of",
+];
 
-// The operation's name, in 8 bytes.
 fn name<W: Write>(out: &mut W, op: u64) -> io::Result<()> {
     if op < 30 {
-        let at = op as usize * 8;
-        return part(
-            out,
-            b"real addreal subreal mulreal divreal negto big  to word to byte add     sub     mul     div     mod     shl     shr     and     or      xor     eq      neq     lt      gt      leq     geq     neg     not     bitnot  word of byte of real of ",
-            at,
-            at + 8,
-        );
+        let name = NAMES[op as usize];
+        write!(out, "{name:<8}")?;
     }
     Ok(())
 }
@@ -74,15 +67,11 @@ fn real_result(op: u64, a: f64, b: f64) -> f64 {
     }
 }
 
-fn wide(w: i32) -> i64 {
-    w as i64
-}
-
 fn whole_result(op: u64, x: f64) -> i64 {
     match op {
         5 => conversions::big_of_real(x),
-        6 => wide(conversions::word_of_real(x)),
-        _ => conversions::byte_of_real(x) as i64,
+        6 => i64::from(conversions::word_of_real(x)),
+        _ => i64::from(conversions::byte_of_real(x)),
     }
 }
 
@@ -126,8 +115,8 @@ fn unary_result(op: u64, a: i64) -> i64 {
         16 => ints::neg(a),
         17 => ints::not(a),
         18 => ints::bit_not(a),
-        19 => wide(conversions::word_of_int(a)),
-        _ => conversions::byte_of_int(a) as i64,
+        19 => i64::from(conversions::word_of_int(a)),
+        _ => i64::from(conversions::byte_of_int(a)),
     }
 }
 
@@ -156,22 +145,18 @@ fn int_row<W: Write>(out: &mut W, op: u64, a: i64, b: i64) -> io::Result<()> {
 
 // The value of an upper-case hexadecimal digit.
 fn digit(c: u8) -> u64 {
-    if c >= b'A' {
-        return (c - b'A') as u64 + 10;
+    match c {
+        b'0'..=b'9' => u64::from(c - b'0'),
+        b'A'..=b'F' => u64::from(c - b'A') + 10,
+        _ => 0,
     }
-    if c >= b'0' {
-        return (c - b'0') as u64;
-    }
-    0
 }
 
-// The number that the digits of s write, from one place up to another.
-fn number(s: &[u8], from: usize, to: usize) -> u64 {
+// The number that digits write.
+fn number(s: &[u8]) -> u64 {
     let mut n: u64 = 0;
-    let mut i = from;
-    while i < to && i < s.len() {
-        n = (n << 4) | digit(s[i]);
-        i += 1;
+    for c in s {
+        n = (n << 4) | digit(*c);
     }
     n
 }
@@ -185,17 +170,23 @@ fn row<W: Write>(out: &mut W, op: u64, a: u64, b: u64) -> io::Result<()> {
     }
 }
 
+// The operation and the operands of a line.
+fn vector(line: &[u8]) -> Option<(u64, u64, u64)> {
+    if line.len() < 36 {
+        return None;
+    }
+    Some((
+        number(&line[..2]),
+        number(&line[3..19]),
+        number(&line[20..36]),
+    ))
+}
+
 fn rows<W: Write>(out: &mut W, s: &[u8]) -> io::Result<()> {
-    let mut at: usize = 0;
-    while s.len() - at >= 37 {
-        let op = number(s, at, at + 2);
-        row(
-            out,
-            op,
-            number(s, at + 3, at + 19),
-            number(s, at + 20, at + 36),
-        )?;
-        at += 37;
+    for line in s.chunks(37) {
+        if let Some((op, a, b)) = vector(line) {
+            row(out, op, a, b)?;
+        }
     }
     Ok(())
 }
