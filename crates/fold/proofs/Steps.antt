@@ -280,9 +280,6 @@ module _ {s t : Bytes} {n m r top : ℕ} (a : Foldable s t n m r top) where
           pub right-before : g < r
           right-before = omega (arith, right_is, (right-line operator-line e).before)
 
-          pub right-fits : top + p ≤ length t
-          right-fits = omega (arith, hp, size_small top v value-at, a.room, depth-some a.line)
-
           -- the fold of the right operand gave y
           module _ {w : Bytes} {y : Result ConstVal NoValue} (b : Folds s u m iota g (top + p) w y) where
             pub right_kept : Kept top t w
