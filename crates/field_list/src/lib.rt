@@ -23,16 +23,13 @@ pub fn line_fields(off: u32, size: u32, pointer: bool, count: usize) -> [Field; 
     };
     let mut a = [none; 16];
     let mut at = off;
-    let mut i: usize = 0;
-    while i < count {
-        let f = Field {
+    for i in 0..count {
+        a[i] = Field {
             offset: at,
             size,
             pointer,
         };
-        a[i] = f;
         at += size;
-        i += 1;
     }
     a
 }
@@ -41,11 +38,7 @@ pub fn line_fields(off: u32, size: u32, pointer: bool, count: usize) -> [Field; 
 fn further(end: u64, offset: u32, size: u32) -> u64
     ensures { result ≡ max end (offset + size) }
 {
-    let e = (offset as u64) + (size as u64);
-    if end < e {
-        return e;
-    }
-    end
+    end.max(u64::from(offset) + u64::from(size))
 }
 
 // The furthest end of a lent list of fields, or `end`, if none passes it.
@@ -53,11 +46,8 @@ pub fn furthest_end(end: u64, fields: &[Field]) -> u64
     ensures { result ≡ furthest_in end fields.now }
 {
     let mut e = end;
-    let mut i: usize = 0;
-    while i < fields.len() {
-        let f = fields[i];
+    for f in fields {
         e = further(e, f.offset, f.size);
-        i += 1;
     }
     e
 }

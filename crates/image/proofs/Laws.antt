@@ -17,8 +17,7 @@ use Rattle.semantics.specs.Refusal.Outcome.{listed, refused}
 use Rattle.semantics.specs.Refusal.Imaged.{laid, not_laid}
 use Rattle.semantics.proofs.Common.{never}
 use Rattle.demand.proofs.Theorem.{demand}
-use Rattle.replay.specs.declared.Replayed.{Replayed}
-use Rattle.replay.specs.declared.Replayed.TheVariants as Replayed
+use Rattle.std.specs.Prelude.{Option, None, Some}
 use Rattle.replay.specs.Whole.{Replays}
 use Rattle.replay.proofs.Meets.{lengths_of, Meets}
 use Rattle.sound.proofs.Replay.{sheet-replayed}
@@ -106,7 +105,7 @@ module _ (s : Bytes) (b : Buffers) where
   Listing l end listing u = ListingStands s (compiled b.listing b.work s) b.listing b.work l end listing u
 
   -- the items of the sheet's listing are replayed, so that the definition's image and area stand there
-  met : {l end : ℕ} {listing u t t' image image' area area' : Bytes} {r : Replayed} → Listing l end listing u → length image ≡ b.image → length area ≡ b.area
+  met : {l end : ℕ} {listing u t t' image image' area area' : Bytes} {r : Option (ℕ × ℕ)} → Listing l end listing u → length image ≡ b.image → length area ≡ b.area
       → Replays (take (l - 0) listing) end t t' image image' area area' r → Meets (imaged b s) b.image b.area r image' area'
   met {l} {end} {listing} {u} {t} {t'} {image} {image'} {area} {area'} {r} h image-long area-long e =
       let out = front b.listing (source_listing (sheet_source s)) h.bytes (sub-zero l ∙ h.long) in
@@ -114,30 +113,30 @@ module _ (s : Bytes) (b : Buffers) where
       subst (λ (q : Imaged). Meets q b.image b.area r image' area') (sym (replays h.outcome)) (sheet-replayed s u h.lines h.checked b image-long area-long at)
 
   -- replay refuses by 13 alone
-  outgrown : (t u : Bool) (x y : Bytes) → Replayed.Outgrown ≡ lengths_of (cond t (not_laid 13 0) (cond u (not_laid 13 0) (laid x y))) → cond t (not_laid 13 0) (cond u (not_laid 13 0) (laid x y)) ≡ not_laid 13 0
+  outgrown : (t u : Bool) (x y : Bytes) → None ≡ lengths_of (cond t (not_laid 13 0) (cond u (not_laid 13 0) (laid x y))) → cond t (not_laid 13 0) (cond u (not_laid 13 0) (laid x y)) ≡ not_laid 13 0
   outgrown true u x y h = refl
   outgrown false true x y h = refl
   outgrown false false x y h = never cc
 
-  never-fits : Replayed.Outgrown ≡ lengths_of (replayed b items) → replayed b items ≡ not_laid 13 0
+  never-fits : None ≡ lengths_of (replayed b items) → replayed b items ≡ not_laid 13 0
   never-fits h = let m = memory_of items in outgrown (ltb b.area (area_after 0 items.items)) (ltb b.image (length m.image)) m.image m.area h
 
-  by-image : {l i a end : ℕ} {listing u image area : Bytes} {r : Replayed} (q : Imaged) → imaged b s ≡ q → Listing l end listing u
-      → length image ≡ b.image → length area ≡ b.area → r ≡ Replayed.Laid i a → Meets q b.image b.area r image area
+  by-image : {l i a end : ℕ} {listing u image area : Bytes} {r : Option (ℕ × ℕ)} (q : Imaged) → imaged b s ≡ q → Listing l end listing u
+      → length image ≡ b.image → length area ≡ b.area → r ≡ Some (i, a) → Meets q b.image b.area r image area
       → Pictures s b (Laid l i a) listing image area
   by-image {l} {i} {a} (laid x y) q h image-long area-long e m =
-      let f : Replayed.Laid i a ≡ Replayed.Laid (length x) (length y) = sym e ∙ m.answer in
+      let f : Some (i, a) ≡ Some (length x, length y) = sym e ∙ m.answer in
       laid-pictures (source_listing (sheet_source s)) x y h.outcome q h.long h.room h.bytes (cc) m.image_is image-long (cc) m.area_is area-long
   by-image {l} {i} {a} (not_laid n k) q h image-long area-long e m =
-      let f : Replayed.Laid i a ≡ Replayed.Outgrown = sym e ∙ m.answer in
+      let f : Some (i, a) ≡ None = sym e ∙ m.answer in
       never cc
 
-  module _ {l end : ℕ} {listing u t t' image image' area area' : Bytes} {r : Replayed} (h : Listing l end listing u)
+  module _ {l end : ℕ} {listing u t t' image image' area area' : Bytes} {r : Option (ℕ × ℕ)} (h : Listing l end listing u)
       (image-long : length image ≡ b.image) (area-long : length area ≡ b.area) (e : Replays (take (l - 0) listing) end t t' image image' area area' r) where
-    pub replay-laid : {i a : ℕ} → length image' ≡ length image → length area' ≡ length area → r ≡ Replayed.Laid i a → Pictures s b (Laid l i a) listing image' area'
+    pub replay-laid : {i a : ℕ} → length image' ≡ length image → length area' ≡ length area → r ≡ Some (i, a) → Pictures s b (Laid l i a) listing image' area'
     replay-laid image-kept area-kept given = by-image (imaged b s) refl h (image-kept ∙ image-long) (area-kept ∙ area-long) given (met h image-long area-long e)
 
-    pub replay-outgrown : {listing' : Bytes} (x : Refusal) → r ≡ Replayed.Outgrown → length listing ≡ b.listing → listing' ≡ zeros (length listing)
+    pub replay-outgrown : {listing' : Bytes} (x : Refusal) → r ≡ None → length listing ≡ b.listing → listing' ≡ zeros (length listing)
         → refusal_number x ≡ 13 → refusal_line x ≡ 0 → Pictures s b (Refused x) listing' image' area'
     replay-outgrown x given listing-long listing-is number line =
         let m = met h image-long area-long e in

@@ -7,7 +7,6 @@ ghost use Rattle.image.specs.Image.{lent_of, Pictures};
 
 use answers::Refusal;
 use compile::Listed;
-use replay::Replayed;
 
 // The lengths of listing, image and area, or a refusal.
 #[derive(Clone, Copy)]
@@ -36,8 +35,8 @@ pub fn image(
             let laid = replay::replay(&listing[0..l], work, image, area, end as usize);
             write::zero(work);
             match laid {
-                Replayed::Laid(i, a) => ImageAnswer::Laid(l, i, a),
-                Replayed::Outgrown => {
+                Some((i, a)) => ImageAnswer::Laid(l, i, a),
+                None => {
                     write::zero(listing);
                     ImageAnswer::Refused(answers::refuse(13, 0))
                 }

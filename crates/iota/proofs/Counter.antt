@@ -1,24 +1,29 @@
 -- Laws of the iota counter.
 use mathlib.Core.Path.{◌≡◌, refl}
-use mathlib.Core.Bool.{Bool, true, false, not, cond}
-use Prim.Native.Nat.{ℕ, suc, ◌+◌, ◌≤◌, ◌<◌}
+use mathlib.Core.Bool.{Bool, true, false, cond}
+use mathlib.Core.Logic.{◌⊎◌, inl, inr}
+use Prim.Native.Nat.{ℕ, suc, ◌+◌, ◌≤◌, ◌<◌, min}
 use native.Mathlib.Omega.{arith}
 use native.Mathlib.Numerals.{add-one}
 use lib.Dec.{leb}
-use borrow.Author.Tests.{eq-eqb, ne_eqb, leb-false, le-leb, lt-leb, not-true, not-false}
+use borrow.Author.Tests.{eq-eqb, ne_eqb, leb-true, leb-false, le-leb}
 use Rattle.semantics.specs.Const.{same_group, iota_at, iota_next}
 use Rattle.iota.specs.declared.IotaCounter.{IotaCounter}
 use Rattle.iota.specs.Iota.{counter_of, capped_count, moved_of, stepped_of}
 
 -- ---- the greatest count
 
-pub capped_small : (v : ℕ) → v ≤ 4294967295 → v ≡ capped_count v
+pub capped_is : (v : ℕ) → min v 4294967295 ≡ capped_count v
+unfolding capped_count
+capped_is v = go (leb v 4294967295) refl
+  where
+    go : (b : Bool) → leb v 4294967295 ≡ b → min v 4294967295 ≡ cond b v 4294967295
+    go true q = let h = leb-true v 4294967295 q in omega arith
+    go false q = let h = leb-false v 4294967295 q in omega arith
+
+capped_small : (v : ℕ) → v ≤ 4294967295 → v ≡ capped_count v
 unfolding capped_count
 capped_small v h = rw (le-leb v 4294967295 h)
-
-pub capped-greatest : (v : ℕ) → 4294967295 ≤ v → v < 4294967296 → v ≡ capped_count (v + 1)
-unfolding capped_count
-capped-greatest v h k = rw (lt-leb (v + 1) 4294967295 (omega (arith, h))) (omega (arith, h, k))
 
 capped-least : (v : ℕ) → capped_count v ≤ v
 unfolding capped_count
@@ -35,23 +40,16 @@ at_most false v = omega arith
 module _ (c : IotaCounter) (line col : ℕ) where
   -- ---- the value
 
-  pub value-first : not c.started ≡ true → 0 ≡ iota_at line col (counter_of c)
+  pub value_on : c.started ≡ true → line ≡ c.line → col ≡ c.col → c.value ≡ iota_at line col (counter_of c)
   unfolding counter_of
-  value-first h = rw (not-true c.started h)
+  value_on h p q = rw (h, eq-eqb line c.line p, eq-eqb col c.col q)
 
-  module _ (h : not c.started ≡ false) where
-    pub value_line : (line ≡ c.line → ⊥) → 0 ≡ iota_at line col (counter_of c)
-    unfolding counter_of
-    value_line p = rw (not-false c.started h, ne_eqb line c.line p)
-
-    module _ (p : line ≡ c.line) where
-      pub value-col : (col ≡ c.col → ⊥) → 0 ≡ iota_at line col (counter_of c)
-      unfolding counter_of
-      value-col q = rw (not-false c.started h, eq-eqb line c.line p, ne_eqb col c.col q)
-
-      pub value_on : col ≡ c.col → c.value ≡ iota_at line col (counter_of c)
-      unfolding counter_of
-      value_on q = rw (not-false c.started h, eq-eqb line c.line p, eq-eqb col c.col q)
+  -- the first constant, or one at another LINE or COL
+  pub value_anew : (c.started ≡ true) × (line ≡ c.line) × (col ≡ c.col → ⊥) ⊎ ((c.started ≡ true) × (line ≡ c.line → ⊥) ⊎ (c.started ≡ false)) → 0 ≡ iota_at line col (counter_of c)
+  unfolding counter_of
+  value_anew (inl h) = rw (h.0, eq-eqb line c.line h.1, ne_eqb col c.col h.2)
+  value_anew (inr (inl h)) = rw (h.0, ne_eqb line c.line h.1)
+  value_anew (inr (inr h)) = rw h
 
   -- ---- the step
 

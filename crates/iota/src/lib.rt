@@ -25,26 +25,19 @@ pub struct Stepped {
 fn value_at(c: IotaCounter, line: usize, col: usize) -> u32
     ensures { result ≡ iota_at line col (counter_of c) }
 {
-    if !c.started {
-        return 0;
+    if c.started && line == c.line && col == c.col {
+        c.value
+    } else {
+        0
     }
-    if line != c.line {
-        return 0;
-    }
-    if col != c.col {
-        return 0;
-    }
-    c.value
 }
 
 // The count behind v, which stays at the greatest.
+#[tactic(auto, using(crate::proofs::Counter::capped_is))]
 fn behind(v: u32) -> u32
     ensures { result ≡ capped_count (v + 1) }
 {
-    if v < 4294967295 {
-        return v + 1;
-    }
-    v
+    v.saturating_add(1)
 }
 
 // The step by value.

@@ -1,10 +1,9 @@
 -- Laws of one step of a replay.
-use Prim.Native.Nat.{ℕ, zero, suc, ◌+◌, ◌-◌, ◌*◌, ◌/◌, ◌≤◌, ◌<◌, max, min}
+use Prim.Native.Nat.{ℕ, suc, ◌+◌, ◌-◌, ◌≤◌, ◌<◌, max}
 use mathlib.Core.Path.{◌≡◌, refl, sym, ap, ◌∙◌}
 use mathlib.Core.Bool.{Bool, true, false, cond}
 use Rattle.std.specs.Prelude.{Option, None, Some}
 use native.Mathlib.Numerals.{add-one}
-use native.Mathlib.Nat.{div-lt_iff_lt-mul, le-div_iff_mul-le, mul_comm, zero-mul}
 use native.Mathlib.Omega.{arith}
 use lib.Dec.{ltb}
 use lib.ListN.{length}
@@ -113,23 +112,6 @@ pub handled : (k : ℕ) {d : Bytes} {a : ℕ} {e : Bytes} {b : ℕ} → Wrote d 
 handled k w = wrote_as (ap (big_endian 4) (add-one k)) w
 
 -- ---- an array
-
-pub no_bytes : (size n room : ℕ) → size ≡ 0 → 0 ≡ min (size * n) (room + 1)
-no_bytes size n room e = rw (e, zero-mul n) (omega arith)
-
-module _ (size n room : ℕ) (Some : size ≡ 0 → ⊥) where
-  size-some : 0 < size
-  size-some = go size Some
-    where
-      go : (m : ℕ) → (m ≡ 0 → ⊥) → 0 < m
-      go zero h = absurd (h refl)
-      go (suc m) h = omega arith
-
-  pub too_many : room / size < n → room + 1 ≡ min (size * n) (room + 1)
-  too_many h = let l : room < n * size = (div-lt_iff_lt-mul size-some).0 h in rw (mul_comm size n) (omega arith)
-
-  pub not-many : n ≤ room / size → size * n ≤ room
-  not-many h = rw (mul_comm size n) ((le-div_iff_mul-le size-some).0 h)
 
 -- the state with the new part
 abbrev pub with_part_at : State → ℕ → ℕ → State

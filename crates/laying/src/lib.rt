@@ -9,7 +9,6 @@ ghost use Rattle.stored.specs.Laying.{lay_bytes, lay_array};
 ghost use Rattle.laying.specs.Steps.{laying_of, MoreFits, Lays, Went, Moved, Outgrown};
 
 use row_fields::values;
-use words::larger;
 
 const HANDLE: usize = 4;
 
@@ -28,14 +27,7 @@ pub struct State {
 fn outgrown(s: State) -> State
     ensures { Outgrown s result }
 {
-    State {
-        item: s.item,
-        start: s.start,
-        end: s.end,
-        inside: s.inside,
-        long: s.long,
-        full: true,
-    }
+    State { full: true, ..s }
 }
 
 // One item more, whose bytes end at p of n.
@@ -48,11 +40,9 @@ fn went_on(s: State, n: usize, p: usize, long: usize) -> State
     }
     State {
         item: s.item + 1,
-        start: s.start,
-        end: s.end,
-        inside: s.inside,
         long,
         full: false,
+        ..s
     }
 }
 
@@ -63,11 +53,9 @@ pub fn moved(s: State, inside: bool) -> State
 {
     State {
         item: s.item + 1,
-        start: s.start,
-        end: s.end,
         inside,
-        long: s.long,
         full: false,
+        ..s
     }
 }
 
@@ -86,13 +74,12 @@ pub fn lay_values(
     ensures { Lays (lay_bytes off (row_values w reals (fields_from from row.now)) (laying_of s image.old area.old)) s result image.new area.new }
 {
     if s.inside {
-        let a = s.start;
-        let e = s.end;
-        let p = values::put_values(&mut area[a..e], off, row, from, w, reals);
-        return went_on(s, e - a, p, s.long);
+        let part = &mut area[s.start..s.end];
+        let p = values::put_values(part, off, row, from, w, reals);
+        return went_on(s, s.end - s.start, p, s.long);
     }
     let q = values::put_values(image, off, row, from, w, reals);
-    went_on(s, image.len(), q, larger(s.long, q))
+    went_on(s, image.len(), q, s.long.max(q))
 }
 
 // A handle: the item's number plus 1.
@@ -101,13 +88,12 @@ pub fn lay_handle(s: State, image: &mut [u8], area: &mut [u8], off: usize) -> St
     ensures { Lays (lay_bytes off (handle s.item) (laying_of s image.old area.old)) s result image.new area.new }
 {
     if s.inside {
-        let a = s.start;
-        let e = s.end;
-        let p = write::put_big_endian(&mut area[a..e], off, HANDLE, s.item + 1);
-        return went_on(s, e - a, p, s.long);
+        let part = &mut area[s.start..s.end];
+        let p = write::put_big_endian(part, off, HANDLE, s.item + 1);
+        return went_on(s, s.end - s.start, p, s.long);
     }
     let q = write::put_big_endian(image, off, HANDLE, s.item + 1);
-    went_on(s, image.len(), q, larger(s.long, q))
+    went_on(s, image.len(), q, s.long.max(q))
 }
 
 // Where the next array's part begins: at the next multiple of 8.
@@ -115,7 +101,7 @@ fn part_at(end: usize) -> usize
     requires { end < 9223372036854775808 }
     ensures { result ≡ part_at end }
 {
-    (end + 7) / 8 * 8
+    end.next_multiple_of(8)
 }
 
 // The bytes of n elements, room + 1 where they are more than that.
@@ -123,13 +109,7 @@ fn part_bytes(size: usize, n: u64, room: usize) -> usize
     requires { room < 9223372036854775808 }
     ensures { result ≡ min (size * n) (room + 1) }
 {
-    if size == 0 {
-        return 0;
-    }
-    if ((room / size) as u64) < n {
-        return room + 1;
-    }
-    size * n as usize
+    size.saturating_mul(n as usize).min(room + 1)
 }
 
 // An array: its part of the area behind the newest one's, and its handle in the image.
@@ -147,13 +127,11 @@ pub fn lay_array(s: State, image: &mut [u8], area: &[u8], off: usize, size: usiz
         return outgrown(s);
     }
     let t = State {
-        item: s.item,
         start: a,
         end: a + k,
-        inside: s.inside,
-        long: s.long,
         full: false,
+        ..s
     };
     let p = write::put_big_endian(image, off, HANDLE, s.item + 1);
-    went_on(t, image.len(), p, larger(s.long, p))
+    went_on(t, image.len(), p, s.long.max(p))
 }

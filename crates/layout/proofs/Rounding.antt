@@ -18,6 +18,15 @@ no-smaller a n m h d l =
     let r : (n + (a - 1)) / a ≤ m / a = omega arith in
     omega (arith, mul-le-mul_right a r)
 
+-- the multiple that is within one alignment behind the offset
+pub multiple-is : (a n r : ℕ) → 0 < a → r % a ≡ 0 → n ≤ r → r < n + a → r ≡ align_up a n
+multiple-is a n r h d l u =
+    let e : r / a * a ≡ r = omega (arith, div-add-mod' r a) in
+    let m : n ≤ align_up a n = omega (arith, lt-div-mul-add {a = n + (a - 1)} h) in
+    let k : r / a < suc ((n + (a - 1)) / a) = (div-lt_iff_lt-mul h).1 (omega (arith, suc-mul ((n + (a - 1)) / a) a)) in
+    let t : r / a ≤ (n + (a - 1)) / a = omega arith in
+    omega (arith, e, mul-le-mul_right a t, no-smaller a n r h d l)
+
 -- 01's words: rounding up to an alignment gives the least multiple not below the offset
 pub least-multiple : (a n : ℕ) → 0 < a → (align_up a n % a ≡ 0) × (n ≤ align_up a n) × ((m : ℕ) → m % a ≡ 0 → n ≤ m → align_up a n ≤ m)
 least-multiple a n h =

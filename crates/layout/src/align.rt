@@ -10,6 +10,5 @@ pub fn align_up(off: u32, align: u32) -> u64
     if align == 0 {
         return 0;
     }
-    let a = align as u64;
-    (off as u64 + (a - 1)) / a * a
+    u64::from(off).next_multiple_of(u64::from(align))
 }

@@ -8,7 +8,7 @@ ghost use Rattle.layout.specs.Pass.{laid_over};
 pub fn map_bytes(size: u32) -> usize
     ensures { (result ≡ map_length size) × (result ≤ 2 ^ 27) }
 {
-    ((size as usize + 3) / 4 + 7) / 8
+    (size as usize).div_ceil(4).div_ceil(8)
 }
 
 // Whether an offset marks word `w`: one below 0 or too near the end marks none, and one between words marks the word that it lies in.
@@ -20,24 +20,17 @@ fn marks_word(size: u32, w: u64, off: i32) -> bool
     }
     // 64 bits hold the sum of every offset and 4
     let at = off as u64;
-    if at + 4 <= size as u64 {
-        at / 4 == w
-    } else {
-        false
-    }
+    at + 4 <= u64::from(size) && at / 4 == w
 }
 
 // Whether one of the offsets marks word `w`.
 fn word_marked(size: u32, offsets: &[i32], w: u64) -> bool
     ensures { result ≡ marked size offsets.now w }
 {
-    let mut i = 0;
-    while i < offsets.len() {
-        let off = offsets[i];
-        if marks_word(size, w, off) {
+    for off in offsets {
+        if marks_word(size, w, *off) {
             return true;
         }
-        i += 1;
     }
     false
 }
@@ -46,12 +39,10 @@ fn word_marked(size: u32, offsets: &[i32], w: u64) -> bool
 fn map_byte(size: u32, offsets: &[i32], w: u32) -> u8
     ensures { result ≡ map_bits size offsets.now 8 w }
 {
-    let mut byte: u8 = 0;
-    let mut k: u32 = 0;
-    while k < 8 {
-        let bit = word_marked(size, offsets, w as u64 + k as u64) as u8;
+    let mut byte = 0;
+    for k in 0..8 {
+        let bit = u8::from(word_marked(size, offsets, u64::from(w) + k));
         byte = byte * 2 + bit;
-        k += 1;
     }
     byte
 }
@@ -60,7 +51,7 @@ fn map_byte(size: u32, offsets: &[i32], w: u32) -> u8
 pub fn ones_of(b: u8) -> u32
     ensures { (result ≡ ones_in 8 b) × (result ≤ 8) }
 {
-    u8::count_ones(b)
+    b.count_ones()
 }
 
 // Stores a byte, unless the buffer ends before its place.
@@ -78,14 +69,11 @@ pub fn pointer_map_for(size: u32, offsets: &[i32], map: &mut [u8]) -> u32
     ensures bytes { map.new ≡ laid_over (pointer_map size offsets.now) map.old }
     ensures count { result ≡ pointer_count (pointer_map size offsets.now) }
 {
-    let end = map_bytes(size);
-    let mut count: u32 = 0;
-    let mut n: usize = 0;
-    while n < end {
+    let mut count = 0;
+    for n in 0..map_bytes(size) {
         let b = map_byte(size, offsets, (n * 8) as u32);
         count += ones_of(b);
         put(map, n, b);
-        n += 1;
     }
     count
 }

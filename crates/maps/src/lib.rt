@@ -12,11 +12,8 @@ pub fn clear_map(work: &mut [u8], size: u32)
     requires { MapRoom work.old size }
     ensures { MapMade size [] work.old work.new }
 {
-    let end = layout::map::map_bytes(size);
-    let mut i = 0;
-    while i < end {
+    for i in 0..layout::map::map_bytes(size) {
         work[area::MAP + i] = 0;
-        i += 1;
     }
 }
 
@@ -40,7 +37,7 @@ pub fn mark_at(work: &mut [u8], size: u32, off: u32)
     }
     let w = off / 4;
     let at = area::MAP + (w / 8) as usize;
-    work[at] = work[at] | bit_of(w);
+    work[at] |= bit_of(w);
 }
 
 // The same of a field's offset: one that is no pointer marks nothing.
@@ -50,7 +47,6 @@ pub fn mark_if(work: &mut [u8], size: u32, off: u32, pointer: bool)
 {
     if pointer {
         mark_at(work, size, off);
-        return;
     }
 }
 
@@ -70,12 +66,9 @@ pub fn map_ones(work: &[u8], size: u32) -> u32
     requires { MapRoom work.now size }
     ensures { result ≡ pointer_count (map_in work.now size) }
 {
-    let end = layout::map::map_bytes(size);
-    let mut count: u32 = 0;
-    let mut i = 0;
-    while i < end {
+    let mut count = 0;
+    for i in 0..layout::map::map_bytes(size) {
         count += layout::map::ones_of(work[area::MAP + i]);
-        i += 1;
     }
     count
 }

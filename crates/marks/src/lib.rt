@@ -16,11 +16,8 @@ pub fn mark_list(size: u32, fields: &[Field], work: &mut [u8])
     requires { MapRoom work.old size }
     ensures { Marks size (pointers_in fields.now) work.old work.new }
 {
-    let mut i: usize = 0;
-    while i < fields.len() {
-        let f = fields[i];
-        maps::mark_if(&mut *work, size, f.offset, f.pointer);
-        i += 1;
+    for f in fields {
+        maps::mark_if(work, size, f.offset, f.pointer);
     }
 }
 
@@ -64,11 +61,9 @@ fn mark_fields(sheet: &[u8], work: &mut [u8], n: usize, f: Refs, size: u32, off:
     ensures { (AllMarked (fds_of_refs sheet.now f) size off result work.old work.new) × (result ≤ off + group_bytes) }
 {
     let mut q = off;
-    let mut j = 0;
-    while j < f.count {
+    for j in 0..f.count {
         let r = lines::number_at(sheet, work, n, f.line - 1, f.from + j);
         q = mark_field(sheet, work, n, r, size, q);
-        j += 1;
     }
     q
 }

@@ -26,16 +26,14 @@ use Rattle.stored.proofs.Names.{PlainSource, plain-listing}
 use Rattle.stored.proofs.Places.{globals-in-place}
 use Rattle.stored.proofs.Sizes.{few-types, listing-readable}
 use Rattle.stored.proofs.Ranges.{SoundFirst, globals-ranged}
-use Rattle.replay.specs.declared.Replayed.{Replayed}
-use Rattle.replay.specs.declared.Replayed.TheVariants.{Laid, Outgrown}
 use Rattle.replay.specs.Whole.{laid_listing, answer_of, laid_image, laid_area, Replays}
 use Rattle.laws.specs.Every.{Every}
 
-abbrev pub lengths_of : Imaged → Replayed
-lengths_of (laid image area) = Laid (length image) (length area)
-lengths_of (not_laid n k) = Outgrown
+abbrev pub lengths_of : Imaged → Option (ℕ × ℕ)
+lengths_of (laid image area) = Some (length image, length area)
+lengths_of (not_laid n k) = None
 
-pub record Meets (q : Imaged) (image area : ℕ) (r : Replayed) (image' area' : Bytes) : Type 0 where
+pub record Meets (q : Imaged) (image area : ℕ) (r : Option (ℕ × ℕ)) (image' area' : Bytes) : Type 0 where
   pub answer : r ≡ lengths_of q
   pub image_is : image' ≡ padded image (image_bytes q)
   pub area_is : area' ≡ padded area (area_bytes q)
@@ -43,7 +41,7 @@ pub record Meets (q : Imaged) (image area : ℕ) (r : Replayed) (image' area' : 
 by_answer : (q : Imaged) (b : Buffers) (m : Option Laying) → LaysAs q b.image b.area m → Meets q b.image b.area (answer_of m) (laid_image b.image m) (laid_area b.area m)
 by_answer q b None h = rw h (record { answer = refl; image_is = ap zeros (sym (sub-zero b.image)); area_is = ap zeros (sym (sub-zero b.area)) })
 by_answer q b (Some m) h = record {
-  answer = (λ j. Laid (h.long j) (h.end j)) ∙ sym (ap lengths_of h.is);
+  answer = (λ j. Some (h.long j, h.end j)) ∙ sym (ap lengths_of h.is);
   image_is = h.image_is;
   area_is = h.area_is;
 }
@@ -54,7 +52,7 @@ module _ (s : Source) (cs : List Const) (g : Globals) (b : Buffers) (plain : Pla
   unfolding laid_listing
   laid-items = ap (λ (xs : List Stored). lay_all xs (laying_start g.end b.image b.area)) (listing-read s cs g plain (size_in (listing s cs g)) readable)
 
-  pub replay-meets : {t u image image' area area' : Bytes} {r : Replayed} → length image ≡ b.image → length area ≡ b.area
+  pub replay-meets : {t u image image' area area' : Bytes} {r : Option (ℕ × ℕ)} → length image ≡ b.image → length area ≡ b.area
       → Replays (listing s cs g) g.end t u image image' area area' r → Meets (replayed b g) b.image b.area r image' area'
   replay-meets hi ha h =
       let e = laid-items in
@@ -68,7 +66,7 @@ module _ (s : Source) (cs : List Const) (g : Globals) (b : Buffers) (plain : Pla
 -- the same of a source whose names hold no separators, whose frames and needs are as many as a checked sheet's, and whose values have 64 bits
 pub sheet-meets : (s : Source) (b : Buffers) → PlainSource s → length s.frames ≤ 128 → length s.needs ≤ 128
     → Every (λ (d : Declared). SoundFirst d.first) (declared_in (names_of s) s)
-    → {t u image image' area area' : Bytes} {r : Replayed} → length image ≡ b.image → length area ≡ b.area
+    → {t u image image' area area' : Bytes} {r : Option (ℕ × ℕ)} → length image ≡ b.image → length area ≡ b.area
     → Replays (source_listing s) (source_globals s).end t u image image' area area' r
     → Meets (replayed b (source_globals s)) b.image b.area r image' area'
 sheet-meets s b names frames needs sound =

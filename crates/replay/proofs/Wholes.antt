@@ -9,7 +9,6 @@ use Rattle.semantics.specs.Text.{Bytes}
 use Rattle.stored.specs.Reading.{read_all}
 use Rattle.stored.specs.Laying.{Laying, lay_all, laying_start}
 use Rattle.laying.specs.declared.State.{State}
-use Rattle.replay.specs.declared.Replayed.TheVariants.{Laid, Outgrown}
 use Rattle.laying.specs.Steps.{laying_of, seen_laying}
 use Rattle.replay.specs.Rows.{element_size_at, begun, laid_text, Sizes}
 use Rattle.replay.specs.Whole.{laid_listing, answer_of, laid_image, laid_area, Replays}
@@ -26,7 +25,7 @@ module _ (listing : Bytes) (end : ℕ) (t u im im₁ im₂ ar ar₁ ar₂ : Byte
   laid-is = laid ∙ (λ j. lay_all (read_all (λ (i : ℕ). sizes.sizes i j) listing) (begun-is j))
 
   pub replays-none : {im₃ ar₃ : Bytes} → s.full ≡ true → length im₂ ≡ length im → length ar₂ ≡ length ar → im₃ ≡ replicate (length im₂) 0 → ar₃ ≡ replicate (length ar₂) 0
-      → Replays listing end t u im im₃ ar ar₃ Outgrown
+      → Replays listing end t u im im₃ ar ar₃ None
   unfolding seen_laying
   replays-none {im₃} {ar₃} full li la ei ea =
       let q : None ≡ laid_listing listing end (length im) (length ar) = sym (ap (λ (b : Bool). cond b None (Some (laying_of s im₂ ar₂))) full) ∙ laid-is in
@@ -37,7 +36,7 @@ module _ (listing : Bytes) (end : ℕ) (t u im im₁ im₂ ar ar₁ ar₂ : Byte
         table = sizes;
       }
 
-  pub replays-some : s.full ≡ false → Replays listing end t u im im₂ ar ar₂ (Laid s.long s.end)
+  pub replays-some : s.full ≡ false → Replays listing end t u im im₂ ar ar₂ (Some (s.long, s.end))
   unfolding seen_laying laying_of
   replays-some fitted =
       let q : Some (laying_of s im₂ ar₂) ≡ laid_listing listing end (length im) (length ar) = sym (ap (λ (b : Bool). cond b None (Some (laying_of s im₂ ar₂))) fitted) ∙ laid-is in

@@ -6,21 +6,15 @@ mod rows;
 ghost use Rattle.std.specs.Prelude.{◌≤◌, length};
 ghost use Rattle.replay.specs.Whole.{Replays};
 
-// The lengths of image and area, or that one of them does not fit its buffer.
-#[derive(Clone, Copy)]
-pub enum Replayed {
-    Laid(usize, usize),
-    Outgrown,
-}
-
-// The items of a listing, over zeros; allocation ends at `end`. Where they don't fit, image and area are zeros.
+// The items of a listing, over zeros; allocation ends at `end`. The lengths of image and area; none, and zeros, where one of them does
+// not fit its buffer.
 pub fn replay(
     listing: &[u8],
     work: &mut [u8],
     image: &mut [u8],
     area: &mut [u8],
     end: usize,
-) -> Replayed
+) -> Option<(usize, usize)>
     requires { 65536 ≤ length work.old }
     ensures { Replays listing.now end work.old work.new image.old image.new area.old area.new result }
 {
@@ -31,7 +25,7 @@ pub fn replay(
     if s.full {
         write::zero(image);
         write::zero(area);
-        return Replayed::Outgrown;
+        return None;
     }
-    Replayed::Laid(s.long, s.end)
+    Some((s.long, s.end))
 }

@@ -76,11 +76,9 @@ fn pick_size(sheet: &[u8], work: &[u8], n: usize, r: usize) -> u32
     let p = behind_common(sheet, work, n, r);
     let count = case_count(sheet, work, n, r);
     let mut size = sizes::rounded_size(p.furthest);
-    let mut c = 0;
-    while c < count {
+    for c in 0..count {
         let line = case_line(sheet, work, n, r, c);
-        size = sizes::larger(size, case_size(sheet, work, n, line, p));
-        c += 1;
+        size = size.max(case_size(sheet, work, n, line, p));
     }
     size
 }
@@ -112,11 +110,9 @@ fn mark_pick(sheet: &[u8], work: &mut [u8], n: usize, r: usize, size: u32)
 {
     let end = marks::mark_common(sheet, work, n, r, size, TAG_BYTES);
     let count = case_count(sheet, work, n, r);
-    let mut c = 0;
-    while c < count {
+    for c in 0..count {
         let k = case_line(sheet, work, n, r, c);
         marks::mark_case(sheet, work, n, k, size, end);
-        c += 1;
     }
 }
 

@@ -15,21 +15,12 @@ pub struct SizeAlign {
     pub align: u32,
 }
 
-pub fn larger(a: u32, b: u32) -> u32
-    ensures { result ≡ max a b }
-{
-    if a < b {
-        return b;
-    }
-    a
-}
-
 // The size of a block whose fields end at `end`.
 pub fn rounded_size(end: u32) -> u32
     requires { end ≤ 2147483648 }
     ensures { result ≡ rounded_size end }
 {
-    layout::align::align_up(larger(end, 4), 4) as u32
+    layout::align::align_up(end.max(4), 4) as u32
 }
 
 // Fields that end at t.size, aligned by t.align, and one more of size and alignment x.
@@ -40,7 +31,7 @@ fn behind(t: SizeAlign, x: SizeAlign) -> SizeAlign
     let at = layout::align::align_up(t.size, x.align) as u32;
     SizeAlign {
         size: at + x.size,
-        align: larger(t.align, x.align),
+        align: t.align.max(x.align),
     }
 }
 
@@ -48,10 +39,7 @@ fn behind(t: SizeAlign, x: SizeAlign) -> SizeAlign
 fn is_long(f: usize) -> bool
     ensures { result ≡ is_long f }
 {
-    if f == ty::BIG {
-        return true;
-    }
-    f == ty::REAL
+    matches!(f, ty::BIG | ty::REAL)
 }
 
 // Whether the type of line r marks its first word as a pointer: all but int, byte, big and real do.
@@ -87,11 +75,9 @@ fn tuple_size_align(sheet: &[u8], work: &[u8], n: usize, r: usize) -> SizeAlign
 {
     let count = lines::number_at(sheet, work, n, r - 1, 0);
     let mut t = SizeAlign { size: 0, align: 4 };
-    let mut j = 0;
-    while j < count {
-        j += 1;
-        let x = type_size_align(sheet, work, n, lines::number_at(sheet, work, n, r - 1, j));
-        t = behind(t, x);
+    for j in 0..count {
+        let field = lines::number_at(sheet, work, n, r - 1, j + 1);
+        t = behind(t, type_size_align(sheet, work, n, field));
     }
     SizeAlign {
         size: rounded_size(t.size),

@@ -57,7 +57,7 @@ fn place_line(p: Reached, x: SizeAlign, pointer: bool, names: usize) -> Reached
 {
     let at = align_up(p.end, x.align) as u32;
     let fields = field_list::line_fields(at, x.size, pointer, names);
-    let furthest = field_list::furthest_of(p.furthest as u64, fields, names);
+    let furthest = field_list::furthest_of(u64::from(p.furthest), fields, names);
     Reached {
         end: at + (names as u32) * x.size,
         furthest: furthest as u32,
@@ -84,11 +84,9 @@ fn place_fields(sheet: &[u8], work: &[u8], n: usize, f: Refs, p: Reached) -> Rea
     ensures { (AllPlaced (fds_of_refs sheet.now f) p result) × (result.end ≤ p.end + group_bytes) }
 {
     let mut q = p;
-    let mut j = 0;
-    while j < f.count {
+    for j in 0..f.count {
         let r = lines::number_at(sheet, work, n, f.line - 1, f.from + j);
         q = place_field(sheet, work, n, r, q);
-        j += 1;
     }
     q
 }

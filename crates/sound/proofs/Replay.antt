@@ -6,12 +6,12 @@ use Rattle.semantics.specs.Text.{Bytes}
 use Rattle.semantics.specs.Sheet.{sheet_source}
 use Rattle.semantics.specs.Refusal.{Buffers, replayed, source_globals, source_listing}
 use Rattle.checks.specs.Checks.{Checked}
-use Rattle.replay.specs.declared.Replayed.{Replayed}
+use Rattle.std.specs.Prelude.{Option}
 use Rattle.replay.specs.Whole.{Replays}
 use Rattle.replay.proofs.Meets.{Meets, sheet-meets}
 use Rattle.sound.proofs.Facts.{plain-source, few-frames, few-needs, sound-firsts}
 
-pub sheet-replayed : (s t : Bytes) (n : ℕ) → Checked s t n → (b : Buffers) {u v image image' area area' : Bytes} {r : Replayed} → length image ≡ b.image → length area ≡ b.area
+pub sheet-replayed : (s t : Bytes) (n : ℕ) → Checked s t n → (b : Buffers) {u v image image' area area' : Bytes} {r : Option (ℕ × ℕ)} → length image ≡ b.image → length area ≡ b.area
     → Replays (source_listing (sheet_source s)) (source_globals (sheet_source s)).end u v image image' area area' r
     → Meets (replayed b (source_globals (sheet_source s))) b.image b.area r image' area'
 sheet-replayed s t n c b = sheet-meets (sheet_source s) b (plain-source s t n c) (few-frames s t n c) (few-needs s t n c) (sound-firsts s t n c)

@@ -1,11 +1,7 @@
--- `field_list::furthest_end` meets its contract. The invariant: the furthest end of all fields is that of the fields from i on, with `e` for `end`.
--- The measure is the number of fields from i on.
-use Rattle.std.proofs.Common.{◌≡◌, ◌-◌, length, drop}
+-- `field_list::furthest_end` meets its contract. The invariant: the furthest end of all fields is that of the fields that are left, with `e` for `end`.
+use Rattle.std.proofs.Common.{◌≡◌, drop}
 use Rattle.field_list.specs.Fields.{furthest_in}
 use Rattle.field_list.proofs.furthest_end.Given as goal
 
-abbrev pub invariant-loop-i : goal.invariant-loop-i
-invariant-loop-i l = furthest_in l.end l.fields ≡ furthest_in l.e (drop l.i l.fields)
-
-abbrev pub decreases-loop-i : goal.decreases-loop-i
-decreases-loop-i l = length l.fields - l.i
+abbrev pub invariant-loop-f : goal.invariant-loop-f
+invariant-loop-f l = furthest_in l.end l.fields ≡ furthest_in l.e (drop l.f-index l.fields)

@@ -23,23 +23,23 @@ returns-in-Refused c =
     let r = c.refuse in
     (list-refused _ (lent_of a.listing.now a.image.now a.area.now a.work.now) r.result h r.ensures.0 r.ensures.1 c.zero.ensures c.zero-in-Refused.ensures, h.work)
 
-pub returns-in-Laid : goal.returns-in-Laid
-returns-in-Laid c =
+pub returns-in-Some : goal.returns-in-Some
+returns-in-Some c =
     let a = c.args in
     let w = c.list in
     let h = has_listed a.sheet.now _ _ c.in-Written.is w.ensures in
     let p = c.replay-laid in (
-      replay-laid a.sheet.now (lent_of a.listing.now a.image.now a.area.now a.work.now) h refl refl p.ensures p.auto.image p.auto.area c.in-Laid.is,
+      replay-laid a.sheet.now (lent_of a.listing.now a.image.now a.area.now a.work.now) h refl refl p.ensures p.auto.image p.auto.area c.in-Some.is,
       c.zero-in-Written.ensures ∙ ap zeros (p.auto.work ∙ w.auto.work),
     )
 
-pub returns-in-Outgrown : goal.returns-in-Outgrown
-returns-in-Outgrown c =
+pub returns-in-None : goal.returns-in-None
+returns-in-None c =
     let a = c.args in
     let w = c.list in
     let h = has_listed a.sheet.now _ _ c.in-Written.is w.ensures in
     let p = c.replay-laid in
-    let r = c.refuse-in-Outgrown in (
-      replay-outgrown a.sheet.now (lent_of a.listing.now a.image.now a.area.now a.work.now) h refl refl p.ensures r.result c.in-Outgrown.is w.auto.listing c.zero-in-Outgrown.ensures r.ensures.0 r.ensures.1,
+    let r = c.refuse-in-None in (
+      replay-outgrown a.sheet.now (lent_of a.listing.now a.image.now a.area.now a.work.now) h refl refl p.ensures r.result c.in-None.is w.auto.listing c.zero-in-None.ensures r.ensures.0 r.ensures.1,
       c.zero-in-Written.ensures ∙ ap zeros (p.auto.work ∙ w.auto.work),
     )

@@ -10,4 +10,4 @@ returns-then-s c =
 pub returns : goal.returns
 returns c =
     let a = c.args in
-    lays-image a.off _ a.image.now a.area.now a.s c.went_on-2.result c.requires c.if-s.false (handled a.s.item c.put_big_endian-q.ensures) (rw c.larger.ensures at c.went_on-2.ensures)
+    lays-image a.off _ a.image.now a.area.now a.s c.went_on-2.result c.requires c.if-s.false (handled a.s.item c.put_big_endian-q.ensures) (rw c.max.ensures at c.went_on-2.ensures)

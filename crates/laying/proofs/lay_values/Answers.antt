@@ -12,4 +12,4 @@ returns-then-s c =
 pub returns : goal.returns
 returns c =
     let a = c.args in
-    lays-image a.off (row_values a.w a.reals (fields_from a.from a.row.now)) a.image.now a.area.now a.s c.went_on-2.result c.requires.0 c.if-s.false c.put_values-q.ensures (rw c.larger.ensures at c.went_on-2.ensures)
+    lays-image a.off (row_values a.w a.reals (fields_from a.from a.row.now)) a.image.now a.area.now a.s c.went_on-2.result c.requires.0 c.if-s.false c.put_values-q.ensures (rw c.max.ensures at c.went_on-2.ensures)

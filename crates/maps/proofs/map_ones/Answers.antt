@@ -2,20 +2,11 @@ use Rattle.maps.proofs.Maps.{map-fits, ones-start, ones-next, ones-end}
 use native.Mathlib.Omega.{arith}
 use Rattle.maps.proofs.map_ones.Goals as goal
 
-pub map_bytes-end-requires : goal.map_bytes-end-requires
-map_bytes-end-requires c = tt
-
 pub loop-i-init : goal.loop-i-init
 loop-i-init c = ones-start c.args.work.now c.args.size c.requires
 
-pub overflow_add-i : goal.overflow_add-i
-overflow_add-i c = omega (arith, map-fits c.requires)
-
 pub bounds-work-i : goal.bounds-work-i
 bounds-work-i c = omega (arith, c.requires.room, map-fits c.requires)
-
-pub ones_of-count-requires : goal.ones_of-count-requires
-ones_of-count-requires c = tt
 
 pub overflow_add-count : goal.overflow_add-count
 overflow_add-count c = omega (arith, c.loop-i.invariant.few, c.loop-i.invariant.within, map-fits c.requires, c.ones_of-count.ensures.1)

@@ -1,9 +1,5 @@
 use Rattle.maps.proofs.Maps.{OnesCounted}
-use Prim.Native.Nat.{◌-◌}
 use Rattle.maps.proofs.map_ones.Given as goal
 
 abbrev pub invariant-loop-i : goal.invariant-loop-i
 invariant-loop-i l = OnesCounted l.work l.size l.count l.i
-
-abbrev pub decreases-loop-i : goal.decreases-loop-i
-decreases-loop-i l = l.end - l.i

@@ -20,12 +20,6 @@ number_at-r-requires c = ((refs-kept c.loop-j.invariant.marks.kept c.requires.0)
 pub mark_field-q-requires : goal.mark_field-q-requires
 mark_field-q-requires c = (refs-line c.args.sheet.now _ c.args.n c.args.f (refs-kept c.loop-j.invariant.marks.kept c.requires.0) c.loop-j.j c.loop-j-test.true c.number_at-r.result c.number_at-r.ensures.0, room-kept c.loop-j.invariant.marks.kept c.requires.1, omega (arith, c.loop-j.invariant.small, c.requires.2, c.requires.0.few, c.loop-j-test.true))
 
-pub overflow_add-j : goal.overflow_add-j
-overflow_add-j c = record { fits = omega (arith, c.requires.0.few, c.loop-j-test.true) }
-
-pub loop-j-smaller : goal.loop-j-smaller
-loop-j-smaller c = omega (arith, c.loop-j-test.true)
-
 pub loop-j-preserved : goal.loop-j-preserved
 loop-j-preserved c = lines-marked-next c.args.sheet.now c.args.work.now c.args.n c.args.f c.requires.0 c.args.size c.args.off c.loop-j.invariant c.loop-j-test.true c.number_at-r.ensures.0 c.mark_field-q.ensures.0 c.mark_field-q.ensures.1
 

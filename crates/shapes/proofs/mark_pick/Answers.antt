@@ -21,12 +21,6 @@ case_line-k-requires c = record { line = pick-kept (kept_then c.mark_common-end.
 pub mark_case-requires : goal.mark_case-requires
 mark_case-requires c = (c.case_line-k.ensures.line, room-kept (kept_then c.mark_common-end.ensures.0.marks.kept c.loop-c.invariant.marks.kept) c.requires.1, omega (arith, c.mark_common-end.ensures.1))
 
-pub overflow_add-c : goal.overflow_add-c
-overflow_add-c c = record { fits = omega (arith, c.loop-c-test.true, c.case_count-count.ensures.1) }
-
-pub loop-c-smaller : goal.loop-c-smaller
-loop-c-smaller c = omega (arith, c.loop-c-test.true)
-
 pub loop-c-preserved : goal.loop-c-preserved
 loop-c-preserved c = cases-marked-next c.args.sheet.now c.args.r c.args.size c.loop-c.invariant (omega (arith, c.loop-c-test.true, c.case_count-count.ensures.0)) c.case_line-k.ensures c.mark_case.ensures
 

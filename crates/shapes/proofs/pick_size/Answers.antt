@@ -20,17 +20,8 @@ case_line-line-requires c = record { line = c.requires; case = omega (arith, c.l
 pub case_size-requires : goal.case_size-requires
 case_size-requires c = (c.case_line-line.ensures.line, c.behind_common-p.ensures.within, c.behind_common-p.ensures.small)
 
-pub larger-size-requires : goal.larger-size-requires
-larger-size-requires c = tt
-
-pub overflow_add-c : goal.overflow_add-c
-overflow_add-c c = record { fits = omega (arith, c.loop-c-test.true, c.case_count-count.ensures.1) }
-
-pub loop-c-smaller : goal.loop-c-smaller
-loop-c-smaller c = omega (arith, c.loop-c-test.true)
-
 pub loop-c-preserved : goal.loop-c-preserved
-loop-c-preserved c = largest-next c.args.sheet.now c.args.work.now c.args.n c.args.r c.requires c.loop-c.size c.case_size.result c.larger-size.result c.loop-c.c c.loop-c.invariant (omega (arith, c.loop-c-test.true, c.case_count-count.ensures.0)) (variant-size c.args.sheet.now c.args.work.now c.args.n c.args.r c.loop-c.c c.case_line-line.result c.case_size.result c.behind_common-p.result c.behind_common-p.ensures c.case_line-line.ensures c.case_size.ensures) c.larger-size.ensures
+loop-c-preserved c = largest-next c.args.sheet.now c.args.work.now c.args.n c.args.r c.requires c.loop-c.size c.case_size.result c.max-size.result c.loop-c.c c.loop-c.invariant (omega (arith, c.loop-c-test.true, c.case_count-count.ensures.0)) (variant-size c.args.sheet.now c.args.work.now c.args.n c.args.r c.loop-c.c c.case_line-line.result c.case_size.result c.behind_common-p.result c.behind_common-p.ensures c.case_line-line.ensures c.case_size.ensures) c.max-size.ensures
 
 pub returns : goal.returns
 returns c = largest-end c.args.sheet.now c.args.work.now c.args.n c.args.r c.requires c.loop-c.size c.loop-c.c c.loop-c.invariant (omega (arith, c.loop-c-test.false, c.case_count-count.ensures.0))

@@ -5,14 +5,14 @@ use Rattle.sizes.proofs.+tuple_size_align_type_size_align.Goals as goal
 pub tuple_size_align-loop-j-init : goal.tuple_size_align-loop-j-init
 tuple_size_align-loop-j-init t c = measuring-start c.requires c.number_at-count.ensures.0
 
-pub tuple_size_align-type_size_align-x-requires : goal.tuple_size_align-type_size_align-x-requires
-tuple_size_align-type_size_align-x-requires t c =
-    let before = field-before c.requires c.number_at-count.ensures.0 c.loop-j.invariant c.loop-j-test.true c.number_at.ensures.0 in
-    (omega (arith, c.decreases, before), field-line c.requires c.number_at-count.ensures.0 c.loop-j.invariant c.loop-j-test.true c.number_at.ensures.0)
+pub tuple_size_align-type_size_align-requires : goal.tuple_size_align-type_size_align-requires
+tuple_size_align-type_size_align-requires t c =
+    let before = field-before c.requires c.number_at-count.ensures.0 c.loop-j.invariant c.loop-j-test.true c.number_at-field.ensures.0 in
+    (omega (arith, c.decreases, before), field-line c.requires c.number_at-count.ensures.0 c.loop-j.invariant c.loop-j-test.true c.number_at-field.ensures.0)
 
 pub tuple_size_align-loop-j-preserved : goal.tuple_size_align-loop-j-preserved
 tuple_size_align-loop-j-preserved t c =
-    measuring-next c.requires c.number_at-count.ensures.0 c.loop-j.invariant c.loop-j-test.true c.number_at.ensures.0 c.type_size_align-x.ensures
+    measuring-next c.requires c.number_at-count.ensures.0 c.loop-j.invariant c.loop-j-test.true c.number_at-field.ensures.0 c.type_size_align.ensures
     c.behind-t.ensures.0 c.behind-t.ensures.1
 
 pub tuple_size_align-returns : goal.tuple_size_align-returns

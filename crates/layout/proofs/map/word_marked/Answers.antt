@@ -7,21 +7,21 @@ use lib.Signed.{mag}
 use Rattle.layout.proofs.Marks.{turn, at-end}
 use Rattle.layout.proofs.map.word_marked.Goals as goal
 
-pub loop-i-init : goal.loop-i-init
-loop-i-init c = refl
+pub loop-off-init : goal.loop-off-init
+loop-off-init c = refl
 
 -- the word is marked where this offset marks it or a later one does
 pub returns-then-marks_word : goal.returns-then-marks_word
 returns-then-marks_word c =
-    let f : mag (get_or c.args.offsets.now c.loop-i.i (pos 0)) < 2 ^ 31 = omega arith in
-    let seen = c.loop-i.invariant ∙ turn _ _ c.loop-i.i _ _ c.loop-i-test.true f c.marks_word.ensures in
+    let f : mag (get_or c.args.offsets.now c.loop-off.off-index (pos 0)) < 2 ^ 31 = omega arith in
+    let seen = c.loop-off.invariant ∙ turn _ _ c.loop-off.off-index _ _ c.loop-off-test.true f c.marks_word.ensures in
     sym (rw c.if-marks_word.true at seen)
 
-pub loop-i-preserved : goal.loop-i-preserved
-loop-i-preserved c =
-    let f : mag (get_or c.args.offsets.now c.loop-i.i (pos 0)) < 2 ^ 31 = omega arith in
-    let seen = c.loop-i.invariant ∙ turn _ _ c.loop-i.i _ _ c.loop-i-test.true f c.marks_word.ensures in
+pub loop-off-preserved : goal.loop-off-preserved
+loop-off-preserved c =
+    let f : mag (get_or c.args.offsets.now c.loop-off.off-index (pos 0)) < 2 ^ 31 = omega arith in
+    let seen = c.loop-off.invariant ∙ turn _ _ c.loop-off.off-index _ _ c.loop-off-test.true f c.marks_word.ensures in
     rw c.if-marks_word.false at seen
 
 pub returns : goal.returns
-returns c = sym (c.loop-i.invariant ∙ at-end _ _ c.loop-i.i _ c.loop-i-test.false)
+returns c = sym (c.loop-off.invariant ∙ at-end _ _ c.loop-off.off-index _ c.loop-off-test.false)

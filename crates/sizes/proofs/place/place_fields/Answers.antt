@@ -17,12 +17,6 @@ number_at-r-requires c = (c.requires.0.checked.whole, refs-in c.args.sheet.now c
 pub place_field-q-requires : goal.place_field-q-requires
 place_field-q-requires c = (refs-line c.args.sheet.now c.args.work.now c.args.n c.args.f c.requires.0 c.loop-j.j c.loop-j-test.true c.number_at-r.result c.number_at-r.ensures.0, omega (arith, c.loop-j.invariant.small, c.requires.1, c.requires.0.few, c.loop-j-test.true))
 
-pub overflow_add-j : goal.overflow_add-j
-overflow_add-j c = record { fits = omega (arith, c.requires.0.few, c.loop-j-test.true) }
-
-pub loop-j-smaller : goal.loop-j-smaller
-loop-j-smaller c = omega (arith, c.loop-j-test.true)
-
 pub loop-j-preserved : goal.loop-j-preserved
 loop-j-preserved c = behind-lines-next c.args.sheet.now c.args.work.now c.args.n c.args.f c.requires.0 c.args.p c.loop-j.q c.loop-j.j c.loop-j.invariant c.loop-j-test.true c.number_at-r.result c.number_at-r.ensures.0 c.place_field-q.result c.place_field-q.ensures.0 c.place_field-q.ensures.1
 

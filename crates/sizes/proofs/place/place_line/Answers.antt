@@ -17,10 +17,10 @@ overflow_add-result c = record { fits = omega (arith, names-small c.requires.3 c
 
 pub overflow_cast-result-2 : goal.overflow_cast-result-2
 overflow_cast-result-2 c =
-    let e = list-furthest c.args.x.size c.align_up-at.result c.args.names c.args.p.furthest c.args.pointer c.line_fields-fields.ensures c.furthest_of-furthest.ensures in
+    let e = list-furthest c.args.x.size c.align_up-at.result c.args.names c.args.p.furthest c.args.pointer c.line_fields-fields.ensures (rw c.from.ensures at c.furthest_of-furthest.ensures) in
     let low : c.args.p.furthest < 2 ^ 32 = omega arith in
     let end : c.align_up-at.result + c.args.names * c.args.x.size < 2 ^ 32 = omega (arith, names-small c.requires.3 c.requires.1, c.align_up-at.ensures.1, c.requires.0, c.requires.2) in
     record { fits = rw e (furthest-low (2 ^ 32) c.align_up-at.result c.args.x.size c.args.pointer c.args.names c.args.p.furthest low end) }
 
 pub returns : goal.returns
-returns c = (line-placed c.args.p _ c.args.x.size c.args.x.align c.args.names c.align_up-at.result c.args.pointer c.align_up-at.ensures.0 refl (list-furthest c.args.x.size c.align_up-at.result c.args.names c.args.p.furthest c.args.pointer c.line_fields-fields.ensures c.furthest_of-furthest.ensures), omega (arith, names-small c.requires.3 c.requires.1, c.align_up-at.ensures.1, c.requires.2))
+returns c = (line-placed c.args.p _ c.args.x.size c.args.x.align c.args.names c.align_up-at.result c.args.pointer c.align_up-at.ensures.0 refl (list-furthest c.args.x.size c.align_up-at.result c.args.names c.args.p.furthest c.args.pointer c.line_fields-fields.ensures (rw c.from.ensures at c.furthest_of-furthest.ensures)), omega (arith, names-small c.requires.3 c.requires.1, c.align_up-at.ensures.1, c.requires.2))
