@@ -72,7 +72,7 @@ scalar_of f x =
     (v_str (or_else [] (unhex x))))
 
 -- k is what a look-up answered, and there is room for a string at `top`
-pub record AnsweredAt (t : Bytes) (k top : ℕ) : Type 0 where
+pub record AnsweredAt (t : Bytes) (k : Option ℕ) (top : ℕ) : Type 0 where
   pub answered : Answered t k
   pub low : 49152 ≤ top
   pub room : top + 256 ≤ length t

@@ -4,8 +4,8 @@ use Rattle.codes.proofs.Values.{value-number, no-value}
 use Rattle.leaf.proofs.Leaves.{found_none, found-int, found-real, found-apart, found-string, found-failed}
 use Rattle.leaf.proofs.constant.Goals as goal
 
-pub returns-then-k-eq0 : goal.returns-then-k-eq0
-returns-then-k-eq0 c = found_none c.requires c.if-k-eq0.true
+pub returns-in_default : goal.returns-in_default
+returns-in_default c = found_none c.requires c.in_default.is
 
 pub returns-in-Some-Int : goal.returns-in-Some-Int
 returns-in-Some-Int c =
