@@ -4,12 +4,13 @@ use mathlib.Core.Bool.{Bool, true, false, not}
 use mathlib.Core.List.{[], ◌∷◌, ◌++◌, append_assoc}
 use Rattle.std.specs.Prelude.{Option, None, Some}
 use Rattle.std.specs.Option.{is_some}
-use Prim.Native.Nat.{ℕ, ◌+◌, ◌-◌, ◌/◌, ◌%◌, ◌≤◌, ◌<◌}
+use Prim.Native.Nat.{ℕ, suc, ◌+◌, ◌-◌, ◌/◌, ◌%◌, ◌≤◌, ◌<◌}
 use native.Mathlib.Omega.{arith}
 use native.Mathlib.Numerals.{add-one}
 use lib.IntN.{ℤ}
 use lib.Ieee.{Float, binary64, of_bits, to_bits}
-use lib.ListN.{length, take, drop}
+use lib.ListN.{length, take, drop, get_or}
+use Rattle.lines.specs.Lines.{read_at}
 use mir.Syntax.{w64}
 use mir.Val.{SFits}
 use mir.ValLaws.{to_z-of_z}
@@ -97,6 +98,10 @@ row-qualified m n r = simp append_assoc
 
 nothing : {d : Bytes} {at : ℕ} (t : Bytes) → t ≡ [] → at ≤ length d + 1 → Wrote d at t d at
 nothing {d} {at} t e h = wrote_as (sym e) (wrote_none d at h)
+
+-- the first field of line k, from 0
+pub name-of : (s : Bytes) (k : ℕ) {x : Bytes} → x ≡ get_or (read_at s k).fields 0 [] → x ≡ first_field s (suc k)
+name-of s k e = let z : suc k - 1 ≡ k = omega arith in rw z e
 
 module _ (s t : Bytes) (m i : ℕ) where
   module _ {k : ℕ} (hk : k ≡ module_line_of t i) where

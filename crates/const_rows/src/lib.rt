@@ -53,11 +53,10 @@ fn qualified_row(sheet: &[u8], work: &[u8], c: Known, out: &mut [u8], at: usize,
     requires { (ConstTable sheet.now work.now c.lines c.consts) × (i < c.consts) × (at ≤ length out.old + 1) }
     ensures { Wrote out.old at (qualified_part sheet.now work.now c.consts i) out.new result }
 {
-    let k = names::module_line_of(work, i);
-    if k == 0 {
+    let Some(k) = names::module_line_of(work, i) else {
         return at;
-    }
-    let within = lines::field_at(sheet, work, c.lines, k - 1, 0);
+    };
+    let within = lines::field_at(sheet, work, c.lines, k, 0);
     let name = lines::field_at(sheet, work, c.lines, names::line_of(work, i) - 1, 0);
     let qualified = Key {
         within: Some(within),

@@ -215,19 +215,6 @@ module _ (s q x : Bytes) {b : Bool} (e : b ≡ same_option (sheet_source s).impl
   unfolding qualified_digest
   digest-of-both f g = rw (← e, f, ← h) g
 
-module _ (s : Bytes) (k : ℕ) (x : Bytes) {d : ℕ} where
-  pub digest-outside : k ≡ 0 → d ≡ digest x → d ≡ const_digest s k x
-  unfolding const_digest
-  digest-outside z e = rw z e
-
-  pub digest-within : (k ≡ 0 → ⊥) → {q : Bytes} → q ≡ first_field s k → d ≡ qualified_digest s q x → d ≡ const_digest s k x
-  unfolding const_digest
-  digest-within z {q} e h = go k z (h ∙ ap (λ (w : Bytes). qualified_digest s w x) e)
-    where
-      go : (j : ℕ) → (j ≡ 0 → ⊥) → d ≡ qualified_digest s (first_field s j) x → d ≡ const_digest s j x
-      go zero y g = absurd (y refl)
-      go (suc j) y g = g
-
 -- an entry that answers has the digest that is looked for
 module _ (s t : Bytes) (i : ℕ) where
   within-digest : (w : Option Bytes) (j : ℕ) (y : Bytes) → is_within s j w ≡ true → const_digest s j y ≡ digest_within s w y

@@ -4,7 +4,7 @@
 ghost use Rattle.std.specs.Prelude.{◌≡◌, true, ◌&&◌, ℕ, ◌+◌, ◌≤◌, ◌<◌, eqb, length};
 ghost use Rattle.semantics.specs.Text as Text;
 ghost use Rattle.chains.specs.Chains.{newest_of, count_to, chain_of, digest_at, in_chain};
-ghost use Rattle.implement.specs.Modules.{first_field};
+ghost use Rattle.implement.specs.Modules.{line_number, first_field};
 ghost use Rattle.checks.specs.Checks.{Checked};
 ghost use Rattle.names.specs.Table.{const_line_of, module_line_of, bits_of, kind_of, const_chains, qualified_digest, const_digest, key_of, key_digest, answers_key, newest_key, Looked, ConstTable, ConstEntry};
 
@@ -40,12 +40,12 @@ pub fn line_of(work: &[u8], i: usize) -> usize
     words::u16_at(work, area::CONSTANTS + area::CONSTANT * i)
 }
 
-// The line of its module, 0 for none.
-pub fn module_line_of(work: &[u8], i: usize) -> usize
+// The line of its module, from 0.
+pub fn module_line_of(work: &[u8], i: usize) -> Option<usize>
     requires { (i < 128) × (65536 ≤ length work.now) }
-    ensures { result ≡ module_line_of work.now i }
+    ensures { line_number result ≡ module_line_of work.now i }
 {
-    words::u16_at(work, area::CONSTANTS + 2 + area::CONSTANT * i)
+    words::u16_at(work, area::CONSTANTS + 2 + area::CONSTANT * i).checked_sub(1)
 }
 
 // The kind of its value, 0 where it failed.
@@ -77,16 +77,15 @@ fn qualified_digest(sheet: &[u8], work: &[u8], n: usize, within: &[u8], name: &[
     words::digest_on(d, within)
 }
 
-// The digest for a name in the module of line k, in none for 0.
-pub fn const_digest(sheet: &[u8], work: &[u8], n: usize, k: usize, name: &[u8]) -> usize
-    requires { (Checked sheet.now work.now n) × (k ≤ n) }
-    ensures { (result ≡ const_digest sheet.now k name.now) × (result < 256) }
+// The digest for a name in the module of line k, from 0.
+pub fn const_digest(sheet: &[u8], work: &[u8], n: usize, k: Option<usize>, name: &[u8]) -> usize
+    requires { (Checked sheet.now work.now n) × (line_number k ≤ n) }
+    ensures { (result ≡ const_digest sheet.now (line_number k) name.now) × (result < 256) }
 {
-    if k == 0 {
-        return words::digest(name);
+    match k {
+        None => words::digest(name),
+        Some(i) => qualified_digest(sheet, work, n, lines::field_at(sheet, work, n, i, 0), name),
     }
-    let within = lines::field_at(sheet, work, n, k - 1, 0);
-    qualified_digest(sheet, work, n, within, name)
 }
 
 // The digest for a key.
@@ -100,21 +99,14 @@ fn key_digest(sheet: &[u8], work: &[u8], n: usize, key: Key) -> usize
     }
 }
 
-// Whether line k, a `con` or a `mod` line, has this name.
-fn is_named(sheet: &[u8], work: &[u8], n: usize, k: usize, name: &[u8]) -> bool
-    requires { (Checked sheet.now work.now n) × (0 < k) × (k ≤ n) }
-    ensures { result ≡ Text.same name.now (first_field sheet.now k) }
-{
-    lines::first_is(sheet, work, n, k - 1, name)
-}
-
 // Whether entry i has this digest and its constant this name.
 fn has_name(sheet: &[u8], work: &[u8], n: usize, i: usize, name: &[u8], d: usize) -> bool
     requires { ConstEntry sheet.now work.now n i }
     ensures { result ≡ eqb (digest_at work.now const_chains i) d && Text.same name.now (first_field sheet.now (const_line_of work.now i)) }
 {
     // the line is looked at last
-    chains::digest_at(work, CHAINS, i) == d && is_named(sheet, work, n, line_of(work, i), name)
+    chains::digest_at(work, CHAINS, i) == d
+        && lines::first_is(sheet, work, n, line_of(work, i) - 1, name)
 }
 
 // Whether entry i enters a constant by a key, which has the digest d.
@@ -125,10 +117,10 @@ fn answers(sheet: &[u8], work: &[u8], n: usize, i: usize, key: Key, d: usize) ->
     if !has_name(sheet, work, n, i, key.name, d) {
         return false;
     }
-    let k = module_line_of(work, i);
-    match key.within {
-        None => implement::is_own(sheet, work, n, k),
-        Some(within) => k != 0 && is_named(sheet, work, n, k, within),
+    match (key.within, module_line_of(work, i)) {
+        (None, k) => implement::is_own(sheet, work, n, k),
+        (Some(_), None) => false,
+        (Some(within), Some(k)) => lines::first_is(sheet, work, n, k, within),
     }
 }
 

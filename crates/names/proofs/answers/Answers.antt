@@ -1,5 +1,9 @@
 -- `names::answers` meets its contract.
-use borrow.Author.Tests.{ne_eqb, eq-eqb}
+use Prim.Native.Nat.{suc, ◌-◌}
+use native.Mathlib.Omega.{arith}
+use mathlib.Core.Path.{◌≡◌, sym, ap, ◌∙◌}
+use borrow.Author.Tests.{ne_eqb}
+use Rattle.implement.specs.Modules.{line_number}
 use Rattle.names.proofs.Laws as Laws
 use Rattle.names.specs.Table.{key_of, is_within}
 use Rattle.names.proofs.answers.Goals as goal
@@ -9,20 +13,25 @@ returns-then-not-has_name c =
     let a = c.args in
     Laws.key-other a.sheet.now a.work.now a.i a.d (key_of a.key) c.has_name.ensures c.requires.0 c.if-not-has_name.true c.requires.1
 
-pub returns-in-None : goal.returns-in-None
+pub returns-in-None-default : goal.returns-in-None-default
 unfolding is_within
-returns-in-None c =
+returns-in-None-default c =
     let a = c.args in
-    Laws.key-within a.sheet.now a.work.now a.i a.d (key_of a.key) c.has_name.ensures c.if-not-has_name.false c.module_line_of-k.ensures (rw c.in-None.is c.is_own.ensures)
+    Laws.key-within a.sheet.now a.work.now a.i a.d (key_of a.key) c.has_name.ensures c.if-not-has_name.false c.module_line_of-k.ensures (rw c.in-None-default.is-0 c.is_own.ensures)
 
-pub returns-then-k-ne0 : goal.returns-then-k-ne0
+pub returns-in-Some-None : goal.returns-in-Some-None
 unfolding is_within
-returns-then-k-ne0 c =
+returns-in-Some-None c =
     let a = c.args in
-    Laws.key-within a.sheet.now a.work.now a.i a.d (key_of a.key) c.has_name.ensures c.if-not-has_name.false c.module_line_of-k.ensures (rw (c.in-Some.is, ne_eqb c.module_line_of-k.result 0 c.if-k-ne0.true) c.is_named.ensures)
+    let z = ap line_number (sym c.in-Some-None.is-1) ∙ c.module_line_of-k.ensures in
+    Laws.key-within a.sheet.now a.work.now a.i a.d (key_of a.key) c.has_name.ensures c.if-not-has_name.false z (rw c.in-Some-None.is-0)
 
-pub returns-else-k-ne0 : goal.returns-else-k-ne0
+pub returns-in-Some-Some : goal.returns-in-Some-Some
 unfolding is_within
-returns-else-k-ne0 c =
+returns-in-Some-Some c =
     let a = c.args in
-    Laws.key-within a.sheet.now a.work.now a.i a.d (key_of a.key) c.has_name.ensures c.if-not-has_name.false c.module_line_of-k.ensures (rw (c.in-Some.is, eq-eqb c.module_line_of-k.result 0 c.if-k-ne0.false))
+    let k = c.in-Some-Some.k in
+    let z = ap line_number (sym c.in-Some-Some.is-1) ∙ c.module_line_of-k.ensures in
+    let e : suc k - 1 ≡ k = omega arith in
+    Laws.key-within a.sheet.now a.work.now a.i a.d (key_of a.key) c.has_name.ensures c.if-not-has_name.false z
+    (rw (c.in-Some-Some.is-0, ne_eqb (suc k) 0 (λ q. omega arith), e) c.first_is.ensures)
