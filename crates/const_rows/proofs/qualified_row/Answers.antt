@@ -22,13 +22,13 @@ pub look_up_before-requires : goal.look_up_before-requires
 look_up_before-requires c =
     let a = c.args in
     let p = c.requires in
-    (p.0, p.1, Laws.qualified-itself a.sheet.now a.work.now a.c.consts a.i (ap line_number (sym c.in-Some.is) ∙ c.module_line_of.ensures) (λ z. omega arith) (Laws.name-of _ _ c.field_at-within.ensures) c.line_of.ensures c.field_at-name.ensures)
+    (p.0, p.1, Laws.qualified-itself a.sheet.now a.work.now a.c.consts a.i (ap line_number (sym c.in-Some.is) ∙ c.module_line_of.ensures) (λ z. omega arith) (Laws.name-of c.args.sheet.now c.in-Some.k c.field_at-within.ensures) c.line_of.ensures c.field_at-name.ensures)
 
 pub returns-then-is_some : goal.returns-then-is_some
-returns-then-is_some c = Laws.qualified-old c.args.sheet.now c.args.work.now c.args.c.consts c.args.i (ap line_number (sym c.in-Some.is) ∙ c.module_line_of.ensures) (λ z. omega arith) (Laws.name-of _ _ c.field_at-within.ensures) c.line_of.ensures c.field_at-name.ensures c.look_up_before.result c.look_up_before.ensures.has (sym c.is_some.ensures ∙ c.if-is_some.true) c.requires.2
+returns-then-is_some c = Laws.qualified-old c.args.sheet.now c.args.work.now c.args.c.consts c.args.i (ap line_number (sym c.in-Some.is) ∙ c.module_line_of.ensures) (λ z. omega arith) (Laws.name-of c.args.sheet.now c.in-Some.k c.field_at-within.ensures) c.line_of.ensures c.field_at-name.ensures c.look_up_before.result c.look_up_before.ensures.has (sym c.is_some.ensures ∙ c.if-is_some.true) c.requires.2
 
 pub put_rest-requires : goal.put_rest-requires
 put_rest-requires c = answered c.requires.0.logged c.requires.0.checked c.look_up-r.ensures.low
 
 pub returns : goal.returns
-returns c = Laws.qualified-new c.args.sheet.now c.args.work.now c.args.c.consts c.args.i (ap line_number (sym c.in-Some.is) ∙ c.module_line_of.ensures) (λ z. omega arith) (Laws.name-of _ _ c.field_at-within.ensures) c.line_of.ensures c.field_at-name.ensures c.look_up_before.result c.look_up-r.result c.look_up_before.ensures.has (sym c.is_some.ensures ∙ c.if-is_some.false) c.look_up-r.ensures.value c.put_part-p.ensures c.put_part-q.ensures c.put_part-a.ensures c.put_rest.ensures
+returns c = Laws.qualified-new c.args.sheet.now c.args.work.now c.args.c.consts c.args.i (ap line_number (sym c.in-Some.is) ∙ c.module_line_of.ensures) (λ z. omega arith) (Laws.name-of c.args.sheet.now c.in-Some.k c.field_at-within.ensures) c.line_of.ensures c.field_at-name.ensures c.look_up_before.result c.look_up-r.result c.look_up_before.ensures.has (sym c.is_some.ensures ∙ c.if-is_some.false) c.look_up-r.ensures.value c.put_part-p.ensures c.put_part-q.ensures c.put_part-a.ensures c.put_rest.ensures
