@@ -26,7 +26,7 @@ use Rattle.global_table.specs.Table.{VarLine, type_on, names_on, entries_from}
 use Rattle.globals.specs.Collect.{allocation_in, PlacesEntered, PlacesLaid, names_at, names_to, lay_lines, lay_line, GlobalsCollected}
 use Rattle.globals.specs.Vars.{laid_at, laid_on}
 use Rattle.globals.proofs.Allocation.{laid-all, laid_next}
-use Rattle.global_table.proofs.Table.{places_count, checked-outside, places-kept, tabled-none, tabled-kept}
+use Rattle.global_table.proofs.Table.{places_count, places-kept, tabled-none, tabled-kept}
 use Rattle.globals.proofs.Declare.{laid_same, laid_then}
 use Rattle.globals.proofs.Laid.{laid-number}
 
@@ -82,9 +82,6 @@ module _ (s t : Bytes) (n : ℕ) (c : Checked s t n) where
   names-few i h = let e : suc i + (n - suc i) ≡ n = omega arith in omega (arith, names_more s i, rw e at (names-up s (suc i) (n - suc i)), names-all)
 
 -- ---- all lines
-
-pub open-outside : {s t u : Bytes} {n i : ℕ} {k : Option ℕ} → Outside 7168 9216 t u → Open s t n i k → Open s u n i k
-open-outside a o = record { checked = checked-outside a o.checked; within = o.within; low = o.low; here = o.here }
 
 -- the globals of the first i lines have places
 pub record LinesLaid (s t u : Bytes) (n : ℕ) (g : Globals) (k : Option ℕ) (i : ℕ) : Type 0 where

@@ -76,12 +76,6 @@ module _ (s t : Bytes) (n r j : ℕ) (g : Globals) (st : PlacesEntered s t n g) 
   line_low : r < 65536
   line_low = omega (arith, l.last, l.checked.whole.lined.few)
 
-  pub enter-fits : (g.count < 256) × (r < 65536) × (j < 256) × (off < 65536) × (d < 256) × (65536 ≤ length t)
-  enter-fits = (full, line_low, omega arith, omega (arith, off-low), small, l.checked.whole.room)
-
-  pub end_fits : off + size < 4294967296
-  end_fits = omega (arith, off-low, size_low)
-
   with_entry : Bytes
   with_entry = global_entered t g.count r j off d
 
@@ -183,10 +177,6 @@ module _ (s t : Bytes) (n r : ℕ) (g : Globals) (count : ℕ) where
   naming-start st = record { within = omega arith; laid = laid_same st refl (omega arith) }
 
   module _ (l : VarLine s t n r) (hc : (count ≡ length (names_on s r)) × (count ≤ 16)) (u : Bytes) (h : Globals) (j : ℕ) (m : Naming s t u n r count g h j) where
-    pub naming-here : j < count → g.count + length (names_on s r) ≤ 256 → (PlacesEntered s u n h) × (VarLine s u n r) × (j < 16) × (h.count < 256)
-    naming-here k full =
-        (m.laid.standing, var-outside m.laid.outside l, omega (arith, hc.1), omega (arith, hc.0, m.laid.most))
-
     pub naming-next : {v : Bytes} {h' : Globals} → j < count → PlacesLaid s u v n (lay_name (type_on s r) (name_on s r j) (allocation_in s u h)) h' (h.count + 1) → Naming s t v n r count g h' (j + 1)
     naming-next {v} {h'} k a =
         let fs = (read_at s (r - 1)).fields in
