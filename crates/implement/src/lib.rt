@@ -43,3 +43,14 @@ pub fn open_after(sheet: &[u8], work: &[u8], n: usize, i: usize, k: Option<usize
         _ => k,
     }
 }
+
+// The number of a line that is counted from 0; 0 for none.
+pub fn line_number(k: Option<usize>) -> usize
+    requires { line_number k < 65536 }
+    ensures { result ≡ line_number k }
+{
+    match k {
+        None => 0,
+        Some(i) => i + 1,
+    }
+}

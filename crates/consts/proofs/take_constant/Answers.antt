@@ -1,11 +1,12 @@
 -- `consts::take_constant` meets its contract.
+use Rattle.implement.specs.Modules.{line_number}
 use Rattle.consts.proofs.Steps as Steps
 use Rattle.consts.proofs.take_constant.Goals as goal
 
 pub fold_const-requires : goal.fold_const-requires
 fold_const-requires c =
     let a = c.args in
-    Steps.value-foldable a.sheet.now a.work.now a.c.lines a.c.consts a.k a.i c.requires c.number_at-r.result c.number_at-r.ensures.0
+    Steps.value-foldable a.sheet.now a.work.now a.c.lines a.c.consts (line_number a.k) a.i c.requires c.number_at-r.result c.number_at-r.ensures.0
 
 pub enter-requires : goal.enter-requires
 enter-requires c =
