@@ -8,15 +8,18 @@ ghost use Rattle.names.specs.Table.{found, log_in, ConstTable, Answered};
 ghost use Rattle.const_rows.specs.Rows.{qualified_part, plain_part, rows_to, entry_rows};
 
 use codes::value::{self, Value};
-use names::Known;
+use names::{Key, Known};
 
 // The fields of the value that a look-up found, to the row's end.
 fn put_value(work: &[u8], out: &mut [u8], at: usize, r: Option<usize>) -> usize
     requires { Answered work.now r }
     ensures { Wrote out.old at (row (value_fields (found work.now r))) out.new result }
 {
-    let b = names::slot_bits(work, r - 1);
-    match value::of_number(names::slot_kind(work, r - 1)) {
+    let Some(i) = r else {
+        return write::put_part(out, at, b"x\n");
+    };
+    let b = names::slot_bits(work, i);
+    match value::of_number(names::slot_kind(work, i)) {
         Some(Value::Int) => {
             let p = write::put_part(out, at, b"i,");
             let q = write::put_int(out, p, ints::of_bits(b));

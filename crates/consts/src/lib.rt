@@ -50,13 +50,14 @@ fn take_constant(
     let r = lines::number_at(sheet, work, c.lines, i, 3);
     let name = lines::field_at(sheet, work, c.lines, i, 0);
     let d = names::const_digest(sheet, work, c.lines, k, name);
+    let within = implement::line_number(k);
     match fold::fold_const(sheet, work, c, iota, r, area::STACK) {
         Ok(v) => {
-            entries::enter(work, c.consts, i + 1, k, v, d);
+            entries::enter(work, c.consts, i + 1, within, v, d);
             true
         }
         Err(NoValue::Failed) => {
-            entries::enter_failed(work, c.consts, i + 1, k, d);
+            entries::enter_failed(work, c.consts, i + 1, within, d);
             true
         }
         Err(NoValue::LongString) => false,

@@ -181,8 +181,8 @@ scalar-casts t top q h = let w = h t top in record { value = w.0 ∙ q; at = w.1
 
 -- ---- the value of a constant that was found
 
-module _ {t : Bytes} {k top : ℕ} (w : AnsweredAt t k top) where
-  pub found_none : k ≡ 0 → Answers t top (Err Failed) (from_option (found t k)) × Kept top t t
+module _ {t : Bytes} {k : Option ℕ} {top : ℕ} (w : AnsweredAt t k top) where
+  pub found_none : k ≡ None → Answers t top (Err Failed) (from_option (found t k)) × Kept top t t
   unfolding found
   found_none e = (answers-failed (rw e) t top, kept-all)
 
@@ -240,7 +240,7 @@ module _ {s t : Bytes} {n m r top : ℕ} (a : Foldable s t n m r top) where
     pub name-iota : {iota : ℕ} → same x (bytes "iota") ≡ true → SFits w64 (pos iota) → Folds s t m iota r top t (Ok (Int (held w64 (pos iota))))
     name-iota {iota} q f = record { answer = answers-int f (sym (fold-name iota e ∙ rw (← hx, q))) t top; kept = kept-all }
 
-    pub name-found : {iota : ℕ} → same x (bytes "iota") ≡ false → (k : ℕ) → value_of (look_up (plain x) (log_in s t m)) ≡ found t k → {u : Bytes} {y : Result ConstVal NoValue}
+    pub name-found : {iota : ℕ} → same x (bytes "iota") ≡ false → (k : Option ℕ) → value_of (look_up (plain x) (log_in s t m)) ≡ found t k → {u : Bytes} {y : Result ConstVal NoValue}
         → Answers u top y (from_option (found t k)) × Kept top t u → Folds s t m iota r top u y
     name-found {iota} q k p b = record { answer = answers-as (sym (fold-name iota e ∙ rw (← hx, q, p))) b.0; kept = b.1 }
 
@@ -270,7 +270,7 @@ module _ {s t : Bytes} {n m r top : ℕ} (a : Foldable s t n m r top) where
           kept = kept-all;
         }
 
-    pub qualified-found : {iota : ℕ} → form_at t (k - 1) ≡ 11 → {x y : Bytes} → x ≡ get_or (read_at s (k - 1)).fields 0 [] → y ≡ get_or (read_at s (r - 1)).fields 1 [] → (i : ℕ) → value_of (look_up (qualified x y) (log_in s t m)) ≡ found t i
+    pub qualified-found : {iota : ℕ} → form_at t (k - 1) ≡ 11 → {x y : Bytes} → x ≡ get_or (read_at s (k - 1)).fields 0 [] → y ≡ get_or (read_at s (r - 1)).fields 1 [] → (i : Option ℕ) → value_of (look_up (qualified x y) (log_in s t m)) ≡ found t i
         → {u : Bytes} {z : Result ConstVal NoValue} → Answers u top z (from_option (found t i)) × Kept top t u → Folds s t m iota r top u z
     qualified-found {iota} f {x} {y} hx hy i p b =
         record {

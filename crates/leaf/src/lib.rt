@@ -16,7 +16,7 @@ ghost use Rattle.leaf.specs.Folds.{scalar_of, Folds, Leaf, ScalarLine, Ident, Qu
 
 use codes::ex;
 use codes::value::{self, Value};
-use names::Known;
+use names::{Key, Known};
 use values::{ConstVal, Folded, NoValue};
 
 fn integer(x: &[u8]) -> ConstVal
@@ -63,11 +63,11 @@ fn constant(work: &mut [u8], k: Option<usize>, top: usize) -> Folded
     requires { AnsweredAt work.old k top }
     ensures { (Answers work.new top result (from_option (found work.old k))) × (Kept top work.old work.new) }
 {
-    if k == 0 {
+    let Some(i) = k else {
         return Err(NoValue::Failed);
-    }
-    let b = names::slot_bits(work, k - 1);
-    match value::of_number(names::slot_kind(work, k - 1)) {
+    };
+    let b = names::slot_bits(work, i);
+    match value::of_number(names::slot_kind(work, i)) {
         Some(Value::Int) => Ok(ConstVal::Int(ints::of_bits(b))),
         Some(Value::Real) => Ok(ConstVal::Real(reals::of_bits(b))),
         Some(Value::Str) => {
