@@ -2,7 +2,8 @@
 use mathlib.Core.Path.{◌≡◌, refl, sym, ap, ◌∙◌}
 use mathlib.Core.Bool.{Bool, true, false, cond, ◌&&◌, false≢true}
 use mathlib.Core.Logic.{⊎_elim}
-use Prim.Native.Nat.{ℕ, zero, suc, ◌+◌, ◌-◌, ◌≤◌, ◌<◌}
+use Rattle.std.specs.Prelude.{Option, None, Some}
+use Prim.Native.Nat.{ℕ, zero, suc, ◌+◌, ◌≤◌, ◌<◌}
 use native.Mathlib.Omega.{arith}
 use native.Mathlib.Nat.{eq-or-lt_of_le}
 use lib.Dec.{ltb, eqb}
@@ -13,7 +14,7 @@ use Rattle.semantics.specs.Text.{Bytes}
 use Rattle.checks.specs.Checks.{Outside}
 use Rattle.checks.proofs.Kept.{outside-then, outside_set}
 use Rattle.chains.specs.declared.ChainPlaces.{ChainPlaces}
-use Rattle.chains.specs.Chains.{newest_of, chain_of, digest_place, digest_at, link_at, head_at, chain_at, in_chain, ChainRoom, entry_below, newest_in, earlier_than, Chained, linked}
+use Rattle.chains.specs.Chains.{newest_of, count_to, chain_of, digest_place, digest_at, link_at, head_at, chain_at, in_chain, ChainRoom, entry_below, newest_in, earlier_than, Chained, linked}
 
 -- a chain is one of 128
 pub chain-small : (t : Bytes) (c : ChainPlaces) (i : ℕ) → chain_at t c i < 128
@@ -23,7 +24,7 @@ chain-small t c i = omega arith
 -- ---- the newest entry that answers
 
 module _ (answers : ℕ → Bool) where
-  pub newest-yes : (i : ℕ) → answers i ≡ true → newest_of answers (suc i) ≡ suc i
+  pub newest-yes : (i : ℕ) → answers i ≡ true → newest_of answers (suc i) ≡ Some i
   unfolding newest_of
   newest-yes i e = rw e
 
@@ -31,47 +32,47 @@ module _ (answers : ℕ → Bool) where
   unfolding newest_of
   newest-no i e = rw e
 
-  newest-none : newest_of answers 0 ≡ 0
+  newest-none : newest_of answers 0 ≡ None
   unfolding newest_of
   newest-none = refl
 
-  pub newest-low : (m : ℕ) → newest_of answers m ≤ m
+  pub newest-low : (m : ℕ) → count_to (newest_of answers m) ≤ m
   unfolding newest_of
   newest-low zero = omega arith
   newest-low (suc m) = go (answers m) (newest-low m)
     where
-      go : (b : Bool) → newest_of answers m ≤ m → cond b (suc m) (newest_of answers m) ≤ suc m
+      go : (b : Bool) → count_to (newest_of answers m) ≤ m → count_to (cond b (Some m) (newest_of answers m)) ≤ suc m
       go true h = omega arith
       go false h = omega arith
 
-  pub newest-most : {m r : ℕ} → r ≡ newest_of answers m → r ≤ m
-  newest-most {m} e = let q = newest-low m in omega (arith, e)
+  pub newest-most : {m : ℕ} {r : Option ℕ} → r ≡ newest_of answers m → count_to r ≤ m
+  newest-most {m} e = rw e (newest-low m)
 
   -- it answers
-  newest-answers : (m i : ℕ) → newest_of answers m ≡ suc i → answers i ≡ true
+  newest-answers : (m i : ℕ) → newest_of answers m ≡ Some i → answers i ≡ true
   unfolding newest_of
-  newest-answers zero i e = let z : 0 ≡ suc i = e in absurd (omega (arith, z))
+  newest-answers zero i e = cc e
   newest-answers (suc m) i e = go (answers m) refl e (newest-answers m i)
     where
-      go : (b : Bool) → answers m ≡ b → cond b (suc m) (newest_of answers m) ≡ suc i → (newest_of answers m ≡ suc i → answers i ≡ true) → answers i ≡ true
-      go true q h f = let z : m ≡ i = omega (arith, h) in rw (← z) q
+      go : (b : Bool) → answers m ≡ b → cond b (Some m) (newest_of answers m) ≡ Some i → (newest_of answers m ≡ Some i → answers i ≡ true) → answers i ≡ true
+      go true q h f = let z : m ≡ i = cc h in rw (← z) q
       go false q h f = f h
 
   -- no entry behind it answers
-  pub newest-from : (m i : ℕ) → i < m → answers i ≡ true → i < newest_of answers m
+  pub newest-from : (m i : ℕ) → i < m → answers i ≡ true → i < count_to (newest_of answers m)
   unfolding newest_of
   newest-from zero i h q = absurd (omega arith)
   newest-from (suc m) i h q = go (answers m) refl (newest-from m i)
     where
-      go : (b : Bool) → answers m ≡ b → (i < m → answers i ≡ true → i < newest_of answers m) → i < cond b (suc m) (newest_of answers m)
+      go : (b : Bool) → answers m ≡ b → (i < m → answers i ≡ true → i < count_to (newest_of answers m)) → i < count_to (cond b (Some m) (newest_of answers m))
       go true e f = omega arith
       go false e f = f (⊎_elim (λ (x : i ≡ m). absurd (false≢true (sym e ∙ ap answers (sym x) ∙ q))) (λ (x : i < m). x) (eq-or-lt_of_le (omega arith))) q
 
-  pub newest-none-later : {m r : ℕ} → r ≡ newest_of answers m → (i : ℕ) → r ≤ i → i < m → answers i ≡ false
+  pub newest-none-later : {m : ℕ} {r : Option ℕ} → r ≡ newest_of answers m → (i : ℕ) → count_to r ≤ i → i < m → answers i ≡ false
   newest-none-later {m} e i h l = go (answers i) refl
     where
       go : (b : Bool) → answers i ≡ b → b ≡ false
-      go true q = let z = newest-from m i l q in absurd (omega (arith, e, z))
+      go true q = let z = newest-from m i l q in absurd (omega (arith, ap count_to e, z))
       go false q = refl
 
 -- the same entries answer
@@ -82,7 +83,7 @@ newest-same f g (suc m) h = rw (h m (omega arith), newest-same f g m (λ i k. h 
 
 -- where only members answer, the newest that answers is found among the newest member and those before it
 module _ (answers member : ℕ → Bool) where
-  newest-among : (m : ℕ) → ((i : ℕ) → i < m → answers i ≡ true → member i ≡ true) → newest_of answers m ≡ newest_of answers (newest_of member m)
+  newest-among : (m : ℕ) → ((i : ℕ) → i < m → answers i ≡ true → member i ≡ true) → newest_of answers m ≡ newest_of answers (count_to (newest_of member m))
   unfolding newest_of
   newest-among zero only = refl
   newest-among (suc m) only = go (member m) refl (newest-among m (λ i h. only i (omega arith)))
@@ -91,65 +92,65 @@ module _ (answers member : ℕ → Bool) where
       other true e q = absurd (false≢true (sym q ∙ only m (omega arith) e))
       other false e q = e
 
-      go : (b : Bool) → member m ≡ b → newest_of answers m ≡ newest_of answers (newest_of member m) → newest_of answers (suc m) ≡ newest_of answers (cond b (suc m) (newest_of member m))
+      go : (b : Bool) → member m ≡ b → newest_of answers m ≡ newest_of answers (count_to (newest_of member m)) → newest_of answers (suc m) ≡ newest_of answers (count_to (cond b (Some m) (newest_of member m)))
       go true e h = refl
       go false e h = newest-no answers m (other (answers m) refl e) ∙ h
 
--- ---- a look-up along chain k of m entries, of which those that answer are members: i is the number of the next entry, 0 at the end
+-- ---- a look-up along chain k of m entries, of which those that answer are members: i is the next entry
 
-pub record Along (t : Bytes) (c : ChainPlaces) (k m : ℕ) (answers : ℕ → Bool) (i : ℕ) : Type 0 where
-  pub low : i ≤ m
-  pub next : newest_of answers m ≡ newest_of answers i
-  pub member : (j : ℕ) → i ≡ suc j → chain_at t c j ≡ k
+pub record Along (t : Bytes) (c : ChainPlaces) (k m : ℕ) (answers : ℕ → Bool) (i : Option ℕ) : Type 0 where
+  pub low : count_to i ≤ m
+  pub next : newest_of answers m ≡ newest_of answers (count_to i)
+  pub member : (j : ℕ) → i ≡ Some j → chain_at t c j ≡ k
   pub only : (j : ℕ) → j < m → answers j ≡ true → in_chain t c k j ≡ true
   pub links : (j : ℕ) → j < m → earlier_than t c j ≡ newest_of (in_chain t c (chain_at t c j)) j
 
-below-low : (t : Bytes) (c : ChainPlaces) (m k j : ℕ) → entry_below t c m k j ≤ m
+below-low : (t : Bytes) (c : ChainPlaces) (m k j : ℕ) → count_to (entry_below t c m k j) ≤ m
 unfolding entry_below
 below-low t c m k j = go (ltb j m) refl (in_chain t c k j)
   where
-    go : (a : Bool) → ltb j m ≡ a → (b : Bool) → cond (a && b) (suc j) 0 ≤ m
+    go : (a : Bool) → ltb j m ≡ a → (b : Bool) → count_to (cond (a && b) (Some j) None) ≤ m
     go true e true = let l = ltb-true j m e in omega arith
     go true e false = omega arith
     go false e b = omega arith
 
 -- a look-up goes on to entries before
-pub earlier-less : (t : Bytes) (c : ChainPlaces) {i r : ℕ} → 0 < i → r ≡ earlier_than t c (i - 1) → r < i
-earlier-less t c {i} h e = let l = below-low t c (i - 1) (chain_at t c (i - 1)) (link_at t c (i - 1)) in omega (arith, e)
+pub earlier-less : (t : Bytes) (c : ChainPlaces) {n : Option ℕ} {i : ℕ} {r : Option ℕ} → n ≡ Some i → r ≡ earlier_than t c i → count_to r < count_to n
+earlier-less t c {i = i} h e = rw (h, e) (let l = below-low t c i (chain_at t c i) (link_at t c i) in omega (arith, l))
 
 module _ {t : Bytes} {c : ChainPlaces} {k m : ℕ} {answers : ℕ → Bool} where
   module _ (links : (j : ℕ) → j < m → earlier_than t c j ≡ newest_of (in_chain t c (chain_at t c j)) j) (only : (j : ℕ) → j < m → answers j ≡ true → in_chain t c k j ≡ true) where
     -- from the newest of the first l entries on
-    from : (l : ℕ) → l ≤ m → newest_of answers m ≡ newest_of answers l → {r : ℕ} → r ≡ newest_of (in_chain t c k) l → Along t c k m answers r
+    from : (l : ℕ) → l ≤ m → newest_of answers m ≡ newest_of answers l → {r : Option ℕ} → r ≡ newest_of (in_chain t c k) l → Along t c k m answers r
     from l h n {r} e = record {
-      low = let q : newest_of (in_chain t c k) l ≤ l = newest-low (in_chain t c k) l in omega (arith, e, q);
-      next = n ∙ newest-among answers (in_chain t c k) l (λ j x. only j (omega arith)) ∙ ap (newest_of answers) (sym e);
+      low = let q = newest-most (in_chain t c k) e in omega (arith, q);
+      next = n ∙ newest-among answers (in_chain t c k) l (λ j x. only j (omega arith)) ∙ ap (λ (w : Option ℕ). newest_of answers (count_to w)) (sym e);
       member = λ j q. eqb-true (chain_at t c j) k (newest-answers (in_chain t c k) l j (sym e ∙ q));
       only = only;
       links = links;
     }
 
-    pub along-from : {r : ℕ} → r ≡ newest_of (in_chain t c k) m → Along t c k m answers r
+    pub along-from : {r : Option ℕ} → r ≡ newest_of (in_chain t c k) m → Along t c k m answers r
     along-from e = from m (omega arith) refl e
 
-  pub along-first : Chained t c m → k < 128 → ((j : ℕ) → j < m → answers j ≡ true → in_chain t c k j ≡ true) → {r : ℕ} → r ≡ newest_in t c m k → Along t c k m answers r
+  pub along-first : Chained t c m → k < 128 → ((j : ℕ) → j < m → answers j ≡ true → in_chain t c k j ≡ true) → {r : Option ℕ} → r ≡ newest_in t c m k → Along t c k m answers r
   along-first h l only e = along-from h.links only (e ∙ h.heads k l)
 
-  -- entry i - 1 answers, or the next older one is asked
-  module _ {i : ℕ} (a : Along t c k m answers i) (h : 0 < i) {b : Bool} (e : b ≡ answers (i - 1)) where
-    its-number : i ≡ suc (i - 1)
-    its-number = omega arith
+  -- entry i answers, or the next older one is asked
+  module _ {n : Option ℕ} (a : Along t c k m answers n) {i : ℕ} (h : n ≡ Some i) where
+    pub along-low : i < m
+    along-low = let l = ap count_to h in omega (arith, a.low, l)
 
-    pub along-found : b ≡ true → i ≡ newest_of answers m
-    along-found q = its-number ∙ sym (a.next ∙ ap (newest_of answers) its-number ∙ newest-yes answers (i - 1) (sym e ∙ q))
+    module _ {b : Bool} (e : b ≡ answers i) where
+      pub along-found : b ≡ true → Some i ≡ newest_of answers m
+      along-found q = sym (a.next ∙ ap (λ (w : Option ℕ). newest_of answers (count_to w)) h ∙ newest-yes answers i (sym e ∙ q))
 
-    pub along-next : b ≡ false → {r : ℕ} → r ≡ earlier_than t c (i - 1) → Along t c k m answers r
-    along-next q x =
-        let low : i - 1 < m = omega (arith, a.low) in
-        from a.links a.only (i - 1) (omega arith) (a.next ∙ ap (newest_of answers) its-number ∙ newest-no answers (i - 1) (sym e ∙ q)) (rw (a.member (i - 1) its-number) at (x ∙ a.links (i - 1) low))
+      pub along-next : b ≡ false → {r : Option ℕ} → r ≡ earlier_than t c i → Along t c k m answers r
+      along-next q x =
+          from a.links a.only i (omega (arith, along-low)) (a.next ∙ ap (λ (w : Option ℕ). newest_of answers (count_to w)) h ∙ newest-no answers i (sym e ∙ q)) (rw (a.member i h) at (x ∙ a.links i along-low))
 
-  pub along-end : {i : ℕ} → i ≡ 0 → Along t c k m answers i → 0 ≡ newest_of answers m
-  along-end e a = sym (a.next ∙ ap (newest_of answers) e ∙ newest-none answers)
+  pub along-end : {n : Option ℕ} → n ≡ None → Along t c k m answers n → None ≡ newest_of answers m
+  along-end e a = sym (a.next ∙ ap (λ (w : Option ℕ). newest_of answers (count_to w)) e ∙ newest-none answers)
 
 -- ---- chains kept
 
@@ -158,7 +159,7 @@ module _ (t u : Bytes) (c : ChainPlaces) (m : ℕ) (chains : (i : ℕ) → i < m
   unfolding entry_below
   below-same n k j h = go (ltb j n) refl
     where
-      go : (b : Bool) → ltb j n ≡ b → cond (b && in_chain u c k j) (suc j) 0 ≡ cond (b && in_chain t c k j) (suc j) 0
+      go : (b : Bool) → ltb j n ≡ b → cond (b && in_chain u c k j) (Some j) None ≡ cond (b && in_chain t c k j) (Some j) None
       go true e = let l = ltb-true j n e in rw (chains j (omega arith))
       go false e = refl
 
@@ -278,11 +279,11 @@ module _ {t : Bytes} {c : ChainPlaces} {n : ℕ} (p : ChainRoom t c) (a : Places
             let l = ltb-false j m e in
             le-ltb j (suc m) (⊎_elim (λ (x : m ≡ j). absurd (q (sym x))) (λ (x : m < j). omega arith) (eq-or-lt_of_le l)) ∙ sym e
 
-        go : (b : Bool) → eqb j m ≡ b → cond (ltb j (suc m) && in_chain t c k j) (suc j) 0 ≡ cond (ltb j m && in_chain t c k j) (suc j) 0
+        go : (b : Bool) → eqb j m ≡ b → cond (ltb j (suc m) && in_chain t c k j) (Some j) None ≡ cond (ltb j m && in_chain t c k j) (Some j) None
         go true e = let x = eqb-true j m e in rw (x, ne_eqb own_chain k (λ q. z (sym q)), lt-ltb m (suc m) (omega arith), le-ltb m m (omega arith))
         go false e = rw (other (ltb j m) refl (eqb-false j m e))
 
-    own_below : entry_below t c (suc m) own_chain m ≡ suc m
+    own_below : entry_below t c (suc m) own_chain m ≡ Some m
     unfolding entry_below
     own_below = rw (eq-eqb own_chain own_chain refl, lt-ltb m (suc m) (omega arith))
 

@@ -1,12 +1,17 @@
 -- Chains of the entries of a table in the working space t: entries whose digests are equal modulo 128.
-use Rattle.std.specs.Prelude.{ℕ, zero, suc, ◌+◌, ◌*◌, ◌%◌, ◌≤◌, ◌<◌, ◌≡◌, Bool, cond, ◌&&◌, ltb, eqb, length, get_or, set}
+use Rattle.std.specs.Prelude.{ℕ, zero, suc, ◌+◌, ◌*◌, ◌%◌, ◌≤◌, ◌<◌, ◌≡◌, Bool, cond, ◌&&◌, Option, None, Some, ltb, eqb, length, get_or, set}
 use Rattle.semantics.specs.Text.{Bytes}
 use Rattle.chains.specs.declared.ChainPlaces.{ChainPlaces}
 
--- the newest of the first m entries that answer: its number from 1, 0 for none
-unfoldable pub newest_of : (ℕ → Bool) → ℕ → ℕ
-newest_of answers zero = 0
-newest_of answers (suc m) = cond (answers m) (suc m) (newest_of answers m)
+-- the newest of the first m entries that answer
+unfoldable pub newest_of : (ℕ → Bool) → ℕ → Option ℕ
+newest_of answers zero = None
+newest_of answers (suc m) = cond (answers m) (Some m) (newest_of answers m)
+
+-- how many entries there are up to one, none up to no entry
+abbrev pub count_to : Option ℕ → ℕ
+count_to None = 0
+count_to (Some i) = suc i
 
 -- ---- bytes
 
@@ -42,16 +47,16 @@ pub record ChainRoom (t : Bytes) (c : ChainPlaces) : Type 0 where
 
 -- ---- chains
 
--- where j is one of the first m entries and of chain k, its number from 1; else 0
-unfoldable pub entry_below : Bytes → ChainPlaces → ℕ → ℕ → ℕ → ℕ
-entry_below t c m k j = cond (ltb j m && in_chain t c k j) (suc j) 0
+-- j, where it is one of the first m entries and of chain k
+unfoldable pub entry_below : Bytes → ChainPlaces → ℕ → ℕ → ℕ → Option ℕ
+entry_below t c m k j = cond (ltb j m && in_chain t c k j) (Some j) None
 
 -- the entry that the head of chain k leads to, in a table of m
-abbrev pub newest_in : Bytes → ChainPlaces → ℕ → ℕ → ℕ
+abbrev pub newest_in : Bytes → ChainPlaces → ℕ → ℕ → Option ℕ
 newest_in t c m k = entry_below t c m k (head_at t c k)
 
 -- the entry that the link of entry i leads to
-abbrev pub earlier_than : Bytes → ChainPlaces → ℕ → ℕ
+abbrev pub earlier_than : Bytes → ChainPlaces → ℕ → Option ℕ
 earlier_than t c i = entry_below t c i (chain_at t c i) (link_at t c i)
 
 -- m entries are chained: each head leads to the newest of its chain, and each link to the next older one, where there are such

@@ -3,17 +3,18 @@ use mathlib.Core.Path.{◌≡◌, refl, sym, ap, ◌∙◌}
 use mathlib.Core.Bool.{Bool, true, false, not}
 use mathlib.Core.List.{[], ◌∷◌, ◌++◌, append_assoc}
 use Rattle.std.specs.Prelude.{Option, None, Some}
-use Prim.Native.Nat.{ℕ, ◌+◌, ◌-◌, ◌/◌, ◌%◌, ◌≤◌, ◌<◌}
+use Rattle.std.specs.Option.{is_some}
+use Prim.Native.Nat.{ℕ, suc, ◌+◌, ◌-◌, ◌/◌, ◌%◌, ◌≤◌, ◌<◌}
 use native.Mathlib.Omega.{arith}
 use native.Mathlib.Numerals.{add-one}
-use lib.Dec.{ltb}
 use lib.IntN.{ℤ}
 use lib.Ieee.{Float, binary64, of_bits, to_bits}
-use lib.ListN.{length, take, drop}
+use lib.ListN.{length, take, drop, get_or}
+use Rattle.lines.specs.Lines.{read_at}
 use mir.Syntax.{w64}
 use mir.Val.{SFits}
 use mir.ValLaws.{to_z-of_z}
-use borrow.Author.Tests.{ne_eqb, lt-ltb, not-false}
+use borrow.Author.Tests.{ne_eqb, not-false}
 use Rattle.semantics.specs.Text.{Bytes, bytes, decimalℤ, hex_of, big_endian}
 use Rattle.semantics.specs.Tree.{ConstVal}
 use Rattle.semantics.specs.Tree.ConstVal.{v_int, v_real, v_str}
@@ -23,8 +24,7 @@ use Rattle.ints.proofs.Widths.{held}
 use Rattle.write.specs.Wrote.{Wrote}
 use Rattle.write.proofs.Wrote.{wrote_none, wrote_as, then}
 use Rattle.implement.specs.Modules.{first_field, is_own}
-use Rattle.names.specs.Table.{const_line_of, module_line_of, value_by, kind_of, bits_of, log_in, ConstTable, Answered, found, has_key, answers_plain, answers_qualified, newest_plain, newest_qualified}
-use Rattle.chains.proofs.Laws.{newest-from}
+use Rattle.names.specs.Table.{const_line_of, module_line_of, value_by, kind_of, bits_of, log_in, ConstTable, Answered, found, has_key, is_within, answers_key}
 use Rattle.names.proofs.Laws.{found-is, value-failed, value-int, value-real, value-text}
 use Rattle.laws.proofs.Tests.{same_refl}
 use Rattle.const_rows.specs.Rows.{plain_key, qualified_key, qualified_to, plain_to, qualified_part, plain_part, rows_to, entry_rows}
@@ -51,14 +51,18 @@ row-text : (b : Bytes) → value_row (Some (v_str b)) ≡ (bytes "s," ++ hex_of 
 unfolding row
 row-text b = refl
 
-module _ (t : Bytes) (r : ℕ) (a : Answered t r × (0 < r)) (k b : ℕ) (hk : k ≡ kind_of t (r - 1)) (hb : b ≡ bits_of t (r - 1)) where
+pub shows-none : (t : Bytes) {r : Option ℕ} → r ≡ None → row (value_fields (found t r)) ≡ 120 ∷ (10 ∷ [])
+unfolding found
+shows-none t e = rw e row-none
+
+module _ (t : Bytes) (r : Option ℕ) (a : Answered t r) {i : ℕ} (is : r ≡ Some i) (k b : ℕ) (hk : k ≡ kind_of t i) (hb : b ≡ bits_of t i) where
   by-slot : found t r ≡ value_by t k b
-  by-slot = found-is t r (λ z. omega (arith, a.1)) ∙ rw (hk, hb)
+  by-slot = ap (found t) is ∙ found-is t i ∙ rw (hk, hb)
 
   module _ {d : Bytes} {at : ℕ} {e f g : Bytes} {p q o : ℕ} where
     pub shows-int : k ≡ 1 → {y : ℤ} → SFits w64 y → y ≡ signed64 b → Wrote d at (105 ∷ (44 ∷ [])) e p → Wrote e p (decimalℤ (held w64 y)) f q → Wrote f q (10 ∷ []) g o → Wrote d at (row (value_fields (found t r))) g o
-    shows-int h {y} fits is u v w =
-        let x : decimalℤ (held w64 y) ≡ decimalℤ (signed64 b) = ap decimalℤ (to_z-of_z w64 y fits ∙ is) in
+    shows-int h {y} fits iy u v w =
+        let x : decimalℤ (held w64 y) ≡ decimalℤ (signed64 b) = ap decimalℤ (to_z-of_z w64 y fits ∙ iy) in
         wrote_as (sym (ap (λ (v : Option ConstVal). row (value_fields v)) (by-slot ∙ value-int t k b h) ∙ row-int (signed64 b))) (then (then u (wrote_as x v)) w)
 
     pub shows-real : k ≡ 2 → {y : Float} {c : ℕ} → y ≡ of_bits binary64 b → c ≡ to_bits binary64 y → Wrote d at (114 ∷ (44 ∷ [])) e p → Wrote e p (hex_of (big_endian 8 c)) f q → Wrote f q (10 ∷ []) g o → Wrote d at (row (value_fields (found t r))) g o
@@ -77,8 +81,7 @@ module _ (t : Bytes) (r : ℕ) (a : Answered t r × (0 < r)) (k b : ℕ) (hk : k
 
   pub text-inside : k ≡ 3 → b % 65536 + b / 65536 ≤ 49152
   text-inside e =
-      let w = (a.0.text (r - 1) (omega (arith, a.1)) (sym hk ∙ e)).high in
-      rw hb w
+      rw hb (a.text i is (sym hk ∙ e)).high
 
 -- ---- rows
 
@@ -96,6 +99,10 @@ row-qualified m n r = simp append_assoc
 nothing : {d : Bytes} {at : ℕ} (t : Bytes) → t ≡ [] → at ≤ length d + 1 → Wrote d at t d at
 nothing {d} {at} t e h = wrote_as (sym e) (wrote_none d at h)
 
+-- the first field of line k, from 0
+pub name-of : (s : Bytes) (k : ℕ) {x : Bytes} → x ≡ get_or (read_at s k).fields 0 [] → x ≡ first_field s (suc k)
+name-of s k e = let z : suc k - 1 ≡ k = omega arith in rw z e
+
 module _ (s t : Bytes) (m i : ℕ) where
   module _ {k : ℕ} (hk : k ≡ module_line_of t i) where
     pub no-module : {d : Bytes} {at : ℕ} → k ≡ 0 → at ≤ length d + 1 → Wrote d at (qualified_part s t m i) d at
@@ -106,23 +113,20 @@ module _ (s t : Bytes) (m i : ℕ) where
       key-is : qualified within name ≡ qualified_key s t i
       key-is = rw (hw, hk, hn, hl)
 
-      has-is : (r : ℕ) → has_key (qualified within name) (log_in s t i) ≡ ltb 0 r → has_key (qualified_key s t i) (log_in s t i) ≡ ltb 0 r
+      has-is : (r : Option ℕ) → has_key (qualified within name) (log_in s t i) ≡ is_some r → has_key (qualified_key s t i) (log_in s t i) ≡ is_some r
       has-is r h = rw (← key-is) h
 
-      pub qualified-old : {d : Bytes} {at : ℕ} (r : ℕ) → has_key (qualified within name) (log_in s t i) ≡ ltb 0 r → (r ≡ 0 → ⊥) → at ≤ length d + 1 → Wrote d at (qualified_part s t m i) d at
+      pub qualified-old : {d : Bytes} {at : ℕ} (r : Option ℕ) → has_key (qualified within name) (log_in s t i) ≡ is_some r → is_some r ≡ true → at ≤ length d + 1 → Wrote d at (qualified_part s t m i) d at
       unfolding qualified_part
       qualified-old {d} {at} r h p =
-          nothing {d = d} {at = at} (qualified_part s t m i) (rw (ne_eqb (module_line_of t i) 0 (λ e. z (hk ∙ e)), has-is r h, lt-ltb 0 r (omega (arith, p))))
+          nothing {d = d} {at = at} (qualified_part s t m i) (rw (ne_eqb (module_line_of t i) 0 (λ e. z (hk ∙ e)), has-is r h, p))
 
       -- the entry itself answers
-      pub qualified-itself : answers_qualified s t i within name ≡ true
-      unfolding answers_qualified
+      pub qualified-itself : answers_key s t i (qualified within name) ≡ true
+      unfolding answers_key is_within
       qualified-itself = rw (hw, hk, hn, hl, same_refl (first_field s (const_line_of t i)), ne_eqb (module_line_of t i) 0 (λ x. z (hk ∙ x)), same_refl (first_field s (module_line_of t i)))
 
-      pub qualified-some : {r : ℕ} → i < m → r ≡ newest_qualified s t m within name → 0 < r
-      qualified-some {r} h e = let w = newest-from (λ (j : ℕ). answers_qualified s t j within name) m i h qualified-itself in omega (arith, e)
-
-      pub qualified-new : (r q : ℕ) → has_key (qualified within name) (log_in s t i) ≡ ltb 0 r → r ≡ 0 → value_of (look_up (qualified within name) (log_in s t m)) ≡ found t q
+      pub qualified-new : (r q : Option ℕ) → has_key (qualified within name) (log_in s t i) ≡ is_some r → is_some r ≡ false → value_of (look_up (qualified within name) (log_in s t m)) ≡ found t q
           → {d e f g o : Bytes} {at a b c p : ℕ} → Wrote d at (99 ∷ (111 ∷ (110 ∷ (44 ∷ [])))) e a → Wrote e a within f b → Wrote f b (45 ∷ (62 ∷ [])) g c → Wrote g c (name ++ (44 ∷ row (value_fields (found t q)))) o p
           → Wrote d at (qualified_part s t m i) o p
       unfolding qualified_part
@@ -145,22 +149,19 @@ module _ (s t : Bytes) (m i : ℕ) where
       name-is : plain name ≡ plain_key s t i
       name-is = rw (hn, hl)
 
-      plain-has : (r : ℕ) → has_key (plain name) (log_in s t i) ≡ ltb 0 r → has_key (plain_key s t i) (log_in s t i) ≡ ltb 0 r
+      plain-has : (r : Option ℕ) → has_key (plain name) (log_in s t i) ≡ is_some r → has_key (plain_key s t i) (log_in s t i) ≡ is_some r
       plain-has r h = rw (← name-is) h
 
-      pub plain-old : {d : Bytes} {at : ℕ} (r : ℕ) → has_key (plain name) (log_in s t i) ≡ ltb 0 r → (r ≡ 0 → ⊥) → at ≤ length d + 1 → Wrote d at (plain_part s t m i) d at
+      pub plain-old : {d : Bytes} {at : ℕ} (r : Option ℕ) → has_key (plain name) (log_in s t i) ≡ is_some r → is_some r ≡ true → at ≤ length d + 1 → Wrote d at (plain_part s t m i) d at
       unfolding plain_part
-      plain-old {d} {at} r h p = nothing {d = d} {at = at} (plain_part s t m i) (rw (own_is, z, plain-has r h, lt-ltb 0 r (omega (arith, p))))
+      plain-old {d} {at} r h p = nothing {d = d} {at = at} (plain_part s t m i) (rw (own_is, z, plain-has r h, p))
 
       -- the entry itself answers
-      pub plain-itself : answers_plain s t i name ≡ true
-      unfolding answers_plain
+      pub plain-itself : answers_key s t i (plain name) ≡ true
+      unfolding answers_key is_within
       plain-itself = rw (hn, hl, same_refl (first_field s (const_line_of t i)), own_is) (not-false own z)
 
-      pub plain-some : {r : ℕ} → i < m → r ≡ newest_plain s t m name → 0 < r
-      plain-some {r} h e = let w = newest-from (λ (j : ℕ). answers_plain s t j name) m i h plain-itself in omega (arith, e)
-
-      pub plain-new : (r q : ℕ) → has_key (plain name) (log_in s t i) ≡ ltb 0 r → r ≡ 0 → value_of (look_up (plain name) (log_in s t m)) ≡ found t q
+      pub plain-new : (r q : Option ℕ) → has_key (plain name) (log_in s t i) ≡ is_some r → is_some r ≡ false → value_of (look_up (plain name) (log_in s t m)) ≡ found t q
           → {d e o : Bytes} {at a p : ℕ} → Wrote d at (99 ∷ (111 ∷ (110 ∷ (44 ∷ [])))) e a → Wrote e a (name ++ (44 ∷ row (value_fields (found t q)))) o p → Wrote d at (plain_part s t m i) o p
       unfolding plain_part
       plain-new r q h y v w1 w2 =

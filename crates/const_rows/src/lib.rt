@@ -8,15 +8,18 @@ ghost use Rattle.names.specs.Table.{found, log_in, ConstTable, Answered};
 ghost use Rattle.const_rows.specs.Rows.{qualified_part, plain_part, rows_to, entry_rows};
 
 use codes::value::{self, Value};
-use names::Known;
+use names::{Key, Known};
 
 // The fields of the value that a look-up found, to the row's end.
-fn put_value(work: &[u8], out: &mut [u8], at: usize, r: usize) -> usize
-    requires { (Answered work.now r) × (0 < r) }
+fn put_value(work: &[u8], out: &mut [u8], at: usize, r: Option<usize>) -> usize
+    requires { Answered work.now r }
     ensures { Wrote out.old at (row (value_fields (found work.now r))) out.new result }
 {
-    let b = names::slot_bits(work, r - 1);
-    match value::of_number(names::slot_kind(work, r - 1)) {
+    let Some(i) = r else {
+        return write::put_part(out, at, b"x\n");
+    };
+    let b = names::slot_bits(work, i);
+    match value::of_number(names::slot_kind(work, i)) {
         Some(Value::Int) => {
             let p = write::put_part(out, at, b"i,");
             let q = write::put_int(out, p, ints::of_bits(b));
@@ -39,8 +42,8 @@ fn put_value(work: &[u8], out: &mut [u8], at: usize, r: usize) -> usize
 }
 
 // A name, and behind it the value.
-fn put_rest(work: &[u8], out: &mut [u8], at: usize, name: &[u8], r: usize) -> usize
-    requires { (Answered work.now r) × (0 < r) }
+fn put_rest(work: &[u8], out: &mut [u8], at: usize, name: &[u8], r: Option<usize>) -> usize
+    requires { Answered work.now r }
     ensures { Wrote out.old at (name.now ++ (44 ∷ row (value_fields (found work.now r)))) out.new result }
 {
     let p = write::put_part(out, at, name);
@@ -53,16 +56,19 @@ fn qualified_row(sheet: &[u8], work: &[u8], c: Known, out: &mut [u8], at: usize,
     requires { (ConstTable sheet.now work.now c.lines c.consts) × (i < c.consts) × (at ≤ length out.old + 1) }
     ensures { Wrote out.old at (qualified_part sheet.now work.now c.consts i) out.new result }
 {
-    let k = names::module_line_of(work, i);
-    if k == 0 {
+    let Some(k) = names::module_line_of(work, i) else {
         return at;
-    }
-    let within = lines::field_at(sheet, work, c.lines, k - 1, 0);
+    };
+    let within = lines::field_at(sheet, work, c.lines, k, 0);
     let name = lines::field_at(sheet, work, c.lines, names::line_of(work, i) - 1, 0);
-    if names::look_up_in_before(sheet, work, c, i, within, name) != 0 {
+    let qualified = Key {
+        within: Some(within),
+        name,
+    };
+    if names::look_up_before(sheet, work, c, i, qualified).is_some() {
         return at;
     }
-    let r = names::look_up_in(sheet, work, c, within, name);
+    let r = names::look_up(sheet, work, c, qualified);
     let p = write::put_part(out, at, b"con,");
     let q = write::put_part(out, p, within);
     let a = write::put_part(out, q, b"->");
@@ -78,10 +84,11 @@ fn plain_row(sheet: &[u8], work: &[u8], c: Known, out: &mut [u8], at: usize, i: 
         return at;
     }
     let name = lines::field_at(sheet, work, c.lines, names::line_of(work, i) - 1, 0);
-    if names::look_up_before(sheet, work, c, i, name) != 0 {
+    let plain = Key { within: None, name };
+    if names::look_up_before(sheet, work, c, i, plain).is_some() {
         return at;
     }
-    let r = names::look_up(sheet, work, c, name);
+    let r = names::look_up(sheet, work, c, plain);
     let p = write::put_part(out, at, b"con,");
     put_rest(work, out, p, name, r)
 }

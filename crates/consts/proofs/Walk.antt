@@ -1,6 +1,6 @@
 -- Laws of a pass, line by line.
 use mathlib.Core.Path.{◌≡◌, refl, sym, ap, ◌∙◌}
-use mathlib.Core.Bool.{Bool, true, false, not}
+use mathlib.Core.Bool.{Bool, true, false, not, ◌&&◌}
 use mathlib.Core.List.{List, [], ◌∷◌}
 use Rattle.std.specs.Prelude.{Option, None, Some}
 use Prim.Native.Nat.{ℕ, suc, ◌+◌, ◌≤◌, ◌<◌}
@@ -8,7 +8,8 @@ use native.Mathlib.Omega.{arith}
 use native.Mathlib.Numerals.{add-one}
 use lib.Dec.{eqb}
 use lib.ListN.{length, get_or}
-use borrow.Author.Tests.{eqb-false, not-true}
+use Rattle.std.specs.Option.{is_some, option_eq}
+use borrow.Author.Tests.{eqb-true, eqb-false, eq-eqb, ne_eqb, not-true}
 use Rattle.semantics.proofs.Common.{both}
 use Rattle.semantics.specs.Text.{Bytes}
 use Rattle.semantics.specs.Tree.{ConstDecl}
@@ -20,7 +21,7 @@ use Rattle.decimal.specs.Number as Number
 use Rattle.form.specs.Table.{kind_at}
 use Rattle.lines.specs.Lines.{read_at, nodes_in, form_at}
 use Rattle.lines.proofs.Line.{kind-is, form-low}
-use Rattle.implement.specs.Modules.{module_at, Open}
+use Rattle.implement.specs.Modules.{module_at, line_number, Open}
 use Rattle.checks.specs.Checks.{Checked, Kept}
 use Rattle.checks.proofs.Kept.{kept_less, checked-kept}
 use Rattle.checks.proofs.Laws.{few-consts}
@@ -51,7 +52,7 @@ module _ (s t : Bytes) (n k : ℕ) (p : Pass) (st : PassAt s t n k p) (h : p.lin
   open-here = record { checked = st.checked; within = st.inside; low = st.low; here = sym st.opened }
 
   -- where the group goes on behind the line
-  moves-past : (w : ℕ) → w ≤ n → open_at (nodes_in s) (suc p.line) ≡ module_at s w → group_from s k p.line ≡ group_from s k (suc p.line)
+  moves-past : (w : Option ℕ) → line_number w ≤ n → open_at (nodes_in s) (suc p.line) ≡ module_at s (line_number w) → group_from s k p.line ≡ group_from s k (suc p.line)
       → PassMoves s t t n k p (record { line = p.line + 1; within = w; count = p.count; iota = p.iota })
   unfolding pass_from
   moves-past w l o g = record {
@@ -71,24 +72,51 @@ module _ (s t : Bytes) (n k : ℕ) (p : Pass) (st : PassAt s t n k p) (h : p.lin
   }
 
   module _ {x : ℕ} (kind : letter (read_at s p.line).form.kind ≡ x) where
-    pub moves-other : (x ≡ 68 → ⊥) → {w : ℕ} → Open s t n (p.line + 1) w → PassMoves s t t n k p (record { line = p.line + 1; within = w; count = p.count; iota = p.iota })
+    pub moves-other : (x ≡ 68 → ⊥) → {w : Option ℕ} → Open s t n (p.line + 1) w → PassMoves s t t n k p (record { line = p.line + 1; within = w; count = p.count; iota = p.iota })
     moves-other z {w} o = moves-past w o.low (sym (rw add-one at o.here)) (group-other s t n st.checked p.line h k (λ q. z (sym kind ∙ q)))
 
     module _ (con : x ≡ 68) where
-      still : open_at (nodes_in s) (suc p.line) ≡ module_at s p.within
+      still : open_at (nodes_in s) (suc p.line) ≡ module_at s (line_number p.within)
       still = open-other s t n st.checked p.line h (λ q. omega (arith, kind)) (λ q. omega (arith, kind)) ∙ st.opened
 
-      pub moves_out : (p.within ≡ k → ⊥) → PassMoves s t t n k p (record { line = p.line + 1; within = p.within; count = p.count; iota = p.iota })
-      moves_out z = moves-past p.within st.low still (group-out s t n st.checked p.line h p.within st.opened k (kind ∙ con) z)
+      pub moves_out : (line_number p.within ≡ k → ⊥) → PassMoves s t t n k p (record { line = p.line + 1; within = p.within; count = p.count; iota = p.iota })
+      moves_out z = moves-past p.within st.low still (group-out s t n st.checked p.line h (line_number p.within) st.opened k (kind ∙ con) z)
 
-      pub at_constant : p.within ≡ k → AtConstant s n k p
+      pub at_constant : line_number p.within ≡ k → AtConstant s n k p
       at_constant e = record { line = h; kind = kind ∙ con; own = e }
+
+-- ---- lines compared, and the module left
+
+same-number : (i j : ℕ) → eqb i j ≡ eqb (suc i) (suc j)
+same-number i j = go (eqb i j) refl
+  where
+    go : (b : Bool) → eqb i j ≡ b → b ≡ eqb (suc i) (suc j)
+    go true e = let z = eqb-true i j e in sym (eq-eqb (suc i) (suc j) (omega arith))
+    go false e = let z = eqb-false i j e in sym (ne_eqb (suc i) (suc j) (λ q. z (omega arith)))
+
+same-line : (w k : Option ℕ) → option_eq eqb w k ≡ eqb (line_number w) (line_number k)
+same-line None None = refl
+same-line None (Some j) = sym (ne_eqb 0 (suc j) (λ q. omega arith))
+same-line (Some i) None = sym (ne_eqb (suc i) 0 (λ q. omega arith))
+same-line (Some i) (Some j) = same-number i j
+
+module _ (w k : Option ℕ) {b : Bool} (e : b ≡ option_eq eqb w k) where
+  pub line-same : b ≡ true → line_number w ≡ line_number k
+  line-same q = eqb-true (line_number w) (line_number k) (sym (same-line w k) ∙ sym e ∙ q)
+
+  pub line-other : b ≡ false → line_number w ≡ line_number k → ⊥
+  line-other q = eqb-false (line_number w) (line_number k) (sym (same-line w k) ∙ sym e ∙ q)
+
+pub left-is : (k w : Option ℕ) → left (line_number k) (line_number w) ≡ is_some k && not (option_eq eqb w k)
+unfolding left
+left-is None w = refl
+left-is (Some i) w = rw (ne_eqb (suc i) 0 (λ q. omega arith), same-line w (Some i))
 
 -- ---- a constant of the group
 
 module _ (s t : Bytes) (n k : ℕ) (p : Pass) (st : PassAt s t n k p) (a : AtConstant s n k p) where
   group-is : group_from s k p.line ≡ const_at s k p.line ∷ group_from s k (suc p.line)
-  group-is = group-in s t n st.checked p.line a.line p.within st.opened k a.kind a.own ∙ ap (λ (o : ℕ). const_at s o p.line ∷ group_from s k (suc p.line)) a.own
+  group-is = group-in s t n st.checked p.line a.line (line_number p.within) st.opened k a.kind a.own ∙ ap (λ (o : ℕ). const_at s o p.line ∷ group_from s k (suc p.line)) a.own
 
   longer : length (group_from s k p.line) ≡ suc (length (group_from s k (suc p.line)))
   longer = ap length group-is
@@ -155,14 +183,14 @@ module _ (s t u : Bytes) (n k : ℕ) (p : Pass) where
   pub stopped : {r : Visited} {j : ℕ} → r ≡ Visited.Refused j → Visits s t u n k p r → (pass_from s t k p).refused ≡ Some (too_long j)
   stopped e v = rw e at v
 
-abbrev pub pass_start : ℕ → ℕ → Pass
-pass_start k m = record { line = k; within = k; count = m; iota = record { started = false; line = 0; col = 0; value = 0 } }
+abbrev pub pass_start : Option ℕ → ℕ → Pass
+pass_start k m = record { line = line_number k; within = k; count = m; iota = record { started = false; line = 0; col = 0; value = 0 } }
 
-module _ (s t : Bytes) (n m k : ℕ) (g : Group s t n m k) where
-  start_is : group_from s k k ≡ group_from s k 0
-  start_is = group-start s t n g.checked k g.group
+module _ (s t : Bytes) (n m : ℕ) (k : Option ℕ) (g : Group s t n m (line_number k)) where
+  start_is : group_from s (line_number k) (line_number k) ≡ group_from s (line_number k) 0
+  start_is = group-start s t n g.checked (line_number k) g.group
 
-  pub begins : PassAt s t n k (pass_start k m)
+  pub begins : PassAt s t n (line_number k) (pass_start k m)
   begins = record {
     checked = g.checked;
     logged = g.logged;
@@ -174,29 +202,29 @@ module _ (s t : Bytes) (n m k : ℕ) (g : Group s t n m k) where
     small = omega arith;
   }
 
-  pub begin-count : m + length (group_from s k k) ≡ m + length (group_from s k 0)
+  pub begin-count : m + length (group_from s (line_number k) (line_number k)) ≡ m + length (group_from s (line_number k) 0)
   begin-count = rw start_is
 
-  begin-is : pass_from s t k (pass_start k m) ≡ pass (sheet_source s).implement (group_from s k 0) new_counter (log_in s t m)
+  begin-is : pass_from s t (line_number k) (pass_start k m) ≡ pass (sheet_source s).implement (group_from s (line_number k) 0) new_counter (log_in s t m)
   unfolding pass_from counter_of
   begin-is = rw start_is
 
-  module _ (u : Bytes) (p : Pass) (st : PassAt s u n k p) (same : pass_from s u k p ≡ pass_from s t k (pass_start k m)) where
-    pub pass-refused : {j : ℕ} → (pass_from s u k p).refused ≡ Some (too_long j) → (pass (sheet_source s).implement (group_from s k 0) new_counter (log_in s t m)).refused ≡ Some (too_long j)
+  module _ (u : Bytes) (p : Pass) (st : PassAt s u n (line_number k) p) (same : pass_from s u (line_number k) p ≡ pass_from s t (line_number k) (pass_start k m)) where
+    pub pass-refused : {j : ℕ} → (pass_from s u (line_number k) p).refused ≡ Some (too_long j) → (pass (sheet_source s).implement (group_from s (line_number k) 0) new_counter (log_in s t m)).refused ≡ Some (too_long j)
     pass-refused e = ap (λ (f : Folding). f.refused) (sym begin-is ∙ sym same) ∙ e
 
     -- the pass is done at the last line, and where the module is left
-    pub at-end : n ≤ p.line → group_from s k p.line ≡ []
-    at-end h = group-end s u n st.checked k p.line h
+    pub at-end : n ≤ p.line → group_from s (line_number k) p.line ≡ []
+    at-end h = group-end s u n st.checked (line_number k) p.line h
 
-    pub at_left : {b : Bool} → b ≡ left k p.within → b ≡ true → k ≤ p.line → group_from s k p.line ≡ []
+    pub at_left : {b : Bool} → b ≡ left (line_number k) (line_number p.within) → b ≡ true → line_number k ≤ p.line → group_from s (line_number k) p.line ≡ []
     unfolding left
     at_left e q l =
-        let w = both (not (eqb k 0)) (not (eqb p.within k)) (sym e ∙ q) in
-        group-left s u n st.checked k p.line p.within st.inside l (eqb-false k 0 (not-true (eqb k 0) w.0)) st.opened (eqb-false p.within k (not-true (eqb p.within k) w.1))
+        let w = both (not (eqb (line_number k) 0)) (not (eqb (line_number p.within) (line_number k))) (sym e ∙ q) in
+        group-left s u n st.checked (line_number k) p.line (line_number p.within) st.inside l (eqb-false (line_number k) 0 (not-true (eqb (line_number k) 0) w.0)) st.opened (eqb-false (line_number p.within) (line_number k) (not-true (eqb (line_number p.within) (line_number k)) w.1))
 
-    pub pass-done : group_from s k p.line ≡ [] → p.count + length (group_from s k p.line) ≡ m + length (group_from s k 0)
-        → Logs s u n p.count (pass (sheet_source s).implement (group_from s k 0) new_counter (log_in s t m)) × (p.count ≡ m + length (group_from s k 0))
+    pub pass-done : group_from s (line_number k) p.line ≡ [] → p.count + length (group_from s (line_number k) p.line) ≡ m + length (group_from s (line_number k) 0)
+        → Logs s u n p.count (pass (sheet_source s).implement (group_from s (line_number k) 0) new_counter (log_in s t m)) × (p.count ≡ m + length (group_from s (line_number k) 0))
     unfolding pass_from
     pass-done e count = (record { logged = st.logged; same = sym begin-is ∙ sym same ∙ rw e }, omega (arith, ap length e))
 
@@ -217,27 +245,27 @@ module _ (s t : Bytes) (n m i : ℕ) (b : PassesBefore s t n m i) where
   past-other h z =
       (record { checked = b.checked; logged = b.logged; few = rw add-one (omega (arith, b.few, count-mod s t n b.checked i)) }, rw (add-one, passes-other s t n b.checked i h z))
 
-  pub module-group : i < n → letter (read_at s i).form.kind ≡ 77 → Group s t n m (i + 1)
+  pub module-group : i < n → letter (read_at s i).form.kind ≡ 77 → Group s t n m (suc i)
   module-group h e = record {
     checked = b.checked;
     logged = b.logged;
     group = omega arith;
-    opened = rw (add-one i) (open-mod s t n b.checked i h e);
-    room = rw add-one (omega (arith, b.few, count-mod s t n b.checked i, count-top s t n b.checked (suc i), few-consts b.checked));
+    opened = open-mod s t n b.checked i h e;
+    room = omega (arith, b.few, count-mod s t n b.checked i, count-top s t n b.checked (suc i), few-consts b.checked);
   }
 
-  pub past-module : i < n → letter (read_at s i).form.kind ≡ 77 → (u : Bytes) → Kept 5120 t u → (r : Collected) → PassDone s t u n m (i + 1) r → ModulePassed s t u n m i r
+  pub past-module : i < n → letter (read_at s i).form.kind ≡ 77 → (u : Bytes) → Kept 5120 t u → (r : Collected) → PassDone s t u n m (suc i) r → ModulePassed s t u n m i r
   unfolding passes_left
   past-module h e u kept (Collected.Count c) (l, q) = (
     record {
       checked = checked-kept (kept_less (omega arith) kept) b.checked;
       logged = l.logged;
-      few = rw add-one (omega (arith, b.few, count-mod s t n b.checked i, (rw add-one at q)));
+      few = rw add-one (omega (arith, b.few, count-mod s t n b.checked i, q));
     },
-    sym (rw (passes-mod s t n b.checked i h e) (then-on (group_from s (suc i) 0) (passes_after s (suc i)) (sheet_source s).implement (log_in s t m) (log_in s u c) (rw add-one at l.same) ∙ rw add-one)),
+    sym (rw (passes-mod s t n b.checked i h e) (then-on (group_from s (suc i) 0) (passes_after s (suc i)) (sheet_source s).implement (log_in s t m) (log_in s u c) l.same ∙ rw add-one)),
   )
   past-module h e u kept (Collected.Refused j) q =
-      rw (passes-mod s t n b.checked i h e) (then-stop (group_from s (suc i) 0) (passes_after s (suc i)) (sheet_source s).implement (log_in s t m) (rw add-one at q))
+      rw (passes-mod s t n b.checked i h e) (then-stop (group_from s (suc i) 0) (passes_after s (suc i)) (sheet_source s).implement (log_in s t m) q)
 
   pub top-group : Group s t n m 0
   unfolding open_at module_at

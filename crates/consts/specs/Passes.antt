@@ -7,7 +7,7 @@ use Rattle.semantics.specs.Sheet.{Module, Located, located_from, module_of, shee
 use Rattle.semantics.specs.Fold.{Const, fold}
 use Rattle.semantics.specs.Const.{Refusal, Folding, new_counter, entered, pass, passes_from, stands_in, top_level, constants}
 use Rattle.lines.specs.Lines.{read_at, nodes_in}
-use Rattle.implement.specs.Modules.{module_at}
+use Rattle.implement.specs.Modules.{module_at, line_number}
 use Rattle.checks.specs.Checks.{Checked}
 use Rattle.source.specs.Walk.{open_at, con_of}
 use Rattle.names.specs.Table.{log_in, names_in, ConstsLogged}
@@ -84,9 +84,9 @@ pub record PassAt (s t : Bytes) (n k : ℕ) (p : Pass) : Type 0 where
   pub checked : Checked s t n
   pub logged : ConstsLogged s t n p.count
   pub inside : p.line ≤ n
-  pub low : p.within ≤ n
+  pub low : line_number p.within ≤ n
   pub group : k ≤ n
-  pub opened : open_at (nodes_in s) p.line ≡ module_at s p.within
+  pub opened : open_at (nodes_in s) p.line ≡ module_at s (line_number p.within)
   pub room : p.count + length (group_from s k p.line) ≤ 128
   pub small : p.iota.value ≤ p.count
 
@@ -94,7 +94,7 @@ pub record PassAt (s t : Bytes) (n k : ℕ) (p : Pass) : Type 0 where
 pub record AtConstant (s : Bytes) (n k : ℕ) (p : Pass) : Type 0 where
   pub line : p.line < n
   pub kind : letter (read_at s p.line).form.kind ≡ 68
-  pub own : p.within ≡ k
+  pub own : line_number p.within ≡ k
 
 -- what it comes to from there
 unfoldable pub pass_from : Bytes → Bytes → ℕ → Pass → Folding

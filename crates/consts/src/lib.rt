@@ -3,6 +3,7 @@
 
 ghost use Rattle.std.specs.Prelude.{◌≡◌, ◌+◌, ◌<◌};
 ghost use Rattle.checks.specs.Checks.{Checked, Kept};
+ghost use Rattle.implement.specs.Modules.{line_number};
 ghost use Rattle.consts.specs.Passes.{ConstLine, ConstantEntered, AtConstant, PassAt, Visits, Group, PassDone, PassesBefore, ModulePassed, Collects, left};
 
 use codes::{area, kind};
@@ -17,11 +18,11 @@ pub enum Collected {
     Refused(usize),
 }
 
-// A pass before line `line`, from 0, where the module of line `within` is open.
+// A pass before line `line`, where the module of line `within` is open; both from 0.
 #[derive(Clone, Copy)]
 pub struct Pass {
     pub line: usize,
-    pub within: usize,
+    pub within: Option<usize>,
     pub count: usize,
     pub iota: IotaCounter,
 }
@@ -33,21 +34,30 @@ pub enum Visited {
     Refused(usize),
 }
 
-// The constant of line i, from 0, in the module of line k: folded, and entered behind those that are known. False where its string grows too long.
-fn take_constant(sheet: &[u8], work: &mut [u8], c: Known, k: usize, i: usize, iota: u32) -> bool
-    requires { ConstLine sheet.now work.old c.lines c.consts k i }
-    ensures { (Kept 5120 work.old work.new) × (ConstantEntered sheet.now work.old work.new c.lines c.consts k i iota result) }
+// The constant of line i in the module of line k, both from 0: folded, and entered behind those that are known. False where its string grows
+// too long.
+fn take_constant(
+    sheet: &[u8],
+    work: &mut [u8],
+    c: Known,
+    k: Option<usize>,
+    i: usize,
+    iota: u32,
+) -> bool
+    requires { ConstLine sheet.now work.old c.lines c.consts (line_number k) i }
+    ensures { (Kept 5120 work.old work.new) × (ConstantEntered sheet.now work.old work.new c.lines c.consts (line_number k) i iota result) }
 {
     let r = lines::number_at(sheet, work, c.lines, i, 3);
     let name = lines::field_at(sheet, work, c.lines, i, 0);
     let d = names::const_digest(sheet, work, c.lines, k, name);
+    let within = implement::line_number(k);
     match fold::fold_const(sheet, work, c, iota, r, area::STACK) {
         Ok(v) => {
-            entries::enter(work, c.consts, i + 1, k, v, d);
+            entries::enter(work, c.consts, i + 1, within, v, d);
             true
         }
         Err(NoValue::Failed) => {
-            entries::enter_failed(work, c.consts, i + 1, k, d);
+            entries::enter_failed(work, c.consts, i + 1, within, d);
             true
         }
         Err(NoValue::LongString) => false,
@@ -55,9 +65,9 @@ fn take_constant(sheet: &[u8], work: &mut [u8], c: Known, k: usize, i: usize, io
 }
 
 // The constant of the line at which a pass stands.
-fn visit_constant(sheet: &[u8], work: &mut [u8], n: usize, k: usize, p: Pass) -> Visited
-    requires { (PassAt sheet.now work.old n k p) × (AtConstant sheet.now n k p) }
-    ensures { (Kept 5120 work.old work.new) × (Visits sheet.now work.old work.new n k p result) }
+fn visit_constant(sheet: &[u8], work: &mut [u8], n: usize, k: Option<usize>, p: Pass) -> Visited
+    requires { (PassAt sheet.now work.old n (line_number k) p) × (AtConstant sheet.now n (line_number k) p) }
+    ensures { (Kept 5120 work.old work.new) × (Visits sheet.now work.old work.new n (line_number k) p result) }
 {
     let i = p.line;
     let counter = p.iota;
@@ -80,10 +90,10 @@ fn visit_constant(sheet: &[u8], work: &mut [u8], n: usize, k: usize, p: Pass) ->
     })
 }
 
-// One line of a pass over the constants of the module of line k, or of the top level, 0.
-fn visit(sheet: &[u8], work: &mut [u8], n: usize, k: usize, p: Pass) -> Visited
-    requires { (PassAt sheet.now work.old n k p) × (p.line < n) }
-    ensures { (Kept 5120 work.old work.new) × (Visits sheet.now work.old work.new n k p result) }
+// One line of a pass over the constants of the module of line k, or of the top level.
+fn visit(sheet: &[u8], work: &mut [u8], n: usize, k: Option<usize>, p: Pass) -> Visited
+    requires { (PassAt sheet.now work.old n (line_number k) p) × (p.line < n) }
+    ensures { (Kept 5120 work.old work.new) × (Visits sheet.now work.old work.new n (line_number k) p result) }
 {
     let i = p.line;
     let within = p.within;
@@ -107,23 +117,20 @@ fn visit(sheet: &[u8], work: &mut [u8], n: usize, k: usize, p: Pass) -> Visited
     })
 }
 
-// Whether the module of line k is left, where that of line `within` is open; the top level, 0, is never left.
-fn is_left(k: usize, within: usize) -> bool
-    ensures { result ≡ left k within }
+// Whether the module of line k is left, where that of line `within` is open; the top level is never left.
+fn is_left(k: Option<usize>, within: Option<usize>) -> bool
+    ensures { result ≡ left (line_number k) (line_number within) }
 {
-    if k == 0 {
-        return false;
-    }
-    within != k
+    k.is_some() && within != k
 }
 
 // A pass, with entries from m on: from the line behind the one that opens the group to where the group is left.
-fn pass_consts(sheet: &[u8], work: &mut [u8], n: usize, m: usize, k: usize) -> Collected
-    requires { Group sheet.now work.old n m k }
-    ensures { (Kept 5120 work.old work.new) × (PassDone sheet.now work.old work.new n m k result) }
+fn pass_consts(sheet: &[u8], work: &mut [u8], n: usize, m: usize, k: Option<usize>) -> Collected
+    requires { Group sheet.now work.old n m (line_number k) }
+    ensures { (Kept 5120 work.old work.new) × (PassDone sheet.now work.old work.new n m (line_number k) result) }
 {
     let mut p = Pass {
-        line: k,
+        line: implement::line_number(k),
         within: k,
         count: m,
         iota: IotaCounter {
@@ -154,7 +161,7 @@ fn module_consts(sheet: &[u8], work: &mut [u8], n: usize, m: usize, i: usize) ->
     if form::kind(lines::form_at(work, i)) != kind::MOD {
         return Collected::Count(m);
     }
-    pass_consts(sheet, work, n, m, i + 1)
+    pass_consts(sheet, work, n, m, Some(i))
 }
 
 // All constants, into their table.
@@ -172,5 +179,5 @@ pub fn collect_consts(sheet: &[u8], work: &mut [u8], n: usize) -> Collected
         }
         i += 1;
     }
-    pass_consts(sheet, work, n, m, 0)
+    pass_consts(sheet, work, n, m, None)
 }

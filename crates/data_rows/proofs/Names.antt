@@ -2,14 +2,16 @@
 use mathlib.Core.Path.{◌≡◌, refl, sym, ap, ◌∙◌}
 use mathlib.Core.Bool.{Bool, true, false, not, cond}
 use mathlib.Core.List.{List, [], ◌∷◌, ◌++◌, append_assoc, append-nil}
+use Rattle.std.specs.Prelude.{Option, None, Some}
+use Rattle.std.specs.Option.{unwrap_or}
 use Prim.Native.Nat.{ℕ, ◌+◌, ◌≤◌, ◌<◌}
 use native.Mathlib.Omega.{arith}
 use lib.ListN.{length}
-use Rattle.semantics.specs.Text.{Bytes, bytes, same}
+use Rattle.semantics.specs.Text.{Bytes, bytes, or_else, same}
 use Rattle.semantics.specs.Tree.{Ty}
 use Rattle.semantics.specs.Sheet.{concat_map}
 use Rattle.semantics.specs.Fold.{Result}
-use Rattle.semantics.specs.Global.{Item, Init, Global, laid_names}
+use Rattle.semantics.specs.Global.{Item, Init, Global, place_of, laid_names}
 use Rattle.write.specs.Wrote.{Wrote}
 use Rattle.write.proofs.Wrote.{wrote_none, wrote-length}
 use Rattle.placements.specs.Placements.{Keeps}
@@ -60,13 +62,17 @@ module _ {s t u : Bytes} {c : Counts} where
 
 -- ---- one name
 
+or-zero : (o : Option ℕ) → unwrap_or o 0 ≡ or_else 0 o
+or-zero None = refl
+or-zero (Some i) = refl
+
 module _ (ty : Ty) (ps : List Global) (i : Result Init) (x : Bytes) {b : Bool} (h : b ≡ same x (bytes "nil")) where
   pub name-nil : b ≡ true → [] ≡ name_items ty ps i (x ∷ [])
   name-nil d = rw (sym h ∙ d)
 
-  pub name-items : b ≡ false → {off : ℕ} → off ≡ offset_in x ps → first_items ty off i ≡ name_items ty ps i (x ∷ [])
-  name-items d {off} g =
-      ap (λ (j : ℕ). first_items ty j i) g
+  pub name-items : b ≡ false → {o : Option ℕ} → o ≡ place_of x ps → {off : ℕ} → off ≡ unwrap_or o 0 → first_items ty off i ≡ name_items ty ps i (x ∷ [])
+  name-items d {o} e g =
+      ap (λ (j : ℕ). first_items ty j i) (g ∙ or-zero o ∙ ap (or_else 0) e)
       ∙ sym (append-nil (first_items ty (offset_in x ps) i)) ∙ rw (sym h ∙ d)
 
 items-step : (ty : Ty) (ps : List Global) (i : Result Init) (x : Bytes) (xs : List Bytes) → name_items ty ps i (x ∷ xs) ≡ name_items ty ps i (x ∷ []) ++ name_items ty ps i xs

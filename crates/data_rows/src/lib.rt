@@ -1,7 +1,7 @@
 // The `dat` rows of a sheet's data items, with IDs for the keys of array elements.
 #![tactic(auto)]
 
-ghost use Rattle.std.specs.Prelude.{◌≡◌, [], ◌∷◌, ◌<◌, length};
+ghost use Rattle.std.specs.Prelude.{◌≡◌, [], ◌∷◌, ◌<◌, length, IfSome};
 ghost use Rattle.semantics.specs.Text.{Bytes};
 ghost use Rattle.semantics.specs.Tree.{Ty};
 ghost use Rattle.semantics.specs.Tree.ElemKind.{k_big};
@@ -11,7 +11,7 @@ ghost use Rattle.write.specs.Wrote.{Wrote};
 ghost use Rattle.checks.specs.Checks.{Kept, Outside};
 ghost use Rattle.names.specs.Table.{names_in};
 ghost use Rattle.global_table.specs.Table.{VarLine, type_on, names_on, places_in};
-ghost use Rattle.globals.specs.Vars.{laid_on, MayLay, line_items};
+ghost use Rattle.globals.specs.Vars.{laid_on, line_items};
 ghost use Rattle.type_keys.specs.Table.{Kinds};
 ghost use Rattle.vars.specs.First.{init_in, FirstStands};
 ghost use Rattle.data_rows.specs.Data.{items_in, keys_of, rows_of, DataTables, Identified, PrintKept, ItemsPrinted, Keyed, PrintTables, NameTask, first_items, name_items};
@@ -129,7 +129,7 @@ fn name_rows(
     if line::is_nil(name) {
         return no_rows(out, p);
     }
-    let off = global_table::offset_in(sheet, work, c.lines, c.globals, name);
+    let off = global_table::offset_in(sheet, work, c.lines, c.globals, name).unwrap_or(0);
     first_rows(work, c.frames, off, x, out, p)
 }
 
@@ -157,14 +157,21 @@ fn names_rows(
     q
 }
 
-// The rows of the `var` line r, none where r is 0. Its first value stands in the working space while they are printed.
-fn line_rows(sheet: &[u8], work: &mut [u8], c: Counts, r: usize, out: &mut [u8], p: Next) -> Next
-    requires { (PrintTables sheet.now work.old c p.keys) × (MayLay sheet.now work.old c.lines r) }
+// The rows of the `var` line r. Its first value stands in the working space while they are printed.
+fn line_rows(
+    sheet: &[u8],
+    work: &mut [u8],
+    c: Counts,
+    r: Option<usize>,
+    out: &mut [u8],
+    p: Next,
+) -> Next
+    requires { (PrintTables sheet.now work.old c p.keys) × (IfSome r (VarLine sheet.now work.old c.lines)) }
     ensures { (ItemsPrinted sheet.now (line_items (names_in sheet.now work.old c.consts) (places_in sheet.now work.old c.globals) (laid_on sheet.now r)) p result work.old work.new out.old out.new) × (PrintKept work.old work.new) }
 {
-    if r == 0 {
+    let Some(r) = r else {
         return no_rows(out, p);
-    }
+    };
     let known = Known {
         lines: c.lines,
         consts: c.consts,
@@ -183,7 +190,7 @@ pub fn data_rows(sheet: &[u8], work: &mut [u8], c: Counts, out: &mut [u8], p: Ne
     ensures { (Wrote out.old p.at (rows_of sheet.now (items_in sheet.now work.old c.consts)) out.new result.at) × (Kinds work.new (keys_of sheet.now (items_in sheet.now work.old c.consts)) result.keys) × (result.keys < 1024) × (Kept 10624 work.old work.new) }
 {
     let mut q = no_rows(out, p);
-    let mut k = 0;
+    let mut k = None;
     let mut i = 0;
     while i < c.lines {
         let r = globals::laid_line(sheet, work, c.lines, i, k);

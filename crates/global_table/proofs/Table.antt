@@ -3,26 +3,26 @@ use mathlib.Core.Path.{◌≡◌, refl, sym, ap, ◌∙◌}
 use mathlib.Core.Logic.{⊎_elim}
 use mathlib.Core.Bool.{Bool, true, false, cond}
 use mathlib.Core.List.{List, [], ◌∷◌, ◌++◌}
-use Rattle.std.specs.Prelude.{Option, Some}
-use Prim.Native.Nat.{ℕ, zero, suc, ◌+◌, ◌-◌, ◌*◌, ◌/◌, ◌%◌, ◌≤◌, ◌<◌}
+use Rattle.std.specs.Prelude.{Option, None, Some, option_map, IfSome}
+use Prim.Native.Nat.{ℕ, zero, suc, ◌+◌, ◌*◌, ◌/◌, ◌%◌, ◌≤◌, ◌<◌}
 use native.Mathlib.Numerals.{add-one}
 use native.Mathlib.Nat.{eq-or-lt_of_le}
 use native.Mathlib.Omega.{arith}
 use lib.ListN.{length, get_or, set}
 use lib.Seq.{length-sets}
 use borrow.Author.Tests.{eq-eqb}
-use Rattle.semantics.specs.Text.{Bytes, same, or_else}
+use Rattle.semantics.specs.Text.{Bytes, same}
 use Rattle.semantics.specs.Global.{Global, place_of}
 use Rattle.laws.proofs.Tests.{same-eq}
 use Rattle.write.specs.Wrote.{over}
 use Rattle.write.proofs.Over.{get_d_over, get_or-stored}
 use Rattle.words.specs.Words.{digest, u16_at}
 use Rattle.words.proofs.Laws.{digest-same, digest-apart}
-use Rattle.chains.specs.Chains.{newest_of, chain_of, digest_place, digest_at, chain_at, in_chain, ChainRoom, Chained, linked}
+use Rattle.chains.specs.Chains.{newest_of, count_to, chain_of, digest_place, digest_at, chain_at, in_chain, ChainRoom, Chained, linked}
 use Rattle.chains.proofs.Laws.{PlacesApart, SameBytes, newest-yes, newest-no, newest-low, linked-outside, linked-other, linked_long, chained-none, chained-kept, chained-next}
 use Rattle.checks.specs.Checks.{Checked, Kept, Outside}
 use Rattle.checks.proofs.Kept.{kept_less, kept_at, outside-then, outside-less, over-outside, checked-kept, kind-line-kept}
-use Rattle.global_table.specs.Table.{VarLine, global_line_of, global_position_of, offset_of, global_chains, global_stored, global_entered, global_at, entries_from, places_in, GlobalEntry, Tabled, offset_by, number_from, entry_number}
+use Rattle.global_table.specs.Table.{VarLine, global_line_of, global_position_of, offset_of, global_chains, global_stored, global_entered, global_at, entries_from, places_in, GlobalEntry, Tabled, number_from, entry_number}
 
 -- ---- an entry
 
@@ -167,18 +167,18 @@ places-entered s t g line position offset d = entries-same s t (global_entered t
 
 -- a name that no entry before it has is entered
 pub once-entered : (s t : Bytes) (g line position offset d : ℕ)
-    → ((i : ℕ) → i < g → entry_number (global_at s t i).name (places_in s t i) ≡ 0)
-    → entry_number (global_at s (global_entered t g line position offset d) g).name (places_in s t g) ≡ 0
-    → (i : ℕ) → i < suc g → entry_number (global_at s (global_entered t g line position offset d) i).name (places_in s (global_entered t g line position offset d) i) ≡ 0
+    → ((i : ℕ) → i < g → entry_number (global_at s t i).name (places_in s t i) ≡ None)
+    → entry_number (global_at s (global_entered t g line position offset d) g).name (places_in s t g) ≡ None
+    → (i : ℕ) → i < suc g → entry_number (global_at s (global_entered t g line position offset d) i).name (places_in s (global_entered t g line position offset d) i) ≡ None
 once-entered s t g line position offset d old last i h = ⊎_elim (λ (e : i ≡ g). here e) (λ (l : i < g). before l) (eq-or-lt_of_le (omega arith))
   where
     same-to : (m : ℕ) → m ≤ g → places_in s (global_entered t g line position offset d) m ≡ places_in s t m
     same-to m l = entries-same s t (global_entered t g line position offset d) 0 m (λ j q. entry_old t g line position offset d j (omega arith) s)
 
-    here : i ≡ g → entry_number (global_at s (global_entered t g line position offset d) i).name (places_in s (global_entered t g line position offset d) i) ≡ 0
+    here : i ≡ g → entry_number (global_at s (global_entered t g line position offset d) i).name (places_in s (global_entered t g line position offset d) i) ≡ None
     here e = rw (e, same-to g (omega arith)) last
 
-    before : i < g → entry_number (global_at s (global_entered t g line position offset d) i).name (places_in s (global_entered t g line position offset d) i) ≡ 0
+    before : i < g → entry_number (global_at s (global_entered t g line position offset d) i).name (places_in s (global_entered t g line position offset d) i) ≡ None
     before l = rw (same-to i (omega arith), entry_old t g line position offset d i l s) (old i l)
 
 -- ---- search for a name
@@ -197,61 +197,61 @@ place-more x [] p e = rw e
 place-more x (q ∷ ps) p e = rw (place-more x ps p e)
 
 module _ (x : Bytes) (p : Global) (e : same x p.name ≡ true) where
-  number-new : (k : ℕ) (ps : List Global) → number_from (suc k) x ps ≡ 0 → number_from (suc k) x (ps ++ (p ∷ [])) ≡ suc k + length ps
-  number-new k [] z = rw e (omega arith)
+  number-new : (k : ℕ) (ps : List Global) → number_from k x ps ≡ None → number_from k x (ps ++ (p ∷ [])) ≡ Some (k + length ps)
+  number-new k [] z = rw e (ap Some (omega arith))
   number-new k (q ∷ ps) z = go (same x q.name) z (number-new (suc k) ps)
     where
-      go : (b : Bool) → cond b (suc k) (number_from (suc (suc k)) x ps) ≡ 0 → (number_from (suc (suc k)) x ps ≡ 0 → number_from (suc (suc k)) x (ps ++ (p ∷ [])) ≡ suc (suc k) + length ps)
-          → cond b (suc k) (number_from (suc (suc k)) x (ps ++ (p ∷ []))) ≡ suc k + suc (length ps)
-      go true h f = absurd (omega arith)
-      go false h f = f h ∙ omega arith
+      go : (b : Bool) → cond b (Some k) (number_from (suc k) x ps) ≡ None → (number_from (suc k) x ps ≡ None → number_from (suc k) x (ps ++ (p ∷ [])) ≡ Some (suc k + length ps))
+          → cond b (Some k) (number_from (suc k) x (ps ++ (p ∷ []))) ≡ Some (k + suc (length ps))
+      go true h f = cc h
+      go false h f = f h ∙ ap Some (omega arith)
 
-  place-new : (k : ℕ) (ps : List Global) → number_from (suc k) x ps ≡ 0 → place_of x (ps ++ (p ∷ [])) ≡ Some p.offset
+  place-new : (k : ℕ) (ps : List Global) → number_from k x ps ≡ None → place_of x (ps ++ (p ∷ [])) ≡ Some p.offset
   place-new k [] z = rw e
   place-new k (q ∷ ps) z = go (same x q.name) z (place-new (suc k) ps)
     where
-      go : (b : Bool) → cond b (suc k) (number_from (suc (suc k)) x ps) ≡ 0 → (number_from (suc (suc k)) x ps ≡ 0 → place_of x (ps ++ (p ∷ [])) ≡ Some p.offset)
+      go : (b : Bool) → cond b (Some k) (number_from (suc k) x ps) ≡ None → (number_from (suc k) x ps ≡ None → place_of x (ps ++ (p ∷ [])) ≡ Some p.offset)
           → cond b (Some q.offset) (place_of x (ps ++ (p ∷ []))) ≡ Some p.offset
-      go true h f = absurd (omega arith)
+      go true h f = cc h
       go false h f = f h
 
 -- whether entry i has the name x
 abbrev pub has_name : Bytes → Bytes → Bytes → ℕ → Bool
 has_name s t x i = same x (global_at s t i).name
 
--- r is the number of the first entry with the name x, and its offset that name's place
-pub record Found (s t : Bytes) (g : ℕ) (x : Bytes) (r : ℕ) : Type 0 where
-  pub place : offset_by t r ≡ place_of x (places_in s t g)
+-- r is the first entry with the name x, and its offset that name's place
+pub record Found (s t : Bytes) (g : ℕ) (x : Bytes) (r : Option ℕ) : Type 0 where
+  pub place : option_map (offset_of t) r ≡ place_of x (places_in s t g)
   pub number : r ≡ entry_number x (places_in s t g)
 
 module _ (s t : Bytes) (x : Bytes) where
   found_none : Found s t 0 x (newest_of (has_name s t x) 0)
-  unfolding newest_of offset_by entries_from
+  unfolding newest_of entries_from
   found_none = record { place = refl; number = refl }
 
   module _ (g : ℕ) where
     more : places_in s t (suc g) ≡ places_in s t g ++ (global_at s t g ∷ [])
     more = rw (add-one g) at (places-more s t g)
 
-    found_here : has_name s t x g ≡ true → entry_number (global_at s t g).name (places_in s t g) ≡ 0 → Found s t (suc g) x (suc g)
-    unfolding offset_by global_at
+    found_here : has_name s t x g ≡ true → entry_number (global_at s t g).name (places_in s t g) ≡ None → Found s t (suc g) x (Some g)
+    unfolding global_at
     found_here e h =
         let q : x ≡ (global_at s t g).name = same-eq x (global_at s t g).name e in
-        let z : entry_number x (places_in s t g) ≡ 0 = rw q h in
+        let z : entry_number x (places_in s t g) ≡ None = rw q h in
         let l : length (places_in s t g) ≡ g = places_count s t 0 g in
         record {
           place = sym (rw more (place-new x (global_at s t g) e 0 (places_in s t g) z));
-          number = sym (rw more (number-new x (global_at s t g) e 0 (places_in s t g) z ∙ omega (arith, l)));
+          number = sym (rw more (number-new x (global_at s t g) e 0 (places_in s t g) z ∙ ap Some (omega (arith, l))));
         }
 
-    found_before : has_name s t x g ≡ false → {r : ℕ} → Found s t g x r → Found s t (suc g) x r
+    found_before : has_name s t x g ≡ false → {r : Option ℕ} → Found s t g x r → Found s t (suc g) x r
     found_before e f = record {
       place = rw more (f.place ∙ sym (place-more x (places_in s t g) (global_at s t g) e));
-      number = rw more (f.number ∙ sym (number_more 1 x (places_in s t g) (global_at s t g) e));
+      number = rw more (f.number ∙ sym (number_more 0 x (places_in s t g) (global_at s t g) e));
     }
 
   -- the newest entry with a name is the first, as there is one alone
-  newest-first : (g : ℕ) → ((i : ℕ) → i < g → entry_number (global_at s t i).name (places_in s t i) ≡ 0) → Found s t g x (newest_of (has_name s t x) g)
+  newest-first : (g : ℕ) → ((i : ℕ) → i < g → entry_number (global_at s t i).name (places_in s t i) ≡ None) → Found s t g x (newest_of (has_name s t x) g)
   newest-first zero h = found_none
   newest-first (suc g) h = go (has_name s t x g) refl (newest-first g (λ i l. h i (omega arith)))
     where
@@ -266,20 +266,14 @@ named-chain {s} {t} {d = d} x w e j h q =
     let y : digest_at t global_chains j ≡ d = (w.entries j h).digest ∙ sym (e ∙ digest-same x (global_at s t j).name 0 q) in
     eq-eqb (chain_at t global_chains j) (chain_of d) (ap chain_of y)
 
-pub found-is : {s t : Bytes} {n g r : ℕ} (x : Bytes) → Tabled s t n g → r ≡ newest_of (has_name s t x) g → (offset_by t r ≡ place_of x (places_in s t g)) × (r ≤ g) × (r ≡ entry_number x (places_in s t g))
+below : (r : Option ℕ) {g : ℕ} → count_to r ≤ g → IfSome r (λ i. i < g)
+below None h = tt
+below (Some i) h = omega arith
+
+pub found-is : {s t : Bytes} {n g : ℕ} {r : Option ℕ} (x : Bytes) → Tabled s t n g → r ≡ newest_of (has_name s t x) g → (option_map (offset_of t) r ≡ place_of x (places_in s t g)) × (IfSome r (λ i. i < g)) × (r ≡ entry_number x (places_in s t g))
 found-is {s} {t} {g = g} x w e =
     let f = newest-first s t x g w.once in
-    rw e (f.place, newest-low (has_name s t x) g, f.number)
-
--- the offset of the entry that a search finds
-pub offset-none : (t : Bytes) (p : ℕ) (o : Option ℕ) → offset_by t p ≡ o → p ≡ 0 → 0 ≡ or_else 0 o
-unfolding offset_by
-offset-none t p o e z = rw (← e, z)
-
-pub offset-found : (t : Bytes) (p : ℕ) (o : Option ℕ) → offset_by t p ≡ o → (p ≡ 0 → ⊥) → offset_of t (p - 1) ≡ or_else 0 o
-unfolding offset_by
-offset-found t zero o e z = absurd (z refl)
-offset-found t (suc p) o e z = let q : suc p - 1 ≡ p = omega arith in rw (← e, q)
+    rw e (f.place, below (newest_of (has_name s t x) g) (newest-low (has_name s t x) g), f.number)
 
 -- ---- what is kept
 

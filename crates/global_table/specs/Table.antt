@@ -72,18 +72,13 @@ pub record GlobalEntry (s t : Bytes) (n i : ℕ) : Type 0 where
   pub line : VarLine s t n (global_line_of t i)
   pub digest : digest_at t global_chains i ≡ digest (global_at s t i).name
 
--- the offset of an entry by its number from 1; 0 is none
-unfoldable pub offset_by : Bytes → ℕ → Option ℕ
-offset_by t zero = None
-offset_by t (suc i) = Some (offset_of t i)
+-- the first place with a name, where the first of all is place k
+abbrev pub number_from : ℕ → Bytes → List Global → Option ℕ
+number_from k x [] = None
+number_from k x (p ∷ ps) = cond (same x p.name) (Some k) (number_from (suc k) x ps)
 
--- the number of the first place with a name, where the first of all has the number k; 0 where there is none
-abbrev pub number_from : ℕ → Bytes → List Global → ℕ
-number_from k x [] = 0
-number_from k x (p ∷ ps) = cond (same x p.name) k (number_from (suc k) x ps)
-
-abbrev pub entry_number : Bytes → List Global → ℕ
-entry_number x ps = number_from 1 x ps
+abbrev pub entry_number : Bytes → List Global → Option ℕ
+entry_number x ps = number_from 0 x ps
 
 -- where a name lies among places, 0 where it has none
 abbrev pub offset_in : Bytes → List Global → ℕ
@@ -94,5 +89,5 @@ pub record Tabled (s t : Bytes) (n g : ℕ) : Type 0 where
   pub checked : Checked s t n
   pub few : g ≤ 256
   pub entries : (i : ℕ) → i < g → GlobalEntry s t n i
-  pub once : (i : ℕ) → i < g → entry_number (global_at s t i).name (places_in s t i) ≡ 0
+  pub once : (i : ℕ) → i < g → entry_number (global_at s t i).name (places_in s t i) ≡ None
   pub chained : Chained t global_chains g

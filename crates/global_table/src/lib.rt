@@ -3,12 +3,12 @@
 
 pub mod line;
 
-ghost use Rattle.std.specs.Prelude.{◌≡◌, ◌≤◌, ◌<◌, length};
+ghost use Rattle.std.specs.Prelude.{◌≡◌, ◌≤◌, ◌<◌, length, option_map, IfSome};
 ghost use Rattle.semantics.specs.Text.{same};
 ghost use Rattle.semantics.specs.Global.{global_size, place_of};
 ghost use Rattle.sizes.specs.Sizes.{type_at, TypeLine};
 ghost use Rattle.words.specs.Words.{digest};
-ghost use Rattle.global_table.specs.Table.{global_line_of, global_position_of, offset_of, global_entered, global_at, places_in, GlobalEntry, Tabled, offset_by, entry_number, offset_in};
+ghost use Rattle.global_table.specs.Table.{global_line_of, global_position_of, offset_of, global_entered, global_at, places_in, GlobalEntry, Tabled, entry_number};
 
 use chains::ChainPlaces;
 use codes::area;
@@ -29,11 +29,12 @@ pub fn line_of(work: &[u8], i: usize) -> usize
 }
 
 // The position of its name among the line's names, from 0.
+#[tactic(auto, unfolding(crate::specs::Table::global_position_of))]
 fn position_of(work: &[u8], i: usize) -> usize
     requires { (i < 256) × (65536 ≤ length work.now) }
     ensures { (result ≡ global_position_of work.now i) × (result < 256) }
 {
-    words::wide(work[area::GLOBALS + 2 + 8 * i])
+    usize::from(work[area::GLOBALS + 2 + 8 * i])
 }
 
 // Its offset.
@@ -60,6 +61,7 @@ pub fn enter(work: &mut [u8], i: usize, line: usize, position: usize, offset: us
 }
 
 // The name of entry i, as that part of the sheet.
+#[tactic(auto, unfolding(crate::specs::Table::global_at))]
 pub fn name_of<'a>(sheet: &'a [u8], work: &[u8], n: usize, i: usize) -> &'a [u8]
     requires { GlobalEntry sheet.now work.now n i }
     ensures { result.now ≡ (global_at sheet.now work.now i).name }
@@ -72,38 +74,33 @@ fn is_named(sheet: &[u8], work: &[u8], n: usize, i: usize, name: &[u8], d: usize
     requires { (GlobalEntry sheet.now work.now n i) × (d ≡ digest name.now) }
     ensures { result ≡ same name.now (global_at sheet.now work.now i).name }
 {
-    if chains::digest_at(work, CHAINS, i) != d {
-        return false; // before the name is looked for
-    }
-    words::same(name, name_of(sheet, work, n, i))
+    // the name is looked for last
+    chains::digest_at(work, CHAINS, i) == d && words::same(name, name_of(sheet, work, n, i))
 }
 
-// The number of the first entry with this name, from 1; 0 is none. No name has two entries, so the newest is the first.
-pub fn entry_number(sheet: &[u8], work: &[u8], n: usize, g: usize, name: &[u8]) -> usize
+// The first entry with this name. No name has two entries, so the newest is the first.
+pub fn entry_number(sheet: &[u8], work: &[u8], n: usize, g: usize, name: &[u8]) -> Option<usize>
     requires { Tabled sheet.now work.now n g }
-    ensures { (offset_by work.now result ≡ place_of name.now (places_in sheet.now work.now g)) × (result ≤ g) × (result ≡ entry_number name.now (places_in sheet.now work.now g)) }
+    ensures { (option_map (offset_of work.now) result ≡ place_of name.now (places_in sheet.now work.now g)) × (IfSome result (λ i. i < g)) × (result ≡ entry_number name.now (places_in sheet.now work.now g)) }
 {
     let d = words::digest(name);
-    let mut i = chains::newest(work, CHAINS, g, d);
-    while 0 < i {
-        if is_named(sheet, work, n, i - 1, name, d) {
-            return i;
+    let mut next = chains::newest(work, CHAINS, g, d);
+    while let Some(i) = next {
+        if is_named(sheet, work, n, i, name, d) {
+            return Some(i);
         }
-        i = chains::earlier(work, CHAINS, i - 1);
+        next = chains::earlier(work, CHAINS, i);
     }
-    0
+    None
 }
 
-// The offset of the global with this name, 0 where there is none.
-pub fn offset_in(sheet: &[u8], work: &[u8], n: usize, g: usize, name: &[u8]) -> usize
+// The offset of the global with this name.
+pub fn offset_in(sheet: &[u8], work: &[u8], n: usize, g: usize, name: &[u8]) -> Option<usize>
     requires { Tabled sheet.now work.now n g }
-    ensures { (result ≡ offset_in name.now (places_in sheet.now work.now g)) × (result < 65536) }
+    ensures { (result ≡ place_of name.now (places_in sheet.now work.now g)) × (IfSome result (λ o. o < 65536)) }
 {
-    let e = entry_number(sheet, work, n, g, name);
-    if e == 0 {
-        return 0;
-    }
-    offset_of(work, e - 1)
+    let i = entry_number(sheet, work, n, g, name)?;
+    Some(offset_of(work, i))
 }
 
 // The bytes that a global of the type of line r takes.
@@ -112,8 +109,8 @@ pub fn global_size(sheet: &[u8], work: &[u8], n: usize, r: usize) -> u32
     ensures { (result ≡ global_size (type_at sheet.now r)) × (result ≤ 8) }
 {
     if sizes::is_pointer(sheet, work, n, r) {
-        return 4;
+        4
+    } else {
+        sizes::type_size_align(sheet, work, n, r).size
     }
-    let x = sizes::type_size_align(sheet, work, n, r);
-    x.size
 }

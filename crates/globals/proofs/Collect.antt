@@ -1,6 +1,7 @@
 -- Laws of the walk over the lines.
 use mathlib.Core.Path.{◌≡◌, refl, sym, ap, ◌∙◌}
 use mathlib.Core.List.{List, [], ◌∷◌, ◌++◌}
+use Rattle.std.specs.Prelude.{Option, None, Some}
 use Prim.Native.Nat.{ℕ, zero, suc, ◌+◌, ◌-◌, ◌≤◌, ◌<◌}
 use native.Mathlib.Numerals.{add-one}
 use native.Mathlib.Omega.{arith}
@@ -25,25 +26,24 @@ use Rattle.global_table.specs.Table.{VarLine, type_on, names_on, entries_from}
 use Rattle.globals.specs.Collect.{allocation_in, PlacesEntered, PlacesLaid, names_at, names_to, lay_lines, lay_line, GlobalsCollected}
 use Rattle.globals.specs.Vars.{laid_at, laid_on}
 use Rattle.globals.proofs.Allocation.{laid-all, laid_next}
-use Rattle.global_table.proofs.Table.{places_count, checked-outside, places-kept, tabled-none, tabled-kept}
+use Rattle.global_table.proofs.Table.{places_count, places-kept, tabled-none, tabled-kept}
 use Rattle.globals.proofs.Declare.{laid_same, laid_then}
-use Rattle.globals.proofs.Laid.{laid-on, laid-number}
+use Rattle.globals.proofs.Laid.{laid-number}
 
 -- ---- one line
 
--- r is 0 or the number of line i
-module _ (s t : Bytes) (n i k : ℕ) (g : Globals) (st : PlacesEntered s t n g) (o : Open s t n i k) (h : i < n) (r : ℕ) (e : laid_on s r ≡ laid_at s i) where
-  pub line-none : r ≡ 0 → PlacesLaid s t t n (lay_line s i (allocation_in s t g)) g (g.count + names_at s i)
+module _ (s t : Bytes) (n i : ℕ) (g : Globals) (st : PlacesEntered s t n g) where
+  pub line-none : [] ≡ laid_at s i → PlacesLaid s t t n (lay_line s i (allocation_in s t g)) g (g.count + names_at s i)
   unfolding lay_line lay_lines
-  line-none z = laid_same st (ap (λ (vs : List (Located VarDecl)). lay_lines vs (allocation_in s t g)) (ap (laid_on s) (sym z) ∙ e)) (omega arith)
+  line-none e = laid_same st (ap (λ (vs : List (Located VarDecl)). lay_lines vs (allocation_in s t g)) e) (omega arith)
 
-  module _ (l : VarLine s t n r) where
+  module _ (c : Checked s t n) (h : i < n) (r : ℕ) (e : laid_on s (Some r) ≡ laid_at s i) (l : VarLine s t n r) where
     names-are : names_at s i ≡ length (names_on s r)
     unfolding names_at by_kind
     names-are =
-        let z : r - 1 ≡ i = laid-number s i r l.first e in
+        let z : r - 1 ≡ i = laid-number s i r e in
         let v : letter (read_at s i).form.kind ≡ 72 = rw z at l.kind in
-        ap (λ (d : Declares). sum_of (λ (v : VarDecl). length v.names) d.vars) (line-declares s t n o.checked i h) ∙ rw (v, z) (omega arith)
+        ap (λ (d : Declares). sum_of (λ (v : VarDecl). length v.names) d.vars) (line-declares s t n c i h) ∙ rw (v, z) (omega arith)
 
     pub line-room : g.count + names_at s i ≤ 256 → g.count + length (names_on s r) ≤ 256
     line-room q = omega (arith, names-are)
@@ -53,7 +53,7 @@ module _ (s t : Bytes) (n i k : ℕ) (g : Globals) (st : PlacesEntered s t n g) 
     line-laid a = record {
       standing = a.standing;
       outside = a.outside;
-      allocation = a.allocation ∙ ap (λ (vs : List (Located VarDecl)). lay_lines vs (allocation_in s t g)) (sym (laid-on s r l.first) ∙ e);
+      allocation = a.allocation ∙ ap (λ (vs : List (Located VarDecl)). lay_lines vs (allocation_in s t g)) e;
       most = omega (arith, a.most, names-are);
     }
 
@@ -83,16 +83,13 @@ module _ (s t : Bytes) (n : ℕ) (c : Checked s t n) where
 
 -- ---- all lines
 
-pub open-outside : {s t u : Bytes} {n i k : ℕ} → Outside 7168 9216 t u → Open s t n i k → Open s u n i k
-open-outside a o = record { checked = checked-outside a o.checked; within = o.within; low = o.low; here = o.here }
-
 -- the globals of the first i lines have places
-pub record LinesLaid (s t u : Bytes) (n : ℕ) (g : Globals) (k i : ℕ) : Type 0 where
+pub record LinesLaid (s t u : Bytes) (n : ℕ) (g : Globals) (k : Option ℕ) (i : ℕ) : Type 0 where
   pub laid : PlacesLaid s t u n (laid_to s i) g (names_to s i)
   pub here : Open s u n i k
 
 module _ (s t : Bytes) (n : ℕ) (c : Checked s t n) where
-  pub lines-laid-start : {g : Globals} → g.count ≡ 0 → g.end ≡ 0 → LinesLaid s t t n g 0 0
+  pub lines-laid-start : {g : Globals} → g.count ≡ 0 → g.end ≡ 0 → LinesLaid s t t n g None 0
   unfolding laid_to located_to lay_vars entries_from open_at module_at
   lines-laid-start {g} e f =
       record {
@@ -100,11 +97,11 @@ module _ (s t : Bytes) (n : ℕ) (c : Checked s t n) where
         here = record { checked = c; within = omega arith; low = omega arith; here = refl };
       }
 
-  module _ (u : Bytes) (g : Globals) (k i : ℕ) (m : LinesLaid s t u n g k i) where
+  module _ (u : Bytes) (g : Globals) (k : Option ℕ) (i : ℕ) (m : LinesLaid s t u n g k i) where
     pub lines-laid-here : i < n → (PlacesEntered s u n g) × (Open s u n i k) × (i < n) × (g.count + names_at s i ≤ 256)
     lines-laid-here h = (m.laid.standing, m.here, h, omega (arith, m.laid.most, names-few s t n c i h))
 
-    pub lines-laid-next : {v : Bytes} {x : Globals} {q : ℕ} → i < n → PlacesLaid s u v n (lay_line s i (allocation_in s u g)) x (g.count + names_at s i) → Open s v n (i + 1) q → LinesLaid s t v n x q (i + 1)
+    pub lines-laid-next : {v : Bytes} {x : Globals} {q : Option ℕ} → i < n → PlacesLaid s u v n (lay_line s i (allocation_in s u g)) x (g.count + names_at s i) → Open s v n (i + 1) q → LinesLaid s t v n x q (i + 1)
     lines-laid-next h a o =
         let b = laid_then (lay_line s i) (names_at s i) m.laid a in
         record { laid = record { standing = b.standing; outside = b.outside; allocation = b.allocation ∙ sym (laid_next s t n c i h); most = omega (arith, b.most, names_more s i, ap (names_to s) (add-one i)) }; here = o }

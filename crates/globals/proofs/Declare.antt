@@ -3,8 +3,9 @@ use mathlib.Core.Path.{◌≡◌, refl, sym, ap, ◌∙◌, subst}
 use mathlib.Core.Logic.{⊎_elim}
 use mathlib.Core.Bool.{Bool, true, false}
 use mathlib.Core.List.{List, [], ◌∷◌, ◌++◌}
-use Rattle.std.specs.Prelude.{None}
-use Prim.Native.Nat.{ℕ, zero, suc, ◌+◌, ◌-◌, ◌*◌, ◌≤◌, ◌<◌}
+use Rattle.std.specs.Prelude.{Option, None, Some, option_map}
+use Rattle.std.specs.Option.{is_some}
+use Prim.Native.Nat.{ℕ, ◌+◌, ◌-◌, ◌*◌, ◌≤◌, ◌<◌}
 use native.Mathlib.Nat.{eq-or-lt_of_le}
 use native.Mathlib.Numerals.{add-one}
 use native.Mathlib.Omega.{arith}
@@ -25,7 +26,7 @@ use Rattle.checks.proofs.Kept.{outside-all, outside-then}
 use Rattle.sizes.specs.Sizes.{type_at}
 use Rattle.globals.specs.declared.Globals.{Globals}
 use Rattle.globals.specs.Allocation.{Allocation, lay_name, lay_names}
-use Rattle.global_table.specs.Table.{VarLine, name_on, type_on, names_on, global_chains, global_entered, global_at, places_in, GlobalEntry, offset_by, entry_number}
+use Rattle.global_table.specs.Table.{VarLine, name_on, type_on, names_on, global_chains, global_entered, global_at, offset_of, places_in, GlobalEntry, entry_number}
 use Rattle.globals.specs.Collect.{allocation_in, PlacesEntered, PlacesLaid}
 use Rattle.globals.proofs.Allocation.{names-next}
 use Rattle.global_table.proofs.VarLine.{names-count}
@@ -48,10 +49,13 @@ pub lay-nil : (t : Ty) (x : Bytes) (l : Allocation) → same x (bytes "nil") ≡
 unfolding lay_name
 lay-nil t x l e = rw e
 
-pub lay-again : (t : Ty) (x : Bytes) (l : Allocation) (w : Bytes) (p : ℕ) → same x (bytes "nil") ≡ false → offset_by w p ≡ place_of x l.places → (p ≡ 0 → ⊥) → l ≡ lay_name t x l
-unfolding lay_name offset_by
-lay-again t x l w zero e h z = absurd (z refl)
-lay-again t x l w (suc p) e h z = rw (e, ← h)
+pub lay-again : (t : Ty) (x : Bytes) (l : Allocation) (f : ℕ → ℕ) (p : Option ℕ) → same x (bytes "nil") ≡ false → option_map f p ≡ place_of x l.places → is_some p ≡ true → l ≡ lay_name t x l
+unfolding lay_name
+lay-again t x l f None e h z = cc z
+lay-again t x l f (Some i) e h z = rw (e, ← h)
+
+pub none_of : {p : Option ℕ} → is_some p ≡ false → p ≡ None
+none_of {p} h = elim p as (λ (o : Option ℕ). is_some o ≡ false → o ≡ None) [ None ↦ λ e. refl | Some i ↦ λ e. cc e ] h
 
 -- ---- a new place
 
@@ -71,12 +75,6 @@ module _ (s t : Bytes) (n r j : ℕ) (g : Globals) (st : PlacesEntered s t n g) 
 
   line_low : r < 65536
   line_low = omega (arith, l.last, l.checked.whole.lined.few)
-
-  pub enter-fits : (g.count < 256) × (r < 65536) × (j < 256) × (off < 65536) × (d < 256) × (65536 ≤ length t)
-  enter-fits = (full, line_low, omega arith, omega (arith, off-low), small, l.checked.whole.room)
-
-  pub end_fits : off + size < 4294967296
-  end_fits = omega (arith, off-low, size_low)
 
   with_entry : Bytes
   with_entry = global_entered t g.count r j off d
@@ -122,24 +120,24 @@ module _ (s t : Bytes) (n r j : ℕ) (g : Globals) (st : PlacesEntered s t n g) 
   unfolding with_entry
   places-old = places-entered s t g.count r j off d
 
-  module _ (p : ℕ) (hn : same (name_on s r j) (bytes "nil") ≡ false) (hp : offset_by t p ≡ place_of (name_on s r j) (places_in s t g.count)) (hq : p ≡ entry_number (name_on s r j) (places_in s t g.count)) (hz : p ≡ 0) (h : Globals) (hc : h.count ≡ g.count + 1) (he : h.end ≡ off + size) where
+  module _ (p : Option ℕ) (hn : same (name_on s r j) (bytes "nil") ≡ false) (hp : option_map (offset_of t) p ≡ place_of (name_on s r j) (places_in s t g.count)) (hq : p ≡ entry_number (name_on s r j) (places_in s t g.count)) (hz : p ≡ None) (h : Globals) (hc : h.count ≡ g.count + 1) (he : h.end ≡ off + size) where
     places-new : places_in s with_entry h.count ≡ places_in s t g.count ++ (record { name = name_on s r j; offset = new_offset (type_on s r) g.end; ty = type_on s r } ∷ [])
     places-new =
         ap (places_in s with_entry) hc ∙ places-more s with_entry g.count
         ∙ ap (λ (e : Global). places_in s with_entry g.count ++ (e ∷ [])) entry_new ∙ ap (λ (l : List Global). l ++ (record { name = name_on s r j; offset = new_offset (type_on s r) g.end; ty = type_on s r } ∷ [])) places-old
 
     allocation-new : allocation_in s with_entry h ≡ lay_name (type_on s r) (name_on s r j) (allocation_in s t g)
-    unfolding lay_name offset_by
+    unfolding lay_name
     allocation-new =
-        let q : place_of (name_on s r j) (places_in s t g.count) ≡ None = sym hp ∙ ap (offset_by t) hz in
+        let q : place_of (name_on s r j) (places_in s t g.count) ≡ None = sym hp ∙ ap (option_map (offset_of t)) hz in
         let f : h.end ≡ new_offset (type_on s r) g.end + global_size (type_on s r) = he ∙ rw (off-is, size_is) in
         rw (hn, q, places-new, f)
 
     -- no entry has the name yet
-    once-new : (i : ℕ) → i < h.count → entry_number (global_at s with_entry i).name (places_in s with_entry i) ≡ 0
+    once-new : (i : ℕ) → i < h.count → entry_number (global_at s with_entry i).name (places_in s with_entry i) ≡ None
     unfolding with_entry
     once-new i q =
-        let z : entry_number (global_at s with_entry g.count).name (places_in s t g.count) ≡ 0 = ap (λ (e : Global). entry_number e.name (places_in s t g.count)) entry_new ∙ sym hq ∙ hz in
+        let z : entry_number (global_at s with_entry g.count).name (places_in s t g.count) ≡ None = ap (λ (e : Global). entry_number e.name (places_in s t g.count)) entry_new ∙ sym hq ∙ hz in
         once-entered s t g.count r j off d st.tabled.once z i (omega arith)
 
     chained-new : Chained with_entry global_chains h.count
@@ -179,10 +177,6 @@ module _ (s t : Bytes) (n r : ℕ) (g : Globals) (count : ℕ) where
   naming-start st = record { within = omega arith; laid = laid_same st refl (omega arith) }
 
   module _ (l : VarLine s t n r) (hc : (count ≡ length (names_on s r)) × (count ≤ 16)) (u : Bytes) (h : Globals) (j : ℕ) (m : Naming s t u n r count g h j) where
-    pub naming-here : j < count → g.count + length (names_on s r) ≤ 256 → (PlacesEntered s u n h) × (VarLine s u n r) × (j < 16) × (h.count < 256)
-    naming-here k full =
-        (m.laid.standing, var-outside m.laid.outside l, omega (arith, hc.1), omega (arith, hc.0, m.laid.most))
-
     pub naming-next : {v : Bytes} {h' : Globals} → j < count → PlacesLaid s u v n (lay_name (type_on s r) (name_on s r j) (allocation_in s u h)) h' (h.count + 1) → Naming s t v n r count g h' (j + 1)
     naming-next {v} {h'} k a =
         let fs = (read_at s (r - 1)).fields in

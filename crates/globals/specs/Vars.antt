@@ -1,5 +1,5 @@
 -- The `var` lines that count, and what each leaves where all places are known.
-use Rattle.std.specs.Prelude.{ℕ, zero, suc, ◌≡◌, cond, List, [], ◌∷◌, ◌++◌, eqb}
+use Rattle.std.specs.Prelude.{ℕ, zero, suc, ◌-◌, cond, Option, None, Some, List, [], ◌∷◌, ◌++◌, eqb}
 use Rattle.semantics.specs.Text.{Bytes}
 use Rattle.semantics.specs.Tree.{VarDecl}
 use Rattle.semantics.specs.Form.{letter}
@@ -9,7 +9,7 @@ use Rattle.semantics.specs.Global.{Item, Init, Global, init_of, or_no_init, init
 use Rattle.lines.specs.Lines.{read_at, nodes_in}
 use Rattle.source.specs.Walk.{open_at, var_of}
 use Rattle.implement.specs.Modules.{own_in}
-use Rattle.global_table.specs.Table.{VarLine, offset_in}
+use Rattle.global_table.specs.Table.{offset_in}
 
 -- line i, from 0, as a `var` line
 abbrev pub located_at : Bytes → ℕ → Located VarDecl
@@ -19,14 +19,10 @@ located_at s i = record { line = suc i; within = open_at (nodes_in s) i; it = va
 abbrev pub laid_at : Bytes → ℕ → List (Located VarDecl)
 laid_at s i = cond (eqb (letter (read_at s i).form.kind) 72) (cond (own_in (sheet_source s).implement (open_at (nodes_in s) i)) (located_at s i ∷ []) []) []
 
--- the `var` line r, from 1, none for 0
-abbrev pub laid_on : Bytes → ℕ → List (Located VarDecl)
-laid_on s zero = []
-laid_on s (suc i) = located_at s i ∷ []
-
--- r is 0 or a `var` line
-abbrev pub MayLay : Bytes → Bytes → ℕ → ℕ → Type 0
-MayLay s t n r = (r ≡ 0 → ⊥) → VarLine s t n r
+-- the `var` line r, from 1
+abbrev pub laid_on : Bytes → Option ℕ → List (Located VarDecl)
+laid_on s None = []
+laid_on s (Some r) = located_at s (r - 1) ∷ []
 
 -- those that count among a sheet's first i lines
 unfoldable pub laid_vars_to : Bytes → ℕ → List (Located VarDecl)

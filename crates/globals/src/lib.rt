@@ -1,13 +1,13 @@
 // Globals collected: a place for each in the table of globals, in the order of their `var` lines.
 #![tactic(auto)]
 
-ghost use Rattle.std.specs.Prelude.{◌≡◌, ◌+◌, ◌≤◌, ◌<◌, length};
+ghost use Rattle.std.specs.Prelude.{◌≡◌, ◌+◌, ◌≤◌, ◌<◌, length, IfSome};
 ghost use Rattle.checks.specs.Checks.{Checked, Outside};
 ghost use Rattle.implement.specs.Modules.{Open};
 ghost use Rattle.global_table.specs.Table.{VarLine, name_on, type_on, names_on};
 ghost use Rattle.globals.specs.Allocation.{lay_name, lay_names};
 ghost use Rattle.globals.specs.Collect.{allocation_in, PlacesEntered, PlacesLaid, names_at, lay_line, GlobalsCollected};
-ghost use Rattle.globals.specs.Vars.{laid_at, laid_on, MayLay};
+ghost use Rattle.globals.specs.Vars.{laid_at, laid_on};
 
 use codes::decl;
 use global_table::line;
@@ -29,7 +29,7 @@ fn declare_name(sheet: &[u8], work: &mut [u8], n: usize, r: usize, j: usize, g: 
     if line::is_nil(name) {
         return g;
     }
-    if global_table::entry_number(sheet, work, n, g.count, name) != 0 {
+    if global_table::entry_number(sheet, work, n, g.count, name).is_some() {
         return g;
     }
     let ty = line::type_of(sheet, work, n, r);
@@ -49,38 +49,40 @@ fn declare_global(sheet: &[u8], work: &mut [u8], n: usize, r: usize, g: Globals)
 {
     let count = line::name_count(sheet, work, n, r);
     let mut h = g;
-    let mut j = 0;
-    while j < count {
+    for j in 0..count {
         h = declare_name(sheet, work, n, r, j, h);
-        j += 1;
     }
     h
 }
 
-// Line i, from 0, where the module of line k is open before it: its number from 1 where it is a `var` line that counts, else 0.
-pub fn laid_line(sheet: &[u8], work: &[u8], n: usize, i: usize, k: usize) -> usize
+// Line i, from 0, where the module of line k is open before it: its number from 1 where it is a `var` line that counts.
+pub fn laid_line(sheet: &[u8], work: &[u8], n: usize, i: usize, k: Option<usize>) -> Option<usize>
     requires { (Open sheet.now work.now n i k) × (i < n) }
-    ensures { (laid_on sheet.now result ≡ laid_at sheet.now i) × (MayLay sheet.now work.now n result) }
+    ensures { (laid_on sheet.now result ≡ laid_at sheet.now i) × (IfSome result (VarLine sheet.now work.now n)) }
 {
-    if lines::form_at(work, i) != decl::VAR {
-        return 0;
+    if lines::form_at(work, i) == decl::VAR && implement::is_own(sheet, work, n, k) {
+        Some(i + 1)
+    } else {
+        None
     }
-    if !implement::is_own(sheet, work, n, k) {
-        return 0;
-    }
-    i + 1
 }
 
-// What line i declares, where the module of line k is open before it; 0 is none.
-fn declare_line(sheet: &[u8], work: &mut [u8], n: usize, i: usize, k: usize, g: Globals) -> Globals
+// What line i declares, where the module of line k is open before it.
+fn declare_line(
+    sheet: &[u8],
+    work: &mut [u8],
+    n: usize,
+    i: usize,
+    k: Option<usize>,
+    g: Globals,
+) -> Globals
     requires { (PlacesEntered sheet.now work.old n g) × (Open sheet.now work.old n i k) × (i < n) × (g.count + names_at sheet.now i ≤ 256) }
     ensures { PlacesLaid sheet.now work.old work.new n (lay_line sheet.now i (allocation_in sheet.now work.old g)) result (g.count + names_at sheet.now i) }
 {
-    let r = laid_line(sheet, work, n, i, k);
-    if r == 0 {
-        return g;
+    match laid_line(sheet, work, n, i, k) {
+        Some(r) => declare_global(sheet, work, n, r, g),
+        None => g,
     }
-    declare_global(sheet, work, n, r, g)
 }
 
 // A place for every global, in the order of lines and names.
@@ -89,12 +91,10 @@ pub fn collect_globals(sheet: &[u8], work: &mut [u8], n: usize) -> Globals
     ensures { (GlobalsCollected sheet.now work.new n result) × (Outside 7168 9216 work.old work.new) }
 {
     let mut g = Globals { count: 0, end: 0 };
-    let mut k = 0;
-    let mut i = 0;
-    while i < n {
+    let mut k = None;
+    for i in 0..n {
         g = declare_line(sheet, work, n, i, k, g);
         k = implement::open_after(sheet, work, n, i, k);
-        i += 1;
     }
     g
 }

@@ -2,7 +2,7 @@
 use mathlib.Core.Path.{◌≡◌, refl, sym, ap, ◌∙◌}
 use mathlib.Core.Bool.{Bool, true, false, cond, not, ◌&&◌, ◌||◌}
 use mathlib.Core.List.{[], ◌∷◌, append-nil}
-use Rattle.std.specs.Prelude.{None, Some}
+use Rattle.std.specs.Prelude.{Option, None, Some}
 use Prim.Native.Nat.{ℕ, zero, suc, ◌+◌, ◌-◌, ◌≤◌, ◌<◌}
 use native.Mathlib.Omega.{arith}
 use native.Mathlib.Numerals.{add-one}
@@ -23,7 +23,7 @@ use Rattle.checks.specs.Checks.{Checked}
 use Rattle.source.specs.Walk.{declares_at, open_at, declared_to, by_kind}
 use Rattle.source.proofs.Walk.{declared-all, source-of}
 use Rattle.source.proofs.Declares.{line-declares}
-use Rattle.implement.specs.Modules.{first_field, module_at, own_in, is_own, Open}
+use Rattle.implement.specs.Modules.{first_field, module_at, own_in, line_number, is_own, Open}
 
 -- ---- the implemented module
 
@@ -80,19 +80,19 @@ module _ (s t : Bytes) (n : ℕ) (c : Checked s t n) where
 
 -- ---- the open module
 
-module _ (s t : Bytes) (n i k : ℕ) (o : Open s t n i k) (h : i < n) (f x : ℕ) (hf : f ≡ form_at t i) (hx : x ≡ kind_at f) where
+module _ (s t : Bytes) (n i : ℕ) (k : Option ℕ) (o : Open s t n i k) (h : i < n) (f x : ℕ) (hf : f ≡ form_at t i) (hx : x ≡ kind_at f) where
   behind : open_at (nodes_in s) (i + 1) ≡ cond (eqb x 79) None (opened (suc i) (cond (eqb x 77) (get_or (read_at s i).fields 0 [] ∷ []) []) (open_at (nodes_in s) i))
   unfolding open_at by_kind
   behind = rw (add-one, kind-by s t n o.checked i h hf hx) (ap (λ (d : Declares). open_after (suc i) d (open_at (nodes_in s) i)) (line-declares s t n o.checked i h))
 
-  opens : {r : ℕ} → r ≤ n → module_at s r ≡ open_at (nodes_in s) (i + 1) → Open s t n (i + 1) r
+  opens : {r : Option ℕ} → line_number r ≤ n → module_at s (line_number r) ≡ open_at (nodes_in s) (i + 1) → Open s t n (i + 1) r
   opens l e = record { checked = o.checked; within = omega arith; low = l; here = e }
 
-  pub open-mod : x ≡ 77 → Open s t n (i + 1) (i + 1)
+  pub open-mod : x ≡ 77 → Open s t n (i + 1) (Some i)
   unfolding module_at
-  open-mod e = let z : suc i - 1 ≡ i = omega arith in opens (omega arith) (rw (behind, e, add-one, z))
+  open-mod e = let z : suc i - 1 ≡ i = omega arith in opens (omega arith) (rw (behind, e, z))
 
-  pub open-end : x ≡ 79 → Open s t n (i + 1) 0
+  pub open-end : x ≡ 79 → Open s t n (i + 1) None
   unfolding module_at
   open-end e = opens (omega arith) (rw (behind, e))
 
@@ -101,16 +101,14 @@ module _ (s t : Bytes) (n i k : ℕ) (o : Open s t n i k) (h : i < n) (f x : ℕ
 
 -- ---- the sheet's own
 
-pub own-outside : (s : Bytes) (k : ℕ) → k ≡ 0 → true ≡ is_own s k
+pub own-outside : (s : Bytes) {k : Option ℕ} → k ≡ None → true ≡ is_own s (line_number k)
 unfolding module_at
-own-outside s zero e = refl
-own-outside s (suc k) e = absurd (omega arith)
+own-outside s e = rw e
 
-pub own-within : (s : Bytes) (k : ℕ) {b : Bool} → (k ≡ 0 → ⊥) → b ≡ same_option (sheet_source s).implement (Some (first_field s k)) → b ≡ is_own s k
+pub own-within : (s : Bytes) {k : Option ℕ} {i : ℕ} {b : Bool} → k ≡ Some i → b ≡ same_option (sheet_source s).implement (Some (get_or (read_at s i).fields 0 [])) → b ≡ is_own s (line_number k)
 unfolding module_at
-own-within s zero z e = absurd (z refl)
-own-within s (suc k) z e = e
+own-within s {i = i} z e = let q : suc i - 1 ≡ i = omega arith in rw (z, q) e
 
 -- the same of the module that is open before line i
-pub own_open : {s t : Bytes} {n i k : ℕ} {b : Bool} → Open s t n i k → b ≡ is_own s k → own_in (sheet_source s).implement (open_at (nodes_in s) i) ≡ b
+pub own_open : {s t : Bytes} {n i : ℕ} {k : Option ℕ} {b : Bool} → Open s t n i k → b ≡ is_own s (line_number k) → own_in (sheet_source s).implement (open_at (nodes_in s) i) ≡ b
 own_open {s} o e = ap (own_in (sheet_source s).implement) (sym o.here) ∙ sym e

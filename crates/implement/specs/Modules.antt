@@ -20,13 +20,18 @@ module_at s (suc k) = Some (record { name = first_field s (suc k); line = suc k 
 abbrev pub own_in : Option Bytes → Option Module → Bool
 own_in impl m = is_none m || implements impl m
 
+-- the number of a line that is counted from 0; 0 for none
+abbrev pub line_number : Option ℕ → ℕ
+line_number None = 0
+line_number (Some i) = suc i
+
 -- in the module of line k, none for 0
 abbrev pub is_own : Bytes → ℕ → Bool
 is_own s k = own_in (sheet_source s).implement (module_at s k)
 
--- the module of line k, none for 0, is open before line i, from 0
-pub record Open (s t : Bytes) (n i k : ℕ) : Type 0 where
+-- the module of line k is open before line i, both from 0
+pub record Open (s t : Bytes) (n i : ℕ) (k : Option ℕ) : Type 0 where
   pub checked : Checked s t n
   pub within : i ≤ n
-  pub low : k ≤ n
-  pub here : module_at s k ≡ open_at (nodes_in s) i
+  pub low : line_number k ≤ n
+  pub here : module_at s (line_number k) ≡ open_at (nodes_in s) i

@@ -5,7 +5,7 @@ ghost use Rattle.std.specs.Prelude.{◌≡◌, ◌+◌, ◌≤◌, ◌<◌, Some
 ghost use Rattle.semantics.specs.Sheet.{sheet_source};
 ghost use Rattle.semantics.specs.Fold.{same_option};
 ghost use Rattle.checks.specs.Checks.{Checked};
-ghost use Rattle.implement.specs.Modules.{is_own, Open};
+ghost use Rattle.implement.specs.Modules.{line_number, is_own, Open};
 
 use codes::kind;
 
@@ -17,34 +17,40 @@ pub fn is_implemented(sheet: &[u8], work: &[u8], n: usize, name: &[u8]) -> bool
     if n == 0 {
         return false;
     }
-    if form::kind(lines::form_at(work, 0)) != kind::IMPL {
-        return false;
-    }
-    words::same(lines::field_at(sheet, work, n, 0, 0), name)
+    form::kind(lines::form_at(work, 0)) == kind::IMPL
+        && words::same(lines::field_at(sheet, work, n, 0, 0), name)
 }
 
-// Whether names of the module of line k are the sheet's own: those outside modules, where k is 0, and those of the implemented one.
-pub fn is_own(sheet: &[u8], work: &[u8], n: usize, k: usize) -> bool
-    requires { (Checked sheet.now work.now n) × (k ≤ n) }
-    ensures { result ≡ is_own sheet.now k }
+// Whether names of the module of line k, from 0, are the sheet's own: those outside modules, and those of the implemented one.
+pub fn is_own(sheet: &[u8], work: &[u8], n: usize, k: Option<usize>) -> bool
+    requires { (Checked sheet.now work.now n) × (line_number k ≤ n) }
+    ensures { result ≡ is_own sheet.now (line_number k) }
 {
-    if k == 0 {
-        return true;
+    match k {
+        None => true,
+        Some(i) => is_implemented(sheet, work, n, lines::field_at(sheet, work, n, i, 0)),
     }
-    is_implemented(sheet, work, n, lines::field_at(sheet, work, n, k - 1, 0))
 }
 
-// The line of the module that is open behind line i, from 0, where that of line k is open before it; 0 is none.
-pub fn open_after(sheet: &[u8], work: &[u8], n: usize, i: usize, k: usize) -> usize
+// The line of the module that is open behind line i, where that of line k is open before it; all from 0.
+pub fn open_after(sheet: &[u8], work: &[u8], n: usize, i: usize, k: Option<usize>) -> Option<usize>
     requires { (Open sheet.now work.now n i k) × (i < n) }
     ensures { Open sheet.now work.now n (i + 1) result }
 {
-    let kind = form::kind(lines::form_at(work, i));
-    if kind == kind::MOD {
-        return i + 1;
+    match form::kind(lines::form_at(work, i)) {
+        kind::MOD => Some(i),
+        kind::END => None,
+        _ => k,
     }
-    if kind == kind::END {
-        return 0;
+}
+
+// The number of a line that is counted from 0; 0 for none.
+pub fn line_number(k: Option<usize>) -> usize
+    requires { line_number k < 65536 }
+    ensures { result ≡ line_number k }
+{
+    match k {
+        None => 0,
+        Some(i) => i + 1,
     }
-    k
 }

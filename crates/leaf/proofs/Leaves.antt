@@ -42,6 +42,7 @@ use Rattle.values.specs.declared.NoValue.TheVariants.{Failed}
 use Rattle.values.specs.Values.{string_in, value_in, result_in, At, Answers, Casts, RunsApart}
 use Rattle.values.proofs.Values.{answers-as, answers-int, answers-real, answers-failed}
 use Rattle.values.proofs.Written.{wrote-there}
+use Rattle.chains.specs.Chains.{count_to}
 use Rattle.names.specs.Table.{value_by, kind_of, bits_of, log_in, names_in, found, StringPlace}
 use Rattle.names.proofs.Laws.{found-is, value-int, value-real, value-text, value-failed, answered}
 use Rattle.leaf.specs.Folds.{ex_at, fold_at, scalar_of, ExLine, Foldable, Folds, Leaf, ScalarLine, AnsweredAt}
@@ -180,14 +181,14 @@ scalar-casts t top q h = let w = h t top in record { value = w.0 ∙ q; at = w.1
 
 -- ---- the value of a constant that was found
 
-module _ {t : Bytes} {k top : ℕ} (w : AnsweredAt t k top) where
-  pub found_none : k ≡ 0 → Answers t top (Err Failed) (from_option (found t k)) × Kept top t t
+module _ {t : Bytes} {k : Option ℕ} {top : ℕ} (w : AnsweredAt t k top) where
+  pub found_none : k ≡ None → Answers t top (Err Failed) (from_option (found t k)) × Kept top t t
   unfolding found
   found_none e = (answers-failed (rw e) t top, kept-all)
 
-  module _ (some-k : k ≡ 0 → ⊥) {kind b : ℕ} (hk : kind ≡ kind_of t (k - 1)) (hb : b ≡ bits_of t (k - 1)) where
+  module _ {i : ℕ} (some-k : k ≡ Some i) {kind b : ℕ} (hk : kind ≡ kind_of t i) (hb : b ≡ bits_of t i) where
     by-slot : found t k ≡ value_by t kind b
-    by-slot = found-is t k some-k ∙ rw (hk, hb)
+    by-slot = ap (found t) some-k ∙ found-is t i ∙ rw (hk, hb)
 
     pub found-int : kind ≡ 1 → {z : ℤ} → SFits w64 z → z ≡ signed64 b → Answers t top (Ok (Int (held w64 z))) (from_option (found t k)) × Kept top t t
     found-int e f q = (answers-int f (rw (by-slot, value-int t kind b e) (ap int_ok q)) t top, kept-all)
@@ -196,9 +197,7 @@ module _ {t : Bytes} {k top : ℕ} (w : AnsweredAt t k top) where
     found-real e q = (answers-real (rw (by-slot, value-real t kind b e) (ap (λ (u : Float). ok (v_real u)) q)) t top, kept-all)
 
     found-text : kind ≡ 3 → StringPlace b
-    found-text e =
-        let i : k ≡ suc (k - 1) = omega (arith, some-k) in
-        rw hb (w.answered.text (k - 1) i (sym hk ∙ e))
+    found-text e = rw hb (w.answered.text i some-k (sym hk ∙ e))
 
     pub found-apart : kind ≡ 3 → RunsApart (length t) (b % 65536) top (b / 65536)
     found-apart e =
@@ -225,7 +224,7 @@ module _ {s t : Bytes} {n m r top : ℕ} (a : Foldable s t n m r top) where
   pub room-here : top + 256 ≤ length t
   room-here = omega (arith, a.room, depth-some a.line)
 
-  pub answered-at : {k : ℕ} → k ≤ m → AnsweredAt t k top
+  pub answered-at : {k : Option ℕ} → count_to k ≤ m → AnsweredAt t k top
   answered-at {k} h = record {
     answered = answered a.log a.line.checked h;
     low = a.low;
@@ -241,7 +240,7 @@ module _ {s t : Bytes} {n m r top : ℕ} (a : Foldable s t n m r top) where
     pub name-iota : {iota : ℕ} → same x (bytes "iota") ≡ true → SFits w64 (pos iota) → Folds s t m iota r top t (Ok (Int (held w64 (pos iota))))
     name-iota {iota} q f = record { answer = answers-int f (sym (fold-name iota e ∙ rw (← hx, q))) t top; kept = kept-all }
 
-    pub name-found : {iota : ℕ} → same x (bytes "iota") ≡ false → (k : ℕ) → value_of (look_up (plain x) (log_in s t m)) ≡ found t k → {u : Bytes} {y : Result ConstVal NoValue}
+    pub name-found : {iota : ℕ} → same x (bytes "iota") ≡ false → (k : Option ℕ) → value_of (look_up (plain x) (log_in s t m)) ≡ found t k → {u : Bytes} {y : Result ConstVal NoValue}
         → Answers u top y (from_option (found t k)) × Kept top t u → Folds s t m iota r top u y
     name-found {iota} q k p b = record { answer = answers-as (sym (fold-name iota e ∙ rw (← hx, q, p))) b.0; kept = b.1 }
 
@@ -271,7 +270,7 @@ module _ {s t : Bytes} {n m r top : ℕ} (a : Foldable s t n m r top) where
           kept = kept-all;
         }
 
-    pub qualified-found : {iota : ℕ} → form_at t (k - 1) ≡ 11 → {x y : Bytes} → x ≡ get_or (read_at s (k - 1)).fields 0 [] → y ≡ get_or (read_at s (r - 1)).fields 1 [] → (i : ℕ) → value_of (look_up (qualified x y) (log_in s t m)) ≡ found t i
+    pub qualified-found : {iota : ℕ} → form_at t (k - 1) ≡ 11 → {x y : Bytes} → x ≡ get_or (read_at s (k - 1)).fields 0 [] → y ≡ get_or (read_at s (r - 1)).fields 1 [] → (i : Option ℕ) → value_of (look_up (qualified x y) (log_in s t m)) ≡ found t i
         → {u : Bytes} {z : Result ConstVal NoValue} → Answers u top z (from_option (found t i)) × Kept top t u → Folds s t m iota r top u z
     qualified-found {iota} f {x} {y} hx hy i p b =
         record {

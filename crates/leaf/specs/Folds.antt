@@ -1,5 +1,5 @@
 -- Expressions of a checked sheet's lines, and what folds of them ask and leave.
-use Rattle.std.specs.Prelude.{ℕ, ◌+◌, ◌-◌, ◌*◌, ◌≤◌, ◌<◌, ◌≡◌, cond, [], eqb, pos, length, Result}
+use Rattle.std.specs.Prelude.{ℕ, ◌+◌, ◌-◌, ◌*◌, ◌≤◌, ◌<◌, ◌≡◌, cond, [], eqb, pos, length, Result, Option}
 use Rattle.std.specs.Float.{binary64}
 use Rattle.std.specs.Float.Ieee.{of_bits}
 use Rattle.semantics.specs.Text.{Bytes, or_else, int_of, unhex, from_big_endian}
@@ -72,7 +72,7 @@ scalar_of f x =
     (v_str (or_else [] (unhex x))))
 
 -- k is what a look-up answered, and there is room for a string at `top`
-pub record AnsweredAt (t : Bytes) (k top : ℕ) : Type 0 where
+pub record AnsweredAt (t : Bytes) (k : Option ℕ) (top : ℕ) : Type 0 where
   pub answered : Answered t k
   pub low : 49152 ≤ top
   pub room : top + 256 ≤ length t

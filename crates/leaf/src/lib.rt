@@ -16,7 +16,7 @@ ghost use Rattle.leaf.specs.Folds.{scalar_of, Folds, Leaf, ScalarLine, Ident, Qu
 
 use codes::ex;
 use codes::value::{self, Value};
-use names::Known;
+use names::{Key, Known};
 use values::{ConstVal, Folded, NoValue};
 
 fn integer(x: &[u8]) -> ConstVal
@@ -58,16 +58,16 @@ fn scalar(sheet: &[u8], work: &mut [u8], n: usize, r: usize, top: usize) -> Cons
     }
 }
 
-// The value of the constant that a look-up found, 0 for none: a string is put at `top`.
-fn constant(work: &mut [u8], k: usize, top: usize) -> Folded
+// The value of the constant that a look-up found: a string is put at `top`.
+fn constant(work: &mut [u8], k: Option<usize>, top: usize) -> Folded
     requires { AnsweredAt work.old k top }
     ensures { (Answers work.new top result (from_option (found work.old k))) × (Kept top work.old work.new) }
 {
-    if k == 0 {
+    let Some(i) = k else {
         return Err(NoValue::Failed);
-    }
-    let b = names::slot_bits(work, k - 1);
-    match value::of_number(names::slot_kind(work, k - 1)) {
+    };
+    let b = names::slot_bits(work, i);
+    match value::of_number(names::slot_kind(work, i)) {
         Some(Value::Int) => Ok(ConstVal::Int(ints::of_bits(b))),
         Some(Value::Real) => Ok(ConstVal::Real(reals::of_bits(b))),
         Some(Value::Str) => {
@@ -88,7 +88,7 @@ fn ident(sheet: &[u8], work: &mut [u8], c: Known, iota: u32, r: usize, top: usiz
     if words::same(name, b"iota") {
         return Ok(ConstVal::Int(iota as i64));
     }
-    let k = names::look_up(sheet, work, c, name);
+    let k = names::look_up(sheet, work, c, Key { within: None, name });
     constant(work, k, top)
 }
 
@@ -103,7 +103,11 @@ fn qualified(sheet: &[u8], work: &mut [u8], c: Known, r: usize, top: usize) -> F
     }
     let within = lines::field_at(sheet, work, c.lines, q - 1, 0);
     let name = lines::field_at(sheet, work, c.lines, r - 1, 1);
-    let k = names::look_up_in(sheet, work, c, within, name);
+    let key = Key {
+        within: Some(within),
+        name,
+    };
+    let k = names::look_up(sheet, work, c, key);
     constant(work, k, top)
 }
 

@@ -3,13 +3,13 @@ use mathlib.Core.Path.{◌≡◌, refl, sym, ap, ◌∙◌}
 use mathlib.Core.Bool.{Bool, true, false, cond, not, ◌&&◌, ◌||◌, false≢true}
 use mathlib.Core.List.{List, [], ◌∷◌, ◌++◌}
 use Rattle.std.specs.Prelude.{Option, None, Some}
-use Prim.Native.Nat.{ℕ, zero, suc, ◌+◌, ◌-◌, ◌*◌, ◌/◌, ◌%◌, ◌≤◌, ◌<◌}
+use Prim.Native.Nat.{ℕ, zero, suc, ◌+◌, ◌*◌, ◌/◌, ◌%◌, ◌≤◌, ◌<◌}
 use native.Mathlib.Omega.{arith}
 use lib.Dec.{ltb, eqb}
 use lib.Ieee.{binary64, of_bits}
 use lib.ListN.{length, take, drop, get_or, set}
 use lib.Seq.{take-take, take-set-le, get_or-take, get_or-drop, drop-drop, drop-set-lt}
-use borrow.Author.Tests.{lt-ltb, ltb-true, ltb-false, eq-eqb, ne_eqb, eqb-true}
+use borrow.Author.Tests.{ltb-true, ltb-false, eq-eqb, ne_eqb, eqb-true}
 use Rattle.semantics.specs.Text.{Bytes, same, from_big_endian}
 use Rattle.semantics.specs.Tree.{ConstVal}
 use Rattle.semantics.specs.Tree.ConstVal.{v_int, v_real, v_str}
@@ -17,14 +17,15 @@ use Rattle.semantics.specs.Sheet.{sheet_source}
 use Rattle.semantics.specs.Fold.{Key, Const, signed64, plain, qualified, same_option, look_up, value_of}
 use Rattle.semantics.specs.Const.{entries}
 use Rattle.semantics.proofs.Common.{both}
-use Rattle.chains.specs.Chains.{newest_of, chain_of, digest_place, digest_at, head_at, chain_at, in_chain, ChainRoom, newest_in, earlier_than, Chained, linked}
+use Rattle.std.specs.Option.{is_some}
+use Rattle.chains.specs.Chains.{newest_of, count_to, chain_of, digest_place, digest_at, head_at, chain_at, in_chain, ChainRoom, newest_in, earlier_than, Chained, linked}
 use Rattle.chains.proofs.Laws.{newest-low, newest-most, earlier-less, Along, along-from, along-found, along-next, along-end, chained-kept, PlacesApart, linked-outside}
 use Rattle.words.specs.Words.{digest_from, digest, u16_at, bits_at}
 use Rattle.laws.proofs.Tests.{same-eq}
 use Rattle.implement.specs.Modules.{first_field, module_at, own_in, is_own}
 use Rattle.checks.specs.Checks.{Kept, Outside, Checked}
 use Rattle.checks.proofs.Kept.{kept_at, kept_less}
-use Rattle.names.specs.Table.{const_line_of, module_line_of, value_by, slot_value, kind_of, bits_of, const_chains, qualified_digest, const_digest, entries_at, log_in, EntryBounds, ConstsLogged, ConstTable, ConstEntry, found, has_key, answers_plain, answers_qualified, Answered, Looked}
+use Rattle.names.specs.Table.{const_line_of, module_line_of, value_by, slot_value, kind_of, bits_of, const_chains, qualified_digest, const_digest, entries_at, log_in, EntryBounds, ConstsLogged, ConstTable, ConstEntry, found, has_key, is_within, answers_key, newest_key, digest_within, key_digest, Answered, Looked}
 
 -- ---- a slot by its kind and bits
 
@@ -50,10 +51,9 @@ module _ (t : Bytes) (k b : ℕ) where
   value-text e = rw e
 
 -- what a look-up answered, where it found a constant
-pub found-is : (t : Bytes) (r : ℕ) → (r ≡ 0 → ⊥) → found t r ≡ value_by t (kind_of t (r - 1)) (bits_of t (r - 1))
+pub found-is : (t : Bytes) (i : ℕ) → found t (Some i) ≡ value_by t (kind_of t i) (bits_of t i)
 unfolding found
-found-is t zero z = absurd (z refl)
-found-is t (suc i) z = let e : suc i - 1 ≡ i = omega arith in rw e (slot_is t i)
+found-is t i = slot_is t i
 
 -- ---- look-ups
 
@@ -144,35 +144,36 @@ module _ {s t : Bytes} {k : Key} {answers : ℕ → Bool} (a : Answering s t k a
   newest-value zero = refl
   newest-value (suc m) = a.value m (log_in s t m) ∙ go (answers m) (newest-value m)
     where
-      go : (b : Bool) → value_of (look_up k (log_in s t m)) ≡ found t (newest_of answers m) → cond b (slot_value t (5124 + 16 * m)) (value_of (look_up k (log_in s t m))) ≡ found t (cond b (suc m) (newest_of answers m))
+      go : (b : Bool) → value_of (look_up k (log_in s t m)) ≡ found t (newest_of answers m) → cond b (slot_value t (5124 + 16 * m)) (value_of (look_up k (log_in s t m))) ≡ found t (cond b (Some m) (newest_of answers m))
       go true h = refl
       go false h = h
 
-  newest-has : (m : ℕ) → has_key k (log_in s t m) ≡ ltb 0 (newest_of answers m)
+  newest-has : (m : ℕ) → has_key k (log_in s t m) ≡ is_some (newest_of answers m)
   unfolding log_in has_key newest_of
   newest-has zero = refl
   newest-has (suc m) = a.has m (log_in s t m) ∙ go (answers m) (newest-has m)
     where
-      go : (b : Bool) → has_key k (log_in s t m) ≡ ltb 0 (newest_of answers m) → b || has_key k (log_in s t m) ≡ ltb 0 (cond b (suc m) (newest_of answers m))
-      go true h = sym (lt-ltb 0 (suc m) (omega arith))
+      go : (b : Bool) → has_key k (log_in s t m) ≡ is_some (newest_of answers m) → b || has_key k (log_in s t m) ≡ is_some (cond b (Some m) (newest_of answers m))
+      go true h = refl
       go false h = h
 
-  pub looked : {m r : ℕ} → r ≡ newest_of answers m → Looked s t k m (newest_of answers m) r
-  looked {m} e = rw e (record { value = newest-value m; low = newest-low answers m; has = newest-has m; newest-is = refl })
+  found-newest : {m : ℕ} {r : Option ℕ} → r ≡ newest_of answers m → (value_of (look_up k (log_in s t m)) ≡ found t r) × (count_to r ≤ m) × (has_key k (log_in s t m) ≡ is_some r)
+  found-newest {m} e = rw e (newest-value m, newest-low answers m, newest-has m)
 
-pub answers-plain : (s t x : Bytes) → Answering s t (plain x) (λ (i : ℕ). answers_plain s t i x)
-unfolding entries_at answers_plain
-answers-plain s t x = record {
-  value = λ i rest. plain_step (sheet_source s).implement s x (first_field s (const_line_of t i)) (slot_value t (5124 + 16 * i)) rest (module_line_of t i);
-  has = λ i rest. plain-has (sheet_source s).implement s x (first_field s (const_line_of t i)) (slot_value t (5124 + 16 * i)) rest (module_line_of t i);
-}
+module _ (s t : Bytes) where
+  answers-within : (w : Option Bytes) (x : Bytes) → Answering s t (record { within = w; name = x }) (λ (i : ℕ). answers_key s t i (record { within = w; name = x }))
+  unfolding entries_at answers_key is_within
+  answers-within None x = record {
+    value = λ i rest. plain_step (sheet_source s).implement s x (first_field s (const_line_of t i)) (slot_value t (5124 + 16 * i)) rest (module_line_of t i);
+    has = λ i rest. plain-has (sheet_source s).implement s x (first_field s (const_line_of t i)) (slot_value t (5124 + 16 * i)) rest (module_line_of t i);
+  }
+  answers-within (Some q) x = record {
+    value = λ i rest. qualified-step (sheet_source s).implement s x (first_field s (const_line_of t i)) (slot_value t (5124 + 16 * i)) rest q (module_line_of t i);
+    has = λ i rest. qualified-has (sheet_source s).implement s x (first_field s (const_line_of t i)) (slot_value t (5124 + 16 * i)) rest q (module_line_of t i);
+  }
 
-pub answers-qualified : (s t q x : Bytes) → Answering s t (qualified q x) (λ (i : ℕ). answers_qualified s t i q x)
-unfolding entries_at answers_qualified
-answers-qualified s t q x = record {
-  value = λ i rest. qualified-step (sheet_source s).implement s x (first_field s (const_line_of t i)) (slot_value t (5124 + 16 * i)) rest q (module_line_of t i);
-  has = λ i rest. qualified-has (sheet_source s).implement s x (first_field s (const_line_of t i)) (slot_value t (5124 + 16 * i)) rest q (module_line_of t i);
-}
+  pub looked : (k : Key) {m : ℕ} {r : Option ℕ} → r ≡ newest_key s t m k → Looked s t k m r
+  looked k e = let f = found-newest (answers-within k.within k.name) e in record { value = f.0; low = f.1; has = f.2; newest-is = e }
 
 pub table-entry : {s t : Bytes} {n m i : ℕ} → ConstTable s t n m → i < m → ConstEntry s t n i
 table-entry {i = i} c h = record { checked = c.checked; low = omega (arith, c.logged.few); entry = c.logged.each i h; digested = c.logged.digests i h }
@@ -189,8 +190,8 @@ pub entry-asked : {s t : Bytes} {n m : ℕ} → ConstTable s t n m → {i : ℕ}
 entry-asked c h = (table-room c, omega (arith, c.logged.few))
 
 -- a number up to the table's end is an answer
-pub answered : {s t : Bytes} {n m : ℕ} → ConstsLogged s t n m → Checked s t n → {r : ℕ} → r ≤ m → Answered t r
-answered l c h = record { few = omega (arith, l.few); long = c.whole.room; text = λ i e q. (l.each i (omega arith)).text q }
+pub answered : {s t : Bytes} {n m : ℕ} → ConstsLogged s t n m → Checked s t n → {r : Option ℕ} → count_to r ≤ m → Answered t r
+answered l c h = record { few = omega (arith, l.few); long = c.whole.room; text = λ i e q. let z = ap count_to e in (l.each i (omega (arith, z))).text q }
 
 -- ---- digests
 
@@ -214,32 +215,18 @@ module _ (s q x : Bytes) {b : Bool} (e : b ≡ same_option (sheet_source s).impl
   unfolding qualified_digest
   digest-of-both f g = rw (← e, f, ← h) g
 
-module _ (s : Bytes) (k : ℕ) (x : Bytes) {d : ℕ} where
-  pub digest-outside : k ≡ 0 → d ≡ digest x → d ≡ const_digest s k x
-  unfolding const_digest
-  digest-outside z e = rw z e
-
-  pub digest-within : (k ≡ 0 → ⊥) → {q : Bytes} → q ≡ first_field s k → d ≡ qualified_digest s q x → d ≡ const_digest s k x
-  unfolding const_digest
-  digest-within z {q} e h = go k z (h ∙ ap (λ (w : Bytes). qualified_digest s w x) e)
-    where
-      go : (j : ℕ) → (j ≡ 0 → ⊥) → d ≡ qualified_digest s (first_field s j) x → d ≡ const_digest s j x
-      go zero y g = absurd (y refl)
-      go (suc j) y g = g
-
 -- an entry that answers has the digest that is looked for
-module _ (s t : Bytes) (i : ℕ) (x : Bytes) where
-  pub plain-digested : answers_plain s t i x ≡ true → const_digest s (module_line_of t i) (first_field s (const_line_of t i)) ≡ digest x
-  unfolding answers_plain
-  plain-digested e =
-      let w = both (same x (first_field s (const_line_of t i))) (is_own s (module_line_of t i)) e in
-      own-digest s (module_line_of t i) (first_field s (const_line_of t i)) w.1 ∙ ap digest (sym (same-eq x (first_field s (const_line_of t i)) w.0))
+module _ (s t : Bytes) (i : ℕ) where
+  within-digest : (w : Option Bytes) (j : ℕ) (y : Bytes) → is_within s j w ≡ true → const_digest s j y ≡ digest_within s w y
+  unfolding is_within
+  within-digest None j y e = own-digest s j y e
+  within-digest (Some q) j y e = in-digest s j q y e
 
-  pub qualified-digested : (q : Bytes) → answers_qualified s t i q x ≡ true → const_digest s (module_line_of t i) (first_field s (const_line_of t i)) ≡ qualified_digest s q x
-  unfolding answers_qualified
-  qualified-digested q e =
-      let w = both (same x (first_field s (const_line_of t i))) (not (eqb (module_line_of t i) 0) && same q (first_field s (module_line_of t i))) e in
-      in-digest s (module_line_of t i) q (first_field s (const_line_of t i)) w.1 ∙ ap (qualified_digest s q) (sym (same-eq x (first_field s (const_line_of t i)) w.0))
+  pub key-digested : (k : Key) → answers_key s t i k ≡ true → const_digest s (module_line_of t i) (first_field s (const_line_of t i)) ≡ key_digest s k
+  unfolding answers_key
+  key-digested k e =
+      let w = both (same k.name (first_field s (const_line_of t i))) (is_within s (module_line_of t i) k.within) e in
+      within-digest k.within (module_line_of t i) (first_field s (const_line_of t i)) w.1 ∙ ap (digest_within s k.within) (sym (same-eq k.name (first_field s (const_line_of t i)) w.0))
 
 -- so it is in the chain of that digest
 module _ {s t : Bytes} {n m : ℕ} (c : ConstTable s t n m) {d : ℕ} where
@@ -247,34 +234,35 @@ module _ {s t : Bytes} {n m : ℕ} (c : ConstTable s t n m) {d : ℕ} where
   unfolding chain_at
   member i h e = eq-eqb (chain_at t const_chains i) (chain_of d) (ap chain_of (c.logged.digests i h ∙ e))
 
-  pub plain-member : (x : Bytes) → d ≡ digest x → (i : ℕ) → i < m → answers_plain s t i x ≡ true → in_chain t const_chains (chain_of d) i ≡ true
-  plain-member x e i h q = member i h (plain-digested s t i x q ∙ sym e)
-
-  pub qualified-member : (w x : Bytes) → d ≡ qualified_digest s w x → (i : ℕ) → i < m → answers_qualified s t i w x ≡ true → in_chain t const_chains (chain_of d) i ≡ true
-  qualified-member w x e i h q = member i h (qualified-digested s t i x w q ∙ sym e)
+  pub key-member : (k : Key) → d ≡ key_digest s k → (i : ℕ) → i < m → answers_key s t i k ≡ true → in_chain t const_chains (chain_of d) i ≡ true
+  key-member k e i h q = member i h (key-digested s t i k q ∙ sym e)
 
 -- where it begins
-module _ {s t : Bytes} {n m : ℕ} (c : ConstTable s t n m) (d : ℕ) {r : ℕ} where
-  pub newest-within : r ≡ newest_in t const_chains m (chain_of d) → (r ≤ m) × (r ≡ newest_of (in_chain t const_chains (chain_of d)) m)
+module _ {s t : Bytes} {n m : ℕ} (c : ConstTable s t n m) (d : ℕ) {r : Option ℕ} where
+  pub newest-within : r ≡ newest_in t const_chains m (chain_of d) → (count_to r ≤ m) × (r ≡ newest_of (in_chain t const_chains (chain_of d)) m)
   newest-within e = let q = e ∙ c.logged.chained.heads (chain_of d) (omega arith) in (newest-most (in_chain t const_chains (chain_of d)) q, q)
 
--- a look-up along chain k, where `newest` is the newest of it among some first entries: i is the number of the next entry
-pub record Asking (t : Bytes) (k n newest : ℕ) (answers : ℕ → Bool) (i : ℕ) : Type 0 where
-  pub low : i ≤ n
+-- a look-up along chain k, where `newest` is the newest of it among some first entries: i is the next entry
+pub record Asking (t : Bytes) (k n : ℕ) (newest : Option ℕ) (answers : ℕ → Bool) (i : Option ℕ) : Type 0 where
+  pub low : count_to i ≤ n
   pub along : (m : ℕ) → m ≤ n → newest ≡ newest_of (in_chain t const_chains k) m → Along t const_chains k m answers i
 
-module _ {t : Bytes} {k n newest : ℕ} {answers : ℕ → Bool} where
-  pub asking-first : Chained t const_chains n → newest ≤ n → ((j : ℕ) → j < n → answers j ≡ true → in_chain t const_chains k j ≡ true) → Asking t k n newest answers newest
+module _ {t : Bytes} {k n : ℕ} {newest : Option ℕ} {answers : ℕ → Bool} where
+  pub asking-first : Chained t const_chains n → count_to newest ≤ n → ((j : ℕ) → j < n → answers j ≡ true → in_chain t const_chains k j ≡ true) → Asking t k n newest answers newest
   asking-first c h only = record { low = h; along = λ m l e. along-from (λ j x. c.links j (omega arith)) (λ j x. only j (omega arith)) e }
 
-  module _ {i : ℕ} (a : Asking t k n newest answers i) (h : 0 < i) {b : Bool} (e : b ≡ answers (i - 1)) where
-    pub asking-found : b ≡ true → (m : ℕ) → m ≤ n → newest ≡ newest_of (in_chain t const_chains k) m → i ≡ newest_of answers m
-    asking-found q m l x = along-found (a.along m l x) h e q
+  module _ {p : Option ℕ} (a : Asking t k n newest answers p) {i : ℕ} (h : p ≡ Some i) where
+    pub asking-low : i < n
+    asking-low = let z = ap count_to h in omega (arith, a.low, z)
 
-    pub asking-next : b ≡ false → {r : ℕ} → r ≡ earlier_than t const_chains (i - 1) → Asking t k n newest answers r
-    asking-next q x = let l = earlier-less t const_chains h x in record { low = omega (arith, l, a.low); along = λ m y z. along-next (a.along m y z) h e q x }
+    module _ {b : Bool} (e : b ≡ answers i) where
+      pub asking-found : b ≡ true → (m : ℕ) → m ≤ n → newest ≡ newest_of (in_chain t const_chains k) m → Some i ≡ newest_of answers m
+      asking-found q m l x = along-found (a.along m l x) h e q
 
-  pub asking-end : {i : ℕ} → i ≡ 0 → Asking t k n newest answers i → (m : ℕ) → m ≤ n → newest ≡ newest_of (in_chain t const_chains k) m → 0 ≡ newest_of answers m
+      pub asking-next : b ≡ false → {r : Option ℕ} → r ≡ earlier_than t const_chains i → Asking t k n newest answers r
+      asking-next q x = let l = earlier-less t const_chains h x in record { low = omega (arith, l, a.low); along = λ m y z. along-next (a.along m y z) h e q x }
+
+  pub asking-end : {p : Option ℕ} → p ≡ None → Asking t k n newest answers p → (m : ℕ) → m ≤ n → newest ≡ newest_of (in_chain t const_chains k) m → None ≡ newest_of answers m
   asking-end z a m l x = along-end z (a.along m l x)
 
 -- which entries answer, as it is tested: whether an entry has the digest d, and then whether it has the name
@@ -289,31 +277,14 @@ module _ (D d : ℕ) (a o : Bool) {b : Bool} (e : b ≡ eqb D d && a) where
   told : b ≡ true → a ≡ true
   told f = (both (eqb D d) a (sym e ∙ f)).1
 
-module _ (s t : Bytes) (i d : ℕ) (x : Bytes) {b : Bool} (name : b ≡ eqb (digest_at t const_chains i) d && same x (first_field s (const_line_of t i))) where
-  module _ {n : ℕ} (k : ConstEntry s t n i) (f : b ≡ false) where
-    pub plain_other : d ≡ digest x → false ≡ answers_plain s t i x
-    unfolding answers_plain
-    plain_other e = untold (digest_at t const_chains i) d (same x (first_field s (const_line_of t i))) (is_own s (module_line_of t i)) name (λ q. k.digested ∙ plain-digested s t i x q ∙ sym e) f
+module _ (s t : Bytes) (i d : ℕ) (k : Key) {b : Bool} (name : b ≡ eqb (digest_at t const_chains i) d && same k.name (first_field s (const_line_of t i))) where
+  pub key-other : {n : ℕ} → ConstEntry s t n i → b ≡ false → d ≡ key_digest s k → false ≡ answers_key s t i k
+  unfolding answers_key
+  key-other c f e = untold (digest_at t const_chains i) d (same k.name (first_field s (const_line_of t i))) (is_within s (module_line_of t i) k.within) name (λ q. c.digested ∙ key-digested s t i k q ∙ sym e) f
 
-    pub qualified-other : (q : Bytes) → d ≡ qualified_digest s q x → false ≡ answers_qualified s t i q x
-    unfolding answers_qualified
-    qualified-other q e = untold (digest_at t const_chains i) d (same x (first_field s (const_line_of t i))) (not (eqb (module_line_of t i) 0) && same q (first_field s (module_line_of t i))) name (λ h. k.digested ∙ qualified-digested s t i x q h ∙ sym e) f
-
-  module _ (f : b ≡ true) {j : ℕ} (within : j ≡ module_line_of t i) where
-    named : same x (first_field s (const_line_of t i)) ≡ true
-    named = told (digest_at t const_chains i) d (same x (first_field s (const_line_of t i))) true name f
-
-    pub plain-own : {r : Bool} → r ≡ is_own s j → r ≡ answers_plain s t i x
-    unfolding answers_plain
-    plain-own e = rw (named, ← within) e
-
-    pub qualified-top : (q : Bytes) → j ≡ 0 → false ≡ answers_qualified s t i q x
-    unfolding answers_qualified
-    qualified-top q z = rw (named, ← within, eq-eqb j 0 z)
-
-    pub qualified-in : (q : Bytes) → (j ≡ 0 → ⊥) → {r : Bool} → r ≡ same q (first_field s j) → r ≡ answers_qualified s t i q x
-    unfolding answers_qualified
-    qualified-in q z {r} e = rw (named, ← within, ne_eqb j 0 z) e
+  pub key-within : b ≡ true → {j : ℕ} → j ≡ module_line_of t i → {r : Bool} → r ≡ is_within s j k.within → r ≡ answers_key s t i k
+  unfolding answers_key
+  key-within f within e = rw (told (digest_at t const_chains i) d (same k.name (first_field s (const_line_of t i))) true name f, ← within) e
 
 -- ---- what is kept
 

@@ -2,7 +2,8 @@
 -- Entry i takes 16 bytes from 5120 + 16 i: the `con` line and its module's line, 0 for none, two bytes each, the low one first; a slot;
 -- the constant's digest; its link, and the head of chain i.
 -- A slot is a kind and 8 bytes, the highest first: 0 failed, 1 an integer's bits, 2 a real's, 3 a string's place + 65536 times its length.
-use Rattle.std.specs.Prelude.{ℕ, zero, suc, ◌+◌, ◌*◌, ◌/◌, ◌%◌, ◌≤◌, ◌<◌, ◌≡◌, Bool, cond, not, ◌&&◌, List, [], ◌++◌, ltb, eqb, length, take, drop, get_or, Option, None, Some}
+use Rattle.std.specs.Prelude.{ℕ, zero, suc, ◌+◌, ◌*◌, ◌/◌, ◌%◌, ◌≤◌, ◌<◌, ◌≡◌, Bool, cond, not, ◌&&◌, List, [], ◌++◌, eqb, length, take, drop, get_or, Option, None, Some, option_map}
+use Rattle.std.specs.Option.{is_some}
 use Rattle.std.specs.Float.{binary64}
 use Rattle.std.specs.Float.Ieee.{of_bits}
 use Rattle.semantics.specs.Text.{Bytes, same, any}
@@ -12,7 +13,8 @@ use Rattle.semantics.specs.Sheet.{sheet_source}
 use Rattle.semantics.specs.Fold.{Key, Const, Names, signed64, same_option, same_key, look_up, value_of}
 use Rattle.semantics.specs.Const.{entries}
 use Rattle.chains.specs.declared.ChainPlaces.{ChainPlaces}
-use Rattle.chains.specs.Chains.{newest_of, digest_at, Chained}
+use Rattle.chains.specs.Chains.{newest_of, count_to, digest_at, Chained}
+use Rattle.names.specs.declared.Key as declared
 use Rattle.words.specs.Words.{digest_from, digest, u16_at, bits_at}
 use Rattle.implement.specs.Modules.{first_field, module_at, is_own}
 use Rattle.checks.specs.Checks.{Checked}
@@ -104,16 +106,16 @@ pub record ConstEntry (s t : Bytes) (n i : ℕ) : Type 0 where
   pub entry : EntryBounds t n i
   pub digested : digest_at t const_chains i ≡ const_digest s (module_line_of t i) (first_field s (const_line_of t i))
 
--- what a look-up answers: 0 for no constant, else the entry's number from 1
-unfoldable pub found : Bytes → ℕ → Option ConstVal
-found t zero = None
-found t (suc i) = slot_value t (5124 + 16 * i)
+-- the value of an entry that a look-up found
+unfoldable pub found : Bytes → Option ℕ → Option ConstVal
+found t None = None
+found t (Some i) = slot_value t (5124 + 16 * i)
 
--- r is such an answer, and a string that it names lies at its place
-pub record Answered (t : Bytes) (r : ℕ) : Type 0 where
-  pub few : r ≤ 128
+-- r is what a look-up answers, and a string that it names lies at its place
+pub record Answered (t : Bytes) (r : Option ℕ) : Type 0 where
+  pub few : count_to r ≤ 128
   pub long : 65536 ≤ length t
-  pub text : (i : ℕ) → r ≡ suc i → kind_of t i ≡ 3 → StringPlace (bits_of t i)
+  pub text : (i : ℕ) → r ≡ Some i → kind_of t i ≡ 3 → StringPlace (bits_of t i)
 
 -- ---- which keys an entry enters
 
@@ -121,23 +123,33 @@ pub record Answered (t : Bytes) (r : ℕ) : Type 0 where
 unfoldable pub has_key : Key → List Const → Bool
 has_key k cs = any (λ (c : Const). same_key k c.key) cs
 
--- the name alone, outside modules and in the implemented module
-unfoldable pub answers_plain : Bytes → Bytes → ℕ → Bytes → Bool
-answers_plain s t i x = same x (first_field s (const_line_of t i)) && is_own s (module_line_of t i)
+-- whether a constant in the module of line k, in none for 0, has keys within a module of a name, or by the name alone: those outside
+-- modules and in the implemented module have
+unfoldable pub is_within : Bytes → ℕ → Option Bytes → Bool
+is_within s k None = is_own s k
+is_within s k (Some q) = not (eqb k 0) && same q (first_field s k)
 
--- the module's name and the name
-unfoldable pub answers_qualified : Bytes → Bytes → ℕ → Bytes → Bytes → Bool
-answers_qualified s t i q x = same x (first_field s (const_line_of t i)) && (not (eqb (module_line_of t i) 0) && same q (first_field s (module_line_of t i)))
+unfoldable pub answers_key : Bytes → Bytes → ℕ → Key → Bool
+answers_key s t i k = same k.name (first_field s (const_line_of t i)) && is_within s (module_line_of t i) k.within
 
-abbrev pub newest_plain : Bytes → Bytes → ℕ → Bytes → ℕ
-newest_plain s t m x = newest_of (λ (i : ℕ). answers_plain s t i x) m
+abbrev pub newest_key : Bytes → Bytes → ℕ → Key → Option ℕ
+newest_key s t m k = newest_of (λ (i : ℕ). answers_key s t i k) m
 
-abbrev pub newest_qualified : Bytes → Bytes → ℕ → Bytes → Bytes → ℕ
-newest_qualified s t m q x = newest_of (λ (i : ℕ). answers_qualified s t i q x) m
+-- a key, as the definitions have it
+abbrev pub key_of : declared.Key → Key
+key_of k = record { within = option_map (λ m. m.now) k.within; name = k.name.now }
 
--- r is the number of the newest of m entries that enter the key k, and tells what the log has
-pub record Looked (s t : Bytes) (k : Key) (m newest r : ℕ) : Type 0 where
+-- the digest for a key
+abbrev pub digest_within : Bytes → Option Bytes → Bytes → ℕ
+digest_within s None x = digest x
+digest_within s (Some q) x = qualified_digest s q x
+
+abbrev pub key_digest : Bytes → Key → ℕ
+key_digest s k = digest_within s k.within k.name
+
+-- r is the newest of m entries that enter the key k, and tells what the log has
+pub record Looked (s t : Bytes) (k : Key) (m : ℕ) (r : Option ℕ) : Type 0 where
   pub value : value_of (look_up k (log_in s t m)) ≡ found t r
-  pub low : r ≤ m
-  pub has : has_key k (log_in s t m) ≡ ltb 0 r
-  pub newest-is : r ≡ newest
+  pub low : count_to r ≤ m
+  pub has : has_key k (log_in s t m) ≡ is_some r
+  pub newest-is : r ≡ newest_key s t m k

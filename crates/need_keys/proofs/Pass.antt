@@ -2,6 +2,7 @@
 use mathlib.Core.Path.{◌≡◌, refl, sym, ap, ◌∙◌}
 use mathlib.Core.Bool.{Bool, true, false, cond}
 use mathlib.Core.List.{List, [], ◌∷◌, ◌++◌}
+use Rattle.std.specs.Prelude.{None}
 use Prim.Native.Nat.{ℕ, zero, suc, ◌+◌, ◌≤◌, ◌<◌}
 use native.Mathlib.Omega.{arith}
 use native.Mathlib.Numerals.{add-one}
@@ -79,7 +80,7 @@ module _ {s t : List ℕ} {n i needs keys : ℕ} (x : NeedNext s t n i needs key
         let y : digest_at t need_chains q ≡ d = x.collecting.digests q h ∙ sym (e ∙ ap (λ (l : List ℕ). digest l) z) in
         eq-eqb (chain_at t need_chains q) (chain_of d) (ap chain_of y)
 
-  pub next-position : 0 ≡ newest_of (has_need_key s t i) needs → keys ≡ position (need_at s i) (distinct [] (needs_to s i))
+  pub next-position : None ≡ newest_of (has_need_key s t i) needs → keys ≡ position (need_at s i) (distinct [] (needs_to s i))
   next-position z =
       let k = any_none (same_type_key (need_at s i)) (needs_to s i) (λ q h. let l : q < needs = omega (arith, x.collecting.count) in sym (same-as q l) ∙ newest-none-later (has_need_key s t i) z q (omega arith) l) in
       x.collecting.kinds.count ∙ sym (position-none (need_at s i) (distinct [] (needs_to s i)) (none-distinct (need_at s i) (needs_to s i) k))

@@ -27,10 +27,9 @@ fn has_need_key(sheet: &[u8], work: &[u8], n: usize, i: usize, d: usize, q: usiz
     requires { (NeedLine sheet.now work.now n i) × (d ≡ digest (text_at sheet.now i)) × (NeedEntry sheet.now work.now n q) }
     ensures { result ≡ same_type_key (need_at sheet.now i) (need_at sheet.now (need_line_of work.now q)) }
 {
-    if chains::digest_at(work, CHAINS, q) != d {
-        return false; // before its line is looked at
-    }
-    type_lines::same_need(sheet, work, n, i, type_keys::need_line(work, q))
+    // its line is looked at last
+    chains::digest_at(work, CHAINS, q) == d
+        && type_lines::same_need(sheet, work, n, i, type_keys::need_line(work, q))
 }
 
 // The position of the key of the `need` line i, whose text has the digest d, among those of the lines before; the next position,
@@ -46,12 +45,12 @@ fn position_for(
     requires { (NeedNext sheet.now work.now n i counts.needs counts.keys) × (d ≡ digest (text_at sheet.now i)) }
     ensures { result ≡ position (need_at sheet.now i) (distinct [] (needs_to sheet.now i)) }
 {
-    let mut q = chains::newest(work, CHAINS, counts.needs, d);
-    while 0 < q {
-        if has_need_key(sheet, work, n, i, d, q - 1) {
-            return type_keys::need_position(work, q - 1);
+    let mut next = chains::newest(work, CHAINS, counts.needs, d);
+    while let Some(q) = next {
+        if has_need_key(sheet, work, n, i, d, q) {
+            return type_keys::need_position(work, q);
         }
-        q = chains::earlier(work, CHAINS, q - 1);
+        next = chains::earlier(work, CHAINS, q);
     }
     counts.keys
 }
@@ -61,10 +60,7 @@ fn with_key(p: usize, keys: usize) -> usize
     requires { keys < 1024 }
     ensures { (k : TypeKey) (ks : List TypeKey) → p ≡ position k (distinct [] ks) → keys ≡ length (distinct [] ks) → result ≡ length (distinct [] (ks ++ (k ∷ []))) }
 {
-    if p == keys {
-        return keys + 1;
-    }
-    keys
+    if p == keys { keys + 1 } else { keys }
 }
 
 // Enters the `need` line i, with the position of its key: the Rust's `need_type`.
@@ -102,10 +98,8 @@ pub fn collect_needs(sheet: &[u8], work: &mut [u8], n: usize) -> NeedCounts
 {
     type_keys::clear_kinds(work);
     let mut counts = NeedCounts { needs: 0, keys: 0 };
-    let mut i = 0;
-    while i < n {
+    for i in 0..n {
         counts = collect_line(sheet, work, n, i, counts);
-        i += 1;
     }
     counts
 }

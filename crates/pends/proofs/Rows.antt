@@ -19,7 +19,6 @@ use Rattle.write.specs.Wrote.{Wrote}
 use Rattle.write.proofs.Wrote.{then, wrote_as}
 use Rattle.global_table.specs.Table.{var_on, name_on, names_on}
 use Rattle.globals.specs.Vars.{laid_on, var_pends, first_init}
-use Rattle.globals.proofs.Laid.{laid-on}
 use Rattle.values.specs.declared.ConstVal.{ConstVal}
 use Rattle.values.specs.Values.{value_in}
 use Rattle.placements.specs.Placements.{values_in}
@@ -105,28 +104,28 @@ all-pend [] = refl
 all-pend (x ∷ xs) = rw (all-pend xs)
 
 module _ (s : Bytes) (r : ℕ) (ns : Names) (h : 0 < r) {x : First} {t u : Bytes} (a : Inits t (or_pending (var_value ns (var_on s r))) x u) where
-  not-refused : {i : Init} → init_in u x ≡ ok i → vars_refused ns (laid_on s r) ≡ None
-  not-refused i = ap (vars_refused ns) (laid-on s r h) ∙ sym (refused-settled (suc (r - 1)) (var_value ns (var_on s r)) None) ∙ ap (λ (y : Result Init). refused_by (suc (r - 1)) y None) (sym a.result ∙ i)
+  not-refused : {i : Init} → init_in u x ≡ ok i → vars_refused ns (laid_on s (Some r)) ≡ None
+  not-refused i = sym (refused-settled (suc (r - 1)) (var_value ns (var_on s r)) None) ∙ ap (λ (y : Result Init). refused_by (suc (r - 1)) y None) (sym a.result ∙ i)
 
-  pub line_quiet : {d : Bytes} {at : ℕ} {e : Bytes} {p : ℕ} (i : Init) → init_in u x ≡ ok i → ((y : Bytes) → pend_of y i ≡ []) → Wrote d at [] e p → Pended ns (laid_on s r) d at (Written p) e
-  line_quiet i k q w = (not-refused k, wrote_as (sym (rw (laid-on s r h, pends-are ns (var_on s r) (sym a.result ∙ k), no-pends i q (laid_names (names_on s r))))) w)
+  pub line_quiet : {d : Bytes} {at : ℕ} {e : Bytes} {p : ℕ} (i : Init) → init_in u x ≡ ok i → ((y : Bytes) → pend_of y i ≡ []) → Wrote d at [] e p → Pended ns (laid_on s (Some r)) d at (Written p) e
+  line_quiet i k q w = (not-refused k, wrote_as (sym (rw (pends-are ns (var_on s r) (sym a.result ∙ k), no-pends i q (laid_names (names_on s r))))) w)
 
-  pub line-pending : {d : Bytes} {at : ℕ} {e : Bytes} {p : ℕ} → init_in u x ≡ ok pending_init → Wrote d at (pend_rows_of (names_on s r)) e p → Pended ns (laid_on s r) d at (Written p) e
-  line-pending k w = (not-refused k, wrote_as (sym (rw (laid-on s r h, pends-are ns (var_on s r) (sym a.result ∙ k), all-pend (laid_names (names_on s r)), append-nil (laid_names (names_on s r))))) w)
+  pub line-pending : {d : Bytes} {at : ℕ} {e : Bytes} {p : ℕ} → init_in u x ≡ ok pending_init → Wrote d at (pend_rows_of (names_on s r)) e p → Pended ns (laid_on s (Some r)) d at (Written p) e
+  line-pending k w = (not-refused k, wrote_as (sym (rw (pends-are ns (var_on s r) (sym a.result ∙ k), all-pend (laid_names (names_on s r)), append-nil (laid_names (names_on s r))))) w)
 
-  pub line_refused : {q : ℕ} → init_in u x ≡ refuse q → vars_refused ns (laid_on s r) ≡ Some (record { number = q; line = r })
+  pub line_refused : {q : ℕ} → init_in u x ≡ refuse q → vars_refused ns (laid_on s (Some r)) ≡ Some (record { number = q; line = r })
   line_refused {q} k =
       let z : suc (r - 1) ≡ r = omega arith in
-      ap (vars_refused ns) (laid-on s r h) ∙ sym (refused-settled (suc (r - 1)) (var_value ns (var_on s r)) None) ∙ ap (λ (y : Result Init). refused_by (suc (r - 1)) y None) (sym a.result ∙ k) ∙ rw z
+      sym (refused-settled (suc (r - 1)) (var_value ns (var_on s r)) None) ∙ ap (λ (y : Result Init). refused_by (suc (r - 1)) y None) (sym a.result ∙ k) ∙ rw z
 
-  pub quiet_none : x ≡ NoValue → {d : Bytes} {at : ℕ} {e : Bytes} {p : ℕ} → Wrote d at [] e p → Pended ns (laid_on s r) d at (Written p) e
+  pub quiet_none : x ≡ NoValue → {d : Bytes} {at : ℕ} {e : Bytes} {p : ℕ} → Wrote d at [] e p → Pended ns (laid_on s (Some r)) d at (Written p) e
   quiet_none k = line_quiet no_init (rw k) (λ y. refl)
 
-  pub quiet-value : {v : ConstVal} → x ≡ Value v → {d : Bytes} {at : ℕ} {e : Bytes} {p : ℕ} → Wrote d at [] e p → Pended ns (laid_on s r) d at (Written p) e
+  pub quiet-value : {v : ConstVal} → x ≡ Value v → {d : Bytes} {at : ℕ} {e : Bytes} {p : ℕ} → Wrote d at [] e p → Pended ns (laid_on s (Some r)) d at (Written p) e
   quiet-value {v} k = line_quiet (const_init (value_in u v)) (rw k) (λ y. refl)
 
-  pub quiet-alloc : {k c : ℕ} → x ≡ Alloc k c → {d : Bytes} {at : ℕ} {e : Bytes} {p : ℕ} → Wrote d at [] e p → Pended ns (laid_on s r) d at (Written p) e
+  pub quiet-alloc : {k c : ℕ} → x ≡ Alloc k c → {d : Bytes} {at : ℕ} {e : Bytes} {p : ℕ} → Wrote d at [] e p → Pended ns (laid_on s (Some r)) d at (Written p) e
   quiet-alloc {k} {c} q = line_quiet (array_init (record { kind = kind_of_number k; count = c; values = [] })) (rw q) (λ y. refl)
 
-  pub quiet-literal : {k c : ℕ} → x ≡ Literal k c → {d : Bytes} {at : ℕ} {e : Bytes} {p : ℕ} → Wrote d at [] e p → Pended ns (laid_on s r) d at (Written p) e
+  pub quiet-literal : {k c : ℕ} → x ≡ Literal k c → {d : Bytes} {at : ℕ} {e : Bytes} {p : ℕ} → Wrote d at [] e p → Pended ns (laid_on s (Some r)) d at (Written p) e
   quiet-literal {k} {c} q = line_quiet (array_init (record { kind = kind_of_number k; count = c; values = values_in u 0 c })) (rw q) (λ y. refl)

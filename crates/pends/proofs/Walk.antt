@@ -89,7 +89,7 @@ module _ (ns : Names) (s : Bytes) where
 
 -- ---- no line
 
-pub none-laid : (ns : Names) (s : Bytes) {r : ℕ} → r ≡ 0 → {d : Bytes} {a : ℕ} {e : Bytes} {p : ℕ} → Wrote d a [] e p → Pended ns (laid_on s r) d a (Written p) e
+pub none-laid : (ns : Names) (s : Bytes) {r : Option ℕ} → r ≡ None → {d : Bytes} {a : ℕ} {e : Bytes} {p : ℕ} → Wrote d a [] e p → Pended ns (laid_on s r) d a (Written p) e
 none-laid ns s z w = rw z (refl, w)
 
 -- ---- all lines
@@ -102,18 +102,18 @@ pub not_written : {y : Pends} {q k : ℕ} → y ≡ Refused q k → is_written y
 not_written e = ap is_written e
 
 -- the rows of the first i lines are written, and none is refused
-pub record LinesPended (s t : Bytes) (n m : ℕ) (d : Bytes) (a : ℕ) (u : Bytes) (k i : ℕ) (e : Bytes) (p : ℕ) : Type 0 where
+pub record LinesPended (s t : Bytes) (n m : ℕ) (d : Bytes) (a : ℕ) (u : Bytes) (k : Option ℕ) (i : ℕ) (e : Bytes) (p : ℕ) : Type 0 where
   pub here : Open s u n i k
   pub keeps : Keeps 16384 49152 t u
   pub long : length e ≡ length d
   pub rows : Pended (names_in s t m) (laid_vars_to s i) d a (Written p) e
 
 module _ {s t : Bytes} {n m : ℕ} (r : ConstTable s t n m) where
-  pub walk_start : {d : Bytes} {a p : ℕ} → Wrote d a [] d p → LinesPended s t n m d a t 0 0 d p
+  pub walk_start : {d : Bytes} {a p : ℕ} → Wrote d a [] d p → LinesPended s t n m d a t None 0 d p
   unfolding laid_vars_to open_at module_at
   walk_start w = record { here = record { checked = r.checked; within = omega arith; low = omega arith; here = refl }; keeps = keeps-all; long = refl; rows = (refl, w) }
 
-  module _ {d : Bytes} {a : ℕ} {u : Bytes} {k i : ℕ} {e : Bytes} {p : ℕ} (w : LinesPended s t n m d a u k i e p) where
+  module _ {d : Bytes} {a : ℕ} {u : Bytes} {k : Option ℕ} {i : ℕ} {e : Bytes} {p : ℕ} (w : LinesPended s t n m d a u k i e p) where
     pub walk-log : ConstsLogged s u n m
     walk-log = logged-kept w.keeps r.logged
 
@@ -122,14 +122,14 @@ module _ {s t : Bytes} {n m : ℕ} (r : ConstTable s t n m) where
         let z : i ≡ n = omega (arith, w.here.within) in
         (all-pended (names_in s t m) s r.checked (subst (λ (j : ℕ). Pended (names_in s t m) (laid_vars_to s j) d a (Written p) e) z w.rows), w.keeps)
 
-    module _ (q : ℕ) (g : laid_on s q ≡ laid_at s i) {v : Bytes} (y : Pends) (f : Bytes) (b : Pended (names_in s u m) (laid_on s q) e p y f × Keeps 16384 49152 u v) where
+    module _ (q : Option ℕ) (g : laid_on s q ≡ laid_at s i) {v : Bytes} (y : Pends) (f : Bytes) (b : Pended (names_in s u m) (laid_on s q) e p y f × Keeps 16384 49152 u v) where
       line-pended : Pended (names_in s t m) (laid_at s i) e p y f
       line-pended = subst (λ (xs : List (Located VarDecl)). Pended (names_in s t m) xs e p y f) g (rw (log-kept w.keeps r.logged) at b.0)
 
       pub walk-open : Open s v n i k
       walk-open = record { checked = checked-kept (kept_low b.1 3072 (omega arith)) w.here.checked; within = w.here.within; low = w.here.low; here = w.here.here }
 
-      pub walk-next : {z k' : ℕ} → y ≡ Written z → length f ≡ length e → Open s v n (i + 1) k' → LinesPended s t n m d a v k' (i + 1) f z
+      pub walk-next : {z : ℕ} {k' : Option ℕ} → y ≡ Written z → length f ≡ length e → Open s v n (i + 1) k' → LinesPended s t n m d a v k' (i + 1) f z
       unfolding laid_vars_to
       walk-next {z} c l o = record {
         here = o;

@@ -1,7 +1,7 @@
 // The `pend` rows of globals, and the refusals of their first values.
 #![tactic(auto)]
 
-ghost use Rattle.std.specs.Prelude.{[], ◌∷◌};
+ghost use Rattle.std.specs.Prelude.{[], ◌∷◌, IfSome};
 ghost use Rattle.semantics.specs.Sheet.{concat_map};
 ghost use Rattle.semantics.specs.Global.{laid_names};
 ghost use Rattle.semantics.specs.Listing.{pend_row};
@@ -9,7 +9,7 @@ ghost use Rattle.write.specs.Wrote.{Wrote};
 ghost use Rattle.names.specs.Table.{ConstsLogged, ConstTable, names_in};
 ghost use Rattle.placements.specs.Placements.{Keeps};
 ghost use Rattle.global_table.specs.Table.{VarLine, names_on};
-ghost use Rattle.globals.specs.Vars.{laid_on, MayLay};
+ghost use Rattle.globals.specs.Vars.{laid_on};
 ghost use Rattle.pends.specs.Pends.{Pended, AllPended};
 
 use global_table::line;
@@ -48,14 +48,21 @@ fn pend_names(sheet: &[u8], work: &[u8], n: usize, r: usize, out: &mut [u8], at:
     p
 }
 
-// The rows of the `var` line r, one for each name where its value is pending; none where r is 0.
-fn pend_line(sheet: &[u8], work: &mut [u8], c: Known, r: usize, out: &mut [u8], at: usize) -> Pends
-    requires { (MayLay sheet.now work.old c.lines r) × (ConstsLogged sheet.now work.old c.lines c.consts) }
+// The rows of the `var` line r, one for each name where its value is pending.
+fn pend_line(
+    sheet: &[u8],
+    work: &mut [u8],
+    c: Known,
+    r: Option<usize>,
+    out: &mut [u8],
+    at: usize,
+) -> Pends
+    requires { (IfSome r (VarLine sheet.now work.old c.lines)) × (ConstsLogged sheet.now work.old c.lines c.consts) }
     ensures { (Pended (names_in sheet.now work.old c.consts) (laid_on sheet.now r) out.old at result out.new) × (Keeps 16384 49152 work.old work.new) }
 {
-    if r == 0 {
+    let Some(r) = r else {
         return Pends::Written(write::nothing(out, at));
-    }
+    };
     match var_value(sheet, work, c, r) {
         First::NoValue => Pends::Written(write::nothing(out, at)),
         First::Value(_) => Pends::Written(write::nothing(out, at)),
@@ -72,7 +79,7 @@ pub fn pend_rows(sheet: &[u8], work: &mut [u8], c: Known, out: &mut [u8], at: us
     ensures { (AllPended (names_in sheet.now work.old c.consts) sheet.now out.old at result out.new) × (Keeps 16384 49152 work.old work.new) }
 {
     let mut p = write::nothing(out, at);
-    let mut k = 0;
+    let mut k = None;
     let mut i = 0;
     while i < c.lines {
         let r = globals::laid_line(sheet, work, c.lines, i, k);

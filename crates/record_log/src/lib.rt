@@ -44,10 +44,8 @@ fn put_tags(work: &mut [u8], at: usize, r: usize, case: usize, count: usize, num
     ensures { Wrote work.old at (log_bytes (tag_entries r case 0 number count)) work.new result }
 {
     let mut p = at;
-    let mut j = 0;
-    while j < count {
+    for j in 0..count {
         p = put_entry(work, p, r, case, j, number + j);
-        j += 1;
     }
     p
 }
@@ -60,12 +58,10 @@ fn put_cases(sheet: &[u8], work: &mut [u8], n: usize, r: usize, at: usize) -> us
     let count = shapes::case_count(sheet, work, n, r);
     let mut p = at;
     let mut number = 0;
-    let mut c = 0;
-    while c < count {
+    for c in 0..count {
         let v = shapes::case_line(sheet, work, n, r, c);
         let tags = records::line::tag_count(sheet, work, n, v);
-        c += 1;
-        p = put_tags(work, p, r, c, tags, number);
+        p = put_tags(work, p, r, c + 1, tags, number);
         number += tags;
     }
     p
@@ -93,10 +89,8 @@ fn log_adts(sheet: &[u8], work: &mut [u8], n: usize) -> usize
     ensures { CollectedTo sheet.now work.old work.new n result 0 }
 {
     let mut at = area::RECORDS;
-    let mut r = 0;
-    while r < n {
-        r += 1;
-        at = record_adt(sheet, work, n, r, at);
+    for i in 0..n {
+        at = record_adt(sheet, work, n, i + 1, at);
     }
     (at - area::RECORDS) / 8
 }
@@ -115,11 +109,9 @@ fn enter_digests(sheet: &[u8], work: &mut [u8], n: usize, m: usize)
     requires { Digested sheet.now work.old n m 0 }
     ensures { RecordsCollected sheet.now work.old work.new n m }
 {
-    let mut i = 0;
-    while i < m {
+    for i in 0..m {
         let d = records::key::digest_for(sheet, work, n, i);
         enter_digest(work, i, d);
-        i += 1;
     }
 }
 

@@ -1,6 +1,6 @@
 -- The log of records in the working space: for each its line; of a variant its case, its tag's position and number; the digest of
 -- its key; its link, and the head of chain i.
-use Rattle.std.specs.Prelude.{ℕ, zero, suc, ◌+◌, ◌*◌, ◌-◌, ◌≤◌, ◌<◌, ◌≡◌, true, false, List, [], ◌∷◌, ◌++◌, pos, length, get_or}
+use Rattle.std.specs.Prelude.{ℕ, zero, suc, ◌+◌, ◌*◌, ◌-◌, ◌≤◌, ◌<◌, ◌≡◌, true, false, Option, None, Some, List, [], ◌∷◌, ◌++◌, pos, length, get_or}
 use Rattle.semantics.specs.Text.{Bytes, same}
 use Rattle.semantics.specs.Tree.{AdtDecl, Case, no_case}
 use Rattle.semantics.specs.Sheet.{sheet_source}
@@ -8,7 +8,7 @@ use Rattle.semantics.specs.Layout.{Recorded, records_of, recorded_adts, record_l
 use Rattle.semantics.specs.Types.{unknown}
 use Rattle.words.specs.Words.{digest}
 use Rattle.chains.specs.declared.ChainPlaces.{ChainPlaces}
-use Rattle.chains.specs.Chains.{digest_at, Chained}
+use Rattle.chains.specs.Chains.{count_to, digest_at, Chained}
 use Rattle.checks.specs.Checks.{Checked}
 use Rattle.sizes.specs.Places.{decl_at, is_record}
 use Rattle.shapes.specs.Shapes.{cases_in}
@@ -119,16 +119,16 @@ pub record LogEntry (s t : Bytes) (n i : ℕ) : Type 0 where
 
 -- ---- the entries of a key
 
--- record i of a log where j is i + 1, and else d
-abbrev pub chosen : List Recorded → ℕ → Recorded → Recorded
-chosen rs zero d = d
-chosen rs (suc i) d = get_or rs i d
+-- record j of a log, d for none
+abbrev pub chosen : List Recorded → Option ℕ → Recorded → Recorded
+chosen rs None d = d
+chosen rs (Some i) d = get_or rs i d
 
--- j stands for the last record of key k: no later one has it
-pub record Newest (s : Bytes) (k : Bytes) (j : ℕ) : Type 0 where
-  pub low : j ≤ length (log_of s)
+-- j is the last record of key k: no later one has it
+pub record Newest (s : Bytes) (k : Bytes) (j : Option ℕ) : Type 0 where
+  pub low : count_to j ≤ length (log_of s)
   pub last : (d : Recorded) → last_of k d (log_of s) ≡ chosen (log_of s) j d
-  pub later : (i : ℕ) → j ≤ i → i < length (log_of s) → same k (get_or (log_of s) i no_record).key ≡ false
+  pub later : (i : ℕ) → count_to j ≤ i → i < length (log_of s) → same k (get_or (log_of s) i no_record).key ≡ false
 
 -- record j, of m, is the last with the key of record i
 pub record NewestOfEntry (s t : Bytes) (m i j : ℕ) : Type 0 where

@@ -9,7 +9,6 @@ ghost use Rattle.records.specs.Log.{byte_of, entry_at, recorded_at, name_of, tag
 use crate::line;
 use chains::ChainPlaces;
 use codes::area;
-use words::wide;
 
 // Where the log's chains stand.
 pub const CHAINS: ChainPlaces = ChainPlaces {
@@ -30,7 +29,7 @@ fn byte_at(work: &[u8], i: usize, k: usize) -> usize
     requires { (i < 128) × (k < 8) × (65536 ≤ length work.now) }
     ensures { (result ≡ byte_of work.now i k) × (result < 256) }
 {
-    wide(work[area::RECORDS + (8 * i + k)])
+    usize::from(work[area::RECORDS + (8 * i + k)])
 }
 
 // The line of entry i, from 1.
@@ -148,34 +147,33 @@ fn same_key(sheet: &[u8], work: &[u8], n: usize, i: usize, j: usize) -> bool
     words::same(tag_of(sheet, work, n, i), tag_of(sheet, work, n, j))
 }
 
-// The last entry with this key, plus 1; 0 where there is none.
-pub fn newest(sheet: &[u8], work: &[u8], c: Log, key: &[u8]) -> usize
+// The last entry with this key.
+pub fn newest(sheet: &[u8], work: &[u8], c: Log, key: &[u8]) -> Option<usize>
     requires { RecordsLogged sheet.now work.now c.lines c.entries }
     ensures { Newest sheet.now key.now result }
 {
     let d = words::digest(key);
-    let mut i = chains::newest(work, CHAINS, c.entries, d);
-    while 0 < i {
-        if key_is(sheet, work, c.lines, i - 1, key, d) {
-            return i;
+    let mut next = chains::newest(work, CHAINS, c.entries, d);
+    while let Some(i) = next {
+        if key_is(sheet, work, c.lines, i, key, d) {
+            return Some(i);
         }
-        i = chains::earlier(work, CHAINS, i - 1);
+        next = chains::earlier(work, CHAINS, i);
     }
-    0
+    None
 }
 
-// The last entry with the key of entry i.
+// The last entry with the key of entry i, which is one itself.
 pub fn newest_of(sheet: &[u8], work: &[u8], c: Log, i: usize) -> usize
     requires { (RecordsLogged sheet.now work.now c.lines c.entries) × (i < c.entries) }
     ensures { NewestOfEntry sheet.now work.now c.entries i result }
 {
-    let mut j = chains::newest(work, CHAINS, c.entries, chains::digest_at(work, CHAINS, i));
-    while i + 1 < j {
-        let e = j - 1;
-        if same_key(sheet, work, c.lines, i, e) {
-            return e;
+    let mut next = chains::newest(work, CHAINS, c.entries, chains::digest_at(work, CHAINS, i));
+    while let Some(j) = next {
+        if same_key(sheet, work, c.lines, i, j) {
+            return j;
         }
-        j = chains::earlier(work, CHAINS, e);
+        next = chains::earlier(work, CHAINS, j);
     }
     i
 }
@@ -185,12 +183,12 @@ pub fn is_first(sheet: &[u8], work: &[u8], n: usize, i: usize) -> bool
     requires { LogEntry sheet.now work.now n i }
     ensures { result ≡ not (seen (recorded_at sheet.now work.now i).key (take i (log_of sheet.now))) }
 {
-    let mut j = chains::earlier(work, CHAINS, i);
-    while 0 < j {
-        if same_key(sheet, work, n, i, j - 1) {
+    let mut next = chains::earlier(work, CHAINS, i);
+    while let Some(j) = next {
+        if same_key(sheet, work, n, i, j) {
             return false;
         }
-        j = chains::earlier(work, CHAINS, j - 1);
+        next = chains::earlier(work, CHAINS, j);
     }
     true
 }

@@ -87,10 +87,8 @@ fn print_variants(
     ensures { Kept 49152 work.old work.new }
 {
     let count = shapes::case_count(sheet, work, n, r);
-    let mut c = 0;
-    while c < count {
+    for c in 0..count {
         print_variant(out, sheet, work, n, r, c)?;
-        c += 1;
     }
     Ok(())
 }
@@ -119,10 +117,8 @@ fn print_line(
 fn print_lines(out: &mut impl Write, sheet: &[u8], work: &mut [u8], n: usize) -> io::Result<()>
     requires { Checked sheet.now work.old n }
 {
-    let mut r = 0;
-    while r < n {
-        r += 1;
-        print_line(out, sheet, work, n, r)?;
+    for i in 0..n {
+        print_line(out, sheet, work, n, i + 1)?;
     }
     Ok(())
 }

@@ -33,10 +33,8 @@ pub fn frame_count(sheet: &[u8], work: &[u8], n: usize) -> usize
     ensures { (result ≡ length (sheet_source sheet.now).frames) × (result ≤ 128) }
 {
     let mut frames = 0;
-    let mut i = 0;
-    while i < n {
+    for i in 0..n {
         frames += frames_of(sheet, work, n, i);
-        i += 1;
     }
     frames
 }

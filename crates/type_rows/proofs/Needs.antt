@@ -1,6 +1,8 @@
 -- The shape of a need's key, by its form.
 use mathlib.Core.Path.{◌≡◌, refl, sym, ap, ◌∙◌}
 use mathlib.Core.List.{List}
+use Rattle.std.specs.Prelude.{Option, None, Some}
+use Rattle.chains.specs.Chains.{count_to}
 use Prim.Native.Nat.{ℕ, zero, suc, ◌+◌, ◌-◌, ◌≤◌, ◌<◌}
 use native.Mathlib.Omega.{arith}
 use lib.ListN.{get_or}
@@ -56,29 +58,28 @@ module _ (s t : List ℕ) (n i : ℕ) (l : NeedLine s t n i) (f : ℕ) (hf : f �
 
 -- ---- records
 
-module _ (s t : List ℕ) (n i : ℕ) (l : NeedLine s t n i) (e : form_at t i ≡ 34) (key : List ℕ) (hk : key ≡ field_at (read_at s i).fields 0) (j : ℕ) (x : Newest s key j) where
+module _ (s t : List ℕ) (n i : ℕ) (l : NeedLine s t n i) (e : form_at t i ≡ 34) (key : List ℕ) (hk : key ≡ field_at (read_at s i).fields 0) {j : Option ℕ} (x : Newest s key j) where
   named : need_at s i ≡ adt_key key
   named = name-key s t n i l e ∙ ap adt_key (sym hk)
 
-  unknown-shape : j ≡ 0 → key_shape (log_of s) (need_at s i) ≡ (unknown key).shape
+  unknown-shape : j ≡ None → key_shape (log_of s) (need_at s i) ≡ (unknown key).shape
   unknown-shape z =
       let h : last_of key (unknown key) (log_of s) ≡ unknown key = rw z at (x.last (unknown key)) in
       ap (key_shape (log_of s)) named ∙ ap (λ (r : Recorded). r.shape) h
 
-  pub unknown-size : j ≡ 0 → 4 ≡ (key_shape (log_of s) (need_at s i)).size
+  pub unknown-size : j ≡ None → 4 ≡ (key_shape (log_of s) (need_at s i)).size
   unknown-size z = sym (ap (λ (q : Shape). q.size) (unknown-shape z))
 
-  pub unknown-words : j ≡ 0 → word_offsets 0 ≡ (key_shape (log_of s) (need_at s i)).pointers
+  pub unknown-words : j ≡ None → word_offsets 0 ≡ (key_shape (log_of s) (need_at s i)).pointers
   unfolding word_offsets
   unknown-words z = sym (ap (λ (q : Shape). q.pointers) (unknown-shape z))
 
-  module _ (m : ℕ) (g : RecordsLogged s t n m) (z : j ≡ 0 → ⊥) where
-    pub known-low : j - 1 < m
-    known-low = omega (arith, x.low, g.count, z)
+  module _ (m : ℕ) (g : RecordsLogged s t n m) {q : ℕ} (z : j ≡ Some q) where
+    pub known-low : q < m
+    known-low = let y = ap count_to z in omega (arith, x.low, g.count, y)
 
-    pub known-shape : (recorded_at s t (j - 1)).shape ≡ key_shape (log_of s) (need_at s i)
+    pub known-shape : (recorded_at s t q).shape ≡ key_shape (log_of s) (need_at s i)
     known-shape =
-        let y : j ≡ suc (j - 1) = omega (arith, z) in
-        let h : last_of key (unknown key) (log_of s) ≡ get_or (log_of s) (j - 1) (unknown key) = rw y at (x.last (unknown key)) in
-        let d = default-same (log_of s) (j - 1) no_record (unknown key) (omega (arith, known-low, g.count)) in
-        ap (λ (r : Recorded). r.shape) (g.each (j - 1) known-low ∙ d ∙ sym h) ∙ sym (ap (key_shape (log_of s)) named)
+        let h : last_of key (unknown key) (log_of s) ≡ get_or (log_of s) q (unknown key) = rw z at (x.last (unknown key)) in
+        let d = default-same (log_of s) q no_record (unknown key) (omega (arith, known-low, g.count)) in
+        ap (λ (r : Recorded). r.shape) (g.each q known-low ∙ d ∙ sym h) ∙ sym (ap (key_shape (log_of s)) named)

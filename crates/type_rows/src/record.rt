@@ -33,9 +33,8 @@ pub fn put_record(
     ensures { TypesWrote ((key_shape (log_of sheet.now) (need_at sheet.now i)) ∷ []) id result w.old w.new work.old work.new }
 {
     let key = lines::field_at(sheet, work, c.lines, i, 0);
-    let j = records::key::newest(sheet, work, c, key);
-    if j == 0 {
-        return put_words(work, 4, 0, w, id);
+    match records::key::newest(sheet, work, c, key) {
+        Some(e) => put_entry(sheet, work, c.lines, e, w, id),
+        None => put_words(work, 4, 0, w, id),
     }
-    put_entry(sheet, work, c.lines, j - 1, w, id)
 }

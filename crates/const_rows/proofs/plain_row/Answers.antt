@@ -3,6 +3,7 @@ use Rattle.std.proofs.Common.{ap, not}
 use Rattle.const_rows.proofs.Laws as Laws
 use Rattle.names.proofs.Laws.{answered}
 use native.Mathlib.Omega.{arith}
+use mathlib.Core.Path.{sym, ◌∙◌}
 use Rattle.const_rows.proofs.plain_row.Goals as goal
 
 pub is_own-requires : goal.is_own-requires
@@ -23,11 +24,11 @@ look_up_before-requires c =
     let p = c.requires in
     (p.0, p.1, Laws.plain-itself a.sheet.now a.work.now a.c.consts a.i c.module_line_of.ensures c.is_own.ensures (ap not c.if-not-is_own.false) c.line_of.ensures c.field_at-name.ensures)
 
-pub returns-then-look_up_before-ne0 : goal.returns-then-look_up_before-ne0
-returns-then-look_up_before-ne0 c = Laws.plain-old c.args.sheet.now c.args.work.now c.args.c.consts c.args.i c.module_line_of.ensures c.is_own.ensures (ap not c.if-not-is_own.false) c.line_of.ensures c.field_at-name.ensures c.look_up_before.result c.look_up_before.ensures.has c.if-look_up_before-ne0.true c.requires.2
+pub returns-then-is_some : goal.returns-then-is_some
+returns-then-is_some c = Laws.plain-old c.args.sheet.now c.args.work.now c.args.c.consts c.args.i c.module_line_of.ensures c.is_own.ensures (ap not c.if-not-is_own.false) c.line_of.ensures c.field_at-name.ensures c.look_up_before.result c.look_up_before.ensures.has (sym c.is_some.ensures ∙ c.if-is_some.true) c.requires.2
 
 pub put_rest-requires : goal.put_rest-requires
-put_rest-requires c = (answered c.requires.0.logged c.requires.0.checked c.look_up-r.ensures.low, Laws.plain-some c.args.sheet.now c.args.work.now c.args.c.consts c.args.i c.module_line_of.ensures c.is_own.ensures (ap not c.if-not-is_own.false) c.line_of.ensures c.field_at-name.ensures c.requires.1 c.look_up-r.ensures.newest-is)
+put_rest-requires c = answered c.requires.0.logged c.requires.0.checked c.look_up-r.ensures.low
 
 pub returns : goal.returns
-returns c = Laws.plain-new c.args.sheet.now c.args.work.now c.args.c.consts c.args.i c.module_line_of.ensures c.is_own.ensures (ap not c.if-not-is_own.false) c.line_of.ensures c.field_at-name.ensures c.look_up_before.result c.look_up-r.result c.look_up_before.ensures.has (omega arith) c.look_up-r.ensures.value c.put_part-p.ensures c.put_rest.ensures
+returns c = Laws.plain-new c.args.sheet.now c.args.work.now c.args.c.consts c.args.i c.module_line_of.ensures c.is_own.ensures (ap not c.if-not-is_own.false) c.line_of.ensures c.field_at-name.ensures c.look_up_before.result c.look_up-r.result c.look_up_before.ensures.has (sym c.is_some.ensures ∙ c.if-is_some.false) c.look_up-r.ensures.value c.put_part-p.ensures c.put_rest.ensures

@@ -2,13 +2,15 @@
 use Rattle.const_rows.proofs.Laws as Laws
 use Rattle.names.proofs.Laws.{answered}
 use native.Mathlib.Omega.{arith}
+use mathlib.Core.Path.{sym, ap, ◌∙◌}
+use Rattle.implement.specs.Modules.{line_number}
 use Rattle.const_rows.proofs.qualified_row.Goals as goal
 
-pub returns-then-k-eq0 : goal.returns-then-k-eq0
-returns-then-k-eq0 c = Laws.no-module c.args.sheet.now c.args.work.now c.args.c.consts c.args.i c.module_line_of-k.ensures c.if-k-eq0.true c.requires.2
+pub returns-in_default : goal.returns-in_default
+returns-in_default c = Laws.no-module c.args.sheet.now c.args.work.now c.args.c.consts c.args.i c.module_line_of.ensures (ap line_number c.in_default.is) c.requires.2
 
 pub field_at-within-requires : goal.field_at-within-requires
-field_at-within-requires c = (c.requires.0.checked.whole, omega (arith, Laws.module-in c.requires.0 c.requires.1 c.module_line_of-k.ensures, c.if-k-eq0.false))
+field_at-within-requires c = (c.requires.0.checked.whole, let h = Laws.module-in c.requires.0 c.requires.1 (ap line_number (sym c.in-Some.is) ∙ c.module_line_of.ensures) in omega arith)
 
 pub overflow_sub-line_of : goal.overflow_sub-line_of
 overflow_sub-line_of c = let h = Laws.line-in c.requires.0 c.requires.1 c.line_of.ensures in omega arith
@@ -16,17 +18,17 @@ overflow_sub-line_of c = let h = Laws.line-in c.requires.0 c.requires.1 c.line_o
 pub field_at-name-requires : goal.field_at-name-requires
 field_at-name-requires c = let h = Laws.line-in c.requires.0 c.requires.1 c.line_of.ensures in (c.requires.0.checked.whole, omega arith)
 
-pub look_up_in_before-requires : goal.look_up_in_before-requires
-look_up_in_before-requires c =
+pub look_up_before-requires : goal.look_up_before-requires
+look_up_before-requires c =
     let a = c.args in
     let p = c.requires in
-    (p.0, p.1, Laws.qualified-itself a.sheet.now a.work.now a.c.consts a.i c.module_line_of-k.ensures c.if-k-eq0.false c.field_at-within.ensures c.line_of.ensures c.field_at-name.ensures)
+    (p.0, p.1, Laws.qualified-itself a.sheet.now a.work.now a.c.consts a.i (ap line_number (sym c.in-Some.is) ∙ c.module_line_of.ensures) (λ z. omega arith) (Laws.name-of c.args.sheet.now c.in-Some.k c.field_at-within.ensures) c.line_of.ensures c.field_at-name.ensures)
 
-pub returns-then-look_up_in_before-ne0 : goal.returns-then-look_up_in_before-ne0
-returns-then-look_up_in_before-ne0 c = Laws.qualified-old c.args.sheet.now c.args.work.now c.args.c.consts c.args.i c.module_line_of-k.ensures c.if-k-eq0.false c.field_at-within.ensures c.line_of.ensures c.field_at-name.ensures c.look_up_in_before.result c.look_up_in_before.ensures.has c.if-look_up_in_before-ne0.true c.requires.2
+pub returns-then-is_some : goal.returns-then-is_some
+returns-then-is_some c = Laws.qualified-old c.args.sheet.now c.args.work.now c.args.c.consts c.args.i (ap line_number (sym c.in-Some.is) ∙ c.module_line_of.ensures) (λ z. omega arith) (Laws.name-of c.args.sheet.now c.in-Some.k c.field_at-within.ensures) c.line_of.ensures c.field_at-name.ensures c.look_up_before.result c.look_up_before.ensures.has (sym c.is_some.ensures ∙ c.if-is_some.true) c.requires.2
 
 pub put_rest-requires : goal.put_rest-requires
-put_rest-requires c = (answered c.requires.0.logged c.requires.0.checked c.look_up_in-r.ensures.low, Laws.qualified-some c.args.sheet.now c.args.work.now c.args.c.consts c.args.i c.module_line_of-k.ensures c.if-k-eq0.false c.field_at-within.ensures c.line_of.ensures c.field_at-name.ensures c.requires.1 c.look_up_in-r.ensures.newest-is)
+put_rest-requires c = answered c.requires.0.logged c.requires.0.checked c.look_up-r.ensures.low
 
 pub returns : goal.returns
-returns c = Laws.qualified-new c.args.sheet.now c.args.work.now c.args.c.consts c.args.i c.module_line_of-k.ensures c.if-k-eq0.false c.field_at-within.ensures c.line_of.ensures c.field_at-name.ensures c.look_up_in_before.result c.look_up_in-r.result c.look_up_in_before.ensures.has c.if-look_up_in_before-ne0.false c.look_up_in-r.ensures.value c.put_part-p.ensures c.put_part-q.ensures c.put_part-a.ensures c.put_rest.ensures
+returns c = Laws.qualified-new c.args.sheet.now c.args.work.now c.args.c.consts c.args.i (ap line_number (sym c.in-Some.is) ∙ c.module_line_of.ensures) (λ z. omega arith) (Laws.name-of c.args.sheet.now c.in-Some.k c.field_at-within.ensures) c.line_of.ensures c.field_at-name.ensures c.look_up_before.result c.look_up-r.result c.look_up_before.ensures.has (sym c.is_some.ensures ∙ c.if-is_some.false) c.look_up-r.ensures.value c.put_part-p.ensures c.put_part-q.ensures c.put_part-a.ensures c.put_rest.ensures

@@ -1,12 +1,14 @@
 -- `consts::is_left` meets its contract.
-use borrow.Author.Tests.{eq-eqb, ne_eqb}
-use Rattle.consts.specs.Passes.{left}
+use mathlib.Core.Path.{sym, ◌∙◌}
+use Rattle.consts.proofs.Walk.{left-is}
 use Rattle.consts.proofs.is_left.Goals as goal
 
-pub returns-then-k-eq0 : goal.returns-then-k-eq0
-unfolding left
-returns-then-k-eq0 c = search (eq-eqb, ne_eqb)
+pub returns-then-is_some : goal.returns-then-is_some
+returns-then-is_some c =
+    let e = sym c.is_some.ensures ∙ c.if-is_some.true in
+    rw (left-is c.args.k c.args.within, e) c.ne.ensures
 
-pub returns : goal.returns
-unfolding left
-returns c = search (eq-eqb, ne_eqb)
+pub returns-else-is_some : goal.returns-else-is_some
+returns-else-is_some c =
+    let e = sym c.is_some.ensures ∙ c.if-is_some.false in
+    rw (left-is c.args.k c.args.within, e) c.if-is_some.false

@@ -5,17 +5,17 @@ use Rattle.names.specs.Table.{names_in}
 use Rattle.literals.proofs.Names.{line_kept}
 use Rattle.data_rows.proofs.line_rows.Goals as goal
 
-pub returns-then-r-eq0 : goal.returns-then-r-eq0
-returns-then-r-eq0 c = none-laid c.args.sheet.now (names_in c.args.sheet.now c.args.work.now c.args.c.consts) (places_in c.args.sheet.now c.args.work.now c.args.c.globals) c.if-r-eq0.true c.no_rows.ensures.0 c.no_rows.ensures.1
+pub returns-in_default : goal.returns-in_default
+returns-in_default c = none-laid c.args.sheet.now (names_in c.args.sheet.now c.args.work.now c.args.c.consts) (places_in c.args.sheet.now c.args.work.now c.args.c.globals) c.in_default.is c.no_rows.ensures.0 c.no_rows.ensures.1
 
 pub first_value-first-requires : goal.first_value-first-requires
-first_value-first-requires c = (c.requires.1 c.if-r-eq0.false, c.requires.0.log)
+first_value-first-requires c = (rw c.in-Some.is at c.requires.1, c.requires.0.log)
 
 pub is_big-requires : goal.is_big-requires
-is_big-requires c = line_kept c.first_value-first.ensures.keeps (c.requires.1 c.if-r-eq0.false)
+is_big-requires c = line_kept c.first_value-first.ensures.keeps (rw c.in-Some.is at c.requires.1)
 
 pub names_rows-requires : goal.names_rows-requires
-names_rows-requires c = (line-task c.requires.0 (c.requires.1 c.if-r-eq0.false) c.first_value-first.ensures, line_kept c.first_value-first.ensures.keeps (c.requires.1 c.if-r-eq0.false), c.is_big.ensures)
+names_rows-requires c = (line-task c.requires.0 (rw c.in-Some.is at c.requires.1) c.first_value-first.ensures, line_kept c.first_value-first.ensures.keeps (rw c.in-Some.is at c.requires.1), c.is_big.ensures)
 
 pub returns : goal.returns
-returns c = line-items c.requires.0 (c.requires.1 c.if-r-eq0.false) c.first_value-first.ensures c.names_rows.ensures
+returns c = rw c.in-Some.is (line-items c.requires.0 (rw c.in-Some.is at c.requires.1) c.first_value-first.ensures c.names_rows.ensures)

@@ -18,4 +18,4 @@ first_rows-requires c = (held-keyed c.requires.held, c.requires.stands)
 pub returns : goal.returns
 returns c =
     let a = c.args in
-    (λ ty h. printed-as (name-items ty (places_in a.sheet.now a.work.now a.c.globals) (init_in a.work.now a.x.first) a.name.now c.is_nil.ensures c.if-is_nil.false c.offset_in-off.ensures.0) (c.first_rows.ensures.0 a.sheet.now ty c.requires.held.framed h), c.first_rows.ensures.1)
+    (λ ty h. printed-as (name-items ty (places_in a.sheet.now a.work.now a.c.globals) (init_in a.work.now a.x.first) a.name.now c.is_nil.ensures c.if-is_nil.false c.offset_in.ensures.0 c.unwrap_or-off.ensures) (c.first_rows.ensures.0 a.sheet.now ty c.requires.held.framed h), c.first_rows.ensures.1)

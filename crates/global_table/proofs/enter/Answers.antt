@@ -5,21 +5,6 @@ use lib.ListN.{length, length-set}
 use Rattle.global_table.proofs.Table.{global-room, entered_by, entered-long}
 use Rattle.global_table.proofs.enter.Goals as goal
 
-pub bounds-work-a-2 : goal.bounds-work-a-2
-bounds-work-a-2 c = simp length-set (omega arith)
-
-pub bounds-work-a-3 : goal.bounds-work-a-3
-bounds-work-a-3 c = simp length-set (omega arith)
-
-pub bounds-work-a-4 : goal.bounds-work-a-4
-bounds-work-a-4 c = simp length-set (omega arith)
-
-pub bounds-work-a-5 : goal.bounds-work-a-5
-bounds-work-a-5 c = simp length-set (omega arith)
-
-pub bounds-work-a-6 : goal.bounds-work-a-6
-bounds-work-a-6 c = simp length-set (omega arith)
-
 pub link-requires : goal.link-requires
 link-requires c = (global-room (simp length-set (omega arith)), omega arith)
 

@@ -1,5 +1,5 @@
 use mathlib.Core.Path.{refl}
-use Rattle.globals.proofs.Collect.{open-outside, lines-laid-start, lines-laid-here, lines-laid-next, lines-laid-end}
+use Rattle.globals.proofs.Collect.{lines-laid-start, lines-laid-here, lines-laid-next, lines-laid-end}
 use Rattle.globals.proofs.collect_globals.Goals as goal
 
 pub loop-i-init : goal.loop-i-init
@@ -10,16 +10,10 @@ declare_line-g-requires c =
     let l = c.loop-i in
     lines-laid-here c.args.sheet.now c.args.work.now c.args.n c.requires l.work l.g l.k l.i l.invariant c.loop-i-test.true
 
-pub open_after-k-requires : goal.open_after-k-requires
-open_after-k-requires c = (open-outside c.declare_line-g.ensures.outside c.loop-i.invariant.here, c.loop-i-test.true)
-
 pub loop-i-preserved : goal.loop-i-preserved
 loop-i-preserved c =
     let l = c.loop-i in
     lines-laid-next c.args.sheet.now c.args.work.now c.args.n c.requires l.work l.g l.k l.i l.invariant c.loop-i-test.true c.declare_line-g.ensures c.open_after-k.ensures
-
-pub shape_of-work : goal.shape_of-work
-shape_of-work c = c.loop-i.invariant.laid.outside.kept.long
 
 pub returns : goal.returns
 returns c =

@@ -1,10 +1,6 @@
 -- `globals::collect_globals` meets its contract.
-use Prim.Native.Nat.{◌-◌}
 use Rattle.globals.proofs.Collect.{LinesLaid}
 use Rattle.globals.proofs.collect_globals.Given as goal
 
 abbrev pub invariant-loop-i : goal.invariant-loop-i
 invariant-loop-i l = LinesLaid l.sheet l.initial.work l.work l.n l.g l.k l.i
-
-abbrev pub decreases-loop-i : goal.decreases-loop-i
-decreases-loop-i l = l.n - l.i

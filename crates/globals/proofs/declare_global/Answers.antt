@@ -1,4 +1,4 @@
-use Rattle.globals.proofs.Declare.{naming-start, naming-here, naming-next, naming-end}
+use Rattle.globals.proofs.Declare.{naming-start, naming-next, naming-end}
 use Rattle.globals.proofs.declare_global.Goals as goal
 
 pub loop-j-init : goal.loop-j-init
@@ -6,20 +6,11 @@ loop-j-init c =
     let a = c.args in
     naming-start a.sheet.now a.work.now a.n a.r a.g c.name_count-count.result c.requires.0
 
-pub declare_name-h-requires : goal.declare_name-h-requires
-declare_name-h-requires c =
-    let a = c.args in
-    let l = c.loop-j in
-    naming-here a.sheet.now a.work.now a.n a.r a.g c.name_count-count.result c.requires.1 c.name_count-count.ensures l.work l.h l.j l.invariant c.loop-j-test.true c.requires.2
-
 pub loop-j-preserved : goal.loop-j-preserved
 loop-j-preserved c =
     let a = c.args in
     let l = c.loop-j in
     naming-next a.sheet.now a.work.now a.n a.r a.g c.name_count-count.result c.requires.1 c.name_count-count.ensures l.work l.h l.j l.invariant c.loop-j-test.true c.declare_name-h.ensures
-
-pub shape_of-work : goal.shape_of-work
-shape_of-work c = c.loop-j.invariant.laid.outside.kept.long
 
 pub returns : goal.returns
 returns c =

@@ -1,10 +1,6 @@
 -- `globals::declare_global` meets its contract.
 use Rattle.globals.proofs.Declare.{Naming}
-use Prim.Native.Nat.{◌-◌}
 use Rattle.globals.proofs.declare_global.Given as goal
 
 abbrev pub invariant-loop-j : goal.invariant-loop-j
 invariant-loop-j l = Naming l.sheet l.initial.work l.work l.n l.r l.count l.initial.h l.h l.j
-
-abbrev pub decreases-loop-j : goal.decreases-loop-j
-decreases-loop-j l = l.count - l.j

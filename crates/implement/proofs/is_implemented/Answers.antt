@@ -1,6 +1,7 @@
 -- `implement::is_implemented` meets its contract.
 use native.Mathlib.Omega.{arith}
 use mathlib.Core.Path.{◌∙◌, ap}
+use borrow.Author.Tests.{ne_eqb}
 use Rattle.lines.proofs.Line.{form-low}
 use Rattle.semantics.specs.Text.{Bytes, same}
 use Rattle.implement.proofs.Modules.{implemented-none, implemented-not, implemented-by}
@@ -16,13 +17,13 @@ kind-requires c =
     let a = c.args in
     rw c.form_at.ensures (form-low a.sheet.now a.work.now a.n c.requires.whole 0 (omega arith))
 
-pub returns-then-kind-ne-IMPL : goal.returns-then-kind-ne-IMPL
-returns-then-kind-ne-IMPL c =
+pub returns-else-kind-eq-IMPL : goal.returns-else-kind-eq-IMPL
+returns-else-kind-eq-IMPL c =
     let a = c.args in
-    implemented-not a.sheet.now a.work.now a.n c.requires a.name.now (omega arith) c.form_at.ensures c.kind.ensures c.if-kind-ne-IMPL.true
+    ne_eqb c.kind.result 73 c.if-kind-eq-IMPL.false ∙ implemented-not a.sheet.now a.work.now a.n c.requires a.name.now (omega arith) c.form_at.ensures c.kind.ensures c.if-kind-eq-IMPL.false
 
-pub returns : goal.returns
-returns c =
+pub returns-then-kind-eq-IMPL : goal.returns-then-kind-eq-IMPL
+returns-then-kind-eq-IMPL c =
     let a = c.args in
     c.same.ensures ∙ ap (λ (x : Bytes). same x a.name.now) c.field_at.ensures
-    ∙ implemented-by a.sheet.now a.work.now a.n c.requires a.name.now (omega arith) c.form_at.ensures c.kind.ensures c.if-kind-ne-IMPL.false
+    ∙ implemented-by a.sheet.now a.work.now a.n c.requires a.name.now (omega arith) c.form_at.ensures c.kind.ensures c.if-kind-eq-IMPL.true

@@ -7,10 +7,10 @@ use Rattle.semantics.specs.Sheet.{sheet_source}
 use Rattle.implement.proofs.Modules.{own-outside, own-within}
 use Rattle.implement.proofs.is_own.Goals as goal
 
-pub returns-then-k-eq0 : goal.returns-then-k-eq0
-returns-then-k-eq0 c = let a = c.args in own-outside a.sheet.now a.k c.if-k-eq0.true
+pub returns-in-None : goal.returns-in-None
+returns-in-None c = own-outside c.args.sheet.now c.in-None.is
 
-pub returns : goal.returns
-returns c =
+pub returns-in-Some : goal.returns-in-Some
+returns-in-Some c =
     let a = c.args in
-    own-within a.sheet.now a.k c.if-k-eq0.false (c.is_implemented.ensures ∙ ap (λ (x : Bytes). same_option (sheet_source a.sheet.now).implement (Some x)) c.field_at.ensures)
+    own-within a.sheet.now c.in-Some.is (c.is_implemented.ensures ∙ ap (λ (x : Bytes). same_option (sheet_source a.sheet.now).implement (Some x)) c.field_at.ensures)

@@ -1,24 +1,25 @@
 -- `implement::open_after` meets its contract.
+use native.Mathlib.Omega.{arith}
 use Rattle.lines.proofs.Line.{form-low}
 use Rattle.implement.proofs.Modules.{open-mod, open-end, open-other}
 use Rattle.implement.proofs.open_after.Goals as goal
 
-pub kind-kind-requires : goal.kind-kind-requires
-kind-kind-requires c =
+pub kind-requires : goal.kind-requires
+kind-requires c =
     let a = c.args in
     rw c.form_at.ensures (form-low a.sheet.now a.work.now a.n c.requires.0.checked.whole a.i c.requires.1)
 
-pub returns-then-kind-eq-MOD : goal.returns-then-kind-eq-MOD
-returns-then-kind-eq-MOD c =
+pub returns-in-77 : goal.returns-in-77
+returns-in-77 c =
     let a = c.args in
-    open-mod a.sheet.now a.work.now a.n a.i a.k c.requires.0 c.requires.1 _ _ c.form_at.ensures c.kind-kind.ensures c.if-kind-eq-MOD.true
+    open-mod a.sheet.now a.work.now a.n a.i a.k c.requires.0 c.requires.1 _ _ c.form_at.ensures c.kind.ensures c.in-77.is
 
-pub returns-then-kind-eq-END : goal.returns-then-kind-eq-END
-returns-then-kind-eq-END c =
+pub returns-in-79 : goal.returns-in-79
+returns-in-79 c =
     let a = c.args in
-    open-end a.sheet.now a.work.now a.n a.i a.k c.requires.0 c.requires.1 _ _ c.form_at.ensures c.kind-kind.ensures c.if-kind-eq-END.true
+    open-end a.sheet.now a.work.now a.n a.i a.k c.requires.0 c.requires.1 _ _ c.form_at.ensures c.kind.ensures c.in-79.is
 
-pub returns : goal.returns
-returns c =
+pub returns-in_default : goal.returns-in_default
+returns-in_default c =
     let a = c.args in
-    open-other a.sheet.now a.work.now a.n a.i a.k c.requires.0 c.requires.1 _ _ c.form_at.ensures c.kind-kind.ensures c.if-kind-eq-MOD.false c.if-kind-eq-END.false
+    open-other a.sheet.now a.work.now a.n a.i a.k c.requires.0 c.requires.1 _ _ c.form_at.ensures c.kind.ensures (omega arith) (omega arith)

@@ -21,7 +21,7 @@ pub field_at-within-requires : goal.field_at-within-requires
 field_at-within-requires c = let l = module-line c.requires.fold c.requires.form c.number_at-q.ensures.0 in (l.checked.whole, in-sheet l)
 
 pub constant-requires : goal.constant-requires
-constant-requires c = answered-at c.requires.fold c.look_up_in-k.ensures.low
+constant-requires c = answered-at c.requires.fold c.look_up-k.ensures.low
 
 pub returns : goal.returns
-returns c = λ iota. qualified-found c.requires.fold c.requires.form c.number_at-q.ensures.0 (sym c.form_at.ensures ∙ c.if-form_at-ne-ID.false) c.field_at-within.ensures c.field_at-name.ensures c.look_up_in-k.result c.look_up_in-k.ensures.value c.constant.ensures
+returns c = λ iota. qualified-found c.requires.fold c.requires.form c.number_at-q.ensures.0 (sym c.form_at.ensures ∙ c.if-form_at-ne-ID.false) c.field_at-within.ensures c.field_at-name.ensures c.look_up-k.result c.look_up-k.ensures.value c.constant.ensures

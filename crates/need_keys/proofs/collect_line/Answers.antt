@@ -4,7 +4,6 @@ use Rattle.form.specs.Table.{kind_at}
 use Rattle.lines.proofs.Line.{form-low, kind-is}
 use Rattle.checks.proofs.Kept.{outside-all}
 use Rattle.need_keys.proofs.Pass.{collecting-stay, collecting-need}
-use borrow.Author.Rules.{rules}
 use Rattle.need_keys.proofs.collect_line.Goals as goal
 
 pub kind-requires : goal.kind-requires

@@ -6,7 +6,6 @@ use Rattle.words.specs.Words.{digest}
 use Rattle.type_lines.specs.Needs.{need_at, needs_to}
 use Rattle.type_keys.specs.Table.{kind_entered}
 use Rattle.need_keys.proofs.Pass.{needs-room, collected, collected-outside}
-use borrow.Author.Rules.{rules}
 use Rattle.need_keys.proofs.collect_need.Goals as goal
 
 pub position_for-p-requires : goal.position_for-p-requires

@@ -1,9 +1,5 @@
 use native.Mathlib.Omega.{arith}
-use borrow.Author.Rules.{rules}
-use Prim.Native.Nat.{◌-◌}
 use Rattle.checks.proofs.Kept.{checked-kept, kept_less, outside-all, outside-then, outside-less}
-use Rattle.checks.specs.Checks.{Outside}
-use Rattle.need_keys.specs.Pass.{Collecting}
 use Rattle.need_keys.proofs.Pass.{collecting-start, collecting-end}
 use Rattle.need_keys.proofs.collect_needs.Goals as goal
 

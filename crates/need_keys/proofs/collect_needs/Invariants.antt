@@ -1,14 +1,6 @@
-use native.Mathlib.Omega.{arith}
-use borrow.Author.Rules.{rules}
-use Prim.Native.Nat.{◌-◌}
-use Rattle.checks.proofs.Kept.{checked-kept, kept_less, outside-all, outside-then, outside-less}
 use Rattle.checks.specs.Checks.{Outside}
 use Rattle.need_keys.specs.Pass.{Collecting}
-use Rattle.need_keys.proofs.Pass.{collecting-start, collecting-end}
 use Rattle.need_keys.proofs.collect_needs.Given as goal
 
 abbrev pub invariant-loop-i : goal.invariant-loop-i
 invariant-loop-i l = (Collecting l.sheet l.work l.n l.i l.counts.needs l.counts.keys) × (Outside 10240 11264 l.initial.work l.work)
-
-abbrev pub decreases-loop-i : goal.decreases-loop-i
-decreases-loop-i l = l.n - l.i

@@ -11,12 +11,6 @@ digest_for-d-requires c = c.loop-i.invariant.1.log.entries _ c.loop-i-test.true
 pub enter_digest-requires : goal.enter_digest-requires
 enter_digest-requires c = (omega (arith, c.loop-i.invariant.1.log.few, c.loop-i-test.true), c.digest_for-d.ensures.1, c.loop-i.invariant.1.log.checked.whole.room)
 
-pub overflow_add-i : goal.overflow_add-i
-overflow_add-i c = record { fits = omega (arith, c.loop-i.invariant.1.log.few, c.loop-i-test.true) }
-
-pub loop-i-smaller : goal.loop-i-smaller
-loop-i-smaller c = omega (arith, c.loop-i-test.true)
-
 pub loop-i-preserved : goal.loop-i-preserved
 loop-i-preserved c = (omega (arith, c.loop-i-test.true), digests-next c.loop-i.invariant.1 c.loop-i-test.true c.digest_for-d.ensures.0 c.enter_digest.ensures)
 

@@ -4,6 +4,3 @@ use Rattle.record_log.proofs.enter_digests.Given as goal
 
 abbrev pub invariant-loop-i : goal.invariant-loop-i
 invariant-loop-i l = (l.i ≤ l.m) × (CollectedTo l.sheet l.initial.work l.work l.n l.m l.i)
-
-abbrev pub decreases-loop-i : goal.decreases-loop-i
-decreases-loop-i l = l.m - l.i

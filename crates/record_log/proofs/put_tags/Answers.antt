@@ -12,12 +12,6 @@ overflow_add-number c = record { fits = omega (arith, c.requires.3, c.requires.2
 pub put_entry-p-requires : goal.put_entry-p-requires
 put_entry-p-requires c = (c.requires.0, omega (arith, c.requires.1), omega (arith, c.requires.2, c.loop-j-test.true), omega (arith, c.requires.3, c.requires.2, c.loop-j-test.true))
 
-pub overflow_add-j : goal.overflow_add-j
-overflow_add-j c = record { fits = omega (arith, c.requires.2, c.loop-j-test.true) }
-
-pub loop-j-smaller : goal.loop-j-smaller
-loop-j-smaller c = omega (arith, c.loop-j-test.true)
-
 pub loop-j-preserved : goal.loop-j-preserved
 loop-j-preserved c = tagging-next c.args.r c.args.case c.args.count c.args.number c.args.work.now c.args.at _ _ _ c.loop-j.invariant c.loop-j-test.true _ _ c.put_entry-p.ensures
 

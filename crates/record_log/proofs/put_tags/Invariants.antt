@@ -4,6 +4,3 @@ use Rattle.record_log.proofs.put_tags.Given as goal
 
 abbrev pub invariant-loop-j : goal.invariant-loop-j
 invariant-loop-j l = Tagging l.r l.case l.count l.number l.initial.work l.initial.p l.work l.p l.j
-
-abbrev pub decreases-loop-j : goal.decreases-loop-j
-decreases-loop-j l = l.count - l.j

@@ -12,12 +12,6 @@ loop-c-init g c = kept-all
 pub print_variant-requires : goal.print_variant-requires
 print_variant-requires g c = record { line = pick-kept c.loop-c.invariant c.requires; case = omega (arith, c.loop-c-test.true, c.case_count-count.ensures.0) }
 
-pub overflow_add-c : goal.overflow_add-c
-overflow_add-c g c = record { fits = omega (arith, c.loop-c-test.true, c.case_count-count.ensures.1) }
-
-pub loop-c-smaller : goal.loop-c-smaller
-loop-c-smaller g c = omega (arith, c.loop-c-test.true)
-
 pub loop-c-preserved : goal.loop-c-preserved
 loop-c-preserved g c = kept_then c.loop-c.invariant c.print_variant.ensures
 

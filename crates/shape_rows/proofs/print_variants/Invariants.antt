@@ -4,6 +4,3 @@ use Rattle.shape_rows.proofs.print_variants.Given as goal
 
 abbrev pub invariant-loop-c : goal.invariant-loop-c
 invariant-loop-c g l = Kept 49152 l.initial.work l.work
-
-abbrev pub decreases-loop-c : goal.decreases-loop-c
-decreases-loop-c g l = l.count - l.c

@@ -2,11 +2,11 @@
 use Rattle.records.proofs.Newest.{key_is}
 use Rattle.records.specs.Log.{recorded_at, record_chains}
 use Rattle.chains.proofs.Laws.{Along}
-use Rattle.chains.specs.Chains.{chain_at}
+use Rattle.chains.specs.Chains.{chain_at, count_to}
 use Rattle.records.proofs.key.is_first.Given as goal
 
-abbrev pub invariant-loop-j : goal.invariant-loop-j
-invariant-loop-j l = Along l.work record_chains (chain_at l.work record_chains l.i) l.i (key_is l.sheet l.work (recorded_at l.sheet l.work l.i).key) l.j
+abbrev pub invariant-loop-next : goal.invariant-loop-next
+invariant-loop-next l = Along l.work record_chains (chain_at l.work record_chains l.i) l.i (key_is l.sheet l.work (recorded_at l.sheet l.work l.i).key) l.next
 
-abbrev pub decreases-loop-j : goal.decreases-loop-j
-decreases-loop-j l = l.j
+abbrev pub decreases-loop-next : goal.decreases-loop-next
+decreases-loop-next l = count_to l.next

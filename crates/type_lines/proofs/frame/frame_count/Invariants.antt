@@ -6,6 +6,3 @@ use Rattle.type_lines.proofs.frame.frame_count.Given as goal
 
 abbrev pub invariant-loop-i : goal.invariant-loop-i
 invariant-loop-i l = (l.i ≤ l.n) × (l.frames ≡ length (frames_to l.sheet l.i))
-
-abbrev pub decreases-loop-i : goal.decreases-loop-i
-decreases-loop-i l = l.n - l.i
