@@ -1,5 +1,6 @@
 -- 01's number and line for each refusal.
 use Rattle.std.specs.Prelude.{ℕ, ◌<◌, ◌≡◌, Result, Ok, Err, cond, eqb}
+use Rattle.semantics.specs.Const as Const
 use Rattle.answers.specs.declared.Refusal.{Refusal}
 use Rattle.answers.specs.declared.Refusal.TheVariants.{LongSheet, SmallSpace, NoForm, BadReference, DeepNesting, BadModule, TooMany, LongString, LongAlloc, NegativeAlloc, OutsideLiteral, LongLiteral, Outgrown}
 
@@ -32,6 +33,10 @@ refusal_line (NegativeAlloc k) = k
 refusal_line (OutsideLiteral k) = k
 refusal_line (LongLiteral k) = k
 refusal_line Outgrown = 0
+
+-- as the definitions have it
+abbrev pub refusal_of : Refusal → Const.Refusal
+refusal_of r = record { number = refusal_number r; line = refusal_line r }
 
 -- the refusal at the first line that breaks a rule, where there is one: 0 stands for none
 abbrev pub first_line : (ℕ → Refusal) → ℕ → Result Unit Refusal

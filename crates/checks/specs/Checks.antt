@@ -1,5 +1,5 @@
 -- Refusals 1 to 7 together, and what holds of a sheet that passes them.
-use Rattle.std.specs.Prelude.{ℕ, ◌-◌, ◌≤◌, ◌<◌, ◌≡◌, true, false, [], length, take, drop}
+use Rattle.std.specs.Prelude.{ℕ, Result, Ok, Err, ◌-◌, ◌≤◌, ◌<◌, ◌≡◌, true, false, [], length, take, drop}
 use Rattle.semantics.specs.Text.{Bytes}
 use Rattle.semantics.specs.Form.{letter}
 use Rattle.semantics.specs.Refusal.{Outcome, refused, zeros, refs_of, bad_ref_from, bad_module_from}
@@ -7,13 +7,13 @@ use Rattle.lines.specs.Lines.{reads_in, read_at, nodes_in, Whole}
 use Rattle.refs.specs.Refs.{fine_refs, uses_in}
 use Rattle.nesting.specs.Nesting.{depth_of, lower_refs}
 use Rattle.counts.specs.Counts.{Bounded}
-use Rattle.checks.specs.declared.Checks.{Checks}
-use Rattle.checks.specs.declared.Checks.TheVariants.{Lines, Refused}
+use Rattle.answers.specs.declared.Refusal.{Refusal}
+use Rattle.answers.specs.Answers.{refusal_number, refusal_line}
 
 -- what an answer makes of the outcome of a sheet that passes: 01's number and line where it is refused
-abbrev pub settled : Checks → Outcome → Outcome
-settled (Lines n) o = o
-settled (Refused r k) o = refused r k
+abbrev pub settled : Result ℕ Refusal → Outcome → Outcome
+settled (Ok n) o = o
+settled (Err r) o = refused (refusal_number r) (refusal_line r)
 
 -- what holds of a sheet of n lines that passes, with its tables
 pub record Checked (s t : Bytes) (n : ℕ) : Type 0 where
@@ -44,11 +44,11 @@ pub record Outside (a b : ℕ) (t u : Bytes) : Type 0 where
   pub above : drop b u ≡ drop b t
 
 -- the tables of a sheet that passes, and zeros where it is refused
-abbrev pub CheckedTables : Bytes → Bytes → Checks → Type 0
-CheckedTables s t (Lines n) = Checked s t n
-CheckedTables s t (Refused r k) = t ≡ zeros (length t)
+abbrev pub CheckedTables : Bytes → Bytes → Result ℕ Refusal → Type 0
+CheckedTables s t (Ok n) = Checked s t n
+CheckedTables s t (Err r) = t ≡ zeros (length t)
 
 -- the same before the zeros are written
-abbrev pub PassesChecks : Bytes → Bytes → Checks → Type 0
-PassesChecks s t (Lines n) = Checked s t n
-PassesChecks s t (Refused r k) = Unit {0}
+abbrev pub PassesChecks : Bytes → Bytes → Result ℕ Refusal → Type 0
+PassesChecks s t (Ok n) = Checked s t n
+PassesChecks s t (Err r) = Unit {0}

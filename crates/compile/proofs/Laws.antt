@@ -1,7 +1,7 @@
 -- The rows together are the listing, and what compiling gives by each answer.
 use mathlib.Core.Path.{◌≡◌, sym, ap, ◌∙◌, subst}
 use mathlib.Core.List.{◌++◌, append_assoc}
-use Rattle.std.specs.Prelude.{None, Some}
+use Rattle.std.specs.Prelude.{None, Some, Result, Ok, Err}
 use Prim.Native.Nat.{ℕ, ◌≤◌, ◌<◌}
 use native.Mathlib.Omega.{arith}
 use lib.ListN.{length}
@@ -9,11 +9,11 @@ use borrow.Author.Tests.{lt-ltb, le-ltb}
 use Rattle.semantics.specs.Text.{Bytes}
 use Rattle.semantics.specs.Sheet.{sheet_source, concat_map}
 use Rattle.semantics.specs.Fold.{Names}
-use Rattle.semantics.specs.Const.{names_of}
+use Rattle.semantics.specs.Const.{constants, names_of}
 use Rattle.semantics.specs.Global.{laid_vars, vars_refused}
 use Rattle.semantics.specs.Types.{id_of, descriptors}
 use Rattle.semantics.specs.Listing.{pend_row, item_row, type_rows, use_row, listing}
-use Rattle.semantics.specs.Refusal.{Outcome, zeros, worked, source_globals, source_listing}
+use Rattle.semantics.specs.Refusal.{Outcome, refused, zeros, worked, source_globals, source_listing}
 use Rattle.write.specs.declared.Writer.{Writer}
 use Rattle.write.specs.Wrote.{Wrote}
 use Rattle.write.specs.Writes.{Writes}
@@ -21,28 +21,27 @@ use Rattle.write.proofs.Wrote.{on-zeros}
 use Rattle.write.proofs.Writes.{writes_as, writes_then}
 use Rattle.checks.specs.Checks.{Checked}
 use Rattle.names.specs.Table.{names_in}
-use Rattle.pends.specs.declared.Pends.{Pends}
+use Rattle.answers.specs.declared.Refusal.{Refusal}
+use Rattle.answers.specs.Answers.{refusal_number, refusal_line, refusal_of}
 use Rattle.pends.specs.Pends.{AllPended}
 use Rattle.tables.specs.declared.Tables.{Tables}
-use Rattle.tables.specs.declared.Made.{Made}
 use Rattle.tables.specs.Tables.{MakesTables}
 use Rattle.compile.specs.declared.Listed.{Listed}
-use Rattle.compile.specs.Compile.{ListingStands, Stops, Tries}
+use Rattle.compile.specs.Compile.{ListingStands, Tries}
 use Rattle.parts.proofs.Laws.{names-are}
 use Rattle.parts.specs.Parts.{declared_text, types_text, Listable}
-use Rattle.compile.proofs.Numbers.{with-line, without-line, vars-numbered}
 
 three-last : (a b c d : Bytes) → a ++ ((b ++ c) ++ d) ≡ ((a ++ b) ++ c) ++ d
 three-last a b c d = sym (append_assoc a (b ++ c) d) ∙ ap (λ (l : Bytes). l ++ d) (sym (append_assoc a b c))
 
 module _ {s t : Bytes} {n : ℕ} {x : Tables} (k : Listable s t n x) where
   -- the pending names' rows, where no line is refused
-  module _ (d e : Bytes) (a : ℕ) (y : Pends) (h : AllPended (names_in s t x.consts) s d a y e) where
-    pub pends-written : {b : ℕ} → y ≡ Pends.Written b → (vars_refused (names_of (sheet_source s)) (laid_vars (sheet_source s)) ≡ None) × Wrote d a (concat_map pend_row (source_globals (sheet_source s)).pends) e b
-    pends-written {b} q = subst (λ (ns : Names). AllPended ns s d a (Pends.Written b) e) (names-are k) (subst (λ (z : Pends). AllPended (names_in s t x.consts) s d a z e) q h)
+  pub pends-written : (d e : Bytes) (a : ℕ) {b : ℕ} → AllPended (names_in s t x.consts) s d a (Ok b) e
+      → (vars_refused (names_of (sheet_source s)) (laid_vars (sheet_source s)) ≡ None) × Wrote d a (concat_map pend_row (source_globals (sheet_source s)).pends) e b
+  pends-written d e a {b} h = subst (λ (ns : Names). AllPended ns s d a (Ok b) e) (names-are k) h
 
-    pub pends-refused : {q l : ℕ} → y ≡ Pends.Refused q l → vars_refused (names_of (sheet_source s)) (laid_vars (sheet_source s)) ≡ Some (record { number = q; line = l })
-    pends-refused {q} {l} g = (subst (λ (ns : Names). AllPended ns s d a (Pends.Refused q l) e) (names-are k) (subst (λ (z : Pends). AllPended (names_in s t x.consts) s d a z e) g h)).0
+  pub pends-refused : (d e : Bytes) (a : ℕ) (r : Refusal) → AllPended (names_in s t x.consts) s d a (Err r) e → vars_refused (names_of (sheet_source s)) (laid_vars (sheet_source s)) ≡ Some (refusal_of r)
+  pends-refused d e a r h = (subst (λ (ns : Names). AllPended ns s d a (Err r) e) (names-are k) h).0
 
   -- all rows
   pub listing-rows : {v0 v1 v2 v3 : Writer} → Writes v0 (declared_text s) v1 → Writes v1 (concat_map pend_row (source_globals (sheet_source s)).pends) v2 → Writes v2 (types_text s) v3
@@ -75,21 +74,20 @@ module _ {s t : Bytes} {n : ℕ} {x : Tables} (k : Listable s t n x) where
             checked = y;
           }
 
-      pub outgrows : L < r → Stops (worked L (sheet_source s)) 13 0
-      outgrows h = record { outcome = rw (k.folded, v, lt-ltb L (length (source_listing (sheet_source s))) ((on-zeros whole).1 h)); numbered = without-line (omega arith) (omega arith) }
+      pub outgrows : L < r → worked L (sheet_source s) ≡ refused 13 0
+      outgrows h = rw (k.folded, v, lt-ltb L (length (source_listing (sheet_source s))) ((on-zeros whole).1 h))
 
-  pub value-refused : (L : ℕ) {q l : ℕ} → vars_refused (names_of (sheet_source s)) (laid_vars (sheet_source s)) ≡ Some (record { number = q; line = l }) → Stops (worked L (sheet_source s)) q l
-  value-refused L e = record { outcome = rw (k.folded, e); numbered = vars-numbered (names_of (sheet_source s)) (laid_vars (sheet_source s)) e }
+  pub value-refused : (L : ℕ) (r : Refusal) → vars_refused (names_of (sheet_source s)) (laid_vars (sheet_source s)) ≡ Some (refusal_of r) → worked L (sheet_source s) ≡ refused (refusal_number r) (refusal_line r)
+  value-refused L r e = rw (k.folded, e)
 
 -- ---- tables, or a constant that is refused
 
-module _ (s t : Bytes) (n : ℕ) {y : Made} (h : MakesTables s t n y) where
-  pub tables-listable : {x : Tables} → y ≡ Made.Whole x → Listable s t n x
-  tables-listable q = let w = subst (MakesTables s t n) q h in record { held = w.0; folded = w.1; log = w.2 }
+pub tables-listable : (s t : Bytes) (n : ℕ) (x : Tables) → MakesTables s t n (Ok x) → Listable s t n x
+tables-listable s t n x w = record { held = w.0; folded = w.1; log = w.2 }
 
-  pub constant-refused : (L : ℕ) {l : ℕ} → y ≡ Made.Refused l → Stops (worked L (sheet_source s)) 8 l
-  constant-refused L q = record { outcome = rw (subst (MakesTables s t n) q h); numbered = with-line (omega arith) (omega arith) }
+pub constant-refused : (s : Bytes) (L : ℕ) (r : Refusal) → (constants (sheet_source s)).refused ≡ Some (refusal_of r) → worked L (sheet_source s) ≡ refused (refusal_number r) (refusal_line r)
+constant-refused s L r e = rw e
 
--- the same where the working space is as long
-pub tries-as : (s : Bytes) (o : Outcome) (L : ℕ) {W X : ℕ} (r : Listed) (d u : Bytes) → X ≡ W → Tries s o L X r d u → Tries s o L W r d u
-tries-as s o L r d u e h = subst (λ (w : ℕ). Tries s o L w r d u) e h
+-- the same outcome, and where the working space is as long
+pub tries-as : (s : Bytes) {o p : Outcome} (L : ℕ) {W X : ℕ} (r : Result Listed Refusal) (d u : Bytes) → o ≡ p → X ≡ W → Tries s o L X r d u → Tries s p L W r d u
+tries-as s {o} {p} L {W} {X} r d u e k h = subst (λ (q : Outcome). Tries s q L W r d u) e (subst (λ (w : ℕ). Tries s o L w r d u) k h)

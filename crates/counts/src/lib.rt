@@ -5,8 +5,11 @@ ghost use Rattle.std.specs.Prelude.{◌≡◌, false, cond, [], ◌-◌, ◌≤�
 ghost use Rattle.semantics.specs.Form.{letter};
 ghost use Rattle.semantics.specs.Refusal.{over_limits, no_counts, refs_of, bad_ref_from, too_many_from};
 ghost use Rattle.lines.specs.Lines.{reads_in, read_at, nodes_in, Whole};
+ghost use Rattle.answers.specs.Answers.{first_line};
+ghost use Rattle.answers.specs.declared.Refusal.TheVariants.{TooMany};
 ghost use Rattle.counts.specs.Counts.{counts_of, field_number, one_of, tags_in, records_on, var_names, added};
 
+use answers::Refusal;
 use codes::kind;
 
 const MOST_OF_A_KIND: usize = 128;
@@ -14,7 +17,7 @@ const MOST_OF_A_KIND: usize = 128;
 const MOST_NAMES: usize = 256;
 
 // `con`, `need` and `frame` lines, records plus tags, and `var` names.
-#[derive(Clone, Copy)]
+#[derive(Clone, Copy, Default)]
 pub struct Tally {
     pub consts: usize,
     pub needs: usize,
@@ -27,10 +30,7 @@ pub struct Tally {
 fn one(k: u8, kind: u8) -> usize
     ensures { (result ≡ one_of k kind) × (result ≤ 1) }
 {
-    if k == kind {
-        return 1;
-    }
-    0
+    usize::from(k == kind)
 }
 
 // The tags of the case to which a field with letter x and number v refers; 0 where it refers to none.
@@ -39,9 +39,10 @@ fn case_tags(sheet: &[u8], work: &[u8], n: usize, x: u8, v: usize) -> usize
     ensures { (result ≡ cond (eqb x 67) (field_number (read_at sheet.now (v - 1)) 0) 0) × (result ≤ 65537) }
 {
     if x == kind::PC {
-        return lines::number_at(sheet, work, n, v - 1, 0);
+        lines::number_at(sheet, work, n, v - 1, 0)
+    } else {
+        0
     }
-    0
 }
 
 // The tags of the cases of line i, from 0.
@@ -56,8 +57,7 @@ fn tags(sheet: &[u8], work: &[u8], n: usize, i: usize) -> usize
     while w.at <= l.len() {
         let s = form::next(l, f, w);
         count += case_tags(sheet, work, n, s.letter, s.number);
-        let u = s.next;
-        w = u;
+        w = s.next;
     }
     count
 }
@@ -67,13 +67,11 @@ fn records(sheet: &[u8], work: &[u8], n: usize, i: usize, k: u8) -> usize
     requires { (Whole sheet.now work.now n) × (bad_ref_from (reads_in sheet.now) 1 [] (reads_in sheet.now) ≡ 0) × (i < n) × (k ≡ letter (read_at sheet.now i).form.kind) }
     ensures { (result ≡ records_on (reads_in sheet.now) (read_at sheet.now i)) × (result ≤ 16777473) }
 {
-    if k == kind::ADT {
-        return 1;
+    match k {
+        kind::ADT => 1,
+        kind::PICK => 1 + tags(sheet, work, n, i),
+        _ => 0,
     }
-    if k == kind::PICK {
-        return 1 + tags(sheet, work, n, i);
-    }
-    0
 }
 
 // The `var` names that it declares.
@@ -82,9 +80,10 @@ fn names(sheet: &[u8], work: &[u8], n: usize, i: usize, k: u8) -> usize
     ensures { (result ≡ var_names (read_at sheet.now i)) × (result ≤ 65537) }
 {
     if k == kind::VAR {
-        return lines::number_at(sheet, work, n, i, 2);
+        lines::number_at(sheet, work, n, i, 2)
+    } else {
+        0
     }
-    0
 }
 
 // The counts with those of line i.
@@ -107,40 +106,24 @@ fn count(sheet: &[u8], work: &[u8], n: usize, i: usize, t: Tally) -> Tally
 fn is_over(t: Tally) -> bool
     ensures { result ≡ over_limits (counts_of t) }
 {
-    if MOST_OF_A_KIND < t.consts {
-        return true;
-    }
-    if MOST_OF_A_KIND < t.needs {
-        return true;
-    }
-    if MOST_OF_A_KIND < t.frames {
-        return true;
-    }
-    if MOST_OF_A_KIND < t.records {
-        return true;
-    }
-    MOST_NAMES < t.names
+    MOST_OF_A_KIND < t.consts
+        || MOST_OF_A_KIND < t.needs
+        || MOST_OF_A_KIND < t.frames
+        || MOST_OF_A_KIND < t.records
+        || MOST_NAMES < t.names
 }
 
-// The first line at which a count passes its bound, 0 where there is none.
-pub fn too_many(sheet: &[u8], work: &[u8], n: usize) -> usize
+// Refused at the first line at which a count passes its bound.
+pub fn too_many(sheet: &[u8], work: &[u8], n: usize) -> Result<(), Refusal>
     requires { (Whole sheet.now work.now n) × (bad_ref_from (reads_in sheet.now) 1 [] (reads_in sheet.now) ≡ 0) }
-    ensures { result ≡ too_many_from 1 no_counts (nodes_in sheet.now) }
+    ensures { result ≡ first_line TooMany (too_many_from 1 no_counts (nodes_in sheet.now)) }
 {
-    let mut t = Tally {
-        consts: 0,
-        needs: 0,
-        frames: 0,
-        records: 0,
-        names: 0,
-    };
-    let mut i = 0;
-    while i < n {
+    let mut t = Tally::default();
+    for i in 0..n {
         t = count(sheet, work, n, i, t);
         if is_over(t) {
-            return i + 1;
+            return Err(Refusal::TooMany(i + 1));
         }
-        i += 1;
     }
-    0
+    Ok(())
 }

@@ -148,11 +148,9 @@ fn names_rows(
 {
     let count = line::name_count(sheet, work, c.lines, r);
     let mut q = no_rows(out, p);
-    let mut j = 0;
-    while j < count {
+    for j in 0..count {
         let name = line::name_at(sheet, work, c.lines, r, j);
         q = name_rows(sheet, work, c, name, x, out, q);
-        j += 1;
     }
     q
 }
@@ -191,12 +189,10 @@ pub fn data_rows(sheet: &[u8], work: &mut [u8], c: Counts, out: &mut [u8], p: Ne
 {
     let mut q = no_rows(out, p);
     let mut k = None;
-    let mut i = 0;
-    while i < c.lines {
+    for i in 0..c.lines {
         let r = globals::laid_line(sheet, work, c.lines, i, k);
         q = line_rows(sheet, work, c, r, out, q);
         k = implement::open_after(sheet, work, c.lines, i, k);
-        i += 1;
     }
     q
 }

@@ -1,4 +1,5 @@
 -- Answers as numbers.
+use Rattle.std.specs.Prelude.{Ok, Err}
 use Prim.Native.Nat.{ℕ, ◌-◌}
 use mathlib.Core.Path.{◌≡◌, sym, ap, subst, ◌∙◌}
 use native.Mathlib.Omega.{arith}
@@ -11,11 +12,8 @@ use Rattle.text.specs.Parts.{StandsAt}
 use Rattle.answers.specs.declared.Refusal.{Refusal}
 use Rattle.answers.specs.declared.Refusal.TheVariants.{LongSheet, SmallSpace, NoForm, BadReference, DeepNesting, BadModule, TooMany, LongString, LongAlloc, NegativeAlloc, OutsideLiteral, LongLiteral, Outgrown}
 use Rattle.answers.specs.Answers.{refusal_number, refusal_line}
-use Rattle.compile.specs.declared.Answer.{Answer}
-use Rattle.compile.specs.declared.Answer.TheVariants as Answer
 use Rattle.compile.specs.Compile.{Compiles}
-use Rattle.image.specs.declared.ImageAnswer.{ImageAnswer}
-use Rattle.image.specs.declared.ImageAnswer.TheVariants as ImageAnswer
+use Rattle.image.specs.declared.Laid as Image
 use Rattle.image.specs.Image.{Pictures}
 use Rattle.export.specs.Export.{CompilesForC, ImagesForC, compiled_numbers, laid_numbers}
 
@@ -41,64 +39,50 @@ never-0 Outgrown e = omega arith
 
 -- ---- compiling
 
-module _ (s : Bytes) (L W : ℕ) (d u : Bytes) {x : Answer} where
-  told : {y : Answer} → x ≡ y → Compiles s L W x d u → Compiles s L W y d u
-  told e h = subst (λ (y : Answer). Compiles s L W y d u) e h
+module _ (s : Bytes) (L W : ℕ) (d u : Bytes) where
+  pub listed-as : {n : ℕ} → length d ≡ L → Compiles s L W (Ok n) d u → CompilesForC s L W (record { number = 0; line = 0; listing = n }) d u
+  listed-as {n} len h = record {
+    answer = ap (λ (m : ℕ). record { number = 0; line = 0; listing = m }) (sym (length-take-le n d (omega (arith, h.within)))) ∙ ap compiled_numbers h.answer;
+    outcome = h.answer;
+    within = h.within;
+    listing_is = h.listing_is;
+    work_is = h.work_is;
+  }
 
-  pub listed-as : {n : ℕ} → length d ≡ L → x ≡ Answer.Listed n → Compiles s L W x d u → CompilesForC s L W (record { number = 0; line = 0; listing = n }) d u
-  listed-as {n} len e g =
-      let h = told e g in
-      record {
-        answer = ap (λ (m : ℕ). record { number = 0; line = 0; listing = m }) (sym (length-take-le n d (omega (arith, h.within)))) ∙ ap compiled_numbers h.answer;
-        outcome = h.answer;
-        within = h.within;
-        listing_is = h.listing_is;
-        work_is = h.work_is;
-      }
-
-  pub refused_as : {r : Refusal} {q k : ℕ} → x ≡ Answer.Refused r → q ≡ refusal_number r → k ≡ refusal_line r → Compiles s L W x d u → CompilesForC s L W (record { number = q; line = k; listing = 0 }) d u
-  refused_as {r} e hq hk g =
-      let h = told e g in
-      rw (hq, hk) (record {
-        answer = ap compiled_numbers h.answer;
-        outcome = rw (ne_eqb (refusal_number r) 0 (never-0 r)) h.answer;
-        within = omega arith;
-        listing_is = h.listing_is;
-        work_is = h.work_is;
-      })
+  pub refused_as : (r : Refusal) {q k : ℕ} → q ≡ refusal_number r → k ≡ refusal_line r → Compiles s L W (Err r) d u → CompilesForC s L W (record { number = q; line = k; listing = 0 }) d u
+  refused_as r e f h = rw (e, f) (record {
+    answer = ap compiled_numbers h.answer;
+    outcome = rw (ne_eqb (refusal_number r) 0 (never-0 r)) h.answer;
+    within = omega arith;
+    listing_is = h.listing_is;
+    work_is = h.work_is;
+  })
 
 -- ---- the image
 
-module _ (s : Bytes) (b : Buffers) (listing image area work : Bytes) {x : ImageAnswer} where
-  seen : {y : ImageAnswer} → x ≡ y → Pictures s b x listing image area → Pictures s b y listing image area
-  seen e h = subst (λ (y : ImageAnswer). Pictures s b y listing image area) e h
+module _ (s : Bytes) (b : Buffers) (listing image area work : Bytes) where
+  pub laid_as : (x : Image.Laid) → length image ≡ b.image → length area ≡ b.area → Pictures s b (Ok x) listing image area → work ≡ zeros b.work
+      → ImagesForC s b (record { number = 0; line = 0; listing = x.listing; image = x.image; area = x.area }) listing image area work
+  laid_as x hi ha h z = record {
+    answer = rw (← h.answer, ← h.lengths.0, length-take-le x.image image (omega (arith, h.lengths.2)), length-take-le x.area area (omega (arith, h.lengths.3)));
+    outcome = h.answer;
+    within = (h.lengths.1, h.lengths.2, h.lengths.3);
+    listing_is = h.listing_is;
+    image_is = h.image_is;
+    area_is = h.area_is;
+    work_is = z;
+    demand = λ _. h.demand;
+  }
 
-  pub laid_as : {l i a : ℕ} → length image ≡ b.image → length area ≡ b.area → x ≡ ImageAnswer.Laid l i a → Pictures s b x listing image area → work ≡ zeros b.work
-      → ImagesForC s b (record { number = 0; line = 0; listing = l; image = i; area = a }) listing image area work
-  laid_as {l} {i} {a} hi ha e g z =
-      let h = seen e g in
-      record {
-        answer = rw (← h.answer, ← h.lengths.0, length-take-le i image (omega (arith, h.lengths.2)), length-take-le a area (omega (arith, h.lengths.3)));
-        outcome = h.answer;
-        within = (h.lengths.1, h.lengths.2, h.lengths.3);
-        listing_is = h.listing_is;
-        image_is = h.image_is;
-        area_is = h.area_is;
-        work_is = z;
-        demand = λ _. h.demand;
-      }
-
-  pub not-laid-as : {r : Refusal} {q k : ℕ} → x ≡ ImageAnswer.Refused r → q ≡ refusal_number r → k ≡ refusal_line r → Pictures s b x listing image area → work ≡ zeros b.work
+  pub not-laid-as : (r : Refusal) {q k : ℕ} → q ≡ refusal_number r → k ≡ refusal_line r → Pictures s b (Err r) listing image area → work ≡ zeros b.work
       → ImagesForC s b (record { number = q; line = k; listing = 0; image = 0; area = 0 }) listing image area work
-  not-laid-as {r} e hq hk g z =
-      let h = seen e g in
-      rw (hq, hk) (record {
-        answer = ap (laid_numbers (compiled b.listing b.work s)) h.answer;
-        outcome = rw (ne_eqb (refusal_number r) 0 (never-0 r)) h.answer;
-        within = (omega arith, omega arith, omega arith);
-        listing_is = h.listing_is;
-        image_is = h.image_is;
-        area_is = h.area_is;
-        work_is = z;
-        demand = λ e. absurd (never-0 r e);
-      })
+  not-laid-as r e f h z = rw (e, f) (record {
+    answer = ap (laid_numbers (compiled b.listing b.work s)) h.answer;
+    outcome = rw (ne_eqb (refusal_number r) 0 (never-0 r)) h.answer;
+    within = (omega arith, omega arith, omega arith);
+    listing_is = h.listing_is;
+    image_is = h.image_is;
+    area_is = h.area_is;
+    work_is = z;
+    demand = λ e. absurd (never-0 r e);
+  })

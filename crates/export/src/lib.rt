@@ -6,9 +6,6 @@ ghost use Rattle.semantics.specs.Text.{field_of, field_start};
 ghost use Rattle.image.specs.Image.{lent_of};
 ghost use Rattle.export.specs.Export.{CompilesForC, ImagesForC};
 
-use compile::Answer;
-use image::ImageAnswer;
-
 // A part of a sheet.
 #[repr(C)]
 #[derive(Clone, Copy)]
@@ -55,12 +52,12 @@ pub extern "C" fn limbo_sheet_compile(sheet: &[u8], listing: &mut [u8], work: &m
     ensures { CompilesForC sheet.now (length listing.old) (length work.old) result listing.new work.new }
 {
     match compile::compile(sheet, listing, work) {
-        Answer::Listed(n) => Compiled {
+        Ok(n) => Compiled {
             number: 0,
             line: 0,
             listing: n,
         },
-        Answer::Refused(r) => Compiled {
+        Err(r) => Compiled {
             number: r.number(),
             line: r.line(),
             listing: 0,
@@ -80,14 +77,14 @@ pub extern "C" fn limbo_sheet_image(
     ensures { ImagesForC sheet.now (lent_of listing.old image.old area.old work.old) result listing.new image.new area.new work.new }
 {
     match image::image(sheet, listing, image, area, work) {
-        ImageAnswer::Laid(l, i, a) => Laid {
+        Ok(laid) => Laid {
             number: 0,
             line: 0,
-            listing: l,
-            image: i,
-            area: a,
+            listing: laid.listing,
+            image: laid.image,
+            area: laid.area,
         },
-        ImageAnswer::Refused(r) => Laid {
+        Err(r) => Laid {
             number: r.number(),
             line: r.line(),
             listing: 0,

@@ -2,6 +2,7 @@
 use Prim.Native.Nat.{ℕ, ◌-◌, ◌≤◌}
 use native.Mathlib.Nat.{sub-zero}
 use native.Mathlib.Omega.{arith}
+use Rattle.std.specs.Prelude.{Result, Ok, Err}
 use mathlib.Core.Path.{◌≡◌, refl, sym, ap, ◌∙◌, subst}
 use mathlib.Core.Bool.{Bool, true, false, cond}
 use mathlib.Core.List.{[]}
@@ -22,12 +23,10 @@ use Rattle.replay.specs.Whole.{Replays}
 use Rattle.replay.proofs.Meets.{lengths_of, Meets}
 use Rattle.sound.proofs.Replay.{sheet-replayed}
 use Rattle.answers.specs.declared.Refusal.{Refusal}
+use Rattle.answers.specs.declared.Refusal.TheVariants.{Outgrown}
 use Rattle.answers.specs.Answers.{refusal_number, refusal_line}
-use Rattle.compile.specs.declared.Listed.{Listed}
-use Rattle.compile.specs.declared.Listed.TheVariants as Listed
-use Rattle.compile.specs.Compile.{ListingStands, Refuses, Lists}
-use Rattle.image.specs.declared.ImageAnswer.{ImageAnswer}
-use Rattle.image.specs.declared.ImageAnswer.TheVariants.{Laid, Refused}
+use Rattle.compile.specs.Compile.{ListingStands, Refuses}
+use Rattle.image.specs.declared.Laid.{Laid}
 use Rattle.image.specs.Image.{Pictures}
 
 -- ---- bytes and zeros behind them
@@ -41,14 +40,6 @@ fits n xs h e = let l = ap length h ∙ length-append xs (zeros (n - length xs))
 blank : (n : ℕ) {d : Bytes} → d ≡ zeros n → d ≡ padded n []
 blank n h = h ∙ ap zeros (sym (sub-zero n))
 
--- ---- what compiling has answered
-
-pub has_listed : (s : Bytes) (L W : ℕ) {l end : ℕ} {listing u : Bytes} {r : Listed} → r ≡ Listed.Written l end → Lists s L W r listing u → ListingStands s (compiled L W s) L W l end listing u
-has_listed s L W {l} {end} {listing} {u} e h = (subst (λ (r : Listed). Lists s L W r listing u) e h).settles
-
-pub has-refused : (s : Bytes) (L W : ℕ) (u : Bytes) {q k : ℕ} {listing : Bytes} {r : Listed} → r ≡ Listed.Refused q k → Lists s L W r listing u → Refuses (compiled L W s) L W q k listing u
-has-refused s L W u {q} {k} {listing} e h = (subst (λ (r : Listed). Lists s L W r listing u) e h).settles
-
 -- ---- the answers
 
 module _ (s : Bytes) (b : Buffers) where
@@ -56,7 +47,7 @@ module _ (s : Bytes) (b : Buffers) where
       → l ≡ length out → l ≤ b.listing → listing ≡ padded b.listing out
       → i ≡ length x → image ≡ padded b.image x → length image ≡ b.image
       → a ≡ length y → area ≡ padded b.area y → length area ≡ b.area
-      → Pictures s b (Laid l i a) listing image area
+      → Pictures s b (Ok (record { listing = l; image = i; area = a })) listing image area
   laid-pictures {l} {i} {a} {listing} {image} {area} out x y c q l-long l-fits listing-is i-long image-is image-fits a-long area-is area-fits =
       let e : laid (take i image) (take a area) ≡ imaged b s = (λ j. laid (front b.image x image-is i-long j) (front b.area y area-is a-long j)) ∙ sym q in
       record {
@@ -70,7 +61,7 @@ module _ (s : Bytes) (b : Buffers) where
 
   refused-pictures : {listing image area : Bytes} (r : Refusal) → imaged b s ≡ not_laid (refusal_number r) (refusal_line r)
       → listing ≡ padded b.listing [] → image ≡ padded b.image [] → area ≡ padded b.area []
-      → Pictures s b (Refused r) listing image area
+      → Pictures s b (Err r) listing image area
   refused-pictures r q listing-is image-is area-is = record {
     answer = sym q;
     lengths = tt;
@@ -86,11 +77,9 @@ module _ (s : Bytes) (b : Buffers) where
   unfolding imaged
   not_listed c = ap (after_listing b (source_globals (sheet_source s))) c
 
-  pub list-refused : {q k : ℕ} {listing image area work : Bytes} (r : Refusal) → Refuses (compiled b.listing b.work s) b.listing b.work q k listing work
-      → refusal_number r ≡ q → refusal_line r ≡ k → image ≡ zeros b.image → area ≡ zeros b.area
-      → Pictures s b (Refused r) listing image area
-  list-refused r h number line image-is area-is =
-      refused-pictures r (not_listed h.stops.outcome ∙ (λ j. not_laid (sym number j) (sym line j))) (blank b.listing h.bytes) (blank b.image image-is) (blank b.area area-is)
+  pub list-refused : {listing image area work : Bytes} (r : Refusal) → Refuses (compiled b.listing b.work s) b.listing b.work r listing work → image ≡ zeros b.image → area ≡ zeros b.area
+      → Pictures s b (Err r) listing image area
+  list-refused r h image-is area-is = refused-pictures r (not_listed h.outcome) (blank b.listing h.bytes) (blank b.image image-is) (blank b.area area-is)
 
   -- ---- replay
 
@@ -106,9 +95,9 @@ module _ (s : Bytes) (b : Buffers) where
 
   -- the items of the sheet's listing are replayed, so that the definition's image and area stand there
   met : {l end : ℕ} {listing u t t' image image' area area' : Bytes} {r : Option (ℕ × ℕ)} → Listing l end listing u → length image ≡ b.image → length area ≡ b.area
-      → Replays (take (l - 0) listing) end t t' image image' area area' r → Meets (imaged b s) b.image b.area r image' area'
+      → Replays (take l listing) end t t' image image' area area' r → Meets (imaged b s) b.image b.area r image' area'
   met {l} {end} {listing} {u} {t} {t'} {image} {image'} {area} {area'} {r} h image-long area-long e =
-      let out = front b.listing (source_listing (sheet_source s)) h.bytes (sub-zero l ∙ h.long) in
+      let out = front b.listing (source_listing (sheet_source s)) h.bytes h.long in
       let at : Replays (source_listing (sheet_source s)) items.end t t' image image' area area' r = subst (λ (n : ℕ). Replays (source_listing (sheet_source s)) n t t' image image' area area' r) h.ends (subst (λ (x : Bytes). Replays x end t t' image image' area area' r) out e) in
       subst (λ (q : Imaged). Meets q b.image b.area r image' area') (sym (replays h.outcome)) (sheet-replayed s u h.lines h.checked b image-long area-long at)
 
@@ -123,7 +112,7 @@ module _ (s : Bytes) (b : Buffers) where
 
   by-image : {l i a end : ℕ} {listing u image area : Bytes} {r : Option (ℕ × ℕ)} (q : Imaged) → imaged b s ≡ q → Listing l end listing u
       → length image ≡ b.image → length area ≡ b.area → r ≡ Some (i, a) → Meets q b.image b.area r image area
-      → Pictures s b (Laid l i a) listing image area
+      → Pictures s b (Ok (record { listing = l; image = i; area = a })) listing image area
   by-image {l} {i} {a} (laid x y) q h image-long area-long e m =
       let f : Some (i, a) ≡ Some (length x, length y) = sym e ∙ m.answer in
       laid-pictures (source_listing (sheet_source s)) x y h.outcome q h.long h.room h.bytes (cc) m.image_is image-long (cc) m.area_is area-long
@@ -132,20 +121,13 @@ module _ (s : Bytes) (b : Buffers) where
       never cc
 
   module _ {l end : ℕ} {listing u t t' image image' area area' : Bytes} {r : Option (ℕ × ℕ)} (h : Listing l end listing u)
-      (image-long : length image ≡ b.image) (area-long : length area ≡ b.area) (e : Replays (take (l - 0) listing) end t t' image image' area area' r) where
-    pub replay-laid : {i a : ℕ} → length image' ≡ length image → length area' ≡ length area → r ≡ Some (i, a) → Pictures s b (Laid l i a) listing image' area'
+      (image-long : length image ≡ b.image) (area-long : length area ≡ b.area) (e : Replays (take l listing) end t t' image image' area area' r) where
+    pub replay-laid : {i a : ℕ} → length image' ≡ length image → length area' ≡ length area → r ≡ Some (i, a) → Pictures s b (Ok (record { listing = l; image = i; area = a })) listing image' area'
     replay-laid image-kept area-kept given = by-image (imaged b s) refl h (image-kept ∙ image-long) (area-kept ∙ area-long) given (met h image-long area-long e)
 
-    pub replay-outgrown : {listing' : Bytes} (x : Refusal) → r ≡ None → length listing ≡ b.listing → listing' ≡ zeros (length listing)
-        → refusal_number x ≡ 13 → refusal_line x ≡ 0 → Pictures s b (Refused x) listing' image' area'
-    replay-outgrown x given listing-long listing-is number line =
+    pub replay-outgrown : {listing' : Bytes} → r ≡ None → length listing ≡ b.listing → listing' ≡ zeros (length listing) → Pictures s b (Err Outgrown) listing' image' area'
+    replay-outgrown given listing-long listing-is =
         let m = met h image-long area-long e in
         let is = replays h.outcome in
         let q = is ∙ never-fits (sym given ∙ m.answer ∙ ap lengths_of is) in
-        refused-pictures x (q ∙ (λ j. not_laid (sym number j) (sym line j))) (blank b.listing (listing-is ∙ ap zeros listing-long))
-        (m.image_is ∙ (λ j. padded b.image (image_bytes (q j)))) (m.area_is ∙ (λ j. padded b.area (area_bytes (q j))))
-
--- ---- for callers: the parts of the buffers that the answer counts
-
-pub laid-within : {s : Bytes} {b : Buffers} {r : ImageAnswer} {listing image area : Bytes} {l i a : ℕ} → r ≡ Laid l i a → Pictures s b r listing image area → (l ≤ b.listing) × (i ≤ b.image) × (a ≤ b.area)
-laid-within {s} {b} {r} {listing} {image} {area} e h = let x = (subst (λ (r : ImageAnswer). Pictures s b r listing image area) e h).lengths in (x.1, x.2, x.3)
+        refused-pictures Outgrown q (blank b.listing (listing-is ∙ ap zeros listing-long)) (m.image_is ∙ (λ j. padded b.image (image_bytes (q j)))) (m.area_is ∙ (λ j. padded b.area (area_bytes (q j))))

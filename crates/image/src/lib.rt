@@ -6,13 +6,13 @@ ghost use Rattle.semantics.specs.Refusal.{zeros};
 ghost use Rattle.image.specs.Image.{lent_of, Pictures};
 
 use answers::Refusal;
-use compile::Listed;
 
-// The lengths of listing, image and area, or a refusal.
+// The lengths of listing, image and area.
 #[derive(Clone, Copy)]
-pub enum ImageAnswer {
-    Laid(usize, usize, usize),
-    Refused(Refusal),
+pub struct Laid {
+    pub listing: usize,
+    pub image: usize,
+    pub area: usize,
 }
 
 // Whatever the sheet and the buffers: the lengths, with the bytes and zeros behind them, or a refusal, with zeros alone.
@@ -22,23 +22,27 @@ pub fn image(
     image: &mut [u8],
     area: &mut [u8],
     work: &mut [u8],
-) -> ImageAnswer
+) -> Result<Laid, Refusal>
     ensures { (Pictures sheet.now (lent_of listing.old image.old area.old work.old) result listing.new image.new area.new) × (work.new ≡ zeros (length work.old)) }
 {
     match compile::list(sheet, listing, work) {
-        Listed::Refused(number, line) => {
+        Err(r) => {
             write::zero(image);
             write::zero(area);
-            ImageAnswer::Refused(answers::refuse(number, line))
+            Err(r)
         }
-        Listed::Written(l, end) => {
-            let laid = replay::replay(&listing[0..l], work, image, area, end as usize);
+        Ok(l) => {
+            let laid = replay::replay(&listing[..l.length], work, image, area, l.end as usize);
             write::zero(work);
             match laid {
-                Some((i, a)) => ImageAnswer::Laid(l, i, a),
+                Some((i, a)) => Ok(Laid {
+                    listing: l.length,
+                    image: i,
+                    area: a,
+                }),
                 None => {
                     write::zero(listing);
-                    ImageAnswer::Refused(answers::refuse(13, 0))
+                    Err(Refusal::Outgrown)
                 }
             }
         }

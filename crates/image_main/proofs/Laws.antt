@@ -1,4 +1,5 @@
 -- What is printed, as it stands in a buffer.
+use Rattle.std.specs.Prelude.{Ok, Err}
 use Prim.Native.Nat.{ℕ, ◌+◌, ◌-◌, ◌*◌, ◌≤◌}
 use native.Mathlib.Nat.{sub-zero}
 use native.Mathlib.Omega.{arith}
@@ -13,8 +14,7 @@ use Rattle.write.proofs.Wrote.{wrote_as, then}
 use Rattle.answers.specs.declared.Refusal.{Refusal}
 use Rattle.answers.specs.Answers.{refusal_number, refusal_line}
 use Rattle.answers.proofs.Rows.{at-start}
-use Rattle.image.specs.declared.ImageAnswer.{ImageAnswer}
-use Rattle.image.specs.declared.ImageAnswer.TheVariants.{Laid, Refused}
+use Rattle.image.specs.declared.Laid.{Laid}
 use Rattle.image.specs.Image.{Pictures}
 
 -- ---- a row
@@ -38,20 +38,17 @@ row-length name bs = omega (arith, length-append name (44 ∷ (hex_of bs ++ (10 
 abbrev ImagePrinted : Buffers → Bytes → ℕ → Bytes → Type 0
 ImagePrinted b s r e = (r ≤ length e) × (take r e ≡ printed_image (imaged b s))
 
-module _ (s : Bytes) (b : Buffers) (listing image area : Bytes) {q : ImageAnswer} (h : Pictures s b q listing image area) (d : Bytes) (room : 64 + 2 * (b.image + b.area) ≤ length d) where
-  pub refusal-printed : {x : Refusal} → q ≡ Refused x → {e : Bytes} {r : ℕ}
+module _ (s : Bytes) (b : Buffers) (listing image area : Bytes) (d : Bytes) (room : 64 + 2 * (b.image + b.area) ≤ length d) where
+  pub refusal-printed : (x : Refusal) → Pictures s b (Err x) listing image area → {e : Bytes} {r : ℕ}
       → Wrote d 0 (printed (refused (refusal_number x) (refusal_line x))) e r × (length (printed (refused (refusal_number x) (refusal_line x))) ≤ 64) → ImagePrinted b s r e
-  refusal-printed given w =
-      let y = subst (λ (z : ImageAnswer). Pictures s b z listing image area) given h in
+  refusal-printed x h w =
       let p = at-start w.0 (omega (arith, w.1)) in
-      (p.0.0, p.1 ∙ ap printed_image y.answer)
+      (p.0.0, p.1 ∙ ap printed_image h.answer)
 
-  pub image-printed : {l i a : ℕ} → q ≡ Laid l i a → {e f : Bytes} {m r : ℕ}
-      → Wrote d 0 (row (bytes "image" ∷ hex_of (take (i - 0) image) ∷ [])) e m → Wrote e m (row (bytes "area" ∷ hex_of (take (a - 0) area) ∷ [])) f r → ImagePrinted b s r f
-  image-printed {l} {i} {a} given v w =
-      let y = subst (λ (z : ImageAnswer). Pictures s b z listing image area) given h in
-      let x = row (bytes "image" ∷ hex_of (take i image) ∷ []) in
-      let z = row (bytes "area" ∷ hex_of (take a area) ∷ []) in
-      let u = then (wrote_as (ap (λ (n : ℕ). row (bytes "image" ∷ hex_of (take n image) ∷ [])) (sub-zero i)) v) (wrote_as (ap (λ (n : ℕ). row (bytes "area" ∷ hex_of (take n area) ∷ [])) (sub-zero a)) w) in
-      let p = at-start u (omega (arith, room, length-append x z, row-length (bytes "image") (take i image), row-length (bytes "area") (take a area), length-take i image, length-take a area, y.lengths.2, y.lengths.3)) in
-      (p.0.0, p.1 ∙ ap printed_image y.answer)
+  pub image-printed : (y : Laid) → Pictures s b (Ok y) listing image area → {e f : Bytes} {m r : ℕ}
+      → Wrote d 0 (row (bytes "image" ∷ hex_of (take y.image image) ∷ [])) e m → Wrote e m (row (bytes "area" ∷ hex_of (take y.area area) ∷ [])) f r → ImagePrinted b s r f
+  image-printed y h v w =
+      let x = row (bytes "image" ∷ hex_of (take y.image image) ∷ []) in
+      let z = row (bytes "area" ∷ hex_of (take y.area area) ∷ []) in
+      let p = at-start (then v w) (omega (arith, room, length-append x z, row-length (bytes "image") (take y.image image), row-length (bytes "area") (take y.area area), length-take y.image image, length-take y.area area, h.lengths.2, h.lengths.3)) in
+      (p.0.0, p.1 ∙ ap printed_image h.answer)

@@ -9,7 +9,6 @@ ghost use Rattle.semantics.specs.Refusal.{imaged, printed_image};
 ghost use Rattle.write.specs.Wrote.{Wrote};
 ghost use Rattle.image.specs.Image.{lent_of};
 
-use image::ImageAnswer;
 use std::io;
 use std::io::{Read, Write};
 
@@ -41,11 +40,11 @@ fn put_answer(
     ensures { (result ≤ length out.new) × (take result out.new ≡ printed_image (imaged (lent_of listing.old image.old area.old work.old) sheet.now)) }
 {
     match image::image(sheet, listing, image, area, work) {
-        ImageAnswer::Refused(r) => answers::put_refusal(out, 0, r),
-        ImageAnswer::Laid(_, i, a) => {
-            let p = put_row(out, 0, b"image", &image[0..i]);
-            put_row(out, p, b"area", &area[0..a])
+        Ok(laid) => {
+            let p = put_row(out, 0, b"image", &image[..laid.image]);
+            put_row(out, p, b"area", &area[..laid.area])
         }
+        Err(r) => answers::put_refusal(out, 0, r),
     }
 }
 

@@ -1,12 +1,13 @@
 -- The lines of a sheet, and the tables of them in the working space. Lines are counted from 0 here.
-use Rattle.std.specs.Prelude.{ℕ, ◌+◌, ◌*◌, ◌/◌, ◌%◌, ◌≤◌, ◌<◌, ◌≡◌, true, List, [], length, drop, get_or, set}
+use Rattle.std.specs.Prelude.{ℕ, Result, Ok, Err, ◌+◌, ◌*◌, ◌/◌, ◌%◌, ◌≤◌, ◌<◌, ◌≡◌, true, List, [], length, drop, get_or, set}
 use Rattle.semantics.specs.Text.{Bytes, line_parts}
 use Rattle.semantics.specs.Form.{Read, forms, row_of, formed}
 use Rattle.semantics.specs.Tree.{Node}
 use Rattle.semantics.specs.Sheet.{reads_of, nodes_from}
 use Rattle.semantics.specs.Refusal.{bad_form, no_read}
-use Rattle.lines.specs.declared.Formed.{Formed}
-use Rattle.lines.specs.declared.Formed.TheVariants.{Lines, NoForm}
+use Rattle.answers.specs.declared.Refusal.{Refusal}
+use Rattle.answers.specs.declared.Refusal.TheVariants.{NoForm}
+use Rattle.answers.specs.Answers.{first_line}
 
 -- the bytes of line i
 abbrev pub text_at : Bytes → ℕ → Bytes
@@ -48,9 +49,9 @@ pub record Whole (s t : Bytes) (n : ℕ) : Type 0 where
   pub room : 65536 ≤ length t
 
 -- what the pass over the forms answers
-abbrev pub Passed : Bytes → Bytes → Formed → Type 0
-Passed s t (Lines n) = Whole s t n × (bad_form 1 (line_parts s) ≡ 0)
-Passed s t (NoForm k) = (bad_form 1 (line_parts s) ≡ k) × (0 < k)
+abbrev pub Passed : Bytes → Bytes → Result ℕ Refusal → Type 0
+Passed s t (Ok n) = Whole s t n × (bad_form 1 (line_parts s) ≡ 0)
+Passed s t (Err r) = Err r ≡ first_line (λ k. NoForm k) (bad_form 1 (line_parts s))
 
 -- what stands above the tables of lines is kept
 abbrev pub Above : Bytes → Bytes → Type 0

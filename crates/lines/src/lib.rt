@@ -6,17 +6,11 @@ ghost use Rattle.semantics.specs.Text.{same};
 ghost use Rattle.decimal.specs.Number.{number_up_to};
 ghost use Rattle.lines.specs.Lines.{text_at, read_at, start, form_at, line_entered, Whole, Passed, Above};
 
+use answers::Refusal;
 use codes::area;
 use words::wide;
 
 const MOST_LINES: usize = 1024;
-
-// How many lines there are, all with a form; or the first line that is refused by 3.
-#[derive(Clone, Copy)]
-pub enum Formed {
-    Lines(usize),
-    NoForm(usize),
-}
 
 // Line i starts at `at` and has form f.
 fn enter(work: &mut [u8], i: usize, at: usize, f: usize)
@@ -84,8 +78,8 @@ pub fn number_at(sheet: &[u8], work: &[u8], n: usize, i: usize, j: usize) -> usi
     form::number(field_at(sheet, work, n, i, j))
 }
 
-// Refusal 3: the forms of all lines, into the tables.
-pub fn index(sheet: &[u8], work: &mut [u8]) -> Formed
+// The forms of all lines into the tables, and how many lines there are; refused at the first that has no form.
+pub fn index(sheet: &[u8], work: &mut [u8]) -> Result<usize, Refusal>
     requires { (length sheet.now ≤ 65535) × (65536 ≤ length work.old) }
     ensures { (Passed sheet.now work.new result) × (Above work.old work.new) }
 {
@@ -95,15 +89,15 @@ pub fn index(sheet: &[u8], work: &mut [u8]) -> Formed
         let e = text::find(sheet, at, b'\n');
         if e == sheet.len() {
             if at == e {
-                return Formed::Lines(n);
+                return Ok(n);
             }
-            return Formed::NoForm(n + 1);
+            return Err(Refusal::NoForm(n + 1));
         }
         if n == MOST_LINES {
-            return Formed::NoForm(n + 1);
+            return Err(Refusal::NoForm(n + 1));
         }
         let Some(f) = form::form_of(&sheet[at..e], n + 1) else {
-            return Formed::NoForm(n + 1);
+            return Err(Refusal::NoForm(n + 1));
         };
         enter(work, n, at, f);
         n += 1;

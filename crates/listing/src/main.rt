@@ -5,7 +5,6 @@
 ghost use Rattle.std.specs.Prelude.{◌≡◌, ◌≤◌, length, take};
 ghost use Rattle.semantics.specs.Refusal.{compiled, printed};
 
-use compile::Answer;
 use std::io;
 use std::io::{Read, Write};
 
@@ -18,8 +17,8 @@ fn put_answer(sheet: &[u8], out: &mut [u8], work: &mut [u8]) -> usize
     ensures { (result ≤ length out.new) × (take result out.new ≡ printed (compiled (length out.old) (length work.old) sheet.now)) }
 {
     match compile::compile(sheet, out, work) {
-        Answer::Listed(n) => n,
-        Answer::Refused(r) => answers::put_refusal(out, 0, r),
+        Ok(n) => n,
+        Err(r) => answers::put_refusal(out, 0, r),
     }
 }
 

@@ -1,44 +1,19 @@
 -- Laws of modules.
 use mathlib.Core.Path.{◌≡◌, refl, sym, ap, ◌∙◌}
-use mathlib.Core.Bool.{Bool, true, false, cond, not, or-false}
+use mathlib.Core.Bool.{Bool, true, false, cond}
 use mathlib.Core.List.{List, [], ◌∷◌}
-use Prim.Native.Nat.{ℕ, suc, ◌+◌, ◌-◌, ◌<◌}
+use Prim.Native.Nat.{ℕ, zero, suc, ◌+◌, ◌-◌, ◌<◌}
 use native.Mathlib.Omega.{arith}
 use native.Mathlib.Numerals.{add-one}
 use lib.ListN.{drop, drop_of_length-le}
 use lib.Seq.{drop-cons}
-use borrow.Author.Tests.{eq-eqb, ne_eqb}
 use Rattle.semantics.specs.Form as Form
 use Rattle.semantics.specs.Refusal.{no_read, bad_module_from}
+use Rattle.semantics.proofs.Common.{never}
 use Rattle.form.specs.Table.{kind_at}
 use Rattle.lines.specs.Lines.{reads_in, read_at, form_at, Whole}
 use Rattle.lines.proofs.Line.{line-count, kind-is}
 use Rattle.modules.specs.Modules.{wrong, opens}
-
-module _ (k : ℕ) (b : Bool) where
-  pub wrong-mod : k ≡ 77 → b ≡ wrong k b
-  unfolding wrong
-  wrong-mod e = simp (eq-eqb k 77 e, ne_eqb k 79 (λ q. omega arith)) (sym (or-false b))
-
-  pub wrong-end : (k ≡ 77 → ⊥) → k ≡ 79 → not b ≡ wrong k b
-  unfolding wrong
-  wrong-end n e = simp (ne_eqb k 77 n, eq-eqb k 79 e)
-
-  pub wrong-other : (k ≡ 77 → ⊥) → (k ≡ 79 → ⊥) → false ≡ wrong k b
-  unfolding wrong
-  wrong-other n m = simp (ne_eqb k 77 n, ne_eqb k 79 m)
-
-  pub opens-mod : k ≡ 77 → true ≡ opens k b
-  unfolding opens
-  opens-mod e = simp (eq-eqb k 77 e)
-
-  pub opens-end : (k ≡ 77 → ⊥) → k ≡ 79 → false ≡ opens k b
-  unfolding opens
-  opens-end n e = simp (ne_eqb k 77 n, eq-eqb k 79 e)
-
-  pub opens-other : (k ≡ 77 → ⊥) → (k ≡ 79 → ⊥) → b ≡ opens k b
-  unfolding opens
-  opens-other n m = simp (ne_eqb k 77 n, ne_eqb k 79 m)
 
 module-cons : (k : ℕ) (b : Bool) (l : Form.Read) (ls : List Form.Read)
     → bad_module_from k b (l ∷ ls) ≡ cond (wrong (Form.letter l.form.kind) b) k (bad_module_from (suc k) (opens (Form.letter l.form.kind) b) ls)
@@ -49,11 +24,26 @@ module-nil : (k : ℕ) (b : Bool) → bad_module_from k b [] ≡ cond b (k - 1) 
 unfolding bad_module_from
 module-nil k b = refl
 
-module _ (s t : List ℕ) (n i : ℕ) (w : Whole s t n) (b : Bool) (same : bad_module_from 1 false (reads_in s) ≡ bad_module_from (i + 1) b (drop i (reads_in s))) where
+-- the first i lines are good, and a module is open behind them, or not
+pub record Walked (s : List ℕ) (i : ℕ) (b : Bool) : Type 0 where
+  pub same : bad_module_from 1 false (reads_in s) ≡ bad_module_from (i + 1) b (drop i (reads_in s))
+  pub late : i ≡ 0 → b ≡ false
+
+pub walked_none : (s : List ℕ) → Walked s 0 false
+walked_none s = record { same = refl; late = λ _. refl }
+
+pub open-late : {s : List ℕ} {i : ℕ} {b : Bool} → Walked s i b → b ≡ true → 0 < i
+open-late {s} {i} {b} g e = go i g.late
+  where
+    go : (j : ℕ) → (j ≡ 0 → b ≡ false) → 0 < j
+    go zero h = never (sym (h refl) ∙ e)
+    go (suc j) h = omega arith
+
+module _ (s t : List ℕ) (n i : ℕ) (w : Whole s t n) (b : Bool) (g : Walked s i b) where
   module _ (h : i < n) (k : ℕ) (hk : k ≡ kind_at (form_at t i)) where
     opened : bad_module_from 1 false (reads_in s) ≡ cond (wrong k b) (i + 1) (bad_module_from (i + 1 + 1) (opens k b) (drop (i + 1) (reads_in s)))
     opened =
-        same
+        g.same
         ∙ ap (bad_module_from (i + 1) b) (drop-cons (reads_in s) i no_read (omega (arith, line-count s t n w)))
         ∙ module-cons (i + 1) b (read_at s i) (drop (suc i) (reads_in s))
         ∙ rw (kind-is s t n w i h, ← hk, ← add-one (i + 1), ← add-one i)
@@ -61,11 +51,11 @@ module _ (s t : List ℕ) (n i : ℕ) (w : Whole s t n) (b : Bool) (same : bad_m
     pub module-bad : {r : Bool} → r ≡ wrong k b → r ≡ true → i + 1 ≡ bad_module_from 1 false (reads_in s)
     module-bad p e = sym (opened ∙ rw (sym p ∙ e))
 
-    pub module-next : {r c : Bool} → r ≡ wrong k b → r ≡ false → c ≡ opens k b → bad_module_from 1 false (reads_in s) ≡ bad_module_from (i + 1 + 1) c (drop (i + 1) (reads_in s))
-    module-next p e q = opened ∙ rw (sym p ∙ e, ← q)
+    pub module-next : {r c : Bool} → r ≡ wrong k b → r ≡ false → c ≡ opens k b → Walked s (i + 1) c
+    module-next p e q = record { same = opened ∙ rw (sym p ∙ e, ← q); late = λ z. absurd (omega (arith, z)) }
 
   at-end : i ≡ n → bad_module_from 1 false (reads_in s) ≡ cond b (i + 1 - 1) 0
-  at-end h = same ∙ rw (drop_of_length-le (reads_in s) {i = i} (omega (arith, line-count s t n w))) (module-nil (i + 1) b)
+  at-end h = g.same ∙ rw (drop_of_length-le (reads_in s) {i = i} (omega (arith, line-count s t n w))) (module-nil (i + 1) b)
 
   pub module-open : i ≡ n → b ≡ true → n ≡ bad_module_from 1 false (reads_in s)
   module-open h e = sym (at-end h ∙ rw e (omega arith))

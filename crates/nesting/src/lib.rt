@@ -4,28 +4,25 @@
 ghost use Rattle.std.specs.Prelude.{◌≡◌, List, [], ℕ, ◌≤◌, ◌<◌, length};
 ghost use Rattle.semantics.specs.Refusal.{refs_of, deepest, too_deep_from};
 ghost use Rattle.lines.specs.Lines.{reads_in, read_at, Whole};
+ghost use Rattle.answers.specs.Answers.{first_line};
+ghost use Rattle.answers.specs.declared.Refusal.TheVariants.{DeepNesting};
 ghost use Rattle.nesting.specs.Nesting.{ref_depth, Depths};
 
+use answers::Refusal;
 use codes::area;
-use words::{larger, wide};
 
 const DEEPEST: usize = 32;
 
+#[tactic(auto, unfolding(crate::specs::Nesting::ref_depth, crate::specs::Nesting::depth_at))]
 // How deep the line is that a field of line i refers to; 0 where it refers to none.
 fn ref_depth(work: &[u8], i: usize, x: u8, v: usize) -> usize
     requires { (i < 1024) × (65536 ≤ length work.now) }
     ensures { (result ≡ ref_depth work.now i x v) × (result < 256) }
 {
-    if !refs::is_ref(x) {
+    if !refs::is_ref(x) || v == 0 || i < v {
         return 0;
     }
-    if v == 0 {
-        return 0;
-    }
-    if i < v {
-        return 0;
-    }
-    wide(work[area::DEPTHS + (v - 1)])
+    usize::from(work[area::DEPTHS + (v - 1)])
 }
 
 // How deep the deepest line is to which line i, from 0, refers.
@@ -39,26 +36,23 @@ fn depth_below(sheet: &[u8], work: &[u8], n: usize, i: usize) -> usize
     let mut depth = 0;
     while w.at <= l.len() {
         let s = form::next(l, f, w);
-        depth = larger(depth, ref_depth(work, i, s.letter, s.number));
-        let u = s.next;
-        w = u;
+        depth = depth.max(ref_depth(work, i, s.letter, s.number));
+        w = s.next;
     }
     depth
 }
 
-// The first line that nests too deep, 0 where there is none.
-pub fn too_deep(sheet: &[u8], work: &mut [u8], n: usize) -> usize
+// Refused at the first line that nests too deep.
+pub fn too_deep(sheet: &[u8], work: &mut [u8], n: usize) -> Result<(), Refusal>
     requires { Whole sheet.now work.old n }
-    ensures { (Whole sheet.now work.new n) × (result ≡ too_deep_from 1 [] (reads_in sheet.now)) }
+    ensures { (Whole sheet.now work.new n) × (result ≡ first_line DeepNesting (too_deep_from 1 [] (reads_in sheet.now))) }
 {
-    let mut i = 0;
-    while i < n {
+    for i in 0..n {
         let d = depth_below(sheet, work, n, i) + 1;
         if DEEPEST < d {
-            return i + 1;
+            return Err(Refusal::DeepNesting(i + 1));
         }
         work[area::DEPTHS + i] = d as u8;
-        i += 1;
     }
-    0
+    Ok(())
 }

@@ -10,6 +10,7 @@ use Rattle.semantics.specs.Text.{Bytes, bytes, same}
 use Rattle.semantics.specs.Tree.{VarDecl}
 use Rattle.semantics.specs.Sheet.{concat_map}
 use Rattle.semantics.specs.Fold.{Result, Names}
+use Rattle.std.specs.Prelude.{Ok, Err}
 use Rattle.semantics.specs.Fold.Result.{ok, failed, refuse}
 use Rattle.semantics.specs.Const.{Refusal}
 use Rattle.semantics.specs.Global.{Init, init_of, laid_names, none_of, var_value, refused_by, vars_refused, pend_of}
@@ -24,8 +25,9 @@ use Rattle.values.specs.Values.{value_in}
 use Rattle.placements.specs.Placements.{values_in}
 use Rattle.arrays.specs.Arrays.{kind_of_number}
 use Rattle.vars.specs.declared.First.{First}
-use Rattle.vars.specs.declared.First.TheVariants.{NoValue, Value, Alloc, Literal}
-use Rattle.pends.specs.declared.Pends.TheVariants.{Written}
+use Rattle.vars.specs.declared.First.TheVariants as First
+use Rattle.answers.specs.declared.Refusal.{Refusal as Refused}
+use Rattle.answers.specs.Answers.{refusal_number, refusal_line, refusal_of}
 use Rattle.vars.specs.First.{init_in, Inits, or_pending}
 use Rattle.pends.specs.Pends.{Pended}
 use Rattle.vars.proofs.Values.{settled-init}
@@ -107,10 +109,10 @@ module _ (s : Bytes) (r : ℕ) (ns : Names) (h : 0 < r) {x : First} {t u : Bytes
   not-refused : {i : Init} → init_in u x ≡ ok i → vars_refused ns (laid_on s (Some r)) ≡ None
   not-refused i = sym (refused-settled (suc (r - 1)) (var_value ns (var_on s r)) None) ∙ ap (λ (y : Result Init). refused_by (suc (r - 1)) y None) (sym a.result ∙ i)
 
-  pub line_quiet : {d : Bytes} {at : ℕ} {e : Bytes} {p : ℕ} (i : Init) → init_in u x ≡ ok i → ((y : Bytes) → pend_of y i ≡ []) → Wrote d at [] e p → Pended ns (laid_on s (Some r)) d at (Written p) e
+  pub line_quiet : {d : Bytes} {at : ℕ} {e : Bytes} {p : ℕ} (i : Init) → init_in u x ≡ ok i → ((y : Bytes) → pend_of y i ≡ []) → Wrote d at [] e p → Pended ns (laid_on s (Some r)) d at (Ok p) e
   line_quiet i k q w = (not-refused k, wrote_as (sym (rw (pends-are ns (var_on s r) (sym a.result ∙ k), no-pends i q (laid_names (names_on s r))))) w)
 
-  pub line-pending : {d : Bytes} {at : ℕ} {e : Bytes} {p : ℕ} → init_in u x ≡ ok pending_init → Wrote d at (pend_rows_of (names_on s r)) e p → Pended ns (laid_on s (Some r)) d at (Written p) e
+  pub line-pending : {d : Bytes} {at : ℕ} {e : Bytes} {p : ℕ} → init_in u x ≡ ok pending_init → Wrote d at (pend_rows_of (names_on s r)) e p → Pended ns (laid_on s (Some r)) d at (Ok p) e
   line-pending k w = (not-refused k, wrote_as (sym (rw (pends-are ns (var_on s r) (sym a.result ∙ k), all-pend (laid_names (names_on s r)), append-nil (laid_names (names_on s r))))) w)
 
   pub line_refused : {q : ℕ} → init_in u x ≡ refuse q → vars_refused ns (laid_on s (Some r)) ≡ Some (record { number = q; line = r })
@@ -118,14 +120,14 @@ module _ (s : Bytes) (r : ℕ) (ns : Names) (h : 0 < r) {x : First} {t u : Bytes
       let z : suc (r - 1) ≡ r = omega arith in
       sym (refused-settled (suc (r - 1)) (var_value ns (var_on s r)) None) ∙ ap (λ (y : Result Init). refused_by (suc (r - 1)) y None) (sym a.result ∙ k) ∙ rw z
 
-  pub quiet_none : x ≡ NoValue → {d : Bytes} {at : ℕ} {e : Bytes} {p : ℕ} → Wrote d at [] e p → Pended ns (laid_on s (Some r)) d at (Written p) e
-  quiet_none k = line_quiet no_init (rw k) (λ y. refl)
-
-  pub quiet-value : {v : ConstVal} → x ≡ Value v → {d : Bytes} {at : ℕ} {e : Bytes} {p : ℕ} → Wrote d at [] e p → Pended ns (laid_on s (Some r)) d at (Written p) e
-  quiet-value {v} k = line_quiet (const_init (value_in u v)) (rw k) (λ y. refl)
-
-  pub quiet-alloc : {k c : ℕ} → x ≡ Alloc k c → {d : Bytes} {at : ℕ} {e : Bytes} {p : ℕ} → Wrote d at [] e p → Pended ns (laid_on s (Some r)) d at (Written p) e
-  quiet-alloc {k} {c} q = line_quiet (array_init (record { kind = kind_of_number k; count = c; values = [] })) (rw q) (λ y. refl)
-
-  pub quiet-literal : {k c : ℕ} → x ≡ Literal k c → {d : Bytes} {at : ℕ} {e : Bytes} {p : ℕ} → Wrote d at [] e p → Pended ns (laid_on s (Some r)) d at (Written p) e
-  quiet-literal {k} {c} q = line_quiet (array_init (record { kind = kind_of_number k; count = c; values = values_in u 0 c })) (rw q) (λ y. refl)
+  -- a value that is neither pending nor refused has no row
+  pub line-quiet : (x ≡ First.Pending → ⊥) → ((q : ℕ) → x ≡ First.Refused q → ⊥) → {d : Bytes} {at : ℕ} {e : Bytes} {p : ℕ} → Wrote d at [] e p → Pended ns (laid_on s (Some r)) d at (Ok p) e
+  line-quiet f g {d} {at} {e} {p} w = go x refl
+    where
+      go : (y : First) → x ≡ y → Pended ns (laid_on s (Some r)) d at (Ok p) e
+      go First.NoValue k = line_quiet no_init (rw k) (λ z. refl) w
+      go (First.Value v) k = line_quiet (const_init (value_in u v)) (rw k) (λ z. refl) w
+      go (First.Alloc n c) k = line_quiet (array_init (record { kind = kind_of_number n; count = c; values = [] })) (rw k) (λ z. refl) w
+      go (First.Literal n c) k = line_quiet (array_init (record { kind = kind_of_number n; count = c; values = values_in u 0 c })) (rw k) (λ z. refl) w
+      go First.Pending k = absurd (f k)
+      go (First.Refused q) k = absurd (g q k)

@@ -2,7 +2,8 @@
 use mathlib.Core.Path.{◌≡◌, refl, sym, ap, ◌∙◌, subst}
 use mathlib.Core.Bool.{Bool, true, false, cond, true≢false}
 use mathlib.Core.List.{List, [], ◌∷◌, ◌++◌}
-use Rattle.std.specs.Prelude.{Option, None, Some}
+use Rattle.std.specs.Prelude.{Option, None, Some, Ok, Err}
+use Rattle.std.specs.Prelude as Std
 use Prim.Native.Nat.{ℕ, zero, suc, ◌+◌, ◌-◌, ◌≤◌, ◌<◌}
 use native.Mathlib.Numerals.{add-one}
 use native.Mathlib.Omega.{arith}
@@ -32,8 +33,8 @@ use Rattle.literals.proofs.Names.{kept_low, log-kept, logged-kept}
 use Rattle.implement.specs.Modules.{own_in}
 use Rattle.globals.specs.Vars.{located_at, laid_at, laid_on, laid_vars_to, var_pends}
 use Rattle.globals.proofs.Vars.{pends-by, laid-lines}
-use Rattle.pends.specs.declared.Pends.{Pends}
-use Rattle.pends.specs.declared.Pends.TheVariants.{Written, Refused}
+use Rattle.answers.specs.declared.Refusal.{Refusal as Refused}
+use Rattle.answers.specs.Answers.{refusal_line, refusal_of}
 use Rattle.vars.proofs.Items.{refused-append}
 use Rattle.pends.specs.Pends.{pends_of, Pended, AllPended}
 
@@ -42,7 +43,7 @@ use Rattle.pends.specs.Pends.{pends_of, Pended, AllPended}
 rows_append : (ns : Names) (vs ws : List (Located VarDecl)) → concat_map pend_row (pends_of ns (vs ++ ws)) ≡ concat_map pend_row (pends_of ns vs) ++ concat_map pend_row (pends_of ns ws)
 rows_append ns vs ws = ap (concat_map pend_row) (concat-append (λ (v : Located VarDecl). var_pends ns v.it) vs ws) ∙ concat-append pend_row (pends_of ns vs) (pends_of ns ws)
 
-pended-then : (ns : Names) (vs ws : List (Located VarDecl)) {d : Bytes} {a : ℕ} {e : Bytes} {p : ℕ} {f : Bytes} {q : ℕ} → Pended ns vs d a (Written p) e → Pended ns ws e p (Written q) f → Pended ns (vs ++ ws) d a (Written q) f
+pended-then : (ns : Names) (vs ws : List (Located VarDecl)) {d : Bytes} {a : ℕ} {e : Bytes} {p : ℕ} {f : Bytes} {q : ℕ} → Pended ns vs d a (Ok p) e → Pended ns ws e p (Ok q) f → Pended ns (vs ++ ws) d a (Ok q) f
 pended-then ns vs ws h k = (refused-append ns vs ws ∙ rw (h.0, k.0), wrote_as (sym (rows_append ns vs ws)) (then h.1 k.1))
 
 -- a refusal's line
@@ -72,41 +73,34 @@ module _ (ns : Names) (s : Bytes) where
       go true true = refused-line (suc i) (var_value ns (located_at s i).it)
 
   module _ {t : Bytes} {n : ℕ} (c : Checked s t n) {d : Bytes} {a : ℕ} {e : Bytes} {p : ℕ} where
-    all-pended : Pended ns (laid_vars_to s n) d a (Written p) e → AllPended ns s d a (Written p) e
+    all-pended : Pended ns (laid_vars_to s n) d a (Ok p) e → AllPended ns s d a (Ok p) e
     all-pended h = (rw (laid-lines s t n c) h.0, wrote_as (ap (concat_map pend_row) (sym (pends-by ns (sheet_source s) ∙ ap (pends_of ns) (laid-lines s t n c)))) h.1)
 
     -- line i is the first that is refused
-    pended-before : {i q l : ℕ} {f : Bytes} → i < n → Pended ns (laid_vars_to s i) d a (Written p) e → Pended ns (laid_at s i) e p (Refused q l) f → AllPended ns s d a (Refused q l) f
+    pended-before : {i : ℕ} (r : Refused) {f : Bytes} → i < n → Pended ns (laid_vars_to s i) d a (Ok p) e → Pended ns (laid_at s i) e p (Err r) f → AllPended ns s d a (Err r) f
     unfolding laid_vars_to
-    pended-before {i} {q} {l} {f} h w b =
+    pended-before {i} r {f} h w b =
         let z : suc i + (n - suc i) ≡ n = omega arith in
-        let k : l ≡ suc i = sym (ap (line_in (suc i)) b.0) ∙ laid-line i in
-        let y : i ≡ l - 1 = omega arith in
-        let g : vars_refused ns (laid_vars_to s i ++ laid_at s i) ≡ Some (record { number = q; line = l }) = refused-append ns (laid_vars_to s i) (laid_at s i) ∙ rw (w.0, b.0) in (
+        let k : refusal_line r ≡ suc i = sym (ap (line_in (suc i)) b.0) ∙ laid-line i in
+        let y : i ≡ refusal_line r - 1 = omega arith in
+        let g : vars_refused ns (laid_vars_to s i ++ laid_at s i) ≡ Some (refusal_of r) = refused-append ns (laid_vars_to s i) (laid_at s i) ∙ rw (w.0, b.0) in (
           rw (laid-lines s t n c) (rw z at (refused-later (suc i) (n - suc i) g)),
           b.1 ∙ w.1.bytes ∙ ap (λ (j : ℕ). over d a (concat_map pend_row (pends_of ns (laid_vars_to s j)))) y,
         )
 
 -- ---- no line
 
-pub none-laid : (ns : Names) (s : Bytes) {r : Option ℕ} → r ≡ None → {d : Bytes} {a : ℕ} {e : Bytes} {p : ℕ} → Wrote d a [] e p → Pended ns (laid_on s r) d a (Written p) e
+pub none-laid : (ns : Names) (s : Bytes) {r : Option ℕ} → r ≡ None → {d : Bytes} {a : ℕ} {e : Bytes} {p : ℕ} → Wrote d a [] e p → Pended ns (laid_on s r) d a (Ok p) e
 none-laid ns s z w = rw z (refl, w)
 
 -- ---- all lines
-
-abbrev is_written : Pends → Bool
-is_written (Written p) = true
-is_written (Refused q k) = false
-
-pub not_written : {y : Pends} {q k : ℕ} → y ≡ Refused q k → is_written y ≡ false
-not_written e = ap is_written e
 
 -- the rows of the first i lines are written, and none is refused
 pub record LinesPended (s t : Bytes) (n m : ℕ) (d : Bytes) (a : ℕ) (u : Bytes) (k : Option ℕ) (i : ℕ) (e : Bytes) (p : ℕ) : Type 0 where
   pub here : Open s u n i k
   pub keeps : Keeps 16384 49152 t u
   pub long : length e ≡ length d
-  pub rows : Pended (names_in s t m) (laid_vars_to s i) d a (Written p) e
+  pub rows : Pended (names_in s t m) (laid_vars_to s i) d a (Ok p) e
 
 module _ {s t : Bytes} {n m : ℕ} (r : ConstTable s t n m) where
   pub walk_start : {d : Bytes} {a p : ℕ} → Wrote d a [] d p → LinesPended s t n m d a t None 0 d p
@@ -117,30 +111,27 @@ module _ {s t : Bytes} {n m : ℕ} (r : ConstTable s t n m) where
     pub walk-log : ConstsLogged s u n m
     walk-log = logged-kept w.keeps r.logged
 
-    pub walk_end : n ≤ i → AllPended (names_in s t m) s d a (Written p) e × Keeps 16384 49152 t u
+    pub walk_end : n ≤ i → AllPended (names_in s t m) s d a (Ok p) e × Keeps 16384 49152 t u
     walk_end h =
         let z : i ≡ n = omega (arith, w.here.within) in
-        (all-pended (names_in s t m) s r.checked (subst (λ (j : ℕ). Pended (names_in s t m) (laid_vars_to s j) d a (Written p) e) z w.rows), w.keeps)
+        (all-pended (names_in s t m) s r.checked (subst (λ (j : ℕ). Pended (names_in s t m) (laid_vars_to s j) d a (Ok p) e) z w.rows), w.keeps)
 
-    module _ (q : Option ℕ) (g : laid_on s q ≡ laid_at s i) {v : Bytes} (y : Pends) (f : Bytes) (b : Pended (names_in s u m) (laid_on s q) e p y f × Keeps 16384 49152 u v) where
+    module _ (q : Option ℕ) (g : laid_on s q ≡ laid_at s i) {v : Bytes} (y : Std.Result ℕ Refused) (f : Bytes) (b : Pended (names_in s u m) (laid_on s q) e p y f × Keeps 16384 49152 u v) where
       line-pended : Pended (names_in s t m) (laid_at s i) e p y f
       line-pended = subst (λ (xs : List (Located VarDecl)). Pended (names_in s t m) xs e p y f) g (rw (log-kept w.keeps r.logged) at b.0)
 
       pub walk-open : Open s v n i k
       walk-open = record { checked = checked-kept (kept_low b.1 3072 (omega arith)) w.here.checked; within = w.here.within; low = w.here.low; here = w.here.here }
 
-      pub walk-next : {z : ℕ} {k' : Option ℕ} → y ≡ Written z → length f ≡ length e → Open s v n (i + 1) k' → LinesPended s t n m d a v k' (i + 1) f z
+    module _ (q : Option ℕ) (g : laid_on s q ≡ laid_at s i) {v : Bytes} {f : Bytes} where
+      pub walk-next : {z : ℕ} {k' : Option ℕ} → Pended (names_in s u m) (laid_on s q) e p (Ok z) f × Keeps 16384 49152 u v → length f ≡ length e → Open s v n (i + 1) k' → LinesPended s t n m d a v k' (i + 1) f z
       unfolding laid_vars_to
-      walk-next {z} c l o = record {
+      walk-next {z} b l o = record {
         here = o;
         keeps = keeps_then w.keeps b.1;
         long = l ∙ w.long;
-        rows = rw add-one (pended-then (names_in s t m) (laid_vars_to s i) (laid_at s i) w.rows (subst (λ (x : Pends). Pended (names_in s t m) (laid_at s i) e p x f) c line-pended));
+        rows = rw add-one (pended-then (names_in s t m) (laid_vars_to s i) (laid_at s i) w.rows (line-pended q g (Ok z) f b));
       }
 
-      pub walk-stop : i < n → is_written y ≡ false → AllPended (names_in s t m) s d a y f × Keeps 16384 49152 t v
-      walk-stop h c = (go y c line-pended, keeps_then w.keeps b.1)
-        where
-          go : (x : Pends) → is_written x ≡ false → Pended (names_in s t m) (laid_at s i) e p x f → AllPended (names_in s t m) s d a x f
-          go (Written q) c' g = absurd (true≢false c')
-          go (Refused q l) c' g = pended-before (names_in s t m) s r.checked h w.rows g
+      pub walk-stop : (x : Refused) → Pended (names_in s u m) (laid_on s q) e p (Err x) f × Keeps 16384 49152 u v → i < n → AllPended (names_in s t m) s d a (Err x) f × Keeps 16384 49152 t v
+      walk-stop x b h = (pended-before (names_in s t m) s r.checked x h w.rows (line-pended q g (Err x) f b), keeps_then w.keeps b.1)

@@ -12,16 +12,10 @@ ghost use Rattle.global_table.specs.Table.{VarLine, names_on};
 ghost use Rattle.globals.specs.Vars.{laid_on};
 ghost use Rattle.pends.specs.Pends.{Pended, AllPended};
 
+use answers::Refusal;
 use global_table::line;
 use names::Known;
 use vars::{First, var_value};
-
-// The place behind the rows, or a refusal and its line.
-#[derive(Clone, Copy)]
-pub enum Pends {
-    Written(usize),
-    Refused(u8, usize),
-}
 
 // The row of a name; `nil` has none.
 fn pend_name(name: &[u8], out: &mut [u8], at: usize) -> usize
@@ -40,10 +34,8 @@ fn pend_names(sheet: &[u8], work: &[u8], n: usize, r: usize, out: &mut [u8], at:
 {
     let count = line::name_count(sheet, work, n, r);
     let mut p = write::nothing(out, at);
-    let mut j = 0;
-    while j < count {
+    for j in 0..count {
         p = pend_name(line::name_at(sheet, work, n, r, j), out, p);
-        j += 1;
     }
     p
 }
@@ -56,25 +48,28 @@ fn pend_line(
     r: Option<usize>,
     out: &mut [u8],
     at: usize,
-) -> Pends
+) -> Result<usize, Refusal>
     requires { (IfSome r (VarLine sheet.now work.old c.lines)) × (ConstsLogged sheet.now work.old c.lines c.consts) }
     ensures { (Pended (names_in sheet.now work.old c.consts) (laid_on sheet.now r) out.old at result out.new) × (Keeps 16384 49152 work.old work.new) }
 {
     let Some(r) = r else {
-        return Pends::Written(write::nothing(out, at));
+        return Ok(write::nothing(out, at));
     };
     match var_value(sheet, work, c, r) {
-        First::NoValue => Pends::Written(write::nothing(out, at)),
-        First::Value(_) => Pends::Written(write::nothing(out, at)),
-        First::Alloc(_, _) => Pends::Written(write::nothing(out, at)),
-        First::Literal(_, _) => Pends::Written(write::nothing(out, at)),
-        First::Pending => Pends::Written(pend_names(sheet, work, c.lines, r, out, at)),
-        First::Refused(q) => Pends::Refused(q, r),
+        First::Refused(q) => Err(answers::refuse(q, r)),
+        First::Pending => Ok(pend_names(sheet, work, c.lines, r, out, at)),
+        _ => Ok(write::nothing(out, at)),
     }
 }
 
 // The rows of all lines, up to the first that is refused. Work goes on where the listing is full.
-pub fn pend_rows(sheet: &[u8], work: &mut [u8], c: Known, out: &mut [u8], at: usize) -> Pends
+pub fn pend_rows(
+    sheet: &[u8],
+    work: &mut [u8],
+    c: Known,
+    out: &mut [u8],
+    at: usize,
+) -> Result<usize, Refusal>
     requires { ConstTable sheet.now work.old c.lines c.consts }
     ensures { (AllPended (names_in sheet.now work.old c.consts) sheet.now out.old at result out.new) × (Keeps 16384 49152 work.old work.new) }
 {
@@ -83,13 +78,8 @@ pub fn pend_rows(sheet: &[u8], work: &mut [u8], c: Known, out: &mut [u8], at: us
     let mut i = 0;
     while i < c.lines {
         let r = globals::laid_line(sheet, work, c.lines, i, k);
-        let y = pend_line(sheet, work, c, r, out, p);
-        let Pends::Written(q) = y else {
-            return y;
-        };
-        p = q;
+        p = pend_line(sheet, work, c, r, out, p)?;
         k = implement::open_after(sheet, work, c.lines, i, k);
-        i += 1;
     }
-    Pends::Written(p)
+    Ok(p)
 }

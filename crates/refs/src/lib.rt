@@ -5,8 +5,11 @@ ghost use Rattle.std.specs.Prelude.{◌≡◌, cond, List, [], ℕ, ◌+◌, ◌
 ghost use Rattle.semantics.specs.Refusal.{refs_of, use_all, bad_ref_from};
 ghost use Rattle.form.specs.Table.{row_count};
 ghost use Rattle.lines.specs.Lines.{reads_in, read_at, form_at, Whole};
+ghost use Rattle.answers.specs.Answers.{first_line};
+ghost use Rattle.answers.specs.declared.Refusal.TheVariants.{BadReference};
 ghost use Rattle.refs.specs.Refs.{is_ref, wanted_by, claims, used_marked, Used, RefsOutcome};
 
+use answers::Refusal;
 use codes::area;
 
 // Letters of references that may be 0 lie below it.
@@ -16,10 +19,7 @@ const NEEDED: u8 = b'@';
 pub fn is_ref(x: u8) -> bool
     ensures { result ≡ is_ref x }
 {
-    if x <= b' ' {
-        return false;
-    }
-    x < b'P'
+    b' ' < x && x < b'P'
 }
 
 // The kind that a reference's letter asks for.
@@ -27,10 +27,7 @@ fn wanted(x: u8) -> u8
     requires { x < 80 }
     ensures { result ≡ wanted_by x }
 {
-    if x < NEEDED {
-        return x + 32;
-    }
-    x
+    if x < NEEDED { x + 32 } else { x }
 }
 
 // Whether the field with letter x and number r is no reference of line k, or a good one, which is then marked.
@@ -71,23 +68,20 @@ fn use_refs(sheet: &[u8], work: &mut [u8], n: usize, i: usize) -> bool
         if !claim(work, i + 1, s.letter, s.number) {
             return false;
         }
-        let u = s.next;
-        w = u;
+        w = s.next;
     }
     true
 }
 
-// The first line with a bad reference, 0 where there is none.
-pub fn bad_ref(sheet: &[u8], work: &mut [u8], n: usize) -> usize
+// Refused at the first line with a bad reference.
+pub fn bad_ref(sheet: &[u8], work: &mut [u8], n: usize) -> Result<(), Refusal>
     requires { (Whole sheet.now work.old n) × (Used work.old []) }
-    ensures { (Whole sheet.now work.new n) × (result ≡ bad_ref_from (reads_in sheet.now) 1 [] (reads_in sheet.now)) }
+    ensures { (Whole sheet.now work.new n) × (result ≡ first_line BadReference (bad_ref_from (reads_in sheet.now) 1 [] (reads_in sheet.now))) }
 {
-    let mut i = 0;
-    while i < n {
+    for i in 0..n {
         if !use_refs(sheet, work, n, i) {
-            return i + 1;
+            return Err(Refusal::BadReference(i + 1));
         }
-        i += 1;
     }
-    0
+    Ok(())
 }

@@ -6,6 +6,7 @@ ghost use Rattle.checks.specs.Checks.{Checked, Kept};
 ghost use Rattle.names.specs.Table.{log_in, ConstsLogged};
 ghost use Rattle.tables.specs.Tables.{TablesHeld, MakesTables};
 
+use answers::Refusal;
 use consts::Collected;
 
 // How many entries each table has, where allocation ends, and how many keys the needs have.
@@ -17,13 +18,6 @@ pub struct Tables {
     pub records: usize,
     pub needs: usize,
     pub keys: usize,
-}
-
-// The tables, or the `con` line that is refused by 8.
-#[derive(Clone, Copy)]
-pub enum Made {
-    Whole(Tables),
-    Refused(usize),
 }
 
 // The tables beside that of the m constants.
@@ -45,12 +39,12 @@ fn make_others(sheet: &[u8], work: &mut [u8], n: usize, m: usize) -> Tables
 }
 
 // All tables, the constants first.
-pub fn make_tables(sheet: &[u8], work: &mut [u8], n: usize) -> Made
+pub fn make_tables(sheet: &[u8], work: &mut [u8], n: usize) -> Result<Tables, Refusal>
     requires { Checked sheet.now work.old n }
     ensures { (MakesTables sheet.now work.new n result) × (Kept 5120 work.old work.new) }
 {
     match consts::collect_consts(sheet, work, n) {
-        Collected::Refused(k) => Made::Refused(k),
-        Collected::Count(m) => Made::Whole(make_others(sheet, work, n, m)),
+        Collected::Refused(k) => Err(Refusal::LongString(k)),
+        Collected::Count(m) => Ok(make_others(sheet, work, n, m)),
     }
 }

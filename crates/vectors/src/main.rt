@@ -6,8 +6,6 @@
 ghost use Rattle.std.specs.Prelude.{◌≤◌, length, IfOk};
 
 use answers::Refusal;
-use compile::Answer;
-use image::ImageAnswer;
 use std::io;
 use std::io::{BufReader, Read, Write};
 
@@ -64,8 +62,8 @@ fn refused(r: Refusal, wanted: &[u8]) -> usize {
 
 fn outcome(sheet: &[u8], wanted: &[u8], listing: &mut [u8], work: &mut [u8]) -> usize {
     match compile::compile(sheet, listing, work) {
-        Answer::Listed(n) => listed(listing, n, wanted),
-        Answer::Refused(r) => refused(r, wanted),
+        Ok(n) => listed(listing, n, wanted),
+        Err(r) => refused(r, wanted),
     }
 }
 
@@ -106,15 +104,15 @@ fn image_outcome(
     work: &mut [u8],
 ) -> usize {
     match image::image(sheet, listing, picture, area, work) {
-        ImageAnswer::Laid(n, i, a) => {
-            if laid(text, picture, i, area, a) {
-                if listed(listing, n, wanted) == LISTED {
+        Ok(l) => {
+            if laid(text, picture, l.image, area, l.area) {
+                if listed(listing, l.listing, wanted) == LISTED {
                     return IMAGED;
                 }
             }
             DIFFERS
         }
-        ImageAnswer::Refused(r) => {
+        Err(r) => {
             if o == LISTED {
                 if refused(r, text) == DIFFERS {
                     return DIFFERS;

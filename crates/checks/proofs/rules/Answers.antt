@@ -1,19 +1,17 @@
 -- `checks::rules` meets its contract.
-use Rattle.checks.proofs.Laws.{ruled-4, ruled-5, ruled-6, ruled-7, ruled-well, all-checked}
-use borrow.Author.Rules.{rules}
+use Rattle.answers.specs.declared.Refusal.TheVariants.{BadReference, DeepNesting, BadModule, TooMany}
+use Rattle.answers.proofs.First.{none-bad}
+use Rattle.checks.proofs.Laws.{unused, ruled-well, all-checked}
 use Rattle.checks.proofs.rules.Goals as goal
 
-pub returns-then-a-ne0 : goal.returns-then-a-ne0
-returns-then-a-ne0 c = (ruled-4 c.args.sheet.now c.bad_ref-a.ensures.1 c.if-a-ne0.true, tt)
-
-pub returns-then-b-ne0 : goal.returns-then-b-ne0
-returns-then-b-ne0 c = (ruled-5 c.args.sheet.now c.bad_ref-a.ensures.1 c.if-a-ne0.false c.too_deep-b.ensures.1 c.if-b-ne0.true, tt)
-
-pub returns-then-c-ne0 : goal.returns-then-c-ne0
-returns-then-c-ne0 c = (ruled-6 c.args.sheet.now c.bad_ref-a.ensures.1 c.if-a-ne0.false c.too_deep-b.ensures.1 c.if-b-ne0.false c.bad_module-c.ensures c.if-c-ne0.true, tt)
-
-pub returns-then-d-ne0 : goal.returns-then-d-ne0
-returns-then-d-ne0 c = (ruled-7 c.args.sheet.now c.bad_ref-a.ensures.1 c.if-a-ne0.false c.too_deep-b.ensures.1 c.if-b-ne0.false c.bad_module-c.ensures c.if-c-ne0.false c.too_many-d.ensures c.if-d-ne0.true, tt)
+pub bad_ref-requires : goal.bad_ref-requires
+bad_ref-requires c = (c.in_ok-n.ensures.0.0, unused c.args.work.now c.index.new.work c.requires.2 c.in_ok-n.ensures.1)
 
 pub returns : goal.returns
-returns c = (ruled-well c.args.sheet.now c.bad_ref-a.ensures.1 c.if-a-ne0.false c.too_deep-b.ensures.1 c.if-b-ne0.false c.bad_module-c.ensures c.if-c-ne0.false c.too_many-d.ensures c.if-d-ne0.false, all-checked c.args.sheet.now c.bad_ref-a.ensures.1 c.if-a-ne0.false c.too_deep-b.ensures.1 c.if-b-ne0.false c.bad_module-c.ensures c.if-c-ne0.false c.too_many-d.ensures c.if-d-ne0.false c.too_deep-b.new.work c.args.n c.too_deep-b.ensures.0)
+returns c =
+    let formed = c.in_ok-n.ensures.0.1 in
+    let refs = none-bad BadReference _ c.in_ok-bad_ref.ensures.1 in
+    let nests = none-bad DeepNesting _ c.in_ok-too_deep.ensures.1 in
+    let modules = none-bad BadModule _ c.in_ok-bad_module.ensures in
+    let counts = none-bad TooMany _ c.in_ok-too_many.ensures in
+    (ruled-well c.args.sheet.now formed refs nests modules counts, all-checked c.args.sheet.now formed refs nests modules counts c.too_deep.new.work c.in_ok-n.n c.in_ok-too_deep.ensures.0)

@@ -1,16 +1,19 @@
 use Rattle.std.proofs.Common.{rules, refl, length, arith}
+use Rattle.std.proofs.lemmas.Result.{err_from_is_err_and}
 use Rattle.compile.proofs.Laws.{lays, outgrows, value-refused}
 use Rattle.compile.proofs.list_rows.Goals as goal
 
-pub returns-then-end-long : goal.returns-then-end-long
-returns-then-end-long c =
-    let e = c.in-Written.ensures in
-    lays c.requires.0 (length c.args.listing.now) c.requires.1 refl (search (rules, e.1.same_buffer)) e.0 (rw (← e.2) at e.1.wrote) c.if-end-long.true refl c.requires.0.held.checked.whole.room e.3
+pub returns-in_err-length : goal.returns-in_err-length
+returns-in_err-length c =
+    let p = err_from_is_err_and c.from_residual.result c.from_residual.ensures.1 in
+    rw (p.1, p.2) (value-refused c.requires.0 (length c.args.listing.now) c.in_err-length.field-0.0 c.in_err-length.ensures)
 
-pub returns-else-end-long : goal.returns-else-end-long
-returns-else-end-long c =
-    let e = c.in-Written.ensures in
-    outgrows c.requires.0 (length c.args.listing.now) c.requires.1 refl refl e.0 (rw (← e.2) at e.1.wrote) (omega (arith, c.if-end-long.false))
+pub returns-then-room-length : goal.returns-then-room-length
+returns-then-room-length c =
+    let e = c.in_ok-length.ensures in
+    outgrows c.requires.0 (length c.args.listing.now) c.requires.1 refl refl e.0 (rw (← e.2) at e.1.wrote) (omega (arith, c.if-room-length.true))
 
-pub returns-in-Refused : goal.returns-in-Refused
-returns-in-Refused c = value-refused c.requires.0 (length c.args.listing.now) (c.in-Refused.ensures)
+pub returns : goal.returns
+returns c =
+    let e = c.in_ok-length.ensures in
+    lays c.requires.0 (length c.args.listing.now) c.requires.1 refl (search (rules, e.1.same_buffer)) e.0 (rw (← e.2) at e.1.wrote) c.if-room-length.false refl c.requires.0.held.checked.whole.room e.3

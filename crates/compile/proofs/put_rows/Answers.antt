@@ -1,4 +1,5 @@
 use Rattle.std.proofs.Common.{refl}
+use Rattle.std.proofs.lemmas.Result.{err_from_is_err_and}
 use Rattle.compile.proofs.Laws.{pends-written, pends-refused, listing-rows}
 use Rattle.parts.proofs.Kept.{listable-keeps}
 use Rattle.compile.proofs.put_rows.Goals as goal
@@ -6,11 +7,13 @@ use Rattle.compile.proofs.put_rows.Goals as goal
 pub put_types-requires : goal.put_types-requires
 put_types-requires c = listable-keeps c.pend_rows.ensures.1 c.put_declared.ensures.1
 
-pub returns-in-Written : goal.returns-in-Written
-returns-in-Written c =
+pub returns : goal.returns
+returns c =
     let k = c.put_declared.ensures.1 in
-    let p = pends-written k _ _ _ c.pend_rows.result c.pend_rows.ensures.0 c.in-Written.is in
+    let p = pends-written k _ _ _ c.in_ok-w.ensures.0 in
     (p.0, listing-rows k c.put_declared.ensures.0 (record { same_buffer = refl; wrote = p.1 }) c.put_types.ensures.0, refl, c.put_types.ensures.1)
 
-pub returns-in-Refused : goal.returns-in-Refused
-returns-in-Refused c = pends-refused c.put_declared.ensures.1 _ _ _ c.pend_rows.result c.pend_rows.ensures.0 c.in-Refused.is
+pub returns-in_err-w : goal.returns-in_err-w
+returns-in_err-w c =
+    let p = err_from_is_err_and c.from_residual.result c.from_residual.ensures.1 in
+    rw (p.1, p.2) (pends-refused c.put_declared.ensures.1 _ _ _ c.in_err-w.field-0.0 c.in_err-w.ensures.0)

@@ -4,12 +4,8 @@ use mathlib.Core.Path.{◌∙◌, sym, ap}
 use Rattle.lines.proofs.Line.{form-low, kind-is}
 use Rattle.form.specs.Table.{kind_at}
 use Rattle.counts.specs.Counts.{counts_of}
-use Rattle.counts.proofs.Laws.{bounded, counts-are}
-use borrow.Author.Rules.{rules}
+use Rattle.counts.proofs.Laws.{counts-are}
 use Rattle.counts.proofs.count.Goals as goal
-
-pub form_at-requires : goal.form_at-requires
-form_at-requires c = (omega (arith, c.requires.0.lined.few, c.requires.2), c.requires.0.room)
 
 pub kind-k-requires : goal.kind-k-requires
 kind-k-requires c = omega (arith, c.form_at.ensures, form-low c.args.sheet.now c.args.work.now c.args.n c.requires.0 c.args.i c.requires.2)
@@ -19,21 +15,6 @@ records-r-requires c = (c.requires.0, c.requires.1, c.requires.2, c.kind-k.ensur
 
 pub names-v-requires : goal.names-v-requires
 names-v-requires c = (c.requires.0, c.requires.2, c.kind-k.ensures ∙ ap kind_at c.form_at.ensures ∙ sym (kind-is c.args.sheet.now c.args.work.now c.args.n c.requires.0 c.args.i c.requires.2))
-
-pub overflow_add-result : goal.overflow_add-result
-overflow_add-result c = record { fits = omega (arith, (bounded (counts_of c.args.t) c.requires.3).0, c.one.ensures.1) }
-
-pub overflow_add-result-2 : goal.overflow_add-result-2
-overflow_add-result-2 c = record { fits = omega (arith, (bounded (counts_of c.args.t) c.requires.3).1, c.one-2.ensures.1) }
-
-pub overflow_add-result-3 : goal.overflow_add-result-3
-overflow_add-result-3 c = record { fits = omega (arith, (bounded (counts_of c.args.t) c.requires.3).2, c.one-3.ensures.1) }
-
-pub overflow_add-result-4 : goal.overflow_add-result-4
-overflow_add-result-4 c = record { fits = omega (arith, (bounded (counts_of c.args.t) c.requires.3).3, c.records-r.ensures.1) }
-
-pub overflow_add-result-5 : goal.overflow_add-result-5
-overflow_add-result-5 c = record { fits = omega (arith, (bounded (counts_of c.args.t) c.requires.3).4, c.names-v.ensures.1) }
 
 pub returns : goal.returns
 returns c = counts-are c.args.sheet.now c.args.i c.kind-k.result (c.kind-k.ensures ∙ ap kind_at c.form_at.ensures ∙ sym (kind-is c.args.sheet.now c.args.work.now c.args.n c.requires.0 c.args.i c.requires.2)) (counts_of c.args.t) c.one.result c.one-2.result c.one-3.result c.records-r.result c.names-v.result c.one.ensures.0 c.one-2.ensures.0 c.one-3.ensures.0 c.records-r.ensures.0 c.names-v.ensures.0

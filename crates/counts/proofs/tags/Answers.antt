@@ -1,16 +1,8 @@
 use native.Mathlib.Omega.{arith}
 use mathlib.Core.Path.{refl}
-use Prim.Native.Nat.{◌-◌, ◌+◌}
-use lib.ListN.{length}
 use Rattle.lines.proofs.Line.{form-low}
-use Rattle.counts.proofs.Laws.{TagsCounted, tags-start, tags-line, tags-on, tags-end, length-line}
+use Rattle.counts.proofs.Laws.{tags-start, tags-line, tags-on, tags-end, length-line}
 use Rattle.counts.proofs.tags.Goals as goal
-
-pub line_at-l-requires : goal.line_at-l-requires
-line_at-l-requires c = (c.requires.0, c.requires.2)
-
-pub form_at-f-requires : goal.form_at-f-requires
-form_at-f-requires c = (omega (arith, c.requires.0.lined.few, c.requires.2), c.requires.0.room)
 
 pub begin-w-requires : goal.begin-w-requires
 begin-w-requires c = omega (arith, c.form_at-f.ensures, form-low c.args.sheet.now c.args.work.now c.args.n c.requires.0 c.args.i c.requires.2)
@@ -18,17 +10,8 @@ begin-w-requires c = omega (arith, c.form_at-f.ensures, form-low c.args.sheet.no
 pub loop-w-init : goal.loop-w-init
 loop-w-init c = tags-start c.args.sheet.now c.args.work.now c.args.n c.args.i c.requires.0 c.requires.1 c.requires.2 c.line_at-l.result.now c.form_at-f.result c.line_at-l.ensures c.form_at-f.ensures c.begin-w.result c.begin-w.ensures
 
-pub next-s-requires : goal.next-s-requires
-next-s-requires c = (c.loop-w.invariant.standing, c.loop-w-test.true)
-
 pub case_tags-count-requires : goal.case_tags-count-requires
 case_tags-count-requires c = (c.requires.0, tags-line c.args.sheet.now c.args.n c.args.i c.requires.0.lined.few c.requires.2 c.form_at-f.result c.line_at-l.result.now c.loop-w.w c.next-s.result.next c.next-s.result.letter c.next-s.result.number c.loop-w.count c.next-s.ensures c.loop-w.invariant)
-
-pub overflow_add-count : goal.overflow_add-count
-overflow_add-count c = record { fits = omega (arith, c.loop-w.invariant.small, c.case_tags-count.ensures.1) }
-
-pub loop-w-smaller : goal.loop-w-smaller
-loop-w-smaller c = omega (arith, c.next-s.ensures.further, c.loop-w-test.true)
 
 pub loop-w-preserved : goal.loop-w-preserved
 loop-w-preserved c = tags-on c.args.sheet.now c.args.n c.args.i c.requires.0.lined.few c.requires.2 c.form_at-f.result c.line_at-l.result.now c.loop-w.w c.next-s.result.next c.next-s.result.letter c.next-s.result.number c.loop-w.count c.next-s.ensures c.loop-w.invariant c.case_tags-count.result _ (omega (arith, c.loop-w-test.true, length-line c.args.sheet.now c.args.work.now c.args.n c.args.i c.requires.0 c.requires.2 c.line_at-l.result.now c.line_at-l.ensures)) c.case_tags-count.ensures.1 c.case_tags-count.ensures.0 refl

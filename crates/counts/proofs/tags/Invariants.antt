@@ -1,10 +1,7 @@
 -- `counts::tags` meets its contract.
-use native.Mathlib.Omega.{arith}
-use mathlib.Core.Path.{refl}
 use Prim.Native.Nat.{◌-◌, ◌+◌}
 use lib.ListN.{length}
-use Rattle.lines.proofs.Line.{form-low}
-use Rattle.counts.proofs.Laws.{TagsCounted, tags-start, tags-line, tags-on, tags-end, length-line}
+use Rattle.counts.proofs.Laws.{TagsCounted}
 use Rattle.counts.proofs.tags.Given as goal
 
 abbrev pub invariant-loop-w : goal.invariant-loop-w

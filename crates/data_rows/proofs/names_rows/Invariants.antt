@@ -1,10 +1,6 @@
 -- `data_rows::names_rows` meets its contract.
-use Prim.Native.Nat.{◌-◌}
 use Rattle.data_rows.proofs.Names.{NamesPrinted}
 use Rattle.data_rows.proofs.names_rows.Given as goal
 
 abbrev pub invariant-loop-j : goal.invariant-loop-j
 invariant-loop-j l = NamesPrinted l.sheet l.initial.work l.c l.r l.x.first l.count l.initial.q l.initial.out l.work l.out l.q l.j
-
-abbrev pub decreases-loop-j : goal.decreases-loop-j
-decreases-loop-j l = l.count - l.j

@@ -1,16 +1,14 @@
 -- `export::limbo_sheet_compile` meets its contract: each arm is one law.
 use Rattle.export.proofs.Laws.{listed-as, refused_as}
 use lib.ListN.{length}
-use borrow.Author.Rules.{rules}
 use Rattle.export.proofs.limbo_sheet_compile.Goals as goal
 
-pub returns-in-Listed : goal.returns-in-Listed
-returns-in-Listed c =
+pub returns-in-Ok : goal.returns-in-Ok
+returns-in-Ok c =
     let a = c.args in
-    let f = c.compile in
-    listed-as a.sheet.now (length a.listing.now) (length a.work.now) _ _ f.auto.listing c.in-Listed.is f.ensures
+    listed-as a.sheet.now (length a.listing.now) (length a.work.now) _ _ c.compile.auto.listing c.in-Ok.ensures
 
-pub returns-in-Refused : goal.returns-in-Refused
-returns-in-Refused c =
+pub returns-in-Err : goal.returns-in-Err
+returns-in-Err c =
     let a = c.args in
-    refused_as a.sheet.now (length a.listing.now) (length a.work.now) _ _ c.in-Refused.is c.number.ensures c.line.ensures c.compile.ensures
+    refused_as a.sheet.now (length a.listing.now) (length a.work.now) _ _ c.in-Err.r c.number.ensures c.line.ensures c.in-Err.ensures

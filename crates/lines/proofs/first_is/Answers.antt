@@ -2,7 +2,6 @@
 use native.Mathlib.Omega.{arith}
 use mathlib.Core.Path.{◌∙◌}
 use Rattle.lines.proofs.Line.{form-low, fields-are}
-use borrow.Author.Rules.{rules}
 use Rattle.lines.proofs.first_is.Goals as goal
 
 pub first_is-requires : goal.first_is-requires

@@ -1,10 +1,12 @@
 -- `listing::put_answer` meets its contract.
-use Rattle.listing.proofs.Laws.{listing-printed, refusal-printed}
-use lib.ListN.{length}
+use native.Mathlib.Omega.{arith}
+use mathlib.Core.Path.{ap}
+use Rattle.semantics.specs.Refusal.{printed}
+use Rattle.listing.proofs.Laws.{refusal-printed}
 use Rattle.listing.proofs.put_answer.Goals as goal
 
-pub returns-in-Listed : goal.returns-in-Listed
-returns-in-Listed c = listing-printed c.args.sheet.now (length c.args.out.now) (length c.args.work.now) _ _ c.compile.ensures c.compile.auto.listing c.in-Listed.is
+pub returns-in-Ok : goal.returns-in-Ok
+returns-in-Ok c = (omega (arith, c.in-Ok.ensures.within, c.compile.auto.listing), ap printed c.in-Ok.ensures.answer)
 
-pub returns-in-Refused : goal.returns-in-Refused
-returns-in-Refused c = refusal-printed c.args.sheet.now (length c.args.out.now) (length c.args.work.now) _ _ c.compile.ensures c.compile.auto.listing c.in-Refused.is c.requires c.put_refusal.ensures
+pub returns-in-Err : goal.returns-in-Err
+returns-in-Err c = refusal-printed c.args.sheet.now c.in-Err.r c.in-Err.ensures c.compile.auto.listing c.requires c.put_refusal.ensures

@@ -1,10 +1,6 @@
 -- `pends::pend_rows` meets its contract.
 use Rattle.pends.proofs.Walk.{LinesPended}
-use Prim.Native.Nat.{◌-◌}
 use Rattle.pends.proofs.pend_rows.Given as goal
 
 abbrev pub invariant-loop-i : goal.invariant-loop-i
 invariant-loop-i l = LinesPended l.sheet l.initial.work l.c.lines l.c.consts l.initial.out l.at l.work l.k l.i l.out l.p
-
-abbrev pub decreases-loop-i : goal.decreases-loop-i
-decreases-loop-i l = l.c.lines - l.i

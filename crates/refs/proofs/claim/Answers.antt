@@ -1,13 +1,8 @@
 -- `refs::claim` meets its contract.
-use native.Mathlib.Omega.{arith}
 use Rattle.refs.proofs.Laws.{claim-plain, claim-zero, claim-late, claim-kind, claim-used, claim-good}
 use Rattle.refs.specs.Refs.{used_at}
 use Rattle.form.specs.Table.{kind_at}
 use mathlib.Core.Path.{◌∙◌, sym, ap}
-use Prim.Native.Nat.{◌-◌}
-use borrow.Author.Rules.{rules}
-use borrow.Author.Tests.{not-true, not-false}
-use Rattle.refs.proofs.Letters.{ref-range}
 use Rattle.refs.proofs.claim.Goals as goal
 
 pub returns-then-not-is_ref : goal.returns-then-not-is_ref
@@ -18,12 +13,6 @@ returns-then-r-eq0 c = claim-zero c.args.work.now c.args.k c.args.x c.args.r (sy
 
 pub returns-then-k-r : goal.returns-then-k-r
 returns-then-k-r c = claim-late c.args.work.now c.args.k c.args.x c.args.r (sym c.is_ref.ensures ∙ c.if-not-is_ref.false) c.if-r-eq0.false c.if-k-r.true
-
-pub kind-requires : goal.kind-requires
-kind-requires c = omega (arith, c.form_at.ensures, c.requires.2 (c.args.r - 1) (omega (arith, c.if-r-eq0.false, c.if-k-r.false)))
-
-pub wanted-requires : goal.wanted-requires
-wanted-requires c = (ref-range c.args.x (sym c.is_ref.ensures ∙ c.if-not-is_ref.false)).1
 
 pub returns-then-kind-wanted : goal.returns-then-kind-wanted
 returns-then-kind-wanted c = claim-kind c.args.work.now c.args.k c.args.x c.args.r (sym c.is_ref.ensures ∙ c.if-not-is_ref.false) c.if-r-eq0.false c.if-k-r.false (λ q. c.if-kind-wanted.true (c.kind.ensures ∙ ap kind_at c.form_at.ensures ∙ q ∙ sym c.wanted.ensures))

@@ -1,12 +1,8 @@
 -- `refs::use_refs` meets its contract.
-use native.Mathlib.Omega.{arith}
-use borrow.Author.Rules.{rules}
 use Prim.Native.Nat.{◌-◌, ◌+◌}
-use mathlib.Core.Path.{◌≡◌, ◌∙◌}
+use mathlib.Core.Path.{◌≡◌}
 use lib.ListN.{length}
-use borrow.Author.Tests.{not-true, not-false}
-use Rattle.lines.proofs.Line.{form-low}
-use Rattle.refs.proofs.Laws.{UsingRefs, using-start, using-stop, using-on, using-end, forms-low}
+use Rattle.refs.proofs.Laws.{UsingRefs}
 use Rattle.refs.proofs.use_refs.Given as goal
 
 abbrev pub invariant-loop-w : goal.invariant-loop-w

@@ -1,4 +1,4 @@
--- The numbers of refusals: those of `var` lines are 8 to 12, and those of the checks 1 to 7.
+-- The numbers of refusals: those of `var` lines are 8 to 12.
 use mathlib.Core.Path.{◌≡◌, refl, subst}
 use mathlib.Core.Bool.{Bool, true, false, not, cond}
 use mathlib.Core.List.{List, [], ◌∷◌, ◌++◌}
@@ -283,49 +283,9 @@ vars-late ns (v ∷ vs) = by-late v.line (var_value ns v.it) (vars_refused ns vs
 
 -- ---- numbers and their lines
 
-pub with-line : {q k : ℕ} → 3 ≤ q → q ≤ 12 → RefusalAt q k
+with-line : {q k : ℕ} → 3 ≤ q → q ≤ 12 → RefusalAt q k
 with-line a b = record { first = omega arith; last = omega arith; sheet = λ e. absurd (omega arith); space = λ e. absurd (omega arith); outgrown = λ e. absurd (omega arith) }
 
 pub vars-numbered : (ns : Names) (vs : List (Located VarDecl)) {q k : ℕ} → vars_refused ns vs ≡ Some (record { number = q; line = k }) → RefusalAt q k
 unfolding LateRefusal
 vars-numbered ns vs e = let p = subst LateRefusal e (vars-late ns vs) in with-line (omega (arith, p.0)) p.1
-
--- what is refused has a number
-NamedIs : Outcome → Type 0
-NamedIs (listed x) = Unit {0}
-NamedIs (refused q k) = RefusalAt q k
-
-record Named (o : Outcome) : Type 0 where
-  is : NamedIs o
-
-named : {q k : ℕ} → RefusalAt q k → Named (refused q k)
-unfolding NamedIs
-named n = record { is = n }
-
-one_of : (b : Bool) {o p : Outcome} → Named o → Named p → Named (cond b o p)
-one_of true h k = h
-one_of false h k = k
-
-pub without-line : {q : ℕ} → 1 ≤ q → q ≤ 13 → RefusalAt q 0
-without-line a b = record { first = omega arith; last = omega arith; sheet = λ e. refl; space = λ e. refl; outgrown = λ e. refl }
-
-named-if : (q : ℕ) (b : Bool) {o : Outcome} → 1 ≤ q → q ≤ 13 → Named o → Named (refuse_if q b o)
-named-if q b x y h = one_of b (named (without-line x y)) h
-
-named-at : (q k : ℕ) {o : Outcome} → 3 ≤ q → q ≤ 12 → Named o → Named (refuse_at q k o)
-named-at q k x y h = one_of (eqb k 0) h (named (with-line x y))
-
-tested-named : (w : ℕ) (s : Bytes) {o : Outcome} → Named o → Named (tested w s o)
-tested-named w s h =
-    let rs = reads_of (line_parts s) in
-    named-if 1 (ltb 65535 (length s)) (omega arith) (omega arith)
-    (named-if 2 (ltb w 65536) (omega arith) (omega arith)
-    (named-at 3 (bad_form 1 (line_parts s)) (omega arith) (omega arith)
-    (named-at 4 (bad_ref_from rs 1 [] rs) (omega arith) (omega arith)
-    (named-at 5 (too_deep_from 1 [] rs) (omega arith) (omega arith)
-    (named-at 6 (bad_module_from 1 false rs) (omega arith) (omega arith)
-    (named-at 7 (too_many_from 1 no_counts (nodes_from [] rs)) (omega arith) (omega arith) h))))))
-
-pub tested-numbered : (w : ℕ) (s : Bytes) {q k : ℕ} → ((o : Outcome) → tested w s o ≡ refused q k) → RefusalAt q k
-unfolding NamedIs
-tested-numbered w s h = (subst Named (h (listed [])) (tested-named w s (record { is = tt }))).is
