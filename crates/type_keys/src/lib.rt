@@ -78,10 +78,8 @@ pub fn clear_kinds(work: &mut [u8])
     requires { 65536 ≤ length work.old }
     ensures { (Outside 10624 10629 work.old work.new) × ((k : ℕ) → k < 5 → kind_position work.new k ≡ 0) }
 {
-    let mut k = 0;
-    while k < element::KINDS {
+    for k in 0..element::KINDS {
         work[area::KIND_POSITIONS + k] = 0;
-        k += 1;
     }
 }
 

@@ -1,12 +1,7 @@
 use Prim.Native.Nat.{◌+◌}
 use native.Mathlib.Omega.{arith}
-use borrow.Author.Rules.{rules}
-use mathlib.Core.Path.{◌≡◌}
-use Prim.Native.Nat.{ℕ, ◌-◌, ◌<◌, ◌≤◌}
 use Rattle.checks.proofs.Kept.{outside-all, outside-then, outside_set}
 use Rattle.type_keys.proofs.Table.{cleared-next}
-use Rattle.checks.specs.Checks.{Outside}
-use Rattle.type_keys.specs.Table.{kind_position}
 use Rattle.type_keys.proofs.clear_kinds.Goals as goal
 
 pub loop-k-init : goal.loop-k-init

@@ -3,7 +3,6 @@ use mathlib.Core.Path.{◌∙◌, sym, ap}
 use Rattle.checks.proofs.Kept.{outside-all}
 use Rattle.type_keys.proofs.Table.{kind-outside}
 use Rattle.type_keys.proofs.Elements.{kind-known, kind-new}
-use borrow.Author.Rules.{rules}
 use Rattle.type_keys.proofs.collect_kind.Goals as goal
 
 pub returns-then-kind_position-ne0 : goal.returns-then-kind_position-ne0

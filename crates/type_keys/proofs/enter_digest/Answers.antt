@@ -2,7 +2,6 @@
 use mathlib.Core.Path.{ap, ◌∙◌}
 use native.Mathlib.Omega.{arith}
 use lib.ListN.{length, length-set}
-use borrow.Author.Rules.{rules}
 use Rattle.type_keys.specs.Table.{digest_entered}
 use Rattle.type_keys.proofs.Table.{need-room, digest-long}
 use Rattle.type_keys.proofs.enter_digest.Goals as goal

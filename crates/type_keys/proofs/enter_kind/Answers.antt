@@ -1,6 +1,5 @@
 use borrow.Author.Tests.{lt-ltb, le-ltb}
 use Rattle.type_keys.specs.Table.{kind_entered}
-use borrow.Author.Rules.{rules}
 use Rattle.type_keys.proofs.enter_kind.Goals as goal
 
 pub returns-then-kind-lt-KINDS : goal.returns-then-kind-lt-KINDS

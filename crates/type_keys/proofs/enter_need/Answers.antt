@@ -2,7 +2,6 @@ use native.Mathlib.Omega.{arith}
 use mathlib.Core.Path.{refl}
 use lib.ListN.{length-set}
 use Rattle.type_keys.specs.Table.{need_entered}
-use borrow.Author.Rules.{rules}
 use Rattle.type_keys.proofs.enter_need.Goals as goal
 
 pub bounds-work-q-2 : goal.bounds-work-q-2

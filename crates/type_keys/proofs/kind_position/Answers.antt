@@ -1,5 +1,4 @@
 use Rattle.type_keys.specs.Table.{kind_position}
-use borrow.Author.Rules.{rules}
 use Rattle.type_keys.proofs.kind_position.Goals as goal
 
 pub returns : goal.returns

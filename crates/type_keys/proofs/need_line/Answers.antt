@@ -1,5 +1,4 @@
 use Rattle.type_keys.specs.Table.{need_line_of}
-use borrow.Author.Rules.{rules}
 use Rattle.type_keys.proofs.need_line.Goals as goal
 
 pub returns : goal.returns

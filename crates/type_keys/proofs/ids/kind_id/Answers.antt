@@ -1,6 +1,5 @@
 use Rattle.semantics.specs.Tree.TypeKey.{elem_key}
 use Rattle.type_keys.proofs.Positions.{kind-behind}
-use borrow.Author.Rules.{rules}
 use Rattle.type_keys.proofs.ids.kind_id.Goals as goal
 
 pub returns : goal.returns

@@ -2,7 +2,6 @@ use mathlib.Core.Path.{◌∙◌}
 use Rattle.semantics.specs.Types.{array_key}
 use Rattle.semantics.specs.Sheet.{sheet_source, concat_map}
 use Rattle.type_keys.proofs.Positions.{need-position-stays, keys-are}
-use borrow.Author.Rules.{rules}
 use Rattle.type_keys.proofs.ids.need_id.Goals as goal
 
 pub returns : goal.returns
