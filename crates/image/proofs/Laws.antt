@@ -19,6 +19,7 @@ use Rattle.semantics.specs.Refusal.Imaged.{laid, not_laid}
 use Rattle.semantics.proofs.Common.{never}
 use Rattle.demand.proofs.Theorem.{demand}
 use Rattle.std.specs.Prelude.{Option, None, Some}
+use Rattle.std.proofs.lemmas.Option.{some_pair_parts}
 use Rattle.replay.specs.Whole.{Replays}
 use Rattle.replay.proofs.Meets.{lengths_of, Meets}
 use Rattle.sound.proofs.Replay.{sheet-replayed}
@@ -115,7 +116,8 @@ module _ (s : Bytes) (b : Buffers) where
       → Pictures s b (Ok (record { listing = l; image = i; area = a })) listing image area
   by-image {l} {i} {a} (laid x y) q h image-long area-long e m =
       let f : Some (i, a) ≡ Some (length x, length y) = sym e ∙ m.answer in
-      laid-pictures (source_listing (sheet_source s)) x y h.outcome q h.long h.room h.bytes (cc) m.image_is image-long (cc) m.area_is area-long
+      let g = some_pair_parts i (length x) a (length y) f in
+      laid-pictures (source_listing (sheet_source s)) x y h.outcome q h.long h.room h.bytes g.0 m.image_is image-long g.1 m.area_is area-long
   by-image {l} {i} {a} (not_laid n k) q h image-long area-long e m =
       let f : Some (i, a) ≡ None = sym e ∙ m.answer in
       never cc
