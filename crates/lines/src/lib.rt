@@ -8,7 +8,6 @@ ghost use Rattle.lines.specs.Lines.{text_at, read_at, start, form_at, line_enter
 
 use answers::Refusal;
 use codes::area;
-use words::wide;
 
 const MOST_LINES: usize = 1024;
 
@@ -27,7 +26,7 @@ fn start_of(work: &[u8], i: usize) -> usize
     requires { (i < 1024) × (65536 ≤ length work.now) }
     ensures { result ≡ start work.now i }
 {
-    wide(work[i]) + 256 * wide(work[area::LINE_HIGH + i])
+    usize::from(work[i]) + 256 * usize::from(work[area::LINE_HIGH + i])
 }
 
 // The form of line i, from 0.
@@ -35,7 +34,7 @@ pub fn form_at(work: &[u8], i: usize) -> usize
     requires { (i < 1024) × (65536 ≤ length work.now) }
     ensures { result ≡ form_at work.now i }
 {
-    wide(work[area::LINE_FORMS + i])
+    usize::from(work[area::LINE_FORMS + i])
 }
 
 // The bytes of line i, from 0, as that part of the sheet.

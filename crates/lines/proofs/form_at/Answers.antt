@@ -4,4 +4,4 @@ use Rattle.lines.proofs.form_at.Goals as goal
 
 pub returns : goal.returns
 unfolding form_at
-returns c = c.wide.ensures.0
+returns c = c.from.ensures

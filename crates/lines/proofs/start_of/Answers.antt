@@ -5,4 +5,4 @@ use Rattle.lines.proofs.start_of.Goals as goal
 
 pub returns : goal.returns
 unfolding start
-returns c = omega (arith, c.wide.ensures, c.wide-2.ensures)
+returns c = omega (arith, c.from.ensures, c.from-2.ensures)
