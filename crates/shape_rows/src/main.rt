@@ -9,7 +9,6 @@ ghost use Rattle.sizes.specs.Places.{RecordLine};
 ghost use Rattle.shapes.specs.Shapes.{PickLine, VariantLine};
 ghost use Rattle.maps.specs.Maps.{MapRoom};
 
-use checks::Checks;
 use codes::{area, decl};
 use std::io;
 use std::io::{Read, Write};
@@ -149,8 +148,8 @@ fn print_blocks(out: &mut impl Write, work: &mut [u8]) -> io::Result<()>
 
 fn print_sheet(out: &mut impl Write, sheet: &[u8], work: &mut [u8]) -> io::Result<()> {
     match checks::check(sheet, work) {
-        Checks::Refused(_, _) => writeln!(out, "no"),
-        Checks::Lines(n) => print_lines(out, sheet, work, n),
+        Err(_) => writeln!(out, "no"),
+        Ok(n) => print_lines(out, sheet, work, n),
     }
 }
 
