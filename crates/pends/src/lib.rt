@@ -75,8 +75,7 @@ pub fn pend_rows(
 {
     let mut p = write::nothing(out, at);
     let mut k = None;
-    let mut i = 0;
-    while i < c.lines {
+    for i in 0..c.lines {
         let r = globals::laid_line(sheet, work, c.lines, i, k);
         p = pend_line(sheet, work, c, r, out, p)?;
         k = implement::open_after(sheet, work, c.lines, i, k);

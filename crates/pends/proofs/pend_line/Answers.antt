@@ -7,6 +7,7 @@ use Rattle.placements.proofs.Same.{keeps-all}
 use Rattle.vars.specs.First.{init_in}
 use Rattle.names.specs.Table.{names_in}
 use Rattle.globals.specs.Vars.{laid_on}
+use Rattle.std.specs.Prelude.{Some}
 use mathlib.Core.Path.{ap, refl}
 use Rattle.pends.proofs.pend_line.Goals as goal
 
@@ -30,5 +31,5 @@ returns-in-Refused c =
 pub returns-in-Pending : goal.returns-in-Pending
 returns-in-Pending c = rw c.in-Some.is (line-pending c.args.sheet.now c.in-Some.r _ (rw c.in-Some.is at c.requires.0).first c.var_value.ensures (ap (init_in _) c.in-Pending.is) c.pend_names.ensures, c.var_value.ensures.keeps)
 
-pub returns-in_default : goal.returns-in_default
-returns-in_default c = rw c.in-Some.is (line-quiet c.args.sheet.now c.in-Some.r _ (rw c.in-Some.is at c.requires.0).first c.var_value.ensures c.in_default.not-Pending c.in_default.not-Refused c.nothing-in_default.ensures, c.var_value.ensures.keeps)
+pub returns-in_default-var_value : goal.returns-in_default-var_value
+returns-in_default-var_value c = rw c.in-Some.is (line-quiet c.args.sheet.now c.in-Some.r _ (rw c.in-Some.is at c.requires.0).first c.var_value.ensures c.in_default-var_value.not-Pending c.in_default-var_value.not-Refused c.nothing-in_default-var_value.ensures, c.var_value.ensures.keeps)
