@@ -57,7 +57,7 @@ def owner(crate, file, source, at):
     if not heads:
         return None
     module = re.sub(r"(^|/)(lib|main|mod)$", "", file[len("src/") : -len(".rt")])
-    blocks = list(re.finditer(r"^impl ([A-Za-z0-9]+)|^}", source[:at], re.M))
+    blocks = list(re.finditer(r"^impl(?:<[^>]*>)? ([A-Za-z0-9]+)|^}", source[:at], re.M))
     inside = blocks[-1][1] if blocks else None
     return "::".join(part for part in [crate, *module.split("/"), inside, heads[-1][1]] if part)
 

@@ -22,9 +22,19 @@ pub struct Writer<'a> {
 }
 
 impl<'a> Writer<'a> {
-    ghost use Rattle.std.specs.Prelude.{◌∷◌, []};
+    ghost use Rattle.std.specs.Prelude.{◌∷◌, [], min};
     ghost use Rattle.semantics.specs.Text.{decimal, decimalℤ, hex_of, big_endian};
     ghost use Rattle.write.specs.Writes.{Writes};
+
+    // From a place on; one past the end is as good as any further.
+    pub fn from(out: &'a mut [u8], at: usize) -> Writer<'a>
+        ensures same_buffer { result.out.ghost_name ≡ out.entry.ghost_name }
+        ensures bytes { result.out.now ≡ out.old }
+        ensures place { result.at ≡ min at (length out.old + 1) }
+    {
+        let at = at.min(out.len() + 1);
+        Writer { out, at }
+    }
 
     // One byte.
     pub fn put(&mut self, b: u8)
