@@ -1,5 +1,8 @@
 -- What the enums of kinds stand for.
 use Rattle.std.specs.Prelude.{ℕ, [], ◌∷◌, get_or, Option, None, Some}
+use Rattle.semantics.specs.Tree.{ElemKind}
+use Rattle.codes.specs.declared.element.Element.{Element}
+use Rattle.codes.specs.declared.element.Element.TheVariants as E
 use Rattle.codes.specs.declared.item.Item.{Item}
 use Rattle.codes.specs.declared.item.Item.TheVariants as I
 use Rattle.codes.specs.declared.value.Value.{Value}
@@ -29,3 +32,11 @@ value_number V.Str = 3
 -- and the kind of a number
 abbrev pub value_by : ℕ → Option Value
 value_by n = get_or (None ∷ Some V.Int ∷ Some V.Real ∷ Some V.Str ∷ []) n None
+
+-- a kind of elements
+abbrev pub element_kind : Element → ElemKind
+element_kind E.Byte = ElemKind.k_byte
+element_kind E.Word = ElemKind.k_word
+element_kind E.Big = ElemKind.k_big
+element_kind E.Real = ElemKind.k_real
+element_kind E.Pointer = ElemKind.k_ptr

@@ -1,16 +1,37 @@
-// Kinds of elements of arrays.
-pub const BYTE: u8 = 0;
+// Kinds of elements of arrays, in the order of their numbers.
+ghost use Rattle.std.specs.Prelude.{◌≡◌};
+ghost use Rattle.semantics.specs.Array.{kind_number};
+ghost use Rattle.codes.specs.Kinds.{element_kind};
 
-pub const WORD: u8 = 1;
-
-pub const BIG: u8 = 2;
-
-pub const REAL: u8 = 3;
-
-pub const POINTER: u8 = 4;
-
-// No kind.
-pub const NONE: u8 = 5;
+#[derive(Clone, Copy, PartialEq, Eq)]
+pub enum Element {
+    Byte,
+    Word,
+    Big,
+    Real,
+    Pointer,
+}
 
 // How many kinds there are.
 pub const KINDS: usize = 5;
+
+pub const ALL: [Element; KINDS] = [
+    Element::Byte,
+    Element::Word,
+    Element::Big,
+    Element::Real,
+    Element::Pointer,
+];
+
+// The number by which tables keep what they hold of a kind.
+pub fn number(k: Element) -> usize
+    ensures { result ≡ kind_number (element_kind k) }
+{
+    match k {
+        Element::Byte => 0,
+        Element::Word => 1,
+        Element::Big => 2,
+        Element::Real => 3,
+        Element::Pointer => 4,
+    }
+}
