@@ -19,36 +19,12 @@ use Rattle.semantics.specs.Refusal as Refusal
 use Rattle.semantics.proofs.Common.{never}
 use Rattle.text.proofs.Parts.{until-take, parts-step, parts-one}
 use Rattle.form.specs.Table.{form_of}
-use Rattle.lines.specs.Lines.{text_at, start, form_at, line_entered, Lined, Whole, Above}
+use Rattle.lines.proofs.Line.{indexed}
+use Rattle.lines.specs.Lines.{text_at, start, form_kept, line_entered, Lined, Indexed}
 
 -- ---- the tables
 
--- bytes above the tables of lines may change
-module _ (t u : List ℕ) (alike : (i : ℕ) → i < 3072 → get_or u i 0 ≡ get_or t i 0) where
-  start-kept : (i : ℕ) → i < 1024 → start u i ≡ start t i
-  unfolding start
-  start-kept i h = rw (alike i (omega arith), alike (1024 + i) (omega arith))
-
-  form-kept : (i : ℕ) → i < 1024 → form_at u i ≡ form_at t i
-  unfolding form_at
-  form-kept i h = alike (2048 + i) (omega arith)
-
-  pub whole-kept : {s : List ℕ} {n : ℕ} → length u ≡ length t → Whole s t n → Whole s u n
-  whole-kept e w =
-      let l = w.lined in
-      record {
-        lined = record {
-          few = l.few;
-          at = λ i h. rw (start-kept i (omega (arith, l.few))) (l.at i h);
-          within = λ i h. rw (start-kept i (omega (arith, l.few))) (l.within i h);
-          row = λ i h. rw (form-kept i (omega (arith, l.few))) (l.row i h);
-          good = l.good;
-        };
-        count = w.count;
-        room = rw e w.room;
-      }
-
-module _ (t : List ℕ) (i a f : ℕ) (hi : i < 1024) (ha : a < 65536) (room : 65536 ≤ length t) where
+module _ (t : List ℕ) (i a f : ℕ) (hi : i < 1024) (ha : a < 65536) (room : 3072 ≤ length t) where
   other : (j : ℕ) → (j ≡ i → ⊥) → (j ≡ 1024 + i → ⊥) → (j ≡ 2048 + i → ⊥) → get_or (line_entered t i a f) j 0 ≡ get_or t j 0
   unfolding line_entered
   other j p q r =
@@ -75,14 +51,14 @@ module _ (t : List ℕ) (i a f : ℕ) (hi : i < 1024) (ha : a < 65536) (room : 6
   unfolding start
   start-other j h = rw (other j (omega arith) (omega arith) (omega arith), other (1024 + j) (omega arith) (omega arith) (omega arith))
 
-  form-same : form_at (line_entered t i a f) i ≡ f
-  unfolding form_at line_entered
+  form-same : form_kept (line_entered t i a f) i ≡ f
+  unfolding form_kept line_entered
   form-same =
       get_or-set_same (set (set t i (a % 256)) (1024 + i) (a / 256)) (2048 + i) f 0
       (omega (arith, length-set (set t i (a % 256)) (1024 + i) (a / 256), length-set t i (a % 256)))
 
-  form-other : (j : ℕ) → j < i → form_at (line_entered t i a f) j ≡ form_at t j
-  unfolding form_at
+  form-other : (j : ℕ) → j < i → form_kept (line_entered t i a f) j ≡ form_kept t j
+  unfolding form_kept
   form-other j h = other (2048 + j) (omega arith) (omega arith) (omega arith)
 
 -- ---- parts between LFs
@@ -121,10 +97,10 @@ bad-cons k l [] h = absurd (omega arith)
 bad-cons k l (m ∷ ms) h = refl
 
 -- a line by the tables
-pub line-text : (s t : List ℕ) (n i a e : ℕ) → Whole s t n → i < n → a ≡ start t i → e ≡ a + length (until 10 (drop a s)) → take (e - a) (drop a s) ≡ text_at s i
+pub line-text : (s t : List ℕ) (n i a e : ℕ) → Lined s t n → i < n → a ≡ start t i → e ≡ a + length (until 10 (drop a s)) → take (e - a) (drop a s) ≡ text_at s i
 line-text s t n i a e l h ha he =
     let q : e - a ≡ length (until 10 (drop a s)) = omega arith in
-    rw q (until-take 10 (drop a s) ∙ sym (get-head [] i (Text.line_parts s) (drop 1 (Text.line_parts (drop a s))) (until 10 (drop a s)) (sym (l.lined.at i h) ∙ ap (λ (j : ℕ). Text.line_parts (drop j s)) (sym ha) ∙ parts-cons (drop a s))))
+    rw q (until-take 10 (drop a s) ∙ sym (get-head [] i (Text.line_parts s) (drop 1 (Text.line_parts (drop a s))) (until 10 (drop a s)) (sym (l.at i h) ∙ ap (λ (j : ℕ). Text.line_parts (drop j s)) (sym ha) ∙ parts-cons (drop a s))))
 
 -- the bytes that parts take, with an LF between any two
 abbrev joined_length : List (List ℕ) → ℕ
@@ -150,22 +126,22 @@ parts-joined (b ∷ s) = go (eqb b 10) (Text.line_parts s) (parts-some s) (parts
     go false (p ∷ ps) h e = joined-first b p ps ∙ ap suc e
 
 -- the next line starts behind a line's LF
-next_start : (s t : List ℕ) (n i : ℕ) → Whole s t n → i + 1 < n → start t (i + 1) ≡ start t i + length (until 10 (drop (start t i) s)) + 1
+next_start : (s t : List ℕ) (n i : ℕ) → Lined s t n → i + 1 < n → start t (i + 1) ≡ start t i + length (until 10 (drop (start t i) s)) + 1
 next_start s t n i l h =
     let a = start t i in
     let b = start t (i + 1) in
     let q : i < n = omega arith in
     let tail : Text.line_parts (drop b s) ≡ drop 1 (Text.line_parts (drop a s)) =
-    l.lined.at (i + 1) h ∙ drop-tail i (Text.line_parts s) (drop 1 (Text.line_parts (drop a s))) (until 10 (drop a s)) (sym (l.lined.at i q) ∙ parts-cons (drop a s)) in
+    l.at (i + 1) h ∙ drop-tail i (Text.line_parts s) (drop 1 (Text.line_parts (drop a s))) (until 10 (drop a s)) (sym (l.at i q) ∙ parts-cons (drop a s)) in
     let here : length (drop a s) ≡ length (until 10 (drop a s)) + suc (length (drop b s)) =
     sym (parts-joined (drop a s)) ∙ ap joined_length (parts-cons (drop a s) ∙ ap (λ (ps : List (List ℕ)). until 10 (drop a s) ∷ ps) (sym tail))
     ∙ joined-cons (until 10 (drop a s)) (Text.line_parts (drop b s)) (parts-some (drop b s)) ∙ ap (λ (m : ℕ). length (until 10 (drop a s)) + suc m) (parts-joined (drop b s)) in
-    omega (arith, length-drop a s, length-drop b s, l.lined.within i q, l.lined.within (i + 1) h)
+    omega (arith, length-drop a s, length-drop b s, l.within i q, l.within (i + 1) h)
 
-pub next-line : (s t : List ℕ) (n i : ℕ) {a b : ℕ} → Whole s t n → i + 1 < n → a ≡ start t i → b ≡ start t (i + 1) → (b - 1 ≡ a + length (until 10 (drop a s))) × (0 < b) × (b ≤ length s) × (a ≤ b - 1)
+pub next-line : (s t : List ℕ) (n i : ℕ) {a b : ℕ} → Lined s t n → i + 1 < n → a ≡ start t i → b ≡ start t (i + 1) → (b - 1 ≡ a + length (until 10 (drop a s))) × (0 < b) × (b ≤ length s) × (a ≤ b - 1)
 next-line s t n i {a} {b} l h ha hb =
     let e : b ≡ a + length (until 10 (drop a s)) + 1 = hb ∙ next_start s t n i l h ∙ ap (λ (x : ℕ). x + length (until 10 (drop x s)) + 1) (sym ha) in
-    (omega arith, omega arith, omega (arith, hb, l.lined.within (i + 1) h), omega arith)
+    (omega arith, omega arith, omega (arith, hb, l.within (i + 1) h), omega arith)
 
 -- ---- a turn of the pass
 
@@ -239,7 +215,7 @@ lined-none s t = record {
   good = λ i h. absurd (omega arith);
 }
 
-module _ (s t u : List ℕ) (n a f : ℕ) (l : Lined s t n) (room : 65536 ≤ length t) (hu : u ≡ line_entered t n a f) (full : n < 1024) (small : a < 65536)
+module _ (s t u : List ℕ) (n a f : ℕ) (l : Lined s t n) (room : 3072 ≤ length t) (hu : u ≡ line_entered t n a f) (full : n < 1024) (small : a < 65536)
     (here : Text.line_parts (drop a s) ≡ drop n (Text.line_parts s)) (within : a ≤ length s) (hf : f ≡ Form.row_of Form.forms (text_at s n)) (good : Form.formed (n + 1) (text_at s n) ≡ true) where
   cases : (i m : ℕ) → i ≤ m → (i ≡ m) ⊎ (i < m)
   cases i m h = eq-or-lt_of_le h
@@ -259,7 +235,7 @@ module _ (s t u : List ℕ) (n a f : ℕ) (l : Lined s t n) (room : 65536 ≤ le
     few = omega arith;
     at = each (λ i. Text.line_parts (drop (start u i) s) ≡ drop i (Text.line_parts s)) (λ i h. rw (old i h) (l.at i h)) (rw new here);
     within = each (λ i. start u i ≤ length s) (λ i h. rw (old i h) (l.within i h)) (rw new within);
-    row = each (λ i. form_at u i ≡ Form.row_of Form.forms (text_at s i)) (λ i h. rw hu (form-other t n a f full small room i h ∙ l.row i h)) (rw hu (form-same t n a f full small room ∙ hf));
+    row = each (λ i. form_kept u i ≡ Form.row_of Form.forms (text_at s i)) (λ i h. rw hu (form-other t n a f full small room i h ∙ l.row i h)) (rw hu (form-same t n a f full small room ∙ hf));
     good = each (λ i. Form.formed (i + 1) (text_at s i) ≡ true) (λ i h. l.good i h) good;
   }
 
@@ -275,9 +251,9 @@ pub going_start : (s t : List ℕ) → Going s t 0 0
 going_start s t = record { lined = lined-none s t; low = omega arith; here = refl; same = refl }
 
 module _ (s t : List ℕ) (at n e : ℕ) (g : Going s t at n) (he : e ≡ at + length (until 10 (drop at s))) where
-  pub going_done : 65536 ≤ length t → e ≡ length s → at ≡ e → Whole s t n × (Refusal.bad_form 1 (Text.line_parts s) ≡ 0)
-  going_done room l k =
-      (record { lined = g.lined; count = ends-count s at n e g.low g.here he l; room = room }, ends-good s at n e g.low g.here he l k g.same)
+  pub going_done : e ≡ length s → at ≡ e → Indexed s t n × (Refusal.bad_form 1 (Text.line_parts s) ≡ 0)
+  going_done l k =
+      (indexed g.lined (ends-count s at n e g.low g.here he l), ends-good s at n e g.low g.here he l k g.same)
 
   pub going-unended : e ≡ length s → (at ≡ e → ⊥) → (Refusal.bad_form 1 (Text.line_parts s) ≡ n + 1) × (0 < n + 1)
   going-unended l k = (ends-bad s at n e g.low g.here he l k g.same, omega arith)
@@ -296,7 +272,7 @@ module _ (s t : List ℕ) (at n e : ℕ) (g : Going s t at n) (he : e ≡ at + l
       pub going-none : o ≡ None → (Refusal.bad_form 1 (Text.line_parts s) ≡ n + 1) × (0 < n + 1)
       going-none z = (form-bad s at n e g.low g.here he more g.same less (has-no-form (n + 1) (text_at s n) (sym z ∙ ho')), omega arith)
 
-      pub going_on : (u : List ℕ) {f : ℕ} → o ≡ Some f → length s ≤ 65535 → 65536 ≤ length t → u ≡ line_entered t n at f → Going s u (e + 1) (n + 1)
+      pub going_on : (u : List ℕ) {f : ℕ} → o ≡ Some f → length s ≤ 65535 → 3072 ≤ length t → u ≡ line_entered t n at f → Going s u (e + 1) (n + 1)
       going_on u {f} z small room hu =
           let w = has-form (n + 1) f (text_at s n) (sym z ∙ ho') in
           record {
@@ -305,6 +281,3 @@ module _ (s t : List ℕ) (at n e : ℕ) (g : Going s t at n) (he : e ≡ at + l
             here = next-parts s at n e g.low g.here he more;
             same = form-good s at n e g.low g.here he more g.same less w.0;
           }
-
-pub above-entered : (t u v : List ℕ) (i a f : ℕ) → i < 1024 → a < 65536 → 65536 ≤ length u → Above t u → v ≡ line_entered u i a f → Above t v
-above-entered t u v i a f hi ha room h e j k = rw e (other u i a f hi ha room j (omega arith) (omega arith) (omega arith) ∙ h j k)

@@ -1,5 +1,5 @@
 -- What the tables say of a line: its form, and the fields that its form has.
-use mathlib.Core.Path.{◌≡◌, refl, ap, ◌∙◌}
+use mathlib.Core.Path.{◌≡◌, refl, sym, ap, ◌∙◌}
 use mathlib.Core.Bool.{Bool, true, not, ◌&&◌, ◌||◌}
 use mathlib.Core.List.{List, [], ◌∷◌}
 use Prim.Native.Nat.{ℕ, zero, suc, ◌+◌, ◌-◌, ◌≤◌, ◌<◌}
@@ -14,7 +14,7 @@ use Rattle.semantics.specs.Refusal.{no_read}
 use Rattle.form.specs.Table.{row_count, row_at, kind_at, fields_behind}
 use Rattle.semantics.proofs.Common.{both}
 use Rattle.form.proofs.Table.{row-count}
-use Rattle.lines.specs.Lines.{text_at, reads_in, read_at, form_at, Whole}
+use Rattle.lines.specs.Lines.{text_at, reads_in, read_at, form_at, form_kept, lines_in, Whole, Lined, Indexed}
 
 -- ---- a line that has a form
 
@@ -54,27 +54,40 @@ reads-length [] = refl
 reads-length (p ∷ []) = refl
 reads-length (p ∷ (q ∷ ps)) = let h = reads-length (q ∷ ps) in omega arith
 
-module _ (s t : List ℕ) (n : ℕ) (w : Whole s t n) where
-  pub line-count : length (reads_in s) ≡ n
-  line-count = reads-length (line_parts s) ∙ omega (arith, w.count)
-
-  module _ (i : ℕ) (h : i < n) where
+module _ (s : List ℕ) (w : Whole s) where
+  module _ (i : ℕ) (h : i < lines_in s) where
     pub read_is : read_at s i ≡ Form.read_of (text_at s i)
     read_is = reads_at (line_parts s) i (omega (arith, w.count))
 
-    pub form-low : form_at t i < row_count
-    form-low = rw (w.lined.row i h) (row_below (i + 1) (text_at s i) (w.lined.good i h))
+    pub form-low : form_at s i < row_count
+    form-low = row_below (i + 1) (text_at s i) (w.good i h)
 
-    pub form-is : (read_at s i).form ≡ row_at (form_at t i)
+    pub form-is : (read_at s i).form ≡ row_at (form_at s i)
     unfolding Form.read_of
-    form-is = ap (λ (r : Form.Read). r.form) read_is ∙ rw (w.lined.row i h)
+    form-is = ap (λ (r : Form.Read). r.form) read_is
 
-    pub kind-is : Form.letter (read_at s i).form.kind ≡ kind_at (form_at t i)
+    pub kind-is : Form.letter (read_at s i).form.kind ≡ kind_at (form_at s i)
     kind-is = ap (λ (r : Form.Row). Form.letter r.kind) form-is
 
-    pub fields-are : (read_at s i).fields ≡ fields_behind (form_at t i) (text_at s i)
+    pub fields-are : (read_at s i).fields ≡ fields_behind (form_at s i) (text_at s i)
     unfolding Form.read_of
-    fields-are = ap (λ (r : Form.Read). r.fields) read_is ∙ rw (w.lined.row i h)
+    fields-are = ap (λ (r : Form.Read). r.fields) read_is 
 
-    pub read_fits : Form.fits (row_at (form_at t i)).parts (read_at s i).fields ≡ true
-    read_fits = rw (← form-is, read_is) (fields_fit (i + 1) (text_at s i) (w.lined.good i h))
+    pub read_fits : Form.fits (row_at (form_at s i)).parts (read_at s i).fields ≡ true
+    read_fits = rw (← form-is, read_is) (fields_fit (i + 1) (text_at s i) (w.good i h))
+
+-- ---- lines that are in the table
+
+line-count : (s : List ℕ) {n : ℕ} → length (line_parts s) ≡ n + 1 → lines_in s ≡ n
+unfolding lines_in
+line-count s e = reads-length (line_parts s) ∙ omega (arith, e)
+
+pub indexed : {s t : List ℕ} {n : ℕ} → Lined s t n → length (line_parts s) ≡ n + 1 → Indexed s t n
+indexed {s} {t} {n} l e =
+    let q : lines_in s ≡ n = line-count s e in
+    record { whole = record { few = rw q l.few; count = rw q e; good = λ i h. l.good i (rw q at h) }; count = sym q; lined = rw q l }
+
+pub form-here : {s t : List ℕ} {n f : ℕ} → Indexed s t n → (i : ℕ) → i < lines_in s → f ≡ form_kept t i → (f ≡ form_at s i) × (f < row_count) × Whole s
+form-here {s} x i h e =
+    let q = e ∙ x.lined.row i h in
+    (q, omega (arith, q, form-low s x.whole i h), x.whole)
