@@ -1,8 +1,8 @@
-// Where the tables of the working space begin. The first, of the low bytes of the starts of lines, begins at 0. Used lines and
-// depths are free after the checks.
-pub const LINE_HIGH: usize = 1024;
+// Where the tables of the working space begin. Used lines and depths are free after the checks.
+pub const SPACE: usize = 62464;
 
-pub const LINE_FORMS: usize = 2048;
+// The working space but for the table of lines.
+pub type Space = [u8; SPACE];
 
 pub const USED: usize = 3072;
 

@@ -54,6 +54,10 @@ reads-length [] = refl
 reads-length (p ∷ []) = refl
 reads-length (p ∷ (q ∷ ps)) = let h = reads-length (q ∷ ps) in omega arith
 
+pub line-count : (s : List ℕ) → length (reads_in s) ≡ lines_in s
+unfolding lines_in
+line-count s = refl
+
 module _ (s : List ℕ) (w : Whole s) where
   module _ (i : ℕ) (h : i < lines_in s) where
     pub read_is : read_at s i ≡ Form.read_of (text_at s i)
@@ -78,13 +82,13 @@ module _ (s : List ℕ) (w : Whole s) where
 
 -- ---- lines that are in the table
 
-line-count : (s : List ℕ) {n : ℕ} → length (line_parts s) ≡ n + 1 → lines_in s ≡ n
+count-is : (s : List ℕ) {n : ℕ} → length (line_parts s) ≡ n + 1 → lines_in s ≡ n
 unfolding lines_in
-line-count s e = reads-length (line_parts s) ∙ omega (arith, e)
+count-is s e = reads-length (line_parts s) ∙ omega (arith, e)
 
 pub indexed : {s t : List ℕ} {n : ℕ} → Lined s t n → length (line_parts s) ≡ n + 1 → Indexed s t n
 indexed {s} {t} {n} l e =
-    let q : lines_in s ≡ n = line-count s e in
+    let q : lines_in s ≡ n = count-is s e in
     record { whole = record { few = rw q l.few; count = rw q e; good = λ i h. l.good i (rw q at h) }; count = sym q; lined = rw q l }
 
 pub form-here : {s t : List ℕ} {n f : ℕ} → Indexed s t n → (i : ℕ) → i < lines_in s → f ≡ form_kept t i → (f ≡ form_at s i) × (f < row_count) × Whole s

@@ -12,7 +12,7 @@ use Rattle.semantics.specs.Text.{any}
 use Rattle.semantics.specs.Form.{Read, letter}
 use Rattle.semantics.specs.Refusal.{Ref, no_read, line_at, refs_of, good_ref, use_all, bad_ref_from}
 use Rattle.semantics.proofs.Common.{never, both}
-use Rattle.lines.specs.Lines.{reads_in, read_at, Whole}
+use Rattle.lines.specs.Lines.{lines_in, reads_in, read_at, Whole}
 use Rattle.lines.proofs.Line.{line-count}
 use Rattle.refs.specs.Refs.{fine_ref, fine_refs}
 
@@ -58,5 +58,5 @@ pass-fine ls (m ∷ ms) k us e i l = go (use_all ls (k + 1) (refs_of m) us) refl
         let y : suc (k + 1) ≡ k + 1 + 1 = omega arith in
         rw z (ih vs (rw (q, y) at e) j (omega arith))
 
-pub refs-fine : (s t : List ℕ) (n : ℕ) → Whole s t n → bad_ref_from (reads_in s) 1 [] (reads_in s) ≡ 0 → (i : ℕ) → i < n → fine_refs (reads_in s) i (refs_of (read_at s i)) ≡ true
-refs-fine s t n w e i h = let z : 0 + i ≡ i = omega arith in rw z at (pass-fine (reads_in s) (reads_in s) 0 [] e i (omega (arith, line-count s t n w)))
+pub refs-fine : (s : List ℕ) → Whole s → bad_ref_from (reads_in s) 1 [] (reads_in s) ≡ 0 → (i : ℕ) → i < lines_in s → fine_refs (reads_in s) i (refs_of (read_at s i)) ≡ true
+refs-fine s w e i h = let z : 0 + i ≡ i = omega arith in rw z at (pass-fine (reads_in s) (reads_in s) 0 [] e i (omega (arith, line-count s)))

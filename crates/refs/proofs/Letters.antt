@@ -6,8 +6,7 @@ use Rattle.std.specs.Prelude.{Option, None, Some}
 use Prim.Native.Nat.{ℕ, ◌+◌, ◌-◌, ◌≤◌, ◌<◌, min}
 use native.Mathlib.Omega.{arith}
 use lib.Dec.{leb, ltb}
-use lib.ListN.{length, set, length-set}
-use lib.Seq.{get_or-set_other}
+use lib.ListN.{length}
 use borrow.Author.Tests.{lt-ltb, le-ltb, leb-true, ltb-true}
 use Rattle.semantics.specs.Text as Text
 use Rattle.semantics.specs.Form as Form
@@ -21,9 +20,8 @@ use Rattle.form.specs.Letters.{after, letters_left, letter_holds, letters_from, 
 use Rattle.semantics.proofs.Common.{both}
 use Rattle.form.proofs.Table.{fine, parts-fine}
 use Rattle.form.proofs.Laws.{fields-end, one-after, many-after, ones-fine, kind-letter, ref-holds, walk_begins}
-use Rattle.lines.specs.Lines.{text_at, read_at, form_at, Whole}
+use Rattle.lines.specs.Lines.{lines_in, text_at, read_at, form_at, Whole}
 use Rattle.lines.proofs.Line.{form-low, form-is, fields-are, read_fits}
-use Rattle.lines.proofs.Laws.{whole-kept}
 use Rattle.refs.specs.Refs.{is_ref, wanted_by, ref_by, refs_by}
 
 -- ---- letters say what the table's parts say
@@ -98,15 +96,15 @@ as_ref x f = record { kind = wanted_by x; optional = ltb x 64; line = Form.numbe
 unfoldable pub refs_left : ℕ → List ℕ → Walk → List Refusal.Ref
 refs_left f l w = refs_by (letters_from f w) (fields_left l w)
 
-module _ (s t : List ℕ) (n i : ℕ) (w : Whole s t n) (h : i < n) (l : List ℕ) (f : ℕ) (hl : l ≡ text_at s i) (hf : f ≡ form_at t i) where
+module _ (s : List ℕ) (i : ℕ) (w : Whole s) (h : i < lines_in s) (l : List ℕ) (f : ℕ) (hl : l ≡ text_at s i) (hf : f ≡ form_at s i) where
   pub refs-begin : Refusal.refs_of (read_at s i) ≡ refs_by (letters_from f (beginning f)) (fields_left l (beginning f))
   unfolding letters_left
   refs-begin =
-      rw (form-is s t n w i h, fields-are s t n w i h, hf, hl)
-      (sym (refs-codes _ (row_at (form_at t i)).parts (parts-fine (form_at t i) (form-low s t n w i h))))
+      rw (form-is s w i h, fields-are s w i h, hf, hl)
+      (sym (refs-codes _ (row_at (form_at s i)).parts (parts-fine (form_at s i) (form-low s w i h))))
 
   pub stands : WalkAt f l (beginning f)
-  stands = rw (hf, hl) (walk_begins (form_at t i) (text_at s i) (form-low s t n w i h) (rw (fields-are s t n w i h) at (read_fits s t n w i h)))
+  stands = rw (hf, hl) (walk_begins (form_at s i) (text_at s i) (form-low s w i h) (rw (fields-are s w i h) at (read_fits s w i h)))
 
 pub refs-step : (f : ℕ) (l : List ℕ) (w u : Walk) (x v : ℕ) (q : WalkStepped f l w x v u) → refs_by (letters_from f w) (fields_left l w) ≡ ref_by x q.field (refs_by (letters_from f u) (fields_left l u))
 unfolding refs_by
@@ -117,6 +115,3 @@ unfolding refs_by
 refs_end f l w h = rw (fields-end w.at l h)
 
 -- ---- bytes above the tables of lines may change
-
-pub whole_set : (s t : List ℕ) (n j y : ℕ) → Whole s t n → Whole s (set t (3072 + j) y) n
-whole_set s t n j y w = whole-kept t (set t (3072 + j) y) (λ i h. get_or-set_other t (3072 + j) i y 0 (omega arith)) (length-set t (3072 + j) y) w

@@ -18,7 +18,7 @@ use Rattle.semantics.specs.Sheet.{nodes_from}
 use Rattle.semantics.specs.Refusal.{Ref, no_read, ref_of, refs_in, bad_ref_from}
 use Rattle.form.specs.Table.{row_node}
 use Rattle.semantics.proofs.Common.{never, both}
-use Rattle.lines.specs.Lines.{reads_in, read_at, nodes_in, form_at, Whole}
+use Rattle.lines.specs.Lines.{lines_in, reads_in, read_at, nodes_in, form_at, Whole}
 use Rattle.lines.proofs.Line.{line-count, form-is, read_fits}
 use Rattle.refs.specs.Refs.{fine_ref, fine_refs}
 use Rattle.refs.proofs.Fine.{needed-ref, refs-fine}
@@ -107,16 +107,16 @@ module _ (ls : List Read) (ns : List Node) (i : ℕ) where
 
 -- ---- the node of a line is what its form makes of its fields, with references among all nodes
 
-pub node-count : (s t : List ℕ) (n : ℕ) → Whole s t n → length (nodes_in s) ≡ n
-node-count s t n w = nodes-length (reads_in s) [] ∙ omega (arith, line-count s t n w)
+pub node-count : (s : List ℕ) → Whole s → length (nodes_in s) ≡ lines_in s
+node-count s w = nodes-length (reads_in s) [] ∙ omega (arith, line-count s)
 
-module _ (s t : List ℕ) (n : ℕ) (w : Whole s t n) (good : bad_ref_from (reads_in s) 1 [] (reads_in s) ≡ 0) (i : ℕ) (h : i < n) where
+module _ (s : List ℕ) (w : Whole s) (good : bad_ref_from (reads_in s) 1 [] (reads_in s) ≡ 0) (i : ℕ) (h : i < lines_in s) where
   pub node-of : get_or (nodes_in s) i no_node ≡ node_of (take i (nodes_in s)) (read_at s i)
-  node-of = let z : 0 + i ≡ i = omega arith in rw z at (node-step (reads_in s) [] i (omega (arith, line-count s t n w)))
+  node-of = let z : 0 + i ≡ i = omega arith in rw z at (node-step (reads_in s) [] i (omega (arith, line-count s)))
 
-  pub node-at : get_or (nodes_in s) i no_node ≡ row_node (nodes_in s) (form_at t i) (read_at s i).fields
+  pub node-at : get_or (nodes_in s) i no_node ≡ row_node (nodes_in s) (form_at s i) (read_at s i).fields
   unfolding node_of
   node-at =
       node-of
-      ∙ make_same (reads_in s) (nodes_in s) i (read_at s i).form.parts (read_at s i).form.make (read_at s i).fields (refs-fine s t n w good i h) (rw (form-is s t n w i h) (read_fits s t n w i h))
-      ∙ ap (λ (r : Form.Row). make r.parts r.make (nodes_in s) (read_at s i).fields) (form-is s t n w i h)
+      ∙ make_same (reads_in s) (nodes_in s) i (read_at s i).form.parts (read_at s i).form.make (read_at s i).fields (refs-fine s w good i h) (rw (form-is s w i h) (read_fits s w i h))
+      ∙ ap (λ (r : Form.Row). make r.parts r.make (nodes_in s) (read_at s i).fields) (form-is s w i h)

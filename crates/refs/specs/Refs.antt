@@ -30,11 +30,11 @@ unfoldable pub used_at : Bytes → ℕ → ℕ
 used_at t i = get_or t (3072 + i) 0
 
 -- whether the field with letter x and number r is no reference of line k, or a good one
-unfoldable pub claims : Bytes → ℕ → ℕ → ℕ → Bool
-claims t k x r =
+unfoldable pub claims : Bytes → Bytes → ℕ → ℕ → ℕ → Bool
+claims s t k x r =
     cond (is_ref x)
     (cond (eqb r 0) (ltb x 64)
-    (ltb r k && eqb (kind_at (form_at t (r - 1))) (wanted_by x) && eqb (used_at t (r - 1)) 0))
+    (ltb r k && eqb (kind_at (form_at s (r - 1))) (wanted_by x) && eqb (used_at t (r - 1)) 0))
     true
 
 unfoldable pub used_marked : Bytes → ℕ → ℕ → Bytes

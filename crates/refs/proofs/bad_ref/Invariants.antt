@@ -3,4 +3,4 @@ use Rattle.refs.proofs.Laws.{Passing}
 use Rattle.refs.proofs.bad_ref.Given as goal
 
 abbrev pub invariant-loop-i : goal.invariant-loop-i
-invariant-loop-i l = Passing l.sheet l.work l.n l.i
+invariant-loop-i l = Passing l.sheet l.work l.i
