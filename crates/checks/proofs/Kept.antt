@@ -1,4 +1,4 @@
--- Where what stands below a place, or outside two, is kept: a checked sheet stays checked where its tables are kept.
+-- Where what stands below a place, or outside two, is kept.
 use mathlib.Core.Path.{◌≡◌, refl, sym, ap, ◌∙◌}
 use mathlib.Core.List.{List}
 use Prim.Native.Nat.{ℕ, ◌+◌, ◌-◌, ◌≤◌, ◌<◌}
@@ -8,8 +8,7 @@ use lib.Seq.{get_or-take, take-take, take-set-le, drop-set-lt, get_or-drop, drop
 use Rattle.write.specs.Wrote.{over, Wrote}
 use Rattle.write.proofs.Wrote.{length_over}
 use Rattle.write.proofs.Over.{take-over, drop-over}
-use Rattle.lines.proofs.Laws.{whole-kept}
-use Rattle.checks.specs.Checks.{Kept, Outside, Checked, KindLine}
+use Rattle.checks.specs.Checks.{Kept, Outside}
 
 pub kept-all : {k : ℕ} {t : List ℕ} → Kept k t t
 kept-all = record { below = refl; long = refl }
@@ -55,21 +54,3 @@ wrote_kept {d} {a} {t} w = rw w.bytes (over-kept d a t)
 
 pub wrote-outside : {d : List ℕ} {a : ℕ} {t e : List ℕ} {b : ℕ} → Wrote d a t e b → Outside a (a + length t) d e
 wrote-outside {d} {a} {t} w = rw w.bytes (over-outside d a t)
-
--- ---- a checked sheet
-
-module _ {t u : List ℕ} (a : Kept 3072 t u) where
-  pub checked-kept : {s : List ℕ} {n : ℕ} → Checked s t n → Checked s u n
-  checked-kept c = record {
-    whole = whole-kept t u (kept_at a) a.long c.whole;
-    good = c.good;
-    fine = c.fine;
-    once = c.once;
-    low = c.low;
-    falls = c.falls;
-    modules = c.modules;
-    bounds = c.bounds;
-  }
-
-  pub kind-line-kept : {k : ℕ} {s : List ℕ} {n r : ℕ} → KindLine k s t n r → KindLine k s u n r
-  kind-line-kept l = record { checked = checked-kept l.checked; first = l.first; last = l.last; kind = l.kind }

@@ -1,34 +1,33 @@
 -- Laws of the checks together.
 use mathlib.Core.Path.{◌≡◌, refl, sym, ap, ◌∙◌}
 use mathlib.Core.Bool.{false}
-use mathlib.Core.List.{List, [], ◌∷◌, map}
-use Rattle.std.specs.Prelude.{Option, None, Result}
+use mathlib.Core.List.{List, [], ◌∷◌, ◌++◌, map}
+use Rattle.std.specs.Prelude.{Option, None, Result, Ok, Err}
 use Prim.Native.Nat.{ℕ, suc, ◌+◌, ◌≤◌}
 use native.Mathlib.Omega.{arith}
+use borrow.Author.Tests.{le-ltb}
+use lib.Seq.{take-append_seam}
 use lib.ListN.{length, get_or, length-append, length-map, length-replicate}
 use Rattle.semantics.specs.Text.{line_parts}
 use Rattle.semantics.specs.Refusal.{Outcome, zeros, no_counts, bad_form, bad_ref_from, too_deep_from, bad_module_from, too_many_from, checked, tested, worked, compiled}
 use Rattle.semantics.specs.Tree.{Declares, Node}
 use Rattle.semantics.specs.Sheet.{Module, Located, open_after, located_from, declared, sheet_source}
 use Rattle.semantics.proofs.Common.{zeros-at}
-use Rattle.lines.specs.Lines.{reads_in, nodes_in, Whole, Above}
+use Rattle.lines.specs.Lines.{reads_in, nodes_in, Whole}
 use Rattle.answers.specs.declared.Refusal.{Refusal}
 use Rattle.refs.specs.Refs.{used_at, Used}
 use Rattle.refs.proofs.Fine.{refs-fine}
 use Rattle.refs.proofs.Once.{used-once}
 use Rattle.nesting.proofs.Depths.{depth_low, refs-lower}
 use Rattle.counts.proofs.Bounds.{within-bounds}
-use Rattle.checks.specs.Checks.{settled, Checked}
+use Rattle.checks.specs.Checks.{settled, Checked, Passes, PassesChecks}
 
 -- ---- zeros
 
-pub zeros_of : (t : List ℕ) (n : ℕ) → t ≡ zeros n → t ≡ zeros (length t)
-zeros_of t n e = e ∙ ap zeros (sym (ap length e ∙ length-replicate n 0))
-
 -- no line is used where the table is zero
-pub unused : (t u : List ℕ) → t ≡ zeros (length t) → Above t u → Used u []
+pub unused : (n : ℕ) (t : List ℕ) → t ≡ zeros n → Used t []
 unfolding used_at
-unused t u z a i h = a (3072 + i) (omega arith) ∙ ap (λ (l : List ℕ). get_or l (3072 + i) 0) z ∙ zeros-at (length t) (3072 + i)
+unused n t z i h = ap (λ (l : List ℕ). get_or l (3072 + i) 0) z ∙ zeros-at n (3072 + i)
 
 -- ---- refusals 3 to 7, where there is none
 
@@ -37,17 +36,27 @@ module _ (s : List ℕ) (formed : bad_form 1 (line_parts s) ≡ 0) (refs : bad_r
   pub ruled-well : (o : Outcome) → checked (line_parts s) o ≡ o
   ruled-well o = rw (formed, refs, nests, modules, counts)
 
-  pub all-checked : (t : List ℕ) (n : ℕ) → Whole s t n → Checked s t n
-  all-checked t n w = record {
+  pub all-checked : Whole s → Checked s
+  all-checked w = record {
     whole = w;
     good = refs;
-    fine = λ i h. refs-fine s t n w refs i h;
+    fine = λ i h. refs-fine s w refs i h;
     once = λ r h. used-once (reads_in s) r h refs;
-    low = λ i h. depth_low s t n w i h nests;
-    falls = λ i h. refs-lower s t n w i h refs;
+    low = λ i h. depth_low s w i h nests;
+    falls = λ i h. refs-lower s w i h refs;
     modules = modules;
     bounds = within-bounds (nodes_in s) counts;
   }
+
+-- ---- refusals 1 and 2
+
+module _ (s : List ℕ) (w : ℕ) (room : 65536 ≤ w) where
+  pub tested-in : (o : Outcome) → length s ≤ 65535 → tested w s o ≡ checked (line_parts s) o
+  tested-in o h = rw (le-ltb 65535 (length s) h, le-ltb w 65536 room)
+
+  pub table-first : (t v : List ℕ) (r : Result ℕ Refusal) → Passes s t r → PassesChecks s w (t ++ v) r
+  table-first t v (Ok n) p = (rw (← p.0.long) (rw (take-append_seam t v) p), room)
+  table-first t v (Err r) p = tt
 
 -- what compiling gives, by the answer
 pub compiled_by : (s : List ℕ) (work : ℕ) (r : Result ℕ Refusal) → ((o : Outcome) → tested work s o ≡ settled r o) → (listing : ℕ) → compiled listing work s ≡ settled r (worked listing (sheet_source s))
@@ -63,6 +72,6 @@ located-length {A} f k o (n ∷ ns) =
     let rest = open_after k n.declares o in
     omega (arith, length-append (map at (f n.declares)) (located_from f (suc k) rest ns), length-map (f n.declares) at, located-length f (suc k) rest ns, length-append (f n.declares) (declared f ns))
 
-pub few-consts : {s t : List ℕ} {n : ℕ} → Checked s t n → length (sheet_source s).consts ≤ 128
+pub few-consts : {s : List ℕ} → Checked s → length (sheet_source s).consts ≤ 128
 unfolding sheet_source
 few-consts {s} c = omega (arith, located-length (λ (d : Declares). d.consts) 1 None (nodes_in s), c.bounds.consts)

@@ -4,39 +4,52 @@
 ghost use Rattle.std.specs.Prelude.{◌≡◌, ◌≤◌, length};
 ghost use Rattle.semantics.specs.Text.{line_parts};
 ghost use Rattle.semantics.specs.Refusal.{Outcome, checked, tested, zeros};
-ghost use Rattle.checks.specs.Checks.{settled, CheckedTables, PassesChecks};
+ghost use Rattle.checks.specs.Checks.{settled, Passes, PassesChecks, CheckedTable};
 
 use answers::Refusal;
+use codes::area::{SPACE, Space};
+use lines::{Sheet, TABLE};
 
 const LONGEST_SHEET: usize = 65535;
 
 const LEAST_WORK: usize = 65536;
 
 // Refusals 3 to 7, in a working space of zeros.
-fn rules(sheet: &[u8], work: &mut [u8]) -> Result<usize, Refusal>
-    requires { (length sheet.now ≤ 65535) × (65536 ≤ length work.old) × (work.old ≡ zeros (length work.old)) }
-    ensures { ((o : Outcome) → checked (line_parts sheet.now) o ≡ settled result o) × (PassesChecks sheet.now work.new result) }
+fn rules(text: &[u8], table: &mut [u8; TABLE], work: &mut Space) -> Result<usize, Refusal>
+    requires { (length text.now ≤ 65535) × (work.old ≡ zeros 62464) }
+    ensures { ((o : Outcome) → checked (line_parts text.now) o ≡ settled result o) × (Passes text.now table.new result) }
 {
-    let n = lines::index(sheet, work)?;
-    refs::bad_ref(sheet, work, n)?;
-    nesting::too_deep(sheet, work, n)?;
-    modules::bad_module(sheet, work, n)?;
-    counts::too_many(sheet, work, n)?;
+    let n = lines::index(text, table)?;
+    let sheet = Sheet::of(text, table, n);
+    refs::bad_ref(&sheet, work)?;
+    nesting::too_deep(&sheet, work)?;
+    modules::bad_module(&sheet)?;
+    counts::too_many(&sheet)?;
     Ok(n)
 }
 
-// The number of lines of a sheet that passes, with its tables in the working space; or its refusal, and zeros there.
-pub fn check(sheet: &[u8], work: &mut [u8]) -> Result<usize, Refusal>
-    ensures { ((o : Outcome) → tested (length work.old) sheet.now o ≡ settled result o) × (CheckedTables sheet.now work.new result) }
+// The same with 1 and 2.
+fn tests(text: &[u8], work: &mut [u8]) -> Result<usize, Refusal>
+    requires { work.old ≡ zeros (length work.old) }
+    ensures { ((o : Outcome) → tested (length work.old) text.now o ≡ settled result o) × (PassesChecks text.now (length work.old) work.new result) }
 {
-    write::zero(work);
-    if LONGEST_SHEET < sheet.len() {
+    if LONGEST_SHEET < text.len() {
         return Err(Refusal::LongSheet);
     }
     if work.len() < LEAST_WORK {
         return Err(Refusal::SmallSpace);
     }
-    let result = rules(sheet, work);
+    let (table, rest) = work.split_first_chunk_mut::<TABLE>().unwrap();
+    let space = rest.first_chunk_mut::<SPACE>().unwrap();
+    rules(text, table, space)
+}
+
+// The number of lines of a sheet that passes, with the table of them in the working space; or its refusal, and zeros there.
+pub fn check(text: &[u8], work: &mut [u8]) -> Result<usize, Refusal>
+    ensures { ((o : Outcome) → tested (length work.old) text.now o ≡ settled result o) × (CheckedTable text.now (length work.old) work.new result) }
+{
+    write::zero(work);
+    let result = tests(text, work);
     if result.is_err() {
         write::zero(work);
     }

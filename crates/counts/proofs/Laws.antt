@@ -23,7 +23,7 @@ use Rattle.form.specs.Table.{row_at, row_node}
 use Rattle.form.specs.Letters.{letters_from, fields_left, beginning, WalkAt, WalkStepped}
 use Rattle.semantics.proofs.Common.{never, both}
 use Rattle.form.proofs.Table.{row-count, Only, only-pc, only-pick, only-var, form-of-kind, each_at}
-use Rattle.lines.specs.Lines.{text_at, reads_in, read_at, nodes_in, form_at, Whole}
+use Rattle.lines.specs.Lines.{lines_in, text_at, reads_in, read_at, nodes_in, form_at, Whole}
 use Rattle.lines.proofs.Line.{line-short, form-low, form-is, kind-is, read_fits}
 use Rattle.refs.specs.Refs as Refs
 use Rattle.refs.specs.Refs.{is_ref, wanted_by, fine_ref, fine_refs}
@@ -36,33 +36,33 @@ use Rattle.counts.proofs.Forms.{from_cases, case_tags, CountsAs, all-count}
 
 -- ---- the lines of a sheet by their kinds
 
-module _ (s t : List ℕ) (n : ℕ) (w : Whole s t n) where
-  form-for : {k f : ℕ} → Only k f → (i : ℕ) → i < n → letter (read_at s i).form.kind ≡ k → form_at t i ≡ f
-  form-for o i h e = form-of-kind o (form_at t i) (form-low s t n w i h) (sym (kind-is s t n w i h) ∙ e)
+module _ (s : List ℕ) (w : Whole s) where
+  form-for : {k f : ℕ} → Only k f → (i : ℕ) → i < lines_in s → letter (read_at s i).form.kind ≡ k → form_at s i ≡ f
+  form-for o i h e = form-of-kind o (form_at s i) (form-low s w i h) (sym (kind-is s w i h) ∙ e)
 
-  pub tags-exact : (i : ℕ) → i < n → letter (read_at s i).form.kind ≡ 67 → Number.number_up_to 65536 (get_or (read_at s i).fields 0 []) ≡ field_number (read_at s i) 0
+  pub tags-exact : (i : ℕ) → i < lines_in s → letter (read_at s i).form.kind ≡ 67 → Number.number_up_to 65536 (get_or (read_at s i).fields 0 []) ≡ field_number (read_at s i) 0
   unfolding forms
   tags-exact i h e =
-      let f : form_at t i ≡ 25 = form-for only-pc i h e in
-      (count-exact (get_or (read_at s i).fields 0 []) (first_count Form.Atom.name (many (ref k_fd) ∷ []) (read_at s i).fields (rw f at (read_fits s t n w i h))) refl).0
+      let f : form_at s i ≡ 25 = form-for only-pc i h e in
+      (count-exact (get_or (read_at s i).fields 0 []) (first_count Form.Atom.name (many (ref k_fd) ∷ []) (read_at s i).fields (rw f at (read_fits s w i h))) refl).0
 
-  pub names-exact : (i : ℕ) → i < n → letter (read_at s i).form.kind ≡ 72 → Number.number_up_to 65536 (get_or (read_at s i).fields 2 []) ≡ field_number (read_at s i) 2
+  pub names-exact : (i : ℕ) → i < lines_in s → letter (read_at s i).form.kind ≡ 72 → Number.number_up_to 65536 (get_or (read_at s i).fields 2 []) ≡ field_number (read_at s i) 2
   unfolding forms
   names-exact i h e =
-      let f : form_at t i ≡ 29 = form-for only-var i h e in
-      (count-exact (get_or (read_at s i).fields 2 []) (third-count _ _ Form.Atom.name [] (read_at s i).fields (rw f at (read_fits s t n w i h))) refl).0
+      let f : form_at s i ≡ 29 = form-for only-var i h e in
+      (count-exact (get_or (read_at s i).fields 2 []) (third-count _ _ Form.Atom.name [] (read_at s i).fields (rw f at (read_fits s w i h))) refl).0
 
   module _ (good : bad_ref_from (reads_in s) 1 [] (reads_in s) ≡ 0) where
     -- the tags of a `pc` line
-    case-node : (j : ℕ) → j < n → letter (read_at s j).form.kind ≡ 67 → length (get_or (nodes_in s) j no_node).case.tags ≡ field_number (read_at s j) 0
+    case-node : (j : ℕ) → j < lines_in s → letter (read_at s j).form.kind ≡ 67 → length (get_or (nodes_in s) j no_node).case.tags ≡ field_number (read_at s j) 0
     unfolding forms
     case-node j h e =
-        let f : form_at t j ≡ 25 = form-for only-pc j h e in
-        ap (λ (m : Node). length m.case.tags) (node-at s t n w good j h)
+        let f : form_at s j ≡ 25 = form-for only-pc j h e in
+        ap (λ (m : Node). length m.case.tags) (node-at s w good j h)
         ∙ ap (λ (g : ℕ). length (row_node (nodes_in s) g (read_at s j).fields).case.tags) f
         ∙ values_length Form.Atom.name (nodes_in s) _ _ ∙ ap number_of (head-drop 0 (read_at s j).fields)
 
-    module _ (i : ℕ) (hi : i < n) where
+    module _ (i : ℕ) (hi : i < lines_in s) where
       case-tags : (m : ℕ) → fine_ref (reads_in s) (i + 1) (record { kind = 67; optional = false; line = m }) ≡ true → field_number (line_at (reads_in s) m) 0 ≡ length (node_at (nodes_in s) m).case.tags
       case-tags m h = let k = needed-ref (reads_in s) (i + 1) 67 m h in sym (case-node (m - 1) (omega (arith, k.0, k.1)) k.2)
 
@@ -113,10 +113,10 @@ module _ (s t : List ℕ) (n : ℕ) (w : Whole s t n) where
       pick-tags : letter (read_at s i).form.kind ≡ 66 → tags_in (reads_in s) (refs_of (read_at s i)) ≡ case_tags (nodes_in s) (number_of (head_part (from_cases (read_at s i).fields))) (tail_parts (from_cases (read_at s i).fields))
       unfolding forms pick_parts
       pick-tags e =
-          let f : form_at t i ≡ 27 = form-for only-pick i hi e in
-          let p : (read_at s i).form.parts ≡ pick_parts = ap (λ (r : Form.Row). r.parts) (form-is s t n w i hi) ∙ ap (λ (g : ℕ). (row_at g).parts) f in
+          let f : form_at s i ≡ 27 = form-for only-pick i hi e in
+          let p : (read_at s i).form.parts ≡ pick_parts = ap (λ (r : Form.Row). r.parts) (form-is s w i hi) ∙ ap (λ (g : ℕ). (row_at g).parts) f in
           ap (λ (ps : List Form.Part). tags_in (reads_in s) (refs_in ps (read_at s i).fields)) p
-          ∙ pick-fields (read_at s i).fields (rw f at (read_fits s t n w i hi)) (rw p at (refs-fine s t n w good i hi))
+          ∙ pick-fields (read_at s i).fields (rw f at (read_fits s w i hi)) (rw p at (refs-fine s w good i hi))
 
       records-are : cond (eqb (letter (read_at s i).form.kind) 65) 1 (cond (eqb (letter (read_at s i).form.kind) 66) (1 + case_tags (nodes_in s) (number_of (head_part (from_cases (read_at s i).fields))) (tail_parts (from_cases (read_at s i).fields)) + 0) 0) ≡ records_on (reads_in s) (read_at s i)
       unfolding records_on
@@ -139,9 +139,9 @@ module _ (s t : List ℕ) (n : ℕ) (w : Whole s t n) where
       pub line-adds : (c : Counts) → counted (get_or (nodes_in s) i no_node).declares c ≡ added (reads_in s) (read_at s i) c
       unfolding added
       line-adds c =
-          ap (λ (m : Node). counted m.declares c) (node-at s t n w good i hi)
-          ∙ each_at CountsAs forms all-count (form_at t i) (omega (arith, row-count, form-low s t n w i hi)) (nodes_in s) (read_at s i).fields c
-          ∙ rw (← kind-is s t n w i hi, records-are, names-are)
+          ap (λ (m : Node). counted m.declares c) (node-at s w good i hi)
+          ∙ each_at CountsAs forms all-count (form_at s i) (omega (arith, row-count, form-low s w i hi)) (nodes_in s) (read_at s i).fields c
+          ∙ rw (← kind-is s w i hi, records-are, names-are)
 
 -- ---- the walk over the fields of a line
 
@@ -152,12 +152,12 @@ pub record TagsCounted (s : List ℕ) (i f : ℕ) (l : List ℕ) (w : Walk) (d :
   pub same : tags_in (reads_in s) (refs_of (read_at s i)) ≡ d + tags_in (reads_in s) (Refs.refs_by (letters_from f w) (fields_left l w))
   pub small : d ≤ 65537 * min w.at 256
 
-pub tags-start : (s t : List ℕ) (n i : ℕ) → Whole s t n → bad_ref_from (reads_in s) 1 [] (reads_in s) ≡ 0 → i < n → (l : List ℕ) (f : ℕ) → l ≡ text_at s i → f ≡ form_at t i → (w : Walk) → w ≡ beginning f → TagsCounted s i f l w 0
-tags-start s t n i w good h l f hl hf u hu =
-    let e = refs-begin s t n i w h l f hl hf in
+pub tags-start : (s : List ℕ) (i : ℕ) → Whole s → bad_ref_from (reads_in s) 1 [] (reads_in s) ≡ 0 → i < lines_in s → (l : List ℕ) (f : ℕ) → l ≡ text_at s i → f ≡ form_at s i → (w : Walk) → w ≡ beginning f → TagsCounted s i f l w 0
+tags-start s i w good h l f hl hf u hu =
+    let e = refs-begin s i w h l f hl hf in
     rw hu (record {
-      standing = stands s t n i w h l f hl hf;
-      fine = rw e at (refs-fine s t n w good i h);
+      standing = stands s i w h l f hl hf;
+      fine = rw e at (refs-fine s w good i h);
       same = ap (tags_in (reads_in s)) e ∙ omega arith;
       small = omega arith;
     })
@@ -240,8 +240,8 @@ module _ (s : List ℕ) (n i : ℕ) (few : n ≤ 1024) (hi : i < n) (f : ℕ) (l
 pub tags-end : (s : List ℕ) (i f : ℕ) (l : List ℕ) (w : Walk) (d : ℕ) → length l < w.at → TagsCounted s i f l w d → (d ≡ tags_in (reads_in s) (refs_of (read_at s i))) × (d ≤ 16777472)
 tags-end s i f l w d h g = (sym (g.same ∙ rw (refs_end f l w h) (omega arith)), omega (arith, g.small))
 
-pub length-line : (s t : List ℕ) (n i : ℕ) → Whole s t n → i < n → (l : List ℕ) → l ≡ text_at s i → length l ≤ 255
-length-line s t n i w h l e = rw e (line-short (i + 1) (text_at s i) (w.lined.good i h))
+pub length-line : (s : List ℕ) (i : ℕ) → Whole s → i < lines_in s → (l : List ℕ) → l ≡ text_at s i → length l ≤ 255
+length-line s i w h l e = rw e (line-short (i + 1) (text_at s i) (w.good i h))
 
 -- ---- what the readers of a line answer, by its kind
 
@@ -304,17 +304,17 @@ many-nil : (k : ℕ) (c : Counts) → too_many_from k c [] ≡ 0
 unfolding too_many_from
 many-nil k c = refl
 
-module _ (s t : List ℕ) (n : ℕ) (w : Whole s t n) (good : bad_ref_from (reads_in s) 1 [] (reads_in s) ≡ 0) (i : ℕ) (c : Counts) (g : Counting s i c) where
-  pub counting-end : n ≤ i → 0 ≡ too_many_from 1 no_counts (nodes_in s)
-  counting-end h = sym (g.same ∙ rw (drop_of_length-le (nodes_in s) {i = i} (omega (arith, node-count s t n w))) (many-nil (i + 1) c))
+module _ (s : List ℕ) (w : Whole s) (good : bad_ref_from (reads_in s) 1 [] (reads_in s) ≡ 0) (i : ℕ) (c : Counts) (g : Counting s i c) where
+  pub counting-end : lines_in s ≤ i → 0 ≡ too_many_from 1 no_counts (nodes_in s)
+  counting-end h = sym (g.same ∙ rw (drop_of_length-le (nodes_in s) {i = i} (omega (arith, node-count s w))) (many-nil (i + 1) c))
 
-  module _ (h : i < n) (d : Counts) (hd : d ≡ added (reads_in s) (read_at s i) c) where
+  module _ (h : i < lines_in s) (d : Counts) (hd : d ≡ added (reads_in s) (read_at s i) c) where
     opened : too_many_from 1 no_counts (nodes_in s) ≡ cond (over_limits d) (i + 1) (too_many_from (i + 1 + 1) d (drop (i + 1) (nodes_in s)))
     opened =
         g.same
-        ∙ ap (too_many_from (i + 1) c) (drop-cons (nodes_in s) i no_node (omega (arith, node-count s t n w)))
+        ∙ ap (too_many_from (i + 1) c) (drop-cons (nodes_in s) i no_node (omega (arith, node-count s w)))
         ∙ many-cons (i + 1) c (get_or (nodes_in s) i no_node) (drop (suc i) (nodes_in s))
-        ∙ ap (λ (e : Counts). cond (over_limits e) (i + 1) (too_many_from (suc (i + 1)) e (drop (suc i) (nodes_in s)))) (line-adds s t n w good i h c ∙ sym hd)
+        ∙ ap (λ (e : Counts). cond (over_limits e) (i + 1) (too_many_from (suc (i + 1)) e (drop (suc i) (nodes_in s)))) (line-adds s w good i h c ∙ sym hd)
         ∙ rw (← add-one (i + 1), ← add-one i)
 
     pub counting-over : {b : Bool} → b ≡ over_limits d → b ≡ true → i + 1 ≡ too_many_from 1 no_counts (nodes_in s)

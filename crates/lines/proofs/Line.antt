@@ -86,10 +86,10 @@ count-is : (s : List ℕ) {n : ℕ} → length (line_parts s) ≡ n + 1 → line
 unfolding lines_in
 count-is s e = reads-length (line_parts s) ∙ omega (arith, e)
 
-pub indexed : {s t : List ℕ} {n : ℕ} → Lined s t n → length (line_parts s) ≡ n + 1 → Indexed s t n
-indexed {s} {t} {n} l e =
+pub indexed : {s t : List ℕ} {n : ℕ} → length t ≡ 3072 → Lined s t n → length (line_parts s) ≡ n + 1 → Indexed s t n
+indexed {s} {t} {n} k l e =
     let q : lines_in s ≡ n = count-is s e in
-    record { whole = record { few = rw q l.few; count = rw q e; good = λ i h. l.good i (rw q at h) }; count = sym q; lined = rw q l }
+    record { long = k; whole = record { few = rw q l.few; count = rw q e; good = λ i h. l.good i (rw q at h) }; count = sym q; lined = rw q l }
 
 pub form-here : {s t : List ℕ} {n f : ℕ} → Indexed s t n → (i : ℕ) → i < lines_in s → f ≡ form_kept t i → (f ≡ form_at s i) × (f < row_count) × Whole s
 form-here {s} x i h e =

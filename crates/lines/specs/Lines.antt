@@ -59,6 +59,7 @@ pub record Lined (s t : Bytes) (n : ℕ) : Type 0 where
 
 -- it holds all lines, of which there are n
 pub record Indexed (s t : Bytes) (n : ℕ) : Type 0 where
+  pub long : length t ≡ 3072
   pub whole : Whole s
   pub count : n ≡ lines_in s
   pub lined : Lined s t (lines_in s)

@@ -133,7 +133,7 @@ impl<'a> Sheet<'a> {
     // Field j of line i behind its keywords, as that part of the line; empty where there is none.
     pub fn field_at(&self, i: usize, j: usize) -> &'a [u8]
         requires { i < lines_in self.now }
-        ensures { result.now ≡ get_or (read_at self.now i).fields j [] }
+        ensures { (result.now ≡ get_or (read_at self.now i).fields j []) × Whole self.now }
     {
         form::field(self.line_at(i), self.form_at(i), j)
     }
@@ -149,7 +149,7 @@ impl<'a> Sheet<'a> {
     // The field as a number: 65536 where it is larger, 65537 where it is none.
     pub fn number_at(&self, i: usize, j: usize) -> usize
         requires { i < lines_in self.now }
-        ensures { (result ≡ number_up_to 65536 (get_or (read_at self.now i).fields j [])) × (result ≤ 65537) }
+        ensures { (result ≡ number_up_to 65536 (get_or (read_at self.now i).fields j [])) × (result ≤ 65537) × Whole self.now }
     {
         form::number(self.field_at(i, j))
     }

@@ -11,7 +11,7 @@ use Rattle.semantics.specs.Form as Form
 use Rattle.semantics.specs.Refusal.{no_read, bad_module_from}
 use Rattle.semantics.proofs.Common.{never}
 use Rattle.form.specs.Table.{kind_at}
-use Rattle.lines.specs.Lines.{reads_in, read_at, form_at, Whole}
+use Rattle.lines.specs.Lines.{lines_in, reads_in, read_at, form_at, Whole}
 use Rattle.lines.proofs.Line.{line-count, kind-is}
 use Rattle.modules.specs.Modules.{wrong, opens}
 
@@ -39,14 +39,14 @@ open-late {s} {i} {b} g e = go i g.late
     go zero h = never (sym (h refl) ∙ e)
     go (suc j) h = omega arith
 
-module _ (s t : List ℕ) (n i : ℕ) (w : Whole s t n) (b : Bool) (g : Walked s i b) where
-  module _ (h : i < n) (k : ℕ) (hk : k ≡ kind_at (form_at t i)) where
+module _ (s : List ℕ) (i : ℕ) (w : Whole s) (b : Bool) (g : Walked s i b) where
+  module _ (h : i < lines_in s) (k : ℕ) (hk : k ≡ kind_at (form_at s i)) where
     opened : bad_module_from 1 false (reads_in s) ≡ cond (wrong k b) (i + 1) (bad_module_from (i + 1 + 1) (opens k b) (drop (i + 1) (reads_in s)))
     opened =
         g.same
-        ∙ ap (bad_module_from (i + 1) b) (drop-cons (reads_in s) i no_read (omega (arith, line-count s t n w)))
+        ∙ ap (bad_module_from (i + 1) b) (drop-cons (reads_in s) i no_read (omega (arith, line-count s)))
         ∙ module-cons (i + 1) b (read_at s i) (drop (suc i) (reads_in s))
-        ∙ rw (kind-is s t n w i h, ← hk, ← add-one (i + 1), ← add-one i)
+        ∙ rw (kind-is s w i h, ← hk, ← add-one (i + 1), ← add-one i)
 
     pub module-bad : {r : Bool} → r ≡ wrong k b → r ≡ true → i + 1 ≡ bad_module_from 1 false (reads_in s)
     module-bad p e = sym (opened ∙ rw (sym p ∙ e))
@@ -54,11 +54,11 @@ module _ (s t : List ℕ) (n i : ℕ) (w : Whole s t n) (b : Bool) (g : Walked s
     pub module-next : {r c : Bool} → r ≡ wrong k b → r ≡ false → c ≡ opens k b → Walked s (i + 1) c
     module-next p e q = record { same = opened ∙ rw (sym p ∙ e, ← q); late = λ z. absurd (omega (arith, z)) }
 
-  at-end : i ≡ n → bad_module_from 1 false (reads_in s) ≡ cond b (i + 1 - 1) 0
-  at-end h = g.same ∙ rw (drop_of_length-le (reads_in s) {i = i} (omega (arith, line-count s t n w))) (module-nil (i + 1) b)
+  at-end : i ≡ lines_in s → bad_module_from 1 false (reads_in s) ≡ cond b (i + 1 - 1) 0
+  at-end h = g.same ∙ rw (drop_of_length-le (reads_in s) {i = i} (omega (arith, line-count s))) (module-nil (i + 1) b)
 
-  pub module-open : i ≡ n → b ≡ true → n ≡ bad_module_from 1 false (reads_in s)
+  pub module-open : i ≡ lines_in s → b ≡ true → lines_in s ≡ bad_module_from 1 false (reads_in s)
   module-open h e = sym (at-end h ∙ rw e (omega arith))
 
-  pub module-closed : i ≡ n → b ≡ false → 0 ≡ bad_module_from 1 false (reads_in s)
+  pub module-closed : i ≡ lines_in s → b ≡ false → 0 ≡ bad_module_from 1 false (reads_in s)
   module-closed h e = sym (at-end h ∙ rw e)

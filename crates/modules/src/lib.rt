@@ -3,12 +3,13 @@
 
 ghost use Rattle.std.specs.Prelude.{◌≡◌, false};
 ghost use Rattle.semantics.specs.Refusal.{bad_module_from};
-ghost use Rattle.lines.specs.Lines.{reads_in, Whole};
+ghost use Rattle.lines.specs.Lines.{reads_in};
 ghost use Rattle.answers.specs.Answers.{first_line};
 ghost use Rattle.answers.specs.declared.Refusal.TheVariants.{BadModule};
 ghost use Rattle.modules.specs.Modules.{wrong, opens};
 
 use answers::Refusal;
+use lines::Sheet;
 use codes::kind;
 
 #[tactic(auto, unfolding(crate::specs::Modules::wrong))]
@@ -36,13 +37,13 @@ fn is_open(k: u8, inside: bool) -> bool
 }
 
 // Refused at the first `mod` inside a module or `end` outside one, or else at the last line where a module is left open.
-pub fn bad_module(sheet: &[u8], work: &[u8], n: usize) -> Result<(), Refusal>
-    requires { Whole sheet.now work.now n }
+pub fn bad_module(sheet: &Sheet) -> Result<(), Refusal>
     ensures { result ≡ first_line BadModule (bad_module_from 1 false (reads_in sheet.now)) }
 {
+    let n = sheet.count();
     let mut inside = false;
     for i in 0..n {
-        let k = form::kind(lines::form_at(work, i));
+        let k = form::kind(sheet.form_at(i));
         if is_wrong(k, inside) {
             return Err(Refusal::BadModule(i + 1));
         }

@@ -11,7 +11,7 @@ use borrow.Author.Tests.{lt-ltb, leb-true, ltb-true, eqb-false}
 use Rattle.semantics.specs.Form.{Read}
 use Rattle.semantics.specs.Refusal.{Ref, no_read, refs_of, deepest, too_deep_from, bad_ref_from}
 use Rattle.semantics.proofs.Common.{both}
-use Rattle.lines.specs.Lines.{reads_in, read_at, Whole}
+use Rattle.lines.specs.Lines.{lines_in, reads_in, read_at, Whole}
 use Rattle.lines.proofs.Line.{line-count}
 use Rattle.refs.specs.Refs.{fine_ref, fine_refs}
 use Rattle.refs.proofs.Fine.{refs-fine}
@@ -76,12 +76,12 @@ lower-all ls i (r ∷ rs) f h =
         let m : max (get_or (take i (depths_from [] ls)) (r.line - 1) 0) (deepest (take i (depths_from [] ls)) rs) < depth_of ls i = rw q at h in
         rw (q, lt-ltb (depth_of ls (r.line - 1)) (depth_of ls i) (omega (arith, t)), ih)
 
-module _ (s t : List ℕ) (n : ℕ) (w : Whole s t n) (i : ℕ) (h : i < n) where
+module _ (s : List ℕ) (w : Whole s) (i : ℕ) (h : i < lines_in s) where
   pub depth_low : too_deep_from 1 [] (reads_in s) ≡ 0 → depth_of (reads_in s) i ≤ 32
-  depth_low e = let z : 0 + i ≡ i = omega arith in rw z at (pass-low (reads_in s) [] 1 i (omega arith) e (omega (arith, line-count s t n w)))
+  depth_low e = let z : 0 + i ≡ i = omega arith in rw z at (pass-low (reads_in s) [] 1 i (omega arith) e (omega (arith, line-count s)))
 
   pub refs-lower : bad_ref_from (reads_in s) 1 [] (reads_in s) ≡ 0 → lower_refs (reads_in s) i (refs_of (read_at s i)) ≡ true
   refs-lower good =
       let z : 0 + i ≡ i = omega arith in
-      let e : depth_of (reads_in s) i ≡ suc (deepest (take i (depths_from [] (reads_in s))) (refs_of (read_at s i))) = rw z at (depth-step (reads_in s) [] i (omega (arith, line-count s t n w))) in
-      lower-all (reads_in s) i (refs_of (read_at s i)) (refs-fine s t n w good i h) (omega (arith, e))
+      let e : depth_of (reads_in s) i ≡ suc (deepest (take i (depths_from [] (reads_in s))) (refs_of (read_at s i))) = rw z at (depth-step (reads_in s) [] i (omega (arith, line-count s))) in
+      lower-all (reads_in s) i (refs_of (read_at s i)) (refs-fine s w good i h) (omega (arith, e))

@@ -16,10 +16,10 @@ use Rattle.semantics.specs.Refusal.{Ref, no_read, refs_of, deepest, too_deep_fro
 use Rattle.decimal.specs.Number as Number
 use Rattle.form.specs.declared.Walk.{Walk}
 use Rattle.form.specs.Letters.{letter_holds, letters_from, fields_left, beginning, WalkAt, WalkStepped}
-use Rattle.lines.specs.Lines.{text_at, reads_in, read_at, form_at, Whole}
+use Rattle.lines.specs.Lines.{lines_in, text_at, reads_in, read_at, form_at, Whole}
 use Rattle.lines.proofs.Line.{line-count}
 use Rattle.refs.specs.Refs.{is_ref, ref_by, refs_by}
-use Rattle.refs.proofs.Letters.{ref-number, refs-begin, stands, refs-step, refs_end, whole_set}
+use Rattle.refs.proofs.Letters.{ref-number, refs-begin, stands, refs-step, refs_end}
 use Rattle.nesting.specs.Nesting.{depth_at, ref_depth, Depths}
 
 module _ (t : List ℕ) (i x v : ℕ) where
@@ -84,10 +84,10 @@ pub record DeepestTo (s t : List ℕ) (i f : ℕ) (l : List ℕ) (w : Walk) (acc
   pub standing : WalkAt f l w
   pub same : (ds : List ℕ) → Depths t ds i → deepest ds (refs_of (read_at s i)) ≡ max acc (deepest ds (refs_by (letters_from f w) (fields_left l w)))
 
-pub deepest-start : (s t : List ℕ) (n i : ℕ) → Whole s t n → i < n → (l : List ℕ) (f : ℕ) → l ≡ text_at s i → f ≡ form_at t i → (w : Walk) → w ≡ beginning f → DeepestTo s t i f l w 0
-deepest-start s t n i w h l f hl hf u hu = rw hu (record {
-  standing = stands s t n i w h l f hl hf;
-  same = λ ds d. ap (deepest ds) (refs-begin s t n i w h l f hl hf) ∙ omega arith;
+pub deepest-start : (s t : List ℕ) (i : ℕ) → Whole s → i < lines_in s → (l : List ℕ) (f : ℕ) → l ≡ text_at s i → f ≡ form_at s i → (w : Walk) → w ≡ beginning f → DeepestTo s t i f l w 0
+deepest-start s t i w h l f hl hf u hu = rw hu (record {
+  standing = stands s i w h l f hl hf;
+  same = λ ds d. ap (deepest ds) (refs-begin s i w h l f hl hf) ∙ omega arith;
 })
 
 assoc : (a b c : ℕ) → max a (max b c) ≡ max (max a b) c
@@ -108,7 +108,7 @@ deepest-end s t i f l w acc h g ds d = sym (g.same ds d ∙ rw (refs_end f l w h
 
 -- ---- the pass over all lines
 
-depths-more : (t ds : List ℕ) (i q : ℕ) → i < 1024 → 65536 ≤ length t → Depths t ds i → Depths (set t (4096 + i) q) (ds ++ (q ∷ [])) (i + 1)
+depths-more : (t ds : List ℕ) (i q : ℕ) → i < 1024 → 5120 ≤ length t → Depths t ds i → Depths (set t (4096 + i) q) (ds ++ (q ∷ [])) (i + 1)
 unfolding depth_at
 depths-more t ds i q small room d = record {
   count = length-append ds (q ∷ []) ∙ omega (arith, d.count);
@@ -128,14 +128,10 @@ depths-more t ds i q small room d = record {
     below j k =
         get_or-set_other t (4096 + i) (4096 + j) q 0 (omega arith) ∙ d.each j k ∙ sym (get_or-append ds (q ∷ []) 0 j (omega (arith, d.count)))
 
-pub record Descending (s t : List ℕ) (n i : ℕ) : Type 0 where
-  pub whole : Whole s t n
+pub record Descending (s t : List ℕ) (i : ℕ) : Type 0 where
   pub ds : List ℕ
   pub depths : Depths t ds i
   pub same : too_deep_from 1 [] (reads_in s) ≡ too_deep_from (i + 1) ds (drop i (reads_in s))
-
-pub descending-start : (s t : List ℕ) (n : ℕ) → Whole s t n → Descending s t n 0
-descending-start s t n w = record { whole = w; ds = []; depths = record { count = refl; each = λ j h. absurd (omega arith) }; same = refl }
 
 deep-cons : (k : ℕ) (ds : List ℕ) (l : Form.Read) (ls : List Form.Read)
     → too_deep_from k ds (l ∷ ls) ≡ cond (leb (suc (deepest ds (refs_of l))) 32) (too_deep_from (suc k) (ds ++ (suc (deepest ds (refs_of l)) ∷ [])) ls) k
@@ -146,28 +142,25 @@ deep-nil : (k : ℕ) (ds : List ℕ) → too_deep_from k ds [] ≡ 0
 unfolding too_deep_from
 deep-nil k ds = refl
 
-module _ (s t : List ℕ) (n i : ℕ) (p : Descending s t n i) where
-  pub descending-end : n ≤ i → 0 ≡ too_deep_from 1 [] (reads_in s)
-  descending-end h = sym (p.same ∙ rw (drop_of_length-le (reads_in s) {i = i} (omega (arith, line-count s t n p.whole))) (deep-nil (i + 1) p.ds))
+module _ (s t : List ℕ) (i : ℕ) (p : Descending s t i) where
+  pub descending-end : lines_in s ≤ i → 0 ≡ too_deep_from 1 [] (reads_in s)
+  descending-end h = sym (p.same ∙ rw (drop_of_length-le (reads_in s) {i = i} (omega (arith, line-count s))) (deep-nil (i + 1) p.ds))
 
-  module _ (h : i < n) (d : ℕ) (hd : (ds : List ℕ) → Depths t ds i → d ≡ deepest ds (refs_of (read_at s i))) where
+  module _ (h : i < lines_in s) (d : ℕ) (hd : (ds : List ℕ) → Depths t ds i → d ≡ deepest ds (refs_of (read_at s i))) where
     opened : too_deep_from 1 [] (reads_in s) ≡ cond (leb (d + 1) 32) (too_deep_from (i + 1 + 1) (p.ds ++ ((d + 1) ∷ [])) (drop (i + 1) (reads_in s))) (i + 1)
     opened =
         p.same
-        ∙ ap (too_deep_from (i + 1) p.ds) (drop-cons (reads_in s) i no_read (omega (arith, line-count s t n p.whole)))
+        ∙ ap (too_deep_from (i + 1) p.ds) (drop-cons (reads_in s) i no_read (omega (arith, line-count s)))
         ∙ deep-cons (i + 1) p.ds (read_at s i) (drop (suc i) (reads_in s))
         ∙ rw (← hd p.ds p.depths, ← add-one (i + 1), ← add-one i, ← add-one d)
 
     pub descending-bad : 32 < d + 1 → i + 1 ≡ too_deep_from 1 [] (reads_in s)
     descending-bad k = sym (opened ∙ rw (lt-leb (d + 1) 32 (omega arith)))
 
-    pub descending-next : (u : List ℕ) → d + 1 ≤ 32 → u ≡ set t (4096 + i) (d + 1) → Descending s u n (i + 1)
-    descending-next u k hu =
-        let few = p.whole.lined.few in
-        let place : 4096 + i ≡ 3072 + (1024 + i) = omega arith in
+    pub descending-next : (u : List ℕ) → i < 1024 → 5120 ≤ length t → d + 1 ≤ 32 → u ≡ set t (4096 + i) (d + 1) → Descending s u (i + 1)
+    descending-next u few room k hu =
         rw hu (record {
-          whole = rw place (whole_set s t n (1024 + i) (d + 1) p.whole);
           ds = p.ds ++ ((d + 1) ∷ []);
-          depths = depths-more t p.ds i (d + 1) (omega arith) p.whole.room p.depths;
+          depths = depths-more t p.ds i (d + 1) few room p.depths;
           same = opened ∙ rw (le-leb (d + 1) 32 (omega arith));
         })

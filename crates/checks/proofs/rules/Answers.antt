@@ -5,13 +5,17 @@ use Rattle.checks.proofs.Laws.{unused, ruled-well, all-checked}
 use Rattle.checks.proofs.rules.Goals as goal
 
 pub bad_ref-requires : goal.bad_ref-requires
-bad_ref-requires c = (c.in_ok-n.ensures.0.0, unused c.args.work.now c.index.new.work c.requires.2 c.in_ok-n.ensures.1)
+bad_ref-requires c = unused 62464 c.args.work.now c.requires.1
+
+pub too_many-requires : goal.too_many-requires
+too_many-requires c = none-bad BadReference _ c.in_ok-bad_ref.ensures
 
 pub returns : goal.returns
 returns c =
-    let formed = c.in_ok-n.ensures.0.1 in
-    let refs = none-bad BadReference _ c.in_ok-bad_ref.ensures.1 in
-    let nests = none-bad DeepNesting _ c.in_ok-too_deep.ensures.1 in
-    let modules = none-bad BadModule _ c.in_ok-bad_module.ensures in
-    let counts = none-bad TooMany _ c.in_ok-too_many.ensures in
-    (ruled-well c.args.sheet.now formed refs nests modules counts, all-checked c.args.sheet.now formed refs nests modules counts c.too_deep.new.work c.in_ok-n.n c.in_ok-too_deep.ensures.0)
+    let q = c.of-sheet.ensures.0 in
+    let formed = c.in_ok-n.ensures.1 in
+    let refs = rw q at (none-bad BadReference _ c.in_ok-bad_ref.ensures) in
+    let nests = rw q at (none-bad DeepNesting _ c.in_ok-too_deep.ensures) in
+    let modules = rw q at (none-bad BadModule _ c.in_ok-bad_module.ensures) in
+    let counts = rw q at (none-bad TooMany _ c.in_ok-too_many.ensures) in
+    (ruled-well c.args.text.now formed refs nests modules counts, (c.in_ok-n.ensures.0, all-checked c.args.text.now formed refs nests modules counts c.in_ok-n.ensures.0.whole))

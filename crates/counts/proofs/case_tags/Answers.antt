@@ -6,4 +6,4 @@ use Rattle.counts.proofs.Laws.{tags-exact}
 use Rattle.counts.proofs.case_tags.Goals as goal
 
 pub returns-then-x-eq-PC : goal.returns-then-x-eq-PC
-returns-then-x-eq-PC c = let q = c.requires.1 c.if-x-eq-PC.true in (c.number_at.ensures.0 ∙ tags-exact c.args.sheet.now c.args.work.now c.args.n c.requires.0 _ (omega (arith, q.0, q.1)) q.2 ∙ simp (eq-eqb _ _ c.if-x-eq-PC.true), c.number_at.ensures.1)
+returns-then-x-eq-PC c = let q = c.requires c.if-x-eq-PC.true in (c.number_at.ensures.0 ∙ tags-exact c.args.sheet.now c.number_at.ensures.2 _ (omega (arith, q.0, q.1)) q.2 ∙ simp (eq-eqb _ _ c.if-x-eq-PC.true), c.number_at.ensures.1)

@@ -7,7 +7,7 @@ use Rattle.std.proofs.Common.{rules}
 use Rattle.lines.proofs.index.Goals as goal
 
 pub returns-then-at-e : goal.returns-then-at-e
-returns-then-at-e c = going_done c.args.text.now c.loop-at.table c.loop-at.at c.loop-at.n c.find-e.result c.loop-at.invariant.1 c.find-e.ensures.0 c.if-e-text.true c.if-at-e.true
+returns-then-at-e c = going_done c.args.text.now c.loop-at.table c.loop-at.at c.loop-at.n c.find-e.result c.loop-at.invariant.1 c.find-e.ensures.0 c.loop-at.invariant.0 c.if-e-text.true c.if-at-e.true
 
 pub returns-then-e-text : goal.returns-then-e-text
 returns-then-e-text c = at-first NoForm c.loop-at.n (sym (going-unended c.args.text.now c.loop-at.table c.loop-at.at c.loop-at.n c.find-e.result c.loop-at.invariant.1 c.find-e.ensures.0 c.if-e-text.true c.if-at-e.false).0)
