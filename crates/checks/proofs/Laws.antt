@@ -1,5 +1,5 @@
 -- Laws of the checks together.
-use mathlib.Core.Path.{◌≡◌, refl, sym, ap, ◌∙◌}
+use mathlib.Core.Path.{◌≡◌, refl, ap, ◌∙◌}
 use mathlib.Core.Bool.{false}
 use mathlib.Core.List.{List, [], ◌∷◌, ◌++◌, map}
 use Rattle.std.specs.Prelude.{Option, None, Result, Ok, Err}
@@ -7,7 +7,7 @@ use Prim.Native.Nat.{ℕ, suc, ◌+◌, ◌≤◌}
 use native.Mathlib.Omega.{arith}
 use borrow.Author.Tests.{le-ltb}
 use lib.Seq.{take-append_seam}
-use lib.ListN.{length, get_or, length-append, length-map, length-replicate}
+use lib.ListN.{length, get_or, length-append, length-map}
 use Rattle.semantics.specs.Text.{line_parts}
 use Rattle.semantics.specs.Refusal.{Outcome, zeros, no_counts, bad_form, bad_ref_from, too_deep_from, bad_module_from, too_many_from, checked, tested, worked, compiled}
 use Rattle.semantics.specs.Tree.{Declares, Node}

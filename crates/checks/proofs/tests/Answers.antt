@@ -1,5 +1,5 @@
 -- `checks::tests` meets its contract.
-use Rattle.std.proofs.Common.{arith, ℕ, length, ◌≤◌, ◌-◌}
+use Rattle.std.proofs.Common.{arith, ℕ, ap, length, take, drop, ◌≤◌, ◌-◌}
 use Rattle.std.proofs.lemmas.List.{take-replicate, drop-replicate}
 use mathlib.Core.Path.{◌∙◌}
 use Rattle.checks.proofs.Laws.{tested-in, table-first}
@@ -9,7 +9,8 @@ pub rules-requires : goal.rules-requires
 rules-requires c =
     let k = rw c.unwrap.ensures at c.split_first_chunk_mut.ensures.cases in
     let j = rw c.unwrap-space.ensures at c.first_chunk_mut.ensures.cases in
-    (omega arith, rw (j.same, k.1, c.requires, drop-replicate {X = ℕ} 3072 (length c.args.work.now) 0) (take-replicate 62464 (length c.args.work.now - 3072) 0 (omega (arith, j.enough, k.2))))
+    (omega arith,
+    j.same ∙ ap (take 62464) (k.1 ∙ ap (drop 3072) c.requires ∙ drop-replicate {X = ℕ} 3072 (length c.args.work.now) 0) ∙ take-replicate {X = ℕ} 62464 (length c.args.work.now - 3072) 0 (omega (arith, c.if-work-lt-LEAST_WORK.false)))
 
 pub returns : goal.returns
 returns c =
