@@ -98,20 +98,13 @@ module _ {A : Type 0} (f : ConstVal → A) (g : A → Bytes) where
   fields-same name vs = rw (append-nil, length-map vs f, texts-same vs)
 
 module _ (id : TypeKey → ℕ) (vs : List ConstVal) where
-  number-rows : (k : Element) → (k ≡ Pointer → ⊥) → values_row (element_kind k) 0 vs ≡ item_rows id (element_items (element_kind k) vs)
+  pub number-rows : (k : Element) → (k ≡ Pointer → ⊥) → values_row (element_kind k) 0 vs ≡ item_rows id (element_items (element_kind k) vs)
   unfolding item_rows item_row values_row
   number-rows Byte h = fields-same const_byte decimal (bytes "bytes") vs
   number-rows Word h = fields-same const_word decimalℤ (bytes "words") vs
   number-rows Big h = fields-same const_big decimalℤ (bytes "bigs") vs
   number-rows Real h = fields-same const_real real_text (bytes "reals") vs
   number-rows Pointer h = absurd (h refl)
-
-  module _ {k : Element} {u v : Writer} where
-    pub number-items : (k ≡ Pointer → ⊥) → Writes u (values_row (element_kind k) 0 vs) v → Writes u (item_rows id (element_items (element_kind k) vs)) v
-    number-items h a = writes_as (number-rows k h) a
-
-    pub string-items : k ≡ Pointer → Writes u (item_rows id (str_items 0 vs)) v → Writes u (item_rows id (element_items (element_kind k) vs)) v
-    string-items h a = rw h a
 
 -- ---- arrays
 
