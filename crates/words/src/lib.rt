@@ -3,8 +3,6 @@
 
 ghost use Rattle.std.specs.Prelude.{◌≡◌, ◌+◌, ◌≤◌, ◌<◌, max, length};
 ghost use Rattle.semantics.specs.Text as Text;
-ghost use Rattle.semantics.specs.Text.{big_endian};
-ghost use Rattle.write.specs.Wrote.{Wrote};
 ghost use Rattle.words.specs.Words.{digest_from, digest, u16_at, bits_at};
 
 #[tactic(auto, using(crate::proofs::Laws::equal_same))]
@@ -65,11 +63,4 @@ pub fn bits_at(work: &[u8], a: usize) -> u64
         bits = bits * 256 + u64::from(work[a + k]);
     }
     bits
-}
-
-// 64 bits stored in eight bytes, the highest first.
-pub fn put_bits(out: &mut [u8], at: usize, n: u64) -> usize
-    ensures { Wrote out.old at (big_endian 8 n) out.new result }
-{
-    write::put_big_endian(out, at, 8, n)
 }
