@@ -3,7 +3,11 @@
 
 ghost use Rattle.std.specs.Prelude.{◌≡◌, ◌+◌, ◌≤◌, ◌<◌, max, length};
 ghost use Rattle.semantics.specs.Text as Text;
+ghost use Rattle.semantics.specs.Text.{big_endian};
+ghost use Rattle.write.specs.Writes.{Writes};
 ghost use Rattle.words.specs.Words.{digest_from, digest, u16_at, bits_at};
+
+use write::Writer;
 
 #[tactic(auto, using(crate::proofs::Laws::equal_same))]
 pub fn same(a: &[u8], b: &[u8]) -> bool
@@ -63,4 +67,11 @@ pub fn bits_at(work: &[u8], a: usize) -> u64
         bits = bits * 256 + u64::from(work[a + k]);
     }
     bits
+}
+
+// 64 bits in eight bytes, the highest first.
+pub fn put_bits(w: &mut Writer, n: u64)
+    ensures { Writes w.old (big_endian 8 n) w.new }
+{
+    w.put_big_endian(8, n);
 }
