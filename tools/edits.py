@@ -57,8 +57,10 @@ def owner(crate, file, source, at):
     if not heads:
         return None
     module = re.sub(r"(^|/)(lib|main|mod)$", "", file[len("src/") : -len(".rt")])
-    blocks = list(re.finditer(r"^impl(?:<[^>]*>)? ([A-Za-z0-9]+)|^}", source[:at], re.M))
-    inside = blocks[-1][1] if blocks else None
+    blocks = list(re.finditer(r"^impl(?:<[^>]*>)? ([A-Za-z0-9]+)(?:<([A-Za-z0-9]+)>)?(?: for ([A-Za-z0-9]+))?|^}", source[:at], re.M))
+    block = blocks[-1] if blocks else None
+    # of a trait's impl the prover says the type, then the trait
+    inside = block and "".join(part or "" for part in (block[3], block[1], block[2])) or None
     return "::".join(part for part in [crate, *module.split("/"), inside, heads[-1][1]] if part)
 
 

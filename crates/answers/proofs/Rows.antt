@@ -1,6 +1,6 @@
 -- The row of a refusal, and a text at the start of a buffer.
 use mathlib.Core.Path.{◌≡◌, sym, ap, ◌∙◌}
-use mathlib.Core.List.{[], ◌∷◌, ◌++◌, append_assoc}
+use mathlib.Core.List.{[], ◌∷◌, ◌++◌}
 use Prim.Native.Nat.{ℕ, ◌+◌, ◌^◌, ◌≤◌, ◌<◌}
 use native.Mathlib.Omega.{arith}
 use lib.ListN.{length, take, drop, length-append}
@@ -8,8 +8,10 @@ use lib.Seq.{sets-eq, take_at, length-take-le}
 use Rattle.semantics.specs.Text.{Bytes, bytes, decimal}
 use Rattle.semantics.specs.Listing.{row}
 use Rattle.semantics.specs.Refusal.{refused, printed}
+use Rattle.write.specs.declared.Writer.{Writer}
 use Rattle.write.specs.Wrote.{Wrote, over}
-use Rattle.write.proofs.Wrote.{wrote_as, wrote-length, then}
+use Rattle.write.specs.Writes.{Writes}
+use Rattle.write.proofs.Wrote.{wrote-length}
 use Rattle.write.proofs.Decimal.{decimal-short}
 
 -- ---- the row of a refusal
@@ -17,12 +19,12 @@ use Rattle.write.proofs.Decimal.{decimal-short}
 wide : (n : ℕ) → n < 18446744073709551616 → n < 10 ^ 20
 wide n h = omega arith
 
-pub refusal-row : {d e f g h : Bytes} {at a b c r : ℕ} {q k : ℕ} (x y : ℕ) → q < 18446744073709551616 → k < 18446744073709551616 → q ≡ x → k ≡ y
-    → Wrote d at (bytes "no") e a → Wrote e a (44 ∷ decimal q) f b → Wrote f b (44 ∷ decimal k) g c → Wrote g c (10 ∷ []) h r
-    → Wrote d at (printed (refused x y)) h r × (length (printed (refused x y)) ≤ 64)
+pub refusal-row : (x y : ℕ) {q k : ℕ} → q < 18446744073709551616 → k < 18446744073709551616 → q ≡ x → k ≡ y
+    → {u v : Writer} → Writes u (bytes "no" ++ ((44 ∷ decimal q) ++ ((44 ∷ decimal k) ++ (10 ∷ [])))) v
+    → Writes u (printed (refused x y)) v × (length (printed (refused x y)) ≤ 64)
 unfolding row
-refusal-row {q} {k} x y lq lk eq ek v w z u = rw (← eq, ← ek) (
-  wrote_as (ap (λ (l : Bytes). 110 ∷ (111 ∷ (44 ∷ l))) (append_assoc (decimal q) (44 ∷ decimal k) (10 ∷ []))) (then (then (then v w) z) u),
+refusal-row x y {q} {k} lq lk eq ek w = rw (← eq, ← ek) (
+  w,
   omega (arith, length-append (decimal q) (44 ∷ (decimal k ++ (10 ∷ []))), length-append (decimal k) (10 ∷ []), decimal-short 19 q (wide q lq), decimal-short 19 k (wide k lk)),
 )
 

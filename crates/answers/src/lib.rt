@@ -3,8 +3,10 @@
 
 ghost use Rattle.std.specs.Prelude.{◌≡◌, ◌≤◌, length};
 ghost use Rattle.semantics.specs.Refusal.{refused, printed};
-ghost use Rattle.write.specs.Wrote.{Wrote};
+ghost use Rattle.write.specs.Writes.{Writes};
 ghost use Rattle.answers.specs.Answers.{refusal_number, refusal_line, RefusalAt};
+
+use write::Writer;
 
 // One case for each of the thirteen, in their order, with its line, from 1, where it has one.
 #[derive(Clone, Copy, Debug, PartialEq, Eq)]
@@ -89,11 +91,11 @@ pub fn refuse(number: u8, line: usize) -> Refusal
 }
 
 // `no`, the number and the line.
-pub fn put_refusal(out: &mut [u8], at: usize, r: Refusal) -> usize
-    ensures { (Wrote out.old at (printed (refused (refusal_number r) (refusal_line r))) out.new result) × (length (printed (refused (refusal_number r) (refusal_line r))) ≤ 64) }
+pub fn put_refusal(w: &mut Writer, r: Refusal)
+    ensures { (Writes w.old (printed (refused (refusal_number r) (refusal_line r))) w.new) × (length (printed (refused (refusal_number r) (refusal_line r))) ≤ 64) }
 {
-    let p = write::put_part(out, at, b"no");
-    let q = rows::put_comma_nat(out, p, u64::from(r.number()));
-    let s = rows::put_comma_nat(out, q, r.line() as u64);
-    rows::put_lf(out, s)
+    w.put_part(b"no");
+    rows::comma_nat(w, r.number() as u64);
+    rows::comma_nat(w, r.line() as u64);
+    rows::lf(w);
 }

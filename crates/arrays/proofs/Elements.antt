@@ -11,12 +11,18 @@ use lib.Seq.{get_or-take, get_or-drop}
 use borrow.Author.Tests.{ltb-true, ltb-false}
 use Rattle.checks.specs.Checks.{KindLine}
 use Rattle.semantics.specs.Text.{Bytes}
-use Rattle.semantics.specs.Tree.{Node}
+use Rattle.semantics.specs.Tree.{Node, ElemKind}
+use Rattle.semantics.specs.Tree.ElemKind.{k_byte, k_word, k_big, k_real, k_ptr}
+use denote.Enum.Bare.{sameb}
+use Rattle.codes.specs.contracts.element.Element.{the_type}
+use Rattle.codes.specs.declared.element.Element.{Element}
+use Rattle.codes.specs.declared.element.Element.TheVariants as E
+use Rattle.codes.specs.Kinds.{element_kind}
 use Rattle.semantics.specs.Form.{Row, forms, no_row, number_of, make}
 use Rattle.semantics.specs.Form.Kind.{k_ty, k_ex}
 use Rattle.semantics.specs.Form.Atom.{ref}
 use Rattle.semantics.specs.Form.Part.{one}
-use Rattle.semantics.specs.Array.{kind_number, elem_kind, is_byte_cast, all_byte_casts, is_byte_literal}
+use Rattle.semantics.specs.Array.{kind_number, elem_kind, is_of_kind, is_byte_cast, all_byte_casts, is_byte_literal}
 use Rattle.decimal.specs.Number as Number
 use Rattle.form.specs.Table.{row_at, row_node}
 use Rattle.form.proofs.Table.{row-count, Each, done, ◌also◌, each_at}
@@ -34,44 +40,34 @@ use Rattle.literals.proofs.Turns.{els_from, all-elements, element-line, elements
 
 -- ---- a type's line
 
--- the kind of a form: 1 for int, 0 for byte, 2 for big, 3 for real, else 4
-kind-of-form : (ns : List Node) (fs : List Bytes) (f : ℕ) → f < 8 → kind_number (elem_kind (row_node ns f fs).ty) ≡ get_or (1 ∷ 0 ∷ 2 ∷ 3 ∷ []) f 4
+-- the kind of a form
+abbrev form_kind : ℕ → ElemKind
+form_kind f = get_or (k_word ∷ k_byte ∷ k_big ∷ k_real ∷ []) f k_ptr
+
+kind-of-form : (ns : List Node) (fs : List Bytes) (f : ℕ) → f < 8 → elem_kind (row_node ns f fs).ty ≡ form_kind f
 unfolding forms
-kind-of-form ns fs = of_types (λ f. kind_number (elem_kind (row_node ns f fs).ty) ≡ get_or (1 ∷ 0 ∷ 2 ∷ 3 ∷ []) f 4) refl refl refl refl refl refl refl refl
+kind-of-form ns fs = of_types (λ f. elem_kind (row_node ns f fs).ty ≡ form_kind f) refl refl refl refl refl refl refl refl
 
-middle : (f : ℕ) → (f ≡ 0 → ⊥) → (f ≡ 1 → ⊥) → f < 4 → f ≡ get_or (1 ∷ 0 ∷ 2 ∷ 3 ∷ []) f 4
-middle zero a b h = absurd (a refl)
-middle (suc zero) a b h = absurd (b refl)
-middle (suc (suc zero)) a b h = refl
-middle (suc (suc (suc zero))) a b h = refl
-middle (suc (suc (suc (suc f)))) a b h = absurd (omega arith)
-
-behind : (f : ℕ) → 4 ≤ f → ◌≡◌ {A = ℕ} 4 (get_or (1 ∷ 0 ∷ 2 ∷ 3 ∷ []) f 4)
-behind zero h = absurd (omega arith)
-behind (suc zero) h = absurd (omega arith)
-behind (suc (suc zero)) h = absurd (omega arith)
-behind (suc (suc (suc zero))) h = absurd (omega arith)
-behind (suc (suc (suc (suc f)))) h = refl
+behind : (f : ℕ) → (f ≡ 0 → ⊥) → (f ≡ 1 → ⊥) → (f ≡ 2 → ⊥) → (f ≡ 3 → ⊥) → k_ptr ≡ form_kind f
+behind zero a b c d = absurd (a refl)
+behind (suc zero) a b c d = absurd (b refl)
+behind (suc (suc zero)) a b c d = absurd (c refl)
+behind (suc (suc (suc zero))) a b c d = absurd (d refl)
+behind (suc (suc (suc (suc f)))) a b c d = refl
 
 module _ {s t : Bytes} {n r : ℕ} (l : TypeLine s t n r) {f : ℕ} (hf : f ≡ form_at t (r - 1)) where
-  kind-is-of : kind_number (elem_kind (type_at s r)) ≡ get_or (1 ∷ 0 ∷ 2 ∷ 3 ∷ []) f 4
-  kind-is-of =
+  kind-of : elem_kind (type_at s r) ≡ form_kind f
+  kind-of =
       let i : r - 1 < n = omega (arith, l.first, l.last) in
       let w = l.checked.whole in
       let low : form_at t (r - 1) < 8 = type-form (form_at t (r - 1)) (form-low s t n w (r - 1) i) (sym (kind-is s t n w (r - 1) i) ∙ l.kind) in
-      ap (λ (m : Node). kind_number (elem_kind m.ty)) (node-at s t n w l.checked.good (r - 1) i) ∙ rw hf (kind-of-form (nodes_in s) (read_at s (r - 1)).fields (form_at t (r - 1)) low)
+      ap (λ (m : Node). elem_kind m.ty) (node-at s t n w l.checked.good (r - 1) i) ∙ rw hf (kind-of-form (nodes_in s) (read_at s (r - 1)).fields (form_at t (r - 1)) low)
 
-  pub kind-int : f ≡ 0 → 1 ≡ kind_number (elem_kind (type_at s r))
-  kind-int e = sym (kind-is-of ∙ rw e)
+  pub kind_at : {g : ℕ} → f ≡ g → form_kind g ≡ elem_kind (type_at s r)
+  kind_at e = sym (kind-of ∙ ap form_kind e)
 
-  pub kind-byte : f ≡ 1 → 0 ≡ kind_number (elem_kind (type_at s r))
-  kind-byte e = sym (kind-is-of ∙ rw e)
-
-  pub kind-long : (f ≡ 0 → ⊥) → (f ≡ 1 → ⊥) → f < 4 → f ≡ kind_number (elem_kind (type_at s r))
-  kind-long a b h = middle f a b h ∙ sym kind-is-of
-
-  pub kind-pointer : 4 ≤ f → 4 ≡ kind_number (elem_kind (type_at s r))
-  kind-pointer h = behind f h ∙ sym kind-is-of
+  pub kind-pointer : (f ≡ 0 → ⊥) → (f ≡ 1 → ⊥) → (f ≡ 2 → ⊥) → (f ≡ 3 → ⊥) → k_ptr ≡ elem_kind (type_at s r)
+  kind-pointer a b c d = behind f a b c d ∙ sym kind-of
 
 -- ---- a cast to byte
 
@@ -111,9 +107,20 @@ module _ {s t : Bytes} {n r : ℕ} (l : KindLine 69 s t n r) where
     pub cast-line : TypeLine s t n v
     cast-line = cast-good.1
 
-    pub cast_is : {x : ℕ} → x ≡ kind_number (elem_kind (type_at s v)) → eqb x 0 ≡ is_byte_cast (ex_at s r)
+    cast-value : is_of_kind k_byte (type_at s v) ≡ is_byte_cast (ex_at s r)
     unfolding forms
-    cast_is {x} d = rw d (sym (ap (λ (y : Node). is_byte_cast y.ex) (makes l (sym e ∙ h)) ∙ rw (head-drop 0 (read_at s (r - 1)).fields, ← cast-good.0)))
+    cast-value = sym (ap (λ (y : Node). is_byte_cast y.ex) (makes l (sym e ∙ h)) ∙ rw (head-drop 0 (read_at s (r - 1)).fields, ← cast-good.0))
+
+    -- as enums are compared
+    pub cast_is : (x : Element) → element_kind x ≡ elem_kind (type_at s v) → sameb the_type x E.Byte ≡ is_byte_cast (ex_at s r)
+    cast_is x d = same-byte x ∙ ap (λ (k : ElemKind). eqb (kind_number k) 0) d ∙ cast-value
+      where
+        same-byte : (x : Element) → sameb the_type x E.Byte ≡ eqb (kind_number (element_kind x)) 0
+        same-byte E.Byte = refl
+        same-byte E.Word = refl
+        same-byte E.Big = refl
+        same-byte E.Real = refl
+        same-byte E.Pointer = refl
 
 -- ---- byte literals
 

@@ -82,15 +82,9 @@ module _ (t : Bytes) (x : Outcome ConstVal) (i : Outcome ℤ) (h : answered i �
   pub of-int : {z : ℤ} → i ≡ Ok z → SFits w64 z → f (v_int (held w64 z)) ≡ bind (result_in t x) f
   of-int e w = rw (to_z-of_z w) (by_index e)
 
-  pub of_none : i ≡ Err N.Failed → failed ≡ bind (result_in t x) f
-  of_none e = by_index e
-
   pub of-no-value : (e : NoValue) → i ≡ Err e → (g : NoValue → Result A) → g N.Failed ≡ failed → g N.LongString ≡ refuse 8 → g e ≡ bind (result_in t x) f
   of-no-value N.Failed e g p q = p ∙ by_index e
   of-no-value N.LongString e g p q = q ∙ by_index e
-
-  pub of-long : i ≡ Err N.LongString → refuse 8 ≡ bind (result_in t x) f
-  of-long e = by_index e
 
 -- ---- the size of a literal
 

@@ -3,7 +3,8 @@ use mathlib.Core.Path.{◌≡◌, refl, sym, ap, ◌∙◌, subst}
 use mathlib.Core.Bool.{Bool, true, false}
 use mathlib.Core.List.{List, []}
 use mathlib.Core.Logic.{◌⊎◌, inl, inr}
-use Rattle.std.specs.Prelude.{Option}
+use Rattle.std.specs.Prelude as P
+use Rattle.std.specs.Prelude.{Option, None, Some, IfSome}
 use Prim.Native.Nat.{ℕ, ◌+◌, ◌-◌, ◌≤◌, ◌<◌}
 use native.Mathlib.Omega.{arith}
 use lib.Dec.{ltb}
@@ -12,11 +13,14 @@ use borrow.Author.Tests.{ltb-true, ltb-false, lt-ltb, le-ltb, le-leb, lt-leb}
 use Rattle.semantics.specs.Text.{Bytes}
 use Rattle.semantics.specs.Tree as Tree
 use Rattle.semantics.specs.Tree.{Node, Ty, ElemKind}
+use Rattle.semantics.specs.Tree.ElemKind.{k_byte}
+use Rattle.codes.specs.declared.element.Element.{Element}
+use Rattle.codes.specs.Kinds.{element_kind}
 use Rattle.semantics.specs.Form.{Row, number_of, forms, make}
 use Rattle.semantics.specs.Fold.{Result, bind, Names}
-use Rattle.semantics.specs.Fold.Result.{ok, failed, refuse}
+use Rattle.semantics.specs.Fold.Result.{ok, failed}
 use Rattle.semantics.specs.Array as Array
-use Rattle.semantics.specs.Array.{Filled, none_filled, kind_number, elem_kind, is_byte_literal, kind_of_values, literal_kind, literal_size, fill, const_array}
+use Rattle.semantics.specs.Array.{Filled, none_filled, elem_kind, is_byte_literal, kind_of_values, literal_kind, literal_size, fill, const_array}
 use Rattle.decimal.specs.Number as Number
 use Rattle.form.specs.Table.{row_node}
 use Rattle.semantics.proofs.Common.{never}
@@ -26,8 +30,6 @@ use Rattle.sizes.specs.Sizes.{type_at, TypeLine}
 use Rattle.checks.specs.Checks.{Kept, KindLine}
 use Rattle.names.specs.Table.{ConstsLogged, names_in}
 use Rattle.placements.specs.declared.Extent.{Extent}
-use Rattle.placements.specs.declared.Placed.{Placed}
-use Rattle.placements.specs.declared.Placed.TheVariants.{Into, Negative, Failed, TooLong}
 use Rattle.placements.specs.Placements.{values_in, Keeps, Filling, LiteralSoFar, Step}
 use Rattle.placements.proofs.Same.{keeps-all, keeps_then, keeps-less, keeps-kept}
 use Rattle.placements.proofs.Fillings.{filling-kept}
@@ -35,28 +37,31 @@ use Rattle.placements.proofs.Values.{values-are, value-stands}
 use Rattle.leaf.specs.Folds.{ex_at}
 use Rattle.literals.specs.Literals.{els_at, above, AllFilled}
 use Rattle.literals.proofs.Names.{log-kept, logged-kept, line_kept}
-use Rattle.literals.proofs.Placing.{is_into}
+use Rattle.literals.proofs.Placing.{goes_on}
 use Rattle.literals.proofs.Lines.{line-in, line-form, makes, may-line}
 use Rattle.literals.proofs.Turns.{literal-refs, literal-is}
 use Rattle.arrays.specs.declared.Arrayed.{Arrayed}
-use Rattle.arrays.specs.declared.Arrayed.TheVariants.{Literal, Pending, Refused}
+use Rattle.arrays.specs.declared.Arrayed.TheVariants.{Literal}
+use Rattle.arrays.specs.declared.NoItem.{NoItem}
+use Rattle.arrays.specs.declared.NoItem.TheVariants.{Pending, OutsideLiteral, LongLiteral}
+use Rattle.values.specs.declared.NoValue.{NoValue}
 use Rattle.std.specs.Prelude.{Ok, Err}
 use Rattle.values.specs.declared.NoValue.TheVariants as N
 use Rattle.values.specs.Values.{answered, Outcome}
-use Rattle.arrays.specs.Arrays.{arrayed_in, ArrayStands, ArrayResult, ArrayAnswers, type_of, lit_size, own_type, ArrayLine, DeclaredLiteral, Counted, Sized}
-use Rattle.arrays.proofs.Allocs.{kind-back, kind-low, type-given}
+use Rattle.arrays.specs.Arrays.{item_of, no_item, arrayed_in, ResultStands, ArrayResult, ArrayAnswers, type_of, declared_type, lit_size, own_type, ArrayLine, DeclaredLiteral, Counted, Sized}
+use Rattle.arrays.proofs.Allocs.{type-given}
 use Rattle.arrays.proofs.Elements.{outside-forms}
 
 -- ---- the kind
 
-module _ {s t : Bytes} {n declared r count : ℕ} (c : Counted s t n declared r count) (vs : List Tree.ConstVal) where
+module _ {s t : Bytes} {n : ℕ} {declared : Option ℕ} {r count : ℕ} (c : Counted s t n declared r count) (vs : List Tree.ConstVal) where
   abbrev kind_of_literal : ElemKind
-  kind_of_literal = literal_kind (type_of s declared) (own_type s r) (els_at s r) vs
+  kind_of_literal = literal_kind (declared_type s declared) (own_type s r) (els_at s r) vs
 
-  pub kind-declared : {x : ℕ} → (declared ≡ 0 → ⊥) → x ≡ kind_number (elem_kind (type_at s declared)) → x ≡ kind_number kind_of_literal
-  kind-declared h e = rw (type-given s declared h) e
+  pub kind-declared : {x : ElemKind} {d : ℕ} → declared ≡ Some d → x ≡ elem_kind (type_at s d) → x ≡ kind_of_literal
+  kind-declared h e = rw h e
 
-  module _ (z : declared ≡ 0) {v : ℕ} (hv : v ≡ Number.number_up_to 65536 (get_or (read_at s (r - 1)).fields 1 [])) where
+  module _ (z : declared ≡ None) {v : ℕ} (hv : v ≡ Number.number_up_to 65536 (get_or (read_at s (r - 1)).fields 1 [])) where
     own-may : (v ≡ number_of (get_or (read_at s (r - 1)).fields 1 [])) × ((v ≡ 0 → ⊥) → KindLine 75 s t n v)
     own-may = may-line c.lit.literal.line 75 (get_or (read_at s (r - 1)).fields 1 []) v hv (literal-refs c.lit.literal).1
 
@@ -66,34 +71,34 @@ module _ {s t : Bytes} {n declared r count : ℕ} (c : Counted s t n declared r 
     pub own-type-line : (v ≡ 0 → ⊥) → TypeLine s t n v
     own-type-line h = own-may.1 h
 
-    pub kind-own : {x : ℕ} → (v ≡ 0 → ⊥) → x ≡ kind_number (elem_kind (type_at s v)) → x ≡ kind_number kind_of_literal
+    pub kind-own : {x : ElemKind} → (v ≡ 0 → ⊥) → x ≡ elem_kind (type_at s v) → x ≡ kind_of_literal
     kind-own h e = rw (own_is, z, type-given s v h) e
 
     module _ (y : v ≡ 0) where
-      pub kind-bytes : true ≡ is_byte_literal (els_at s r) → 0 ≡ kind_number kind_of_literal
+      pub kind-bytes : true ≡ is_byte_literal (els_at s r) → k_byte ≡ kind_of_literal
       kind-bytes e = rw (own_is, z, y, sym e)
 
-      pub kind-values : {x : ℕ} → false ≡ is_byte_literal (els_at s r) → x ≡ kind_number (kind_of_values vs) → x ≡ kind_number kind_of_literal
+      pub kind-values : {x : ElemKind} → false ≡ is_byte_literal (els_at s r) → x ≡ kind_of_values vs → x ≡ kind_of_literal
       kind-values e d = rw (own_is, z, y, sym e) d
 
 -- ---- refusals 11 and 12
 
-abbrev array_of_size : Bytes → ℕ → ℕ → ℕ → Filled → Result Array.ConstArray
-array_of_size s declared r size f = Array.measured (type_of s declared) (own_type s r) (els_at s r) f size
+abbrev array_of_size : Bytes → Option ℕ → ℕ → ℕ → Filled → Result Array.ConstArray
+array_of_size s declared r size f = Array.measured (declared_type s declared) (own_type s r) (els_at s r) f size
 
-module _ (s t : Bytes) (declared r size k next reach : ℕ) (f : Filled) (h : reach ≤ size) (p : Filling t (above 16) k next reach f) where
-  pub measured-long : 1024 < size → ArrayResult t (array_of_size s declared r size f) (Refused 12)
+module _ (s t : Bytes) (declared : Option ℕ) (r size k next reach : ℕ) (f : Filled) (h : reach ≤ size) (p : Filling t (above 16) k next reach f) where
+  pub measured-long : 1024 < size → ArrayResult t (array_of_size s declared r size f) (Err LongLiteral)
   measured-long g = record { result = sym (rw (p.ends size, le-ltb size reach h, lt-leb size 1024 g)); stands = tt }
 
-  pub measured-well : size ≤ 1024 → {kind : ℕ} → kind ≡ kind_number (literal_kind (type_of s declared) (own_type s r) (els_at s r) (values_in t 0 size)) → ArrayResult t (array_of_size s declared r size f) (Literal kind size)
+  pub measured-well : size ≤ 1024 → {kind : Element} → element_kind kind ≡ literal_kind (declared_type s declared) (own_type s r) (els_at s r) (values_in t 0 size) → ArrayResult t (array_of_size s declared r size f) (Ok (Literal kind size))
   measured-well g {kind} e = record {
-    result = sym (rw (p.ends size, le-ltb size reach h, le-leb size 1024 g, values-are p size 0 (omega arith), e, kind-back (literal_kind (type_of s declared) (own_type s r) (els_at s r) (values_in t 0 size))));
-    stands = (kind-low (literal_kind (type_of s declared) (own_type s r) (els_at s r) (values_in t 0 size)) e, (g, λ i x. value-stands p i (omega arith)));
+    result = sym (rw (p.ends size, le-ltb size reach h, le-leb size 1024 g, values-are p size 0 (omega arith), e));
+    stands = (g, λ i x. value-stands p i (omega arith));
   }
 
 -- ---- what is kept of the lines
 
-module _ {s t u : Bytes} {n declared r : ℕ} (k : Keeps 16384 49152 t u) (l : DeclaredLiteral s t n declared r) where
+module _ {s t u : Bytes} {n : ℕ} {declared : Option ℕ} {r : ℕ} (k : Keeps 16384 49152 t u) (l : DeclaredLiteral s t n declared r) where
   form-same : form_at u (r - 1) ≡ form_at t (r - 1)
   unfolding form_at
   form-same = k.below (2048 + (r - 1)) (omega (arith, line-in l.literal.line, l.literal.line.checked.whole.lined.few))
@@ -101,39 +106,42 @@ module _ {s t u : Bytes} {n declared r : ℕ} (k : Keeps 16384 49152 t u) (l : D
   pub lit-kept : DeclaredLiteral s u n declared r
   lit-kept = record {
     literal = record { line = line_kept k l.literal.line; form = form-same ∙ l.literal.form };
-    declares = λ h. line_kept k (l.declares h);
+    declares = go declared l.declares;
   }
+    where
+      go : (o : Option ℕ) → IfSome o (TypeLine s t n) → IfSome o (TypeLine s u n)
+      go None h = tt
+      go (Some d) h = line_kept k h
 
 -- ---- the size
 
 pub size-keeps : {t u : Bytes} → Kept (above 16) t u → Keeps 16384 49152 t u
 size-keeps c = keeps-less (omega arith) (omega arith) (keeps-kept {a = 0} (omega arith) c)
 
-module _ {s t u : Bytes} {n m declared r : ℕ} (l : DeclaredLiteral s t n declared r) (o : ConstsLogged s t n m) (c : Kept (above 16) t u) where
+module _ {s t u : Bytes} {n m : ℕ} {declared : Option ℕ} {r : ℕ} (l : DeclaredLiteral s t n declared r) (o : ConstsLogged s t n m) (c : Kept (above 16) t u) where
   module _ {reach : ℕ} (x : Outcome ℕ) (h : (f : Filled) → reach ≡ f.reach → answered x ≡ literal_size (names_in s t m) (lit_size s r) f) where
-    pub sized-failed : x ≡ Err N.Failed → Sized s t m declared r reach Pending u
-    sized-failed d = record {
-      answers = λ k next f few p. let e : literal_size (names_in s t m) (lit_size s r) f ≡ failed = sym (h f p.reach-is) ∙ ap answered d in record { result = sym (rw e); stands = tt };
+    pub sized-none : (e : NoValue) → x ≡ Err e → Sized s t m declared r reach (Err (item_of e)) u
+    sized-none e d = record {
+      answers = λ k next f few p. record { result = go e f (sym (h f p.reach-is) ∙ ap answered d); stands = tt };
       keeps = size-keeps c;
     }
-
-    pub sized-long : x ≡ Err N.LongString → Sized s t m declared r reach (Refused 8) u
-    sized-long d = record {
-      answers = λ k next f few p. let e : literal_size (names_in s t m) (lit_size s r) f ≡ refuse 8 = sym (h f p.reach-is) ∙ ap answered d in record { result = sym (rw e); stands = tt };
-      keeps = size-keeps c;
-    }
+      where
+        go : (e : NoValue) (f : Filled) → literal_size (names_in s t m) (lit_size s r) f ≡ answered (Err e)
+            → no_item (item_of e) ≡ bind (literal_size (names_in s t m) (lit_size s r) f) (Array.measured (declared_type s declared) (own_type s r) (els_at s r) f)
+        go N.Failed f q = sym (rw q)
+        go N.LongString f q = sym (rw q)
 
     module _ {size : ℕ} (d : x ≡ Ok size) where
       size_is : (k next : ℕ) (f : Filled) → Filling t (above 16) k next reach f → literal_size (names_in s t m) (lit_size s r) f ≡ ok size
       size_is k next f p = sym (h f p.reach-is) ∙ ap answered d
 
-      pub sized-outside : size < reach → Sized s t m declared r reach (Refused 11) u
+      pub sized-outside : size < reach → Sized s t m declared r reach (Err OutsideLiteral) u
       sized-outside g = record {
         answers = λ k next f few p. record { result = sym (rw (size_is k next f p, p.ends size, lt-ltb size reach g)); stands = tt };
         keeps = size-keeps c;
       }
 
-      pub sized-well : reach ≤ size → (y : Arrayed) → ((k next reach : ℕ) (f : Filled) → reach ≤ size → Filling u (above 16) k next reach f → ArrayResult u (array_of_size s declared r size f) y) → Sized s t m declared r reach y u
+      pub sized-well : reach ≤ size → (y : P.Result Arrayed NoItem) → ((k next reach : ℕ) (f : Filled) → reach ≤ size → Filling u (above 16) k next reach f → ArrayResult u (array_of_size s declared r size f) y) → Sized s t m declared r reach y u
       sized-well a y g = record {
         answers = λ k next f few p.
             let w = g k next reach f a (filling-kept p u few (omega arith) c) in
@@ -144,41 +152,37 @@ module _ {s t u : Bytes} {n m declared r : ℕ} (l : DeclaredLiteral s t n decla
 -- ---- all of it
 
 -- what is answered where an element ends the literal
-abbrev ended_as : Placed → Arrayed
-ended_as (Into x) = Pending
-ended_as Negative = Pending
-ended_as Failed = Pending
-ended_as TooLong = Refused 8
+abbrev ended_as : Outcome (Option Extent) → P.Result Arrayed NoItem
+ended_as (Ok o) = Err Pending
+ended_as (Err e) = Err (item_of e)
 
-abbrev after_filling : Bytes → Bytes → ℕ → ℕ → ℕ → Filled → Result Array.ConstArray
-after_filling s t m declared r f = bind (literal_size (names_in s t m) (lit_size s r) f) (Array.measured (type_of s declared) (own_type s r) (els_at s r) f)
+abbrev after_filling : Bytes → Bytes → ℕ → Option ℕ → ℕ → Filled → Result Array.ConstArray
+after_filling s t m declared r f = bind (literal_size (names_in s t m) (lit_size s r) f) (Array.measured (declared_type s declared) (own_type s r) (els_at s r) f)
 
-module _ {s t u : Bytes} {n m declared r : ℕ} (l : DeclaredLiteral s t n declared r) (o : ConstsLogged s t n m) (y : Placed) (a : AllFilled t (fill (names_in s t m) (els_at s r) none_filled) y u) where
-  literal-by : const_array (names_in s t m) (type_of s declared) (ex_at s r) ≡ bind (fill (names_in s t m) (els_at s r) none_filled) (after_filling s t m declared r)
+module _ {s t u : Bytes} {n m : ℕ} {declared : Option ℕ} {r : ℕ} (l : DeclaredLiteral s t n declared r) (o : ConstsLogged s t n m) (y : Outcome (Option Extent)) (a : AllFilled t (fill (names_in s t m) (els_at s r) none_filled) y u) where
+  literal-by : const_array (names_in s t m) (declared_type s declared) (ex_at s r) ≡ bind (fill (names_in s t m) (els_at s r) none_filled) (after_filling s t m declared r)
   literal-by = rw (literal-is l.literal)
 
   pub literal-kept : (DeclaredLiteral s u n declared r) × (ConstsLogged s u n m)
   literal-kept = (lit-kept a.keeps l, logged-kept a.keeps o)
 
   -- one that has ended
-  pub literal-ended : (z : Placed) → y ≡ z → is_into z ≡ false → ArrayAnswers t (const_array (names_in s t m) (type_of s declared) (ex_at s r)) (ended_as z) u
-  literal-ended z d h = record { array = record { result = sym (literal-by ∙ go z h (subst (λ (b : Placed). Step u (above 16) a.count b (fill (names_in s t m) (els_at s r) none_filled)) d a.step)); stands = ended-stands z }; keeps = a.keeps }
+  pub literal-ended : (z : Outcome (Option Extent)) → y ≡ z → goes_on z ≡ false → ArrayAnswers t (const_array (names_in s t m) (declared_type s declared) (ex_at s r)) (ended_as z) u
+  literal-ended z d h = record { array = record { result = sym (literal-by ∙ go z h (subst (λ (b : Outcome (Option Extent)). Step u (above 16) a.count b (fill (names_in s t m) (els_at s r) none_filled)) d a.step)); stands = ended-stands z }; keeps = a.keeps }
     where
-      go : (b : Placed) → is_into b ≡ false → Step u (above 16) a.count b (fill (names_in s t m) (els_at s r) none_filled) → bind (fill (names_in s t m) (els_at s r) none_filled) (after_filling s t m declared r) ≡ arrayed_in u (ended_as b)
-      go (Into x) e g = never (sym e)
-      go Negative e g = ap (λ (q : Result Filled). bind q (after_filling s t m declared r)) g
-      go Failed e g = ap (λ (q : Result Filled). bind q (after_filling s t m declared r)) g
-      go TooLong e g = ap (λ (q : Result Filled). bind q (after_filling s t m declared r)) g
+      go : (b : Outcome (Option Extent)) → goes_on b ≡ false → Step u (above 16) a.count b (fill (names_in s t m) (els_at s r) none_filled) → bind (fill (names_in s t m) (els_at s r) none_filled) (after_filling s t m declared r) ≡ arrayed_in u (ended_as b)
+      go (Ok (Some x)) e g = never (sym e)
+      go (Ok None) e g = ap (λ (q : Result Filled). bind q (after_filling s t m declared r)) g
+      go (Err N.Failed) e g = ap (λ (q : Result Filled). bind q (after_filling s t m declared r)) g
+      go (Err N.LongString) e g = ap (λ (q : Result Filled). bind q (after_filling s t m declared r)) g
 
-      ended-stands : (b : Placed) → ArrayStands u (ended_as b)
-      ended-stands (Into x) = tt
-      ended-stands Negative = tt
-      ended-stands Failed = tt
-      ended-stands TooLong = tt
+      ended-stands : (b : Outcome (Option Extent)) → ResultStands u (ended_as b)
+      ended-stands (Ok o) = tt
+      ended-stands (Err e) = tt
 
-  pub literal-well : {b : Extent} → y ≡ Into b → {x : Arrayed} {w : Bytes} → Sized s u m declared r b.reach x w → ArrayAnswers t (const_array (names_in s t m) (type_of s declared) (ex_at s r)) x w
+  pub literal-well : {b : Extent} → y ≡ Ok (Some b) → {x : P.Result Arrayed NoItem} {w : Bytes} → Sized s u m declared r b.reach x w → ArrayAnswers t (const_array (names_in s t m) (declared_type s declared) (ex_at s r)) x w
   literal-well {b} d {x} {w} z =
-      let g : LiteralSoFar u (above 16) a.count b.next b.reach (fill (names_in s t m) (els_at s r) none_filled) = subst (λ (v : Placed). Step u (above 16) a.count v (fill (names_in s t m) (els_at s r) none_filled)) d a.step in
+      let g : LiteralSoFar u (above 16) a.count b.next b.reach (fill (names_in s t m) (els_at s r) none_filled) = subst (λ (v : Outcome (Option Extent)). Step u (above 16) a.count v (fill (names_in s t m) (els_at s r) none_filled)) d a.step in
       let q = rw (log-kept a.keeps o) at (z.answers a.count b.next g.literal a.few g.filling) in
       record { array = record { result = q.result ∙ sym (literal-by ∙ ap (λ (v : Result Filled). bind v (after_filling s t m declared r)) g.result); stands = q.stands }; keeps = keeps_then a.keeps z.keeps }
 
@@ -195,9 +199,9 @@ module _ (ns : List Node) (fs : List Bytes) (names : Names) (o : Option Ty) wher
       (refl also refl also refl also refl also refl also refl also refl also refl also refl also refl also refl also refl also refl also refl also refl also refl also refl also done)
       (refl also refl also refl also refl also refl also refl also refl also refl also refl also refl also refl also refl also refl also refl also refl also refl also refl also refl also refl also refl also refl also refl also refl also done)
 
-pub other-line : {s t : Bytes} {n declared r : ℕ} → ArrayLine s t n declared r → (m : ℕ) {f : ℕ} → f ≡ form_at t (r - 1) → (f ≡ 17 → ⊥) → (f ≡ 18 → ⊥) → ArrayAnswers t (const_array (names_in s t m) (type_of s declared) (ex_at s r)) Pending t
+pub other-line : {s t : Bytes} {n : ℕ} {declared : Option ℕ} {r : ℕ} → ArrayLine s t n declared r → (m : ℕ) {f : ℕ} → f ≡ form_at t (r - 1) → (f ≡ 17 → ⊥) → (f ≡ 18 → ⊥) → ArrayAnswers t (const_array (names_in s t m) (declared_type s declared) (ex_at s r)) (Err Pending) t
 other-line {s} {t} {n} {declared} {r} k m {f} e a b = record {
-  array = record { result = sym (ap (λ (x : Node). const_array (names_in s t m) (type_of s declared) x.ex) (makes k.line refl) ∙ no-array (nodes_in s) (read_at s (r - 1)).fields (names_in s t m) (type_of s declared) (form_at t (r - 1)) (line-form k.line).0 (go (ltb (form_at t (r - 1)) 17) refl)); stands = tt };
+  array = record { result = sym (ap (λ (x : Node). const_array (names_in s t m) (declared_type s declared) x.ex) (makes k.line refl) ∙ no-array (nodes_in s) (read_at s (r - 1)).fields (names_in s t m) (declared_type s declared) (form_at t (r - 1)) (line-form k.line).0 (go (ltb (form_at t (r - 1)) 17) refl)); stands = tt };
   keeps = keeps-all;
 }
   where

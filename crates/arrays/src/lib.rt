@@ -1,12 +1,13 @@
 // Constant arrays: `alloc` and literals.
 #![tactic(auto)]
 
-ghost use Rattle.std.specs.Prelude.{◌≡◌, ℕ, ◌≤◌, ◌<◌};
+ghost use Rattle.std.specs.Prelude.{◌≡◌, ℕ, ◌≤◌};
 ghost use Rattle.semantics.specs.Text.{Bytes};
 ghost use Rattle.semantics.specs.Fold.{bind};
 ghost use Rattle.semantics.specs.Tree.ConstVal.{v_int};
 ghost use Rattle.semantics.specs.Array as Array;
-ghost use Rattle.semantics.specs.Array.{Filled, kind_number, elem_kind, is_byte_cast, is_byte_literal, as_size, literal_kind, const_array};
+ghost use Rattle.semantics.specs.Array.{Filled, elem_kind, is_byte_cast, is_byte_literal, as_size, literal_kind, const_array};
+ghost use Rattle.codes.specs.Kinds.{element_kind};
 ghost use Rattle.checks.specs.Checks.{Kept};
 ghost use Rattle.sizes.specs.Sizes.{type_at, TypeLine};
 ghost use Rattle.values.specs.Values.{answered, result_in};
@@ -14,11 +15,11 @@ ghost use Rattle.names.specs.Table.{ConstsLogged, names_in};
 ghost use Rattle.placements.specs.Placements.{values_in, Filling};
 ghost use Rattle.leaf.specs.Folds.{ex_at, ExLine};
 ghost use Rattle.literals.specs.Literals.{els_at, LiteralLine, above};
-ghost use Rattle.arrays.specs.Arrays.{kind_of_number, arrayed_in, ArrayStands, ArrayResult, ArrayAnswers, type_of, lit_size, own_type, alloc_type, ArrayLine, AllocLine, DeclaredLiteral, Counted, Sized};
+ghost use Rattle.arrays.specs.Arrays.{item_of, ArrayResult, ArrayAnswers, declared_type, lit_size, own_type, alloc_type, ArrayLine, AllocLine, DeclaredLiteral, Counted, Sized};
 
-use codes::{area, element, ex, ty};
+use codes::element::Element;
+use codes::{area, ex, ty};
 use names::Known;
-use placements::Placed;
 use values::{Folded, NoValue};
 
 // Above the strings of 16 elements.
@@ -33,74 +34,90 @@ const LONGEST_LITERAL: u64 = 1024;
 // The kind of the elements and their number; the values of a literal stand in the working space.
 #[derive(Clone, Copy)]
 pub enum Arrayed {
-    Alloc(u8, u32),
-    Literal(u8, usize),
-    Pending,
-    Refused(u8),
+    Alloc(Element, u32),
+    Literal(Element, usize),
 }
 
-// How an array holds elements of the type of line r. As forms and as kinds big and real have the same numbers.
-pub fn elem_kind(sheet: &[u8], work: &[u8], n: usize, r: usize) -> u8
+// Why nothing is laid out: the value is left pending, or refuses the sheet.
+#[derive(Clone, Copy, PartialEq, Eq)]
+pub enum NoItem {
+    Pending,
+    LongString,
+    LongAlloc,
+    NegativeAlloc,
+    OutsideLiteral,
+    LongLiteral,
+}
+
+impl From<NoValue> for NoItem {
+    ghost from_gives = { λ e i. i ≡ item_of e };
+
+    fn from(e: NoValue) -> NoItem {
+        match e {
+            NoValue::Failed => NoItem::Pending,
+            NoValue::LongString => NoItem::LongString,
+        }
+    }
+}
+
+// How an array holds elements of the type of line r.
+pub fn elem_kind(sheet: &[u8], work: &[u8], n: usize, r: usize) -> Element
     requires { TypeLine sheet.now work.now n r }
-    ensures { (result ≡ kind_number (elem_kind (type_at sheet.now r))) × (result ≤ 4) }
+    ensures { element_kind result ≡ elem_kind (type_at sheet.now r) }
 {
-    let f = lines::form_at(work, r - 1);
-    if f == ty::INT {
-        return element::WORD;
+    match lines::form_at(work, r - 1) {
+        ty::INT => Element::Word,
+        ty::BYTE => Element::Byte,
+        ty::BIG => Element::Big,
+        ty::REAL => Element::Real,
+        _ => Element::Pointer,
     }
-    if f == ty::BYTE {
-        return element::BYTE;
-    }
-    if f < ty::STRING {
-        return f as u8;
-    }
-    element::POINTER
 }
 
 // ---- `alloc`
 
 // An `alloc` of a length.
-fn allocated_int(kind: u8, z: i64) -> Arrayed
-    requires { kind < 5 }
-    ensures { (t : Bytes) → (arrayed_in t result ≡ Array.allocated (kind_of_number kind) (v_int z)) × (ArrayStands t result) }
+fn allocated_int(kind: Element, z: i64) -> Result<Arrayed, NoItem>
+    ensures { (t : Bytes) → ArrayResult t (Array.allocated (element_kind kind) (v_int z)) result }
 {
     if z > LONGEST_ALLOC {
-        return Arrayed::Refused(9);
+        return Err(NoItem::LongAlloc);
     }
     if z < LOWEST_ALLOC {
-        return Arrayed::Refused(9);
+        return Err(NoItem::LongAlloc);
     }
     if z < 0 {
-        return Arrayed::Refused(10);
+        return Err(NoItem::NegativeAlloc);
     }
-    Arrayed::Alloc(kind, z as u32)
+    Ok(Arrayed::Alloc(kind, z as u32))
 }
 
-fn allocated(kind: u8, x: Folded) -> Arrayed
-    requires { kind < 5 }
-    ensures { (t : Bytes) → (arrayed_in t result ≡ bind (result_in t x) (Array.allocated (kind_of_number kind))) × (ArrayStands t result) }
+fn allocated(kind: Element, x: Folded) -> Result<Arrayed, NoItem>
+    ensures { (t : Bytes) → ArrayResult t (bind (result_in t x) (Array.allocated (element_kind kind))) result }
 {
-    match literals::as_int(x) {
-        Ok(z) => allocated_int(kind, z),
-        Err(NoValue::Failed) => Arrayed::Pending,
-        Err(NoValue::LongString) => Arrayed::Refused(8),
-    }
+    allocated_int(kind, literals::as_int(x)?)
 }
 
 // The element type is the one that is declared, or else the `alloc` line's own.
-fn alloc_kind(sheet: &[u8], work: &[u8], n: usize, declared: usize, r: usize) -> u8
+fn alloc_kind(sheet: &[u8], work: &[u8], n: usize, declared: Option<usize>, r: usize) -> Element
     requires { AllocLine sheet.now work.now n declared r }
-    ensures { result ≡ kind_number (elem_kind (alloc_type sheet.now declared r)) }
+    ensures { element_kind result ≡ elem_kind (alloc_type sheet.now declared r) }
 {
-    if declared != 0 {
-        return elem_kind(sheet, work, n, declared);
+    match declared {
+        Some(d) => elem_kind(sheet, work, n, d),
+        None => elem_kind(sheet, work, n, lines::number_at(sheet, work, n, r - 1, 1)),
     }
-    elem_kind(sheet, work, n, lines::number_at(sheet, work, n, r - 1, 1))
 }
 
-fn alloc(sheet: &[u8], work: &mut [u8], c: Known, declared: usize, r: usize) -> Arrayed
+fn alloc(
+    sheet: &[u8],
+    work: &mut [u8],
+    c: Known,
+    declared: Option<usize>,
+    r: usize,
+) -> Result<Arrayed, NoItem>
     requires { (AllocLine sheet.now work.old c.lines declared r) × (ConstsLogged sheet.now work.old c.lines c.consts) }
-    ensures { ArrayAnswers work.old (const_array (names_in sheet.now work.old c.consts) (type_of sheet.now declared) (ex_at sheet.now r)) result work.new }
+    ensures { ArrayAnswers work.old (const_array (names_in sheet.now work.old c.consts) (declared_type sheet.now declared) (ex_at sheet.now r)) result work.new }
 {
     let kind = alloc_kind(sheet, work, c.lines, declared, r);
     let q = lines::number_at(sheet, work, c.lines, r - 1, 0);
@@ -145,7 +162,7 @@ fn is_byte_cast(sheet: &[u8], work: &[u8], n: usize, r: usize) -> bool
     if lines::form_at(work, r - 1) != ex::CAST {
         return false;
     }
-    elem_kind(sheet, work, n, lines::number_at(sheet, work, n, r - 1, 0)) == element::BYTE
+    elem_kind(sheet, work, n, lines::number_at(sheet, work, n, r - 1, 0)) == Element::Byte
 }
 
 // Whether there is an element, and the value of every one is a cast to byte.
@@ -164,75 +181,98 @@ fn is_byte_literal(sheet: &[u8], work: &[u8], n: usize, r: usize) -> bool
 }
 
 // By the type that is declared, or else the literal's own, or else by its values.
-fn literal_kind(sheet: &[u8], work: &[u8], n: usize, declared: usize, r: usize, count: usize) -> u8
+fn literal_kind(
+    sheet: &[u8],
+    work: &[u8],
+    n: usize,
+    declared: Option<usize>,
+    r: usize,
+    count: usize,
+) -> Element
     requires { Counted sheet.now work.now n declared r count }
-    ensures { result ≡ kind_number (literal_kind (type_of sheet.now declared) (own_type sheet.now r) (els_at sheet.now r) (values_in work.now 0 count)) }
+    ensures { element_kind result ≡ literal_kind (declared_type sheet.now declared) (own_type sheet.now r) (els_at sheet.now r) (values_in work.now 0 count) }
 {
-    if declared != 0 {
-        return elem_kind(sheet, work, n, declared);
+    if let Some(d) = declared {
+        return elem_kind(sheet, work, n, d);
     }
     let own = lines::number_at(sheet, work, n, r - 1, 1);
     if own != 0 {
         return elem_kind(sheet, work, n, own);
     }
     if is_byte_literal(sheet, work, n, r) {
-        return element::BYTE;
+        return Element::Byte;
     }
     placements::kind_of_values(work, count)
 }
 
 // A literal of a size, which its indices do not pass.
-fn measured(sheet: &[u8], work: &[u8], n: usize, declared: usize, r: usize, size: u64) -> Arrayed
+fn measured(
+    sheet: &[u8],
+    work: &[u8],
+    n: usize,
+    declared: Option<usize>,
+    r: usize,
+    size: u64,
+) -> Result<Arrayed, NoItem>
     requires { DeclaredLiteral sheet.now work.now n declared r }
-    ensures { (k next reach : ℕ) (f : Filled) → reach ≤ size → Filling work.now (above 16) k next reach f → ArrayResult work.now (Array.measured (type_of sheet.now declared) (own_type sheet.now r) (els_at sheet.now r) f size) result }
+    ensures { (k next reach : ℕ) (f : Filled) → reach ≤ size → Filling work.now (above 16) k next reach f → ArrayResult work.now (Array.measured (declared_type sheet.now declared) (own_type sheet.now r) (els_at sheet.now r) f size) result }
 {
     if LONGEST_LITERAL < size {
-        return Arrayed::Refused(12);
+        return Err(NoItem::LongLiteral);
     }
     let count = size as usize;
-    Arrayed::Literal(literal_kind(sheet, work, n, declared, r, count), count)
+    Ok(Arrayed::Literal(literal_kind(sheet, work, n, declared, r, count), count))
 }
 
 // A literal whose elements are placed, with indices that end at `reach`.
-fn sized(sheet: &[u8], work: &mut [u8], c: Known, declared: usize, r: usize, reach: u64) -> Arrayed
+fn sized(
+    sheet: &[u8],
+    work: &mut [u8],
+    c: Known,
+    declared: Option<usize>,
+    r: usize,
+    reach: u64,
+) -> Result<Arrayed, NoItem>
     requires { (DeclaredLiteral sheet.now work.old c.lines declared r) × (ConstsLogged sheet.now work.old c.lines c.consts) }
     ensures { Sized sheet.now work.old c.consts declared r reach result work.new }
 {
-    match literal_size(sheet, work, c, r, reach) {
-        Ok(size) => {
-            if size < reach {
-                return Arrayed::Refused(11);
-            }
-            measured(sheet, work, c.lines, declared, r, size)
-        }
-        Err(NoValue::Failed) => Arrayed::Pending,
-        Err(NoValue::LongString) => Arrayed::Refused(8),
+    let size = literal_size(sheet, work, c, r, reach)?;
+    if size < reach {
+        return Err(NoItem::OutsideLiteral);
     }
+    measured(sheet, work, c.lines, declared, r, size)
 }
 
-fn literal(sheet: &[u8], work: &mut [u8], c: Known, declared: usize, r: usize) -> Arrayed
+fn literal(
+    sheet: &[u8],
+    work: &mut [u8],
+    c: Known,
+    declared: Option<usize>,
+    r: usize,
+) -> Result<Arrayed, NoItem>
     requires { (DeclaredLiteral sheet.now work.old c.lines declared r) × (ConstsLogged sheet.now work.old c.lines c.consts) }
-    ensures { ArrayAnswers work.old (const_array (names_in sheet.now work.old c.consts) (type_of sheet.now declared) (ex_at sheet.now r)) result work.new }
+    ensures { ArrayAnswers work.old (const_array (names_in sheet.now work.old c.consts) (declared_type sheet.now declared) (ex_at sheet.now r)) result work.new }
 {
-    match literals::fill(sheet, work, c, r) {
-        Placed::Into(x) => sized(sheet, work, c, declared, r, x.reach),
-        Placed::Negative => Arrayed::Pending,
-        Placed::Failed => Arrayed::Pending,
-        Placed::TooLong => Arrayed::Refused(8),
+    match literals::fill(sheet, work, c, r)? {
+        Some(x) => sized(sheet, work, c, declared, r, x.reach),
+        None => Err(NoItem::Pending),
     }
 }
 
-// The constant array that line r is, where `declared` is the line of the type that the global's type declares for elements, or 0.
-pub fn const_array(sheet: &[u8], work: &mut [u8], c: Known, declared: usize, r: usize) -> Arrayed
+// The constant array that line r is, where `declared` is the line of the type that the global's type declares for elements.
+pub fn const_array(
+    sheet: &[u8],
+    work: &mut [u8],
+    c: Known,
+    declared: Option<usize>,
+    r: usize,
+) -> Result<Arrayed, NoItem>
     requires { (ArrayLine sheet.now work.old c.lines declared r) × (ConstsLogged sheet.now work.old c.lines c.consts) }
-    ensures { ArrayAnswers work.old (const_array (names_in sheet.now work.old c.consts) (type_of sheet.now declared) (ex_at sheet.now r)) result work.new }
+    ensures { ArrayAnswers work.old (const_array (names_in sheet.now work.old c.consts) (declared_type sheet.now declared) (ex_at sheet.now r)) result work.new }
 {
-    let f = lines::form_at(work, r - 1);
-    if f == ex::ALLOC {
-        return alloc(sheet, work, c, declared, r);
+    match lines::form_at(work, r - 1) {
+        ex::ALLOC => alloc(sheet, work, c, declared, r),
+        ex::LIT => literal(sheet, work, c, declared, r),
+        _ => Err(NoItem::Pending),
     }
-    if f == ex::LIT {
-        return literal(sheet, work, c, declared, r);
-    }
-    Arrayed::Pending
 }

@@ -7,6 +7,8 @@ pub const BYTE: usize = 36;
 
 pub const BIG: usize = 37;
 
+pub const REAL: usize = 38;
+
 pub const STRING: usize = 39;
 
 pub const BLOCK: usize = 40;

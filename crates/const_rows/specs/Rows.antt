@@ -28,6 +28,10 @@ qualified_part s t m i = cond (eqb (module_line_of t i) 0 || has_key (qualified_
 unfoldable pub plain_part : Bytes → Bytes → ℕ → ℕ → Bytes
 plain_part s t m i = cond (not (is_own s (module_line_of t i)) || has_key (plain_key s t i) (log_in s t i)) [] (const_row (log_in s t m) (plain_key s t i))
 
+-- the row of a key that entry i has, where no entry before it has the key
+abbrev pub new_part : Bytes → Bytes → ℕ → ℕ → Key → Bytes
+new_part s t m i k = cond (has_key k (log_in s t i)) [] (const_row (log_in s t m) k)
+
 -- the plain ones, or those of M->NAME
 abbrev pub rows_to : Bool → Bytes → Bytes → ℕ → ℕ → Bytes
 rows_to true s t m i = plain_to s t m i

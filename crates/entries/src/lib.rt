@@ -11,23 +11,21 @@ ghost use Rattle.entries.specs.Entering.{entry_of, moved_to, string_of, EntryRoo
 use codes::{area, value};
 use names::CHAINS;
 use values::{ConstVal, LONGEST_STRING};
+use write::Writer;
 
 // The bytes of entry m: a `con` line, its module's line, a slot, and a digest.
 fn put_bytes(work: &mut [u8], m: usize, line: usize, within: usize, kind: u8, bits: u64, d: usize)
     requires { (EntryRoom work.old m line within) × (d < 256) }
     ensures { work.new ≡ over work.old (5120 + 16 * m) (entry_of line within kind bits d) }
 {
-    let a = write::put(
-        work,
-        area::CONSTANTS + area::CONSTANT * m,
-        (line % 256) as u8,
-    );
-    let b = write::put(work, a, (line / 256) as u8);
-    let c = write::put(work, b, (within % 256) as u8);
-    let e = write::put(work, c, (within / 256) as u8);
-    let f = write::put(work, e, kind);
-    let g = words::put_bits(work, f, bits);
-    let _ = write::put(work, g, d as u8);
+    let mut w = Writer::from(work, area::CONSTANTS + area::CONSTANT * m);
+    w.put((line % 256) as u8);
+    w.put((line / 256) as u8);
+    w.put((within % 256) as u8);
+    w.put((within / 256) as u8);
+    w.put(kind);
+    words::put_bits(&mut w, bits);
+    w.put(d as u8);
 }
 
 // Entry m, chained by the digest.

@@ -9,8 +9,9 @@ use lib.ListN.{length, take, length-take, length-append}
 use Rattle.semantics.specs.Text.{Bytes, bytes, hex_of}
 use Rattle.semantics.specs.Listing.{row}
 use Rattle.semantics.specs.Refusal.{Buffers, refused, imaged, printed, printed_image}
+use Rattle.write.specs.declared.Writer.{Writer}
 use Rattle.write.specs.Wrote.{Wrote}
-use Rattle.write.proofs.Wrote.{wrote_as, then}
+use Rattle.write.specs.Writes.{Writes}
 use Rattle.answers.specs.declared.Refusal.{Refusal}
 use Rattle.answers.specs.Answers.{refusal_number, refusal_line}
 use Rattle.answers.proofs.Rows.{at-start}
@@ -18,11 +19,6 @@ use Rattle.image.specs.declared.Laid.{Laid}
 use Rattle.image.specs.Image.{Pictures}
 
 -- ---- a row
-
-pub row_put : {d e f g : Bytes} {at a b c : ℕ} (name bs : Bytes) → Wrote d at name e a → Wrote e a (44 ∷ hex_of bs) f b → Wrote f b (10 ∷ []) g c
-    → Wrote d at (row (name ∷ hex_of bs ∷ [])) g c
-unfolding row
-row_put name bs x y z = wrote_as (append_assoc name (44 ∷ hex_of bs) (10 ∷ [])) (then (then x y) z)
 
 hex-length : (bs : Bytes) → length (hex_of bs) ≡ 2 * length bs
 unfolding hex_of
@@ -45,10 +41,10 @@ module _ (s : Bytes) (b : Buffers) (listing image area : Bytes) (d : Bytes) (roo
       let p = at-start w.0 (omega (arith, w.1)) in
       (p.0.0, p.1 ∙ ap printed_image h.answer)
 
-  pub image-printed : (y : Laid) → Pictures s b (Ok y) listing image area → {e f : Bytes} {m r : ℕ}
-      → Wrote d 0 (row (bytes "image" ∷ hex_of (take y.image image) ∷ [])) e m → Wrote e m (row (bytes "area" ∷ hex_of (take y.area area) ∷ [])) f r → ImagePrinted b s r f
-  image-printed y h v w =
+  pub image-printed : (y : Laid) → Pictures s b (Ok y) listing image area → {e : Bytes} {r : ℕ}
+      → Wrote d 0 (row (bytes "image" ∷ hex_of (take y.image image) ∷ []) ++ row (bytes "area" ∷ hex_of (take y.area area) ∷ [])) e r → ImagePrinted b s r e
+  image-printed y h w =
       let x = row (bytes "image" ∷ hex_of (take y.image image) ∷ []) in
       let z = row (bytes "area" ∷ hex_of (take y.area area) ∷ []) in
-      let p = at-start (then v w) (omega (arith, room, length-append x z, row-length (bytes "image") (take y.image image), row-length (bytes "area") (take y.area area), length-take y.image image, length-take y.area area, h.lengths.2, h.lengths.3)) in
+      let p = at-start w (omega (arith, room, length-append x z, row-length (bytes "image") (take y.image image), row-length (bytes "area") (take y.area area), length-take y.image image, length-take y.area area, h.lengths.2, h.lengths.3)) in
       (p.0.0, p.1 ∙ ap printed_image h.answer)

@@ -6,11 +6,12 @@ ghost use Rattle.std.specs.Prelude.{◌≡◌, ◌∷◌, [], ◌+◌, ◌*◌, 
 ghost use Rattle.semantics.specs.Text.{hex_of};
 ghost use Rattle.semantics.specs.Listing.{row};
 ghost use Rattle.semantics.specs.Refusal.{imaged, printed_image};
-ghost use Rattle.write.specs.Wrote.{Wrote};
+ghost use Rattle.write.specs.Writes.{Writes};
 ghost use Rattle.image.specs.Image.{lent_of};
 
 use std::io;
 use std::io::{Read, Write};
+use write::Writer;
 
 // The bytes that are read at most, and those of each buffer.
 const BYTES: usize = 65536;
@@ -19,12 +20,12 @@ const BYTES: usize = 65536;
 const ROWS: usize = 262208;
 
 // A row of a name and bytes.
-fn put_row(out: &mut [u8], at: usize, name: &[u8], bytes: &[u8]) -> usize
-    ensures { Wrote out.old at (row (name.now ∷ hex_of bytes.now ∷ [])) out.new result }
+fn put_row(w: &mut Writer, name: &[u8], bytes: &[u8])
+    ensures { Writes w.old (row (name.now ∷ hex_of bytes.now ∷ [])) w.new }
 {
-    let p = write::put_part(out, at, name);
-    let q = rows::put_comma_hex(out, p, bytes);
-    rows::put_lf(out, q)
+    w.put_part(name);
+    rows::comma_hex(w, bytes);
+    rows::lf(w);
 }
 
 // Puts what is to be printed at the start of `out`, and answers its length.
@@ -39,13 +40,16 @@ fn put_answer(
     requires { 64 + 2 * (length image.old + length area.old) ≤ length out.old }
     ensures { (result ≤ length out.new) × (take result out.new ≡ printed_image (imaged (lent_of listing.old image.old area.old work.old) sheet.now)) }
 {
-    match image::image(sheet, listing, image, area, work) {
+    let answer = image::image(sheet, listing, image, area, work);
+    let mut w = Writer::from(out, 0);
+    match answer {
         Ok(laid) => {
-            let p = put_row(out, 0, b"image", &image[..laid.image]);
-            put_row(out, p, b"area", &area[..laid.area])
+            put_row(&mut w, b"image", &image[..laid.image]);
+            put_row(&mut w, b"area", &area[..laid.area]);
         }
-        Err(r) => answers::put_refusal(out, 0, r),
+        Err(r) => answers::put_refusal(&mut w, r),
     }
+    w.at
 }
 
 fn main(rt: HostRuntime) -> io::Result<()> {

@@ -4,11 +4,13 @@
 ghost use Rattle.std.specs.Prelude.{◌≡◌, ◌+◌, ◌*◌, ◌≤◌, ◌<◌, min, length};
 ghost use Rattle.semantics.specs.Image.{handle, part_at};
 ghost use Rattle.semantics.specs.Form.{fields_from};
+ghost use Rattle.write.specs.Wrote.{Wrote};
 ghost use Rattle.stored.specs.Reading.{row_values};
 ghost use Rattle.stored.specs.Laying.{lay_bytes, lay_array};
 ghost use Rattle.laying.specs.Steps.{laying_of, MoreFits, Lays, Went, Moved, Outgrown};
 
 use row_fields::values;
+use write::Writer;
 
 const HANDLE: usize = 4;
 
@@ -59,6 +61,26 @@ pub fn moved(s: State, inside: bool) -> State
     }
 }
 
+// The values of a row, from a place of a buffer on; returns where they end.
+fn put_row(out: &mut [u8], at: usize, row: &[u8], from: usize, width: usize, reals: bool) -> usize
+    requires { width ≤ 8 }
+    ensures { Wrote out.old at (row_values width reals (fields_from from row.now)) out.new result }
+{
+    let mut w = Writer::from(out, at);
+    values::put_values(&mut w, row, from, width, reals);
+    w.at
+}
+
+// The handle of an item, its number plus 1, likewise.
+fn put_handle(out: &mut [u8], at: usize, item: u64) -> usize
+    requires { item < 9223372036854775808 }
+    ensures { Wrote out.old at (handle item) out.new result }
+{
+    let mut w = Writer::from(out, at);
+    w.put_big_endian(HANDLE, item + 1);
+    w.at
+}
+
 // The values of a row, in the newest array's own part of the area, or in the image.
 pub fn lay_values(
     s: State,
@@ -67,32 +89,32 @@ pub fn lay_values(
     off: usize,
     row: &[u8],
     from: usize,
-    w: usize,
+    width: usize,
     reals: bool,
 ) -> State
-    requires { MoreFits s (length area.old) × (w ≤ 8) }
-    ensures { Lays (lay_bytes off (row_values w reals (fields_from from row.now)) (laying_of s image.old area.old)) s result image.new area.new }
+    requires { MoreFits s (length area.old) × (width ≤ 8) }
+    ensures { Lays (lay_bytes off (row_values width reals (fields_from from row.now)) (laying_of s image.old area.old)) s result image.new area.new }
 {
     if s.inside {
         let part = &mut area[s.start..s.end];
-        let p = values::put_values(part, off, row, from, w, reals);
+        let p = put_row(part, off, row, from, width, reals);
         return went_on(s, s.end - s.start, p, s.long);
     }
-    let q = values::put_values(image, off, row, from, w, reals);
+    let q = put_row(image, off, row, from, width, reals);
     went_on(s, image.len(), q, s.long.max(q))
 }
 
-// A handle: the item's number plus 1.
+// A handle.
 pub fn lay_handle(s: State, image: &mut [u8], area: &mut [u8], off: usize) -> State
     requires { MoreFits s (length area.old) }
     ensures { Lays (lay_bytes off (handle s.item) (laying_of s image.old area.old)) s result image.new area.new }
 {
     if s.inside {
         let part = &mut area[s.start..s.end];
-        let p = write::put_big_endian(part, off, HANDLE, s.item + 1);
+        let p = put_handle(part, off, s.item);
         return went_on(s, s.end - s.start, p, s.long);
     }
-    let q = write::put_big_endian(image, off, HANDLE, s.item + 1);
+    let q = put_handle(image, off, s.item);
     went_on(s, image.len(), q, s.long.max(q))
 }
 
@@ -132,6 +154,6 @@ pub fn lay_array(s: State, image: &mut [u8], area: &[u8], off: usize, size: usiz
         full: false,
         ..s
     };
-    let p = write::put_big_endian(image, off, HANDLE, s.item + 1);
+    let p = put_handle(image, off, s.item);
     went_on(t, image.len(), p, s.long.max(p))
 }

@@ -27,8 +27,11 @@ use Rattle.decimal.specs.Number as Number
 use Rattle.decimal.specs.Number.{integer_of, whole}
 use Rattle.hex_field.specs.Hex.{byte_at, eight_bytes, bits64_of}
 use Rattle.hex_field.proofs.Hexes.{byte_of, unhex-length}
+use Rattle.write.specs.declared.Writer.{Writer}
 use Rattle.write.specs.Wrote.{over, Wrote}
-use Rattle.write.proofs.Wrote.{wrote_as, wrote-next}
+use Rattle.write.specs.Writes.{Writes}
+use Rattle.write.proofs.Writes.{writes_as, writes_next}
+use Rattle.write.proofs.Wrote.{wrote_as}
 use Rattle.form.specs.Table.{row_at, row_node}
 use Rattle.semantics.proofs.Common.{never, both}
 use Rattle.lines.specs.Lines.{text_at, read_at, nodes_in, form_at}
@@ -88,10 +91,10 @@ module _ (x : Bytes) (h : holds Atom.text x ≡ true) where
   string-length : length x / 2 ≡ length (or_else [] (unhex x))
   string-length = let e = unhex-length x (or_else [] (unhex x)) (text-read x h) in omega (arith, e)
 
-  pub string-more : {d : Bytes} {top i v : ℕ} {e : Bytes} {p : ℕ} {f : Bytes} {q : ℕ} → i < length x / 2 → v ≡ unwrap_or (byte_at x i) 0
-      → Wrote d top (take i (or_else [] (unhex x))) e p → Wrote e p (v ∷ []) f q → Wrote d top (take (i + 1) (or_else [] (unhex x))) f q
-  string-more {i = i} k g w y =
-      wrote-next (or_else [] (unhex x)) i (omega (arith, string-length)) w (wrote_as (ap (λ (b : ℕ). b ∷ []) (g ∙ ap (λ (o : Option ℕ). unwrap_or o 0) (byte_of x (or_else [] (unhex x)) i (text-read x h) (omega (arith, string-length))))) y)
+  pub string-more : {i b : ℕ} → i < length x / 2 → b ≡ unwrap_or (byte_at x i) 0
+      → {u v w : Writer} → Writes u (take i (or_else [] (unhex x))) v → Writes v (b ∷ []) w → Writes u (take (i + 1) (or_else [] (unhex x))) w
+  string-more {i} k g w y =
+      writes_next (or_else [] (unhex x)) i (omega (arith, string-length)) w (writes_as (ap (λ (b : ℕ). b ∷ []) (g ∙ ap (λ (o : Option ℕ). unwrap_or o 0) (byte_of x (or_else [] (unhex x)) i (text-read x h) (omega (arith, string-length))))) y)
 
   pub string-put : {d : Bytes} {top : ℕ} {i : ℕ} {e : Bytes} {p : ℕ} → length x ≤ 255 → top + 256 ≤ length d → length x / 2 ≤ i → Wrote d top (take i (or_else [] (unhex x))) e p
       → Casts d top (v_str (or_else [] (unhex x))) e (Str top (length x / 2))

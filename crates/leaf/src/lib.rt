@@ -18,6 +18,7 @@ use codes::ex;
 use codes::value::{self, Value};
 use names::{Key, Known};
 use values::{ConstVal, Folded, NoValue};
+use write::Writer;
 
 fn integer(x: &[u8]) -> ConstVal
     requires { Form.holds Form.Atom.i64 x.now ≡ true }
@@ -39,9 +40,9 @@ fn string(x: &[u8], work: &mut [u8], top: usize) -> ConstVal
     ensures { Casts work.old top (v_str (or_else [] (unhex x.now))) work.new result }
 {
     let l = x.len() / 2;
-    let mut p = top;
+    let mut w = Writer::from(work, top);
     for i in 0..l {
-        p = write::put(work, p, hex_field::byte(x, i).unwrap_or(0));
+        w.put(hex_field::byte(x, i).unwrap_or(0));
     }
     ConstVal::Str(top, l)
 }

@@ -7,6 +7,7 @@ ghost use Rattle.semantics.specs.Refusal.{compiled, printed};
 
 use std::io;
 use std::io::{Read, Write};
+use write::Writer;
 
 // The bytes that are read at most, and those of each buffer.
 const BYTES: usize = 65536;
@@ -18,7 +19,11 @@ fn put_answer(sheet: &[u8], out: &mut [u8], work: &mut [u8]) -> usize
 {
     match compile::compile(sheet, out, work) {
         Ok(n) => n,
-        Err(r) => answers::put_refusal(out, 0, r),
+        Err(r) => {
+            let mut w = Writer::from(out, 0);
+            answers::put_refusal(&mut w, r);
+            w.at
+        }
     }
 }
 

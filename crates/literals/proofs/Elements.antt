@@ -17,15 +17,14 @@ use Rattle.decimal.specs.Number as Number
 use Rattle.lines.specs.Lines.{read_at, form_at}
 use Rattle.values.specs.declared.ConstVal.{ConstVal}
 use Rattle.values.specs.declared.ConstVal.TheVariants.{Int, Real, Str}
-use Rattle.std.specs.Prelude.{Ok, Err}
+use Rattle.std.specs.Prelude.{Option, Some, Ok, Err}
+use Rattle.values.specs.declared.NoValue.{NoValue}
 use Rattle.values.specs.declared.NoValue.TheVariants as N
-use Rattle.values.specs.Values.{value_in, result_in, Small, InRange, At, ResultAt, Outcome}
+use Rattle.values.specs.Values.{value_in, result_in, Small, InRange, At, ResultAt, Outcome, answered}
 use Rattle.slots.specs.Slots.{slot_bytes}
 use Rattle.slots.proofs.Bits.{SlotStored, stored}
 use Rattle.write.specs.Wrote.{over}
 use Rattle.placements.specs.declared.Extent.{Extent}
-use Rattle.placements.specs.declared.Placed.{Placed}
-use Rattle.placements.specs.declared.Placed.TheVariants.{Into, Failed, TooLong}
 use Rattle.placements.specs.Placements.{slot_at, element_in, Keeps, StringStands, Filling, Step, Places}
 use Rattle.placements.proofs.Same.{keeps_then, keeps-less, keeps-kept}
 use Rattle.placements.proofs.Fillings.{filling-kept, filling-value, filling-star, stored-element}
@@ -58,13 +57,13 @@ module _ {s t : Bytes} {n m r e : ℕ} {v : ConstVal} (k : ValuedTask s t n m r 
   element-is = rw k.value
 
   module _ {f : ℕ} (hf : f ≡ form_at t (r - 1)) where
-    pub element-next : f ≡ 20 → {y : Placed} {u : Bytes} → Places t e far place_next y u → Fills t e far (placed (names_in s t m) (el_at s r)) y u
+    pub element-next : f ≡ 20 → {y : Option Extent} {u : Bytes} → Places t e far place_next y u → Fills t e far (placed (names_in s t m) (el_at s r)) (Ok y) u
     element-next d {y} {u} p = record {
       keeps = keeps-less (omega arith) (omega arith) (p.keeps 49152);
       step = λ g one few q. rw (el-next l (sym hf ∙ d)) (p.step (above e) e g one (omega arith) few q);
     }
 
-    pub element-star : f ≡ 21 → {u : Bytes} → (u ≡ over t (12288 + 16 * 0) (slot_bytes v)) × InRange v → Fills t e far (placed (names_in s t m) (el_at s r)) (Into far) u
+    pub element-star : f ≡ 21 → {u : Bytes} → (u ≡ over t (12288 + 16 * 0) (slot_bytes v)) × InRange v → Fills t e far (placed (names_in s t m) (el_at s r)) (Ok (Some far)) u
     element-star d {u} w =
         let p = stored t (12288 + 16 * 0) v (omega (arith, l.checked.whole.room)) element-small w in
         record {
@@ -76,7 +75,7 @@ module _ {s t : Bytes} {n m r e : ℕ} {v : ConstVal} (k : ValuedTask s t n m r 
       pub element-at : AtTask s t n m r e
       element-at = record { task = k.task; form = last-form l (λ d. a (hf ∙ d)) (λ d. b (hf ∙ d)) }
 
-      pub element-spans : {y : Placed} {u : Bytes} → Fills t e far (placed (names_in s t m) (at (el_value (el_at s r)) (ses_at s r))) y u → Fills t e far (placed (names_in s t m) (el_at s r)) y u
+      pub element-spans : {y : Outcome (Option Extent)} {u : Bytes} → Fills t e far (placed (names_in s t m) (at (el_value (el_at s r)) (ses_at s r))) y u → Fills t e far (placed (names_in s t m) (el_at s r)) y u
       element-spans {y} {u} p = record { keeps = p.keeps; step = λ g one few q. rw (el-at l element-at.form) (p.step g one few q) }
 
 -- ---- an element: its value first
@@ -108,13 +107,13 @@ module _ {s t : Bytes} {n m r k : ℕ} (c : ElementTask s t n m r k) (far : Exte
     keeps-fold : Keeps 16384 49152 t u
     keeps-fold = keeps-less (omega arith) (omega arith) (keeps-kept {a = 0} (omega arith) g.kept)
 
-    pub turn-failed : x ≡ Err N.Failed → ElementFilled t k far (fill_element (names_in s t m) (el_at s r)) Failed u
+    pub turn-none : (n : NoValue) → x ≡ Err n → ElementFilled t k far (fill_element (names_in s t m) (el_at s r)) (Err n) u
     unfolding result_in
-    turn-failed d = record { keeps = keeps-fold; step = λ f p. fills-to f ∙ rw d }
-
-    pub turn-long : x ≡ Err N.LongString → ElementFilled t k far (fill_element (names_in s t m) (el_at s r)) TooLong u
-    unfolding result_in
-    turn-long d = record { keeps = keeps-fold; step = λ f p. fills-to f ∙ rw d }
+    turn-none n d = record { keeps = keeps-fold; step = λ f p. fills-to f ∙ go n d (placed (names_in s t m) (el_at s r)) f }
+      where
+        go : (n : NoValue) → x ≡ Err n → (g : Tree.ConstVal → Filled → Result Filled) (f : Filled) → bind (result_in u x) (λ (v : Tree.ConstVal). g v f) ≡ answered (Err n)
+        go N.Failed d g f = rw d
+        go N.LongString d g f = rw d
 
     module _ {v : ConstVal} (d : x ≡ Ok v) where
       value-stands : StringStands (49152 + 256 * (k + 1)) v
@@ -134,7 +133,7 @@ module _ {s t : Bytes} {n m r k : ℕ} (c : ElementTask s t n m r k) (far : Exte
         unfolding slot_at
         value-stored = record { task = record { line = line_kept keeps-value c.line; log = logged-kept keeps-value c.log; few = omega (arith, c.few) }; stands = value-stands; value = p.value }
 
-        pub turn-placed : {y : Placed} {z : Bytes} → Fills w (k + 1) far (placed (names_in s w m) (el_at s r)) y z → ElementFilled t k far (fill_element (names_in s t m) (el_at s r)) y z
+        pub turn-placed : {y : Outcome (Option Extent)} {z : Bytes} → Fills w (k + 1) far (placed (names_in s w m) (el_at s r)) y z → ElementFilled t k far (fill_element (names_in s t m) (el_at s r)) y z
         unfolding result_in
         turn-placed {y} {z} a = record {
           keeps = keeps_then keeps-value a.keeps;

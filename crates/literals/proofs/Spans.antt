@@ -1,6 +1,5 @@
 -- All selectors of an element: each is folded and placed in turn.
 use mathlib.Core.Path.{◌≡◌, refl, sym, ap, ◌∙◌, subst}
-use mathlib.Core.Bool.{true, false}
 use mathlib.Core.List.{List, [], ◌∷◌}
 use Prim.Native.Nat.{ℕ, suc, ◌+◌, ◌-◌, ◌≤◌, ◌<◌}
 use native.Mathlib.Omega.{arith}
@@ -18,16 +17,17 @@ use Rattle.semantics.specs.Fold.{Result, bind, Names}
 use Rattle.semantics.specs.Fold.Result.{ok, failed, refuse}
 use Rattle.semantics.specs.Array.{Filled, place_indices, place_spans, span_of, spans_of}
 use Rattle.decimal.specs.Number as Number
-use Rattle.semantics.proofs.Common.{never}
 use Rattle.lines.specs.Lines.{read_at, nodes_in}
 use Rattle.refs.proofs.Fields.{head-drop, tail-drop}
 use Rattle.placements.specs.declared.Extent.{Extent}
-use Rattle.placements.specs.declared.Placed.{Placed}
-use Rattle.placements.specs.declared.Placed.TheVariants.{Into, Negative, Failed, TooLong}
-use Rattle.placements.specs.Placements.{element_in, Keeps, Filling, Step, stopped}
+use Rattle.placements.specs.Placements.{element_in, Keeps, Filling, Goes, Step}
+use Rattle.std.specs.Prelude.{Option, None, Some, Ok, Err}
+use Rattle.values.specs.declared.NoValue.{NoValue}
+use Rattle.values.specs.declared.NoValue.TheVariants as N
+use Rattle.values.specs.Values.{Outcome, answered}
 use Rattle.placements.proofs.Same.{keeps-all, keeps_then, keeps-less, element-same}
 use Rattle.names.specs.Table.{names_in}
-use Rattle.literals.specs.Literals.{se_at, ses_at, Task, AtTask, above, SelectorResult, Selects, Fills}
+use Rattle.literals.specs.Literals.{se_at, ses_at, Task, AtTask, above, SpanPlaced, SelectorResult, Selects, Fills}
 use Rattle.literals.proofs.Names.{log-kept, logged-kept, line_kept}
 use Rattle.literals.proofs.Lines.{good-line, count-is, selectors}
 
@@ -69,26 +69,23 @@ all-spans ns v (and_se l h ss) r =
 -- ---- the loop
 
 -- how far a literal goes, 0 for one that has ended
-abbrev pub extent_of : Placed → Extent
-extent_of (Into a) = a
-extent_of Negative = record { next = 0; reach = 0 }
-extent_of Failed = record { next = 0; reach = 0 }
-extent_of TooLong = record { next = 0; reach = 0 }
+abbrev pub extent_of : Option Extent → Extent
+extent_of (Some a) = a
+extent_of None = record { next = 0; reach = 0 }
 
 -- the selectors from j on, where there are `count`
 abbrev ses_from : Bytes → ℕ → ℕ → ℕ → Ses
 ses_from s r count j = ses_of (values (ref k_se) (nodes_in s) (count - j) (drop (2 + j) (read_at s (r - 1)).fields))
 
 -- r is the literal after some selectors, and those that are left complete it
-pub record On (t : Bytes) (e : ℕ) (x : Placed) (ns : Names) (v : Tree.ConstVal) (rest all : Ses) (f : Filled) : Type 0 where
+pub record On (t : Bytes) (e : ℕ) (x : Option Extent) (ns : Names) (v : Tree.ConstVal) (rest all : Ses) (f : Filled) : Type 0 where
   pub result : Result Filled
-  pub step : Step t (above e) e x result
+  pub step : Goes t (above e) e x result
   pub left : place_all ns v rest result ≡ place_all ns v all (ok f)
 
-pub record Selecting (s t : Bytes) (m r e : ℕ) (a : Extent) (count : ℕ) (u : Bytes) (x : Placed) (j : ℕ) : Type 0 where
+pub record Selecting (s t : Bytes) (m r e : ℕ) (a : Extent) (count : ℕ) (u : Bytes) (x : Option Extent) (j : ℕ) : Type 0 where
   pub within : j ≤ count
   pub keeps : Keeps 12288 (above e) t u
-  pub ongoing : stopped x ≡ false
   pub on : (f : Filled) → 0 < e → e ≤ 16 → Filling t (above e) e a.next a.reach f → On u e x (names_in s t m) (element_in t e) (ses_from s r count j) (ses_from s r count 0) f
 
 module _ {s t : Bytes} {n m r e : ℕ} (k : AtTask s t n m r e) (a : Extent) {count : ℕ} (hc : count ≡ Number.number_up_to 65536 (get_or (read_at s (r - 1)).fields 1 [])) where
@@ -107,28 +104,28 @@ module _ {s t : Bytes} {n m r e : ℕ} (k : AtTask s t n m r e) (a : Extent) {co
   abbrev place_selected : Tree.ConstVal → Filled → Result Filled
   place_selected v f = bind (spans_of (names_in s t m) (ses_at s r)) (λ (y : List (ℤ × ℤ)). place_spans v y f)
 
-  pub selecting_start : Selecting s t m r e a count t (Into a) 0
-  selecting_start = record { within = omega arith; keeps = keeps-all; ongoing = refl; on = λ f one few p. record { result = ok f; step = record { literal = f; result = refl; filling = p }; left = refl } }
+  pub selecting_start : Selecting s t m r e a count t (Some a) 0
+  selecting_start = record { within = omega arith; keeps = keeps-all; on = λ f one few p. record { result = ok f; step = record { literal = f; result = refl; filling = p }; left = refl } }
 
-  filled : (y : Placed) (w : Bytes) → Keeps 12288 (above e) t w
+  filled : (y : Outcome (Option Extent)) (w : Bytes) → Keeps 12288 (above e) t w
       → ((f : Filled) → 0 < e → e ≤ 16 → Filling t (above e) e a.next a.reach f → Step w (above e) e y (place_all (names_in s t m) (element_in t e) (ses_from s r count 0) (ok f))) → Fills t e a place_selected y w
   filled y w c h = record {
     keeps = keeps-less (omega arith) (omega arith) c;
     step = λ f one few p. subst (λ (q : Result Filled). Step w (above e) e y q) (ap (λ (ss : Ses). place_all (names_in s t m) (element_in t e) ss (ok f)) all-selectors ∙ sym (all-spans (names_in s t m) (element_in t e) (ses_at s r) (ok f))) (h f one few p);
   }
 
-  module _ {u : Bytes} {x : Placed} {j : ℕ} (c : Selecting s t m r e a count u x j) where
+  module _ {u : Bytes} {x : Option Extent} {j : ℕ} (c : Selecting s t m r e a count u x j) where
     keeps-names : Keeps 16384 49152 t u
     keeps-names = keeps-less (omega arith) (omega arith) c.keeps
 
     pub selecting-line : KindLine 76 s u n r
     selecting-line = line_kept keeps-names l
 
-    pub selecting-end : count ≤ j → Fills t e a place_selected x u
+    pub selecting-end : count ≤ j → Fills t e a place_selected (Ok x) u
     unfolding place_all
     selecting-end h =
         let z : count - j ≡ 0 = omega arith in
-        filled x u c.keeps (λ f one few p. let o = c.on f one few p in subst (λ (q : Result Filled). Step u (above e) e x q) (rw z at o.left) o.step)
+        filled (Ok x) u c.keeps (λ f one few p. let o = c.on f one few p in subst (λ (q : Result Filled). Goes u (above e) e x q) (rw z at o.left) o.step)
 
     module _ (h : j < count) {q : ℕ} (hq : q ≡ Number.number_up_to 65536 (get_or (read_at s (r - 1)).fields (2 + j) [])) where
       selector-line : (q ≡ number_of (get_or (read_at s (r - 1)).fields (2 + j) [])) × KindLine 74 s u n q
@@ -143,35 +140,38 @@ module _ {s t : Bytes} {n m r e : ℕ} (k : AtTask s t n m r e) (a : Extent) {co
           let y : suc (2 + j) ≡ 2 + (j + 1) = omega arith in
           rw (z, head-drop (2 + j) (read_at s (r - 1)).fields, tail-drop (2 + j) (read_at s (r - 1)).fields, y, selector-line.0)
 
-      module _ (y : Placed) {w : Bytes} (d : Selects u e x (span_of (names_in s u m) (se_at s q).low (se_at s q).high) y w) where
+      module _ (y : Outcome (Option Extent)) {w : Bytes} (d : Selects u e x (span_of (names_in s u m) (se_at s q).low (se_at s q).high) y w) where
         chosen : (f : Filled) (one : 0 < e) (few : e ≤ 16) (p : Filling t (above e) e a.next a.reach f)
             → SelectorResult w e (span_of (names_in s t m) (se_at s q).low (se_at s q).high) (element_in t e) (c.on f one few p).result y
         chosen f one few p =
             let o = c.on f one few p in
             let v : element_in u e ≡ element_in t e = element-same t u c.keeps.long (above e) e (p.strings e (omega arith)) (λ i a b. c.keeps.above i (omega arith) (omega arith)) (λ i a b. c.keeps.above i (omega arith) b) in
-            rw (v, log-kept keeps-names k.task.log) at (d.result o.result one few c.ongoing o.step)
+            rw (v, log-kept keeps-names k.task.log) at (d.result o.result one few o.step)
 
         keeps-next : Keeps 12288 (above e) t w
         keeps-next = keeps_then c.keeps d.keeps
 
-        stops : (z : Placed) (v : Tree.ConstVal) (r' : Result Filled) → stopped z ≡ true → SelectorResult w e (span_of (names_in s t m) (se_at s q).low (se_at s q).high) v r' z → Step w (above e) e z (place_all (names_in s t m) v (ses_from s r count j) r')
+        stops : (n : NoValue) (v : Tree.ConstVal) (r' : Result Filled) → span_of (names_in s t m) (se_at s q).low (se_at s q).high ≡ answered (Err n) → place_all (names_in s t m) v (ses_from s r count j) r' ≡ answered (Err n)
         unfolding place_all
-        stops (Into b) v r' g z = never g
-        stops Negative v r' g z = never g
-        stops Failed v r' g z = rw (selectors-split, z)
-        stops TooLong v r' g z = rw (selectors-split, z)
+        stops N.Failed v r' z = rw (selectors-split, z)
+        stops N.LongString v r' z = rw (selectors-split, z)
 
-        pub selecting-stop : stopped y ≡ true → Fills t e a place_selected y w
-        selecting-stop z =
-            filled y w keeps-next (λ f one few p. let o = c.on f one few p in subst (λ (a : Result Filled). Step w (above e) e y a) o.left (stops y (element_in t e) o.result z (chosen f one few p)))
+        pub selecting-stop : (n : NoValue) → y ≡ Err n → Fills t e a place_selected (Err n) w
+        selecting-stop n z =
+            filled (Err n) w keeps-next (λ f one few p.
+            let o = c.on f one few p in
+            sym o.left ∙ stops n (element_in t e) o.result (subst (λ (b : Outcome (Option Extent)). SelectorResult w e (span_of (names_in s t m) (se_at s q).low (se_at s q).high) (element_in t e) o.result b) z (chosen f one few p)))
 
-        goes : (z : Placed) (v : Tree.ConstVal) (f : Filled) (o : On u e x (names_in s t m) v (ses_from s r count j) (ses_from s r count 0) f) → stopped z ≡ false
-            → SelectorResult w e (span_of (names_in s t m) (se_at s q).low (se_at s q).high) v o.result z → On w e z (names_in s t m) v (ses_from s r count (j + 1)) (ses_from s r count 0) f
+        goes : (z : Option Extent) (v : Tree.ConstVal) (f : Filled) (o : On u e x (names_in s t m) v (ses_from s r count j) (ses_from s r count 0) f)
+            → SpanPlaced w e (span_of (names_in s t m) (se_at s q).low (se_at s q).high) v o.result z → On w e z (names_in s t m) v (ses_from s r count (j + 1)) (ses_from s r count 0) f
         unfolding place_all
-        goes (Into b) v f o g z = record { result = bind o.result (place_indices v z.low z.high); step = z.step; left = rw (selectors-split, z.is) at o.left }
-        goes Negative v f o g z = record { result = bind o.result (place_indices v z.low z.high); step = z.step; left = rw (selectors-split, z.is) at o.left }
-        goes Failed v f o g z = never (sym g)
-        goes TooLong v f o g z = never (sym g)
+        goes z v f o g = record { result = bind o.result (place_indices v g.low g.high); step = g.step; left = rw (selectors-split, g.is) at o.left }
 
-        pub selecting-next : stopped y ≡ false → Selecting s t m r e a count w y (j + 1)
-        selecting-next z = record { within = omega arith; keeps = keeps-next; ongoing = z; on = λ f one few p. goes y (element_in t e) f (c.on f one few p) z (chosen f one few p) }
+        pub selecting-next : {z : Option Extent} → y ≡ Ok z → Selecting s t m r e a count w z (j + 1)
+        selecting-next {z} i = record {
+          within = omega arith;
+          keeps = keeps-next;
+          on = λ f one few p.
+              let o = c.on f one few p in
+              goes z (element_in t e) f o (subst (λ (b : Outcome (Option Extent)). SelectorResult w e (span_of (names_in s t m) (se_at s q).low (se_at s q).high) (element_in t e) o.result b) i (chosen f one few p));
+        }

@@ -23,8 +23,8 @@ use Rattle.lines.specs.Lines.{reads_in, read_at, nodes_in}
 use Rattle.refs.proofs.Fields.{head-drop, tail-drop}
 use Rattle.sizes.proofs.Types.{May, maybe-head, CountedRefs, group_at}
 use Rattle.placements.specs.declared.Extent.{Extent}
-use Rattle.placements.specs.declared.Placed.{Placed}
-use Rattle.placements.specs.declared.Placed.TheVariants.{Into, Negative, Failed, TooLong}
+use Rattle.std.specs.Prelude.{Option, Some, Ok}
+use Rattle.values.specs.Values.{Outcome}
 use Rattle.placements.specs.Placements.{Keeps, Filling, LiteralSoFar, Step}
 use Rattle.placements.proofs.Same.{keeps-all, keeps_then}
 use Rattle.placements.proofs.Fillings.{filling-wider}
@@ -32,7 +32,7 @@ use Rattle.leaf.specs.Folds.{ex_at}
 use Rattle.literals.specs.Literals.{el_at, els_at, ElementTask, LiteralLine, above, ElementFilled, AllFilled}
 use Rattle.names.specs.Table.{ConstsLogged, names_in}
 use Rattle.literals.proofs.Names.{log-kept, logged-kept, line_kept}
-use Rattle.literals.proofs.Placing.{is_into, step-ends}
+use Rattle.literals.proofs.Placing.{goes_on, step-ends}
 use Rattle.literals.proofs.Lines.{parts_at, makes, good-line, count-is}
 
 -- ---- the line of a literal
@@ -90,12 +90,6 @@ pub record Turning (s t : Bytes) (m r count : ℕ) (u : Bytes) (x : Extent) (j :
   pub filling : Filling u (above j) j x.next x.reach literal
   pub left : fill (names_in s t m) (els_from s r count j) literal ≡ fill (names_in s t m) (els_from s r count 0) none_filled
 
-pub into-not : (y : Placed) → ((a : Extent) → y ≡ Into a → ⊥) → is_into y ≡ false
-into-not (Into a) h = absurd (h a refl)
-into-not Negative h = refl
-into-not Failed h = refl
-into-not TooLong h = refl
-
 module _ {s t₀ : Bytes} {n m r : ℕ} (k : LiteralLine s t₀ n r) (g : ConstsLogged s t₀ n m) {t : Bytes} (a : (Filling t 49152 0 0 0 none_filled) × ((b : ℕ) → Keeps 16384 b t₀ t)) where
   pub begun : KindLine 69 s t n r
   begun = line_kept (a.1 49152) k.line
@@ -115,7 +109,7 @@ module _ {s t₀ : Bytes} {n m r : ℕ} (k : LiteralLine s t₀ n r) (g : Consts
       pub turning-line : KindLine 69 s u n r
       turning-line = line_kept c.keeps begun
 
-      pub turning-end : count ≤ j → AllFilled t₀ (fill (names_in s t₀ m) (els_at s r) none_filled) (Into x) u
+      pub turning-end : count ≤ j → AllFilled t₀ (fill (names_in s t₀ m) (els_at s r) none_filled) (Ok (Some x)) u
       turning-end h =
           let z : count - j ≡ 0 = omega arith in
           record {
@@ -132,7 +126,7 @@ module _ {s t₀ : Bytes} {n m r : ℕ} (k : LiteralLine s t₀ n r) (g : Consts
         pub turn-line : ElementTask s u n m q j
         turn-line = record { line = line_kept keeps-both (element-line k hc h hq); log = logged-kept keeps-both g; few = omega (arith, few) }
 
-        module _ (y : Placed) {w : Bytes} (d : ElementFilled u j x (fill_element (names_in s u m) (el_at s q)) y w) where
+        module _ (y : Outcome (Option Extent)) {w : Bytes} (d : ElementFilled u j x (fill_element (names_in s u m) (el_at s q)) y w) where
           keeps-next : Keeps 16384 49152 t w
           keeps-next = keeps_then c.keeps d.keeps
 
@@ -143,15 +137,17 @@ module _ {s t₀ : Bytes} {n m r : ℕ} (k : LiteralLine s t₀ n r) (g : Consts
           left-next : bind (fill_element (names_in s t m) (el_at s q) c.literal) (fill (names_in s t m) (els_from s r count (j + 1))) ≡ fill (names_in s t m) (els_from s r count 0) none_filled
           left-next = rw (elements-split k hc h hq) at c.left
 
-          pub turning-stop : is_into y ≡ false → AllFilled t₀ (fill (names_in s t₀ m) (els_at s r) none_filled) y w
-          turning-stop e = record {
-            keeps = keeps_then (a.1 49152) keeps-next;
-            count = j + 1;
-            few = omega (arith, few);
-            step = subst (λ (b : Result Filled). Step w (above 16) (j + 1) y b) (left-next ∙ whole_is) (step-ends y e w (above (j + 1)) (above 16) (j + 1) (fill_element (names_in s t m) (el_at s q) c.literal) (fill (names_in s t m) (els_from s r count (j + 1))) step-next);
-          }
+          pub turning-stop : (z : Outcome (Option Extent)) → y ≡ z → goes_on z ≡ false → AllFilled t₀ (fill (names_in s t₀ m) (els_at s r) none_filled) z w
+          turning-stop z i e =
+              let o = subst (λ (b : Outcome (Option Extent)). Step w (above (j + 1)) (j + 1) b (fill_element (names_in s t m) (el_at s q) c.literal)) i step-next in
+              record {
+                keeps = keeps_then (a.1 49152) keeps-next;
+                count = j + 1;
+                few = omega (arith, few);
+                step = subst (λ (b : Result Filled). Step w (above 16) (j + 1) z b) (left-next ∙ whole_is) (step-ends z e w (above (j + 1)) (above 16) (j + 1) (fill_element (names_in s t m) (el_at s q) c.literal) (fill (names_in s t m) (els_from s r count (j + 1))) o);
+              }
 
-          pub turning-next : {z : Extent} → y ≡ Into z → Turning s t m r count w z (j + 1)
+          pub turning-next : {z : Extent} → y ≡ Ok (Some z) → Turning s t m r count w z (j + 1)
           turning-next {z} e =
-              let o : LiteralSoFar w (above (j + 1)) (j + 1) z.next z.reach (fill_element (names_in s t m) (el_at s q) c.literal) = subst (λ (b : Placed). Step w (above (j + 1)) (j + 1) b (fill_element (names_in s t m) (el_at s q) c.literal)) e step-next in
+              let o : LiteralSoFar w (above (j + 1)) (j + 1) z.next z.reach (fill_element (names_in s t m) (el_at s q) c.literal) = subst (λ (b : Outcome (Option Extent)). Step w (above (j + 1)) (j + 1) b (fill_element (names_in s t m) (el_at s q) c.literal)) e step-next in
               record { within = omega arith; keeps = keeps-next; literal = o.literal; filling = o.filling; left = rw o.result at left-next }

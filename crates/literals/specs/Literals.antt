@@ -1,5 +1,5 @@
 -- The lines of a literal: elements and selectors, and what work on them leaves.
-use Rattle.std.specs.Prelude.{ℕ, ◌+◌, ◌-◌, ◌*◌, ◌≤◌, ◌<◌, ◌≡◌, false, List, [], ℤ, drop, get_or}
+use Rattle.std.specs.Prelude.{ℕ, ◌+◌, ◌-◌, ◌*◌, ◌≤◌, ◌<◌, ◌≡◌, List, [], ℤ, drop, get_or, Option, Ok, Err}
 use Rattle.semantics.specs.Text.{Bytes}
 use Rattle.semantics.specs.Tree as Tree
 use Rattle.semantics.specs.Tree.{El, Els, Se, Ses}
@@ -7,7 +7,7 @@ use Rattle.semantics.specs.Form.{node_at, number_of, values, els_of, ses_of}
 use Rattle.semantics.specs.Form.Kind.{k_el, k_se}
 use Rattle.semantics.specs.Form.Atom.{ref}
 use Rattle.semantics.specs.Fold.{Result, bind, Names}
-use Rattle.semantics.specs.Fold.Result.{ok, failed, refuse}
+use Rattle.semantics.specs.Fold.Result.{ok}
 use Rattle.semantics.specs.Tree.El.{next as next_el, star, at}
 use Rattle.semantics.specs.Array.{Filled, place_indices, place_next, place_spans, spans_of, set_wildcard}
 use Rattle.lines.specs.Lines.{read_at, nodes_in, form_at}
@@ -15,10 +15,9 @@ use Rattle.checks.specs.Checks.{KindLine}
 use Rattle.names.specs.Table.{ConstsLogged}
 use Rattle.leaf.specs.Folds.{ExLine}
 use Rattle.values.specs.declared.ConstVal.{ConstVal}
+use Rattle.values.specs.Values.{Outcome, answered}
 use Rattle.placements.specs.declared.Extent.{Extent}
-use Rattle.placements.specs.declared.Placed.{Placed}
-use Rattle.placements.specs.declared.Placed.TheVariants.{Into, Negative, Failed, TooLong}
-use Rattle.placements.specs.Placements.{slot_at, element_in, Keeps, StringStands, Filling, Step, stopped}
+use Rattle.placements.specs.Placements.{slot_at, element_in, Keeps, StringStands, Filling, Goes, Step}
 
 -- ---- lines
 
@@ -72,31 +71,28 @@ pub record LiteralLine (s t : Bytes) (n r : ℕ) : Type 0 where
 -- ---- answers
 
 -- t has become u, where y is what `act` makes of the literal so far
-pub record Moves (t : Bytes) (e : ℕ) (x : Placed) (act : Tree.ConstVal → Result Filled → Result Filled) (y : Placed) (u : Bytes) : Type 0 where
+pub record Moves (t : Bytes) (e : ℕ) (x : Option Extent) (act : Tree.ConstVal → Result Filled → Result Filled) (y : Option Extent) (u : Bytes) : Type 0 where
   pub keeps : Keeps 12288 (above e) t u
-  pub ongoing : stopped y ≡ stopped x
-  pub step : (r : Result Filled) → 0 < e → e ≤ 16 → Step t (above e) e x r → Step u (above e) e y (act (element_in t e) r)
+  pub step : (r : Result Filled) → 0 < e → e ≤ 16 → Goes t (above e) e x r → Goes u (above e) e y (act (element_in t e) r)
 
 -- a selector is a span, whose indices take the value v
-pub record SpanPlaced (u : Bytes) (e : ℕ) (span : Result (ℤ × ℤ)) (v : Tree.ConstVal) (r : Result Filled) (y : Placed) : Type 0 where
+pub record SpanPlaced (u : Bytes) (e : ℕ) (span : Result (ℤ × ℤ)) (v : Tree.ConstVal) (r : Result Filled) (y : Option Extent) : Type 0 where
   pub low : ℤ
   pub high : ℤ
   pub is : span ≡ ok (low, high)
-  pub step : Step u (above e) e y (bind r (place_indices v low high))
+  pub step : Goes u (above e) e y (bind r (place_indices v low high))
 
-abbrev pub SelectorResult : Bytes → ℕ → Result (ℤ × ℤ) → Tree.ConstVal → Result Filled → Placed → Type 0
-SelectorResult u e span v r (Into x) = SpanPlaced u e span v r (Into x)
-SelectorResult u e span v r Negative = SpanPlaced u e span v r Negative
-SelectorResult u e span v r Failed = span ≡ failed
-SelectorResult u e span v r TooLong = span ≡ refuse 8
+abbrev pub SelectorResult : Bytes → ℕ → Result (ℤ × ℤ) → Tree.ConstVal → Result Filled → Outcome (Option Extent) → Type 0
+SelectorResult u e span v r (Ok y) = SpanPlaced u e span v r y
+SelectorResult u e span v r (Err n) = span ≡ answered (Err n)
 
 -- t has become u by a selector's span, which x goes before
-pub record Selects (t : Bytes) (e : ℕ) (x : Placed) (span : Result (ℤ × ℤ)) (y : Placed) (u : Bytes) : Type 0 where
+pub record Selects (t : Bytes) (e : ℕ) (x : Option Extent) (span : Result (ℤ × ℤ)) (y : Outcome (Option Extent)) (u : Bytes) : Type 0 where
   pub keeps : Keeps 12288 (above e) t u
-  pub result : (r : Result Filled) → 0 < e → e ≤ 16 → stopped x ≡ false → Step t (above e) e x r → SelectorResult u e span (element_in t e) r y
+  pub result : (r : Result Filled) → 0 < e → e ≤ 16 → Goes t (above e) e x r → SelectorResult u e span (element_in t e) r y
 
 -- t has become u by placing the value of element e: y is what `act` gives of it
-pub record Fills (t : Bytes) (e : ℕ) (x : Extent) (act : Tree.ConstVal → Filled → Result Filled) (y : Placed) (u : Bytes) : Type 0 where
+pub record Fills (t : Bytes) (e : ℕ) (x : Extent) (act : Tree.ConstVal → Filled → Result Filled) (y : Outcome (Option Extent)) (u : Bytes) : Type 0 where
   pub keeps : Keeps 16384 49152 t u
   pub step : (f : Filled) → 0 < e → e ≤ 16 → Filling t (above e) e x.next x.reach f → Step u (above e) e y (act (element_in t e) f)
 
@@ -107,12 +103,12 @@ placed ns (star e) v f = ok (set_wildcard v f)
 placed ns (at e ss) v f = bind (spans_of ns ss) (λ (l : List (ℤ × ℤ)). place_spans v l f)
 
 -- t has become u by an element that comes after k others
-pub record ElementFilled (t : Bytes) (k : ℕ) (x : Extent) (act : Filled → Result Filled) (y : Placed) (u : Bytes) : Type 0 where
+pub record ElementFilled (t : Bytes) (k : ℕ) (x : Extent) (act : Filled → Result Filled) (y : Outcome (Option Extent)) (u : Bytes) : Type 0 where
   pub keeps : Keeps 16384 49152 t u
   pub step : (f : Filled) → Filling t (above k) k x.next x.reach f → Step u (above (k + 1)) (k + 1) y (act f)
 
 -- t has become u by all elements of a literal, of which there are `count`
-pub record AllFilled (t : Bytes) (r : Result Filled) (y : Placed) (u : Bytes) : Type 0 where
+pub record AllFilled (t : Bytes) (r : Result Filled) (y : Outcome (Option Extent)) (u : Bytes) : Type 0 where
   pub keeps : Keeps 16384 49152 t u
   pub count : ℕ
   pub few : count ≤ 16

@@ -8,14 +8,13 @@ ghost use Rattle.semantics.specs.Fold.{Result, bind};
 ghost use Rattle.semantics.specs.Array.{Filled, fill, as_int, index_of, high_of, span_of, spans_of, place_indices, place_spans, none_filled, fill_element};
 ghost use Rattle.checks.specs.Checks.{Kept};
 ghost use Rattle.names.specs.Table.{ConstsLogged, names_in};
-ghost use Rattle.placements.specs.Placements.{stopped};
 ghost use Rattle.values.specs.Values.{answered, result_in};
 ghost use Rattle.leaf.specs.Folds.{ex_at};
 ghost use Rattle.literals.specs.Literals.{se_at, Task, above, ses_at, AtTask, el_at, els_at, ValuedTask, ElementTask, LiteralLine, placed, Moves, Selects, Fills, ElementFilled, AllFilled};
 
 use codes::{area, el};
 use names::Known;
-use placements::{Extent, Placed};
+use placements::Extent;
 use values::{ConstVal, Folded, NoValue};
 
 // The integer that a fold gives.
@@ -72,56 +71,48 @@ fn span_of(
 }
 
 // Behind a negative index selectors are still folded, and nothing is placed.
-fn place_on(work: &mut [u8], e: usize, low: i64, high: i64, x: Placed) -> Placed
+fn place_on(work: &mut [u8], e: usize, low: i64, high: i64, x: Option<Extent>) -> Option<Extent>
     requires { (e ≤ 16) × (65536 ≤ length work.old) }
     ensures { Moves work.old e x (λ (v : Tree.ConstVal) (r : Result Filled). bind r (place_indices v low high)) result work.new }
 {
-    match x {
-        Placed::Into(a) => placements::place_indices(work, e, low, high, a),
-        Placed::Negative => Placed::Negative,
-        Placed::Failed => Placed::Failed,
-        Placed::TooLong => Placed::TooLong,
-    }
+    placements::place_indices(work, e, low, high, x?)
 }
 
 // The selector of line r.
-fn place_selector(sheet: &[u8], work: &mut [u8], c: Known, r: usize, e: usize, x: Placed) -> Placed
+fn place_selector(
+    sheet: &[u8],
+    work: &mut [u8],
+    c: Known,
+    r: usize,
+    e: usize,
+    x: Option<Extent>,
+) -> Result<Option<Extent>, NoValue>
     requires { Task 74 sheet.now work.old c.lines c.consts r e }
     ensures { Selects work.old e x (span_of (names_in sheet.now work.old c.consts) (se_at sheet.now r).low (se_at sheet.now r).high) result work.new }
 {
-    match span_of(sheet, work, c, r, e) {
-        Ok((low, high)) => place_on(work, e, low, high, x),
-        Err(NoValue::Failed) => Placed::Failed,
-        Err(NoValue::LongString) => Placed::TooLong,
-    }
-}
-
-fn is_stopped(x: Placed) -> bool
-    ensures { result ≡ stopped x }
-{
-    match x {
-        Placed::Into(_) => false,
-        Placed::Negative => false,
-        Placed::Failed => true,
-        Placed::TooLong => true,
-    }
+    let (low, high) = span_of(sheet, work, c, r, e)?;
+    Ok(place_on(work, e, low, high, x))
 }
 
 // The selectors of line r.
-fn place_selectors(sheet: &[u8], work: &mut [u8], c: Known, r: usize, e: usize, x: Extent) -> Placed
+fn place_selectors(
+    sheet: &[u8],
+    work: &mut [u8],
+    c: Known,
+    r: usize,
+    e: usize,
+    x: Extent,
+) -> Result<Option<Extent>, NoValue>
     requires { AtTask sheet.now work.old c.lines c.consts r e }
     ensures { Fills work.old e x (λ (v : Tree.ConstVal) (f : Filled). bind (spans_of (names_in sheet.now work.old c.consts) (ses_at sheet.now r)) (λ (l : List (ℤ × ℤ)). place_spans v l f)) result work.new }
 {
     let count = lines::number_at(sheet, work, c.lines, r - 1, 1);
-    let mut y = Placed::Into(x);
+    let mut y = Some(x);
     for j in 0..count {
         let q = lines::number_at(sheet, work, c.lines, r - 1, 2 + j);
-        y = place_selector(sheet, work, c, q, e, y);
-        if is_stopped(y) {
-            return y;
-        }
+        y = place_selector(sheet, work, c, q, e, y)?;
     }
-    y
+    Ok(y)
 }
 
 // Element e of line r, whose value v stands in its slot.
@@ -133,39 +124,40 @@ fn place_element(
     e: usize,
     v: ConstVal,
     x: Extent,
-) -> Placed
+) -> Result<Option<Extent>, NoValue>
     requires { ValuedTask sheet.now work.old c.lines c.consts r e v }
     ensures { Fills work.old e x (placed (names_in sheet.now work.old c.consts) (el_at sheet.now r)) result work.new }
 {
-    let f = lines::form_at(work, r - 1);
-    if f == el::NEXT {
-        return placements::place_next(work, e, x);
+    match lines::form_at(work, r - 1) {
+        el::NEXT => Ok(placements::place_next(work, e, x)),
+        el::STAR => {
+            placements::put_value(work, 0, v);
+            Ok(Some(x))
+        }
+        _ => place_selectors(sheet, work, c, r, e, x),
     }
-    if f == el::STAR {
-        placements::put_value(work, 0, v);
-        return Placed::Into(x);
-    }
-    place_selectors(sheet, work, c, r, e, x)
 }
 
 // The element of line r, which k others come before.
-fn fill_element(sheet: &[u8], work: &mut [u8], c: Known, r: usize, k: usize, x: Extent) -> Placed
+fn fill_element(
+    sheet: &[u8],
+    work: &mut [u8],
+    c: Known,
+    r: usize,
+    k: usize,
+    x: Extent,
+) -> Result<Option<Extent>, NoValue>
     requires { ElementTask sheet.now work.old c.lines c.consts r k }
     ensures { ElementFilled work.old k x (fill_element (names_in sheet.now work.old c.consts) (el_at sheet.now r)) result work.new }
 {
     let q = lines::number_at(sheet, work, c.lines, r - 1, 0);
-    match fold::fold_const(sheet, work, c, 0, q, area::STACK + 256 * k) {
-        Ok(v) => {
-            placements::put_value(work, k + 1, v);
-            place_element(sheet, work, c, r, k + 1, v, x)
-        }
-        Err(NoValue::Failed) => Placed::Failed,
-        Err(NoValue::LongString) => Placed::TooLong,
-    }
+    let v = fold::fold_const(sheet, work, c, 0, q, area::STACK + 256 * k)?;
+    placements::put_value(work, k + 1, v);
+    place_element(sheet, work, c, r, k + 1, v, x)
 }
 
-// The elements of a literal of line r, in order; the first that ends it ends the work. Negative or Failed: both are pending.
-pub fn fill(sheet: &[u8], work: &mut [u8], c: Known, r: usize) -> Placed
+// The elements of a literal of line r, in order; the first that ends it ends the work. None where an index is negative.
+pub fn fill(sheet: &[u8], work: &mut [u8], c: Known, r: usize) -> Result<Option<Extent>, NoValue>
     requires { (LiteralLine sheet.now work.old c.lines r) × (ConstsLogged sheet.now work.old c.lines c.consts) }
     ensures { AllFilled work.old (fill (names_in sheet.now work.old c.consts) (els_at sheet.now r) none_filled) result work.new }
 {
@@ -174,11 +166,10 @@ pub fn fill(sheet: &[u8], work: &mut [u8], c: Known, r: usize) -> Placed
     let mut x = Extent { next: 0, reach: 0 };
     for j in 0..count {
         let q = lines::number_at(sheet, work, c.lines, r - 1, 3 + j);
-        let y = fill_element(sheet, work, c, q, j, x);
-        let Placed::Into(a) = y else {
-            return y;
+        let Some(y) = fill_element(sheet, work, c, q, j, x)? else {
+            return Ok(None);
         };
-        x = a;
+        x = y;
     }
-    Placed::Into(x)
+    Ok(Some(x))
 }

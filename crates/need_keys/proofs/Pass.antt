@@ -2,7 +2,7 @@
 use mathlib.Core.Path.{◌≡◌, refl, sym, ap, ◌∙◌}
 use mathlib.Core.Bool.{Bool, true, false, cond}
 use mathlib.Core.List.{List, [], ◌∷◌, ◌++◌}
-use Rattle.std.specs.Prelude.{None}
+use Rattle.std.specs.Prelude.{Option, None, Some}
 use Prim.Native.Nat.{ℕ, zero, suc, ◌+◌, ◌≤◌, ◌<◌}
 use native.Mathlib.Omega.{arith}
 use native.Mathlib.Numerals.{add-one}
@@ -14,26 +14,26 @@ use Rattle.semantics.specs.Tree.{ElemKind, TypeKey}
 use Rattle.semantics.specs.Tree.TypeKey.{elem_key, opaque_key}
 use Rattle.semantics.specs.Form.{letter}
 use Rattle.semantics.specs.Sheet.{sheet_source}
-use Rattle.semantics.specs.Array.{kind_number}
 use Rattle.semantics.specs.Types.{same_type_key, distinct, position}
 use Rattle.lines.specs.Lines.{text_at, read_at, form_at}
 use Rattle.checks.specs.Checks.{Checked, Outside}
-use Rattle.checks.proofs.Kept.{kept_less, checked-kept, outside-then, outside-less}
+use Rattle.checks.proofs.Kept.{kept_less, checked-kept, outside-all, outside-then, outside-less}
 use Rattle.words.specs.Words.{digest}
 use Rattle.source.specs.Walk.{declared_to}
 use Rattle.laws.proofs.Tests.{same-eq}
 use Rattle.chains.specs.Chains.{newest_of, chain_of, digest_at, chain_at, in_chain, Chained}
 use Rattle.chains.proofs.Laws.{newest-none-later, chained-none}
 use Rattle.type_lines.specs.Needs.{need_at, needs_to, kind_by}
-use Rattle.type_lines.proofs.Codes.{kind-low}
-use Rattle.type_lines.proofs.ByForm.{elem_is}
+use Rattle.type_lines.proofs.ByForm.{is_kind, elem_is}
+use Rattle.codes.specs.declared.element.Element.{Element}
+use Rattle.codes.specs.Kinds.{element_kind}
 use Rattle.type_lines.proofs.Spelling.{texts-are}
 use Rattle.type_lines.proofs.Needs.{needs-all, needs-few, needs-next, needs_stay}
-use Rattle.type_keys.specs.Table.{need_line_of, need_position_of, kind_position, need_chains, need_entered, digest_entered, kind_entered, Needs, Kinds}
+use Rattle.type_keys.specs.Table.{need_line_of, need_position_of, kind_position, need_chains, need_entered, digest_entered, Needs, Kinds}
 use Rattle.type_keys.proofs.Distinct.{position-same, position-within, position-none, position-more, distinct_more, distinct-few, key-member, none-distinct, known_more}
 use Rattle.type_keys.proofs.Table.{line-below, position-below, kind-above, kind-kept, entered-outside, entered-line, entered-position, other-line, other-position, kind-outside, kind-entered, digest-above, digest-outside, digest-new, digest-old, chained-entered, chained-above}
 use Rattle.type_keys.proofs.Elements.{kinds-more}
-use Rattle.need_keys.specs.Pass.{NeedEntry, Collecting, NeedNext}
+use Rattle.need_keys.specs.Pass.{NeedEntry, Collecting, NeedNext, kind_by_need}
 
 -- ---- the position of a need's key
 
@@ -85,6 +85,17 @@ module _ {s t : List ℕ} {n i needs keys : ℕ} (x : NeedNext s t n i needs key
       let k = any_none (same_type_key (need_at s i)) (needs_to s i) (λ q h. let l : q < needs = omega (arith, x.collecting.count) in sym (same-as q l) ∙ newest-none-later (has_need_key s t i) z q (omega arith) l) in
       x.collecting.kinds.count ∙ sym (position-none (need_at s i) (distinct [] (needs_to s i)) (none-distinct (need_at s i) (needs_to s i) k))
 
+-- ---- the kind that a need asks for
+
+module _ (t : List ℕ) (room : 65536 ≤ length t) where
+  need-outside : (o : Option Element) (p : ℕ) → Outside 10624 10629 t (kind_by_need t o p)
+  need-outside None p = outside-all
+  need-outside (Some k) p = kind-outside t room (element_kind k) p
+
+  need-entered : (o : Option Element) (p : ℕ) (e : ElemKind) → kind_position (kind_by_need t o p) e ≡ cond (is_kind e o) (suc p) (kind_position t e)
+  need-entered None p e = refl
+  need-entered (Some k) p e = kind-entered t room (element_kind k) p e
+
 -- ---- one key more
 
 -- what holds of all keys and of one more
@@ -95,7 +106,7 @@ each (x ∷ l) k P a b zero h = a 0 (omega arith)
 each (x ∷ l) k P a b (suc q) h = each l k (λ q. P (suc q)) (λ q h. a (suc q) (omega arith)) b q (omega arith)
 
 module _ {s t : List ℕ} {n i needs keys : ℕ} (x : NeedNext s t n i needs keys) {f p d : ℕ} (hf : f ≡ form_at t i) (hp : p ≡ position (need_at s i) (distinct [] (needs_to s i))) (hd : d ≡ digest (text_at s i))
-    {u v w : List ℕ} (hu : u ≡ need_entered t needs i p) (hv : v ≡ kind_entered u (kind_by f) p) (hw : w ≡ digest_entered v needs d) where
+    {u v w : List ℕ} (hu : u ≡ need_entered t needs i p) (hv : v ≡ kind_by_need u (kind_by f) p) (hw : w ≡ digest_entered v needs d) where
   room : 65536 ≤ length t
   room = x.collecting.checked.whole.room
 
@@ -103,7 +114,7 @@ module _ {s t : List ℕ} {n i needs keys : ℕ} (x : NeedNext s t n i needs key
   first = rw hu (entered-outside t room needs i p (needs-room x).0)
 
   second : Outside 10624 10629 u v
-  second = rw hv (kind-outside u (omega (arith, room, first.kept.long)) (kind_by f) p)
+  second = rw hv (need-outside u (omega (arith, room, first.kept.long)) (kind_by f) p)
 
   long : 65536 ≤ length v
   long = omega (arith, room, first.kept.long, second.kept.long)
@@ -158,12 +169,12 @@ module _ {s t : List ℕ} {n i needs keys : ℕ} (x : NeedNext s t n i needs key
         position = λ q h. each (needs_to s i) (need_at s i) (λ q k. need_position_of w q ≡ position k (distinct [] (needs_to s i ++ (need_at s i ∷ [])))) positions-stay (new-position ∙ hp ∙ rw (distinct_more (need_at s i) (needs_to s i)) (sym (position-more (need_at s i) (distinct [] (needs_to s i))))) q h;
       }
 
-  kinds-are : (e : ElemKind) → kind_position w (kind_number e) ≡ cond (same_type_key (elem_key e) (need_at s i)) (suc (position (need_at s i) (distinct [] (needs_to s i)))) (kind_position t (kind_number e))
+  kinds-are : (e : ElemKind) → kind_position w e ≡ cond (same_type_key (elem_key e) (need_at s i)) (suc (position (need_at s i) (distinct [] (needs_to s i)))) (kind_position t e)
   kinds-are e =
-      kind-kept (kept_less (omega arith) third.kept) (kind_number e) (kind-low e)
-      ∙ ap (λ (l : List ℕ). kind_position l (kind_number e)) hv
-      ∙ kind-entered u (omega (arith, room, first.kept.long)) (kind_by f) p (kind_number e) (kind-low e)
-      ∙ rw (elem_is s t n i x.line e, ← hf, ← hp, kind-above first (kind_number e))
+      kind-kept (kept_less (omega arith) third.kept) e
+      ∙ ap (λ (l : List ℕ). kind_position l e) hv
+      ∙ need-entered u (omega (arith, room, first.kept.long)) (kind_by f) p e
+      ∙ rw (elem_is s t n i x.line e, ← hf, ← hp, kind-above first e)
 
   digests-are : (q : ℕ) → q < needs + 1 → digest_at w need_chains q ≡ digest (text_at s (need_line_of w q))
   digests-are q h = go (eqb q needs) refl
@@ -217,7 +228,7 @@ module _ (s t : List ℕ) (n i needs keys : ℕ) (x : Collecting s t n i needs k
       let e : needs_to s i ≡ (sheet_source s).needs = ap (needs_to s) z ∙ needs-all s t n x.checked in
       (x.count ∙ ap length e, rw e at x.table, rw e at x.kinds)
 
-pub collecting-start : (s t : List ℕ) (n : ℕ) → Checked s t n → ((k : ℕ) → k < 5 → kind_position t k ≡ 0) → Collecting s t n 0 0 0
+pub collecting-start : (s t : List ℕ) (n : ℕ) → Checked s t n → ((k : ElemKind) → kind_position t k ≡ 0) → Collecting s t n 0 0 0
 unfolding declared_to
 collecting-start s t n c z = record {
   checked = c;
@@ -230,7 +241,7 @@ collecting-start s t n c z = record {
     key = λ q h. absurd (omega arith);
     position = λ q h. absurd (omega arith);
   };
-  kinds = record { count = refl; position = λ k. z (kind_number k) (kind-low k); few = omega arith };
+  kinds = record { count = refl; position = z; few = omega arith };
   digests = λ q h. absurd (omega arith);
   chained = chained-none t need_chains;
 }

@@ -1,12 +1,14 @@
 -- The table of keys while one line after the other is entered.
-use Rattle.std.specs.Prelude.{ℕ, ◌≤◌, ◌<◌, ◌≡◌, length}
+use Rattle.std.specs.Prelude.{ℕ, ◌≤◌, ◌<◌, ◌≡◌, length, Option, None, Some}
+use Rattle.codes.specs.declared.element.Element.{Element}
+use Rattle.codes.specs.Kinds.{element_kind}
 use Rattle.semantics.specs.Text.{Bytes}
 use Rattle.lines.specs.Lines.{text_at}
 use Rattle.checks.specs.Checks.{Checked}
 use Rattle.words.specs.Words.{digest}
 use Rattle.chains.specs.Chains.{digest_at, Chained}
 use Rattle.type_lines.specs.Needs.{NeedLine, needs_to}
-use Rattle.type_keys.specs.Table.{need_line_of, need_chains, Needs, Kinds}
+use Rattle.type_keys.specs.Table.{need_line_of, need_chains, kind_entered, Needs, Kinds}
 
 -- need q is in the table, with its digest
 pub record NeedEntry (s t : Bytes) (n q : ℕ) : Type 0 where
@@ -28,3 +30,8 @@ pub record Collecting (s t : Bytes) (n i needs keys : ℕ) : Type 0 where
 pub record NeedNext (s t : Bytes) (n i needs keys : ℕ) : Type 0 where
   pub collecting : Collecting s t n i needs keys
   pub line : NeedLine s t n i
+
+-- the kind of element that a need asks for, if any, has position p
+abbrev pub kind_by_need : Bytes → Option Element → ℕ → Bytes
+kind_by_need t None p = t
+kind_by_need t (Some k) p = kind_entered t (element_kind k) p

@@ -1,7 +1,7 @@
 // The keys of needs, each with its position among the distinct keys.
 #![tactic(auto)]
 
-ghost use Rattle.std.specs.Prelude.{◌≡◌, List, [], ◌∷◌, ◌++◌, ◌+◌, ◌<◌, length};
+ghost use Rattle.std.specs.Prelude.{◌≡◌, List, [], ◌∷◌, ◌++◌, ◌+◌, ◌≤◌, ◌<◌, length};
 ghost use Rattle.semantics.specs.Tree.{TypeKey};
 ghost use Rattle.semantics.specs.Sheet.{sheet_source};
 ghost use Rattle.semantics.specs.Types.{same_type_key, distinct, position};
@@ -10,8 +10,9 @@ ghost use Rattle.checks.specs.Checks.{Checked, Outside};
 ghost use Rattle.words.specs.Words.{digest};
 ghost use Rattle.type_lines.specs.Needs.{need_at, NeedLine, needs_to};
 ghost use Rattle.type_keys.specs.Table.{need_line_of, Needs, Kinds};
-ghost use Rattle.need_keys.specs.Pass.{NeedEntry, Collecting, NeedNext};
+ghost use Rattle.need_keys.specs.Pass.{NeedEntry, Collecting, NeedNext, kind_by_need};
 
+use codes::element::Element;
 use codes::kind;
 use type_keys::CHAINS;
 
@@ -63,6 +64,16 @@ fn with_key(p: usize, keys: usize) -> usize
     if p == keys { keys + 1 } else { keys }
 }
 
+// The kind of element that a need asks for, if any, has position p.
+fn enter_kind(work: &mut [u8], kind: Option<Element>, p: usize)
+    requires { (p < 255) × (65536 ≤ length work.old) }
+    ensures { work.new ≡ kind_by_need work.old kind p }
+{
+    if let Some(kind) = kind {
+        type_keys::enter_kind(work, kind, p);
+    }
+}
+
 // Enters the `need` line i, with the position of its key: the Rust's `need_type`.
 fn collect_need(sheet: &[u8], work: &mut [u8], n: usize, i: usize, counts: NeedCounts) -> NeedCounts
     requires { NeedNext sheet.now work.old n i counts.needs counts.keys }
@@ -70,9 +81,9 @@ fn collect_need(sheet: &[u8], work: &mut [u8], n: usize, i: usize, counts: NeedC
 {
     let d = words::digest(lines::line_at(sheet, work, n, i));
     let p = position_for(sheet, work, n, i, d, counts);
-    let f = lines::form_at(work, i);
+    let kind = type_lines::kind_needed(lines::form_at(work, i));
     type_keys::enter_need(work, counts.needs, i, p);
-    type_keys::enter_kind(work, type_lines::kind_needed(f) as usize, p);
+    enter_kind(work, kind, p);
     type_keys::enter_digest(work, counts.needs, d);
     NeedCounts {
         needs: counts.needs + 1,

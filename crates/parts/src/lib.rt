@@ -26,7 +26,7 @@ pub fn put_declared(sheet: &[u8], work: &mut [u8], n: usize, x: Tables, w: &mut 
         lines: n,
         consts: x.consts,
     };
-    w.at = const_rows::const_rows(sheet, work, c, w.out, w.at);
+    const_rows::const_rows(sheet, work, c, w);
     global_rows::global_rows(sheet, work, n, x.globals, w);
 }
 

@@ -27,9 +27,8 @@ use Rattle.slots.specs.Slots.{slot_bytes}
 use Rattle.slots.proofs.Bits.{SlotStored, stored}
 use Rattle.write.specs.Wrote.{over}
 use Rattle.placements.specs.declared.Extent.{Extent}
-use Rattle.placements.specs.declared.Placed.{Placed}
-use Rattle.placements.specs.declared.Placed.TheVariants.{Into, Negative}
-use Rattle.placements.specs.Placements.{placement_at, slot_at, element_in, Keeps, SpanSet, Filling, Step, stopped, Places}
+use Rattle.std.specs.Prelude.{Option, None, Some}
+use Rattle.placements.specs.Placements.{placement_at, slot_at, element_in, Keeps, SpanSet, Filling, Goes, Places}
 use Rattle.placements.proofs.Same.{keeps-all}
 use Rattle.placements.proofs.Fillings.{filling-span}
 
@@ -74,23 +73,22 @@ module _ (t u w : Bytes) (room : 65536 ≤ length t) (p : SpanSet t 0 1023 0 u) 
 
 module _ (t : Bytes) (e : ℕ) (a : Extent) (act : Tree.ConstVal → Filled → Result Filled) where
   -- nothing changes
-  places-none : (r : Placed) → stopped r ≡ false → ((top k : ℕ) (f : Filled) → Filling t top k a.next a.reach f → Step t top k r (act (element_in t e) f)) → Places t e a act r t
-  places-none r o h = record { keeps = λ b. keeps-all; ongoing = o; step = λ top k f x y z p. h top k f p }
+  places-none : (r : Option Extent) → ((top k : ℕ) (f : Filled) → Filling t top k a.next a.reach f → Goes t top k r (act (element_in t e) f)) → Places t e a act r t
+  places-none r h = record { keeps = λ b. keeps-all; step = λ top k f x y z p. h top k f p }
 
   module _ (u : Bytes) (l h : ℕ) (p : SpanSet t l h e u) (low : h < 2 ^ 63) where
-    places-span : (r : Extent) → r.next ≡ h + 1 → r.reach ≡ max a.reach (h + 1) → ((v : Tree.ConstVal) (f : Filled) → f.next_index ≡ a.next → act v f ≡ ok (place_span v l h f)) → Places t e a act (Into r) u
+    places-span : (r : Extent) → r.next ≡ h + 1 → r.reach ≡ max a.reach (h + 1) → ((v : Tree.ConstVal) (f : Filled) → f.next_index ≡ a.next → act v f ≡ ok (place_span v l h f)) → Places t e a act (Some r) u
     places-span r q d g = record {
       keeps = λ b. record { long = p.long; below = λ j x. p.others j (inl x); above = λ j x y. p.others j (inr x) };
-      ongoing = refl;
       step = λ top k f one le few fl. rw (q, d, add-one) (record { literal = place_span (element_in t e) l h f; result = g (element_in t e) f (sym fl.next-is); filling = filling-span fl u l h e one le few low p });
     }
 
 module _ (t : Bytes) (e : ℕ) (a : Extent) where
-  pub next-placed : (u : Bytes) (r : Extent) → a.next < 2 ^ 63 → SpanSet t a.next a.next e u → r.next ≡ a.next + 1 → r.reach ≡ max a.reach (a.next + 1) → Places t e a place_next (Into r) u
+  pub next-placed : (u : Bytes) (r : Extent) → a.next < 2 ^ 63 → SpanSet t a.next a.next e u → r.next ≡ a.next + 1 → r.reach ≡ max a.reach (a.next + 1) → Places t e a place_next (Some r) u
   next-placed u r h p q d = places-span t e a place_next u a.next a.next p h r q d (λ v f z. rw (z, lt-ltb a.next 9223372036854775808 h, le-leb a.next a.next (omega arith)))
 
-  pub next-beyond : 2 ^ 63 ≤ a.next → Places t e a place_next Negative t
-  next-beyond h = places-none t e a place_next Negative refl (λ top k f p. rw (← p.next-is, le-ltb a.next 9223372036854775808 h))
+  pub next-beyond : 2 ^ 63 ≤ a.next → Places t e a place_next None t
+  next-beyond h = places-none t e a place_next None (λ top k f p. rw (← p.next-is, le-ltb a.next 9223372036854775808 h))
 
 -- ---- indices of a selector
 
@@ -131,12 +129,12 @@ module _ (t : Bytes) (e : ℕ) (a : Extent) {low high : ℤ} (fl : SFits w64 low
   abbrev Act : Tree.ConstVal → Filled → Result Filled
   Act v = place_indices v low high
 
-  pub indices-none : lt_z (held w64 high) (held w64 low) ≡ true → Places t e a Act (Into a) t
-  indices-none h = places-none t e a Act (Into a) refl (λ top k f p. record { literal = f; result = empty-span low high (rw (to_z-of_z fl, to_z-of_z fh) at h) (element_in t e) f; filling = p })
+  pub indices-none : lt_z (held w64 high) (held w64 low) ≡ true → Places t e a Act (Some a) t
+  indices-none h = places-none t e a Act (Some a) (λ top k f p. record { literal = f; result = empty-span low high (rw (to_z-of_z fl, to_z-of_z fh) at h) (element_in t e) f; filling = p })
 
   module _ (h : lt_z (held w64 high) (held w64 low) ≡ false) where
-    pub indices-negative : lt_z (held w64 low) (pos 0) ≡ true → Places t e a Act Negative t
-    indices-negative d = places-none t e a Act Negative refl (λ top k f p. below-zero low high (rw (to_z-of_z fl, to_z-of_z fh) at h) (rw (to_z-of_z fl) at d) (element_in t e) f)
+    pub indices-negative : lt_z (held w64 low) (pos 0) ≡ true → Places t e a Act None t
+    indices-negative d = places-none t e a Act None (λ top k f p. below-zero low high (rw (to_z-of_z fl, to_z-of_z fh) at h) (rw (to_z-of_z fl) at d) (element_in t e) f)
 
     module _ (d : lt_z (held w64 low) (pos 0) ≡ false) where
       pub low_fits : T (non_neg (held w64 low)) × Fits w64 (nat_abs (held w64 low)) × (nat_abs (held w64 low) < 2 ^ 63)
@@ -145,7 +143,7 @@ module _ (t : Bytes) (e : ℕ) (a : Extent) {low high : ℤ} (fl : SFits w64 low
       pub high_fits : T (non_neg (held w64 high)) × Fits w64 (nat_abs (held w64 high)) × (nat_abs (held w64 high) < 2 ^ 63)
       high_fits = non-negative fh (unsigned-above low high (rw (to_z-of_z fl, to_z-of_z fh) at h) (rw (to_z-of_z fl) at d))
 
-      pub indices-placed : (u : Bytes) (r : Extent) → SpanSet t (nat_abs (held w64 low)) (nat_abs (held w64 high)) e u → r.next ≡ nat_abs (held w64 high) + 1 → r.reach ≡ max a.reach (nat_abs (held w64 high) + 1) → Places t e a Act (Into r) u
+      pub indices-placed : (u : Bytes) (r : Extent) → SpanSet t (nat_abs (held w64 low)) (nat_abs (held w64 high)) e u → r.next ≡ nat_abs (held w64 high) + 1 → r.reach ≡ max a.reach (nat_abs (held w64 high) + 1) → Places t e a Act (Some r) u
       indices-placed u r p q b =
           places-span t e a Act u (nat_abs (held w64 low)) (nat_abs (held w64 high)) p high_fits.2 r q b
           (λ v f z. rw (to_z-of_z fl, to_z-of_z fh) (whole-span low high (rw (to_z-of_z fl, to_z-of_z fh) at h) (rw (to_z-of_z fl) at d) v f))

@@ -8,8 +8,9 @@ use native.Mathlib.Numerals.{add-one}
 use borrow.Author.Tests.{eq-eqb, ne_eqb}
 use Rattle.semantics.specs.Text.{Bytes, any}
 use Rattle.semantics.specs.Tree as Tree
+use Rattle.semantics.specs.Tree.{ElemKind}
 use Rattle.semantics.specs.Tree.ConstVal.{v_int, v_real, v_str}
-use Rattle.semantics.specs.Array.{Filled, value_at, values_from, filler, is_str, is_real, kind_number, kind_of_values}
+use Rattle.semantics.specs.Array.{Filled, value_at, values_from, filler, is_str, is_real, kind_of_values}
 use Rattle.values.specs.declared.ConstVal.{ConstVal}
 use Rattle.values.specs.declared.ConstVal.TheVariants.{Int, Real, Str}
 use Rattle.values.specs.Values.{value_in, kind_for}
@@ -102,11 +103,11 @@ reals-are = any-alike (has_kind 2) is_real go
     go (v_str s) = refl
 
 module _ (vs : List Tree.ConstVal) where
-  pub kind-strings : true ≡ any (has_kind 3) vs → 4 ≡ kind_number (kind_of_values vs)
+  pub kind-strings : true ≡ any (has_kind 3) vs → ElemKind.k_ptr ≡ kind_of_values vs
   kind-strings h = rw (sym (strings-are vs) ∙ sym h)
 
-  pub kind-reals : false ≡ any (has_kind 3) vs → true ≡ any (has_kind 2) vs → 3 ≡ kind_number (kind_of_values vs)
+  pub kind-reals : false ≡ any (has_kind 3) vs → true ≡ any (has_kind 2) vs → ElemKind.k_real ≡ kind_of_values vs
   kind-reals g h = rw (sym (strings-are vs) ∙ sym g, sym (reals-are vs) ∙ sym h)
 
-  pub kind-words : false ≡ any (has_kind 3) vs → false ≡ any (has_kind 2) vs → 1 ≡ kind_number (kind_of_values vs)
+  pub kind-words : false ≡ any (has_kind 3) vs → false ≡ any (has_kind 2) vs → ElemKind.k_word ≡ kind_of_values vs
   kind-words g h = rw (sym (strings-are vs) ∙ sym g, sym (reals-are vs) ∙ sym h)

@@ -1,20 +1,18 @@
 -- A literal's placements and values in the working space.
 -- From 11264 on stands a byte for each of 1,024 indices: the element, from 1, that gave it its value last, and 0 where none did.
 -- From 12288 on stand slots, 16 bytes apart: of the filler, and of each element from 1.
-use Rattle.std.specs.Prelude.{ℕ, zero, suc, ◌+◌, ◌*◌, ◌^◌, ◌≤◌, ◌<◌, ◌≡◌, Bool, true, false, cond, ◌&&◌, List, [], ◌∷◌, ◌⊎◌, leb, ltb, eqb, length, get_or}
+use Rattle.std.specs.Prelude.{ℕ, zero, suc, ◌+◌, ◌*◌, ◌^◌, ◌≤◌, ◌<◌, ◌≡◌, Bool, cond, ◌&&◌, List, [], ◌∷◌, ◌⊎◌, leb, ltb, eqb, length, get_or, Option, None, Some, Ok, Err}
 use Rattle.semantics.specs.Text.{Bytes, any}
 use Rattle.semantics.specs.Tree as Tree
 use Rattle.semantics.specs.Tree.ConstVal.{v_int, v_real, v_str}
 use Rattle.semantics.specs.Fold.{Result}
-use Rattle.semantics.specs.Fold.Result.{ok, failed, refuse}
+use Rattle.semantics.specs.Fold.Result.{ok, failed}
 use Rattle.semantics.specs.Array.{Filled, value_at, filler, outside}
 use Rattle.values.specs.declared.ConstVal.{ConstVal}
 use Rattle.values.specs.declared.ConstVal.TheVariants.{Int, Real, Str}
-use Rattle.values.specs.Values.{value_in}
+use Rattle.values.specs.Values.{value_in, Outcome, answered}
 use Rattle.slots.specs.Slots.{slot_of}
 use Rattle.placements.specs.declared.Extent.{Extent}
-use Rattle.placements.specs.declared.Placed.{Placed}
-use Rattle.placements.specs.declared.Placed.TheVariants.{Into, Negative, Failed, TooLong}
 
 unfoldable pub placement_at : Bytes → ℕ → ℕ
 placement_at t i = get_or t (11264 + i) 0
@@ -75,25 +73,20 @@ pub record LiteralSoFar (t : Bytes) (top k next reach : ℕ) (r : Result Filled)
   pub result : r ≡ ok literal
   pub filling : Filling t top k next reach literal
 
--- what a step answers where its result is r
-abbrev pub Step : Bytes → ℕ → ℕ → Placed → Result Filled → Type 0
-Step t top k (Into x) r = LiteralSoFar t top k x.next x.reach r
-Step t top k Negative r = r ≡ failed
-Step t top k Failed r = r ≡ failed
-Step t top k TooLong r = r ≡ refuse 8
+-- what placing answers where its result is r: none for a negative index
+abbrev pub Goes : Bytes → ℕ → ℕ → Option Extent → Result Filled → Type 0
+Goes t top k (Some x) r = LiteralSoFar t top k x.next x.reach r
+Goes t top k None r = r ≡ failed
 
--- a literal ends here, and nothing behind is folded; behind a negative index selectors are still folded
-abbrev pub stopped : Placed → Bool
-stopped (Into x) = false
-stopped Negative = false
-stopped Failed = true
-stopped TooLong = true
+-- and what a step answers that folds as well: where a value fails or is too long the literal ends
+abbrev pub Step : Bytes → ℕ → ℕ → Outcome (Option Extent) → Result Filled → Type 0
+Step t top k (Ok x) r = Goes t top k x r
+Step t top k (Err e) r = r ≡ answered (Err e)
 
 -- t has become u by placing the value of element e: r is what `act` gives of it
-pub record Places (t : Bytes) (e : ℕ) (x : Extent) (act : Tree.ConstVal → Filled → Result Filled) (r : Placed) (u : Bytes) : Type 0 where
+pub record Places (t : Bytes) (e : ℕ) (x : Extent) (act : Tree.ConstVal → Filled → Result Filled) (r : Option Extent) (u : Bytes) : Type 0 where
   pub keeps : (b : ℕ) → Keeps 12288 b t u
-  pub ongoing : stopped r ≡ false
-  pub step : (top k : ℕ) (f : Filled) → 0 < e → e ≤ k → k ≤ 16 → Filling t top k x.next x.reach f → Step u top k r (act (element_in t e) f)
+  pub step : (top k : ℕ) (f : Filled) → 0 < e → e ≤ k → k ≤ 16 → Filling t top k x.next x.reach f → Goes u top k r (act (element_in t e) f)
 
 -- ---- kinds of values
 

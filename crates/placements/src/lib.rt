@@ -4,17 +4,17 @@
 ghost use Rattle.std.specs.Prelude.{◌≡◌, ℕ, ◌+◌, ◌*◌, ◌^◌, ◌≤◌, ◌<◌, min, max, length};
 ghost use Rattle.semantics.specs.Text.{any};
 ghost use Rattle.semantics.specs.Tree as Tree;
-ghost use Rattle.semantics.specs.Array.{none_filled, place_indices, place_next, kind_number, kind_of_values};
+ghost use Rattle.semantics.specs.Array.{none_filled, place_indices, place_next, kind_of_values};
 ghost use Rattle.write.specs.Wrote.{over};
 ghost use Rattle.values.specs.Values.{Small, InRange};
-ghost use Rattle.codes.specs.Kinds.{value_number};
+ghost use Rattle.codes.specs.Kinds.{element_kind, value_number};
 ghost use Rattle.slots.specs.Slots.{slot_bytes};
 ghost use Rattle.placements.specs.Placements.{placement_at, slot_at, values_in, Keeps, SpanSet, Filling, Places, has_kind};
 
+use codes::area;
+use codes::element::Element;
 use codes::value::Value;
-use codes::{area, element};
 use values::ConstVal;
-use words::wide;
 
 const INDICES: u64 = 1024;
 
@@ -26,15 +26,6 @@ const BEYOND: u64 = 9223372036854775808;
 pub struct Extent {
     pub next: u64,
     pub reach: u64,
-}
-
-// A literal so far, or how it ends.
-#[derive(Clone, Copy)]
-pub enum Placed {
-    Into(Extent),
-    Negative,
-    Failed,
-    TooLong,
 }
 
 fn clipped(i: u64) -> usize
@@ -81,37 +72,41 @@ fn place_span(work: &mut [u8], e: usize, low: u64, high: u64, reach: u64) -> Ext
     }
 }
 
-// A plain element.
-pub fn place_next(work: &mut [u8], e: usize, x: Extent) -> Placed
+// A plain element; none where its index counts as negative.
+pub fn place_next(work: &mut [u8], e: usize, x: Extent) -> Option<Extent>
     requires { (e ≤ 16) × (65536 ≤ length work.old) }
     ensures { Places work.old e x place_next result work.new }
 {
     if x.next < BEYOND {
-        return Placed::Into(place_span(work, e, x.next, x.next, x.reach));
+        return Some(place_span(work, e, x.next, x.next, x.reach));
     }
-    Placed::Negative
+    None
 }
 
-// Indices low to high of a selector.
-pub fn place_indices(work: &mut [u8], e: usize, low: i64, high: i64, x: Extent) -> Placed
+// Indices low to high of a selector; none where one is negative.
+pub fn place_indices(work: &mut [u8], e: usize, low: i64, high: i64, x: Extent) -> Option<Extent>
     requires { (e ≤ 16) × (65536 ≤ length work.old) }
     ensures { Places work.old e x (λ (v : Tree.ConstVal). place_indices v low high) result work.new }
 {
     if high < low {
-        return Placed::Into(x);
+        return Some(x);
     }
     if low < 0 {
-        return Placed::Negative;
+        return None;
     }
-    Placed::Into(place_span(work, e, low as u64, high as u64, x.reach))
+    Some(place_span(work, e, low as u64, high as u64, x.reach))
 }
 
 // The value at index i.
+#[tactic(auto, unfolding(crate::specs::Placements::slot_at, crate::specs::Placements::placement_at))]
 pub fn element(work: &[u8], i: usize) -> ConstVal
     requires { (i < 1024) × (65536 ≤ length work.now) }
     ensures { result ≡ slot_at work.now (placement_at work.now i) }
 {
-    slots::value_at(work, area::ELEMENTS + 16 * wide(work[area::PLACEMENTS + i]))
+    slots::value_at(
+        work,
+        area::ELEMENTS + 16 * usize::from(work[area::PLACEMENTS + i]),
+    )
 }
 
 // Whether one of the first `count` values is of a kind.
@@ -128,15 +123,15 @@ fn has(work: &[u8], count: usize, wanted: Value) -> bool
 }
 
 // By the first `count` values: pointers where one is a string, else reals where one is a real, else words.
-pub fn kind_of_values(work: &[u8], count: usize) -> u8
+pub fn kind_of_values(work: &[u8], count: usize) -> Element
     requires { (count ≤ 1024) × (65536 ≤ length work.now) }
-    ensures { result ≡ kind_number (kind_of_values (values_in work.now 0 count)) }
+    ensures { element_kind result ≡ kind_of_values (values_in work.now 0 count) }
 {
     if has(work, count, Value::Str) {
-        element::POINTER
+        Element::Pointer
     } else if has(work, count, Value::Real) {
-        element::REAL
+        Element::Real
     } else {
-        element::WORD
+        Element::Word
     }
 }

@@ -12,6 +12,7 @@ ghost use Rattle.record_log.specs.Entries.{entry_bytes, tag_entries, case_entrie
 
 use codes::{area, decl};
 use records::key::CHAINS;
+use write::Writer;
 
 // One entry: a line, 0 or a case from 1, the position of a tag in it, and the tag's number.
 fn put_entry(
@@ -35,7 +36,9 @@ fn put_entry(
         0,
         0,
     ];
-    write::put_part(work, at, &e)
+    let mut w = Writer::from(work, at);
+    w.put_part(&e);
+    w.at
 }
 
 // The entries of `count` tags of a case, numbered from `number` on.

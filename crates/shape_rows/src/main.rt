@@ -22,20 +22,13 @@ const LARGEST: u32 = 131080;
 fn print_row(out: &mut impl Write, work: &[u8], number: usize, size: u32) -> io::Result<()>
     requires { MapRoom work.now size }
 {
-    let mut row = [0u8; 8300];
-    let mut p = write::put_nat(&mut row, 0, number as u64);
-    p = write::put(&mut row, p, b',');
-    p = write::put_nat(&mut row, p, size as u64);
-    p = write::put(&mut row, p, b',');
-    p = write::put_nat(&mut row, p, maps::map_ones(work, size) as u64);
-    p = write::put(&mut row, p, b',');
+    let ones = maps::map_ones(work, size);
+    write!(out, "{number},{size},{ones},")?;
     let end = area::MAP + layout::map::map_bytes(size);
-    p = write::put_hex(&mut row, p, &work[area::MAP..end]);
-    p = write::put(&mut row, p, b'\n');
-    if p <= 8300 {
-        out.write_all(&row[0..p])?;
+    for b in &work[area::MAP..end] {
+        write!(out, "{b:02X}")?;
     }
-    Ok(())
+    writeln!(out)
 }
 
 fn print_record(

@@ -8,14 +8,16 @@ ghost use Rattle.slots.specs.Slots.{slot_of, slot_bytes};
 
 use codes::value::{self, Value};
 use values::ConstVal;
+use write::Writer;
 
 // Stores a value in the slot at a.
 pub fn put_value(work: &mut [u8], a: usize, v: ConstVal)
     requires { Small v }
     ensures { (work.new ≡ over work.old a (slot_bytes v)) × (InRange v) }
 {
-    let p = write::put(work, a, value::number(values::kind_of(v)));
-    let _ = words::put_bits(work, p, values::bits_of(v));
+    let mut w = Writer::from(work, a);
+    w.put(value::number(values::kind_of(v)));
+    words::put_bits(&mut w, values::bits_of(v));
 }
 
 // The value in the slot at a.

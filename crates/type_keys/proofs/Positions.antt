@@ -1,13 +1,12 @@
 -- Positions of keys among more keys.
-use mathlib.Core.Path.{◌≡◌, refl, sym, ap, ◌∙◌}
+use mathlib.Core.Path.{◌≡◌, refl, sym, ◌∙◌}
 use mathlib.Core.List.{List, [], ◌++◌}
-use Prim.Native.Nat.{ℕ, suc, ◌-◌, ◌<◌}
+use Prim.Native.Nat.{ℕ, suc, ◌<◌}
 use native.Mathlib.Omega.{arith}
 use lib.ListN.{length, get_or}
 use Rattle.semantics.specs.Tree.{ElemKind, TypeKey}
 use Rattle.semantics.specs.Tree.TypeKey.{elem_key, opaque_key}
 use Rattle.semantics.specs.Sheet.{sheet_source, concat_map}
-use Rattle.semantics.specs.Array.{kind_number}
 use Rattle.semantics.specs.Global.{Item}
 use Rattle.semantics.specs.Types.{array_key, distinct, position, keys}
 use Rattle.checks.specs.Checks.{Outside}
@@ -35,11 +34,9 @@ module _ (s t : List ℕ) (n : ℕ) (ks : List TypeKey) (x : Needs s t n ks) whe
         position = λ q h. position-below o q (low q h) ∙ x.position q h;
       }
 
-module _ (t : List ℕ) (ks ms : List TypeKey) (count : ℕ) (k : ElemKind) (x : Kinds t ks count) where
-  kind-position-stays : 0 < kind_position t (kind_number k) → kind_position t (kind_number k) ≡ suc (position (elem_key k) (distinct [] (ks ++ ms)))
-  kind-position-stays h =
-      let a = from-one-some (elem_key k) (distinct [] ks) (λ z. omega (arith, x.position k)) in
-      x.position k ∙ rw (a, (known_more (elem_key k) ks ms a).1)
-
-  pub kind-behind : (kind p : ℕ) → kind ≡ kind_number k → p ≡ kind_position t kind → 0 < kind_position t kind → p - 1 ≡ position (elem_key k) (distinct [] (ks ++ ms))
-  kind-behind kind p hk hp h = let e = kind-position-stays (rw hk at h) in let g = hp ∙ ap (kind_position t) hk in omega (arith, e, g)
+pub kind-position-stays : (t : List ℕ) (ks ms : List TypeKey) (count : ℕ) (k : ElemKind) → Kinds t ks count → (p : ℕ) → suc p ≡ kind_position t k → p ≡ position (elem_key k) (distinct [] (ks ++ ms))
+kind-position-stays t ks ms count k x p h =
+    let a = from-one-some (elem_key k) (distinct [] ks) (λ z. omega (arith, x.position k)) in
+    let e : suc p ≡ suc (position (elem_key k) (distinct [] ks)) = h ∙ x.position k ∙ rw a in
+    let g = (known_more (elem_key k) ks ms a).1 in
+    omega (arith, e, g)

@@ -5,18 +5,21 @@ use mathlib.Core.List.{List}
 use Prim.Native.Nat.{ℕ, suc, ◌+◌, ◌*◌, ◌/◌, ◌%◌, ◌≤◌, ◌<◌}
 use native.Mathlib.Omega.{arith}
 use native.Mathlib.Nat.{div-add-mod'}
-use lib.Dec.{ltb, eqb}
+use lib.Dec.{eqb}
 use lib.ListN.{length, get_or, set, length-set}
 use lib.Seq.{get_or-set_same, get_or-set_other}
-use borrow.Author.Tests.{ltb-true, ltb-false, eqb-true, eqb-false}
-use Rattle.semantics.specs.Tree.{TypeKey}
+use borrow.Author.Tests.{eqb-true, eqb-false}
+use Rattle.semantics.specs.Tree.{ElemKind, TypeKey}
+use Rattle.semantics.specs.Tree.ElemKind.{k_byte, k_word, k_big, k_real, k_ptr}
+use Rattle.semantics.specs.Tree.TypeKey.{elem_key}
 use Rattle.semantics.specs.Array.{kind_number}
+use Rattle.semantics.specs.Types.{same_type_key}
 use Rattle.chains.specs.Chains.{digest_place, digest_at, ChainRoom, Chained}
 use Rattle.chains.proofs.Laws.{PlacesApart, SameBytes, linked-outside, linked_long, digest-stays, chained-kept, chained-next}
 use Rattle.checks.specs.Checks.{Kept, Outside}
-use Rattle.checks.proofs.Kept.{kept_at, outside-all, outside-then, outside_set, outside_above}
+use Rattle.checks.proofs.Kept.{kept_at, outside-then, outside_set, outside_above}
 use Rattle.type_keys.specs.Table.{need_line_of, need_position_of, kind_position, need_chains, kinds_used, need_entered, digest_entered, kind_entered, Kinds}
-use Rattle.type_lines.proofs.Codes.{kind-low}
+use Rattle.type_lines.proofs.Codes.{kind-low, elems-are}
 
 -- ---- the parts of the table
 
@@ -31,9 +34,9 @@ module _ {t u : List ℕ} where
   position-below x q h = kept_at x.kept (10496 + q) (omega arith)
 
   -- and one among the needs the kinds
-  pub kind-above : {a : ℕ} → Outside a 10624 t u → (k : ℕ) → kind_position u k ≡ kind_position t k
+  pub kind-above : {a : ℕ} → Outside a 10624 t u → (k : ElemKind) → kind_position u k ≡ kind_position t k
   unfolding kind_position
-  kind-above x k = outside_above x (10624 + k) (omega arith)
+  kind-above x k = outside_above x (10624 + kind_number k) (omega arith)
 
   -- both leave the digests
   pub digest-above : {a b : ℕ} → b ≤ 10752 → Outside a b t u → (q : ℕ) → digest_at u need_chains q ≡ digest_at t need_chains q
@@ -41,16 +44,16 @@ module _ {t u : List ℕ} where
   digest-above h x q = outside_above x (10752 + 1 * q) (omega arith)
 
   -- a store behind the kinds leaves them
-  pub kind-kept : Kept 10629 t u → (k : ℕ) → k < 5 → kind_position u k ≡ kind_position t k
+  pub kind-kept : Kept 10629 t u → (k : ElemKind) → kind_position u k ≡ kind_position t k
   unfolding kind_position
-  kind-kept x k h = kept_at x (10624 + k) (omega arith)
+  kind-kept x k = kept_at x (10624 + kind_number k) (omega (arith, kind-low k))
 
   pub kinds_kept : {l : List TypeKey} {keys : ℕ} → Kept 10629 t u → Kinds t l keys → Kinds u l keys
   unfolding kinds_used
   kinds_kept k x = record {
     count = x.count;
-    position = λ e. kind-kept k (kind_number e) (kind-low e) ∙ x.position e;
-    few = rw (kind-kept k 0 (omega arith), kind-kept k 1 (omega arith), kind-kept k 2 (omega arith), kind-kept k 3 (omega arith), kind-kept k 4 (omega arith)) x.few;
+    position = λ e. kind-kept k e ∙ x.position e;
+    few = rw (kind-kept k k_byte, kind-kept k k_word, kind-kept k k_big, kind-kept k k_real, kind-kept k k_ptr) x.few;
   }
 
 -- ---- a need
@@ -113,26 +116,20 @@ module _ (t : List ℕ) (room : 65536 ≤ length t) (q i p : ℕ) (hq : q < 128)
 
 -- ---- a kind of element
 
-module _ (t : List ℕ) (room : 65536 ≤ length t) (k p : ℕ) where
+module _ (t : List ℕ) (room : 65536 ≤ length t) (k : ElemKind) (p : ℕ) where
   pub kind-outside : Outside 10624 10629 t (kind_entered t k p)
   unfolding kind_entered
-  kind-outside = go (ltb k 5) refl
-    where
-      go : (b : Bool) → ltb k 5 ≡ b → Outside 10624 10629 t (cond b (set t (10624 + k) (p + 1)) t)
-      go true e = outside_set 10624 10629 t (10624 + k) (p + 1) (omega arith) (omega (arith, ltb-true k 5 e))
-      go false e = outside-all
+  kind-outside = outside_set 10624 10629 t (10624 + kind_number k) (p + 1) (omega arith) (omega (arith, kind-low k))
 
-  pub kind-entered : (j : ℕ) → j < 5 → kind_position (kind_entered t k p) j ≡ cond (eqb j k) (suc p) (kind_position t j)
+  pub kind-entered : (j : ElemKind) → kind_position (kind_entered t k p) j ≡ cond (same_type_key (elem_key j) (elem_key k)) (suc p) (kind_position t j)
   unfolding kind_entered kind_position
-  kind-entered j h = go (ltb k 5) refl (eqb j k) refl
+  kind-entered j = rw (elems-are j k) (go (eqb (kind_number j) (kind_number k)) refl)
     where
-      go : (b : Bool) → ltb k 5 ≡ b → (e : Bool) → eqb j k ≡ e → get_or (cond b (set t (10624 + k) (p + 1)) t) (10624 + j) 0 ≡ cond e (suc p) (get_or t (10624 + j) 0)
-      go true b true e =
-          let z : j ≡ k = eqb-true j k e in
-          rw (z, get_or-set_same t (10624 + k) (p + 1) 0 (omega (arith, ltb-true k 5 b))) (omega arith)
-      go true b false e = get_or-set_other t (10624 + k) (10624 + j) (p + 1) 0 (λ z. eqb-false j k e (omega arith))
-      go false b true e = absurd (omega (arith, eqb-true j k e, ltb-false k 5 b))
-      go false b false e = refl
+      go : (e : Bool) → eqb (kind_number j) (kind_number k) ≡ e → get_or (set t (10624 + kind_number k) (p + 1)) (10624 + kind_number j) 0 ≡ cond e (suc p) (get_or t (10624 + kind_number j) 0)
+      go true e =
+          let z : kind_number j ≡ kind_number k = eqb-true (kind_number j) (kind_number k) e in
+          rw (z, get_or-set_same t (10624 + kind_number k) (p + 1) 0 (omega (arith, kind-low k))) (omega arith)
+      go false e = get_or-set_other t (10624 + kind_number k) (10624 + kind_number j) (p + 1) 0 (λ z. eqb-false (kind_number j) (kind_number k) e (omega arith))
 
 -- ---- a digest
 
@@ -189,10 +186,13 @@ chained-above {t} {u} {m = m} h x c = chained-kept same (omega arith) c
     }
 
 -- one more kind cleared
-pub cleared-next : (t : List ℕ) (k : ℕ) → k < 5 → 65536 ≤ length t → ((j : ℕ) → j < k → kind_position t j ≡ 0) → (j : ℕ) → j < k + 1 → kind_position (set t (10624 + k) 0) j ≡ 0
-unfolding kind_position
+pub cleared-next : (t : List ℕ) (k : ℕ) → k < 5 → 65536 ≤ length t → ((j : ℕ) → j < k → get_or t (10624 + j) 0 ≡ 0) → (j : ℕ) → j < k + 1 → get_or (set t (10624 + k) 0) (10624 + j) 0 ≡ 0
 cleared-next t k h room z j l = go (eqb j k) refl
   where
     go : (e : Bool) → eqb j k ≡ e → get_or (set t (10624 + k) 0) (10624 + j) 0 ≡ 0
     go true e = let q : j ≡ k = eqb-true j k e in rw (q, get_or-set_same t (10624 + k) 0 0 (omega arith))
     go false e = get_or-set_other t (10624 + k) (10624 + j) 0 0 (λ q. eqb-false j k e (omega arith)) ∙ z j (omega (arith, eqb-false j k e))
+
+pub cleared-all : (t : List ℕ) → ((j : ℕ) → j < 5 → get_or t (10624 + j) 0 ≡ 0) → (k : ElemKind) → kind_position t k ≡ 0
+unfolding kind_position
+cleared-all t z k = z (kind_number k) (kind-low k)

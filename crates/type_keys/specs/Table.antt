@@ -1,7 +1,8 @@
 -- The table of descriptor keys in the working space, from byte 10240 on.
-use Rattle.std.specs.Prelude.{ℕ, suc, ◌+◌, ◌*◌, ◌/◌, ◌%◌, ◌≤◌, ◌<◌, ◌≡◌, cond, List, [], ltb, eqb, length, get_or, set}
+use Rattle.std.specs.Prelude.{ℕ, suc, ◌+◌, ◌*◌, ◌/◌, ◌%◌, ◌≤◌, ◌<◌, ◌≡◌, cond, List, [], eqb, length, get_or, set}
 use Rattle.semantics.specs.Text.{Bytes, any}
 use Rattle.semantics.specs.Tree.{ElemKind, TypeKey}
+use Rattle.semantics.specs.Tree.ElemKind.{k_byte, k_word, k_big, k_real, k_ptr}
 use Rattle.semantics.specs.Tree.TypeKey.{elem_key, opaque_key}
 use Rattle.semantics.specs.Form.{letter}
 use Rattle.semantics.specs.Array.{kind_number}
@@ -19,8 +20,8 @@ unfoldable pub need_position_of : Bytes → ℕ → ℕ
 need_position_of t q = get_or t (10496 + q) 0
 
 -- for each kind of element 0 where its key is not used, or its position plus 1
-unfoldable pub kind_position : Bytes → ℕ → ℕ
-kind_position t k = get_or t (10624 + k) 0
+unfoldable pub kind_position : Bytes → ElemKind → ℕ
+kind_position t k = get_or t (10624 + kind_number k) 0
 
 -- 128 bytes each: the digest of the text of need q; from 10880 on its link; from 11008 on the head of chain q
 abbrev pub need_chains : ChainPlaces
@@ -44,12 +45,12 @@ is_used p = cond (eqb p 0) 0 1
 
 -- how many kinds of elements are used
 unfoldable pub kinds_used : Bytes → ℕ
-kinds_used t = is_used (kind_position t 0) + is_used (kind_position t 1) + is_used (kind_position t 2) + is_used (kind_position t 3) + is_used (kind_position t 4)
+kinds_used t = is_used (kind_position t k_byte) + is_used (kind_position t k_word) + is_used (kind_position t k_big) + is_used (kind_position t k_real) + is_used (kind_position t k_ptr)
 
 -- `keys` keys are distinct among ks, at most 128 besides those of elements, and the table has the positions of elements' keys
 pub record Kinds (t : Bytes) (ks : List TypeKey) (keys : ℕ) : Type 0 where
   pub count : keys ≡ length (distinct [] ks)
-  pub position : (k : ElemKind) → kind_position t (kind_number k) ≡ position_from_one (elem_key k) (distinct [] ks)
+  pub position : (k : ElemKind) → kind_position t k ≡ position_from_one (elem_key k) (distinct [] ks)
   pub few : keys ≤ 128 + kinds_used t
 
 -- ---- what is stored
@@ -62,6 +63,6 @@ need_entered t q i p = set (set (set t (10240 + q) (i % 256)) (10368 + q) (i / 2
 unfoldable pub digest_entered : Bytes → ℕ → ℕ → Bytes
 digest_entered t q d = linked (set t (10752 + q) d) need_chains q
 
--- the key of element kind k has position p; 5 is no kind
-unfoldable pub kind_entered : Bytes → ℕ → ℕ → Bytes
-kind_entered t k p = cond (ltb k 5) (set t (10624 + k) (p + 1)) t
+-- the key of element kind k has position p
+unfoldable pub kind_entered : Bytes → ElemKind → ℕ → Bytes
+kind_entered t k p = set t (10624 + kind_number k) (p + 1)

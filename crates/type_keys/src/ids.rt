@@ -1,15 +1,16 @@
 // The IDs of keys.
 ghost use Rattle.std.specs.Prelude.{◌≡◌, List, ◌++◌, [], ℕ, ◌≤◌, ◌<◌, length, get_or};
 ghost use Rattle.semantics.specs.Text.{Bytes};
-ghost use Rattle.semantics.specs.Tree.{ElemKind, TypeKey};
+ghost use Rattle.semantics.specs.Tree.{TypeKey};
 ghost use Rattle.semantics.specs.Tree.TypeKey.{elem_key, opaque_key};
 ghost use Rattle.semantics.specs.Sheet.{Source, sheet_source};
-ghost use Rattle.semantics.specs.Array.{kind_number};
+ghost use Rattle.codes.specs.Kinds.{element_kind};
 ghost use Rattle.semantics.specs.Global.{Item};
 ghost use Rattle.semantics.specs.Types.{position, distinct, keys, id_of};
 ghost use Rattle.type_keys.specs.Table.{kind_position, Needs, Kinds};
 
 use crate::{kind_position, need_position};
+use codes::element::Element;
 
 // How many opaque records there are before all other types.
 pub const OPAQUE_RECORDS: usize = 2;
@@ -31,9 +32,9 @@ pub fn need_id(work: &[u8], frames: usize, q: usize) -> usize
 }
 
 // The ID of the key of a kind of element that is used. Later keys leave it as it is.
-pub fn kind_id(work: &[u8], frames: usize, kind: usize) -> usize
-    requires { (frames ≤ 128) × (kind < 5) × (0 < kind_position work.now kind) × (65536 ≤ length work.now) }
-    ensures { ((s : Source) (is : List Item) (k : ElemKind) (ks ms : List TypeKey) (count : ℕ) → kind ≡ kind_number k → Kinds work.now ks count → frames ≡ length s.frames → keys s is ≡ distinct [] (ks ++ ms) → result ≡ id_of s is (elem_key k)) × (result < 512) }
+pub fn kind_id(work: &[u8], frames: usize, kind: Element) -> usize
+    requires { (frames ≤ 128) × (0 < kind_position work.now (element_kind kind)) × (65536 ≤ length work.now) }
+    ensures { ((s : Source) (is : List Item) (ks ms : List TypeKey) (count : ℕ) → Kinds work.now ks count → frames ≡ length s.frames → keys s is ≡ distinct [] (ks ++ ms) → result ≡ id_of s is (elem_key (element_kind kind))) × (result < 512) }
 {
-    id_of(frames, kind_position(work, kind) - 1)
+    id_of(frames, kind_position(work, kind).unwrap())
 }

@@ -3,14 +3,17 @@
 
 pub mod ids;
 
-ghost use Rattle.std.specs.Prelude.{◌≡◌, List, [], ◌∷◌, ◌++◌, ℕ, ◌+◌, ◌≤◌, ◌<◌, length};
+ghost use Rattle.std.specs.Prelude.{◌≡◌, List, [], ◌∷◌, ◌++◌, ℕ, ◌+◌, ◌≤◌, ◌<◌, length, IfSome};
 ghost use Rattle.semantics.specs.Tree.{ElemKind, TypeKey};
 ghost use Rattle.semantics.specs.Tree.TypeKey.{elem_key};
 ghost use Rattle.semantics.specs.Array.{kind_number};
+ghost use Rattle.codes.specs.Kinds.{element_kind};
+ghost use Rattle.chains.specs.Chains.{count_to};
 ghost use Rattle.checks.specs.Checks.{Outside};
 ghost use Rattle.type_keys.specs.Table.{need_line_of, need_position_of, kind_position, need_entered, digest_entered, kind_entered, Kinds};
 
 use chains::ChainPlaces;
+use codes::element::Element;
 use codes::{area, element};
 
 // Where the chains of needs stand.
@@ -21,6 +24,7 @@ pub const CHAINS: ChainPlaces = ChainPlaces {
 };
 
 // The line of need q; both are counted from 0.
+#[tactic(auto, unfolding(crate::specs::Table::need_line_of))]
 pub fn need_line(work: &[u8], q: usize) -> usize
     requires { (q < 128) × (65536 ≤ length work.now) }
     ensures { result ≡ need_line_of work.now q }
@@ -29,6 +33,7 @@ pub fn need_line(work: &[u8], q: usize) -> usize
 }
 
 // The position of its key.
+#[tactic(auto, unfolding(crate::specs::Table::need_position_of))]
 pub fn need_position(work: &[u8], q: usize) -> usize
     requires { (q < 128) × (65536 ≤ length work.now) }
     ensures { (result ≡ need_position_of work.now q) × (result < 256) }
@@ -36,15 +41,25 @@ pub fn need_position(work: &[u8], q: usize) -> usize
     words::wide(work[area::NEED_POSITIONS + q])
 }
 
-// The position of the key of a kind of element plus 1, 0 where it is not used.
-pub fn kind_position(work: &[u8], kind: usize) -> usize
-    requires { (kind < 5) × (65536 ≤ length work.now) }
-    ensures { (result ≡ kind_position work.now kind) × (result < 256) }
+// The position of the key of a kind of element, where it is used.
+#[tactic(auto, unfolding(crate::specs::Table::kind_position))]
+pub fn kind_position(work: &[u8], kind: Element) -> Option<usize>
+    requires { 65536 ≤ length work.now }
+    ensures value { count_to result ≡ kind_position work.now (element_kind kind) }
+    ensures low { IfSome result (λ p. p < 255) }
 {
-    words::wide(work[area::KIND_POSITIONS + kind])
+    words::wide(work[kind_place(kind)]).checked_sub(1)
+}
+
+// Where the position of a kind of element is kept.
+fn kind_place(kind: Element) -> usize
+    ensures { (result ≡ 10624 + kind_number (element_kind kind)) × (result < 10629) }
+{
+    area::KIND_POSITIONS + element::number(kind)
 }
 
 // Need q is on line i, from 0, and its key has position p.
+#[tactic(auto, unfolding(crate::specs::Table::need_entered))]
 pub fn enter_need(work: &mut [u8], q: usize, i: usize, p: usize)
     requires { (q < 128) × (i < 1024) × (p < 256) × (65536 ≤ length work.old) }
     ensures { work.new ≡ need_entered work.old q i p }
@@ -63,20 +78,19 @@ pub fn enter_digest(work: &mut [u8], q: usize, d: usize)
     chains::link(work, CHAINS, q);
 }
 
-// The key of a kind of element has position p; `NONE` is no kind.
-pub fn enter_kind(work: &mut [u8], kind: usize, p: usize)
+// The key of a kind of element has position p.
+#[tactic(auto, unfolding(crate::specs::Table::kind_entered))]
+pub fn enter_kind(work: &mut [u8], kind: Element, p: usize)
     requires { (p < 255) × (65536 ≤ length work.old) }
-    ensures { work.new ≡ kind_entered work.old kind p }
+    ensures { work.new ≡ kind_entered work.old (element_kind kind) p }
 {
-    if kind < element::KINDS {
-        work[area::KIND_POSITIONS + kind] = (p + 1) as u8;
-    }
+    work[kind_place(kind)] = (p + 1) as u8;
 }
 
 // No kind of element is used.
 pub fn clear_kinds(work: &mut [u8])
     requires { 65536 ≤ length work.old }
-    ensures { (Outside 10624 10629 work.old work.new) × ((k : ℕ) → k < 5 → kind_position work.new k ≡ 0) }
+    ensures { (Outside 10624 10629 work.old work.new) × ((k : ElemKind) → kind_position work.new k ≡ 0) }
 {
     for k in 0..element::KINDS {
         work[area::KIND_POSITIONS + k] = 0;
@@ -84,13 +98,15 @@ pub fn clear_kinds(work: &mut [u8])
 }
 
 // Enters the key of an array's elements where it is new, and returns how many keys there are then.
-pub fn collect_kind(work: &mut [u8], kind: usize, keys: usize) -> usize
-    requires { (kind < 5) × (keys < 255) × (65536 ≤ length work.old) }
-    ensures { ((k : ElemKind) (ks : List TypeKey) → kind ≡ kind_number k → Kinds work.old ks keys → Kinds work.new (ks ++ (elem_key k ∷ [])) result) × (Outside 10624 10629 work.old work.new) }
+pub fn collect_kind(work: &mut [u8], kind: Element, keys: usize) -> usize
+    requires { (keys < 255) × (65536 ≤ length work.old) }
+    ensures { ((ks : List TypeKey) → Kinds work.old ks keys → Kinds work.new (ks ++ (elem_key (element_kind kind) ∷ [])) result) × (Outside 10624 10629 work.old work.new) }
 {
-    if kind_position(work, kind) != 0 {
-        return keys;
+    match kind_position(work, kind) {
+        Some(_) => keys,
+        None => {
+            enter_kind(work, kind, keys);
+            keys + 1
+        }
     }
-    enter_kind(work, kind, keys);
-    keys + 1
 }

@@ -1,20 +1,23 @@
 -- The key of a `need` line of each form, and which kind of element it asks for.
-use mathlib.Core.Path.{◌≡◌, sym, ◌∙◌}
-use mathlib.Core.Bool.{false, cond}
+use mathlib.Core.Path.{◌≡◌, refl, ◌∙◌}
+use mathlib.Core.Bool.{Bool, cond}
 use mathlib.Core.List.{List}
+use Rattle.std.specs.Prelude.{Option, Some}
 use Prim.Native.Nat.{ℕ, zero, suc, ◌+◌, ◌-◌, ◌<◌}
 use native.Mathlib.Omega.{arith}
 use lib.Dec.{eqb}
 use borrow.Author.Tests.{ne_eqb}
-use Rattle.semantics.specs.Tree.{Node, ElemKind}
+use Rattle.semantics.specs.Text.{holds_of}
+use Rattle.semantics.specs.Tree.{Node, ElemKind, TypeKey}
 use Rattle.semantics.specs.Tree.TypeKey.{adt_key, elem_key, block_key, opaque_key}
-use Rattle.semantics.specs.Array.{kind_number}
 use Rattle.semantics.specs.Types.{same_type_key}
+use Rattle.codes.specs.declared.element.Element.{Element}
+use Rattle.codes.specs.declared.element.Element.TheVariants as E
+use Rattle.codes.specs.Kinds.{element_kind}
 use Rattle.lines.specs.Lines.{read_at, nodes_in, form_at}
 use Rattle.source.specs.Walk.{field_at}
 use Rattle.type_lines.specs.Needs.{need_at, NeedLine, kind_by}
 use Rattle.type_lines.specs.Shapes.{written_shape, ShapeLine}
-use Rattle.type_lines.proofs.Codes.{kind-low, elems-are}
 use Rattle.type_lines.proofs.Forms.{elem_by, key_by, key-is, form-from}
 
 module _ (s t : List ℕ) (n i : ℕ) (l : NeedLine s t n i) where
@@ -36,22 +39,33 @@ module _ (s t : List ℕ) (n i : ℕ) (l : NeedLine s t n i) where
 
 -- ---- which kind of element a `need` line asks for
 
-module _ (ns : List Node) (fs : List (List ℕ)) (k : ElemKind) where
-  no_kind : false ≡ eqb (kind_number k) 5
-  no_kind = sym (ne_eqb (kind_number k) 5 (λ e. omega (arith, kind-low k)))
+-- k is the kind o
+abbrev pub is_kind : ElemKind → Option Element → Bool
+is_kind k o = holds_of (λ e. same_type_key (elem_key k) (elem_key (element_kind e))) o
 
-  elem-by : (d : ℕ) → d < 8 → same_type_key (elem_key k) (key_by (34 + d) ns fs) ≡ eqb (kind_number k) (kind_by (34 + d))
-  elem-by zero h = no_kind
-  elem-by (suc zero) h = elems-are k ElemKind.k_word
-  elem-by (suc (suc zero)) h = elems-are k ElemKind.k_byte
-  elem-by (suc (suc (suc zero))) h = elems-are k ElemKind.k_big
-  elem-by (suc (suc (suc (suc zero)))) h = elems-are k ElemKind.k_real
-  elem-by (suc (suc (suc (suc (suc zero))))) h = elems-are k ElemKind.k_ptr
-  elem-by (suc (suc (suc (suc (suc (suc zero)))))) h = no_kind
-  elem-by (suc (suc (suc (suc (suc (suc (suc zero))))))) h = no_kind
-  elem-by (suc (suc (suc (suc (suc (suc (suc (suc d)))))))) h = absurd (omega arith)
+-- the kind o, if any, is the key's
+abbrev KindOf : Option Element → TypeKey → Type 0
+KindOf o key = ((k : ElemKind) → same_type_key (elem_key k) key ≡ is_kind k o) × ((e : Element) → o ≡ Some e → key ≡ elem_key (element_kind e))
 
-pub elem_is : (s t : List ℕ) (n i : ℕ) (l : NeedLine s t n i) (k : ElemKind) → same_type_key (elem_key k) (need_at s i) ≡ eqb (kind_number k) (kind_by (form_at t i))
-elem_is s t n i l k =
-    let z : 34 + (form_at t i - 34) ≡ form_at t i = omega (arith, (form-from s t n i l).0) in
-    rw (key-is s t n i l) (rw z at (elem-by (nodes_in s) (read_at s i).fields k (form_at t i - 34) (omega (arith, (form-from s t n i l).1))))
+kind_of : (ns : List Node) (fs : List (List ℕ)) (d : ℕ) → d < 8 → KindOf (kind_by (34 + d)) (key_by (34 + d) ns fs)
+kind_of ns fs zero h = (λ k. refl, λ e q. cc)
+kind_of ns fs (suc zero) h = (λ k. refl, λ e q. let z : e ≡ E.Word = cc in rw z)
+kind_of ns fs (suc (suc zero)) h = (λ k. refl, λ e q. let z : e ≡ E.Byte = cc in rw z)
+kind_of ns fs (suc (suc (suc zero))) h = (λ k. refl, λ e q. let z : e ≡ E.Big = cc in rw z)
+kind_of ns fs (suc (suc (suc (suc zero)))) h = (λ k. refl, λ e q. let z : e ≡ E.Real = cc in rw z)
+kind_of ns fs (suc (suc (suc (suc (suc zero))))) h = (λ k. refl, λ e q. let z : e ≡ E.Pointer = cc in rw z)
+kind_of ns fs (suc (suc (suc (suc (suc (suc zero)))))) h = (λ k. refl, λ e q. cc)
+kind_of ns fs (suc (suc (suc (suc (suc (suc (suc zero))))))) h = (λ k. refl, λ e q. cc)
+kind_of ns fs (suc (suc (suc (suc (suc (suc (suc (suc d)))))))) h = absurd (omega arith)
+
+module _ (s t : List ℕ) (n i : ℕ) (l : NeedLine s t n i) where
+  kinds-of : KindOf (kind_by (form_at t i)) (need_at s i)
+  kinds-of =
+      let z : 34 + (form_at t i - 34) ≡ form_at t i = omega (arith, (form-from s t n i l).0) in
+      rw (key-is s t n i l) (rw z at (kind_of (nodes_in s) (read_at s i).fields (form_at t i - 34) (omega (arith, (form-from s t n i l).1))))
+
+  pub elem_is : (k : ElemKind) → same_type_key (elem_key k) (need_at s i) ≡ is_kind k (kind_by (form_at t i))
+  elem_is = kinds-of.0
+
+  pub elem-key : (e : Element) → kind_by (form_at t i) ≡ Some e → need_at s i ≡ elem_key (element_kind e)
+  elem-key = kinds-of.1

@@ -1,6 +1,7 @@
 -- Which lines are `frame` lines, and how many there are.
 use mathlib.Core.Path.{◌≡◌, refl, sym, ap, ◌∙◌}
 use mathlib.Core.Bool.{Bool, true, false, cond}
+use mir.Val.{bool_byte}
 use mathlib.Core.List.{List, [], ◌∷◌, ◌++◌}
 use Prim.Native.Nat.{ℕ, ◌+◌, ◌-◌, ◌≤◌, ◌<◌}
 use native.Mathlib.Omega.{arith}
@@ -43,10 +44,10 @@ module _ (s t : List ℕ) (n : ℕ) (c : Checked s t n) where
     unfolding declared_to
     frames-more = rw (add-one i)
 
-    pub frames-count : (b : Bool) → b ≡ eqb (letter (read_at s i).form.kind) 71 → cond b 1 0 ≡ length (declares_at (nodes_in s) i).frames
+    pub frames-count : (b : Bool) → b ≡ eqb (letter (read_at s i).form.kind) 71 → bool_byte b ≡ length (declares_at (nodes_in s) i).frames
     frames-count b e = rw (frames-by b e) (go b)
       where
-        go : (b : Bool) → cond b 1 0 ≡ length (cond b (written_shape s i ∷ []) [])
+        go : (b : Bool) → bool_byte b ≡ length (cond b (written_shape s i ∷ []) [])
         go true = refl
         go false = refl
 

@@ -1,5 +1,7 @@
 -- `need` lines and their keys.
-use Rattle.std.specs.Prelude.{ℕ, ◌-◌, ◌<◌, ◌≡◌, cond, ◌&&◌, List, [], ◌∷◌, leb, eqb}
+use Rattle.std.specs.Prelude.{ℕ, ◌<◌, ◌≡◌, cond, List, [], ◌∷◌, eqb, Option, None, Some}
+use Rattle.codes.specs.declared.element.Element.{Element}
+use Rattle.codes.specs.declared.element.Element.TheVariants as E
 use Rattle.semantics.specs.Text.{Bytes}
 use Rattle.semantics.specs.Tree.{TypeKey, Declares}
 use Rattle.semantics.specs.Tree.TypeKey.{opaque_key}
@@ -26,6 +28,7 @@ pub record NeedLine (s t : Bytes) (n i : ℕ) : Type 0 where
 abbrev pub needs_to : Bytes → ℕ → List TypeKey
 needs_to s i = declared_to (λ (d : Declares). d.needs) (nodes_in s) i
 
--- the kind of element that form f needs, 5 for none: 36 is byte, 35 int
-abbrev pub kind_by : ℕ → ℕ
-kind_by f = cond (eqb f 35) 1 (cond (eqb f 36) 0 (cond (leb 37 f && leb f 39) (f - 35) 5))
+-- the kind of element that form f needs
+abbrev pub kind_by : ℕ → Option Element
+kind_by f =
+    cond (eqb f 35) (Some E.Word) (cond (eqb f 36) (Some E.Byte) (cond (eqb f 37) (Some E.Big) (cond (eqb f 38) (Some E.Real) (cond (eqb f 39) (Some E.Pointer) None))))

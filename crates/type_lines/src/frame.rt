@@ -21,10 +21,7 @@ fn frames_of(sheet: &[u8], work: &[u8], n: usize, i: usize) -> usize
     requires { (Checked sheet.now work.now n) × (i < n) }
     ensures { result ≡ length (declares_at (nodes_in sheet.now) i).frames }
 {
-    if is_frame(sheet, work, n, i) {
-        return 1;
-    }
-    0
+    usize::from(is_frame(sheet, work, n, i))
 }
 
 // How many `frame` lines there are.

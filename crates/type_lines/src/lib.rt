@@ -8,7 +8,8 @@ ghost use Rattle.std.specs.Prelude.{◌≡◌};
 ghost use Rattle.semantics.specs.Types.{same_type_key};
 ghost use Rattle.type_lines.specs.Needs.{need_at, NeedLine, kind_by};
 
-use codes::{element, need};
+use codes::element::Element;
+use codes::need;
 
 // Whether the `need` lines a and b, from 0, have the same key: a key is spelled in one way only, so their texts tell.
 pub fn same_need(sheet: &[u8], work: &[u8], n: usize, a: usize, b: usize) -> bool
@@ -19,21 +20,16 @@ pub fn same_need(sheet: &[u8], work: &[u8], n: usize, a: usize, b: usize) -> boo
     words::same(l, lines::line_at(sheet, work, n, b))
 }
 
-// The kind of element that form f needs, `NONE` where it needs none. The forms of big, real and string are as far apart as their kinds.
-pub fn kind_needed(f: usize) -> u8
+// The kind of element that form f needs.
+pub fn kind_needed(f: usize) -> Option<Element>
     ensures { result ≡ kind_by f }
 {
-    if f == need::INT {
-        return element::WORD;
+    match f {
+        need::INT => Some(Element::Word),
+        need::BYTE => Some(Element::Byte),
+        need::BIG => Some(Element::Big),
+        need::REAL => Some(Element::Real),
+        need::STRING => Some(Element::Pointer),
+        _ => None,
     }
-    if f == need::BYTE {
-        return element::BYTE;
-    }
-    if f < need::BIG {
-        return element::NONE;
-    }
-    if need::STRING < f {
-        return element::NONE;
-    }
-    (f - need::BIG) as u8 + element::BIG
 }

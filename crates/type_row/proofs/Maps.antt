@@ -1,7 +1,6 @@
 -- Maps of blocks that begin with pointers, and of what lines write out.
 use mathlib.Core.Path.{◌≡◌, refl}
-use mathlib.Core.Bool.{true, cond}
-use lib.Dec.{eqb}
+use mathlib.Core.Bool.{true}
 use mathlib.Core.List.{List, [], ◌∷◌}
 use Prim.Native.Nat.{ℕ, ◌+◌, ◌-◌, ◌*◌, ◌≤◌, ◌<◌}
 use native.Mathlib.Omega.{arith}
@@ -10,11 +9,9 @@ use lib.IntN.{ℤ, pos, negsuc}
 use lib.ListN.{length, take, get_or}
 use lib.Seq.{take-suc, take_all}
 use borrow.Author.Tests.{ltb-true}
-use Rattle.semantics.specs.Tree.{ElemKind, Shape}
-use Rattle.semantics.specs.Tree.ElemKind.{k_byte, k_word, k_big, k_real, k_ptr}
+use Rattle.semantics.specs.Tree.{Shape}
 use Rattle.semantics.specs.Form.{between}
-use Rattle.semantics.specs.Array.{kind_number}
-use Rattle.semantics.specs.Types.{opaque_shape, elem_shape}
+use Rattle.semantics.specs.Types.{opaque_shape}
 use Rattle.maps.specs.Maps.{Marks}
 use Rattle.maps.proofs.Maps.{marks-none, marks_then, marks-skip}
 use Rattle.type_lines.specs.Shapes.{raised}
@@ -54,23 +51,6 @@ below-zero z (negsuc a) h e l = marks-skip (negsuc a) (λ x. refl)
 pub from_zero : {size : ℕ} {t u : List ℕ} (z : ℕ) (y : ℤ) → between 4096 4096 y ≡ true → z ≡ raised y → 4096 ≤ z → Marks size (pos (z - 4096) ∷ []) t u → Marks size (y ∷ []) t u
 from_zero z (pos a) h e l m = let g : z - 4096 ≡ a = omega arith in rw g at m
 from_zero z (negsuc a) h e l m = absurd (omega (arith, ltb-true a 4096 h))
-
--- ---- elements
-
-pub size-by : (kind : ℕ) (k : ElemKind) → kind ≡ kind_number k → cond (eqb kind 0) 1 (cond (eqb kind 2) 8 (cond (eqb kind 3) 8 4)) ≡ (elem_shape k).size
-size-by kind k_byte e = rw e
-size-by kind k_word e = rw e
-size-by kind k_big e = rw e
-size-by kind k_real e = rw e
-size-by kind k_ptr e = rw e
-
-pub words-by : (kind : ℕ) (k : ElemKind) → kind ≡ kind_number k → word_offsets (cond (eqb kind 4) 1 0) ≡ (elem_shape k).pointers
-unfolding word_offsets
-words-by kind k_byte e = rw e
-words-by kind k_word e = rw e
-words-by kind k_big e = rw e
-words-by kind k_real e = rw e
-words-by kind k_ptr e = rw e
 
 -- ---- a row of a shape that is said otherwise
 

@@ -2,18 +2,17 @@
 #![tactic(auto)]
 
 ghost use Rattle.std.specs.Prelude.{◌≡◌, true, List, [], ◌∷◌, ◌+◌, ◌≤◌, ◌<◌, ℤ, length};
-ghost use Rattle.semantics.specs.Tree.{ElemKind};
 ghost use Rattle.semantics.specs.Form.{between};
-ghost use Rattle.semantics.specs.Array.{kind_number};
 ghost use Rattle.semantics.specs.Types.{opaque_shape, elem_shape};
 ghost use Rattle.semantics.specs.Listing.{type_rows};
 ghost use Rattle.write.specs.Writes.{Writes};
-ghost use Rattle.checks.specs.Checks.{Kept};
+ghost use Rattle.codes.specs.Kinds.{element_kind};
 ghost use Rattle.maps.specs.Maps.{MapRoom, Mapped, Marks, MapMade};
 ghost use Rattle.type_lines.specs.Shapes.{written_shape, ShapeLine, raised};
 ghost use Rattle.type_row.specs.Row.{word_offsets, TypesWrote};
 
-use codes::{area, element};
+use codes::area;
+use codes::element::Element;
 use type_lines::shape::RAISE;
 use write::Writer;
 
@@ -66,35 +65,31 @@ pub fn put_opaque(work: &mut [u8], w: &mut Writer, id: usize) -> usize
     put_words(work, 4 * OPAQUE_WORDS, OPAQUE_WORDS, w, id)
 }
 
-fn elem_size(kind: u8) -> u32
-    ensures { ((k : ElemKind) → kind ≡ kind_number k → result ≡ (elem_shape k).size) × (result ≤ 8) }
+fn elem_size(kind: Element) -> u32
+    ensures { (result ≡ (elem_shape (element_kind kind)).size) × (result ≤ 8) }
 {
-    if kind == element::BYTE {
-        return 1;
+    match kind {
+        Element::Byte => 1,
+        Element::Word | Element::Pointer => 4,
+        Element::Big | Element::Real => 8,
     }
-    if kind == element::BIG {
-        return 8;
-    }
-    if kind == element::REAL {
-        return 8;
-    }
-    4
 }
 
 // How many words of an element are pointers, 0 or 1.
-fn elem_pointers(kind: u8) -> u32
-    ensures { ((k : ElemKind) → kind ≡ kind_number k → word_offsets result ≡ (elem_shape k).pointers) × (result ≤ 1) }
+#[tactic(auto, unfolding(crate::specs::Row::word_offsets))]
+fn elem_pointers(kind: Element) -> u32
+    ensures { (word_offsets result ≡ (elem_shape (element_kind kind)).pointers) × (result ≤ 1) }
 {
-    if kind == element::POINTER {
-        return 1;
+    match kind {
+        Element::Pointer => 1,
+        _ => 0,
     }
-    0
 }
 
 // An array's elements.
-pub fn put_elem(work: &mut [u8], kind: u8, w: &mut Writer, id: usize) -> usize
+pub fn put_elem(work: &mut [u8], kind: Element, w: &mut Writer, id: usize) -> usize
     requires { (65536 ≤ length work.old) × (id < 2048) }
-    ensures { ((k : ElemKind) → kind ≡ kind_number k → TypesWrote ((elem_shape k) ∷ []) id result w.old w.new work.old work.new) × (result ≡ id + 1) × (Kept 49152 work.old work.new) }
+    ensures { TypesWrote ((elem_shape (element_kind kind)) ∷ []) id result w.old w.new work.old work.new }
 {
     put_words(work, elem_size(kind), elem_pointers(kind), w, id)
 }

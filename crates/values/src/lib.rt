@@ -14,6 +14,7 @@ use codes::binary::Binary;
 use codes::ty;
 use codes::unary::Unary;
 use codes::value::Value;
+use write::Writer;
 
 // The longest string that a fold may build.
 pub const LONGEST_STRING: usize = 256;
@@ -191,8 +192,9 @@ fn cast_int(work: &mut [u8], code: usize, x: i64, top: usize) -> ConstVal
     match code {
         ty::REAL => ConstVal::Real(reals::from_i64(x)),
         ty::STRING => {
-            let p = write::put_int(work, top, x);
-            ConstVal::Str(top, p - top)
+            let mut w = Writer::from(work, top);
+            w.put_int(x);
+            ConstVal::Str(top, w.at - top)
         }
         _ => ConstVal::Int(x), // whole, also as a byte
     }

@@ -20,8 +20,6 @@ use Rattle.leaf.specs.Folds.{ex_at, Foldable}
 use Rattle.sizes.proofs.Forms.{type-form}
 use Rattle.literals.proofs.Lines.{line-form, parts_at, makes, good-line, may-line}
 use Rattle.literals.proofs.Selectors.{foldable}
-use Rattle.arrays.specs.Arrays.{type_of}
-use Rattle.arrays.proofs.Allocs.{type-given}
 use Rattle.global_table.specs.Table.{VarLine, var_on}
 use Rattle.global_table.proofs.VarLine.{parts-good}
 use Rattle.refs.proofs.Fields.{head-drop}
@@ -46,7 +44,7 @@ value-given ns (suc r) h = refl
 -- ---- the type
 
 module _ {s t : Bytes} {n ty : ℕ} (l : TypeLine s t n ty) {x : Ty} (ht : type_at s ty ≡ x) {f : ℕ} (hf : f ≡ form_at t (ty - 1)) where
-  pub element-none : (f ≡ 6 → ⊥) → type_of s 0 ≡ elem_of x
+  pub element-none : (f ≡ 6 → ⊥) → None ≡ elem_of x
   element-none z =
       let w = line-form l in
       elem-of-form (nodes_in s) (read_at s (ty - 1)).fields f (rw hf (type-form (form_at t (ty - 1)) w.0 w.1)) z
@@ -62,11 +60,9 @@ module _ {s t : Bytes} {n ty : ℕ} (l : TypeLine s t n ty) {x : Ty} (ht : type_
     pub element-line : TypeLine s t n d
     element-line = element-ref.1
 
-    pub element-some : type_of s d ≡ elem_of x
+    pub element-some : Some (type_at s d) ≡ elem_of x
     unfolding forms
-    element-some =
-        type-given s d (λ z. omega (arith, element-line.first))
-        ∙ sym (ap elem_of (sym ht) ∙ ap (λ (w : Node). elem_of w.ty) (makes l (sym hf ∙ e)) ∙ rw (head-drop 0 (read_at s (ty - 1)).fields, ← element-ref.0))
+    element-some = sym (ap elem_of (sym ht) ∙ ap (λ (w : Node). elem_of w.ty) (makes l (sym hf ∙ e)) ∙ rw (head-drop 0 (read_at s (ty - 1)).fields, ← element-ref.0))
 
 -- ---- the value
 

@@ -16,7 +16,9 @@ use Rattle.semantics.specs.Global.{Init, array_value, first_value, init_of, plai
 use Rattle.decimal.specs.Number as Number
 use Rattle.lines.specs.Lines.{read_at}
 use Rattle.values.specs.declared.ConstVal.{ConstVal}
+use Rattle.std.specs.Prelude as P
 use Rattle.std.specs.Prelude.{Ok, Err}
+use Rattle.values.specs.declared.NoValue.{NoValue}
 use Rattle.values.specs.declared.NoValue.TheVariants as N
 use Rattle.values.specs.Values.{Outcome, result_in, ResultAt}
 use Rattle.names.specs.Table.{ConstsLogged, names_in}
@@ -26,52 +28,56 @@ use Rattle.leaf.specs.Folds.{ex_at, Folds}
 use Rattle.literals.proofs.Names.{log-kept, logged-kept, line_kept}
 use Rattle.literals.proofs.Selectors.{folds-to}
 use Rattle.arrays.specs.declared.Arrayed.{Arrayed}
-use Rattle.arrays.specs.Arrays as Arrays
-use Rattle.arrays.specs.Arrays.{arrayed_in, type_of, ArrayLine, DeclaredElement}
+use Rattle.arrays.specs.declared.Arrayed.TheVariants.{Alloc, Literal}
+use Rattle.arrays.specs.declared.NoItem.{NoItem}
+use Rattle.arrays.specs.declared.NoItem.TheVariants.{Pending, LongString, LongAlloc, NegativeAlloc, OutsideLiteral, LongLiteral}
+use Rattle.arrays.specs.Arrays.{item_of, arrayed_in, ResultStands, ArrayAnswers, declared_type, ArrayLine, DeclaredElement}
 use Rattle.global_table.specs.Table.{VarLine, var_on, names_on}
 use Rattle.vars.specs.declared.First.{First}
-use Rattle.vars.specs.declared.First.TheVariants.{NoValue, Value, Alloc, Literal, Pending, Refused}
-use Rattle.vars.specs.First.{init_in, FirstStands, Inits, Valued, or_pending}
+use Rattle.vars.specs.declared.First.TheVariants.{Value, Array}
+use Rattle.vars.specs.First.{init_in, InitStands, Inits, Valued, or_pending}
 use Rattle.vars.proofs.Lines.{init-none, init-some, value_line}
 
 -- ---- arrays
 
--- y is the array x as a first value
-abbrev IsArray : Arrayed → First → Type 0
-IsArray x y = (t : Bytes) → Arrays.ArrayStands t x → (init_in t y ≡ array_value (arrayed_in t x)) × FirstStands t y
+-- an array as a first value
+abbrev pub as_first : P.Result Arrayed NoItem → P.Result (Option First) NoItem
+as_first (Ok x) = Ok (Some (Array x))
+as_first (Err e) = Err e
 
-module _ {x : Arrayed} where
-  pub array-alloc : {k n : ℕ} → x ≡ Arrayed.Alloc k n → IsArray x (Alloc k n)
-  array-alloc e t h = (rw e, subst (Arrays.ArrayStands t) e h)
-
-  pub array-literal : {k n : ℕ} → x ≡ Arrayed.Literal k n → IsArray x (Literal k n)
-  array-literal e t h = (rw e, subst (Arrays.ArrayStands t) e h)
-
-  pub array-pending : x ≡ Arrayed.Pending → IsArray x Pending
-  array-pending e t h = (rw e, tt)
-
-  pub array-refused : {r : ℕ} → x ≡ Arrayed.Refused r → IsArray x (Refused r)
-  array-refused e t h = (rw e, tt)
-
-module _ {s t : Bytes} {n r q d : ℕ} (k : Valued s t n r q) (e : type_of s d ≡ elem_of (var_on s r).ty) (h : DeclaredElement s t n d) where
+module _ {s t : Bytes} {n r q : ℕ} (k : Valued s t n r q) (d : Option ℕ) (e : declared_type s d ≡ elem_of (var_on s r).ty) (h : DeclaredElement s t n d) where
   pub array-line : ArrayLine s t n d q
   array-line = record { line = k.value; declares = h }
 
-  pub array-is : (m : ℕ) {x : Arrayed} {u : Bytes} → Arrays.ArrayAnswers t (const_array (names_in s t m) (type_of s d) (ex_at s q)) x u → (y : First) → IsArray x y
-      → Inits t (array_value (const_array (names_in s t m) (elem_of (var_on s r).ty) (ex_at s q))) y u
-  array-is m {x} {u} a y i = let w = i u a.array.stands in record {
-    result = w.0 ∙ ap array_value a.array.result ∙ rw e;
-    stands = w.1;
+  pub array-is : (m : ℕ) (x : P.Result Arrayed NoItem) {u : Bytes} → ArrayAnswers t (const_array (names_in s t m) (declared_type s d) (ex_at s q)) x u
+      → {y : P.Result Arrayed NoItem} → x ≡ y → Inits t (array_value (const_array (names_in s t m) (elem_of (var_on s r).ty) (ex_at s q))) (as_first y) u
+  array-is m x {u} a {y} i = record {
+    result = go y ∙ ap (λ (z : P.Result Arrayed NoItem). array_value (arrayed_in u z)) (sym i) ∙ ap array_value a.array.result ∙ rw e;
+    stands = stand y (subst (ResultStands u) i a.array.stands);
     keeps = a.keeps;
   }
+    where
+      go : (z : P.Result Arrayed NoItem) → init_in u (as_first z) ≡ array_value (arrayed_in u z)
+      go (Ok (Alloc k n)) = refl
+      go (Ok (Literal k n)) = refl
+      go (Err Pending) = refl
+      go (Err LongString) = refl
+      go (Err LongAlloc) = refl
+      go (Err NegativeAlloc) = refl
+      go (Err OutsideLiteral) = refl
+      go (Err LongLiteral) = refl
+
+      stand : (z : P.Result Arrayed NoItem) → ResultStands u z → InitStands u (as_first z)
+      stand (Ok x) p = p
+      stand (Err e) p = tt
 
 -- ---- by what a fold gives
 
 module _ {s t : Bytes} {n r : ℕ} (l : VarLine s t n r) {q : ℕ} (hq : q ≡ Number.number_up_to 65536 (get_or (read_at s (r - 1)).fields 1 [])) where
-  pub first-none : (ns : Names) → q ≡ 0 → Inits t (init_of ns (var_on s r).ty (var_on s r).init) NoValue t
+  pub first-none : (ns : Names) → q ≡ 0 → Inits t (init_of ns (var_on s r).ty (var_on s r).init) (Ok None) t
   first-none ns z = record { result = sym (rw (init-none l hq z)); stands = tt; keeps = keeps-all }
 
-  pub plain-none : (ns : Names) → q ≡ 0 → Inits t (or_pending (plain_init ns (var_on s r).init)) NoValue t
+  pub plain-none : (ns : Names) → q ≡ 0 → Inits t (or_pending (plain_init ns (var_on s r).init)) (Ok None) t
   plain-none ns z = record { result = sym (rw (init-none l hq z)); stands = tt; keeps = keeps-all }
 
   module _ (z : q ≡ 0 → ⊥) {m : ℕ} (o : ConstsLogged s t n m) {u : Bytes} {x : Outcome ConstVal} (g : Folds s t m 0 q 49152 u x) where
@@ -86,35 +92,33 @@ module _ {s t : Bytes} {n r : ℕ} (l : VarLine s t n r) {q : ℕ} (hq : q ≡ N
       by-fold : f (var_on s r).init ≡ h (result_in u x)
       by-fold = ap f (init-some l hq z) ∙ i ∙ ap h folded
 
-      fold-value : {v : ConstVal} → x ≡ Ok v → ((w : Tree.ConstVal) → h (ok w) ≡ ok (Init.const_init w)) → Inits t (f (var_on s r).init) (Value v) u
+      fold-value : {v : ConstVal} → x ≡ Ok v → ((w : Tree.ConstVal) → h (ok w) ≡ ok (Init.const_init w)) → Inits t (f (var_on s r).init) (Ok (Some (Value v))) u
       unfolding result_in
       fold-value d p = record { result = sym (by-fold ∙ rw d (p _)); stands = subst (ResultAt 49152) d g.answer.at; keeps = keeps-fold }
 
-      fold-long : x ≡ Err N.LongString → h (refuse 8) ≡ refuse 8 → Inits t (f (var_on s r).init) (Refused 8) u
+      fold-long : x ≡ Err N.LongString → h (refuse 8) ≡ refuse 8 → Inits t (f (var_on s r).init) (Err LongString) u
       unfolding result_in
       fold-long d p = record { result = sym (by-fold ∙ rw d p); stands = tt; keeps = keeps-fold }
 
-    pub first-folded : {v : ConstVal} → x ≡ Ok v → Inits t (init_of (names_in s t m) (var_on s r).ty (var_on s r).init) (Value v) u
+    pub first-folded : {v : ConstVal} → x ≡ Ok v → Inits t (init_of (names_in s t m) (var_on s r).ty (var_on s r).init) (Ok (Some (Value v))) u
     first-folded d = fold-value (init_of (names_in s t m) (var_on s r).ty) (λ (a : Result Tree.ConstVal). first_value a (const_array (names_in s t m) (elem_of (var_on s r).ty) (ex_at s q))) refl d (λ w. refl)
 
-    pub first-long : x ≡ Err N.LongString → Inits t (init_of (names_in s t m) (var_on s r).ty (var_on s r).init) (Refused 8) u
+    pub first-long : x ≡ Err N.LongString → Inits t (init_of (names_in s t m) (var_on s r).ty (var_on s r).init) (Err LongString) u
     first-long d = fold-long (init_of (names_in s t m) (var_on s r).ty) (λ (a : Result Tree.ConstVal). first_value a (const_array (names_in s t m) (elem_of (var_on s r).ty) (ex_at s q))) refl d refl
 
-    pub plain-folded : {v : ConstVal} → x ≡ Ok v → Inits t (or_pending (plain_init (names_in s t m) (var_on s r).init)) (Value v) u
+    pub plain-folded : {v : ConstVal} → x ≡ Ok v → Inits t (or_pending (plain_init (names_in s t m) (var_on s r).init)) (Ok (Some (Value v))) u
     plain-folded d = fold-value (λ (o : Option Ex). or_pending (plain_init (names_in s t m) o)) (λ (a : Result Tree.ConstVal). or_pending (bind a (λ (w : Tree.ConstVal). ok (Init.const_init w)))) refl d (λ w. refl)
 
-    pub plain-long : x ≡ Err N.LongString → Inits t (or_pending (plain_init (names_in s t m) (var_on s r).init)) (Refused 8) u
-    plain-long d = fold-long (λ (o : Option Ex). or_pending (plain_init (names_in s t m) o)) (λ (a : Result Tree.ConstVal). or_pending (bind a (λ (w : Tree.ConstVal). ok (Init.const_init w)))) refl d refl
+    pub plain-stopped : (e : NoValue) → x ≡ Err e → Inits t (or_pending (plain_init (names_in s t m) (var_on s r).init)) (Err (item_of e)) u
+    unfolding result_in
+    plain-stopped N.Failed d = record { result = sym (rw (init-some l hq z, folded, d)); stands = tt; keeps = keeps-fold }
+    plain-stopped N.LongString d = fold-long (λ (o : Option Ex). or_pending (plain_init (names_in s t m) o)) (λ (a : Result Tree.ConstVal). or_pending (bind a (λ (w : Tree.ConstVal). ok (Init.const_init w)))) refl d refl
 
     module _ (d : x ≡ Err N.Failed) where
-      pub plain-failed : Inits t (or_pending (plain_init (names_in s t m) (var_on s r).init)) Pending u
-      unfolding result_in
-      plain-failed = record { result = sym (rw (init-some l hq z, folded, d)); stands = tt; keeps = keeps-fold }
-
       pub array-task : (Valued s u n r q) × (ConstsLogged s u n m)
       array-task = (record { line = line_kept keeps-fold l; value = line_kept keeps-fold (value_line l hq z) }, logged-kept keeps-fold o)
 
-      pub first-array : {y : First} {w : Bytes} → Inits u (array_value (const_array (names_in s u m) (elem_of (var_on s r).ty) (ex_at s q))) y w → Inits t (init_of (names_in s t m) (var_on s r).ty (var_on s r).init) y w
+      pub first-array : {y : P.Result (Option First) NoItem} {w : Bytes} → Inits u (array_value (const_array (names_in s u m) (elem_of (var_on s r).ty) (ex_at s q))) y w → Inits t (init_of (names_in s t m) (var_on s r).ty (var_on s r).init) y w
       unfolding result_in
       first-array a = record {
         result = rw (log-kept keeps-fold o) at a.result ∙ sym (rw (init-some l hq z, folded, d));
@@ -146,7 +150,7 @@ all_named false h = sym h
 plain-is : (ns : Names) (o : Option Ex) (t : Ty) (xs : List Bytes) → none_of (laid_names xs) ≡ true → var_value ns (record { ty = t; init = o; names = xs }) ≡ plain_init ns o
 plain-is ns o t xs h = rw h
 
-module _ (s : Bytes) {t : Bytes} (r : ℕ) (ns : Names) {b : Bool} (h : b ≡ not (none_of (laid_names (names_on s r)))) {x : First} {u : Bytes} where
+module _ (s : Bytes) {t : Bytes} (r : ℕ) (ns : Names) {b : Bool} (h : b ≡ not (none_of (laid_names (names_on s r)))) {x : P.Result (Option First) NoItem} {u : Bytes} where
   pub value-named : b ≡ true → Inits t (init_of ns (var_on s r).ty (var_on s r).init) x u → Inits t (or_pending (var_value ns (var_on s r))) x u
   value-named e a = record { result = a.result ∙ sym (rw (none_named (none_of (laid_names (names_on s r))) (sym h ∙ e)) (settled-init ns (var_on s r).ty (var_on s r).init)); stands = a.stands; keeps = a.keeps }
 

@@ -4,8 +4,10 @@
 ghost use Rattle.std.specs.Prelude.{◌≡◌, ◌+◌, ◌≤◌, ◌<◌, max, length};
 ghost use Rattle.semantics.specs.Text as Text;
 ghost use Rattle.semantics.specs.Text.{big_endian};
-ghost use Rattle.write.specs.Wrote.{Wrote};
+ghost use Rattle.write.specs.Writes.{Writes};
 ghost use Rattle.words.specs.Words.{digest_from, digest, u16_at, bits_at};
+
+use write::Writer;
 
 #[tactic(auto, using(crate::proofs::Laws::equal_same))]
 pub fn same(a: &[u8], b: &[u8]) -> bool
@@ -67,9 +69,9 @@ pub fn bits_at(work: &[u8], a: usize) -> u64
     bits
 }
 
-// 64 bits stored in eight bytes, the highest first.
-pub fn put_bits(out: &mut [u8], at: usize, n: u64) -> usize
-    ensures { Wrote out.old at (big_endian 8 n) out.new result }
+// 64 bits in eight bytes, the highest first.
+pub fn put_bits(w: &mut Writer, n: u64)
+    ensures { Writes w.old (big_endian 8 n) w.new }
 {
-    write::put_big_endian(out, at, 8, n)
+    w.put_big_endian(8, n);
 }

@@ -1,15 +1,16 @@
 -- Laws of a writer's writes.
-use Rattle.std.proofs.Common.{ℕ, zero, suc, ◌+◌, ◌-◌, ◌/◌, ◌%◌, ◌^◌, ◌≡◌, ◌≤◌, ◌<◌, ◌∙◌, refl, sym, ap, arith, [], ◌∷◌, ◌++◌, length, take, drop, get_or, ℤ, pos, negsuc, unsigned_abs, true, false}
+use Rattle.std.proofs.Common.{ℕ, zero, suc, ◌+◌, ◌-◌, ◌/◌, ◌%◌, ◌^◌, ◌≡◌, ◌≤◌, ◌<◌, ◌∙◌, refl, sym, ap, arith, [], ◌∷◌, ◌++◌, length, take, drop, get_or, min, Bool, ltb, ℤ, pos, negsuc, unsigned_abs, true, false}
 use Rattle.std.specs.Int.{bytes_high_first}
 use lib.Signed.{lt_z}
-use borrow.Author.Tests.{ltb-true}
+use borrow.Author.Tests.{ltb-true, ltb-false}
 use lib.Seq.{take_all, take-suc}
 use native.Mathlib.Numerals.{add-one}
 use native.Mathlib.Nat.{zero-add, suc-add}
 use Rattle.semantics.specs.Text.{Bytes, decimal, decimalℤ, hex_digit, hex_of, big_endian}
 use Rattle.write.specs.declared.Writer.{Writer}
+use Rattle.write.specs.Wrote.{Wrote, over}
 use Rattle.write.specs.Writes.{Writes}
-use Rattle.write.proofs.Wrote.{then, wrote_none}
+use Rattle.write.proofs.Wrote.{over-out, then, wrote_none}
 use Rattle.write.proofs.Decimal.{decimal-one}
 use Rattle.semantics.proofs.Common.{never}
 use Rattle.write.proofs.Hex.{hex-append, big-length}
@@ -21,6 +22,25 @@ writes_none w h = record { same_buffer = refl; wrote = wrote_none w.out.now w.at
 -- one write after another
 pub writes_then : {u v w : Writer} {s t : Bytes} → Writes u s v → Writes v t w → Writes u (s ++ t) w
 writes_then a b = record { same_buffer = b.same_buffer ∙ a.same_buffer; wrote = then a.wrote b.wrote }
+
+-- what a writer from a place on wrote: f is the buffer in the end
+pub writes_from : {d t f : Bytes} {a : ℕ} {v w : Writer} → v.out.now ≡ d → v.at ≡ min a (length d + 1) → Writes v t w → f ≡ w.out.now → Wrote d a t f w.at
+writes_from {d} {t} {f} {a} {v} {w} q p x z = record {
+  bytes = z ∙ y.bytes ∙ go (ltb (length d) a) refl;
+  place = omega (arith, y.place, p);
+}
+  where
+    y : Wrote d v.at t w.out.now w.at
+    y = rw q at x.wrote
+
+    go : (b : Bool) → ltb (length d) a ≡ b → over d v.at t ≡ over d a t
+    go false e =
+        let h : a ≤ length d = ltb-false _ _ e in
+        let k : v.at ≡ a = omega (arith, p) in
+        ap (λ (j : ℕ). over d j t) k
+    go true e =
+        let h : length d < a = ltb-true _ _ e in
+        over-out d v.at t (omega (arith, p)) ∙ sym (over-out d a t (omega arith))
 
 -- the same text said otherwise
 pub writes_as : {v w : Writer} {s t : Bytes} → s ≡ t → Writes v s w → Writes v t w

@@ -19,7 +19,7 @@ pub length_over : (d : Bytes) (a : ℕ) (t : Bytes) → length (over d a t) ≡ 
 unfolding over
 length_over d a t = length-sets d a t
 
-over-out : (d : Bytes) (a : ℕ) (t : Bytes) → length d ≤ a → over d a t ≡ d
+pub over-out : (d : Bytes) (a : ℕ) (t : Bytes) → length d ≤ a → over d a t ≡ d
 unfolding over
 over-out d a [] h = refl
 over-out d a (x ∷ t) h = over-out (set d a x) (suc a) t (omega (arith, length-set d a x)) ∙ set_out d a x h

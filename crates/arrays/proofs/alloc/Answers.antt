@@ -1,4 +1,5 @@
-use Rattle.arrays.proofs.Allocs.{alloc-low, length-foldable, alloc-answers}
+-- `arrays::alloc` meets its contract.
+use Rattle.arrays.proofs.Allocs.{length-foldable, alloc-answers}
 use Rattle.literals.proofs.Lines.{line-in}
 use Rattle.arrays.proofs.alloc.Goals as goal
 
@@ -11,8 +12,5 @@ number_at-q-requires c = (c.requires.0.array.line.checked.whole, line-in c.requi
 pub fold_const-requires : goal.fold_const-requires
 fold_const-requires c = length-foldable c.requires.0 c.number_at-q.ensures.0 c.requires.1
 
-pub allocated-requires : goal.allocated-requires
-allocated-requires c = alloc-low c.requires.0 c.alloc_kind-kind.ensures
-
 pub returns : goal.returns
-returns c = alloc-answers c.requires.0 c.number_at-q.ensures.0 c.alloc_kind-kind.ensures c.fold_const.ensures c.allocated.result (c.allocated.ensures _).0 (c.allocated.ensures _).1
+returns c = alloc-answers c.requires.0 c.number_at-q.ensures.0 c.alloc_kind-kind.ensures c.fold_const.ensures (c.allocated.ensures _)

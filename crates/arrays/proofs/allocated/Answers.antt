@@ -1,15 +1,24 @@
-use Rattle.arrays.specs.Arrays.{kind_of_number}
-use Rattle.arrays.proofs.Lengths.{of-int, of_none, of-long}
+-- `arrays::allocated` meets its contract.
+use Rattle.std.proofs.Common.{rules, refl, ◌∙◌}
+use Rattle.std.proofs.lemmas.Result.{err_from_is_err_and}
 use Rattle.semantics.specs.Array as Array
-use mathlib.Core.Path.{refl, ◌∙◌}
-use borrow.Author.Rules.{rules}
+use Rattle.codes.specs.Kinds.{element_kind}
+use Rattle.arrays.specs.Arrays.{item_of, no_item}
+use Rattle.arrays.proofs.Lengths.{of-int, of-no-value}
 use Rattle.arrays.proofs.allocated.Goals as goal
 
-pub returns-in-Ok : goal.returns-in-Ok
-returns-in-Ok c = λ t. ((c.allocated_int.ensures t).0 ∙ of-int t c.args.x c.as_int.result (c.as_int.ensures t) (Array.allocated (kind_of_number c.args.kind)) (λ y. refl) (λ y. refl) c.in-Ok.is (search rules), (c.allocated_int.ensures t).1)
+pub returns-in_err-as_int : goal.returns-in_err-as_int
+returns-in_err-as_int c =
+    let p = err_from_is_err_and c.from_residual.result c.from_residual.ensures.1 in
+    rw (p.1, p.2) (λ t. record {
+      result = of-no-value t c.args.x c.as_int.result (c.as_int.ensures t) (Array.allocated (element_kind c.args.kind)) (λ y. refl) (λ y. refl) c.in_err-as_int.field-0.0 c.in_err-as_int.was (λ e. no_item (item_of e)) refl refl;
+      stands = tt;
+    })
 
-pub returns-in-Err-Failed : goal.returns-in-Err-Failed
-returns-in-Err-Failed c = λ t. (of_none t c.args.x c.as_int.result (c.as_int.ensures t) (Array.allocated (kind_of_number c.args.kind)) (λ y. refl) (λ y. refl) (rw c.in-Err-Failed.field-0-is at c.in-Err-Failed.is), tt)
-
-pub returns-in-Err-LongString : goal.returns-in-Err-LongString
-returns-in-Err-LongString c = λ t. (of-long t c.args.x c.as_int.result (c.as_int.ensures t) (Array.allocated (kind_of_number c.args.kind)) (λ y. refl) (λ y. refl) (rw c.in-Err-LongString.field-0-is at c.in-Err-LongString.is), tt)
+pub returns : goal.returns
+returns c = λ t.
+    let a = c.allocated_int.ensures t in
+    record {
+      result = a.result ∙ of-int t c.args.x c.as_int.result (c.as_int.ensures t) (Array.allocated (element_kind c.args.kind)) (λ y. refl) (λ y. refl) c.in_ok-as_int.was (search rules);
+      stands = a.stands;
+    }

@@ -1,15 +1,19 @@
-use Rattle.arrays.proofs.Elements.{kind-int, kind-byte, kind-long, kind-pointer}
-use native.Mathlib.Omega.{arith}
+-- `arrays::elem_kind` meets its contract.
+use Rattle.std.proofs.Common.{rules}
+use Rattle.arrays.proofs.Elements.{kind_at, kind-pointer}
 use Rattle.arrays.proofs.elem_kind.Goals as goal
 
-pub returns-then-f-eq-INT : goal.returns-then-f-eq-INT
-returns-then-f-eq-INT c = (kind-int c.requires c.form_at-f.ensures c.if-f-eq-INT.true, omega arith)
+pub returns-in-0 : goal.returns-in-0
+returns-in-0 c = kind_at c.requires c.form_at.ensures c.in-0.is
 
-pub returns-then-f-eq-BYTE : goal.returns-then-f-eq-BYTE
-returns-then-f-eq-BYTE c = (kind-byte c.requires c.form_at-f.ensures c.if-f-eq-BYTE.true, omega arith)
+pub returns-in-1 : goal.returns-in-1
+returns-in-1 c = kind_at c.requires c.form_at.ensures c.in-1.is
 
-pub returns-then-f-lt-STRING : goal.returns-then-f-lt-STRING
-returns-then-f-lt-STRING c = (kind-long c.requires c.form_at-f.ensures c.if-f-eq-INT.false c.if-f-eq-BYTE.false c.if-f-lt-STRING.true, omega arith)
+pub returns-in-2 : goal.returns-in-2
+returns-in-2 c = kind_at c.requires c.form_at.ensures c.in-2.is
 
-pub returns : goal.returns
-returns c = (kind-pointer c.requires c.form_at-f.ensures c.if-f-lt-STRING.false, omega arith)
+pub returns-in-3 : goal.returns-in-3
+returns-in-3 c = kind_at c.requires c.form_at.ensures c.in-3.is
+
+pub returns-in_default : goal.returns-in_default
+returns-in_default c = kind-pointer c.requires c.form_at.ensures (search rules) (search rules) (search rules) (search rules)

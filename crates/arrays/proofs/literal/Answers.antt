@@ -1,22 +1,22 @@
-use mathlib.Core.Path.{refl}
-use Rattle.placements.specs.declared.Placed.TheVariants.{Negative, Failed, TooLong}
+-- `arrays::literal` meets its contract.
+use Rattle.std.proofs.Common.{refl, Ok, Err, None}
+use Rattle.std.proofs.lemmas.Result.{err_from_is_err_and}
 use Rattle.arrays.proofs.Wholes.{literal-kept, literal-ended, literal-well}
 use Rattle.arrays.proofs.literal.Goals as goal
 
 pub fill-requires : goal.fill-requires
 fill-requires c = (c.requires.0.literal, c.requires.1)
 
+pub returns-in_err-x : goal.returns-in_err-x
+returns-in_err-x c =
+    let p = err_from_is_err_and c.from_residual.result c.from_residual.ensures.1 in
+    rw (p.1, p.2) (literal-ended c.requires.0 c.requires.1 c.fill.result c.fill.ensures (Err c.in_err-x.field-0.0) c.in_err-x.was refl)
+
 pub sized-requires : goal.sized-requires
 sized-requires c = literal-kept c.requires.0 c.requires.1 c.fill.result c.fill.ensures
 
-pub returns-in-Into : goal.returns-in-Into
-returns-in-Into c = literal-well c.requires.0 c.requires.1 c.fill.result c.fill.ensures c.in-Into.is c.sized.ensures
+pub returns-in-Some : goal.returns-in-Some
+returns-in-Some c = literal-well c.requires.0 c.requires.1 c.fill.result c.fill.ensures (rw c.in-Some.is at c.in_ok-x.was) c.sized.ensures
 
-pub returns-in-Negative : goal.returns-in-Negative
-returns-in-Negative c = literal-ended c.requires.0 c.requires.1 c.fill.result c.fill.ensures Negative c.in-Negative.is refl
-
-pub returns-in-Failed : goal.returns-in-Failed
-returns-in-Failed c = literal-ended c.requires.0 c.requires.1 c.fill.result c.fill.ensures Failed c.in-Failed.is refl
-
-pub returns-in-TooLong : goal.returns-in-TooLong
-returns-in-TooLong c = literal-ended c.requires.0 c.requires.1 c.fill.result c.fill.ensures TooLong c.in-TooLong.is refl
+pub returns-in-None : goal.returns-in-None
+returns-in-None c = literal-ended c.requires.0 c.requires.1 c.fill.result c.fill.ensures (Ok None) (rw c.in-None.is at c.in_ok-x.was) refl

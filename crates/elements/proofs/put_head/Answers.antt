@@ -1,8 +1,7 @@
--- `elements::put_head` meets its contract.
 use Rattle.elements.specs.Elements.{head_text}
-use Rattle.write.proofs.Wrote.{then}
+use Rattle.write.proofs.Writes.{writes_then}
 use Rattle.elements.proofs.put_head.Goals as goal
 
 pub returns : goal.returns
 unfolding head_text
-returns c = then c.put_part-p.ensures (then c.put_kind-q.ensures (then c.put_comma_nat-r.ensures c.put_comma_nat.ensures))
+returns c = writes_then c.put_part.ensures (writes_then c.put_kind.ensures (writes_then c.comma_nat.ensures c.comma_nat-2.ensures))

@@ -1,9 +1,12 @@
--- `elements::put_zero_element` meets its contract.
-use Rattle.elements.proofs.Elements.{as-zero, as-real-zero}
+use Rattle.std.proofs.Common.{refl}
+use lib.Ieee.{to_bits}
+use Rattle.semantics.specs.Tree.ConstVal.{v_str}
+use Rattle.elements.proofs.Elements.{as_real, as_zero}
 use Rattle.elements.proofs.put_zero_element.Goals as goal
 
-pub returns-then-kind-lt-REAL : goal.returns-then-kind-lt-REAL
-returns-then-kind-lt-REAL c = λ s. as-zero s c.if-kind-lt-REAL.true c.put_comma_nat.ensures
+pub returns-in-Byte : goal.returns-in-Byte
+returns-in-Byte c = as_zero c.in-Byte.is c.comma_nat.ensures
 
-pub returns : goal.returns
-returns c = λ s. as-real-zero s c.if-kind-lt-REAL.false c.put_comma_bits.ensures
+pub returns-in-Real : goal.returns-in-Real
+unfolding to_bits
+returns-in-Real c = λ s. as_real (v_str s) c.in-Real.is refl refl c.comma_bits.ensures

@@ -1,6 +1,8 @@
 -- `image_main::put_row` meets its contract.
-use Rattle.image_main.proofs.Laws.{row_put}
+use Rattle.write.proofs.Writes.{writes_then}
+use Rattle.semantics.specs.Listing.{row}
 use Rattle.image_main.proofs.put_row.Goals as goal
 
 pub returns : goal.returns
-returns c = row_put c.args.name.now c.args.bytes.now c.put_part-p.ensures c.put_comma_hex-q.ensures c.put_lf.ensures
+unfolding row
+returns c = writes_then c.put_part.ensures (writes_then c.comma_hex.ensures c.lf.ensures)

@@ -1,11 +1,13 @@
--- `items::elements_row` meets its contract.
-use Rattle.items.proofs.Arrays.{values_length}
-use Rattle.elements.proofs.Rows.{numbers-row}
+use Rattle.std.proofs.Common.{ap, sym}
+use Rattle.codes.specs.Kinds.{element_kind}
+use Rattle.write.proofs.Writes.{writes_as}
 use Rattle.elements.specs.Elements.{head_text}
+use Rattle.elements.proofs.Rows.{numbers-row}
 use Rattle.placements.specs.Placements.{values_in}
-use Rattle.write.proofs.Wrote.{wrote_as}
-use mathlib.Core.Path.{ap, sym}
+use Rattle.items.proofs.Arrays.{values_length}
 use Rattle.items.proofs.elements_row.Goals as goal
 
 pub returns : goal.returns
-returns c = numbers-row c.args.kind 0 (values_in c.args.work.now 0 c.args.count) (wrote_as (ap (head_text c.args.kind 0) (sym (values_length c.args.work.now c.args.count 0))) c.put_head-p.ensures) c.put_elements-q.ensures c.put_lf.ensures
+returns c =
+    let k = element_kind c.args.kind in
+    numbers-row k 0 (values_in c.args.work.now 0 c.args.count) (writes_as (ap (head_text k 0) (sym (values_length c.args.work.now c.args.count 0))) c.put_head.ensures) c.put_elements.ensures c.lf.ensures

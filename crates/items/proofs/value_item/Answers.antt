@@ -1,9 +1,5 @@
--- `items::value_item` meets its contract.
-use Rattle.items.proofs.Rows.{string-within, int-item, real-item, string-item}
+use Rattle.items.proofs.Rows.{int-item, real-item, string-item}
 use Rattle.items.proofs.value_item.Goals as goal
-
-pub str_row-requires : goal.str_row-requires
-str_row-requires c = string-within c.in-Str.is c.requires
 
 pub returns-in-Int : goal.returns-in-Int
 returns-in-Int c = λ id ty h. int-item id c.args.off ty c.args.work.now c.in-Int.is c.int_kind.ensures h (c.number_row.ensures c.args.work.now)

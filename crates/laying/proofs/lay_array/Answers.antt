@@ -1,6 +1,6 @@
 -- `laying::lay_array` meets its contract.
 use Rattle.std.proofs.Common.{arith, ◌*◌}
-use Rattle.laying.proofs.Steps.{array-out, array-in, handled}
+use Rattle.laying.proofs.Steps.{array-out, array-in}
 use Rattle.laying.proofs.lay_array.Goals as goal
 
 pub returns-then-area-a : goal.returns-then-area-a
@@ -16,4 +16,4 @@ returns-then-room-k c =
 pub returns : goal.returns
 returns c =
     let a = c.args in
-    array-in a.off (a.size * a.n) a.image.now a.area.now a.s c.went_on.result c.requires c.part_at-a.ensures (omega (arith, c.part_bytes-k.ensures)) (omega arith) (handled a.s.item c.put_big_endian-p.ensures) (rw c.max.ensures at c.went_on.ensures)
+    array-in a.off (a.size * a.n) a.image.now a.area.now a.s c.went_on.result c.requires c.part_at-a.ensures (omega (arith, c.part_bytes-k.ensures)) (omega arith) c.put_handle-p.ensures (rw c.max.ensures at c.went_on.ensures)

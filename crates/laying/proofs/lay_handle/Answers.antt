@@ -1,13 +1,13 @@
 -- `laying::lay_handle` meets its contract.
-use Rattle.laying.proofs.Steps.{lays-image, lays-part, handled}
+use Rattle.laying.proofs.Steps.{lays-image, lays-part}
 use Rattle.laying.proofs.lay_handle.Goals as goal
 
 pub returns-then-s : goal.returns-then-s
 returns-then-s c =
     let a = c.args in
-    lays-part a.off _ a.image.now a.area.now a.s c.went_on.result c.requires c.if-s.true (handled a.s.item c.put_big_endian-p.ensures) c.went_on.ensures
+    lays-part a.off _ a.image.now a.area.now a.s c.went_on.result c.requires c.if-s.true c.put_handle-p.ensures c.went_on.ensures
 
 pub returns : goal.returns
 returns c =
     let a = c.args in
-    lays-image a.off _ a.image.now a.area.now a.s c.went_on-2.result c.requires c.if-s.false (handled a.s.item c.put_big_endian-q.ensures) (rw c.max.ensures at c.went_on-2.ensures)
+    lays-image a.off _ a.image.now a.area.now a.s c.went_on-2.result c.requires c.if-s.false c.put_handle-q.ensures (rw c.max.ensures at c.went_on-2.ensures)

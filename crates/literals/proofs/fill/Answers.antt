@@ -1,6 +1,9 @@
-use Rattle.literals.proofs.Turns.{into-not, begun, few-elements, turning-start, turning-line, turning-end, turn-line, turning-stop, turning-next}
+use Rattle.literals.proofs.Turns.{begun, few-elements, turning-start, turning-line, turning-end, turn-line, turning-stop, turning-next}
 use Rattle.literals.proofs.Lines.{line-in}
 use native.Mathlib.Omega.{arith}
+use mathlib.Core.Path.{refl}
+use Rattle.std.specs.Prelude.{None, Ok, Err}
+use Rattle.std.proofs.lemmas.Result.{err_from_is_err_and}
 use Rattle.literals.proofs.fill.Goals as goal
 
 pub empty-requires : goal.empty-requires
@@ -24,14 +27,19 @@ overflow_add-j c = record { fits = omega (arith, few-elements c.requires.0 c.num
 pub number_at-q-requires : goal.number_at-q-requires
 number_at-q-requires c = let l = turning-line c.requires.0 c.requires.1 c.empty.ensures c.number_at-count.ensures.0 c.loop-j.invariant in (l.checked.whole, line-in l)
 
-pub fill_element-y-requires : goal.fill_element-y-requires
-fill_element-y-requires c = turn-line c.requires.0 c.requires.1 c.empty.ensures c.number_at-count.ensures.0 c.loop-j.invariant c.loop-j-test.true c.number_at-q.ensures.0
+pub fill_element-requires : goal.fill_element-requires
+fill_element-requires c = turn-line c.requires.0 c.requires.1 c.empty.ensures c.number_at-count.ensures.0 c.loop-j.invariant c.loop-j-test.true c.number_at-q.ensures.0
+
+pub returns-in_err-y : goal.returns-in_err-y
+returns-in_err-y c =
+    let p = err_from_is_err_and c.from_residual.result c.from_residual.ensures.1 in
+    rw (p.1, p.2) (turning-stop c.requires.0 c.requires.1 c.empty.ensures c.number_at-count.ensures.0 c.loop-j.invariant c.loop-j-test.true c.number_at-q.ensures.0 c.fill_element.result c.fill_element.ensures (Err c.in_err-y.field-0.0) c.in_err-y.was refl)
 
 pub returns-in_default : goal.returns-in_default
-returns-in_default c = turning-stop c.requires.0 c.requires.1 c.empty.ensures c.number_at-count.ensures.0 c.loop-j.invariant c.loop-j-test.true c.number_at-q.ensures.0 c.fill_element-y.result c.fill_element-y.ensures (into-not c.fill_element-y.result c.in_default.not-Into)
+returns-in_default c = turning-stop c.requires.0 c.requires.1 c.empty.ensures c.number_at-count.ensures.0 c.loop-j.invariant c.loop-j-test.true c.number_at-q.ensures.0 c.fill_element.result c.fill_element.ensures (Ok None) (rw c.in_default.is at c.in_ok-y.was) refl
 
 pub loop-j-preserved : goal.loop-j-preserved
-loop-j-preserved c = turning-next c.requires.0 c.requires.1 c.empty.ensures c.number_at-count.ensures.0 c.loop-j.invariant c.loop-j-test.true c.number_at-q.ensures.0 c.fill_element-y.result c.fill_element-y.ensures c.in-Into.is
+loop-j-preserved c = turning-next c.requires.0 c.requires.1 c.empty.ensures c.number_at-count.ensures.0 c.loop-j.invariant c.loop-j-test.true c.number_at-q.ensures.0 c.fill_element.result c.fill_element.ensures (rw c.in-Some.is at c.in_ok-y.was)
 
 pub returns : goal.returns
 returns c = turning-end c.requires.0 c.requires.1 c.empty.ensures c.number_at-count.ensures.0 c.loop-j.invariant c.loop-j-test.false

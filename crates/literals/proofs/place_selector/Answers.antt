@@ -1,12 +1,7 @@
-use Rattle.literals.proofs.Placing.{selects-span, selects-failed, selects-long}
-use borrow.Author.Rules.{rules}
+-- `literals::place_selector` meets its contract.
+use Rattle.std.proofs.Common.{rules}
+use Rattle.literals.proofs.Placing.{selects-span}
 use Rattle.literals.proofs.place_selector.Goals as goal
 
-pub returns-in-Ok : goal.returns-in-Ok
-returns-in-Ok c = selects-span c.args.work.now c.args.e c.span_of.ensures.1 c.args.x c.span_of.result c.span_of.ensures.0 c.in-Ok.is (search rules) (search rules) c.place_on.ensures
-
-pub returns-in-Err-Failed : goal.returns-in-Err-Failed
-returns-in-Err-Failed c = selects-failed c.args.work.now c.args.e c.span_of.ensures.1 c.args.x c.span_of.result c.span_of.ensures.0 (rw c.in-Err-Failed.field-0-is at c.in-Err-Failed.is)
-
-pub returns-in-Err-LongString : goal.returns-in-Err-LongString
-returns-in-Err-LongString c = selects-long c.args.work.now c.args.e c.span_of.ensures.1 c.args.x c.span_of.result c.span_of.ensures.0 (rw c.in-Err-LongString.field-0-is at c.in-Err-LongString.is)
+pub returns : goal.returns
+returns c = selects-span c.args.work.now c.args.e c.span_of.ensures.1 c.args.x c.span_of.result c.span_of.ensures.0 c.in_ok-low.was (search rules) (search rules) c.place_on.ensures

@@ -4,12 +4,11 @@ use mathlib.Core.List.{List}
 use mathlib.Core.Path.{◌∙◌, ap}
 use Rattle.words.specs.Words.{digest}
 use Rattle.type_lines.specs.Needs.{need_at, needs_to}
-use Rattle.type_keys.specs.Table.{kind_entered}
+use Rattle.std.specs.Prelude.{Option}
+use Rattle.codes.specs.declared.element.Element.{Element}
+use Rattle.need_keys.specs.Pass.{kind_by_need}
 use Rattle.need_keys.proofs.Pass.{needs-room, collected, collected-outside}
 use Rattle.need_keys.proofs.collect_need.Goals as goal
-
-pub position_for-p-requires : goal.position_for-p-requires
-position_for-p-requires c = (c.requires, c.digest-d.ensures.0 ∙ ap (λ (l : List ℕ). digest l) c.line_at.ensures)
 
 pub enter_need-requires : goal.enter_need-requires
 enter_need-requires c = let x = c.requires in ((needs-room x).0, omega (arith, x.line.within, x.line.checked.whole.lined.few), omega (arith, (needs-room x).1, c.position_for-p.ensures), x.line.checked.whole.room)
@@ -20,14 +19,11 @@ enter_kind-requires c = let x = c.requires in (omega (arith, (needs-room x).1, c
 pub enter_digest-requires : goal.enter_digest-requires
 enter_digest-requires c = let x = c.requires in ((needs-room x).0, omega (arith, c.digest-d.ensures.1), omega (arith, c.enter_kind.auto.work, c.enter_need.auto.work, x.line.checked.whole.room))
 
-pub overflow_add-result : goal.overflow_add-result
-overflow_add-result c = record { fits = omega (arith, (needs-room c.requires).0) }
-
 pub with_key-requires : goal.with_key-requires
 with_key-requires c = omega (arith, (needs-room c.requires).2)
 
 pub returns : goal.returns
 returns c = let x = c.requires in
     let hd = c.digest-d.ensures.0 ∙ ap (λ (l : List ℕ). digest l) c.line_at.ensures in
-    let hv = c.enter_kind.ensures ∙ ap (λ (k : ℕ). kind_entered c.enter_need.new.work k c.position_for-p.result) c.kind_needed.ensures in
-    (collected x c.form_at-f.ensures c.position_for-p.ensures hd c.enter_need.ensures hv c.enter_digest.ensures c.with_key.result (c.with_key.ensures (need_at c.args.sheet.now c.args.i) (needs_to c.args.sheet.now c.args.i) c.position_for-p.ensures x.collecting.kinds.count), collected-outside x c.form_at-f.ensures c.position_for-p.ensures hd c.enter_need.ensures hv c.enter_digest.ensures)
+    let hv = c.enter_kind.ensures ∙ ap (λ (k : Option Element). kind_by_need c.enter_need.new.work k c.position_for-p.result) c.kind_needed-kind.ensures in
+    (collected x c.form_at.ensures c.position_for-p.ensures hd c.enter_need.ensures hv c.enter_digest.ensures c.with_key.result (c.with_key.ensures (need_at c.args.sheet.now c.args.i) (needs_to c.args.sheet.now c.args.i) c.position_for-p.ensures x.collecting.kinds.count), collected-outside x c.form_at.ensures c.position_for-p.ensures hd c.enter_need.ensures hv c.enter_digest.ensures)

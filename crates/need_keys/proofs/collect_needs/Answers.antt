@@ -6,9 +6,6 @@ use Rattle.need_keys.proofs.collect_needs.Goals as goal
 pub loop-i-init : goal.loop-i-init
 loop-i-init c = (collecting-start c.args.sheet.now c.clear_kinds.new.work c.args.n (checked-kept (kept_less (omega arith) c.clear_kinds.ensures.0.kept) c.requires) c.clear_kinds.ensures.1, outside-all)
 
-pub collect_line-counts-requires : goal.collect_line-counts-requires
-collect_line-counts-requires c = (c.loop-i.invariant.0, c.loop-i-test.true)
-
 pub loop-i-preserved : goal.loop-i-preserved
 loop-i-preserved c = (c.collect_line-counts.ensures.0, outside-then c.loop-i.invariant.1 c.collect_line-counts.ensures.1)
 

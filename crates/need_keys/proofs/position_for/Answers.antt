@@ -3,7 +3,7 @@ use mathlib.Core.Path.{◌∙◌}
 use Rattle.chains.proofs.Laws.{along-first, along-low, along-next, along-end, earlier-less}
 use Rattle.type_keys.specs.Table.{need_chains}
 use Rattle.type_keys.proofs.Table.{need-room}
-use Rattle.need_keys.proofs.Pass.{needs-room, known-entry, found-position, found-chain, next-position}
+use Rattle.need_keys.proofs.Pass.{needs-room, found-position, found-chain, next-position}
 use Rattle.need_keys.proofs.position_for.Goals as goal
 
 pub newest-next-requires : goal.newest-next-requires
@@ -13,16 +13,6 @@ pub loop-next-init : goal.loop-next-init
 loop-next-init c =
     let p = c.requires in
     along-first p.0.collecting.chained (omega arith) (λ j l. found-chain p.0 j l p.1) c.newest-next.ensures
-
-pub has_need_key-requires : goal.has_need_key-requires
-has_need_key-requires c =
-    let p = c.requires in
-    (p.0.line, p.1, known-entry p.0 _ (along-low c.loop-next.invariant c.in-Some.is))
-
-pub need_position-requires : goal.need_position-requires
-need_position-requires c =
-    let x = c.requires.0 in
-    (omega (arith, (needs-room x).0, along-low c.loop-next.invariant c.in-Some.is), x.line.checked.whole.room)
 
 pub returns-then-has_need_key : goal.returns-then-has_need_key
 returns-then-has_need_key c =

@@ -1,4 +1,4 @@
-use Prim.Native.Nat.{◌-◌, ◌≤◌}
+use Prim.Native.Nat.{◌≤◌}
 use Rattle.record_log.specs.Entries.{CollectedTo}
 use Rattle.record_log.proofs.enter_digests.Given as goal
 

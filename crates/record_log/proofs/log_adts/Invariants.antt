@@ -1,7 +1,7 @@
 use Rattle.record_log.specs.Entries.{entries_to, log_bytes}
 use Rattle.lines.specs.Lines.{nodes_in}
 use Rattle.write.specs.Wrote.{Wrote}
-use Prim.Native.Nat.{◌-◌, ◌≤◌}
+use Prim.Native.Nat.{◌≤◌}
 use Rattle.record_log.proofs.log_adts.Given as goal
 
 abbrev pub invariant-loop-i : goal.invariant-loop-i

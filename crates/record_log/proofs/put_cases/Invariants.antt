@@ -1,5 +1,4 @@
 use Rattle.record_log.proofs.Log.{Casing}
-use Prim.Native.Nat.{◌-◌}
 use Rattle.record_log.proofs.put_cases.Given as goal
 
 abbrev pub invariant-loop-c : goal.invariant-loop-c

@@ -1,5 +1,4 @@
 use Rattle.record_log.proofs.Table.{Tagging}
-use Prim.Native.Nat.{◌-◌}
 use Rattle.record_log.proofs.put_tags.Given as goal
 
 abbrev pub invariant-loop-j : goal.invariant-loop-j

@@ -1,11 +1,9 @@
-use mathlib.Core.Path.{◌∙◌}
-use Rattle.maps.proofs.Maps.{room-kept, made_then, marks-none}
+use Rattle.maps.proofs.Maps.{made_then, marks-none}
 use Rattle.type_lines.proofs.Shapes.{offset_near}
 use Rattle.type_lines.specs.Shapes.{written_shape}
 use Rattle.type_row.proofs.Kept.{shape-kept}
 use Rattle.type_row.proofs.Maps.{offsets-next, offsets-all}
 use native.Mathlib.Omega.{arith}
-use Rattle.maps.proofs.Maps.{room-kept}
 use Rattle.type_row.proofs.Maps.{offsets-next}
 use Rattle.type_row.proofs.map_line.Goals as goal
 
@@ -18,14 +16,8 @@ loop-j-init c = (omega arith, c.offset_count-count.ensures.0, marks-none)
 pub offset_at-requires : goal.offset_at-requires
 offset_at-requires c = (shape-kept c.loop-j.invariant.2.kept (shape-kept c.clear_map.ensures.kept c.requires.0), omega (arith, c.loop-j-test.true, c.loop-j.invariant.1))
 
-pub mark_raised-requires : goal.mark_raised-requires
-mark_raised-requires c = (room-kept c.loop-j.invariant.2.kept (room-kept c.clear_map.ensures.kept c.requires.1), c.offset_at.ensures.1)
-
 pub loop-j-preserved : goal.loop-j-preserved
 loop-j-preserved c = (omega (arith, c.loop-j-test.true), c.loop-j.invariant.1, offsets-next (written_shape c.args.sheet.now c.args.i).pointers c.loop-j.j (omega (arith, c.loop-j-test.true, c.loop-j.invariant.1)) c.loop-j.invariant.2 (c.mark_raised.ensures _ (offset_near c.args.sheet.now c.args.work.now c.args.n c.args.i c.requires.0 c.loop-j.j (omega (arith, c.loop-j-test.true, c.loop-j.invariant.1))) c.offset_at.ensures.0))
-
-pub shape_of-work : goal.shape_of-work
-shape_of-work c = c.loop-j.invariant.2.kept.long ∙ c.clear_map.ensures.kept.long
 
 pub returns : goal.returns
 returns c = made_then c.requires.1 c.clear_map.ensures (offsets-all (written_shape c.args.sheet.now c.args.i).pointers c.loop-j.j (omega (arith, c.loop-j-test.false, c.loop-j.invariant.1)) c.loop-j.invariant.2)

@@ -1,10 +1,9 @@
 -- `vars::element_type` meets its contract.
 use Rattle.vars.proofs.Lines.{element-none, element-line, element-some}
-use mathlib.Core.Path.{refl}
 use Rattle.vars.proofs.element_type.Goals as goal
 
 pub returns-then-form_at-ne-ARRAY : goal.returns-then-form_at-ne-ARRAY
-returns-then-form_at-ne-ARRAY c = (element-none c.type_of-ty.ensures.0 c.type_of-ty.ensures.1 c.form_at.ensures c.if-form_at-ne-ARRAY.true, λ z. absurd (z refl))
+returns-then-form_at-ne-ARRAY c = (element-none c.type_of-ty.ensures.0 c.type_of-ty.ensures.1 c.form_at.ensures c.if-form_at-ne-ARRAY.true, tt)
 
 pub returns : goal.returns
-returns c = (element-some c.type_of-ty.ensures.0 c.type_of-ty.ensures.1 c.form_at.ensures c.if-form_at-ne-ARRAY.false c.number_at.ensures.0, λ z. element-line c.type_of-ty.ensures.0 c.type_of-ty.ensures.1 c.form_at.ensures c.if-form_at-ne-ARRAY.false c.number_at.ensures.0)
+returns c = (element-some c.type_of-ty.ensures.0 c.type_of-ty.ensures.1 c.form_at.ensures c.if-form_at-ne-ARRAY.false c.number_at.ensures.0, element-line c.type_of-ty.ensures.0 c.type_of-ty.ensures.1 c.form_at.ensures c.if-form_at-ne-ARRAY.false c.number_at.ensures.0)

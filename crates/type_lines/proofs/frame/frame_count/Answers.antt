@@ -12,9 +12,6 @@ pub loop-i-init : goal.loop-i-init
 unfolding declared_to
 loop-i-init c = (omega arith, refl)
 
-pub frames_of-frames-requires : goal.frames_of-frames-requires
-frames_of-frames-requires c = (c.requires, c.loop-i-test.true)
-
 pub overflow_add-frames : goal.overflow_add-frames
 overflow_add-frames c = record { fits = omega (arith, c.loop-i.invariant.1, c.frames_of-frames.ensures, frames-step c.args.sheet.now c.args.work.now c.args.n c.requires c.loop-i.i c.loop-i-test.true, frames-few c.args.sheet.now c.args.work.now c.args.n c.requires (c.loop-i.i + 1) (omega (arith, c.loop-i-test.true))) }
 
