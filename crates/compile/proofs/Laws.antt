@@ -36,12 +36,12 @@ three-last a b c d = sym (append_assoc a (b ++ c) d) ∙ ap (λ (l : Bytes). l +
 
 module _ {s t : Bytes} {n : ℕ} {x : Tables} (k : Listable s t n x) where
   -- the pending names' rows, where no line is refused
-  pub pends-written : (d e : Bytes) (a : ℕ) {b : ℕ} → AllPended (names_in s t x.consts) s d a (Ok b) e
-      → (vars_refused (names_of (sheet_source s)) (laid_vars (sheet_source s)) ≡ None) × Wrote d a (concat_map pend_row (source_globals (sheet_source s)).pends) e b
-  pends-written d e a {b} h = subst (λ (ns : Names). AllPended ns s d a (Ok b) e) (names-are k) h
+  pub pends-written : (v w : Writer) → AllPended (names_in s t x.consts) s v (Ok tt) w
+      → (vars_refused (names_of (sheet_source s)) (laid_vars (sheet_source s)) ≡ None) × Writes v (concat_map pend_row (source_globals (sheet_source s)).pends) w
+  pends-written v w h = subst (λ (ns : Names). AllPended ns s v (Ok tt) w) (names-are k) h
 
-  pub pends-refused : (d e : Bytes) (a : ℕ) (r : Refusal) → AllPended (names_in s t x.consts) s d a (Err r) e → vars_refused (names_of (sheet_source s)) (laid_vars (sheet_source s)) ≡ Some (refusal_of r)
-  pends-refused d e a r h = (subst (λ (ns : Names). AllPended ns s d a (Err r) e) (names-are k) h).0
+  pub pends-refused : (v w : Writer) (r : Refusal) → AllPended (names_in s t x.consts) s v (Err r) w → vars_refused (names_of (sheet_source s)) (laid_vars (sheet_source s)) ≡ Some (refusal_of r)
+  pends-refused v w r h = (subst (λ (ns : Names). AllPended ns s v (Err r) w) (names-are k) h).0
 
   -- all rows
   pub listing-rows : {v0 v1 v2 v3 : Writer} → Writes v0 (declared_text s) v1 → Writes v1 (concat_map pend_row (source_globals (sheet_source s)).pends) v2 → Writes v2 (types_text s) v3

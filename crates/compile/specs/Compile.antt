@@ -39,9 +39,9 @@ abbrev pub Lists : Bytes → ℕ → ℕ → Result Listed Refusal → Bytes →
 Lists s L W (Ok x) d u = ListingStands s (compiled L W s) L W x.length x.end d u
 Lists s L W (Err r) d u = Refuses (compiled L W s) L W r d u
 
--- the rows of a sheet of n lines, whose tables stand, were written, with the place behind them; or what a first value's line refuses
-abbrev pub RowsPut : Bytes → ℕ → Writer → Writer → Result ℕ Refusal → Bytes → Type 0
-RowsPut s n v w (Ok p) u = (vars_refused (names_of (sheet_source s)) (laid_vars (sheet_source s)) ≡ None) × Writes v (source_listing (sheet_source s)) w × (p ≡ w.at) × Checked s u n
+-- the rows of a sheet of n lines, whose tables stand, were written; or what a first value's line refuses
+abbrev pub RowsPut : Bytes → ℕ → Writer → Writer → Result Unit Refusal → Bytes → Type 0
+RowsPut s n v w (Ok x) u = (vars_refused (names_of (sheet_source s)) (laid_vars (sheet_source s)) ≡ None) × Writes v (source_listing (sheet_source s)) w × Checked s u n
 RowsPut s n v w (Err r) u = vars_refused (names_of (sheet_source s)) (laid_vars (sheet_source s)) ≡ Some (refusal_of r)
 
 -- the outcome that an answer says, with the bytes d of the listing's buffer

@@ -19,15 +19,15 @@ pub struct Listed {
     pub end: u32,
 }
 
-// All rows, and the place behind them, where the constants are not refused. 8 to 12 come before 13: first values are looked at also where
-// the listing is already full.
+// All rows, where the constants are not refused. 8 to 12 come before 13: first values are looked at also where the listing is already
+// full.
 fn put_rows(
     sheet: &[u8],
     work: &mut [u8],
     n: usize,
     x: Tables,
     w: &mut Writer,
-) -> Result<usize, Refusal>
+) -> Result<(), Refusal>
     requires { Listable sheet.now work.old n x }
     ensures { RowsPut sheet.now n w.old w.new result work.new }
 {
@@ -36,9 +36,9 @@ fn put_rows(
         lines: n,
         consts: x.consts,
     };
-    w.at = pends::pend_rows(sheet, work, c, w.out, w.at)?;
+    pends::pend_rows(sheet, work, c, w)?;
     parts::put_types(sheet, work, n, x, w);
-    Ok(w.at)
+    Ok(())
 }
 
 // The listing, where the constants are not refused.
@@ -57,7 +57,8 @@ fn list_rows(
         out: listing,
         at: 0,
     };
-    let length = put_rows(sheet, work, n, x, &mut w)?;
+    put_rows(sheet, work, n, x, &mut w)?;
+    let length = w.at;
     if room < length {
         return Err(Refusal::Outgrown);
     }

@@ -19,8 +19,11 @@ use Rattle.global_table.specs.Table.{VarLine, places_in, Tabled}
 use Rattle.global_table.proofs.Table.{places-kept, tabled-kept}
 use Rattle.items.specs.Items.{LiteralIn}
 use Rattle.vars.specs.declared.First.{First}
-use Rattle.vars.specs.First.{init_in, FirstStands}
-use Rattle.arrays.specs.Arrays.{ValuesStand}
+use Rattle.vars.specs.declared.First.TheVariants.{Value, Array}
+use Rattle.vars.specs.First.{first_in, FirstStands}
+use Rattle.arrays.specs.declared.Arrayed.{Arrayed}
+use Rattle.arrays.specs.declared.Arrayed.TheVariants.{Alloc, Literal}
+use Rattle.arrays.specs.Arrays.{array_in, ValuesStand, ArrayStands}
 use Rattle.data_rows.specs.Data.{PrintKept}
 
 -- ---- tables
@@ -101,10 +104,10 @@ module _ {t u : Bytes} (o : Outside 10624 10629 t u) where
   pub filled-still : {n : ℕ} → ValuesStand t n → ValuesStand u n
   filled-still f = (f.0, λ i h. rw (entry-still i, slot-still (placement_at t i)) (f.1 i h))
 
-  pub first-still : (x : First) → FirstStands t x → (init_in u x ≡ init_in t x) × FirstStands u x
-  first-still First.NoValue h = (refl, tt)
-  first-still (First.Value v) h = (rw (value_same t u o.kept.long (above 16) v (standing-at v h) (λ j x y. outside_above o j (omega arith))), h)
-  first-still (First.Alloc k n) h = (refl, h)
-  first-still (First.Literal k n) h = (rw (values-still n h.1), (h.0, filled-still {n = n} h.1))
-  first-still First.Pending h = (refl, tt)
-  first-still (First.Refused r) h = (refl, tt)
+  pub array-still : (a : Arrayed) → ArrayStands t a → (array_in u a ≡ array_in t a) × ArrayStands u a
+  array-still (Alloc k n) h = (refl, tt)
+  array-still (Literal k n) h = (rw (values-still n h), filled-still {n = n} h)
+
+  pub first-still : (x : First) → FirstStands t x → (first_in u x ≡ first_in t x) × FirstStands u x
+  first-still (Value v) h = (rw (value_same t u o.kept.long (above 16) v (standing-at v h) (λ j x y. outside_above o j (omega arith))), h)
+  first-still (Array a) h = (rw ((array-still a h).0), (array-still a h).1)

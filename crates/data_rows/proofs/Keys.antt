@@ -1,8 +1,8 @@
--- Kinds of elements, and the keys that items use.
+-- How many keys there are, and those that items use.
 use mathlib.Core.Path.{◌≡◌, refl, sym, ap, ◌∙◌}
 use mathlib.Core.Bool.{Bool, true, false, cond}
 use mathlib.Core.List.{List, [], ◌∷◌, ◌++◌, append_assoc}
-use Prim.Native.Nat.{ℕ, zero, suc, ◌+◌, ◌≤◌, ◌<◌}
+use Prim.Native.Nat.{ℕ, suc, ◌+◌, ◌≤◌, ◌<◌}
 use native.Mathlib.Omega.{arith}
 use lib.Dec.{eqb}
 use Rattle.semantics.specs.Text.{Bytes}
@@ -11,30 +11,15 @@ use Rattle.semantics.specs.Tree.ConstVal.{v_int, v_real, v_str}
 use Rattle.semantics.specs.Tree.ElemKind.{k_byte, k_word, k_big, k_real, k_ptr}
 use Rattle.semantics.specs.Tree.TypeKey.{elem_key}
 use Rattle.semantics.specs.Sheet.{concat_map, sheet_source}
-use Rattle.semantics.specs.Array.{ConstArray, kind_number}
+use Rattle.semantics.specs.Array.{ConstArray}
 use Rattle.semantics.specs.Global.{Item, str_items, element_items, contents, array_items, value_item}
 use Rattle.semantics.specs.Global.Item.{back_item}
 use Rattle.semantics.specs.Types.{array_key, distinct, position}
 use Rattle.laws.proofs.Lists.{concat-append}
-use Rattle.arrays.specs.Arrays.{kind_of_number}
 use Rattle.type_keys.specs.Table.{kind_position, is_used, kinds_used, Kinds}
 use Rattle.type_lines.proofs.Codes.{same_self}
 use Rattle.type_keys.proofs.Distinct.{distinct_more, from-one-more}
 use Rattle.data_rows.specs.Data.{keys_of}
-
--- ---- kinds
-
-pub kind-own : (k : ℕ) → k < 5 → k ≡ kind_number (kind_of_number k)
-kind-own zero h = refl
-kind-own (suc zero) h = refl
-kind-own (suc (suc zero)) h = refl
-kind-own (suc (suc (suc zero))) h = refl
-kind-own (suc (suc (suc (suc zero)))) h = refl
-kind-own (suc (suc (suc (suc (suc k))))) h = absurd (omega arith)
-
--- an array of a kind
-abbrev pub array_by : ℕ → ℕ → List ConstVal → ConstArray
-array_by k n vs = record { kind = kind_of_number k; count = n; values = vs }
 
 -- ---- how many keys there are
 
@@ -47,15 +32,15 @@ used-one p = go (eqb p 0)
 
 pub kinds-few : {t : Bytes} {ks : List TypeKey} {count : ℕ} → Kinds t ks count → count ≤ 133
 unfolding kinds_used
-kinds-few {t} x = omega (arith, x.few, used-one (kind_position t 0), used-one (kind_position t 1), used-one (kind_position t 2), used-one (kind_position t 3), used-one (kind_position t 4))
+kinds-few {t} x = omega (arith, x.few, used-one (kind_position t k_byte), used-one (kind_position t k_word), used-one (kind_position t k_big), used-one (kind_position t k_real), used-one (kind_position t k_ptr))
 
 -- ---- one more kind
 
 -- it is used then
-pub kind-used : {t : Bytes} (ks : List TypeKey) {count : ℕ} (k : ElemKind) → Kinds t (ks ++ (elem_key k ∷ [])) count → {kind : ℕ} → kind ≡ kind_number k → 0 < kind_position t kind
-kind-used {t} ks k x e =
-    let w : kind_position t (kind_number k) ≡ suc (position (elem_key k) (distinct [] ks)) = x.position k ∙ rw (distinct_more (elem_key k) ks) (from-one-more (elem_key k) (distinct [] ks) (elem_key k) ∙ rw (same_self (elem_key k))) in
-    rw e (omega (arith, w))
+pub kind-used : {t : Bytes} (ks : List TypeKey) {count : ℕ} (k : ElemKind) → Kinds t (ks ++ (elem_key k ∷ [])) count → 0 < kind_position t k
+kind-used {t} ks k x =
+    let w : kind_position t k ≡ suc (position (elem_key k) (distinct [] ks)) = x.position k ∙ rw (distinct_more (elem_key k) ks) (from-one-more (elem_key k) (distinct [] ks) (elem_key k) ∙ rw (same_self (elem_key k))) in
+    omega (arith, w)
 
 -- ---- keys of items
 

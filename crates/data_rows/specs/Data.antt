@@ -1,15 +1,14 @@
 -- The data items of a sheet, their rows, and the keys of array elements.
-use Rattle.std.specs.Prelude.{ℕ, ◌≤◌, ◌<◌, ◌≡◌, List, [], ◌∷◌, ◌++◌, length, get_or}
+use Rattle.std.specs.Prelude.{ℕ, ◌≤◌, ◌<◌, ◌≡◌, List, ◌++◌, length, get_or}
 use Rattle.semantics.specs.Text.{Bytes}
-use Rattle.semantics.specs.Tree.{Ty, ElemKind, TypeKey}
-use Rattle.semantics.specs.Tree.TypeKey.{elem_key}
-use Rattle.semantics.specs.Sheet.{Source, concat_map, sheet_source}
-use Rattle.semantics.specs.Fold.{Result, Names}
-use Rattle.semantics.specs.Global.{Item, Init, Global, or_no_init, init_items, laid_names, globals}
-use Rattle.semantics.specs.Array.{kind_number}
-use Rattle.semantics.specs.Types.{array_key, distinct, keys, id_of}
+use Rattle.semantics.specs.Tree.{Ty, TypeKey}
+use Rattle.semantics.specs.Sheet.{concat_map, sheet_source}
+use Rattle.semantics.specs.Fold.{Names}
+use Rattle.semantics.specs.Global.{Item, Init, Global, init_items, laid_names, globals}
+use Rattle.semantics.specs.Types.{array_key, id_of}
 use Rattle.semantics.specs.Listing.{item_row}
-use Rattle.write.specs.Wrote.{Wrote}
+use Rattle.write.specs.declared.Writer.{Writer}
+use Rattle.write.specs.Writes.{Writes}
 use Rattle.checks.specs.Checks.{Kept}
 use Rattle.names.specs.Table.{ConstsLogged, ConstTable, names_in}
 use Rattle.global_table.specs.Table.{places_in, offset_in, Tabled}
@@ -17,9 +16,7 @@ use Rattle.items.specs.Items.{item_rows}
 use Rattle.type_keys.specs.Table.{Kinds}
 use Rattle.vars.specs.declared.First.{First}
 use Rattle.vars.specs.First.{FirstStands}
-use Rattle.data_rows.specs.declared.Next.{Next}
 use Rattle.data_rows.specs.declared.Counts.{Counts}
-use Rattle.data_rows.specs.declared.ElementId.{ElementId}
 
 -- ---- a sheet s whose first m constants stand in the working space t
 
@@ -45,15 +42,10 @@ pub record DataTables (s t : Bytes) (c : Counts) (keys : ℕ) : Type 0 where
 
 -- ---- items one after the other
 
--- the key of a kind of elements has the ID r .id, and r.keys keys have one, where t has become u
-abbrev pub Identified : Bytes → Bytes → ℕ → ℕ → ℕ → ElementId → Type 0
-Identified t u frames kind count r = (k : ElemKind) (ks : List TypeKey) → kind ≡ kind_number k → Kinds t ks count
-    → Kinds u (ks ++ (elem_key k ∷ [])) r.keys × ((s : Source) (is : List Item) (ms : List TypeKey) → frames ≡ length s.frames → keys s is ≡ distinct [] ((ks ++ (elem_key k ∷ [])) ++ ms) → id_of s is (elem_key k) ≡ r.id)
-
--- the items xs were printed, from p to q, and their keys have IDs, whatever items stand before them and behind
-pub record ItemsPrinted (s : Bytes) (xs : List Item) (p q : Next) (t u d e : Bytes) : Type 0 where
-  pub rows : (before behind : List Item) → Kinds t (keys_of s before) p.keys → Wrote d p.at (item_rows (id_of (sheet_source s) (before ++ (xs ++ behind))) xs) e q.at
-  pub kinds : (before : List Item) → Kinds t (keys_of s before) p.keys → Kinds u (keys_of s (before ++ xs)) q.keys
+-- the items xs were printed, and their keys have IDs, whatever items stand before them and behind: m keys had one, and n have one then
+pub record ItemsPrinted (s : Bytes) (xs : List Item) (m n : ℕ) (t u : Bytes) (v w : Writer) : Type 0 where
+  pub rows : (before behind : List Item) → Kinds t (keys_of s before) m → Writes v (item_rows (id_of (sheet_source s) (before ++ (xs ++ behind))) xs) w
+  pub kinds : (before : List Item) → Kinds t (keys_of s before) m → Kinds u (keys_of s (before ++ xs)) n
 
 -- what stands below the positions of kinds of elements, and the constants' strings, are kept
 pub record PrintKept (t u : Bytes) : Type 0 where
@@ -81,10 +73,7 @@ pub record NameTask (s t : Bytes) (c : Counts) (x : First) (keys : ℕ) : Type 0
   pub held : PrintTables s t c keys
   pub stands : FirstStands t x
 
--- ---- the items of a name at an offset, of names at their places, and of lines
+-- ---- the items of names at their places
 
-abbrev pub first_items : Ty → ℕ → Result Init → List Item
-first_items ty off x = init_items off ty (or_no_init x)
-
-abbrev pub name_items : Ty → List Global → Result Init → List Bytes → List Item
-name_items ty ps x ns = concat_map (λ (n : Bytes). first_items ty (offset_in n ps) x) (laid_names ns)
+abbrev pub name_items : Ty → List Global → Init → List Bytes → List Item
+name_items ty ps x ns = concat_map (λ (n : Bytes). init_items (offset_in n ps) ty x) (laid_names ns)

@@ -4,32 +4,30 @@ use mathlib.Core.Bool.{Bool, true, false, not, cond}
 use mathlib.Core.List.{List, [], ◌∷◌, ◌++◌, append_assoc, append-nil}
 use Rattle.std.specs.Prelude.{Option, None, Some}
 use Prim.Native.Nat.{ℕ, suc, ◌+◌, ◌-◌, ◌≤◌, ◌<◌}
-use native.Mathlib.Omega.{arith}
 use lib.ListN.{length}
 use Rattle.semantics.specs.Text.{Bytes, bytes, same}
 use Rattle.semantics.specs.Tree.{VarDecl}
 use Rattle.semantics.specs.Sheet.{concat_map}
 use Rattle.semantics.specs.Fold.{Result, Names}
+use Rattle.std.specs.Prelude as P
 use Rattle.std.specs.Prelude.{Ok, Err}
 use Rattle.semantics.specs.Fold.Result.{ok, failed, refuse}
 use Rattle.semantics.specs.Const.{Refusal}
 use Rattle.semantics.specs.Global.{Init, init_of, laid_names, none_of, var_value, refused_by, vars_refused, pend_of}
 use Rattle.semantics.specs.Global.Init.{no_init, const_init, array_init, pending_init}
 use Rattle.semantics.specs.Listing.{pend_row}
-use Rattle.write.specs.Wrote.{Wrote}
-use Rattle.write.proofs.Wrote.{then, wrote_as}
+use Rattle.write.specs.declared.Writer.{Writer}
+use Rattle.write.specs.Writes.{Writes}
+use Rattle.write.proofs.Writes.{writes_none, writes_then, writes_as}
+use Rattle.semantics.proofs.Common.{never}
 use Rattle.global_table.specs.Table.{var_on, name_on, names_on}
 use Rattle.globals.specs.Vars.{laid_on, var_pends, first_init}
-use Rattle.values.specs.declared.ConstVal.{ConstVal}
 use Rattle.values.specs.Values.{value_in}
-use Rattle.placements.specs.Placements.{values_in}
-use Rattle.arrays.specs.Arrays.{kind_of_number}
+use Rattle.arrays.specs.declared.NoItem.{NoItem}
+use Rattle.arrays.specs.Arrays.{array_in}
 use Rattle.vars.specs.declared.First.{First}
-use Rattle.vars.specs.declared.First.TheVariants as First
-use Rattle.answers.specs.declared.Refusal.{Refusal as Refused}
-use Rattle.answers.specs.Answers.{refusal_number, refusal_line, refusal_of}
 use Rattle.vars.specs.First.{init_in, Inits, or_pending}
-use Rattle.pends.specs.Pends.{Pended}
+use Rattle.pends.specs.Pends.{refused_as, Pended}
 use Rattle.vars.proofs.Values.{settled-init}
 use Rattle.vars.proofs.Names.{names_from, names-step, names-over, names-all}
 
@@ -39,11 +37,11 @@ abbrev pub pend_rows_of : List Bytes → Bytes
 pend_rows_of xs = concat_map pend_row (laid_names xs)
 
 module _ (x : Bytes) {b : Bool} (h : b ≡ same x (bytes "nil")) where
-  pub name-nil : b ≡ true → {d f : Bytes} {a p : ℕ} → Wrote d a [] f p → Wrote d a (pend_rows_of (x ∷ [])) f p
-  name-nil d w = wrote_as (rw (sym h ∙ d)) w
+  pub name-nil : b ≡ true → [] ≡ pend_rows_of (x ∷ [])
+  name-nil d = sym (rw (sym h ∙ d))
 
-  pub name-row : b ≡ false → {d f : Bytes} {a p : ℕ} → Wrote d a (pend_row x) f p → Wrote d a (pend_rows_of (x ∷ [])) f p
-  name-row d w = wrote_as (sym (append-nil (pend_row x)) ∙ rw (sym h ∙ d)) w
+  pub name-row : b ≡ false → pend_row x ≡ pend_rows_of (x ∷ [])
+  name-row d = sym (append-nil (pend_row x)) ∙ sym (rw (sym h ∙ d))
 
 rows_step : (x : Bytes) (xs : List Bytes) → pend_rows_of (x ∷ xs) ≡ pend_rows_of (x ∷ []) ++ pend_rows_of xs
 rows_step x xs = go (same x (bytes "nil"))
@@ -53,27 +51,25 @@ rows_step x xs = go (same x (bytes "nil"))
     go false = rw (append-nil (pend_row x))
 
 -- those of the first j names are written
-pub record PendRowsWritten (s : Bytes) (r count : ℕ) (d : Bytes) (a j : ℕ) (e : Bytes) (p : ℕ) : Type 0 where
-  pub long : length e ≡ length d
+pub record PendRowsWritten (s : Bytes) (r count : ℕ) (v : Writer) (j : ℕ) (w : Writer) : Type 0 where
   pub text : Bytes
-  pub wrote : Wrote d a text e p
+  pub wrote : Writes v text w
   pub rest : text ++ pend_rows_of (names_from s r count j) ≡ pend_rows_of (names_on s r)
 
-pub pend-rows-start : (s : Bytes) (r : ℕ) {count : ℕ} → count ≡ length (names_on s r) → {d : Bytes} {a p : ℕ} → Wrote d a [] d p → PendRowsWritten s r count d a 0 d p
-pend-rows-start s r hc w = record { long = refl; text = []; wrote = w; rest = ap pend_rows_of (names-all s r hc) }
+pub pend-rows-start : (s : Bytes) (r : ℕ) {count : ℕ} → count ≡ length (names_on s r) → (w : Writer) → w.at ≤ length w.out.now + 1 → PendRowsWritten s r count w 0 w
+pend-rows-start s r hc w h = record { text = []; wrote = writes_none w h; rest = ap pend_rows_of (names-all s r hc) }
 
-module _ {s : Bytes} {r count : ℕ} {d : Bytes} {a j : ℕ} {e : Bytes} {p : ℕ} (m : PendRowsWritten s r count d a j e p) where
-  pub pend-rows-next : {f : Bytes} {q : ℕ} → j < count → length f ≡ length e → {x : Bytes} → x ≡ name_on s r j → Wrote e p (pend_rows_of (x ∷ [])) f q → PendRowsWritten s r count d a (j + 1) f q
-  pend-rows-next h k i w = record {
-    long = k ∙ m.long;
+module _ {s : Bytes} {r count : ℕ} {v : Writer} {j : ℕ} {w : Writer} (m : PendRowsWritten s r count v j w) where
+  pub pend-rows-next : j < count → {x : Bytes} → x ≡ name_on s r j → {z : Writer} → Writes w (pend_rows_of (x ∷ [])) z → PendRowsWritten s r count v (j + 1) z
+  pend-rows-next h i k = record {
     text = m.text ++ pend_rows_of (name_on s r j ∷ []);
-    wrote = then m.wrote (wrote_as (ap (λ (x : Bytes). pend_rows_of (x ∷ [])) i) w);
+    wrote = writes_then m.wrote (writes_as (ap (λ (x : Bytes). pend_rows_of (x ∷ [])) i) k);
     rest = append_assoc m.text (pend_rows_of (name_on s r j ∷ [])) (pend_rows_of (names_from s r count (j + 1)))
         ∙ ap (λ (x : Bytes). m.text ++ x) (sym (ap pend_rows_of (names-step s r count j h) ∙ rows_step (name_on s r j) (names_from s r count (j + 1)))) ∙ m.rest;
   }
 
-  pub pend-rows-end : count ≤ j → Wrote d a (pend_rows_of (names_on s r)) e p
-  pend-rows-end h = wrote_as (sym (append-nil m.text) ∙ ap (λ (xs : List Bytes). m.text ++ pend_rows_of xs) (sym (names-over s r count j h)) ∙ m.rest) m.wrote
+  pub pend-rows-end : count ≤ j → Writes v (pend_rows_of (names_on s r)) w
+  pend-rows-end h = writes_as (sym (append-nil m.text) ∙ ap (λ (xs : List Bytes). m.text ++ pend_rows_of xs) (sym (names-over s r count j h)) ∙ m.rest) m.wrote
 
 -- ---- a line by its value
 
@@ -105,29 +101,37 @@ all-pend : (xs : List Bytes) → concat_map (λ (x : Bytes). pend_of x pending_i
 all-pend [] = refl
 all-pend (x ∷ xs) = rw (all-pend xs)
 
-module _ (s : Bytes) (r : ℕ) (ns : Names) (h : 0 < r) {x : First} {t u : Bytes} (a : Inits t (or_pending (var_value ns (var_on s r))) x u) where
-  not-refused : {i : Init} → init_in u x ≡ ok i → vars_refused ns (laid_on s (Some r)) ≡ None
-  not-refused i = sym (refused-settled (suc (r - 1)) (var_value ns (var_on s r)) None) ∙ ap (λ (y : Result Init). refused_by (suc (r - 1)) y None) (sym a.result ∙ i)
+-- only a pending value is not refused
+pending-alone : (e : NoItem) (k : ℕ) → None ≡ refused_as e k → e ≡ NoItem.Pending
+pending-alone NoItem.Pending k h = refl
+pending-alone NoItem.LongString k h = never cc
+pending-alone NoItem.LongAlloc k h = never cc
+pending-alone NoItem.NegativeAlloc k h = never cc
+pending-alone NoItem.OutsideLiteral k h = never cc
+pending-alone NoItem.LongLiteral k h = never cc
 
-  pub line_quiet : {d : Bytes} {at : ℕ} {e : Bytes} {p : ℕ} (i : Init) → init_in u x ≡ ok i → ((y : Bytes) → pend_of y i ≡ []) → Wrote d at [] e p → Pended ns (laid_on s (Some r)) d at (Ok p) e
-  line_quiet i k q w = (not-refused k, wrote_as (sym (rw (pends-are ns (var_on s r) (sym a.result ∙ k), no-pends i q (laid_names (names_on s r))))) w)
+module _ (s : Bytes) (r : ℕ) (ns : Names) {x : P.Result (Option First) NoItem} {t u : Bytes} (a : Inits t (or_pending (var_value ns (var_on s r))) x u) where
+  -- by what the line gives
+  refused_is : {y : P.Result (Option First) NoItem} → x ≡ y → vars_refused ns (laid_on s (Some r)) ≡ refused_by (suc (r - 1)) (init_in u y) None
+  refused_is e = sym (refused-settled (suc (r - 1)) (var_value ns (var_on s r)) None) ∙ ap (λ (z : Result Init). refused_by (suc (r - 1)) z None) (sym a.result ∙ ap (init_in u) e)
 
-  pub line-pending : {d : Bytes} {at : ℕ} {e : Bytes} {p : ℕ} → init_in u x ≡ ok pending_init → Wrote d at (pend_rows_of (names_on s r)) e p → Pended ns (laid_on s (Some r)) d at (Ok p) e
-  line-pending k w = (not-refused k, wrote_as (sym (rw (pends-are ns (var_on s r) (sym a.result ∙ k), all-pend (laid_names (names_on s r)), append-nil (laid_names (names_on s r))))) w)
-
-  pub line_refused : {q : ℕ} → init_in u x ≡ refuse q → vars_refused ns (laid_on s (Some r)) ≡ Some (record { number = q; line = r })
-  line_refused {q} k =
-      let z : suc (r - 1) ≡ r = omega arith in
-      sym (refused-settled (suc (r - 1)) (var_value ns (var_on s r)) None) ∙ ap (λ (y : Result Init). refused_by (suc (r - 1)) y None) (sym a.result ∙ k) ∙ rw z
+  written : {y : P.Result (Option First) NoItem} (i : Init) → x ≡ y → init_in u y ≡ ok i → {v w : Writer} → Writes v (concat_map pend_row (concat_map (λ (z : Bytes). pend_of z i) (laid_names (names_on s r)))) w → Pended ns (laid_on s (Some r)) v (Ok tt) w
+  written i e k p = (
+    refused_is e ∙ ap (λ (z : Result Init). refused_by (suc (r - 1)) z None) k,
+    writes_as (ap (concat_map pend_row) (sym (append-nil (var_pends ns (var_on s r)) ∙ pends-are ns (var_on s r) (sym a.result ∙ ap (init_in u) e ∙ k)))) p,
+  )
 
   -- a value that is neither pending nor refused has no row
-  pub line-quiet : (x ≡ First.Pending → ⊥) → ((q : ℕ) → x ≡ First.Refused q → ⊥) → {d : Bytes} {at : ℕ} {e : Bytes} {p : ℕ} → Wrote d at [] e p → Pended ns (laid_on s (Some r)) d at (Ok p) e
-  line-quiet f g {d} {at} {e} {p} w = go x refl
+  pub line-quiet : {o : Option First} → x ≡ Ok o → {v w : Writer} → Writes v [] w → Pended ns (laid_on s (Some r)) v (Ok tt) w
+  line-quiet {o} e {v} {w} p = go o e
     where
-      go : (y : First) → x ≡ y → Pended ns (laid_on s (Some r)) d at (Ok p) e
-      go First.NoValue k = line_quiet no_init (rw k) (λ z. refl) w
-      go (First.Value v) k = line_quiet (const_init (value_in u v)) (rw k) (λ z. refl) w
-      go (First.Alloc n c) k = line_quiet (array_init (record { kind = kind_of_number n; count = c; values = [] })) (rw k) (λ z. refl) w
-      go (First.Literal n c) k = line_quiet (array_init (record { kind = kind_of_number n; count = c; values = values_in u 0 c })) (rw k) (λ z. refl) w
-      go First.Pending k = absurd (f k)
-      go (First.Refused q) k = absurd (g q k)
+      none : (i : Init) → ((y : Bytes) → pend_of y i ≡ []) → {y : P.Result (Option First) NoItem} → x ≡ y → init_in u y ≡ ok i → Pended ns (laid_on s (Some r)) v (Ok tt) w
+      none i q d k = written i d k (writes_as (sym (rw (no-pends i q (laid_names (names_on s r))))) p)
+
+      go : (o : Option First) → x ≡ Ok o → Pended ns (laid_on s (Some r)) v (Ok tt) w
+      go None d = none no_init (λ z. refl) d refl
+      go (Some (First.Value y)) d = none (const_init (value_in u y)) (λ z. refl) d refl
+      go (Some (First.Array y)) d = none (array_init (array_in u y)) (λ z. refl) d refl
+
+  pub line-pending : {e : NoItem} → x ≡ Err e → None ≡ refused_as e r → {v w : Writer} → Writes v (pend_rows_of (names_on s r)) w → Pended ns (laid_on s (Some r)) v (Ok tt) w
+  line-pending {e} d k p = written pending_init (d ∙ ap Err (pending-alone e r k)) refl (writes_as (sym (ap (concat_map pend_row) (all-pend (laid_names (names_on s r))))) p)

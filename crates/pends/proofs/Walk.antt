@@ -1,6 +1,6 @@
 -- The walk over all lines.
 use mathlib.Core.Path.{◌≡◌, refl, sym, ap, ◌∙◌, subst}
-use mathlib.Core.Bool.{Bool, true, false, cond, true≢false}
+use mathlib.Core.Bool.{Bool, true, false, cond}
 use mathlib.Core.List.{List, [], ◌∷◌, ◌++◌}
 use Rattle.std.specs.Prelude.{Option, None, Some, Ok, Err}
 use Rattle.std.specs.Prelude as Std
@@ -19,8 +19,9 @@ use Rattle.semantics.specs.Const.{Refusal}
 use Rattle.semantics.specs.Global.{var_value, refused_by, vars_refused}
 use Rattle.semantics.specs.Listing.{pend_row}
 use Rattle.laws.proofs.Lists.{concat-append}
-use Rattle.write.specs.Wrote.{over, Wrote}
-use Rattle.write.proofs.Wrote.{then, wrote_as}
+use Rattle.write.specs.declared.Writer.{Writer}
+use Rattle.write.specs.Writes.{Writes}
+use Rattle.write.proofs.Writes.{writes_none, writes_then, writes_as}
 use Rattle.lines.specs.Lines.{read_at, nodes_in}
 use Rattle.checks.specs.Checks.{Checked}
 use Rattle.checks.proofs.Kept.{checked-kept}
@@ -43,8 +44,8 @@ use Rattle.pends.specs.Pends.{pends_of, Pended, AllPended}
 rows_append : (ns : Names) (vs ws : List (Located VarDecl)) → concat_map pend_row (pends_of ns (vs ++ ws)) ≡ concat_map pend_row (pends_of ns vs) ++ concat_map pend_row (pends_of ns ws)
 rows_append ns vs ws = ap (concat_map pend_row) (concat-append (λ (v : Located VarDecl). var_pends ns v.it) vs ws) ∙ concat-append pend_row (pends_of ns vs) (pends_of ns ws)
 
-pended-then : (ns : Names) (vs ws : List (Located VarDecl)) {d : Bytes} {a : ℕ} {e : Bytes} {p : ℕ} {f : Bytes} {q : ℕ} → Pended ns vs d a (Ok p) e → Pended ns ws e p (Ok q) f → Pended ns (vs ++ ws) d a (Ok q) f
-pended-then ns vs ws h k = (refused-append ns vs ws ∙ rw (h.0, k.0), wrote_as (sym (rows_append ns vs ws)) (then h.1 k.1))
+pended-then : (ns : Names) (vs ws : List (Located VarDecl)) {u v w : Writer} → Pended ns vs u (Ok tt) v → Pended ns ws v (Ok tt) w → Pended ns (vs ++ ws) u (Ok tt) w
+pended-then ns vs ws h k = (refused-append ns vs ws ∙ rw (h.0, k.0), writes_as (sym (rows_append ns vs ws)) (writes_then h.1 k.1))
 
 -- a refusal's line
 abbrev line_in : ℕ → Option Refusal → ℕ
@@ -72,66 +73,64 @@ module _ (ns : Names) (s : Bytes) where
       go true false = refl
       go true true = refused-line (suc i) (var_value ns (located_at s i).it)
 
-  module _ {t : Bytes} {n : ℕ} (c : Checked s t n) {d : Bytes} {a : ℕ} {e : Bytes} {p : ℕ} where
-    all-pended : Pended ns (laid_vars_to s n) d a (Ok p) e → AllPended ns s d a (Ok p) e
-    all-pended h = (rw (laid-lines s t n c) h.0, wrote_as (ap (concat_map pend_row) (sym (pends-by ns (sheet_source s) ∙ ap (pends_of ns) (laid-lines s t n c)))) h.1)
+  module _ {t : Bytes} {n : ℕ} (c : Checked s t n) {v w : Writer} where
+    all-pended : Pended ns (laid_vars_to s n) v (Ok tt) w → AllPended ns s v (Ok tt) w
+    all-pended h = (rw (laid-lines s t n c) h.0, writes_as (ap (concat_map pend_row) (sym (pends-by ns (sheet_source s) ∙ ap (pends_of ns) (laid-lines s t n c)))) h.1)
 
     -- line i is the first that is refused
-    pended-before : {i : ℕ} (r : Refused) {f : Bytes} → i < n → Pended ns (laid_vars_to s i) d a (Ok p) e → Pended ns (laid_at s i) e p (Err r) f → AllPended ns s d a (Err r) f
+    pended-before : {i : ℕ} (r : Refused) → i < n → Pended ns (laid_vars_to s i) v (Ok tt) w → {z : Writer} → Pended ns (laid_at s i) w (Err r) z → AllPended ns s v (Err r) z
     unfolding laid_vars_to
-    pended-before {i} r {f} h w b =
+    pended-before {i} r h a b =
         let z : suc i + (n - suc i) ≡ n = omega arith in
         let k : refusal_line r ≡ suc i = sym (ap (line_in (suc i)) b.0) ∙ laid-line i in
         let y : i ≡ refusal_line r - 1 = omega arith in
-        let g : vars_refused ns (laid_vars_to s i ++ laid_at s i) ≡ Some (refusal_of r) = refused-append ns (laid_vars_to s i) (laid_at s i) ∙ rw (w.0, b.0) in (
+        let g : vars_refused ns (laid_vars_to s i ++ laid_at s i) ≡ Some (refusal_of r) = refused-append ns (laid_vars_to s i) (laid_at s i) ∙ rw (a.0, b.0) in (
           rw (laid-lines s t n c) (rw z at (refused-later (suc i) (n - suc i) g)),
-          b.1 ∙ w.1.bytes ∙ ap (λ (j : ℕ). over d a (concat_map pend_row (pends_of ns (laid_vars_to s j)))) y,
+          rw b.1 (writes_as (ap (λ (j : ℕ). concat_map pend_row (pends_of ns (laid_vars_to s j))) y) a.1),
         )
 
 -- ---- no line
 
-pub none-laid : (ns : Names) (s : Bytes) {r : Option ℕ} → r ≡ None → {d : Bytes} {a : ℕ} {e : Bytes} {p : ℕ} → Wrote d a [] e p → Pended ns (laid_on s r) d a (Ok p) e
+pub none-laid : (ns : Names) (s : Bytes) {r : Option ℕ} → r ≡ None → {v w : Writer} → Writes v [] w → Pended ns (laid_on s r) v (Ok tt) w
 none-laid ns s z w = rw z (refl, w)
 
 -- ---- all lines
 
 -- the rows of the first i lines are written, and none is refused
-pub record LinesPended (s t : Bytes) (n m : ℕ) (d : Bytes) (a : ℕ) (u : Bytes) (k : Option ℕ) (i : ℕ) (e : Bytes) (p : ℕ) : Type 0 where
+pub record LinesPended (s t : Bytes) (n m : ℕ) (v : Writer) (u : Bytes) (k : Option ℕ) (i : ℕ) (w : Writer) : Type 0 where
   pub here : Open s u n i k
   pub keeps : Keeps 16384 49152 t u
-  pub long : length e ≡ length d
-  pub rows : Pended (names_in s t m) (laid_vars_to s i) d a (Ok p) e
+  pub rows : Pended (names_in s t m) (laid_vars_to s i) v (Ok tt) w
 
 module _ {s t : Bytes} {n m : ℕ} (r : ConstTable s t n m) where
-  pub walk_start : {d : Bytes} {a p : ℕ} → Wrote d a [] d p → LinesPended s t n m d a t None 0 d p
+  pub walk_start : (w : Writer) → w.at ≤ length w.out.now + 1 → LinesPended s t n m w t None 0 w
   unfolding laid_vars_to open_at module_at
-  walk_start w = record { here = record { checked = r.checked; within = omega arith; low = omega arith; here = refl }; keeps = keeps-all; long = refl; rows = (refl, w) }
+  walk_start w h = record { here = record { checked = r.checked; within = omega arith; low = omega arith; here = refl }; keeps = keeps-all; rows = (refl, writes_none w h) }
 
-  module _ {d : Bytes} {a : ℕ} {u : Bytes} {k : Option ℕ} {i : ℕ} {e : Bytes} {p : ℕ} (w : LinesPended s t n m d a u k i e p) where
+  module _ {v : Writer} {u : Bytes} {k : Option ℕ} {i : ℕ} {w : Writer} (l : LinesPended s t n m v u k i w) where
     pub walk-log : ConstsLogged s u n m
-    walk-log = logged-kept w.keeps r.logged
+    walk-log = logged-kept l.keeps r.logged
 
-    pub walk_end : n ≤ i → AllPended (names_in s t m) s d a (Ok p) e × Keeps 16384 49152 t u
+    pub walk_end : n ≤ i → AllPended (names_in s t m) s v (Ok tt) w × Keeps 16384 49152 t u
     walk_end h =
-        let z : i ≡ n = omega (arith, w.here.within) in
-        (all-pended (names_in s t m) s r.checked (subst (λ (j : ℕ). Pended (names_in s t m) (laid_vars_to s j) d a (Ok p) e) z w.rows), w.keeps)
+        let z : i ≡ n = omega (arith, l.here.within) in
+        (all-pended (names_in s t m) s r.checked (subst (λ (j : ℕ). Pended (names_in s t m) (laid_vars_to s j) v (Ok tt) w) z l.rows), l.keeps)
 
-    module _ (q : Option ℕ) (g : laid_on s q ≡ laid_at s i) {v : Bytes} (y : Std.Result ℕ Refused) (f : Bytes) (b : Pended (names_in s u m) (laid_on s q) e p y f × Keeps 16384 49152 u v) where
-      line-pended : Pended (names_in s t m) (laid_at s i) e p y f
-      line-pended = subst (λ (xs : List (Located VarDecl)). Pended (names_in s t m) xs e p y f) g (rw (log-kept w.keeps r.logged) at b.0)
+    -- the next line is worked on
+    pub walk-open : {x : Bytes} → Keeps 16384 49152 u x → Open s x n i k
+    walk-open b = record { checked = checked-kept (kept_low b 3072 (omega arith)) l.here.checked; within = l.here.within; low = l.here.low; here = l.here.here }
 
-      pub walk-open : Open s v n i k
-      walk-open = record { checked = checked-kept (kept_low b.1 3072 (omega arith)) w.here.checked; within = w.here.within; low = w.here.low; here = w.here.here }
+    module _ (q : Option ℕ) (g : laid_on s q ≡ laid_at s i) where
+      line-pended : (y : Std.Result Unit Refused) (z : Writer) → Pended (names_in s u m) (laid_on s q) w y z → Pended (names_in s t m) (laid_at s i) w y z
+      line-pended y z b = subst (λ (xs : List (Located VarDecl)). Pended (names_in s t m) xs w y z) g (rw (log-kept l.keeps r.logged) at b)
 
-    module _ (q : Option ℕ) (g : laid_on s q ≡ laid_at s i) {v : Bytes} {f : Bytes} where
-      pub walk-next : {z : ℕ} {k' : Option ℕ} → Pended (names_in s u m) (laid_on s q) e p (Ok z) f × Keeps 16384 49152 u v → length f ≡ length e → Open s v n (i + 1) k' → LinesPended s t n m d a v k' (i + 1) f z
+      pub walk-next : {x : Bytes} {z : Writer} {k' : Option ℕ} → Pended (names_in s u m) (laid_on s q) w (Ok tt) z × Keeps 16384 49152 u x → Open s x n (i + 1) k' → LinesPended s t n m v x k' (i + 1) z
       unfolding laid_vars_to
-      walk-next {z} b l o = record {
+      walk-next b o = record {
         here = o;
-        keeps = keeps_then w.keeps b.1;
-        long = l ∙ w.long;
-        rows = rw add-one (pended-then (names_in s t m) (laid_vars_to s i) (laid_at s i) w.rows (line-pended q g (Ok z) f b));
+        keeps = keeps_then l.keeps b.1;
+        rows = rw add-one (pended-then (names_in s t m) (laid_vars_to s i) (laid_at s i) l.rows (line-pended (Ok tt) _ b.0));
       }
 
-      pub walk-stop : (x : Refused) → Pended (names_in s u m) (laid_on s q) e p (Err x) f × Keeps 16384 49152 u v → i < n → AllPended (names_in s t m) s d a (Err x) f × Keeps 16384 49152 t v
-      walk-stop x b h = (pended-before (names_in s t m) s r.checked x h w.rows (line-pended q g (Err x) f b), keeps_then w.keeps b.1)
+      pub walk-stop : (y : Refused) {x : Bytes} {z : Writer} → Pended (names_in s u m) (laid_on s q) w (Err y) z × Keeps 16384 49152 u x → i < n → AllPended (names_in s t m) s v (Err y) z × Keeps 16384 49152 t x
+      walk-stop y b h = (pended-before (names_in s t m) s r.checked y h l.rows (line-pended (Err y) _ b.0), keeps_then l.keeps b.1)

@@ -1,43 +1,58 @@
 // The `pend` rows of globals, and the refusals of their first values.
 #![tactic(auto)]
 
-ghost use Rattle.std.specs.Prelude.{[], ◌∷◌, IfSome};
+ghost use Rattle.std.specs.Prelude.{◌≡◌, [], ◌∷◌, IfSome, option_map};
 ghost use Rattle.semantics.specs.Sheet.{concat_map};
 ghost use Rattle.semantics.specs.Global.{laid_names};
 ghost use Rattle.semantics.specs.Listing.{pend_row};
-ghost use Rattle.write.specs.Wrote.{Wrote};
+ghost use Rattle.write.specs.Writes.{Writes};
+ghost use Rattle.answers.specs.Answers.{refusal_of};
 ghost use Rattle.names.specs.Table.{ConstsLogged, ConstTable, names_in};
 ghost use Rattle.placements.specs.Placements.{Keeps};
 ghost use Rattle.global_table.specs.Table.{VarLine, names_on};
 ghost use Rattle.globals.specs.Vars.{laid_on};
-ghost use Rattle.pends.specs.Pends.{Pended, AllPended};
+ghost use Rattle.pends.specs.Pends.{refused_as, Pended, AllPended};
 
 use answers::Refusal;
+use arrays::NoItem;
 use global_table::line;
 use names::Known;
-use vars::{First, var_value};
+use vars::var_value;
+use write::Writer;
+
+// The refusal at a line, none where the value is left pending.
+fn refusal(e: NoItem, line: usize) -> Option<Refusal>
+    ensures { option_map refusal_of result ≡ refused_as e line }
+{
+    match e {
+        NoItem::Pending => None,
+        NoItem::LongString => Some(Refusal::LongString(line)),
+        NoItem::LongAlloc => Some(Refusal::LongAlloc(line)),
+        NoItem::NegativeAlloc => Some(Refusal::NegativeAlloc(line)),
+        NoItem::OutsideLiteral => Some(Refusal::OutsideLiteral(line)),
+        NoItem::LongLiteral => Some(Refusal::LongLiteral(line)),
+    }
+}
 
 // The row of a name; `nil` has none.
-fn pend_name(name: &[u8], out: &mut [u8], at: usize) -> usize
-    ensures { Wrote out.old at (concat_map pend_row (laid_names (name.now ∷ []))) out.new result }
+fn pend_name(name: &[u8], w: &mut Writer)
+    ensures { Writes w.old (concat_map pend_row (laid_names (name.now ∷ []))) w.new }
 {
     if line::is_nil(name) {
-        return write::nothing(out, at);
+        return;
     }
-    rows::pend_row(out, at, name)
+    rows::pending(w, name);
 }
 
 // The rows of all names of line r.
-fn pend_names(sheet: &[u8], work: &[u8], n: usize, r: usize, out: &mut [u8], at: usize) -> usize
+fn pend_names(sheet: &[u8], work: &[u8], n: usize, r: usize, w: &mut Writer)
     requires { VarLine sheet.now work.now n r }
-    ensures { Wrote out.old at (concat_map pend_row (laid_names (names_on sheet.now r))) out.new result }
+    ensures { Writes w.old (concat_map pend_row (laid_names (names_on sheet.now r))) w.new }
 {
     let count = line::name_count(sheet, work, n, r);
-    let mut p = write::nothing(out, at);
     for j in 0..count {
-        p = pend_name(line::name_at(sheet, work, n, r, j), out, p);
+        pend_name(line::name_at(sheet, work, n, r, j), w);
     }
-    p
 }
 
 // The rows of the `var` line r, one for each name where its value is pending.
@@ -46,39 +61,34 @@ fn pend_line(
     work: &mut [u8],
     c: Known,
     r: Option<usize>,
-    out: &mut [u8],
-    at: usize,
-) -> Result<usize, Refusal>
+    w: &mut Writer,
+) -> Result<(), Refusal>
     requires { (IfSome r (VarLine sheet.now work.old c.lines)) × (ConstsLogged sheet.now work.old c.lines c.consts) }
-    ensures { (Pended (names_in sheet.now work.old c.consts) (laid_on sheet.now r) out.old at result out.new) × (Keeps 16384 49152 work.old work.new) }
+    ensures { (Pended (names_in sheet.now work.old c.consts) (laid_on sheet.now r) w.old result w.new) × (Keeps 16384 49152 work.old work.new) }
 {
     let Some(r) = r else {
-        return Ok(write::nothing(out, at));
+        return Ok(());
     };
-    match var_value(sheet, work, c, r) {
-        First::Refused(q) => Err(answers::refuse(q, r)),
-        First::Pending => Ok(pend_names(sheet, work, c.lines, r, out, at)),
-        _ => Ok(write::nothing(out, at)),
+    let Err(e) = var_value(sheet, work, c, r) else {
+        return Ok(());
+    };
+    if let Some(q) = refusal(e, r) {
+        return Err(q);
     }
+    pend_names(sheet, work, c.lines, r, w);
+    Ok(())
 }
 
 // The rows of all lines, up to the first that is refused. Work goes on where the listing is full.
-pub fn pend_rows(
-    sheet: &[u8],
-    work: &mut [u8],
-    c: Known,
-    out: &mut [u8],
-    at: usize,
-) -> Result<usize, Refusal>
+pub fn pend_rows(sheet: &[u8], work: &mut [u8], c: Known, w: &mut Writer) -> Result<(), Refusal>
     requires { ConstTable sheet.now work.old c.lines c.consts }
-    ensures { (AllPended (names_in sheet.now work.old c.consts) sheet.now out.old at result out.new) × (Keeps 16384 49152 work.old work.new) }
+    ensures { (AllPended (names_in sheet.now work.old c.consts) sheet.now w.old result w.new) × (Keeps 16384 49152 work.old work.new) }
 {
-    let mut p = write::nothing(out, at);
     let mut k = None;
     for i in 0..c.lines {
         let r = globals::laid_line(sheet, work, c.lines, i, k);
-        p = pend_line(sheet, work, c, r, out, p)?;
+        pend_line(sheet, work, c, r, w)?;
         k = implement::open_after(sheet, work, c.lines, i, k);
     }
-    Ok(p)
+    Ok(())
 }

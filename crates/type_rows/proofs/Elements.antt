@@ -23,7 +23,10 @@ use Rattle.records.specs.Log.{log_of}
 use Rattle.type_keys.specs.Table.{kind_position, position_from_one, Kinds}
 use Rattle.type_keys.proofs.Distinct.{new_key, position-none, position-new, position-known, distinct_more, from-one-some}
 use Rattle.type_keys.proofs.Table.{kind-kept}
-use Rattle.type_lines.proofs.Codes.{kind-low, elems-are}
+use Rattle.type_lines.proofs.Codes.{elems-are}
+use Rattle.codes.specs.declared.element.Element.{Element}
+use Rattle.codes.specs.declared.element.Element.TheVariants as E
+use Rattle.codes.specs.Kinds.{element_kind}
 use Rattle.write.specs.declared.Writer.{Writer}
 use Rattle.write.specs.Writes.{Writes}
 use Rattle.semantics.specs.Listing.{type_rows}
@@ -32,13 +35,6 @@ use Rattle.type_rows.specs.Rows.{shapes_of}
 use Rattle.type_rows.proofs.Wrotes.{types-none, keys-then}
 use Rattle.type_row.proofs.Maps.{types-as}
 use Rattle.semantics.proofs.Common.{never}
-
-pub not-below : (a b : ℕ) → (a < b → ⊥) → b ≤ a
-not-below a b h = go (ltb a b) refl
-  where
-    go : (t : Bool) → ltb a b ≡ t → b ≤ a
-    go true e = absurd (h (ltb-true a b e))
-    go false e = ltb-false a b e
 
 -- ---- positions
 
@@ -136,52 +132,60 @@ elems ls (array_item o e n ∷ is) p h k =
 
 -- ---- which kind stands at a position
 
-kind_back : (r : ℕ) → r < 5 → ElemKind
-kind_back zero h = k_byte
-kind_back (suc zero) h = k_word
-kind_back (suc (suc zero)) h = k_big
-kind_back (suc (suc (suc zero))) h = k_real
-kind_back (suc (suc (suc (suc r)))) h = k_ptr
+kind_back : ℕ → ElemKind
+kind_back zero = k_byte
+kind_back (suc zero) = k_word
+kind_back (suc (suc zero)) = k_big
+kind_back (suc (suc (suc zero))) = k_real
+kind_back (suc (suc (suc (suc r)))) = k_ptr
 
-back-number : (r : ℕ) (h : r < 5) → r ≡ kind_number (kind_back r h)
+back : (k : ElemKind) → kind_back (kind_number k) ≡ k
 unfolding kind_back
-back-number zero h = refl
-back-number (suc zero) h = refl
-back-number (suc (suc zero)) h = refl
-back-number (suc (suc (suc zero))) h = refl
-back-number (suc (suc (suc (suc zero)))) h = refl
-back-number (suc (suc (suc (suc (suc r))))) h = absurd (omega arith)
+back k_byte = refl
+back k_word = refl
+back k_big = refl
+back k_real = refl
+back k_ptr = refl
 
-module _ (t : List ℕ) (ls : List TypeKey) (is : List Item) (keys : ℕ) (x : Kinds t (ls ++ concat_map array_key is) keys) (p : ℕ) (h : length (distinct [] ls) ≤ p) (k : p < keys) (r : ℕ)
-    (found : r < 5 → kind_position t r ≡ p + 1) (first : (j : ℕ) → j < 5 → kind_position t j ≡ p + 1 → r ≤ j) where
+module _ (t : List ℕ) (ls : List TypeKey) (is : List Item) (keys : ℕ) (x : Kinds t (ls ++ concat_map array_key is) keys) (p : ℕ) (h : length (distinct [] ls) ≤ p) (k : p < keys) where
   abbrev K : List TypeKey
   K = distinct [] (ls ++ concat_map array_key is)
 
   at : ElemAt (distinct [] (ls ++ concat_map array_key is)) p
   at = elems ls is p h (omega (arith, x.count))
 
-  at_position : kind_position t (kind_number at.kind) ≡ p + 1
+  at_position : kind_position t at.kind ≡ p + 1
   at_position =
       let z : position (elem_key at.kind) K ≡ p = rw at.is at (own_at (ls ++ concat_map array_key is) p (omega (arith, x.count))) in
       let a = any_of (elem_key at.kind) K (omega (arith, z, x.count)) in
       x.position at.kind ∙ rw (a, z) (omega arith)
 
-  r-low : r < 5
-  r-low = omega (arith, first (kind_number at.kind) (kind-low at.kind) at_position, kind-low at.kind)
-
-  r-is : r ≡ kind_number at.kind
-  r-is =
-      let m = kind_back r r-low in
-      let e = back-number r r-low in
-      let g : position_from_one (elem_key m) K ≡ p + 1 = sym (x.position m) ∙ rw (← e) (found r-low) in
+  kind-is : (m : ElemKind) → kind_position t m ≡ p + 1 → m ≡ at.kind
+  kind-is m found =
+      let g : position_from_one (elem_key m) K ≡ p + 1 = sym (x.position m) ∙ found in
       let a = from-one-some (elem_key m) K (λ z. omega (arith, g)) in
       let y : suc (position (elem_key m) K) ≡ p + 1 = rw a at g in
       let w : same_type_key (elem_key m) (get_or K p opaque_key) ≡ true = (let v : position (elem_key m) K ≡ p = omega (arith, y) in rw v at (position_at (elem_key m) K a)) in
-      e ∙ eqb-true (kind_number m) (kind_number at.kind) (sym (elems-are m at.kind) ∙ (rw at.is at w))
+      let e = eqb-true (kind_number m) (kind_number at.kind) (sym (elems-are m at.kind) ∙ (rw at.is at w)) in
+      sym (back m) ∙ ap kind_back e ∙ back at.kind
 
   -- so the row that is written is that of the key there
-  pub elem-row : (s : List ℕ) {a b : ℕ} {v w : Writer} {y z : List ℕ} → ((m : ElemKind) → r ≡ kind_number m → TypesWrote ((elem_shape m) ∷ []) a b v w y z) → TypesWrote ((key_shape (log_of s) (get_or (distinct [] (ls ++ concat_map array_key is)) p opaque_key)) ∷ []) a b v w y z
-  elem-row s row = types-as (sym (ap (key_shape (log_of s)) at.is)) (row at.kind r-is)
+  elem-row : (s : List ℕ) (m : ElemKind) → kind_position t m ≡ p + 1 → {a b : ℕ} {v w : Writer} {y z : List ℕ} → TypesWrote ((elem_shape m) ∷ []) a b v w y z
+      → TypesWrote ((key_shape (log_of s) (get_or (distinct [] (ls ++ concat_map array_key is)) p opaque_key)) ∷ []) a b v w y z
+  elem-row s m found row = types-as (ap elem_shape (kind-is m found) ∙ sym (ap (key_shape (log_of s)) at.is)) row
+
+-- ---- the search for it
+
+-- each kind stands at its number
+abbrev pub all : List Element
+all = E.Byte ∷ E.Word ∷ E.Big ∷ E.Real ∷ E.Pointer ∷ []
+
+pub none_found : (t : List ℕ) (n p : ℕ) → 5 ≤ n → ((j : ℕ) → j < n → kind_position t (element_kind (get_or all j E.Byte)) ≡ p + 1 → ⊥) → (k : ElemKind) → kind_position t k ≡ p + 1 → ⊥
+none_found t n p h z k_byte = z 0 (omega arith)
+none_found t n p h z k_word = z 1 (omega arith)
+none_found t n p h z k_big = z 2 (omega arith)
+none_found t n p h z k_real = z 3 (omega arith)
+none_found t n p h z k_ptr = z 4 (omega arith)
 
 -- ---- row by row
 
@@ -195,19 +199,27 @@ pub kinds-start : (base keys a : ℕ) {w : Writer} {t : List ℕ} → KindRows b
 kinds-start base keys a s ls is e x = let z : a - a ≡ 0 = omega arith in rw z types-none
 
 module _ (base keys a b : ℕ) {v w : Writer} {t u : List ℕ} (lo : a ≤ b) (hi : b < base + keys) (h : base ≤ a) (rows : KindRows base a b v w t u keys) (kept : Kept 49152 t u) where
-  pub kinds-next : (r n : ℕ) {y : Writer} {z : List ℕ} → (r < 5 → kind_position u r ≡ b - base + 1) → ((j : ℕ) → j < 5 → kind_position u j ≡ b - base + 1 → r ≤ j)
-      → ((m : ElemKind) → r ≡ kind_number m → TypesWrote ((elem_shape m) ∷ []) b n w y u z) → n ≡ b + 1 → KindRows base a (b + 1) v y t z keys
-  kinds-next r n found first row next s ls is g x =
+  low-kept : Kept 10629 t u
+  low-kept = kept_less (omega arith) kept
+
+  pub kinds-next : (kind : ElemKind) {n : ℕ} {y : Writer} {z : List ℕ} → kind_position u kind ≡ b - base + 1 → TypesWrote ((elem_shape kind) ∷ []) b n w y u z → KindRows base a (b + 1) v y t z keys
+  kinds-next kind found row s ls is g x =
       let l = length (distinct [] ls) in
       let K = distinct [] (ls ++ concat_map array_key is) in
       let j = b - a in
       let z : b + 1 - a ≡ suc j = omega (arith, lo) in
       let y : l + j ≡ b - base = omega (arith, lo, g) in
-      let low-kept : Kept 10629 t u = kept_less (omega arith) kept in
       let low : j < length (drop l K) = omega (arith, length-drop l K, x.count, lo, g, hi) in
       let o : get_or (drop l K) j opaque_key ≡ get_or K (b - base) opaque_key = get_or-drop l K j opaque_key ∙ ap (λ (i : ℕ). get_or K i opaque_key) y in
-      let one = elem-row t ls is keys x (b - base) (omega (arith, lo, g)) (omega (arith, hi, h, lo)) r (λ q. sym (kind-kept low-kept r q) ∙ found q) (λ i q c. first i q (kind-kept low-kept i q ∙ c)) s (λ m e. rw next at (row m e)) in
-      rw (z, take-suc (drop l K) j opaque_key low, o) (keys-then s (take j (drop l K)) (get_or K (b - base) opaque_key) (rows s ls is g x) one)
+      let one = elem-row t ls is keys x (b - base) (omega (arith, lo, g)) (omega (arith, hi, h, lo)) s kind (sym (kind-kept low-kept kind) ∙ found) row in
+      rw (z, take-suc (drop l K) j opaque_key low, o) (keys-then s (take j (drop l K)) (get_or K (b - base) opaque_key) (rows s ls is g x) (rw row.id at one))
+
+  -- each position has a kind
+  pub kinds-none : ((k : ElemKind) → kind_position u k ≡ b - base + 1 → ⊥) → KindRows base a (b + 1) v w t u keys
+  kinds-none none s ls is g x =
+      let i : length (distinct [] ls) ≤ b - base = omega (arith, lo, g) in
+      let j : b - base < keys = omega (arith, hi, h, lo) in
+      absurd (none (at t ls is keys x (b - base) i j).kind (kind-kept low-kept (at t ls is keys x (b - base) i j).kind ∙ at_position t ls is keys x (b - base) i j))
 
 pub kinds-end : (base keys a b : ℕ) {v w : Writer} {t u : List ℕ} → a ≤ b → base + keys ≤ b → KindRows base a b v w t u keys
     → (s : List ℕ) (ls : List TypeKey) (is : List Item) → a ≡ base + length (distinct [] ls) → Kinds t (ls ++ concat_map array_key is) keys

@@ -3,14 +3,14 @@ use mathlib.Core.Path.{◌≡◌, refl, sym, ap, ◌∙◌}
 use mathlib.Core.List.{List}
 use Rattle.std.specs.Prelude.{Option, None, Some}
 use Rattle.chains.specs.Chains.{count_to}
-use Prim.Native.Nat.{ℕ, zero, suc, ◌+◌, ◌-◌, ◌≤◌, ◌<◌}
+use Prim.Native.Nat.{ℕ, zero, suc, ◌+◌, ◌-◌, ◌<◌}
 use native.Mathlib.Omega.{arith}
 use lib.ListN.{get_or}
-use borrow.Author.Tests.{ne_eqb}
-use Rattle.semantics.specs.Tree.TypeKey.{adt_key, elem_key}
+use Rattle.semantics.specs.Tree.TypeKey.{adt_key}
 use Rattle.semantics.specs.Layout.{Recorded, last_of}
 use Rattle.semantics.specs.Tree.{Shape}
-use Rattle.semantics.specs.Array.{kind_number}
+use Rattle.codes.specs.declared.element.Element.{Element}
+use Rattle.codes.specs.Kinds.{element_kind}
 use Rattle.semantics.specs.Types.{opaque_shape, elem_shape, key_shape, unknown}
 use Rattle.lines.specs.Lines.{read_at, form_at}
 use Rattle.source.specs.Walk.{field_at}
@@ -18,43 +18,35 @@ use Rattle.records.specs.Log.{recorded_at, log_of, no_record, RecordsLogged, New
 use Rattle.records.proofs.Keys.{default-same}
 use Rattle.type_lines.specs.Needs.{need_at, NeedLine, kind_by}
 use Rattle.type_lines.specs.Shapes.{written_shape}
-use Rattle.type_lines.proofs.Forms.{elem_by, form-from}
-use Rattle.type_lines.proofs.ByForm.{name-key, block-key, opaque-key, plain-key}
+use Rattle.type_lines.proofs.Forms.{form-from}
+use Rattle.type_lines.proofs.ByForm.{name-key, block-key, opaque-key, elem-key}
 use Rattle.type_row.specs.Row.{word_offsets}
 
-elem-kind : (d : ℕ) → d < 5 → kind_by (35 + d) ≡ kind_number (elem_by (35 + d))
-elem-kind zero h = refl
-elem-kind (suc zero) h = refl
-elem-kind (suc (suc zero)) h = refl
-elem-kind (suc (suc (suc zero))) h = refl
-elem-kind (suc (suc (suc (suc zero)))) h = refl
-elem-kind (suc (suc (suc (suc (suc d))))) h = absurd (omega arith)
-
-elem-range : (f : ℕ) → 34 ≤ f → f < 42 → (f ≡ 34 → ⊥) → (f ≡ 40 → ⊥) → (f ≡ 41 → ⊥) → (35 + (f - 35) ≡ f) × (f - 35 < 5)
-elem-range f lo hi a b c =
-    let x : 35 ≤ f = omega (arith, lo, a) in
-    let y : f < 41 = omega (arith, hi, c) in
-    let z : f < 40 = omega (arith, y, b) in
-    (omega (arith, x), omega (arith, x, z))
+-- a form that is none of the others
+opaque-form : (d : ℕ) → d < 8 → (d ≡ 0 → ⊥) → (d ≡ 6 → ⊥) → kind_by (34 + d) ≡ None → d ≡ 7
+opaque-form zero h a b e = absurd (a refl)
+opaque-form (suc zero) h a b e = cc
+opaque-form (suc (suc zero)) h a b e = cc
+opaque-form (suc (suc (suc zero))) h a b e = cc
+opaque-form (suc (suc (suc (suc zero)))) h a b e = cc
+opaque-form (suc (suc (suc (suc (suc zero))))) h a b e = cc
+opaque-form (suc (suc (suc (suc (suc (suc zero)))))) h a b e = absurd (b refl)
+opaque-form (suc (suc (suc (suc (suc (suc (suc zero))))))) h a b e = refl
+opaque-form (suc (suc (suc (suc (suc (suc (suc (suc d)))))))) h a b e = absurd (omega arith)
 
 module _ (s t : List ℕ) (n i : ℕ) (l : NeedLine s t n i) (f : ℕ) (hf : f ≡ form_at t i) (rs : List Recorded) where
   pub block-shape : f ≡ 40 → written_shape s i ≡ key_shape rs (need_at s i)
   block-shape e = sym (ap (key_shape rs) (block-key s t n i l (sym hf ∙ e)))
 
-  pub opaque-shape : f ≡ 41 → opaque_shape ≡ key_shape rs (need_at s i)
-  opaque-shape e = sym (ap (key_shape rs) (opaque-key s t n i l (sym hf ∙ e)))
+  pub opaque-shape : kind_by f ≡ None → (f ≡ 34 → ⊥) → (f ≡ 40 → ⊥) → opaque_shape ≡ key_shape rs (need_at s i)
+  opaque-shape e a b =
+      let g = form-from s t n i l in
+      let z : 34 + (f - 34) ≡ f = omega (arith, g.0, hf) in
+      let y = opaque-form (f - 34) (omega (arith, g.1, hf, z)) (λ q. a (omega (arith, z, q))) (λ q. b (omega (arith, z, q))) (rw z e) in
+      sym (ap (key_shape rs) (opaque-key s t n i l (omega (arith, z, y, hf))))
 
-  module _ (a : f ≡ 34 → ⊥) (b : f ≡ 40 → ⊥) (c : f ≡ 41 → ⊥) where
-    pub elem-shape : elem_shape (elem_by f) ≡ key_shape rs (need_at s i)
-    elem-shape =
-        let e : need_at s i ≡ elem_key (elem_by f) = plain-key s t n i l (λ z. a (hf ∙ z)) (λ z. b (hf ∙ z)) ∙ rw (← hf, ne_eqb f 41 c) in
-        sym (ap (key_shape rs) e)
-
-    pub elem-number : (k : ℕ) → k ≡ kind_by f → k ≡ kind_number (elem_by f)
-    elem-number k e =
-        let g = form-from s t n i l in
-        let w = elem-range f (rw hf g.0) (rw hf g.1) a b c in
-        e ∙ rw w.0 at (elem-kind (f - 35) w.1)
+  pub elem-shape : (e : Element) → kind_by f ≡ Some e → elem_shape (element_kind e) ≡ key_shape rs (need_at s i)
+  elem-shape e q = sym (ap (key_shape rs) (elem-key s t n i l e (sym (ap kind_by hf) ∙ q)))
 
 -- ---- records
 

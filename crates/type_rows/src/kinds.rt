@@ -1,10 +1,11 @@
 // The rows of array elements that no need asked for.
-ghost use Rattle.std.specs.Prelude.{◌≡◌, List, [], ◌++◌, ℕ, ◌+◌, ◌≤◌, ◌<◌, length, drop};
+ghost use Rattle.std.specs.Prelude.{◌≡◌, List, [], ◌++◌, ℕ, ◌+◌, ◌≤◌, ◌<◌, length, drop, IfSome, None};
 ghost use Rattle.semantics.specs.Text.{Bytes};
-ghost use Rattle.semantics.specs.Tree.{TypeKey};
+ghost use Rattle.semantics.specs.Tree.{ElemKind, TypeKey};
 ghost use Rattle.semantics.specs.Sheet.{concat_map};
 ghost use Rattle.semantics.specs.Global.{Item};
 ghost use Rattle.semantics.specs.Types.{distinct, array_key};
+ghost use Rattle.codes.specs.Kinds.{element_kind};
 ghost use Rattle.checks.specs.Checks.{Kept};
 ghost use Rattle.type_keys.specs.Table.{kind_position, Kinds};
 ghost use Rattle.semantics.specs.Listing.{type_rows};
@@ -12,21 +13,23 @@ ghost use Rattle.write.specs.Writes.{Writes};
 ghost use Rattle.type_rows.specs.Rows.{shapes_of};
 
 use codes::element;
+use codes::element::Element;
 use type_keys::kind_position;
 use type_row::put_elem;
 use write::Writer;
 
-// The kind of element whose key has position p - 1; `NONE` where there is none.
-fn kind_at(work: &[u8], p: usize) -> u8
+// The kind of element whose key has position p.
+fn kind_at(work: &[u8], p: usize) -> Option<Element>
     requires { 65536 ≤ length work.now }
-    ensures { (result < 5 → kind_position work.now result ≡ p) × ((k : ℕ) → k < 5 → kind_position work.now k ≡ p → result ≤ k) × (result ≤ 5) }
+    ensures found { IfSome result (λ kind. kind_position work.now (element_kind kind) ≡ p + 1) }
+    ensures none { result ≡ None → (k : ElemKind) → kind_position work.now k ≡ p + 1 → ⊥ }
 {
-    for k in 0..element::NONE {
-        if kind_position(work, k as usize) == p {
-            return k;
+    for kind in element::ALL {
+        if kind_position(work, kind) == Some(p) {
+            return Some(kind);
         }
     }
-    element::NONE
+    None
 }
 
 // The rows of the keys behind those of needs, from the ID `id` up to that of the last of `keys`; `base` is the ID of the first key.
@@ -35,7 +38,8 @@ pub fn kind_rows(work: &mut [u8], base: usize, keys: usize, w: &mut Writer, id: 
     ensures { ((s : Bytes) (ls : List TypeKey) (is : List Item) → id ≡ base + length (distinct [] ls) → Kinds work.old (ls ++ concat_map array_key is) keys → Writes w.old (type_rows id (shapes_of s (drop (length (distinct [] ls)) (distinct [] (ls ++ concat_map array_key is))))) w.new) × (Kept 49152 work.old work.new) }
 {
     for i in id..base + keys {
-        let kind = kind_at(work, i - base + 1);
-        put_elem(work, kind, w, i);
+        if let Some(kind) = kind_at(work, i - base) {
+            put_elem(work, kind, w, i);
+        }
     }
 }

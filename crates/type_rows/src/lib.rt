@@ -74,16 +74,14 @@ fn put_need(sheet: &[u8], work: &mut [u8], c: Log, i: usize, w: &mut Writer, id:
     ensures { TypesWrote ((key_shape (log_of sheet.now) (need_at sheet.now i)) ∷ []) id result w.old w.new work.old work.new }
 {
     let f = lines::form_at(work, i);
-    if f == need::ADT {
-        return record::put_record(sheet, work, c, i, w, id);
+    if let Some(kind) = type_lines::kind_needed(f) {
+        return type_row::put_elem(work, kind, w, id);
     }
-    if f == need::BLOCK {
-        return type_row::put_line(sheet, work, c.lines, i, w, id);
+    match f {
+        need::ADT => record::put_record(sheet, work, c, i, w, id),
+        need::BLOCK => type_row::put_line(sheet, work, c.lines, i, w, id),
+        _ => type_row::put_opaque(work, w, id),
     }
-    if f == need::OPAQUE {
-        return type_row::put_opaque(work, w, id);
-    }
-    type_row::put_elem(work, type_lines::kind_needed(f), w, id)
 }
 
 // The row of need q, where its key is new; `base` is the ID of the first key.

@@ -1,6 +1,8 @@
--- `data_rows::is_big` meets its contract.
-use Rattle.data_rows.proofs.Firsts.{big-is}
+use Rattle.data_rows.proofs.Firsts.{big-yes, big-no}
 use Rattle.data_rows.proofs.is_big.Goals as goal
 
-pub returns : goal.returns
-returns c = big-is c.args.sheet.now c.type_of.result c.type_of.ensures.1 c.elem_kind.ensures.0
+pub returns-in-Big : goal.returns-in-Big
+returns-in-Big c = big-yes c.args.sheet.now c.type_of.result c.type_of.ensures.1 c.elem_kind.ensures c.in-Big.is
+
+pub returns-in_default : goal.returns-in_default
+returns-in_default c = big-no c.args.sheet.now c.type_of.result c.type_of.ensures.1 c.elem_kind.ensures c.in_default.not-Big

@@ -1,6 +1,5 @@
--- `data_rows::name_rows` meets its contract.
 use Rattle.global_table.specs.Table.{places_in}
-use Rattle.vars.specs.First.{init_in}
+use Rattle.vars.specs.First.{first_in}
 use Rattle.checks.proofs.Kept.{outside-all}
 use Rattle.data_rows.proofs.Printed.{printed-as, printed-none}
 use Rattle.data_rows.proofs.Firsts.{held-keyed}
@@ -10,7 +9,7 @@ use Rattle.data_rows.proofs.name_rows.Goals as goal
 pub returns-then-is_nil : goal.returns-then-is_nil
 returns-then-is_nil c =
     let a = c.args in
-    (λ ty h. printed-as (name-nil ty (places_in a.sheet.now a.work.now a.c.globals) (init_in a.work.now a.x.first) a.name.now c.is_nil.ensures c.if-is_nil.true) (printed-none c.no_rows.ensures.0 c.no_rows.ensures.1), outside-all)
+    (λ ty h. printed-as (name-nil ty (places_in a.sheet.now a.work.now a.c.globals) (first_in a.work.now a.x) a.name.now c.is_nil.ensures c.if-is_nil.true) printed-none, outside-all)
 
 pub first_rows-requires : goal.first_rows-requires
 first_rows-requires c = (held-keyed c.requires.held, c.requires.stands)
@@ -18,4 +17,4 @@ first_rows-requires c = (held-keyed c.requires.held, c.requires.stands)
 pub returns : goal.returns
 returns c =
     let a = c.args in
-    (λ ty h. printed-as (name-items ty (places_in a.sheet.now a.work.now a.c.globals) (init_in a.work.now a.x.first) a.name.now c.is_nil.ensures c.if-is_nil.false c.offset_in.ensures.0 c.unwrap_or-off.ensures) (c.first_rows.ensures.0 a.sheet.now ty c.requires.held.framed h), c.first_rows.ensures.1)
+    (λ ty h. printed-as (name-items ty (places_in a.sheet.now a.work.now a.c.globals) (first_in a.work.now a.x) a.name.now c.is_nil.ensures c.if-is_nil.false c.offset_in.ensures.0 c.unwrap_or-off.ensures) (c.first_rows.ensures.0 a.sheet.now ty c.requires.held.framed h), c.first_rows.ensures.1)

@@ -3,4 +3,4 @@ use Rattle.pends.proofs.Rows.{PendRowsWritten}
 use Rattle.pends.proofs.pend_names.Given as goal
 
 abbrev pub invariant-loop-j : goal.invariant-loop-j
-invariant-loop-j l = PendRowsWritten l.sheet l.r l.count l.initial.out l.at l.j l.out l.p
+invariant-loop-j l = PendRowsWritten l.sheet l.r l.count l.initial.w l.j l.w
