@@ -50,9 +50,9 @@ sum-add e f g (suc k) h = omega (arith, h k, sum-add e f g k h)
 unfoldable lines_at : List Node → ℕ → ℕ
 lines_at ns r = perhaps_lines (perhaps_at ns r)
 
-lines_in : (ℕ → ℕ) → List Ref → ℕ
-lines_in w [] = 0
-lines_in w (r ∷ rs) = w r.line + lines_in w rs
+lines_below : (ℕ → ℕ) → List Ref → ℕ
+lines_below w [] = 0
+lines_below w (r ∷ rs) = w r.line + lines_below w rs
 
 module _ (ns : List Node) (ls : List Read) (i : ℕ) where
   line_of : (k m : ℕ) → fine_ref ls (i + 1) (record { kind = k; optional = false; line = m }) ≡ true → lines_at ns m ≡ node_lines (node_at ns m)
@@ -61,8 +61,8 @@ module _ (ns : List Node) (ls : List Read) (i : ℕ) where
   line_of k (suc m) h = refl
 
   value-lines : (a : Atom) (f : List ℕ) (rs : List Ref) → fine_refs ls i (ref_of a f rs) ≡ true
-      → (lines_in (lines_at ns) (ref_of a f rs) ≡ value_lines a (value a ns f) + lines_in (lines_at ns) rs) × (fine_refs ls i rs ≡ true)
-  unfolding fine_refs lines_in lines_at
+      → (lines_below (lines_at ns) (ref_of a f rs) ≡ value_lines a (value a ns f) + lines_below (lines_at ns) rs) × (fine_refs ls i rs ≡ true)
+  unfolding fine_refs lines_below lines_at
   value-lines name f rs h = (omega arith, h)
   value-lines key f rs h = (omega arith, h)
   value-lines (ref k) f rs h =
@@ -79,7 +79,7 @@ module _ (ns : List Node) (ls : List Read) (i : ℕ) where
   value-lines text f rs h = (omega arith, h)
 
   group_lines : (a : Atom) (n : ℕ) (ps : List Part) (fs : List (List ℕ)) → fits (ones n a ++ ps) fs ≡ true → fine_refs ls i (refs_in (ones n a ++ ps) fs) ≡ true
-      → (lines_in (lines_at ns) (refs_in (ones n a ++ ps) fs) ≡ sum_of (value_lines a) (values a ns n fs) + lines_in (lines_at ns) (refs_in ps (drop n fs)))
+      → (lines_below (lines_at ns) (refs_in (ones n a ++ ps) fs) ≡ sum_of (value_lines a) (values a ns n fs) + lines_below (lines_at ns) (refs_in ps (drop n fs)))
       × (fits ps (drop n fs) ≡ true) × (fine_refs ls i (refs_in ps (drop n fs)) ≡ true)
   group_lines a zero ps fs h k = (omega arith, h, k)
   group_lines a (suc n) ps [] h k = never h
@@ -88,8 +88,8 @@ module _ (ns : List Node) (ls : List Read) (i : ℕ) where
       let w = group_lines a n ps fs (both (holds a f) (fits (ones n a ++ ps) fs) h).1 v.1 in
       (omega (arith, v.0, w.0), w.1, w.2)
 
-  parts-lines : (ps : List Part) (fs : List (List ℕ)) → fits ps fs ≡ true → fine_refs ls i (refs_in ps fs) ≡ true → lines_in (lines_at ns) (refs_in ps fs) ≡ parts_lines ps ns fs
-  unfolding lines_in
+  parts-lines : (ps : List Part) (fs : List (List ℕ)) → fits ps fs ≡ true → fine_refs ls i (refs_in ps fs) ≡ true → lines_below (lines_at ns) (refs_in ps fs) ≡ parts_lines ps ns fs
+  unfolding lines_below
   parts-lines [] [] h k = refl
   parts-lines [] (f ∷ fs) h k = never h
   parts-lines (one a ∷ ps) [] h k = never h
@@ -125,8 +125,8 @@ module _ (w : ℕ → ℕ) where
       go false q ih = let n = eqb-false k x q in omega (arith, ih (omega (arith, n)))
 
   -- lines that a line below k refers to
-  refs-sum : (ls : List Read) (i k : ℕ) (rs : List Ref) → i < k → fine_refs ls i rs ≡ true → lines_in w rs ≤ sum_to (λ r. w r * uses_of r rs) k
-  unfolding lines_in fine_refs flag_of
+  refs-sum : (ls : List Read) (i k : ℕ) (rs : List Ref) → i < k → fine_refs ls i rs ≡ true → lines_below w rs ≤ sum_to (λ r. w r * uses_of r rs) k
+  unfolding lines_below fine_refs flag_of
   refs-sum ls i k [] l h = omega arith
   refs-sum ls i k (x ∷ rs) l h =
       let q = both (fine_ref ls (i + 1) x) (fine_refs ls i rs) h in
@@ -138,7 +138,7 @@ module _ (w : ℕ → ℕ) where
     uses_to : ℕ → ℕ → ℕ
     uses_to m r = sum_to (λ i. uses_of r (refs_of (get_or ls i no_read))) m
 
-    all-sum : (m k : ℕ) → m ≤ k → m ≤ length ls → sum_to (λ i. lines_in w (refs_of (get_or ls i no_read))) m ≤ sum_to (λ r. w r * uses_to m r) k
+    all-sum : (m k : ℕ) → m ≤ k → m ≤ length ls → sum_to (λ i. lines_below w (refs_of (get_or ls i no_read))) m ≤ sum_to (λ r. w r * uses_to m r) k
     unfolding sum_to uses_to
     all-sum zero k l h = omega arith
     all-sum (suc m) k l h =
@@ -163,8 +163,8 @@ module _ (w : ℕ → ℕ) where
       at_most zero m h = rw none (omega arith)
       at_most (suc r) m h = omega (arith, mul-one (w (suc r)), mul-le-mul_left (w (suc r)) (le_trans (uses-to ls m (suc r) h) (once (suc r) (omega arith))))
 
-      module _ (grows : (i : ℕ) → i < length ls → w (suc i) ≤ 1 + lines_in w (refs_of (get_or ls i no_read))) where
-        lines-sum : (k : ℕ) → k ≤ length ls → sum_to w (suc k) ≤ k + sum_to (λ i. lines_in w (refs_of (get_or ls i no_read))) k
+      module _ (grows : (i : ℕ) → i < length ls → w (suc i) ≤ 1 + lines_below w (refs_of (get_or ls i no_read))) where
+        lines-sum : (k : ℕ) → k ≤ length ls → sum_to w (suc k) ≤ k + sum_to (λ i. lines_below w (refs_of (get_or ls i no_read))) k
         unfolding sum_to
         lines-sum zero h = omega (arith, none)
         lines-sum (suc k) h = omega (arith, grows k (omega arith), lines-sum k (omega arith))
@@ -200,7 +200,7 @@ module _ (s t : List ℕ) (n : ℕ) (c : Checked s t n) where
     unfolding node_of
     keeps-few ns g = (row-sound ns (read_at s i).fields fields_fit).1 g
 
-    grows : lines_at (nodes_in s) (suc i) ≤ 1 + lines_in (lines_at (nodes_in s)) (refs_of (read_at s i))
+    grows : lines_at (nodes_in s) (suc i) ≤ 1 + lines_below (lines_at (nodes_in s)) (refs_of (read_at s i))
     unfolding lines_at
     grows =
         let z : suc i - 1 ≡ i = omega arith in
