@@ -1,5 +1,5 @@
 -- 01's number and line for each refusal.
-use Rattle.std.specs.Prelude.{ℕ, ◌<◌, ◌≡◌, Result, Ok, Err, cond, eqb}
+use Rattle.std.specs.Prelude.{ℕ, Result, Ok, Err, cond, eqb}
 use Rattle.semantics.specs.Const as Const
 use Rattle.answers.specs.declared.Refusal.{Refusal}
 use Rattle.answers.specs.declared.Refusal.TheVariants.{LongSheet, SmallSpace, NoForm, BadReference, DeepNesting, BadModule, TooMany, LongString, LongAlloc, NegativeAlloc, OutsideLiteral, LongLiteral, Outgrown}
@@ -41,11 +41,3 @@ refusal_of r = record { number = refusal_number r; line = refusal_line r }
 -- the refusal at the first line that breaks a rule, where there is one: 0 stands for none
 abbrev pub first_line : (ℕ → Refusal) → ℕ → Result Unit Refusal
 first_line at k = cond (eqb k 0) (Ok tt) (Err (at k))
-
--- q is the number of a refusal, and k its line: 1, 2 and 13 have none
-pub record RefusalAt (q k : ℕ) : Type 0 where
-  pub first : 0 < q
-  pub last : q < 14
-  pub sheet : q ≡ 1 → k ≡ 0
-  pub space : q ≡ 2 → k ≡ 0
-  pub outgrown : q ≡ 13 → k ≡ 0

@@ -1,9 +1,9 @@
 -- Laws of one constant.
 use mathlib.Core.Path.{◌≡◌, sym, ap, ◌∙◌}
-use mathlib.Core.Bool.{true, false}
 use mathlib.Core.List.{[], ◌++◌}
 use Rattle.std.specs.Prelude.{Option, None, Some}
 use Prim.Native.Nat.{ℕ, ◌+◌, ◌-◌, ◌*◌}
+use native.Mathlib.Numerals.{add-one}
 use native.Mathlib.Omega.{arith}
 use lib.IntN.{pos}
 use lib.ListN.{get_or}
@@ -30,6 +30,7 @@ use Rattle.entries.specs.Entering.{entry_of, moved_to, string_of, EntryRoom}
 use Rattle.entries.proofs.Laws.{Entered, entered-value, entered-failed}
 use Rattle.leaf.specs.Folds.{fold_at, Foldable, Folds}
 use Rattle.fold.proofs.Steps.{foldable}
+use Rattle.answers.specs.declared.Refusal.TheVariants as Refused
 use Rattle.consts.specs.Passes.{const_at, ConstLine, ConstantEntered}
 use Rattle.consts.proofs.Lines.{ex-number, ex-line}
 
@@ -68,18 +69,18 @@ module _ (s t : Bytes) (n m k i : ℕ) (l : ConstLine s t n m k i) (r : ℕ) (is
     log-after = logged-kept f.kept l.logged
 
     module _ {d : ℕ} (named : d ≡ const_digest s k (first_field s (i + 1))) (w : Bytes) where
-      pub took-value : {v : ConstVal} → x ≡ Ok v → (w ≡ linked (over (over u (16384 + 256 * m) (string_of u v)) (5120 + 16 * m) (entry_of (i + 1) k (kind_for v) (bits_for (moved_to (16384 + 256 * m) v)) d)) const_chains m) × InRange v → Kept 5120 t w × ConstantEntered s t w n m k i iota true
+      pub took-value : {v : ConstVal} → x ≡ Ok v → (w ≡ linked (over (over u (16384 + 256 * m) (string_of u v)) (5120 + 16 * m) (entry_of (i + 1) k (kind_for v) (bits_for (moved_to (16384 + 256 * m) v)) d)) const_chains m) × InRange v → Kept 5120 t w × ConstantEntered s t w n m k i iota (Ok (tt {0}))
       unfolding result_in
       took-value {v} q h =
           let e = entered-value u w m (i + 1) k d (free f.kept) v (at_value q) h s n (omega (arith, l.line)) l.group named log-after in
           (all-kept (Some (value_in u v)) w e, (e.logged, λ go. rw (fold_is q, log_is (Some (value_in u v)) w e)))
 
-      pub took-failed : x ≡ Err Failed → w ≡ linked (over u (5120 + 16 * m) (entry_of (i + 1) k 0 0 d)) const_chains m → Kept 5120 t w × ConstantEntered s t w n m k i iota true
+      pub took-failed : x ≡ Err Failed → w ≡ linked (over u (5120 + 16 * m) (entry_of (i + 1) k 0 0 d)) const_chains m → Kept 5120 t w × ConstantEntered s t w n m k i iota (Ok (tt {0}))
       unfolding result_in
       took-failed q h =
           let e = entered-failed u w m (i + 1) k d (free f.kept) h s n (omega (arith, l.line)) l.group named log-after in
           (all-kept None w e, (e.logged, λ go. rw (fold_is q, log_is None w e)))
 
-    pub took-none : x ≡ Err LongString → Kept 5120 t u × ConstantEntered s t u n m k i iota false
+    pub took-none : x ≡ Err LongString → Kept 5120 t u × ConstantEntered s t u n m k i iota (Err (Refused.LongString (i + 1)))
     unfolding result_in
-    took-none q = (kept_less (omega arith) f.kept, λ go. rw (fold_is q))
+    took-none q = (kept_less (omega arith) f.kept, λ go. rw (fold_is q, add-one i))

@@ -32,9 +32,10 @@ use Rattle.iota.specs.declared.Stepped.{Stepped}
 use Rattle.iota.specs.Iota.{counter_of, stepped_of}
 use Rattle.iota.proofs.Counter.{moved-counter, moved_value}
 use Rattle.consts.specs.declared.Pass.{Pass}
-use Rattle.consts.specs.declared.Visited.{Visited}
-use Rattle.consts.specs.declared.Collected.{Collected}
-use Rattle.consts.specs.Passes.{group_from, passes_after, const_at, ConstLine, step, too_long, ConstantEntered, AtConstant, PassAt, pass_from, PassMoves, Visits, Group, Logs, PassDone, PassesBefore, passes_left, ModulePassed, Collects, left}
+use Rattle.std.specs.Prelude.{Result, Ok, Err}
+use Rattle.answers.specs.declared.Refusal as Answers
+use Rattle.answers.specs.Answers.{refusal_of}
+use Rattle.consts.specs.Passes.{group_from, passes_after, const_at, ConstLine, step, ConstantEntered, AtConstant, PassAt, pass_from, PassMoves, Group, Logs, PassDone, PassesBefore, passes_left, ModulePassed, Collects, left}
 use Rattle.consts.proofs.Passes.{open-mod, open-other, group-other, group-in, group-out, group-end, passes-start, passes-mod, passes-other, passes-end, count-mod, count-top}
 use Rattle.consts.proofs.Group.{group-start, group-left}
 use Rattle.consts.proofs.Lines.{line-number, col-number}
@@ -153,10 +154,10 @@ module _ (s t : Bytes) (n k : ℕ) (p : Pass) (st : PassAt s t n k p) (a : AtCon
     pass-from-is = rw (group-is, value-is, line-is, col-is)
 
     module _ (u : Bytes) (kept : Kept 5120 t u) where
-      pub visit-refused : ConstantEntered s t u n p.count k p.line x.value false → (pass_from s t k p).refused ≡ Some (too_long (p.line + 1))
-      visit-refused f = ap (λ (g : Folding). g.refused) (pass-from-is ∙ f (pass (sheet_source s).implement (group_from s k (suc p.line)) (iota_next line col (counter_of p.iota)))) ∙ rw add-one
+      pub visit-refused : (r : Answers.Refusal) → ConstantEntered s t u n p.count k p.line x.value (Err r) → (pass_from s t k p).refused ≡ Some (refusal_of r)
+      visit-refused r f = ap (λ (g : Folding). g.refused) (pass-from-is ∙ f (pass (sheet_source s).implement (group_from s k (suc p.line)) (iota_next line col (counter_of p.iota))))
 
-      pub visit-on : ConstantEntered s t u n p.count k p.line x.value true → PassMoves s t u n k p (record { line = p.line + 1; within = p.within; count = p.count + 1; iota = x.next })
+      pub visit-on : ConstantEntered s t u n p.count k p.line x.value (Ok (tt {0})) → PassMoves s t u n k p (record { line = p.line + 1; within = p.within; count = p.count + 1; iota = x.next })
       unfolding pass_from
       visit-on f = record {
         stands = record {
@@ -175,13 +176,6 @@ module _ (s t : Bytes) (n k : ℕ) (p : Pass) (st : PassAt s t n k p) (a : AtCon
       }
 
 -- ---- a pass
-
-module _ (s t u : Bytes) (n k : ℕ) (p : Pass) where
-  pub went_on : {r : Visited} {q : Pass} → r ≡ Visited.On q → Visits s t u n k p r → PassMoves s t u n k p q
-  went_on e v = rw e at v
-
-  pub stopped : {r : Visited} {j : ℕ} → r ≡ Visited.Refused j → Visits s t u n k p r → (pass_from s t k p).refused ≡ Some (too_long j)
-  stopped e v = rw e at v
 
 abbrev pub pass_start : Option ℕ → ℕ → Pass
 pass_start k m = record { line = line_number k; within = k; count = m; iota = record { started = false; line = 0; col = 0; value = 0 } }
@@ -210,7 +204,7 @@ module _ (s t : Bytes) (n m : ℕ) (k : Option ℕ) (g : Group s t n m (line_num
   begin-is = rw start_is
 
   module _ (u : Bytes) (p : Pass) (st : PassAt s u n (line_number k) p) (same : pass_from s u (line_number k) p ≡ pass_from s t (line_number k) (pass_start k m)) where
-    pub pass-refused : {j : ℕ} → (pass_from s u (line_number k) p).refused ≡ Some (too_long j) → (pass (sheet_source s).implement (group_from s (line_number k) 0) new_counter (log_in s t m)).refused ≡ Some (too_long j)
+    pub pass-refused : {x : Refusal} → (pass_from s u (line_number k) p).refused ≡ Some x → (pass (sheet_source s).implement (group_from s (line_number k) 0) new_counter (log_in s t m)).refused ≡ Some x
     pass-refused e = ap (λ (f : Folding). f.refused) (sym begin-is ∙ sym same) ∙ e
 
     -- the pass is done at the last line, and where the module is left
@@ -254,9 +248,9 @@ module _ (s t : Bytes) (n m i : ℕ) (b : PassesBefore s t n m i) where
     room = omega (arith, b.few, count-mod s t n b.checked i, count-top s t n b.checked (suc i), few-consts b.checked);
   }
 
-  pub past-module : i < n → letter (read_at s i).form.kind ≡ 77 → (u : Bytes) → Kept 5120 t u → (r : Collected) → PassDone s t u n m (suc i) r → ModulePassed s t u n m i r
+  pub past-module : i < n → letter (read_at s i).form.kind ≡ 77 → (u : Bytes) → Kept 5120 t u → (r : Result ℕ Answers.Refusal) → PassDone s t u n m (suc i) r → ModulePassed s t u n m i r
   unfolding passes_left
-  past-module h e u kept (Collected.Count c) (l, q) = (
+  past-module h e u kept (Ok c) (l, q) = (
     record {
       checked = checked-kept (kept_less (omega arith) kept) b.checked;
       logged = l.logged;
@@ -264,7 +258,7 @@ module _ (s t : Bytes) (n m i : ℕ) (b : PassesBefore s t n m i) where
     },
     sym (rw (passes-mod s t n b.checked i h e) (then-on (group_from s (suc i) 0) (passes_after s (suc i)) (sheet_source s).implement (log_in s t m) (log_in s u c) l.same ∙ rw add-one)),
   )
-  past-module h e u kept (Collected.Refused j) q =
+  past-module h e u kept (Err x) q =
       rw (passes-mod s t n b.checked i h e) (then-stop (group_from s (suc i) 0) (passes_after s (suc i)) (sheet_source s).implement (log_in s t m) q)
 
   pub top-group : Group s t n m 0
@@ -277,13 +271,13 @@ module _ (s t : Bytes) (n m i : ℕ) (b : PassesBefore s t n m i) where
     room = omega (arith, b.few, count-top s t n b.checked i, few-consts b.checked);
   }
 
-  pub past_all : n ≤ i → passes_left s t m i ≡ constants (sheet_source s) → (u : Bytes) → (r : Collected) → PassDone s t u n m 0 r → Collects s u n r
+  pub past_all : n ≤ i → passes_left s t m i ≡ constants (sheet_source s) → (u : Bytes) → (r : Result ℕ Answers.Refusal) → PassDone s t u n m 0 r → Collects s u n r
   unfolding passes_left
-  past_all h same u (Collected.Count c) (l, q) =
+  past_all h same u (Ok c) (l, q) =
       let e : constants (sheet_source s) ≡ record { log = log_in s u c; refused = None } =
       sym same ∙ rw (passes-end s t n b.checked i h) (then-on (group_from s 0 0) [] (sheet_source s).implement (log_in s t m) (log_in s u c) l.same) in
       (ap (λ (f : Folding). f.refused) e, ap (λ (f : Folding). f.log) e, l.logged)
-  past_all h same u (Collected.Refused j) q =
+  past_all h same u (Err x) q =
       ap (λ (f : Folding). f.refused) (sym same) ∙ rw (passes-end s t n b.checked i h) (then-stop (group_from s 0 0) [] (sheet_source s).implement (log_in s t m) q)
 
 pub start-before : (s t : Bytes) (n : ℕ) → Checked s t n → PassesBefore s t n 0 0
@@ -293,9 +287,5 @@ pub start-same : (s t : Bytes) (n : ℕ) → Checked s t n → passes_left s t 0
 unfolding passes_left log_in
 start-same s t n c = sym (passes-start s t n c)
 
-module _ (s t u : Bytes) (n m i : ℕ) where
-  pub went-past : {r : Collected} {c : ℕ} → r ≡ Collected.Count c → ModulePassed s t u n m i r → PassesBefore s u n c (i + 1) × (passes_left s u c (i + 1) ≡ passes_left s t m i)
-  went-past e p = rw e at p
-
-  pub refused-at : {r : Collected} {j : ℕ} → r ≡ Collected.Refused j → ModulePassed s t u n m i r → passes_left s t m i ≡ constants (sheet_source s) → (constants (sheet_source s)).refused ≡ Some (too_long j)
-  refused-at e p same = ap (λ (f : Folding). f.refused) (sym same) ∙ (rw e at p)
+pub refused-at : (s t : Bytes) (m i : ℕ) {x : Refusal} → (passes_left s t m i).refused ≡ Some x → passes_left s t m i ≡ constants (sheet_source s) → (constants (sheet_source s)).refused ≡ Some x
+refused-at s t m i e same = ap (λ (f : Folding). f.refused) (sym same) ∙ e

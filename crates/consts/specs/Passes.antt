@@ -1,20 +1,20 @@
 -- The constants of a sheet pass by pass, as a walk over its lines meets them. Lines are counted from 0 here.
-use Rattle.std.specs.Prelude.{ℕ, zero, suc, ◌+◌, ◌≤◌, ◌<◌, ◌≡◌, Bool, true, false, not, ◌&&◌, List, [], ◌∷◌, ◌++◌, map, leb, eqb, pos, length, drop, None, Some}
+use Rattle.std.specs.Prelude.{ℕ, zero, suc, ◌+◌, ◌≤◌, ◌<◌, ◌≡◌, Bool, not, ◌&&◌, List, [], ◌∷◌, ◌++◌, map, leb, eqb, pos, length, drop, None, Some, Result, Ok, Err}
 use Rattle.semantics.specs.Text.{Bytes, filter, is_none, holds_of}
 use Rattle.semantics.specs.Tree.{ConstDecl, Declares, Node}
 use Rattle.semantics.specs.Form.{letter}
 use Rattle.semantics.specs.Sheet.{Module, Located, located_from, module_of, sheet_source}
 use Rattle.semantics.specs.Fold.{Const, fold}
-use Rattle.semantics.specs.Const.{Refusal, Folding, new_counter, entered, pass, passes_from, stands_in, top_level, constants}
+use Rattle.semantics.specs.Const.{Folding, new_counter, entered, pass, passes_from, stands_in, top_level, constants}
 use Rattle.lines.specs.Lines.{read_at, nodes_in}
 use Rattle.implement.specs.Modules.{module_at, line_number}
 use Rattle.checks.specs.Checks.{Checked}
 use Rattle.source.specs.Walk.{open_at, con_of}
 use Rattle.names.specs.Table.{log_in, names_in, ConstsLogged}
 use Rattle.iota.specs.Iota.{counter_of}
+use Rattle.answers.specs.declared.Refusal as Answers
+use Rattle.answers.specs.Answers.{refusal_of}
 use Rattle.consts.specs.declared.Pass.{Pass}
-use Rattle.consts.specs.declared.Visited.{Visited}
-use Rattle.consts.specs.declared.Collected.{Collected}
 
 -- what the lines from line i on declare
 unfoldable pub rest_from : {A : Type 0} → (Declares → List A) → List Node → ℕ → List (Located A)
@@ -68,14 +68,10 @@ step s t m k i iota go =
     let c = const_at s k i in
     entered (sheet_source s).implement c (fold (names_in s t m) (pos iota) c.it.value) go (log_in s t m)
 
--- refusal 8 at line j, from 1
-abbrev pub too_long : ℕ → Refusal
-too_long j = record { number = 8; line = j }
-
 -- it is entered, or its string is too long
-abbrev pub ConstantEntered : Bytes → Bytes → Bytes → ℕ → ℕ → ℕ → ℕ → ℕ → Bool → Type 0
-ConstantEntered s t u n m k i iota true = ConstsLogged s u n (m + 1) × ((go : List Const → Folding) → step s t m k i iota go ≡ go (log_in s u (m + 1)))
-ConstantEntered s t u n m k i iota false = (go : List Const → Folding) → step s t m k i iota go ≡ record { log = log_in s t m; refused = Some (too_long (suc i)) }
+abbrev pub ConstantEntered : Bytes → Bytes → Bytes → ℕ → ℕ → ℕ → ℕ → ℕ → Result Unit Answers.Refusal → Type 0
+ConstantEntered s t u n m k i iota (Ok x) = ConstsLogged s u n (m + 1) × ((go : List Const → Folding) → step s t m k i iota go ≡ go (log_in s u (m + 1)))
+ConstantEntered s t u n m k i iota (Err r) = (go : List Const → Folding) → step s t m k i iota go ≡ record { log = log_in s t m; refused = Some (refusal_of r) }
 
 -- ---- a pass
 
@@ -107,10 +103,10 @@ pub record PassMoves (s t u : Bytes) (n k : ℕ) (p q : Pass) : Type 0 where
   pub same : pass_from s u k q ≡ pass_from s t k p
   pub count : q.count + length (group_from s k q.line) ≡ p.count + length (group_from s k p.line)
 
--- a line is visited: the pass moves on, or the line is refused
-abbrev pub Visits : Bytes → Bytes → Bytes → ℕ → ℕ → Pass → Visited → Type 0
-Visits s t u n k p (Visited.On q) = PassMoves s t u n k p q
-Visits s t u n k p (Visited.Refused j) = (pass_from s t k p).refused ≡ Some (too_long j)
+-- a line is visited: the pass moves on, or the sheet is refused
+abbrev pub Visits : Bytes → Bytes → Bytes → ℕ → ℕ → Pass → Result Pass Answers.Refusal → Type 0
+Visits s t u n k p (Ok q) = PassMoves s t u n k p q
+Visits s t u n k p (Err r) = (pass_from s t k p).refused ≡ Some (refusal_of r)
 
 -- a group whose constants are to be entered from entry m on
 pub record Group (s t : Bytes) (n m k : ℕ) : Type 0 where
@@ -125,11 +121,11 @@ pub record Logs (s u : Bytes) (n m : ℕ) (f : Folding) : Type 0 where
   pub logged : ConstsLogged s u n m
   pub same : f ≡ record { log = log_in s u m; refused = None }
 
--- a pass over the group of line k is done: c entries stand then, or line j is refused
-abbrev pub PassDone : Bytes → Bytes → Bytes → ℕ → ℕ → ℕ → Collected → Type 0
-PassDone s t u n m k (Collected.Count c) =
+-- a pass over the group of line k is done: c entries stand then, or the sheet is refused
+abbrev pub PassDone : Bytes → Bytes → Bytes → ℕ → ℕ → ℕ → Result ℕ Answers.Refusal → Type 0
+PassDone s t u n m k (Ok c) =
     Logs s u n c (pass (sheet_source s).implement (group_from s k 0) new_counter (log_in s t m)) × (c ≡ m + length (group_from s k 0))
-PassDone s t u n m k (Collected.Refused j) = (pass (sheet_source s).implement (group_from s k 0) new_counter (log_in s t m)).refused ≡ Some (too_long j)
+PassDone s t u n m k (Err r) = (pass (sheet_source s).implement (group_from s k 0) new_counter (log_in s t m)).refused ≡ Some (refusal_of r)
 
 -- ---- all passes
 
@@ -143,12 +139,12 @@ pub record PassesBefore (s t : Bytes) (n m i : ℕ) : Type 0 where
 unfoldable pub passes_left : Bytes → Bytes → ℕ → ℕ → Folding
 passes_left s t m i = passes_from (sheet_source s).implement (passes_after s i) (log_in s t m)
 
--- line i is done: the passes behind it give what was left, or line j is refused
-abbrev pub ModulePassed : Bytes → Bytes → Bytes → ℕ → ℕ → ℕ → Collected → Type 0
-ModulePassed s t u n m i (Collected.Count c) = PassesBefore s u n c (i + 1) × (passes_left s u c (i + 1) ≡ passes_left s t m i)
-ModulePassed s t u n m i (Collected.Refused j) = (passes_left s t m i).refused ≡ Some (too_long j)
+-- line i is done: the passes behind it give what was left, or the sheet is refused
+abbrev pub ModulePassed : Bytes → Bytes → Bytes → ℕ → ℕ → ℕ → Result ℕ Answers.Refusal → Type 0
+ModulePassed s t u n m i (Ok c) = PassesBefore s u n c (i + 1) × (passes_left s u c (i + 1) ≡ passes_left s t m i)
+ModulePassed s t u n m i (Err r) = (passes_left s t m i).refused ≡ Some (refusal_of r)
 
--- the constants are the first m of the table, or line j is refused
-abbrev pub Collects : Bytes → Bytes → ℕ → Collected → Type 0
-Collects s u n (Collected.Count m) = ((constants (sheet_source s)).refused ≡ None) × ((constants (sheet_source s)).log ≡ log_in s u m) × ConstsLogged s u n m
-Collects s u n (Collected.Refused j) = (constants (sheet_source s)).refused ≡ Some (too_long j)
+-- the constants are the first m of the table, or the sheet is refused
+abbrev pub Collects : Bytes → Bytes → ℕ → Result ℕ Answers.Refusal → Type 0
+Collects s u n (Ok m) = ((constants (sheet_source s)).refused ≡ None) × ((constants (sheet_source s)).log ≡ log_in s u m) × ConstsLogged s u n m
+Collects s u n (Err r) = (constants (sheet_source s)).refused ≡ Some (refusal_of r)

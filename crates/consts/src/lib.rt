@@ -6,17 +6,11 @@ ghost use Rattle.checks.specs.Checks.{Checked, Kept};
 ghost use Rattle.implement.specs.Modules.{line_number};
 ghost use Rattle.consts.specs.Passes.{ConstLine, ConstantEntered, AtConstant, PassAt, Visits, Group, PassDone, PassesBefore, ModulePassed, Collects, left};
 
+use answers::Refusal;
 use codes::{area, kind};
 use iota::IotaCounter;
 use names::Known;
 use values::NoValue;
-
-// How many constants there are, or the line whose string grows too long.
-#[derive(Clone, Copy)]
-pub enum Collected {
-    Count(usize),
-    Refused(usize),
-}
 
 // A pass before line `line`, where the module of line `within` is open; both from 0.
 #[derive(Clone, Copy)]
@@ -27,15 +21,8 @@ pub struct Pass {
     pub iota: IotaCounter,
 }
 
-// The pass behind a line, or the line that is refused.
-#[derive(Clone, Copy)]
-pub enum Visited {
-    On(Pass),
-    Refused(usize),
-}
-
-// The constant of line i in the module of line k, both from 0: folded, and entered behind those that are known. False where its string grows
-// too long.
+// The constant of line i in the module of line k, both from 0: folded, and entered behind those that are known. Refused
+// where its string grows too long.
 fn take_constant(
     sheet: &[u8],
     work: &mut [u8],
@@ -43,7 +30,7 @@ fn take_constant(
     k: Option<usize>,
     i: usize,
     iota: u32,
-) -> bool
+) -> Result<(), Refusal>
     requires { ConstLine sheet.now work.old c.lines c.consts (line_number k) i }
     ensures { (Kept 5120 work.old work.new) × (ConstantEntered sheet.now work.old work.new c.lines c.consts (line_number k) i iota result) }
 {
@@ -54,18 +41,24 @@ fn take_constant(
     match fold::fold_const(sheet, work, c, iota, r, area::STACK) {
         Ok(v) => {
             entries::enter(work, c.consts, i + 1, within, v, d);
-            true
+            Ok(())
         }
         Err(NoValue::Failed) => {
             entries::enter_failed(work, c.consts, i + 1, within, d);
-            true
+            Ok(())
         }
-        Err(NoValue::LongString) => false,
+        Err(NoValue::LongString) => Err(Refusal::LongString(i + 1)),
     }
 }
 
 // The constant of the line at which a pass stands.
-fn visit_constant(sheet: &[u8], work: &mut [u8], n: usize, k: Option<usize>, p: Pass) -> Visited
+fn visit_constant(
+    sheet: &[u8],
+    work: &mut [u8],
+    n: usize,
+    k: Option<usize>,
+    p: Pass,
+) -> Result<Pass, Refusal>
     requires { (PassAt sheet.now work.old n (line_number k) p) × (AtConstant sheet.now n (line_number k) p) }
     ensures { (Kept 5120 work.old work.new) × (Visits sheet.now work.old work.new n (line_number k) p result) }
 {
@@ -79,10 +72,8 @@ fn visit_constant(sheet: &[u8], work: &mut [u8], n: usize, k: Option<usize>, p: 
         lines: n,
         consts: p.count,
     };
-    if !take_constant(sheet, work, c, k, i, stepped.value) {
-        return Visited::Refused(i + 1);
-    }
-    Visited::On(Pass {
+    take_constant(sheet, work, c, k, i, stepped.value)?;
+    Ok(Pass {
         line: i + 1,
         within: p.within,
         count: p.count + 1,
@@ -91,7 +82,13 @@ fn visit_constant(sheet: &[u8], work: &mut [u8], n: usize, k: Option<usize>, p: 
 }
 
 // One line of a pass over the constants of the module of line k, or of the top level.
-fn visit(sheet: &[u8], work: &mut [u8], n: usize, k: Option<usize>, p: Pass) -> Visited
+fn visit(
+    sheet: &[u8],
+    work: &mut [u8],
+    n: usize,
+    k: Option<usize>,
+    p: Pass,
+) -> Result<Pass, Refusal>
     requires { (PassAt sheet.now work.old n (line_number k) p) × (p.line < n) }
     ensures { (Kept 5120 work.old work.new) × (Visits sheet.now work.old work.new n (line_number k) p result) }
 {
@@ -99,7 +96,7 @@ fn visit(sheet: &[u8], work: &mut [u8], n: usize, k: Option<usize>, p: Pass) -> 
     let within = p.within;
     let counter = p.iota;
     if form::kind(lines::form_at(work, i)) != kind::CON {
-        return Visited::On(Pass {
+        return Ok(Pass {
             line: i + 1,
             within: implement::open_after(sheet, work, n, i, within),
             count: p.count,
@@ -109,7 +106,7 @@ fn visit(sheet: &[u8], work: &mut [u8], n: usize, k: Option<usize>, p: Pass) -> 
     if within == k {
         return visit_constant(sheet, work, n, k, p);
     }
-    Visited::On(Pass {
+    Ok(Pass {
         line: i + 1,
         within,
         count: p.count,
@@ -125,7 +122,13 @@ fn is_left(k: Option<usize>, within: Option<usize>) -> bool
 }
 
 // A pass, with entries from m on: from the line behind the one that opens the group to where the group is left.
-fn pass_consts(sheet: &[u8], work: &mut [u8], n: usize, m: usize, k: Option<usize>) -> Collected
+fn pass_consts(
+    sheet: &[u8],
+    work: &mut [u8],
+    n: usize,
+    m: usize,
+    k: Option<usize>,
+) -> Result<usize, Refusal>
     requires { Group sheet.now work.old n m (line_number k) }
     ensures { (Kept 5120 work.old work.new) × (PassDone sheet.now work.old work.new n m (line_number k) result) }
 {
@@ -142,42 +145,38 @@ fn pass_consts(sheet: &[u8], work: &mut [u8], n: usize, m: usize, k: Option<usiz
     };
     while p.line < n {
         if is_left(k, p.within) {
-            return Collected::Count(p.count);
+            return Ok(p.count);
         }
-        let r = visit(sheet, work, n, k, p);
-        match r {
-            Visited::On(q) => p = q,
-            Visited::Refused(j) => return Collected::Refused(j),
-        }
+        p = visit(sheet, work, n, k, p)?;
     }
-    Collected::Count(p.count)
+    Ok(p.count)
 }
 
 // The pass of the module that line i, from 0, opens, if it opens one.
-fn module_consts(sheet: &[u8], work: &mut [u8], n: usize, m: usize, i: usize) -> Collected
+fn module_consts(
+    sheet: &[u8],
+    work: &mut [u8],
+    n: usize,
+    m: usize,
+    i: usize,
+) -> Result<usize, Refusal>
     requires { (PassesBefore sheet.now work.old n m i) × (i < n) }
     ensures { (Kept 5120 work.old work.new) × (ModulePassed sheet.now work.old work.new n m i result) }
 {
     if form::kind(lines::form_at(work, i)) != kind::MOD {
-        return Collected::Count(m);
+        return Ok(m);
     }
     pass_consts(sheet, work, n, m, Some(i))
 }
 
-// All constants, into their table.
-pub fn collect_consts(sheet: &[u8], work: &mut [u8], n: usize) -> Collected
+// All constants, into their table, and how many there are.
+pub fn collect_consts(sheet: &[u8], work: &mut [u8], n: usize) -> Result<usize, Refusal>
     requires { Checked sheet.now work.old n }
     ensures { (Kept 5120 work.old work.new) × (Collects sheet.now work.new n result) }
 {
     let mut m = 0;
-    let mut i = 0;
-    while i < n {
-        let r = module_consts(sheet, work, n, m, i);
-        match r {
-            Collected::Count(c) => m = c,
-            Collected::Refused(j) => return Collected::Refused(j),
-        }
-        i += 1;
+    for i in 0..n {
+        m = module_consts(sheet, work, n, m, i)?;
     }
     pass_consts(sheet, work, n, m, None)
 }

@@ -1,8 +1,7 @@
 -- What stays while items are printed: tables, constants' strings, and the first value of a line.
 use mathlib.Core.Path.{◌≡◌, refl, ◌∙◌}
-use Prim.Native.Nat.{ℕ, zero, suc, ◌+◌, ◌≤◌, ◌<◌}
+use Prim.Native.Nat.{ℕ, zero, suc, ◌+◌, ◌<◌}
 use native.Mathlib.Omega.{arith}
-use lib.ListN.{length}
 use Rattle.semantics.specs.Text.{Bytes}
 use Rattle.checks.specs.Checks.{Checked, Outside}
 use Rattle.checks.proofs.Kept.{kept-all, kept_then, kept_less, checked-kept, kind-line-kept, outside_above}
@@ -10,14 +9,13 @@ use Rattle.names.specs.Table.{log_in, ConstsLogged}
 use Rattle.names.proofs.Laws.{logged-same, log-stays}
 use Rattle.values.specs.declared.ConstVal.{ConstVal}
 use Rattle.values.specs.declared.ConstVal.TheVariants.{Int, Real, Str}
-use Rattle.values.specs.Values.{At, Within}
+use Rattle.values.specs.Values.{At}
 use Rattle.placements.specs.Placements.{placement_at, slot_at, element_in, values_in, Keeps, StringStands}
 use Rattle.placements.proofs.Same.{part_same, value_same, slot_kept, element-same}
 use Rattle.literals.specs.Literals.{above}
 use Rattle.literals.proofs.Names.{kept_low}
 use Rattle.global_table.specs.Table.{VarLine, places_in, Tabled}
 use Rattle.global_table.proofs.Table.{places-kept, tabled-kept}
-use Rattle.items.specs.Items.{LiteralIn}
 use Rattle.vars.specs.declared.First.{First}
 use Rattle.vars.specs.declared.First.TheVariants.{Value, Array}
 use Rattle.vars.specs.First.{first_in, FirstStands}
@@ -68,19 +66,6 @@ standing-at : (v : ConstVal) → At 49152 v → StringStands (above 16) v
 standing-at (Int z) h = tt
 standing-at (Real x) h = tt
 standing-at (Str p l) h = (omega (arith, h.0), omega (arith, h.0, h.1), h.1)
-
-pub within-at : (n : ℕ) (v : ConstVal) → 65536 ≤ n → At 49152 v → Within n v
-within-at n (Int z) l h = tt
-within-at n (Real x) l h = tt
-within-at n (Str p q) l h = (omega (arith, h.0, h.1), h.1)
-
-within-standing : (n : ℕ) (v : ConstVal) → 65536 ≤ n → StringStands (above 16) v → Within n v
-within-standing n (Int z) l h = tt
-within-standing n (Real x) l h = tt
-within-standing n (Str p q) l h = (omega (arith, h.1), h.2)
-
-pub literal-filled : {t : Bytes} {count : ℕ} → 65536 ≤ length t → ValuesStand t count → LiteralIn t count
-literal-filled {t} l f = record { long = l; few = f.0; strings = λ i h. within-standing (length t) (slot_at t (placement_at t i)) l (f.1 i h) }
 
 -- storing positions of elements leaves it
 module _ {t u : Bytes} (o : Outside 10624 10629 t u) where

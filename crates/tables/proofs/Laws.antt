@@ -10,10 +10,6 @@ use Rattle.checks.specs.Checks.{Checked, Kept, Outside}
 use Rattle.checks.proofs.Kept.{kept_less, kept_then, checked-kept}
 use Rattle.semantics.specs.Sheet.{sheet_source}
 use Rattle.semantics.specs.Const.{constants}
-use Rattle.consts.specs.declared.Collected.{Collected}
-use Rattle.consts.specs.declared.Collected.TheVariants as Collected
-use Rattle.consts.specs.declared.Collected.TheVariants.{Count}
-use Rattle.consts.specs.Passes.{Collects, too_long}
 use Rattle.globals.specs.declared.Globals.{Globals}
 use Rattle.globals.specs.Collect as Globals
 use Rattle.globals.proofs.Collect.{collected-kept}
@@ -70,12 +66,6 @@ module _ {s t t2 t3 t4 : Bytes} {n m r : ℕ} {g : Globals} {d : NeedCounts} (l 
     tables-kept = kept_then (kept_less (omega arith) a.kept) (kept_then (kept_less (omega arith) log.outside.kept) (kept_less (omega arith) o.kept))
 
 -- ---- with the constants
-
-pub constants-there : (s u : Bytes) (n : ℕ) {m : ℕ} {r : Collected} → r ≡ Count m → Collects s u n r → ((constants (sheet_source s)).refused ≡ None) × ((constants (sheet_source s)).log ≡ log_in s u m) × ConstsLogged s u n m
-constants-there s u n e h = rw e at h
-
-pub constants-refused : (s u : Bytes) (n : ℕ) {k : ℕ} {r : Collected} → r ≡ Collected.Refused k → Collects s u n r → (constants (sheet_source s)).refused ≡ Some (too_long k)
-constants-refused s u n e h = rw e at h
 
 pub still-checked : {s t u : Bytes} {n : ℕ} → Checked s t n → Kept 5120 t u → Checked s u n
 still-checked c k = checked-kept (kept_less (omega arith) k) c

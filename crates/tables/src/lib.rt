@@ -7,7 +7,6 @@ ghost use Rattle.names.specs.Table.{log_in, ConstsLogged};
 ghost use Rattle.tables.specs.Tables.{TablesHeld, MakesTables};
 
 use answers::Refusal;
-use consts::Collected;
 
 // How many entries each table has, where allocation ends, and how many keys the needs have.
 #[derive(Clone, Copy)]
@@ -43,8 +42,6 @@ pub fn make_tables(sheet: &[u8], work: &mut [u8], n: usize) -> Result<Tables, Re
     requires { Checked sheet.now work.old n }
     ensures { (MakesTables sheet.now work.new n result) × (Kept 5120 work.old work.new) }
 {
-    match consts::collect_consts(sheet, work, n) {
-        Collected::Refused(k) => Err(Refusal::LongString(k)),
-        Collected::Count(m) => Ok(make_others(sheet, work, n, m)),
-    }
+    let m = consts::collect_consts(sheet, work, n)?;
+    Ok(make_others(sheet, work, n, m))
 }

@@ -4,11 +4,8 @@ use Rattle.checks.specs.Checks.{Kept}
 use Rattle.semantics.specs.Const.{constants}
 use Rattle.semantics.specs.Sheet.{sheet_source}
 use mathlib.Core.Path.{◌≡◌}
-use Prim.Native.Nat.{◌-◌, ◌≤◌}
+use Prim.Native.Nat.{◌≤◌}
 use Rattle.consts.proofs.collect_consts.Given as goal
 
 abbrev pub invariant-loop-i : goal.invariant-loop-i
 invariant-loop-i l = (PassesBefore l.sheet l.work l.n l.m l.i) × (Kept 5120 l.initial.work l.work) × (passes_left l.sheet l.work l.m l.i ≡ constants (sheet_source l.sheet)) × (l.i ≤ l.n)
-
-abbrev pub decreases-loop-i : goal.decreases-loop-i
-decreases-loop-i l = l.n - l.i

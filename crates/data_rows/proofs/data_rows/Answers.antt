@@ -4,20 +4,11 @@ use Rattle.data_rows.proofs.data_rows.Goals as goal
 pub loop-i-init : goal.loop-i-init
 loop-i-init c = walk_start c.requires
 
-pub laid_line-r-requires : goal.laid_line-r-requires
-laid_line-r-requires c = (c.loop-i.invariant.here, c.loop-i-test.true)
-
-pub line_rows-keys-requires : goal.line_rows-keys-requires
-line_rows-keys-requires c = (c.loop-i.invariant.held, c.laid_line-r.ensures.1)
-
 pub open_after-k-requires : goal.open_after-k-requires
 open_after-k-requires c = (walk-open c.requires c.loop-i.invariant c.laid_line-r.result c.laid_line-r.ensures.0 c.line_rows-keys.ensures, c.loop-i-test.true)
 
 pub loop-i-preserved : goal.loop-i-preserved
 loop-i-preserved c = walk-next c.requires c.loop-i.invariant c.laid_line-r.result c.laid_line-r.ensures.0 c.line_rows-keys.ensures c.open_after-k.ensures
-
-pub shape_of-work : goal.shape_of-work
-shape_of-work c = c.loop-i.invariant.keeping.below.long
 
 pub returns : goal.returns
 returns c = walk_end c.requires c.loop-i.invariant c.loop-i-test.false

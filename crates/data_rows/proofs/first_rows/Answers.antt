@@ -1,14 +1,8 @@
 use Rattle.values.specs.Values.{value_in}
 use Rattle.checks.proofs.Kept.{outside-all}
 use Rattle.data_rows.proofs.Printed.{printed-value}
-use Rattle.data_rows.proofs.Firsts.{first-within, first-stands, first-value, first-array}
+use Rattle.data_rows.proofs.Firsts.{first-value, first-array}
 use Rattle.data_rows.proofs.first_rows.Goals as goal
-
-pub value_item-requires : goal.value_item-requires
-value_item-requires c = first-within c.args.work.now c.requires.1 c.in-Value.is c.requires.0.long
-
-pub array_rows-requires : goal.array_rows-requires
-array_rows-requires c = (c.requires.0, first-stands c.args.work.now c.requires.1 c.in-Array.is)
 
 pub returns-in-Value : goal.returns-in-Value
 returns-in-Value c = (λ s ty hf h. first-value ty c.args.off c.in-Value.is (printed-value c.args.off ty (value_in c.args.work.now c.in-Value.v) (λ id. c.value_item.ensures id ty h)), outside-all)

@@ -2,7 +2,6 @@ use Rattle.global_table.specs.Table.{places_in}
 use Rattle.vars.specs.First.{first_in}
 use Rattle.checks.proofs.Kept.{outside-all}
 use Rattle.data_rows.proofs.Printed.{printed-as, printed-none}
-use Rattle.data_rows.proofs.Firsts.{held-keyed}
 use Rattle.data_rows.proofs.Names.{name-nil, name-items}
 use Rattle.data_rows.proofs.name_rows.Goals as goal
 
@@ -10,9 +9,6 @@ pub returns-then-is_nil : goal.returns-then-is_nil
 returns-then-is_nil c =
     let a = c.args in
     (λ ty h. printed-as (name-nil ty (places_in a.sheet.now a.work.now a.c.globals) (first_in a.work.now a.x) a.name.now c.is_nil.ensures c.if-is_nil.true) printed-none, outside-all)
-
-pub first_rows-requires : goal.first_rows-requires
-first_rows-requires c = (held-keyed c.requires.held, c.requires.stands)
 
 pub returns : goal.returns
 returns c =

@@ -17,8 +17,5 @@ next_frame-next-requires c = (map-checked c.loop-i.invariant.1.kept c.requires.0
 pub loop-i-preserved : goal.loop-i-preserved
 loop-i-preserved c = (omega (arith, c.loop-i-test.true), rw (frames-more c.args.sheet.now c.args.work.now c.args.n c.requires.0 c.loop-i.i c.loop-i-test.true) (types-then (frames_to c.args.sheet.now c.loop-i.i) (declares_at (nodes_in c.args.sheet.now) c.loop-i.i).frames c.loop-i.invariant.1 c.next_frame-next.ensures))
 
-pub shape_of-work : goal.shape_of-work
-shape_of-work c = c.loop-i.invariant.1.kept.long
-
 pub returns : goal.returns
 returns c = let e : c.loop-i.i ≡ c.args.n = omega (arith, c.loop-i-test.false, c.loop-i.invariant.0) in rw (← frames-all c.args.sheet.now c.args.work.now c.args.n c.requires.0, ← e) c.loop-i.invariant.1

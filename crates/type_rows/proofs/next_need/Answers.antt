@@ -8,21 +8,12 @@ use Rattle.semantics.specs.Types.{key_shape}
 use Rattle.type_lines.specs.Needs.{need_at}
 use Rattle.type_keys.specs.Table.{need_line_of}
 use Rattle.type_rows.specs.Rows.{keys_to}
-use Rattle.type_rows.proofs.Wrotes.{need-at, need-low, keys-stay, keys-next, keys-then}
+use Rattle.type_rows.proofs.Wrotes.{keys-stay, keys-next, keys-then}
 use Rattle.type_row.proofs.Maps.{types-as}
 use Rattle.type_rows.proofs.next_need.Goals as goal
 
-pub need_position-requires : goal.need_position-requires
-need_position-requires c = (need-low c.args.sheet.now c.args.work.now c.args.c c.requires.0 c.args.q c.requires.1, c.requires.0.log.checked.whole.room)
-
 pub returns-then-base-need_position : goal.returns-then-base-need_position
 returns-then-base-need_position c = let e = keys-stay c.args.sheet.now c.args.work.now c.args.c c.requires.0 c.args.q c.requires.1 c.args.base c.args.id c.requires.3 (λ z. c.if-base-need_position.true (ap (λ (y : ℕ). c.args.base + y) c.need_position.ensures.0 ∙ z)) in (λ a v t w. rw e w, c.requires.3 ∙ ap (λ (y : ℕ). c.args.base + y) (sym (ap length e)))
-
-pub need_line-i-requires : goal.need_line-i-requires
-need_line-i-requires c = (need-low c.args.sheet.now c.args.work.now c.args.c c.requires.0 c.args.q c.requires.1, c.requires.0.log.checked.whole.room)
-
-pub put_need-requires : goal.put_need-requires
-put_need-requires c = (c.requires.0.log, rw c.need_line-i.ensures (need-at c.args.sheet.now c.args.work.now c.args.c c.requires.0 c.args.q c.requires.1), omega (arith, c.requires.2, c.requires.3, c.if-base-need_position.false, c.need_position.ensures.1))
 
 pub returns : goal.returns
 returns c = let e = keys-next c.args.sheet.now c.args.work.now c.args.c c.requires.0 c.args.q c.requires.1 c.args.base c.args.id c.requires.3 (sym (ap (λ (y : ℕ). c.args.base + y) c.need_position.ensures.0) ∙ c.if-base-need_position.false) in
