@@ -26,7 +26,7 @@ use Rattle.semantics.specs.Array.{kind_number, elem_kind, is_of_kind, is_byte_ca
 use Rattle.decimal.specs.Number as Number
 use Rattle.form.specs.Table.{row_at, row_node}
 use Rattle.form.proofs.Table.{row-count, Each, done, ◌also◌, each_at}
-use Rattle.lines.specs.Lines.{reads_in, read_at, nodes_in, form_at}
+use Rattle.lines.specs.Lines.{lines_in, reads_in, read_at, nodes_in, form_at}
 use Rattle.lines.proofs.Line.{form-low, kind-is}
 use Rattle.refs.proofs.Nodes.{node-at}
 use Rattle.sizes.specs.Sizes.{type_at, TypeLine}
@@ -55,13 +55,13 @@ behind (suc (suc zero)) a b c d = absurd (c refl)
 behind (suc (suc (suc zero))) a b c d = absurd (d refl)
 behind (suc (suc (suc (suc f)))) a b c d = refl
 
-module _ {s t : Bytes} {n r : ℕ} (l : TypeLine s t n r) {f : ℕ} (hf : f ≡ form_at t (r - 1)) where
+module _ {s : Bytes} {r : ℕ} (l : TypeLine s r) {f : ℕ} (hf : f ≡ form_at s (r - 1)) where
   kind-of : elem_kind (type_at s r) ≡ form_kind f
   kind-of =
-      let i : r - 1 < n = omega (arith, l.first, l.last) in
+      let i : r - 1 < lines_in s = omega (arith, l.first, l.last) in
       let w = l.checked.whole in
-      let low : form_at t (r - 1) < 8 = type-form (form_at t (r - 1)) (form-low s t n w (r - 1) i) (sym (kind-is s t n w (r - 1) i) ∙ l.kind) in
-      ap (λ (m : Node). elem_kind m.ty) (node-at s t n w l.checked.good (r - 1) i) ∙ rw hf (kind-of-form (nodes_in s) (read_at s (r - 1)).fields (form_at t (r - 1)) low)
+      let low : form_at s (r - 1) < 8 = type-form (form_at s (r - 1)) (form-low s w (r - 1) i) (sym (kind-is s w (r - 1) i) ∙ l.kind) in
+      ap (λ (m : Node). elem_kind m.ty) (node-at s w l.checked.good (r - 1) i) ∙ rw hf (kind-of-form (nodes_in s) (read_at s (r - 1)).fields (form_at s (r - 1)) low)
 
   pub kind_at : {g : ℕ} → f ≡ g → form_kind g ≡ elem_kind (type_at s r)
   kind_at e = sym (kind-of ∙ ap form_kind e)
@@ -89,22 +89,22 @@ module _ (ns : List Node) (fs : List Bytes) where
       (refl also refl also refl also refl also refl also refl also refl also refl also refl also refl also refl also refl also refl also refl also refl also done)
       (refl also refl also refl also refl also refl also refl also refl also refl also refl also refl also refl also refl also refl also refl also refl also refl also refl also refl also refl also refl also refl also refl also refl also refl also refl also refl also done)
 
-module _ {s t : Bytes} {n r : ℕ} (l : KindLine 69 s t n r) where
-  pub cast-not : {f : ℕ} → f ≡ form_at t (r - 1) → (f ≡ 15 → ⊥) → false ≡ is_byte_cast (ex_at s r)
-  cast-not {f} e h = sym (ap (λ (x : Node). is_byte_cast x.ex) (makes l refl) ∙ no-cast (nodes_in s) (read_at s (r - 1)).fields (form_at t (r - 1)) (line-form l).0 (go (ltb (form_at t (r - 1)) 15) refl))
+module _ {s : Bytes} {r : ℕ} (l : KindLine 69 s r) where
+  pub cast-not : {f : ℕ} → f ≡ form_at s (r - 1) → (f ≡ 15 → ⊥) → false ≡ is_byte_cast (ex_at s r)
+  cast-not {f} e h = sym (ap (λ (x : Node). is_byte_cast x.ex) (makes l refl) ∙ no-cast (nodes_in s) (read_at s (r - 1)).fields (form_at s (r - 1)) (line-form l).0 (go (ltb (form_at s (r - 1)) 15) refl))
     where
-      go : (b : Bool) → ltb (form_at t (r - 1)) 15 ≡ b → (form_at t (r - 1) < 15) ⊎ (16 ≤ form_at t (r - 1))
-      go true d = inl (ltb-true (form_at t (r - 1)) 15 d)
-      go false d = let x : 15 ≤ form_at t (r - 1) = ltb-false (form_at t (r - 1)) 15 d in inr (omega (arith, h))
+      go : (b : Bool) → ltb (form_at s (r - 1)) 15 ≡ b → (form_at s (r - 1) < 15) ⊎ (16 ≤ form_at s (r - 1))
+      go true d = inl (ltb-true (form_at s (r - 1)) 15 d)
+      go false d = let x : 15 ≤ form_at s (r - 1) = ltb-false (form_at s (r - 1)) 15 d in inr (omega (arith, h))
 
-  module _ {f : ℕ} (e : f ≡ form_at t (r - 1)) (h : f ≡ 15) {v : ℕ} (hv : v ≡ Number.number_up_to 65536 (get_or (read_at s (r - 1)).fields 0 [])) where
-    cast-good : (v ≡ number_of (get_or (read_at s (r - 1)).fields 0 [])) × KindLine 75 s t n v
+  module _ {f : ℕ} (e : f ≡ form_at s (r - 1)) (h : f ≡ 15) {v : ℕ} (hv : v ≡ Number.number_up_to 65536 (get_or (read_at s (r - 1)).fields 0 [])) where
+    cast-good : (v ≡ number_of (get_or (read_at s (r - 1)).fields 0 [])) × KindLine 75 s v
     unfolding forms
     cast-good =
         let w = parts_at l (sym e ∙ h) in
         good-line l 75 (get_or (read_at s (r - 1)).fields 0 []) v hv (ref-head (reads_in s) (r - 1) k_ty (one (ref k_ex) ∷ []) (read_at s (r - 1)).fields w.0 w.1).0
 
-    pub cast-line : TypeLine s t n v
+    pub cast-line : TypeLine s v
     cast-line = cast-good.1
 
     cast-value : is_of_kind k_byte (type_at s v) ≡ is_byte_cast (ex_at s r)
@@ -139,7 +139,7 @@ some-elements s r (suc c) h = let z : suc c - 0 ≡ suc c = omega arith in rw z
 no-elements : (s : Bytes) (r count : ℕ) → count ≤ 0 → is_byte_literal (els_from s r count 0) ≡ false
 no-elements s r count h = let z : count - 0 ≡ 0 = omega arith in rw z
 
-module _ {s t : Bytes} {n r : ℕ} (k : LiteralLine s t n r) {count : ℕ} (hc : count ≡ Number.number_up_to 65536 (get_or (read_at s (r - 1)).fields 2 [])) {j : ℕ} (c : Casting s r count j) where
+module _ {s : Bytes} {r : ℕ} (k : LiteralLine s r) {count : ℕ} (hc : count ≡ Number.number_up_to 65536 (get_or (read_at s (r - 1)).fields 2 [])) {j : ℕ} (c : Casting s r count j) where
   pub casting-end : count ≤ j → ltb 0 count ≡ is_byte_literal (els_at s r)
   casting-end h = go (ltb 0 count) refl
     where
@@ -151,14 +151,14 @@ module _ {s t : Bytes} {n r : ℕ} (k : LiteralLine s t n r) {count : ℕ} (hc :
       go false e = sym (ap is_byte_literal (sym (all-elements k hc)) ∙ no-elements s r count (ltb-false 0 count e))
 
   module _ (h : j < count) {q : ℕ} (hq : q ≡ Number.number_up_to 65536 (get_or (read_at s (r - 1)).fields (3 + j) [])) where
-    pub element-at : KindLine 76 s t n q
+    pub element-at : KindLine 76 s q
     element-at = element-line k hc h hq
 
     module _ {v : ℕ} (hv : v ≡ Number.number_up_to 65536 (get_or (read_at s (q - 1)).fields 0 [])) where
-      element-value : (v ≡ number_of (get_or (read_at s (q - 1)).fields 0 [])) × KindLine 69 s t n v
+      element-value : (v ≡ number_of (get_or (read_at s (q - 1)).fields 0 [])) × KindLine 69 s v
       element-value = good-line element-at 69 (get_or (read_at s (q - 1)).fields 0 []) v hv (value-ref element-at)
 
-      pub value_line : KindLine 69 s t n v
+      pub value_line : KindLine 69 s v
       value_line = element-value.1
 
       split-casts : all_byte_casts (els_from s r count j) ≡ is_byte_cast (ex_at s v) && all_byte_casts (els_from s r count (j + 1))

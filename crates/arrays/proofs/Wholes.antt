@@ -54,7 +54,7 @@ use Rattle.arrays.proofs.Elements.{outside-forms}
 
 -- ---- the kind
 
-module _ {s t : Bytes} {n : ℕ} {declared : Option ℕ} {r count : ℕ} (c : Counted s t n declared r count) (vs : List Tree.ConstVal) where
+module _ {s : Bytes} {declared : Option ℕ} {r count : ℕ} (c : Counted s declared r count) (vs : List Tree.ConstVal) where
   abbrev kind_of_literal : ElemKind
   kind_of_literal = literal_kind (declared_type s declared) (own_type s r) (els_at s r) vs
 
@@ -62,13 +62,13 @@ module _ {s t : Bytes} {n : ℕ} {declared : Option ℕ} {r count : ℕ} (c : Co
   kind-declared h e = rw h e
 
   module _ (z : declared ≡ None) {v : ℕ} (hv : v ≡ Number.number_up_to 65536 (get_or (read_at s (r - 1)).fields 1 [])) where
-    own-may : (v ≡ number_of (get_or (read_at s (r - 1)).fields 1 [])) × ((v ≡ 0 → ⊥) → KindLine 75 s t n v)
+    own-may : (v ≡ number_of (get_or (read_at s (r - 1)).fields 1 [])) × ((v ≡ 0 → ⊥) → KindLine 75 s v)
     own-may = may-line c.lit.literal.line 75 (get_or (read_at s (r - 1)).fields 1 []) v hv (literal-refs c.lit.literal).1
 
     own_is : own_type s r ≡ type_of s v
     own_is = rw (← own-may.0)
 
-    pub own-type-line : (v ≡ 0 → ⊥) → TypeLine s t n v
+    pub own-type-line : (v ≡ 0 → ⊥) → TypeLine s v
     own-type-line h = own-may.1 h
 
     pub kind-own : {x : ElemKind} → (v ≡ 0 → ⊥) → x ≡ elem_kind (type_at s v) → x ≡ kind_of_literal
@@ -98,18 +98,18 @@ module _ (s t : Bytes) (declared : Option ℕ) (r size k next reach : ℕ) (f : 
 
 -- ---- what is kept of the lines
 
-module _ {s t u : Bytes} {n : ℕ} {declared : Option ℕ} {r : ℕ} (k : Keeps 16384 49152 t u) (l : DeclaredLiteral s t n declared r) where
-  form-same : form_at u (r - 1) ≡ form_at t (r - 1)
+module _ {s t u : Bytes} {declared : Option ℕ} {r : ℕ} (k : Keeps 16384 49152 t u) (l : DeclaredLiteral s declared r) where
+  form-same : form_at u (r - 1) ≡ form_at s (r - 1)
   unfolding form_at
-  form-same = k.below (2048 + (r - 1)) (omega (arith, line-in l.literal.line, l.literal.line.checked.whole.lined.few))
+  form-same = k.below (2048 + (r - 1)) (omega (arith, line-in l.literal.line, l.literal.line.checked.whole.few))
 
-  pub lit-kept : DeclaredLiteral s u n declared r
+  pub lit-kept : DeclaredLiteral s declared r
   lit-kept = record {
     literal = record { line = line_kept k l.literal.line; form = form-same ∙ l.literal.form };
     declares = go declared l.declares;
   }
     where
-      go : (o : Option ℕ) → IfSome o (TypeLine s t n) → IfSome o (TypeLine s u n)
+      go : (o : Option ℕ) → IfSome o (TypeLine s) → IfSome o (TypeLine s)
       go None h = tt
       go (Some d) h = line_kept k h
 
@@ -118,7 +118,7 @@ module _ {s t u : Bytes} {n : ℕ} {declared : Option ℕ} {r : ℕ} (k : Keeps 
 pub size-keeps : {t u : Bytes} → Kept (above 16) t u → Keeps 16384 49152 t u
 size-keeps c = keeps-less (omega arith) (omega arith) (keeps-kept {a = 0} (omega arith) c)
 
-module _ {s t u : Bytes} {n m : ℕ} {declared : Option ℕ} {r : ℕ} (l : DeclaredLiteral s t n declared r) (o : ConstsLogged s t n m) (c : Kept (above 16) t u) where
+module _ {s t u : Bytes} {m : ℕ} {declared : Option ℕ} {r : ℕ} (l : DeclaredLiteral s declared r) (o : ConstsLogged s t m) (c : Kept (above 16) t u) where
   module _ {reach : ℕ} (x : Outcome ℕ) (h : (f : Filled) → reach ≡ f.reach → answered x ≡ literal_size (names_in s t m) (lit_size s r) f) where
     pub sized-none : (e : NoValue) → x ≡ Err e → Sized s t m declared r reach (Err (item_of e)) u
     sized-none e d = record {
@@ -159,11 +159,11 @@ ended_as (Err e) = Err (item_of e)
 abbrev after_filling : Bytes → Bytes → ℕ → Option ℕ → ℕ → Filled → Result Array.ConstArray
 after_filling s t m declared r f = bind (literal_size (names_in s t m) (lit_size s r) f) (Array.measured (declared_type s declared) (own_type s r) (els_at s r) f)
 
-module _ {s t u : Bytes} {n m : ℕ} {declared : Option ℕ} {r : ℕ} (l : DeclaredLiteral s t n declared r) (o : ConstsLogged s t n m) (y : Outcome (Option Extent)) (a : AllFilled t (fill (names_in s t m) (els_at s r) none_filled) y u) where
+module _ {s t u : Bytes} {m : ℕ} {declared : Option ℕ} {r : ℕ} (l : DeclaredLiteral s declared r) (o : ConstsLogged s t m) (y : Outcome (Option Extent)) (a : AllFilled t (fill (names_in s t m) (els_at s r) none_filled) y u) where
   literal-by : const_array (names_in s t m) (declared_type s declared) (ex_at s r) ≡ bind (fill (names_in s t m) (els_at s r) none_filled) (after_filling s t m declared r)
   literal-by = rw (literal-is l.literal)
 
-  pub literal-kept : (DeclaredLiteral s u n declared r) × (ConstsLogged s u n m)
+  pub literal-kept : (DeclaredLiteral s declared r) × (ConstsLogged s u m)
   literal-kept = (lit-kept a.keeps l, logged-kept a.keeps o)
 
   -- one that has ended
@@ -199,12 +199,12 @@ module _ (ns : List Node) (fs : List Bytes) (names : Names) (o : Option Ty) wher
       (refl also refl also refl also refl also refl also refl also refl also refl also refl also refl also refl also refl also refl also refl also refl also refl also refl also done)
       (refl also refl also refl also refl also refl also refl also refl also refl also refl also refl also refl also refl also refl also refl also refl also refl also refl also refl also refl also refl also refl also refl also refl also done)
 
-pub other-line : {s t : Bytes} {n : ℕ} {declared : Option ℕ} {r : ℕ} → ArrayLine s t n declared r → (m : ℕ) {f : ℕ} → f ≡ form_at t (r - 1) → (f ≡ 17 → ⊥) → (f ≡ 18 → ⊥) → ArrayAnswers t (const_array (names_in s t m) (declared_type s declared) (ex_at s r)) (Err Pending) t
+pub other-line : {s t : Bytes} {declared : Option ℕ} {r : ℕ} → ArrayLine s declared r → (m : ℕ) {f : ℕ} → f ≡ form_at s (r - 1) → (f ≡ 17 → ⊥) → (f ≡ 18 → ⊥) → ArrayAnswers t (const_array (names_in s t m) (declared_type s declared) (ex_at s r)) (Err Pending) t
 other-line {s} {t} {n} {declared} {r} k m {f} e a b = record {
-  array = record { result = sym (ap (λ (x : Node). const_array (names_in s t m) (declared_type s declared) x.ex) (makes k.line refl) ∙ no-array (nodes_in s) (read_at s (r - 1)).fields (names_in s t m) (declared_type s declared) (form_at t (r - 1)) (line-form k.line).0 (go (ltb (form_at t (r - 1)) 17) refl)); stands = tt };
+  array = record { result = sym (ap (λ (x : Node). const_array (names_in s t m) (declared_type s declared) x.ex) (makes k.line refl) ∙ no-array (nodes_in s) (read_at s (r - 1)).fields (names_in s t m) (declared_type s declared) (form_at s (r - 1)) (line-form k.line).0 (go (ltb (form_at s (r - 1)) 17) refl)); stands = tt };
   keeps = keeps-all;
 }
   where
-    go : (c : Bool) → ltb (form_at t (r - 1)) 17 ≡ c → (form_at t (r - 1) < 17) ⊎ (19 ≤ form_at t (r - 1))
-    go true d = inl (ltb-true (form_at t (r - 1)) 17 d)
-    go false d = let x : 17 ≤ form_at t (r - 1) = ltb-false (form_at t (r - 1)) 17 d in inr (omega (arith, a, b))
+    go : (c : Bool) → ltb (form_at s (r - 1)) 17 ≡ c → (form_at s (r - 1) < 17) ⊎ (19 ≤ form_at s (r - 1))
+    go true d = inl (ltb-true (form_at s (r - 1)) 17 d)
+    go false d = let x : 17 ≤ form_at s (r - 1) = ltb-false (form_at s (r - 1)) 17 d in inr (omega (arith, a, b))

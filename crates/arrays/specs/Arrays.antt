@@ -91,27 +91,27 @@ abbrev pub alloc_type : Bytes → Option ℕ → ℕ → Ty
 alloc_type s declared r = or_else (type_at s (number_of (get_or (read_at s (r - 1)).fields 1 []))) (declared_type s declared)
 
 -- what is declared is a `ty` line
-abbrev pub DeclaredElement : Bytes → Bytes → ℕ → Option ℕ → Type 0
-DeclaredElement s t n declared = IfSome declared (TypeLine s t n)
+abbrev pub DeclaredElement : Bytes → Option ℕ → Type 0
+DeclaredElement s declared = IfSome declared (TypeLine s)
 
 -- line r is an `ex` line, for a global whose type may declare its elements' type in a line
-pub record ArrayLine (s t : Bytes) (n : ℕ) (declared : Option ℕ) (r : ℕ) : Type 0 where
-  pub line : ExLine s t n r
-  pub declares : DeclaredElement s t n declared
+pub record ArrayLine (s : Bytes) (declared : Option ℕ) (r : ℕ) : Type 0 where
+  pub line : ExLine s r
+  pub declares : DeclaredElement s declared
 
 -- and an `ex,alloc` line, form 17
-pub record AllocLine (s t : Bytes) (n : ℕ) (declared : Option ℕ) (r : ℕ) : Type 0 where
-  pub array : ArrayLine s t n declared r
-  pub form : form_at t (r - 1) ≡ 17
+pub record AllocLine (s : Bytes) (declared : Option ℕ) (r : ℕ) : Type 0 where
+  pub array : ArrayLine s declared r
+  pub form : form_at s (r - 1) ≡ 17
 
 -- line r is an `ex,lit` line, for such a global
-pub record DeclaredLiteral (s t : Bytes) (n : ℕ) (declared : Option ℕ) (r : ℕ) : Type 0 where
-  pub literal : LiteralLine s t n r
-  pub declares : DeclaredElement s t n declared
+pub record DeclaredLiteral (s : Bytes) (declared : Option ℕ) (r : ℕ) : Type 0 where
+  pub literal : LiteralLine s r
+  pub declares : DeclaredElement s declared
 
 -- and has `count` values
-pub record Counted (s t : Bytes) (n : ℕ) (declared : Option ℕ) (r count : ℕ) : Type 0 where
-  pub lit : DeclaredLiteral s t n declared r
+pub record Counted (s : Bytes) (declared : Option ℕ) (r count : ℕ) : Type 0 where
+  pub lit : DeclaredLiteral s declared r
   pub few : count ≤ 1024
 
 -- t has become u, where x is what the literal of line r is whose elements t holds

@@ -18,9 +18,9 @@ ghost use Rattle.literals.specs.Literals.{els_at, LiteralLine, above};
 ghost use Rattle.arrays.specs.Arrays.{item_of, ArrayResult, ArrayAnswers, declared_type, lit_size, own_type, alloc_type, ArrayLine, AllocLine, DeclaredLiteral, Counted, Sized};
 
 use codes::element::Element;
-use codes::{area, ex, ty};
-use names::Known;
+use codes::{area::{self, Space}, ex, ty};
 use values::{Folded, NoValue};
+use lines::Sheet;
 
 // Above the strings of 16 elements.
 const ABOVE: usize = area::STACK + 256 * 16;
@@ -61,11 +61,11 @@ impl From<NoValue> for NoItem {
 }
 
 // How an array holds elements of the type of line r.
-pub fn elem_kind(sheet: &[u8], work: &[u8], n: usize, r: usize) -> Element
-    requires { TypeLine sheet.now work.now n r }
+pub fn elem_kind(sheet: &Sheet, r: usize) -> Element
+    requires { TypeLine sheet.now r }
     ensures { element_kind result ≡ elem_kind (type_at sheet.now r) }
 {
-    match lines::form_at(work, r - 1) {
+    match sheet.form_at(r - 1) {
         ty::INT => Element::Word,
         ty::BYTE => Element::Byte,
         ty::BIG => Element::Big,
@@ -99,29 +99,23 @@ fn allocated(kind: Element, x: Folded) -> Result<Arrayed, NoItem>
 }
 
 // The element type is the one that is declared, or else the `alloc` line's own.
-fn alloc_kind(sheet: &[u8], work: &[u8], n: usize, declared: Option<usize>, r: usize) -> Element
-    requires { AllocLine sheet.now work.now n declared r }
+fn alloc_kind(sheet: &Sheet, declared: Option<usize>, r: usize) -> Element
+    requires { AllocLine sheet.now declared r }
     ensures { element_kind result ≡ elem_kind (alloc_type sheet.now declared r) }
 {
     match declared {
-        Some(d) => elem_kind(sheet, work, n, d),
-        None => elem_kind(sheet, work, n, lines::number_at(sheet, work, n, r - 1, 1)),
+        Some(d) => elem_kind(sheet, d),
+        None => elem_kind(sheet, sheet.number_at(r - 1, 1)),
     }
 }
 
-fn alloc(
-    sheet: &[u8],
-    work: &mut [u8],
-    c: Known,
-    declared: Option<usize>,
-    r: usize,
-) -> Result<Arrayed, NoItem>
-    requires { (AllocLine sheet.now work.old c.lines declared r) × (ConstsLogged sheet.now work.old c.lines c.consts) }
-    ensures { ArrayAnswers work.old (const_array (names_in sheet.now work.old c.consts) (declared_type sheet.now declared) (ex_at sheet.now r)) result work.new }
+fn alloc(sheet: &Sheet, work: &mut Space, consts: usize, declared: Option<usize>, r: usize) -> Result<Arrayed, NoItem>
+    requires { (AllocLine sheet.now declared r) × (ConstsLogged sheet.now work.old consts) }
+    ensures { ArrayAnswers work.old (const_array (names_in sheet.now work.old consts) (declared_type sheet.now declared) (ex_at sheet.now r)) result work.new }
 {
-    let kind = alloc_kind(sheet, work, c.lines, declared, r);
-    let q = lines::number_at(sheet, work, c.lines, r - 1, 0);
-    allocated(kind, fold::fold_const(sheet, work, c, 0, q, area::STACK))
+    let kind = alloc_kind(sheet, declared, r);
+    let q = sheet.number_at(r - 1, 0);
+    allocated(kind, fold::fold_const(sheet, work, consts, 0, q, area::STACK))
 }
 
 // ---- literals
@@ -137,43 +131,37 @@ fn as_size(x: Folded) -> Result<u64, NoValue>
 }
 
 // The size of a literal: its own, or as many as its indices reach.
-fn literal_size(
-    sheet: &[u8],
-    work: &mut [u8],
-    c: Known,
-    r: usize,
-    reach: u64,
-) -> Result<u64, NoValue>
-    requires { (LiteralLine sheet.now work.old c.lines r) × (ConstsLogged sheet.now work.old c.lines c.consts) }
-    ensures { ((f : Filled) → reach ≡ f.reach → answered result ≡ Array.literal_size (names_in sheet.now work.old c.consts) (lit_size sheet.now r) f) × (Kept (above 16) work.old work.new) }
+fn literal_size(sheet: &Sheet, work: &mut Space, consts: usize, r: usize, reach: u64) -> Result<u64, NoValue>
+    requires { (LiteralLine sheet.now r) × (ConstsLogged sheet.now work.old consts) }
+    ensures { ((f : Filled) → reach ≡ f.reach → answered result ≡ Array.literal_size (names_in sheet.now work.old consts) (lit_size sheet.now r) f) × (Kept (above 16) work.old work.new) }
 {
-    let q = lines::number_at(sheet, work, c.lines, r - 1, 0);
+    let q = sheet.number_at(r - 1, 0);
     if q == 0 {
         return Ok(reach);
     }
-    as_size(fold::fold_const(sheet, work, c, 0, q, ABOVE))
+    as_size(fold::fold_const(sheet, work, consts, 0, q, ABOVE))
 }
 
 // Whether the expression of line r is itself a cast to byte.
-fn is_byte_cast(sheet: &[u8], work: &[u8], n: usize, r: usize) -> bool
-    requires { ExLine sheet.now work.now n r }
+fn is_byte_cast(sheet: &Sheet, r: usize) -> bool
+    requires { ExLine sheet.now r }
     ensures { result ≡ is_byte_cast (ex_at sheet.now r) }
 {
-    if lines::form_at(work, r - 1) != ex::CAST {
+    if sheet.form_at(r - 1) != ex::CAST {
         return false;
     }
-    elem_kind(sheet, work, n, lines::number_at(sheet, work, n, r - 1, 0)) == Element::Byte
+    elem_kind(sheet, sheet.number_at(r - 1, 0)) == Element::Byte
 }
 
 // Whether there is an element, and the value of every one is a cast to byte.
-fn is_byte_literal(sheet: &[u8], work: &[u8], n: usize, r: usize) -> bool
-    requires { LiteralLine sheet.now work.now n r }
+fn is_byte_literal(sheet: &Sheet, r: usize) -> bool
+    requires { LiteralLine sheet.now r }
     ensures { result ≡ is_byte_literal (els_at sheet.now r) }
 {
-    let count = lines::number_at(sheet, work, n, r - 1, 2);
+    let count = sheet.number_at(r - 1, 2);
     for j in 0..count {
-        let q = lines::number_at(sheet, work, n, r - 1, 3 + j);
-        if !is_byte_cast(sheet, work, n, lines::number_at(sheet, work, n, q - 1, 0)) {
+        let q = sheet.number_at(r - 1, 3 + j);
+        if !is_byte_cast(sheet, sheet.number_at(q - 1, 0)) {
             return false;
         }
     }
@@ -181,98 +169,65 @@ fn is_byte_literal(sheet: &[u8], work: &[u8], n: usize, r: usize) -> bool
 }
 
 // By the type that is declared, or else the literal's own, or else by its values.
-fn literal_kind(
-    sheet: &[u8],
-    work: &[u8],
-    n: usize,
-    declared: Option<usize>,
-    r: usize,
-    count: usize,
-) -> Element
-    requires { Counted sheet.now work.now n declared r count }
+fn literal_kind(sheet: &Sheet, work: &Space, declared: Option<usize>, r: usize, count: usize) -> Element
+    requires { Counted sheet.now declared r count }
     ensures { element_kind result ≡ literal_kind (declared_type sheet.now declared) (own_type sheet.now r) (els_at sheet.now r) (values_in work.now 0 count) }
 {
     if let Some(d) = declared {
-        return elem_kind(sheet, work, n, d);
+        return elem_kind(sheet, d);
     }
-    let own = lines::number_at(sheet, work, n, r - 1, 1);
+    let own = sheet.number_at(r - 1, 1);
     if own != 0 {
-        return elem_kind(sheet, work, n, own);
+        return elem_kind(sheet, own);
     }
-    if is_byte_literal(sheet, work, n, r) {
+    if is_byte_literal(sheet, r) {
         return Element::Byte;
     }
     placements::kind_of_values(work, count)
 }
 
 // A literal of a size, which its indices do not pass.
-fn measured(
-    sheet: &[u8],
-    work: &[u8],
-    n: usize,
-    declared: Option<usize>,
-    r: usize,
-    size: u64,
-) -> Result<Arrayed, NoItem>
-    requires { DeclaredLiteral sheet.now work.now n declared r }
+fn measured(sheet: &Sheet, work: &Space, declared: Option<usize>, r: usize, size: u64) -> Result<Arrayed, NoItem>
+    requires { DeclaredLiteral sheet.now declared r }
     ensures { (k next reach : ℕ) (f : Filled) → reach ≤ size → Filling work.now (above 16) k next reach f → ArrayResult work.now (Array.measured (declared_type sheet.now declared) (own_type sheet.now r) (els_at sheet.now r) f size) result }
 {
     if LONGEST_LITERAL < size {
         return Err(NoItem::LongLiteral);
     }
     let count = size as usize;
-    Ok(Arrayed::Literal(literal_kind(sheet, work, n, declared, r, count), count))
+    Ok(Arrayed::Literal(literal_kind(sheet, work, declared, r, count), count))
 }
 
 // A literal whose elements are placed, with indices that end at `reach`.
-fn sized(
-    sheet: &[u8],
-    work: &mut [u8],
-    c: Known,
-    declared: Option<usize>,
-    r: usize,
-    reach: u64,
-) -> Result<Arrayed, NoItem>
-    requires { (DeclaredLiteral sheet.now work.old c.lines declared r) × (ConstsLogged sheet.now work.old c.lines c.consts) }
-    ensures { Sized sheet.now work.old c.consts declared r reach result work.new }
+fn sized(sheet: &Sheet, work: &mut Space, consts: usize, declared: Option<usize>, r: usize, reach: u64) -> Result<Arrayed, NoItem>
+    requires { (DeclaredLiteral sheet.now declared r) × (ConstsLogged sheet.now work.old consts) }
+    ensures { Sized sheet.now work.old consts declared r reach result work.new }
 {
-    let size = literal_size(sheet, work, c, r, reach)?;
+    let size = literal_size(sheet, work, consts, r, reach)?;
     if size < reach {
         return Err(NoItem::OutsideLiteral);
     }
-    measured(sheet, work, c.lines, declared, r, size)
+    measured(sheet, work, declared, r, size)
 }
 
-fn literal(
-    sheet: &[u8],
-    work: &mut [u8],
-    c: Known,
-    declared: Option<usize>,
-    r: usize,
-) -> Result<Arrayed, NoItem>
-    requires { (DeclaredLiteral sheet.now work.old c.lines declared r) × (ConstsLogged sheet.now work.old c.lines c.consts) }
-    ensures { ArrayAnswers work.old (const_array (names_in sheet.now work.old c.consts) (declared_type sheet.now declared) (ex_at sheet.now r)) result work.new }
+fn literal(sheet: &Sheet, work: &mut Space, consts: usize, declared: Option<usize>, r: usize) -> Result<Arrayed, NoItem>
+    requires { (DeclaredLiteral sheet.now declared r) × (ConstsLogged sheet.now work.old consts) }
+    ensures { ArrayAnswers work.old (const_array (names_in sheet.now work.old consts) (declared_type sheet.now declared) (ex_at sheet.now r)) result work.new }
 {
-    match literals::fill(sheet, work, c, r)? {
-        Some(x) => sized(sheet, work, c, declared, r, x.reach),
+    match literals::fill(sheet, work, consts, r)? {
+        Some(x) => sized(sheet, work, consts, declared, r, x.reach),
         None => Err(NoItem::Pending),
     }
 }
 
 // The constant array that line r is, where `declared` is the line of the type that the global's type declares for elements.
-pub fn const_array(
-    sheet: &[u8],
-    work: &mut [u8],
-    c: Known,
-    declared: Option<usize>,
-    r: usize,
-) -> Result<Arrayed, NoItem>
-    requires { (ArrayLine sheet.now work.old c.lines declared r) × (ConstsLogged sheet.now work.old c.lines c.consts) }
-    ensures { ArrayAnswers work.old (const_array (names_in sheet.now work.old c.consts) (declared_type sheet.now declared) (ex_at sheet.now r)) result work.new }
+pub fn const_array(sheet: &Sheet, work: &mut Space, consts: usize, declared: Option<usize>, r: usize) -> Result<Arrayed, NoItem>
+    requires { (ArrayLine sheet.now declared r) × (ConstsLogged sheet.now work.old consts) }
+    ensures { ArrayAnswers work.old (const_array (names_in sheet.now work.old consts) (declared_type sheet.now declared) (ex_at sheet.now r)) result work.new }
 {
-    match lines::form_at(work, r - 1) {
-        ex::ALLOC => alloc(sheet, work, c, declared, r),
-        ex::LIT => literal(sheet, work, c, declared, r),
+    match sheet.form_at(r - 1) {
+        ex::ALLOC => alloc(sheet, work, consts, declared, r),
+        ex::LIT => literal(sheet, work, consts, declared, r),
         _ => Err(NoItem::Pending),
     }
 }

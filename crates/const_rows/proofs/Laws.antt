@@ -11,7 +11,7 @@ use native.Mathlib.Numerals.{add-one}
 use lib.IntN.{ℤ}
 use lib.Ieee.{Float, binary64, of_bits, to_bits}
 use lib.ListN.{take, drop, get_or}
-use Rattle.lines.specs.Lines.{read_at}
+use Rattle.lines.specs.Lines.{lines_in, read_at}
 use mir.Syntax.{w64}
 use mir.Val.{SFits}
 use mir.ValLaws.{to_z-of_z}
@@ -152,11 +152,11 @@ new-key s t m i k r h p = rw (h, p)
 
 -- ---- the table
 
-module _ {s t : Bytes} {n m : ℕ} (b : ConstTable s t n m) where
-  pub line-in : {i l : ℕ} → i < m → l ≡ const_line_of t i → (0 < l) × (l ≤ n)
+module _ {s t : Bytes} {m : ℕ} (b : ConstTable s t m) where
+  pub line-in : {i l : ℕ} → i < m → l ≡ const_line_of t i → (0 < l) × (l ≤ lines_in s)
   line-in {i} h e = let x = b.logged.each i h in (omega (arith, x.first), omega (arith, x.last))
 
-  pub module-in : {i k : ℕ} → i < m → k ≡ module_line_of t i → k ≤ n
+  pub module-in : {i k : ℕ} → i < m → k ≡ module_line_of t i → k ≤ lines_in s
   module-in {i} h e = omega (arith, (b.logged.each i h).within)
 
 -- ---- all rows

@@ -7,12 +7,14 @@ ghost use Rattle.write.specs.Writes.{Writes};
 ghost use Rattle.names.specs.Table.{found, log_in, key_of, answers_key, ConstTable, Answered};
 ghost use Rattle.const_rows.specs.Rows.{new_part, rows_to, entry_rows};
 
+use codes::area::Space;
 use codes::value::{self, Value};
-use names::{Key, Known};
+use names::Key;
 use write::Writer;
+use lines::Sheet;
 
 // The fields of the value that a look-up found, to the row's end.
-fn put_value(work: &[u8], w: &mut Writer, r: Option<usize>)
+fn put_value(work: &Space, w: &mut Writer, r: Option<usize>)
     requires { Answered work.now r }
     ensures { Writes w.old (row (value_fields (found work.now r))) w.new }
 {
@@ -55,11 +57,11 @@ fn put_key(w: &mut Writer, key: Key)
 }
 
 // The row of a key.
-fn key_row(sheet: &[u8], work: &[u8], c: Known, w: &mut Writer, key: Key)
-    requires { ConstTable sheet.now work.now c.lines c.consts }
-    ensures { Writes w.old (const_row (log_in sheet.now work.now c.consts) (key_of key.entry)) w.new }
+fn key_row(sheet: &Sheet, work: &Space, consts: usize, w: &mut Writer, key: Key)
+    requires { ConstTable sheet.now work.now consts }
+    ensures { Writes w.old (const_row (log_in sheet.now work.now consts) (key_of key.entry)) w.new }
 {
-    let r = names::look_up(sheet, work, c, key);
+    let r = names::look_up(sheet, work, consts, key);
     w.put_part(b"con,");
     put_key(w, key);
     w.put(b',');
@@ -67,47 +69,47 @@ fn key_row(sheet: &[u8], work: &[u8], c: Known, w: &mut Writer, key: Key)
 }
 
 // The row of a key by which entry i enters its constant, where no entry before it has the key.
-fn new_row(sheet: &[u8], work: &[u8], c: Known, w: &mut Writer, i: usize, key: Key)
-    requires { (ConstTable sheet.now work.now c.lines c.consts) × (i < c.consts) × (answers_key sheet.now work.now i (key_of key) ≡ true) }
-    ensures { Writes w.old (new_part sheet.now work.now c.consts i (key_of key.entry)) w.new }
+fn new_row(sheet: &Sheet, work: &Space, consts: usize, w: &mut Writer, i: usize, key: Key)
+    requires { (ConstTable sheet.now work.now consts) × (i < consts) × (answers_key sheet.now work.now i (key_of key) ≡ true) }
+    ensures { Writes w.old (new_part sheet.now work.now consts i (key_of key.entry)) w.new }
 {
-    if names::look_up_before(sheet, work, c, i, key).is_some() {
+    if names::look_up_before(sheet, work, consts, i, key).is_some() {
         return; // it stands already
     }
-    key_row(sheet, work, c, w, key);
+    key_row(sheet, work, consts, w, key);
 }
 
 // The row that entry i adds among the plain names, or among M->NAME, if it adds one.
-fn entry_row(sheet: &[u8], work: &[u8], c: Known, w: &mut Writer, i: usize, plain: bool)
-    requires { (ConstTable sheet.now work.now c.lines c.consts) × (i < c.consts) }
-    ensures { Writes w.old (entry_rows plain sheet.now work.now c.consts i) w.new }
+fn entry_row(sheet: &Sheet, work: &Space, consts: usize, w: &mut Writer, i: usize, plain: bool)
+    requires { (ConstTable sheet.now work.now consts) × (i < consts) }
+    ensures { Writes w.old (entry_rows plain sheet.now work.now consts i) w.new }
 {
     let module = names::module_line_of(work, i);
-    let name = lines::field_at(sheet, work, c.lines, names::line_of(work, i) - 1, 0);
+    let name = sheet.field_at(names::line_of(work, i) - 1, 0);
     if plain {
-        if implement::is_own(sheet, work, c.lines, module) {
-            new_row(sheet, work, c, w, i, Key { within: None, name });
+        if implement::is_own(sheet, module) {
+            new_row(sheet, work, consts, w, i, Key { within: None, name });
         }
     } else if let Some(k) = module {
-        let within = Some(lines::field_at(sheet, work, c.lines, k, 0));
-        new_row(sheet, work, c, w, i, Key { within, name });
+        let within = Some(sheet.field_at(k, 0));
+        new_row(sheet, work, consts, w, i, Key { within, name });
     }
 }
 
 // All of them.
-fn rows(sheet: &[u8], work: &[u8], c: Known, w: &mut Writer, plain: bool)
-    requires { ConstTable sheet.now work.now c.lines c.consts }
-    ensures { Writes w.old (rows_to plain sheet.now work.now c.consts c.consts) w.new }
+fn rows(sheet: &Sheet, work: &Space, consts: usize, w: &mut Writer, plain: bool)
+    requires { ConstTable sheet.now work.now consts }
+    ensures { Writes w.old (rows_to plain sheet.now work.now consts consts) w.new }
 {
-    for i in 0..c.consts {
-        entry_row(sheet, work, c, w, i, plain);
+    for i in 0..consts {
+        entry_row(sheet, work, consts, w, i, plain);
     }
 }
 
-pub fn const_rows(sheet: &[u8], work: &[u8], c: Known, w: &mut Writer)
-    requires { ConstTable sheet.now work.now c.lines c.consts }
-    ensures { Writes w.old (const_rows (log_in sheet.now work.now c.consts)) w.new }
+pub fn const_rows(sheet: &Sheet, work: &Space, consts: usize, w: &mut Writer)
+    requires { ConstTable sheet.now work.now consts }
+    ensures { Writes w.old (const_rows (log_in sheet.now work.now consts)) w.new }
 {
-    rows(sheet, work, c, w, false);
-    rows(sheet, work, c, w, true);
+    rows(sheet, work, consts, w, false);
+    rows(sheet, work, consts, w, true);
 }

@@ -19,7 +19,7 @@ use Rattle.decimal.specs.Number as Number
 use Rattle.form.specs.Table.{row_at}
 use Rattle.semantics.proofs.Common.{never, both}
 use Rattle.form.proofs.Table.{only-con, form-of-kind}
-use Rattle.lines.specs.Lines.{reads_in, read_at, form_at}
+use Rattle.lines.specs.Lines.{lines_in, reads_in, read_at, form_at}
 use Rattle.lines.proofs.Line.{form-low, form-is, kind-is, read_fits}
 use Rattle.refs.specs.Refs.{fine_ref, fine_refs}
 use Rattle.refs.proofs.Fine.{needed-ref}
@@ -65,15 +65,15 @@ place-exact f = go (Text.nat_of f)
     go None h = never h
     go (Some m) h = omega (arith, leb-true m 65535 h)
 
-module _ (s t : List ℕ) (n i : ℕ) (c : Checked s t n) (h : i < n) (con : letter (read_at s i).form.kind ≡ 68) where
-  form-con : form_at t i ≡ 28
-  form-con = form-of-kind only-con (form_at t i) (form-low s t n c.whole i h) (sym (kind-is s t n c.whole i h) ∙ con)
+module _ (s : List ℕ) (i : ℕ) (c : Checked s) (h : i < lines_in s) (con : letter (read_at s i).form.kind ≡ 68) where
+  form-con : form_at s i ≡ 28
+  form-con = form-of-kind only-con (form_at s i) (form-low s c.whole i h) (sym (kind-is s c.whole i h) ∙ con)
 
   fields-are : Fields (reads_in s) i (read_at s i).fields
   unfolding forms
   fields-are =
-      let p : (read_at s i).form.parts ≡ const_parts = ap (λ (x : Row). x.parts) (form-is s t n c.whole i h) ∙ ap (λ (g : ℕ). (row_at g).parts) form-con in
-      fields-good (reads_in s) i (read_at s i).fields (rw form-con at (read_fits s t n c.whole i h)) (rw p at (c.fine i h))
+      let p : (read_at s i).form.parts ≡ const_parts = ap (λ (x : Row). x.parts) (form-is s c.whole i h) ∙ ap (λ (g : ℕ). (row_at g).parts) form-con in
+      fields-good (reads_in s) i (read_at s i).fields (rw form-con at (read_fits s c.whole i h)) (rw p at (c.fine i h))
 
   pub line-number : Number.number_up_to 65536 (get_or (read_at s i).fields 1 []) ≡ number_of (get_or (read_at s i).fields 1 [])
   line-number = place-exact (get_or (read_at s i).fields 1 []) fields-are.line
@@ -87,9 +87,9 @@ module _ (s t : List ℕ) (n i : ℕ) (c : Checked s t n) (h : i < n) (con : let
     ex-ref = needed-ref (reads_in s) (i + 1) 69 (number_of (get_or (read_at s i).fields 3 [])) fields-are.fine
 
     pub ex-number : r ≡ number_of (get_or (read_at s i).fields 3 [])
-    ex-number = is ∙ number-exact (get_or (read_at s i).fields 3 []) fields-are.number (omega (arith, ex-ref.1, c.whole.lined.few))
+    ex-number = is ∙ number-exact (get_or (read_at s i).fields 3 []) fields-are.number (omega (arith, ex-ref.1, c.whole.few))
 
-    pub ex-line : ExLine s t n r
+    pub ex-line : ExLine s r
     ex-line = record {
       checked = c;
       first = omega (arith, ex-number, ex-ref.0);

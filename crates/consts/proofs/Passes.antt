@@ -15,7 +15,7 @@ use Rattle.semantics.specs.Form.{letter}
 use Rattle.semantics.specs.Sheet.{Module, Located, Source, located_from, sheet_source}
 use Rattle.semantics.specs.Const.{passes_from, stands_in, top_level, constants}
 use Rattle.semantics.proofs.Common.{filter-less}
-use Rattle.lines.specs.Lines.{read_at, nodes_in}
+use Rattle.lines.specs.Lines.{lines_in, read_at, nodes_in}
 use Rattle.refs.proofs.Nodes.{node-count}
 use Rattle.implement.specs.Modules.{module_at}
 use Rattle.checks.specs.Checks.{Checked}
@@ -42,25 +42,25 @@ in-group s zero (suc k) i = sym (ne_eqb 0 (suc k) (λ e. omega arith))
 in-group s (suc o) zero i = sym (ne_eqb (suc o) 0 (λ e. omega arith))
 in-group s (suc o) (suc k) i = refl
 
-module _ (s t : Bytes) (n : ℕ) (c : Checked s t n) where
-  lines_are : length (nodes_in s) ≡ n
-  lines_are = node-count s t n c.whole
+module _ (s : Bytes) (c : Checked s) where
+  lines_are : length (nodes_in s) ≡ lines_in s
+  lines_are = node-count s c.whole
 
-  module _ (i : ℕ) (h : i < n) where
+  module _ (i : ℕ) (h : i < lines_in s) where
     inside : i < length (nodes_in s)
     inside = omega (arith, lines_are)
 
     consts-at : (declares_at (nodes_in s) i).consts ≡ cond (eqb (letter (read_at s i).form.kind) 68) (con_of (nodes_in s) (read_at s i).fields ∷ []) []
     unfolding by_kind
-    consts-at = ap (λ (d : Declares). d.consts) (line-declares s t n c i h)
+    consts-at = ap (λ (d : Declares). d.consts) (line-declares s c i h)
 
     opens_at : (declares_at (nodes_in s) i).opens ≡ cond (eqb (letter (read_at s i).form.kind) 77) (get_or (read_at s i).fields 0 [] ∷ []) []
     unfolding by_kind
-    opens_at = ap (λ (d : Declares). d.opens) (line-declares s t n c i h)
+    opens_at = ap (λ (d : Declares). d.opens) (line-declares s c i h)
 
     closes_at : (declares_at (nodes_in s) i).closes ≡ eqb (letter (read_at s i).form.kind) 79
     unfolding by_kind
-    closes_at = ap (λ (d : Declares). d.closes) (line-declares s t n c i h)
+    closes_at = ap (λ (d : Declares). d.closes) (line-declares s c i h)
 
     -- ---- the module that is open behind a line
 
@@ -97,7 +97,7 @@ module _ (s t : Bytes) (n : ℕ) (c : Checked s t n) where
       unfolding group_from
       group-out e = ap (filter (in_group k)) rest-con ∙ rw (in-group s o k i, ne_eqb o k e)
 
-  pub group-end : (k i : ℕ) → n ≤ i → group_from s k i ≡ []
+  pub group-end : (k i : ℕ) → lines_in s ≤ i → group_from s k i ≡ []
   unfolding group_from
   group-end k i h = ap (filter (in_group k)) (rest_end (λ (d : Declares). d.consts) (nodes_in s) i (omega (arith, lines_are)))
 
@@ -115,17 +115,17 @@ module _ (s t : Bytes) (n : ℕ) (c : Checked s t n) where
   unfolding constants passes_after rest_from open_at
   passes-start = ap (λ (ms : List Module). passes_from (sheet_source s).implement (map (λ (m : Module). filter (stands_in m) (sheet_source s).consts) ms ++ (top_level (sheet_source s) ∷ [])) []) (ap (λ (o : Source). o.modules) (source-of s))
 
-  pub passes-mod : (i : ℕ) → i < n → letter (read_at s i).form.kind ≡ 77 → passes_after s i ≡ group_from s (suc i) 0 ∷ passes_after s (suc i)
+  pub passes-mod : (i : ℕ) → i < lines_in s → letter (read_at s i).form.kind ≡ 77 → passes_after s i ≡ group_from s (suc i) 0 ∷ passes_after s (suc i)
   unfolding passes_after
   passes-mod i h e =
       rw (rest-step (λ (d : Declares). d.opens) (nodes_in s) i (inside i h), opens_at i h, e)
       (ap (λ (g : List (Located ConstDecl)). g ∷ passes_after s (suc i)) (sym (group-all (suc i))))
 
-  pub passes-other : (i : ℕ) → i < n → (letter (read_at s i).form.kind ≡ 77 → ⊥) → passes_after s i ≡ passes_after s (suc i)
+  pub passes-other : (i : ℕ) → i < lines_in s → (letter (read_at s i).form.kind ≡ 77 → ⊥) → passes_after s i ≡ passes_after s (suc i)
   unfolding passes_after
   passes-other i h z = rw (rest-step (λ (d : Declares). d.opens) (nodes_in s) i (inside i h), opens_at i h, ne_eqb (letter (read_at s i).form.kind) 77 z)
 
-  pub passes-end : (i : ℕ) → n ≤ i → passes_after s i ≡ group_from s 0 0 ∷ []
+  pub passes-end : (i : ℕ) → lines_in s ≤ i → passes_after s i ≡ group_from s 0 0 ∷ []
   unfolding passes_after
   passes-end i h =
       rw (rest_end (λ (d : Declares). d.opens) (nodes_in s) i (omega (arith, lines_are)))
@@ -170,13 +170,13 @@ earlier-or-top i (Some m) = go (leb m.line i)
     go true = omega arith
     go false = omega arith
 
-module _ (s t : Bytes) (n : ℕ) (c : Checked s t n) where
+module _ (s : Bytes) (c : Checked s) where
   pub count-mod : (i : ℕ) → count_before s i + length (group_from s (suc i) 0) ≤ count_before s (suc i)
   unfolding count_before
-  count-mod i = rw (group-all s t n c (suc i)) (filter-add (in_earlier i) (in_group (suc i)) (in_earlier (suc i)) (λ x. earlier-or-here i x.within) (sheet_source s).consts)
+  count-mod i = rw (group-all s c (suc i)) (filter-add (in_earlier i) (in_group (suc i)) (in_earlier (suc i)) (λ x. earlier-or-here i x.within) (sheet_source s).consts)
 
   pub count-top : (i : ℕ) → count_before s i + length (group_from s 0 0) ≤ length (sheet_source s).consts
   unfolding count_before
   count-top i =
-      rw (group-all s t n c 0)
+      rw (group-all s c 0)
       (omega (arith, filter-add (in_earlier i) (in_group 0) (λ x. true) (λ x. earlier-or-top i x.within) (sheet_source s).consts, filter-less (λ (x : Located ConstDecl). true) (sheet_source s).consts))

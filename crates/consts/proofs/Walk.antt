@@ -19,11 +19,11 @@ use Rattle.semantics.specs.Fold.{Const}
 use Rattle.semantics.specs.Const.{Refusal, Folding, iota_at, iota_next, new_counter, pass, passes_from, constants}
 use Rattle.decimal.specs.Number as Number
 use Rattle.form.specs.Table.{kind_at}
-use Rattle.lines.specs.Lines.{read_at, nodes_in, form_at}
+use Rattle.lines.specs.Lines.{lines_in, read_at, nodes_in, form_at}
 use Rattle.lines.proofs.Line.{kind-is, form-low}
 use Rattle.implement.specs.Modules.{module_at, line_number, Open}
 use Rattle.checks.specs.Checks.{Checked, Kept}
-use Rattle.checks.proofs.Kept.{kept_less, checked-kept}
+use Rattle.checks.proofs.Kept.{kept_less}
 use Rattle.checks.proofs.Laws.{few-consts}
 use Rattle.source.specs.Walk.{open_at}
 use Rattle.chains.proofs.Laws.{chained-none}
@@ -41,20 +41,20 @@ use Rattle.consts.proofs.Group.{group-start, group-left}
 use Rattle.consts.proofs.Lines.{line-number, col-number}
 
 -- the letter that is read of line i
-module _ {s t : Bytes} {n : ℕ} (c : Checked s t n) {i : ℕ} (h : i < n) where
-  pub form_small : {f : ℕ} → f ≡ form_at t i → f < 42
-  form_small e = omega (arith, form-low s t n c.whole i h)
+module _ {s : Bytes} (c : Checked s) {i : ℕ} (h : i < lines_in s) where
+  pub form_small : {f : ℕ} → f ≡ form_at s i → f < 42
+  form_small e = omega (arith, form-low s c.whole i h)
 
-  pub kind-read : {f x : ℕ} → f ≡ form_at t i → x ≡ kind_at f → letter (read_at s i).form.kind ≡ x
-  kind-read e d = kind-is s t n c.whole i h ∙ ap kind_at (sym e) ∙ sym d
+  pub kind-read : {f x : ℕ} → f ≡ form_at s i → x ≡ kind_at f → letter (read_at s i).form.kind ≡ x
+  kind-read e d = kind-is s c.whole i h ∙ ap kind_at (sym e) ∙ sym d
 
-module _ (s t : Bytes) (n k : ℕ) (p : Pass) (st : PassAt s t n k p) (h : p.line < n) where
-  pub open-here : Open s t n p.line p.within
+module _ (s t : Bytes) (k : ℕ) (p : Pass) (st : PassAt s t k p) (h : p.line < lines_in s) where
+  pub open-here : Open s p.line p.within
   open-here = record { checked = st.checked; within = st.inside; low = st.low; here = sym st.opened }
 
   -- where the group goes on behind the line
-  moves-past : (w : Option ℕ) → line_number w ≤ n → open_at (nodes_in s) (suc p.line) ≡ module_at s (line_number w) → group_from s k p.line ≡ group_from s k (suc p.line)
-      → PassMoves s t t n k p (record { line = p.line + 1; within = w; count = p.count; iota = p.iota })
+  moves-past : (w : Option ℕ) → line_number w ≤ lines_in s → open_at (nodes_in s) (suc p.line) ≡ module_at s (line_number w) → group_from s k p.line ≡ group_from s k (suc p.line)
+      → PassMoves s t t k p (record { line = p.line + 1; within = w; count = p.count; iota = p.iota })
   unfolding pass_from
   moves-past w l o g = record {
     stands = record {
@@ -73,17 +73,17 @@ module _ (s t : Bytes) (n k : ℕ) (p : Pass) (st : PassAt s t n k p) (h : p.lin
   }
 
   module _ {x : ℕ} (kind : letter (read_at s p.line).form.kind ≡ x) where
-    pub moves-other : (x ≡ 68 → ⊥) → {w : Option ℕ} → Open s t n (p.line + 1) w → PassMoves s t t n k p (record { line = p.line + 1; within = w; count = p.count; iota = p.iota })
-    moves-other z {w} o = moves-past w o.low (sym (rw add-one at o.here)) (group-other s t n st.checked p.line h k (λ q. z (sym kind ∙ q)))
+    pub moves-other : (x ≡ 68 → ⊥) → {w : Option ℕ} → Open s (p.line + 1) w → PassMoves s t t k p (record { line = p.line + 1; within = w; count = p.count; iota = p.iota })
+    moves-other z {w} o = moves-past w o.low (sym (rw add-one at o.here)) (group-other s st.checked p.line h k (λ q. z (sym kind ∙ q)))
 
     module _ (con : x ≡ 68) where
       still : open_at (nodes_in s) (suc p.line) ≡ module_at s (line_number p.within)
-      still = open-other s t n st.checked p.line h (λ q. omega (arith, kind)) (λ q. omega (arith, kind)) ∙ st.opened
+      still = open-other s st.checked p.line h (λ q. omega (arith, kind)) (λ q. omega (arith, kind)) ∙ st.opened
 
-      pub moves_out : (line_number p.within ≡ k → ⊥) → PassMoves s t t n k p (record { line = p.line + 1; within = p.within; count = p.count; iota = p.iota })
-      moves_out z = moves-past p.within st.low still (group-out s t n st.checked p.line h (line_number p.within) st.opened k (kind ∙ con) z)
+      pub moves_out : (line_number p.within ≡ k → ⊥) → PassMoves s t t k p (record { line = p.line + 1; within = p.within; count = p.count; iota = p.iota })
+      moves_out z = moves-past p.within st.low still (group-out s st.checked p.line h (line_number p.within) st.opened k (kind ∙ con) z)
 
-      pub at_constant : line_number p.within ≡ k → AtConstant s n k p
+      pub at_constant : line_number p.within ≡ k → AtConstant s k p
       at_constant e = record { line = h; kind = kind ∙ con; own = e }
 
 -- ---- lines compared, and the module left
@@ -115,14 +115,14 @@ left-is (Some i) w = rw (ne_eqb (suc i) 0 (λ q. omega arith), same-line w (Some
 
 -- ---- a constant of the group
 
-module _ (s t : Bytes) (n k : ℕ) (p : Pass) (st : PassAt s t n k p) (a : AtConstant s n k p) where
+module _ (s t : Bytes) (k : ℕ) (p : Pass) (st : PassAt s t k p) (a : AtConstant s k p) where
   group-is : group_from s k p.line ≡ const_at s k p.line ∷ group_from s k (suc p.line)
-  group-is = group-in s t n st.checked p.line a.line (line_number p.within) st.opened k a.kind a.own ∙ ap (λ (o : ℕ). const_at s o p.line ∷ group_from s k (suc p.line)) a.own
+  group-is = group-in s st.checked p.line a.line (line_number p.within) st.opened k a.kind a.own ∙ ap (λ (o : ℕ). const_at s o p.line ∷ group_from s k (suc p.line)) a.own
 
   longer : length (group_from s k p.line) ≡ suc (length (group_from s k (suc p.line)))
   longer = ap length group-is
 
-  pub const-line : ConstLine s t n p.count k p.line
+  pub const-line : ConstLine s t p.count k p.line
   const-line = record {
     checked = st.checked;
     logged = st.logged;
@@ -135,10 +135,10 @@ module _ (s t : Bytes) (n k : ℕ) (p : Pass) (st : PassAt s t n k p) (a : AtCon
   module _ (line col : ℕ) (hl : line ≡ Number.number_up_to 65536 (get_or (read_at s p.line).fields 1 [])) (hc : col ≡ Number.number_up_to 65536 (get_or (read_at s p.line).fields 2 []))
       (x : Stepped) (hx : x ≡ stepped_of p.iota line col) where
     line-is : line ≡ (const_at s k p.line).it.line
-    line-is = hl ∙ line-number s t n p.line st.checked a.line a.kind
+    line-is = hl ∙ line-number s p.line st.checked a.line a.kind
 
     col-is : col ≡ (const_at s k p.line).it.col
-    col-is = hc ∙ col-number s t n p.line st.checked a.line a.kind
+    col-is = hc ∙ col-number s p.line st.checked a.line a.kind
 
     value-is : x.value ≡ iota_at line col (counter_of p.iota)
     value-is = ap (λ (y : Stepped). y.value) hx
@@ -154,19 +154,19 @@ module _ (s t : Bytes) (n k : ℕ) (p : Pass) (st : PassAt s t n k p) (a : AtCon
     pass-from-is = rw (group-is, value-is, line-is, col-is)
 
     module _ (u : Bytes) (kept : Kept 5120 t u) where
-      pub visit-refused : (r : Answers.Refusal) → ConstantEntered s t u n p.count k p.line x.value (Err r) → (pass_from s t k p).refused ≡ Some (refusal_of r)
+      pub visit-refused : (r : Answers.Refusal) → ConstantEntered s t u p.count k p.line x.value (Err r) → (pass_from s t k p).refused ≡ Some (refusal_of r)
       visit-refused r f = ap (λ (g : Folding). g.refused) (pass-from-is ∙ f (pass (sheet_source s).implement (group_from s k (suc p.line)) (iota_next line col (counter_of p.iota))))
 
-      pub visit-on : ConstantEntered s t u n p.count k p.line x.value (Ok (tt {0})) → PassMoves s t u n k p (record { line = p.line + 1; within = p.within; count = p.count + 1; iota = x.next })
+      pub visit-on : ConstantEntered s t u p.count k p.line x.value (Ok (tt {0})) → PassMoves s t u k p (record { line = p.line + 1; within = p.within; count = p.count + 1; iota = x.next })
       unfolding pass_from
       visit-on f = record {
         stands = record {
-          checked = checked-kept (kept_less (omega arith) kept) st.checked;
+          checked = st.checked;
           logged = f.0;
           inside = omega (arith, a.line);
           low = st.low;
           group = st.group;
-          opened = rw add-one (still s t n k p st a.line a.kind refl);
+          opened = rw add-one (still s t k p st a.line a.kind refl);
           room = rw (add-one p.line) (omega (arith, st.room, longer));
           small = omega (arith, st.small, next_small);
         };
@@ -180,11 +180,11 @@ module _ (s t : Bytes) (n k : ℕ) (p : Pass) (st : PassAt s t n k p) (a : AtCon
 abbrev pub pass_start : Option ℕ → ℕ → Pass
 pass_start k m = record { line = line_number k; within = k; count = m; iota = record { started = false; line = 0; col = 0; value = 0 } }
 
-module _ (s t : Bytes) (n m : ℕ) (k : Option ℕ) (g : Group s t n m (line_number k)) where
+module _ (s t : Bytes) (m : ℕ) (k : Option ℕ) (g : Group s t m (line_number k)) where
   start_is : group_from s (line_number k) (line_number k) ≡ group_from s (line_number k) 0
-  start_is = group-start s t n g.checked (line_number k) g.group
+  start_is = group-start s t g.checked (line_number k) g.group
 
-  pub begins : PassAt s t n (line_number k) (pass_start k m)
+  pub begins : PassAt s t (line_number k) (pass_start k m)
   begins = record {
     checked = g.checked;
     logged = g.logged;
@@ -203,22 +203,22 @@ module _ (s t : Bytes) (n m : ℕ) (k : Option ℕ) (g : Group s t n m (line_num
   unfolding pass_from counter_of
   begin-is = rw start_is
 
-  module _ (u : Bytes) (p : Pass) (st : PassAt s u n (line_number k) p) (same : pass_from s u (line_number k) p ≡ pass_from s t (line_number k) (pass_start k m)) where
+  module _ (u : Bytes) (p : Pass) (st : PassAt s u (line_number k) p) (same : pass_from s u (line_number k) p ≡ pass_from s t (line_number k) (pass_start k m)) where
     pub pass-refused : {x : Refusal} → (pass_from s u (line_number k) p).refused ≡ Some x → (pass (sheet_source s).implement (group_from s (line_number k) 0) new_counter (log_in s t m)).refused ≡ Some x
     pass-refused e = ap (λ (f : Folding). f.refused) (sym begin-is ∙ sym same) ∙ e
 
     -- the pass is done at the last line, and where the module is left
-    pub at-end : n ≤ p.line → group_from s (line_number k) p.line ≡ []
-    at-end h = group-end s u n st.checked (line_number k) p.line h
+    pub at-end : lines_in s ≤ p.line → group_from s (line_number k) p.line ≡ []
+    at-end h = group-end s st.checked (line_number k) p.line h
 
     pub at_left : {b : Bool} → b ≡ left (line_number k) (line_number p.within) → b ≡ true → line_number k ≤ p.line → group_from s (line_number k) p.line ≡ []
     unfolding left
     at_left e q l =
         let w = both (not (eqb (line_number k) 0)) (not (eqb (line_number p.within) (line_number k))) (sym e ∙ q) in
-        group-left s u n st.checked (line_number k) p.line (line_number p.within) st.inside l (eqb-false (line_number k) 0 (not-true (eqb (line_number k) 0) w.0)) st.opened (eqb-false (line_number p.within) (line_number k) (not-true (eqb (line_number p.within) (line_number k)) w.1))
+        group-left s u st.checked (line_number k) p.line (line_number p.within) st.inside l (eqb-false (line_number k) 0 (not-true (eqb (line_number k) 0) w.0)) st.opened (eqb-false (line_number p.within) (line_number k) (not-true (eqb (line_number p.within) (line_number k)) w.1))
 
     pub pass-done : group_from s (line_number k) p.line ≡ [] → p.count + length (group_from s (line_number k) p.line) ≡ m + length (group_from s (line_number k) 0)
-        → Logs s u n p.count (pass (sheet_source s).implement (group_from s (line_number k) 0) new_counter (log_in s t m)) × (p.count ≡ m + length (group_from s (line_number k) 0))
+        → Logs s u p.count (pass (sheet_source s).implement (group_from s (line_number k) 0) new_counter (log_in s t m)) × (p.count ≡ m + length (group_from s (line_number k) 0))
     unfolding pass_from
     pass-done e count = (record { logged = st.logged; same = sym begin-is ∙ sym same ∙ rw e }, omega (arith, ap length e))
 
@@ -232,60 +232,60 @@ then-stop : (g : List (Located ConstDecl)) (ps : List (List (Located ConstDecl))
     → (pass impl g new_counter log).refused ≡ Some x → (passes_from impl (g ∷ ps) log).refused ≡ Some x
 then-stop g ps impl log e = rw e e
 
-module _ (s t : Bytes) (n m i : ℕ) (b : PassesBefore s t n m i) where
+module _ (s t : Bytes) (m i : ℕ) (b : PassesBefore s t m i) where
   -- a line that opens no module
-  pub past-other : i < n → (letter (read_at s i).form.kind ≡ 77 → ⊥) → PassesBefore s t n m (i + 1) × (passes_left s t m (i + 1) ≡ passes_left s t m i)
+  pub past-other : i < lines_in s → (letter (read_at s i).form.kind ≡ 77 → ⊥) → PassesBefore s t m (i + 1) × (passes_left s t m (i + 1) ≡ passes_left s t m i)
   unfolding passes_left
   past-other h z =
-      (record { checked = b.checked; logged = b.logged; few = rw add-one (omega (arith, b.few, count-mod s t n b.checked i)) }, rw (add-one, passes-other s t n b.checked i h z))
+      (record { checked = b.checked; logged = b.logged; few = rw add-one (omega (arith, b.few, count-mod s t (lines_in s) b.checked i)) }, rw (add-one, passes-other s t (lines_in s) b.checked i h z))
 
-  pub module-group : i < n → letter (read_at s i).form.kind ≡ 77 → Group s t n m (suc i)
+  pub module-group : i < lines_in s → letter (read_at s i).form.kind ≡ 77 → Group s t m (suc i)
   module-group h e = record {
     checked = b.checked;
     logged = b.logged;
     group = omega arith;
-    opened = open-mod s t n b.checked i h e;
-    room = omega (arith, b.few, count-mod s t n b.checked i, count-top s t n b.checked (suc i), few-consts b.checked);
+    opened = open-mod s b.checked i h e;
+    room = omega (arith, b.few, count-mod s b.checked i, count-top s b.checked (suc i), few-consts b.checked);
   }
 
-  pub past-module : i < n → letter (read_at s i).form.kind ≡ 77 → (u : Bytes) → Kept 5120 t u → (r : Result ℕ Answers.Refusal) → PassDone s t u n m (suc i) r → ModulePassed s t u n m i r
+  pub past-module : i < lines_in s → letter (read_at s i).form.kind ≡ 77 → (u : Bytes) → Kept 5120 t u → (r : Result ℕ Answers.Refusal) → PassDone s t u m (suc i) r → ModulePassed s t u m i r
   unfolding passes_left
   past-module h e u kept (Ok c) (l, q) = (
     record {
-      checked = checked-kept (kept_less (omega arith) kept) b.checked;
+      checked = b.checked;
       logged = l.logged;
-      few = rw add-one (omega (arith, b.few, count-mod s t n b.checked i, q));
+      few = rw add-one (omega (arith, b.few, count-mod s b.checked i, q));
     },
-    sym (rw (passes-mod s t n b.checked i h e) (then-on (group_from s (suc i) 0) (passes_after s (suc i)) (sheet_source s).implement (log_in s t m) (log_in s u c) l.same ∙ rw add-one)),
+    sym (rw (passes-mod s b.checked i h e) (then-on (group_from s (suc i) 0) (passes_after s (suc i)) (sheet_source s).implement (log_in s t m) (log_in s u c) l.same ∙ rw add-one)),
   )
   past-module h e u kept (Err x) q =
-      rw (passes-mod s t n b.checked i h e) (then-stop (group_from s (suc i) 0) (passes_after s (suc i)) (sheet_source s).implement (log_in s t m) q)
+      rw (passes-mod s b.checked i h e) (then-stop (group_from s (suc i) 0) (passes_after s (suc i)) (sheet_source s).implement (log_in s t m) q)
 
-  pub top-group : Group s t n m 0
+  pub top-group : Group s t m 0
   unfolding open_at module_at
   top-group = record {
     checked = b.checked;
     logged = b.logged;
     group = omega arith;
     opened = refl;
-    room = omega (arith, b.few, count-top s t n b.checked i, few-consts b.checked);
+    room = omega (arith, b.few, count-top s b.checked i, few-consts b.checked);
   }
 
-  pub past_all : n ≤ i → passes_left s t m i ≡ constants (sheet_source s) → (u : Bytes) → (r : Result ℕ Answers.Refusal) → PassDone s t u n m 0 r → Collects s u n r
+  pub past_all : lines_in s ≤ i → passes_left s t m i ≡ constants (sheet_source s) → (u : Bytes) → (r : Result ℕ Answers.Refusal) → PassDone s t u m 0 r → Collects s u r
   unfolding passes_left
   past_all h same u (Ok c) (l, q) =
       let e : constants (sheet_source s) ≡ record { log = log_in s u c; refused = None } =
-      sym same ∙ rw (passes-end s t n b.checked i h) (then-on (group_from s 0 0) [] (sheet_source s).implement (log_in s t m) (log_in s u c) l.same) in
+      sym same ∙ rw (passes-end s b.checked i h) (then-on (group_from s 0 0) [] (sheet_source s).implement (log_in s t m) (log_in s u c) l.same) in
       (ap (λ (f : Folding). f.refused) e, ap (λ (f : Folding). f.log) e, l.logged)
   past_all h same u (Err x) q =
-      ap (λ (f : Folding). f.refused) (sym same) ∙ rw (passes-end s t n b.checked i h) (then-stop (group_from s 0 0) [] (sheet_source s).implement (log_in s t m) q)
+      ap (λ (f : Folding). f.refused) (sym same) ∙ rw (passes-end s b.checked i h) (then-stop (group_from s 0 0) [] (sheet_source s).implement (log_in s t m) q)
 
-pub start-before : (s t : Bytes) (n : ℕ) → Checked s t n → PassesBefore s t n 0 0
-start-before s t n c = record { checked = c; logged = record { few = omega arith; each = λ i h. absurd (omega arith); digests = λ i h. absurd (omega arith); chained = chained-none t const_chains }; few = omega arith }
+pub start-before : (s t : Bytes) → Checked s → PassesBefore s t 0 0
+start-before s t c = record { checked = c; logged = record { few = omega arith; each = λ i h. absurd (omega arith); digests = λ i h. absurd (omega arith); chained = chained-none t const_chains }; few = omega arith }
 
-pub start-same : (s t : Bytes) (n : ℕ) → Checked s t n → passes_left s t 0 0 ≡ constants (sheet_source s)
+pub start-same : (s t : Bytes) → Checked s → passes_left s t 0 0 ≡ constants (sheet_source s)
 unfolding passes_left log_in
-start-same s t n c = sym (passes-start s t n c)
+start-same s t c = sym (passes-start s c)
 
 pub refused-at : (s t : Bytes) (m i : ℕ) {x : Refusal} → (passes_left s t m i).refused ≡ Some x → passes_left s t m i ≡ constants (sheet_source s) → (constants (sheet_source s)).refused ≡ Some x
 refused-at s t m i e same = ap (λ (f : Folding). f.refused) (sym same) ∙ e

@@ -6,7 +6,7 @@ use Rattle.semantics.specs.Form.{letter}
 use Rattle.semantics.specs.Sheet.{Module, Located, located_from, module_of, sheet_source}
 use Rattle.semantics.specs.Fold.{Const, fold}
 use Rattle.semantics.specs.Const.{Folding, new_counter, entered, pass, passes_from, stands_in, top_level, constants}
-use Rattle.lines.specs.Lines.{read_at, nodes_in}
+use Rattle.lines.specs.Lines.{lines_in, read_at, nodes_in}
 use Rattle.implement.specs.Modules.{module_at, line_number}
 use Rattle.checks.specs.Checks.{Checked}
 use Rattle.source.specs.Walk.{open_at, con_of}
@@ -54,13 +54,13 @@ left k within = not (eqb k 0) && not (eqb within k)
 -- ---- one constant
 
 -- line i of a checked sheet is a `con` line, 68, in the module of line k, and there is room for an entry m
-pub record ConstLine (s t : Bytes) (n m k i : ℕ) : Type 0 where
-  pub checked : Checked s t n
-  pub logged : ConstsLogged s t n m
+pub record ConstLine (s t : Bytes) (m k i : ℕ) : Type 0 where
+  pub checked : Checked s
+  pub logged : ConstsLogged s t m
   pub few : m < 128
-  pub line : i < n
+  pub line : i < lines_in s
   pub kind : letter (read_at s i).form.kind ≡ 68
-  pub group : k ≤ n
+  pub group : k ≤ lines_in s
 
 -- what a pass makes of it, and goes on with
 abbrev pub step : Bytes → Bytes → ℕ → ℕ → ℕ → ℕ → (List Const → Folding) → Folding
@@ -69,26 +69,26 @@ step s t m k i iota go =
     entered (sheet_source s).implement c (fold (names_in s t m) (pos iota) c.it.value) go (log_in s t m)
 
 -- it is entered, or its string is too long
-abbrev pub ConstantEntered : Bytes → Bytes → Bytes → ℕ → ℕ → ℕ → ℕ → ℕ → Result Unit Answers.Refusal → Type 0
-ConstantEntered s t u n m k i iota (Ok x) = ConstsLogged s u n (m + 1) × ((go : List Const → Folding) → step s t m k i iota go ≡ go (log_in s u (m + 1)))
-ConstantEntered s t u n m k i iota (Err r) = (go : List Const → Folding) → step s t m k i iota go ≡ record { log = log_in s t m; refused = Some (refusal_of r) }
+abbrev pub ConstantEntered : Bytes → Bytes → Bytes → ℕ → ℕ → ℕ → ℕ → Result Unit Answers.Refusal → Type 0
+ConstantEntered s t u m k i iota (Ok x) = ConstsLogged s u (m + 1) × ((go : List Const → Folding) → step s t m k i iota go ≡ go (log_in s u (m + 1)))
+ConstantEntered s t u m k i iota (Err r) = (go : List Const → Folding) → step s t m k i iota go ≡ record { log = log_in s t m; refused = Some (refusal_of r) }
 
 -- ---- a pass
 
 -- where a pass over the group k stands
-pub record PassAt (s t : Bytes) (n k : ℕ) (p : Pass) : Type 0 where
-  pub checked : Checked s t n
-  pub logged : ConstsLogged s t n p.count
-  pub inside : p.line ≤ n
-  pub low : line_number p.within ≤ n
-  pub group : k ≤ n
+pub record PassAt (s t : Bytes) (k : ℕ) (p : Pass) : Type 0 where
+  pub checked : Checked s
+  pub logged : ConstsLogged s t p.count
+  pub inside : p.line ≤ lines_in s
+  pub low : line_number p.within ≤ lines_in s
+  pub group : k ≤ lines_in s
   pub opened : open_at (nodes_in s) p.line ≡ module_at s (line_number p.within)
   pub room : p.count + length (group_from s k p.line) ≤ 128
   pub small : p.iota.value ≤ p.count
 
 -- it stands at a constant of the group
-pub record AtConstant (s : Bytes) (n k : ℕ) (p : Pass) : Type 0 where
-  pub line : p.line < n
+pub record AtConstant (s : Bytes) (k : ℕ) (p : Pass) : Type 0 where
+  pub line : p.line < lines_in s
   pub kind : letter (read_at s p.line).form.kind ≡ 68
   pub own : line_number p.within ≡ k
 
@@ -97,42 +97,42 @@ unfoldable pub pass_from : Bytes → Bytes → ℕ → Pass → Folding
 pass_from s t k p = pass (sheet_source s).implement (group_from s k p.line) (counter_of p.iota) (log_in s t p.count)
 
 -- from p one line on to q
-pub record PassMoves (s t u : Bytes) (n k : ℕ) (p q : Pass) : Type 0 where
-  pub stands : PassAt s u n k q
+pub record PassMoves (s t u : Bytes) (k : ℕ) (p q : Pass) : Type 0 where
+  pub stands : PassAt s u k q
   pub next : q.line ≡ p.line + 1
   pub same : pass_from s u k q ≡ pass_from s t k p
   pub count : q.count + length (group_from s k q.line) ≡ p.count + length (group_from s k p.line)
 
 -- a line is visited: the pass moves on, or the sheet is refused
-abbrev pub Visits : Bytes → Bytes → Bytes → ℕ → ℕ → Pass → Result Pass Answers.Refusal → Type 0
-Visits s t u n k p (Ok q) = PassMoves s t u n k p q
-Visits s t u n k p (Err r) = (pass_from s t k p).refused ≡ Some (refusal_of r)
+abbrev pub Visits : Bytes → Bytes → Bytes → ℕ → Pass → Result Pass Answers.Refusal → Type 0
+Visits s t u k p (Ok q) = PassMoves s t u k p q
+Visits s t u k p (Err r) = (pass_from s t k p).refused ≡ Some (refusal_of r)
 
 -- a group whose constants are to be entered from entry m on
-pub record Group (s t : Bytes) (n m k : ℕ) : Type 0 where
-  pub checked : Checked s t n
-  pub logged : ConstsLogged s t n m
-  pub group : k ≤ n
+pub record Group (s t : Bytes) (m k : ℕ) : Type 0 where
+  pub checked : Checked s
+  pub logged : ConstsLogged s t m
+  pub group : k ≤ lines_in s
   pub opened : open_at (nodes_in s) k ≡ module_at s k
   pub room : m + length (group_from s k 0) ≤ 128
 
 -- they are entered, up to entry m
-pub record Logs (s u : Bytes) (n m : ℕ) (f : Folding) : Type 0 where
-  pub logged : ConstsLogged s u n m
+pub record Logs (s u : Bytes) (m : ℕ) (f : Folding) : Type 0 where
+  pub logged : ConstsLogged s u m
   pub same : f ≡ record { log = log_in s u m; refused = None }
 
 -- a pass over the group of line k is done: c entries stand then, or the sheet is refused
-abbrev pub PassDone : Bytes → Bytes → Bytes → ℕ → ℕ → ℕ → Result ℕ Answers.Refusal → Type 0
-PassDone s t u n m k (Ok c) =
-    Logs s u n c (pass (sheet_source s).implement (group_from s k 0) new_counter (log_in s t m)) × (c ≡ m + length (group_from s k 0))
-PassDone s t u n m k (Err r) = (pass (sheet_source s).implement (group_from s k 0) new_counter (log_in s t m)).refused ≡ Some (refusal_of r)
+abbrev pub PassDone : Bytes → Bytes → Bytes → ℕ → ℕ → Result ℕ Answers.Refusal → Type 0
+PassDone s t u m k (Ok c) =
+    Logs s u c (pass (sheet_source s).implement (group_from s k 0) new_counter (log_in s t m)) × (c ≡ m + length (group_from s k 0))
+PassDone s t u m k (Err r) = (pass (sheet_source s).implement (group_from s k 0) new_counter (log_in s t m)).refused ≡ Some (refusal_of r)
 
 -- ---- all passes
 
 -- the passes of the modules that open before line i are done, and their constants are the first m
-pub record PassesBefore (s t : Bytes) (n m i : ℕ) : Type 0 where
-  pub checked : Checked s t n
-  pub logged : ConstsLogged s t n m
+pub record PassesBefore (s t : Bytes) (m i : ℕ) : Type 0 where
+  pub checked : Checked s
+  pub logged : ConstsLogged s t m
   pub few : m ≤ count_before s i
 
 -- what the passes from line i on give
@@ -140,11 +140,11 @@ unfoldable pub passes_left : Bytes → Bytes → ℕ → ℕ → Folding
 passes_left s t m i = passes_from (sheet_source s).implement (passes_after s i) (log_in s t m)
 
 -- line i is done: the passes behind it give what was left, or the sheet is refused
-abbrev pub ModulePassed : Bytes → Bytes → Bytes → ℕ → ℕ → ℕ → Result ℕ Answers.Refusal → Type 0
-ModulePassed s t u n m i (Ok c) = PassesBefore s u n c (i + 1) × (passes_left s u c (i + 1) ≡ passes_left s t m i)
-ModulePassed s t u n m i (Err r) = (passes_left s t m i).refused ≡ Some (refusal_of r)
+abbrev pub ModulePassed : Bytes → Bytes → Bytes → ℕ → ℕ → Result ℕ Answers.Refusal → Type 0
+ModulePassed s t u m i (Ok c) = PassesBefore s u c (i + 1) × (passes_left s u c (i + 1) ≡ passes_left s t m i)
+ModulePassed s t u m i (Err r) = (passes_left s t m i).refused ≡ Some (refusal_of r)
 
 -- the constants are the first m of the table, or the sheet is refused
-abbrev pub Collects : Bytes → Bytes → ℕ → Result ℕ Answers.Refusal → Type 0
-Collects s u n (Ok m) = ((constants (sheet_source s)).refused ≡ None) × ((constants (sheet_source s)).log ≡ log_in s u m) × ConstsLogged s u n m
-Collects s u n (Err r) = (constants (sheet_source s)).refused ≡ Some (refusal_of r)
+abbrev pub Collects : Bytes → Bytes → Result ℕ Answers.Refusal → Type 0
+Collects s u (Ok m) = ((constants (sheet_source s)).refused ≡ None) × ((constants (sheet_source s)).log ≡ log_in s u m) × ConstsLogged s u m
+Collects s u (Err r) = (constants (sheet_source s)).refused ≡ Some (refusal_of r)

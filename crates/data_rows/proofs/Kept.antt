@@ -4,7 +4,7 @@ use Prim.Native.Nat.{ℕ, zero, suc, ◌+◌, ◌<◌}
 use native.Mathlib.Omega.{arith}
 use Rattle.semantics.specs.Text.{Bytes}
 use Rattle.checks.specs.Checks.{Checked, Outside}
-use Rattle.checks.proofs.Kept.{kept-all, kept_then, kept_less, checked-kept, kind-line-kept, outside_above}
+use Rattle.checks.proofs.Kept.{kept-all, kept_then, kept_less, outside_above}
 use Rattle.names.specs.Table.{log_in, ConstsLogged}
 use Rattle.names.proofs.Laws.{logged-same, log-stays}
 use Rattle.values.specs.declared.ConstVal.{ConstVal}
@@ -23,6 +23,7 @@ use Rattle.arrays.specs.declared.Arrayed.{Arrayed}
 use Rattle.arrays.specs.declared.Arrayed.TheVariants.{Alloc, Literal}
 use Rattle.arrays.specs.Arrays.{array_in, ValuesStand, ArrayStands}
 use Rattle.data_rows.specs.Data.{PrintKept}
+use Rattle.lines.specs.Lines.{lines_in}
 
 -- ---- tables
 
@@ -39,23 +40,23 @@ pub keeping-outside : {t u : Bytes} → Outside 10624 10629 t u → PrintKept t 
 keeping-outside o = record { below = o.kept; strings = λ j h k. outside_above o j (omega arith) }
 
 module _ {t u : Bytes} (k : PrintKept t u) where
-  pub checked-still : {s : Bytes} {n : ℕ} → Checked s t n → Checked s u n
-  checked-still c = checked-kept (kept_less (omega arith) k.below) c
+  pub checked-still : {s : Bytes} → Checked s → Checked s
+  checked-still c = c
 
-  pub var-still : {s : Bytes} {n r : ℕ} → VarLine s t n r → VarLine s u n r
-  var-still l = kind-line-kept (kept_less (omega arith) k.below) l
+  pub var-still : {s : Bytes} {r : ℕ} → VarLine s r → VarLine s r
+  var-still l = l
 
-  pub tabled-still : {s : Bytes} {n g : ℕ} → Tabled s t n g → Tabled s u n g
+  pub tabled-still : {s : Bytes} → Tabled s t (lines_in s) → Tabled s u (lines_in s)
   tabled-still d = tabled-kept (kept_less (omega arith) k.below) d
 
-  pub places-still : (s : Bytes) {n g : ℕ} → Tabled s t n g → places_in s u g ≡ places_in s t g
+  pub places-still : (s : Bytes) → Tabled s t (lines_in s) → places_in s u (lines_in s) ≡ places_in s t (lines_in s)
   places-still s {n} {g} d = places-kept (kept_less (omega arith) k.below) s g d.few
 
-  module _ {s : Bytes} {n m : ℕ} (l : ConstsLogged s t n m) where
-    pub logged-still : ConstsLogged s u n m
+  module _ {s : Bytes} (l : ConstsLogged s t (lines_in s)) where
+    pub logged-still : ConstsLogged s u (lines_in s)
     logged-still = logged-same (kept_less (omega arith) k.below) l
 
-    pub log-still : log_in s u m ≡ log_in s t m
+    pub log-still : log_in s u (lines_in s) ≡ log_in s t (lines_in s)
     log-still =
         log-stays (kept_less (omega arith) k.below) l
         (λ a b h e. part_same t u k.below.long b a (λ j y z. k.strings j (omega arith) (omega arith)))

@@ -85,7 +85,7 @@ items-step ty ps i x xs = go (same x (bytes "nil"))
 -- those of the first j are printed
 pub record NamesPrinted (s t : Bytes) (c : Counts) (r : ℕ) (x : First) (count m : ℕ) (v : Writer) (u : Bytes) (n : ℕ) (w : Writer) (j : ℕ) : Type 0 where
   pub task : NameTask s u c x n
-  pub line : VarLine s u c.lines r
+  pub line : VarLine s r
   pub outside : Outside 10624 10629 t u
   pub places : places_in s u c.globals ≡ places_in s t c.globals
   pub value : first_in u x ≡ first_in t x
@@ -93,7 +93,7 @@ pub record NamesPrinted (s t : Bytes) (c : Counts) (r : ℕ) (x : First) (count 
   pub printed : ItemsPrinted s done m n t u v w
   pub rest : done ++ name_items (type_on s r) (places_in s t c.globals) (first_in t x) (names_from s r count j) ≡ name_items (type_on s r) (places_in s t c.globals) (first_in t x) (names_on s r)
 
-module _ {s t : Bytes} {c : Counts} {r : ℕ} {x : First} {m : ℕ} (k : NameTask s t c x m) (l : VarLine s t c.lines r) {count : ℕ} (hc : count ≡ length (names_on s r)) {v : Writer} where
+module _ {s t : Bytes} {c : Counts} {r : ℕ} {x : First} {m : ℕ} (k : NameTask s t c x m) (l : VarLine s r) {count : ℕ} (hc : count ≡ length (names_on s r)) {v : Writer} where
   pub names-printed-start : NamesPrinted s t c r x count m v t m v 0
   names-printed-start = record {
     task = k;

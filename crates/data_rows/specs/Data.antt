@@ -33,8 +33,8 @@ rows_of s is = concat_map (item_row (id_of (sheet_source s) is)) is
 
 -- the tables of a checked sheet: constants, globals, and the keys of needs
 pub record DataTables (s t : Bytes) (c : Counts) (keys : ℕ) : Type 0 where
-  pub table : ConstTable s t c.lines c.consts
-  pub places : Tabled s t c.lines c.globals
+  pub table : ConstTable s t c.consts
+  pub places : Tabled s t c.globals
   pub laid : (ns : Names) → places_in s t c.globals ≡ (globals ns (sheet_source s)).places
   pub kinds : Kinds t (sheet_source s).needs keys
   pub framed : c.frames ≡ length (sheet_source s).frames
@@ -55,14 +55,14 @@ pub record PrintKept (t u : Bytes) : Type 0 where
 -- so many keys have IDs
 pub record Keyed (t : Bytes) (frames keys : ℕ) : Type 0 where
   pub few : frames ≤ 128
-  pub long : 65536 ≤ length t
+  pub long : 62464 ≤ length t
   pub known : List TypeKey
   pub kinds : Kinds t known keys
 
 -- the tables that lines are printed from, where the keys of the items printed so far have IDs
 pub record PrintTables (s t : Bytes) (c : Counts) (keys : ℕ) : Type 0 where
-  pub log : ConstsLogged s t c.lines c.consts
-  pub places : Tabled s t c.lines c.globals
+  pub log : ConstsLogged s t c.consts
+  pub places : Tabled s t c.globals
   pub framed : c.frames ≡ length (sheet_source s).frames
   pub few : c.frames ≤ 128
   pub printed : List Item

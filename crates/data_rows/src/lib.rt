@@ -21,29 +21,29 @@ ghost use Rattle.type_keys.specs.Table.{Kinds};
 ghost use Rattle.vars.specs.First.{first_in, FirstStands};
 ghost use Rattle.data_rows.specs.Data.{items_in, keys_of, rows_of, DataTables, PrintKept, ItemsPrinted, Keyed, PrintTables, NameTask, name_items};
 
+use codes::area::Space;
 use arrays::Arrayed;
 use codes::element::Element;
 use global_table::line;
-use names::Known;
 use vars::First;
 use write::Writer;
+use lines::Sheet;
 
-// How many lines, constants, globals and frames there are.
+// How many constants, globals and frames there are.
 #[derive(Clone, Copy)]
 pub struct Counts {
-    pub lines: usize,
     pub consts: usize,
     pub globals: usize,
     pub frames: usize,
 }
 
 // Whether the `var` line r declares bigs.
-fn is_big(sheet: &[u8], work: &[u8], n: usize, r: usize) -> bool
-    requires { VarLine sheet.now work.now n r }
+fn is_big(sheet: &Sheet, r: usize) -> bool
+    requires { VarLine sheet.now r }
     ensures { is_of_kind k_big (type_on sheet.now r) ≡ result }
 {
     matches!(
-        arrays::elem_kind(sheet, work, n, line::type_of(sheet, work, n, r)),
+        arrays::elem_kind(sheet, line::type_of(sheet, r)),
         Element::Big
     )
 }
@@ -57,8 +57,8 @@ fn kind_of(x: Arrayed) -> Element
 }
 
 // The rows of an array whose elements' key has an ID.
-fn put_array(work: &[u8], w: &mut Writer, off: usize, id: usize, x: Arrayed)
-    requires { (65536 ≤ length work.now) × (ArrayStands work.now x) }
+fn put_array(work: &Space, w: &mut Writer, off: usize, id: usize, x: Arrayed)
+    requires { ArrayStands work.now x }
     ensures { (f : TypeKey → ℕ) → f (elem_key (array_in work.now x).kind) ≡ id → Writes w.old (item_rows f (array_items off (array_in work.now x))) w.new }
 {
     match x {
@@ -70,14 +70,7 @@ fn put_array(work: &[u8], w: &mut Writer, off: usize, id: usize, x: Arrayed)
 // ---- as all that follow these functions take how many keys have an ID, and return how many have one then
 
 // The rows of an array at an offset. The key of its elements gets an ID where it has none.
-fn array_rows(
-    work: &mut [u8],
-    frames: usize,
-    off: usize,
-    x: Arrayed,
-    w: &mut Writer,
-    keys: usize,
-) -> usize
+fn array_rows(work: &mut Space, frames: usize, off: usize, x: Arrayed, w: &mut Writer, keys: usize) -> usize
     requires { (Keyed work.old frames keys) × (ArrayStands work.old x) }
     ensures { ((s : Bytes) → frames ≡ length (sheet_source s).frames → ItemsPrinted s (array_items off (array_in work.old x)) keys result work.old work.new w.old w.new) × (Outside 10624 10629 work.old work.new) }
 {
@@ -89,15 +82,7 @@ fn array_rows(
 }
 
 // The rows of a first value at an offset.
-fn first_rows(
-    work: &mut [u8],
-    frames: usize,
-    off: usize,
-    big: bool,
-    x: First,
-    w: &mut Writer,
-    keys: usize,
-) -> usize
+fn first_rows(work: &mut Space, frames: usize, off: usize, big: bool, x: First, w: &mut Writer, keys: usize) -> usize
     requires { (Keyed work.old frames keys) × (FirstStands work.old x) }
     ensures { ((s : Bytes) (ty : Ty) → frames ≡ length (sheet_source s).frames → is_of_kind k_big ty ≡ big → ItemsPrinted s (init_items off ty (first_in work.old x)) keys result work.old work.new w.old w.new) × (Outside 10624 10629 work.old work.new) }
 {
@@ -111,85 +96,57 @@ fn first_rows(
 }
 
 // The rows of a name; `nil` has none.
-fn name_rows(
-    sheet: &[u8],
-    work: &mut [u8],
-    c: Counts,
-    name: &[u8],
-    big: bool,
-    x: First,
-    w: &mut Writer,
-    keys: usize,
-) -> usize
+fn name_rows(sheet: &Sheet, work: &mut Space, c: Counts, name: &[u8], big: bool, x: First, w: &mut Writer, keys: usize) -> usize
     requires { NameTask sheet.now work.old c x keys }
     ensures { ((ty : Ty) → is_of_kind k_big ty ≡ big → ItemsPrinted sheet.now (name_items ty (places_in sheet.now work.old c.globals) (first_in work.old x) (name.now ∷ [])) keys result work.old work.new w.old w.new) × (Outside 10624 10629 work.old work.new) }
 {
     if line::is_nil(name) {
         return keys;
     }
-    let off = global_table::offset_in(sheet, work, c.lines, c.globals, name).unwrap_or(0);
+    let off = global_table::offset_in(sheet, work, c.globals, name).unwrap_or(0);
     first_rows(work, c.frames, off, big, x, w, keys)
 }
 
 // The rows of all names of line r.
-fn names_rows(
-    sheet: &[u8],
-    work: &mut [u8],
-    c: Counts,
-    r: usize,
-    x: First,
-    w: &mut Writer,
-    keys: usize,
-) -> usize
-    requires { (NameTask sheet.now work.old c x keys) × (VarLine sheet.now work.old c.lines r) }
+fn names_rows(sheet: &Sheet, work: &mut Space, c: Counts, r: usize, x: First, w: &mut Writer, keys: usize) -> usize
+    requires { (NameTask sheet.now work.old c x keys) × (VarLine sheet.now r) }
     ensures { (ItemsPrinted sheet.now (name_items (type_on sheet.now r) (places_in sheet.now work.old c.globals) (first_in work.old x) (names_on sheet.now r)) keys result work.old work.new w.old w.new) × (Outside 10624 10629 work.old work.new) }
 {
-    let big = is_big(sheet, work, c.lines, r);
-    let count = line::name_count(sheet, work, c.lines, r);
+    let big = is_big(sheet, r);
+    let count = line::name_count(sheet, r);
     let mut keys = keys;
     for j in 0..count {
-        let name = line::name_at(sheet, work, c.lines, r, j);
+        let name = line::name_at(sheet, r, j);
         keys = name_rows(sheet, work, c, name, big, x, w, keys);
     }
     keys
 }
 
 // The rows of the `var` line r. Its first value stands in the working space while they are printed.
-fn line_rows(
-    sheet: &[u8],
-    work: &mut [u8],
-    c: Counts,
-    r: Option<usize>,
-    w: &mut Writer,
-    keys: usize,
-) -> usize
-    requires { (PrintTables sheet.now work.old c keys) × (IfSome r (VarLine sheet.now work.old c.lines)) }
+fn line_rows(sheet: &Sheet, work: &mut Space, c: Counts, r: Option<usize>, w: &mut Writer, keys: usize) -> usize
+    requires { (PrintTables sheet.now work.old c keys) × (IfSome r (VarLine sheet.now)) }
     ensures { (ItemsPrinted sheet.now (line_items (names_in sheet.now work.old c.consts) (places_in sheet.now work.old c.globals) (laid_on sheet.now r)) keys result work.old work.new w.old w.new) × (PrintKept work.old work.new) }
 {
     let Some(r) = r else {
         return keys;
     };
-    let known = Known {
-        lines: c.lines,
-        consts: c.consts,
-    };
-    match vars::first_value(sheet, work, known, r) {
+    match vars::first_value(sheet, work, c.consts, r) {
         Ok(Some(x)) => names_rows(sheet, work, c, r, x, w, keys),
         Ok(None) | Err(_) => keys,
     }
 }
 
 // The rows of all data items of a sheet. Work goes on where the listing is full.
-pub fn data_rows(sheet: &[u8], work: &mut [u8], c: Counts, w: &mut Writer, keys: usize) -> usize
+pub fn data_rows(sheet: &Sheet, work: &mut Space, c: Counts, w: &mut Writer, keys: usize) -> usize
     requires { DataTables sheet.now work.old c keys }
     ensures { (Writes w.old (rows_of sheet.now (items_in sheet.now work.old c.consts)) w.new) × (Kinds work.new (keys_of sheet.now (items_in sheet.now work.old c.consts)) result) × (result < 1024) × (Kept 10624 work.old work.new) }
 {
     let mut keys = keys;
     let mut k = None;
-    for i in 0..c.lines {
-        let r = globals::laid_line(sheet, work, c.lines, i, k);
+    for i in 0..sheet.count() {
+        let r = globals::laid_line(sheet, i, k);
         keys = line_rows(sheet, work, c, r, w, keys);
-        k = implement::open_after(sheet, work, c.lines, i, k);
+        k = implement::open_after(sheet, i, k);
     }
     keys
 }

@@ -38,11 +38,12 @@ use Rattle.values.specs.Values.{string_in, value_in, kind_for, bits_for, Small, 
 use Rattle.values.proofs.Values.{word, real-back}
 use Rattle.values.proofs.Written.{string-length}
 use Rattle.entries.specs.Entering.{entry_of, moved_to, string_of, EntryRoom}
+use Rattle.lines.specs.Lines.{lines_in}
 
 -- entry m holds a constant with this value, and the entries before it what they held
-pub record Entered (s t : Bytes) (n m line within : ℕ) (v : Option Tree.ConstVal) (u : Bytes) : Type 0 where
+pub record Entered (s t : Bytes) (m line within : ℕ) (v : Option Tree.ConstVal) (u : Bytes) : Type 0 where
   pub log : log_in s u (m + 1) ≡ entries (sheet_source s).implement (module_at s within) (first_field s line) v ++ log_in s t m
-  pub logged : ConstsLogged s u n (m + 1)
+  pub logged : ConstsLogged s u (m + 1)
   pub kept : Kept 5120 t u
 
 -- ---- a value's string
@@ -154,8 +155,8 @@ module _ (t u : Bytes) (m line within kind bits d : ℕ) (f : EntryRoom t m line
   unfolding entry_of digest_place
   digest-here = byte-here (5133 + 16 * m) 13 (omega arith) (omega arith) ∙ get_or_at (big_endian 8 bits) d [] 0 8 (big-length 8 bits)
 
-  entry_new : (n : ℕ) → line ≤ n → within ≤ n → EntryBounds u n m
-  entry_new n p q = record {
+  entry_new : line ≤ lines_in s → within ≤ lines_in s → EntryBounds u (lines_in s) m
+  entry_new p q = record {
     first = rw line-here f.first;
     last = rw line-here p;
     within = rw within-here q;
@@ -172,21 +173,21 @@ module _ (t u : Bytes) (m line within kind bits d : ℕ) (f : EntryRoom t m line
 
   -- ---- the earlier ones
 
-  texts-same : (s : Bytes) (n : ℕ) → ConstsLogged s t n m → (i : ℕ) → i < m → SameText t u i
-  texts-same s n l i h k =
+  texts-same : (s : Bytes) → ConstsLogged s t m → (i : ℕ) → i < m → SameText t u i
+  texts-same s l i h k =
       let g = (l.each i h).own k in
       let e = (l.each i h).text k in
       rw (behind (bits_of t i % 65536) (omega (arith, f.few))) (part-kept string-kept (bits_of t i % 65536) (bits_of t i / 65536) (omega (arith, e.short)))
 
-  each-new : (n : ℕ) → line ≤ n → within ≤ n → ((i : ℕ) → i < m → EntryBounds t n i) → (i : ℕ) → i < m + 1 → EntryBounds u n i
-  each-new n p q each i h = ⊎_elim (λ (x : i ≡ m). subst (EntryBounds u n) (sym x) (entry_new n p q)) (λ (x : i < m). each_same (entries_below table_kept) each i x) (eq-or-lt_of_le (omega arith))
+  each-new : line ≤ lines_in s → within ≤ lines_in s → ((i : ℕ) → i < m → EntryBounds t (lines_in s) i) → (i : ℕ) → i < m + 1 → EntryBounds u (lines_in s) i
+  each-new p q each i h = ⊎_elim (λ (x : i ≡ m). subst (EntryBounds u (lines_in s)) (sym x) (entry_new p q)) (λ (x : i < m). each_same (entries_below table_kept) each i x) (eq-or-lt_of_le (omega arith))
 
-  digests-new : (s : Bytes) (n : ℕ) → d ≡ const_digest s within (first_field s line) → ConstsLogged s t n m → (i : ℕ) → i < m + 1 → digest_at u const_chains i ≡ const_digest s (module_line_of u i) (first_field s (const_line_of u i))
-  digests-new s n e l i h = ⊎_elim (λ (x : i ≡ m). rw (x, digest-here, within-here, line-here) e) (λ (x : i < m). digests-same (entries_below table_kept) s l.digests i x) (eq-or-lt_of_le (omega arith))
+  digests-new : (s : Bytes) → d ≡ const_digest s within (first_field s line) → ConstsLogged s t m → (i : ℕ) → i < m + 1 → digest_at u const_chains i ≡ const_digest s (module_line_of u i) (first_field s (const_line_of u i))
+  digests-new s e l i h = ⊎_elim (λ (x : i ≡ m). rw (x, digest-here, within-here, line-here) e) (λ (x : i < m). digests-same (entries_below table_kept) s l.digests i x) (eq-or-lt_of_le (omega arith))
 
-  log-new : (v : Option Tree.ConstVal) → value_by u kind bits ≡ v → (s : Bytes) (n : ℕ) → ConstsLogged s t n m → log_in s u (m + 1) ≡ entries (sheet_source s).implement (module_at s within) (first_field s line) v ++ log_in s t m
+  log-new : (v : Option Tree.ConstVal) → value_by u kind bits ≡ v → (s : Bytes) (n : ℕ) → ConstsLogged s t m → log_in s u (m + 1) ≡ entries (sheet_source s).implement (module_at s within) (first_field s line) v ++ log_in s t m
   unfolding log_in entries_at
-  log-new v e s n l = rw (add-one, line-here, within-here, slot_is u m, kind-here, bits-here, e, log-same (entries_below table_kept) s (texts-same s n l))
+  log-new v e s n l = rw (add-one, line-here, within-here, slot_is u m, kind-here, bits-here, e, log-same (entries_below table_kept) s (texts-same s l))
 
   -- the chains of the earlier ones are as they were
   head-kept : (p k : ℕ) → p ≡ 5135 + 16 * k → k < 128 → get_or u p 0 ≡ get_or t p 0
@@ -206,26 +207,26 @@ module _ (t u : Bytes) (m line within kind bits d : ℕ) (f : EntryRoom t m line
       } in
       chained-kept same (omega arith)
 
-  entered : (v : Option Tree.ConstVal) → value_by u kind bits ≡ v → (w : Bytes) → w ≡ linked u const_chains m → (s : Bytes) (n : ℕ) → line ≤ n → within ≤ n → d ≡ const_digest s within (first_field s line) → ConstsLogged s t n m → Entered s t n m line within v w
+  entered : (v : Option Tree.ConstVal) → value_by u kind bits ≡ v → (w : Bytes) → w ≡ linked u const_chains m → (s : Bytes) (n : ℕ) → line ≤ n → within ≤ n → d ≡ const_digest s within (first_field s line) → ConstsLogged s t m → Entered s t m line within v w
   entered v e w j s n p q hd l =
-      let bounds = each-new n p q l.each in
+      let bounds = each-new p q l.each in
       let same = linked-entries u m f.few in
       let outside = const-outside u m f.few in
-      let long : 65536 ≤ length u = omega (arith, f.long, table_kept.long) in
+      let long : 62464 ≤ length u = omega (arith, f.long, table_kept.long) in
       rw j
       (record {
         log = log-same same s (λ i h x. ap (take (bits_of u i / 65536)) (outside-less 5120 (bits_of u i % 65536) (omega arith) (omega (arith, ((bounds i h).text x).low)) outside).above) ∙ log-new v e s n l;
         logged = record {
           few = omega (arith, f.few);
           each = each_same same bounds;
-          digests = digests-same same s (digests-new s n hd l);
+          digests = digests-same same s (digests-new s hd l);
           chained = rw add-one (chained-next (const-room long) const-apart (omega arith) (omega arith) f.few (chained-still l.chained));
         };
         kept = kept_then (kept_less (omega arith) table_kept) outside.kept;
       })
 
 module _ (t w : Bytes) (m line within d : ℕ) (f : EntryRoom t m line within) where
-  pub entered-failed : w ≡ linked (over t (5120 + 16 * m) (entry_of line within 0 0 d)) const_chains m → (s : Bytes) (n : ℕ) → line ≤ n → within ≤ n → d ≡ const_digest s within (first_field s line) → ConstsLogged s t n m → Entered s t n m line within None w
+  pub entered-failed : w ≡ linked (over t (5120 + 16 * m) (entry_of line within 0 0 d)) const_chains m → (s : Bytes) (n : ℕ) → line ≤ n → within ≤ n → d ≡ const_digest s within (first_field s line) → ConstsLogged s t m → Entered s t m line within None w
   entered-failed e =
       let u = over t (5120 + 16 * m) (entry_of line within 0 0 d) in
       entered t u m line within 0 0 d f [] (omega arith) (ap (λ (x : Bytes). over x (5120 + 16 * m) (entry_of line within 0 0 d)) (over_none t (16384 + 256 * m))) (omega arith) (omega arith) (λ k. absurd (omega arith))
@@ -234,7 +235,7 @@ module _ (t w : Bytes) (m line within d : ℕ) (f : EntryRoom t m line within) w
   -- a value, by its variant
   pub entered-value : (v : ConstVal) → At 49152 v
       → (w ≡ linked (over (over t (16384 + 256 * m) (string_of t v)) (5120 + 16 * m) (entry_of line within (kind_for v) (bits_for (moved_to (16384 + 256 * m) v)) d)) const_chains m) × InRange v
-      → (s : Bytes) (n : ℕ) → line ≤ n → within ≤ n → d ≡ const_digest s within (first_field s line) → ConstsLogged s t n m → Entered s t n m line within (Some (value_in t v)) w
+      → (s : Bytes) (n : ℕ) → line ≤ n → within ≤ n → d ≡ const_digest s within (first_field s line) → ConstsLogged s t m → Entered s t m line within (Some (value_in t v)) w
   unfolding value_in wrap
   entered-value (Int z) a (e, r) =
       let u = over (over t (16384 + 256 * m) []) (5120 + 16 * m) (entry_of line within 1 (bits64 z) d) in

@@ -26,4 +26,4 @@ pub record EntryRoom (t : Bytes) (m line within : ℕ) : Type 0 where
   pub first : 0 < line
   pub last : line ≤ 1024
   pub owner : within ≤ 1024
-  pub long : 65536 ≤ length t
+  pub long : 62464 ≤ length t

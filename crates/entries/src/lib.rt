@@ -8,13 +8,13 @@ ghost use Rattle.names.specs.Table.{const_chains};
 ghost use Rattle.values.specs.Values.{kind_for, bits_for, InRange, At};
 ghost use Rattle.entries.specs.Entering.{entry_of, moved_to, string_of, EntryRoom};
 
-use codes::{area, value};
+use codes::{area::{self, Space}, value};
 use names::CHAINS;
 use values::{ConstVal, LONGEST_STRING};
 use write::Writer;
 
 // The bytes of entry m: a `con` line, its module's line, a slot, and a digest.
-fn put_bytes(work: &mut [u8], m: usize, line: usize, within: usize, kind: u8, bits: u64, d: usize)
+fn put_bytes(work: &mut Space, m: usize, line: usize, within: usize, kind: u8, bits: u64, d: usize)
     requires { (EntryRoom work.old m line within) × (d < 256) }
     ensures { work.new ≡ over work.old (5120 + 16 * m) (entry_of line within kind bits d) }
 {
@@ -29,7 +29,7 @@ fn put_bytes(work: &mut [u8], m: usize, line: usize, within: usize, kind: u8, bi
 }
 
 // Entry m, chained by the digest.
-fn put_entry(work: &mut [u8], m: usize, line: usize, within: usize, kind: u8, bits: u64, d: usize)
+fn put_entry(work: &mut Space, m: usize, line: usize, within: usize, kind: u8, bits: u64, d: usize)
     requires { (EntryRoom work.old m line within) × (d < 256) }
     ensures { work.new ≡ linked (over work.old (5120 + 16 * m) (entry_of line within kind bits d)) const_chains m }
 {
@@ -38,8 +38,8 @@ fn put_entry(work: &mut [u8], m: usize, line: usize, within: usize, kind: u8, bi
 }
 
 // A value's string, copied from the stack of folds to where entry m keeps its own; the value is the same with the string there.
-fn keep_string(work: &mut [u8], v: ConstVal, m: usize) -> ConstVal
-    requires { (m < 128) × (65536 ≤ length work.old) × (At 49152 v) }
+fn keep_string(work: &mut Space, v: ConstVal, m: usize) -> ConstVal
+    requires { (m < 128) × (At 49152 v) }
     ensures { (work.new ≡ over work.old (16384 + 256 * m) (string_of work.old v)) × (result ≡ moved_to (16384 + 256 * m) v) }
 {
     match v {
@@ -54,7 +54,7 @@ fn keep_string(work: &mut [u8], v: ConstVal, m: usize) -> ConstVal
 }
 
 // A constant that has a value; d is its digest.
-pub fn enter(work: &mut [u8], m: usize, line: usize, within: usize, v: ConstVal, d: usize)
+pub fn enter(work: &mut Space, m: usize, line: usize, within: usize, v: ConstVal, d: usize)
     requires { (EntryRoom work.old m line within) × (At 49152 v) × (d < 256) }
     ensures { (work.new ≡ linked (over (over work.old (16384 + 256 * m) (string_of work.old v)) (5120 + 16 * m) (entry_of line within (kind_for v) (bits_for (moved_to (16384 + 256 * m) v)) d)) const_chains m) × (InRange v) }
 {
@@ -65,7 +65,7 @@ pub fn enter(work: &mut [u8], m: usize, line: usize, within: usize, v: ConstVal,
 }
 
 // One that failed.
-pub fn enter_failed(work: &mut [u8], m: usize, line: usize, within: usize, d: usize)
+pub fn enter_failed(work: &mut Space, m: usize, line: usize, within: usize, d: usize)
     requires { (EntryRoom work.old m line within) × (d < 256) }
     ensures { work.new ≡ linked (over work.old (5120 + 16 * m) (entry_of line within 0 0 d)) const_chains m }
 {

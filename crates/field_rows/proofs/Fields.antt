@@ -37,9 +37,9 @@ unfolding name_rows placed_rows field_text
 names-rows t off [] = refl
 names-rows t off (n ∷ ns) = ap (λ (x : Bytes). field_row (record { name = n; ty = t; offset = off }) ++ x) (names-rows t (off + size_of t) ns)
 
-module _ (s t : List ℕ) (n r : ℕ) (l : FieldLine s t n r) where
+module _ (s : List ℕ) (r : ℕ) (l : FieldLine s r) where
   names-values : (fd_at s r).names ≡ values name (nodes_in s) (number_of (get_or (read_at s (r - 1)).fields 1 [])) (drop 2 (read_at s (r - 1)).fields)
-  names-values = ap (λ (f : Fd). f.names) (fd_is s t n r l)
+  names-values = ap (λ (f : Fd). f.names) (fd_is s r l)
 
   -- name j is field 2 + j
   pub name-at : (j : ℕ) → j < length (fd_at s r).names → get_or (read_at s (r - 1)).fields (2 + j) [] ≡ get_or (fd_at s r).names j []
@@ -80,10 +80,10 @@ module _ (size start : ℕ) (ns : List Bytes) (u : Writer) where
 
 -- ---- an `fd` line
 
-module _ (s t : List ℕ) (n r : ℕ) (l : FieldLine s t n r) (v : ℕ) (hv : v ≡ Number.number_up_to 65536 (get_or (read_at s (r - 1)).fields 0 [])) (a : ℕ) (u : Writer) where
+module _ (s : List ℕ) (r : ℕ) (l : FieldLine s r) (v : ℕ) (hv : v ≡ Number.number_up_to 65536 (get_or (read_at s (r - 1)).fields 0 [])) (a : ℕ) (u : Writer) where
   pub line-untyped : v ≡ 0 → LineWrote (fd_at s r) a a u u
   unfolding line_rows placed_rows
-  line-untyped z = let e = untyped s t n r l v hv z in record { wrote = rw e (writes_none u u.room); end = rw e }
+  line-untyped z = let e = untyped s r l v hv z in record { wrote = rw e (writes_none u u.room); end = rw e }
 
   pub line-typed : (z : v ≡ 0 → ⊥) {size align at : ℕ} → Measures (type_at s v) size align → at ≡ align_up align a → {b : ℕ} {w : Writer}
       → Writes u (name_rows size at (fd_at s r).names) w × (b ≡ at + length (fd_at s r).names * size) → LineWrote (fd_at s r) a b u w
@@ -92,8 +92,8 @@ module _ (s t : List ℕ) (n r : ℕ) (l : FieldLine s t n r) (v : ℕ) (hv : v 
       let off = align_up (align_of (type_at s v)) a in
       let ns = (fd_at s r).names in
       record {
-        wrote = writes_as (rw (typed s t n r l v hv z, k, m.whole, m.step) (names-rows (type_at s v) off ns)) x.0;
-        end = rw (typed s t n r l v hv z, names-end (type_at s v) off ns, x.1, k, m.whole, m.step);
+        wrote = writes_as (rw (typed s r l v hv z, k, m.whole, m.step) (names-rows (type_at s v) off ns)) x.0;
+        end = rw (typed s r l v hv z, names-end (type_at s v) off ns, x.1, k, m.whole, m.step);
       }
 
 -- ---- several
@@ -111,7 +111,7 @@ pub record Fielding (s : List ℕ) (f : Refs) (a : ℕ) (u v : Writer) (b j : �
   pub wrote : Writes u done v
   pub rest : done ++ field_rows b (fds_from s f.line (f.from + j) (f.count - j)) ≡ field_rows a (fds_of_refs s f)
 
-module _ (s t : List ℕ) (n : ℕ) (f : Refs) (l : FieldRefs s t n f) (a : ℕ) (u : Writer) where
+module _ (s : List ℕ) (f : Refs) (l : FieldRefs s f) (a : ℕ) (u : Writer) where
   pub fielding-start : Fielding s f a u u a 0
   fielding-start =
       let z : f.from + 0 ≡ f.from = omega arith in
@@ -128,7 +128,7 @@ module _ (s t : List ℕ) (n : ℕ) (f : Refs) (l : FieldRefs s t n f) (a : ℕ)
     pub fielding-next : (h : j < f.count) (r : ℕ) (hr : r ≡ Number.number_up_to 65536 (get_or (read_at s (f.line - 1)).fields (f.from + j) [])) (c : ℕ) (w : Writer)
         → LineWrote (fd_at s r) b c v w → c ≤ b + line_bytes → Fielding s f a u w c (j + 1)
     fielding-next h r hr c w x k =
-        let e = fields-next s t n f l j h r hr in
+        let e = fields-next s f l j h r hr in
         let more = fds_from s f.line (f.from + (j + 1)) (f.count - (j + 1)) in
         record {
           within = omega arith;

@@ -21,9 +21,9 @@ use Rattle.semantics.specs.Fold.{Names, bind, fold, fold_unary, fold_binary, fol
 use Rattle.semantics.specs.Fold.Result.{ok}
 use Rattle.decimal.specs.Number as Number
 use Rattle.form.specs.Table.{row_node}
-use Rattle.lines.specs.Lines.{read_at, nodes_in, form_at, Whole}
+use Rattle.lines.specs.Lines.{lines_in, read_at, nodes_in, form_at, Whole}
 use Rattle.checks.specs.Checks.{Checked, Kept}
-use Rattle.checks.proofs.Kept.{kept-all, kept_then, kept_less, kept_at, checked-kept}
+use Rattle.checks.proofs.Kept.{kept-all, kept_then, kept_less, kept_at}
 use Rattle.values.specs.declared.ConstVal.{ConstVal}
 use Rattle.values.specs.declared.ConstVal.TheVariants.{Int, Real, Str}
 use Rattle.values.specs.declared.NoValue.{NoValue}
@@ -72,18 +72,18 @@ module _ (names : Names) (iota : ℤ) where
 
 -- ---- operands
 
-module _ {s t : Bytes} {n r : ℕ} (l : OperatorLine s t n r) where
+module _ {s t : Bytes} {r : ℕ} (l : OperatorLine s r) where
   abbrev fields : List Bytes
   fields = (read_at s (r - 1)).fields
 
   abbrev form_here : ℕ
-  form_here = form_at t (r - 1)
+  form_here = form_at s (r - 1)
 
   -- the only or left operand is an earlier expression
-  operand-line : RefTo s n r 69 (get_or fields (cond (eqb form_here 16) 0 1) []) (operand_of s t r)
+  operand-line : RefTo s (lines_in s) r 69 (get_or fields (cond (eqb form_here 16) 0 1) []) (operand_of s t r)
   unfolding forms operand_of
   operand-line =
-      by-form (λ f. form_here ≡ f → RefTo s n r 69 (get_or fields (cond (eqb f 16) 0 1) []) (number_of (get_or fields (cond (eqb f 16) 0 1) [])))
+      by-form (λ f. form_here ≡ f → RefTo s (lines_in s) r 69 (get_or fields (cond (eqb f 16) 0 1) []) (number_of (get_or fields (cond (eqb f 16) 0 1) [])))
       (λ e. ref-good l.line 13 1 e k_ex refl) (λ e. ref-good l.line 14 1 e k_ex refl) (λ e. ref-good l.line 15 1 e k_ex refl) (λ e. ref-good l.line 16 0 e k_ex refl)
       form_here l.low l.high refl
 
@@ -95,7 +95,7 @@ module _ {s t : Bytes} {n r : ℕ} (l : OperatorLine s t n r) where
       ex-is l.line ∙ ap (λ (f : ℕ). (row_node (nodes_in s) f fields).ex) e ∙ made-binary (nodes_in s) fields in
       rw (q, e) (binary-steps names iota (ex_at s (number_of (get_or fields 1 []))) (binary_at (number_of (get_or fields 0 []))) (ex_at s (number_of (get_or fields 2 []))))
 
-  right-line : form_here ≡ 14 → RefTo s n r 69 (get_or fields 2 []) (number_of (get_or fields 2 []))
+  right-line : form_here ≡ 14 → RefTo s (lines_in s) r 69 (get_or fields 2 []) (number_of (get_or fields 2 []))
   unfolding forms
   right-line e = ref-good l.line 14 2 e k_ex refl
 
@@ -136,11 +136,11 @@ within_of t top (Int z) h k = tt
 within_of t top (Real x) h k = tt
 within_of t top (Str p l) h k = (omega (arith, h.0, h.1), h.1)
 
-module _ {s t : Bytes} {n r : ℕ} {v : ConstVal} {top : ℕ} (a : Applies s t n r v top) where
-  made : {f : ℕ} → form_at t (r - 1) ≡ f → ex_at s r ≡ (row_node (nodes_in s) f (read_at s (r - 1)).fields).ex
+module _ {s t : Bytes} {r : ℕ} {v : ConstVal} {top : ℕ} (a : Applies s t r v top) where
+  made : {f : ℕ} → form_at s (r - 1) ≡ f → ex_at s r ≡ (row_node (nodes_in s) f (read_at s (r - 1)).fields).ex
   made e = ex-is a.line.line ∙ ap (λ (f : ℕ). (row_node (nodes_in s) f (read_at s (r - 1)).fields).ex) e
 
-  pub applies-unary : form_at t (r - 1) ≡ 13 → {o : ℕ} (op : Unary) {x : Result ConstVal NoValue} → o ≡ Number.number_up_to 65536 (get_or (read_at s (r - 1)).fields 0 []) → unary_op op ≡ unary_at o
+  pub applies-unary : form_at s (r - 1) ≡ 13 → {o : ℕ} (op : Unary) {x : Result ConstVal NoValue} → o ≡ Number.number_up_to 65536 (get_or (read_at s (r - 1)).fields 0 []) → unary_op op ≡ unary_at o
       → ((u : Bytes) (p : ℕ) → Answers u p x (fold_unary (unary_op op) (value_in u v)))
       → Answers t top x (on_one (ex_at s r) (value_in t v)) × Kept top t t
   unfolding forms
@@ -150,11 +150,11 @@ module _ {s t : Bytes} {n r : ℕ} {v : ConstVal} {top : ℕ} (a : Applies s t n
       (answers-as (sym (ap (λ (x : Ex). on_one x (value_in t v)) d)) (b t top), kept-all)
 
   -- the line of the type
-  pub cast-line : form_at t (r - 1) ≡ 15 → RefTo s n r 75 (get_or (read_at s (r - 1)).fields 0 []) (number_of (get_or (read_at s (r - 1)).fields 0 []))
+  pub cast-line : form_at s (r - 1) ≡ 15 → RefTo s (lines_in s) r 75 (get_or (read_at s (r - 1)).fields 0 []) (number_of (get_or (read_at s (r - 1)).fields 0 []))
   unfolding forms
   cast-line e = ref-good a.line.line 15 0 e k_ty refl
 
-  pub applies-cast : form_at t (r - 1) ≡ 15 → {k code : ℕ} → k ≡ Number.number_up_to 65536 (get_or (read_at s (r - 1)).fields 0 []) → code ≡ form_at t (k - 1) → {u : Bytes} {w : ConstVal}
+  pub applies-cast : form_at s (r - 1) ≡ 15 → {k code : ℕ} → k ≡ Number.number_up_to 65536 (get_or (read_at s (r - 1)).fields 0 []) → code ≡ form_at s (k - 1) → {u : Bytes} {w : ConstVal}
       → Casts t top (fold_cast (basic_at code) (value_in t v)) u w → Answers u top (Ok w) (on_one (ex_at s r) (value_in t v)) × Kept top t u
   unfolding result_in
   applies-cast e {k} {code} h g b =
@@ -162,13 +162,13 @@ module _ {s t : Bytes} {n r : ℕ} {v : ConstVal} {top : ℕ} (a : Applies s t n
       let j = number_of (get_or (read_at s (r - 1)).fields 0 []) in
       let q : k ≡ j = h ∙ l.exact in
       let d : ex_at s r ≡ cast (node_at (nodes_in s) j).ty (ex_at s (number_of (get_or (read_at s (r - 1)).fields 1 []))) = made e ∙ made-cast (nodes_in s) (read_at s (r - 1)).fields in
-      let c : basic_at code ≡ basic_of (node_at (nodes_in s) j).ty = ap basic_at (g ∙ ap (λ (i : ℕ). form_at t (i - 1)) q) ∙ sym (basic-is s t n a.line.line.checked j l.first l.last l.kind) in
+      let c : basic_at code ≡ basic_of (node_at (nodes_in s) j).ty = ap basic_at (g ∙ ap (λ (i : ℕ). form_at s (i - 1)) q) ∙ sym (basic-is s a.line.line.checked j l.first l.last l.kind) in
       (record { value = ap ok (b.value ∙ ap (λ z. fold_cast z (value_in t v)) c) ∙ sym (ap (λ (x : Ex). on_one x (value_in t v)) d); at = b.at }, b.kept)
 
-  pub applies-len : (form_at t (r - 1) ≡ 13 → ⊥) → (form_at t (r - 1) ≡ 15 → ⊥) → {x : Result ConstVal NoValue} → ((p : ℕ) → Answers t p x (fold_len (value_in t v)))
+  pub applies-len : (form_at s (r - 1) ≡ 13 → ⊥) → (form_at s (r - 1) ≡ 15 → ⊥) → {x : Result ConstVal NoValue} → ((p : ℕ) → Answers t p x (fold_len (value_in t v)))
       → Answers t top x (on_one (ex_at s r) (value_in t v)) × Kept top t t
   applies-len n1 n2 b =
-      let e : form_at t (r - 1) ≡ 16 = omega (arith, n1, n2, a.one, a.line.low, a.line.high) in
+      let e : form_at s (r - 1) ≡ 16 = omega (arith, n1, n2, a.one, a.line.low, a.line.high) in
       let d : ex_at s r ≡ len (ex_at s (number_of (get_or (read_at s (r - 1)).fields 0 []))) = made e ∙ made-len (nodes_in s) (read_at s (r - 1)).fields in
       (answers-as (sym (ap (λ (x : Ex). on_one x (value_in t v)) d)) (b top), kept-all)
 
@@ -192,28 +192,28 @@ size_small top (Int z) h = omega arith
 size_small top (Real x) h = omega arith
 size_small top (Str p l) h = h.1
 
-module _ {s t : Bytes} {n m r top : ℕ} (a : Foldable s t n m r top) where
-  pub fails-behind : {iota : ℕ} → 16 < form_at t (r - 1) → Folds s t m iota r top t (Err Failed)
+module _ {s t : Bytes} {m r top : ℕ} (a : Foldable s t m r top) where
+  pub fails-behind : {iota : ℕ} → 16 < form_at s (r - 1) → Folds s t m iota r top t (Err Failed)
   unfolding fold_at
   fails-behind {iota} h =
       let w = form-span a.line in
-      let f : form_at t (r - 1) ≡ 17 + (form_at t (r - 1) - 17) = omega arith in
-      let d : ex_at s r ≡ (row_node (nodes_in s) (17 + (form_at t (r - 1) - 17)) (read_at s (r - 1)).fields).ex = ex-is a.line ∙ ap (λ (g : ℕ). (row_node (nodes_in s) g (read_at s (r - 1)).fields).ex) f in
-      record { answer = answers-failed (sym (rw d (made-failing (nodes_in s) (names_in s t m) (pos iota) (read_at s (r - 1)).fields (form_at t (r - 1) - 17) (omega (arith, w.1))))) t top; kept = kept-all }
+      let f : form_at s (r - 1) ≡ 17 + (form_at s (r - 1) - 17) = omega arith in
+      let d : ex_at s r ≡ (row_node (nodes_in s) (17 + (form_at s (r - 1) - 17)) (read_at s (r - 1)).fields).ex = ex-is a.line ∙ ap (λ (g : ℕ). (row_node (nodes_in s) g (read_at s (r - 1)).fields).ex) f in
+      record { answer = answers-failed (sym (rw d (made-failing (nodes_in s) (names_in s t m) (pos iota) (read_at s (r - 1)).fields (form_at s (r - 1) - 17) (omega (arith, w.1))))) t top; kept = kept-all }
 
-  module _ (low : 13 ≤ form_at t (r - 1)) (high : form_at t (r - 1) ≤ 16) where
-    pub operator-line : OperatorLine s t n r
+  module _ (low : 13 ≤ form_at s (r - 1)) (high : form_at s (r - 1) ≤ 16) where
+    pub operator-line : OperatorLine s r
     operator-line = record { line = a.line; low = low; high = high }
 
     -- the sheet stays checked
-    checked-behind : {u : Bytes} → Kept top t u → Checked s u n
-    checked-behind w = checked-kept (kept_less (omega (arith, a.low)) w) a.line.checked
+    checked-behind : {u : Bytes} → Kept top t u → Checked s
+    checked-behind w = a.line.checked
 
-    pub readable-behind : {u : Bytes} → Kept top t u → Whole s u n × (r - 1 < n)
+    pub readable-behind : {u : Bytes} → Kept top t u → Whole s × (r - 1 < lines_in s)
     readable-behind w = ((checked-behind w).whole, in-sheet a.line)
 
     -- a line that it refers to can be folded behind a string
-    below : {u : Bytes} → Kept top t u → {x : Bytes} {k : ℕ} → RefTo s n r 69 x k → (p : ℕ) → top ≤ p → p ≤ top + 256 → Foldable s u n m k p
+    below : {u : Bytes} → Kept top t u → {x : Bytes} {k : ℕ} → RefTo s (lines_in s) r 69 x k → (p : ℕ) → top ≤ p → p ≤ top + 256 → Foldable s u m k p
     below w {k = k} b p h l = record {
       line = record { checked = checked-behind w; first = b.first; last = b.last; kind = b.kind };
       log = logged-kept (kept_less a.low w) a.log;
@@ -221,7 +221,7 @@ module _ {s t : Bytes} {n m r top : ℕ} (a : Foldable s t n m r top) where
       room = omega (arith, a.room, b.lower, w.long);
     }
 
-    pub operand-foldable : {k : ℕ} → k ≡ operand_of s t r → Foldable s t n m k top
+    pub operand-foldable : {k : ℕ} → k ≡ operand_of s t r → Foldable s t m k top
     operand-foldable e = rw e (below kept-all (operand-line operator-line) top (omega arith) (omega arith))
 
     pub operand-before : {k : ℕ} → k ≡ operand_of s t r → k < r
@@ -237,25 +237,25 @@ module _ {s t : Bytes} {n m r top : ℕ} (a : Foldable s t n m r top) where
       unfolding fold_at
       goes-on K e = e ∙ ap (λ z. bind z K) operand-result
 
-      same-form : form_at u (r - 1) ≡ form_at t (r - 1)
+      same-form : form_at u (r - 1) ≡ form_at s (r - 1)
       unfolding form_at
-      same-form = kept_at f.kept (2048 + (r - 1)) (omega (arith, a.low, a.line.last, a.line.checked.whole.lined.few, a.line.first))
+      same-form = kept_at f.kept (2048 + (r - 1)) (omega (arith, a.low, a.line.last, a.line.checked.whole.few, a.line.first))
 
       pub left-stops : {e : NoValue} → x ≡ Err e → Folds s t m iota r top u (Err e)
-      left-stops {e} h = go (eqb (form_at t (r - 1)) 14) refl
+      left-stops {e} h = go (eqb (form_at s (r - 1)) 14) refl
         where
           ends : (K : Tree.ConstVal → Fold.Result Tree.ConstVal) → fold_at s t m iota r ≡ bind (result_in u x) K → Folds s t m iota r top u (Err e)
           ends K q = record { answer = record { value = sym (q ∙ ap (λ z. bind (result_in u z) K) h ∙ stopped u e K); at = tt }; kept = f.kept }
 
-          go : (b : Bool) → eqb (form_at t (r - 1)) 14 ≡ b → Folds s t m iota r top u (Err e)
-          go true q = ends _ (goes-on _ (fold-two operator-line (names_in s t m) (pos iota) (eqb-true (form_at t (r - 1)) 14 q)))
-          go false q = ends _ (goes-on _ (fold-one operator-line (names_in s t m) (pos iota) (eqb-false (form_at t (r - 1)) 14 q)))
+          go : (b : Bool) → eqb (form_at s (r - 1)) 14 ≡ b → Folds s t m iota r top u (Err e)
+          go true q = ends _ (goes-on _ (fold-two operator-line (names_in s t m) (pos iota) (eqb-true (form_at s (r - 1)) 14 q)))
+          go false q = ends _ (goes-on _ (fold-one operator-line (names_in s t m) (pos iota) (eqb-false (form_at s (r - 1)) 14 q)))
 
       module _ {v : ConstVal} (hv : x ≡ Ok v) where
         value-at : At top v
         value-at = subst (ResultAt top) hv f.answer.at
 
-        pub applies : (form_at t (r - 1) ≡ 14 → ⊥) → Applies s u n r v top
+        pub applies : (form_at s (r - 1) ≡ 14 → ⊥) → Applies s u r v top
         applies z = let e = same-form in record {
           line = record { line = record { checked = checked-behind f.kept; first = a.line.first; last = a.line.last; kind = a.line.kind }; low = omega arith; high = omega arith };
           one = λ q. z (sym e ∙ q);
@@ -263,56 +263,56 @@ module _ {s t : Bytes} {n m r top : ℕ} (a : Foldable s t n m r top) where
           room = omega (arith, a.room, depth-some a.line, f.kept.long);
         }
 
-        pub applied : (form_at t (r - 1) ≡ 14 → ⊥) → {w : Bytes} {y : Result ConstVal NoValue} → Answers w top y (on_one (ex_at s r) (value_in u v)) × Kept top u w → Folds s t m iota r top w y
+        pub applied : (form_at s (r - 1) ≡ 14 → ⊥) → {w : Bytes} {y : Result ConstVal NoValue} → Answers w top y (on_one (ex_at s r) (value_in u v)) × Kept top u w → Folds s t m iota r top w y
         unfolding result_in
         applied z b = record {
           answer = answers-as (sym (goes-on (on_one (ex_at s r)) (fold-one operator-line (names_in s t m) (pos iota) z) ∙ rw hv)) b.0;
           kept = kept_then f.kept b.1;
         }
 
-        module _ (e : form_at t (r - 1) ≡ 14) {g p : ℕ} (hg : g ≡ Number.number_up_to 65536 (get_or (read_at s (r - 1)).fields 2 [])) (hp : p ≡ string_size v) where
+        module _ (e : form_at s (r - 1) ≡ 14) {g p : ℕ} (hg : g ≡ Number.number_up_to 65536 (get_or (read_at s (r - 1)).fields 2 [])) (hp : p ≡ string_size v) where
           right_is : g ≡ number_of (get_or (read_at s (r - 1)).fields 2 [])
           right_is = hg ∙ (right-line operator-line e).exact
 
-          pub right-foldable : Foldable s u n m g (top + p)
+          pub right-foldable : Foldable s u m g (top + p)
           right-foldable = let z = size_small top v value-at in rw right_is (below f.kept (right-line operator-line e) (top + p) (omega arith) (omega (arith, hp)))
 
           pub right-before : g < r
           right-before = omega (arith, right_is, (right-line operator-line e).before)
 
           -- the fold of the right operand gave y
-          module _ {w : Bytes} {y : Result ConstVal NoValue} (b : Folds s u m iota g (top + p) w y) where
-            pub right_kept : Kept top t w
+          module _ {y : Result ConstVal NoValue} (b : Folds s u m iota g (top + p) (lines_in s) y) where
+            pub right_kept : Kept top t (lines_in s)
             right_kept = kept_then f.kept (kept_less (omega arith) b.kept)
 
-            right-result : fold (names_in s t m) (pos iota) (ex_at s (number_of (get_or (read_at s (r - 1)).fields 2 []))) ≡ result_in w y
+            right-result : fold (names_in s t m) (pos iota) (ex_at s (number_of (get_or (read_at s (r - 1)).fields 2 []))) ≡ result_in (lines_in s) y
             unfolding fold_at
             right-result = rw (← right_is, ← log-kept (kept_less a.low f.kept) a.log) (sym b.answer.value)
 
-            both-results : fold_at s t m iota r ≡ bind (result_in w y) (fold_binary (binary_at (number_of (get_or (read_at s (r - 1)).fields 0 []))) (value_in u v))
+            both-results : fold_at s t m iota r ≡ bind (result_in (lines_in s) y) (fold_binary (binary_at (number_of (get_or (read_at s (r - 1)).fields 0 []))) (value_in u v))
             unfolding result_in
             both-results = goes-on _ (fold-two operator-line (names_in s t m) (pos iota) e) ∙ rw (hv, right-result)
 
-            pub right-stops : {g : NoValue} → y ≡ Err g → Folds s t m iota r top w (Err g)
-            right-stops {g} h = record { answer = record { value = sym (both-results ∙ ap (λ z. bind (result_in w z) (fold_binary (binary_at (number_of (get_or (read_at s (r - 1)).fields 0 []))) (value_in u v))) h ∙ stopped w g _); at = tt }; kept = right_kept }
+            pub right-stops : {g : NoValue} → y ≡ Err g → Folds s t m iota r top (lines_in s) (Err g)
+            right-stops {g} h = record { answer = record { value = sym (both-results ∙ ap (λ z. bind (result_in (lines_in s) z) (fold_binary (binary_at (number_of (get_or (read_at s (r - 1)).fields 0 []))) (value_in u v))) h ∙ stopped (lines_in s) g _); at = tt }; kept = right_kept }
 
             pub binary-folds : {z : ConstVal} → y ≡ Ok z → {o : ℕ} (op : Binary) → o ≡ Number.number_up_to 65536 (get_or (read_at s (r - 1)).fields 0 []) → binary_op op ≡ binary_at o → {q : Result ConstVal NoValue}
                 → ((t : Bytes) (top : ℕ) → At top v → At (top + string_size v) z → top + 512 ≤ length t → Answers t top q (fold_binary (binary_op op) (value_in t v) (value_in t z)))
-                → Folds s t m iota r top w q
+                → Folds s t m iota r top (lines_in s) q
             unfolding result_in
             binary-folds {z} hz {o} op ho hop {q} c =
                 let i : binary_op op ≡ binary_at (number_of (get_or (read_at s (r - 1)).fields 0 [])) = hop ∙ ap binary_at (binary-number operator-line e ho) in
-                let k : Kept (top + string_size v) u w = rw (← hp) b.kept in
+                let k : Kept (top + string_size v) u (lines_in s) = rw (← hp) b.kept in
                 let x : At (top + string_size v) z = rw (← hp) (subst (ResultAt (top + p)) hz b.answer.at) in
                 let d = (right-line operator-line e).lower in
-                let room : top + 512 ≤ length w = omega (arith, a.room, d, right_kept.long, rw right_is at (depth-some right-foldable.line)) in
+                let room : top + 512 ≤ length (lines_in s) = omega (arith, a.room, d, right_kept.long, rw right_is at (depth-some right-foldable.line)) in
                 record {
-                  answer = answers-as (sym (both-results ∙ rw (hz, ← i, ← value-kept top u w v value-at k))) (c w top value-at x room);
+                  answer = answers-as (sym (both-results ∙ rw (hz, ← i, ← value-kept top u (lines_in s) v value-at k))) (c (lines_in s) top value-at x room);
                   kept = right_kept;
                 }
 
 -- ---- where the fold of a checked sheet's line begins
 
 -- between the constants' strings and 32 strings below the end there is always room
-pub foldable : {s t : Bytes} {n m r top : ℕ} → ExLine s t n r → ConstsLogged s t n m → 49152 ≤ top → top ≤ 57344 → Foldable s t n m r top
+pub foldable : {s t : Bytes} {m r top : ℕ} → ExLine s r → ConstsLogged s t m → 49152 ≤ top → top ≤ 57344 → Foldable s t m r top
 foldable {r = r} l g h k = record { line = l; log = g; low = h; room = omega (arith, l.checked.low (r - 1) (in-sheet l), l.checked.whole.room) }

@@ -13,14 +13,14 @@ use Rattle.values.specs.Values.{At}
 use Rattle.leaf.specs.Folds.{ExLine}
 
 -- line r has an operand: its form is 13 to 16
-pub record OperatorLine (s t : Bytes) (n r : ℕ) : Type 0 where
-  pub line : ExLine s t n r
-  pub low : 13 ≤ form_at t (r - 1)
-  pub high : form_at t (r - 1) ≤ 16
+pub record OperatorLine (s : Bytes) (r : ℕ) : Type 0 where
+  pub line : ExLine s r
+  pub low : 13 ≤ form_at s (r - 1)
+  pub high : form_at s (r - 1) ≤ 16
 
 -- the line of the only or left operand: `len` has it first, others behind an operator or a type
 unfoldable pub operand_of : Bytes → Bytes → ℕ → ℕ
-operand_of s t r = number_of (get_or (read_at s (r - 1)).fields (cond (eqb (form_at t (r - 1)) 16) 0 1) [])
+operand_of s t r = number_of (get_or (read_at s (r - 1)).fields (cond (eqb (form_at s (r - 1)) 16) 0 1) [])
 
 -- what an expression makes of the value of its only operand
 abbrev pub on_one : Ex → Tree.ConstVal → Result Tree.ConstVal
@@ -35,8 +35,8 @@ on_one (array_ex a) v = failed
 on_one other_ex v = failed
 
 -- line r has one operand, whose value is v
-pub record Applies (s t : Bytes) (n r : ℕ) (v : ConstVal) (top : ℕ) : Type 0 where
-  pub line : OperatorLine s t n r
-  pub one : form_at t (r - 1) ≡ 14 → ⊥
+pub record Applies (s t : Bytes) (r : ℕ) (v : ConstVal) (top : ℕ) : Type 0 where
+  pub line : OperatorLine s r
+  pub one : form_at s (r - 1) ≡ 14 → ⊥
   pub at : At top v
   pub room : top + 256 ≤ length t

@@ -21,8 +21,9 @@ use Rattle.words.proofs.Laws.{digest-same, digest-apart}
 use Rattle.chains.specs.Chains.{newest_of, count_to, chain_of, digest_place, digest_at, chain_at, in_chain, ChainRoom, Chained, linked}
 use Rattle.chains.proofs.Laws.{PlacesApart, SameBytes, newest-yes, newest-no, newest-low, linked-outside, linked-other, linked_long, chained-none, chained-kept, chained-next}
 use Rattle.checks.specs.Checks.{Checked, Kept, Outside}
-use Rattle.checks.proofs.Kept.{kept_less, kept_at, outside-then, outside-less, over-outside, checked-kept, kind-line-kept}
+use Rattle.checks.proofs.Kept.{kept_less, kept_at, outside-then, outside-less, over-outside}
 use Rattle.global_table.specs.Table.{VarLine, global_line_of, global_position_of, offset_of, global_chains, global_stored, global_entered, global_at, entries_from, places_in, GlobalEntry, Tabled, number_from, entry_number}
+use Rattle.lines.specs.Lines.{lines_in}
 
 -- ---- an entry
 
@@ -51,7 +52,7 @@ entered-long t i line position offset d =
     ∙ length-sets t (7168 + 8 * i) (line % 256 ∷ line / 256 ∷ position ∷ offset % 256 ∷ offset / 256 ∷ d ∷ [])
 
 -- digests, links and heads lie in the working space, and apart
-pub global-room : {t : Bytes} → 65536 ≤ length t → ChainRoom t global_chains
+pub global-room : {t : Bytes} → 62464 ≤ length t → ChainRoom t global_chains
 unfolding digest_place
 global-room room = record { low = λ i h. omega arith; long = room }
 
@@ -115,7 +116,7 @@ module _ (t : Bytes) (i line position offset d : ℕ) where
     unfolding global_entered digest_place
     outside-entered = outside-then outside-stored (linked-outside (global_stored t i line position offset d) global_chains i (omega arith) (omega arith) (λ k h. (omega arith, omega arith)))
 
-    module _ (room : 65536 ≤ length t) where
+    module _ (room : 62464 ≤ length t) where
       cell_at : (k j : ℕ) → k < 6 → j ≡ 7168 + 8 * i + k → get_or (global_entered t i line position offset d) j 0 ≡ get_or cells k 0
       unfolding global_stored cells over
       cell_at k j h e = unlinked i k j h e ∙ rw e (get_or-stored t (7168 + 8 * i) cells k h (omega arith))
@@ -184,7 +185,7 @@ once-entered s t g line position offset d old last i h = ⊎_elim (λ (e : i ≡
 -- ---- search for a name
 
 -- names with different digests are different
-pub named-apart : {s t : Bytes} {n i d : ℕ} (x : Bytes) → GlobalEntry s t n i → d ≡ digest x → (digest_at t global_chains i ≡ d → ⊥) → false ≡ same x (global_at s t i).name
+pub named-apart : {s t : Bytes} {i d : ℕ} (x : Bytes) → GlobalEntry s t i → d ≡ digest x → (digest_at t global_chains i ≡ d → ⊥) → false ≡ same x (global_at s t i).name
 named-apart {s} {t} {i = i} x b e z = digest-apart x (global_at s t i).name (λ q. z (b.digest ∙ sym (e ∙ q)))
 
 -- one more place: the first with a name is new where it has that name and none before it has
@@ -260,7 +261,7 @@ module _ (s t : Bytes) (x : Bytes) where
       go false e f = rw (newest-no (has_name s t x) g e) (found_before g e f)
 
 -- an entry with the name x, which has the digest d, is of the chain of d
-pub named-chain : {s t : Bytes} {n g d : ℕ} (x : Bytes) → Tabled s t n g → d ≡ digest x → (j : ℕ) → j < g → has_name s t x j ≡ true → in_chain t global_chains (chain_of d) j ≡ true
+pub named-chain : {s t : Bytes} {g d : ℕ} (x : Bytes) → Tabled s t g → d ≡ digest x → (j : ℕ) → j < g → has_name s t x j ≡ true → in_chain t global_chains (chain_of d) j ≡ true
 unfolding chain_at
 named-chain {s} {t} {d = d} x w e j h q =
     let y : digest_at t global_chains j ≡ d = (w.entries j h).digest ∙ sym (e ∙ digest-same x (global_at s t j).name 0 q) in
@@ -270,22 +271,22 @@ below : (r : Option ℕ) {g : ℕ} → count_to r ≤ g → IfSome r (λ i. i < 
 below None h = tt
 below (Some i) h = omega arith
 
-pub found-is : {s t : Bytes} {n g : ℕ} {r : Option ℕ} (x : Bytes) → Tabled s t n g → r ≡ newest_of (has_name s t x) g → (option_map (offset_of t) r ≡ place_of x (places_in s t g)) × (IfSome r (λ i. i < g)) × (r ≡ entry_number x (places_in s t g))
+pub found-is : {s t : Bytes} {g : ℕ} {r : Option ℕ} (x : Bytes) → Tabled s t g → r ≡ newest_of (has_name s t x) g → (option_map (offset_of t) r ≡ place_of x (places_in s t g)) × (IfSome r (λ i. i < g)) × (r ≡ entry_number x (places_in s t g))
 found-is {s} {t} {g = g} x w e =
     let f = newest-first s t x g w.once in
     rw e (f.place, below (newest_of (has_name s t x) g) (newest-low (has_name s t x) g), f.number)
 
 -- ---- what is kept
 
-pub checked-outside : {s t u : Bytes} {n : ℕ} → Outside 7168 9216 t u → Checked s t n → Checked s u n
-checked-outside a c = checked-kept (kept_less (omega arith) a.kept) c
+pub checked-outside : {s t u : Bytes} → Outside 7168 9216 t u → Checked s → Checked s
+checked-outside a c = c
 
-pub var-outside : {s t u : Bytes} {n r : ℕ} → Outside 7168 9216 t u → VarLine s t n r → VarLine s u n r
-var-outside a l = kind-line-kept (kept_less (omega arith) a.kept) l
+pub var-outside : {s t u : Bytes} {r : ℕ} → Outside 7168 9216 t u → VarLine s r → VarLine s r
+var-outside a l = l
 
 -- ---- no entry
 
-pub tabled-none : {s t : Bytes} {n g : ℕ} → Checked s t n → g ≡ 0 → Tabled s t n g
+pub tabled-none : {s t : Bytes} {g : ℕ} → Checked s → g ≡ 0 → Tabled s t g
 tabled-none {t = t} c e = record { checked = c; few = omega arith; entries = λ i h. absurd (omega arith); once = λ i h. absurd (omega arith); chained = rw e (chained-none t global_chains) }
 
 -- ---- the table stays where all that stands up to its end is kept
@@ -316,13 +317,13 @@ module _ {t u : Bytes} (a : Kept 9216 t u) where
     head = λ k h. kept_at a (7173 + 8 * k + 1 + 1) (omega arith);
   }
 
-  pub tabled-kept : {s : Bytes} {n g : ℕ} → Tabled s t n g → Tabled s u n g
+  pub tabled-kept : {s : Bytes} → Tabled s t (lines_in s) → Tabled s u (lines_in s)
   tabled-kept {s} d = record {
-    checked = checked-kept (kept_less (omega arith) a) d.checked;
+    checked = d.checked;
     few = d.few;
     entries = λ i h. let x = d.entries i h in record {
       low = x.low;
-      line = rw (line_kept i x.low) (kind-line-kept (kept_less (omega arith) a) x.line);
+      line = rw (line_kept i x.low) (x.line);
       digest = rw (globals-same.digest i x.low, entry_kept s i x.low) x.digest;
     };
     once = λ i h. let x = d.entries i h in rw (entry_kept s i x.low, places-kept s i (omega (arith, x.low))) (d.once i h);

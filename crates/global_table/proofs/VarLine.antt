@@ -16,7 +16,7 @@ use Rattle.semantics.specs.Form.Part.{one, many}
 use Rattle.decimal.specs.Number as Number
 use Rattle.form.specs.Table.{row_at, kind_at}
 use Rattle.form.proofs.Table.{only-var, form-of-kind}
-use Rattle.lines.specs.Lines.{reads_in, read_at, nodes_in, form_at, Whole}
+use Rattle.lines.specs.Lines.{lines_in, reads_in, read_at, nodes_in, form_at, Whole}
 use Rattle.lines.proofs.Line.{form-low, form-is, kind-is, read_fits}
 use Rattle.refs.proofs.Fine.{needed-ref}
 use Rattle.sizes.specs.Sizes.{type_at, TypeLine}
@@ -26,33 +26,33 @@ use Rattle.global_table.specs.Table.{VarLine, type_on, names_on}
 
 -- ---- line i, from 0, by its form: row 29 is that of `var` lines
 
-module _ (s t : Bytes) (n : ℕ) (w : Whole s t n) (i : ℕ) (h : i < n) {f : ℕ} (hf : f ≡ form_at t i) where
+module _ (s : Bytes) (w : Whole s) (i : ℕ) (h : i < lines_in s) {f : ℕ} (hf : f ≡ form_at s i) where
   pub kind-other : (f ≡ 29 → ⊥) → eqb (letter (read_at s i).form.kind) 72 ≡ false
-  kind-other z = ne_eqb (letter (read_at s i).form.kind) 72 (λ e. z (hf ∙ form-of-kind only-var (form_at t i) (form-low s t n w i h) (sym (kind-is s t n w i h) ∙ e)))
+  kind-other z = ne_eqb (letter (read_at s i).form.kind) 72 (λ e. z (hf ∙ form-of-kind only-var (form_at s i) (form-low s w i h) (sym (kind-is s w i h) ∙ e)))
 
   pub kind-var : f ≡ 29 → letter (read_at s i).form.kind ≡ 72
   unfolding forms
-  kind-var e = kind-is s t n w i h ∙ ap kind_at (sym hf ∙ e)
+  kind-var e = kind-is s w i h ∙ ap kind_at (sym hf ∙ e)
 
 -- ---- its fields
 
 pub names-count : (s : Bytes) (r : ℕ) → length (names_on s r) ≡ number_of (get_or (read_at s (r - 1)).fields 2 [])
 names-count s r = values_length name (nodes_in s) (number_of (get_or (read_at s (r - 1)).fields 2 [])) (drop 3 (read_at s (r - 1)).fields)
 
-module _ (s t : Bytes) (n r : ℕ) (l : VarLine s t n r) where
-  pub var-in : r - 1 < n
+module _ (s : Bytes) (r : ℕ) (l : VarLine s r) where
+  pub var-in : r - 1 < lines_in s
   var-in = omega (arith, l.first, l.last)
 
-  form-var : form_at t (r - 1) ≡ 29
-  form-var = form-of-kind only-var (form_at t (r - 1)) (form-low s t n l.checked.whole (r - 1) var-in) (sym (kind-is s t n l.checked.whole (r - 1) var-in) ∙ l.kind)
+  form-var : form_at s (r - 1) ≡ 29
+  form-var = form-of-kind only-var (form_at s (r - 1)) (form-low s l.checked.whole (r - 1) var-in) (sym (kind-is s l.checked.whole (r - 1) var-in) ∙ l.kind)
 
   -- a type, a value or none, and how many names
   pub parts-good : Good (reads_in s) (r - 1) 75 (get_or (read_at s (r - 1)).fields 0 []) × May (reads_in s) (r - 1) 69 (get_or (read_at s (r - 1)).fields 1 []) × (is_count (get_or (read_at s (r - 1)).fields 2 []) ≡ true)
   unfolding forms
   parts-good =
       let w = l.checked.whole in
-      let p : (read_at s (r - 1)).form.parts ≡ one (ref k_ty) ∷ (one (maybe k_ex) ∷ (many name ∷ [])) = ap (λ (x : Row). x.parts) (form-is s t n w (r - 1) var-in) ∙ ap (λ (g : ℕ). (row_at g).parts) form-var in
-      let q : fits (one (ref k_ty) ∷ (one (maybe k_ex) ∷ (many name ∷ []))) (read_at s (r - 1)).fields ≡ true = rw form-var at (read_fits s t n w (r - 1) var-in) in
+      let p : (read_at s (r - 1)).form.parts ≡ one (ref k_ty) ∷ (one (maybe k_ex) ∷ (many name ∷ [])) = ap (λ (x : Row). x.parts) (form-is s w (r - 1) var-in) ∙ ap (λ (g : ℕ). (row_at g).parts) form-var in
+      let q : fits (one (ref k_ty) ∷ (one (maybe k_ex) ∷ (many name ∷ []))) (read_at s (r - 1)).fields ≡ true = rw form-var at (read_fits s w (r - 1) var-in) in
       let x = ref-head (reads_in s) (r - 1) k_ty (one (maybe k_ex) ∷ (many name ∷ [])) (read_at s (r - 1)).fields q (rw p at (l.checked.fine (r - 1) var-in)) in
       let y = maybe-head (reads_in s) (r - 1) k_ex (many name ∷ []) (drop 1 (read_at s (r - 1)).fields) x.1 x.2 in (
         x.0,
@@ -66,9 +66,9 @@ module _ (s t : Bytes) (n r : ℕ) (l : VarLine s t n r) where
 
   module _ (v : ℕ) (hv : v ≡ Number.number_up_to 65536 (get_or (read_at s (r - 1)).fields 0 [])) where
     type-number : v ≡ number_of (get_or (read_at s (r - 1)).fields 0 [])
-    type-number = hv ∙ number-exact (get_or (read_at s (r - 1)).fields 0 []) parts-good.0.number (omega (arith, ref-is.1, l.last, l.checked.whole.lined.few))
+    type-number = hv ∙ number-exact (get_or (read_at s (r - 1)).fields 0 []) parts-good.0.number (omega (arith, ref-is.1, l.last, l.checked.whole.few))
 
-    pub type-line : TypeLine s t n v
+    pub type-line : TypeLine s v
     type-line = record {
       checked = l.checked;
       first = omega (arith, type-number, ref-is.0);

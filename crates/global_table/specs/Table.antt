@@ -16,8 +16,8 @@ use Rattle.source.specs.Walk.{var_of}
 -- ---- a `var` line: the type's line, the value's, and a count with as many names
 
 -- line r of a checked sheet is a `var` line, 72
-abbrev pub VarLine : Bytes → Bytes → ℕ → ℕ → Type 0
-VarLine s t n r = KindLine 72 s t n r
+abbrev pub VarLine : Bytes → ℕ → Type 0
+VarLine s r = KindLine 72 s r
 
 -- what line r declares: its name j, its type, its names
 abbrev pub var_on : Bytes → ℕ → VarDecl
@@ -67,9 +67,9 @@ abbrev pub places_in : Bytes → Bytes → ℕ → List Global
 places_in s t g = entries_from s t 0 g
 
 -- entry i is of a `var` line, and holds its name's digest
-pub record GlobalEntry (s t : Bytes) (n i : ℕ) : Type 0 where
+pub record GlobalEntry (s t : Bytes) (i : ℕ) : Type 0 where
   pub low : i < 256
-  pub line : VarLine s t n (global_line_of t i)
+  pub line : VarLine s (global_line_of t i)
   pub digest : digest_at t global_chains i ≡ digest (global_at s t i).name
 
 -- the first place with a name, where the first of all is place k
@@ -85,9 +85,9 @@ abbrev pub offset_in : Bytes → List Global → ℕ
 offset_in x ps = or_else 0 (place_of x ps)
 
 -- g entries, each with a name that none before it has
-pub record Tabled (s t : Bytes) (n g : ℕ) : Type 0 where
-  pub checked : Checked s t n
+pub record Tabled (s t : Bytes) (g : ℕ) : Type 0 where
+  pub checked : Checked s
   pub few : g ≤ 256
-  pub entries : (i : ℕ) → i < g → GlobalEntry s t n i
+  pub entries : (i : ℕ) → i < g → GlobalEntry s t i
   pub once : (i : ℕ) → i < g → entry_number (global_at s t i).name (places_in s t i) ≡ None
   pub chained : Chained t global_chains g

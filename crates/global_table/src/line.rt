@@ -4,28 +4,30 @@ ghost use Rattle.semantics.specs.Text.{bytes, same};
 ghost use Rattle.sizes.specs.Sizes.{type_at, TypeLine};
 ghost use Rattle.global_table.specs.Table.{VarLine, name_on, type_on, names_on};
 
+use lines::Sheet;
+
 // The line of its type.
-pub fn type_of(sheet: &[u8], work: &[u8], n: usize, r: usize) -> usize
-    requires { VarLine sheet.now work.now n r }
-    ensures { (TypeLine sheet.now work.now n result) × (type_at sheet.now result ≡ type_on sheet.now r) }
+pub fn type_of(sheet: &Sheet, r: usize) -> usize
+    requires { VarLine sheet.now r }
+    ensures { (TypeLine sheet.now result) × (type_at sheet.now result ≡ type_on sheet.now r) }
 {
-    lines::number_at(sheet, work, n, r - 1, 0)
+    sheet.number_at(r - 1, 0)
 }
 
 // How many names it has.
-pub fn name_count(sheet: &[u8], work: &[u8], n: usize, r: usize) -> usize
-    requires { VarLine sheet.now work.now n r }
+pub fn name_count(sheet: &Sheet, r: usize) -> usize
+    requires { VarLine sheet.now r }
     ensures { (result ≡ length (names_on sheet.now r)) × (result ≤ 16) }
 {
-    lines::number_at(sheet, work, n, r - 1, 2)
+    sheet.number_at(r - 1, 2)
 }
 
 // Its name j, from 0.
-pub fn name_at<'a>(sheet: &'a [u8], work: &[u8], n: usize, r: usize, j: usize) -> &'a [u8]
-    requires { (VarLine sheet.now work.now n r) × (j < 256) }
+pub fn name_at<'a>(sheet: &'a [u8], r: usize, j: usize) -> &'a [u8]
+    requires { (VarLine sheet.now r) × (j < 256) }
     ensures { result.now ≡ name_on sheet.now r j }
 {
-    lines::field_at(sheet, work, n, r - 1, 3 + j)
+    sheet.field_at(r - 1, 3 + j)
 }
 
 // Whether a name is `nil`, which is not laid out.

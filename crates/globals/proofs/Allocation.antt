@@ -14,7 +14,7 @@ use Rattle.semantics.specs.Form.Atom.{name}
 use Rattle.semantics.specs.Sheet.{Located, Source, concat_map, sheet_source}
 use Rattle.semantics.specs.Fold.{Names}
 use Rattle.semantics.specs.Global.{Declared, Globals, init_of, or_no_init, laid_names, declared_by, declared_in, place_of, declare_at, globals_from, no_globals, globals}
-use Rattle.lines.specs.Lines.{read_at, nodes_in}
+use Rattle.lines.specs.Lines.{lines_in, read_at, nodes_in}
 use Rattle.refs.proofs.Nodes.{node-count}
 use Rattle.checks.specs.Checks.{Checked}
 use Rattle.source.specs.Walk.{declares_at, open_at, located_to, var_of, by_kind}
@@ -96,23 +96,23 @@ names-next t ns fs j l = rw add-one (go j fs l)
     go (suc k) [] m = go k [] (lay_name t [] m)
     go (suc k) (g ∷ gs) m = go k gs (lay_name t g m)
 
-module _ (s t : Bytes) (n : ℕ) (c : Checked s t n) where
+module _ (s : Bytes) (c : Checked s) where
   -- the `var` lines of the sheet
-  pub vars-are : (sheet_source s).vars ≡ located_to (λ (d : Declares). d.vars) (nodes_in s) n
-  vars-are = ap (λ (o : Source). o.vars) (source-of s) ∙ located-all (λ (d : Declares). d.vars) (nodes_in s) ∙ ap (located_to (λ (d : Declares). d.vars) (nodes_in s)) (node-count s t n c.whole)
+  pub vars-are : (sheet_source s).vars ≡ located_to (λ (d : Declares). d.vars) (nodes_in s) (lines_in s)
+  vars-are = ap (λ (o : Source). o.vars) (source-of s) ∙ located-all (λ (d : Declares). d.vars) (nodes_in s) ∙ ap (located_to (λ (d : Declares). d.vars) (nodes_in s)) (node-count s c.whole)
 
-  pub laid-all : (ns : Names) → allocation_of (globals ns (sheet_source s)) ≡ laid_to s n
+  pub laid-all : (ns : Names) → allocation_of (globals ns (sheet_source s)) ≡ laid_to s (lines_in s)
   unfolding laid_to
   laid-all ns = source-places ns (sheet_source s) ∙ ap (λ (vs : List (Located VarDecl)). lay_vars (sheet_source s).implement vs no_allocation) vars-are
 
-  module _ (i : ℕ) (h : i < n) where
+  module _ (i : ℕ) (h : i < lines_in s) where
     pub laid_next : laid_to s (i + 1) ≡ lay_line s i (laid_to s i)
     unfolding laid_to located_to lay_vars by_kind lay_line lay_lines
     laid_next =
         let at : VarDecl → Located VarDecl = λ (v : VarDecl). record { line = suc i; within = open_at (nodes_in s) i; it = v } in
         ap (laid_to s) (add-one i)
         ∙ vars-append (sheet_source s).implement (located_to (λ (d : Declares). d.vars) (nodes_in s) i) (map at (declares_at (nodes_in s) i).vars) no_allocation
-        ∙ ap (λ (d : Declares). lay_vars (sheet_source s).implement (map at d.vars) (laid_to s i)) (line-declares s t n c i h)
+        ∙ ap (λ (d : Declares). lay_vars (sheet_source s).implement (map at d.vars) (laid_to s i)) (line-declares s c i h)
         ∙ go (eqb (letter (read_at s i).form.kind) 72) (own_in (sheet_source s).implement (open_at (nodes_in s) i)) refl
       where
         go : (b d : Bool) → own_in (sheet_source s).implement (open_at (nodes_in s) i) ≡ d

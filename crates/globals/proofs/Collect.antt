@@ -13,7 +13,7 @@ use Rattle.semantics.specs.Sheet.{Located, declared, sheet_source}
 use Rattle.semantics.specs.Refusal.{sum_of}
 use Rattle.semantics.specs.Fold.{Names}
 use Rattle.semantics.specs.Global.{globals}
-use Rattle.lines.specs.Lines.{read_at, nodes_in}
+use Rattle.lines.specs.Lines.{lines_in, read_at, nodes_in}
 use Rattle.refs.proofs.Nodes.{node-count}
 use Rattle.checks.specs.Checks.{Checked, Kept, Outside}
 use Rattle.source.specs.Walk.{declares_at, open_at, declared_to, located_to, by_kind}
@@ -32,23 +32,23 @@ use Rattle.globals.proofs.Laid.{laid-number}
 
 -- ---- one line
 
-module _ (s t : Bytes) (n i : ℕ) (g : Globals) (st : PlacesEntered s t n g) where
-  pub line-none : [] ≡ laid_at s i → PlacesLaid s t t n (lay_line s i (allocation_in s t g)) g (g.count + names_at s i)
+module _ (s t : Bytes) (i : ℕ) (g : Globals) (st : PlacesEntered s t g) where
+  pub line-none : [] ≡ laid_at s i → PlacesLaid s t t (lay_line s i (allocation_in s t g)) g (g.count + names_at s i)
   unfolding lay_line lay_lines
   line-none e = laid_same st (ap (λ (vs : List (Located VarDecl)). lay_lines vs (allocation_in s t g)) e) (omega arith)
 
-  module _ (c : Checked s t n) (h : i < n) (r : ℕ) (e : laid_on s (Some r) ≡ laid_at s i) (l : VarLine s t n r) where
+  module _ (c : Checked s) (h : i < lines_in s) (r : ℕ) (e : laid_on s (Some r) ≡ laid_at s i) (l : VarLine s r) where
     names-are : names_at s i ≡ length (names_on s r)
     unfolding names_at by_kind
     names-are =
         let z : r - 1 ≡ i = laid-number s i r e in
         let v : letter (read_at s i).form.kind ≡ 72 = rw z at l.kind in
-        ap (λ (d : Declares). sum_of (λ (v : VarDecl). length v.names) d.vars) (line-declares s t n c i h) ∙ rw (v, z) (omega arith)
+        ap (λ (d : Declares). sum_of (λ (v : VarDecl). length v.names) d.vars) (line-declares s c i h) ∙ rw (v, z) (omega arith)
 
     pub line-room : g.count + names_at s i ≤ 256 → g.count + length (names_on s r) ≤ 256
     line-room q = omega (arith, names-are)
 
-    pub line-laid : {u : Bytes} {x : Globals} → PlacesLaid s t u n (lay_names (type_on s r) (names_on s r) (allocation_in s t g)) x (g.count + length (names_on s r)) → PlacesLaid s t u n (lay_line s i (allocation_in s t g)) x (g.count + names_at s i)
+    pub line-laid : {u : Bytes} {x : Globals} → PlacesLaid s t u (lay_names (type_on s r) (names_on s r) (allocation_in s t g)) x (g.count + length (names_on s r)) → PlacesLaid s t u (lay_line s i (allocation_in s t g)) x (g.count + names_at s i)
     unfolding lay_line lay_lines
     line-laid a = record {
       standing = a.standing;
@@ -71,25 +71,25 @@ names-up : (s : Bytes) (i d : ℕ) → names_to s i ≤ names_to s (i + d)
 names-up s i zero = let e : i + 0 ≡ i = omega arith in rw e (omega arith)
 names-up s i (suc d) = let e : i + suc d ≡ suc (i + d) = omega arith in rw e (omega (arith, names-up s i d, names_more s (i + d)))
 
-module _ (s t : Bytes) (n : ℕ) (c : Checked s t n) where
-  names-all : names_to s n ≤ 256
+module _ (s : Bytes) (c : Checked s) where
+  names-all : names_to s (lines_in s) ≤ 256
   unfolding names_to
   names-all =
-      let e : declared (λ (d : Declares). d.vars) (nodes_in s) ≡ declared_to (λ (d : Declares). d.vars) (nodes_in s) n = declared-all (λ (d : Declares). d.vars) (nodes_in s) ∙ ap (declared_to (λ (d : Declares). d.vars) (nodes_in s)) (node-count s t n c.whole) in
+      let e : declared (λ (d : Declares). d.vars) (nodes_in s) ≡ declared_to (λ (d : Declares). d.vars) (nodes_in s) (lines_in s) = declared-all (λ (d : Declares). d.vars) (nodes_in s) ∙ ap (declared_to (λ (d : Declares). d.vars) (nodes_in s)) (node-count s c.whole) in
       rw e at c.bounds.names
 
-  names-few : (i : ℕ) → i < n → names_to s i + names_at s i ≤ 256
-  names-few i h = let e : suc i + (n - suc i) ≡ n = omega arith in omega (arith, names_more s i, rw e at (names-up s (suc i) (n - suc i)), names-all)
+  names-few : (i : ℕ) → i < lines_in s → names_to s i + names_at s i ≤ 256
+  names-few i h = let e : suc i + (lines_in s - suc i) ≡ lines_in s = omega arith in omega (arith, names_more s i, rw e at (names-up s (suc i) (lines_in s - suc i)), names-all)
 
 -- ---- all lines
 
 -- the globals of the first i lines have places
-pub record LinesLaid (s t u : Bytes) (n : ℕ) (g : Globals) (k : Option ℕ) (i : ℕ) : Type 0 where
-  pub laid : PlacesLaid s t u n (laid_to s i) g (names_to s i)
-  pub here : Open s u n i k
+pub record LinesLaid (s t u : Bytes) (g : Globals) (k : Option ℕ) (i : ℕ) : Type 0 where
+  pub laid : PlacesLaid s t u (laid_to s i) g (names_to s i)
+  pub here : Open s i k
 
-module _ (s t : Bytes) (n : ℕ) (c : Checked s t n) where
-  pub lines-laid-start : {g : Globals} → g.count ≡ 0 → g.end ≡ 0 → LinesLaid s t t n g None 0
+module _ (s t : Bytes) (c : Checked s) where
+  pub lines-laid-start : lines_in s.count ≡ 0 → lines_in s.end ≡ 0 → LinesLaid s t t (lines_in s) None 0
   unfolding laid_to located_to lay_vars entries_from open_at module_at
   lines-laid-start {g} e f =
       record {
@@ -97,31 +97,31 @@ module _ (s t : Bytes) (n : ℕ) (c : Checked s t n) where
         here = record { checked = c; within = omega arith; low = omega arith; here = refl };
       }
 
-  module _ (u : Bytes) (g : Globals) (k : Option ℕ) (i : ℕ) (m : LinesLaid s t u n g k i) where
-    pub lines-laid-here : i < n → (PlacesEntered s u n g) × (Open s u n i k) × (i < n) × (g.count + names_at s i ≤ 256)
-    lines-laid-here h = (m.laid.standing, m.here, h, omega (arith, m.laid.most, names-few s t n c i h))
+  module _ (u : Bytes) (i : ℕ) (m : LinesLaid s t u (lines_in s) (lines_in s) i) where
+    pub lines-laid-here : i < lines_in s → (PlacesEntered s u (lines_in s)) × (Open s i (lines_in s)) × (i < lines_in s) × (lines_in s.count + names_at s i ≤ 256)
+    lines-laid-here h = (m.laid.standing, m.here, h, omega (arith, m.laid.most, names-few s c i h))
 
-    pub lines-laid-next : {v : Bytes} {x : Globals} {q : Option ℕ} → i < n → PlacesLaid s u v n (lay_line s i (allocation_in s u g)) x (g.count + names_at s i) → Open s v n (i + 1) q → LinesLaid s t v n x q (i + 1)
+    pub lines-laid-next : {v : Bytes} → i < lines_in s → PlacesLaid s u v (lay_line s i (allocation_in s u (lines_in s))) (lines_in s) (lines_in s.count + names_at s i) → Open s (i + 1) (lines_in s) → LinesLaid s t v (lines_in s) (lines_in s) (i + 1)
     lines-laid-next h a o =
         let b = laid_then (lay_line s i) (names_at s i) m.laid a in
-        record { laid = record { standing = b.standing; outside = b.outside; allocation = b.allocation ∙ sym (laid_next s t n c i h); most = omega (arith, b.most, names_more s i, ap (names_to s) (add-one i)) }; here = o }
+        record { laid = record { standing = b.standing; outside = b.outside; allocation = b.allocation ∙ sym (laid_next s c i h); most = omega (arith, b.most, names_more s i, ap (names_to s) (add-one i)) }; here = o }
 
-    pub lines-laid-end : n ≤ i → (GlobalsCollected s u n g) × (Outside 7168 9216 t u)
+    pub lines-laid-end : lines_in s ≤ i → (GlobalsCollected s u (lines_in s)) × (Outside 7168 9216 t u)
     lines-laid-end h =
-        let z : i ≡ n = omega (arith, m.here.within) in
-        let e : (ns : Names) → allocation_in s u g ≡ allocation_of (globals ns (sheet_source s)) = λ ns. m.laid.allocation ∙ ap (laid_to s) z ∙ sym (laid-all s t n c ns) in (
+        let z : i ≡ lines_in s = omega (arith, m.here.within) in
+        let e : (ns : Names) → allocation_in s u (lines_in s) ≡ allocation_of (globals ns (sheet_source s)) = λ ns. m.laid.allocation ∙ ap (laid_to s) z ∙ sym (laid-all s c ns) in (
           record {
             tabled = m.laid.standing.tabled;
             places = λ ns. ap (λ (l : Allocation). l.places) (e ns);
             end = λ ns. ap (λ (l : Allocation). l.end) (e ns);
-            count = λ ns. sym (places_count s u 0 g.count) ∙ ap (λ (l : Allocation). length l.places) (e ns);
+            count = λ ns. sym (places_count s u 0 (lines_in s).count) ∙ ap (λ (l : Allocation). length l.places) (e ns);
             low = m.laid.standing.low;
           },
           m.laid.outside,
         )
 
 -- they stay collected where all that stands up to the table's end is kept
-pub collected-kept : {s t u : Bytes} {n : ℕ} {g : Globals} → Kept 9216 t u → GlobalsCollected s t n g → GlobalsCollected s u n g
+pub collected-kept : {s t u : Bytes} {g : Globals} → Kept 9216 t u → GlobalsCollected s t g → GlobalsCollected s u g
 collected-kept {s} {t} {u} {n} {g} a c = record {
   tabled = tabled-kept a c.tabled;
   places = λ ns. places-kept a s g.count c.tabled.few ∙ c.places ns;

@@ -20,7 +20,7 @@ use Rattle.semantics.specs.Global.{Global, global_size, place_of, new_offset}
 use Rattle.laws.proofs.Alignments.{global-size}
 use Rattle.words.specs.Words.{digest}
 use Rattle.chains.specs.Chains.{Chained}
-use Rattle.lines.specs.Lines.{read_at, nodes_in}
+use Rattle.lines.specs.Lines.{lines_in, read_at, nodes_in}
 use Rattle.checks.specs.Checks.{Outside}
 use Rattle.checks.proofs.Kept.{outside-all, outside-then}
 use Rattle.sizes.specs.Sizes.{type_at}
@@ -38,7 +38,7 @@ place-low t end count h = global-size (λ a. align_up a end ≤ 8 * count) (omeg
 
 -- ---- places as they were
 
-pub laid_same : {s t : Bytes} {n : ℕ} {l : Allocation} {g : Globals} {m : ℕ} → PlacesEntered s t n g → allocation_in s t g ≡ l → g.count ≤ m → PlacesLaid s t t n l g m
+pub laid_same : {s t : Bytes} {l : Allocation} {g : Globals} {m : ℕ} → PlacesEntered s t g → allocation_in s t g ≡ l → g.count ≤ m → PlacesLaid s t t l g m
 laid_same st e h = record { standing = st; outside = outside-all; allocation = e; most = h }
 
 -- the test for `nil`, of a name that was read
@@ -59,7 +59,7 @@ none_of {p} h = elim p as (λ (o : Option ℕ). is_some o ≡ false → o ≡ No
 
 -- ---- a new place
 
-module _ (s t : Bytes) (n r j : ℕ) (g : Globals) (st : PlacesEntered s t n g) (l : VarLine s t n r) (hj : j < 16) (full : g.count < 256)
+module _ (s t : Bytes) (r j : ℕ) (g : Globals) (st : PlacesEntered s t g) (l : VarLine s r) (hj : j < 16) (full : g.count < 256)
     (v : ℕ) (hv : type_at s v ≡ type_on s r) (size : ℕ) (hs : size ≡ global_size (type_at s v)) (off : ℕ) (ho : off ≡ align_up size g.end) (d : ℕ) (hd : d ≡ digest (name_on s r j)) (small : d < 256) where
   size_is : size ≡ global_size (type_on s r)
   size_is = hs ∙ ap global_size hv
@@ -74,7 +74,7 @@ module _ (s t : Bytes) (n r j : ℕ) (g : Globals) (st : PlacesEntered s t n g) 
   size_low = rw size_is (global-size (λ a. a ≤ 8) (omega arith) (omega arith) (type_on s r))
 
   line_low : r < 65536
-  line_low = omega (arith, l.last, l.checked.whole.lined.few)
+  line_low = omega (arith, l.last, l.checked.whole.few)
 
   with_entry : Bytes
   with_entry = global_entered t g.count r j off d
@@ -93,26 +93,26 @@ module _ (s t : Bytes) (n r j : ℕ) (g : Globals) (st : PlacesEntered s t n g) 
         off-is,
       )
 
-  entries-new : (i : ℕ) → i < g.count + 1 → GlobalEntry s with_entry n i
+  entries-new : lines_in s < g.count + 1 → GlobalEntry s with_entry (lines_in s)
   unfolding with_entry
-  entries-new i h = let w : i ≤ g.count = omega arith in ⊎_elim (λ (e : i ≡ g.count). subst (GlobalEntry s with_entry n) (sym e) last) (λ (q : i < g.count). old q) (eq-or-lt_of_le w)
+  entries-new h = let w : lines_in s ≤ g.count = omega arith in ⊎_elim (λ (e : lines_in s ≡ g.count). subst (GlobalEntry s with_entry) (sym e) last) (λ (q : lines_in s < g.count). old q) (eq-or-lt_of_le w)
     where
-      last : GlobalEntry s with_entry n g.count
+      last : GlobalEntry s with_entry g.count
       last = record {
         low = full;
         line = rw (line-new t g.count r j off d full l.checked.whole.room line_low) (var-outside outside-new l);
         digest = digest-new t g.count r j off d full l.checked.whole.room ∙ hd ∙ ap (λ (e : Global). digest e.name) (sym entry_new);
       }
 
-      old : i < g.count → GlobalEntry s with_entry n i
+      old : lines_in s < g.count → GlobalEntry s with_entry (lines_in s)
       old q =
-          let x = st.tabled.entries i q in
+          let x = st.tabled.entries (lines_in s) q in
           record {
             low = x.low;
-            line = rw (line-old t g.count r j off d i q) (var-outside outside-new x.line);
+            line = rw (line-old t g.count r j off d (lines_in s) q) (var-outside outside-new x.line);
             digest = rw (
-              digest-old t g.count r j off d i q,
-              entry_old t g.count r j off d i q s,
+              digest-old t g.count r j off d (lines_in s) q,
+              entry_old t g.count r j off d (lines_in s) q s,
             ) x.digest;
           }
 
@@ -144,7 +144,7 @@ module _ (s t : Bytes) (n r j : ℕ) (g : Globals) (st : PlacesEntered s t n g) 
     unfolding with_entry
     chained-new = rw (hc, add-one) (chained-entered t g.count r j off d full l.checked.whole.room st.tabled.chained)
 
-    laid-new : PlacesLaid s t with_entry n (lay_name (type_on s r) (name_on s r j) (allocation_in s t g)) h (g.count + 1)
+    laid-new : PlacesLaid s t with_entry (lay_name (type_on s r) (name_on s r j) (allocation_in s t g)) h (g.count + 1)
     laid-new = record {
       standing = record {
         tabled = record { checked = checked-outside outside-new l.checked; few = omega arith; entries = λ i q. entries-new i (omega arith); once = once-new; chained = chained-new };
@@ -155,29 +155,29 @@ module _ (s t : Bytes) (n r j : ℕ) (g : Globals) (st : PlacesEntered s t n g) 
       most = omega arith;
     }
 
-    pub laid-entered : {u : Bytes} → u ≡ global_entered t g.count r j off d → PlacesLaid s t u n (lay_name (type_on s r) (name_on s r j) (allocation_in s t g)) h (g.count + 1)
+    pub laid-entered : {u : Bytes} → u ≡ global_entered t g.count r j off d → PlacesLaid s t u (lay_name (type_on s r) (name_on s r j) (allocation_in s t g)) h (g.count + 1)
     unfolding with_entry
     laid-entered e = rw e laid-new
 
 -- ---- one after the other
 
-pub laid_then : (F : Allocation → Allocation) {s t u v : Bytes} {n : ℕ} {l : Allocation} {g h : Globals} {m : ℕ} (k : ℕ) → PlacesLaid s t u n l g m → PlacesLaid s u v n (F (allocation_in s u g)) h (g.count + k) → PlacesLaid s t v n (F l) h (m + k)
+pub laid_then : (F : Allocation → Allocation) {s t u v : Bytes} {l : Allocation} {g h : Globals} {m : ℕ} (k : ℕ) → PlacesLaid s t u l g m → PlacesLaid s u v (F (allocation_in s u g)) h (g.count + k) → PlacesLaid s t v (F l) h (m + k)
 laid_then F k a b = record { standing = b.standing; outside = outside-then a.outside b.outside; allocation = b.allocation ∙ ap F a.allocation; most = omega (arith, a.most, b.most) }
 
 -- ---- the names of a line
 
 -- the first j names have places
-pub record Naming (s t u : Bytes) (n r count : ℕ) (g h : Globals) (j : ℕ) : Type 0 where
+pub record Naming (s t u : Bytes) (r count : ℕ) (g h : Globals) (j : ℕ) : Type 0 where
   pub within : j ≤ count
-  pub laid : PlacesLaid s t u n (lay_names (type_on s r) (values name (nodes_in s) j (drop 3 (read_at s (r - 1)).fields)) (allocation_in s t g)) h (g.count + j)
+  pub laid : PlacesLaid s t u (lay_names (type_on s r) (values name (nodes_in s) j (drop 3 (read_at s (r - 1)).fields)) (allocation_in s t g)) h (g.count + j)
 
-module _ (s t : Bytes) (n r : ℕ) (g : Globals) (count : ℕ) where
-  pub naming-start : PlacesEntered s t n g → Naming s t t n r count g g 0
+module _ (s t : Bytes) (r : ℕ) (g : Globals) (count : ℕ) where
+  pub naming-start : PlacesEntered s t g → Naming s t t r count g g 0
   unfolding lay_names
   naming-start st = record { within = omega arith; laid = laid_same st refl (omega arith) }
 
-  module _ (l : VarLine s t n r) (hc : (count ≡ length (names_on s r)) × (count ≤ 16)) (u : Bytes) (h : Globals) (j : ℕ) (m : Naming s t u n r count g h j) where
-    pub naming-next : {v : Bytes} {h' : Globals} → j < count → PlacesLaid s u v n (lay_name (type_on s r) (name_on s r j) (allocation_in s u h)) h' (h.count + 1) → Naming s t v n r count g h' (j + 1)
+  module _ (l : VarLine s r) (hc : (count ≡ length (names_on s r)) × (count ≤ 16)) (u : Bytes) (h : Globals) (j : ℕ) (m : Naming s t u r count g h j) where
+    pub naming-next : {v : Bytes} {h' : Globals} → j < count → PlacesLaid s u v (lay_name (type_on s r) (name_on s r j) (allocation_in s u h)) h' (h.count + 1) → Naming s t v r count g h' (j + 1)
     naming-next {v} {h'} k a =
         let fs = (read_at s (r - 1)).fields in
         let e : lay_names (type_on s r) (values name (nodes_in s) (j + 1) (drop 3 fs)) (allocation_in s t g) ≡ lay_name (type_on s r) (name_on s r j) (lay_names (type_on s r) (values name (nodes_in s) j (drop 3 fs)) (allocation_in s t g))
@@ -185,7 +185,7 @@ module _ (s t : Bytes) (n r : ℕ) (g : Globals) (count : ℕ) where
         let b = laid_then (lay_name (type_on s r) (name_on s r j)) 1 m.laid a in
         record { within = omega arith; laid = record { standing = b.standing; outside = b.outside; allocation = b.allocation ∙ sym e; most = omega (arith, b.most) } }
 
-    pub naming-end : count ≤ j → PlacesLaid s t u n (lay_names (type_on s r) (names_on s r) (allocation_in s t g)) h (g.count + length (names_on s r))
+    pub naming-end : count ≤ j → PlacesLaid s t u (lay_names (type_on s r) (names_on s r) (allocation_in s t g)) h (g.count + length (names_on s r))
     naming-end k =
         let z : j ≡ number_of (get_or (read_at s (r - 1)).fields 2 []) = omega (arith, hc.0, names-count s r, m.within) in
         record {

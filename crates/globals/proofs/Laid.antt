@@ -10,7 +10,7 @@ use Rattle.semantics.specs.Text.{Bytes}
 use Rattle.semantics.specs.Tree.{VarDecl}
 use Rattle.semantics.specs.Form.{letter}
 use Rattle.semantics.specs.Sheet.{Located, sheet_source}
-use Rattle.lines.specs.Lines.{read_at, nodes_in, form_at}
+use Rattle.lines.specs.Lines.{lines_in, read_at, nodes_in, form_at}
 use Rattle.source.specs.Walk.{open_at}
 use Rattle.implement.specs.Modules.{Open, own_in, line_number, is_own}
 use Rattle.implement.proofs.Modules.{own_open}
@@ -18,18 +18,18 @@ use Rattle.global_table.proofs.VarLine.{kind-other, kind-var}
 use Rattle.globals.specs.Vars.{located_at, laid_at, laid_on}
 use Rattle.global_table.specs.Table.{VarLine}
 
-module _ {s t : Bytes} {n i : ℕ} {k : Option ℕ} (o : Open s t n i k) (l : i < n) {f : ℕ} (hf : f ≡ form_at t i) where
+module _ {s : Bytes} {i : ℕ} {k : Option ℕ} (o : Open s i k) (l : i < lines_in s) {f : ℕ} (hf : f ≡ form_at s i) where
   pub laid-other : (f ≡ 29 → ⊥) → [] ≡ laid_at s i
-  laid-other z = rw (kind-other s t n o.checked.whole i l hf z)
+  laid-other z = rw (kind-other s o.checked.whole i l hf z)
 
   module _ (e : f ≡ 29) {b : Bool} (hb : b ≡ is_own s (line_number k)) where
     is-var : letter (read_at s i).form.kind ≡ 72
-    is-var = kind-var s t n o.checked.whole i l hf e
+    is-var = kind-var s o.checked.whole i l hf e
 
     pub laid-skipped : b ≡ false → [] ≡ laid_at s i
     laid-skipped q = rw (is-var, own_open o hb, q)
 
-    pub laid-here : b ≡ true → (laid_on s (Some (i + 1)) ≡ laid_at s i) × VarLine s t n (i + 1)
+    pub laid-here : b ≡ true → (laid_on s (Some (i + 1)) ≡ laid_at s i) × VarLine s (i + 1)
     laid-here q =
         let z : i + 1 - 1 ≡ i = omega arith in
         (rw (z, is-var, own_open o hb, q), record { checked = o.checked; first = omega arith; last = omega arith; kind = rw z is-var })

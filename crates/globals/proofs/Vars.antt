@@ -14,7 +14,7 @@ use Rattle.semantics.specs.Fold.{Names}
 use Rattle.semantics.specs.Global.{Item, Global, Declared, Globals, init_items, laid_vars, laid_names, declared_by, declared_in, place_of, pend_of, new_offset, declare_at, globals_from, no_globals, globals}
 use Rattle.laws.proofs.Lists.{concat-append, filter-append}
 use Rattle.laws.proofs.Tests.{same_refl}
-use Rattle.lines.specs.Lines.{read_at, nodes_in}
+use Rattle.lines.specs.Lines.{lines_in, read_at, nodes_in}
 use Rattle.checks.specs.Checks.{Checked}
 use Rattle.source.specs.Walk.{declares_at, open_at, located_to, var_of, by_kind}
 use Rattle.source.proofs.Declares.{line-declares}
@@ -110,8 +110,8 @@ module _ (ns : Names) (s : Source) where
 
 -- ---- the lines that count, line by line
 
-module _ (s t : Bytes) (n : ℕ) (c : Checked s t n) where
-  lines-to : (i : ℕ) → i ≤ n → filter (λ (v : Located VarDecl). own_in (sheet_source s).implement v.within) (located_to (λ (d : Declares). d.vars) (nodes_in s) i) ≡ laid_vars_to s i
+module _ (s : Bytes) (c : Checked s) where
+  lines-to : (i : ℕ) → i ≤ lines_in s → filter (λ (v : Located VarDecl). own_in (sheet_source s).implement v.within) (located_to (λ (d : Declares). d.vars) (nodes_in s) i) ≡ laid_vars_to s i
   unfolding located_to laid_vars_to by_kind
   lines-to zero h = refl
   lines-to (suc i) h =
@@ -119,7 +119,7 @@ module _ (s t : Bytes) (n : ℕ) (c : Checked s t n) where
       let at : VarDecl → Located VarDecl = λ (v : VarDecl). record { line = suc i; within = open_at (nodes_in s) i; it = v } in
       filter-append p (located_to (λ (d : Declares). d.vars) (nodes_in s) i) (map at (declares_at (nodes_in s) i).vars)
       ∙ rw (lines-to i (omega arith))
-      (ap (λ (d : Declares). laid_vars_to s i ++ filter p (map at d.vars)) (line-declares s t n c i (omega arith)) ∙ go (eqb (letter (read_at s i).form.kind) 72))
+      (ap (λ (d : Declares). laid_vars_to s i ++ filter p (map at d.vars)) (line-declares s c i (omega arith)) ∙ go (eqb (letter (read_at s i).form.kind) 72))
     where
       go : (b : Bool)
           → laid_vars_to s i ++ filter (λ (v : Located VarDecl). own_in (sheet_source s).implement v.within) (map (λ (v : VarDecl). record { line = suc i; within = open_at (nodes_in s) i; it = v }) (cond b (var_of (nodes_in s) (read_at s i).fields ∷ []) []))
@@ -127,5 +127,5 @@ module _ (s t : Bytes) (n : ℕ) (c : Checked s t n) where
       go true = refl
       go false = refl
 
-  pub laid-lines : laid_vars (sheet_source s) ≡ laid_vars_to s n
-  laid-lines = ap (filter (λ (v : Located VarDecl). own_in (sheet_source s).implement v.within)) (vars-are s t n c) ∙ lines-to n (omega arith)
+  pub laid-lines : laid_vars (sheet_source s) ≡ laid_vars_to s (lines_in s)
+  laid-lines = ap (filter (λ (v : Located VarDecl). own_in (sheet_source s).implement v.within)) (vars-are s c) ∙ lines-to (lines_in s) (omega arith)

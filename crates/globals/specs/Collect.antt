@@ -19,13 +19,13 @@ abbrev pub allocation_in : Bytes → Bytes → Globals → Allocation
 allocation_in s t g = record { places = places_in s t g.count; end = g.end }
 
 -- g places are entered, and end within 8 bytes for each
-pub record PlacesEntered (s t : Bytes) (n : ℕ) (g : Globals) : Type 0 where
-  pub tabled : Tabled s t n g.count
+pub record PlacesEntered (s t : Bytes) (g : Globals) : Type 0 where
+  pub tabled : Tabled s t g.count
   pub low : g.end ≤ 8 * g.count
 
 -- the working space t has become u, which holds the places l, at most m
-pub record PlacesLaid (s t u : Bytes) (n : ℕ) (l : Allocation) (g : Globals) (m : ℕ) : Type 0 where
-  pub standing : PlacesEntered s u n g
+pub record PlacesLaid (s t u : Bytes) (l : Allocation) (g : Globals) (m : ℕ) : Type 0 where
+  pub standing : PlacesEntered s u g
   pub outside : Outside 7168 9216 t u
   pub allocation : allocation_in s u g ≡ l
   pub most : g.count ≤ m
@@ -46,8 +46,8 @@ unfoldable pub lay_line : Bytes → ℕ → Allocation → Allocation
 lay_line s i l = lay_lines (laid_at s i) l
 
 -- all globals of a sheet are entered, whatever names are known to their first values
-pub record GlobalsCollected (s t : Bytes) (n : ℕ) (g : Globals) : Type 0 where
-  pub tabled : Tabled s t n g.count
+pub record GlobalsCollected (s t : Bytes) (g : Globals) : Type 0 where
+  pub tabled : Tabled s t g.count
   pub places : (ns : Names) → places_in s t g.count ≡ (globals ns (sheet_source s)).places
   pub end : (ns : Names) → g.end ≡ (globals ns (sheet_source s)).end
   pub count : (ns : Names) → g.count ≡ length (globals ns (sheet_source s)).places

@@ -3,7 +3,7 @@ use Rattle.std.specs.Prelude.{ℕ, zero, suc, ◌-◌, ◌≤◌, ◌≡◌, Boo
 use Rattle.semantics.specs.Text.{Bytes, is_none}
 use Rattle.semantics.specs.Sheet.{Module, sheet_source}
 use Rattle.semantics.specs.Const.{implements}
-use Rattle.lines.specs.Lines.{read_at, nodes_in}
+use Rattle.lines.specs.Lines.{lines_in, read_at, nodes_in}
 use Rattle.checks.specs.Checks.{Checked}
 use Rattle.source.specs.Walk.{open_at}
 
@@ -30,8 +30,8 @@ abbrev pub is_own : Bytes → ℕ → Bool
 is_own s k = own_in (sheet_source s).implement (module_at s k)
 
 -- the module of line k is open before line i, both from 0
-pub record Open (s t : Bytes) (n i : ℕ) (k : Option ℕ) : Type 0 where
-  pub checked : Checked s t n
-  pub within : i ≤ n
-  pub low : line_number k ≤ n
+pub record Open (s : Bytes) (i : ℕ) (k : Option ℕ) : Type 0 where
+  pub checked : Checked s
+  pub within : i ≤ lines_in s
+  pub low : line_number k ≤ lines_in s
   pub here : module_at s (line_number k) ≡ open_at (nodes_in s) i

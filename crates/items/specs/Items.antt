@@ -13,6 +13,6 @@ item_rows id is = concat_map (item_row id) is
 
 -- a working space t that holds a literal of `count` values, with the strings among them
 pub record LiteralIn (t : Bytes) (count : ℕ) : Type 0 where
-  pub long : 65536 ≤ length t
+  pub long : 62464 ≤ length t
   pub few : count ≤ 1024
   pub strings : (i : ℕ) → i < count → Within (length t) (slot_at t (placement_at t i))

@@ -17,12 +17,13 @@ ghost use Rattle.placements.specs.Placements.{placement_at, slot_at, element_in,
 ghost use Rattle.items.specs.Items.{item_rows, LiteralIn};
 ghost use Rattle.elements.specs.Elements.{element_texts, values_row};
 
+use codes::area::Space;
 use codes::element::Element;
 use values::ConstVal;
 use write::Writer;
 
 // The row of the string of l bytes at p.
-fn str_row(work: &[u8], w: &mut Writer, off: usize, p: usize, l: usize)
+fn str_row(work: &Space, w: &mut Writer, off: usize, p: usize, l: usize)
     requires { p + l ≤ length work.now }
     ensures { (id : TypeKey → ℕ) → Writes w.old (item_row id (str_item off (string_in work.now p l))) w.new }
 {
@@ -39,7 +40,7 @@ fn int_kind(big: bool) -> Element
 }
 
 // The row of a single value; the type decides only between big and word.
-pub fn value_item(work: &[u8], w: &mut Writer, off: usize, big: bool, v: ConstVal)
+pub fn value_item(work: &Space, w: &mut Writer, off: usize, big: bool, v: ConstVal)
     requires { Within (length work.now) v }
     ensures { (id : TypeKey → ℕ) (ty : Ty) → is_of_kind k_big ty ≡ big → Writes w.old (item_row id (value_item off ty (value_in work.now v))) w.new }
 {
@@ -51,7 +52,7 @@ pub fn value_item(work: &[u8], w: &mut Writer, off: usize, big: bool, v: ConstVa
 }
 
 // Elements as numbers, each behind its comma.
-fn put_elements(work: &[u8], w: &mut Writer, kind: Element, count: usize)
+fn put_elements(work: &Space, w: &mut Writer, kind: Element, count: usize)
     requires { LiteralIn work.now count }
     ensures { Writes w.old (commaed (element_texts (element_kind kind) (values_in work.now 0 count))) w.new }
 {
@@ -61,7 +62,7 @@ fn put_elements(work: &[u8], w: &mut Writer, kind: Element, count: usize)
 }
 
 // One row for all elements of an array of numbers.
-fn elements_row(work: &[u8], w: &mut Writer, kind: Element, count: usize)
+fn elements_row(work: &Space, w: &mut Writer, kind: Element, count: usize)
     requires { LiteralIn work.now count }
     ensures { Writes w.old (values_row (element_kind kind) 0 (values_in work.now 0 count)) w.new }
 {
@@ -71,8 +72,8 @@ fn elements_row(work: &[u8], w: &mut Writer, kind: Element, count: usize)
 }
 
 // The row of the string at index i; a number among strings leaves none.
-fn string_row(work: &[u8], w: &mut Writer, i: usize)
-    requires { (i < 1024) × (65536 ≤ length work.now) × (Within (length work.now) (slot_at work.now (placement_at work.now i))) }
+fn string_row(work: &Space, w: &mut Writer, i: usize)
+    requires { (i < 1024) × (Within (length work.now) (slot_at work.now (placement_at work.now i))) }
     ensures { (id : TypeKey → ℕ) → Writes w.old (item_rows id (str_element (4 * i) (element_in work.now (placement_at work.now i)))) w.new }
 {
     match placements::element(work, i) {
@@ -81,7 +82,7 @@ fn string_row(work: &[u8], w: &mut Writer, i: usize)
     }
 }
 
-fn string_rows(work: &[u8], w: &mut Writer, count: usize)
+fn string_rows(work: &Space, w: &mut Writer, count: usize)
     requires { LiteralIn work.now count }
     ensures { (id : TypeKey → ℕ) → Writes w.old (item_rows id (str_items 0 (values_in work.now 0 count))) w.new }
 {
@@ -91,7 +92,7 @@ fn string_rows(work: &[u8], w: &mut Writer, count: usize)
 }
 
 // The rows of a literal's elements: one for all numbers, or one for each string.
-fn element_items(work: &[u8], w: &mut Writer, kind: Element, count: usize)
+fn element_items(work: &Space, w: &mut Writer, kind: Element, count: usize)
     requires { LiteralIn work.now count }
     ensures { (id : TypeKey → ℕ) → Writes w.old (item_rows id (element_items (element_kind kind) (values_in work.now 0 count))) w.new }
 {
@@ -120,7 +121,7 @@ fn set_row(w: &mut Writer, off: usize)
 }
 
 // The elements of a literal, written into the array at an offset.
-fn contents(work: &[u8], w: &mut Writer, off: usize, kind: Element, count: usize)
+fn contents(work: &Space, w: &mut Writer, off: usize, kind: Element, count: usize)
     requires { LiteralIn work.now count }
     ensures { (f : TypeKey → ℕ) → Writes w.old (item_rows f (set_item off ∷ (element_items (element_kind kind) (values_in work.now 0 count) ++ (back_item ∷ [])))) w.new }
 {
@@ -130,7 +131,7 @@ fn contents(work: &[u8], w: &mut Writer, off: usize, kind: Element, count: usize
 }
 
 // The rows of an array that a literal of `count` values makes, as the Rust's `emit_const_array`; `id` is the ID of its element key.
-pub fn array_items(work: &[u8], w: &mut Writer, off: usize, id: usize, kind: Element, count: usize)
+pub fn array_items(work: &Space, w: &mut Writer, off: usize, id: usize, kind: Element, count: usize)
     requires { LiteralIn work.now count }
     ensures { (f : TypeKey → ℕ) → f (elem_key (element_kind kind)) ≡ id → Writes w.old (item_rows f (array_items off (record { kind = element_kind kind; count = count; values = values_in work.now 0 count }))) w.new }
 {

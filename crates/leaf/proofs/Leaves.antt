@@ -34,7 +34,7 @@ use Rattle.write.proofs.Writes.{writes_as, writes_next}
 use Rattle.write.proofs.Wrote.{wrote_as}
 use Rattle.form.specs.Table.{row_at, row_node}
 use Rattle.semantics.proofs.Common.{never, both}
-use Rattle.lines.specs.Lines.{text_at, read_at, nodes_in, form_at}
+use Rattle.lines.specs.Lines.{lines_in, text_at, read_at, nodes_in, form_at}
 use Rattle.lines.proofs.Line.{fields-are, line-short}
 use Rattle.checks.specs.Checks.{Kept}
 use Rattle.checks.proofs.Kept.{kept-all, wrote_kept}
@@ -135,32 +135,32 @@ field-short n l j = go (ltb (length l) n)
     go true = omega arith
     go false = omega (arith, part-short 44 (drop n l) j, length-drop n l)
 
-module _ {s t : Bytes} {n r : ℕ} (l : ExLine s t n r) where
+module _ {s : Bytes} {r : ℕ} (l : ExLine s r) where
   field-within : (j : ℕ) → length (get_or (read_at s (r - 1)).fields j []) ≤ 255
   field-within j =
       let h = in-sheet l in
-      rw (fields-are s t n l.checked.whole (r - 1) h)
-      (omega (arith, field-short (length (row_at (form_at t (r - 1))).words + 1) (text_at s (r - 1)) j, line-short (r - 1 + 1) (text_at s (r - 1)) (l.checked.whole.lined.good (r - 1) h)))
+      rw (fields-are s l.checked.whole (r - 1) h)
+      (omega (arith, field-short (length (row_at (form_at s (r - 1))).words + 1) (text_at s (r - 1)) j, line-short (r - 1 + 1) (text_at s (r - 1)) (l.checked.whole.good (r - 1) h)))
 
 -- ---- numbers and strings
 
-module _ {s t : Bytes} {n r : ℕ} (l : ExLine s t n r) where
+module _ {s t : Bytes} {r : ℕ} (l : ExLine s r) where
   module _ {x : Bytes} (hx : x ≡ get_or (read_at s (r - 1)).fields 0 []) where
-    pub int-field : form_at t (r - 1) ≡ 8 → holds Atom.i64 x ≡ true
+    pub int-field : form_at s (r - 1) ≡ 8 → holds Atom.i64 x ≡ true
     unfolding forms
     int-field e = rw hx (field-good l 8 0 e Atom.i64 refl)
 
-    pub real-field : form_at t (r - 1) ≡ 9 → holds Atom.real x ≡ true
+    pub real-field : form_at s (r - 1) ≡ 9 → holds Atom.real x ≡ true
     unfolding forms
     real-field e = rw hx (field-good l 9 0 e Atom.real refl)
 
-    pub text-field : form_at t (r - 1) ≡ 10 → (holds Atom.text x ≡ true) × (length x ≤ 255)
+    pub text-field : form_at s (r - 1) ≡ 10 → (holds Atom.text x ≡ true) × (length x ≤ 255)
     unfolding forms
     text-field e = rw hx (field-good l 10 0 e Atom.text refl, field-within l 0)
 
-  scalar-fold : (m iota : ℕ) → form_at t (r - 1) < 11 → fold_at s t m iota r ≡ ok (scalar_of (form_at t (r - 1)) (get_or (read_at s (r - 1)).fields 0 []))
+  scalar-fold : (m iota : ℕ) → form_at s (r - 1) < 11 → fold_at s t m iota r ≡ ok (scalar_of (form_at s (r - 1)) (get_or (read_at s (r - 1)).fields 0 []))
   unfolding fold_at fold
-  scalar-fold m iota h = rw (ex-is l, made-scalar (nodes_in s) (form_at t (r - 1)) (read_at s (r - 1)).fields (form-span l).0 h)
+  scalar-fold m iota h = rw (ex-is l, made-scalar (nodes_in s) (form_at s (r - 1)) (read_at s (r - 1)).fields (form-span l).0 h)
 
 module _ (x : Bytes) where
   pub scalar-int : {f : ℕ} → f ≡ 8 → v_int (or_else (pos 0) (int_of x)) ≡ scalar_of f x
@@ -176,7 +176,7 @@ module _ (x : Bytes) where
   scalar-text e = rw e
 
 -- what is neither `ex,int` nor `ex,real`
-pub text-form : {s t : Bytes} {n r top : ℕ} → ScalarLine s t n r top → {f : ℕ} → f ≡ form_at t (r - 1) → (f ≡ 8 → ⊥) → (f ≡ 9 → ⊥) → form_at t (r - 1) ≡ 10
+pub text-form : {s t : Bytes} {r top : ℕ} → ScalarLine s t r top → {f : ℕ} → f ≡ form_at s (r - 1) → (f ≡ 8 → ⊥) → (f ≡ 9 → ⊥) → form_at s (r - 1) ≡ 10
 text-form l e a b = omega (arith, l.form, (form-span l.line).0, a, b, e)
 
 pub scalar-casts : (t : Bytes) (top : ℕ) {v : ConstVal} {e g : Tree.ConstVal} → e ≡ g → ((t : Bytes) (top : ℕ) → (value_in t v ≡ e) × At top v) → Casts t top g t v
@@ -222,7 +222,7 @@ module _ {t : Bytes} {k : Option ℕ} {top : ℕ} (w : AnsweredAt t k top) where
 
 -- ---- names
 
-module _ {s t : Bytes} {n m r top : ℕ} (a : Foldable s t n m r top) where
+module _ {s t : Bytes} {m r top : ℕ} (a : Foldable s t m r top) where
   -- there is room for a string
   pub room-here : top + 256 ≤ length t
   room-here = omega (arith, a.room, depth-some a.line)
@@ -234,12 +234,12 @@ module _ {s t : Bytes} {n m r top : ℕ} (a : Foldable s t n m r top) where
     room = room-here;
   }
 
-  fold-name : (iota : ℕ) → form_at t (r - 1) ≡ 11
+  fold-name : (iota : ℕ) → form_at s (r - 1) ≡ 11
       → fold_at s t m iota r ≡ cond (same (get_or (read_at s (r - 1)).fields 0 []) (bytes "iota")) (ok (v_int (pos iota))) (from_option (value_of (look_up (plain (get_or (read_at s (r - 1)).fields 0 [])) (log_in s t m))))
   unfolding fold_at fold
   fold-name iota e = rw (ex-is a.line, e, made-ident (nodes_in s) (read_at s (r - 1)).fields)
 
-  module _ (e : form_at t (r - 1) ≡ 11) {x : Bytes} (hx : x ≡ get_or (read_at s (r - 1)).fields 0 []) where
+  module _ (e : form_at s (r - 1) ≡ 11) {x : Bytes} (hx : x ≡ get_or (read_at s (r - 1)).fields 0 []) where
     pub name-iota : {iota : ℕ} → same x (bytes "iota") ≡ true → SFits w64 (pos iota) → Folds s t m iota r top t (Ok (Int (held w64 (pos iota))))
     name-iota {iota} q f = record { answer = answers-int f (sym (fold-name iota e ∙ rw (← hx, q))) t top; kept = kept-all }
 
@@ -248,32 +248,32 @@ module _ {s t : Bytes} {n m r top : ℕ} (a : Foldable s t n m r top) where
     name-found {iota} q k p b = record { answer = answers-as (sym (fold-name iota e ∙ rw (← hx, q, p))) b.0; kept = b.1 }
 
   -- the line of the module
-  module _ (e : form_at t (r - 1) ≡ 12) {k : ℕ} (hk : k ≡ Number.number_up_to 65536 (get_or (read_at s (r - 1)).fields 0 [])) where
-    module-ref : RefTo s n r 69 (get_or (read_at s (r - 1)).fields 0 []) (number_of (get_or (read_at s (r - 1)).fields 0 []))
+  module _ (e : form_at s (r - 1) ≡ 12) {k : ℕ} (hk : k ≡ Number.number_up_to 65536 (get_or (read_at s (r - 1)).fields 0 [])) where
+    module-ref : RefTo s (lines_in s) r 69 (get_or (read_at s (r - 1)).fields 0 []) (number_of (get_or (read_at s (r - 1)).fields 0 []))
     unfolding forms
     module-ref = ref-good a.line 12 0 e k_ex refl
 
     module-is : k ≡ number_of (get_or (read_at s (r - 1)).fields 0 [])
     module-is = hk ∙ module-ref.exact
 
-    pub module-line : ExLine s t n k
+    pub module-line : ExLine s k
     module-line = let w = module-ref in rw module-is (record { checked = a.line.checked; first = w.first; last = w.last; kind = w.kind })
 
     fold-qualified : (iota : ℕ) → fold_at s t m iota r ≡ qualified_value (names_in s t m) (ex_at s k) (get_or (read_at s (r - 1)).fields 1 [])
     unfolding fold_at fold
     fold-qualified iota = rw (ex-is a.line, e, made-qualified (nodes_in s) (read_at s (r - 1)).fields, ← module-is)
 
-    pub qualified-failed : {iota : ℕ} → (form_at t (k - 1) ≡ 11 → ⊥) → Folds s t m iota r top t (Err Failed)
+    pub qualified-failed : {iota : ℕ} → (form_at s (k - 1) ≡ 11 → ⊥) → Folds s t m iota r top t (Err Failed)
     qualified-failed {iota} z =
         let w = form-span module-line in
-        let f : form_at t (k - 1) ≡ 8 + (form_at t (k - 1) - 8) = omega (arith, w.0) in
-        let d : ex_at s k ≡ (row_node (nodes_in s) (8 + (form_at t (k - 1) - 8)) (read_at s (k - 1)).fields).ex = ex-is module-line ∙ ap (λ (g : ℕ). (row_node (nodes_in s) g (read_at s (k - 1)).fields).ex) f in
+        let f : form_at s (k - 1) ≡ 8 + (form_at s (k - 1) - 8) = omega (arith, w.0) in
+        let d : ex_at s k ≡ (row_node (nodes_in s) (8 + (form_at s (k - 1) - 8)) (read_at s (k - 1)).fields).ex = ex-is module-line ∙ ap (λ (g : ℕ). (row_node (nodes_in s) g (read_at s (k - 1)).fields).ex) f in
         record {
-          answer = answers-failed (sym (fold-qualified iota ∙ rw d (made-nameless (nodes_in s) failed _ (read_at s (k - 1)).fields (form_at t (k - 1) - 8) (omega (arith, w.1)) (λ h. z (omega (arith, h, w.0)))))) t top;
+          answer = answers-failed (sym (fold-qualified iota ∙ rw d (made-nameless (nodes_in s) failed _ (read_at s (k - 1)).fields (form_at s (k - 1) - 8) (omega (arith, w.1)) (λ h. z (omega (arith, h, w.0)))))) t top;
           kept = kept-all;
         }
 
-    pub qualified-found : {iota : ℕ} → form_at t (k - 1) ≡ 11 → {x y : Bytes} → x ≡ get_or (read_at s (k - 1)).fields 0 [] → y ≡ get_or (read_at s (r - 1)).fields 1 [] → (i : Option ℕ) → value_of (look_up (qualified x y) (log_in s t m)) ≡ found t i
+    pub qualified-found : {iota : ℕ} → form_at s (k - 1) ≡ 11 → {x y : Bytes} → x ≡ get_or (read_at s (k - 1)).fields 0 [] → y ≡ get_or (read_at s (r - 1)).fields 1 [] → (i : Option ℕ) → value_of (look_up (qualified x y) (log_in s t m)) ≡ found t i
         → {u : Bytes} {z : Result ConstVal NoValue} → Answers u top z (from_option (found t i)) × Kept top t u → Folds s t m iota r top u z
     qualified-found {iota} f {x} {y} hx hy i p b =
         record {
@@ -281,10 +281,10 @@ module _ {s t : Bytes} {n m r top : ℕ} (a : Foldable s t n m r top) where
           kept = b.1;
         }
 
-  pub scalar-folds : {iota : ℕ} → form_at t (r - 1) < 11 → {u : Bytes} {v : ConstVal} → Casts t top (scalar_of (form_at t (r - 1)) (get_or (read_at s (r - 1)).fields 0 [])) u v → Folds s t m iota r top u (Ok v)
+  pub scalar-folds : {iota : ℕ} → form_at s (r - 1) < 11 → {u : Bytes} {v : ConstVal} → Casts t top (scalar_of (form_at s (r - 1)) (get_or (read_at s (r - 1)).fields 0 [])) u v → Folds s t m iota r top u (Ok v)
   unfolding result_in
   scalar-folds {iota} h b = record { answer = record { value = ap ok b.value ∙ sym (scalar-fold a.line m iota h); at = b.at }; kept = b.kept }
 
 -- what is neither a name nor a module's name
-pub scalar-form : {s t : Bytes} {n m r top : ℕ} → Leaf s t n m r top → {f : ℕ} → f ≡ form_at t (r - 1) → (f ≡ 11 → ⊥) → (f ≡ 12 → ⊥) → form_at t (r - 1) < 11
+pub scalar-form : {s t : Bytes} {m r top : ℕ} → Leaf s t m r top → {f : ℕ} → f ≡ form_at s (r - 1) → (f ≡ 11 → ⊥) → (f ≡ 12 → ⊥) → form_at s (r - 1) < 11
 scalar-form l e a b = omega (arith, l.form, a, b, e)

@@ -23,7 +23,7 @@ use Rattle.semantics.specs.Refusal.{Ref, ref_of, refs_in, refs_of, deepest}
 use Rattle.decimal.specs.Number as Number
 use Rattle.form.specs.Table.{row_at, row_node}
 use Rattle.semantics.proofs.Common.{never, both}
-use Rattle.lines.specs.Lines.{reads_in, read_at, nodes_in, form_at}
+use Rattle.lines.specs.Lines.{lines_in, reads_in, read_at, nodes_in, form_at}
 use Rattle.lines.proofs.Line.{line-count, form-low, form-is, kind-is, read_fits}
 use Rattle.refs.specs.Refs.{fine_ref, fine_refs}
 use Rattle.refs.proofs.Fine.{needed-ref}
@@ -124,29 +124,29 @@ pub record RefTo (s : Bytes) (n r k : ℕ) (x : Bytes) (v : ℕ) : Type 0 where
   pub lower : depth_of (reads_in s) (v - 1) < depth_of (reads_in s) (r - 1)
   pub exact : Number.number_up_to 65536 x ≡ v
 
-module _ {s t : Bytes} {n r : ℕ} (l : ExLine s t n r) where
-  pub in-sheet : r - 1 < n
+module _ {s : Bytes} {r : ℕ} (l : ExLine s r) where
+  pub in-sheet : r - 1 < lines_in s
   in-sheet = omega (arith, l.first, l.last)
 
-  pub ex-is : ex_at s r ≡ (row_node (nodes_in s) (form_at t (r - 1)) (read_at s (r - 1)).fields).ex
-  ex-is = ap (λ (m : Node). m.ex) (node-at s t n l.checked.whole l.checked.good (r - 1) in-sheet)
+  pub ex-is : ex_at s r ≡ (row_node (nodes_in s) (form_at s (r - 1)) (read_at s (r - 1)).fields).ex
+  ex-is = ap (λ (m : Node). m.ex) (node-at s l.checked.whole l.checked.good (r - 1) in-sheet)
 
-  pub form-span : (8 ≤ form_at t (r - 1)) × (form_at t (r - 1) < 20)
-  form-span = ex-form (form_at t (r - 1)) (form-low s t n l.checked.whole (r - 1) in-sheet) (sym (kind-is s t n l.checked.whole (r - 1) in-sheet) ∙ l.kind)
+  pub form-span : (8 ≤ form_at s (r - 1)) × (form_at s (r - 1) < 20)
+  form-span = ex-form (form_at s (r - 1)) (form-low s l.checked.whole (r - 1) in-sheet) (sym (kind-is s l.checked.whole (r - 1) in-sheet) ∙ l.kind)
 
   pub depth-some : 0 < depth_of (reads_in s) (r - 1)
-  depth-some = depths-some (reads_in s) [] (λ j h. absurd (omega arith)) (r - 1) (omega (arith, line-count s t n l.checked.whole, in-sheet))
+  depth-some = depths-some (reads_in s) [] (λ j h. absurd (omega arith)) (r - 1) (omega (arith, line-count s, in-sheet))
 
-  module _ (f j : ℕ) (e : form_at t (r - 1) ≡ f) where
+  module _ (f j : ℕ) (e : form_at s (r - 1) ≡ f) where
     pub field-good : (a : Atom) → HoldsAtom (row_at f).parts j a → holds a (get_or (read_at s (r - 1)).fields j []) ≡ true
-    field-good a p = field-holds (row_at f).parts (read_at s (r - 1)).fields j a p (rw e at (read_fits s t n l.checked.whole (r - 1) in-sheet))
+    field-good a p = field-holds (row_at f).parts (read_at s (r - 1)).fields j a p (rw e at (read_fits s l.checked.whole (r - 1) in-sheet))
 
     ref_passes : (P : Ref → Bool) (k : Kind) → HoldsAtom (row_at f).parts j (ref k) → all P (refs_of (read_at s (r - 1))) ≡ true → Passes P k (get_or (read_at s (r - 1)).fields j [])
     ref_passes P k p h =
-        let q : (read_at s (r - 1)).form ≡ row_at f = form-is s t n l.checked.whole (r - 1) in-sheet ∙ ap row_at e in
-        field-ref P (row_at f).parts (read_at s (r - 1)).fields j k p (rw e at (read_fits s t n l.checked.whole (r - 1) in-sheet)) (rw q at h)
+        let q : (read_at s (r - 1)).form ≡ row_at f = form-is s l.checked.whole (r - 1) in-sheet ∙ ap row_at e in
+        field-ref P (row_at f).parts (read_at s (r - 1)).fields j k p (rw e at (read_fits s l.checked.whole (r - 1) in-sheet)) (rw q at h)
 
-    pub ref-good : (k : Kind) → HoldsAtom (row_at f).parts j (ref k) → RefTo s n r (letter k) (get_or (read_at s (r - 1)).fields j []) (number_of (get_or (read_at s (r - 1)).fields j []))
+    pub ref-good : (k : Kind) → HoldsAtom (row_at f).parts j (ref k) → RefTo s (lines_in s) r (letter k) (get_or (read_at s (r - 1)).fields j []) (number_of (get_or (read_at s (r - 1)).fields j []))
     unfolding fine_refs lower_refs
     ref-good k p =
         let x = get_or (read_at s (r - 1)).fields j [] in
@@ -159,7 +159,7 @@ module _ {s t : Bytes} {n r : ℕ} (l : ExLine s t n r) where
           last = omega (arith, l.last);
           kind = g.2;
           lower = ltb-true (depth_of (reads_in s) (number_of x - 1)) (depth_of (reads_in s) (r - 1)) (rw (ne_eqb (number_of x) 0 g.0) at d);
-          exact = number-exact x (field-good (ref k) p) (omega (arith, l.last, l.checked.whole.lined.few));
+          exact = number-exact x (field-good (ref k) p) (omega (arith, l.last, l.checked.whole.few));
         }
 
 -- ---- the basic type of a type's line
@@ -168,11 +168,11 @@ basic-of : (ns : List Node) (fs : List Bytes) (f : ℕ) → f < 8 → basic_of (
 unfolding forms
 basic-of ns fs = of_types (λ f. basic_of (row_node ns f fs).ty ≡ basic_at f) refl refl refl refl refl refl refl refl
 
-pub basic-is : (s t : Bytes) (n : ℕ) → Checked s t n → (v : ℕ) → 0 < v → v ≤ n → letter (read_at s (v - 1)).form.kind ≡ 75 → basic_of (type_at s v) ≡ basic_at (form_at t (v - 1))
-basic-is s t n c v h l k =
-    let i : v - 1 < n = omega arith in
-    let f : form_at t (v - 1) < 8 = type-form (form_at t (v - 1)) (form-low s t n c.whole (v - 1) i) (sym (kind-is s t n c.whole (v - 1) i) ∙ k) in
-    ap (λ (m : Node). basic_of m.ty) (node-at s t n c.whole c.good (v - 1) i) ∙ basic-of (nodes_in s) (read_at s (v - 1)).fields (form_at t (v - 1)) f
+pub basic-is : (s : Bytes) → Checked s → (v : ℕ) → 0 < v → v ≤ lines_in s → letter (read_at s (v - 1)).form.kind ≡ 75 → basic_of (type_at s v) ≡ basic_at (form_at s (v - 1))
+basic-is s c v h l k =
+    let i : v - 1 < lines_in s = omega arith in
+    let f : form_at s (v - 1) < 8 = type-form (form_at s (v - 1)) (form-low s c.whole (v - 1) i) (sym (kind-is s c.whole (v - 1) i) ∙ k) in
+    ap (λ (m : Node). basic_of m.ty) (node-at s c.whole c.good (v - 1) i) ∙ basic-of (nodes_in s) (read_at s (v - 1)).fields (form_at s (v - 1)) f
 
 -- ---- what the forms make
 

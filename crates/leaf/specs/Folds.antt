@@ -26,13 +26,13 @@ unfoldable pub fold_at : Bytes → Bytes → ℕ → ℕ → ℕ → Fold.Result
 fold_at s t m iota r = fold (names_in s t m) (pos iota) (ex_at s r)
 
 -- line r of a checked sheet is an `ex` line, 69
-abbrev pub ExLine : Bytes → Bytes → ℕ → ℕ → Type 0
-ExLine s t n r = KindLine 69 s t n r
+abbrev pub ExLine : Bytes → ℕ → Type 0
+ExLine s r = KindLine 69 s r
 
 -- what a fold of line r asks: constants in their table, and from `top` on room for a string at each step down
-pub record Foldable (s t : Bytes) (n m r top : ℕ) : Type 0 where
-  pub line : ExLine s t n r
-  pub log : ConstsLogged s t n m
+pub record Foldable (s t : Bytes) (m r top : ℕ) : Type 0 where
+  pub line : ExLine s r
+  pub log : ConstsLogged s t m
   pub low : 49152 ≤ top
   pub room : top + 256 * depth_of (reads_in s) (r - 1) ≤ length t
 
@@ -44,24 +44,24 @@ pub record Folds (s t : Bytes) (m iota r top : ℕ) (u : Bytes) (x : Result Cons
 -- ---- expressions without an operand that is folded
 
 -- line r is a number, a string, a name or a name of a module: a form below 13
-pub record Leaf (s t : Bytes) (n m r top : ℕ) : Type 0 where
-  pub fold : Foldable s t n m r top
-  pub form : form_at t (r - 1) < 13
+pub record Leaf (s t : Bytes) (m r top : ℕ) : Type 0 where
+  pub fold : Foldable s t m r top
+  pub form : form_at s (r - 1) < 13
 
 -- line r is `ex,id`
-pub record Ident (s t : Bytes) (n m r top : ℕ) : Type 0 where
-  pub fold : Foldable s t n m r top
-  pub form : form_at t (r - 1) ≡ 11
+pub record Ident (s t : Bytes) (m r top : ℕ) : Type 0 where
+  pub fold : Foldable s t m r top
+  pub form : form_at s (r - 1) ≡ 11
 
 -- line r is `ex,qual`
-pub record Qualified (s t : Bytes) (n m r top : ℕ) : Type 0 where
-  pub fold : Foldable s t n m r top
-  pub form : form_at t (r - 1) ≡ 12
+pub record Qualified (s t : Bytes) (m r top : ℕ) : Type 0 where
+  pub fold : Foldable s t m r top
+  pub form : form_at s (r - 1) ≡ 12
 
 -- line r is `ex,int`, `ex,real` or `ex,str`
-pub record ScalarLine (s t : Bytes) (n r top : ℕ) : Type 0 where
-  pub line : ExLine s t n r
-  pub form : form_at t (r - 1) < 11
+pub record ScalarLine (s t : Bytes) (r top : ℕ) : Type 0 where
+  pub line : ExLine s r
+  pub form : form_at s (r - 1) < 11
   pub room : top + 256 ≤ length t
 
 -- the value of such a line of form f with the field x

@@ -14,11 +14,13 @@ ghost use Rattle.values.specs.Values.{value_in, At, Answers, Casts};
 ghost use Rattle.names.specs.Table.{found};
 ghost use Rattle.leaf.specs.Folds.{scalar_of, Folds, Leaf, ScalarLine, Ident, Qualified, AnsweredAt};
 
+use codes::area::Space;
 use codes::ex;
 use codes::value::{self, Value};
-use names::{Key, Known};
+use names::Key;
 use values::{ConstVal, Folded, NoValue};
 use write::Writer;
+use lines::Sheet;
 
 fn integer(x: &[u8]) -> ConstVal
     requires { Form.holds Form.Atom.i64 x.now ≡ true }
@@ -35,7 +37,7 @@ fn real(x: &[u8]) -> ConstVal
 }
 
 // The bytes that pairs of digits write, put at `top`.
-fn string(x: &[u8], work: &mut [u8], top: usize) -> ConstVal
+fn string(x: &[u8], work: &mut Space, top: usize) -> ConstVal
     requires { (Form.holds Form.Atom.text x.now ≡ true) × (length x.now ≤ 255) × (top + 256 ≤ length work.old) }
     ensures { Casts work.old top (v_str (or_else [] (unhex x.now))) work.new result }
 {
@@ -47,12 +49,12 @@ fn string(x: &[u8], work: &mut [u8], top: usize) -> ConstVal
     ConstVal::Str(top, l)
 }
 
-fn scalar(sheet: &[u8], work: &mut [u8], n: usize, r: usize, top: usize) -> ConstVal
-    requires { ScalarLine sheet.now work.old n r top }
+fn scalar(sheet: &Sheet, work: &mut Space, r: usize, top: usize) -> ConstVal
+    requires { ScalarLine sheet.now work.old r top }
     ensures { Casts work.old top (scalar_of (form_at work.old (r - 1)) (get_or (read_at sheet.now (r - 1)).fields 0 [])) work.new result }
 {
-    let x = lines::field_at(sheet, work, n, r - 1, 0);
-    match lines::form_at(work, r - 1) {
+    let x = sheet.field_at(r - 1, 0);
+    match sheet.form_at(r - 1) {
         ex::INT => integer(x),
         ex::REAL => real(x),
         _ => string(x, work, top),
@@ -60,7 +62,7 @@ fn scalar(sheet: &[u8], work: &mut [u8], n: usize, r: usize, top: usize) -> Cons
 }
 
 // The value of the constant that a look-up found: a string is put at `top`.
-fn constant(work: &mut [u8], k: Option<usize>, top: usize) -> Folded
+fn constant(work: &mut Space, k: Option<usize>, top: usize) -> Folded
     requires { AnsweredAt work.old k top }
     ensures { (Answers work.new top result (from_option (found work.old k))) × (Kept top work.old work.new) }
 {
@@ -81,45 +83,45 @@ fn constant(work: &mut [u8], k: Option<usize>, top: usize) -> Folded
 }
 
 // `iota` outranks a constant of that name.
-fn ident(sheet: &[u8], work: &mut [u8], c: Known, iota: u32, r: usize, top: usize) -> Folded
-    requires { Ident sheet.now work.old c.lines c.consts r top }
-    ensures { Folds sheet.now work.old c.consts iota r top work.new result }
+fn ident(sheet: &Sheet, work: &mut Space, consts: usize, iota: u32, r: usize, top: usize) -> Folded
+    requires { Ident sheet.now work.old consts r top }
+    ensures { Folds sheet.now work.old consts iota r top work.new result }
 {
-    let name = lines::field_at(sheet, work, c.lines, r - 1, 0);
+    let name = sheet.field_at(r - 1, 0);
     if words::same(name, b"iota") {
         return Ok(ConstVal::Int(iota as i64));
     }
-    let k = names::look_up(sheet, work, c, Key { within: None, name });
+    let k = names::look_up(sheet, work, consts, Key { within: None, name });
     constant(work, k, top)
 }
 
 // The module must be named; its line is not folded.
-fn qualified(sheet: &[u8], work: &mut [u8], c: Known, r: usize, top: usize) -> Folded
-    requires { Qualified sheet.now work.old c.lines c.consts r top }
-    ensures { (iota : ℕ) → Folds sheet.now work.old c.consts iota r top work.new result }
+fn qualified(sheet: &Sheet, work: &mut Space, consts: usize, r: usize, top: usize) -> Folded
+    requires { Qualified sheet.now work.old consts r top }
+    ensures { (iota : ℕ) → Folds sheet.now work.old consts iota r top work.new result }
 {
-    let q = lines::number_at(sheet, work, c.lines, r - 1, 0);
-    if lines::form_at(work, q - 1) != ex::ID {
+    let q = sheet.number_at(r - 1, 0);
+    if sheet.form_at(q - 1) != ex::ID {
         return Err(NoValue::Failed);
     }
-    let within = lines::field_at(sheet, work, c.lines, q - 1, 0);
-    let name = lines::field_at(sheet, work, c.lines, r - 1, 1);
+    let within = sheet.field_at(q - 1, 0);
+    let name = sheet.field_at(r - 1, 1);
     let key = Key {
         within: Some(within),
         name,
     };
-    let k = names::look_up(sheet, work, c, key);
+    let k = names::look_up(sheet, work, consts, key);
     constant(work, k, top)
 }
 
 // The value of line r, by the constants that are known: a string stands at `top`.
-pub fn leaf(sheet: &[u8], work: &mut [u8], c: Known, iota: u32, r: usize, top: usize) -> Folded
-    requires { Leaf sheet.now work.old c.lines c.consts r top }
-    ensures { Folds sheet.now work.old c.consts iota r top work.new result }
+pub fn leaf(sheet: &Sheet, work: &mut Space, consts: usize, iota: u32, r: usize, top: usize) -> Folded
+    requires { Leaf sheet.now work.old consts r top }
+    ensures { Folds sheet.now work.old consts iota r top work.new result }
 {
-    match lines::form_at(work, r - 1) {
-        ex::ID => ident(sheet, work, c, iota, r, top),
-        ex::QUAL => qualified(sheet, work, c, r, top),
-        _ => Ok(scalar(sheet, work, c.lines, r, top)),
+    match sheet.form_at(r - 1) {
+        ex::ID => ident(sheet, work, consts, iota, r, top),
+        ex::QUAL => qualified(sheet, work, consts, r, top),
+        _ => Ok(scalar(sheet, work, r, top)),
     }
 }

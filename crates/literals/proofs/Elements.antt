@@ -14,7 +14,7 @@ use Rattle.semantics.specs.Form.{number_of}
 use Rattle.semantics.specs.Fold.{Result, bind, Names, fold_at0}
 use Rattle.semantics.specs.Array.{Filled, place_next, set_wildcard, fill_element, el_value}
 use Rattle.decimal.specs.Number as Number
-use Rattle.lines.specs.Lines.{read_at, form_at}
+use Rattle.lines.specs.Lines.{lines_in, read_at, form_at}
 use Rattle.values.specs.declared.ConstVal.{ConstVal}
 use Rattle.values.specs.declared.ConstVal.TheVariants.{Int, Real, Str}
 use Rattle.std.specs.Prelude.{Option, Some, Ok, Err}
@@ -45,8 +45,8 @@ standing-small top (Str p l) h s = (omega (arith, s.1, s.0), omega (arith, s.1))
 stored-keeps : {t u : Bytes} (n : ℕ) {v : ConstVal} → n ≤ 16 → SlotStored t (12288 + 16 * n) v u → Keeps 16384 49152 t u
 stored-keeps n h q = record { long = q.long; below = λ j x. q.others j (inl (omega arith)); above = λ j x y. q.others j (inr (omega arith)) }
 
-module _ {s t : Bytes} {n m r e : ℕ} {v : ConstVal} (k : ValuedTask s t n m r e v) (far : Extent) where
-  l : KindLine 76 s t n r
+module _ {s t : Bytes} {m r e : ℕ} {v : ConstVal} (k : ValuedTask s t m r e v) (far : Extent) where
+  l : KindLine 76 s r
   l = k.task.line
 
   pub element-small : Small v
@@ -56,7 +56,7 @@ module _ {s t : Bytes} {n m r e : ℕ} {v : ConstVal} (k : ValuedTask s t n m r 
   unfolding element_in
   element-is = rw k.value
 
-  module _ {f : ℕ} (hf : f ≡ form_at t (r - 1)) where
+  module _ {f : ℕ} (hf : f ≡ form_at s (r - 1)) where
     pub element-next : f ≡ 20 → {y : Option Extent} {u : Bytes} → Places t e far place_next y u → Fills t e far (placed (names_in s t m) (el_at s r)) (Ok y) u
     element-next d {y} {u} p = record {
       keeps = keeps-less (omega arith) (omega arith) (p.keeps 49152);
@@ -72,7 +72,7 @@ module _ {s t : Bytes} {n m r e : ℕ} {v : ConstVal} (k : ValuedTask s t n m r 
         }
 
     module _ (a : f ≡ 20 → ⊥) (b : f ≡ 21 → ⊥) where
-      pub element-at : AtTask s t n m r e
+      pub element-at : AtTask s t m r e
       element-at = record { task = k.task; form = last-form l (λ d. a (hf ∙ d)) (λ d. b (hf ∙ d)) }
 
       pub element-spans : {y : Outcome (Option Extent)} {u : Bytes} → Fills t e far (placed (names_in s t m) (at (el_value (el_at s r)) (ses_at s r))) y u → Fills t e far (placed (names_in s t m) (el_at s r)) y u
@@ -90,11 +90,11 @@ at-stands k (Int z) h = tt
 at-stands k (Real x) h = tt
 at-stands k (Str p l) h = (omega (arith, h.0), omega (arith, h.0, h.1), h.1)
 
-module _ {s t : Bytes} {n m r k : ℕ} (c : ElementTask s t n m r k) (far : Extent) {q : ℕ} (hq : q ≡ Number.number_up_to 65536 (get_or (read_at s (r - 1)).fields 0 [])) where
-  value_line : (q ≡ number_of (get_or (read_at s (r - 1)).fields 0 [])) × KindLine 69 s t n q
+module _ {s t : Bytes} {m r k : ℕ} (c : ElementTask s t m r k) (far : Extent) {q : ℕ} (hq : q ≡ Number.number_up_to 65536 (get_or (read_at s (r - 1)).fields 0 [])) where
+  value_line : (q ≡ number_of (get_or (read_at s (r - 1)).fields 0 [])) × KindLine 69 s q
   value_line = good-line c.line 69 (get_or (read_at s (r - 1)).fields 0 []) q hq (value-ref c.line)
 
-  pub value-foldable : Foldable s t n m q (49152 + 256 * k)
+  pub value-foldable : Foldable s t m q (49152 + 256 * k)
   value-foldable = foldable (record { line = value_line.1; log = c.log; few = omega (arith, c.few) })
 
   value-is : el_value (el_at s r) ≡ ex_at s q
@@ -107,11 +107,11 @@ module _ {s t : Bytes} {n m r k : ℕ} (c : ElementTask s t n m r k) (far : Exte
     keeps-fold : Keeps 16384 49152 t u
     keeps-fold = keeps-less (omega arith) (omega arith) (keeps-kept {a = 0} (omega arith) g.kept)
 
-    pub turn-none : (n : NoValue) → x ≡ Err n → ElementFilled t k far (fill_element (names_in s t m) (el_at s r)) (Err n) u
+    pub turn-none : (lines_in s : NoValue) → x ≡ Err (lines_in s) → ElementFilled t k far (fill_element (names_in s t m) (el_at s r)) (Err (lines_in s)) u
     unfolding result_in
-    turn-none n d = record { keeps = keeps-fold; step = λ f p. fills-to f ∙ go n d (placed (names_in s t m) (el_at s r)) f }
+    turn-none (lines_in s) d = record { keeps = keeps-fold; step = λ f p. fills-to f ∙ go (lines_in s) d (placed (names_in s t m) (el_at s r)) f }
       where
-        go : (n : NoValue) → x ≡ Err n → (g : Tree.ConstVal → Filled → Result Filled) (f : Filled) → bind (result_in u x) (λ (v : Tree.ConstVal). g v f) ≡ answered (Err n)
+        go : (lines_in s : NoValue) → x ≡ Err (lines_in s) → (g : Tree.ConstVal → Filled → Result Filled) (f : Filled) → bind (result_in u x) (λ (v : Tree.ConstVal). g v f) ≡ answered (Err (lines_in s))
         go N.Failed d g f = rw d
         go N.LongString d g f = rw d
 
@@ -129,7 +129,7 @@ module _ {s t : Bytes} {n m r k : ℕ} (c : ElementTask s t n m r k) (far : Exte
         keeps-value : Keeps 16384 49152 t w
         keeps-value = keeps_then keeps-fold (stored-keeps (k + 1) (omega (arith, c.few)) p)
 
-        pub value-stored : ValuedTask s w n m r (k + 1) v
+        pub value-stored : ValuedTask s w m r (k + 1) v
         unfolding slot_at
         value-stored = record { task = record { line = line_kept keeps-value c.line; log = logged-kept keeps-value c.log; few = omega (arith, c.few) }; stands = value-stands; value = p.value }
 

@@ -21,7 +21,7 @@ use Rattle.semantics.specs.Form.Part.{one, many}
 use Rattle.semantics.specs.Refusal.{refs_in}
 use Rattle.decimal.specs.Number as Number
 use Rattle.form.specs.Table.{row_at, kind_at, row_node}
-use Rattle.lines.specs.Lines.{reads_in, read_at, nodes_in, form_at}
+use Rattle.lines.specs.Lines.{lines_in, reads_in, read_at, nodes_in, form_at}
 use Rattle.lines.proofs.Line.{form-low, form-is, kind-is, read_fits}
 use Rattle.refs.specs.Refs.{fine_refs}
 use Rattle.refs.proofs.Fine.{needed-ref}
@@ -34,33 +34,33 @@ use Rattle.literals.specs.Literals.{el_at, se_at}
 
 -- ---- the lines that are referred to
 
-module _ {k : ℕ} {s t : Bytes} {n r : ℕ} (l : KindLine k s t n r) where
-  pub line-in : r - 1 < n
+module _ {k : ℕ} {s : Bytes} {r : ℕ} (l : KindLine k s r) where
+  pub line-in : r - 1 < lines_in s
   line-in = omega (arith, l.first, l.last)
 
-  pub line-form : (form_at t (r - 1) < 42) × (kind_at (form_at t (r - 1)) ≡ k)
-  line-form = (form-low s t n l.checked.whole (r - 1) line-in, sym (kind-is s t n l.checked.whole (r - 1) line-in) ∙ l.kind)
+  pub line-form : (form_at s (r - 1) < 42) × (kind_at (form_at s (r - 1)) ≡ k)
+  line-form = (form-low s l.checked.whole (r - 1) line-in, sym (kind-is s l.checked.whole (r - 1) line-in) ∙ l.kind)
 
-  pub parts_at : {f : ℕ} → form_at t (r - 1) ≡ f → (fits (row_at f).parts (read_at s (r - 1)).fields ≡ true) × (fine_refs (reads_in s) (r - 1) (refs_in (row_at f).parts (read_at s (r - 1)).fields) ≡ true)
+  pub parts_at : {f : ℕ} → form_at s (r - 1) ≡ f → (fits (row_at f).parts (read_at s (r - 1)).fields ≡ true) × (fine_refs (reads_in s) (r - 1) (refs_in (row_at f).parts (read_at s (r - 1)).fields) ≡ true)
   parts_at {f} e =
       let w = l.checked.whole in
-      let p : (read_at s (r - 1)).form.parts ≡ (row_at f).parts = ap (λ (x : Row). x.parts) (form-is s t n w (r - 1) line-in) ∙ ap (λ (g : ℕ). (row_at g).parts) e in
-      (rw e at (read_fits s t n w (r - 1) line-in), rw p at (l.checked.fine (r - 1) line-in))
+      let p : (read_at s (r - 1)).form.parts ≡ (row_at f).parts = ap (λ (x : Row). x.parts) (form-is s w (r - 1) line-in) ∙ ap (λ (g : ℕ). (row_at g).parts) e in
+      (rw e at (read_fits s w (r - 1) line-in), rw p at (l.checked.fine (r - 1) line-in))
 
-  pub makes : {f : ℕ} → form_at t (r - 1) ≡ f → node_at (nodes_in s) r ≡ row_node (nodes_in s) f (read_at s (r - 1)).fields
-  makes e = node-at s t n l.checked.whole l.checked.good (r - 1) line-in ∙ ap (λ (g : ℕ). row_node (nodes_in s) g (read_at s (r - 1)).fields) e
+  pub makes : {f : ℕ} → form_at s (r - 1) ≡ f → node_at (nodes_in s) r ≡ row_node (nodes_in s) f (read_at s (r - 1)).fields
+  makes e = node-at s l.checked.whole l.checked.good (r - 1) line-in ∙ ap (λ (g : ℕ). row_node (nodes_in s) g (read_at s (r - 1)).fields) e
 
   module _ (q : ℕ) (f : Bytes) (v : ℕ) (hv : v ≡ Number.number_up_to 65536 f) where
-    pub good-line : Good (reads_in s) (r - 1) q f → (v ≡ number_of f) × KindLine q s t n v
+    pub good-line : Good (reads_in s) (r - 1) q f → (v ≡ number_of f) × KindLine q s v
     good-line g =
         let w = needed-ref (reads_in s) (r - 1 + 1) q (number_of f) g.fine in
-        let e : v ≡ number_of f = hv ∙ number-exact f g.number (omega (arith, w.1, l.last, l.checked.whole.lined.few)) in
+        let e : v ≡ number_of f = hv ∙ number-exact f g.number (omega (arith, w.1, l.last, l.checked.whole.few)) in
         (e, rw e (record { checked = l.checked; first = omega (arith, w.0); last = omega (arith, w.1, l.first, l.last); kind = w.2 }))
 
-    pub may-line : May (reads_in s) (r - 1) q f → (v ≡ number_of f) × ((v ≡ 0 → ⊥) → KindLine q s t n v)
+    pub may-line : May (reads_in s) (r - 1) q f → (v ≡ number_of f) × ((v ≡ 0 → ⊥) → KindLine q s v)
     may-line g = go (eqb (number_of f) 0) refl
       where
-        go : (b : Bool) → eqb (number_of f) 0 ≡ b → (v ≡ number_of f) × ((v ≡ 0 → ⊥) → KindLine q s t n v)
+        go : (b : Bool) → eqb (number_of f) 0 ≡ b → (v ≡ number_of f) × ((v ≡ 0 → ⊥) → KindLine q s v)
         go true d =
             let z = eqb-true (number_of f) 0 d in
             let e : v ≡ number_of f = hv ∙ number-exact f g.number (omega arith) in
@@ -68,7 +68,7 @@ module _ {k : ℕ} {s t : Bytes} {n r : ℕ} (l : KindLine k s t n r) where
         go false d =
             let z = eqb-false (number_of f) 0 d in
             let w = given-ref (reads_in s) (r - 1 + 1) q (number_of f) g.fine z in
-            let e : v ≡ number_of f = hv ∙ number-exact f g.number (omega (arith, w.0, l.last, l.checked.whole.lined.few)) in
+            let e : v ≡ number_of f = hv ∙ number-exact f g.number (omega (arith, w.0, l.last, l.checked.whole.few)) in
             (e, λ y. rw e (record { checked = l.checked; first = omega (arith, z); last = omega (arith, w.0, l.first, l.last); kind = w.1 }))
 
   pub count-is : {j q : ℕ} {v : ℕ} → CountedRefs (reads_in s) (r - 1) q j (read_at s (r - 1)).fields → v ≡ Number.number_up_to 65536 (get_or (read_at s (r - 1)).fields j []) → (v ≡ number_of (get_or (read_at s (r - 1)).fields j [])) × (v ≤ 16)
@@ -84,9 +84,9 @@ maybe-absent ns v e = rw e
 
 -- ---- selectors
 
-module _ {s t : Bytes} {n r : ℕ} (l : KindLine 74 s t n r) where
-  se-form : form_at t (r - 1) ≡ 23
-  se-form = let w = line-form l in selector-form (form_at t (r - 1)) w.0 w.1
+module _ {s : Bytes} {r : ℕ} (l : KindLine 74 s r) where
+  se-form : form_at s (r - 1) ≡ 23
+  se-form = let w = line-form l in selector-form (form_at s (r - 1)) w.0 w.1
 
   pub se-refs : Good (reads_in s) (r - 1) 69 (get_or (read_at s (r - 1)).fields 0 []) × May (reads_in s) (r - 1) 69 (get_or (read_at s (r - 1)).fields 1 [])
   unfolding forms
@@ -102,23 +102,23 @@ module _ {s t : Bytes} {n r : ℕ} (l : KindLine 74 s t n r) where
 
 -- ---- elements
 
-module _ {s t : Bytes} {n r : ℕ} (l : KindLine 76 s t n r) where
+module _ {s : Bytes} {r : ℕ} (l : KindLine 76 s r) where
   -- 20 a plain element, 21 a wildcard, 22 one with selectors
-  by-form : {P : Type 0} → (form_at t (r - 1) ≡ 20 → P) → (form_at t (r - 1) ≡ 21 → P) → (form_at t (r - 1) ≡ 22 → P) → P
-  by-form {P} a b c = let w = line-form l in let x = element-form (form_at t (r - 1)) w.0 w.1 in go (eqb (form_at t (r - 1)) 20) refl (eqb (form_at t (r - 1)) 21) refl x.0 x.1
+  by-form : {P : Type 0} → (form_at s (r - 1) ≡ 20 → P) → (form_at s (r - 1) ≡ 21 → P) → (form_at s (r - 1) ≡ 22 → P) → P
+  by-form {P} a b c = let w = line-form l in let x = element-form (form_at s (r - 1)) w.0 w.1 in go (eqb (form_at s (r - 1)) 20) refl (eqb (form_at s (r - 1)) 21) refl x.0 x.1
     where
-      go : (p : Bool) → eqb (form_at t (r - 1)) 20 ≡ p → (q : Bool) → eqb (form_at t (r - 1)) 21 ≡ q → 20 ≤ form_at t (r - 1) → form_at t (r - 1) < 23 → P
-      go true d q e x y = a (eqb-true (form_at t (r - 1)) 20 d)
-      go false d true e x y = b (eqb-true (form_at t (r - 1)) 21 e)
-      go false d false e x y = c (omega (arith, eqb-false (form_at t (r - 1)) 20 d, eqb-false (form_at t (r - 1)) 21 e))
+      go : (p : Bool) → eqb (form_at s (r - 1)) 20 ≡ p → (q : Bool) → eqb (form_at s (r - 1)) 21 ≡ q → 20 ≤ form_at s (r - 1) → form_at s (r - 1) < 23 → P
+      go true d q e x y = a (eqb-true (form_at s (r - 1)) 20 d)
+      go false d true e x y = b (eqb-true (form_at s (r - 1)) 21 e)
+      go false d false e x y = c (omega (arith, eqb-false (form_at s (r - 1)) 20 d, eqb-false (form_at s (r - 1)) 21 e))
 
-  pub last-form : (form_at t (r - 1) ≡ 20 → ⊥) → (form_at t (r - 1) ≡ 21 → ⊥) → form_at t (r - 1) ≡ 22
+  pub last-form : (form_at s (r - 1) ≡ 20 → ⊥) → (form_at s (r - 1) ≡ 21 → ⊥) → form_at s (r - 1) ≡ 22
   last-form a b = by-form (λ e. absurd (a e)) (λ e. absurd (b e)) (λ e. e)
 
   abbrev value_ex : Ex
   value_ex = ex_at s (number_of (get_or (read_at s (r - 1)).fields 0 []))
 
-  module _ (e : form_at t (r - 1) ≡ 22) where
+  module _ (e : form_at s (r - 1) ≡ 22) where
     at-refs : Good (reads_in s) (r - 1) 69 (get_or (read_at s (r - 1)).fields 0 []) × CountedRefs (reads_in s) (r - 1) 74 1 (read_at s (r - 1)).fields
     unfolding forms
     at-refs =
@@ -133,11 +133,11 @@ module _ {s t : Bytes} {n r : ℕ} (l : KindLine 76 s t n r) where
     unfolding forms
     el-at = ap (λ (x : Node). x.el) (makes l e) ∙ rw (tail-drop 0 (read_at s (r - 1)).fields, tail-drop 1 (read_at s (r - 1)).fields, head-drop 0 (read_at s (r - 1)).fields, head-drop 1 (read_at s (r - 1)).fields)
 
-  pub el-next : form_at t (r - 1) ≡ 20 → el_at s r ≡ next value_ex
+  pub el-next : form_at s (r - 1) ≡ 20 → el_at s r ≡ next value_ex
   unfolding forms
   el-next e = ap (λ (x : Node). x.el) (makes l e) ∙ rw (head-drop 0 (read_at s (r - 1)).fields)
 
-  pub el-star : form_at t (r - 1) ≡ 21 → el_at s r ≡ star value_ex
+  pub el-star : form_at s (r - 1) ≡ 21 → el_at s r ≡ star value_ex
   unfolding forms
   el-star e = ap (λ (x : Node). x.el) (makes l e) ∙ rw (head-drop 0 (read_at s (r - 1)).fields)
 

@@ -56,7 +56,7 @@ module _ (t : Bytes) {x : Outcome ConstVal} where
 
 -- ---- folds
 
-pub foldable : {s t : Bytes} {n m r e : ℕ} → Task 69 s t n m r e → Foldable s t n m r (49152 + 256 * e)
+pub foldable : {s t : Bytes} {m r e : ℕ} → Task 69 s t m r e → Foldable s t m r (49152 + 256 * e)
 foldable k = Steps.foldable k.line k.log (omega arith) (omega (arith, k.few))
 
 -- what a fold gives, where iota is 0
@@ -69,15 +69,15 @@ index_is i f h = rw (folds-to f) at h
 
 -- ---- the ends of a selector
 
-module _ {s t : Bytes} {n m r e : ℕ} (k : Task 74 s t n m r e) where
-  pub low-task : {v : ℕ} → v ≡ Number.number_up_to 65536 (get_or (read_at s (r - 1)).fields 0 []) → Task 69 s t n m v e
+module _ {s t : Bytes} {m r e : ℕ} (k : Task 74 s t m r e) where
+  pub low-task : {v : ℕ} → v ≡ Number.number_up_to 65536 (get_or (read_at s (r - 1)).fields 0 []) → Task 69 s t m v e
   low-task {v} h = record { line = (good-line k.line 69 (get_or (read_at s (r - 1)).fields 0 []) v h (se-refs k.line).0).1; log = k.log; few = k.few }
 
   low-is : {v : ℕ} → v ≡ Number.number_up_to 65536 (get_or (read_at s (r - 1)).fields 0 []) → (se_at s r).low ≡ ex_at s v
   low-is {v} h = rw (se-is k.line, (good-line k.line 69 (get_or (read_at s (r - 1)).fields 0 []) v h (se-refs k.line).0).0)
 
   module _ {v : ℕ} (h : v ≡ Number.number_up_to 65536 (get_or (read_at s (r - 1)).fields 1 [])) where
-    pub high-task : (v ≡ 0 → ⊥) → Task 69 s t n m v e
+    pub high-task : (v ≡ 0 → ⊥) → Task 69 s t m v e
     high-task z = record { line = (may-line k.line 69 (get_or (read_at s (r - 1)).fields 1 []) v h (se-refs k.line).1).1 z; log = k.log; few = k.few }
 
     number_is : number_of (get_or (read_at s (r - 1)).fields 1 []) ≡ v
@@ -102,7 +102,7 @@ module _ {s t : Bytes} {n m r e : ℕ} (k : Task 74 s t n m r e) where
       keeps_low : Keeps 16384 49152 t u
       keeps_low = keeps-less (omega arith) (omega arith) (keeps-kept {a = 0} (omega arith) c)
 
-      pub again : Task 74 s u n m r e
+      pub again : Task 74 s u m r e
       again = record { line = line_kept keeps_low k.line; log = logged-kept keeps_low k.log; few = k.few }
 
       module _ (y : Outcome ℤ) (hy : answered y ≡ high_of (names_in s u m) (held w64 a) (se_at s r).high) where

@@ -37,7 +37,7 @@ use Rattle.literals.proofs.Lines.{parts_at, makes, good-line, count-is}
 
 -- ---- the line of a literal
 
-module _ {s t : Bytes} {n r : ℕ} (k : LiteralLine s t n r) where
+module _ {s : Bytes} {r : ℕ} (k : LiteralLine s r) where
   pub literal-refs : May (reads_in s) (r - 1) 69 (get_or (read_at s (r - 1)).fields 0 []) × May (reads_in s) (r - 1) 75 (get_or (read_at s (r - 1)).fields 1 []) × CountedRefs (reads_in s) (r - 1) 76 2 (read_at s (r - 1)).fields
   unfolding forms
   literal-refs =
@@ -57,7 +57,7 @@ module _ {s t : Bytes} {n r : ℕ} (k : LiteralLine s t n r) where
 abbrev pub els_from : Bytes → ℕ → ℕ → ℕ → Els
 els_from s r count j = els_of (values (ref k_el) (nodes_in s) (count - j) (drop (3 + j) (read_at s (r - 1)).fields))
 
-module _ {s t : Bytes} {n r : ℕ} (k : LiteralLine s t n r) {count : ℕ} (hc : count ≡ Number.number_up_to 65536 (get_or (read_at s (r - 1)).fields 2 [])) where
+module _ {s : Bytes} {r : ℕ} (k : LiteralLine s r) {count : ℕ} (hc : count ≡ Number.number_up_to 65536 (get_or (read_at s (r - 1)).fields 2 [])) where
   pub few-elements : count ≤ 16
   few-elements = (count-is k.line (literal-refs k).2 hc).1
 
@@ -68,10 +68,10 @@ module _ {s t : Bytes} {n r : ℕ} (k : LiteralLine s t n r) {count : ℕ} (hc :
   all-elements = let z : count - 0 ≡ number_of (get_or (read_at s (r - 1)).fields 2 []) = omega (arith, count-exact) in rw z
 
   module _ {j : ℕ} (h : j < count) {q : ℕ} (hq : q ≡ Number.number_up_to 65536 (get_or (read_at s (r - 1)).fields (3 + j) [])) where
-    element-good : (q ≡ number_of (get_or (read_at s (r - 1)).fields (3 + j) [])) × KindLine 76 s t n q
+    element-good : (q ≡ number_of (get_or (read_at s (r - 1)).fields (3 + j) [])) × KindLine 76 s q
     element-good = good-line k.line 76 (get_or (read_at s (r - 1)).fields (3 + j) []) q hq ((literal-refs k).2.each j (omega (arith, count-exact)))
 
-    pub element-line : KindLine 76 s t n q
+    pub element-line : KindLine 76 s q
     element-line = element-good.1
 
     pub elements-split : els_from s r count j ≡ and_el (el_at s q) (els_from s r count (j + 1))
@@ -90,8 +90,8 @@ pub record Turning (s t : Bytes) (m r count : ℕ) (u : Bytes) (x : Extent) (j :
   pub filling : Filling u (above j) j x.next x.reach literal
   pub left : fill (names_in s t m) (els_from s r count j) literal ≡ fill (names_in s t m) (els_from s r count 0) none_filled
 
-module _ {s t₀ : Bytes} {n m r : ℕ} (k : LiteralLine s t₀ n r) (g : ConstsLogged s t₀ n m) {t : Bytes} (a : (Filling t 49152 0 0 0 none_filled) × ((b : ℕ) → Keeps 16384 b t₀ t)) where
-  pub begun : KindLine 69 s t n r
+module _ {s t₀ : Bytes} {m r : ℕ} (k : LiteralLine s r) (g : ConstsLogged s t₀ m) {t : Bytes} (a : (Filling t 49152 0 0 0 none_filled) × ((b : ℕ) → Keeps 16384 b t₀ t)) where
+  pub begun : KindLine 69 s r
   begun = line_kept (a.1 49152) k.line
 
   module _ {count : ℕ} (hc : count ≡ Number.number_up_to 65536 (get_or (read_at s (r - 1)).fields 2 [])) where
@@ -106,7 +106,7 @@ module _ {s t₀ : Bytes} {n m r : ℕ} (k : LiteralLine s t₀ n r) (g : Consts
     turning-start = record { within = omega arith; keeps = keeps-all; literal = none_filled; filling = a.0; left = refl }
 
     module _ {u : Bytes} {x : Extent} {j : ℕ} (c : Turning s t m r count u x j) where
-      pub turning-line : KindLine 69 s u n r
+      pub turning-line : KindLine 69 s r
       turning-line = line_kept c.keeps begun
 
       pub turning-end : count ≤ j → AllFilled t₀ (fill (names_in s t₀ m) (els_at s r) none_filled) (Ok (Some x)) u
@@ -123,7 +123,7 @@ module _ {s t₀ : Bytes} {n m r : ℕ} (k : LiteralLine s t₀ n r) (g : Consts
         keeps-both : Keeps 16384 49152 t₀ u
         keeps-both = keeps_then (a.1 49152) c.keeps
 
-        pub turn-line : ElementTask s u n m q j
+        pub turn-line : ElementTask s u m q j
         turn-line = record { line = line_kept keeps-both (element-line k hc h hq); log = logged-kept keeps-both g; few = omega (arith, few) }
 
         module _ (y : Outcome (Option Extent)) {w : Bytes} (d : ElementFilled u j x (fill_element (names_in s u m) (el_at s q)) y w) where

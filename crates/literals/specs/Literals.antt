@@ -41,32 +41,32 @@ abbrev pub above : ℕ → ℕ
 above e = 49152 + 256 * e
 
 -- line r, of kind k, is to be worked on by the first m constants, after e elements, each with 256 bytes for its string
-pub record Task (k : ℕ) (s t : Bytes) (n m r e : ℕ) : Type 0 where
-  pub line : KindLine k s t n r
-  pub log : ConstsLogged s t n m
+pub record Task (k : ℕ) (s t : Bytes) (m r e : ℕ) : Type 0 where
+  pub line : KindLine k s r
+  pub log : ConstsLogged s t m
   pub few : e ≤ 16
 
 -- and is an `el,at` line, form 22
-pub record AtTask (s t : Bytes) (n m r e : ℕ) : Type 0 where
-  pub task : Task 76 s t n m r e
-  pub form : form_at t (r - 1) ≡ 22
+pub record AtTask (s t : Bytes) (m r e : ℕ) : Type 0 where
+  pub task : Task 76 s t m r e
+  pub form : form_at s (r - 1) ≡ 22
 
 -- and the value v of element e stands in its slot
-pub record ValuedTask (s t : Bytes) (n m r e : ℕ) (v : ConstVal) : Type 0 where
-  pub task : Task 76 s t n m r e
+pub record ValuedTask (s t : Bytes) (m r e : ℕ) (v : ConstVal) : Type 0 where
+  pub task : Task 76 s t m r e
   pub stands : StringStands (above e) v
   pub value : slot_at t e ≡ v
 
 -- it is an `el` line, 76, to be worked on after k elements
-pub record ElementTask (s t : Bytes) (n m r k : ℕ) : Type 0 where
-  pub line : KindLine 76 s t n r
-  pub log : ConstsLogged s t n m
+pub record ElementTask (s t : Bytes) (m r k : ℕ) : Type 0 where
+  pub line : KindLine 76 s r
+  pub log : ConstsLogged s t m
   pub few : k < 16
 
 -- it is an `ex,lit` line, form 18
-pub record LiteralLine (s t : Bytes) (n r : ℕ) : Type 0 where
-  pub line : ExLine s t n r
-  pub form : form_at t (r - 1) ≡ 18
+pub record LiteralLine (s : Bytes) (r : ℕ) : Type 0 where
+  pub line : ExLine s r
+  pub form : form_at s (r - 1) ≡ 18
 
 -- ---- answers
 

@@ -11,7 +11,7 @@ map_in t size = take (map_length size) (drop 49152 t)
 
 -- the space holds such a map: no record of a checked sheet is larger
 pub record MapRoom (t : Bytes) (size : ℕ) : Type 0 where
-  pub room : 65536 ≤ length t
+  pub room : 62464 ≤ length t
   pub small : size ≤ 131080
 
 -- the map that stands there is that of these offsets

@@ -5,10 +5,10 @@ ghost use Rattle.std.specs.Prelude.{◌≡◌, cond, [], ◌∷◌, ◌+◌, ◌
 ghost use Rattle.semantics.specs.Layout.{pointer_count};
 ghost use Rattle.maps.specs.Maps.{map_in, MapRoom, Marks, MapMade};
 
-use codes::area;
+use codes::area::{self, Space};
 
 // Makes the map of a block of this size that has no pointers.
-pub fn clear_map(work: &mut [u8], size: u32)
+pub fn clear_map(work: &mut Space, size: u32)
     requires { MapRoom work.old size }
     ensures { MapMade size [] work.old work.new }
 {
@@ -25,7 +25,7 @@ fn bit_of(w: u32) -> u8
 }
 
 // Marks the word of an offset, unless the word passes the size.
-pub fn mark_at(work: &mut [u8], size: u32, off: u32)
+pub fn mark_at(work: &mut Space, size: u32, off: u32)
     requires { MapRoom work.old size }
     ensures { Marks size (pos off ∷ []) work.old work.new }
 {
@@ -41,7 +41,7 @@ pub fn mark_at(work: &mut [u8], size: u32, off: u32)
 }
 
 // The same of a field's offset: one that is no pointer marks nothing.
-pub fn mark_if(work: &mut [u8], size: u32, off: u32, pointer: bool)
+pub fn mark_if(work: &mut Space, size: u32, off: u32, pointer: bool)
     requires { MapRoom work.old size }
     ensures { Marks size (cond pointer (pos off ∷ []) []) work.old work.new }
 {
@@ -51,7 +51,7 @@ pub fn mark_if(work: &mut [u8], size: u32, off: u32, pointer: bool)
 }
 
 // The same of an offset that may be below 0: such a one marks nothing.
-pub fn mark(work: &mut [u8], size: u32, off: i32)
+pub fn mark(work: &mut Space, size: u32, off: i32)
     requires { MapRoom work.old size }
     ensures { Marks size (off ∷ []) work.old work.new }
 {
@@ -62,7 +62,7 @@ pub fn mark(work: &mut [u8], size: u32, off: i32)
 }
 
 // How many ones the map has that stands there.
-pub fn map_ones(work: &[u8], size: u32) -> u32
+pub fn map_ones(work: &Space, size: u32) -> u32
     requires { MapRoom work.now size }
     ensures { result ≡ pointer_count (map_in work.now size) }
 {

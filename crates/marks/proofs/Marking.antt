@@ -40,17 +40,17 @@ names_marked size off step names pointer e m = rw (e, line-take step pointer off
 
 -- ---- an `fd` line
 
-module _ (s t : List ℕ) (n r : ℕ) (l : FieldLine s t n r) (v : ℕ) (hv : v ≡ Number.number_up_to 65536 (get_or (read_at s (r - 1)).fields 0 [])) (size off : ℕ) where
+module _ (s t : List ℕ) (r : ℕ) (l : FieldLine s r) (v : ℕ) (hv : v ≡ Number.number_up_to 65536 (get_or (read_at s (r - 1)).fields 0 [])) (size off : ℕ) where
   pub line-untyped : v ≡ 0 → LineMarked (fd_at s r).ty (fd_at s r).names size off off t t
-  line-untyped z = rw (untyped s t n r l v hv z) (record { end = refl; marks = marks-none })
+  line-untyped z = rw (untyped s r l v hv z) (record { end = refl; marks = marks-none })
 
   pub line-typed : (z : v ≡ 0 → ⊥) (w : ℕ) → w ≡ Number.number_up_to 65536 (get_or (read_at s (r - 1)).fields 1 []) → (a b at q : ℕ) (u : List ℕ) → Measures (type_at s v) a b → at ≡ align_up b off
       → q ≡ at + w * a → {pointer : Bool} → pointer ≡ is_ptr (type_at s v) → Marks size (pointers_in (line_fields_from at a pointer w)) t u → LineMarked (fd_at s r).ty (fd_at s r).names size off q t u
   line-typed z w hw a b at q u m ha hq hp x =
       let ns = (fd_at s r).names in
-      let c : w ≡ length ns = names-are s t n r l v hv z w hw in
+      let c : w ≡ length ns = names-are s r l v hv z w hw in
       let e : at ≡ align_up (align_of (type_at s v)) off = rw (← m.step) ha in
-      rw (typed s t n r l v hv z) (record {
+      rw (typed s r l v hv z) (record {
         end = hq ∙ rw (e, c, m.whole) (sym (names-end (type_at s v) (align_up (align_of (type_at s v)) off) ns));
         marks = rw (names-pointers (type_at s v) (align_up (align_of (type_at s v)) off) ns) (rw (e, c, m.whole, hp) at x);
       })
@@ -70,7 +70,7 @@ pub record LinesMarked (s : List ℕ) (f : Refs) (size off q j : ℕ) (t u : Lis
   pub rest : done ++ pointers_of (place q (fds_from s f.line (f.from + j) (f.count - j))).placed ≡ pointers_of (place off (fds_of_refs s f)).placed
   pub small : q ≤ off + line_bytes * j
 
-module _ (s t : List ℕ) (n : ℕ) (f : Refs) (l : FieldRefs s t n f) (size off : ℕ) where
+module _ (s t : List ℕ) (f : Refs) (l : FieldRefs s f) (size off : ℕ) where
   pub lines-marked-start : LinesMarked s f size off off 0 t t
   lines-marked-start =
       let z : f.from + 0 ≡ f.from = omega arith in
@@ -80,7 +80,7 @@ module _ (s t : List ℕ) (n : ℕ) (f : Refs) (l : FieldRefs s t n f) (size off
   pub lines-marked-next : {q j p v : ℕ} {u w : List ℕ} → LinesMarked s f size off q j t u → j < f.count → v ≡ Number.number_up_to 65536 (get_or (read_at s (f.line - 1)).fields (f.from + j) [])
       → LineMarked (fd_at s v).ty (fd_at s v).names size q p u w → p ≤ q + line_bytes → LinesMarked s f size off p (j + 1) t w
   lines-marked-next {q} {j} {p} {v} {u} {w} m h hv x b =
-      let e = fields-next s t n f l j h v hv in
+      let e = fields-next s f l j h v hv in
       let g = place_line (fd_at s v).ty (fd_at s v).names q in
       let more = fds_from s f.line (f.from + (j + 1)) (f.count - (j + 1)) in
       record {

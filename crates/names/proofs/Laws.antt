@@ -175,22 +175,22 @@ module _ (s t : Bytes) where
   pub looked : (k : Key) {m : ℕ} {r : Option ℕ} → r ≡ newest_key s t m k → Looked s t k m r
   looked k e = let f = found-newest (answers-within k.within k.name) e in record { value = f.0; low = f.1; has = f.2; newest-is = e }
 
-pub table-entry : {s t : Bytes} {n m i : ℕ} → ConstTable s t n m → i < m → ConstEntry s t n i
+pub table-entry : {s t : Bytes} {m i : ℕ} → ConstTable s t m → i < m → ConstEntry s t i
 table-entry {i = i} c h = record { checked = c.checked; low = omega (arith, c.logged.few); entry = c.logged.each i h; digested = c.logged.digests i h }
 
-pub const-room : {t : Bytes} → 65536 ≤ length t → ChainRoom t const_chains
+pub const-room : {t : Bytes} → 62464 ≤ length t → ChainRoom t const_chains
 unfolding digest_place
 const-room h = record { low = λ i h. omega arith; long = h }
 
-pub table-room : {s t : Bytes} {n m : ℕ} → ConstTable s t n m → ChainRoom t const_chains
+pub table-room : {s t : Bytes} {m : ℕ} → ConstTable s t m → ChainRoom t const_chains
 table-room c = const-room c.checked.whole.room
 
 -- `chains` may be asked about an entry of the table
-pub entry-asked : {s t : Bytes} {n m : ℕ} → ConstTable s t n m → {i : ℕ} → i < m → (ChainRoom t const_chains) × (i < 256)
+pub entry-asked : {s t : Bytes} {m : ℕ} → ConstTable s t m → {i : ℕ} → i < m → (ChainRoom t const_chains) × (i < 256)
 entry-asked c h = (table-room c, omega (arith, c.logged.few))
 
 -- a number up to the table's end is an answer
-pub answered : {s t : Bytes} {n m : ℕ} → ConstsLogged s t n m → Checked s t n → {r : Option ℕ} → count_to r ≤ m → Answered t r
+pub answered : {s t : Bytes} {m : ℕ} → ConstsLogged s t m → Checked s → {r : Option ℕ} → count_to r ≤ m → Answered t r
 answered l c h = record { few = omega (arith, l.few); long = c.whole.room; text = λ i e q. let z = ap count_to e in (l.each i (omega (arith, z))).text q }
 
 -- ---- digests
@@ -229,7 +229,7 @@ module _ (s t : Bytes) (i : ℕ) where
       within-digest k.within (module_line_of t i) (first_field s (const_line_of t i)) w.1 ∙ ap (digest_within s k.within) (sym (same-eq k.name (first_field s (const_line_of t i)) w.0))
 
 -- so it is in the chain of that digest
-module _ {s t : Bytes} {n m : ℕ} (c : ConstTable s t n m) {d : ℕ} where
+module _ {s t : Bytes} {m : ℕ} (c : ConstTable s t m) {d : ℕ} where
   member : (i : ℕ) → i < m → const_digest s (module_line_of t i) (first_field s (const_line_of t i)) ≡ d → in_chain t const_chains (chain_of d) i ≡ true
   unfolding chain_at
   member i h e = eq-eqb (chain_at t const_chains i) (chain_of d) (ap chain_of (c.logged.digests i h ∙ e))
@@ -238,7 +238,7 @@ module _ {s t : Bytes} {n m : ℕ} (c : ConstTable s t n m) {d : ℕ} where
   key-member k e i h q = member i h (key-digested s t i k q ∙ sym e)
 
 -- where it begins
-module _ {s t : Bytes} {n m : ℕ} (c : ConstTable s t n m) (d : ℕ) {r : Option ℕ} where
+module _ {s t : Bytes} {m : ℕ} (c : ConstTable s t m) (d : ℕ) {r : Option ℕ} where
   pub newest-within : r ≡ newest_in t const_chains m (chain_of d) → (count_to r ≤ m) × (r ≡ newest_of (in_chain t const_chains (chain_of d)) m)
   newest-within e = let q = e ∙ c.logged.chained.heads (chain_of d) (omega arith) in (newest-most (in_chain t const_chains (chain_of d)) q, q)
 
@@ -278,7 +278,7 @@ module _ (D d : ℕ) (a o : Bool) {b : Bool} (e : b ≡ eqb D d && a) where
   told f = (both (eqb D d) a (sym e ∙ f)).1
 
 module _ (s t : Bytes) (i d : ℕ) (k : Key) {b : Bool} (name : b ≡ eqb (digest_at t const_chains i) d && same k.name (first_field s (const_line_of t i))) where
-  pub key-other : {n : ℕ} → ConstEntry s t n i → b ≡ false → d ≡ key_digest s k → false ≡ answers_key s t i k
+  pub key-other : ConstEntry s t i → b ≡ false → d ≡ key_digest s k → false ≡ answers_key s t i k
   unfolding answers_key
   key-other c f e = untold (digest_at t const_chains i) d (same k.name (first_field s (const_line_of t i))) (is_within s (module_line_of t i) k.within) name (λ q. c.digested ∙ key-digested s t i k q ∙ sym e) f
 
@@ -378,11 +378,11 @@ pub entries_below : {t u : Bytes} {m : ℕ} → Kept (5120 + 16 * m) t u → (i 
 entries_below w i h = record { bytes = part-kept w (5120 + 16 * i) 14 (omega arith) }
 
 -- and a table, where it is kept
-module _ {s t u : Bytes} {n m : ℕ} (w : Kept 7168 t u) (l : ConstsLogged s t n m) where
+module _ {s t u : Bytes} {m : ℕ} (w : Kept 7168 t u) (l : ConstsLogged s t m) where
   same_entries : (i : ℕ) → i < m → SameEntry t u i
   same_entries = entries_below (kept_less (omega (arith, l.few)) w)
 
-  pub logged-same : ConstsLogged s u n m
+  pub logged-same : ConstsLogged s u m
   unfolding digest_place
   logged-same = record {
     few = l.few;
@@ -434,11 +434,11 @@ module _ (t : Bytes) (m : ℕ) (few : m < 128) where
       go b e = record { bytes = (head b e).bytes ∙ (set-behind t i (5133 + 16 * m + 1) (head_at t const_chains k) (omega arith)).bytes }
 
 -- where all below the stack of folds is kept
-module _ {s t u : Bytes} {n m : ℕ} (w : Kept 49152 t u) (l : ConstsLogged s t n m) where
+module _ {s t u : Bytes} {m : ℕ} (w : Kept 49152 t u) (l : ConstsLogged s t m) where
   table-part : Kept 7168 t u
   table-part = kept_less (omega arith) w
 
-  pub logged-kept : ConstsLogged s u n m
+  pub logged-kept : ConstsLogged s u m
   logged-kept = logged-same table-part l
 
   pub log-kept : log_in s u m ≡ log_in s t m

@@ -18,6 +18,7 @@ use Rattle.names.specs.declared.Key as declared
 use Rattle.words.specs.Words.{digest_from, digest, u16_at, bits_at}
 use Rattle.implement.specs.Modules.{first_field, module_at, is_own}
 use Rattle.checks.specs.Checks.{Checked}
+use Rattle.lines.specs.Lines.{lines_in}
 
 abbrev pub const_line_of : Bytes → ℕ → ℕ
 const_line_of t i = u16_at t (5120 + 16 * i)
@@ -88,22 +89,22 @@ pub record EntryBounds (t : Bytes) (n i : ℕ) : Type 0 where
   pub own : kind_of t i ≡ 3 → bits_of t i % 65536 ≡ 16384 + 256 * i
 
 -- the table's m entries, each with the digest of its constant, and chained by it
-pub record ConstsLogged (s t : Bytes) (n m : ℕ) : Type 0 where
+pub record ConstsLogged (s t : Bytes) (m : ℕ) : Type 0 where
   pub few : m ≤ 128
-  pub each : (i : ℕ) → i < m → EntryBounds t n i
+  pub each : (i : ℕ) → i < m → EntryBounds t (lines_in s) i
   pub digests : (i : ℕ) → i < m → digest_at t const_chains i ≡ const_digest s (module_line_of t i) (first_field s (const_line_of t i))
   pub chained : Chained t const_chains m
 
 -- the table of a checked sheet has m entries
-pub record ConstTable (s t : Bytes) (n m : ℕ) : Type 0 where
-  pub checked : Checked s t n
-  pub logged : ConstsLogged s t n m
+pub record ConstTable (s t : Bytes) (m : ℕ) : Type 0 where
+  pub checked : Checked s
+  pub logged : ConstsLogged s t m
 
 -- i is one of them
-pub record ConstEntry (s t : Bytes) (n i : ℕ) : Type 0 where
-  pub checked : Checked s t n
+pub record ConstEntry (s t : Bytes) (i : ℕ) : Type 0 where
+  pub checked : Checked s
   pub low : i < 128
-  pub entry : EntryBounds t n i
+  pub entry : EntryBounds t (lines_in s) i
   pub digested : digest_at t const_chains i ≡ const_digest s (module_line_of t i) (first_field s (const_line_of t i))
 
 -- the value of an entry that a look-up found
@@ -114,7 +115,7 @@ found t (Some i) = slot_value t (5124 + 16 * i)
 -- r is what a look-up answers, and a string that it names lies at its place
 pub record Answered (t : Bytes) (r : Option ℕ) : Type 0 where
   pub few : count_to r ≤ 128
-  pub long : 65536 ≤ length t
+  pub long : 62464 ≤ length t
   pub text : (i : ℕ) → r ≡ Some i → kind_of t i ≡ 3 → StringPlace (bits_of t i)
 
 -- ---- which keys an entry enters

@@ -7,16 +7,11 @@ ghost use Rattle.chains.specs.Chains.{newest_of, count_to, chain_of, digest_at, 
 ghost use Rattle.implement.specs.Modules.{line_number, first_field};
 ghost use Rattle.checks.specs.Checks.{Checked};
 ghost use Rattle.names.specs.Table.{const_line_of, module_line_of, bits_of, kind_of, const_chains, qualified_digest, const_digest, key_of, key_digest, answers_key, newest_key, Looked, ConstTable, ConstEntry};
+ghost use Rattle.lines.specs.Lines.{lines_in};
 
 use chains::ChainPlaces;
-use codes::area;
-
-// How many lines the sheet has, and how many constants are known.
-#[derive(Clone, Copy)]
-pub struct Known {
-    pub lines: usize,
-    pub consts: usize,
-}
+use codes::area::{self, Space};
+use lines::Sheet;
 
 // What a constant is looked up by: its name, alone or within a module of a name.
 #[derive(Clone, Copy)]
@@ -33,32 +28,32 @@ pub const CHAINS: ChainPlaces = ChainPlaces {
 };
 
 // The `con` line of entry i.
-pub fn line_of(work: &[u8], i: usize) -> usize
-    requires { (i < 128) × (65536 ≤ length work.now) }
+pub fn line_of(work: &Space, i: usize) -> usize
+    requires { i < 128 }
     ensures { result ≡ const_line_of work.now i }
 {
     words::u16_at(work, area::CONSTANTS + area::CONSTANT * i)
 }
 
 // The line of its module, from 0.
-pub fn module_line_of(work: &[u8], i: usize) -> Option<usize>
-    requires { (i < 128) × (65536 ≤ length work.now) }
+pub fn module_line_of(work: &Space, i: usize) -> Option<usize>
+    requires { i < 128 }
     ensures { line_number result ≡ module_line_of work.now i }
 {
     words::u16_at(work, area::CONSTANTS + 2 + area::CONSTANT * i).checked_sub(1)
 }
 
 // The kind of its value, 0 where it failed.
-pub fn slot_kind(work: &[u8], i: usize) -> u8
-    requires { (i < 128) × (65536 ≤ length work.now) }
+pub fn slot_kind(work: &Space, i: usize) -> u8
+    requires { i < 128 }
     ensures { result ≡ kind_of work.now i }
 {
     work[area::CONSTANTS + 4 + area::CONSTANT * i]
 }
 
 // The bits of its value.
-pub fn slot_bits(work: &[u8], i: usize) -> u64
-    requires { (i < 128) × (65536 ≤ length work.now) }
+pub fn slot_bits(work: &Space, i: usize) -> u64
+    requires { i < 128 }
     ensures { result ≡ bits_of work.now i }
 {
     words::bits_at(work, area::CONSTANTS + 5 + area::CONSTANT * i)
@@ -66,80 +61,73 @@ pub fn slot_bits(work: &[u8], i: usize) -> u64
 
 // The digest for a module and a name. Many modules may have one name, so the module counts too, unless it is implemented: the names
 // of that one are also plain.
-fn qualified_digest(sheet: &[u8], work: &[u8], n: usize, within: &[u8], name: &[u8]) -> usize
-    requires { Checked sheet.now work.now n }
+fn qualified_digest(sheet: &Sheet, within: &[u8], name: &[u8]) -> usize
+    requires { Checked sheet.now }
     ensures { (result ≡ qualified_digest sheet.now within.now name.now) × (result < 256) }
 {
     let d = words::digest(name);
-    if implement::is_implemented(sheet, work, n, within) {
+    if implement::is_implemented(sheet, within) {
         return d;
     }
     words::digest_on(d, within)
 }
 
 // The digest for a name in the module of line k, from 0.
-pub fn const_digest(sheet: &[u8], work: &[u8], n: usize, k: Option<usize>, name: &[u8]) -> usize
-    requires { (Checked sheet.now work.now n) × (line_number k ≤ n) }
+pub fn const_digest(sheet: &Sheet, k: Option<usize>, name: &[u8]) -> usize
+    requires { (Checked sheet.now) × (line_number k ≤ lines_in sheet.now) }
     ensures { (result ≡ const_digest sheet.now (line_number k) name.now) × (result < 256) }
 {
     match k {
         None => words::digest(name),
-        Some(i) => qualified_digest(sheet, work, n, lines::field_at(sheet, work, n, i, 0), name),
+        Some(i) => qualified_digest(sheet, sheet.field_at(i, 0), name),
     }
 }
 
 // The digest for a key.
-fn key_digest(sheet: &[u8], work: &[u8], n: usize, key: Key) -> usize
-    requires { Checked sheet.now work.now n }
+fn key_digest(sheet: &Sheet, key: Key) -> usize
+    requires { Checked sheet.now }
     ensures { result ≡ key_digest sheet.now (key_of key.entry) }
 {
     match key.within {
         None => words::digest(key.name),
-        Some(within) => qualified_digest(sheet, work, n, within, key.name),
+        Some(within) => qualified_digest(sheet, within, key.name),
     }
 }
 
 // Whether entry i has this digest and its constant this name.
-fn has_name(sheet: &[u8], work: &[u8], n: usize, i: usize, name: &[u8], d: usize) -> bool
-    requires { ConstEntry sheet.now work.now n i }
+fn has_name(sheet: &Sheet, work: &Space, i: usize, name: &[u8], d: usize) -> bool
+    requires { ConstEntry sheet.now work.now i }
     ensures { result ≡ eqb (digest_at work.now const_chains i) d && Text.same name.now (first_field sheet.now (const_line_of work.now i)) }
 {
     // the line is looked at last
     chains::digest_at(work, CHAINS, i) == d
-        && lines::first_is(sheet, work, n, line_of(work, i) - 1, name)
+        && sheet.first_is(line_of(work, i) - 1, name)
 }
 
 // Whether entry i enters a constant by a key, which has the digest d.
-fn answers(sheet: &[u8], work: &[u8], n: usize, i: usize, key: Key, d: usize) -> bool
-    requires { (ConstEntry sheet.now work.now n i) × (d ≡ key_digest sheet.now (key_of key)) }
+fn answers(sheet: &Sheet, work: &Space, i: usize, key: Key, d: usize) -> bool
+    requires { (ConstEntry sheet.now work.now i) × (d ≡ key_digest sheet.now (key_of key)) }
     ensures { result ≡ answers_key sheet.now work.now i (key_of key.entry) }
 {
-    if !has_name(sheet, work, n, i, key.name, d) {
+    if !has_name(sheet, work, i, key.name, d) {
         return false;
     }
     match (key.within, module_line_of(work, i)) {
-        (None, k) => implement::is_own(sheet, work, n, k),
+        (None, k) => implement::is_own(sheet, k),
         (Some(_), None) => false,
-        (Some(within), Some(k)) => lines::first_is(sheet, work, n, k, within),
+        (Some(within), Some(k)) => sheet.first_is(k, within),
     }
 }
 
 // `newest` is the newest of some first entries in the chain of the key's digest d; the answer is the newest of those first entries
 // that enters a constant by the key.
-fn along(
-    sheet: &[u8],
-    work: &[u8],
-    c: Known,
-    newest: Option<usize>,
-    key: Key,
-    d: usize,
-) -> Option<usize>
-    requires { (ConstTable sheet.now work.now c.lines c.consts) × (count_to newest ≤ c.consts) × (d ≡ key_digest sheet.now (key_of key)) }
-    ensures { (m : ℕ) → m ≤ c.consts → newest ≡ newest_of (in_chain work.now const_chains (chain_of d)) m → result ≡ newest_key sheet.now work.now m (key_of key.entry) }
+fn along(sheet: &Sheet, work: &Space, consts: usize, newest: Option<usize>, key: Key, d: usize) -> Option<usize>
+    requires { (ConstTable sheet.now work.now consts) × (count_to newest ≤ consts) × (d ≡ key_digest sheet.now (key_of key)) }
+    ensures { (m : ℕ) → m ≤ consts → newest ≡ newest_of (in_chain work.now const_chains (chain_of d)) m → result ≡ newest_key sheet.now work.now m (key_of key.entry) }
 {
     let mut next = newest;
     while let Some(i) = next {
-        if answers(sheet, work, c.lines, i, key, d) {
+        if answers(sheet, work, i, key, d) {
             return Some(i);
         }
         next = chains::earlier(work, CHAINS, i);
@@ -148,21 +136,21 @@ fn along(
 }
 
 // The entry of the newest constant of a key.
-pub fn look_up(sheet: &[u8], work: &[u8], c: Known, key: Key) -> Option<usize>
-    requires { ConstTable sheet.now work.now c.lines c.consts }
-    ensures { Looked sheet.now work.now (key_of key.entry) c.consts result }
+pub fn look_up(sheet: &Sheet, work: &Space, consts: usize, key: Key) -> Option<usize>
+    requires { ConstTable sheet.now work.now consts }
+    ensures { Looked sheet.now work.now (key_of key.entry) consts result }
 {
-    let d = key_digest(sheet, work, c.lines, key);
-    let newest = chains::newest(work, CHAINS, c.consts, d);
-    along(sheet, work, c, newest, key, d)
+    let d = key_digest(sheet, key);
+    let newest = chains::newest(work, CHAINS, consts, d);
+    along(sheet, work, consts, newest, key, d)
 }
 
 // That of the newest constant before entry i of a key by which entry i enters one.
-pub fn look_up_before(sheet: &[u8], work: &[u8], c: Known, i: usize, key: Key) -> Option<usize>
-    requires { (ConstTable sheet.now work.now c.lines c.consts) × (i < c.consts) × (answers_key sheet.now work.now i (key_of key) ≡ true) }
+pub fn look_up_before(sheet: &Sheet, work: &Space, consts: usize, i: usize, key: Key) -> Option<usize>
+    requires { (ConstTable sheet.now work.now consts) × (i < consts) × (answers_key sheet.now work.now i (key_of key) ≡ true) }
     ensures { Looked sheet.now work.now (key_of key.entry) i result }
 {
     let older = chains::earlier(work, CHAINS, i);
     let d = chains::digest_at(work, CHAINS, i);
-    along(sheet, work, c, older, key, d)
+    along(sheet, work, consts, older, key, d)
 }

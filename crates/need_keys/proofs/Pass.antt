@@ -15,9 +15,9 @@ use Rattle.semantics.specs.Tree.TypeKey.{elem_key, opaque_key}
 use Rattle.semantics.specs.Form.{letter}
 use Rattle.semantics.specs.Sheet.{sheet_source}
 use Rattle.semantics.specs.Types.{same_type_key, distinct, position}
-use Rattle.lines.specs.Lines.{text_at, read_at, form_at}
+use Rattle.lines.specs.Lines.{lines_in, text_at, read_at, form_at}
 use Rattle.checks.specs.Checks.{Checked, Outside}
-use Rattle.checks.proofs.Kept.{kept_less, checked-kept, outside-all, outside-then, outside-less}
+use Rattle.checks.proofs.Kept.{kept_less, outside-all, outside-then, outside-less}
 use Rattle.words.specs.Words.{digest}
 use Rattle.source.specs.Walk.{declared_to}
 use Rattle.laws.proofs.Tests.{same-eq}
@@ -45,20 +45,20 @@ any_none : (p : TypeKey → Bool) (l : List TypeKey) → ((q : ℕ) → q < leng
 any_none p [] h = refl
 any_none p (k ∷ l) h = rw (h 0 (omega arith)) (any_none p l (λ q n. h (suc q) (omega arith)))
 
-module _ {s t : List ℕ} {n i needs keys : ℕ} (x : NeedNext s t n i needs keys) where
+module _ {s t : List ℕ} {i needs keys : ℕ} (x : NeedNext s t i needs keys) where
   pub needs-room : (needs < 128) × (position (need_at s i) (distinct [] (needs_to s i)) ≤ 127) × (keys ≤ 127)
   needs-room =
-      let e = needs-few s t n x.line.checked (i + 1) (omega (arith, x.line.within)) in
-      let g = ap length (needs-next s t n x.line.checked i x.line.within x.line.kind) ∙ length-append (needs_to s i) (need_at s i ∷ []) in
+      let e = needs-few s x.line.checked (i + 1) (omega (arith, x.line.within)) in
+      let g = ap length (needs-next s x.line.checked i x.line.within x.line.kind) ∙ length-append (needs_to s i) (need_at s i ∷ []) in
       (omega (arith, e, g, x.collecting.count), omega (arith, e, g, position-within (need_at s i) (distinct [] (needs_to s i)), distinct-few [] (needs_to s i)), omega (arith, e, g, x.collecting.kinds.count, distinct-few [] (needs_to s i)))
 
-  pub known-entry : (q : ℕ) → q < needs → NeedEntry s t n q
-  known-entry q h =
-      let z : q < length (needs_to s i) = omega (arith, x.collecting.count) in
+  pub known-entry : lines_in s < needs → NeedEntry s t (lines_in s)
+  known-entry h =
+      let z : lines_in s < length (needs_to s i) = omega (arith, x.collecting.count) in
       record {
         low = omega (arith, needs-room.0);
-        line = record { checked = x.collecting.checked; within = x.collecting.table.within q z; kind = x.collecting.table.kind q z };
-        digest = x.collecting.digests q h;
+        line = record { checked = x.collecting.checked; within = x.collecting.table.within (lines_in s) z; kind = x.collecting.table.kind (lines_in s) z };
+        digest = x.collecting.digests (lines_in s) h;
       }
 
   module _ (q : ℕ) (h : q < needs) where
@@ -76,7 +76,7 @@ module _ {s t : List ℕ} {n i needs keys : ℕ} (x : NeedNext s t n i needs key
     pub found-chain : {d : ℕ} → d ≡ digest (text_at s i) → has_need_key s t i q ≡ true → in_chain t need_chains (chain_of d) q ≡ true
     unfolding chain_at
     found-chain {d} e g =
-        let z : text_at s i ≡ text_at s (need_line_of t q) = same-eq (text_at s i) (text_at s (need_line_of t q)) (texts-are x.line (known-entry q h).line ∙ g) in
+        let z : text_at s i ≡ text_at s (need_line_of t q) = same-eq (text_at s i) (text_at s (need_line_of t q)) (texts-are x.line (known-entry h).line ∙ g) in
         let y : digest_at t need_chains q ≡ d = x.collecting.digests q h ∙ sym (e ∙ ap (λ (l : List ℕ). digest l) z) in
         eq-eqb (chain_at t need_chains q) (chain_of d) (ap chain_of y)
 
@@ -87,7 +87,7 @@ module _ {s t : List ℕ} {n i needs keys : ℕ} (x : NeedNext s t n i needs key
 
 -- ---- the kind that a need asks for
 
-module _ (t : List ℕ) (room : 65536 ≤ length t) where
+module _ (t : List ℕ) (room : 62464 ≤ length t) where
   need-outside : (o : Option Element) (p : ℕ) → Outside 10624 10629 t (kind_by_need t o p)
   need-outside None p = outside-all
   need-outside (Some k) p = kind-outside t room (element_kind k) p
@@ -105,9 +105,9 @@ each [] k P a b (suc q) h = absurd (omega arith)
 each (x ∷ l) k P a b zero h = a 0 (omega arith)
 each (x ∷ l) k P a b (suc q) h = each l k (λ q. P (suc q)) (λ q h. a (suc q) (omega arith)) b q (omega arith)
 
-module _ {s t : List ℕ} {n i needs keys : ℕ} (x : NeedNext s t n i needs keys) {f p d : ℕ} (hf : f ≡ form_at t i) (hp : p ≡ position (need_at s i) (distinct [] (needs_to s i))) (hd : d ≡ digest (text_at s i))
+module _ {s t : List ℕ} {i needs keys : ℕ} (x : NeedNext s t i needs keys) {f p d : ℕ} (hf : f ≡ form_at s i) (hp : p ≡ position (need_at s i) (distinct [] (needs_to s i))) (hd : d ≡ digest (text_at s i))
     {u v w : List ℕ} (hu : u ≡ need_entered t needs i p) (hv : v ≡ kind_by_need u (kind_by f) p) (hw : w ≡ digest_entered v needs d) where
-  room : 65536 ≤ length t
+  room : 62464 ≤ length t
   room = x.collecting.checked.whole.room
 
   first : Outside 10240 10624 t u
@@ -116,7 +116,7 @@ module _ {s t : List ℕ} {n i needs keys : ℕ} (x : NeedNext s t n i needs key
   second : Outside 10624 10629 u v
   second = rw hv (need-outside u (omega (arith, room, first.kept.long)) (kind_by f) p)
 
-  long : 65536 ≤ length v
+  long : 62464 ≤ length v
   long = omega (arith, room, first.kept.long, second.kept.long)
 
   third : Outside 10752 11264 v w
@@ -158,12 +158,12 @@ module _ {s t : List ℕ} {n i needs keys : ℕ} (x : NeedNext s t n i needs key
       old-position q h ∙ x.collecting.table.position q h
       ∙ sym (known_more (get_or (needs_to s i) q opaque_key) (needs_to s i) (need_at s i ∷ []) (key-member opaque_key (needs_to s i) q h)).1
 
-  needs-more : Needs s w n (needs_to s i ++ (need_at s i ∷ []))
+  needs-more : Needs s w (needs_to s i ++ (need_at s i ∷ []))
   needs-more =
       let old = x.collecting.table in
       record {
         few = omega (arith, length-append (needs_to s i) (need_at s i ∷ []), (needs-room x).0, x.collecting.count);
-        within = λ q h. each (needs_to s i) (need_at s i) (λ q k. need_line_of w q < n) (λ q h. rw (old-line q h) (old.within q h)) (rw new_line x.line.within) q h;
+        within = λ q h. each (needs_to s i) (need_at s i) (λ q k. need_line_of w q < lines_in s) (λ q h. rw (old-line q h) (old.within q h)) (rw new_line x.line.within) q h;
         kind = λ q h. each (needs_to s i) (need_at s i) (λ q k. letter (read_at s (need_line_of w q)).form.kind ≡ 78) (λ q h. rw (old-line q h) (old.kind q h)) (rw new_line x.line.kind) q h;
         key = λ q h. each (needs_to s i) (need_at s i) (λ q k. need_at s (need_line_of w q) ≡ k) (λ q h. rw (old-line q h) (old.key q h)) (ap (need_at s) new_line) q h;
         position = λ q h. each (needs_to s i) (need_at s i) (λ q k. need_position_of w q ≡ position k (distinct [] (needs_to s i ++ (need_at s i ∷ [])))) positions-stay (new-position ∙ hp ∙ rw (distinct_more (need_at s i) (needs_to s i)) (sym (position-more (need_at s i) (distinct [] (needs_to s i))))) q h;
@@ -174,7 +174,7 @@ module _ {s t : List ℕ} {n i needs keys : ℕ} (x : NeedNext s t n i needs key
       kind-kept (kept_less (omega arith) third.kept) e
       ∙ ap (λ (l : List ℕ). kind_position l e) hv
       ∙ need-entered u (omega (arith, room, first.kept.long)) (kind_by f) p e
-      ∙ rw (elem_is s t n i x.line e, ← hf, ← hp, kind-above first e)
+      ∙ rw (elem_is s i x.line e, ← hf, ← hp, kind-above first e)
 
   digests-are : (q : ℕ) → q < needs + 1 → digest_at w need_chains q ≡ digest (text_at s (need_line_of w q))
   digests-are q h = go (eqb q needs) refl
@@ -196,13 +196,13 @@ module _ {s t : List ℕ} {n i needs keys : ℕ} (x : NeedNext s t n i needs key
   chained-are : Chained w need_chains (needs + 1)
   chained-are = rw (add-one, hw) (chained-entered v long needs d (needs-room x).0 (chained-above (omega arith) second (chained-above (omega arith) first x.collecting.chained)))
 
-  pub collected : (more : ℕ) → more ≡ length (distinct [] (needs_to s i ++ (need_at s i ∷ []))) → Collecting s w n (i + 1) (needs + 1) more
+  pub collected : (more : ℕ) → more ≡ length (distinct [] (needs_to s i ++ (need_at s i ∷ []))) → Collecting s w (i + 1) (needs + 1) more
   collected m hm =
       let c = x.collecting.checked in
-      let e = needs-next s t n c i x.line.within x.line.kind in
-      let few = needs-few s t n c (i + 1) (omega (arith, x.line.within)) in
+      let e = needs-next s c i x.line.within x.line.kind in
+      let few = needs-few s c (i + 1) (omega (arith, x.line.within)) in
       record {
-        checked = checked-kept (kept_less (omega arith) collected-outside.kept) c;
+        checked = c;
         digests = digests-are;
         chained = chained-are;
         within = omega (arith, x.line.within);
@@ -213,24 +213,24 @@ module _ {s t : List ℕ} {n i needs keys : ℕ} (x : NeedNext s t n i needs key
 
 -- ---- lines that need nothing, and the ends of the pass
 
-module _ (s t : List ℕ) (n i needs keys : ℕ) (x : Collecting s t n i needs keys) where
-  pub collecting-stay : i < n → (letter (read_at s i).form.kind ≡ 78 → ⊥) → Collecting s t n (i + 1) needs keys
+module _ (s t : List ℕ) (i needs keys : ℕ) (x : Collecting s t i needs keys) where
+  pub collecting-stay : i < lines_in s → (letter (read_at s i).form.kind ≡ 78 → ⊥) → Collecting s t (i + 1) needs keys
   collecting-stay h e =
-      let z = needs_stay s t n x.checked i h e in
+      let z = needs_stay s x.checked i h e in
       record { checked = x.checked; within = omega arith; count = rw z x.count; table = rw z x.table; kinds = rw z x.kinds; digests = x.digests; chained = x.chained }
 
-  pub collecting-need : i < n → letter (read_at s i).form.kind ≡ 78 → NeedNext s t n i needs keys
+  pub collecting-need : i < lines_in s → letter (read_at s i).form.kind ≡ 78 → NeedNext s t i needs keys
   collecting-need h e = record { collecting = x; line = record { checked = x.checked; within = h; kind = e } }
 
-  pub collecting-end : n ≤ i → (needs ≡ length (sheet_source s).needs) × (Needs s t n (sheet_source s).needs) × (Kinds t (sheet_source s).needs keys)
+  pub collecting-end : lines_in s ≤ i → (needs ≡ length (sheet_source s).needs) × (Needs s t (sheet_source s).needs) × (Kinds t (sheet_source s).needs keys)
   collecting-end h =
-      let z : i ≡ n = omega (arith, x.within) in
-      let e : needs_to s i ≡ (sheet_source s).needs = ap (needs_to s) z ∙ needs-all s t n x.checked in
+      let z : i ≡ lines_in s = omega (arith, x.within) in
+      let e : needs_to s i ≡ (sheet_source s).needs = ap (needs_to s) z ∙ needs-all s x.checked in
       (x.count ∙ ap length e, rw e at x.table, rw e at x.kinds)
 
-pub collecting-start : (s t : List ℕ) (n : ℕ) → Checked s t n → ((k : ElemKind) → kind_position t k ≡ 0) → Collecting s t n 0 0 0
+pub collecting-start : (s t : List ℕ) → Checked s → ((k : ElemKind) → kind_position t k ≡ 0) → Collecting s t 0 0 0
 unfolding declared_to
-collecting-start s t n c z = record {
+collecting-start s t c z = record {
   checked = c;
   within = omega arith;
   count = refl;

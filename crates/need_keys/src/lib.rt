@@ -5,16 +5,18 @@ ghost use Rattle.std.specs.Prelude.{◌≡◌, List, [], ◌∷◌, ◌++◌, �
 ghost use Rattle.semantics.specs.Tree.{TypeKey};
 ghost use Rattle.semantics.specs.Sheet.{sheet_source};
 ghost use Rattle.semantics.specs.Types.{same_type_key, distinct, position};
-ghost use Rattle.lines.specs.Lines.{text_at};
+ghost use Rattle.lines.specs.Lines.{lines_in, text_at};
 ghost use Rattle.checks.specs.Checks.{Checked, Outside};
 ghost use Rattle.words.specs.Words.{digest};
 ghost use Rattle.type_lines.specs.Needs.{need_at, NeedLine, needs_to};
 ghost use Rattle.type_keys.specs.Table.{need_line_of, Needs, Kinds};
 ghost use Rattle.need_keys.specs.Pass.{NeedEntry, Collecting, NeedNext, kind_by_need};
 
+use codes::area::Space;
 use codes::element::Element;
 use codes::kind;
 use type_keys::CHAINS;
+use lines::Sheet;
 
 // How many needs there are, and how many of their keys are distinct.
 #[derive(Clone, Copy)]
@@ -24,31 +26,24 @@ pub struct NeedCounts {
 }
 
 // Whether need q has the key of the `need` line i, whose text has the digest d.
-fn has_need_key(sheet: &[u8], work: &[u8], n: usize, i: usize, d: usize, q: usize) -> bool
-    requires { (NeedLine sheet.now work.now n i) × (d ≡ digest (text_at sheet.now i)) × (NeedEntry sheet.now work.now n q) }
+fn has_need_key(sheet: &Sheet, work: &Space, i: usize, d: usize, q: usize) -> bool
+    requires { (NeedLine sheet.now i) × (d ≡ digest (text_at sheet.now i)) × (NeedEntry sheet.now work.now q) }
     ensures { result ≡ same_type_key (need_at sheet.now i) (need_at sheet.now (need_line_of work.now q)) }
 {
     // its line is looked at last
     chains::digest_at(work, CHAINS, q) == d
-        && type_lines::same_need(sheet, work, n, i, type_keys::need_line(work, q))
+        && type_lines::same_need(sheet, i, type_keys::need_line(work, q))
 }
 
 // The position of the key of the `need` line i, whose text has the digest d, among those of the lines before; the next position,
 // where it is new. All needs with that key have its position, so the newest of them does.
-fn position_for(
-    sheet: &[u8],
-    work: &[u8],
-    n: usize,
-    i: usize,
-    d: usize,
-    counts: NeedCounts,
-) -> usize
-    requires { (NeedNext sheet.now work.now n i counts.needs counts.keys) × (d ≡ digest (text_at sheet.now i)) }
+fn position_for(sheet: &Sheet, work: &Space, i: usize, d: usize, counts: NeedCounts) -> usize
+    requires { (NeedNext sheet.now work.now i counts.needs counts.keys) × (d ≡ digest (text_at sheet.now i)) }
     ensures { result ≡ position (need_at sheet.now i) (distinct [] (needs_to sheet.now i)) }
 {
     let mut next = chains::newest(work, CHAINS, counts.needs, d);
     while let Some(q) = next {
-        if has_need_key(sheet, work, n, i, d, q) {
+        if has_need_key(sheet, work, i, d, q) {
             return type_keys::need_position(work, q);
         }
         next = chains::earlier(work, CHAINS, q);
@@ -65,8 +60,8 @@ fn with_key(p: usize, keys: usize) -> usize
 }
 
 // The kind of element that a need asks for, if any, has position p.
-fn enter_kind(work: &mut [u8], kind: Option<Element>, p: usize)
-    requires { (p < 255) × (65536 ≤ length work.old) }
+fn enter_kind(work: &mut Space, kind: Option<Element>, p: usize)
+    requires { p < 255 }
     ensures { work.new ≡ kind_by_need work.old kind p }
 {
     if let Some(kind) = kind {
@@ -75,13 +70,13 @@ fn enter_kind(work: &mut [u8], kind: Option<Element>, p: usize)
 }
 
 // Enters the `need` line i, with the position of its key: the Rust's `need_type`.
-fn collect_need(sheet: &[u8], work: &mut [u8], n: usize, i: usize, counts: NeedCounts) -> NeedCounts
-    requires { NeedNext sheet.now work.old n i counts.needs counts.keys }
-    ensures { (Collecting sheet.now work.new n (i + 1) result.needs result.keys) × (Outside 10240 11264 work.old work.new) }
+fn collect_need(sheet: &Sheet, work: &mut Space, i: usize, counts: NeedCounts) -> NeedCounts
+    requires { NeedNext sheet.now work.old i counts.needs counts.keys }
+    ensures { (Collecting sheet.now work.new (i + 1) result.needs result.keys) × (Outside 10240 11264 work.old work.new) }
 {
-    let d = words::digest(lines::line_at(sheet, work, n, i));
-    let p = position_for(sheet, work, n, i, d, counts);
-    let kind = type_lines::kind_needed(lines::form_at(work, i));
+    let d = words::digest(sheet.line_at(i));
+    let p = position_for(sheet, work, i, d, counts);
+    let kind = type_lines::kind_needed(sheet.form_at(i));
     type_keys::enter_need(work, counts.needs, i, p);
     enter_kind(work, kind, p);
     type_keys::enter_digest(work, counts.needs, d);
@@ -92,25 +87,25 @@ fn collect_need(sheet: &[u8], work: &mut [u8], n: usize, i: usize, counts: NeedC
 }
 
 // Enters what line i needs.
-fn collect_line(sheet: &[u8], work: &mut [u8], n: usize, i: usize, counts: NeedCounts) -> NeedCounts
-    requires { (Collecting sheet.now work.old n i counts.needs counts.keys) × (i < n) }
-    ensures { (Collecting sheet.now work.new n (i + 1) result.needs result.keys) × (Outside 10240 11264 work.old work.new) }
+fn collect_line(sheet: &Sheet, work: &mut Space, i: usize, counts: NeedCounts) -> NeedCounts
+    requires { (Collecting sheet.now work.old i counts.needs counts.keys) × (i < lines_in sheet.now) }
+    ensures { (Collecting sheet.now work.new (i + 1) result.needs result.keys) × (Outside 10240 11264 work.old work.new) }
 {
-    if form::kind(lines::form_at(work, i)) != kind::NEED {
+    if form::kind(sheet.form_at(i)) != kind::NEED {
         return counts;
     }
-    collect_need(sheet, work, n, i, counts)
+    collect_need(sheet, work, i, counts)
 }
 
 // Enters all needs, in sheet order; equal keys have one position.
-pub fn collect_needs(sheet: &[u8], work: &mut [u8], n: usize) -> NeedCounts
-    requires { Checked sheet.now work.old n }
-    ensures { (result.needs ≡ length (sheet_source sheet.now).needs) × (Needs sheet.now work.new n (sheet_source sheet.now).needs) × (Kinds work.new (sheet_source sheet.now).needs result.keys) × (Outside 10240 11264 work.old work.new) }
+pub fn collect_needs(sheet: &Sheet, work: &mut Space) -> NeedCounts
+    requires { Checked sheet.now }
+    ensures { (result.needs ≡ length (sheet_source sheet.now).needs) × (Needs sheet.now work.new (sheet_source sheet.now).needs) × (Kinds work.new (sheet_source sheet.now).needs result.keys) × (Outside 10240 11264 work.old work.new) }
 {
     type_keys::clear_kinds(work);
     let mut counts = NeedCounts { needs: 0, keys: 0 };
-    for i in 0..n {
-        counts = collect_line(sheet, work, n, i, counts);
+    for i in 0..sheet.count() {
+        counts = collect_line(sheet, work, i, counts);
     }
     counts
 }

@@ -22,9 +22,8 @@ use Rattle.laws.proofs.Lists.{concat-append}
 use Rattle.write.specs.declared.Writer.{Writer}
 use Rattle.write.specs.Writes.{Writes}
 use Rattle.write.proofs.Writes.{writes_none, writes_then, writes_as}
-use Rattle.lines.specs.Lines.{read_at, nodes_in}
+use Rattle.lines.specs.Lines.{lines_in, read_at, nodes_in}
 use Rattle.checks.specs.Checks.{Checked}
-use Rattle.checks.proofs.Kept.{checked-kept}
 use Rattle.source.specs.Walk.{open_at}
 use Rattle.implement.specs.Modules.{module_at, Open}
 use Rattle.names.specs.Table.{ConstsLogged, ConstTable, names_in}
@@ -73,19 +72,19 @@ module _ (ns : Names) (s : Bytes) where
       go true false = refl
       go true true = refused-line (suc i) (var_value ns (located_at s i).it)
 
-  module _ {t : Bytes} {n : ℕ} (c : Checked s t n) {v w : Writer} where
-    all-pended : Pended ns (laid_vars_to s n) v (Ok tt) w → AllPended ns s v (Ok tt) w
-    all-pended h = (rw (laid-lines s t n c) h.0, writes_as (ap (concat_map pend_row) (sym (pends-by ns (sheet_source s) ∙ ap (pends_of ns) (laid-lines s t n c)))) h.1)
+  module _ (c : Checked s) {v w : Writer} where
+    all-pended : Pended ns (laid_vars_to s (lines_in s)) v (Ok tt) w → AllPended ns s v (Ok tt) w
+    all-pended h = (rw (laid-lines s c) h.0, writes_as (ap (concat_map pend_row) (sym (pends-by ns (sheet_source s) ∙ ap (pends_of ns) (laid-lines s c)))) h.1)
 
     -- line i is the first that is refused
-    pended-before : {i : ℕ} (r : Refused) → i < n → Pended ns (laid_vars_to s i) v (Ok tt) w → {z : Writer} → Pended ns (laid_at s i) w (Err r) z → AllPended ns s v (Err r) z
+    pended-before : {i : ℕ} (r : Refused) → i < lines_in s → Pended ns (laid_vars_to s i) v (Ok tt) w → {z : Writer} → Pended ns (laid_at s i) w (Err r) z → AllPended ns s v (Err r) z
     unfolding laid_vars_to
     pended-before {i} r h a b =
-        let z : suc i + (n - suc i) ≡ n = omega arith in
+        let z : suc i + (lines_in s - suc i) ≡ lines_in s = omega arith in
         let k : refusal_line r ≡ suc i = sym (ap (line_in (suc i)) b.0) ∙ laid-line i in
         let y : i ≡ refusal_line r - 1 = omega arith in
         let g : vars_refused ns (laid_vars_to s i ++ laid_at s i) ≡ Some (refusal_of r) = refused-append ns (laid_vars_to s i) (laid_at s i) ∙ rw (a.0, b.0) in (
-          rw (laid-lines s t n c) (rw z at (refused-later (suc i) (n - suc i) g)),
+          rw (laid-lines s c) (rw z at (refused-later (suc i) (lines_in s - suc i) g)),
           rw b.1 (writes_as (ap (λ (j : ℕ). concat_map pend_row (pends_of ns (laid_vars_to s j))) y) a.1),
         )
 
@@ -97,34 +96,34 @@ none-laid ns s z w = rw z (refl, w)
 -- ---- all lines
 
 -- the rows of the first i lines are written, and none is refused
-pub record LinesPended (s t : Bytes) (n m : ℕ) (v : Writer) (u : Bytes) (k : Option ℕ) (i : ℕ) (w : Writer) : Type 0 where
-  pub here : Open s u n i k
+pub record LinesPended (s t : Bytes) (m : ℕ) (v : Writer) (u : Bytes) (k : Option ℕ) (i : ℕ) (w : Writer) : Type 0 where
+  pub here : Open s i k
   pub keeps : Keeps 16384 49152 t u
   pub rows : Pended (names_in s t m) (laid_vars_to s i) v (Ok tt) w
 
-module _ {s t : Bytes} {n m : ℕ} (r : ConstTable s t n m) where
-  pub walk_start : (w : Writer) → w.at ≤ length w.out.now + 1 → LinesPended s t n m w t None 0 w
+module _ {s t : Bytes} {m : ℕ} (r : ConstTable s t m) where
+  pub walk_start : (w : Writer) → w.at ≤ length w.out.now + 1 → LinesPended s t m w t None 0 w
   unfolding laid_vars_to open_at module_at
   walk_start w h = record { here = record { checked = r.checked; within = omega arith; low = omega arith; here = refl }; keeps = keeps-all; rows = (refl, writes_none w h) }
 
-  module _ {v : Writer} {u : Bytes} {k : Option ℕ} {i : ℕ} {w : Writer} (l : LinesPended s t n m v u k i w) where
-    pub walk-log : ConstsLogged s u n m
+  module _ {v : Writer} {u : Bytes} {i : ℕ} {w : Writer} (l : LinesPended s t m v u (lines_in s) i w) where
+    pub walk-log : ConstsLogged s u m
     walk-log = logged-kept l.keeps r.logged
 
-    pub walk_end : n ≤ i → AllPended (names_in s t m) s v (Ok tt) w × Keeps 16384 49152 t u
+    pub walk_end : lines_in s ≤ i → AllPended (names_in s t m) s v (Ok tt) w × Keeps 16384 49152 t u
     walk_end h =
-        let z : i ≡ n = omega (arith, l.here.within) in
+        let z : i ≡ lines_in s = omega (arith, l.here.within) in
         (all-pended (names_in s t m) s r.checked (subst (λ (j : ℕ). Pended (names_in s t m) (laid_vars_to s j) v (Ok tt) w) z l.rows), l.keeps)
 
     -- the next line is worked on
-    pub walk-open : {x : Bytes} → Keeps 16384 49152 u x → Open s x n i k
-    walk-open b = record { checked = checked-kept (kept_low b 3072 (omega arith)) l.here.checked; within = l.here.within; low = l.here.low; here = l.here.here }
+    pub walk-open : {x : Bytes} → Keeps 16384 49152 u x → Open s i (lines_in s)
+    walk-open b = record { checked = l.here.checked; within = l.here.within; low = l.here.low; here = l.here.here }
 
     module _ (q : Option ℕ) (g : laid_on s q ≡ laid_at s i) where
       line-pended : (y : Std.Result Unit Refused) (z : Writer) → Pended (names_in s u m) (laid_on s q) w y z → Pended (names_in s t m) (laid_at s i) w y z
       line-pended y z b = subst (λ (xs : List (Located VarDecl)). Pended (names_in s t m) xs w y z) g (rw (log-kept l.keeps r.logged) at b)
 
-      pub walk-next : {x : Bytes} {z : Writer} {k' : Option ℕ} → Pended (names_in s u m) (laid_on s q) w (Ok tt) z × Keeps 16384 49152 u x → Open s x n (i + 1) k' → LinesPended s t n m v x k' (i + 1) z
+      pub walk-next : {x : Bytes} {z : Writer} → Pended (names_in s u m) (laid_on s q) w (Ok tt) z × Keeps 16384 49152 u x → Open s (i + 1) (lines_in s) → LinesPended s t m v x (lines_in s) (i + 1) z
       unfolding laid_vars_to
       walk-next b o = record {
         here = o;
@@ -132,5 +131,5 @@ module _ {s t : Bytes} {n m : ℕ} (r : ConstTable s t n m) where
         rows = rw add-one (pended-then (names_in s t m) (laid_vars_to s i) (laid_at s i) l.rows (line-pended (Ok tt) _ b.0));
       }
 
-      pub walk-stop : (y : Refused) {x : Bytes} {z : Writer} → Pended (names_in s u m) (laid_on s q) w (Err y) z × Keeps 16384 49152 u x → i < n → AllPended (names_in s t m) s v (Err y) z × Keeps 16384 49152 t x
+      pub walk-stop : (y : Refused) {x : Bytes} {z : Writer} → Pended (names_in s u m) (laid_on s q) w (Err y) z × Keeps 16384 49152 u x → i < lines_in s → AllPended (names_in s t m) s v (Err y) z × Keeps 16384 49152 t x
       walk-stop y b h = (pended-before (names_in s t m) s r.checked y h l.rows (line-pended (Err y) _ b.0), keeps_then l.keeps b.1)

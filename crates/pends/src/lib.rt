@@ -13,12 +13,13 @@ ghost use Rattle.global_table.specs.Table.{VarLine, names_on};
 ghost use Rattle.globals.specs.Vars.{laid_on};
 ghost use Rattle.pends.specs.Pends.{refused_as, Pended, AllPended};
 
+use codes::area::Space;
 use answers::Refusal;
 use arrays::NoItem;
 use global_table::line;
-use names::Known;
 use vars::var_value;
 use write::Writer;
+use lines::Sheet;
 
 // The refusal at a line, none where the value is left pending.
 fn refusal(e: NoItem, line: usize) -> Option<Refusal>
@@ -45,50 +46,44 @@ fn pend_name(name: &[u8], w: &mut Writer)
 }
 
 // The rows of all names of line r.
-fn pend_names(sheet: &[u8], work: &[u8], n: usize, r: usize, w: &mut Writer)
-    requires { VarLine sheet.now work.now n r }
+fn pend_names(sheet: &Sheet, r: usize, w: &mut Writer)
+    requires { VarLine sheet.now r }
     ensures { Writes w.old (concat_map pend_row (laid_names (names_on sheet.now r))) w.new }
 {
-    let count = line::name_count(sheet, work, n, r);
+    let count = line::name_count(sheet, r);
     for j in 0..count {
-        pend_name(line::name_at(sheet, work, n, r, j), w);
+        pend_name(line::name_at(sheet, r, j), w);
     }
 }
 
 // The rows of the `var` line r, one for each name where its value is pending.
-fn pend_line(
-    sheet: &[u8],
-    work: &mut [u8],
-    c: Known,
-    r: Option<usize>,
-    w: &mut Writer,
-) -> Result<(), Refusal>
-    requires { (IfSome r (VarLine sheet.now work.old c.lines)) × (ConstsLogged sheet.now work.old c.lines c.consts) }
-    ensures { (Pended (names_in sheet.now work.old c.consts) (laid_on sheet.now r) w.old result w.new) × (Keeps 16384 49152 work.old work.new) }
+fn pend_line(sheet: &Sheet, work: &mut Space, consts: usize, r: Option<usize>, w: &mut Writer) -> Result<(), Refusal>
+    requires { (IfSome r (VarLine sheet.now)) × (ConstsLogged sheet.now work.old consts) }
+    ensures { (Pended (names_in sheet.now work.old consts) (laid_on sheet.now r) w.old result w.new) × (Keeps 16384 49152 work.old work.new) }
 {
     let Some(r) = r else {
         return Ok(());
     };
-    let Err(e) = var_value(sheet, work, c, r) else {
+    let Err(e) = var_value(sheet, work, consts, r) else {
         return Ok(());
     };
     if let Some(q) = refusal(e, r) {
         return Err(q);
     }
-    pend_names(sheet, work, c.lines, r, w);
+    pend_names(sheet, r, w);
     Ok(())
 }
 
 // The rows of all lines, up to the first that is refused. Work goes on where the listing is full.
-pub fn pend_rows(sheet: &[u8], work: &mut [u8], c: Known, w: &mut Writer) -> Result<(), Refusal>
-    requires { ConstTable sheet.now work.old c.lines c.consts }
-    ensures { (AllPended (names_in sheet.now work.old c.consts) sheet.now w.old result w.new) × (Keeps 16384 49152 work.old work.new) }
+pub fn pend_rows(sheet: &Sheet, work: &mut Space, consts: usize, w: &mut Writer) -> Result<(), Refusal>
+    requires { ConstTable sheet.now work.old consts }
+    ensures { (AllPended (names_in sheet.now work.old consts) sheet.now w.old result w.new) × (Keeps 16384 49152 work.old work.new) }
 {
     let mut k = None;
-    for i in 0..c.lines {
-        let r = globals::laid_line(sheet, work, c.lines, i, k);
-        pend_line(sheet, work, c, r, w)?;
-        k = implement::open_after(sheet, work, c.lines, i, k);
+    for i in 0..sheet.count() {
+        let r = globals::laid_line(sheet, i, k);
+        pend_line(sheet, work, consts, r, w)?;
+        k = implement::open_after(sheet, i, k);
     }
     Ok(())
 }

@@ -37,7 +37,7 @@ setting-start t l h e {i} q = record {
 }
 
 module _ {t : Bytes} {l h e : ℕ} {u : Bytes} {i : ℕ} (p : Setting t l h e u i) where
-  pub setting-next : i < min (h + 1) 1024 → 65536 ≤ length t → Setting t l h e (set u (11264 + i) e) (i + 1)
+  pub setting-next : i < min (h + 1) 1024 → 62464 ≤ length t → Setting t l h e (set u (11264 + i) e) (i + 1)
   unfolding placement_at
   setting-next m room = record {
     long = length-set u (11264 + i) e ∙ p.long;

@@ -34,7 +34,7 @@ use Rattle.placements.proofs.Fillings.{filling-span}
 
 -- ---- the empty literal
 
-module _ (t u w : Bytes) (room : 65536 ≤ length t) (p : SpanSet t 0 1023 0 u) (e : (w ≡ over u 12288 (slot_bytes (Int (pos 0)))) × InRange (Int (pos 0))) where
+module _ (t u w : Bytes) (room : 62464 ≤ length t) (p : SpanSet t 0 1023 0 u) (e : (w ≡ over u 12288 (slot_bytes (Int (pos 0)))) × InRange (Int (pos 0))) where
   q : SlotStored u 12288 (Int (pos 0)) w
   q = stored u 12288 (Int (pos 0)) (omega (arith, p.long)) tt e
 

@@ -10,14 +10,15 @@ use lib.Seq.{get_or-set_same, get_or-set_other}
 use Rattle.semantics.specs.Text.{Bytes}
 use Rattle.words.specs.Words.{digest}
 use Rattle.checks.specs.Checks.{Outside}
-use Rattle.checks.proofs.Kept.{kept_less, outside-all, outside-then, outside_set, checked-kept}
+use Rattle.checks.proofs.Kept.{kept_less, outside-all, outside-then, outside_set}
 use Rattle.chains.specs.Chains.{digest_place, digest_at, Chained, linked}
 use Rattle.chains.proofs.Laws.{SameBytes, chained-kept, linked-outside, linked-other, PlacesApart, digest-stays, chained-next}
 use Rattle.records.specs.Log.{byte_of, entry_at, record_of, recorded_at, record_chains, Digested}
 use Rattle.records.proofs.Newest.{record-room}
 use Rattle.record_log.specs.Entries.{CollectedTo}
+use Rattle.lines.specs.Lines.{lines_in}
 
-module _ (t : Bytes) (i d : ℕ) (hi : i < 128) (room : 65536 ≤ length t) where
+module _ (t : Bytes) (i d : ℕ) (hi : i < 128) (room : 62464 ≤ length t) where
   -- with the digest, and then linked
   abbrev with_digest : Bytes
   with_digest = set t (9221 + 8 * i) d
@@ -80,13 +81,13 @@ module _ (t : Bytes) (i d : ℕ) (hi : i < 128) (room : 65536 ≤ length t) wher
       chained-next (record-room with_digest (omega (arith, long))) apart (omega arith) (omega arith) hi
       (chained-kept entered-kept (omega arith) g)
 
-  module _ (s : Bytes) (n m : ℕ) (g : Digested s t n m i) (hm : i < m) (e : d ≡ digest (recorded_at s t i).key) where
+  module _ (s : Bytes) (g : Digested s t (lines_in s) i) (hm : i < lines_in s) (e : d ≡ digest (recorded_at s t i).key) where
     digests-new : (j : ℕ) → j < i + 1 → digest_at with_link record_chains j ≡ digest (recorded_at s with_link j).key
     digests-new j h = let w : j ≤ i = omega arith in rw (recorded-old s j) (⊎_elim (λ (q : j ≡ i). subst (λ (k : ℕ). digest_at with_link record_chains k ≡ digest (recorded_at s t k).key) (sym q) (digest-new ∙ e)) (λ (q : j < i). digest-old j q ∙ g.digests j q) (eq-or-lt_of_le w))
 
-    digested-new : Digested s with_link n m (i + 1)
+    digested-new : Digested s with_link (lines_in s) (i + 1)
     digested-new =
-        let c = checked-kept (kept_less (omega arith) outside-new.kept) g.checked in
+        let c = g.checked in
         record {
           checked = c;
           count = g.count;
@@ -97,23 +98,23 @@ module _ (t : Bytes) (i d : ℕ) (hi : i < 128) (room : 65536 ≤ length t) wher
           entries = λ j h. record { checked = c; low = (g.entries j h).low; sound = rw (entry_old j) (g.entries j h).sound };
         }
 
-pub entered-length : (t : Bytes) (i d : ℕ) → i < 128 → 65536 ≤ length t → {v : Bytes} → v ≡ linked (set t (9221 + 8 * i) d) record_chains i → length v ≡ length t
+pub entered-length : (t : Bytes) (i d : ℕ) → i < 128 → 62464 ≤ length t → {v : Bytes} → v ≡ linked (set t (9221 + 8 * i) d) record_chains i → length v ≡ length t
 entered-length t i d h room q = rw q (outside-new t i d h room).kept.long
 
-pub digests-start : {s t : Bytes} {n m : ℕ} → Digested s t n m 0 → CollectedTo s t t n m 0
+pub digests-start : {s t : Bytes} {m : ℕ} → Digested s t m 0 → CollectedTo s t t m 0
 digests-start g = record { log = g; outside = outside-all }
 
-pub digests-next : {s t u v : Bytes} {n m i d : ℕ} → CollectedTo s t u n m i → i < m → d ≡ digest (recorded_at s u i).key → v ≡ linked (set u (9221 + 8 * i) d) record_chains i → CollectedTo s t v n m (i + 1)
+pub digests-next : {s t u v : Bytes} {m i d : ℕ} → CollectedTo s t u m i → i < m → d ≡ digest (recorded_at s u i).key → v ≡ linked (set u (9221 + 8 * i) d) record_chains i → CollectedTo s t v m (i + 1)
 digests-next {s} {t} {u} {n = n} {m} {i} {d} g h e q =
     let room = g.log.checked.whole.room in
     let low : i < 128 = omega (arith, g.log.few) in
     rw q (record {
-      log = digested-new u i d low room s n m g.log h e;
+      log = digested-new u i d low room s g.log h e;
       outside = outside-then g.outside (outside-new u i d low room);
     })
 
-pub digests-end : {s t u : Bytes} {n m i : ℕ} → CollectedTo s t u n m i → i ≤ m → m ≤ i → CollectedTo s t u n m m
+pub digests-end : {s t u : Bytes} {m i : ℕ} → CollectedTo s t u m i → i ≤ m → m ≤ i → CollectedTo s t u m m
 digests-end {m = m} {i} g h k = let e : i ≡ m = omega arith in rw e at g
 
-pub collected-then : {s t u v : Bytes} {n m a b : ℕ} → CollectedTo s t u n m a → CollectedTo s u v n m b → CollectedTo s t v n m b
+pub collected-then : {s t u v : Bytes} {m a b : ℕ} → CollectedTo s t u m a → CollectedTo s u v m b → CollectedTo s t v m b
 collected-then x y = record { log = y.log; outside = outside-then x.outside y.outside }

@@ -15,7 +15,7 @@ use Rattle.semantics.specs.Refusal.{sum_of, record_count}
 use Rattle.semantics.specs.Layout.{PlacedField, variants_of, cases_from, records_for, records_of, record_log, variant_shape, variant_fields}
 use Rattle.laws.specs.Every.{Every}
 use Rattle.laws.proofs.Every.{every_append}
-use Rattle.lines.specs.Lines.{read_at}
+use Rattle.lines.specs.Lines.{lines_in, read_at}
 use Rattle.sizes.specs.Places.{first_decl, decl_at}
 use Rattle.shapes.specs.Shapes.{cases_in}
 use Rattle.records.specs.Log.{first_record, own_record, case_in, variant_record, record_of, EntryInSheet}
@@ -87,8 +87,8 @@ log-length (d ∷ ds) = length-append (records_of d) (record_log ds) ∙ rw (rec
 
 -- ---- every entry is sound
 
-module _ (s : Bytes) (n r : ℕ) (first : 0 < r) (last : r ≤ n) (kind : eqb (letter (read_at s (r - 1)).form.kind) 65 || eqb (letter (read_at s (r - 1)).form.kind) 66 ≡ true) where
-  tags-sound : (c : ℕ) → c < length (cases_in (decl_at s r)) → (q p k : ℕ) → p + q ≤ length (case_in (decl_at s r) c).tags → Every (EntryInSheet s n) (tag_entries r (suc c) p k q)
+module _ (s : Bytes) (r : ℕ) (first : 0 < r) (last : r ≤ lines_in s) (kind : eqb (letter (read_at s (r - 1)).form.kind) 65 || eqb (letter (read_at s (r - 1)).form.kind) 66 ≡ true) where
+  tags-sound : (c : ℕ) → c < length (cases_in (decl_at s r)) → (q p k : ℕ) → p + q ≤ length (case_in (decl_at s r) c).tags → Every (EntryInSheet s) (tag_entries r (suc c) p k q)
   tags-sound c h zero p k l = tt
   tags-sound c h (suc q) p k l =
       (record { first = first; last = last; kind = kind; case = λ x e. here x (omega (arith, e)); tag = λ x e. there x (omega (arith, e)) }, tags-sound c h q (suc p) (suc k) (omega arith))
@@ -99,13 +99,13 @@ module _ (s : Bytes) (n r : ℕ) (first : 0 < r) (last : r ≤ n) (kind : eqb (l
       there : (x : ℕ) → c ≡ x → p < length (case_in (decl_at s r) x).tags
       there x e = rw (← e) (omega arith)
 
-  cases-sound : (ks : List Case) (c k : ℕ) → drop c (cases_in (decl_at s r)) ≡ ks → Every (EntryInSheet s n) (case_entries r c k ks)
+  cases-sound : (ks : List Case) (c k : ℕ) → drop c (cases_in (decl_at s r)) ≡ ks → Every (EntryInSheet s) (case_entries r c k ks)
   cases-sound [] c k h = tt
   cases-sound (x ∷ xs) c k h =
       let e : case_in (decl_at s r) c ≡ x = head_of no_case c (cases_in (decl_at s r)) x xs h in
-      every_append (EntryInSheet s n) (tag_entries r (suc c) 0 k (length x.tags)) (case_entries r (suc c) (k + length x.tags) xs) (tags-sound c (longer c (cases_in (decl_at s r)) x xs h) (length x.tags) 0 k (rw e (omega arith))) (cases-sound xs (suc c) (k + length x.tags) (tail_of c (cases_in (decl_at s r)) x xs h))
+      every_append (EntryInSheet s) (tag_entries r (suc c) 0 k (length x.tags)) (case_entries r (suc c) (k + length x.tags) xs) (tags-sound c (longer c (cases_in (decl_at s r)) x xs h) (length x.tags) 0 k (rw e (omega arith))) (cases-sound xs (suc c) (k + length x.tags) (tail_of c (cases_in (decl_at s r)) x xs h))
 
-  pub line-sound : (ds : List AdtDecl) → first_decl ds ≡ decl_at s r → Every (EntryInSheet s n) (line_entries r ds)
+  pub line-sound : (ds : List AdtDecl) → first_decl ds ≡ decl_at s r → Every (EntryInSheet s) (line_entries r ds)
   line-sound [] e = tt
   line-sound (d ∷ ds) e =
       (record { first = first; last = last; kind = kind; case = λ c q. absurd (omega (arith, q)); tag = λ c q. absurd (omega (arith, q)) }, cases-sound (cases_in d) 0 0 (ap cases_in (sym e)))

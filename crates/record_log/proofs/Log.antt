@@ -19,11 +19,11 @@ use Rattle.laws.proofs.Every.{every_append, every-at}
 use Rattle.write.specs.Wrote.{Wrote}
 use Rattle.write.proofs.Wrote.{wrote_none, then, wrote_as}
 use Rattle.form.specs.Table.{kind_at}
-use Rattle.lines.specs.Lines.{read_at, nodes_in, form_at}
+use Rattle.lines.specs.Lines.{lines_in, read_at, nodes_in, form_at}
 use Rattle.lines.proofs.Line.{kind-is}
 use Rattle.refs.proofs.Nodes.{node-count}
 use Rattle.checks.specs.Checks.{Checked}
-use Rattle.checks.proofs.Kept.{kept_less, outside-less, wrote_kept, wrote-outside, checked-kept, kind-line-kept}
+use Rattle.checks.proofs.Kept.{kept_less, outside-less, wrote_kept, wrote-outside}
 use Rattle.source.specs.Walk.{declares_at, declared_to}
 use Rattle.source.proofs.Walk.{located-all, located-its, declared-all, source-of}
 use Rattle.shapes.specs.Shapes.{cases_in}
@@ -43,11 +43,11 @@ use Rattle.records.proofs.Picks.{adt-decl, pick-decl, no-decl, case-is}
 pub place-on : {d : Bytes} {a : ℕ} {t e : Bytes} {b : ℕ} → Wrote d a t e b → (k : ℕ) → k ≤ a → a ≤ length d + 1 → k ≤ b
 place-on w k h l = omega (arith, w.place)
 
-pub checked_wrote : {s d : Bytes} {n a : ℕ} {t e : Bytes} {b : ℕ} → Wrote d a t e b → 9216 ≤ a → Checked s d n → Checked s e n
-checked_wrote w h c = checked-kept (kept_less (omega arith) (wrote_kept w)) c
+pub checked_wrote : {s d : Bytes} {a : ℕ} {t e : Bytes} {b : ℕ} → Wrote d a t e b → 9216 ≤ a → Checked s → Checked s
+checked_wrote w h c = c
 
-pub pick-wrote : {s d : Bytes} {n r a : ℕ} {t e : Bytes} {b : ℕ} → Wrote d a t e b → 9216 ≤ a → PickLine s d n r → PickLine s e n r
-pick-wrote w h l = kind-line-kept (kept_less (omega arith) (wrote_kept w)) l
+pub pick-wrote : {s d : Bytes} {r a : ℕ} {t e : Bytes} {b : ℕ} → Wrote d a t e b → 9216 ≤ a → PickLine s r → PickLine s r
+pick-wrote w h l = l
 
 -- ---- the cases of a `pick` line, one by one
 
@@ -63,28 +63,28 @@ module _ (s : Bytes) (r : ℕ) (d : Bytes) (a : ℕ) where
   pub casing-start : a ≤ length d + 1 → Casing s r d a d a 0 0
   casing-start h = record { within = omega arith; small = omega arith; done = []; wrote = wrote_none d a h; rest = refl }
 
-  module _ (e : Bytes) (b k c : ℕ) (g : Casing s r d a e b k c) where
-    pub casing-end : length (cases_in (decl_at s r)) ≤ c → Wrote d a (log_bytes (case_entries r 0 0 (cases_in (decl_at s r)))) e b
+  module _ (e : Bytes) (b k : ℕ) (g : Casing s r d a e b k (lines_in s)) where
+    pub casing-end : length (cases_in (decl_at s r)) ≤ lines_in s → Wrote d a (log_bytes (case_entries r 0 0 (cases_in (decl_at s r)))) e b
     unfolding log_bytes
-    casing-end h = wrote_as (sym (append-nil g.done) ∙ rw (drop_of_length-le (cases_in (decl_at s r)) {i = c} h) at g.rest) g.wrote
+    casing-end h = wrote_as (sym (append-nil g.done) ∙ rw (drop_of_length-le (cases_in (decl_at s r)) {i = lines_in s} h) at g.rest) g.wrote
 
-    module _ (h : c < length (cases_in (decl_at s r))) (t : Bytes) (n v : ℕ) (x : CaseOf s t n r c v) (m : ℕ) (hm : m ≡ length (case_at s v).tags) (few : m ≤ 16) where
-      tags-are : m ≡ length (case_in (decl_at s r) c).tags
+    module _ (h : lines_in s < length (cases_in (decl_at s r))) (v : ℕ) (x : CaseOf s r (lines_in s) v) (m : ℕ) (hm : m ≡ length (case_at s v).tags) (few : m ≤ 16) where
+      tags-are : m ≡ length (case_in (decl_at s r) (lines_in s)).tags
       tags-are = hm ∙ ap (λ (y : Case). length y.tags) (case-is x)
 
-      pub casing-next : (f : Bytes) (q : ℕ) → Wrote e b (log_bytes (tag_entries r (c + 1) 0 k m)) f q → Casing s r d a f q (k + m) (c + 1)
+      pub casing-next : (f : Bytes) (q : ℕ) → Wrote e b (log_bytes (tag_entries r (lines_in s + 1) 0 k m)) f q → Casing s r d a f q (k + m) (lines_in s + 1)
       casing-next f q w =
           let ks = cases_in (decl_at s r) in
-          let z : c + 1 ≡ suc c = omega arith in
-          let p : g.done ++ log_bytes (tag_entries r (suc c) 0 k (length (case_in (decl_at s r) c).tags) ++ case_entries r (suc c) (k + length (case_in (decl_at s r) c).tags) (drop (suc c) ks)) ≡ log_bytes (case_entries r 0 0 ks) = rw (drop-cons ks c no_case h) at g.rest in
+          let z : lines_in s + 1 ≡ suc (lines_in s) = omega arith in
+          let p : g.done ++ log_bytes (tag_entries r (suc (lines_in s)) 0 k (length (case_in (decl_at s r) (lines_in s)).tags) ++ case_entries r (suc (lines_in s)) (k + length (case_in (decl_at s r) (lines_in s)).tags) (drop (suc (lines_in s)) ks)) ≡ log_bytes (case_entries r 0 0 ks) = rw (drop-cons ks (lines_in s) no_case h) at g.rest in
           record {
             within = omega arith;
             small = omega (arith, g.small);
-            done = g.done ++ log_bytes (tag_entries r (c + 1) 0 k m);
+            done = g.done ++ log_bytes (tag_entries r (lines_in s + 1) 0 k m);
             wrote = then g.wrote w;
             rest =
-                append_assoc g.done (log_bytes (tag_entries r (c + 1) 0 k m)) (log_bytes (case_entries r (c + 1) (k + m) (drop (c + 1) ks)))
-                ∙ rw (z, ← log-append (tag_entries r (suc c) 0 k m) (case_entries r (suc c) (k + m) (drop (suc c) ks)), tags-are) p;
+                append_assoc g.done (log_bytes (tag_entries r (lines_in s + 1) 0 k m)) (log_bytes (case_entries r (lines_in s + 1) (k + m) (drop (lines_in s + 1) ks)))
+                ∙ rw (z, ← log-append (tag_entries r (suc (lines_in s)) 0 k m) (case_entries r (suc (lines_in s)) (k + m) (drop (suc (lines_in s)) ks)), tags-are) p;
           }
 
 -- ---- the entries of a line
@@ -93,38 +93,38 @@ one_entry : (e : Entry) → log_bytes (e ∷ []) ≡ entry_bytes e.line e.case e
 unfolding log_bytes
 one_entry e = append-nil _
 
-module _ (s t : Bytes) (n : ℕ) (c : Checked s t n) (r : ℕ) (first : 0 < r) (last : r ≤ n) where
-  line-in : r - 1 < n
+module _ (s t : Bytes) (c : Checked s) (r : ℕ) (first : 0 < r) (last : r ≤ lines_in s) where
+  line-in : r - 1 < lines_in s
   line-in = omega arith
 
   same-decl : first_decl (declares_at (nodes_in s) (r - 1)).adts ≡ decl_at s r
   unfolding decl_at
   same-decl = refl
 
-  pub adt-entries : {f : ℕ} → f ≡ form_at t (r - 1) → f ≡ 26 → entry_bytes r 0 0 0 ≡ log_bytes (entries_of s r)
+  pub adt-entries : {f : ℕ} → f ≡ form_at s (r - 1) → f ≡ 26 → entry_bytes r 0 0 0 ≡ log_bytes (entries_of s r)
   unfolding entries_of
-  adt-entries e h = sym (ap (λ (ds : List AdtDecl). log_bytes (line_entries r ds)) (adt-decl s t n c (r - 1) line-in (sym e ∙ h)) ∙ one_entry (record { line = r; case = 0; position = 0; number = 0 }))
+  adt-entries e h = sym (ap (λ (ds : List AdtDecl). log_bytes (line_entries r ds)) (adt-decl s c (r - 1) line-in (sym e ∙ h)) ∙ one_entry (record { line = r; case = 0; position = 0; number = 0 }))
 
-  pub pick-entries : {f : ℕ} → f ≡ form_at t (r - 1) → f ≡ 27 → entry_bytes r 0 0 0 ++ log_bytes (case_entries r 0 0 (cases_in (decl_at s r))) ≡ log_bytes (entries_of s r)
+  pub pick-entries : {f : ℕ} → f ≡ form_at s (r - 1) → f ≡ 27 → entry_bytes r 0 0 0 ++ log_bytes (case_entries r 0 0 (cases_in (decl_at s r))) ≡ log_bytes (entries_of s r)
   unfolding entries_of log_bytes
   pick-entries e h =
-      let q = pick-decl s t n c (r - 1) line-in (sym e ∙ h) in
+      let q = pick-decl s c (r - 1) line-in (sym e ∙ h) in
       ap (λ (d : AdtDecl). entry_bytes r 0 0 0 ++ log_bytes (case_entries r 0 0 (cases_in d))) (sym same-decl ∙ ap first_decl q)
       ∙ sym (ap (λ (ds : List AdtDecl). log_bytes (line_entries r ds)) q)
 
-  pub no-entries : {f : ℕ} → f ≡ form_at t (r - 1) → (f ≡ 26 → ⊥) → (f ≡ 27 → ⊥) → [] ≡ log_bytes (entries_of s r)
+  pub no-entries : {f : ℕ} → f ≡ form_at s (r - 1) → (f ≡ 26 → ⊥) → (f ≡ 27 → ⊥) → [] ≡ log_bytes (entries_of s r)
   unfolding entries_of log_bytes
-  no-entries e a b = sym (ap (λ (ds : List AdtDecl). log_bytes (line_entries r ds)) (no-decl s t n c (r - 1) line-in (λ q. a (e ∙ q)) (λ q. b (e ∙ q))))
+  no-entries e a b = sym (ap (λ (ds : List AdtDecl). log_bytes (line_entries r ds)) (no-decl s c (r - 1) line-in (λ q. a (e ∙ q)) (λ q. b (e ∙ q))))
 
-  pub line-pick : {f : ℕ} → f ≡ form_at t (r - 1) → f ≡ 27 → PickLine s t n r
+  pub line-pick : {f : ℕ} → f ≡ form_at s (r - 1) → f ≡ 27 → PickLine s r
   unfolding forms
-  line-pick e h = record { checked = c; first = first; last = last; kind = kind-is s t n c.whole (r - 1) line-in ∙ ap kind_at (sym e ∙ h) }
+  line-pick e h = record { checked = c; first = first; last = last; kind = kind-is s t (lines_in s) c.whole (r - 1) line-in ∙ ap kind_at (sym e ∙ h) }
 
 -- ---- all lines
 
-pub entries-start : (s t : Bytes) (n : ℕ) → Checked s t n → Wrote t 9216 (log_bytes (entries_to (nodes_in s) 0)) t 9216
+pub entries-start : (s t : Bytes) → Checked s → Wrote t 9216 (log_bytes (entries_to (nodes_in s) 0)) t 9216
 unfolding entries_to log_bytes
-entries-start s t n c = wrote_none t 9216 (omega (arith, c.whole.room))
+entries-start s t c = wrote_none t 9216 (omega (arith, c.whole.room))
 
 pub entries_next : (s d : Bytes) (r : ℕ) (e : Bytes) (b : ℕ) (f : Bytes) (q : ℕ) → Wrote d 9216 (log_bytes (entries_to (nodes_in s) r)) e b → Wrote e b (log_bytes (entries_of s (r + 1))) f q
     → Wrote d 9216 (log_bytes (entries_to (nodes_in s) (r + 1))) f q
@@ -134,26 +134,26 @@ entries_next s d r e b f q v w =
     let y : suc r - 1 ≡ r = omega arith in
     rw z (wrote_as (rw (z, y) (sym (log-append (entries_to (nodes_in s) r) (line_entries (suc r) (declares_at (nodes_in s) r).adts)))) (then v w))
 
-module _ (s t : Bytes) (n : ℕ) (c : Checked s t n) where
+module _ (s : Bytes) (c : Checked s) where
   -- by the form of line i, from 0
-  by-form : (P : List AdtDecl → Type 0) (i : ℕ) → i < n
+  by-form : (P : List AdtDecl → Type 0) (i : ℕ) → i < lines_in s
       → ((d : AdtDecl) → eqb (letter (read_at s i).form.kind) 65 || eqb (letter (read_at s i).form.kind) 66 ≡ true → P (d ∷ [])) → P [] → P (declares_at (nodes_in s) i).adts
   unfolding forms
-  by-form P i h one zero-decls = go (eqb (form_at t i) 26) refl (eqb (form_at t i) 27) refl
+  by-form P i h one zero-decls = go (eqb (form_at s i) 26) refl (eqb (form_at s i) 27) refl
     where
-      kind : (f : ℕ) → form_at t i ≡ f → letter (read_at s i).form.kind ≡ kind_at f
-      kind f e = kind-is s t n c.whole i h ∙ ap kind_at e
+      kind : (f : ℕ) → form_at s i ≡ f → letter (read_at s i).form.kind ≡ kind_at f
+      kind f e = kind-is s c.whole i h ∙ ap kind_at e
 
-      go : (a : Bool) → eqb (form_at t i) 26 ≡ a → (b : Bool) → eqb (form_at t i) 27 ≡ b → P (declares_at (nodes_in s) i).adts
-      go true p b q = let e = eqb-true (form_at t i) 26 p in subst P (sym (adt-decl s t n c i h e)) (one _ (rw (kind 26 e)))
-      go false p true q = let e = eqb-true (form_at t i) 27 q in subst P (sym (pick-decl s t n c i h e)) (one _ (rw (kind 27 e)))
-      go false p false q = subst P (sym (no-decl s t n c i h (eqb-false (form_at t i) 26 p) (eqb-false (form_at t i) 27 q))) zero-decls
+      go : (a : Bool) → eqb (form_at s i) 26 ≡ a → (b : Bool) → eqb (form_at s i) 27 ≡ b → P (declares_at (nodes_in s) i).adts
+      go true p b q = let e = eqb-true (form_at s i) 26 p in subst P (sym (adt-decl s c i h e)) (one _ (rw (kind 26 e)))
+      go false p true q = let e = eqb-true (form_at s i) 27 q in subst P (sym (pick-decl s c i h e)) (one _ (rw (kind 27 e)))
+      go false p false q = subst P (sym (no-decl s c i h (eqb-false (form_at s i) 26 p) (eqb-false (form_at s i) 27 q))) zero-decls
 
   first-is : (i : ℕ) → first_decl (declares_at (nodes_in s) i).adts ≡ decl_at s (suc i)
   unfolding decl_at
   first-is i = let z : suc i - 1 ≡ i = omega arith in rw z
 
-  lines-log : (i : ℕ) → i ≤ n → map (record_of s) (entries_to (nodes_in s) i) ≡ record_log (declared_to (λ (d : Declares). d.adts) (nodes_in s) i)
+  lines-log : (i : ℕ) → i ≤ lines_in s → map (record_of s) (entries_to (nodes_in s) i) ≡ record_log (declared_to (λ (d : Declares). d.adts) (nodes_in s) i)
   unfolding entries_to declared_to
   lines-log zero h = refl
   lines-log (suc i) h =
@@ -162,60 +162,60 @@ module _ (s t : Bytes) (n : ℕ) (c : Checked s t n) where
       map-append (record_of s) (entries_to (nodes_in s) i) (line_entries (suc i) ds)
       ∙ rw (lines-log i (omega arith), line-log s (suc i) ds (first-is i) one) (sym (concat-append records_of (declared_to (λ (d : Declares). d.adts) (nodes_in s) i) ds))
 
-  lines-sound : (i : ℕ) → i ≤ n → Every (EntryInSheet s n) (entries_to (nodes_in s) i)
+  lines-sound : (i : ℕ) → i ≤ lines_in s → Every (EntryInSheet s) (entries_to (nodes_in s) i)
   unfolding entries_to
   lines-sound zero h = tt
   lines-sound (suc i) h =
       let z : suc i - 1 ≡ i = omega arith in
-      every_append (EntryInSheet s n) (entries_to (nodes_in s) i) (line_entries (suc i) (declares_at (nodes_in s) i).adts) (lines-sound i (omega arith))
-      (by-form (λ (l : List AdtDecl). first_decl l ≡ decl_at s (suc i) → Every (EntryInSheet s n) (line_entries (suc i) l)) i (omega arith)
-      (λ d k e. line-sound s n (suc i) (omega arith) h (rw z k) (d ∷ []) e) (λ e. tt) (first-is i))
+      every_append (EntryInSheet s) (entries_to (nodes_in s) i) (line_entries (suc i) (declares_at (nodes_in s) i).adts) (lines-sound i (omega arith))
+      (by-form (λ (l : List AdtDecl). first_decl l ≡ decl_at s (suc i) → Every (EntryInSheet s) (line_entries (suc i) l)) i (omega arith)
+      (λ d k e. line-sound s (suc i) (omega arith) h (rw z k) (d ∷ []) e) (λ e. tt) (first-is i))
 
-  log_is : log_of s ≡ record_log (declared_to (λ (d : Declares). d.adts) (nodes_in s) n)
+  log_is : log_of s ≡ record_log (declared_to (λ (d : Declares). d.adts) (nodes_in s) (lines_in s))
   unfolding log_of
   log_is =
       ap (λ (x : Source). record_log (recorded_adts x)) (source-of s)
       ∙ ap record_log (ap (λ (l : List _). map (λ x. x.it) l) (located-all (λ (d : Declares). d.adts) (nodes_in s)) ∙ located-its (λ (d : Declares). d.adts) (nodes_in s) (length (nodes_in s)))
-      ∙ rw (node-count s t n c.whole)
+      ∙ rw (node-count s c.whole)
 
-  entries-are : map (record_of s) (entries_to (nodes_in s) n) ≡ log_of s
-  entries-are = lines-log n (omega arith) ∙ sym log_is
+  entries-are : map (record_of s) (entries_to (nodes_in s) (lines_in s)) ≡ log_of s
+  entries-are = lines-log (lines_in s) (omega arith) ∙ sym log_is
 
-  entries-count : length (entries_to (nodes_in s) n) ≡ length (log_of s)
-  entries-count = sym (length-map (entries_to (nodes_in s) n) (record_of s)) ∙ ap length entries-are
+  entries-count : length (entries_to (nodes_in s) (lines_in s)) ≡ length (log_of s)
+  entries-count = sym (length-map (entries_to (nodes_in s) (lines_in s)) (record_of s)) ∙ ap length entries-are
 
   log-few : length (log_of s) ≤ 128
   log-few =
-      let e = ap length log_is ∙ log-length (declared_to (λ (d : Declares). d.adts) (nodes_in s) n) in
+      let e = ap length log_is ∙ log-length (declared_to (λ (d : Declares). d.adts) (nodes_in s) (lines_in s)) in
       let q = declared-all (λ (d : Declares). d.adts) (nodes_in s) in
-      omega (arith, e, rw (q, node-count s t n c.whole) at c.bounds.records)
+      omega (arith, e, rw (q, node-count s c.whole) at c.bounds.records)
 
 no_entry : Entry
 no_entry = record { line = 0; case = 0; position = 0; number = 0 }
 
-module _ (s d : Bytes) (n : ℕ) (c : Checked s d n) (e : Bytes) (b : ℕ) (w : Wrote d 9216 (log_bytes (entries_to (nodes_in s) n)) e b) where
-  length-es : (length (entries_to (nodes_in s) n) ≡ length (log_of s)) × (length (log_of s) ≤ 128)
-  length-es = (entries-count s d n c, log-few s d n c)
+module _ (s d : Bytes) (c : Checked s) (e : Bytes) (b : ℕ) (w : Wrote d 9216 (log_bytes (entries_to (nodes_in s) (lines_in s))) e b) where
+  length-es : (length (entries_to (nodes_in s) (lines_in s)) ≡ length (log_of s)) × (length (log_of s) ≤ 128)
+  length-es = (entries-count s c, log-few s c)
 
-  checked-now : Checked s e n
+  checked-now : Checked s
   checked-now = checked_wrote w (omega arith) c
 
-  back : (i : ℕ) → i < length (log_of s) → entry_at e i ≡ get_or (entries_to (nodes_in s) n) i no_entry
-  back i h = entry-back (entries_to (nodes_in s) n) w c.whole.room (omega (arith, length-es.0, length-es.1)) no_entry i (omega (arith, length-es.0))
+  back : (i : ℕ) → i < length (log_of s) → entry_at e i ≡ get_or (entries_to (nodes_in s) (lines_in s)) i no_entry
+  back i h = entry-back (entries_to (nodes_in s) (lines_in s)) w c.whole.room (omega (arith, length-es.0, length-es.1)) no_entry i (omega (arith, length-es.0))
 
   record-back : (i : ℕ) → i < length (log_of s) → recorded_at s e i ≡ get_or (log_of s) i no_record
   unfolding recorded_at
   record-back i h =
       rw (back i h)
-      (sym (get_or-map (record_of s) (entries_to (nodes_in s) n) i no_entry) ∙ ap (λ (l : List Recorded). get_or l i (record_of s no_entry)) (entries-are s d n c)
+      (sym (get_or-map (record_of s) (entries_to (nodes_in s) (lines_in s)) i no_entry) ∙ ap (λ (l : List Recorded). get_or l i (record_of s no_entry)) (entries-are s c)
       ∙ default-same (log_of s) i (record_of s no_entry) no_record h)
 
   place_is : b ≡ 9216 + 8 * length (log_of s)
-  place_is = omega (arith, w.place, log-bytes (entries_to (nodes_in s) n), length-es.0, length-es.1, c.whole.room)
+  place_is = omega (arith, w.place, log-bytes (entries_to (nodes_in s) (lines_in s)), length-es.0, length-es.1, c.whole.room)
 
-  all-logged : (m : ℕ) → m ≡ (b - 9216) / 8 → CollectedTo s d e n m 0
-  all-logged m h =
-      let q : m ≡ length (log_of s) = omega (arith, place_is) in
+  all-logged : lines_in s ≡ (b - 9216) / 8 → CollectedTo s d e (lines_in s) 0
+  all-logged h =
+      let q : lines_in s ≡ length (log_of s) = omega (arith, place_is) in
       record {
         log = record {
           checked = checked-now;
@@ -224,10 +224,10 @@ module _ (s d : Bytes) (n : ℕ) (c : Checked s d n) (e : Bytes) (b : ℕ) (w : 
           each = λ i l. record-back i (omega arith);
           digests = λ i l. absurd (omega arith);
           chained = chained-none e record_chains;
-          entries = λ i l. record { checked = checked-now; low = omega (arith, length-es.1); sound = rw (back i (omega arith)) (every-at (EntryInSheet s n) (entries_to (nodes_in s) n) (lines-sound s d n c n (omega arith)) no_entry i (omega (arith, length-es.0))) };
+          entries = λ i l. record { checked = checked-now; low = omega (arith, length-es.1); sound = rw (back i (omega arith)) (every-at (EntryInSheet s) (entries_to (nodes_in s) (lines_in s)) (lines-sound s c (lines_in s) (omega arith)) no_entry i (omega (arith, length-es.0))) };
         };
-        outside = outside-less 9216 10240 (omega arith) (omega (arith, log-bytes (entries_to (nodes_in s) n), length-es.0, length-es.1)) (wrote-outside w);
+        outside = outside-less 9216 10240 (omega arith) (omega (arith, log-bytes (entries_to (nodes_in s) (lines_in s)), length-es.0, length-es.1)) (wrote-outside w);
       }
 
-pub entries-end : (s d : Bytes) (n : ℕ) → Checked s d n → (r : ℕ) → r ≤ n → n ≤ r → (e : Bytes) (b : ℕ) → Wrote d 9216 (log_bytes (entries_to (nodes_in s) r)) e b → (m : ℕ) → m ≡ (b - 9216) / 8 → CollectedTo s d e n m 0
-entries-end s d n c r h k e b w m q = let z : r ≡ n = omega arith in all-logged s d n c e b (rw z at w) m q
+pub entries-end : (s d : Bytes) → Checked s → (r : ℕ) → r ≤ lines_in s → lines_in s ≤ r → (e : Bytes) (b : ℕ) → Wrote d 9216 (log_bytes (entries_to (nodes_in s) r)) e b → (m : ℕ) → m ≡ (b - 9216) / 8 → CollectedTo s d e m 0
+entries-end s d c r h k e b w m q = let z : r ≡ lines_in s = omega arith in all-logged s d c e b (rw z at w) q

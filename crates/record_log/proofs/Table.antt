@@ -43,7 +43,7 @@ entry-same : {a b c d p q r s : ℕ} → a ≡ p → b ≡ q → c ≡ r → d �
 entry-same e f g h = rw (e, f, g, h)
 
 -- what was written is read back
-pub entry-back : (es : List Entry) {d u : Bytes} {b : ℕ} → Wrote d 9216 (log_bytes es) u b → 65536 ≤ length d → length es ≤ 128 → (none : Entry) (i : ℕ) → i < length es → entry_at u i ≡ get_or es i none
+pub entry-back : (es : List Entry) {d u : Bytes} {b : ℕ} → Wrote d 9216 (log_bytes es) u b → 62464 ≤ length d → length es ≤ 128 → (none : Entry) (i : ℕ) → i < length es → entry_at u i ≡ get_or es i none
 unfolding entry_at
 entry-back es {d} {u} w room few none i h =
     let e = get_or es i none in

@@ -52,9 +52,9 @@ log_bytes es = concat_map bytes_of es
 -- ---- the log
 
 -- t has become u, which holds the log of m records, d of them with the digests of their keys, and chained; what stands around it is kept
-pub record CollectedTo (s t u : Bytes) (n m d : ℕ) : Type 0 where
-  pub log : Digested s u n m d
+pub record CollectedTo (s t u : Bytes) (m d : ℕ) : Type 0 where
+  pub log : Digested s u m d
   pub outside : Outside 9216 10240 t u
 
-abbrev pub RecordsCollected : Bytes → Bytes → Bytes → ℕ → ℕ → Type 0
-RecordsCollected s t u n m = CollectedTo s t u n m m
+abbrev pub RecordsCollected : Bytes → Bytes → Bytes → ℕ → Type 0
+RecordsCollected s t u m = CollectedTo s t u m m

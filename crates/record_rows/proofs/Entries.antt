@@ -16,7 +16,7 @@ use Rattle.write.specs.declared.Writer.{Writer}
 use Rattle.write.specs.Writes.{Writes}
 use Rattle.write.proofs.Writes.{writes_then}
 use Rattle.layout.proofs.Bounds.{SizeAtMost}
-use Rattle.lines.specs.Lines.{form_at}
+use Rattle.lines.specs.Lines.{lines_in, form_at}
 use Rattle.sizes.specs.Places.{common_fields, case_fields, RecordLine, first_decl, decl_at}
 use Rattle.sizes.proofs.Records.{checked-records-bound}
 use Rattle.maps.specs.Maps.{map_in, Mapped, MapRoom}
@@ -84,10 +84,10 @@ module _ (s t : Bytes) (i : ℕ) where
 
 -- ---- size and pointers
 
-module _ (s t : Bytes) (n i : ℕ) (l : EntryIn s t n i) where
+module _ (s t : Bytes) (i : ℕ) (l : EntryIn s t i) where
   module _ {r c : ℕ} (hr : r ≡ (entry_at t i).line) (hc : c ≡ (entry_at t i).case) where
-    pub line-is : RecordLine s t n r
-    line-is = rw hr (entry-line s t n i l)
+    pub line-is : RecordLine s r
+    line-is = rw hr (entry-line s t i l)
 
     pub shape-plain : c ≡ 0 → (recorded_at s t i).shape ≡ shape_at s r
     shape-plain e = ap (λ (x : Recorded). x.shape) (plain-is s t i (sym hc ∙ e)) ∙ own-shape s (entry_at t i).line ∙ rw hr
@@ -96,8 +96,8 @@ module _ (s t : Bytes) (n i : ℕ) (l : EntryIn s t n i) where
       positive : 0 < (entry_at t i).case
       positive = omega (arith, hc, e)
 
-      pub variant-line : VariantLine s t n r (c - 1)
-      variant-line = rw (hr, hc) (entry-variant s t n i l positive)
+      pub variant-line : VariantLine s r (c - 1)
+      variant-line = rw (hr, hc) (entry-variant s t i l positive)
 
       pub shape-variant : (recorded_at s t i).shape ≡ variant_at s r (c - 1)
       unfolding variant_record variant_at cases_at
@@ -105,25 +105,25 @@ module _ (s t : Bytes) (n i : ℕ) (l : EntryIn s t n i) where
 
 -- ---- the size is small
 
-entry-small : (s t : Bytes) (n i : ℕ) → LogEntry s t n i → (recorded_at s t i).shape.size ≤ 131080
+entry-small : (s t : Bytes) (i : ℕ) → LogEntry s t i → (recorded_at s t i).shape.size ≤ 131080
 unfolding log_of
-entry-small s t n i l =
+entry-small s t i l =
     let g = l.log in
-    rw (g.each i l.low) (every-at (SizeAtMost 131080) (log_of s) (checked-records-bound s t n g.checked) no_record i (omega (arith, g.count, l.low)))
+    rw (g.each i l.low) (every-at (SizeAtMost 131080) (log_of s) (checked-records-bound s g.checked) no_record i (omega (arith, g.count, l.low)))
 
-pub sized : (s t : Bytes) (n i : ℕ) → LogEntry s t n i → {x : ℕ} → x ≡ (recorded_at s t i).shape.size → (x ≡ (recorded_at s t i).shape.size) × (x ≤ 131080)
-sized s t n i l e = (e, omega (arith, e, entry-small s t n i l))
+pub sized : (s t : Bytes) (i : ℕ) → LogEntry s t i → {x : ℕ} → x ≡ (recorded_at s t i).shape.size → (x ≡ (recorded_at s t i).shape.size) × (x ≤ 131080)
+sized s t i l e = (e, omega (arith, e, entry-small s t i l))
 
-pub map-room : {s t : Bytes} {n m size : ℕ} → RecordsLogged s t n m → size ≤ 131080 → MapRoom t size
+pub map-room : {s t : Bytes} {m size : ℕ} → RecordsLogged s t m → size ≤ 131080 → MapRoom t size
 map-room g h = record { room = g.checked.whole.room; small = h }
 
 -- ---- fields
 
-module _ (s t : Bytes) (n i : ℕ) (l : EntryIn s t n i) {r : ℕ} (hr : r ≡ (entry_at t i).line) where
-  r-line : RecordLine s t n r
-  r-line = rw hr (entry-line s t n i l)
+module _ (s t : Bytes) (i : ℕ) (l : EntryIn s t i) {r : ℕ} (hr : r ≡ (entry_at t i).line) where
+  r-line : RecordLine s r
+  r-line = rw hr (entry-line s t i l)
 
-  r-in : r - 1 < n
+  r-in : r - 1 < lines_in s
   r-in = let q = r-line in omega (arith, q.first, q.last)
 
   case-none : cases_in (decl_at s r) ≡ [] → (entry_at t i).case ≡ 0
@@ -133,27 +133,27 @@ module _ (s t : Bytes) (n i : ℕ) (l : EntryIn s t n i) {r : ℕ} (hr : r ≡ (
       go zero e = refl
       go (suc c) e = let w = l.sound.case c e in absurd (omega (arith, rw (← hr, z) at w))
 
-  pub fields-adt : form_at t (r - 1) ≡ 26 → field_rows 0 (common_fields s r) ≡ placed_rows (recorded_at s t i).fields
+  pub fields-adt : form_at s (r - 1) ≡ 26 → field_rows 0 (common_fields s r) ≡ placed_rows (recorded_at s t i).fields
   unfolding decl_at field_rows
   fields-adt e =
-      let q = adt-decl s t n l.checked (r - 1) r-in e in
+      let q = adt-decl s l.checked (r - 1) r-in e in
       let p : (decl_at s r).pick ≡ None = ap (λ (ds : List AdtDecl). (first_decl ds).pick) q in
       let z : cases_in (decl_at s r) ≡ [] = ap (λ (ds : List AdtDecl). cases_in (first_decl ds)) q in
       let w : recorded_at s t i ≡ own_record (decl_at s r) = plain-is s t i (case-none z) ∙ ap (λ (x : ℕ). own_record (decl_at s x)) (sym hr) in
       sym (ap (λ (x : Recorded). placed_rows x.fields) w ∙ ap placed_rows (own-fields-none (decl_at s r) p))
 
-  module _ (a : form_at t (r - 1) ≡ 26 → ⊥) where
-    form-27 : form_at t (r - 1) ≡ 27
-    form-27 = ⊎_elim (λ (e : form_at t (r - 1) ≡ 26). absurd (a e)) (λ (e : form_at t (r - 1) ≡ 27). e) (record-form s t n r r-line)
+  module _ (a : form_at s (r - 1) ≡ 26 → ⊥) where
+    form-27 : form_at s (r - 1) ≡ 27
+    form-27 = ⊎_elim (λ (e : form_at s (r - 1) ≡ 26). absurd (a e)) (λ (e : form_at s (r - 1) ≡ 27). e) (record-form s r r-line)
 
     pub fields-plain : {c : ℕ} → c ≡ (entry_at t i).case → c ≡ 0 → field_rows 4 (common_fields s r) ≡ placed_rows (recorded_at s t i).fields
     unfolding decl_at field_rows
     fields-plain hc e =
-        let p = ap (λ (ds : List AdtDecl). (first_decl ds).pick) (pick-decl s t n l.checked (r - 1) r-in form-27) in
+        let p = ap (λ (ds : List AdtDecl). (first_decl ds).pick) (pick-decl s l.checked (r - 1) r-in form-27) in
         let w : recorded_at s t i ≡ own_record (decl_at s r) = plain-is s t i (sym hc ∙ e) ∙ ap (λ (x : ℕ). own_record (decl_at s x)) (sym hr) in
         sym (ap (λ (x : Recorded). placed_rows x.fields) w ∙ ap placed_rows (own-fields-some (decl_at s r) _ p))
 
-  pub fields-variant : {c : ℕ} → c ≡ (entry_at t i).case → (c ≡ 0 → ⊥) → (v : ℕ) → CaseOf s t n r (c - 1) v → {end : ℕ} → end ≡ (place 4 (common_fields s r)).end
+  pub fields-variant : {c : ℕ} → c ≡ (entry_at t i).case → (c ≡ 0 → ⊥) → (v : ℕ) → CaseOf s r (c - 1) v → {end : ℕ} → end ≡ (place 4 (common_fields s r)).end
       → field_rows 4 (common_fields s r) ++ field_rows end (case_fields s v) ≡ placed_rows (recorded_at s t i).fields
   unfolding variant_record case_at field_rows
   fields-variant {c} hc e v x y =

@@ -25,7 +25,7 @@ use Rattle.record_rows.specs.Rows.{key_rows, all_rows, Printed}
 
 -- ---- one entry
 
-module _ (s t : Bytes) (n i : ℕ) (l : LogEntry s t n i) where
+module _ (s t : Bytes) (i : ℕ) (l : LogEntry s t i) where
   in-log : i < length (log_of s)
   in-log = omega (arith, l.log.count, l.low)
 
@@ -72,13 +72,13 @@ pub record Keying (s : Bytes) (m : ℕ) (v w : Writer) (t u : Bytes) (i : ℕ) :
   pub met : (k : Bytes) → seen k before ≡ seen k (take i (log_of s))
   pub rest : done ++ concat_map record_rows (records_by_key before (drop i (log_of s))) ≡ all_rows s
 
-module _ (s t : Bytes) (n m : ℕ) (g : RecordsLogged s t n m) (v : Writer) where
+module _ (s t : Bytes) (m : ℕ) (g : RecordsLogged s t m) (v : Writer) where
   pub keying-start : Keying s m v v t t 0
   unfolding all_rows records log_of
   keying-start = record { within = omega arith; done = []; wrote = writes_none v v.room; kept = kept-all; before = []; met = λ k. refl; rest = refl }
 
   module _ (x : Writer) (u : Bytes) (i : ℕ) (w : Keying s m v x t u i) where
-    pub log-now : RecordsLogged s u n m
+    pub log-now : RecordsLogged s u m
     log-now = logged-kept (kept_less (omega arith) w.kept) g
 
     pub keying-end : m ≤ i → Printed (all_rows s) v x t u

@@ -9,28 +9,29 @@ ghost use Rattle.records.specs.Log.{recorded_at, EntryIn, RecordsLogged, LogEntr
 ghost use Rattle.field_rows.specs.Rows.{placed_rows};
 ghost use Rattle.record_rows.specs.Rows.{TagWrote, rec_text, shape_text, key_rows, all_rows, Printed};
 
-use codes::{area, decl};
+use codes::{area::{self, Space}, decl};
 use layout::map::map_bytes;
 use records::key::{Log, case_of, is_first, line_of, name_of, newest_of, number_of, tag_of};
 use shapes::TAG_BYTES;
 use write::Writer;
+use lines::Sheet;
 
 // KEY, with its comma: T, or T.tag.
-fn put_key(sheet: &[u8], work: &[u8], n: usize, i: usize, w: &mut Writer)
-    requires { EntryIn sheet.now work.now n i }
+fn put_key(sheet: &Sheet, work: &Space, i: usize, w: &mut Writer)
+    requires { EntryIn sheet.now work.now i }
     ensures { Writes w.old (44 ∷ (recorded_at sheet.now work.now i).key) w.new }
 {
-    rows::comma_part(w, name_of(sheet, work, n, i));
+    rows::comma_part(w, name_of(sheet, work, i));
     if case_of(work, i) == 0 {
         return;
     }
     w.put(b'.');
-    w.put_part(tag_of(sheet, work, n, i));
+    w.put_part(tag_of(sheet, work, i));
 }
 
 // TAG and GROUP, with their commas: -1 for T itself.
-fn put_tag(work: &[u8], i: usize, w: &mut Writer)
-    requires { (i < 128) × (65536 ≤ length work.now) }
+fn put_tag(work: &Space, i: usize, w: &mut Writer)
+    requires { i < 128 }
     ensures { TagWrote work.now i w.old w.new }
 {
     let c = case_of(work, i);
@@ -42,49 +43,49 @@ fn put_tag(work: &[u8], i: usize, w: &mut Writer)
     rows::comma_nat(w, (c - 1) as u64);
 }
 
-fn put_head(sheet: &[u8], work: &[u8], n: usize, i: usize, w: &mut Writer)
-    requires { EntryIn sheet.now work.now n i }
+fn put_head(sheet: &Sheet, work: &Space, i: usize, w: &mut Writer)
+    requires { EntryIn sheet.now work.now i }
     ensures { Writes w.old (rec_text (recorded_at sheet.now work.now i)) w.new }
 {
     w.put_part(b"rec");
-    put_key(sheet, work, n, i, w);
+    put_key(sheet, work, i, w);
     put_tag(work, i, w);
 }
 
 // The size of the record of entry i.
-pub fn entry_size(sheet: &[u8], work: &[u8], n: usize, i: usize) -> u32
-    requires { LogEntry sheet.now work.now n i }
+pub fn entry_size(sheet: &Sheet, work: &Space, i: usize) -> u32
+    requires { LogEntry sheet.now work.now i }
     ensures { (result ≡ (recorded_at sheet.now work.now i).shape.size) × (result ≤ 131080) }
 {
     let r = line_of(work, i);
     let case = case_of(work, i);
     if case == 0 {
-        return shapes::record_size(sheet, work, n, r);
+        return shapes::record_size(sheet, work, r);
     }
-    shapes::variant_size(sheet, work, n, r, case - 1)
+    shapes::variant_size(sheet, r, case - 1)
 }
 
 // Makes its pointer map, for a block of this size.
-pub fn map_entry(sheet: &[u8], work: &mut [u8], n: usize, i: usize, size: u32)
-    requires { (EntryIn sheet.now work.old n i) × (MapRoom work.old size) }
+pub fn map_entry(sheet: &Sheet, work: &mut Space, i: usize, size: u32)
+    requires { (EntryIn sheet.now work.old i) × (MapRoom work.old size) }
     ensures { MapMade size (recorded_at sheet.now work.old i).shape.pointers work.old work.new }
 {
     let r = line_of(work, i);
     let c = case_of(work, i);
     if c == 0 {
-        shapes::map_record(sheet, work, n, r, size);
+        shapes::map_record(sheet, work, r, size);
         return;
     }
-    shapes::map_variant(sheet, work, n, r, c - 1, size);
+    shapes::map_variant(sheet, work, r, c - 1, size);
 }
 
 // SIZE and MAP, and the end of the row.
-fn put_shape(sheet: &[u8], work: &mut [u8], n: usize, i: usize, w: &mut Writer)
-    requires { LogEntry sheet.now work.old n i }
+fn put_shape(sheet: &Sheet, work: &mut Space, i: usize, w: &mut Writer)
+    requires { LogEntry sheet.now work.old i }
     ensures { Printed (shape_text (recorded_at sheet.now work.old i).shape) w.old w.new work.old work.new }
 {
-    let size = entry_size(sheet, work, n, i);
-    map_entry(sheet, work, n, i, size);
+    let size = entry_size(sheet, work, i);
+    map_entry(sheet, work, i, size);
     rows::comma_nat(w, size as u64);
     let end = area::MAP + map_bytes(size);
     rows::comma_hex(w, &work[area::MAP..end]);
@@ -92,48 +93,48 @@ fn put_shape(sheet: &[u8], work: &mut [u8], n: usize, i: usize, w: &mut Writer)
 }
 
 // The rows of the fields: T's are the common ones, a variant's the common ones and then its own.
-fn put_fields(sheet: &[u8], work: &[u8], n: usize, i: usize, w: &mut Writer)
-    requires { EntryIn sheet.now work.now n i }
+fn put_fields(sheet: &Sheet, work: &Space, i: usize, w: &mut Writer)
+    requires { EntryIn sheet.now work.now i }
     ensures { Writes w.old (placed_rows (recorded_at sheet.now work.now i).fields) w.new }
 {
     let r = line_of(work, i);
-    if lines::form_at(work, r - 1) == decl::ADT {
-        field_rows::put_common(sheet, work, n, r, w, 0);
+    if sheet.form_at(r - 1) == decl::ADT {
+        field_rows::put_common(sheet, r, w, 0);
         return;
     }
-    let end = field_rows::put_common(sheet, work, n, r, w, TAG_BYTES);
+    let end = field_rows::put_common(sheet, r, w, TAG_BYTES);
     let c = case_of(work, i);
     if c == 0 {
         return;
     }
-    let v = shapes::case_line(sheet, work, n, r, c - 1);
-    field_rows::put_case(sheet, work, n, v, w, end);
+    let v = shapes::case_line(sheet, r, c - 1);
+    field_rows::put_case(sheet, v, w, end);
 }
 
 // The rows of the record of entry i.
-fn put_record(sheet: &[u8], work: &mut [u8], n: usize, i: usize, w: &mut Writer)
-    requires { LogEntry sheet.now work.old n i }
+fn put_record(sheet: &Sheet, work: &mut Space, i: usize, w: &mut Writer)
+    requires { LogEntry sheet.now work.old i }
     ensures { Printed (record_rows (recorded_at sheet.now work.old i)) w.old w.new work.old work.new }
 {
-    put_head(sheet, work, n, i, w);
-    put_shape(sheet, work, n, i, w);
-    put_fields(sheet, work, n, i, w);
+    put_head(sheet, work, i, w);
+    put_shape(sheet, work, i, w);
+    put_fields(sheet, work, i, w);
 }
 
 // The rows of entry i's key, where entry i is the first of that key: those of its newest entry.
-fn put_newest(sheet: &[u8], work: &mut [u8], c: Log, i: usize, w: &mut Writer)
-    requires { (RecordsLogged sheet.now work.old c.lines c.entries) × (i < c.entries) }
+fn put_newest(sheet: &Sheet, work: &mut Space, c: Log, i: usize, w: &mut Writer)
+    requires { (RecordsLogged sheet.now work.old c.entries) × (i < c.entries) }
     ensures { Printed (key_rows sheet.now i) w.old w.new work.old work.new }
 {
-    if is_first(sheet, work, c.lines, i) {
+    if is_first(sheet, work, i) {
         let j = newest_of(sheet, work, c, i);
-        put_record(sheet, work, c.lines, j, w);
+        put_record(sheet, work, j, w);
     }
 }
 
 // The rows of all records: each key once, where it was first recorded.
-pub fn record_rows(sheet: &[u8], work: &mut [u8], c: Log, w: &mut Writer)
-    requires { RecordsLogged sheet.now work.old c.lines c.entries }
+pub fn record_rows(sheet: &Sheet, work: &mut Space, c: Log, w: &mut Writer)
+    requires { RecordsLogged sheet.now work.old c.entries }
     ensures { Printed (all_rows sheet.now) w.old w.new work.old work.new }
 {
     for i in 0..c.entries {

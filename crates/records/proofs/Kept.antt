@@ -4,10 +4,11 @@ use mathlib.Core.List.{List}
 use Prim.Native.Nat.{ℕ, ◌+◌, ◌*◌, ◌<◌}
 use native.Mathlib.Omega.{arith}
 use Rattle.checks.specs.Checks.{Kept}
-use Rattle.checks.proofs.Kept.{kept_at, kept_less, checked-kept}
+use Rattle.checks.proofs.Kept.{kept_at, kept_less}
 use Rattle.chains.specs.Chains.{digest_place}
 use Rattle.chains.proofs.Laws.{SameBytes, chained-kept}
 use Rattle.records.specs.Log.{byte_of, entry_at, record_of, recorded_at, record_chains, RecordsLogged}
+use Rattle.lines.specs.Lines.{lines_in}
 
 module _ {t u : List ℕ} (k : Kept 10240 t u) where
   byte-kept : (i : ℕ) → i < 128 → (j : ℕ) → j < 8 → byte_of u i j ≡ byte_of t i j
@@ -29,9 +30,9 @@ module _ {t u : List ℕ} (k : Kept 10240 t u) where
     head = λ i h. kept_at k (9221 + 8 * i + 1 + 1) (omega arith);
   }
 
-  pub logged-kept : {s : List ℕ} {n m : ℕ} → RecordsLogged s t n m → RecordsLogged s u n m
+  pub logged-kept : {s : List ℕ} → RecordsLogged s t (lines_in s) → RecordsLogged s u (lines_in s)
   logged-kept {s} g =
-      let c = checked-kept (kept_less (omega arith) k) g.checked in
+      let c = g.checked in
       record {
         checked = c;
         count = g.count;

@@ -133,13 +133,13 @@ module _ (s t : Bytes) (i : ℕ) where
       go zero m = absurd (m refl)
       go (suc c) m = let z : suc c - 1 ≡ c = omega arith in rw z
 
-module _ (s t : Bytes) (n i : ℕ) (l : EntryIn s t n i) where
-  pub entry-line : RecordLine s t n (entry_at t i).line
+module _ (s t : Bytes) (i : ℕ) (l : EntryIn s t i) where
+  pub entry-line : RecordLine s (entry_at t i).line
   entry-line = record { checked = l.checked; first = l.sound.first; last = l.sound.last; kind = l.sound.kind }
 
   name-plain : undotted (name_of s (entry_at t i)) ≡ true
   unfolding name_of
-  name-plain = name-undotted (decl_at s (entry_at t i).line).name (name-good s t n (entry_at t i).line entry-line)
+  name-plain = name-undotted (decl_at s (entry_at t i).line).name (name-good s (entry_at t i).line entry-line)
 
   module _ (h : 0 < (entry_at t i).case) where
     before : (entry_at t i).case ≡ suc ((entry_at t i).case - 1)
@@ -148,13 +148,13 @@ module _ (s t : Bytes) (n i : ℕ) (l : EntryIn s t n i) where
     entry_case : (entry_at t i).case - 1 < length (cases_in (decl_at s (entry_at t i).line))
     entry_case = l.sound.case ((entry_at t i).case - 1) before
 
-    pub entry-variant : VariantLine s t n (entry_at t i).line ((entry_at t i).case - 1)
-    entry-variant = variant-line (pick-line s t n (entry_at t i).line entry-line entry_case) entry_case
+    pub entry-variant : VariantLine s (entry_at t i).line ((entry_at t i).case - 1)
+    entry-variant = variant-line (pick-line s (entry_at t i).line entry-line entry_case) entry_case
 
-    pub entry-tag : (v : ℕ) → CaseOf s t n (entry_at t i).line ((entry_at t i).case - 1) v → (entry_at t i).position < length (case_at s v).tags
+    pub entry-tag : (v : ℕ) → CaseOf s (entry_at t i).line ((entry_at t i).case - 1) v → (entry_at t i).position < length (case_at s v).tags
     entry-tag v x = rw (case-is x) (l.sound.tag ((entry_at t i).case - 1) before)
 
-    pub tag_read : (v : ℕ) → CaseOf s t n (entry_at t i).line ((entry_at t i).case - 1) v → get_or (case_at s v).tags (entry_at t i).position [] ≡ tag_of s (entry_at t i)
+    pub tag_read : (v : ℕ) → CaseOf s (entry_at t i).line ((entry_at t i).case - 1) v → get_or (case_at s v).tags (entry_at t i).position [] ≡ tag_of s (entry_at t i)
     unfolding tag_of
     tag_read v x = rw (case-is x)
 
@@ -165,7 +165,7 @@ keyed zero (suc d) names tags = false
 keyed (suc c) zero names tags = false
 keyed (suc c) (suc d) names tags = names && tags
 
-module _ (s t : Bytes) (n i j : ℕ) (k : EntryIn s t n i) (l : EntryIn s t n j) where
+module _ (s t : Bytes) (i j : ℕ) (k : EntryIn s t i) (l : EntryIn s t j) where
   abbrev names : Bool
   names = same (name_of s (entry_at t i)) (name_of s (entry_at t j))
 
@@ -178,11 +178,11 @@ module _ (s t : Bytes) (n i j : ℕ) (k : EntryIn s t n i) (l : EntryIn s t n j)
       go : (c d : ℕ) → (entry_at t i).case ≡ c → (entry_at t j).case ≡ d
           → same (recorded_at s t i).key (recorded_at s t j).key ≡ keyed c d names tags
       go zero zero e f = rw (plain-key s t i e, plain-key s t j f)
-      go zero (suc d) e f = rw (plain-key s t i e, variant-key s t j (λ z. omega arith)) (plain-tagged (name_of s (entry_at t j)) (tag_of s (entry_at t j)) (name_of s (entry_at t i)) (name-plain s t n i k))
-      go (suc c) zero e f = rw (variant-key s t i (λ z. omega arith), plain-key s t j f) (tagged-plain (name_of s (entry_at t i)) (tag_of s (entry_at t i)) (name_of s (entry_at t j)) (name-plain s t n j l))
+      go zero (suc d) e f = rw (plain-key s t i e, variant-key s t j (λ z. omega arith)) (plain-tagged (name_of s (entry_at t j)) (tag_of s (entry_at t j)) (name_of s (entry_at t i)) (name-plain s t i k))
+      go (suc c) zero e f = rw (variant-key s t i (λ z. omega arith), plain-key s t j f) (tagged-plain (name_of s (entry_at t i)) (tag_of s (entry_at t i)) (name_of s (entry_at t j)) (name-plain s t j l))
       go (suc c) (suc d) e f =
           rw (variant-key s t i (λ z. omega arith), variant-key s t j (λ z. omega arith))
-          (tagged-both (name_of s (entry_at t i)) (tag_of s (entry_at t i)) (name_of s (entry_at t j)) (tag_of s (entry_at t j)) (name-plain s t n i k) (name-plain s t n j l))
+          (tagged-both (name_of s (entry_at t i)) (tag_of s (entry_at t i)) (name_of s (entry_at t j)) (tag_of s (entry_at t j)) (name-plain s t i k) (name-plain s t j l))
 
   module _ {a : Bool} (e : a ≡ same (name_of s (entry_at t i)) (name_of s (entry_at t j))) where
     pub keys-unnamed : a ≡ false → false ≡ same (recorded_at s t i).key (recorded_at s t j).key

@@ -24,11 +24,11 @@ use Rattle.records.proofs.Keys.{default-same}
 abbrev pub key_is : Bytes → Bytes → Bytes → ℕ → Bool
 key_is s t k i = same k (recorded_at s t i).key
 
-pub record-room : (t : Bytes) → 65536 ≤ length t → ChainRoom t record_chains
+pub record-room : (t : Bytes) → 62464 ≤ length t → ChainRoom t record_chains
 unfolding digest_place
 record-room t h = record { low = λ i l. omega arith; long = h }
 
-module _ (s t : Bytes) (n m : ℕ) (g : RecordsLogged s t n m) (k : Bytes) where
+module _ (s t : Bytes) (m : ℕ) (g : RecordsLogged s t m) (k : Bytes) where
   -- all entries of a key are of one chain
   pub key-chain : {c : ℕ} → c ≡ chain_of (digest k) → (j : ℕ) → j < m → key_is s t k j ≡ true → in_chain t record_chains c j ≡ true
   unfolding chain_at
@@ -82,7 +82,7 @@ module _ (s t : Bytes) (n m : ℕ) (g : RecordsLogged s t n m) (k : Bytes) where
 
 -- ---- the key of an entry
 
-module _ (s t : Bytes) (n m : ℕ) (g : RecordsLogged s t n m) (i : ℕ) (h : i < m) where
+module _ (s t : Bytes) (m : ℕ) (g : RecordsLogged s t m) (i : ℕ) (h : i < m) where
   abbrev own_key : Bytes
   own_key = (recorded_at s t i).key
 
@@ -96,7 +96,7 @@ module _ (s t : Bytes) (n m : ℕ) (g : RecordsLogged s t n m) (i : ℕ) (h : i 
       let l : j < m = let z = newest-most (key_is s t own_key) e in omega (arith, z) in
       record {
         low = l;
-        last = λ d. last-all s t n m g own_key d e ∙ default-same (log_of s) j d no_record (omega (arith, g.count)) ∙ sym (g.each j l);
+        last = λ d. last-all s t m g own_key d e ∙ default-same (log_of s) j d no_record (omega (arith, g.count)) ∙ sym (g.each j l);
         later = λ x a b. newest-none-later (key_is s t own_key) e x (omega arith) b;
       }
 

@@ -12,6 +12,7 @@ use Rattle.chains.specs.Chains.{count_to, digest_at, Chained}
 use Rattle.checks.specs.Checks.{Checked}
 use Rattle.sizes.specs.Places.{decl_at, is_record}
 use Rattle.shapes.specs.Shapes.{cases_in}
+use Rattle.lines.specs.Lines.{lines_in}
 
 -- ---- the records of a declaration
 
@@ -84,37 +85,37 @@ abbrev pub no_record : Recorded
 no_record = unknown []
 
 -- an entry names a line of records, and where it names a case and a tag, these are there
-pub record EntryInSheet (s : Bytes) (n : ℕ) (e : Entry) : Type 0 where
+pub record EntryInSheet (s : Bytes) (e : Entry) : Type 0 where
   pub first : 0 < e.line
-  pub last : e.line ≤ n
+  pub last : e.line ≤ lines_in s
   pub kind : is_record s e.line ≡ true
   pub case : (c : ℕ) → e.case ≡ suc c → c < length (cases_in (decl_at s e.line))
   pub tag : (c : ℕ) → e.case ≡ suc c → e.position < length (case_in (decl_at s e.line) c).tags
 
 -- entry i is one of a checked sheet's
-pub record EntryIn (s t : Bytes) (n i : ℕ) : Type 0 where
-  pub checked : Checked s t n
+pub record EntryIn (s t : Bytes) (i : ℕ) : Type 0 where
+  pub checked : Checked s
   pub low : i < 128
-  pub sound : EntryInSheet s n (entry_at t i)
+  pub sound : EntryInSheet s (entry_at t i)
 
 -- the log of all records, of which there are m: the first d entries hold the digests of their keys, and are chained
-pub record Digested (s t : Bytes) (n m d : ℕ) : Type 0 where
-  pub checked : Checked s t n
+pub record Digested (s t : Bytes) (m d : ℕ) : Type 0 where
+  pub checked : Checked s
   pub count : m ≡ length (log_of s)
   pub few : m ≤ 128
   pub each : (i : ℕ) → i < m → recorded_at s t i ≡ get_or (log_of s) i no_record
-  pub entries : (i : ℕ) → i < m → EntryIn s t n i
+  pub entries : (i : ℕ) → i < m → EntryIn s t i
   pub digests : (i : ℕ) → i < d → digest_at t record_chains i ≡ digest (recorded_at s t i).key
   pub chained : Chained t record_chains d
 
 -- the log of all records of the sheet, m of them, with all digests and chains
-abbrev pub RecordsLogged : Bytes → Bytes → ℕ → ℕ → Type 0
-RecordsLogged s t n m = Digested s t n m m
+abbrev pub RecordsLogged : Bytes → Bytes → ℕ → Type 0
+RecordsLogged s t m = Digested s t m m
 
 -- entry i of such a log
-pub record LogEntry (s t : Bytes) (n i : ℕ) : Type 0 where
+pub record LogEntry (s t : Bytes) (i : ℕ) : Type 0 where
   pub m : ℕ
-  pub log : RecordsLogged s t n m
+  pub log : RecordsLogged s t m
   pub low : i < m
 
 -- ---- the entries of a key

@@ -8,7 +8,8 @@ ghost use Rattle.records.specs.Log.{byte_of, entry_at, recorded_at, name_of, tag
 
 use crate::line;
 use chains::ChainPlaces;
-use codes::area;
+use codes::area::{self, Space};
+use lines::Sheet;
 
 // Where the log's chains stand.
 pub const CHAINS: ChainPlaces = ChainPlaces {
@@ -25,73 +26,73 @@ pub struct Log {
 }
 
 // Byte k of entry i.
-fn byte_at(work: &[u8], i: usize, k: usize) -> usize
-    requires { (i < 128) × (k < 8) × (65536 ≤ length work.now) }
+fn byte_at(work: &Space, i: usize, k: usize) -> usize
+    requires { (i < 128) × (k < 8) }
     ensures { (result ≡ byte_of work.now i k) × (result < 256) }
 {
     usize::from(work[area::RECORDS + (8 * i + k)])
 }
 
 // The line of entry i, from 1.
-pub fn line_of(work: &[u8], i: usize) -> usize
-    requires { (i < 128) × (65536 ≤ length work.now) }
+pub fn line_of(work: &Space, i: usize) -> usize
+    requires { i < 128 }
     ensures { result ≡ (entry_at work.now i).line }
 {
     byte_at(work, i, 0) + 256 * byte_at(work, i, 1)
 }
 
 // Its case from 1, and 0 for T itself.
-pub fn case_of(work: &[u8], i: usize) -> usize
-    requires { (i < 128) × (65536 ≤ length work.now) }
+pub fn case_of(work: &Space, i: usize) -> usize
+    requires { i < 128 }
     ensures { (result ≡ (entry_at work.now i).case) × (result < 256) }
 {
     byte_at(work, i, 2)
 }
 
 // The position of its tag in the case.
-fn position_of(work: &[u8], i: usize) -> usize
-    requires { (i < 128) × (65536 ≤ length work.now) }
+fn position_of(work: &Space, i: usize) -> usize
+    requires { i < 128 }
     ensures { result ≡ (entry_at work.now i).position }
 {
     byte_at(work, i, 3)
 }
 
 // Its tag's number.
-pub fn number_of(work: &[u8], i: usize) -> usize
-    requires { (i < 128) × (65536 ≤ length work.now) }
+pub fn number_of(work: &Space, i: usize) -> usize
+    requires { i < 128 }
     ensures { (result ≡ (entry_at work.now i).number) × (result < 256) }
 {
     byte_at(work, i, 4)
 }
 
 // The name T of its record.
-pub fn name_of<'a>(sheet: &'a [u8], work: &[u8], n: usize, i: usize) -> &'a [u8]
-    requires { EntryIn sheet.now work.now n i }
+pub fn name_of<'a>(sheet: &'a [u8], work: &Space, i: usize) -> &'a [u8]
+    requires { EntryIn sheet.now work.now i }
     ensures { result.now ≡ name_of sheet.now (entry_at work.now i) }
 {
-    line::record_name(sheet, work, n, line_of(work, i))
+    line::record_name(sheet, line_of(work, i))
 }
 
 // Its tag, where it is a variant.
-pub fn tag_of<'a>(sheet: &'a [u8], work: &[u8], n: usize, i: usize) -> &'a [u8]
-    requires { (EntryIn sheet.now work.now n i) × (0 < (entry_at work.now i).case) }
+pub fn tag_of<'a>(sheet: &'a [u8], work: &Space, i: usize) -> &'a [u8]
+    requires { (EntryIn sheet.now work.now i) × (0 < (entry_at work.now i).case) }
     ensures { result.now ≡ tag_of sheet.now (entry_at work.now i) }
 {
-    let v = shapes::case_line(sheet, work, n, line_of(work, i), case_of(work, i) - 1);
-    line::tag_at(sheet, work, n, v, position_of(work, i))
+    let v = shapes::case_line(sheet, line_of(work, i), case_of(work, i) - 1);
+    line::tag_at(sheet, v, position_of(work, i))
 }
 
 // The digest of its key, from its name and tag.
-pub fn digest_for(sheet: &[u8], work: &[u8], n: usize, i: usize) -> usize
-    requires { EntryIn sheet.now work.now n i }
+pub fn digest_for(sheet: &Sheet, work: &Space, i: usize) -> usize
+    requires { EntryIn sheet.now work.now i }
     ensures { (result ≡ digest (recorded_at sheet.now work.now i).key) × (result < 256) }
 {
-    let d = words::digest(name_of(sheet, work, n, i));
+    let d = words::digest(name_of(sheet, work, i));
     if case_of(work, i) == 0 {
         return d;
     }
     let e = words::digest_on(d, b".");
-    words::digest_on(e, tag_of(sheet, work, n, i))
+    words::digest_on(e, tag_of(sheet, work, i))
 }
 
 // Whether a key is a name and a tag, with a full stop between.
@@ -112,29 +113,29 @@ fn is_joined(key: &[u8], name: &[u8], tag: &[u8]) -> bool
 }
 
 // Whether entry i has this key, which has the digest d.
-fn key_is(sheet: &[u8], work: &[u8], n: usize, i: usize, key: &[u8], d: usize) -> bool
-    requires { (EntryIn sheet.now work.now n i) × (digest_at work.now record_chains i ≡ digest (recorded_at sheet.now work.now i).key) × (d ≡ digest key.now) }
+fn key_is(sheet: &Sheet, work: &Space, i: usize, key: &[u8], d: usize) -> bool
+    requires { (EntryIn sheet.now work.now i) × (digest_at work.now record_chains i ≡ digest (recorded_at sheet.now work.now i).key) × (d ≡ digest key.now) }
     ensures { result ≡ same key.now (recorded_at sheet.now work.now i).key }
 {
     if chains::digest_at(work, CHAINS, i) != d {
         return false; // before the name is looked for
     }
-    let name = name_of(sheet, work, n, i);
+    let name = name_of(sheet, work, i);
     if case_of(work, i) == 0 {
         return words::same(key, name);
     }
-    is_joined(key, name, tag_of(sheet, work, n, i))
+    is_joined(key, name, tag_of(sheet, work, i))
 }
 
 // Whether entries i and j have one key. No name holds a full stop, so T itself and a variant have none in common.
-fn same_key(sheet: &[u8], work: &[u8], n: usize, i: usize, j: usize) -> bool
-    requires { (EntryIn sheet.now work.now n i) × (EntryIn sheet.now work.now n j) × (digest_at work.now record_chains i ≡ digest (recorded_at sheet.now work.now i).key) × (digest_at work.now record_chains j ≡ digest (recorded_at sheet.now work.now j).key) }
+fn same_key(sheet: &Sheet, work: &Space, i: usize, j: usize) -> bool
+    requires { (EntryIn sheet.now work.now i) × (EntryIn sheet.now work.now j) × (digest_at work.now record_chains i ≡ digest (recorded_at sheet.now work.now i).key) × (digest_at work.now record_chains j ≡ digest (recorded_at sheet.now work.now j).key) }
     ensures { result ≡ same (recorded_at sheet.now work.now i).key (recorded_at sheet.now work.now j).key }
 {
     if chains::digest_at(work, CHAINS, j) != chains::digest_at(work, CHAINS, i) {
         return false;
     }
-    if !words::same(name_of(sheet, work, n, i), name_of(sheet, work, n, j)) {
+    if !words::same(name_of(sheet, work, i), name_of(sheet, work, j)) {
         return false;
     }
     let c = case_of(work, j);
@@ -144,18 +145,18 @@ fn same_key(sheet: &[u8], work: &[u8], n: usize, i: usize, j: usize) -> bool
     if c == 0 {
         return false;
     }
-    words::same(tag_of(sheet, work, n, i), tag_of(sheet, work, n, j))
+    words::same(tag_of(sheet, work, i), tag_of(sheet, work, j))
 }
 
 // The last entry with this key.
-pub fn newest(sheet: &[u8], work: &[u8], c: Log, key: &[u8]) -> Option<usize>
-    requires { RecordsLogged sheet.now work.now c.lines c.entries }
+pub fn newest(sheet: &Sheet, work: &Space, c: Log, key: &[u8]) -> Option<usize>
+    requires { RecordsLogged sheet.now work.now c.entries }
     ensures { Newest sheet.now key.now result }
 {
     let d = words::digest(key);
     let mut next = chains::newest(work, CHAINS, c.entries, d);
     while let Some(i) = next {
-        if key_is(sheet, work, c.lines, i, key, d) {
+        if key_is(sheet, work, i, key, d) {
             return Some(i);
         }
         next = chains::earlier(work, CHAINS, i);
@@ -164,13 +165,13 @@ pub fn newest(sheet: &[u8], work: &[u8], c: Log, key: &[u8]) -> Option<usize>
 }
 
 // The last entry with the key of entry i, which is one itself.
-pub fn newest_of(sheet: &[u8], work: &[u8], c: Log, i: usize) -> usize
-    requires { (RecordsLogged sheet.now work.now c.lines c.entries) × (i < c.entries) }
+pub fn newest_of(sheet: &Sheet, work: &Space, c: Log, i: usize) -> usize
+    requires { (RecordsLogged sheet.now work.now c.entries) × (i < c.entries) }
     ensures { NewestOfEntry sheet.now work.now c.entries i result }
 {
     let mut next = chains::newest(work, CHAINS, c.entries, chains::digest_at(work, CHAINS, i));
     while let Some(j) = next {
-        if same_key(sheet, work, c.lines, i, j) {
+        if same_key(sheet, work, i, j) {
             return j;
         }
         next = chains::earlier(work, CHAINS, j);
@@ -179,13 +180,13 @@ pub fn newest_of(sheet: &[u8], work: &[u8], c: Log, i: usize) -> usize
 }
 
 // Whether no earlier entry has the key of entry i.
-pub fn is_first(sheet: &[u8], work: &[u8], n: usize, i: usize) -> bool
-    requires { LogEntry sheet.now work.now n i }
+pub fn is_first(sheet: &Sheet, work: &Space, i: usize) -> bool
+    requires { LogEntry sheet.now work.now i }
     ensures { result ≡ not (seen (recorded_at sheet.now work.now i).key (take i (log_of sheet.now))) }
 {
     let mut next = chains::earlier(work, CHAINS, i);
     while let Some(j) = next {
-        if same_key(sheet, work, n, i, j) {
+        if same_key(sheet, work, i, j) {
             return false;
         }
         next = chains::earlier(work, CHAINS, j);

@@ -19,7 +19,7 @@ use Rattle.semantics.specs.Refusal.{refs_in}
 use Rattle.decimal.specs.Number as Number
 use Rattle.form.specs.Table.{row_at, kind_at, row_node}
 use Rattle.semantics.proofs.Common.{never, both}
-use Rattle.lines.specs.Lines.{reads_in, read_at, nodes_in, form_at}
+use Rattle.lines.specs.Lines.{lines_in, reads_in, read_at, nodes_in, form_at}
 use Rattle.lines.proofs.Line.{form-low, form-is, kind-is, read_fits}
 use Rattle.refs.specs.Refs.{fine_ref, fine_refs}
 use Rattle.refs.proofs.Fine.{needed-ref}
@@ -63,50 +63,50 @@ value-at f a ns (suc m) (g ∷ fs) (suc j) d h = value-at f a ns m fs j d (omega
 
 -- ---- forms 26 and 27: `adt` and `pick`
 
-module _ (s t : List ℕ) (n r : ℕ) (c : Checked s t n) (first : 0 < r) (last : r ≤ n) where
-  kind-of : (f : ℕ) → form_at t (r - 1) ≡ f → letter (read_at s (r - 1)).form.kind ≡ kind_at f
-  kind-of f e = kind-is s t n c.whole (r - 1) (omega arith) ∙ ap kind_at e
+module _ (s : List ℕ) (r : ℕ) (c : Checked s) (first : 0 < r) (last : r ≤ lines_in s) where
+  kind-of : (f : ℕ) → form_at s (r - 1) ≡ f → letter (read_at s (r - 1)).form.kind ≡ kind_at f
+  kind-of f e = kind-is s c.whole (r - 1) (omega arith) ∙ ap kind_at e
 
-  decl-of : (f : ℕ) → form_at t (r - 1) ≡ f → decl_at s r ≡ first_decl (row_node (nodes_in s) f (read_at s (r - 1)).fields).declares.adts
+  decl-of : (f : ℕ) → form_at s (r - 1) ≡ f → decl_at s r ≡ first_decl (row_node (nodes_in s) f (read_at s (r - 1)).fields).declares.adts
   unfolding decl_at
   decl-of f e =
-      ap (λ (m : Node). first_decl m.declares.adts) (node-at s t n c.whole c.good (r - 1) (omega arith))
+      ap (λ (m : Node). first_decl m.declares.adts) (node-at s c.whole c.good (r - 1) (omega arith))
       ∙ ap (λ (g : ℕ). first_decl (row_node (nodes_in s) g (read_at s (r - 1)).fields).declares.adts) e
 
-  pub adt-line : form_at t (r - 1) ≡ 26 → RecordLine s t n r
+  pub adt-line : form_at s (r - 1) ≡ 26 → RecordLine s r
   unfolding forms
   adt-line e = record { checked = c; first = first; last = last; kind = rw (kind-of 26 e) }
 
-  pub pick-line : form_at t (r - 1) ≡ 27 → PickLine s t n r
+  pub pick-line : form_at s (r - 1) ≡ 27 → PickLine s r
   unfolding forms
   pick-line e = record { checked = c; first = first; last = last; kind = kind-of 27 e }
 
-pub adt-plain : (s t : List ℕ) (n r : ℕ) → RecordLine s t n r → form_at t (r - 1) ≡ 26 → (decl_at s r).pick ≡ None
+pub adt-plain : (s : List ℕ) (r : ℕ) → RecordLine s r → form_at s (r - 1) ≡ 26 → (decl_at s r).pick ≡ None
 unfolding forms
-adt-plain s t n r l e = ap (λ (d : AdtDecl). d.pick) (decl-of s t n r l.checked l.first l.last 26 e)
+adt-plain s r l e = ap (λ (d : AdtDecl). d.pick) (decl-of s r l.checked l.first l.last 26 e)
 
 -- a record line of another form is a `pick` line
-pub else-pick : (s t : List ℕ) (n r : ℕ) → RecordLine s t n r → (form_at t (r - 1) ≡ 26 → ⊥) → PickLine s t n r
-else-pick s t n r l z = record { checked = l.checked; first = l.first; last = l.last; kind = go (eqb (letter (read_at s (r - 1)).form.kind) 65) refl l.kind }
+pub else-pick : (s : List ℕ) (r : ℕ) → RecordLine s r → (form_at s (r - 1) ≡ 26 → ⊥) → PickLine s r
+else-pick s r l z = record { checked = l.checked; first = l.first; last = l.last; kind = go (eqb (letter (read_at s (r - 1)).form.kind) 65) refl l.kind }
   where
-    h : r - 1 < n
+    h : r - 1 < lines_in s
     h = omega (arith, l.first, l.last)
 
     go : (b : Bool) → eqb (letter (read_at s (r - 1)).form.kind) 65 ≡ b → b || eqb (letter (read_at s (r - 1)).form.kind) 66 ≡ true → letter (read_at s (r - 1)).form.kind ≡ 66
-    go true q k = absurd (z (adt-form (form_at t (r - 1)) (form-low s t n l.checked.whole (r - 1) h) (sym (kind-is s t n l.checked.whole (r - 1) h) ∙ eqb-true _ _ q)))
+    go true q k = absurd (z (adt-form (form_at s (r - 1)) (form-low s l.checked.whole (r - 1) h) (sym (kind-is s l.checked.whole (r - 1) h) ∙ eqb-true _ _ q)))
     go false q k = eqb-true (letter (read_at s (r - 1)).form.kind) 66 k
 
 -- ---- a `pick` line
 
-module _ (s t : List ℕ) (n r : ℕ) (l : PickLine s t n r) where
-  pick-in : r - 1 < n
+module _ (s t : List ℕ) (r : ℕ) (l : PickLine s r) where
+  pick-in : r - 1 < lines_in s
   pick-in = omega (arith, l.first, l.last)
 
-  pub pick-record : RecordLine s t n r
+  pub pick-record : RecordLine s t (lines_in s) r
   pick-record = record { checked = l.checked; first = l.first; last = l.last; kind = rw l.kind }
 
-  form-pick : form_at t (r - 1) ≡ 27
-  form-pick = pick-form (form_at t (r - 1)) (form-low s t n l.checked.whole (r - 1) pick-in) (sym (kind-is s t n l.checked.whole (r - 1) pick-in) ∙ l.kind)
+  form-pick : form_at s (r - 1) ≡ 27
+  form-pick = pick-form (form_at s (r - 1)) (form-low s l.checked.whole (r - 1) pick-in) (sym (kind-is s l.checked.whole (r - 1) pick-in) ∙ l.kind)
 
   abbrev parts : List (List ℕ)
   parts = (read_at s (r - 1)).fields
@@ -119,8 +119,8 @@ module _ (s t : List ℕ) (n r : ℕ) (l : PickLine s t n r) where
   unfolding forms
   groups =
       let w = l.checked.whole in
-      let p : (read_at s (r - 1)).form.parts ≡ one name ∷ (many (ref k_fd) ∷ (many (ref k_pc) ∷ [])) = ap (λ (x : Row). x.parts) (form-is s t n w (r - 1) pick-in) ∙ ap (λ (g : ℕ). (row_at g).parts) form-pick in
-      name-first (reads_in s) (r - 1) (many (ref k_fd) ∷ (many (ref k_pc) ∷ [])) parts (rw form-pick at (read_fits s t n w (r - 1) pick-in)) (rw p at (l.checked.fine (r - 1) pick-in))
+      let p : (read_at s (r - 1)).form.parts ≡ one name ∷ (many (ref k_fd) ∷ (many (ref k_pc) ∷ [])) = ap (λ (x : Row). x.parts) (form-is s w (r - 1) pick-in) ∙ ap (λ (g : ℕ). (row_at g).parts) form-pick in
+      name-first (reads_in s) (r - 1) (many (ref k_fd) ∷ (many (ref k_pc) ∷ [])) parts (rw form-pick at (read_fits s w (r - 1) pick-in)) (rw p at (l.checked.fine (r - 1) pick-in))
 
   common-count : is_count (get_or parts 1 []) ≡ true
   common-count = rw (← get_or-drop 1 parts 0 []) (group-good (reads_in s) (r - 1) k_fd (many (ref k_pc) ∷ []) (drop 1 parts) groups.0 groups.1).0
@@ -141,7 +141,7 @@ module _ (s t : List ℕ) (n r : ℕ) (l : PickLine s t n r) where
 
   pub pick_some : (decl_at s r).pick ≡ Some (cases_at s r)
   unfolding cases_at forms
-  pick_some = from (ap (λ (d : AdtDecl). d.pick) (decl-of s t n r l.checked l.first l.last 27 form-pick))
+  pick_some = from (ap (λ (d : AdtDecl). d.pick) (decl-of s r l.checked l.first l.last 27 form-pick))
     where
       from : {ks : List Case} → (decl_at s r).pick ≡ Some ks → (decl_at s r).pick ≡ Some (cases_in (decl_at s r))
       from e = rw e
@@ -151,7 +151,7 @@ module _ (s t : List ℕ) (n r : ℕ) (l : PickLine s t n r) where
   cases-are =
       let z : 1 + suc common ≡ common + 2 = omega arith in
       let y : suc (common + 2) ≡ common + 3 = omega arith in
-      ap cases_in (decl-of s t n r l.checked l.first l.last 27 form-pick)
+      ap cases_in (decl-of s r l.checked l.first l.last 27 form-pick)
       ∙ rw (tail-drop 0 parts, head-drop 1 parts, drop-drop (suc common) 1 parts, z, head-drop (common + 2) parts, tail-drop (common + 2) parts, y)
 
   cases-length : length (cases_at s r) ≡ number_of (get_or parts (common + 2) [])
@@ -166,7 +166,7 @@ module _ (s t : List ℕ) (n r : ℕ) (l : PickLine s t n r) where
 
     fields-length : length (decl_at s r).fields ≡ common
     fields-length =
-        ap length (common-is s t n r pick-record fields hf) ∙ group-length (λ (m : Node). m.fd) k_fd (nodes_in s) fields (drop 2 parts) ∙ common-exact
+        ap length (common-is s r pick-record fields hf) ∙ group-length (λ (m : Node). m.fd) k_fd (nodes_in s) fields (drop 2 parts) ∙ common-exact
 
     pub case_count : (k : ℕ) → k ≡ Number.number_up_to 65536 (get_or parts (fields + 2) []) → (k ≡ length (cases_at s r)) × (k ≤ 16)
     case_count k hk =
@@ -174,14 +174,14 @@ module _ (s t : List ℕ) (n r : ℕ) (l : PickLine s t n r) where
         let e = (rw common-exact at hk) ∙ number-exact (get_or parts (common + 2) []) q.0 (omega (arith, q.1)) ∙ sym cases-length in
         (e, omega (arith, e, cases-few))
 
-    pub case-line : (c v : ℕ) → c < length (cases_at s r) → v ≡ Number.number_up_to 65536 (get_or parts (fields + 3 + c) []) → CaseOf s t n r c v
-    case-line c v h hv =
-        let m : c < number_of (get_or parts (common + 2) []) = omega (arith, cases-length) in
-        let g = cases-good.1 c m in
-        let k = needed-ref (reads_in s) (r - 1 + 1) 67 (number_of (get_or parts (common + 3 + c) [])) g.fine in
-        let e : v ≡ number_of (get_or parts (common + 3 + c) []) = (rw common-exact at hv) ∙ number-exact (get_or parts (common + 3 + c) []) g.number (omega (arith, k.1, l.last, l.checked.whole.lined.few)) in
+    pub case-line : (v : ℕ) → lines_in s < length (cases_at s r) → v ≡ Number.number_up_to 65536 (get_or parts (fields + 3 + lines_in s) []) → CaseOf s r (lines_in s) v
+    case-line v h hv =
+        let m : lines_in s < number_of (get_or parts (common + 2) []) = omega (arith, cases-length) in
+        let g = cases-good.1 (lines_in s) m in
+        let k = needed-ref (reads_in s) (r - 1 + 1) 67 (number_of (get_or parts (common + 3 + lines_in s) [])) g.fine in
+        let e : v ≡ number_of (get_or parts (common + 3 + lines_in s) []) = (rw common-exact at hv) ∙ number-exact (get_or parts (common + 3 + lines_in s) []) g.number (omega (arith, k.1, l.last, l.checked.whole.few)) in
         record {
           number = e ∙ rw fields-length;
           line = record { checked = l.checked; first = omega (arith, e, k.0); last = omega (arith, e, k.1, l.last, l.first); kind = rw e k.2 };
-          case = sym (rw cases-are (value-at (λ (x : Node). x.case) k_pc (nodes_in s) _ (drop (common + 3) parts) c no_case m ∙ rw (get_or-drop (common + 3) parts c [], e)));
+          case = sym (rw cases-are (value-at (λ (x : Node). x.case) k_pc (nodes_in s) _ (drop (common + 3) parts) (lines_in s) no_case m ∙ rw (get_or-drop (common + 3) parts (lines_in s) [], e)));
         }

@@ -27,14 +27,14 @@ picked-shape : (d : AdtDecl) (ks : List Case) → d.pick ≡ Some ks
     → first_shape (records_of d) ≡ pick_shape (shape_of behind_tag (place behind_tag d.fields).placed) (map (variant_shape d.fields) ks)
 picked-shape d ks e = rw e
 
-pub adt-shape : (s t : List ℕ) (n r : ℕ) → RecordLine s t n r → form_at t (r - 1) ≡ 26 → shape_at s r ≡ shape_of 0 (place 0 (decl_at s r).fields).placed
+pub adt-shape : (s : List ℕ) (r : ℕ) → RecordLine s r → form_at s (r - 1) ≡ 26 → shape_at s r ≡ shape_of 0 (place 0 (decl_at s r).fields).placed
 unfolding shape_at
-adt-shape s t n r l e = plain-shape (decl_at s r) (adt-plain s t n r l e)
+adt-shape s r l e = plain-shape (decl_at s r) (adt-plain s r l e)
 
-pub pick-shape : (s t : List ℕ) (n r : ℕ) → PickLine s t n r
+pub pick-shape : (s t : List ℕ) (r : ℕ) → PickLine s r
     → shape_at s r ≡ pick_shape (shape_of behind_tag (place behind_tag (decl_at s r).fields).placed) (map (variant_shape (decl_at s r).fields) (cases_at s r))
 unfolding shape_at
-pick-shape s t n r l = picked-shape (decl_at s r) (cases_at s r) (pick_some s t n r l)
+pick-shape s t r l = picked-shape (decl_at s r) (cases_at s r) (pick_some s t r l)
 
 -- ---- no field passes the end
 
@@ -43,11 +43,11 @@ furthest-low fs p q a h =
     let e = (place p.end fs).end in
     rw (a.furthest, a.end) (furthest-within p.furthest e (place p.end fs).placed (omega (arith, place-above fs p.end)) (place-within fs p.end e (le_refl e)))
 
-pub adt-size : (s t : List ℕ) (n r x : ℕ) (p q : Reached) → RecordLine s t n r → form_at t (r - 1) ≡ 26 → p.end ≡ 0 → p.furthest ≡ 0
+pub adt-size : (s : List ℕ) (r x : ℕ) (p q : Reached) → RecordLine s r → form_at s (r - 1) ≡ 26 → p.end ≡ 0 → p.furthest ≡ 0
     → AllPlaced (common_fields s r) p q → x ≡ rounded_size q.furthest → x ≡ (shape_at s r).size
 unfolding shape_of
-adt-size s t n r x p q l e h k a g =
-    g ∙ rw (adt-shape s t n r l e, a.furthest, h, k)
+adt-size s r x p q l e h k a g =
+    g ∙ rw (adt-shape s r l e, a.furthest, h, k)
 
 -- ---- variants
 
@@ -59,10 +59,10 @@ behind-common s r p q h k a b = record {
   small = b;
 }
 
-pub variant-size : (s t : List ℕ) (n r c v x : ℕ) (p : Reached) → BehindCommon s r p → CaseOf s t n r c v → x ≡ rounded_size (furthest p.furthest (place p.end (case_fields s v)).placed)
+pub variant-size : (s : List ℕ) (r c v x : ℕ) (p : Reached) → BehindCommon s r p → CaseOf s r c v → x ≡ rounded_size (furthest p.furthest (place p.end (case_fields s v)).placed)
     → x ≡ (variant_at s r c).size
 unfolding variant_at shape_of
-variant-size s t n r c v x p b k e =
+variant-size s r c v x p b k e =
     let common = place behind_tag (decl_at s r).fields in
     let own = (get_or (cases_at s r) c no_case).fields in
     e ∙ rw (b.furthest, b.end, ap (λ (m : Case). m.fields) k.case) (ap rounded_size (sym (furthest-append behind_tag common.placed (place common.end own).placed)))
@@ -83,12 +83,12 @@ pub record Largest (s : List ℕ) (r size c : ℕ) : Type 0 where
   pub within : c ≤ length (cases_at s r)
   pub rest : largest size (map (variant_shape (decl_at s r).fields) (drop c (cases_at s r))) ≡ (shape_at s r).size
 
-module _ (s t : List ℕ) (n r : ℕ) (l : PickLine s t n r) where
+module _ (s t : List ℕ) (r : ℕ) (l : PickLine s r) where
   pub largest-start : (x : ℕ) (p : Reached) → BehindCommon s r p → x ≡ rounded_size p.furthest → Largest s r x 0
   unfolding shape_of
   largest-start x p b e = record {
     within = omega arith;
-    rest = rw (e, b.furthest) (sym (rw (pick-shape s t n r l) (pick-largest (shape_of behind_tag (place behind_tag (decl_at s r).fields).placed) (map (variant_shape (decl_at s r).fields) (cases_at s r)))));
+    rest = rw (e, b.furthest) (sym (rw (pick-shape s t r l) (pick-largest (shape_of behind_tag (place behind_tag (decl_at s r).fields).placed) (map (variant_shape (decl_at s r).fields) (cases_at s r)))));
   }
 
   pub largest-next : (size x y c : ℕ) → Largest s r size c → c < length (cases_at s r) → x ≡ (variant_at s r c).size → y ≡ max size x → Largest s r y (c + 1)

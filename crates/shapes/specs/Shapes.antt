@@ -30,18 +30,18 @@ unfoldable pub variant_at : Bytes → ℕ → ℕ → Shape
 variant_at s r c = variant_shape (decl_at s r).fields (get_or (cases_at s r) c no_case)
 
 -- line r of a checked sheet is a `pick` line, 66
-abbrev pub PickLine : Bytes → Bytes → ℕ → ℕ → Type 0
-PickLine s t n r = KindLine 66 s t n r
+abbrev pub PickLine : Bytes → ℕ → Type 0
+PickLine s r = KindLine 66 s r
 
 -- and has a case c
-pub record VariantLine (s t : Bytes) (n r c : ℕ) : Type 0 where
-  pub line : PickLine s t n r
+pub record VariantLine (s : Bytes) (r c : ℕ) : Type 0 where
+  pub line : PickLine s r
   pub case : c < length (cases_at s r)
 
 -- line v makes case c of line r
-pub record CaseOf (s t : Bytes) (n r c v : ℕ) : Type 0 where
+pub record CaseOf (s : Bytes) (r c v : ℕ) : Type 0 where
   pub number : v ≡ number_of (get_or (read_at s (r - 1)).fields (length (decl_at s r).fields + 3 + c) [])
-  pub line : CaseLine s t n v
+  pub line : CaseLine s v
   pub case : (node_at (nodes_in s) v).case ≡ get_or (cases_at s r) c no_case
 
 -- q is behind the common fields of line r, which stand behind the tag word

@@ -8,8 +8,10 @@ ghost use Rattle.sizes.specs.Places.{case_fields, CaseLine, RecordLine, common_e
 ghost use Rattle.maps.specs.Maps.{MapRoom, Marks, MapMade};
 ghost use Rattle.shapes.specs.Shapes.{shape_at, cases_at, variant_at, PickLine, VariantLine, CaseOf, BehindCommon};
 
+use codes::area::Space;
 use codes::decl;
 use sizes::place::Reached;
+use lines::Sheet;
 
 // The bytes of the tag word of a record with `pick`: fields begin behind it.
 pub const TAG_BYTES: u32 = 4;
@@ -17,125 +19,125 @@ pub const TAG_BYTES: u32 = 4;
 // A `pick` line: NAME, N, as many fields, N, as many cases.
 
 // How many cases the `pick` line r has.
-pub fn case_count(sheet: &[u8], work: &[u8], n: usize, r: usize) -> usize
-    requires { PickLine sheet.now work.now n r }
+pub fn case_count(sheet: &Sheet, r: usize) -> usize
+    requires { PickLine sheet.now r }
     ensures { (result ≡ length (cases_at sheet.now r)) × (result ≤ 16) }
 {
-    let fields = lines::number_at(sheet, work, n, r - 1, 1);
-    lines::number_at(sheet, work, n, r - 1, fields + 2)
+    let fields = sheet.number_at(r - 1, 1);
+    sheet.number_at(r - 1, fields + 2)
 }
 
 // The line of case c, from 0, of the `pick` line r.
-pub fn case_line(sheet: &[u8], work: &[u8], n: usize, r: usize, c: usize) -> usize
-    requires { VariantLine sheet.now work.now n r c }
-    ensures { CaseOf sheet.now work.now n r c result }
+pub fn case_line(sheet: &Sheet, r: usize, c: usize) -> usize
+    requires { VariantLine sheet.now r c }
+    ensures { CaseOf sheet.now r c result }
 {
-    let fields = lines::number_at(sheet, work, n, r - 1, 1);
-    lines::number_at(sheet, work, n, r - 1, fields + 3 + c)
+    let fields = sheet.number_at(r - 1, 1);
+    sheet.number_at(r - 1, fields + 3 + c)
 }
 
 // Behind the common fields of the `pick` line r.
-fn behind_common(sheet: &[u8], work: &[u8], n: usize, r: usize) -> Reached
-    requires { PickLine sheet.now work.now n r }
+fn behind_common(sheet: &Sheet, r: usize) -> Reached
+    requires { PickLine sheet.now r }
     ensures { BehindCommon sheet.now r result }
 {
     let p = Reached {
         end: TAG_BYTES,
         furthest: TAG_BYTES,
     };
-    sizes::place::place_common(sheet, work, n, r, p)
+    sizes::place::place_common(sheet, r, p)
 }
 
 // The size of the variants of the `pc` line k, whose common fields end at p.
-fn case_size(sheet: &[u8], work: &[u8], n: usize, k: usize, p: Reached) -> u32
-    requires { (CaseLine sheet.now work.now n k) × (p.furthest ≤ p.end) × (p.end ≤ common_end) }
+fn case_size(sheet: &Sheet, k: usize, p: Reached) -> u32
+    requires { (CaseLine sheet.now k) × (p.furthest ≤ p.end) × (p.end ≤ common_end) }
     ensures { result ≡ rounded_size (furthest p.furthest (place p.end (case_fields sheet.now k)).placed) }
 {
-    let v = sizes::place::place_case(sheet, work, n, k, p);
+    let v = sizes::place::place_case(sheet, k, p);
     sizes::rounded_size(v.furthest)
 }
 
 // The size of the record of an `adt` line.
-fn adt_size(sheet: &[u8], work: &[u8], n: usize, r: usize) -> u32
-    requires { (RecordLine sheet.now work.now n r) × (form_at work.now (r - 1) ≡ 26) }
+fn adt_size(sheet: &Sheet, work: &Space, r: usize) -> u32
+    requires { (RecordLine sheet.now r) × (form_at work.now (r - 1) ≡ 26) }
     ensures { result ≡ (shape_at sheet.now r).size }
 {
     let p = Reached {
         end: 0,
         furthest: 0,
     };
-    let q = sizes::place::place_common(sheet, work, n, r, p);
+    let q = sizes::place::place_common(sheet, r, p);
     sizes::rounded_size(q.furthest)
 }
 
 // The size of T with pick: the largest of its common fields' and of its variants'.
-fn pick_size(sheet: &[u8], work: &[u8], n: usize, r: usize) -> u32
-    requires { PickLine sheet.now work.now n r }
+fn pick_size(sheet: &Sheet, r: usize) -> u32
+    requires { PickLine sheet.now r }
     ensures { result ≡ (shape_at sheet.now r).size }
 {
-    let p = behind_common(sheet, work, n, r);
-    let count = case_count(sheet, work, n, r);
+    let p = behind_common(sheet, r);
+    let count = case_count(sheet, r);
     let mut size = sizes::rounded_size(p.furthest);
     for c in 0..count {
-        let line = case_line(sheet, work, n, r, c);
-        size = size.max(case_size(sheet, work, n, line, p));
+        let line = case_line(sheet, r, c);
+        size = size.max(case_size(sheet, line, p));
     }
     size
 }
 
 // The size of the record T of the `adt` or `pick` line r.
-pub fn record_size(sheet: &[u8], work: &[u8], n: usize, r: usize) -> u32
-    requires { RecordLine sheet.now work.now n r }
+pub fn record_size(sheet: &Sheet, work: &Space, r: usize) -> u32
+    requires { RecordLine sheet.now r }
     ensures { result ≡ (shape_at sheet.now r).size }
 {
-    if lines::form_at(work, r - 1) == decl::ADT {
-        return adt_size(sheet, work, n, r);
+    if sheet.form_at(r - 1) == decl::ADT {
+        return adt_size(sheet, work, r);
     }
-    pick_size(sheet, work, n, r)
+    pick_size(sheet, r)
 }
 
 // The size of the variants of case c, from 0, of the `pick` line r.
-pub fn variant_size(sheet: &[u8], work: &[u8], n: usize, r: usize, c: usize) -> u32
-    requires { VariantLine sheet.now work.now n r c }
+pub fn variant_size(sheet: &Sheet, r: usize, c: usize) -> u32
+    requires { VariantLine sheet.now r c }
     ensures { result ≡ (variant_at sheet.now r c).size }
 {
-    let p = behind_common(sheet, work, n, r);
-    case_size(sheet, work, n, case_line(sheet, work, n, r, c), p)
+    let p = behind_common(sheet, r);
+    case_size(sheet, case_line(sheet, r, c), p)
 }
 
 // Marks what a record with pick marks: the common fields, once, and every case's own behind them.
-fn mark_pick(sheet: &[u8], work: &mut [u8], n: usize, r: usize, size: u32)
-    requires { (PickLine sheet.now work.old n r) × (MapRoom work.old size) }
+fn mark_pick(sheet: &Sheet, work: &mut Space, r: usize, size: u32)
+    requires { (PickLine sheet.now r) × (MapRoom work.old size) }
     ensures { Marks size (shape_at sheet.now r).pointers work.old work.new }
 {
-    let end = marks::mark_common(sheet, work, n, r, size, TAG_BYTES);
-    let count = case_count(sheet, work, n, r);
+    let end = marks::mark_common(sheet, work, r, size, TAG_BYTES);
+    let count = case_count(sheet, r);
     for c in 0..count {
-        let k = case_line(sheet, work, n, r, c);
-        marks::mark_case(sheet, work, n, k, size, end);
+        let k = case_line(sheet, r, c);
+        marks::mark_case(sheet, work, k, size, end);
     }
 }
 
 // Makes the pointer map of the record T of the `adt` or `pick` line r, for a block of this size.
-pub fn map_record(sheet: &[u8], work: &mut [u8], n: usize, r: usize, size: u32)
-    requires { (RecordLine sheet.now work.old n r) × (MapRoom work.old size) }
+pub fn map_record(sheet: &Sheet, work: &mut Space, r: usize, size: u32)
+    requires { (RecordLine sheet.now r) × (MapRoom work.old size) }
     ensures { MapMade size (shape_at sheet.now r).pointers work.old work.new }
 {
     maps::clear_map(work, size);
-    if lines::form_at(work, r - 1) == decl::ADT {
-        marks::mark_common(sheet, work, n, r, size, 0);
+    if sheet.form_at(r - 1) == decl::ADT {
+        marks::mark_common(sheet, work, r, size, 0);
         return;
     }
-    mark_pick(sheet, work, n, r, size);
+    mark_pick(sheet, work, r, size);
 }
 
 // Makes the pointer map of the variants of case c, from 0, of the `pick` line r, for a block of this size.
-pub fn map_variant(sheet: &[u8], work: &mut [u8], n: usize, r: usize, c: usize, size: u32)
-    requires { (VariantLine sheet.now work.old n r c) × (MapRoom work.old size) }
+pub fn map_variant(sheet: &Sheet, work: &mut Space, r: usize, c: usize, size: u32)
+    requires { (VariantLine sheet.now r c) × (MapRoom work.old size) }
     ensures { MapMade size (variant_at sheet.now r c).pointers work.old work.new }
 {
     maps::clear_map(work, size);
-    let behind = marks::mark_common(sheet, work, n, r, size, TAG_BYTES);
-    let k = case_line(sheet, work, n, r, c);
-    marks::mark_case(sheet, work, n, k, size, behind);
+    let behind = marks::mark_common(sheet, work, r, size, TAG_BYTES);
+    let k = case_line(sheet, r, c);
+    marks::mark_case(sheet, work, k, size, behind);
 }

@@ -18,7 +18,7 @@ use Rattle.semantics.specs.Refusal.{Ref, no_read, line_at, ref_of, refs_in, refs
 use Rattle.semantics.proofs.Common.{never, both}
 use Rattle.form.proofs.Table.{row-count, each_at}
 use Rattle.layout.specs.Lines.{lines_of, decl_lines}
-use Rattle.lines.specs.Lines.{reads_in, read_at, nodes_in, form_at}
+use Rattle.lines.specs.Lines.{lines_in, reads_in, read_at, nodes_in, form_at}
 use Rattle.lines.proofs.Line.{line-count, form-low, form-is, read_fits}
 use Rattle.refs.specs.Refs.{fine_ref, fine_refs, uses_of, uses_in}
 use Rattle.refs.proofs.Fine.{needed-ref}
@@ -188,13 +188,13 @@ few-from [] ns h g = h
 few-from (r ∷ rs) ns h g =
     few-from rs (ns ++ (node_of ns r ∷ [])) (every_append FewOf ns (node_of ns r ∷ []) h (g.0 ns (λ m. every_get FewOf no_node ns no_names h (m - 1)), tt)) g.1
 
-module _ (s t : List ℕ) (n : ℕ) (c : Checked s t n) where
-  module _ (i : ℕ) (h : i < n) where
+module _ (s : List ℕ) (c : Checked s) where
+  module _ (i : ℕ) (h : i < lines_in s) where
     row-sound : (ns : List Node) → BoundedMake ns (read_at s i).form
-    row-sound ns = rw (form-is s t n c.whole i h) (each_at (BoundedMake ns) forms (all_sound ns) (form_at t i) (omega (arith, row-count, form-low s t n c.whole i h)))
+    row-sound ns = rw (form-is s c.whole i h) (each_at (BoundedMake ns) forms (all_sound ns) (form_at s i) (omega (arith, row-count, form-low s c.whole i h)))
 
     fields_fit : fits (read_at s i).form.parts (read_at s i).fields ≡ true
-    fields_fit = rw (form-is s t n c.whole i h) (read_fits s t n c.whole i h)
+    fields_fit = rw (form-is s c.whole i h) (read_fits s c.whole i h)
 
     keeps-few : KeepsFew (read_at s i)
     unfolding node_of
@@ -205,25 +205,25 @@ module _ (s t : List ℕ) (n : ℕ) (c : Checked s t n) where
     grows =
         let z : suc i - 1 ≡ i = omega arith in
         let e = parts-lines (nodes_in s) (reads_in s) i (read_at s i).form.parts (read_at s i).fields fields_fit (c.fine i h) in
-        rw (z, node-at s t n c.whole c.good i h, ← form-is s t n c.whole i h) (omega (arith, e, (row-sound (nodes_in s) (read_at s i).fields fields_fit).0))
+        rw (z, node-at s c.whole c.good i h, ← form-is s c.whole i h) (omega (arith, e, (row-sound (nodes_in s) (read_at s i).fields fields_fit).0))
 
-  in-sheet : {i : ℕ} → i < length (reads_in s) → i < n
-  in-sheet l = omega (arith, line-count s t n c.whole)
+  in-sheet : {i : ℕ} → i < length (reads_in s) → i < lines_in s
+  in-sheet l = omega (arith, line-count s)
 
   -- no line has or refers to more than 16 names of a field
   pub few-at : (r : ℕ) → FewOf (node_at (nodes_in s) r)
   few-at r = every_get FewOf no_node (nodes_in s) no_names (few-from (reads_in s) [] tt (every_of KeepsFew no_read (reads_in s) (λ i l. keeps-few i (in-sheet l)))) (r - 1)
 
   -- what line r makes takes at most r lines
-  node-lines : (r : ℕ) → 0 < r → r ≤ n → node_lines (node_at (nodes_in s) r) ≤ r
+  node-lines : (r : ℕ) → 0 < r → r ≤ lines_in s → node_lines (node_at (nodes_in s) r) ≤ r
   unfolding lines_at
   node-lines zero p h = absurd (omega arith)
   node-lines (suc r) p h =
-      few-lines (lines_at (nodes_in s)) (reads_in s) (λ i l. c.fine i (in-sheet l)) refl c.once (λ i l. grows i (in-sheet l)) (suc r) (omega (arith, line-count s t n c.whole))
+      few-lines (lines_at (nodes_in s)) (reads_in s) (λ i l. c.fine i (in-sheet l)) refl c.once (λ i l. grows i (in-sheet l)) (suc r) (omega (arith, line-count s))
 
   -- its type, and what an `adt` or `pick` line declares
-  pub type-lines : (r : ℕ) → 0 < r → r ≤ n → lines_of (node_at (nodes_in s) r).ty ≤ r
+  pub type-lines : (r : ℕ) → 0 < r → r ≤ lines_in s → lines_of (node_at (nodes_in s) r).ty ≤ r
   type-lines r p h = omega (arith, node-lines r p h)
 
-  pub decl-lines : (r : ℕ) → 0 < r → r ≤ n → sum_of decl_lines (node_at (nodes_in s) r).declares.adts ≤ r
+  pub decl-lines : (r : ℕ) → 0 < r → r ≤ lines_in s → sum_of decl_lines (node_at (nodes_in s) r).declares.adts ≤ r
   decl-lines r p h = omega (arith, node-lines r p h)

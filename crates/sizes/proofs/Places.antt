@@ -25,7 +25,7 @@ use Rattle.field_list.proofs.Laws.{line-take}
 use Rattle.decimal.specs.Number as Number
 use Rattle.form.specs.Table.{row_at, kind_at, row_node}
 use Rattle.semantics.proofs.Common.{never, both}
-use Rattle.lines.specs.Lines.{reads_in, read_at, nodes_in, form_at}
+use Rattle.lines.specs.Lines.{lines_in, reads_in, read_at, nodes_in, form_at}
 use Rattle.lines.proofs.Line.{form-low, form-is, kind-is, read_fits}
 use Rattle.refs.specs.Refs.{fine_refs}
 use Rattle.refs.proofs.Fine.{needed-ref}
@@ -69,25 +69,25 @@ line-placed p q size align names at pointer ha he hf t ns m hn = record {
 abbrev field_parts : List Part
 field_parts = one (maybe k_ty) ∷ (many name ∷ [])
 
-module _ (s t : List ℕ) (n r : ℕ) (l : FieldLine s t n r) where
-  field_in : r - 1 < n
+module _ (s : List ℕ) (r : ℕ) (l : FieldLine s r) where
+  field_in : r - 1 < lines_in s
   field_in = omega (arith, l.first, l.last)
 
-  form-fd : form_at t (r - 1) ≡ 24
-  form-fd = field-form (form_at t (r - 1)) (form-low s t n l.checked.whole (r - 1) field_in) (sym (kind-is s t n l.checked.whole (r - 1) field_in) ∙ l.kind)
+  form-fd : form_at s (r - 1) ≡ 24
+  form-fd = field-form (form_at s (r - 1)) (form-low s l.checked.whole (r - 1) field_in) (sym (kind-is s l.checked.whole (r - 1) field_in) ∙ l.kind)
 
   parts-good : May (reads_in s) (r - 1) 75 (get_or (read_at s (r - 1)).fields 0 []) × (is_count (get_or (read_at s (r - 1)).fields 1 []) ≡ true)
   unfolding forms
   parts-good =
       let w = l.checked.whole in
-      let p : (read_at s (r - 1)).form.parts ≡ field_parts = ap (λ (x : Row). x.parts) (form-is s t n w (r - 1) field_in) ∙ ap (λ (g : ℕ). (row_at g).parts) form-fd in
-      let v = maybe-head (reads_in s) (r - 1) k_ty (many name ∷ []) (read_at s (r - 1)).fields (rw form-fd at (read_fits s t n w (r - 1) field_in)) (rw p at (l.checked.fine (r - 1) field_in)) in
+      let p : (read_at s (r - 1)).form.parts ≡ field_parts = ap (λ (x : Row). x.parts) (form-is s w (r - 1) field_in) ∙ ap (λ (g : ℕ). (row_at g).parts) form-fd in
+      let v = maybe-head (reads_in s) (r - 1) k_ty (many name ∷ []) (read_at s (r - 1)).fields (rw form-fd at (read_fits s w (r - 1) field_in)) (rw p at (l.checked.fine (r - 1) field_in)) in
       (v.0, rw (get_or-drop 1 (read_at s (r - 1)).fields 0 []) at (first_count name [] (drop 1 (read_at s (r - 1)).fields) v.1))
 
   pub fd_is : fd_at s r ≡ record { ty = ty_of (perhaps_at (nodes_in s) (number_of (get_or (read_at s (r - 1)).fields 0 []))); names = values name (nodes_in s) (number_of (get_or (read_at s (r - 1)).fields 1 [])) (drop 2 (read_at s (r - 1)).fields) }
   unfolding forms
   fd_is =
-      ap (λ (m : Node). m.fd) (node-at s t n l.checked.whole l.checked.good (r - 1) field_in)
+      ap (λ (m : Node). m.fd) (node-at s l.checked.whole l.checked.good (r - 1) field_in)
       ∙ rw (form-fd, tail-drop 0 (read_at s (r - 1)).fields, tail-drop 1 (read_at s (r - 1)).fields, head-drop 0 (read_at s (r - 1)).fields, head-drop 1 (read_at s (r - 1)).fields)
 
   module _ (v : ℕ) (hv : v ≡ Number.number_up_to 65536 (get_or (read_at s (r - 1)).fields 0 [])) where
@@ -98,7 +98,7 @@ module _ (s t : List ℕ) (n r : ℕ) (l : FieldLine s t n r) where
         go true e = omega (arith, eqb-true (number_of (get_or (read_at s (r - 1)).fields 0 [])) 0 e)
         go false e =
             let w = given-ref (reads_in s) (r - 1 + 1) 75 (number_of (get_or (read_at s (r - 1)).fields 0 [])) parts-good.0.fine (eqb-false (number_of (get_or (read_at s (r - 1)).fields 0 [])) 0 e) in
-            omega (arith, w.0, l.last, l.checked.whole.lined.few)
+            omega (arith, w.0, l.last, l.checked.whole.few)
 
     pub untyped : v ≡ 0 → (fd_at s r).ty ≡ None
     untyped z = rw (fd_is, sym type-number ∙ z)
@@ -107,7 +107,7 @@ module _ (s t : List ℕ) (n r : ℕ) (l : FieldLine s t n r) where
     placed-untyped z p = rw (untyped z) (record { end = refl; furthest = refl })
 
     module _ (z : v ≡ 0 → ⊥) where
-      pub type-line : TypeLine s t n v
+      pub type-line : TypeLine s v
       type-line =
           let w = given-ref (reads_in s) (r - 1 + 1) 75 v (rw (← type-number) at parts-good.0.fine) z in
           record { checked = l.checked; first = omega (arith, z); last = omega (arith, w.0, l.first, l.last); kind = w.1 }
@@ -142,15 +142,15 @@ pub record BehindLines (s : List ℕ) (f : Refs) (p q : Reached) (j : ℕ) : Typ
   pub furthest : furthest q.furthest (place q.end (fds_from s f.line (f.from + j) (f.count - j))).placed ≡ furthest p.furthest (place p.end (fds_of_refs s f)).placed
   pub small : q.end ≤ p.end + line_bytes * j
 
-module _ (s t : List ℕ) (n : ℕ) (f : Refs) (l : FieldRefs s t n f) where
-  pub refs-in : f.line - 1 < n
+module _ (s : List ℕ) (f : Refs) (l : FieldRefs s f) where
+  pub refs-in : f.line - 1 < lines_in s
   refs-in = omega (arith, l.first, l.last)
 
   module _ (j : ℕ) (h : j < f.count) (v : ℕ) (hv : v ≡ Number.number_up_to 65536 (get_or (read_at s (f.line - 1)).fields (f.from + j) [])) where
     line-number : v ≡ number_of (get_or (read_at s (f.line - 1)).fields (f.from + j) [])
-    line-number = hv ∙ number-exact (get_or (read_at s (f.line - 1)).fields (f.from + j) []) (l.number j h) (omega (arith, (l.each j h).last, l.checked.whole.lined.few))
+    line-number = hv ∙ number-exact (get_or (read_at s (f.line - 1)).fields (f.from + j) []) (l.number j h) (omega (arith, (l.each j h).last, l.checked.whole.few))
 
-    pub refs-line : FieldLine s t n v
+    pub refs-line : FieldLine s v
     refs-line = rw line-number (l.each j h)
 
     pub fields-next : fds_from s f.line (f.from + j) (f.count - j) ≡ fd_at s v ∷ fds_from s f.line (f.from + (j + 1)) (f.count - (j + 1))
@@ -181,7 +181,7 @@ module _ (s t : List ℕ) (n : ℕ) (f : Refs) (l : FieldRefs s t n f) where
 
 -- ---- a count at field `at` of line r, and as many references to `fd` lines
 
-module _ (s t : List ℕ) (n r : ℕ) (c : Checked s t n) (first : 0 < r) (last : r ≤ n) (at : ℕ) (near : at ≤ 250) (ps : List Part)
+module _ (s : List ℕ) (r : ℕ) (c : Checked s) (first : 0 < r) (last : r ≤ lines_in s) (at : ℕ) (near : at ≤ 250) (ps : List Part)
     (hf : fits (many (ref k_fd) ∷ ps) (drop at (read_at s (r - 1)).fields) ≡ true)
     (hr : fine_refs (reads_in s) (r - 1) (refs_in (many (ref k_fd) ∷ ps) (drop at (read_at s (r - 1)).fields)) ≡ true)
     (count : ℕ) (hc : count ≡ Number.number_up_to 65536 (get_or (read_at s (r - 1)).fields at [])) where
@@ -191,7 +191,7 @@ module _ (s t : List ℕ) (n r : ℕ) (c : Checked s t n) (first : 0 < r) (last 
   group-count : (count ≡ number_of (get_or (read_at s (r - 1)).fields at [])) × (count ≤ 16)
   group-count = count-exact (get_or (read_at s (r - 1)).fields at []) group.count hc
 
-  group-refs : FieldRefs s t n (record { line = r; from = at + 1; count = count })
+  group-refs : FieldRefs s (record { line = r; from = at + 1; count = count })
   group-refs = record {
     checked = c;
     first = first;
@@ -219,49 +219,49 @@ record RecordRow (s : List ℕ) (r : ℕ) : Type 0 where
   parts : (read_at s (r - 1)).form.parts ≡ one name ∷ (many (ref k_fd) ∷ behind)
   fields : common_fields s r ≡ fds_of (values (ref k_fd) (nodes_in s) (number_of (head_part (tail_parts (read_at s (r - 1)).fields))) (tail_parts (tail_parts (read_at s (r - 1)).fields)))
 
-module _ (s t : List ℕ) (n r : ℕ) (l : RecordLine s t n r) where
-  record-in : r - 1 < n
+module _ (s : List ℕ) (r : ℕ) (l : RecordLine s r) where
+  record-in : r - 1 < lines_in s
   record-in = omega (arith, l.first, l.last)
 
-  same-kind : kind_at (form_at t (r - 1)) ≡ letter (read_at s (r - 1)).form.kind
-  same-kind = sym (kind-is s t n l.checked.whole (r - 1) record-in)
+  same-kind : kind_at (form_at s (r - 1)) ≡ letter (read_at s (r - 1)).form.kind
+  same-kind = sym (kind-is s l.checked.whole (r - 1) record-in)
 
   record-row : RecordRow s r
   unfolding forms decl_at
   record-row = go (eqb (letter (read_at s (r - 1)).form.kind) 65) refl
     where
-      row : (f : ℕ) → form_at t (r - 1) ≡ f → (read_at s (r - 1)).form.parts ≡ (row_at f).parts
-      row f e = ap (λ (x : Row). x.parts) (form-is s t n l.checked.whole (r - 1) record-in) ∙ ap (λ (g : ℕ). (row_at g).parts) e
+      row : (f : ℕ) → form_at s (r - 1) ≡ f → (read_at s (r - 1)).form.parts ≡ (row_at f).parts
+      row f e = ap (λ (x : Row). x.parts) (form-is s l.checked.whole (r - 1) record-in) ∙ ap (λ (g : ℕ). (row_at g).parts) e
 
-      own : (f : ℕ) → form_at t (r - 1) ≡ f → common_fields s r ≡ (first_decl (row_node (nodes_in s) f (read_at s (r - 1)).fields).declares.adts).fields
+      own : (f : ℕ) → form_at s (r - 1) ≡ f → common_fields s r ≡ (first_decl (row_node (nodes_in s) f (read_at s (r - 1)).fields).declares.adts).fields
       own f e =
-          ap (λ (m : Node). (first_decl m.declares.adts).fields) (node-at s t n l.checked.whole l.checked.good (r - 1) record-in)
+          ap (λ (m : Node). (first_decl m.declares.adts).fields) (node-at s l.checked.whole l.checked.good (r - 1) record-in)
           ∙ ap (λ (g : ℕ). (first_decl (row_node (nodes_in s) g (read_at s (r - 1)).fields).declares.adts).fields) e
 
       go : (b : Bool) → eqb (letter (read_at s (r - 1)).form.kind) 65 ≡ b → RecordRow s r
       go true q =
-          let e = adt-form (form_at t (r - 1)) (form-low s t n l.checked.whole (r - 1) record-in) (same-kind ∙ eqb-true _ _ q) in
+          let e = adt-form (form_at s (r - 1)) (form-low s l.checked.whole (r - 1) record-in) (same-kind ∙ eqb-true _ _ q) in
           record { behind = []; parts = row 26 e; fields = own 26 e }
       go false q =
           let k : eqb (letter (read_at s (r - 1)).form.kind) 66 ≡ true = rw q at l.kind in
-          let e = pick-form (form_at t (r - 1)) (form-low s t n l.checked.whole (r - 1) record-in) (same-kind ∙ eqb-true _ _ k) in
+          let e = pick-form (form_at s (r - 1)) (form-low s l.checked.whole (r - 1) record-in) (same-kind ∙ eqb-true _ _ k) in
           record { behind = many (ref k_pc) ∷ []; parts = row 27 e; fields = own 27 e }
 
   record-fits : (fits (many (ref k_fd) ∷ record-row.behind) (drop 1 (read_at s (r - 1)).fields) ≡ true)
       × (fine_refs (reads_in s) (r - 1) (refs_in (many (ref k_fd) ∷ record-row.behind) (drop 1 (read_at s (r - 1)).fields)) ≡ true)
   record-fits =
       name-first (reads_in s) (r - 1) (many (ref k_fd) ∷ record-row.behind) (read_at s (r - 1)).fields
-      (rw (← form-is s t n l.checked.whole (r - 1) record-in, record-row.parts) at (read_fits s t n l.checked.whole (r - 1) record-in))
+      (rw (← form-is s l.checked.whole (r - 1) record-in, record-row.parts) at (read_fits s l.checked.whole (r - 1) record-in))
       (rw record-row.parts at (l.checked.fine (r - 1) record-in))
 
   module _ (count : ℕ) (hc : count ≡ Number.number_up_to 65536 (get_or (read_at s (r - 1)).fields 1 [])) where
-    pub common-refs : FieldRefs s t n (record { line = r; from = 2; count = count })
-    common-refs = group-refs s t n r l.checked l.first l.last 1 (omega arith) record-row.behind record-fits.0 record-fits.1 count hc
+    pub common-refs : FieldRefs s (record { line = r; from = 2; count = count })
+    common-refs = group-refs s r l.checked l.first l.last 1 (omega arith) record-row.behind record-fits.0 record-fits.1 count hc
 
     pub common-is : common_fields s r ≡ fds_from s r 2 count
     common-is =
         record-row.fields ∙ rw (tail-drop 0 (read_at s (r - 1)).fields)
-        (group-fields s t n r l.checked l.first l.last 1 (omega arith) record-row.behind record-fits.0 record-fits.1 count hc)
+        (group-fields s r l.checked l.first l.last 1 (omega arith) record-row.behind record-fits.0 record-fits.1 count hc)
 
 -- ---- a `pc` line: the group of its fields stands behind that of its tags
 
@@ -280,20 +280,20 @@ module _ (ls : List Read) (i : ℕ) (ps : List Part) where
       let v = names-first (number_of f) fs w.1 k in
       (w.0, v.0, v.1)
 
-module _ (s t : List ℕ) (n r : ℕ) (l : CaseLine s t n r) where
-  pub case-in : r - 1 < n
+module _ (s : List ℕ) (r : ℕ) (l : CaseLine s r) where
+  pub case-in : r - 1 < lines_in s
   case-in = omega (arith, l.first, l.last)
 
-  pub form-pc : form_at t (r - 1) ≡ 25
-  form-pc = case-form (form_at t (r - 1)) (form-low s t n l.checked.whole (r - 1) case-in) (sym (kind-is s t n l.checked.whole (r - 1) case-in) ∙ l.kind)
+  pub form-pc : form_at s (r - 1) ≡ 25
+  form-pc = case-form (form_at s (r - 1)) (form-low s l.checked.whole (r - 1) case-in) (sym (kind-is s l.checked.whole (r - 1) case-in) ∙ l.kind)
 
   pub case-good : (is_count (get_or (read_at s (r - 1)).fields 0 []) ≡ true) × (fits (many (ref k_fd) ∷ []) (drop (suc (number_of (get_or (read_at s (r - 1)).fields 0 []))) (read_at s (r - 1)).fields) ≡ true)
       × (fine_refs (reads_in s) (r - 1) (refs_in (many (ref k_fd) ∷ []) (drop (suc (number_of (get_or (read_at s (r - 1)).fields 0 []))) (read_at s (r - 1)).fields)) ≡ true)
   unfolding forms
   case-good =
       let w = l.checked.whole in
-      let p : (read_at s (r - 1)).form.parts ≡ many name ∷ (many (ref k_fd) ∷ []) = ap (λ (x : Row). x.parts) (form-is s t n w (r - 1) case-in) ∙ ap (λ (g : ℕ). (row_at g).parts) form-pc in
-      tags-first (reads_in s) (r - 1) (many (ref k_fd) ∷ []) (read_at s (r - 1)).fields (rw form-pc at (read_fits s t n w (r - 1) case-in)) (rw p at (l.checked.fine (r - 1) case-in))
+      let p : (read_at s (r - 1)).form.parts ≡ many name ∷ (many (ref k_fd) ∷ []) = ap (λ (x : Row). x.parts) (form-is s w (r - 1) case-in) ∙ ap (λ (g : ℕ). (row_at g).parts) form-pc in
+      tags-first (reads_in s) (r - 1) (many (ref k_fd) ∷ []) (read_at s (r - 1)).fields (rw form-pc at (read_fits s w (r - 1) case-in)) (rw p at (l.checked.fine (r - 1) case-in))
 
   module _ (tags : ℕ) (ht : tags ≡ Number.number_up_to 65536 (get_or (read_at s (r - 1)).fields 0 [])) where
     tags-exact : (suc (number_of (get_or (read_at s (r - 1)).fields 0 [])) ≡ tags + 1) × (tags ≤ 16)
@@ -303,13 +303,13 @@ module _ (s t : List ℕ) (n r : ℕ) (l : CaseLine s t n r) where
     tags-few = tags-exact.1
 
     module _ (count : ℕ) (hc : count ≡ Number.number_up_to 65536 (get_or (read_at s (r - 1)).fields (tags + 1) [])) where
-      pub case-refs : FieldRefs s t n (record { line = r; from = tags + 1 + 1; count = count })
+      pub case-refs : FieldRefs s (record { line = r; from = tags + 1 + 1; count = count })
       case-refs =
-          group-refs s t n r l.checked l.first l.last (tags + 1) (omega (arith, tags-few)) [] (rw tags-exact.0 at case-good.1) (rw tags-exact.0 at case-good.2) count hc
+          group-refs s r l.checked l.first l.last (tags + 1) (omega (arith, tags-few)) [] (rw tags-exact.0 at case-good.1) (rw tags-exact.0 at case-good.2) count hc
 
       pub case-is : case_fields s r ≡ fds_from s r (tags + 1 + 1) count
       unfolding forms
       case-is =
-          ap (λ (m : Node). m.case.fields) (node-at s t n l.checked.whole l.checked.good (r - 1) case-in)
+          ap (λ (m : Node). m.case.fields) (node-at s l.checked.whole l.checked.good (r - 1) case-in)
           ∙ rw (form-pc, head-drop 0 (read_at s (r - 1)).fields, tags-exact.0)
-          (group-fields s t n r l.checked l.first l.last (tags + 1) (omega (arith, tags-few)) [] (rw tags-exact.0 at case-good.1) (rw tags-exact.0 at case-good.2) count hc)
+          (group-fields s r l.checked l.first l.last (tags + 1) (omega (arith, tags-few)) [] (rw tags-exact.0 at case-good.1) (rw tags-exact.0 at case-good.2) count hc)

@@ -11,7 +11,7 @@ use Rattle.semantics.specs.Refusal.{sum_of}
 use Rattle.semantics.specs.Layout.{records_of, recorded_adts, record_log}
 use Rattle.layout.specs.Lines.{decl_lines}
 use Rattle.layout.proofs.Bounds.{SizeAtMost, FitsSheet, sheet-records-bound}
-use Rattle.lines.specs.Lines.{nodes_in}
+use Rattle.lines.specs.Lines.{lines_in, nodes_in}
 use Rattle.refs.proofs.Nodes.{node-count}
 use Rattle.checks.specs.Checks.{Checked}
 use Rattle.sizes.proofs.Rows.{FewDecl}
@@ -36,16 +36,16 @@ small_all : (ds : List AdtDecl) → Every FewDecl ds → sum_of decl_lines ds �
 small_all [] u l = tt
 small_all (d ∷ ds) u l = ((u.0.0, u.0.1, omega arith), small_all ds u.1 (omega arith))
 
-module _ (s t : List ℕ) (n : ℕ) (c : Checked s t n) where
-  module _ (r : ℕ) (first : 0 < r) (last : r ≤ n) where
+module _ (s : List ℕ) (c : Checked s) where
+  module _ (r : ℕ) (first : 0 < r) (last : r ≤ lines_in s) where
     line_small : Every FitsSheet (node_at (nodes_in s) r).declares.adts
     line_small =
-        small_all (node_at (nodes_in s) r).declares.adts (few-at s t n c r).2 (omega (arith, decl-lines s t n c r first last, c.whole.lined.few))
+        small_all (node_at (nodes_in s) r).declares.adts (few-at s c r).2 (omega (arith, decl-lines s c r first last, c.whole.few))
 
   all_small : Every (λ (m : Node). Every FitsSheet m.declares.adts) (nodes_in s)
   all_small =
       every_of (λ (m : Node). Every FitsSheet m.declares.adts) no_node (nodes_in s)
-      (λ i l. let z : suc i - 1 ≡ i = omega arith in rw z at (line_small (suc i) (omega arith) (omega (arith, node-count s t n c.whole))))
+      (λ i l. let z : suc i - 1 ≡ i = omega arith in rw z at (line_small (suc i) (omega arith) (omega (arith, node-count s c.whole))))
 
   -- all that a checked sheet declares
   checked-small : Every FitsSheet (recorded_adts (sheet_source s))

@@ -23,7 +23,7 @@ use Rattle.layout.proofs.Bounds.{size-bound}
 use Rattle.decimal.specs.Number as Number
 use Rattle.form.specs.Table.{row_at, row_node}
 use Rattle.semantics.proofs.Common.{never, both}
-use Rattle.lines.specs.Lines.{reads_in, read_at, nodes_in, form_at}
+use Rattle.lines.specs.Lines.{lines_in, reads_in, read_at, nodes_in, form_at}
 use Rattle.lines.proofs.Line.{form-low, form-is, kind-is, read_fits}
 use Rattle.refs.specs.Refs.{fine_ref, fine_refs}
 use Rattle.refs.proofs.Fine.{needed-ref}
@@ -50,24 +50,24 @@ module _ (ns : List Node) (fs : List (List ℕ)) where
 
 -- ---- the type of a line
 
-module _ {s t : List ℕ} {n r : ℕ} (l : TypeLine s t n r) where
-  pub in-sheet : r - 1 < n
+module _ {s : List ℕ} {r : ℕ} (l : TypeLine s r) where
+  pub in-sheet : r - 1 < lines_in s
   in-sheet = omega (arith, l.first, l.last)
 
-  type-is : type_at s r ≡ (row_node (nodes_in s) (form_at t (r - 1)) (read_at s (r - 1)).fields).ty
-  type-is = ap (λ (m : Node). m.ty) (node-at s t n l.checked.whole l.checked.good (r - 1) in-sheet)
+  type-is : type_at s r ≡ (row_node (nodes_in s) (form_at s (r - 1)) (read_at s (r - 1)).fields).ty
+  type-is = ap (λ (m : Node). m.ty) (node-at s l.checked.whole l.checked.good (r - 1) in-sheet)
 
-  form-first : form_at t (r - 1) < 8
-  form-first = type-form (form_at t (r - 1)) (form-low s t n l.checked.whole (r - 1) in-sheet) (sym (kind-is s t n l.checked.whole (r - 1) in-sheet) ∙ l.kind)
+  form-first : form_at s (r - 1) < 8
+  form-first = type-form (form_at s (r - 1)) (form-low s l.checked.whole (r - 1) in-sheet) (sym (kind-is s l.checked.whole (r - 1) in-sheet) ∙ l.kind)
 
   -- 8 bytes for each of its lines
   size_small : size_of (type_at s r) ≤ 8192
-  size_small = omega (arith, size-bound (type_at s r), type-lines s t n l.checked r l.first l.last, l.checked.whole.lined.few, l.last)
+  size_small = omega (arith, size-bound (type_at s r), type-lines s l.checked r l.first l.last, l.checked.whole.few, l.last)
 
   measured : {a b : ℕ} → a ≡ size_of (type_at s r) → b ≡ align_of (type_at s r) → Measures (type_at s r) a b
   measured e g = record { whole = e; step = g; small = omega (arith, size_small); low = omega (arith, four-or-eight (λ a. a ≤ 8) (omega arith) (omega arith) (type_at s r)) }
 
-  module _ {f : ℕ} (hf : f ≡ form_at t (r - 1)) where
+  module _ {f : ℕ} (hf : f ≡ form_at s (r - 1)) where
     pub measures-plain : (f ≡ 7 → ⊥) → (b : Bool) → b ≡ is_long f → Measures (type_at s r) (cond b 8 4) (cond b 8 4)
     measures-plain a b e =
         let w = plain_size (nodes_in s) (read_at s (r - 1)).fields f (omega (arith, form-first)) a in
@@ -163,14 +163,14 @@ pub record Measuring (s : List ℕ) (r count size align j : ℕ) : Type 0 where
   pub small : size ≤ 8192
   pub word : 4 ≤ align
 
-module _ {s t : List ℕ} {n r : ℕ} (l : TupleLine s t n r) {count : ℕ} (hc : count ≡ Number.number_up_to 65536 (get_or (read_at s (r - 1)).fields 0 [])) where
+module _ {s : List ℕ} {r : ℕ} (l : TupleLine s r) {count : ℕ} (hc : count ≡ Number.number_up_to 65536 (get_or (read_at s (r - 1)).fields 0 [])) where
   fields-good : (is_count (get_or (read_at s (r - 1)).fields 0 []) ≡ true) × ((j : ℕ) → j < number_of (get_or (read_at s (r - 1)).fields 0 []) → Good (reads_in s) (r - 1) 75 (get_or (read_at s (r - 1)).fields (suc j) []))
   unfolding forms
   fields-good =
       let w = l.line.checked.whole in
       let h = in-sheet l.line in
-      let p : (read_at s (r - 1)).form.parts ≡ many (ref k_ty) ∷ [] = ap (λ (x : Row). x.parts) (form-is s t n w (r - 1) h) ∙ ap (λ (g : ℕ). (row_at g).parts) l.form in
-      group-good (reads_in s) (r - 1) k_ty [] (read_at s (r - 1)).fields (rw l.form at (read_fits s t n w (r - 1) h)) (rw p at (l.line.checked.fine (r - 1) h))
+      let p : (read_at s (r - 1)).form.parts ≡ many (ref k_ty) ∷ [] = ap (λ (x : Row). x.parts) (form-is s w (r - 1) h) ∙ ap (λ (g : ℕ). (row_at g).parts) l.form in
+      group-good (reads_in s) (r - 1) k_ty [] (read_at s (r - 1)).fields (rw l.form at (read_fits s w (r - 1) h)) (rw p at (l.line.checked.fine (r - 1) h))
 
   count-is : count ≡ number_of (get_or (read_at s (r - 1)).fields 0 [])
   count-is = (count-exact (get_or (read_at s (r - 1)).fields 0 []) fields-good.0 hc).0
@@ -209,10 +209,10 @@ module _ {s t : List ℕ} {n r : ℕ} (l : TupleLine s t n r) {count : ℕ} (hc 
       number_is : v ≡ number_of (get_or (read_at s (r - 1)).fields (j + 1) [])
       number_is =
           hv ∙ number-exact (get_or (read_at s (r - 1)).fields (j + 1) []) ref-good.number
-          (omega (arith, ref-is.1, l.line.last, l.line.checked.whole.lined.few))
+          (omega (arith, ref-is.1, l.line.last, l.line.checked.whole.few))
 
       -- a field is the type of an earlier line
-      pub field-line : TypeLine s t n v
+      pub field-line : TypeLine s v
       field-line = record {
         checked = l.line.checked;
         first = omega (arith, number_is, ref-is.0);

@@ -7,7 +7,7 @@ use Rattle.semantics.specs.Form.Kind.{k_fd}
 use Rattle.semantics.specs.Form.Atom.{ref}
 use Rattle.semantics.specs.Layout as Layout
 use Rattle.semantics.specs.Layout.{place_line, place}
-use Rattle.lines.specs.Lines.{read_at, nodes_in}
+use Rattle.lines.specs.Lines.{lines_in, read_at, nodes_in}
 use Rattle.checks.specs.Checks.{Checked, KindLine}
 use Rattle.sizes.specs.declared.place.Reached.{Reached}
 use Rattle.sizes.specs.declared.place.Refs.{Refs}
@@ -17,8 +17,8 @@ abbrev pub fd_at : Bytes → ℕ → Fd
 fd_at s r = (node_at (nodes_in s) r).fd
 
 -- line r of a checked sheet is an `fd` line, 70
-abbrev pub FieldLine : Bytes → Bytes → ℕ → ℕ → Type 0
-FieldLine s t n r = KindLine 70 s t n r
+abbrev pub FieldLine : Bytes → ℕ → Type 0
+FieldLine s r = KindLine 70 s r
 
 -- what `count` fields of line r from field `from` on refer to
 abbrev pub fds_from : Bytes → ℕ → ℕ → ℕ → List Fd
@@ -28,14 +28,14 @@ abbrev pub fds_of_refs : Bytes → Refs → List Fd
 fds_of_refs s f = fds_from s f.line f.from f.count
 
 -- they refer to `fd` lines
-pub record FieldRefs (s t : Bytes) (n : ℕ) (f : Refs) : Type 0 where
-  pub checked : Checked s t n
+pub record FieldRefs (s : Bytes) (f : Refs) : Type 0 where
+  pub checked : Checked s
   pub first : 0 < f.line
-  pub last : f.line ≤ n
+  pub last : f.line ≤ lines_in s
   pub near : f.from ≤ 255
   pub few : f.count ≤ 16
   pub number : (j : ℕ) → j < f.count → is_number (get_or (read_at s (f.line - 1)).fields (f.from + j) []) ≡ true
-  pub each : (j : ℕ) → j < f.count → FieldLine s t n (number_of (get_or (read_at s (f.line - 1)).fields (f.from + j) []))
+  pub each : (j : ℕ) → j < f.count → FieldLine s (number_of (get_or (read_at s (f.line - 1)).fields (f.from + j) []))
 
 -- what line r declares
 abbrev pub first_decl : List AdtDecl → AdtDecl
@@ -54,10 +54,10 @@ abbrev pub is_record : Bytes → ℕ → Bool
 is_record s r = eqb (letter (read_at s (r - 1)).form.kind) 65 || eqb (letter (read_at s (r - 1)).form.kind) 66
 
 -- and in a checked sheet
-pub record RecordLine (s t : Bytes) (n r : ℕ) : Type 0 where
-  pub checked : Checked s t n
+pub record RecordLine (s : Bytes) (r : ℕ) : Type 0 where
+  pub checked : Checked s
   pub first : 0 < r
-  pub last : r ≤ n
+  pub last : r ≤ lines_in s
   pub kind : is_record s r ≡ true
 
 -- the fields of the case that line r makes
@@ -65,8 +65,8 @@ abbrev pub case_fields : Bytes → ℕ → List Fd
 case_fields s r = (node_at (nodes_in s) r).case.fields
 
 -- line r of a checked sheet is a `pc` line, 67
-abbrev pub CaseLine : Bytes → Bytes → ℕ → ℕ → Type 0
-CaseLine s t n r = KindLine 67 s t n r
+abbrev pub CaseLine : Bytes → ℕ → Type 0
+CaseLine s r = KindLine 67 s r
 
 -- ---- how far fields reach at most
 

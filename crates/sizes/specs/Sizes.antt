@@ -16,13 +16,13 @@ abbrev pub type_at : Bytes → ℕ → Ty
 type_at s r = (node_at (nodes_in s) r).ty
 
 -- line r of a checked sheet is a `ty` line, 75
-abbrev pub TypeLine : Bytes → Bytes → ℕ → ℕ → Type 0
-TypeLine s t n r = KindLine 75 s t n r
+abbrev pub TypeLine : Bytes → ℕ → Type 0
+TypeLine s r = KindLine 75 s r
 
 -- and a tuple's
-pub record TupleLine (s t : Bytes) (n r : ℕ) : Type 0 where
-  pub line : TypeLine s t n r
-  pub form : form_at t (r - 1) ≡ 7
+pub record TupleLine (s : Bytes) (r : ℕ) : Type 0 where
+  pub line : TypeLine s r
+  pub form : form_at s (r - 1) ≡ 7
 
 -- the size and the alignment of a type, with bounds that hold of every type of a checked sheet
 pub record Measures (t : Ty) (size align : ℕ) : Type 0 where

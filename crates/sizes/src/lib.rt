@@ -8,6 +8,7 @@ ghost use Rattle.semantics.specs.Layout.{align_up, rounded_size, is_ptr};
 ghost use Rattle.sizes.specs.Sizes.{is_long, type_at, TypeLine, TupleLine, Measures};
 
 use codes::ty;
+use lines::Sheet;
 
 #[derive(Clone, Copy)]
 pub struct SizeAlign {
@@ -43,22 +44,22 @@ fn is_long(f: usize) -> bool
 }
 
 // Whether the type of line r marks its first word as a pointer: all but int, byte, big and real do.
-pub fn is_pointer(sheet: &[u8], work: &[u8], n: usize, r: usize) -> bool
-    requires { TypeLine sheet.now work.now n r }
+pub fn is_pointer(sheet: &Sheet, r: usize) -> bool
+    requires { TypeLine sheet.now r }
     ensures { result ≡ is_ptr (type_at sheet.now r) }
 {
-    ty::REAL < lines::form_at(work, r - 1)
+    ty::REAL < sheet.form_at(r - 1)
 }
 
 // Size and alignment of the type of line r, both in one descent: a tuple's fields are measured once each.
 #[cycle(tuple_size_align_type_size_align)]
-pub fn type_size_align(sheet: &[u8], work: &[u8], n: usize, r: usize) -> SizeAlign
-    requires { TypeLine sheet.now work.now n r }
+pub fn type_size_align(sheet: &Sheet, r: usize) -> SizeAlign
+    requires { TypeLine sheet.now r }
     ensures { Measures (type_at sheet.now r) result.size result.align }
 {
-    let f = lines::form_at(work, r - 1);
+    let f = sheet.form_at(r - 1);
     if f == ty::TUPLE {
-        return tuple_size_align(sheet, work, n, r);
+        return tuple_size_align(sheet, r);
     }
     if is_long(f) {
         return SizeAlign { size: 8, align: 8 };
@@ -69,15 +70,15 @@ pub fn type_size_align(sheet: &[u8], work: &[u8], n: usize, r: usize) -> SizeAli
 
 // The same of a tuple: each field is aligned, and the whole is rounded up to words only.
 #[cycle(tuple_size_align_type_size_align)]
-fn tuple_size_align(sheet: &[u8], work: &[u8], n: usize, r: usize) -> SizeAlign
-    requires { TupleLine sheet.now work.now n r }
+fn tuple_size_align(sheet: &Sheet, r: usize) -> SizeAlign
+    requires { TupleLine sheet.now r }
     ensures { Measures (type_at sheet.now r) result.size result.align }
 {
-    let count = lines::number_at(sheet, work, n, r - 1, 0);
+    let count = sheet.number_at(r - 1, 0);
     let mut t = SizeAlign { size: 0, align: 4 };
     for j in 0..count {
-        let field = lines::number_at(sheet, work, n, r - 1, j + 1);
-        t = behind(t, type_size_align(sheet, work, n, field));
+        let field = sheet.number_at(r - 1, j + 1);
+        t = behind(t, type_size_align(sheet, field));
     }
     SizeAlign {
         size: rounded_size(t.size),

@@ -7,6 +7,7 @@ ghost use Rattle.sizes.specs.Places.{fd_at, fds_of_refs, common_fields, case_fie
 
 use crate::{SizeAlign, is_pointer, type_size_align};
 use layout::align::align_up;
+use lines::Sheet;
 
 // The `count` fields of a line from field `from` on, which refer to `fd` lines.
 #[derive(Clone, Copy)]
@@ -17,11 +18,11 @@ pub struct Refs {
 }
 
 // Those of the `adt` or `pick` line r that are no case's.
-pub fn common_refs(sheet: &[u8], work: &[u8], n: usize, r: usize) -> Refs
-    requires { RecordLine sheet.now work.now n r }
-    ensures { (FieldRefs sheet.now work.now n result) × (fds_of_refs sheet.now result ≡ common_fields sheet.now r) }
+pub fn common_refs(sheet: &Sheet, r: usize) -> Refs
+    requires { RecordLine sheet.now r }
+    ensures { (FieldRefs sheet.now result) × (fds_of_refs sheet.now result ≡ common_fields sheet.now r) }
 {
-    let count = lines::number_at(sheet, work, n, r - 1, 1);
+    let count = sheet.number_at(r - 1, 1);
     Refs {
         line: r,
         from: 2,
@@ -30,12 +31,12 @@ pub fn common_refs(sheet: &[u8], work: &[u8], n: usize, r: usize) -> Refs
 }
 
 // Those of the `pc` line r, which follow its tags.
-pub fn case_refs(sheet: &[u8], work: &[u8], n: usize, r: usize) -> Refs
-    requires { CaseLine sheet.now work.now n r }
-    ensures { (FieldRefs sheet.now work.now n result) × (fds_of_refs sheet.now result ≡ case_fields sheet.now r) }
+pub fn case_refs(sheet: &Sheet, r: usize) -> Refs
+    requires { CaseLine sheet.now r }
+    ensures { (FieldRefs sheet.now result) × (fds_of_refs sheet.now result ≡ case_fields sheet.now r) }
 {
-    let at = lines::number_at(sheet, work, n, r - 1, 0) + 1;
-    let count = lines::number_at(sheet, work, n, r - 1, at);
+    let at = sheet.number_at(r - 1, 0) + 1;
+    let count = sheet.number_at(r - 1, at);
     Refs {
         line: r,
         from: at + 1,
@@ -65,46 +66,46 @@ fn place_line(p: Reached, x: SizeAlign, pointer: bool, names: usize) -> Reached
 }
 
 // Behind the `fd` line r. An untyped one is skipped.
-fn place_field(sheet: &[u8], work: &[u8], n: usize, r: usize, p: Reached) -> Reached
-    requires { (FieldLine sheet.now work.now n r) × (p.end ≤ case_end) }
+fn place_field(sheet: &Sheet, r: usize, p: Reached) -> Reached
+    requires { (FieldLine sheet.now r) × (p.end ≤ case_end) }
     ensures { (LinePlaced (fd_at sheet.now r).ty (fd_at sheet.now r).names p result) × (result.end ≤ p.end + line_bytes) }
 {
-    let t = lines::number_at(sheet, work, n, r - 1, 0);
+    let t = sheet.number_at(r - 1, 0);
     if t == 0 {
         return p;
     }
-    let x = type_size_align(sheet, work, n, t);
-    let pointer = is_pointer(sheet, work, n, t);
-    place_line(p, x, pointer, lines::number_at(sheet, work, n, r - 1, 1))
+    let x = type_size_align(sheet, t);
+    let pointer = is_pointer(sheet, t);
+    place_line(p, x, pointer, sheet.number_at(r - 1, 1))
 }
 
 // Behind the `fd` lines to which these fields refer.
-fn place_fields(sheet: &[u8], work: &[u8], n: usize, f: Refs, p: Reached) -> Reached
-    requires { (FieldRefs sheet.now work.now n f) × (p.end ≤ common_end) }
+fn place_fields(sheet: &Sheet, f: Refs, p: Reached) -> Reached
+    requires { (FieldRefs sheet.now f) × (p.end ≤ common_end) }
     ensures { (AllPlaced (fds_of_refs sheet.now f) p result) × (result.end ≤ p.end + group_bytes) }
 {
     let mut q = p;
     for j in 0..f.count {
-        let r = lines::number_at(sheet, work, n, f.line - 1, f.from + j);
-        q = place_field(sheet, work, n, r, q);
+        let r = sheet.number_at(f.line - 1, f.from + j);
+        q = place_field(sheet, r, q);
     }
     q
 }
 
 // Behind the fields of the `adt` or `pick` line r that are no case's. They begin at 0, or behind a pick's tag at 4.
-pub fn place_common(sheet: &[u8], work: &[u8], n: usize, r: usize, p: Reached) -> Reached
-    requires { (RecordLine sheet.now work.now n r) × (p.end ≤ 4) }
+pub fn place_common(sheet: &Sheet, r: usize, p: Reached) -> Reached
+    requires { (RecordLine sheet.now r) × (p.end ≤ 4) }
     ensures { (AllPlaced (common_fields sheet.now r) p result) × (result.end ≤ common_end) }
 {
-    let f = common_refs(sheet, work, n, r);
-    place_fields(sheet, work, n, f, p)
+    let f = common_refs(sheet, r);
+    place_fields(sheet, f, p)
 }
 
 // Behind the fields of the `pc` line r.
-pub fn place_case(sheet: &[u8], work: &[u8], n: usize, r: usize, p: Reached) -> Reached
-    requires { (CaseLine sheet.now work.now n r) × (p.end ≤ common_end) }
+pub fn place_case(sheet: &Sheet, r: usize, p: Reached) -> Reached
+    requires { (CaseLine sheet.now r) × (p.end ≤ common_end) }
     ensures { (AllPlaced (case_fields sheet.now r) p result) × (result.end ≤ case_end) }
 {
-    let f = case_refs(sheet, work, n, r);
-    place_fields(sheet, work, n, f, p)
+    let f = case_refs(sheet, r);
+    place_fields(sheet, f, p)
 }

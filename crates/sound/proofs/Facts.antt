@@ -56,9 +56,9 @@ module _ {A : Type 0} (f : Declares → List A) where
 
 -- ---- the facts
 
-module _ (s t : Bytes) (n : ℕ) (c : Checked s t n) where
+module _ (s : Bytes) (c : Checked s) where
   abbrev nodes : Every LimitedNode (nodes_in s)
-  nodes = nodes-limited s t n c.whole
+  nodes = nodes-limited s c.whole
 
   adts-plain : Every (λ (a : Located AdtDecl). PlainAdt a.it × PlainWithin a.within) (sheet_source s).adts
   unfolding sheet_source

@@ -17,7 +17,7 @@ use Rattle.semantics.specs.Refusal.{no_read}
 use Rattle.form.specs.Table.{row_at, keywords_at}
 use Rattle.form.proofs.Table as Table
 use Rattle.form.proofs.Table.{row-count, each_at, done, ◌also◌}
-use Rattle.lines.specs.Lines.{reads_in, read_at, nodes_in, form_at, text_at, Whole}
+use Rattle.lines.specs.Lines.{lines_in, reads_in, read_at, nodes_in, form_at, text_at, Whole}
 use Rattle.lines.proofs.Line.{line-count, line-short, form-low, form-is, fields-are, read_fits}
 use Rattle.stored.proofs.Rows.{Plain}
 use Rattle.stored.proofs.Names.{PlainFields, PlainPick, PlainAdt}
@@ -122,20 +122,20 @@ unfolding nodes_from
 nodes-keep [] ns k h = h
 nodes-keep (r ∷ rs) ns k h = nodes-keep rs (ns ++ (node_of ns r ∷ [])) k.1 (every_append LimitedNode ns (node_of ns r ∷ []) h (k.0 ns h, tt))
 
-module _ (s t : Bytes) (n : ℕ) (w : Whole s t n) where
-  module _ (i : ℕ) (h : i < n) where
+module _ (s : Bytes) (w : Whole s) where
+  module _ (i : ℕ) (h : i < lines_in s) where
     fits-row : fits (read_at s i).form.parts (read_at s i).fields ≡ true
-    fits-row = rw (form-is s t n w i h) (read_fits s t n w i h)
+    fits-row = rw (form-is s w i h) (read_fits s w i h)
 
     row_keeps : RowKeeps (read_at s i).form
-    row_keeps = rw (form-is s t n w i h) (each_at RowKeeps forms all_keep (form_at t i) (omega (arith, row-count, form-low s t n w i h)))
+    row_keeps = rw (form-is s w i h) (each_at RowKeeps forms all_keep (form_at s i) (omega (arith, row-count, form-low s w i h)))
 
     line-fields : Every (Short 255) (read_at s i).fields
-    line-fields = rw (fields-are s t n w i h) (fields-short 255 (length (keywords_at (form_at t i)) + 1) (text_at s i) (line-short (i + 1) (text_at s i) (w.lined.good i h)))
+    line-fields = rw (fields-are s w i h) (fields-short 255 (length (keywords_at (form_at s i)) + 1) (text_at s i) (line-short (i + 1) (text_at s i) (w.lined.good i h)))
 
     line-keeps : LineKeeps (read_at s i)
     unfolding node_of
     line-keeps ns b = make-limited ns b (read_at s i).form.parts (read_at s i).form.make (read_at s i).fields fits-row line-fields row_keeps
 
   pub nodes-limited : Every LimitedNode (nodes_in s)
-  nodes-limited = nodes-keep (reads_in s) [] (every_of LineKeeps no_read (reads_in s) (λ i l. line-keeps i (omega (arith, line-count s t n w)))) tt
+  nodes-limited = nodes-keep (reads_in s) [] (every_of LineKeeps no_read (reads_in s) (λ i l. line-keeps i (omega (arith, line-count s)))) tt

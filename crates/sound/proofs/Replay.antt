@@ -11,7 +11,7 @@ use Rattle.replay.specs.Whole.{Replays}
 use Rattle.replay.proofs.Meets.{Meets, sheet-meets}
 use Rattle.sound.proofs.Facts.{plain-source, few-frames, few-needs, sound-firsts}
 
-pub sheet-replayed : (s t : Bytes) (n : ℕ) → Checked s t n → (b : Buffers) {u v image image' area area' : Bytes} {r : Option (ℕ × ℕ)} → length image ≡ b.image → length area ≡ b.area
+pub sheet-replayed : (s : Bytes) → Checked s → (b : Buffers) {u v image image' area area' : Bytes} {r : Option (ℕ × ℕ)} → length image ≡ b.image → length area ≡ b.area
     → Replays (source_listing (sheet_source s)) (source_globals (sheet_source s)).end u v image image' area area' r
     → Meets (replayed b (source_globals (sheet_source s))) b.image b.area r image' area'
-sheet-replayed s t n c b = sheet-meets (sheet_source s) b (plain-source s t n c) (few-frames s t n c) (few-needs s t n c) (sound-firsts s t n c)
+sheet-replayed s c b = sheet-meets (sheet_source s) b (plain-source s c) (few-frames s c) (few-needs s c) (sound-firsts s c)

@@ -7,7 +7,7 @@ use Rattle.semantics.specs.Tree.{Node}
 use Rattle.semantics.specs.Form.{Row, letter, forms, make}
 use Rattle.form.specs.Table.{row_at}
 use Rattle.form.proofs.Table.{row-count, Each, done, ◌also◌, each_at}
-use Rattle.lines.specs.Lines.{read_at, nodes_in, form_at}
+use Rattle.lines.specs.Lines.{lines_in, read_at, nodes_in, form_at}
 use Rattle.lines.proofs.Line.{form-low, kind-is}
 use Rattle.refs.proofs.Nodes.{node-at}
 use Rattle.checks.specs.Checks.{Checked}
@@ -58,10 +58,10 @@ all-declare =
     module-line also (λ ns fs. refl) also impl also frame also (λ ns fs. refl) also (λ ns fs. refl) also
     (λ ns fs. refl) also (λ ns fs. refl) also (λ ns fs. refl) also (λ ns fs. refl) also (λ ns fs. refl) also (λ ns fs. refl) also done
 
-module _ (s t : List ℕ) (n : ℕ) (c : Checked s t n) (i : ℕ) (h : i < n) where
+module _ (s : List ℕ) (c : Checked s) (i : ℕ) (h : i < lines_in s) where
   -- what line i declares, from 0
   pub line-declares : declares_at (nodes_in s) i ≡ by_kind (letter (read_at s i).form.kind) (nodes_in s) (read_at s i).fields (declares_at (nodes_in s) i)
   line-declares =
-      let e = ap (λ (m : Node). m.declares) (node-at s t n c.whole c.good i h) in
-      let g = each_at DeclaresAs forms all-declare (form_at t i) (omega (arith, row-count, form-low s t n c.whole i h)) (nodes_in s) (read_at s i).fields in
-      e ∙ g ∙ rw (kind-is s t n c.whole i h, ← e)
+      let e = ap (λ (m : Node). m.declares) (node-at s c.whole c.good i h) in
+      let g = each_at DeclaresAs forms all-declare (form_at s i) (omega (arith, row-count, form-low s c.whole i h)) (nodes_in s) (read_at s i).fields in
+      e ∙ g ∙ rw (kind-is s c.whole i h, ← e)

@@ -7,7 +7,7 @@ use lib.ListN.{length, take, drop}
 use lib.Seq.{drop-drop}
 use Rattle.semantics.specs.Text.{Bytes}
 use Rattle.checks.specs.Checks.{Checked, Kept, Outside}
-use Rattle.checks.proofs.Kept.{kept_less, kept_then, checked-kept}
+use Rattle.checks.proofs.Kept.{kept_less, kept_then}
 use Rattle.semantics.specs.Sheet.{sheet_source}
 use Rattle.semantics.specs.Const.{constants}
 use Rattle.globals.specs.declared.Globals.{Globals}
@@ -27,27 +27,27 @@ drop-from a b t u h e =
     ap (λ (j : ℕ). drop j u) z ∙ sym (drop-drop (b - a) a u) ∙ ap (drop (b - a)) e ∙ drop-drop (b - a) a t ∙ ap (λ (j : ℕ). drop j t) (sym z)
 
 -- constants stay where their table and what stands from 16384 on are kept
-module _ {s t u : Bytes} {n m a : ℕ} (low : a ≤ 16384) (k : Kept 7168 t u) (e : drop a u ≡ drop a t) (l : ConstsLogged s t n m) where
-  pub constants-logged : ConstsLogged s u n m
+module _ {s t u : Bytes} {m a : ℕ} (low : a ≤ 16384) (k : Kept 7168 t u) (e : drop a u ≡ drop a t) (l : ConstsLogged s t m) where
+  pub constants-logged : ConstsLogged s u m
   constants-logged = logged-same k l
 
   pub constants-log : log_in s u m ≡ log_in s t m
   constants-log = log-stays k l (λ p b h z. ap (take b) (drop-from a p t u (omega (arith, low, h)) e))
 
-module _ {s t t2 t3 t4 : Bytes} {n m r : ℕ} {g : Globals} {d : NeedCounts} (l : ConstsLogged s t n m)
-    (a : Outside 7168 9216 t t2) (places : Globals.GlobalsCollected s t2 n g)
-    (log : Records.RecordsCollected s t2 t3 n r)
-    (o : Outside 10240 11264 t3 t4) (needs : Needs s t4 n (sheet_source s).needs) (kinds : Kinds t4 (sheet_source s).needs d.keys) (count : d.needs ≡ length (sheet_source s).needs)
+module _ {s t t2 t3 t4 : Bytes} {m r : ℕ} {g : Globals} {d : NeedCounts} (l : ConstsLogged s t m)
+    (a : Outside 7168 9216 t t2) (places : Globals.GlobalsCollected s t2 g)
+    (log : Records.RecordsCollected s t2 t3 r)
+    (o : Outside 10240 11264 t3 t4) (needs : Needs s t4 (sheet_source s).needs) (kinds : Kinds t4 (sheet_source s).needs d.keys) (count : d.needs ≡ length (sheet_source s).needs)
   where
-    first : ConstsLogged s t2 n m
+    first : ConstsLogged s t2 m
     first = constants-logged {a = 9216} (omega arith) a.kept a.above l
 
-    second : ConstsLogged s t3 n m
+    second : ConstsLogged s t3 m
     second = constants-logged {a = 10240} (omega arith) (kept_less (omega arith) log.outside.kept) log.outside.above first
 
-    pub tables-held : TablesHeld s t4 n (record { consts = m; globals = g.count; end = g.end; records = r; needs = d.needs; keys = d.keys })
+    pub tables-held : TablesHeld s t4 (record { consts = m; globals = g.count; end = g.end; records = r; needs = d.needs; keys = d.keys })
     tables-held = record {
-      checked = checked-kept (kept_less (omega arith) o.kept) log.log.checked;
+      checked = log.log.checked;
       consts = constants-logged {a = 11264} (omega arith) (kept_less (omega arith) o.kept) o.above second;
       globals = collected-kept (kept_less (omega arith) o.kept) (collected-kept log.outside.kept places);
       records = logged-kept o.kept log.log;
@@ -67,8 +67,8 @@ module _ {s t t2 t3 t4 : Bytes} {n m r : ℕ} {g : Globals} {d : NeedCounts} (l 
 
 -- ---- with the constants
 
-pub still-checked : {s t u : Bytes} {n : ℕ} → Checked s t n → Kept 5120 t u → Checked s u n
-still-checked c k = checked-kept (kept_less (omega arith) k) c
+pub still-checked : {s t u : Bytes} → Checked s → Kept 5120 t u → Checked s
+still-checked c k = c
 
 pub log-as : (s u : Bytes) {m j : ℕ} → j ≡ m → log_in s u m ≡ log_in s u j
 log-as s u e = rw e

@@ -14,16 +14,16 @@ use Rattle.type_keys.specs.Table.{Needs, Kinds}
 use Rattle.tables.specs.declared.Tables.{Tables}
 
 -- the working space t has all tables of the checked sheet s, of as many entries as x counts
-pub record TablesHeld (s t : Bytes) (n : ℕ) (x : Tables) : Type 0 where
-  pub checked : Checked s t n
-  pub consts : Names.ConstsLogged s t n x.consts
-  pub globals : Globals.GlobalsCollected s t n (record { count = x.globals; end = x.end })
-  pub records : Records.RecordsLogged s t n x.records
+pub record TablesHeld (s t : Bytes) (x : Tables) : Type 0 where
+  pub checked : Checked s
+  pub consts : Names.ConstsLogged s t x.consts
+  pub globals : Globals.GlobalsCollected s t (record { count = x.globals; end = x.end })
+  pub records : Records.RecordsLogged s t x.records
   pub count : x.needs ≡ length (sheet_source s).needs
-  pub needs : Needs s t n (sheet_source s).needs
+  pub needs : Needs s t (sheet_source s).needs
   pub kinds : Kinds t (sheet_source s).needs x.keys
 
 -- the constants are those of the sheet, or a line of them is refused
-abbrev pub MakesTables : Bytes → Bytes → ℕ → Result Tables Refusal → Type 0
-MakesTables s t n (Ok x) = TablesHeld s t n x × ((constants (sheet_source s)).refused ≡ None) × ((constants (sheet_source s)).log ≡ log_in s t x.consts)
-MakesTables s t n (Err r) = (constants (sheet_source s)).refused ≡ Some (refusal_of r)
+abbrev pub MakesTables : Bytes → Bytes → Result Tables Refusal → Type 0
+MakesTables s t (Ok x) = TablesHeld s t x × ((constants (sheet_source s)).refused ≡ None) × ((constants (sheet_source s)).log ≡ log_in s t x.consts)
+MakesTables s t (Err r) = (constants (sheet_source s)).refused ≡ Some (refusal_of r)

@@ -6,7 +6,9 @@ ghost use Rattle.checks.specs.Checks.{Checked, Kept};
 ghost use Rattle.names.specs.Table.{log_in, ConstsLogged};
 ghost use Rattle.tables.specs.Tables.{TablesHeld, MakesTables};
 
+use codes::area::Space;
 use answers::Refusal;
+use lines::Sheet;
 
 // How many entries each table has, where allocation ends, and how many keys the needs have.
 #[derive(Clone, Copy)]
@@ -20,13 +22,13 @@ pub struct Tables {
 }
 
 // The tables beside that of the m constants.
-fn make_others(sheet: &[u8], work: &mut [u8], n: usize, m: usize) -> Tables
-    requires { (Checked sheet.now work.old n) × (ConstsLogged sheet.now work.old n m) }
-    ensures { (TablesHeld sheet.now work.new n result) × (result.consts ≡ m) × (log_in sheet.now work.new m ≡ log_in sheet.now work.old m) × (Kept 5120 work.old work.new) }
+fn make_others(sheet: &Sheet, work: &mut Space, m: usize) -> Tables
+    requires { (Checked sheet.now) × (ConstsLogged sheet.now work.old m) }
+    ensures { (TablesHeld sheet.now work.new result) × (result.consts ≡ m) × (log_in sheet.now work.new m ≡ log_in sheet.now work.old m) × (Kept 5120 work.old work.new) }
 {
-    let g = globals::collect_globals(sheet, work, n);
-    let r = record_log::collect_adts(sheet, work, n);
-    let d = need_keys::collect_needs(sheet, work, n);
+    let g = globals::collect_globals(sheet, work);
+    let r = record_log::collect_adts(sheet, work);
+    let d = need_keys::collect_needs(sheet, work);
     Tables {
         consts: m,
         globals: g.count,
@@ -38,10 +40,10 @@ fn make_others(sheet: &[u8], work: &mut [u8], n: usize, m: usize) -> Tables
 }
 
 // All tables, the constants first.
-pub fn make_tables(sheet: &[u8], work: &mut [u8], n: usize) -> Result<Tables, Refusal>
-    requires { Checked sheet.now work.old n }
-    ensures { (MakesTables sheet.now work.new n result) × (Kept 5120 work.old work.new) }
+pub fn make_tables(sheet: &Sheet, work: &mut Space) -> Result<Tables, Refusal>
+    requires { Checked sheet.now }
+    ensures { (MakesTables sheet.now work.new result) × (Kept 5120 work.old work.new) }
 {
-    let m = consts::collect_consts(sheet, work, n)?;
-    Ok(make_others(sheet, work, n, m))
+    let m = consts::collect_consts(sheet, work)?;
+    Ok(make_others(sheet, work, m))
 }

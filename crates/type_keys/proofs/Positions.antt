@@ -18,12 +18,12 @@ pub keys-are : (s : List ℕ) (is : List Item) → keys (sheet_source s) is ≡ 
 unfolding keys
 keys-are s is = refl
 
-module _ (s t : List ℕ) (n : ℕ) (ks : List TypeKey) (x : Needs s t n ks) where
+module _ (s t : List ℕ) (ks : List TypeKey) (x : Needs s t ks) where
   pub need-position-stays : (ms : List TypeKey) (q : ℕ) → q < length ks → need_position_of t q ≡ position (get_or ks q opaque_key) (distinct [] (ks ++ ms))
   need-position-stays ms q h = x.position q h ∙ sym (known_more (get_or ks q opaque_key) ks ms (key-member opaque_key ks q h)).1
 
   -- a store behind the needs leaves them
-  pub needs-kept : (u : List ℕ) {b : ℕ} → Outside 10624 b t u → Needs s u n ks
+  pub needs-kept : (u : List ℕ) {b : ℕ} → Outside 10624 b t u → Needs s u ks
   needs-kept u o =
       let low : (q : ℕ) → q < length ks → q < 128 = λ q h. omega (arith, x.few) in
       record {

@@ -58,7 +58,7 @@ module _ {t u : List ℕ} where
 
 -- ---- a need
 
-module _ (t : List ℕ) (room : 65536 ≤ length t) (q i p : ℕ) (hq : q < 128) where
+module _ (t : List ℕ) (room : 62464 ≤ length t) (q i p : ℕ) (hq : q < 128) where
   pub entered-outside : Outside 10240 10624 t (need_entered t q i p)
   unfolding need_entered
   entered-outside =
@@ -116,7 +116,7 @@ module _ (t : List ℕ) (room : 65536 ≤ length t) (q i p : ℕ) (hq : q < 128)
 
 -- ---- a kind of element
 
-module _ (t : List ℕ) (room : 65536 ≤ length t) (k : ElemKind) (p : ℕ) where
+module _ (t : List ℕ) (room : 62464 ≤ length t) (k : ElemKind) (p : ℕ) where
   pub kind-outside : Outside 10624 10629 t (kind_entered t k p)
   unfolding kind_entered
   kind-outside = outside_set 10624 10629 t (10624 + kind_number k) (p + 1) (omega arith) (omega (arith, kind-low k))
@@ -134,7 +134,7 @@ module _ (t : List ℕ) (room : 65536 ≤ length t) (k : ElemKind) (p : ℕ) whe
 -- ---- a digest
 
 -- the chains of needs lie in the working space, and their bytes apart
-pub need-room : {t : List ℕ} → 65536 ≤ length t → ChainRoom t need_chains
+pub need-room : {t : List ℕ} → 62464 ≤ length t → ChainRoom t need_chains
 unfolding digest_place
 need-room room = record { low = λ i h. omega arith; long = room }
 
@@ -146,7 +146,7 @@ pub digest-long : (t : List ℕ) (q d : ℕ) → length (digest_entered t q d) �
 unfolding digest_entered
 digest-long t q d = linked_long (set t (10752 + q) d) need_chains q ∙ length-set t (10752 + q) d
 
-module _ (t : List ℕ) (room : 65536 ≤ length t) (q d : ℕ) (hq : q < 128) where
+module _ (t : List ℕ) (room : 62464 ≤ length t) (q d : ℕ) (hq : q < 128) where
   pub digest-outside : Outside 10752 11264 t (digest_entered t q d)
   unfolding digest_entered digest_place
   digest-outside = outside-then (outside_set 10752 11264 t (10752 + q) d (omega arith) (omega arith)) (linked-outside (set t (10752 + q) d) need_chains q (omega arith) (omega arith) (λ k h. (omega arith, omega arith)))
@@ -186,7 +186,7 @@ chained-above {t} {u} {m = m} h x c = chained-kept same (omega arith) c
     }
 
 -- one more kind cleared
-pub cleared-next : (t : List ℕ) (k : ℕ) → k < 5 → 65536 ≤ length t → ((j : ℕ) → j < k → get_or t (10624 + j) 0 ≡ 0) → (j : ℕ) → j < k + 1 → get_or (set t (10624 + k) 0) (10624 + j) 0 ≡ 0
+pub cleared-next : (t : List ℕ) (k : ℕ) → k < 5 → 62464 ≤ length t → ((j : ℕ) → j < k → get_or t (10624 + j) 0 ≡ 0) → (j : ℕ) → j < k + 1 → get_or (set t (10624 + k) 0) (10624 + j) 0 ≡ 0
 cleared-next t k h room z j l = go (eqb j k) refl
   where
     go : (e : Bool) → eqb j k ≡ e → get_or (set t (10624 + k) 0) (10624 + j) 0 ≡ 0

@@ -7,7 +7,7 @@ use Rattle.semantics.specs.Tree.TypeKey.{elem_key, opaque_key}
 use Rattle.semantics.specs.Form.{letter}
 use Rattle.semantics.specs.Array.{kind_number}
 use Rattle.semantics.specs.Types.{same_type_key, distinct, position}
-use Rattle.lines.specs.Lines.{read_at}
+use Rattle.lines.specs.Lines.{lines_in, read_at}
 use Rattle.chains.specs.declared.ChainPlaces.{ChainPlaces}
 use Rattle.chains.specs.Chains.{linked}
 use Rattle.type_lines.specs.Needs.{need_at}
@@ -32,9 +32,9 @@ abbrev pub position_from_one : TypeKey → List TypeKey → ℕ
 position_from_one k js = cond (any (same_type_key k) js) (suc (position k js)) 0
 
 -- the table has the lines of the needs ks, which are `need` lines, 78, and the positions of their keys
-pub record Needs (s t : Bytes) (n : ℕ) (ks : List TypeKey) : Type 0 where
+pub record Needs (s t : Bytes) (ks : List TypeKey) : Type 0 where
   pub few : length ks ≤ 128
-  pub within : (q : ℕ) → q < length ks → need_line_of t q < n
+  pub within : (q : ℕ) → q < length ks → need_line_of t q < lines_in s
   pub kind : (q : ℕ) → q < length ks → letter (read_at s (need_line_of t q)).form.kind ≡ 78
   pub key : (q : ℕ) → q < length ks → need_at s (need_line_of t q) ≡ get_or ks q opaque_key
   pub position : (q : ℕ) → q < length ks → need_position_of t q ≡ position (get_or ks q opaque_key) (distinct [] ks)

@@ -9,6 +9,7 @@ ghost use Rattle.semantics.specs.Global.{Item};
 ghost use Rattle.semantics.specs.Types.{position, distinct, keys, id_of};
 ghost use Rattle.type_keys.specs.Table.{kind_position, Needs, Kinds};
 
+use codes::area::Space;
 use crate::{kind_position, need_position};
 use codes::element::Element;
 
@@ -24,16 +25,16 @@ fn id_of(frames: usize, p: usize) -> usize
 }
 
 // The ID of the key of need q. Keys of array elements, which come later, leave it as it is.
-pub fn need_id(work: &[u8], frames: usize, q: usize) -> usize
-    requires { (frames ≤ 128) × (q < 128) × (65536 ≤ length work.now) }
-    ensures { ((s : Bytes) (n : ℕ) (is : List Item) → Needs s work.now n (sheet_source s).needs → q < length (sheet_source s).needs → frames ≡ length (sheet_source s).frames → result ≡ id_of (sheet_source s) is (get_or (sheet_source s).needs q opaque_key)) × (result < 512) }
+pub fn need_id(work: &Space, frames: usize, q: usize) -> usize
+    requires { (frames ≤ 128) × (q < 128) }
+    ensures { ((s : Bytes) (n : ℕ) (is : List Item) → Needs s work.now (sheet_source s).needs → q < length (sheet_source s).needs → frames ≡ length (sheet_source s).frames → result ≡ id_of (sheet_source s) is (get_or (sheet_source s).needs q opaque_key)) × (result < 512) }
 {
     id_of(frames, need_position(work, q))
 }
 
 // The ID of the key of a kind of element that is used. Later keys leave it as it is.
-pub fn kind_id(work: &[u8], frames: usize, kind: Element) -> usize
-    requires { (frames ≤ 128) × (0 < kind_position work.now (element_kind kind)) × (65536 ≤ length work.now) }
+pub fn kind_id(work: &Space, frames: usize, kind: Element) -> usize
+    requires { (frames ≤ 128) × (0 < kind_position work.now (element_kind kind)) }
     ensures { ((s : Source) (is : List Item) (ks ms : List TypeKey) (count : ℕ) → Kinds work.now ks count → frames ≡ length s.frames → keys s is ≡ distinct [] (ks ++ ms) → result ≡ id_of s is (elem_key (element_kind kind))) × (result < 512) }
 {
     id_of(frames, kind_position(work, kind).unwrap())

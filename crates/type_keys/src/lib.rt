@@ -14,7 +14,7 @@ ghost use Rattle.type_keys.specs.Table.{need_line_of, need_position_of, kind_pos
 
 use chains::ChainPlaces;
 use codes::element::Element;
-use codes::{area, element};
+use codes::{area::{self, Space}, element};
 
 // Where the chains of needs stand.
 pub const CHAINS: ChainPlaces = ChainPlaces {
@@ -25,8 +25,8 @@ pub const CHAINS: ChainPlaces = ChainPlaces {
 
 // The line of need q; both are counted from 0.
 #[tactic(auto, unfolding(crate::specs::Table::need_line_of))]
-pub fn need_line(work: &[u8], q: usize) -> usize
-    requires { (q < 128) × (65536 ≤ length work.now) }
+pub fn need_line(work: &Space, q: usize) -> usize
+    requires { q < 128 }
     ensures { result ≡ need_line_of work.now q }
 {
     words::wide(work[area::NEED_LOW + q]) + 256 * words::wide(work[area::NEED_HIGH + q])
@@ -34,8 +34,8 @@ pub fn need_line(work: &[u8], q: usize) -> usize
 
 // The position of its key.
 #[tactic(auto, unfolding(crate::specs::Table::need_position_of))]
-pub fn need_position(work: &[u8], q: usize) -> usize
-    requires { (q < 128) × (65536 ≤ length work.now) }
+pub fn need_position(work: &Space, q: usize) -> usize
+    requires { q < 128 }
     ensures { (result ≡ need_position_of work.now q) × (result < 256) }
 {
     words::wide(work[area::NEED_POSITIONS + q])
@@ -43,8 +43,7 @@ pub fn need_position(work: &[u8], q: usize) -> usize
 
 // The position of the key of a kind of element, where it is used.
 #[tactic(auto, unfolding(crate::specs::Table::kind_position))]
-pub fn kind_position(work: &[u8], kind: Element) -> Option<usize>
-    requires { 65536 ≤ length work.now }
+pub fn kind_position(work: &Space, kind: Element) -> Option<usize>
     ensures value { count_to result ≡ kind_position work.now (element_kind kind) }
     ensures low { IfSome result (λ p. p < 255) }
 {
@@ -60,8 +59,8 @@ fn kind_place(kind: Element) -> usize
 
 // Need q is on line i, from 0, and its key has position p.
 #[tactic(auto, unfolding(crate::specs::Table::need_entered))]
-pub fn enter_need(work: &mut [u8], q: usize, i: usize, p: usize)
-    requires { (q < 128) × (i < 1024) × (p < 256) × (65536 ≤ length work.old) }
+pub fn enter_need(work: &mut Space, q: usize, i: usize, p: usize)
+    requires { (q < 128) × (i < 1024) × (p < 256) }
     ensures { work.new ≡ need_entered work.old q i p }
 {
     work[area::NEED_LOW + q] = (i % 256) as u8;
@@ -70,8 +69,8 @@ pub fn enter_need(work: &mut [u8], q: usize, i: usize, p: usize)
 }
 
 // The text of need q has the digest d; it becomes the newest of its chain.
-pub fn enter_digest(work: &mut [u8], q: usize, d: usize)
-    requires { (q < 128) × (d < 256) × (65536 ≤ length work.old) }
+pub fn enter_digest(work: &mut Space, q: usize, d: usize)
+    requires { (q < 128) × (d < 256) }
     ensures { work.new ≡ digest_entered work.old q d }
 {
     work[area::NEED_DIGESTS + q] = d as u8;
@@ -80,16 +79,15 @@ pub fn enter_digest(work: &mut [u8], q: usize, d: usize)
 
 // The key of a kind of element has position p.
 #[tactic(auto, unfolding(crate::specs::Table::kind_entered))]
-pub fn enter_kind(work: &mut [u8], kind: Element, p: usize)
-    requires { (p < 255) × (65536 ≤ length work.old) }
+pub fn enter_kind(work: &mut Space, kind: Element, p: usize)
+    requires { p < 255 }
     ensures { work.new ≡ kind_entered work.old (element_kind kind) p }
 {
     work[kind_place(kind)] = (p + 1) as u8;
 }
 
 // No kind of element is used.
-pub fn clear_kinds(work: &mut [u8])
-    requires { 65536 ≤ length work.old }
+pub fn clear_kinds(work: &mut Space)
     ensures { (Outside 10624 10629 work.old work.new) × ((k : ElemKind) → kind_position work.new k ≡ 0) }
 {
     for k in 0..element::KINDS {
@@ -98,8 +96,8 @@ pub fn clear_kinds(work: &mut [u8])
 }
 
 // Enters the key of an array's elements where it is new, and returns how many keys there are then.
-pub fn collect_kind(work: &mut [u8], kind: Element, keys: usize) -> usize
-    requires { (keys < 255) × (65536 ≤ length work.old) }
+pub fn collect_kind(work: &mut Space, kind: Element, keys: usize) -> usize
+    requires { keys < 255 }
     ensures { ((ks : List TypeKey) → Kinds work.old ks keys → Kinds work.new (ks ++ (elem_key (element_kind kind) ∷ [])) result) × (Outside 10624 10629 work.old work.new) }
 {
     match kind_position(work, kind) {

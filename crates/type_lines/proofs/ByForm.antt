@@ -20,21 +20,21 @@ use Rattle.type_lines.specs.Needs.{need_at, NeedLine, kind_by}
 use Rattle.type_lines.specs.Shapes.{written_shape, ShapeLine}
 use Rattle.type_lines.proofs.Forms.{elem_by, key_by, key-is, form-from}
 
-module _ (s t : List ℕ) (n i : ℕ) (l : NeedLine s t n i) where
-  pub name-key : form_at t i ≡ 34 → need_at s i ≡ adt_key (field_at (read_at s i).fields 0)
-  name-key e = key-is s t n i l ∙ rw e
+module _ (s : List ℕ) (i : ℕ) (l : NeedLine s i) where
+  pub name-key : form_at s i ≡ 34 → need_at s i ≡ adt_key (field_at (read_at s i).fields 0)
+  name-key e = key-is s i l ∙ rw e
 
-  pub block-key : form_at t i ≡ 40 → need_at s i ≡ block_key (written_shape s i)
+  pub block-key : form_at s i ≡ 40 → need_at s i ≡ block_key (written_shape s i)
   unfolding written_shape
-  block-key e = key-is s t n i l ∙ rw e
+  block-key e = key-is s i l ∙ rw e
 
-  pub opaque-key : form_at t i ≡ 41 → need_at s i ≡ opaque_key
-  opaque-key e = key-is s t n i l ∙ rw e
+  pub opaque-key : form_at s i ≡ 41 → need_at s i ≡ opaque_key
+  opaque-key e = key-is s i l ∙ rw e
 
-  pub plain-key : (form_at t i ≡ 34 → ⊥) → (form_at t i ≡ 40 → ⊥) → need_at s i ≡ cond (eqb (form_at t i) 41) opaque_key (elem_key (elem_by (form_at t i)))
-  plain-key a b = key-is s t n i l ∙ rw (ne_eqb (form_at t i) 34 a, ne_eqb (form_at t i) 40 b)
+  pub plain-key : (form_at s i ≡ 34 → ⊥) → (form_at s i ≡ 40 → ⊥) → need_at s i ≡ cond (eqb (form_at s i) 41) opaque_key (elem_key (elem_by (form_at s i)))
+  plain-key a b = key-is s i l ∙ rw (ne_eqb (form_at s i) 34 a, ne_eqb (form_at s i) 40 b)
 
-  pub block-line : form_at t i ≡ 40 → ShapeLine s t n i
+  pub block-line : form_at s i ≡ 40 → ShapeLine s i
   block-line e = record { checked = l.checked; within = l.within; form = rw e }
 
 -- ---- which kind of element a `need` line asks for
@@ -58,14 +58,14 @@ kind_of ns fs (suc (suc (suc (suc (suc (suc zero)))))) h = (λ k. refl, λ e q. 
 kind_of ns fs (suc (suc (suc (suc (suc (suc (suc zero))))))) h = (λ k. refl, λ e q. cc)
 kind_of ns fs (suc (suc (suc (suc (suc (suc (suc (suc d)))))))) h = absurd (omega arith)
 
-module _ (s t : List ℕ) (n i : ℕ) (l : NeedLine s t n i) where
-  kinds-of : KindOf (kind_by (form_at t i)) (need_at s i)
+module _ (s : List ℕ) (i : ℕ) (l : NeedLine s i) where
+  kinds-of : KindOf (kind_by (form_at s i)) (need_at s i)
   kinds-of =
-      let z : 34 + (form_at t i - 34) ≡ form_at t i = omega (arith, (form-from s t n i l).0) in
-      rw (key-is s t n i l) (rw z at (kind_of (nodes_in s) (read_at s i).fields (form_at t i - 34) (omega (arith, (form-from s t n i l).1))))
+      let z : 34 + (form_at s i - 34) ≡ form_at s i = omega (arith, (form-from s i l).0) in
+      rw (key-is s i l) (rw z at (kind_of (nodes_in s) (read_at s i).fields (form_at s i - 34) (omega (arith, (form-from s i l).1))))
 
-  pub elem_is : (k : ElemKind) → same_type_key (elem_key k) (need_at s i) ≡ is_kind k (kind_by (form_at t i))
+  pub elem_is : (k : ElemKind) → same_type_key (elem_key k) (need_at s i) ≡ is_kind k (kind_by (form_at s i))
   elem_is = kinds-of.0
 
-  pub elem-key : (e : Element) → kind_by (form_at t i) ≡ Some e → need_at s i ≡ elem_key (element_kind e)
+  pub elem-key : (e : Element) → kind_by (form_at s i) ≡ Some e → need_at s i ≡ elem_key (element_kind e)
   elem-key = kinds-of.1

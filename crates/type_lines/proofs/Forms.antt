@@ -17,7 +17,7 @@ use Rattle.semantics.specs.Array.{kind_number}
 use Rattle.semantics.specs.Types.{same_type_key}
 use Rattle.form.specs.Table.{kind_at, row_node}
 use Rattle.form.proofs.Table.{row-count, Each, done, ◌also◌, each_at}
-use Rattle.lines.specs.Lines.{read_at, nodes_in, form_at}
+use Rattle.lines.specs.Lines.{lines_in, read_at, nodes_in, form_at}
 use Rattle.lines.proofs.Line.{form-low, kind-is}
 use Rattle.refs.proofs.Nodes.{node-at}
 use Rattle.checks.specs.Checks.{Checked}
@@ -97,26 +97,26 @@ module _ (ns : List Node) (fs : List (List ℕ)) where
 
 -- ---- what a line needs
 
-module _ (s t : List ℕ) (n : ℕ) (c : Checked s t n) (i : ℕ) (h : i < n) where
+module _ (s : List ℕ) (c : Checked s) (i : ℕ) (h : i < lines_in s) where
   pub needs-line : (declares_at (nodes_in s) i).needs ≡ cond (eqb (letter (read_at s i).form.kind) 78) (need_at s i ∷ []) []
   unfolding need_at
   needs-line =
-      let e = ap (λ (m : Node). m.declares.needs) (node-at s t n c.whole c.good i h) in
-      let g = each_at NeedsOne forms all-need (form_at t i) (omega (arith, row-count, form-low s t n c.whole i h)) (nodes_in s) (read_at s i).fields in
-      e ∙ g ∙ rw (kind-is s t n c.whole i h, ← e)
+      let e = ap (λ (m : Node). m.declares.needs) (node-at s c.whole c.good i h) in
+      let g = each_at NeedsOne forms all-need (form_at s i) (omega (arith, row-count, form-low s c.whole i h)) (nodes_in s) (read_at s i).fields in
+      e ∙ g ∙ rw (kind-is s c.whole i h, ← e)
 
-module _ (s t : List ℕ) (n i : ℕ) (l : NeedLine s t n i) where
-  pub form-from : (34 ≤ form_at t i) × (form_at t i < 42)
+module _ (s : List ℕ) (i : ℕ) (l : NeedLine s i) where
+  pub form-from : (34 ≤ form_at s i) × (form_at s i < 42)
   form-from =
-      let w = form-low s t n l.checked.whole i l.within in
-      (need-form (form_at t i) w (sym (kind-is s t n l.checked.whole i l.within) ∙ l.kind), w)
+      let w = form-low s l.checked.whole i l.within in
+      (need-form (form_at s i) w (sym (kind-is s l.checked.whole i l.within) ∙ l.kind), w)
 
-  pub key-is : need_at s i ≡ key_by (form_at t i) (nodes_in s) (read_at s i).fields
+  pub key-is : need_at s i ≡ key_by (form_at s i) (nodes_in s) (read_at s i).fields
   unfolding need_at
   key-is =
-      let e = ap (λ (m : Node). first_key m.declares.needs) (node-at s t n l.checked.whole l.checked.good i l.within) in
-      let z : 34 + (form_at t i - 34) ≡ form_at t i = omega (arith, form-from.0) in
-      e ∙ rw z at (key_of (nodes_in s) (read_at s i).fields (form_at t i - 34) (omega (arith, form-from.1)))
+      let e = ap (λ (m : Node). first_key m.declares.needs) (node-at s l.checked.whole l.checked.good i l.within) in
+      let z : 34 + (form_at s i - 34) ≡ form_at s i = omega (arith, form-from.0) in
+      e ∙ rw z at (key_of (nodes_in s) (read_at s i).fields (form_at s i - 34) (omega (arith, form-from.1)))
 
 -- ---- keys of two forms are not the same
 
@@ -162,11 +162,11 @@ form-back ns fs (suc (suc (suc (suc (suc (suc zero)))))) h = refl
 form-back ns fs (suc (suc (suc (suc (suc (suc (suc zero))))))) h = refl
 form-back ns fs (suc (suc (suc (suc (suc (suc (suc (suc d)))))))) h = absurd (omega arith)
 
-module _ (s t : List ℕ) (n i j : ℕ) (a : NeedLine s t n i) (b : NeedLine s t n j) where
-  pub forms-apart : (form_at t i ≡ form_at t j → ⊥) → same_type_key (need_at s i) (need_at s j) ≡ false
+module _ (s : List ℕ) (i j : ℕ) (a : NeedLine s i) (b : NeedLine s j) where
+  pub forms-apart : (form_at s i ≡ form_at s j → ⊥) → same_type_key (need_at s i) (need_at s j) ≡ false
   forms-apart h =
-      let back : (k : ℕ) (l : NeedLine s t n k) → form_by (key_tag (need_at s k)) ≡ form_at t k =
+      let back : (k : ℕ) (l : NeedLine s k) → form_by (key_tag (need_at s k)) ≡ form_at s k =
       λ k l.
-      let z : 34 + (form_at t k - 34) ≡ form_at t k = omega (arith, (form-from s t n k l).0) in
-      rw (key-is s t n k l) (rw z at (form-back (nodes_in s) (read_at s k).fields (form_at t k - 34) (omega (arith, (form-from s t n k l).1)))) in
+      let z : 34 + (form_at s k - 34) ≡ form_at s k = omega (arith, (form-from s k l).0) in
+      rw (key-is s k l) (rw z at (form-back (nodes_in s) (read_at s k).fields (form_at s k - 34) (omega (arith, (form-from s k l).1)))) in
       tags-apart (need_at s i) (need_at s j) (λ e. h (sym (back i a) ∙ ap form_by e ∙ back j b))

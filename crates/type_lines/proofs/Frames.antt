@@ -12,7 +12,7 @@ use Rattle.semantics.specs.Tree.{Declares}
 use Rattle.semantics.specs.Form.{letter}
 use Rattle.semantics.specs.Sheet.{sheet_source}
 use Rattle.form.proofs.Table.{only-frame, form-of-kind}
-use Rattle.lines.specs.Lines.{read_at, nodes_in, form_at}
+use Rattle.lines.specs.Lines.{lines_in, read_at, nodes_in, form_at}
 use Rattle.lines.proofs.Line.{form-low, kind-is}
 use Rattle.refs.proofs.Nodes.{node-count}
 use Rattle.checks.specs.Checks.{Checked}
@@ -21,21 +21,21 @@ use Rattle.source.proofs.Walk.{declared-all, source-of, declared-more}
 use Rattle.source.proofs.Declares.{line-declares}
 use Rattle.type_lines.specs.Shapes.{written_shape, ShapeLine, frames_to}
 
-module _ (s t : List ℕ) (n : ℕ) (c : Checked s t n) where
-  pub frames-all : frames_to s n ≡ (sheet_source s).frames
-  frames-all = rw (source-of s, declared-all (λ (d : Declares). d.frames) (nodes_in s), node-count s t n c.whole)
+module _ (s : List ℕ) (c : Checked s) where
+  pub frames-all : frames_to s (lines_in s) ≡ (sheet_source s).frames
+  frames-all = rw (source-of s, declared-all (λ (d : Declares). d.frames) (nodes_in s), node-count s c.whole)
 
-  pub frames-few : (i : ℕ) → i ≤ n → length (frames_to s i) ≤ 128
+  pub frames-few : (i : ℕ) → i ≤ lines_in s → length (frames_to s i) ≤ 128
   frames-few i h =
-      let z : i + (n - i) ≡ n = omega arith in
-      let e : length (frames_to s i) ≤ length (frames_to s n) = rw z at (declared-more (λ (d : Declares). d.frames) (nodes_in s) i (n - i)) in
-      let g : frames_to s n ≡ _ = sym (declared-all (λ (d : Declares). d.frames) (nodes_in s) ∙ rw (node-count s t n c.whole)) in
+      let z : i + (lines_in s - i) ≡ lines_in s = omega arith in
+      let e : length (frames_to s i) ≤ length (frames_to s (lines_in s)) = rw z at (declared-more (λ (d : Declares). d.frames) (nodes_in s) i (lines_in s - i)) in
+      let g : frames_to s (lines_in s) ≡ _ = sym (declared-all (λ (d : Declares). d.frames) (nodes_in s) ∙ rw (node-count s c.whole)) in
       omega (arith, e, ap length g, c.bounds.frames)
 
-  module _ (i : ℕ) (h : i < n) where
+  module _ (i : ℕ) (h : i < lines_in s) where
     frames-at : (declares_at (nodes_in s) i).frames ≡ cond (eqb (letter (read_at s i).form.kind) 71) (written_shape s i ∷ []) []
     unfolding by_kind written_shape
-    frames-at = ap (λ (d : Declares). d.frames) (line-declares s t n c i h)
+    frames-at = ap (λ (d : Declares). d.frames) (line-declares s c i h)
 
     pub frames-by : (b : Bool) → b ≡ eqb (letter (read_at s i).form.kind) 71 → (declares_at (nodes_in s) i).frames ≡ cond b (written_shape s i ∷ []) []
     frames-by b e = frames-at ∙ rw (← e)
@@ -54,7 +54,7 @@ module _ (s t : List ℕ) (n : ℕ) (c : Checked s t n) where
     pub frames-step : length (frames_to s (i + 1)) ≡ length (frames_to s i) + length (declares_at (nodes_in s) i).frames
     frames-step = ap length frames-more ∙ length-append (frames_to s i) (declares_at (nodes_in s) i).frames
 
-    pub frame-line : letter (read_at s i).form.kind ≡ 71 → ShapeLine s t n i
+    pub frame-line : letter (read_at s i).form.kind ≡ 71 → ShapeLine s i
     frame-line e =
-        let f : form_at t i ≡ 33 = form-of-kind only-frame (form_at t i) (form-low s t n c.whole i h) (sym (kind-is s t n c.whole i h) ∙ e) in
+        let f : form_at s i ≡ 33 = form-of-kind only-frame (form_at s i) (form-low s c.whole i h) (sym (kind-is s c.whole i h) ∙ e) in
         record { checked = c; within = h; form = rw f }

@@ -74,12 +74,12 @@ or_cases P f a b h p q = go (eqb f a) refl
     go true e = rw (eqb-true f a e) p
     go false e = rw (eqb-true f b (rw e at h)) q
 
-module _ (s t : List ℕ) (n i : ℕ) (l : ShapeLine s t n i) where
+module _ (s : List ℕ) (i : ℕ) (l : ShapeLine s i) where
   shape-fit : ShapeFields (read_at s i).fields
   unfolding forms
   shape-fit =
-      or_cases (λ f. fits (row_at f).parts (read_at s i).fields ≡ true → ShapeFields (read_at s i).fields) (form_at t i) 33 40 l.form
-      (shape-fields (read_at s i).fields) (shape-fields (read_at s i).fields) (read_fits s t n l.checked.whole i l.within)
+      or_cases (λ f. fits (row_at f).parts (read_at s i).fields ≡ true → ShapeFields (read_at s i).fields) (form_at s i) 33 40 l.form
+      (shape-fields (read_at s i).fields) (shape-fields (read_at s i).fields) (read_fits s l.checked.whole i l.within)
 
   pub size_is : Number.number_up_to 65536 (get_or (read_at s i).fields 0 []) ≡ (written_shape s i).size
   unfolding written_shape

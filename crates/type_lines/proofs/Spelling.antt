@@ -235,37 +235,37 @@ line-back (w ∷ ws) (b ∷ l) h =
 
 -- ---- two lines
 
-module _ {s t : Bytes} {n i : ℕ} (l : NeedLine s t n i) where
-  text-begins : begins (keywords_at (form_at t i)) (text_at s i) ≡ true
+module _ {s : Bytes} {i : ℕ} (l : NeedLine s i) where
+  text-begins : begins (keywords_at (form_at s i)) (text_at s i) ≡ true
   text-begins =
       let e = l.checked.whole.lined.row i l.within in
-      rw e (begins-chosen forms (text_at s i) (omega (arith, e, row-count, form-low s t n l.checked.whole i l.within)))
+      rw e (begins-chosen forms (text_at s i) (omega (arith, e, row-count, form-low s l.checked.whole i l.within)))
 
-  text-is : text_at s i ≡ keywords_at (form_at t i) ++ each_behind 44 (read_at s i).fields
-  text-is = line-back (keywords_at (form_at t i)) (text_at s i) text-begins ∙ rw (fields-are s t n l.checked.whole i l.within, add-one)
+  text-is : text_at s i ≡ keywords_at (form_at s i) ++ each_behind 44 (read_at s i).fields
+  text-is = line-back (keywords_at (form_at s i)) (text_at s i) text-begins ∙ rw (fields-are s l.checked.whole i l.within, add-one)
 
-module _ {s t : Bytes} {n i j : ℕ} (a : NeedLine s t n i) (b : NeedLine s t n j) where
+module _ {s : Bytes} {i j : ℕ} (a : NeedLine s i) (b : NeedLine s j) where
   key-same : text_at s i ≡ text_at s j → need_at s i ≡ need_at s j
   key-same e =
-      let f : form_at t i ≡ form_at t j = a.checked.whole.lined.row i a.within ∙ ap (row_of forms) e ∙ sym (b.checked.whole.lined.row j b.within) in
-      let r : read_at s i ≡ read_at s j = read_is s t n a.checked.whole i a.within ∙ ap read_of e ∙ sym (read_is s t n b.checked.whole j b.within) in
-      key-is s t n i a ∙ rw (f, r) (sym (key-is s t n j b))
+      let f : form_at s i ≡ form_at s j = a.checked.whole.lined.row i a.within ∙ ap (row_of forms) e ∙ sym (b.checked.whole.lined.row j b.within) in
+      let r : read_at s i ≡ read_at s j = read_is s a.checked.whole i a.within ∙ ap read_of e ∙ sym (read_is s b.checked.whole j b.within) in
+      key-is s i a ∙ rw (f, r) (sym (key-is s j b))
 
-  form-same : same_type_key (need_at s i) (need_at s j) ≡ true → form_at t i ≡ form_at t j
-  form-same e = go (eqb (form_at t i) (form_at t j)) refl
+  form-same : same_type_key (need_at s i) (need_at s j) ≡ true → form_at s i ≡ form_at s j
+  form-same e = go (eqb (form_at s i) (form_at s j)) refl
     where
-      go : (x : Bool) → eqb (form_at t i) (form_at t j) ≡ x → form_at t i ≡ form_at t j
-      go true q = eqb-true (form_at t i) (form_at t j) q
-      go false q = never (sym (forms-apart s t n i j a b (eqb-false (form_at t i) (form_at t j) q)) ∙ e)
+      go : (x : Bool) → eqb (form_at s i) (form_at s j) ≡ x → form_at s i ≡ form_at s j
+      go true q = eqb-true (form_at s i) (form_at s j) q
+      go false q = never (sym (forms-apart s i j a b (eqb-false (form_at s i) (form_at s j) q)) ∙ e)
 
   text_same : same_type_key (need_at s i) (need_at s j) ≡ true → text_at s i ≡ text_at s j
   text_same e =
       let f = form-same e in
-      let z : 34 + (form_at t i - 34) ≡ form_at t i = omega (arith, (form-from s t n i a).0) in
-      let one = rw z at (fields-one (nodes_in s) (form_at t i - 34) (omega (arith, (form-from s t n i a).1)) (read_at s i).fields (read_at s j).fields) in
-      let g : need_at s j ≡ key_by (form_at t i) (nodes_in s) (read_at s j).fields = key-is s t n j b ∙ rw f in
+      let z : 34 + (form_at s i - 34) ≡ form_at s i = omega (arith, (form-from s i a).0) in
+      let one = rw z at (fields-one (nodes_in s) (form_at s i - 34) (omega (arith, (form-from s i a).1)) (read_at s i).fields (read_at s j).fields) in
+      let g : need_at s j ≡ key_by (form_at s i) (nodes_in s) (read_at s j).fields = key-is s j b ∙ rw f in
       let c = ints-eq (key_code (need_at s i)) (key_code (need_at s j)) e in
-      let k = one (read_fits s t n a.checked.whole i a.within) (rw f (read_fits s t n b.checked.whole j b.within)) (ap key_code (sym (key-is s t n i a)) ∙ c ∙ ap key_code g) in
+      let k = one (read_fits s a.checked.whole i a.within) (rw f (read_fits s b.checked.whole j b.within)) (ap key_code (sym (key-is s i a)) ∙ c ∙ ap key_code g) in
       text-is a ∙ rw (f, k) (sym (text-is b))
 
   pub texts-are : same (text_at s i) (text_at s j) ≡ same_type_key (need_at s i) (need_at s j)

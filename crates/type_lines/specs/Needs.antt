@@ -6,7 +6,7 @@ use Rattle.semantics.specs.Text.{Bytes}
 use Rattle.semantics.specs.Tree.{TypeKey, Declares}
 use Rattle.semantics.specs.Tree.TypeKey.{opaque_key}
 use Rattle.semantics.specs.Form.{letter}
-use Rattle.lines.specs.Lines.{read_at, nodes_in}
+use Rattle.lines.specs.Lines.{lines_in, read_at, nodes_in}
 use Rattle.checks.specs.Checks.{Checked}
 use Rattle.source.specs.Walk.{declares_at, declared_to}
 
@@ -19,9 +19,9 @@ unfoldable pub need_at : Bytes → ℕ → TypeKey
 need_at s i = first_key (declares_at (nodes_in s) i).needs
 
 -- line i of a checked sheet is a `need` line, 78
-pub record NeedLine (s t : Bytes) (n i : ℕ) : Type 0 where
-  pub checked : Checked s t n
-  pub within : i < n
+pub record NeedLine (s : Bytes) (i : ℕ) : Type 0 where
+  pub checked : Checked s
+  pub within : i < lines_in s
   pub kind : letter (read_at s i).form.kind ≡ 78
 
 -- what the first i lines need

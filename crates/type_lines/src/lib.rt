@@ -10,14 +10,15 @@ ghost use Rattle.type_lines.specs.Needs.{need_at, NeedLine, kind_by};
 
 use codes::element::Element;
 use codes::need;
+use lines::Sheet;
 
 // Whether the `need` lines a and b, from 0, have the same key: a key is spelled in one way only, so their texts tell.
-pub fn same_need(sheet: &[u8], work: &[u8], n: usize, a: usize, b: usize) -> bool
-    requires { (NeedLine sheet.now work.now n a) × (NeedLine sheet.now work.now n b) }
+pub fn same_need(sheet: &Sheet, a: usize, b: usize) -> bool
+    requires { (NeedLine sheet.now a) × (NeedLine sheet.now b) }
     ensures { result ≡ same_type_key (need_at sheet.now a) (need_at sheet.now b) }
 {
-    let l = lines::line_at(sheet, work, n, a);
-    words::same(l, lines::line_at(sheet, work, n, b))
+    let l = sheet.line_at(a);
+    words::same(l, sheet.line_at(b))
 }
 
 // The kind of element that form f needs.

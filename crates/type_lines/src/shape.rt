@@ -6,6 +6,7 @@ ghost use Rattle.semantics.specs.Form.Atom.{offset};
 ghost use Rattle.type_lines.specs.Shapes.{written_shape, ShapeLine, raised};
 
 use decimal::Signed;
+use lines::Sheet;
 
 // What is added to an offset, so that none is below 0.
 pub const RAISE: usize = 4096;
@@ -23,25 +24,25 @@ fn read_offset(f: &[u8]) -> usize
 }
 
 // The size that line i, from 0, writes out.
-pub fn size_at(sheet: &[u8], work: &[u8], n: usize, i: usize) -> u32
-    requires { ShapeLine sheet.now work.now n i }
+pub fn size_at(sheet: &Sheet, i: usize) -> u32
+    requires { ShapeLine sheet.now i }
     ensures { (result ≡ (written_shape sheet.now i).size) × (result ≤ 4096) }
 {
-    lines::number_at(sheet, work, n, i, 0) as u32
+    sheet.number_at(i, 0) as u32
 }
 
 // How many offsets it has.
-pub fn offset_count(sheet: &[u8], work: &[u8], n: usize, i: usize) -> usize
-    requires { ShapeLine sheet.now work.now n i }
+pub fn offset_count(sheet: &Sheet, i: usize) -> usize
+    requires { ShapeLine sheet.now i }
     ensures { (result ≡ length (written_shape sheet.now i).pointers) × (result ≤ 16) }
 {
-    lines::number_at(sheet, work, n, i, 1)
+    sheet.number_at(i, 1)
 }
 
 // Offset j, raised.
-pub fn offset_at(sheet: &[u8], work: &[u8], n: usize, i: usize, j: usize) -> usize
-    requires { (ShapeLine sheet.now work.now n i) × (j < length (written_shape sheet.now i).pointers) }
+pub fn offset_at(sheet: &Sheet, i: usize, j: usize) -> usize
+    requires { (ShapeLine sheet.now i) × (j < length (written_shape sheet.now i).pointers) }
     ensures { (result ≡ raised (get_or (written_shape sheet.now i).pointers j (pos 0))) × (result ≤ 8192) }
 {
-    read_offset(lines::field_at(sheet, work, n, i, 2 + j))
+    read_offset(sheet.field_at(i, 2 + j))
 }

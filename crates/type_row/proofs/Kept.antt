@@ -5,14 +5,14 @@ use Prim.Native.Nat.{ℕ}
 use native.Mathlib.Omega.{arith}
 use Rattle.lines.specs.Lines.{form_at}
 use Rattle.checks.specs.Checks.{Kept, Checked}
-use Rattle.checks.proofs.Kept.{kept_less, checked-kept}
+use Rattle.checks.proofs.Kept.{kept_less}
 use Rattle.type_lines.specs.Shapes.{ShapeLine}
 
 module _ {t u : List ℕ} (k : Kept 49152 t u) where
-  pub map-checked : {s : List ℕ} {n : ℕ} → Checked s t n → Checked s u n
-  map-checked c = checked-kept (kept_less (omega arith) k) c
+  pub map-checked : {s : List ℕ} → Checked s → Checked s
+  map-checked c = c
 
-  pub shape-kept : {s : List ℕ} {n i : ℕ} → ShapeLine s t n i → ShapeLine s u n i
+  pub shape-kept : {s : List ℕ} {i : ℕ} → ShapeLine s i → ShapeLine s i
   shape-kept {s} {n} {i} l =
-      let e : form_at u i ≡ form_at t i = (map-checked l.checked).whole.lined.row i l.within ∙ sym (l.checked.whole.lined.row i l.within) in
+      let e : form_at u i ≡ form_at s i = (map-checked l.checked).whole.lined.row i l.within ∙ sym (l.checked.whole.lined.row i l.within) in
       record { checked = map-checked l.checked; within = l.within; form = rw e l.form }

@@ -11,14 +11,15 @@ ghost use Rattle.maps.specs.Maps.{MapRoom, Mapped, Marks, MapMade};
 ghost use Rattle.type_lines.specs.Shapes.{written_shape, ShapeLine, raised};
 ghost use Rattle.type_row.specs.Row.{word_offsets, TypesWrote};
 
-use codes::area;
+use codes::area::{self, Space};
 use codes::element::Element;
 use type_lines::shape::RAISE;
 use write::Writer;
+use lines::Sheet;
 
 // The row of a block of this size whose map stands in the working space. As all that write `typ` rows it takes the ID of the first and
 // returns the ID behind the last.
-pub fn put_type(work: &[u8], size: u32, w: &mut Writer, id: usize) -> usize
+pub fn put_type(work: &Space, size: u32, w: &mut Writer, id: usize) -> usize
     requires { (MapRoom work.now size) × (id < 2048) }
     ensures { ((offs : List ℤ) → Mapped work.now size offs → Writes w.old (type_rows id (record { size = size; pointers = offs } ∷ [])) w.new) × (result ≡ id + 1) }
 {
@@ -35,7 +36,7 @@ pub fn put_type(work: &[u8], size: u32, w: &mut Writer, id: usize) -> usize
 // ---- blocks that begin with pointers
 
 // Makes the map of a block whose first `count` words are pointers.
-fn map_words(work: &mut [u8], size: u32, count: u32)
+fn map_words(work: &mut Space, size: u32, count: u32)
     requires { (MapRoom work.old size) × (count ≤ 12) }
     ensures { MapMade size (word_offsets count) work.old work.new }
 {
@@ -46,7 +47,7 @@ fn map_words(work: &mut [u8], size: u32, count: u32)
 }
 
 // The row of such a block.
-pub fn put_words(work: &mut [u8], size: u32, count: u32, w: &mut Writer, id: usize) -> usize
+pub fn put_words(work: &mut Space, size: u32, count: u32, w: &mut Writer, id: usize) -> usize
     requires { (MapRoom work.old size) × (count ≤ 12) × (id < 2048) }
     ensures { TypesWrote ((record { size = size; pointers = word_offsets count }) ∷ []) id result w.old w.new work.old work.new }
 {
@@ -58,8 +59,8 @@ pub fn put_words(work: &mut [u8], size: u32, count: u32, w: &mut Writer, id: usi
 const OPAQUE_WORDS: u32 = 12;
 
 // An opaque record.
-pub fn put_opaque(work: &mut [u8], w: &mut Writer, id: usize) -> usize
-    requires { (65536 ≤ length work.old) × (id < 2048) }
+pub fn put_opaque(work: &mut Space, w: &mut Writer, id: usize) -> usize
+    requires { id < 2048 }
     ensures { TypesWrote (opaque_shape ∷ []) id result w.old w.new work.old work.new }
 {
     put_words(work, 4 * OPAQUE_WORDS, OPAQUE_WORDS, w, id)
@@ -87,8 +88,8 @@ fn elem_pointers(kind: Element) -> u32
 }
 
 // An array's elements.
-pub fn put_elem(work: &mut [u8], kind: Element, w: &mut Writer, id: usize) -> usize
-    requires { (65536 ≤ length work.old) × (id < 2048) }
+pub fn put_elem(work: &mut Space, kind: Element, w: &mut Writer, id: usize) -> usize
+    requires { id < 2048 }
     ensures { TypesWrote ((elem_shape (element_kind kind)) ∷ []) id result w.old w.new work.old work.new }
 {
     put_words(work, elem_size(kind), elem_pointers(kind), w, id)
@@ -97,7 +98,7 @@ pub fn put_elem(work: &mut [u8], kind: Element, w: &mut Writer, id: usize) -> us
 // ---- what a line writes out
 
 // Marks an offset that is raised; one below 0 marks nothing.
-fn mark_raised(work: &mut [u8], size: u32, z: usize)
+fn mark_raised(work: &mut Space, size: u32, z: usize)
     requires { (MapRoom work.old size) × (z ≤ 8192) }
     ensures { (y : ℤ) → between 4096 4096 y ≡ true → z ≡ raised y → Marks size (y ∷ []) work.old work.new }
 {
@@ -108,34 +109,27 @@ fn mark_raised(work: &mut [u8], size: u32, z: usize)
 }
 
 // Makes the map of the offsets of line i, for a block of this size.
-fn map_line(sheet: &[u8], work: &mut [u8], n: usize, i: usize, size: u32)
-    requires { (ShapeLine sheet.now work.old n i) × (MapRoom work.old size) }
+fn map_line(sheet: &Sheet, work: &mut Space, i: usize, size: u32)
+    requires { (ShapeLine sheet.now i) × (MapRoom work.old size) }
     ensures { MapMade size (written_shape sheet.now i).pointers work.old work.new }
 {
     maps::clear_map(work, size);
-    let count = type_lines::shape::offset_count(sheet, work, n, i);
+    let count = type_lines::shape::offset_count(sheet, i);
     for j in 0..count {
         mark_raised(
             work,
             size,
-            type_lines::shape::offset_at(sheet, work, n, i, j),
+            type_lines::shape::offset_at(sheet, i, j),
         );
     }
 }
 
 // A frame, or a block that a need writes out.
-pub fn put_line(
-    sheet: &[u8],
-    work: &mut [u8],
-    n: usize,
-    i: usize,
-    w: &mut Writer,
-    id: usize,
-) -> usize
-    requires { (ShapeLine sheet.now work.old n i) × (id < 2048) }
+pub fn put_line(sheet: &Sheet, work: &mut Space, i: usize, w: &mut Writer, id: usize) -> usize
+    requires { (ShapeLine sheet.now i) × (id < 2048) }
     ensures { TypesWrote ((written_shape sheet.now i) ∷ []) id result w.old w.new work.old work.new }
 {
-    let size = type_lines::shape::size_at(sheet, work, n, i);
-    map_line(sheet, work, n, i, size);
+    let size = type_lines::shape::size_at(sheet, i);
+    map_line(sheet, work, i, size);
     put_type(work, size, w, id)
 }

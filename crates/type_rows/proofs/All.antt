@@ -20,6 +20,7 @@ use Rattle.type_lines.proofs.Frames.{frames-all, frames-few}
 use Rattle.type_row.specs.Row.{TypesWrote}
 use Rattle.type_rows.specs.Rows.{shapes_of}
 use Rattle.type_rows.proofs.Wrotes.{types-then}
+use Rattle.lines.specs.Lines.{lines_in}
 
 -- keys keep their positions when more come
 record Longer (l k : List TypeKey) : Type 0 where
@@ -56,5 +57,5 @@ all-rows s is x0 x1 x2 x3 =
     let fs = (sheet_source s).frames in
     writes_as (ap (type_rows 0) (sym (descriptors-are s is))) (types-then (opaque_shape ∷ opaque_shape ∷ []) (fs ++ (a ++ b)) x0 (types-then fs (a ++ b) x1 (types-then a b x2 x3))).wrote
 
-pub frames-low : (s t : List ℕ) (n : ℕ) → Checked s t n → length (sheet_source s).frames ≤ 128
-frames-low s t n c = rw (← frames-all s t n c) (frames-few s t n c n (omega arith))
+pub frames-low : (s : List ℕ) → Checked s → length (sheet_source s).frames ≤ 128
+frames-low s c = rw (← frames-all s c) (frames-few s c (lines_in s) (omega arith))

@@ -12,7 +12,7 @@ use Rattle.semantics.specs.Tree.{Shape}
 use Rattle.codes.specs.declared.element.Element.{Element}
 use Rattle.codes.specs.Kinds.{element_kind}
 use Rattle.semantics.specs.Types.{opaque_shape, elem_shape, key_shape, unknown}
-use Rattle.lines.specs.Lines.{read_at, form_at}
+use Rattle.lines.specs.Lines.{lines_in, read_at, form_at}
 use Rattle.source.specs.Walk.{field_at}
 use Rattle.records.specs.Log.{recorded_at, log_of, no_record, RecordsLogged, Newest}
 use Rattle.records.proofs.Keys.{default-same}
@@ -34,25 +34,25 @@ opaque-form (suc (suc (suc (suc (suc (suc zero)))))) h a b e = absurd (b refl)
 opaque-form (suc (suc (suc (suc (suc (suc (suc zero))))))) h a b e = refl
 opaque-form (suc (suc (suc (suc (suc (suc (suc (suc d)))))))) h a b e = absurd (omega arith)
 
-module _ (s t : List ℕ) (n i : ℕ) (l : NeedLine s t n i) (f : ℕ) (hf : f ≡ form_at t i) (rs : List Recorded) where
+module _ (s : List ℕ) (i : ℕ) (l : NeedLine s i) (f : ℕ) (hf : f ≡ form_at s i) (rs : List Recorded) where
   pub block-shape : f ≡ 40 → written_shape s i ≡ key_shape rs (need_at s i)
-  block-shape e = sym (ap (key_shape rs) (block-key s t n i l (sym hf ∙ e)))
+  block-shape e = sym (ap (key_shape rs) (block-key s i l (sym hf ∙ e)))
 
   pub opaque-shape : kind_by f ≡ None → (f ≡ 34 → ⊥) → (f ≡ 40 → ⊥) → opaque_shape ≡ key_shape rs (need_at s i)
   opaque-shape e a b =
-      let g = form-from s t n i l in
+      let g = form-from s i l in
       let z : 34 + (f - 34) ≡ f = omega (arith, g.0, hf) in
       let y = opaque-form (f - 34) (omega (arith, g.1, hf, z)) (λ q. a (omega (arith, z, q))) (λ q. b (omega (arith, z, q))) (rw z e) in
-      sym (ap (key_shape rs) (opaque-key s t n i l (omega (arith, z, y, hf))))
+      sym (ap (key_shape rs) (opaque-key s i l (omega (arith, z, y, hf))))
 
   pub elem-shape : (e : Element) → kind_by f ≡ Some e → elem_shape (element_kind e) ≡ key_shape rs (need_at s i)
-  elem-shape e q = sym (ap (key_shape rs) (elem-key s t n i l e (sym (ap kind_by hf) ∙ q)))
+  elem-shape e q = sym (ap (key_shape rs) (elem-key s i l e (sym (ap kind_by hf) ∙ q)))
 
 -- ---- records
 
-module _ (s t : List ℕ) (n i : ℕ) (l : NeedLine s t n i) (e : form_at t i ≡ 34) (key : List ℕ) (hk : key ≡ field_at (read_at s i).fields 0) {j : Option ℕ} (x : Newest s key j) where
+module _ (s t : List ℕ) (i : ℕ) (l : NeedLine s i) (e : form_at s i ≡ 34) (key : List ℕ) (hk : key ≡ field_at (read_at s i).fields 0) {j : Option ℕ} (x : Newest s key j) where
   named : need_at s i ≡ adt_key key
-  named = name-key s t n i l e ∙ ap adt_key (sym hk)
+  named = name-key s i l e ∙ ap adt_key (sym hk)
 
   unknown-shape : j ≡ None → key_shape (log_of s) (need_at s i) ≡ (unknown key).shape
   unknown-shape z =
@@ -66,8 +66,8 @@ module _ (s t : List ℕ) (n i : ℕ) (l : NeedLine s t n i) (e : form_at t i �
   unfolding word_offsets
   unknown-words z = sym (ap (λ (q : Shape). q.pointers) (unknown-shape z))
 
-  module _ (m : ℕ) (g : RecordsLogged s t n m) {q : ℕ} (z : j ≡ Some q) where
-    pub known-low : q < m
+  module _ (g : RecordsLogged s t (lines_in s)) {q : ℕ} (z : j ≡ Some q) where
+    pub known-low : q < lines_in s
     known-low = let y = ap count_to z in omega (arith, x.low, g.count, y)
 
     pub known-shape : (recorded_at s t q).shape ≡ key_shape (log_of s) (need_at s i)

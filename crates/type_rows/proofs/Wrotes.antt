@@ -62,7 +62,7 @@ module _ (s t : List ℕ) (c : Log) (x : TypeTables s t c) (q : ℕ) (low : q < 
   k : TypeKey
   k = get_or (sheet_source s).needs q opaque_key
 
-  pub need-at : NeedLine s t c.lines (need_line_of t q)
+  pub need-at : NeedLine s (need_line_of t q)
   need-at = record { checked = x.log.checked; within = x.table.within q low; kind = x.table.kind q low }
 
   pub need-low : q < 128

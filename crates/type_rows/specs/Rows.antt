@@ -18,5 +18,5 @@ shapes_of s ks = map (key_shape (log_of s)) ks
 
 -- the tables of a checked sheet that rows are made from: the records, and the needs
 pub record TypeTables (s t : Bytes) (c : Log) : Type 0 where
-  pub log : RecordsLogged s t c.lines c.entries
-  pub table : Needs s t c.lines (sheet_source s).needs
+  pub log : RecordsLogged s t c.entries
+  pub table : Needs s t (sheet_source s).needs

@@ -12,6 +12,7 @@ ghost use Rattle.semantics.specs.Listing.{type_rows};
 ghost use Rattle.write.specs.Writes.{Writes};
 ghost use Rattle.type_rows.specs.Rows.{shapes_of};
 
+use codes::area::Space;
 use codes::element;
 use codes::element::Element;
 use type_keys::kind_position;
@@ -19,8 +20,7 @@ use type_row::put_elem;
 use write::Writer;
 
 // The kind of element whose key has position p.
-fn kind_at(work: &[u8], p: usize) -> Option<Element>
-    requires { 65536 ≤ length work.now }
+fn kind_at(work: &Space, p: usize) -> Option<Element>
     ensures found { IfSome result (λ kind. kind_position work.now (element_kind kind) ≡ p + 1) }
     ensures none { result ≡ None → (k : ElemKind) → kind_position work.now k ≡ p + 1 → ⊥ }
 {
@@ -33,8 +33,8 @@ fn kind_at(work: &[u8], p: usize) -> Option<Element>
 }
 
 // The rows of the keys behind those of needs, from the ID `id` up to that of the last of `keys`; `base` is the ID of the first key.
-pub fn kind_rows(work: &mut [u8], base: usize, keys: usize, w: &mut Writer, id: usize)
-    requires { (65536 ≤ length work.old) × (base ≤ id) × (base < 1024) × (keys < 1024) }
+pub fn kind_rows(work: &mut Space, base: usize, keys: usize, w: &mut Writer, id: usize)
+    requires { (base ≤ id) × (base < 1024) × (keys < 1024) }
     ensures { ((s : Bytes) (ls : List TypeKey) (is : List Item) → id ≡ base + length (distinct [] ls) → Kinds work.old (ls ++ concat_map array_key is) keys → Writes w.old (type_rows id (shapes_of s (drop (length (distinct [] ls)) (distinct [] (ls ++ concat_map array_key is))))) w.new) × (Kept 49152 work.old work.new) }
 {
     for i in id..base + keys {

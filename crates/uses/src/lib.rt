@@ -10,6 +10,7 @@ ghost use Rattle.semantics.specs.Listing.{row, use_row};
 ghost use Rattle.write.specs.Writes.{Writes};
 ghost use Rattle.uses.specs.Uses.{NeedIds};
 
+use codes::area::Space;
 use write::Writer;
 
 fn put_use(w: &mut Writer, id: usize)
@@ -21,8 +22,8 @@ fn put_use(w: &mut Writer, id: usize)
 }
 
 // The ID of what each `need` line asks for, whatever arrays there are.
-pub fn use_rows(work: &[u8], needs: usize, frames: usize, w: &mut Writer)
-    requires { (needs ≤ 128) × (frames ≤ 128) × (65536 ≤ length work.now) }
+pub fn use_rows(work: &Space, needs: usize, frames: usize, w: &mut Writer)
+    requires { (needs ≤ 128) × (frames ≤ 128) }
     ensures { (s : Bytes) (is : List Item) → NeedIds s work.now needs frames → Writes w.old (concat_map (use_row (id_of (sheet_source s) is)) (sheet_source s).needs) w.new }
 {
     for q in 0..needs {

@@ -14,10 +14,11 @@ use Rattle.semantics.specs.Refusal.{or_refused}
 use Rattle.checks.specs.Checks.{Checked}
 use Rattle.globals.specs.Vars.{laid_vars_to, line_items}
 use Rattle.globals.proofs.Vars.{items-by, laid-lines}
+use Rattle.lines.specs.Lines.{lines_in}
 
 -- the items of all lines are the sheet's
-pub items-all : (ns : Names) (s : Bytes) {t : Bytes} {n : ℕ} → Checked s t n → line_items ns (globals ns (sheet_source s)).places (laid_vars_to s n) ≡ (globals ns (sheet_source s)).items
-items-all ns s {t} {n} c = sym (items-by ns (sheet_source s) ∙ ap (line_items ns (globals ns (sheet_source s)).places) (laid-lines s t n c))
+pub items-all : (ns : Names) (s : Bytes) {t : Bytes} → Checked s → line_items ns (globals ns (sheet_source s)).places (laid_vars_to s (lines_in s)) ≡ (globals ns (sheet_source s)).items
+items-all ns s {t} {n} c = sym (items-by ns (sheet_source s) ∙ ap (line_items ns (globals ns (sheet_source s)).places) (laid-lines s c))
 
 -- ---- the first line that is refused
 

@@ -12,7 +12,7 @@ use Rattle.semantics.specs.Form.{forms, number_of, node_at, perhaps_at, ex_of}
 use Rattle.semantics.specs.Form.Kind.{k_ty}
 use Rattle.decimal.specs.Number as Number
 use Rattle.form.specs.Table.{row_node}
-use Rattle.lines.specs.Lines.{reads_in, read_at, nodes_in, form_at}
+use Rattle.lines.specs.Lines.{lines_in, reads_in, read_at, nodes_in, form_at}
 use Rattle.names.specs.Table.{ConstsLogged}
 use Rattle.sizes.specs.Sizes.{type_at, TypeLine}
 use Rattle.sizes.proofs.Types.{ref-head}
@@ -43,21 +43,21 @@ value-given ns (suc r) h = refl
 
 -- ---- the type
 
-module _ {s t : Bytes} {n ty : ℕ} (l : TypeLine s t n ty) {x : Ty} (ht : type_at s ty ≡ x) {f : ℕ} (hf : f ≡ form_at t (ty - 1)) where
+module _ {s : Bytes} {ty : ℕ} (l : TypeLine s ty) {x : Ty} (ht : type_at s ty ≡ x) {f : ℕ} (hf : f ≡ form_at s (ty - 1)) where
   pub element-none : (f ≡ 6 → ⊥) → None ≡ elem_of x
   element-none z =
       let w = line-form l in
-      elem-of-form (nodes_in s) (read_at s (ty - 1)).fields f (rw hf (type-form (form_at t (ty - 1)) w.0 w.1)) z
+      elem-of-form (nodes_in s) (read_at s (ty - 1)).fields f (rw hf (type-form (form_at s (ty - 1)) w.0 w.1)) z
       ∙ ap (λ (w : Node). elem_of w.ty) (sym (makes l (sym hf))) ∙ ap elem_of ht
 
   module _ (e : f ≡ 6) {d : ℕ} (hd : d ≡ Number.number_up_to 65536 (get_or (read_at s (ty - 1)).fields 0 [])) where
-    element-ref : (d ≡ number_of (get_or (read_at s (ty - 1)).fields 0 [])) × KindLine 75 s t n d
+    element-ref : (d ≡ number_of (get_or (read_at s (ty - 1)).fields 0 [])) × KindLine 75 s d
     unfolding forms
     element-ref =
         let w = parts_at l (sym hf ∙ e) in
         good-line l 75 (get_or (read_at s (ty - 1)).fields 0 []) d hd (ref-head (reads_in s) (ty - 1) k_ty [] (read_at s (ty - 1)).fields w.0 w.1).0
 
-    pub element-line : TypeLine s t n d
+    pub element-line : TypeLine s d
     element-line = element-ref.1
 
     pub element-some : Some (type_at s d) ≡ elem_of x
@@ -66,19 +66,19 @@ module _ {s t : Bytes} {n ty : ℕ} (l : TypeLine s t n ty) {x : Ty} (ht : type_
 
 -- ---- the value
 
-module _ {s t : Bytes} {n r : ℕ} (l : VarLine s t n r) where
+module _ {s t : Bytes} {r : ℕ} (l : VarLine s r) where
   module _ {q : ℕ} (hq : q ≡ Number.number_up_to 65536 (get_or (read_at s (r - 1)).fields 1 [])) where
-    value-ref : (q ≡ number_of (get_or (read_at s (r - 1)).fields 1 [])) × ((q ≡ 0 → ⊥) → KindLine 69 s t n q)
-    value-ref = may-line l 69 (get_or (read_at s (r - 1)).fields 1 []) q hq (parts-good s t n r l).1
+    value-ref : (q ≡ number_of (get_or (read_at s (r - 1)).fields 1 [])) × ((q ≡ 0 → ⊥) → KindLine 69 s q)
+    value-ref = may-line l 69 (get_or (read_at s (r - 1)).fields 1 []) q hq (parts-good s r l).1
 
     pub init-none : q ≡ 0 → (var_on s r).init ≡ None
     init-none z = rw (sym value-ref.0 ∙ z)
 
     module _ (z : q ≡ 0 → ⊥) where
-      pub value_line : KindLine 69 s t n q
+      pub value_line : KindLine 69 s q
       value_line = value-ref.1 z
 
-      pub value-foldable : {m : ℕ} → ConstsLogged s t n m → Foldable s t n m q 49152
+      pub value-foldable : ConstsLogged s t (lines_in s) → Foldable s t (lines_in s) q 49152
       value-foldable g = foldable {e = 0} (record { line = value_line; log = g; few = omega arith })
 
       pub init-some : (var_on s r).init ≡ Some (ex_at s q)

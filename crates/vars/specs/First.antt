@@ -51,6 +51,6 @@ pub record Inits (t : Bytes) (r : Result Init) (x : P.Result (Option First) NoIt
 -- ---- lines
 
 -- line r is a `var` line, and has its value in line q
-pub record Valued (s t : Bytes) (n r q : ℕ) : Type 0 where
-  pub line : VarLine s t n r
-  pub value : ExLine s t n q
+pub record Valued (s : Bytes) (r q : ℕ) : Type 0 where
+  pub line : VarLine s r
+  pub value : ExLine s q

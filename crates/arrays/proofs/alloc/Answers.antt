@@ -6,9 +6,6 @@ use Rattle.arrays.proofs.alloc.Goals as goal
 pub overflow_sub-r : goal.overflow_sub-r
 overflow_sub-r c = c.requires.0.array.line.first
 
-pub number_at-q-requires : goal.number_at-q-requires
-number_at-q-requires c = (c.requires.0.array.line.checked.whole, line-in c.requires.0.array.line)
-
 pub fold_const-requires : goal.fold_const-requires
 fold_const-requires c = length-foldable c.requires.0 c.number_at-q.ensures.0 c.requires.1
 

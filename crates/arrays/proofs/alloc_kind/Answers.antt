@@ -12,9 +12,6 @@ returns-in-Some c = declared-kind c.requires c.in-Some.is c.elem_kind.ensures
 pub overflow_sub-r : goal.overflow_sub-r
 overflow_sub-r c = c.requires.array.line.first
 
-pub number_at-requires : goal.number_at-requires
-number_at-requires c = (c.requires.array.line.checked.whole, line-in c.requires.array.line)
-
 pub elem_kind-requires-in-None : goal.elem_kind-requires-in-None
 elem_kind-requires-in-None c = own_line c.requires c.number_at.ensures.0
 

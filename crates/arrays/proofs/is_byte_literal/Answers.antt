@@ -8,9 +8,6 @@ use Rattle.arrays.proofs.is_byte_literal.Goals as goal
 pub overflow_sub-r : goal.overflow_sub-r
 overflow_sub-r c = c.requires.line.first
 
-pub number_at-count-requires : goal.number_at-count-requires
-number_at-count-requires c = (c.requires.line.checked.whole, line-in c.requires.line)
-
 pub loop-j-init : goal.loop-j-init
 loop-j-init c = casting-start c.args.sheet.now c.args.r c.number_at-count.result
 
@@ -20,14 +17,8 @@ overflow_sub-r-in-loop-j c = c.requires.line.first
 pub overflow_add-j : goal.overflow_add-j
 overflow_add-j c = record { fits = omega (arith, few-elements c.requires c.number_at-count.ensures.0, c.loop-j-test.true) }
 
-pub number_at-q-requires : goal.number_at-q-requires
-number_at-q-requires c = (c.requires.line.checked.whole, line-in c.requires.line)
-
 pub overflow_sub-q : goal.overflow_sub-q
 overflow_sub-q c = (element-at c.requires c.number_at-count.ensures.0 c.loop-j.invariant c.loop-j-test.true c.number_at-q.ensures.0).first
-
-pub number_at-requires : goal.number_at-requires
-number_at-requires c = (c.requires.line.checked.whole, line-in (element-at c.requires c.number_at-count.ensures.0 c.loop-j.invariant c.loop-j-test.true c.number_at-q.ensures.0))
 
 pub is_byte_cast-requires : goal.is_byte_cast-requires
 is_byte_cast-requires c = value_line c.requires c.number_at-count.ensures.0 c.loop-j.invariant c.loop-j-test.true c.number_at-q.ensures.0 c.number_at.ensures.0

@@ -1,3 +1,4 @@
+use Rattle.std.proofs.Common.{rules}
 use Rattle.arrays.proofs.Wholes.{kind-declared, own-type-line, kind-own, kind-bytes, kind-values}
 use Rattle.arrays.proofs.Allocs.{declared-line}
 use Rattle.literals.proofs.Lines.{line-in}
@@ -14,9 +15,6 @@ returns-in-Some c = kind-declared c.requires (values_in c.args.work.now 0 c.args
 pub overflow_sub-r : goal.overflow_sub-r
 overflow_sub-r c = c.requires.lit.literal.line.first
 
-pub number_at-own-requires : goal.number_at-own-requires
-number_at-own-requires c = (c.requires.lit.literal.line.checked.whole, line-in c.requires.lit.literal.line)
-
 pub elem_kind-requires-then-own-ne0 : goal.elem_kind-requires-then-own-ne0
 elem_kind-requires-then-own-ne0 c = own-type-line c.requires (values_in c.args.work.now 0 c.args.count) c.in_default.is c.number_at-own.ensures.0 c.if-own-ne0.true
 
@@ -30,7 +28,7 @@ pub returns-then-is_byte_literal : goal.returns-then-is_byte_literal
 returns-then-is_byte_literal c = kind-bytes c.requires (values_in c.args.work.now 0 c.args.count) c.in_default.is c.number_at-own.ensures.0 c.if-own-ne0.false (sym c.if-is_byte_literal.true ∙ c.is_byte_literal.ensures)
 
 pub kind_of_values-requires : goal.kind_of_values-requires
-kind_of_values-requires c = (c.requires.few, c.requires.lit.literal.line.checked.whole.room)
+kind_of_values-requires c = (c.requires.few, (search rules))
 
 pub returns : goal.returns
 returns c = kind-values c.requires (values_in c.args.work.now 0 c.args.count) c.in_default.is c.number_at-own.ensures.0 c.if-own-ne0.false (sym c.if-is_byte_literal.false ∙ c.is_byte_literal.ensures) c.kind_of_values.ensures

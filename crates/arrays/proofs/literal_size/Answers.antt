@@ -7,11 +7,8 @@ use Rattle.arrays.proofs.literal_size.Goals as goal
 pub overflow_sub-r : goal.overflow_sub-r
 overflow_sub-r c = c.requires.0.line.first
 
-pub number_at-q-requires : goal.number_at-q-requires
-number_at-q-requires c = (c.requires.0.line.checked.whole, line-in c.requires.0.line)
-
 pub returns-then-q-eq0 : goal.returns-then-q-eq0
-returns-then-q-eq0 c = (size_none c.requires.0 c.number_at-q.ensures.0 (names_in c.args.sheet.now c.args.work.now c.args.c.consts) c.if-q-eq0.true, kept-all)
+returns-then-q-eq0 c = (size_none c.requires.0 c.number_at-q.ensures.0 (names_in c.args.sheet.now c.args.work.now c.args.consts) c.if-q-eq0.true, kept-all)
 
 pub fold_const-requires : goal.fold_const-requires
 fold_const-requires c = size-foldable c.requires.0 c.number_at-q.ensures.0 c.requires.1 c.if-q-eq0.false

@@ -5,4 +5,4 @@ use Rattle.write.specs.Writes.{Writes}
 use Rattle.const_rows.proofs.rows.Given as goal
 
 abbrev pub invariant-loop-i : goal.invariant-loop-i
-invariant-loop-i l = (l.i ≤ l.c.consts) × Writes l.initial.w (rows_to l.plain l.sheet l.work l.c.consts l.i) l.w
+invariant-loop-i l = (l.i ≤ l.consts) × Writes l.initial.w (rows_to l.plain l.sheet l.work l.consts l.i) l.w

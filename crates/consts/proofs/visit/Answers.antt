@@ -4,17 +4,14 @@ use Rattle.consts.proofs.Walk as Walk
 use Rattle.checks.proofs.Kept.{kept-all}
 use Rattle.consts.proofs.visit.Goals as goal
 
-pub kind-requires : goal.kind-requires
-kind-requires c = Walk.form_small c.requires.0.checked c.requires.1 c.form_at.ensures
-
 pub open_after-requires : goal.open_after-requires
-open_after-requires c = (Walk.open-here _ _ _ _ _ c.requires.0 c.requires.1, c.requires.1)
+open_after-requires c = (Walk.open-here _ _ _ _ c.requires.0 c.requires.1, c.requires.1)
 
 pub returns-then-kind-ne-CON : goal.returns-then-kind-ne-CON
-returns-then-kind-ne-CON c = (kept-all, Walk.moves-other c.args.sheet.now c.args.work.now c.args.n (line_number c.args.k) c.args.p c.requires.0 c.requires.1 (Walk.kind-read c.requires.0.checked c.requires.1 c.form_at.ensures c.kind.ensures) c.if-kind-ne-CON.true c.open_after.ensures)
+returns-then-kind-ne-CON c = (kept-all, Walk.moves-other c.args.sheet.now c.args.work.now (line_number c.args.k) c.args.p c.requires.0 c.requires.1 (Walk.kind-read c.requires.0.checked c.requires.1 c.form_at.ensures.0 c.kind.ensures) c.if-kind-ne-CON.true c.open_after.ensures)
 
 pub visit_constant-requires : goal.visit_constant-requires
-visit_constant-requires c = (c.requires.0, Walk.at_constant c.args.sheet.now c.args.work.now c.args.n (line_number c.args.k) c.args.p c.requires.0 c.requires.1 (Walk.kind-read c.requires.0.checked c.requires.1 c.form_at.ensures c.kind.ensures) c.if-kind-ne-CON.false (Walk.line-same _ _ c.eq.ensures c.if-eq.true))
+visit_constant-requires c = (c.requires.0, Walk.at_constant c.args.sheet.now c.args.work.now (line_number c.args.k) c.args.p c.requires.0 c.requires.1 (Walk.kind-read c.requires.0.checked c.requires.1 c.form_at.ensures.0 c.kind.ensures) c.if-kind-ne-CON.false (Walk.line-same _ _ c.eq.ensures c.if-eq.true))
 
 pub returns : goal.returns
-returns c = (kept-all, Walk.moves_out c.args.sheet.now c.args.work.now c.args.n (line_number c.args.k) c.args.p c.requires.0 c.requires.1 (Walk.kind-read c.requires.0.checked c.requires.1 c.form_at.ensures c.kind.ensures) c.if-kind-ne-CON.false (Walk.line-other _ _ c.eq.ensures c.if-eq.false))
+returns c = (kept-all, Walk.moves_out c.args.sheet.now c.args.work.now (line_number c.args.k) c.args.p c.requires.0 c.requires.1 (Walk.kind-read c.requires.0.checked c.requires.1 c.form_at.ensures.0 c.kind.ensures) c.if-kind-ne-CON.false (Walk.line-other _ _ c.eq.ensures c.if-eq.false))

@@ -6,7 +6,7 @@ use Rattle.data_rows.proofs.Walk.{none-laid, line-task, line-items, line-none}
 use Rattle.data_rows.proofs.line_rows.Goals as goal
 
 pub returns-in_default : goal.returns-in_default
-returns-in_default c = none-laid c.args.sheet.now (names_in c.args.sheet.now c.args.work.now c.args.c.consts) (places_in c.args.sheet.now c.args.work.now c.args.c.globals) c.in_default.is
+returns-in_default c = none-laid c.args.sheet.now (names_in c.args.sheet.now c.args.work.now c.args.consts) (places_in c.args.sheet.now c.args.work.now c.args.c.globals) c.in_default.is
 
 pub names_rows-requires : goal.names_rows-requires
 names_rows-requires c = (line-task c.in-Some.r c.requires.0 (rw c.in-Ok-Some.field-0-is at c.in-Ok-Some.ensures), line_kept c.first_value.ensures.keeps (rw c.in-Some.is at c.requires.1))

@@ -18,17 +18,14 @@ returns-in_err-v t c =
 
 pub apply-requires : goal.apply-requires
 apply-requires t c =
-    applies c.requires (omega arith) (omega arith) c.operand.ensures c.fold_const.ensures c.in_ok-v.was (λ e. c.if-f-ne-BIN.true (c.form_at-f.ensures ∙ e))
+    applies c.requires (omega arith) (omega arith) c.operand.ensures c.fold_const.ensures c.in_ok-v.was (λ e. c.if-f-ne-BIN.true (c.form_at-f.ensures.0 ∙ e))
 
 pub returns-then-f-ne-BIN : goal.returns-then-f-ne-BIN
 returns-then-f-ne-BIN t c =
-    applied c.requires (omega arith) (omega arith) c.operand.ensures c.fold_const.ensures c.in_ok-v.was (λ e. c.if-f-ne-BIN.true (c.form_at-f.ensures ∙ e)) c.apply.ensures
-
-pub number_at-right-requires : goal.number_at-right-requires
-number_at-right-requires t c = readable-behind c.requires (omega arith) (omega arith) c.fold_const.ensures.kept
+    applied c.requires (omega arith) (omega arith) c.operand.ensures c.fold_const.ensures c.in_ok-v.was (λ e. c.if-f-ne-BIN.true (c.form_at-f.ensures.0 ∙ e)) c.apply.ensures
 
 pub fold_const-requires-2 : goal.fold_const-requires-2
-fold_const-requires-2 t c = let e = sym c.form_at-f.ensures ∙ c.if-f-ne-BIN.false in (
+fold_const-requires-2 t c = let e = sym c.form_at-f.ensures.0 ∙ c.if-f-ne-BIN.false in (
   omega (arith, right-before c.requires (omega arith) (omega arith) c.operand.ensures c.fold_const.ensures c.in_ok-v.was e c.number_at-right.ensures.0 c.size.ensures),
   right-foldable c.requires (omega arith) (omega arith) c.operand.ensures c.fold_const.ensures c.in_ok-v.was e c.number_at-right.ensures.0 c.size.ensures,
 )
@@ -37,16 +34,10 @@ pub returns-in_err-w : goal.returns-in_err-w
 returns-in_err-w t c =
     let p = err_from_is_err_and c.from_residual-in_err-w.result c.from_residual-in_err-w.ensures.1 in
     rw (p.1, p.2)
-    (right-stops c.requires (omega arith) (omega arith) c.operand.ensures c.fold_const.ensures c.in_ok-v.was (sym c.form_at-f.ensures ∙ c.if-f-ne-BIN.false)
+    (right-stops c.requires (omega arith) (omega arith) c.operand.ensures c.fold_const.ensures c.in_ok-v.was (sym c.form_at-f.ensures.0 ∙ c.if-f-ne-BIN.false)
     c.number_at-right.ensures.0 c.size.ensures c.fold_const-2.ensures c.in_err-w.was)
-
-pub number_at-requires : goal.number_at-requires
-number_at-requires t c =
-    readable-behind c.requires (omega arith) (omega arith)
-    (right_kept c.requires (omega arith) (omega arith) c.operand.ensures c.fold_const.ensures c.in_ok-v.was (sym c.form_at-f.ensures ∙ c.if-f-ne-BIN.false)
-    c.number_at-right.ensures.0 c.size.ensures c.fold_const-2.ensures)
 
 pub returns : goal.returns
 returns t c =
-    binary-folds c.requires (omega arith) (omega arith) c.operand.ensures c.fold_const.ensures c.in_ok-v.was (sym c.form_at-f.ensures ∙ c.if-f-ne-BIN.false)
+    binary-folds c.requires (omega arith) (omega arith) c.operand.ensures c.fold_const.ensures c.in_ok-v.was (sym c.form_at-f.ensures.0 ∙ c.if-f-ne-BIN.false)
     c.number_at-right.ensures.0 c.size.ensures c.fold_const-2.ensures c.in_ok-w.was c.of_number-op.result c.number_at.ensures.0 c.of_number-op.ensures c.fold_binary.ensures

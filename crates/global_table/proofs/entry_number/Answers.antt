@@ -1,3 +1,4 @@
+use Rattle.std.proofs.Common.{rules}
 use native.Mathlib.Omega.{arith}
 use Rattle.chains.proofs.Laws.{along-first, along-low, along-found, along-next, along-end, earlier-less}
 use Rattle.global_table.specs.Table.{global_chains}
@@ -5,7 +6,7 @@ use Rattle.global_table.proofs.Table.{global-room, named-chain, found-is}
 use Rattle.global_table.proofs.entry_number.Goals as goal
 
 pub newest-next-requires : goal.newest-next-requires
-newest-next-requires c = global-room c.requires.checked.whole.room
+newest-next-requires c = global-room (search rules)
 
 pub loop-next-init : goal.loop-next-init
 loop-next-init c =
@@ -21,7 +22,7 @@ returns-then-is_named c =
 pub earlier-next-requires : goal.earlier-next-requires
 earlier-next-requires c =
     let p = c.requires in
-    (global-room p.checked.whole.room, omega (arith, along-low c.loop-next.invariant c.in-Some.is, p.few))
+    (global-room (search rules), omega (arith, along-low c.loop-next.invariant c.in-Some.is, p.few))
 
 pub loop-next-smaller : goal.loop-next-smaller
 loop-next-smaller c = earlier-less c.args.work.now global_chains c.in-Some.is c.earlier-next.ensures

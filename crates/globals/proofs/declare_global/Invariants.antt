@@ -3,4 +3,4 @@ use Rattle.globals.proofs.Declare.{Naming}
 use Rattle.globals.proofs.declare_global.Given as goal
 
 abbrev pub invariant-loop-j : goal.invariant-loop-j
-invariant-loop-j l = Naming l.sheet l.initial.work l.work l.n l.r l.count l.initial.h l.h l.j
+invariant-loop-j l = Naming l.sheet l.initial.work l.work l.r l.count l.initial.h l.h l.j

@@ -10,20 +10,15 @@ use Rattle.implement.proofs.is_implemented.Goals as goal
 pub returns-then-n-eq0 : goal.returns-then-n-eq0
 returns-then-n-eq0 c =
     let a = c.args in
-    implemented-none a.sheet.now a.work.now a.n c.requires a.name.now c.if-n-eq0.true
-
-pub kind-requires : goal.kind-requires
-kind-requires c =
-    let a = c.args in
-    rw c.form_at.ensures (form-low a.sheet.now a.work.now a.n c.requires.whole 0 (omega arith))
+    implemented-none a.sheet.now c.requires a.name.now c.if-n-eq0.true
 
 pub returns-else-kind-eq-IMPL : goal.returns-else-kind-eq-IMPL
 returns-else-kind-eq-IMPL c =
     let a = c.args in
-    ne_eqb c.kind.result 73 c.if-kind-eq-IMPL.false ∙ implemented-not a.sheet.now a.work.now a.n c.requires a.name.now (omega arith) c.form_at.ensures c.kind.ensures c.if-kind-eq-IMPL.false
+    ne_eqb c.kind.result 73 c.if-kind-eq-IMPL.false ∙ implemented-not a.sheet.now c.requires a.name.now (omega arith) c.form_at.ensures.0 c.kind.ensures c.if-kind-eq-IMPL.false
 
 pub returns-then-kind-eq-IMPL : goal.returns-then-kind-eq-IMPL
 returns-then-kind-eq-IMPL c =
     let a = c.args in
-    c.same.ensures ∙ ap (λ (x : Bytes). same x a.name.now) c.field_at.ensures
-    ∙ implemented-by a.sheet.now a.work.now a.n c.requires a.name.now (omega arith) c.form_at.ensures c.kind.ensures c.if-kind-eq-IMPL.true
+    c.same.ensures ∙ ap (λ (x : Bytes). same x a.name.now) c.field_at.ensures.0
+    ∙ implemented-by a.sheet.now c.requires a.name.now (omega arith) c.form_at.ensures.0 c.kind.ensures c.if-kind-eq-IMPL.true

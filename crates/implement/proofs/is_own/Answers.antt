@@ -13,4 +13,4 @@ returns-in-None c = own-outside c.args.sheet.now c.in-None.is
 pub returns-in-Some : goal.returns-in-Some
 returns-in-Some c =
     let a = c.args in
-    own-within a.sheet.now c.in-Some.is (c.is_implemented.ensures ∙ ap (λ (x : Bytes). same_option (sheet_source a.sheet.now).implement (Some x)) c.field_at.ensures)
+    own-within a.sheet.now c.in-Some.is (c.is_implemented.ensures ∙ ap (λ (x : Bytes). same_option (sheet_source a.sheet.now).implement (Some x)) c.field_at.ensures.0)

@@ -5,16 +5,16 @@ use Rattle.literals.proofs.Elements.{element-small, element-next, element-star, 
 use Rattle.literals.proofs.place_element.Goals as goal
 
 pub returns-in-20 : goal.returns-in-20
-returns-in-20 c = element-next c.requires c.args.x c.form_at.ensures c.in-20.is c.place_next.ensures
+returns-in-20 c = element-next c.requires c.args.x c.form_at.ensures.0 c.in-20.is c.place_next.ensures
 
 pub put_value-requires : goal.put_value-requires
 put_value-requires c = (omega arith, element-small c.requires c.args.x)
 
 pub returns-in-21 : goal.returns-in-21
-returns-in-21 c = element-star c.requires c.args.x c.form_at.ensures c.in-21.is c.put_value.ensures
+returns-in-21 c = element-star c.requires c.args.x c.form_at.ensures.0 c.in-21.is c.put_value.ensures
 
 pub place_selectors-requires : goal.place_selectors-requires
-place_selectors-requires c = element-at c.requires c.args.x c.form_at.ensures (search rules) (search rules)
+place_selectors-requires c = element-at c.requires c.args.x c.form_at.ensures.0 (search rules) (search rules)
 
 pub returns-in_default : goal.returns-in_default
-returns-in_default c = element-spans c.requires c.args.x c.form_at.ensures (search rules) (search rules) c.place_selectors.ensures
+returns-in_default c = element-spans c.requires c.args.x c.form_at.ensures.0 (search rules) (search rules) c.place_selectors.ensures

@@ -14,8 +14,5 @@ bounds-work-i c = omega (arith, c.loop-i.invariant.kept.long, c.requires.room, m
 pub loop-i-preserved : goal.loop-i-preserved
 loop-i-preserved c = clearing-next c.loop-i.invariant (omega (arith, c.loop-i.invariant.kept.long, c.requires.room, map-fits c.requires))
 
-pub shape_of-work : goal.shape_of-work
-shape_of-work c = c.loop-i.invariant.kept.long
-
 pub returns : goal.returns
 returns c = clearing-end c.requires (omega arith) c.loop-i.invariant

@@ -6,7 +6,7 @@ use native.Mathlib.Omega.{arith}
 use Rattle.marks.proofs.mark_fields.Goals as goal
 
 pub loop-j-init : goal.loop-j-init
-loop-j-init c = lines-marked-start c.args.sheet.now c.args.work.now c.args.n c.args.f c.requires.0 c.args.size c.args.off
+loop-j-init c = lines-marked-start c.args.sheet.now c.args.work.now c.args.f c.requires.0 c.args.size c.args.off
 
 pub overflow_sub-f : goal.overflow_sub-f
 overflow_sub-f c = c.requires.0.first
@@ -14,17 +14,14 @@ overflow_sub-f c = c.requires.0.first
 pub overflow_add-f : goal.overflow_add-f
 overflow_add-f c = record { fits = omega (arith, c.requires.0.near, c.requires.0.few, c.loop-j-test.true) }
 
-pub number_at-r-requires : goal.number_at-r-requires
-number_at-r-requires c = ((refs-kept c.loop-j.invariant.marks.kept c.requires.0).checked.whole, refs-in c.args.sheet.now c.args.work.now c.args.n c.args.f c.requires.0)
-
 pub mark_field-q-requires : goal.mark_field-q-requires
-mark_field-q-requires c = (refs-line c.args.sheet.now _ c.args.n c.args.f (refs-kept c.loop-j.invariant.marks.kept c.requires.0) c.loop-j.j c.loop-j-test.true c.number_at-r.result c.number_at-r.ensures.0, room-kept c.loop-j.invariant.marks.kept c.requires.1, omega (arith, c.loop-j.invariant.small, c.requires.2, c.requires.0.few, c.loop-j-test.true))
+mark_field-q-requires c = (refs-line c.args.sheet.now c.args.f (refs-kept c.loop-j.invariant.marks.kept c.requires.0) c.loop-j.j c.loop-j-test.true c.number_at-r.result c.number_at-r.ensures.0, room-kept c.loop-j.invariant.marks.kept c.requires.1, omega (arith, c.loop-j.invariant.small, c.requires.2, c.requires.0.few, c.loop-j-test.true))
 
 pub loop-j-preserved : goal.loop-j-preserved
-loop-j-preserved c = lines-marked-next c.args.sheet.now c.args.work.now c.args.n c.args.f c.requires.0 c.args.size c.args.off c.loop-j.invariant c.loop-j-test.true c.number_at-r.ensures.0 c.mark_field-q.ensures.0 c.mark_field-q.ensures.1
+loop-j-preserved c = lines-marked-next c.args.sheet.now c.args.work.now c.args.f c.requires.0 c.args.size c.args.off c.loop-j.invariant c.loop-j-test.true c.number_at-r.ensures.0 c.mark_field-q.ensures.0 c.mark_field-q.ensures.1
 
 pub shape_of-work : goal.shape_of-work
 shape_of-work c = c.loop-j.invariant.marks.kept.long
 
 pub returns : goal.returns
-returns c = (lines-marked-end c.args.sheet.now c.args.work.now c.args.n c.args.f c.requires.0 c.args.size c.args.off c.loop-j.invariant c.loop-j-test.false, omega (arith, c.loop-j.invariant.small, c.loop-j.invariant.within, c.requires.0.few))
+returns c = (lines-marked-end c.args.sheet.now c.args.work.now c.args.f c.requires.0 c.args.size c.args.off c.loop-j.invariant c.loop-j-test.false, omega (arith, c.loop-j.invariant.small, c.loop-j.invariant.within, c.requires.0.few))

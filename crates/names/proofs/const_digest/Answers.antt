@@ -14,4 +14,4 @@ pub returns-in-Some : goal.returns-in-Some
 unfolding const_digest
 returns-in-Some c =
     let z : suc c.in-Some.i - 1 ≡ c.in-Some.i = omega arith in
-    (rw (c.in-Some.is, z) (c.qualified_digest.ensures.0 ∙ ap (λ (x : Bytes). qualified_digest c.args.sheet.now x c.args.name.now) c.field_at.ensures), c.qualified_digest.ensures.1)
+    (rw (c.in-Some.is, z) (c.qualified_digest.ensures.0 ∙ ap (λ (x : Bytes). qualified_digest c.args.sheet.now x c.args.name.now) c.field_at.ensures.0), c.qualified_digest.ensures.1)

@@ -1,3 +1,4 @@
+use Rattle.std.proofs.Common.{rules}
 use native.Mathlib.Omega.{arith}
 use mathlib.Core.Path.{◌∙◌}
 use Rattle.chains.proofs.Laws.{along-first, along-low, along-next, along-end, earlier-less}
@@ -7,7 +8,7 @@ use Rattle.need_keys.proofs.Pass.{needs-room, found-position, found-chain, next-
 use Rattle.need_keys.proofs.position_for.Goals as goal
 
 pub newest-next-requires : goal.newest-next-requires
-newest-next-requires c = need-room c.requires.0.line.checked.whole.room
+newest-next-requires c = need-room (search rules)
 
 pub loop-next-init : goal.loop-next-init
 loop-next-init c =
@@ -21,7 +22,7 @@ returns-then-has_need_key c =
 pub earlier-next-requires : goal.earlier-next-requires
 earlier-next-requires c =
     let x = c.requires.0 in
-    (need-room x.line.checked.whole.room, omega (arith, along-low c.loop-next.invariant c.in-Some.is, (needs-room x).0))
+    (need-room (search rules), omega (arith, along-low c.loop-next.invariant c.in-Some.is, (needs-room x).0))
 
 pub loop-next-smaller : goal.loop-next-smaller
 loop-next-smaller c = earlier-less c.args.work.now need_chains c.in-Some.is c.earlier-next.ensures

@@ -3,4 +3,4 @@ use Rattle.pends.proofs.Walk.{LinesPended}
 use Rattle.pends.proofs.pend_rows.Given as goal
 
 abbrev pub invariant-loop-i : goal.invariant-loop-i
-invariant-loop-i l = LinesPended l.sheet l.initial.work l.c.lines l.c.consts l.initial.w l.work l.k l.i l.w
+invariant-loop-i l = LinesPended l.sheet l.initial.work l.consts l.initial.w l.work l.k l.i l.w

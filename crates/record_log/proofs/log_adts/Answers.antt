@@ -1,3 +1,4 @@
+use Rattle.std.proofs.Common.{rules}
 use Rattle.record_log.proofs.Log.{entries-start, entries_next, entries-end, checked_wrote, place-on}
 use Rattle.write.proofs.Wrote.{wrote-length, place-low}
 use native.Mathlib.Omega.{arith}
@@ -5,19 +6,19 @@ use mathlib.Core.Path.{refl}
 use Rattle.record_log.proofs.log_adts.Goals as goal
 
 pub loop-i-init : goal.loop-i-init
-loop-i-init c = (omega arith, entries-start c.args.sheet.now c.args.work.now c.args.n c.requires)
+loop-i-init c = (omega arith, entries-start c.args.sheet.now c.args.work.now c.requires)
 
 pub record_adt-at-requires : goal.record_adt-at-requires
-record_adt-at-requires c = (checked_wrote c.loop-i.invariant.1 (omega arith) c.requires, omega arith, omega (arith, c.loop-i-test.true), place-on c.loop-i.invariant.1 9216 (omega arith) (omega (arith, c.requires.whole.room)), place-low c.loop-i.invariant.1)
+record_adt-at-requires c = (checked_wrote c.loop-i.invariant.1 (omega arith) c.requires, omega arith, omega (arith, c.loop-i-test.true), place-on c.loop-i.invariant.1 9216 (omega arith) (omega (arith, (search rules))), place-low c.loop-i.invariant.1)
 
 pub loop-i-preserved : goal.loop-i-preserved
 loop-i-preserved c = (omega (arith, c.loop-i-test.true), entries_next c.args.sheet.now c.args.work.now _ _ _ _ _ c.loop-i.invariant.1 c.record_adt-at.ensures)
 
 pub overflow_sub-result : goal.overflow_sub-result
-overflow_sub-result c = place-on c.loop-i.invariant.1 9216 (omega arith) (omega (arith, c.requires.whole.room))
+overflow_sub-result c = place-on c.loop-i.invariant.1 9216 (omega arith) (omega (arith, (search rules)))
 
 pub shape_of-work : goal.shape_of-work
 shape_of-work c = wrote-length c.loop-i.invariant.1
 
 pub returns : goal.returns
-returns c = entries-end c.args.sheet.now c.args.work.now c.args.n c.requires _ c.loop-i.invariant.0 c.loop-i-test.false _ _ c.loop-i.invariant.1 _ refl
+returns c = entries-end c.args.sheet.now c.args.work.now c.requires _ c.loop-i.invariant.0 c.loop-i-test.false _ _ c.loop-i.invariant.1 _ refl

@@ -17,16 +17,16 @@ pub tag_count-tags-requires : goal.tag_count-tags-requires
 tag_count-tags-requires c = c.case_line-v.ensures.line
 
 pub put_tags-p-requires : goal.put_tags-p-requires
-put_tags-p-requires c = (omega (arith, c.requires.0.last, c.requires.0.checked.whole.lined.few), omega (arith, c.case_count-count.ensures.1, c.loop-c-test.true), c.tag_count-tags.ensures.1, omega (arith, c.loop-c.invariant.small, c.case_count-count.ensures.1, c.loop-c-test.true), place-low c.loop-c.invariant.wrote)
+put_tags-p-requires c = (omega (arith, c.requires.0.last, c.requires.0.checked.whole.few), omega (arith, c.case_count-count.ensures.1, c.loop-c-test.true), c.tag_count-tags.ensures.1, omega (arith, c.loop-c.invariant.small, c.case_count-count.ensures.1, c.loop-c-test.true), place-low c.loop-c.invariant.wrote)
 
 pub overflow_add-number : goal.overflow_add-number
 overflow_add-number c = record { fits = omega (arith, c.loop-c.invariant.small, c.case_count-count.ensures.1, c.loop-c-test.true, c.tag_count-tags.ensures.1) }
 
 pub loop-c-preserved : goal.loop-c-preserved
-loop-c-preserved c = casing-next c.args.sheet.now c.args.r c.args.work.now c.args.at _ _ _ _ c.loop-c.invariant (omega (arith, cases-count c.args.sheet.now c.args.r c.case_count-count.ensures.0, c.loop-c-test.true)) _ _ _ c.case_line-v.ensures _ c.tag_count-tags.ensures.0 c.tag_count-tags.ensures.1 _ _ c.put_tags-p.ensures
+loop-c-preserved c = casing-next c.args.sheet.now c.args.r c.args.work.now c.args.at _ _ _ c.loop-c.invariant (omega (arith, cases-count c.args.sheet.now c.args.r c.case_count-count.ensures.0, c.loop-c-test.true)) _ c.case_line-v.ensures _ c.tag_count-tags.ensures.0 c.tag_count-tags.ensures.1 _ _ c.put_tags-p.ensures
 
 pub shape_of-work : goal.shape_of-work
 shape_of-work c = wrote-length c.loop-c.invariant.wrote
 
 pub returns : goal.returns
-returns c = casing-end c.args.sheet.now c.args.r c.args.work.now c.args.at _ _ _ _ c.loop-c.invariant (omega (arith, cases-count c.args.sheet.now c.args.r c.case_count-count.ensures.0, c.loop-c-test.false))
+returns c = casing-end c.args.sheet.now c.args.r c.args.work.now c.args.at _ _ _ c.loop-c.invariant (omega (arith, cases-count c.args.sheet.now c.args.r c.case_count-count.ensures.0, c.loop-c-test.false))

@@ -10,7 +10,7 @@ pub put_record-requires : goal.put_record-requires
 put_record-requires c = record { m = _; log = c.requires.0; low = c.newest_of-j.ensures.low }
 
 pub returns-then-is_first : goal.returns-then-is_first
-returns-then-is_first c = record { wrote = writes_as (rows-first c.args.sheet.now c.args.work.now c.args.c.lines c.args.i (record { m = _; log = c.requires.0; low = c.requires.1 }) c.is_first.ensures c.if-is_first.true c.newest_of-j.result c.newest_of-j.ensures) c.put_record.ensures.wrote; kept = c.put_record.ensures.kept }
+returns-then-is_first c = record { wrote = writes_as (rows-first c.args.sheet.now c.args.work.now c.args.i (record { m = _; log = c.requires.0; low = c.requires.1 }) c.is_first.ensures c.if-is_first.true c.newest_of-j.result c.newest_of-j.ensures) c.put_record.ensures.wrote; kept = c.put_record.ensures.kept }
 
 pub returns-else-is_first : goal.returns-else-is_first
-returns-else-is_first c = record { wrote = writes_as (rows-later c.args.sheet.now c.args.work.now c.args.c.lines c.args.i (record { m = _; log = c.requires.0; low = c.requires.1 }) c.is_first.ensures c.if-is_first.false) (writes_none _ c.args.w.now.room); kept = kept-all }
+returns-else-is_first c = record { wrote = writes_as (rows-later c.args.sheet.now c.args.work.now c.args.i (record { m = _; log = c.requires.0; low = c.requires.1 }) c.is_first.ensures c.if-is_first.false) (writes_none _ c.args.w.now.room); kept = kept-all }

@@ -8,4 +8,4 @@ pub rounded_size-requires : goal.rounded_size-requires
 rounded_size-requires c = omega (arith, furthest-low (common_fields c.args.sheet.now c.args.r) _ c.place_common-q.result c.place_common-q.ensures.0 (omega arith), c.place_common-q.ensures.1)
 
 pub returns : goal.returns
-returns c = adt-size c.args.sheet.now c.args.work.now c.args.n c.args.r c.rounded_size.result _ c.place_common-q.result c.requires.0 c.requires.1 refl refl c.place_common-q.ensures.0 c.rounded_size.ensures
+returns c = adt-size c.args.sheet.now c.args.r c.rounded_size.result _ c.place_common-q.result c.requires.0 c.requires.1 refl refl c.place_common-q.ensures.0 c.rounded_size.ensures

@@ -7,7 +7,7 @@ use native.Mathlib.Omega.{arith}
 use Rattle.shapes.proofs.mark_pick.Goals as goal
 
 pub mark_common-end-requires : goal.mark_common-end-requires
-mark_common-end-requires c = (pick-record c.args.sheet.now c.args.work.now c.args.n c.args.r c.requires.0, c.requires.1, omega arith)
+mark_common-end-requires c = (pick-record c.args.sheet.now c.args.work.now c.args.r c.requires.0, c.requires.1, omega arith)
 
 pub case_count-count-requires : goal.case_count-count-requires
 case_count-count-requires c = pick-kept c.mark_common-end.ensures.0.marks.kept c.requires.0
@@ -28,4 +28,4 @@ pub shape_of-work : goal.shape_of-work
 shape_of-work c = (kept_then c.mark_common-end.ensures.0.marks.kept c.loop-c.invariant.marks.kept).long
 
 pub returns : goal.returns
-returns c = cases-marked-end c.args.sheet.now c.args.work.now c.args.n c.args.r c.args.size c.requires.0 c.mark_common-end.ensures.0 c.loop-c.invariant (omega (arith, c.loop-c-test.false, c.case_count-count.ensures.0))
+returns c = cases-marked-end c.args.sheet.now c.args.work.now c.args.r c.args.size c.requires.0 c.mark_common-end.ensures.0 c.loop-c.invariant (omega (arith, c.loop-c-test.false, c.case_count-count.ensures.0))

@@ -19,7 +19,7 @@ pub tuple_size_align-returns : goal.tuple_size_align-returns
 tuple_size_align-returns t c = measuring-end c.requires c.number_at-count.ensures.0 c.loop-j.invariant c.loop-j-test.false c.rounded_size.ensures refl
 
 pub type_size_align-returns-then-is_long : goal.type_size_align-returns-then-is_long
-type_size_align-returns-then-is_long t c = measures-plain c.requires c.form_at-f.ensures c.if-f-eq-TUPLE.false true (sym c.if-is_long.true ∙ c.is_long.ensures)
+type_size_align-returns-then-is_long t c = measures-plain c.requires c.form_at-f.ensures.0 c.if-f-eq-TUPLE.false true (sym c.if-is_long.true ∙ c.is_long.ensures)
 
 pub type_size_align-returns : goal.type_size_align-returns
-type_size_align-returns t c = measures-plain c.requires c.form_at-f.ensures c.if-f-eq-TUPLE.false false (sym c.if-is_long.false ∙ c.is_long.ensures)
+type_size_align-returns t c = measures-plain c.requires c.form_at-f.ensures.0 c.if-f-eq-TUPLE.false false (sym c.if-is_long.false ∙ c.is_long.ensures)

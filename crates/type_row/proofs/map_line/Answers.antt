@@ -17,7 +17,7 @@ pub offset_at-requires : goal.offset_at-requires
 offset_at-requires c = (shape-kept c.loop-j.invariant.2.kept (shape-kept c.clear_map.ensures.kept c.requires.0), omega (arith, c.loop-j-test.true, c.loop-j.invariant.1))
 
 pub loop-j-preserved : goal.loop-j-preserved
-loop-j-preserved c = (omega (arith, c.loop-j-test.true), c.loop-j.invariant.1, offsets-next (written_shape c.args.sheet.now c.args.i).pointers c.loop-j.j (omega (arith, c.loop-j-test.true, c.loop-j.invariant.1)) c.loop-j.invariant.2 (c.mark_raised.ensures _ (offset_near c.args.sheet.now c.args.work.now c.args.n c.args.i c.requires.0 c.loop-j.j (omega (arith, c.loop-j-test.true, c.loop-j.invariant.1))) c.offset_at.ensures.0))
+loop-j-preserved c = (omega (arith, c.loop-j-test.true), c.loop-j.invariant.1, offsets-next (written_shape c.args.sheet.now c.args.i).pointers c.loop-j.j (omega (arith, c.loop-j-test.true, c.loop-j.invariant.1)) c.loop-j.invariant.2 (c.mark_raised.ensures _ (offset_near c.args.sheet.now c.args.i c.requires.0 c.loop-j.j (omega (arith, c.loop-j-test.true, c.loop-j.invariant.1))) c.offset_at.ensures.0))
 
 pub returns : goal.returns
 returns c = made_then c.requires.1 c.clear_map.ensures (offsets-all (written_shape c.args.sheet.now c.args.i).pointers c.loop-j.j (omega (arith, c.loop-j-test.false, c.loop-j.invariant.1)) c.loop-j.invariant.2)

@@ -5,4 +5,4 @@ use Rattle.global_table.proofs.line.type_of.Goals as goal
 pub returns : goal.returns
 returns c =
     let a = c.args in
-    (type-line a.sheet.now a.work.now a.n a.r c.requires c.number_at.result c.number_at.ensures.0, type-on a.sheet.now a.work.now a.n a.r c.requires c.number_at.result c.number_at.ensures.0)
+    (type-line a.sheet.now a.r c.requires c.number_at.result c.number_at.ensures.0, type-on a.sheet.now a.r c.requires c.number_at.result c.number_at.ensures.0)

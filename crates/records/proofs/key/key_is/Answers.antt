@@ -1,3 +1,4 @@
+use Rattle.std.proofs.Common.{rules}
 use mathlib.Core.Path.{sym, ◌∙◌}
 use Rattle.records.proofs.Digests.{keys-apart}
 use Rattle.records.proofs.Keys.{plain-key, variant-key}
@@ -6,7 +7,7 @@ use native.Mathlib.Omega.{arith}
 use Rattle.records.proofs.key.key_is.Goals as goal
 
 pub digest_at-requires : goal.digest_at-requires
-digest_at-requires c = let p = c.requires.0 in (record-room _ p.checked.whole.room, omega (arith, p.low))
+digest_at-requires c = let p = c.requires.0 in (record-room _ (search rules), omega (arith, p.low))
 
 pub returns-then-digest_at-d : goal.returns-then-digest_at-d
 returns-then-digest_at-d c = keys-apart c.args.key.now c.args.sheet.now c.args.work.now c.args.i c.requires.2 c.requires.1 (λ e. c.if-digest_at-d.true (c.digest_at.ensures.0 ∙ e))

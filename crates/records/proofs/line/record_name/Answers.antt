@@ -3,4 +3,4 @@ use mathlib.Core.Path.{sym, ◌∙◌}
 use Rattle.records.proofs.line.record_name.Goals as goal
 
 pub returns : goal.returns
-returns c = c.field_at.ensures ∙ sym (name-is c.args.sheet.now c.args.work.now c.args.n c.args.r c.requires)
+returns c = c.field_at.ensures.0 ∙ sym (name-is c.args.sheet.now c.args.r c.requires)
