@@ -42,7 +42,7 @@ in_chain t c k i = eqb (chain_at t c i) k
 
 -- the places that 256 entries would have lie in the working space
 pub record ChainRoom (t : Bytes) (c : ChainPlaces) : Type 0 where
-  pub low : (i : ℕ) → i < 256 → digest_place c i + c.gap + c.gap < 65536
+  pub low : (i : ℕ) → i < 256 → digest_place c i + c.gap + c.gap < 62464
   pub long : 62464 ≤ length t
 
 -- ---- chains

@@ -20,8 +20,8 @@ pub struct ChainPlaces {
 // Where the digest of entry i stands.
 #[tactic(auto, unfolding(crate::specs::Chains::digest_place))]
 fn place(c: ChainPlaces, i: usize) -> usize
-    requires { digest_place c i + c.gap + c.gap < 65536 }
-    ensures { (result ≡ digest_place c i) × (result + c.gap + c.gap < 65536) }
+    requires { digest_place c i + c.gap + c.gap < 62464 }
+    ensures { (result ≡ digest_place c i) × (result + c.gap + c.gap < 62464) }
 {
     c.at + c.step * i
 }

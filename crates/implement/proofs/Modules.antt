@@ -85,7 +85,7 @@ module _ (s : Bytes) (i : ℕ) (k : Option ℕ) (o : Open s i k) (h : i < lines_
   unfolding open_at by_kind
   behind = rw (add-one, kind-by s o.checked i h hf hx) (ap (λ (d : Declares). open_after (suc i) d (open_at (nodes_in s) i)) (line-declares s o.checked i h))
 
-  opens : line_number (lines_in s) ≤ lines_in s → module_at s (line_number (lines_in s)) ≡ open_at (nodes_in s) (i + 1) → Open s (i + 1) (lines_in s)
+  opens : {j : Option ℕ} → line_number j ≤ lines_in s → module_at s (line_number j) ≡ open_at (nodes_in s) (i + 1) → Open s (i + 1) j
   opens l e = record { checked = o.checked; within = omega arith; low = l; here = e }
 
   pub open-mod : x ≡ 77 → Open s (i + 1) (Some i)

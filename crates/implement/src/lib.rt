@@ -16,7 +16,8 @@ pub fn is_implemented(sheet: &Sheet, name: &[u8]) -> bool
     requires { Checked sheet.now }
     ensures { result ≡ same_option (sheet_source sheet.now).implement (Some name.now) }
 {
-    if sheet.count() == 0 {
+    let n = sheet.count();
+    if n == 0 {
         return false;
     }
     form::kind(sheet.form_at(0)) == kind::IMPL
