@@ -15,7 +15,7 @@ pub overflow_cast-high : goal.overflow_cast-high
 overflow_cast-high c = let w = high_fits c.args.work.now c.args.e c.args.x c.ranges.low c.ranges.high c.if-high-low.false c.if-low-lt0.false in (w.0, w.1)
 
 pub place_span-requires : goal.place_span-requires
-place_span-requires c = ((high_fits c.args.work.now c.args.e c.args.x c.ranges.low c.ranges.high c.if-high-low.false c.if-low-lt0.false).2, c.requires.0, c.requires.1)
+place_span-requires c = ((high_fits c.args.work.now c.args.e c.args.x c.ranges.low c.ranges.high c.if-high-low.false c.if-low-lt0.false).2, c.requires)
 
 pub returns : goal.returns
 returns c = indices-placed c.args.work.now c.args.e c.args.x c.ranges.low c.ranges.high c.if-high-low.false (search rules) _ _ c.place_span.ensures.2 c.place_span.ensures.0 c.place_span.ensures.1
