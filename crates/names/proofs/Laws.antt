@@ -23,7 +23,7 @@ use Rattle.chains.proofs.Laws.{newest-low, newest-most, earlier-less, Along, alo
 use Rattle.words.specs.Words.{digest_from, digest, u16_at, bits_at}
 use Rattle.laws.proofs.Tests.{same-eq}
 use Rattle.implement.specs.Modules.{first_field, module_at, own_in, is_own}
-use Rattle.checks.specs.Checks.{Kept, Outside, Checked}
+use Rattle.checks.specs.Checks.{Kept, Outside}
 use Rattle.checks.proofs.Kept.{kept_at, kept_less}
 use Rattle.names.specs.Table.{const_line_of, module_line_of, value_by, slot_value, kind_of, bits_of, const_chains, qualified_digest, const_digest, entries_at, log_in, EntryBounds, ConstsLogged, ConstTable, ConstEntry, found, has_key, is_within, answers_key, newest_key, digest_within, key_digest, Answered, Looked}
 
@@ -182,16 +182,13 @@ pub const-room : {t : Bytes} → 62464 ≤ length t → ChainRoom t const_chains
 unfolding digest_place
 const-room h = record { low = λ i h. omega arith; long = h }
 
-pub table-room : {s t : Bytes} {m : ℕ} → ConstTable s t m → ChainRoom t const_chains
-table-room c = const-room c.checked.whole.room
-
 -- `chains` may be asked about an entry of the table
-pub entry-asked : {s t : Bytes} {m : ℕ} → ConstTable s t m → {i : ℕ} → i < m → (ChainRoom t const_chains) × (i < 256)
-entry-asked c h = (table-room c, omega (arith, c.logged.few))
+pub entry-asked : {s t : Bytes} {m : ℕ} → ConstTable s t m → 62464 ≤ length t → {i : ℕ} → i < m → (ChainRoom t const_chains) × (i < 256)
+entry-asked c l h = (const-room l, omega (arith, c.logged.few))
 
 -- a number up to the table's end is an answer
-pub answered : {s t : Bytes} {m : ℕ} → ConstsLogged s t m → Checked s → {r : Option ℕ} → count_to r ≤ m → Answered t r
-answered l c h = record { few = omega (arith, l.few); long = c.whole.room; text = λ i e q. let z = ap count_to e in (l.each i (omega (arith, z))).text q }
+pub answered : {s t : Bytes} {m : ℕ} → ConstsLogged s t m → {r : Option ℕ} → count_to r ≤ m → Answered t r
+answered l h = record { few = omega (arith, l.few); text = λ i e q. let z = ap count_to e in (l.each i (omega (arith, z))).text q }
 
 -- ---- digests
 

@@ -2,7 +2,7 @@
 -- Entry i takes 16 bytes from 5120 + 16 i: the `con` line and its module's line, 0 for none, two bytes each, the low one first; a slot;
 -- the constant's digest; its link, and the head of chain i.
 -- A slot is a kind and 8 bytes, the highest first: 0 failed, 1 an integer's bits, 2 a real's, 3 a string's place + 65536 times its length.
-use Rattle.std.specs.Prelude.{ℕ, zero, suc, ◌+◌, ◌*◌, ◌/◌, ◌%◌, ◌≤◌, ◌<◌, ◌≡◌, Bool, cond, not, ◌&&◌, List, [], ◌++◌, eqb, length, take, drop, get_or, Option, None, Some, option_map}
+use Rattle.std.specs.Prelude.{ℕ, zero, suc, ◌+◌, ◌*◌, ◌/◌, ◌%◌, ◌≤◌, ◌<◌, ◌≡◌, Bool, cond, not, ◌&&◌, List, [], ◌++◌, eqb, take, drop, get_or, Option, None, Some, option_map}
 use Rattle.std.specs.Option.{is_some}
 use Rattle.std.specs.Float.{binary64}
 use Rattle.std.specs.Float.Ieee.{of_bits}
@@ -115,7 +115,6 @@ found t (Some i) = slot_value t (5124 + 16 * i)
 -- r is what a look-up answers, and a string that it names lies at its place
 pub record Answered (t : Bytes) (r : Option ℕ) : Type 0 where
   pub few : count_to r ≤ 128
-  pub long : 62464 ≤ length t
   pub text : (i : ℕ) → r ≡ Some i → kind_of t i ≡ 3 → StringPlace (bits_of t i)
 
 -- ---- which keys an entry enters

@@ -3,11 +3,11 @@
 
 ghost use Rattle.std.specs.Prelude.{◌≡◌, true, ◌&&◌, ℕ, ◌+◌, ◌≤◌, ◌<◌, eqb, length};
 ghost use Rattle.semantics.specs.Text as Text;
+ghost use Rattle.lines.specs.Lines.{lines_in};
 ghost use Rattle.chains.specs.Chains.{newest_of, count_to, chain_of, digest_at, in_chain};
 ghost use Rattle.implement.specs.Modules.{line_number, first_field};
 ghost use Rattle.checks.specs.Checks.{Checked};
 ghost use Rattle.names.specs.Table.{const_line_of, module_line_of, bits_of, kind_of, const_chains, qualified_digest, const_digest, key_of, key_digest, answers_key, newest_key, Looked, ConstTable, ConstEntry};
-ghost use Rattle.lines.specs.Lines.{lines_in};
 
 use chains::ChainPlaces;
 use codes::area::{self, Space};
@@ -100,8 +100,7 @@ fn has_name(sheet: &Sheet, work: &Space, i: usize, name: &[u8], d: usize) -> boo
     ensures { result ≡ eqb (digest_at work.now const_chains i) d && Text.same name.now (first_field sheet.now (const_line_of work.now i)) }
 {
     // the line is looked at last
-    chains::digest_at(work, CHAINS, i) == d
-        && sheet.first_is(line_of(work, i) - 1, name)
+    chains::digest_at(work, CHAINS, i) == d && sheet.first_is(line_of(work, i) - 1, name)
 }
 
 // Whether entry i enters a constant by a key, which has the digest d.
@@ -121,7 +120,14 @@ fn answers(sheet: &Sheet, work: &Space, i: usize, key: Key, d: usize) -> bool
 
 // `newest` is the newest of some first entries in the chain of the key's digest d; the answer is the newest of those first entries
 // that enters a constant by the key.
-fn along(sheet: &Sheet, work: &Space, consts: usize, newest: Option<usize>, key: Key, d: usize) -> Option<usize>
+fn along(
+    sheet: &Sheet,
+    work: &Space,
+    consts: usize,
+    newest: Option<usize>,
+    key: Key,
+    d: usize,
+) -> Option<usize>
     requires { (ConstTable sheet.now work.now consts) × (count_to newest ≤ consts) × (d ≡ key_digest sheet.now (key_of key)) }
     ensures { (m : ℕ) → m ≤ consts → newest ≡ newest_of (in_chain work.now const_chains (chain_of d)) m → result ≡ newest_key sheet.now work.now m (key_of key.entry) }
 {
@@ -146,7 +152,13 @@ pub fn look_up(sheet: &Sheet, work: &Space, consts: usize, key: Key) -> Option<u
 }
 
 // That of the newest constant before entry i of a key by which entry i enters one.
-pub fn look_up_before(sheet: &Sheet, work: &Space, consts: usize, i: usize, key: Key) -> Option<usize>
+pub fn look_up_before(
+    sheet: &Sheet,
+    work: &Space,
+    consts: usize,
+    i: usize,
+    key: Key,
+) -> Option<usize>
     requires { (ConstTable sheet.now work.now consts) × (i < consts) × (answers_key sheet.now work.now i (key_of key) ≡ true) }
     ensures { Looked sheet.now work.now (key_of key.entry) i result }
 {

@@ -1,4 +1,5 @@
 -- `names::look_up_before` meets its contract.
+use Rattle.std.proofs.Common.{rules}
 use Rattle.names.proofs.Laws as Laws
 use Rattle.chains.specs.Chains.{chain_of, chain_at, in_chain, newest_of}
 use Rattle.names.specs.Table.{const_chains, key_of}
@@ -9,10 +10,10 @@ use Prim.Native.Nat.{ℕ}
 use Rattle.names.proofs.look_up_before.Goals as goal
 
 pub earlier-older-requires : goal.earlier-older-requires
-earlier-older-requires c = let p = c.requires in Laws.entry-asked p.0 p.1
+earlier-older-requires c = let p = c.requires in Laws.entry-asked p.0 (search rules) p.1
 
 pub digest_at-d-requires : goal.digest_at-d-requires
-digest_at-d-requires c = let p = c.requires in Laws.entry-asked p.0 p.1
+digest_at-d-requires c = let p = c.requires in Laws.entry-asked p.0 (search rules) p.1
 
 pub along-requires : goal.along-requires
 along-requires c =
