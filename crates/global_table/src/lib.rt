@@ -63,7 +63,7 @@ pub fn enter(work: &mut Space, i: usize, line: usize, position: usize, offset: u
 
 // The name of entry i, as that part of the sheet.
 #[tactic(auto, unfolding(crate::specs::Table::global_at))]
-pub fn name_of<'a>(sheet: &'a [u8], work: &Space, i: usize) -> &'a [u8]
+pub fn name_of<'a>(sheet: &Sheet<'a>, work: &Space, i: usize) -> &'a [u8]
     requires { GlobalEntry sheet.now work.now i }
     ensures { result.now ≡ (global_at sheet.now work.now i).name }
 {

@@ -23,7 +23,7 @@ pub fn name_count(sheet: &Sheet, r: usize) -> usize
 }
 
 // Its name j, from 0.
-pub fn name_at<'a>(sheet: &'a [u8], r: usize, j: usize) -> &'a [u8]
+pub fn name_at<'a>(sheet: &Sheet<'a>, r: usize, j: usize) -> &'a [u8]
     requires { (VarLine sheet.now r) × (j < 256) }
     ensures { result.now ≡ name_on sheet.now r j }
 {

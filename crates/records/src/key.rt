@@ -66,7 +66,7 @@ pub fn number_of(work: &Space, i: usize) -> usize
 }
 
 // The name T of its record.
-pub fn name_of<'a>(sheet: &'a [u8], work: &Space, i: usize) -> &'a [u8]
+pub fn name_of<'a>(sheet: &Sheet<'a>, work: &Space, i: usize) -> &'a [u8]
     requires { EntryIn sheet.now work.now i }
     ensures { result.now ≡ name_of sheet.now (entry_at work.now i) }
 {
@@ -74,7 +74,7 @@ pub fn name_of<'a>(sheet: &'a [u8], work: &Space, i: usize) -> &'a [u8]
 }
 
 // Its tag, where it is a variant.
-pub fn tag_of<'a>(sheet: &'a [u8], work: &Space, i: usize) -> &'a [u8]
+pub fn tag_of<'a>(sheet: &Sheet<'a>, work: &Space, i: usize) -> &'a [u8]
     requires { (EntryIn sheet.now work.now i) × (0 < (entry_at work.now i).case) }
     ensures { result.now ≡ tag_of sheet.now (entry_at work.now i) }
 {

@@ -6,7 +6,7 @@ ghost use Rattle.records.specs.Lines.{case_at};
 use lines::Sheet;
 
 // T, of the `adt` or `pick` line r.
-pub fn record_name<'a>(sheet: &'a [u8], r: usize) -> &'a [u8]
+pub fn record_name<'a>(sheet: &Sheet<'a>, r: usize) -> &'a [u8]
     requires { RecordLine sheet.now r }
     ensures { result.now ≡ (decl_at sheet.now r).name }
 {
@@ -22,7 +22,7 @@ pub fn tag_count(sheet: &Sheet, v: usize) -> usize
 }
 
 // Its tag p, from 0.
-pub fn tag_at<'a>(sheet: &'a [u8], v: usize, p: usize) -> &'a [u8]
+pub fn tag_at<'a>(sheet: &Sheet<'a>, v: usize, p: usize) -> &'a [u8]
     requires { (CaseLine sheet.now v) × (p < length (case_at sheet.now v).tags) }
     ensures { result.now ≡ get_or (case_at sheet.now v).tags p [] }
 {

@@ -13,7 +13,3 @@ returns c =
     let a = c.args in
     entered_by a.work.now a.i a.line a.position a.offset a.digest c.link.ensures
 
-pub shape_of-work : goal.shape_of-work
-shape_of-work c =
-    let a = c.args in
-    ap length (returns c) ∙ entered-long a.work.now a.i a.line a.position a.offset a.digest

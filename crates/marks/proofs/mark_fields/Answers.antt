@@ -20,8 +20,5 @@ mark_field-q-requires c = (refs-line c.args.sheet.now c.args.f (refs-kept c.loop
 pub loop-j-preserved : goal.loop-j-preserved
 loop-j-preserved c = lines-marked-next c.args.sheet.now c.args.work.now c.args.f c.requires.0 c.args.size c.args.off c.loop-j.invariant c.loop-j-test.true c.number_at-r.ensures.0 c.mark_field-q.ensures.0 c.mark_field-q.ensures.1
 
-pub shape_of-work : goal.shape_of-work
-shape_of-work c = c.loop-j.invariant.marks.kept.long
-
 pub returns : goal.returns
 returns c = (lines-marked-end c.args.sheet.now c.args.work.now c.args.f c.requires.0 c.args.size c.args.off c.loop-j.invariant c.loop-j-test.false, omega (arith, c.loop-j.invariant.small, c.loop-j.invariant.within, c.requires.0.few))

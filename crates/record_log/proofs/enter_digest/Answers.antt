@@ -12,5 +12,3 @@ link-requires c =
     let l = length-set a.work.now (9221 + 8 * a.i) a.d in
     (record-room _ (omega (arith, l, c.requires.2)), omega (arith, c.requires.0))
 
-pub shape_of-work : goal.shape_of-work
-shape_of-work c = entered-length c.args.work.now c.args.i c.args.d c.requires.0 c.requires.2 c.link.ensures

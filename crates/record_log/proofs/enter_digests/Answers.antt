@@ -15,8 +15,5 @@ enter_digest-requires c = (omega (arith, c.loop-i.invariant.1.log.few, c.loop-i-
 pub loop-i-preserved : goal.loop-i-preserved
 loop-i-preserved c = (omega (arith, c.loop-i-test.true), digests-next c.loop-i.invariant.1 c.loop-i-test.true c.digest_for-d.ensures.0 c.enter_digest.ensures)
 
-pub shape_of-work : goal.shape_of-work
-shape_of-work c = c.loop-i.invariant.1.outside.kept.long
-
 pub returns : goal.returns
 returns c = digests-end c.loop-i.invariant.1 c.loop-i.invariant.0 c.loop-i-test.false

@@ -17,8 +17,5 @@ loop-i-preserved c = (omega (arith, c.loop-i-test.true), entries_next c.args.she
 pub overflow_sub-result : goal.overflow_sub-result
 overflow_sub-result c = place-on c.loop-i.invariant.1 9216 (omega arith) (omega (arith, (search rules)))
 
-pub shape_of-work : goal.shape_of-work
-shape_of-work c = wrote-length c.loop-i.invariant.1
-
 pub returns : goal.returns
 returns c = entries-end c.args.sheet.now c.args.work.now c.requires _ c.loop-i.invariant.0 c.loop-i-test.false _ _ c.loop-i.invariant.1 _ refl

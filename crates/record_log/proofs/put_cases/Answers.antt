@@ -25,8 +25,5 @@ overflow_add-number c = record { fits = omega (arith, c.loop-c.invariant.small, 
 pub loop-c-preserved : goal.loop-c-preserved
 loop-c-preserved c = casing-next c.args.sheet.now c.args.r c.args.work.now c.args.at _ _ _ c.loop-c.invariant (omega (arith, cases-count c.args.sheet.now c.args.r c.case_count-count.ensures.0, c.loop-c-test.true)) _ c.case_line-v.ensures _ c.tag_count-tags.ensures.0 c.tag_count-tags.ensures.1 _ _ c.put_tags-p.ensures
 
-pub shape_of-work : goal.shape_of-work
-shape_of-work c = wrote-length c.loop-c.invariant.wrote
-
 pub returns : goal.returns
 returns c = casing-end c.args.sheet.now c.args.r c.args.work.now c.args.at _ _ _ c.loop-c.invariant (omega (arith, cases-count c.args.sheet.now c.args.r c.case_count-count.ensures.0, c.loop-c-test.false))

@@ -15,8 +15,5 @@ put_entry-p-requires c = (c.requires.0, omega (arith, c.requires.1), omega (arit
 pub loop-j-preserved : goal.loop-j-preserved
 loop-j-preserved c = tagging-next c.args.r c.args.case c.args.count c.args.number c.args.work.now c.args.at _ _ _ c.loop-j.invariant c.loop-j-test.true _ _ c.put_entry-p.ensures
 
-pub shape_of-work : goal.shape_of-work
-shape_of-work c = wrote-length c.loop-j.invariant.wrote
-
 pub returns : goal.returns
 returns c = tagging-end c.args.r c.args.case c.args.count c.args.number c.args.work.now c.args.at _ _ _ c.loop-j.invariant c.loop-j-test.false

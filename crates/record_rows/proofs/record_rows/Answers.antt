@@ -10,8 +10,5 @@ put_newest-requires c = (log-now c.args.sheet.now _ _ c.requires c.args.w.now _ 
 pub loop-i-preserved : goal.loop-i-preserved
 loop-i-preserved c = keying-next c.args.sheet.now _ _ c.requires c.args.w.now _ _ _ c.loop-i.invariant c.loop-i-test.true _ _ c.put_newest.ensures
 
-pub shape_of-work : goal.shape_of-work
-shape_of-work c = c.loop-i.invariant.kept.long
-
 pub returns : goal.returns
 returns c = keying-end c.args.sheet.now _ _ c.requires c.args.w.now _ _ _ c.loop-i.invariant c.loop-i-test.false

@@ -11,8 +11,5 @@ print_line-requires g c = (checked-kept (kept_less (omega arith) c.loop-i.invari
 pub loop-i-preserved : goal.loop-i-preserved
 loop-i-preserved g c = kept_then c.loop-i.invariant c.print_line.ensures
 
-pub shape_of-work : goal.shape_of-work
-shape_of-work g c = c.loop-i.invariant.long
-
 pub returns : goal.returns
 returns g c = tt

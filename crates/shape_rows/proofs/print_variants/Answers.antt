@@ -15,8 +15,5 @@ print_variant-requires g c = record { line = pick-kept c.loop-c.invariant c.requ
 pub loop-c-preserved : goal.loop-c-preserved
 loop-c-preserved g c = kept_then c.loop-c.invariant c.print_variant.ensures
 
-pub shape_of-work : goal.shape_of-work
-shape_of-work g c = c.loop-c.invariant.long
-
 pub returns : goal.returns
 returns g c = c.loop-c.invariant

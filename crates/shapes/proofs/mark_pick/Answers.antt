@@ -24,8 +24,5 @@ mark_case-requires c = (c.case_line-k.ensures.line, room-kept (kept_then c.mark_
 pub loop-c-preserved : goal.loop-c-preserved
 loop-c-preserved c = cases-marked-next c.args.sheet.now c.args.r c.args.size c.loop-c.invariant (omega (arith, c.loop-c-test.true, c.case_count-count.ensures.0)) c.case_line-k.ensures c.mark_case.ensures
 
-pub shape_of-work : goal.shape_of-work
-shape_of-work c = (kept_then c.mark_common-end.ensures.0.marks.kept c.loop-c.invariant.marks.kept).long
-
 pub returns : goal.returns
 returns c = cases-marked-end c.args.sheet.now c.args.work.now c.args.r c.args.size c.requires.0 c.mark_common-end.ensures.0 c.loop-c.invariant (omega (arith, c.loop-c-test.false, c.case_count-count.ensures.0))
