@@ -92,8 +92,8 @@ pub fn clear_kinds(work: &mut [u8])
     requires { 65536 ≤ length work.old }
     ensures { (Outside 10624 10629 work.old work.new) × ((k : ElemKind) → kind_position work.new k ≡ 0) }
 {
-    for k in 0..element::KINDS {
-        work[area::KIND_POSITIONS + k] = 0;
+    for kind in element::ALL {
+        work[kind_place(kind)] = 0;
     }
 }
 

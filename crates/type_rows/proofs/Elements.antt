@@ -174,19 +174,6 @@ module _ (t : List ℕ) (ls : List TypeKey) (is : List Item) (keys : ℕ) (x : K
       → TypesWrote ((key_shape (log_of s) (get_or (distinct [] (ls ++ concat_map array_key is)) p opaque_key)) ∷ []) a b v w y z
   elem-row s m found row = types-as (ap elem_shape (kind-is m found) ∙ sym (ap (key_shape (log_of s)) at.is)) row
 
--- ---- the search for it
-
--- each kind stands at its number
-abbrev pub all : List Element
-all = E.Byte ∷ E.Word ∷ E.Big ∷ E.Real ∷ E.Pointer ∷ []
-
-pub none_found : (t : List ℕ) (n p : ℕ) → 5 ≤ n → ((j : ℕ) → j < n → kind_position t (element_kind (get_or all j E.Byte)) ≡ p + 1 → ⊥) → (k : ElemKind) → kind_position t k ≡ p + 1 → ⊥
-none_found t n p h z k_byte = z 0 (omega arith)
-none_found t n p h z k_word = z 1 (omega arith)
-none_found t n p h z k_big = z 2 (omega arith)
-none_found t n p h z k_real = z 3 (omega arith)
-none_found t n p h z k_ptr = z 4 (omega arith)
-
 -- ---- row by row
 
 -- the first rows of keys behind those of ls, with IDs from a up to b
