@@ -24,9 +24,6 @@ use Rattle.type_keys.specs.Table.{kind_position, position_from_one, Kinds}
 use Rattle.type_keys.proofs.Distinct.{new_key, position-none, position-new, position-known, distinct_more, from-one-some}
 use Rattle.type_keys.proofs.Table.{kind-kept}
 use Rattle.type_lines.proofs.Codes.{elems-are}
-use Rattle.codes.specs.declared.element.Element.{Element}
-use Rattle.codes.specs.declared.element.Element.TheVariants as E
-use Rattle.codes.specs.Kinds.{element_kind}
 use Rattle.write.specs.declared.Writer.{Writer}
 use Rattle.write.specs.Writes.{Writes}
 use Rattle.semantics.specs.Listing.{type_rows}
