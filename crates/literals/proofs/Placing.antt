@@ -10,17 +10,15 @@ use mir.Facts.{to_z-of_z}
 use Rattle.semantics.specs.Text.{Bytes}
 use Rattle.semantics.specs.Tree as Tree
 use Rattle.semantics.specs.Fold.{Result, bind}
-use Rattle.semantics.specs.Fold.Result.{failed}
 use Rattle.semantics.specs.Array.{Filled, place_indices}
 use Rattle.ints.proofs.Widths.{held}
 use Rattle.semantics.proofs.Common.{never}
 use Rattle.checks.specs.Checks.{Kept}
 use Rattle.placements.specs.declared.Extent.{Extent}
 use Rattle.placements.specs.Placements.{element_in, LiteralSoFar, Goes, Step, Places}
-use Rattle.placements.proofs.Same.{keeps-all, keeps_then, keeps-kept}
+use Rattle.placements.proofs.Same.{keeps_then, keeps-kept}
 use Rattle.placements.proofs.Fillings.{element-kept, filling-kept}
 use Rattle.std.specs.Prelude.{Option, None, Some, Ok, Err}
-use Rattle.values.specs.declared.NoValue.{NoValue}
 use Rattle.values.specs.declared.NoValue.TheVariants as N
 use Rattle.values.specs.Values.{answered, Outcome}
 use Rattle.literals.specs.Literals.{above, Moves, Selects}

@@ -92,9 +92,6 @@ module _ {s t : Bytes} {m r e : ℕ} (k : AtTask s t m r e) (a : Extent) {count 
   l : KindLine 76 s r
   l = k.task.line
 
-  pub few-selectors : count ≤ 16
-  few-selectors = (count-is l (selectors l k.form) hc).1
-
   count-exact : count ≡ number_of (get_or (read_at s (r - 1)).fields 1 [])
   count-exact = (count-is l (selectors l k.form) hc).0
 

@@ -1,5 +1,5 @@
 -- All elements of a literal.
-use mathlib.Core.Path.{◌≡◌, refl, sym, ap, ◌∙◌, subst}
+use mathlib.Core.Path.{◌≡◌, sym, ap, ◌∙◌, subst}
 use mathlib.Core.Bool.{false}
 use mathlib.Core.List.{[], ◌∷◌}
 use Prim.Native.Nat.{ℕ, suc, ◌+◌, ◌-◌, ◌≤◌, ◌<◌}
@@ -26,7 +26,7 @@ use Rattle.placements.specs.declared.Extent.{Extent}
 use Rattle.std.specs.Prelude.{Option, Some, Ok}
 use Rattle.values.specs.Values.{Outcome}
 use Rattle.placements.specs.Placements.{Keeps, Filling, LiteralSoFar, Step}
-use Rattle.placements.proofs.Same.{keeps-all, keeps_then}
+use Rattle.placements.proofs.Same.{keeps_then}
 use Rattle.placements.proofs.Fillings.{filling-wider}
 use Rattle.leaf.specs.Folds.{ex_at}
 use Rattle.literals.specs.Literals.{el_at, els_at, ElementTask, LiteralLine, above, ElementFilled, AllFilled}
@@ -101,9 +101,6 @@ module _ {s t₀ : Bytes} {m r : ℕ} (k : LiteralLine s r) (g : ConstsLogged s 
     -- the literal, as the working space before the start has its names
     whole_is : fill (names_in s t m) (els_from s r count 0) none_filled ≡ fill (names_in s t₀ m) (els_at s r) none_filled
     whole_is = rw (all-elements k hc, log-kept (a.1 49152) g)
-
-    pub turning-start : Turning s t m r count t (record { next = 0; reach = 0 }) 0
-    turning-start = record { within = omega arith; keeps = keeps-all; literal = none_filled; filling = a.0; left = refl }
 
     module _ {u : Bytes} {x : Extent} {j : ℕ} (c : Turning s t m r count u x j) where
       pub turning-line : KindLine 69 s r

@@ -2,6 +2,8 @@
 // Then offsets with what they are rounded up to. `expected.py` writes `stdout` from 01's words, not from this program.
 #![tactic(auto)]
 
+ghost use Rattle.std.specs.Prelude.{◌≤◌};
+
 use std::io;
 use std::io::Write;
 
@@ -19,20 +21,11 @@ fn print_row(out: &mut impl Write, size: u32, offsets: &[i32], map: &mut [u8]) -
     writeln!(out)
 }
 
-fn row(out: &mut impl Write, size: u32, offsets: &[i32]) -> io::Result<()> {
-    let mut map = [0xA5u8; 4];
-    print_row(out, size, offsets, &mut map)
-}
-
-// a buffer that the map does not fit
-fn short_row(out: &mut impl Write, size: u32, offsets: &[i32]) -> io::Result<()> {
-    let mut map = [0xA5u8; 1];
-    print_row(out, size, offsets, &mut map)
-}
-
-// the 128 bytes of the largest block's map, and two behind them
-fn long_row(out: &mut impl Write, size: u32, offsets: &[i32]) -> io::Result<()> {
-    let mut map = [0xA5u8; 130];
+// A row whose buffer has N bytes.
+fn row<const N: usize>(out: &mut impl Write, size: u32, offsets: &[i32]) -> io::Result<()>
+    requires { N ≤ 1024 }
+{
+    let mut map = [0xA5u8; N];
     print_row(out, size, offsets, &mut map)
 }
 
@@ -41,22 +34,24 @@ fn aligned(out: &mut impl Write, off: u32, align: u32) -> io::Result<()> {
 }
 
 fn rows(out: &mut impl Write) -> io::Result<()> {
-    row(out, 36, &[32])?;
-    row(out, 36, &[33])?;
-    short_row(out, 36, &[32])?;
-    row(out, 0, &[0])?;
-    row(out, 1, &[0])?;
-    row(out, 3, &[0])?;
-    row(out, 4, &[0])?;
-    row(out, 33, &[29])?;
-    row(out, 12, &[8, 0, 8, 0])?;
-    row(out, 8, &[3, 5, 7])
+    row::<4>(out, 36, &[32])?;
+    row::<4>(out, 36, &[33])?;
+    // a buffer that the map does not fit
+    row::<1>(out, 36, &[32])?;
+    row::<4>(out, 0, &[0])?;
+    row::<4>(out, 1, &[0])?;
+    row::<4>(out, 3, &[0])?;
+    row::<4>(out, 4, &[0])?;
+    row::<4>(out, 33, &[29])?;
+    row::<4>(out, 12, &[8, 0, 8, 0])?;
+    row::<4>(out, 8, &[3, 5, 7])
 }
 
 fn far_rows(out: &mut impl Write) -> io::Result<()> {
-    row(out, 8, &[-1, -4, -4096, -2147483648])?;
-    row(out, 128, &[2147483647, 124, 125])?;
-    long_row(
+    row::<4>(out, 8, &[-1, -4, -4096, -2147483648])?;
+    row::<4>(out, 128, &[2147483647, 124, 125])?;
+    // the 128 bytes of the largest block's map, and two behind them
+    row::<130>(
         out,
         4096,
         &[

@@ -1,7 +1,7 @@
 // Runs the vectors of `stdin` through ints, reals and conversions: edges of floating point (exact sums, ties, subnormals, overflow
 // to infinity, infinities and zeros of both signs, NaNs of several patterns), published values (RFC 8785, appendix B; RFC 8949,
 // appendix A; the quotient 4195835 / 3145727, which a faulty divider once got wrong), and document 01's numeric rows. A vector
-// is a line of 37 bytes: an operation's number as below, in 2 hexadecimal digits, and two operands' bits, in 16 each. A line is
+// is a line: an operation's number as below, in 2 hexadecimal digits, and two operands' bits, in 16 each. A line is
 // written for each: the operation, its operands and what it gives, reals by their bits and integers in decimal.
 // `stdout` is what expected.py works out from `stdin` with Python's own integers and the machine's floats.
 #![tactic(auto)]
@@ -10,6 +10,7 @@ ghost use Rattle.std.specs.Prelude.{◌≡◌, if◌then◌else◌};
 ghost use Rattle.std.specs.Float.{binary64};
 ghost use Rattle.std.specs.Float.Ieee.{nan_bits};
 
+use std::fmt::{self, Display, Formatter};
 use std::io::{self, BufWriter, Read, Write};
 
 // There and back: a real is what its bits say.
@@ -26,176 +27,237 @@ fn bits_again(b: u64) -> u64
     reals::bits(reals::of_bits(b))
 }
 
-fn show_real<W: Write>(out: &mut W, x: f64) -> io::Result<()> {
-    let bits = reals::bits(again(x));
-    write!(out, " {bits:016x}")
+// What an operand is, or an operation gives.
+#[derive(Clone, Copy)]
+enum Value {
+    Real(f64),
+    Int(i64),
+    Failed,
 }
 
-fn show_int<W: Write>(out: &mut W, n: i64) -> io::Result<()> {
-    write!(out, " {n}")
-}
-
-fn show_quotient<W: Write>(out: &mut W, q: Option<i64>) -> io::Result<()> {
-    match q {
-        Some(n) => show_int(out, n),
-        None => write!(out, " failed"),
+impl From<f64> for Value {
+    fn from(x: f64) -> Value {
+        Value::Real(x)
     }
 }
 
-// The operations' names, by their numbers.
-const NAMES: [&str; 30] = [
-    "real add", "real sub", "real mul", "real div", "real neg", "to big", "to word", "to byte",
-    "add", "sub", "mul", "div", "mod", "shl", "shr", "and", "or", "xor", "eq", "neq", "lt", "gt",
-    "leq", "geq", "neg", "not", "bitnot", "word of", "byte of", "real of",
-];
-
-fn name<W: Write>(out: &mut W, op: u64) -> io::Result<()> {
-    if op < 30 {
-        let name = NAMES[op as usize];
-        write!(out, "{name:<8}")?;
-    }
-    Ok(())
-}
-
-fn real_result(op: u64, a: f64, b: f64) -> f64 {
-    match op {
-        0 => reals::add(a, b),
-        1 => reals::sub(a, b),
-        2 => reals::mul(a, b),
-        3 => reals::div(a, b),
-        _ => reals::neg(a),
+impl From<i64> for Value {
+    fn from(n: i64) -> Value {
+        Value::Int(n)
     }
 }
 
-fn whole_result(op: u64, x: f64) -> i64 {
-    match op {
-        5 => conversions::big_of_real(x),
-        6 => i64::from(conversions::word_of_real(x)),
-        _ => i64::from(conversions::byte_of_real(x)),
+impl From<Option<i64>> for Value {
+    fn from(q: Option<i64>) -> Value {
+        q.map_or(Value::Failed, Value::Int)
     }
 }
 
-fn real_row<W: Write>(out: &mut W, op: u64, a: u64, b: u64) -> io::Result<()> {
-    let x = reals::of_bits(bits_again(a));
-    let y = reals::of_bits(bits_again(b));
-    show_real(out, x)?;
-    if op < 4 {
-        show_real(out, y)?;
-    }
-    write!(out, " gives")?;
-    if op < 5 {
-        show_real(out, real_result(op, x, y))?;
-    } else {
-        show_int(out, whole_result(op, x))?;
-    }
-    writeln!(out)
-}
-
-fn binary_result(op: u64, a: i64, b: i64) -> i64 {
-    match op {
-        0 => ints::add(a, b),
-        1 => ints::sub(a, b),
-        2 => ints::mul(a, b),
-        5 => ints::shl(a, b),
-        6 => ints::shr(a, b),
-        7 => ints::and(a, b),
-        8 => ints::or(a, b),
-        9 => ints::xor(a, b),
-        10 => ints::eq(a, b),
-        11 => ints::neq(a, b),
-        12 => ints::lt(a, b),
-        13 => ints::gt(a, b),
-        14 => ints::leq(a, b),
-        _ => ints::geq(a, b),
-    }
-}
-
-fn unary_result(op: u64, a: i64) -> i64 {
-    match op {
-        16 => ints::neg(a),
-        17 => ints::not(a),
-        18 => ints::bit_not(a),
-        19 => i64::from(conversions::word_of_int(a)),
-        _ => i64::from(conversions::byte_of_int(a)),
-    }
-}
-
-fn int_result(op: u64, a: i64, b: i64) -> Option<i64> {
-    match op {
-        3 => ints::div(a, b),
-        4 => ints::rem(a, b),
-        16..=20 => Some(unary_result(op, a)),
-        _ => Some(binary_result(op, a, b)),
-    }
-}
-
-fn int_row<W: Write>(out: &mut W, op: u64, a: i64, b: i64) -> io::Result<()> {
-    show_int(out, a)?;
-    if op < 16 {
-        show_int(out, b)?;
-    }
-    write!(out, " gives")?;
-    if op < 21 {
-        show_quotient(out, int_result(op, a, b))?;
-    } else {
-        show_real(out, conversions::real_of_int(a))?;
-    }
-    writeln!(out)
-}
-
-// The value of an upper-case hexadecimal digit.
-fn digit(c: u8) -> u64 {
-    match c {
-        b'0'..=b'9' => u64::from(c - b'0'),
-        b'A'..=b'F' => u64::from(c - b'A') + 10,
-        _ => 0,
-    }
-}
-
-// The number that digits write.
-fn number(s: &[u8]) -> u64 {
-    let mut n: u64 = 0;
-    for c in s {
-        n = (n << 4) | digit(*c);
-    }
-    n
-}
-
-fn row<W: Write>(out: &mut W, op: u64, a: u64, b: u64) -> io::Result<()> {
-    name(out, op)?;
-    if op < 8 {
-        real_row(out, op, a, b)
-    } else {
-        int_row(out, op - 8, ints::of_bits(a), ints::of_bits(b))
-    }
-}
-
-// The operation and the operands of a line.
-fn vector(line: &[u8]) -> Option<(u64, u64, u64)> {
-    if line.len() < 36 {
-        return None;
-    }
-    Some((
-        number(&line[..2]),
-        number(&line[3..19]),
-        number(&line[20..36]),
-    ))
-}
-
-fn rows<W: Write>(out: &mut W, s: &[u8]) -> io::Result<()> {
-    for line in s.chunks(37) {
-        if let Some((op, a, b)) = vector(line) {
-            row(out, op, a, b)?;
+// A real by its bits, an integer in decimal.
+impl Display for Value {
+    fn fmt<W: fmt::Write>(&self, f: &mut Formatter<W>) -> fmt::Result {
+        match self {
+            Value::Real(x) => write!(f, "{:016x}", reals::bits(again(*x))),
+            Value::Int(n) => write!(f, "{n}"),
+            Value::Failed => f.write_str("failed"),
         }
     }
-    Ok(())
+}
+
+// The operations on reals.
+#[derive(Clone, Copy)]
+enum RealOp {
+    Add,
+    Sub,
+    Mul,
+    Div,
+    Neg,
+    Big,
+    Word,
+    Byte,
+}
+
+impl RealOp {
+    fn takes_two(self) -> bool {
+        matches!(self, RealOp::Add | RealOp::Sub | RealOp::Mul | RealOp::Div)
+    }
+
+    fn result(self, x: f64, y: f64) -> Value {
+        match self {
+            RealOp::Add => reals::add(x, y).into(),
+            RealOp::Sub => reals::sub(x, y).into(),
+            RealOp::Mul => reals::mul(x, y).into(),
+            RealOp::Div => reals::div(x, y).into(),
+            RealOp::Neg => reals::neg(x).into(),
+            RealOp::Big => conversions::big_of_real(x).into(),
+            RealOp::Word => i64::from(conversions::word_of_real(x)).into(),
+            RealOp::Byte => i64::from(conversions::byte_of_real(x)).into(),
+        }
+    }
+}
+
+// The operations on integers.
+#[derive(Clone, Copy)]
+enum IntOp {
+    Add,
+    Sub,
+    Mul,
+    Div,
+    Mod,
+    Shl,
+    Shr,
+    And,
+    Or,
+    Xor,
+    Eq,
+    Neq,
+    Lt,
+    Gt,
+    Leq,
+    Geq,
+    Neg,
+    Not,
+    BitNot,
+    Word,
+    Byte,
+    Real,
+}
+
+impl IntOp {
+    fn takes_two(self) -> bool {
+        !matches!(
+            self,
+            IntOp::Neg | IntOp::Not | IntOp::BitNot | IntOp::Word | IntOp::Byte | IntOp::Real
+        )
+    }
+
+    fn result(self, a: i64, b: i64) -> Value {
+        match self {
+            IntOp::Add => ints::add(a, b).into(),
+            IntOp::Sub => ints::sub(a, b).into(),
+            IntOp::Mul => ints::mul(a, b).into(),
+            IntOp::Div => ints::div(a, b).into(),
+            IntOp::Mod => ints::rem(a, b).into(),
+            IntOp::Shl => ints::shl(a, b).into(),
+            IntOp::Shr => ints::shr(a, b).into(),
+            IntOp::And => ints::and(a, b).into(),
+            IntOp::Or => ints::or(a, b).into(),
+            IntOp::Xor => ints::xor(a, b).into(),
+            IntOp::Eq => ints::eq(a, b).into(),
+            IntOp::Neq => ints::neq(a, b).into(),
+            IntOp::Lt => ints::lt(a, b).into(),
+            IntOp::Gt => ints::gt(a, b).into(),
+            IntOp::Leq => ints::leq(a, b).into(),
+            IntOp::Geq => ints::geq(a, b).into(),
+            IntOp::Neg => ints::neg(a).into(),
+            IntOp::Not => ints::not(a).into(),
+            IntOp::BitNot => ints::bit_not(a).into(),
+            IntOp::Word => i64::from(conversions::word_of_int(a)).into(),
+            IntOp::Byte => i64::from(conversions::byte_of_int(a)).into(),
+            IntOp::Real => conversions::real_of_int(a).into(),
+        }
+    }
+}
+
+#[derive(Clone, Copy)]
+enum Op {
+    OfReals(RealOp),
+    OfInts(IntOp),
+}
+
+// The operations by their numbers, with their names.
+const OPS: [(&str, Op); 30] = [
+    ("real add", Op::OfReals(RealOp::Add)),
+    ("real sub", Op::OfReals(RealOp::Sub)),
+    ("real mul", Op::OfReals(RealOp::Mul)),
+    ("real div", Op::OfReals(RealOp::Div)),
+    ("real neg", Op::OfReals(RealOp::Neg)),
+    ("to big", Op::OfReals(RealOp::Big)),
+    ("to word", Op::OfReals(RealOp::Word)),
+    ("to byte", Op::OfReals(RealOp::Byte)),
+    ("add", Op::OfInts(IntOp::Add)),
+    ("sub", Op::OfInts(IntOp::Sub)),
+    ("mul", Op::OfInts(IntOp::Mul)),
+    ("div", Op::OfInts(IntOp::Div)),
+    ("mod", Op::OfInts(IntOp::Mod)),
+    ("shl", Op::OfInts(IntOp::Shl)),
+    ("shr", Op::OfInts(IntOp::Shr)),
+    ("and", Op::OfInts(IntOp::And)),
+    ("or", Op::OfInts(IntOp::Or)),
+    ("xor", Op::OfInts(IntOp::Xor)),
+    ("eq", Op::OfInts(IntOp::Eq)),
+    ("neq", Op::OfInts(IntOp::Neq)),
+    ("lt", Op::OfInts(IntOp::Lt)),
+    ("gt", Op::OfInts(IntOp::Gt)),
+    ("leq", Op::OfInts(IntOp::Leq)),
+    ("geq", Op::OfInts(IntOp::Geq)),
+    ("neg", Op::OfInts(IntOp::Neg)),
+    ("not", Op::OfInts(IntOp::Not)),
+    ("bitnot", Op::OfInts(IntOp::BitNot)),
+    ("word of", Op::OfInts(IntOp::Word)),
+    ("byte of", Op::OfInts(IntOp::Byte)),
+    ("real of", Op::OfInts(IntOp::Real)),
+];
+
+// The operands of an operation and what it gives; the second operand where it takes two.
+fn worked(op: Op, a: u64, b: u64) -> (Value, Option<Value>, Value) {
+    match op {
+        Op::OfReals(o) => {
+            let x = reals::of_bits(bits_again(a));
+            let y = reals::of_bits(bits_again(b));
+            (x.into(), o.takes_two().then_some(y.into()), o.result(x, y))
+        }
+        Op::OfInts(o) => {
+            let m = ints::of_bits(a);
+            let n = ints::of_bits(b);
+            (m.into(), o.takes_two().then_some(n.into()), o.result(m, n))
+        }
+    }
+}
+
+fn row<W: Write>(out: &mut W, v: Vector) -> io::Result<()> {
+    let Some((name, op)) = OPS.get(v.op) else {
+        return Ok(());
+    };
+    let (first, second, result) = worked(*op, v.a, v.b);
+    write!(out, "{name:<8} {first}")?;
+    if let Some(second) = second {
+        write!(out, " {second}")?;
+    }
+    writeln!(out, " gives {result}")
+}
+
+// A line's operation, by its number, and the bits of its operands.
+#[derive(Clone, Copy)]
+struct Vector {
+    op: usize,
+    a: u64,
+    b: u64,
+}
+
+// The number that upper-case hexadecimal digits write.
+fn number(digits: &str) -> Option<u64> {
+    u64::from_str_radix(digits, 16).ok()
+}
+
+fn read_vector(line: &str) -> Option<Vector> {
+    let mut fields = line.split(' ');
+    Some(Vector {
+        op: number(fields.next()?)? as usize,
+        a: number(fields.next()?)?,
+        b: number(fields.next()?)?,
+    })
 }
 
 fn main(rt: HostRuntime) -> io::Result<()> {
     let alloc = rt.alloc();
-    let mut lines = Vec::new(alloc);
-    rt.stdin().take(65536).read_to_end(&mut lines)?;
+    let mut lines = String::new(alloc);
+    rt.stdin().take(65536).read_to_string(&mut lines)?;
     let mut out = BufWriter::new(alloc, io::writer(&rt))?;
-    rows(&mut out, lines.as_slice())?;
+    for line in lines.lines() {
+        if let Some(v) = read_vector(line) {
+            row(&mut out, v)?;
+        }
+    }
     out.flush()
 }

@@ -5,7 +5,7 @@ ghost use Rattle.write.specs.Writes.{Writes};
 ghost use Rattle.checks.specs.Checks.{Checked};
 ghost use Rattle.parts.specs.Parts.{Listable, declared_text, types_text};
 
-use data_rows::{Counts, Next};
+use data_rows::Counts;
 use names::Known;
 use records::key::Log;
 use tables::Tables;
@@ -42,20 +42,15 @@ pub fn put_types(sheet: &[u8], work: &mut [u8], n: usize, x: Tables, w: &mut Wri
         globals: x.globals,
         frames,
     };
-    let q = Next {
-        at: w.at,
-        keys: x.keys,
-    };
-    let d = data_rows::data_rows(sheet, work, c, w.out, q);
-    w.at = d.at;
+    let keys = data_rows::data_rows(sheet, work, c, w, x.keys);
     let log = Log {
         lines: n,
         entries: x.records,
     };
-    let keys = KeyCounts {
+    let counts = KeyCounts {
         needs: x.needs,
-        keys: d.keys,
+        keys,
     };
-    type_rows::type_rows(sheet, work, log, keys, w);
+    type_rows::type_rows(sheet, work, log, counts, w);
     uses::use_rows(work, x.needs, frames, w);
 }

@@ -1,22 +1,21 @@
 -- What each step of filling answers.
 use mathlib.Core.Path.{◌≡◌, refl, sym, ◌∙◌}
-use mathlib.Core.Bool.{true, false, true≢false, false≢true}
+use mathlib.Core.Bool.{false, true≢false}
 use mathlib.Core.Logic.{inl, inr}
 use Prim.Native.Nat.{ℕ, ◌+◌, ◌^◌, ◌≤◌, ◌<◌, max}
 use native.Mathlib.Omega.{arith}
 use native.Mathlib.Numerals.{add-one}
-use lib.Dec.{T}
 use lib.IntN.{ℤ, pos, negsuc, nat_abs}
-use lib.Signed.{lt_z, non_neg}
+use lib.Signed.{lt_z}
 use lib.ListN.{length}
 use mir.Syntax.{w64}
-use mir.Val.{Fits, SFits}
+use mir.Val.{SFits}
 use mir.Facts.{to_z-of_z}
-use borrow.Author.Tests.{ltb-true, ltb-false, lt-ltb, le-ltb, le-leb, lt-leb}
+use borrow.Author.Tests.{ltb-false, lt-ltb, le-ltb, le-leb}
 use Rattle.semantics.specs.Text.{Bytes}
 use Rattle.semantics.specs.Tree as Tree
 use Rattle.semantics.specs.Fold.{Result}
-use Rattle.semantics.specs.Fold.Result.{ok, failed}
+use Rattle.semantics.specs.Fold.Result.{ok}
 use Rattle.semantics.specs.Array.{Filled, none_filled, place_span, place_indices, place_next}
 use Rattle.semantics.proofs.Common.{never}
 use Rattle.ints.proofs.Widths.{held}
@@ -27,9 +26,8 @@ use Rattle.slots.specs.Slots.{slot_bytes}
 use Rattle.slots.proofs.Bits.{SlotStored, stored}
 use Rattle.write.specs.Wrote.{over}
 use Rattle.placements.specs.declared.Extent.{Extent}
-use Rattle.std.specs.Prelude.{Option, None, Some}
-use Rattle.placements.specs.Placements.{placement_at, slot_at, element_in, Keeps, SpanSet, Filling, Goes, Places}
-use Rattle.placements.proofs.Same.{keeps-all}
+use Rattle.std.specs.Prelude.{Some}
+use Rattle.placements.specs.Placements.{placement_at, slot_at, element_in, Keeps, SpanSet, Filling, Places}
 use Rattle.placements.proofs.Fillings.{filling-span}
 
 -- ---- the empty literal
@@ -72,10 +70,6 @@ module _ (t u w : Bytes) (room : 62464 ≤ length t) (p : SpanSet t 0 1023 0 u) 
 -- ---- a span
 
 module _ (t : Bytes) (e : ℕ) (a : Extent) (act : Tree.ConstVal → Filled → Result Filled) where
-  -- nothing changes
-  places-none : (r : Option Extent) → ((top k : ℕ) (f : Filled) → Filling t top k a.next a.reach f → Goes t top k r (act (element_in t e) f)) → Places t e a act r t
-  places-none r h = record { keeps = λ b. keeps-all; step = λ top k f x y z p. h top k f p }
-
   module _ (u : Bytes) (l h : ℕ) (p : SpanSet t l h e u) (low : h < 2 ^ 63) where
     places-span : (r : Extent) → r.next ≡ h + 1 → r.reach ≡ max a.reach (h + 1) → ((v : Tree.ConstVal) (f : Filled) → f.next_index ≡ a.next → act v f ≡ ok (place_span v l h f)) → Places t e a act (Some r) u
     places-span r q d g = record {
@@ -87,26 +81,7 @@ module _ (t : Bytes) (e : ℕ) (a : Extent) where
   pub next-placed : (u : Bytes) (r : Extent) → a.next < 2 ^ 63 → SpanSet t a.next a.next e u → r.next ≡ a.next + 1 → r.reach ≡ max a.reach (a.next + 1) → Places t e a place_next (Some r) u
   next-placed u r h p q d = places-span t e a place_next u a.next a.next p h r q d (λ v f z. rw (z, lt-ltb a.next 9223372036854775808 h, le-leb a.next a.next (omega arith)))
 
-  pub next-beyond : 2 ^ 63 ≤ a.next → Places t e a place_next None t
-  next-beyond h = places-none t e a place_next None (λ top k f p. rw (← p.next-is, le-ltb a.next 9223372036854775808 h))
-
 -- ---- indices of a selector
-
-empty-span : (x y : ℤ) → lt_z y x ≡ true → (v : Tree.ConstVal) (f : Filled) → place_indices v x y f ≡ ok f
-empty-span (pos l) (pos h) e v f = rw (lt-leb l h (ltb-true h l e))
-empty-span (pos l) (negsuc h) e v f = refl
-empty-span (negsuc l) (pos h) e v f = absurd (false≢true e)
-empty-span (negsuc l) (negsuc h) e v f = rw (lt-leb h l (ltb-true l h e))
-
-below-zero : (x y : ℤ) → lt_z y x ≡ false → lt_z x (pos 0) ≡ true → (v : Tree.ConstVal) (f : Filled) → place_indices v x y f ≡ failed
-below-zero (pos l) y e d v f = absurd (omega (arith, ltb-true l 0 d))
-below-zero (negsuc l) (pos h) e d v f = refl
-below-zero (negsuc l) (negsuc h) e d v f = rw (le-leb h l (ltb-false l h e))
-
--- numbers that are not negative
-unsigned : (x : ℤ) → lt_z x (pos 0) ≡ false → x ≡ pos (nat_abs x)
-unsigned (pos l) e = refl
-unsigned (negsuc l) e = absurd (true≢false e)
 
 unsigned-above : (x y : ℤ) → lt_z y x ≡ false → lt_z x (pos 0) ≡ false → y ≡ pos (nat_abs y)
 unsigned-above x (pos h) e d = refl
@@ -118,32 +93,22 @@ whole-span (pos l) (pos h) e d v f = rw (le-leb l h (ltb-false h l e))
 whole-span (pos l) (negsuc h) e d v f = absurd (true≢false e)
 whole-span (negsuc l) y e d v f = absurd (true≢false d)
 
-non-negative : {z : ℤ} → SFits w64 z → z ≡ pos (nat_abs z) → T (non_neg (held w64 z)) × Fits w64 (nat_abs (held w64 z)) × (nat_abs (held w64 z) < 2 ^ 63)
-non-negative {z} f e = rw (to_z-of_z f) (go z f e)
+below-half : {z : ℤ} → SFits w64 z → z ≡ pos (nat_abs z) → nat_abs (held w64 z) < 2 ^ 63
+below-half {z} f e = rw (to_z-of_z f) (go z f e)
   where
-    go : (z : ℤ) → SFits w64 z → z ≡ pos (nat_abs z) → T (non_neg z) × Fits w64 (nat_abs z) × (nat_abs z < 2 ^ 63)
-    go (pos n) f e = let h : n < 9223372036854775808 = f.sfits in (tt, record { fits = omega arith }, h)
+    go : (z : ℤ) → SFits w64 z → z ≡ pos (nat_abs z) → nat_abs z < 2 ^ 63
+    go (pos n) f e = f.sfits
     go (negsuc n) f e = never cc
 
 module _ (t : Bytes) (e : ℕ) (a : Extent) {low high : ℤ} (fl : SFits w64 low) (fh : SFits w64 high) where
   abbrev Act : Tree.ConstVal → Filled → Result Filled
   Act v = place_indices v low high
 
-  pub indices-none : lt_z (held w64 high) (held w64 low) ≡ true → Places t e a Act (Some a) t
-  indices-none h = places-none t e a Act (Some a) (λ top k f p. record { literal = f; result = empty-span low high (rw (to_z-of_z fl, to_z-of_z fh) at h) (element_in t e) f; filling = p })
+  module _ (h : lt_z (held w64 high) (held w64 low) ≡ false) (d : lt_z (held w64 low) (pos 0) ≡ false) where
+    high-fits : nat_abs (held w64 high) < 2 ^ 63
+    high-fits = below-half fh (unsigned-above low high (rw (to_z-of_z fl, to_z-of_z fh) at h) (rw (to_z-of_z fl) at d))
 
-  module _ (h : lt_z (held w64 high) (held w64 low) ≡ false) where
-    pub indices-negative : lt_z (held w64 low) (pos 0) ≡ true → Places t e a Act None t
-    indices-negative d = places-none t e a Act None (λ top k f p. below-zero low high (rw (to_z-of_z fl, to_z-of_z fh) at h) (rw (to_z-of_z fl) at d) (element_in t e) f)
-
-    module _ (d : lt_z (held w64 low) (pos 0) ≡ false) where
-      pub low_fits : T (non_neg (held w64 low)) × Fits w64 (nat_abs (held w64 low)) × (nat_abs (held w64 low) < 2 ^ 63)
-      low_fits = non-negative fl (unsigned low (rw (to_z-of_z fl) at d))
-
-      pub high_fits : T (non_neg (held w64 high)) × Fits w64 (nat_abs (held w64 high)) × (nat_abs (held w64 high) < 2 ^ 63)
-      high_fits = non-negative fh (unsigned-above low high (rw (to_z-of_z fl, to_z-of_z fh) at h) (rw (to_z-of_z fl) at d))
-
-      pub indices-placed : (u : Bytes) (r : Extent) → SpanSet t (nat_abs (held w64 low)) (nat_abs (held w64 high)) e u → r.next ≡ nat_abs (held w64 high) + 1 → r.reach ≡ max a.reach (nat_abs (held w64 high) + 1) → Places t e a Act (Some r) u
-      indices-placed u r p q b =
-          places-span t e a Act u (nat_abs (held w64 low)) (nat_abs (held w64 high)) p high_fits.2 r q b
-          (λ v f z. rw (to_z-of_z fl, to_z-of_z fh) (whole-span low high (rw (to_z-of_z fl, to_z-of_z fh) at h) (rw (to_z-of_z fl) at d) v f))
+    pub indices-placed : (u : Bytes) (r : Extent) → SpanSet t (nat_abs (held w64 low)) (nat_abs (held w64 high)) e u → r.next ≡ nat_abs (held w64 high) + 1 → r.reach ≡ max a.reach (nat_abs (held w64 high) + 1) → Places t e a Act (Some r) u
+    indices-placed u r p q b =
+        places-span t e a Act u (nat_abs (held w64 low)) (nat_abs (held w64 high)) p high-fits r q b
+        (λ v f z. rw (to_z-of_z fl, to_z-of_z fh) (whole-span low high (rw (to_z-of_z fl, to_z-of_z fh) at h) (rw (to_z-of_z fl) at d) v f))

@@ -1,16 +1,12 @@
 -- The values of a literal, as the table and the slots give them.
 use mathlib.Core.Path.{◌≡◌, refl, sym, ◌∙◌}
-use mathlib.Core.Bool.{Bool, true, false, ◌||◌}
-use mathlib.Core.List.{List, [], ◌∷◌}
+use mathlib.Core.Bool.{true, false, ◌||◌}
 use Prim.Native.Nat.{ℕ, zero, suc, ◌+◌, ◌-◌, ◌≤◌, ◌<◌}
 use native.Mathlib.Omega.{arith}
 use native.Mathlib.Numerals.{add-one}
 use borrow.Author.Tests.{eq-eqb, ne_eqb}
 use Rattle.semantics.specs.Text.{Bytes, any}
-use Rattle.semantics.specs.Tree as Tree
-use Rattle.semantics.specs.Tree.{ElemKind}
-use Rattle.semantics.specs.Tree.ConstVal.{v_int, v_real, v_str}
-use Rattle.semantics.specs.Array.{Filled, value_at, values_from, filler, is_str, is_real, kind_of_values}
+use Rattle.semantics.specs.Array.{Filled, value_at, values_from, filler}
 use Rattle.values.specs.declared.ConstVal.{ConstVal}
 use Rattle.values.specs.declared.ConstVal.TheVariants.{Int, Real, Str}
 use Rattle.values.specs.Values.{value_in, kind_for}
@@ -51,9 +47,6 @@ pub record NoneOfKind (t : Bytes) (count wanted i : ℕ) : Type 0 where
   pub within : i ≤ count
   pub rest : any (has_kind wanted) (values_in t i (count - i)) ≡ any (has_kind wanted) (values_in t 0 count)
 
-pub none-of-kind-start : (t : Bytes) (count wanted : ℕ) → NoneOfKind t count wanted 0
-none-of-kind-start t count wanted = let z : count - 0 ≡ count = omega arith in record { within = omega arith; rest = rw z }
-
 module _ {t : Bytes} {count wanted i : ℕ} (p : NoneOfKind t count wanted i) where
   next-value : i < count → any (has_kind wanted) (values_in t i (count - i)) ≡ has_kind wanted (element_in t (placement_at t i)) || any (has_kind wanted) (values_in t (i + 1) (count - (i + 1)))
   unfolding values_in
@@ -81,33 +74,3 @@ equal-kinds j k e = eqb-true (value_number j) (value_number k) (sym (same-kinds 
 
 pub other-kinds : (j k : Value) → sameb the_type j k ≡ false → value_number j ≡ value_number k → ⊥
 other-kinds j k e = eqb-false (value_number j) (value_number k) (sym (same-kinds j k) ∙ e)
-
-any-alike : (p q : Tree.ConstVal → Bool) → ((v : Tree.ConstVal) → p v ≡ q v) → (vs : List Tree.ConstVal) → any p vs ≡ any q vs
-any-alike p q h [] = refl
-any-alike p q h (v ∷ vs) = rw (h v, any-alike p q h vs)
-
-strings-are : (vs : List Tree.ConstVal) → any (has_kind 3) vs ≡ any is_str vs
-strings-are = any-alike (has_kind 3) is_str go
-  where
-    go : (v : Tree.ConstVal) → has_kind 3 v ≡ is_str v
-    go (v_int z) = refl
-    go (v_real x) = refl
-    go (v_str s) = refl
-
-reals-are : (vs : List Tree.ConstVal) → any (has_kind 2) vs ≡ any is_real vs
-reals-are = any-alike (has_kind 2) is_real go
-  where
-    go : (v : Tree.ConstVal) → has_kind 2 v ≡ is_real v
-    go (v_int z) = refl
-    go (v_real x) = refl
-    go (v_str s) = refl
-
-module _ (vs : List Tree.ConstVal) where
-  pub kind-strings : true ≡ any (has_kind 3) vs → ElemKind.k_ptr ≡ kind_of_values vs
-  kind-strings h = rw (sym (strings-are vs) ∙ sym h)
-
-  pub kind-reals : false ≡ any (has_kind 3) vs → true ≡ any (has_kind 2) vs → ElemKind.k_real ≡ kind_of_values vs
-  kind-reals g h = rw (sym (strings-are vs) ∙ sym g, sym (reals-are vs) ∙ sym h)
-
-  pub kind-words : false ≡ any (has_kind 3) vs → false ≡ any (has_kind 2) vs → ElemKind.k_word ≡ kind_of_values vs
-  kind-words g h = rw (sym (strings-are vs) ∙ sym g, sym (reals-are vs) ∙ sym h)

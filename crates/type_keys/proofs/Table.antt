@@ -1,7 +1,7 @@
 -- The table: what is read of it after a store.
-use mathlib.Core.Path.{◌≡◌, refl, ◌∙◌}
+use mathlib.Core.Path.{◌≡◌, refl, ap, ◌∙◌}
 use mathlib.Core.Bool.{Bool, true, false, cond}
-use mathlib.Core.List.{List}
+use mathlib.Core.List.{List, [], ◌∷◌}
 use Prim.Native.Nat.{ℕ, suc, ◌+◌, ◌*◌, ◌/◌, ◌%◌, ◌≤◌, ◌<◌}
 use native.Mathlib.Omega.{arith}
 use native.Mathlib.Nat.{div-add-mod'}
@@ -14,6 +14,9 @@ use Rattle.semantics.specs.Tree.ElemKind.{k_byte, k_word, k_big, k_real, k_ptr}
 use Rattle.semantics.specs.Tree.TypeKey.{elem_key}
 use Rattle.semantics.specs.Array.{kind_number}
 use Rattle.semantics.specs.Types.{same_type_key}
+use Rattle.codes.specs.declared.element.Element.{Element}
+use Rattle.codes.specs.declared.element.Element.TheVariants as E
+use Rattle.codes.specs.Kinds.{element_kind}
 use Rattle.chains.specs.Chains.{digest_place, digest_at, ChainRoom, Chained}
 use Rattle.chains.proofs.Laws.{PlacesApart, SameBytes, linked-outside, linked_long, digest-stays, chained-kept, chained-next}
 use Rattle.checks.specs.Checks.{Kept, Outside}
@@ -185,14 +188,36 @@ chained-above {t} {u} {m = m} h x c = chained-kept same (omega arith) c
       head = λ k l. outside_above x (10752 + 1 * k + 128 + 128) (omega arith);
     }
 
--- one more kind cleared
-pub cleared-next : (t : List ℕ) (k : ℕ) → k < 5 → 62464 ≤ length t → ((j : ℕ) → j < k → get_or t (10624 + j) 0 ≡ 0) → (j : ℕ) → j < k + 1 → get_or (set t (10624 + k) 0) (10624 + j) 0 ≡ 0
-cleared-next t k h room z j l = go (eqb j k) refl
-  where
-    go : (e : Bool) → eqb j k ≡ e → get_or (set t (10624 + k) 0) (10624 + j) 0 ≡ 0
-    go true e = let q : j ≡ k = eqb-true j k e in rw (q, get_or-set_same t (10624 + k) 0 0 (omega arith))
-    go false e = get_or-set_other t (10624 + k) (10624 + j) 0 0 (λ q. eqb-false j k e (omega arith)) ∙ z j (omega (arith, eqb-false j k e))
+-- ---- all kinds cleared
 
-pub cleared-all : (t : List ℕ) → ((j : ℕ) → j < 5 → get_or t (10624 + j) 0 ≡ 0) → (k : ElemKind) → kind_position t k ≡ 0
+-- the kinds, each at its number
+abbrev pub all_kinds : List Element
+all_kinds = E.Byte ∷ E.Word ∷ E.Big ∷ E.Real ∷ E.Pointer ∷ []
+
+abbrev pub kind_in : ℕ → ElemKind
+kind_in j = element_kind (get_or all_kinds j E.Byte)
+
+-- what holds of those below 5 or more holds of all
+pub each-kind : (P : ElemKind → Type 0) (n : ℕ) → 5 ≤ n → ((j : ℕ) → j < n → P (kind_in j)) → (k : ElemKind) → P k
+each-kind P n h z k_byte = z 0 (omega arith)
+each-kind P n h z k_word = z 1 (omega arith)
+each-kind P n h z k_big = z 2 (omega arith)
+each-kind P n h z k_real = z 3 (omega arith)
+each-kind P n h z k_ptr = z 4 (omega arith)
+
+pub cleared-next : (t : List ℕ) (i : ℕ) → 62464 ≤ length t → ((j : ℕ) → j < i → kind_position t (kind_in j) ≡ 0) → (j : ℕ) → j < i + 1 → kind_position (set t (10624 + kind_number (kind_in i)) 0) (kind_in j) ≡ 0
 unfolding kind_position
-cleared-all t z k = z (kind_number k) (kind-low k)
+cleared-next t i room z j l = go (eqb (kind_number (kind_in j)) (kind_number (kind_in i))) refl
+  where
+    go : (e : Bool) → eqb (kind_number (kind_in j)) (kind_number (kind_in i)) ≡ e → get_or (set t (10624 + kind_number (kind_in i)) 0) (10624 + kind_number (kind_in j)) 0 ≡ 0
+    go true e =
+        let q : kind_number (kind_in j) ≡ kind_number (kind_in i) = eqb-true (kind_number (kind_in j)) (kind_number (kind_in i)) e in
+        rw q (get_or-set_same t (10624 + kind_number (kind_in i)) 0 0 (omega (arith, kind-low (kind_in i))))
+    go false e =
+        let ne = eqb-false (kind_number (kind_in j)) (kind_number (kind_in i)) e in
+        get_or-set_other t (10624 + kind_number (kind_in i)) (10624 + kind_number (kind_in j)) 0 0 (λ q. ne (omega arith))
+        ∙ z j (before (eqb j i) refl ne)
+      where
+        before : (b : Bool) → eqb j i ≡ b → (kind_number (kind_in j) ≡ kind_number (kind_in i) → ⊥) → j < i
+        before true b ne = absurd (ne (ap (λ (x : ℕ). kind_number (kind_in x)) (eqb-true j i b)))
+        before false b ne = omega (arith, eqb-false j i b)

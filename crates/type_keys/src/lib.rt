@@ -90,8 +90,8 @@ pub fn enter_kind(work: &mut Space, kind: Element, p: usize)
 pub fn clear_kinds(work: &mut Space)
     ensures { (Outside 10624 10629 work.old work.new) × ((k : ElemKind) → kind_position work.new k ≡ 0) }
 {
-    for k in 0..element::KINDS {
-        work[area::KIND_POSITIONS + k] = 0;
+    for kind in element::ALL {
+        work[kind_place(kind)] = 0;
     }
 }
 

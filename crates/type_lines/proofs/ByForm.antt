@@ -1,12 +1,10 @@
 -- The key of a `need` line of each form, and which kind of element it asks for.
 use mathlib.Core.Path.{◌≡◌, refl, ◌∙◌}
-use mathlib.Core.Bool.{Bool, cond}
+use mathlib.Core.Bool.{Bool}
 use mathlib.Core.List.{List}
 use Rattle.std.specs.Prelude.{Option, Some}
 use Prim.Native.Nat.{ℕ, zero, suc, ◌+◌, ◌-◌, ◌<◌}
 use native.Mathlib.Omega.{arith}
-use lib.Dec.{eqb}
-use borrow.Author.Tests.{ne_eqb}
 use Rattle.semantics.specs.Text.{holds_of}
 use Rattle.semantics.specs.Tree.{Node, ElemKind, TypeKey}
 use Rattle.semantics.specs.Tree.TypeKey.{adt_key, elem_key, block_key, opaque_key}
@@ -18,7 +16,7 @@ use Rattle.lines.specs.Lines.{read_at, nodes_in, form_at}
 use Rattle.source.specs.Walk.{field_at}
 use Rattle.type_lines.specs.Needs.{need_at, NeedLine, kind_by}
 use Rattle.type_lines.specs.Shapes.{written_shape, ShapeLine}
-use Rattle.type_lines.proofs.Forms.{elem_by, key_by, key-is, form-from}
+use Rattle.type_lines.proofs.Forms.{key_by, key-is, form-from}
 
 module _ (s : List ℕ) (i : ℕ) (l : NeedLine s i) where
   pub name-key : form_at s i ≡ 34 → need_at s i ≡ adt_key (field_at (read_at s i).fields 0)
@@ -30,9 +28,6 @@ module _ (s : List ℕ) (i : ℕ) (l : NeedLine s i) where
 
   pub opaque-key : form_at s i ≡ 41 → need_at s i ≡ opaque_key
   opaque-key e = key-is s i l ∙ rw e
-
-  pub plain-key : (form_at s i ≡ 34 → ⊥) → (form_at s i ≡ 40 → ⊥) → need_at s i ≡ cond (eqb (form_at s i) 41) opaque_key (elem_key (elem_by (form_at s i)))
-  plain-key a b = key-is s i l ∙ rw (ne_eqb (form_at s i) 34 a, ne_eqb (form_at s i) 40 b)
 
   pub block-line : form_at s i ≡ 40 → ShapeLine s i
   block-line e = record { checked = l.checked; within = l.within; form = rw e }

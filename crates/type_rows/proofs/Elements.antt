@@ -24,9 +24,6 @@ use Rattle.type_keys.specs.Table.{kind_position, position_from_one, Kinds}
 use Rattle.type_keys.proofs.Distinct.{new_key, position-none, position-new, position-known, distinct_more, from-one-some}
 use Rattle.type_keys.proofs.Table.{kind-kept}
 use Rattle.type_lines.proofs.Codes.{elems-are}
-use Rattle.codes.specs.declared.element.Element.{Element}
-use Rattle.codes.specs.declared.element.Element.TheVariants as E
-use Rattle.codes.specs.Kinds.{element_kind}
 use Rattle.write.specs.declared.Writer.{Writer}
 use Rattle.write.specs.Writes.{Writes}
 use Rattle.semantics.specs.Listing.{type_rows}
@@ -173,19 +170,6 @@ module _ (t : List ℕ) (ls : List TypeKey) (is : List Item) (keys : ℕ) (x : K
   elem-row : (s : List ℕ) (m : ElemKind) → kind_position t m ≡ p + 1 → {a b : ℕ} {v w : Writer} {y z : List ℕ} → TypesWrote ((elem_shape m) ∷ []) a b v w y z
       → TypesWrote ((key_shape (log_of s) (get_or (distinct [] (ls ++ concat_map array_key is)) p opaque_key)) ∷ []) a b v w y z
   elem-row s m found row = types-as (ap elem_shape (kind-is m found) ∙ sym (ap (key_shape (log_of s)) at.is)) row
-
--- ---- the search for it
-
--- each kind stands at its number
-abbrev pub all : List Element
-all = E.Byte ∷ E.Word ∷ E.Big ∷ E.Real ∷ E.Pointer ∷ []
-
-pub none_found : (t : List ℕ) (n p : ℕ) → 5 ≤ n → ((j : ℕ) → j < n → kind_position t (element_kind (get_or all j E.Byte)) ≡ p + 1 → ⊥) → (k : ElemKind) → kind_position t k ≡ p + 1 → ⊥
-none_found t n p h z k_byte = z 0 (omega arith)
-none_found t n p h z k_word = z 1 (omega arith)
-none_found t n p h z k_big = z 2 (omega arith)
-none_found t n p h z k_real = z 3 (omega arith)
-none_found t n p h z k_ptr = z 4 (omega arith)
 
 -- ---- row by row
 

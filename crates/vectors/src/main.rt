@@ -3,340 +3,202 @@
 // and refusals of each number are equal, and how many cases differ.
 #![tactic(auto)]
 
-ghost use Rattle.std.specs.Prelude.{◌≤◌, length, IfOk};
-
 use answers::Refusal;
-use std::io;
-use std::io::{BufReader, Read, Write};
+use image::Laid;
+use std::alloc::Global;
+use std::io::{self, BufRead, BufReader, Read, Write};
+use write::Writer;
 
 // More cases than a list has.
-const CASES: usize = 10000000;
+const CASES: u64 = 10_000_000;
 
-// Longer than any header, and larger than any length in one.
-const HEADER: usize = 255;
-
-const LARGE: usize = 1000000;
-
-// The bytes of each buffer, which no sheet, listing or image passes.
+// The bytes of each buffer, which no listing or image passes.
 const BYTES: usize = 65536;
 
 // 2 digits for each byte of image and area, and what stands around them.
 const ROWS: usize = 262160;
 
-// What becomes of a case: an equal listing, an equal refusal by its number (1 to 13), another answer, or an equal listing and image.
-const LISTED: usize = 0;
+// A sheet, its listing or its refusal, and the text of its image, which is empty where there is none.
+#[derive(Drop)]
+struct Case {
+    sheet: Vec<u8>,
+    answer: Vec<u8>,
+    picture: Vec<u8>,
+}
 
-const DIFFERS: usize = 14;
+// What becomes of a case: its listing is equal, also its image, or its refusal, of this number; or something differs.
+#[derive(Clone, Copy, PartialEq, Eq)]
+enum Outcome {
+    Listed,
+    Imaged,
+    Refused(u8),
+    Differs,
+}
 
-const IMAGED: usize = 15;
+// What `compile` and `image` are lent, and where the text of an image is written.
+#[derive(Drop)]
+struct Lent {
+    listing: Vec<u8>,
+    image: Vec<u8>,
+    area: Vec<u8>,
+    work: Vec<u8>,
+    rows: Vec<u8>,
+}
 
-const OUTCOMES: usize = 16;
-
-fn print_count(out: &mut impl Write, name: &str, n: u64) -> io::Result<()> {
-    writeln!(out, "{name},{n}")
+fn lent(alloc: Global) -> io::Result<Lent> {
+    Ok(Lent {
+        listing: vec![in alloc; 0u8; BYTES]?,
+        image: vec![in alloc; 0u8; BYTES]?,
+        area: vec![in alloc; 0u8; BYTES]?,
+        work: vec![in alloc; 0u8; BYTES]?,
+        rows: vec![in alloc; 0u8; ROWS]?,
+    })
 }
 
 // Whether the first n bytes of a buffer are the wanted ones.
-fn are_first(wanted: &[u8], buffer: &[u8], n: usize) -> bool {
-    if n <= buffer.len() {
-        return check::same(&buffer[0..n], wanted);
+fn begins_with(buffer: &[u8], n: usize, wanted: &[u8]) -> bool {
+    match buffer.get(..n) {
+        Some(part) => part == wanted,
+        None => false,
     }
-    false
 }
 
-fn listed(listing: &[u8], n: usize, wanted: &[u8]) -> usize {
-    if are_first(wanted, listing, n) {
-        return LISTED;
-    }
-    DIFFERS
-}
-
-fn refused(r: Refusal, wanted: &[u8]) -> usize {
-    let mut text = [0u8; 64];
-    let p = answers::put_refusal(&mut text, 0, r);
-    if are_first(wanted, &text, p) {
-        return usize::from(r.number());
-    }
-    DIFFERS
-}
-
-fn outcome(sheet: &[u8], wanted: &[u8], listing: &mut [u8], work: &mut [u8]) -> usize {
-    match compile::compile(sheet, listing, work) {
-        Ok(n) => listed(listing, n, wanted),
-        Err(r) => refused(r, wanted),
+fn refused(r: Refusal, wanted: &[u8]) -> Outcome {
+    let mut row = [0u8; 64];
+    let mut w = Writer::from(&mut row, 0);
+    answers::put_refusal(&mut w, r);
+    let end = w.at;
+    if begins_with(&row, end, wanted) {
+        Outcome::Refused(r.number())
+    } else {
+        Outcome::Differs
     }
 }
 
 // Writes the rows of an image and an area from the start, and returns where they end.
-fn put_rows(rows: &mut [u8], picture: &[u8], area: &[u8]) -> usize {
-    let mut p = write::put_part(rows, 0, b"image,");
-    p = write::put_hex(rows, p, picture);
-    p = write::put_part(rows, p, b"\narea,");
-    p = write::put_hex(rows, p, area);
-    write::put(rows, p, b'\n')
+fn put_rows(rows: &mut [u8], image: &[u8], area: &[u8]) -> usize {
+    let mut w = Writer::from(rows, 0);
+    w.put_part(b"image,");
+    w.put_hex(image);
+    w.put_part(b"\narea,");
+    w.put_hex(area);
+    w.put(b'\n');
+    w.at
 }
 
-// Whether a text is these rows.
-fn is_rows(text: &[u8], picture: &[u8], area: &[u8]) -> bool {
-    let mut rows = [0u8; ROWS];
-    let p = put_rows(&mut rows, picture, area);
-    are_first(text, &rows, p)
-}
-
-fn laid(text: &[u8], picture: &[u8], i: usize, area: &[u8], a: usize) -> bool {
-    if i <= picture.len() {
-        if a <= area.len() {
-            return is_rows(text, &picture[0..i], &area[0..a]);
+fn is_picture(lent: &mut Lent, laid: Laid, wanted: &[u8]) -> bool {
+    match (lent.image.get(..laid.image), lent.area.get(..laid.area)) {
+        (Some(image), Some(area)) => {
+            let end = put_rows(&mut lent.rows, image, area);
+            begins_with(&lent.rows, end, wanted)
         }
+        _ => false,
     }
-    false
 }
 
-// What becomes of a case with an image, or with a refusal o, whose listing is as it should be.
-fn image_outcome(
-    sheet: &[u8],
-    wanted: &[u8],
-    text: &[u8],
-    o: usize,
-    listing: &mut [u8],
-    picture: &mut [u8],
-    area: &mut [u8],
-    work: &mut [u8],
-) -> usize {
-    match image::image(sheet, listing, picture, area, work) {
-        Ok(l) => {
-            if laid(text, picture, l.image, area, l.area) {
-                if listed(listing, l.listing, wanted) == LISTED {
-                    return IMAGED;
-                }
-            }
-            DIFFERS
+fn compiled(case: &Case, lent: &mut Lent) -> Outcome {
+    match compile::compile(&case.sheet, &mut lent.listing, &mut lent.work) {
+        Ok(n) if begins_with(&lent.listing, n, &case.answer) => Outcome::Listed,
+        Ok(_) => Outcome::Differs,
+        Err(r) => refused(r, &case.answer),
+    }
+}
+
+// What becomes of a case with an image, or with a refusal, of which `compile` gave what it should.
+fn imaged(case: &Case, lent: &mut Lent, is_listed: bool) -> Outcome {
+    let answer = image::image(
+        &case.sheet,
+        &mut lent.listing,
+        &mut lent.image,
+        &mut lent.area,
+        &mut lent.work,
+    );
+    match answer {
+        Ok(laid)
+            if begins_with(&lent.listing, laid.listing, &case.answer)
+                && is_picture(lent, laid, &case.picture) =>
+        {
+            Outcome::Imaged
         }
-        Err(r) => {
-            if o == LISTED {
-                if refused(r, text) == DIFFERS {
-                    return DIFFERS;
-                }
-                return IMAGED;
-            }
-            refused(r, wanted)
-        }
+        Ok(_) => Outcome::Differs,
+        Err(r) if is_listed => match refused(r, &case.picture) {
+            Outcome::Refused(_) => Outcome::Imaged,
+            other => other,
+        },
+        Err(r) => refused(r, &case.answer),
     }
 }
 
-fn case_outcome(
-    sheet: &[u8],
-    wanted: &[u8],
-    text: &[u8],
-    listing: &mut [u8],
-    picture: &mut [u8],
-    area: &mut [u8],
-    work: &mut [u8],
-) -> usize {
-    let o = outcome(sheet, wanted, listing, work);
-    if o == DIFFERS {
-        return DIFFERS;
-    }
-    if o == LISTED && text.len() == 0 {
-        return LISTED;
-    }
-    image_outcome(sheet, wanted, text, o, listing, picture, area, work)
-}
-
-// The bytes of a case's sheet, answer and image. No answer is empty: 0 there says that the list has ended.
-#[derive(Clone, Copy)]
-struct Header {
-    sheet: usize,
-    answer: usize,
-    image: usize,
-}
-
-// The next byte, or LF where there is none.
-fn next_byte(input: &mut impl Read) -> io::Result<u8> {
-    let mut b = [b'\n'; 1];
-    input.read(&mut b)?;
-    Ok(b[0])
-}
-
-// A number with one byte more of its text: only digits count.
-fn more(n: usize, c: u8) -> usize {
-    if c < b'0' || c > b'9' {
-        return n;
-    }
-    if n > LARGE {
-        return n;
-    }
-    10 * n + (c - b'0') as usize
-}
-
-// The last three fields of a header up to here, with one byte more.
-fn step(h: Header, c: u8) -> Header {
-    if c == b',' {
-        return Header {
-            sheet: h.answer,
-            answer: h.image,
-            image: 0,
-        };
-    }
-    Header {
-        sheet: h.sheet,
-        answer: h.answer,
-        image: more(h.image, c),
+fn outcome(case: &Case, lent: &mut Lent) -> Outcome {
+    match compiled(case, lent) {
+        Outcome::Listed if !case.picture.is_empty() => imaged(case, lent, true),
+        Outcome::Refused(_) => imaged(case, lent, false),
+        other => other,
     }
 }
 
-// Reads a header, with its LF.
-fn read_header(input: &mut impl Read) -> io::Result<Header> {
-    let mut h = Header {
-        sheet: 0,
-        answer: 0,
-        image: 0,
-    };
-    let mut left = HEADER;
-    while left > 0 {
-        let c = next_byte(input)?;
-        if c == b'\n' {
-            return Ok(h);
-        }
-        h = step(h, c);
-        left -= 1;
-    }
-    Ok(h)
+// The next bytes of the list, as many as a field of a header says.
+fn read_part(alloc: Global, input: &mut impl Read, size: Option<&str>) -> io::Result<Vec<u8>> {
+    let n = size.and_then(|field| field.parse::<u64>().ok()).unwrap_or(0);
+    let mut part = Vec::new(alloc);
+    input.take(n).read_to_end(&mut part)?;
+    Ok(part)
 }
 
-// Fills a buffer as far as the input goes, and says how many bytes that are.
-fn read_full(input: &mut impl Read, buf: &mut [u8]) -> io::Result<usize>
-    ensures { IfOk result (λ n. n ≤ length buf.new) }
-{
-    let mut done: usize = 0;
-    while done < buf.len() {
-        let n = input.read(&mut buf[done..])?;
-        if n == 0 {
-            return Ok(done);
-        }
-        done += n;
+// The next case: three sizes are the last fields of its header. None at the end of the list.
+fn read_case(alloc: Global, input: &mut impl BufRead) -> io::Result<Option<Case>> {
+    let mut header = String::new(alloc);
+    if input.read_line(&mut header)? == 0 {
+        return Ok(None);
     }
-    Ok(done)
+    let mut sizes = header.trim_end().split(',').skip(3);
+    Ok(Some(Case {
+        sheet: read_part(alloc, input, sizes.next())?,
+        answer: read_part(alloc, input, sizes.next())?,
+        picture: read_part(alloc, input, sizes.next())?,
+    }))
 }
 
-// Passes over the next n bytes.
-fn skip(input: &mut impl Read, n: usize) -> io::Result<()> {
-    let mut space = [0u8; 4096];
-    let mut left = n;
-    while left > 4096 {
-        read_full(input, &mut space)?;
-        left -= 4096;
-    }
-    read_full(input, &mut space[0..left])?;
-    Ok(())
-}
-
-// Reads the next n bytes, as many of them into the buffer as it holds, and says how many those are.
-fn read_part(input: &mut impl Read, buf: &mut [u8], n: usize) -> io::Result<usize>
-    ensures { IfOk result (λ n. n ≤ length buf.new) }
-{
-    if n <= buf.len() {
-        return read_full(input, &mut buf[0..n]);
-    }
-    let r = read_full(input, buf)?;
-    skip(input, n - buf.len())?;
-    Ok(r)
-}
-
-fn add(counts: &mut [u64; OUTCOMES], outcome: usize) {
-    if outcome < OUTCOMES {
-        counts[outcome] = std::num::wrapping_add_u64(counts[outcome], 1);
-    }
-}
-
-fn count(
-    out: &mut impl Write,
-    counts: &mut [u64; OUTCOMES],
-    outcome: usize,
-    number: u64,
-) -> io::Result<()> {
-    add(counts, outcome);
-    if outcome == IMAGED {
-        add(counts, LISTED);
-    }
-    if outcome == DIFFERS {
-        print_count(out, "differs", number)?;
-    }
-    Ok(())
-}
-
+// What becomes of each case; the number of each that differs is printed.
 fn run_cases(
-    input: &mut impl Read,
+    alloc: Global,
+    input: &mut impl BufRead,
     out: &mut impl Write,
-    sheet: &mut [u8],
-    wanted: &mut [u8],
-    text: &mut [u8],
-    listing: &mut [u8],
-    picture: &mut [u8],
-    area: &mut [u8],
-    work: &mut [u8],
-    counts: &mut [u64; OUTCOMES],
-) -> io::Result<usize> {
-    let mut k = 0;
-    while k < CASES {
-        let h = read_header(input)?;
-        if h.answer == 0 {
-            return Ok(k);
+) -> io::Result<Vec<Outcome>> {
+    let mut lent = lent(alloc)?;
+    let mut outcomes = Vec::new(alloc);
+    for number in 1..CASES {
+        let Some(case) = read_case(alloc, input)? else {
+            return Ok(outcomes);
+        };
+        let o = outcome(&case, &mut lent);
+        if o == Outcome::Differs {
+            writeln!(out, "differs,{number}")?;
         }
-        k += 1;
-        let n = read_part(input, sheet, h.sheet)?;
-        let m = read_part(input, wanted, h.answer)?;
-        let l = read_part(input, text, h.image)?;
-        let o = case_outcome(
-            &sheet[0..n],
-            &wanted[0..m],
-            &text[0..l],
-            listing,
-            picture,
-            area,
-            work,
-        );
-        count(out, counts, o, k as u64)?;
+        outcomes.push(o)?;
     }
-    Ok(k)
+    Ok(outcomes)
 }
 
-fn print_refusals(out: &mut impl Write, counts: &[u64; OUTCOMES]) -> io::Result<()> {
-    let mut k: usize = 1;
-    while k < DIFFERS {
-        write!(out, "refused,{k}")?;
-        print_count(out, "", counts[k])?;
-        k += 1;
-    }
-    Ok(())
+fn count(outcomes: &[Outcome], wanted: Outcome) -> usize {
+    outcomes.iter().filter(|o| **o == wanted).count()
 }
 
 fn main(rt: HostRuntime) -> io::Result<()> {
-    let mut input = BufReader::new(rt.alloc(), rt.stdin())?;
+    let alloc = rt.alloc();
+    let mut input = BufReader::new(alloc, rt.stdin())?;
     let mut out = rt.stdout();
-    let mut sheet = vec![in rt.alloc(); 0u8; BYTES]?;
-    let mut wanted = vec![in rt.alloc(); 0u8; BYTES]?;
-    let mut text = vec![in rt.alloc(); 0u8; ROWS]?;
-    let mut listing = vec![in rt.alloc(); 0u8; BYTES]?;
-    let mut picture = vec![in rt.alloc(); 0u8; BYTES]?;
-    let mut area = vec![in rt.alloc(); 0u8; BYTES]?;
-    let mut work = vec![in rt.alloc(); 0u8; BYTES]?;
-    let mut counts = [0u64; OUTCOMES];
-    let n = run_cases(
-        &mut input,
-        &mut out,
-        &mut sheet,
-        &mut wanted,
-        &mut text,
-        &mut listing,
-        &mut picture,
-        &mut area,
-        &mut work,
-        &mut counts,
-    )?;
-    print_count(&mut out, "cases", n as u64)?;
-    print_count(&mut out, "listed", counts[LISTED])?;
-    print_count(&mut out, "imaged", counts[IMAGED])?;
-    print_refusals(&mut out, &counts)?;
-    print_count(&mut out, "differ", counts[DIFFERS])
+    let outcomes = run_cases(alloc, &mut input, &mut out)?;
+    let imaged = count(&outcomes, Outcome::Imaged);
+    let listed = outcomes
+        .iter()
+        .filter(|o| matches!(o, Outcome::Listed | Outcome::Imaged))
+        .count();
+    writeln!(out, "cases,{}", outcomes.len())?;
+    writeln!(out, "listed,{}", listed)?;
+    writeln!(out, "imaged,{imaged}")?;
+    for k in 1..14u8 {
+        writeln!(out, "refused,{k},{}", count(&outcomes, Outcome::Refused(k)))?;
+    }
+    writeln!(out, "differ,{}", count(&outcomes, Outcome::Differs))
 }

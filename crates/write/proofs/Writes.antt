@@ -54,9 +54,6 @@ writes_next s k h a b = rw (add-one, take-suc s k 0 h) (writes_then a b)
 pub writes_hex_next : (s : Bytes) (k : ℕ) → k < length s → {u v w : Writer} → Writes u (hex_of (take k s)) v → Writes v (hex_of (get_or s k 0 ∷ [])) w → Writes u (hex_of (take (k + 1) s)) w
 writes_hex_next s k h a b = rw (add-one, take-suc {A = ℕ} s k 0 h, hex-append) (writes_then a b)
 
-pub writes_all : (s : Bytes) (k : ℕ) → length s ≤ k → {v w : Writer} → Writes v (take k s) w → Writes v s w
-writes_all s k h w = writes_as (take_all k s h) w
-
 -- ---- the digits of a byte, and a number's bytes
 
 pub hex-of-byte : (b : ℕ) → hex_digit (b / 16) ∷ (hex_digit (b % 16) ∷ []) ≡ hex_of (b ∷ [])

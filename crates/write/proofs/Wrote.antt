@@ -5,10 +5,9 @@ use mathlib.Core.Bool.{Bool, true, false}
 use mathlib.Core.List.{[], ◌∷◌, ◌++◌}
 use native.Mathlib.Omega.{arith}
 use native.Mathlib.Nat.{add-zero, zero-add}
-use native.Mathlib.Numerals.{add-one}
 use lib.Dec.{ltb}
-use lib.ListN.{length, take, drop, get_or, set, replicate, length-set, length-append, length-replicate, replicate-append-replicate}
-use lib.Seq.{set_out, sets-eq, length-sets, take-suc, take_all, take-suc-set}
+use lib.ListN.{length, drop, set, replicate, length-set, length-append, length-replicate}
+use lib.Seq.{set_out, sets-eq, length-sets}
 use borrow.Author.Tests.{ltb-true, ltb-false}
 use Rattle.semantics.specs.Text.{Bytes}
 use Rattle.write.specs.Wrote.{over, Wrote}
@@ -69,21 +68,7 @@ then {d} {a} {t} {e} {b} {u} {f} {c} v w = record {
         let h : length d < a + length t = ltb-true _ _ q in
         over-out e b u (omega (arith, v.place, wrote-length v)) ∙ v.bytes ∙ sym (over-out (over d a t) (a + length t) u (omega (arith, length_over d a t)))
 
--- one more byte of a list
-pub wrote-next : (s : Bytes) (k : ℕ) → k < length s → {d : Bytes} {a : ℕ} {e : Bytes} {b : ℕ} {f : Bytes} {c : ℕ}
-    → Wrote d a (take k s) e b → Wrote e b (get_or s k 0 ∷ []) f c → Wrote d a (take (k + 1) s) f c
-wrote-next s k h v w = rw (add-one, take-suc s k 0 h) (then v w)
-
 -- ---- zeros
-
--- a turn of `zero`
-pub zeroed-more : (b : Bytes) (i : ℕ) → i < length b → take i b ≡ replicate i 0 → take (i + 1) (set b i 0) ≡ replicate (i + 1) 0
-zeroed-more b i h e = rw (add-one, take-suc-set b i 0 h) (rw e (replicate-append-replicate {A = ℕ} i 1 0 ∙ rw add-one))
-
-pub zeroed-all : (b : Bytes) (i n : ℕ) → take i b ≡ replicate i 0 → length b ≤ i → i ≤ length b → length b ≡ n → b ≡ replicate n 0
-zeroed-all b i n e h k l =
-    let q : i ≡ n = omega arith in
-    sym (take_all i b h) ∙ e ∙ ap (λ (j : ℕ). replicate j 0) q
 
 drop-zeros : (n k : ℕ) → drop {A = ℕ} n (replicate k 0) ≡ replicate (k - n) 0
 drop-zeros zero k = let q : k - 0 ≡ k = omega arith in rw q

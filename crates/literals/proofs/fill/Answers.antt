@@ -1,26 +1,15 @@
-use Rattle.std.proofs.Common.{rules}
-use Rattle.literals.proofs.Turns.{begun, few-elements, turning-start, turning-line, turning-end, turn-line, turning-stop, turning-next}
+use Rattle.literals.proofs.Turns.{begun, turning-line, turning-end, turn-line, turning-stop, turning-next}
 use Rattle.literals.proofs.Lines.{line-in}
-use native.Mathlib.Omega.{arith}
 use mathlib.Core.Path.{refl}
 use Rattle.std.specs.Prelude.{None, Ok, Err}
 use Rattle.std.proofs.lemmas.Result.{err_from_is_err_and}
 use Rattle.literals.proofs.fill.Goals as goal
 
-pub empty-requires : goal.empty-requires
-empty-requires c = (search rules)
+pub number_at-count-requires : goal.number_at-count-requires
+number_at-count-requires c = let l = begun c.requires.0 c.requires.1 c.empty.ensures in line-in l
 
-pub overflow_sub-r : goal.overflow_sub-r
-overflow_sub-r c = c.requires.0.line.first
-
-pub loop-j-init : goal.loop-j-init
-loop-j-init c = turning-start c.requires.0 c.requires.1 c.empty.ensures c.number_at-count.ensures.0
-
-pub overflow_sub-r-in-loop-j : goal.overflow_sub-r-in-loop-j
-overflow_sub-r-in-loop-j c = c.requires.0.line.first
-
-pub overflow_add-j : goal.overflow_add-j
-overflow_add-j c = record { fits = omega (arith, few-elements c.requires.0 c.number_at-count.ensures.0, c.loop-j-test.true) }
+pub number_at-q-requires : goal.number_at-q-requires
+number_at-q-requires c = let l = turning-line c.requires.0 c.requires.1 c.empty.ensures c.number_at-count.ensures.0 c.loop-j.invariant in line-in l
 
 pub fill_element-requires : goal.fill_element-requires
 fill_element-requires c = turn-line c.requires.0 c.requires.1 c.empty.ensures c.number_at-count.ensures.0 c.loop-j.invariant c.loop-j-test.true c.number_at-q.ensures.0

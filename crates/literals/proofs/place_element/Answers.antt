@@ -1,14 +1,10 @@
 -- `literals::place_element` meets its contract.
-use native.Mathlib.Omega.{arith}
 use Rattle.std.proofs.Common.{rules}
-use Rattle.literals.proofs.Elements.{element-small, element-next, element-star, element-at, element-spans}
+use Rattle.literals.proofs.Elements.{element-next, element-star, element-at, element-spans}
 use Rattle.literals.proofs.place_element.Goals as goal
 
 pub returns-in-20 : goal.returns-in-20
 returns-in-20 c = element-next c.requires c.args.x c.form_at.ensures.0 c.in-20.is c.place_next.ensures
-
-pub put_value-requires : goal.put_value-requires
-put_value-requires c = (omega arith, element-small c.requires c.args.x)
 
 pub returns-in-21 : goal.returns-in-21
 returns-in-21 c = element-star c.requires c.args.x c.form_at.ensures.0 c.in-21.is c.put_value.ensures

@@ -1,20 +1,13 @@
-use Rattle.literals.proofs.Spans.{few-selectors, selecting_start, selecting-line, selecting-end, selector-task, selecting-stop, selecting-next}
+use Rattle.literals.proofs.Spans.{selecting_start, selecting-line, selecting-end, selector-task, selecting-stop, selecting-next}
 use Rattle.literals.proofs.Lines.{line-in}
 use Rattle.std.proofs.lemmas.Result.{err_from_is_err_and}
-use native.Mathlib.Omega.{arith}
 use Rattle.literals.proofs.place_selectors.Goals as goal
-
-pub overflow_sub-r : goal.overflow_sub-r
-overflow_sub-r c = c.requires.task.line.first
 
 pub loop-j-init : goal.loop-j-init
 loop-j-init c = selecting_start c.requires c.args.x c.number_at-count.ensures.0
 
-pub overflow_sub-r-in-loop-j : goal.overflow_sub-r-in-loop-j
-overflow_sub-r-in-loop-j c = c.requires.task.line.first
-
-pub overflow_add-j : goal.overflow_add-j
-overflow_add-j c = record { fits = omega (arith, few-selectors c.requires c.args.x c.number_at-count.ensures.0, c.loop-j-test.true) }
+pub number_at-q-requires : goal.number_at-q-requires
+number_at-q-requires c = let l = selecting-line c.requires c.args.x c.number_at-count.ensures.0 c.loop-j.invariant in line-in l
 
 pub place_selector-requires : goal.place_selector-requires
 place_selector-requires c = selector-task c.requires c.args.x c.number_at-count.ensures.0 c.loop-j.invariant c.loop-j-test.true c.number_at-q.ensures.0

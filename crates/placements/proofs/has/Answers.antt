@@ -1,11 +1,7 @@
 -- `placements::has` meets its contract.
 use Rattle.std.proofs.Common.{sym, ◌∙◌}
-use Rattle.codes.specs.Kinds.{value_number}
-use Rattle.placements.proofs.Values.{none-of-kind-start, kind-found, none-of-kind-next, none-of-kind-end, equal-kinds, other-kinds}
+use Rattle.placements.proofs.Values.{kind-found, none-of-kind-next, none-of-kind-end, equal-kinds, other-kinds}
 use Rattle.placements.proofs.has.Goals as goal
-
-pub loop-i-init : goal.loop-i-init
-loop-i-init c = none-of-kind-start c.args.work.now c.args.count (value_number c.args.wanted)
 
 pub returns-then-eq : goal.returns-then-eq
 returns-then-eq c = kind-found c.loop-i.invariant c.loop-i-test.true c.element.result c.element.ensures c.kind_of.ensures (equal-kinds c.kind_of.result c.args.wanted (sym c.eq.ensures ∙ c.if-eq.true))

@@ -1,11 +1,18 @@
-use Prim.Native.Nat.{◌+◌}
 use native.Mathlib.Omega.{arith}
+use mathlib.Core.Path.{◌≡◌}
+use Rattle.semantics.specs.Tree.{ElemKind}
 use Rattle.checks.proofs.Kept.{outside-then, outside_set}
-use Rattle.type_keys.proofs.Table.{cleared-next, cleared-all}
+use Rattle.type_keys.specs.Table.{kind_position}
+use Rattle.type_keys.proofs.Table.{cleared-next, each-kind}
 use Rattle.type_keys.proofs.clear_kinds.Goals as goal
 
-pub loop-k-preserved : goal.loop-k-preserved
-loop-k-preserved c = (omega (arith, c.loop-k-test.true), outside-then c.loop-k.invariant.1 (outside_set 10624 10629 c.loop-k.work (10624 + c.loop-k.k) 0 (omega arith) (omega (arith, c.loop-k-test.true))), cleared-next c.loop-k.work c.loop-k.k c.loop-k-test.true (omega (arith, c.requires, c.loop-k.invariant.1.kept.long)) c.loop-k.invariant.2)
+pub loop-kind-preserved : goal.loop-kind-preserved
+loop-kind-preserved c =
+    let l = c.loop-kind in
+    let p = c.kind_place.ensures in (
+      outside-then l.invariant.0 (outside_set 10624 10629 l.work c.kind_place.result 0 (omega (arith, p.0)) (omega (arith, p.1))),
+      rw p.0 (cleared-next l.work l.kind-index (omega arith) l.invariant.1),
+    )
 
 pub returns : goal.returns
-returns c = (c.loop-k.invariant.1, cleared-all c.loop-k.work (λ k h. c.loop-k.invariant.2 k (omega (arith, c.loop-k-test.false))))
+returns c = (c.loop-kind.invariant.0, each-kind (λ (k : ElemKind). kind_position c.loop-kind.work k ≡ 0) c.loop-kind.kind-index c.loop-kind-test.false c.loop-kind.invariant.1)

@@ -1,6 +1,0 @@
--- `rows::put_comma_bits` meets its contract.
-use Rattle.write.proofs.Wrote.{then}
-use Rattle.rows.proofs.put_comma_bits.Goals as goal
-
-pub returns : goal.returns
-returns c = then c.put-p.ensures c.put_hex_bits.ensures
