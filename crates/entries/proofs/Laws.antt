@@ -95,17 +95,17 @@ entry_length : (line within kind bits d : ℕ) → length (entry_of line within 
 unfolding entry_of
 entry_length line within kind bits d = omega (arith, length-append (big_endian 8 bits) (d ∷ []), big-length 8 bits)
 
-module _ (t u : Bytes) (m line within kind bits d : ℕ) (f : EntryRoom t m line within) (str : Bytes) (short : length str ≤ 256)
+module _ (t u : Bytes) (m line within kind bits d : ℕ) (f : EntryRoom m line within) (long : 62464 ≤ length t) (str : Bytes) (short : length str ≤ 256)
     (is : u ≡ over (over t (16384 + 256 * m) str) (5120 + 16 * m) (entry_of line within kind bits d))
     (low : kind ≤ 3) (word : bits < 18446744073709551616) (text : kind ≡ 3 → (bits % 65536 ≡ 16384 + 256 * m) × (bits / 65536 ≤ 256)) where
   string-room : 16384 + 256 * m + length str ≤ length t
-  string-room = omega (arith, f.few, f.long)
+  string-room = omega (arith, f.few, long)
 
   string-kept : Kept (16384 + 256 * m) t (over t (16384 + 256 * m) str)
   string-kept = over-kept t (16384 + 256 * m) str
 
   entry-room : 5120 + 16 * m + length (entry_of line within kind bits d) ≤ length (over t (16384 + 256 * m) str)
-  entry-room = omega (arith, f.few, f.long, entry_length line within kind bits d, string-kept.long)
+  entry-room = omega (arith, f.few, long, entry_length line within kind bits d, string-kept.long)
 
   entry-only : Kept (5120 + 16 * m) (over t (16384 + 256 * m) str) u
   entry-only = rw is (over-kept (over t (16384 + 256 * m) str) (5120 + 16 * m) (entry_of line within kind bits d))
@@ -155,7 +155,7 @@ module _ (t u : Bytes) (m line within kind bits d : ℕ) (f : EntryRoom t m line
   unfolding entry_of digest_place
   digest-here = byte-here (5133 + 16 * m) 13 (omega arith) (omega arith) ∙ get_or_at (big_endian 8 bits) d [] 0 8 (big-length 8 bits)
 
-  entry_new : line ≤ lines_in s → within ≤ lines_in s → EntryBounds u (lines_in s) m
+  entry_new : {n : ℕ} → line ≤ n → within ≤ n → EntryBounds u n m
   entry_new p q = record {
     first = rw line-here f.first;
     last = rw line-here p;
@@ -179,15 +179,15 @@ module _ (t u : Bytes) (m line within kind bits d : ℕ) (f : EntryRoom t m line
       let e = (l.each i h).text k in
       rw (behind (bits_of t i % 65536) (omega (arith, f.few))) (part-kept string-kept (bits_of t i % 65536) (bits_of t i / 65536) (omega (arith, e.short)))
 
-  each-new : line ≤ lines_in s → within ≤ lines_in s → ((i : ℕ) → i < m → EntryBounds t (lines_in s) i) → (i : ℕ) → i < m + 1 → EntryBounds u (lines_in s) i
-  each-new p q each i h = ⊎_elim (λ (x : i ≡ m). subst (EntryBounds u (lines_in s)) (sym x) (entry_new p q)) (λ (x : i < m). each_same (entries_below table_kept) each i x) (eq-or-lt_of_le (omega arith))
+  each-new : {n : ℕ} → line ≤ n → within ≤ n → ((i : ℕ) → i < m → EntryBounds t n i) → (i : ℕ) → i < m + 1 → EntryBounds u n i
+  each-new {n} p q each i h = ⊎_elim (λ (x : i ≡ m). subst (EntryBounds u n) (sym x) (entry_new p q)) (λ (x : i < m). each_same (entries_below table_kept) each i x) (eq-or-lt_of_le (omega arith))
 
   digests-new : (s : Bytes) → d ≡ const_digest s within (first_field s line) → ConstsLogged s t m → (i : ℕ) → i < m + 1 → digest_at u const_chains i ≡ const_digest s (module_line_of u i) (first_field s (const_line_of u i))
   digests-new s e l i h = ⊎_elim (λ (x : i ≡ m). rw (x, digest-here, within-here, line-here) e) (λ (x : i < m). digests-same (entries_below table_kept) s l.digests i x) (eq-or-lt_of_le (omega arith))
 
-  log-new : (v : Option Tree.ConstVal) → value_by u kind bits ≡ v → (s : Bytes) (n : ℕ) → ConstsLogged s t m → log_in s u (m + 1) ≡ entries (sheet_source s).implement (module_at s within) (first_field s line) v ++ log_in s t m
+  log-new : (v : Option Tree.ConstVal) → value_by u kind bits ≡ v → (s : Bytes) → ConstsLogged s t m → log_in s u (m + 1) ≡ entries (sheet_source s).implement (module_at s within) (first_field s line) v ++ log_in s t m
   unfolding log_in entries_at
-  log-new v e s n l = rw (add-one, line-here, within-here, slot_is u m, kind-here, bits-here, e, log-same (entries_below table_kept) s (texts-same s l))
+  log-new v e s l = rw (add-one, line-here, within-here, slot_is u m, kind-here, bits-here, e, log-same (entries_below table_kept) s (texts-same s l))
 
   -- the chains of the earlier ones are as they were
   head-kept : (p k : ℕ) → p ≡ 5135 + 16 * k → k < 128 → get_or u p 0 ≡ get_or t p 0
@@ -207,51 +207,50 @@ module _ (t u : Bytes) (m line within kind bits d : ℕ) (f : EntryRoom t m line
       } in
       chained-kept same (omega arith)
 
-  entered : (v : Option Tree.ConstVal) → value_by u kind bits ≡ v → (w : Bytes) → w ≡ linked u const_chains m → (s : Bytes) (n : ℕ) → line ≤ n → within ≤ n → d ≡ const_digest s within (first_field s line) → ConstsLogged s t m → Entered s t m line within v w
-  entered v e w j s n p q hd l =
+  entered : (v : Option Tree.ConstVal) → value_by u kind bits ≡ v → (w : Bytes) → w ≡ linked u const_chains m → (s : Bytes) → line ≤ lines_in s → within ≤ lines_in s → d ≡ const_digest s within (first_field s line) → ConstsLogged s t m → Entered s t m line within v w
+  entered v e w j s p q hd l =
       let bounds = each-new p q l.each in
       let same = linked-entries u m f.few in
       let outside = const-outside u m f.few in
-      let long : 62464 ≤ length u = omega (arith, f.long, table_kept.long) in
       rw j
       (record {
-        log = log-same same s (λ i h x. ap (take (bits_of u i / 65536)) (outside-less 5120 (bits_of u i % 65536) (omega arith) (omega (arith, ((bounds i h).text x).low)) outside).above) ∙ log-new v e s n l;
+        log = log-same same s (λ i h x. ap (take (bits_of u i / 65536)) (outside-less 5120 (bits_of u i % 65536) (omega arith) (omega (arith, ((bounds i h).text x).low)) outside).above) ∙ log-new v e s l;
         logged = record {
           few = omega (arith, f.few);
           each = each_same same bounds;
           digests = digests-same same s (digests-new s hd l);
-          chained = rw add-one (chained-next (const-room long) const-apart (omega arith) (omega arith) f.few (chained-still l.chained));
+          chained = rw add-one (chained-next (const-room (omega (arith, long, table_kept.long))) const-apart (omega arith) (omega arith) f.few (chained-still l.chained));
         };
         kept = kept_then (kept_less (omega arith) table_kept) outside.kept;
       })
 
-module _ (t w : Bytes) (m line within d : ℕ) (f : EntryRoom t m line within) where
-  pub entered-failed : w ≡ linked (over t (5120 + 16 * m) (entry_of line within 0 0 d)) const_chains m → (s : Bytes) (n : ℕ) → line ≤ n → within ≤ n → d ≡ const_digest s within (first_field s line) → ConstsLogged s t m → Entered s t m line within None w
+module _ (t w : Bytes) (m line within d : ℕ) (f : EntryRoom m line within) (long : 62464 ≤ length t) where
+  pub entered-failed : w ≡ linked (over t (5120 + 16 * m) (entry_of line within 0 0 d)) const_chains m → (s : Bytes) → line ≤ lines_in s → within ≤ lines_in s → d ≡ const_digest s within (first_field s line) → ConstsLogged s t m → Entered s t m line within None w
   entered-failed e =
       let u = over t (5120 + 16 * m) (entry_of line within 0 0 d) in
-      entered t u m line within 0 0 d f [] (omega arith) (ap (λ (x : Bytes). over x (5120 + 16 * m) (entry_of line within 0 0 d)) (over_none t (16384 + 256 * m))) (omega arith) (omega arith) (λ k. absurd (omega arith))
+      entered t u m line within 0 0 d f long [] (omega arith) (ap (λ (x : Bytes). over x (5120 + 16 * m) (entry_of line within 0 0 d)) (over_none t (16384 + 256 * m))) (omega arith) (omega arith) (λ k. absurd (omega arith))
       None (value-failed u 0 0 (λ k. omega arith) (λ k. omega arith) (λ k. omega arith)) w e
 
   -- a value, by its variant
   pub entered-value : (v : ConstVal) → At 49152 v
       → (w ≡ linked (over (over t (16384 + 256 * m) (string_of t v)) (5120 + 16 * m) (entry_of line within (kind_for v) (bits_for (moved_to (16384 + 256 * m) v)) d)) const_chains m) × InRange v
-      → (s : Bytes) (n : ℕ) → line ≤ n → within ≤ n → d ≡ const_digest s within (first_field s line) → ConstsLogged s t m → Entered s t m line within (Some (value_in t v)) w
+      → (s : Bytes) → line ≤ lines_in s → within ≤ lines_in s → d ≡ const_digest s within (first_field s line) → ConstsLogged s t m → Entered s t m line within (Some (value_in t v)) w
   unfolding value_in wrap
   entered-value (Int z) a (e, r) =
       let u = over (over t (16384 + 256 * m) []) (5120 + 16 * m) (entry_of line within 1 (bits64 z) d) in
-      entered t u m line within 1 (bits64 z) d f [] (omega arith) refl (omega arith) (word (Int z) tt r) (λ k. absurd (omega arith))
+      entered t u m line within 1 (bits64 z) d f long [] (omega arith) refl (omega arith) (word (Int z) tt r) (λ k. absurd (omega arith))
       (Some (v_int z)) (value-int u 1 (bits64 z) refl ∙ ap (λ (x : ℤ). Some (v_int x)) r) w e
   entered-value (Real x) a (e, r) =
       let u = over (over t (16384 + 256 * m) []) (5120 + 16 * m) (entry_of line within 2 (to_bits binary64 x) d) in
-      entered t u m line within 2 (to_bits binary64 x) d f [] (omega arith) refl (omega arith) (word (Real x) tt r) (λ k. absurd (omega arith))
+      entered t u m line within 2 (to_bits binary64 x) d f long [] (omega arith) refl (omega arith) (word (Real x) tt r) (λ k. absurd (omega arith))
       (Some (v_real x)) (value-real u 2 (to_bits binary64 x) refl ∙ ap (λ (y : Float). Some (v_real y)) (real-back x r)) w e
   entered-value (Str p l) a (e, r) =
       let b : ℕ = 16384 + 256 * m + 65536 * l in
       let u = over (over t (16384 + 256 * m) (string_in t p l)) (5120 + 16 * m) (entry_of line within 3 b d) in
-      let g : length (string_in t p l) ≡ l = string-length t p l (omega (arith, f.long)) in
+      let g : length (string_in t p l) ≡ l = string-length t p l (omega (arith, long)) in
       let c : (bits : ℕ) → bits ≡ 16384 + 256 * m + 65536 * l → (bits % 65536 ≡ 16384 + 256 * m) × (bits / 65536 ≡ l) = λ bits q. (omega (arith, f.few), omega (arith, f.few)) in
       let x : (k : ◌≡◌ {A = ℕ} 3 3) → (b % 65536 ≡ 16384 + 256 * m) × (b / 65536 ≤ 256) = λ k. ((c b refl).0, omega (arith, (c b refl).1)) in
       let y : length (string_in t p l) ≤ 256 = omega arith in
       let h : b < 18446744073709551616 = omega (arith, f.few) in
-      entered t u m line within 3 b d f (string_in t p l) y refl (omega arith) h x
-      (Some (v_str (string_in t p l))) (text-here t u m line within 3 b d f (string_in t p l) y refl (omega arith) h x refl ((c b refl).1 ∙ sym g)) w e
+      entered t u m line within 3 b d f long (string_in t p l) y refl (omega arith) h x
+      (Some (v_str (string_in t p l))) (text-here t u m line within 3 b d f long (string_in t p l) y refl (omega arith) h x refl ((c b refl).1 ∙ sym g)) w e

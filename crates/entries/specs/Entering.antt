@@ -1,5 +1,5 @@
 -- How a constant is entered into the table of constants.
-use Rattle.std.specs.Prelude.{ℕ, ◌/◌, ◌%◌, ◌≤◌, ◌<◌, [], ◌∷◌, ◌++◌, length}
+use Rattle.std.specs.Prelude.{ℕ, ◌/◌, ◌%◌, ◌≤◌, ◌<◌, [], ◌∷◌, ◌++◌}
 use Rattle.semantics.specs.Text.{Bytes, big_endian}
 use Rattle.values.specs.declared.ConstVal.{ConstVal}
 use Rattle.values.specs.declared.ConstVal.TheVariants.{Int, Real, Str}
@@ -20,10 +20,9 @@ string_of t (Int z) = []
 string_of t (Real x) = []
 string_of t (Str p l) = string_in t p l
 
--- one more entry is asked for: the working space is long enough, and the lines are lines of a sheet
-pub record EntryRoom (t : Bytes) (m line within : ℕ) : Type 0 where
+-- one more entry is asked for, and the lines are lines of a sheet
+pub record EntryRoom (m line within : ℕ) : Type 0 where
   pub few : m < 128
   pub first : 0 < line
   pub last : line ≤ 1024
   pub owner : within ≤ 1024
-  pub long : 62464 ≤ length t

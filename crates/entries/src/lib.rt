@@ -8,14 +8,15 @@ ghost use Rattle.names.specs.Table.{const_chains};
 ghost use Rattle.values.specs.Values.{kind_for, bits_for, InRange, At};
 ghost use Rattle.entries.specs.Entering.{entry_of, moved_to, string_of, EntryRoom};
 
-use codes::{area::{self, Space}, value};
+use codes::area::{self, Space};
+use codes::value;
 use names::CHAINS;
 use values::{ConstVal, LONGEST_STRING};
 use write::Writer;
 
 // The bytes of entry m: a `con` line, its module's line, a slot, and a digest.
 fn put_bytes(work: &mut Space, m: usize, line: usize, within: usize, kind: u8, bits: u64, d: usize)
-    requires { (EntryRoom work.old m line within) × (d < 256) }
+    requires { (EntryRoom m line within) × (d < 256) }
     ensures { work.new ≡ over work.old (5120 + 16 * m) (entry_of line within kind bits d) }
 {
     let mut w = Writer::from(work, area::CONSTANTS + area::CONSTANT * m);
@@ -30,7 +31,7 @@ fn put_bytes(work: &mut Space, m: usize, line: usize, within: usize, kind: u8, b
 
 // Entry m, chained by the digest.
 fn put_entry(work: &mut Space, m: usize, line: usize, within: usize, kind: u8, bits: u64, d: usize)
-    requires { (EntryRoom work.old m line within) × (d < 256) }
+    requires { (EntryRoom m line within) × (d < 256) }
     ensures { work.new ≡ linked (over work.old (5120 + 16 * m) (entry_of line within kind bits d)) const_chains m }
 {
     put_bytes(work, m, line, within, kind, bits, d);
@@ -55,7 +56,7 @@ fn keep_string(work: &mut Space, v: ConstVal, m: usize) -> ConstVal
 
 // A constant that has a value; d is its digest.
 pub fn enter(work: &mut Space, m: usize, line: usize, within: usize, v: ConstVal, d: usize)
-    requires { (EntryRoom work.old m line within) × (At 49152 v) × (d < 256) }
+    requires { (EntryRoom m line within) × (At 49152 v) × (d < 256) }
     ensures { (work.new ≡ linked (over (over work.old (16384 + 256 * m) (string_of work.old v)) (5120 + 16 * m) (entry_of line within (kind_for v) (bits_for (moved_to (16384 + 256 * m) v)) d)) const_chains m) × (InRange v) }
 {
     let kept = keep_string(work, v, m);
@@ -66,7 +67,7 @@ pub fn enter(work: &mut Space, m: usize, line: usize, within: usize, v: ConstVal
 
 // One that failed.
 pub fn enter_failed(work: &mut Space, m: usize, line: usize, within: usize, d: usize)
-    requires { (EntryRoom work.old m line within) × (d < 256) }
+    requires { (EntryRoom m line within) × (d < 256) }
     ensures { work.new ≡ linked (over work.old (5120 + 16 * m) (entry_of line within 0 0 d)) const_chains m }
 {
     put_entry(work, m, line, within, 0, 0, d);

@@ -10,8 +10,8 @@ ghost use Rattle.marks.specs.Fields.{LineMarked, AllMarked};
 use codes::area::Space;
 use field_list::Field;
 use layout::align::align_up;
-use sizes::place::Refs;
 use lines::Sheet;
+use sizes::place::Refs;
 
 // Marks the pointers of a lent list of fields.
 pub fn mark_list(size: u32, fields: &[Field], work: &mut Space)

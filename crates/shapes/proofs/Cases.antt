@@ -98,11 +98,11 @@ else-pick s r l z = record { checked = l.checked; first = l.first; last = l.last
 
 -- ---- a `pick` line
 
-module _ (s t : List ℕ) (r : ℕ) (l : PickLine s r) where
+module _ (s : List ℕ) (r : ℕ) (l : PickLine s r) where
   pick-in : r - 1 < lines_in s
   pick-in = omega (arith, l.first, l.last)
 
-  pub pick-record : RecordLine s t (lines_in s) r
+  pub pick-record : RecordLine s r
   pick-record = record { checked = l.checked; first = l.first; last = l.last; kind = rw l.kind }
 
   form-pick : form_at s (r - 1) ≡ 27
@@ -174,14 +174,14 @@ module _ (s t : List ℕ) (r : ℕ) (l : PickLine s r) where
         let e = (rw common-exact at hk) ∙ number-exact (get_or parts (common + 2) []) q.0 (omega (arith, q.1)) ∙ sym cases-length in
         (e, omega (arith, e, cases-few))
 
-    pub case-line : (v : ℕ) → lines_in s < length (cases_at s r) → v ≡ Number.number_up_to 65536 (get_or parts (fields + 3 + lines_in s) []) → CaseOf s r (lines_in s) v
-    case-line v h hv =
-        let m : lines_in s < number_of (get_or parts (common + 2) []) = omega (arith, cases-length) in
-        let g = cases-good.1 (lines_in s) m in
-        let k = needed-ref (reads_in s) (r - 1 + 1) 67 (number_of (get_or parts (common + 3 + lines_in s) [])) g.fine in
-        let e : v ≡ number_of (get_or parts (common + 3 + lines_in s) []) = (rw common-exact at hv) ∙ number-exact (get_or parts (common + 3 + lines_in s) []) g.number (omega (arith, k.1, l.last, l.checked.whole.few)) in
+    pub case-line : (c v : ℕ) → c < length (cases_at s r) → v ≡ Number.number_up_to 65536 (get_or parts (fields + 3 + c) []) → CaseOf s r c v
+    case-line c v h hv =
+        let m : c < number_of (get_or parts (common + 2) []) = omega (arith, cases-length) in
+        let g = cases-good.1 c m in
+        let k = needed-ref (reads_in s) (r - 1 + 1) 67 (number_of (get_or parts (common + 3 + c) [])) g.fine in
+        let e : v ≡ number_of (get_or parts (common + 3 + c) []) = (rw common-exact at hv) ∙ number-exact (get_or parts (common + 3 + c) []) g.number (omega (arith, k.1, l.last, l.checked.whole.few)) in
         record {
           number = e ∙ rw fields-length;
           line = record { checked = l.checked; first = omega (arith, e, k.0); last = omega (arith, e, k.1, l.last, l.first); kind = rw e k.2 };
-          case = sym (rw cases-are (value-at (λ (x : Node). x.case) k_pc (nodes_in s) _ (drop (common + 3) parts) (lines_in s) no_case m ∙ rw (get_or-drop (common + 3) parts (lines_in s) [], e)));
+          case = sym (rw cases-are (value-at (λ (x : Node). x.case) k_pc (nodes_in s) _ (drop (common + 3) parts) c no_case m ∙ rw (get_or-drop (common + 3) parts c [], e)));
         }

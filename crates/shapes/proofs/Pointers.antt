@@ -10,7 +10,7 @@ use lib.Seq.{drop-cons}
 use Rattle.semantics.specs.Tree.{Fd, Case, Shape, no_case}
 use Rattle.semantics.specs.Sheet.{concat_map}
 use Rattle.semantics.specs.Layout.{marked, pointer_map, place, pointers_of, shape_of, pick_shape, behind_tag, variant_shape}
-use Rattle.lines.specs.Lines.{lines_in, form_at}
+use Rattle.lines.specs.Lines.{form_at}
 use Rattle.sizes.specs.Places.{decl_at, common_fields, case_fields, RecordLine}
 use Rattle.maps.specs.Maps.{Marks}
 use Rattle.shapes.specs.Shapes.{shape_at, cases_at, variant_at, PickLine, CaseOf}
@@ -78,9 +78,9 @@ module _ (s : List ℕ) (r size : ℕ) where
   pub cases-marked-start : {end : ℕ} {t : List ℕ} → CasesMarked s r size end 0 t t
   cases-marked-start = record { done = []; marks = marks-none; rest = refl }
 
-  pub cases-marked-next : {end v p : ℕ} {t u w : List ℕ} → CasesMarked s r size end (lines_in s) t u → lines_in s < length (cases_at s r) → CaseOf s r (lines_in s) v → AllMarked (case_fields s v) size end p u w
-      → CasesMarked s r size end (lines_in s + 1) t w
-  cases-marked-next {n} {end} {c} {v} {p} {t} {u} {w} m h k a =
+  pub cases-marked-next : {end c v p : ℕ} {t u w : List ℕ} → CasesMarked s r size end c t u → c < length (cases_at s r) → CaseOf s r c v → AllMarked (case_fields s v) size end p u w
+      → CasesMarked s r size end (c + 1) t w
+  cases-marked-next {end} {c} {v} {p} {t} {u} {w} m h k a =
       let own = pointers_of (place end (get_or (cases_at s r) c no_case).fields).placed in
       record {
         done = m.done ++ own;
@@ -88,22 +88,21 @@ module _ (s : List ℕ) (r size : ℕ) where
         rest = rw (add-one c, append_assoc m.done own (own_marks end (drop (suc c) (cases_at s r)))) (rw (drop-cons (cases_at s r) c no_case h) at m.rest);
       }
 
-module _ (s t : List ℕ) (r size : ℕ) where
-  pub cases-marked-end : {end c : ℕ} {u w : List ℕ} → PickLine s r → AllMarked (common_fields s r) size behind_tag end t u → CasesMarked s r size end c u w → length (cases_at s r) ≤ c
+  pub cases-marked-end : {end c : ℕ} {t u w : List ℕ} → PickLine s r → AllMarked (common_fields s r) size behind_tag end t u → CasesMarked s r size end c u w → length (cases_at s r) ≤ c
       → Marks size (shape_at s r).pointers t w
-  cases-marked-end {end} {c} {u} {w} l a m h =
+  cases-marked-end {end} {c} l a m h =
       let e : m.done ≡ own_marks end (cases_at s r) = sym (append-none m.done) ∙ (rw (drop_of_length-le (cases_at s r) h) at m.rest) in
-      marks-same (pick-map (decl_at s r).fields size (cases_at s r) ∙ sym (ap (λ (x : Shape). pointer_map size x.pointers) (pick-shape s t r l)))
+      marks-same (pick-map (decl_at s r).fields size (cases_at s r) ∙ sym (ap (λ (x : Shape). pointer_map size x.pointers) (pick-shape s r l)))
       (marks_then a.marks (rw (e, a.end) at m.marks))
 
   -- ---- an `adt` line, and one case
 
-  pub adt-marks : {q : ℕ} {u : List ℕ} → RecordLine s r → form_at s (r - 1) ≡ 26 → AllMarked (common_fields s r) size 0 q t u → Marks size (shape_at s r).pointers t u
+  pub adt-marks : {q : ℕ} {t u : List ℕ} → RecordLine s r → form_at s (r - 1) ≡ 26 → AllMarked (common_fields s r) size 0 q t u → Marks size (shape_at s r).pointers t u
   unfolding shape_of
   adt-marks l e a = rw (adt-shape s r l e) a.marks
 
-  pub variant-marks : {v q p : ℕ} {u w : List ℕ} → AllMarked (common_fields s r) size behind_tag q t u → CaseOf s r (lines_in s) v → AllMarked (case_fields s v) size q p u w
-      → Marks size (variant_at s r (lines_in s)).pointers t w
+  pub variant-marks : {c v q p : ℕ} {t u w : List ℕ} → AllMarked (common_fields s r) size behind_tag q t u → CaseOf s r c v → AllMarked (case_fields s v) size q p u w
+      → Marks size (variant_at s r c).pointers t w
   unfolding variant_at
   variant-marks {c} a k b =
       rw (variant-pointers (decl_at s r).fields (get_or (cases_at s r) c no_case))

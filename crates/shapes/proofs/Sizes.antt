@@ -31,10 +31,10 @@ pub adt-shape : (s : List ℕ) (r : ℕ) → RecordLine s r → form_at s (r - 1
 unfolding shape_at
 adt-shape s r l e = plain-shape (decl_at s r) (adt-plain s r l e)
 
-pub pick-shape : (s t : List ℕ) (r : ℕ) → PickLine s r
+pub pick-shape : (s : List ℕ) (r : ℕ) → PickLine s r
     → shape_at s r ≡ pick_shape (shape_of behind_tag (place behind_tag (decl_at s r).fields).placed) (map (variant_shape (decl_at s r).fields) (cases_at s r))
 unfolding shape_at
-pick-shape s t r l = picked-shape (decl_at s r) (cases_at s r) (pick_some s t r l)
+pick-shape s r l = picked-shape (decl_at s r) (cases_at s r) (pick_some s r l)
 
 -- ---- no field passes the end
 
@@ -83,12 +83,12 @@ pub record Largest (s : List ℕ) (r size c : ℕ) : Type 0 where
   pub within : c ≤ length (cases_at s r)
   pub rest : largest size (map (variant_shape (decl_at s r).fields) (drop c (cases_at s r))) ≡ (shape_at s r).size
 
-module _ (s t : List ℕ) (r : ℕ) (l : PickLine s r) where
+module _ (s : List ℕ) (r : ℕ) (l : PickLine s r) where
   pub largest-start : (x : ℕ) (p : Reached) → BehindCommon s r p → x ≡ rounded_size p.furthest → Largest s r x 0
   unfolding shape_of
   largest-start x p b e = record {
     within = omega arith;
-    rest = rw (e, b.furthest) (sym (rw (pick-shape s t r l) (pick-largest (shape_of behind_tag (place behind_tag (decl_at s r).fields).placed) (map (variant_shape (decl_at s r).fields) (cases_at s r)))));
+    rest = rw (e, b.furthest) (sym (rw (pick-shape s r l) (pick-largest (shape_of behind_tag (place behind_tag (decl_at s r).fields).placed) (map (variant_shape (decl_at s r).fields) (cases_at s r)))));
   }
 
   pub largest-next : (size x y c : ℕ) → Largest s r size c → c < length (cases_at s r) → x ≡ (variant_at s r c).size → y ≡ max size x → Largest s r y (c + 1)

@@ -10,8 +10,8 @@ ghost use Rattle.shapes.specs.Shapes.{shape_at, cases_at, variant_at, PickLine, 
 
 use codes::area::Space;
 use codes::decl;
-use sizes::place::Reached;
 use lines::Sheet;
+use sizes::place::Reached;
 
 // The bytes of the tag word of a record with `pick`: fields begin behind it.
 pub const TAG_BYTES: u32 = 4;
@@ -58,8 +58,8 @@ fn case_size(sheet: &Sheet, k: usize, p: Reached) -> u32
 }
 
 // The size of the record of an `adt` line.
-fn adt_size(sheet: &Sheet, work: &Space, r: usize) -> u32
-    requires { (RecordLine sheet.now r) × (form_at work.now (r - 1) ≡ 26) }
+fn adt_size(sheet: &Sheet, r: usize) -> u32
+    requires { (RecordLine sheet.now r) × (form_at sheet.now (r - 1) ≡ 26) }
     ensures { result ≡ (shape_at sheet.now r).size }
 {
     let p = Reached {
@@ -86,12 +86,12 @@ fn pick_size(sheet: &Sheet, r: usize) -> u32
 }
 
 // The size of the record T of the `adt` or `pick` line r.
-pub fn record_size(sheet: &Sheet, work: &Space, r: usize) -> u32
+pub fn record_size(sheet: &Sheet, r: usize) -> u32
     requires { RecordLine sheet.now r }
     ensures { result ≡ (shape_at sheet.now r).size }
 {
     if sheet.form_at(r - 1) == decl::ADT {
-        return adt_size(sheet, work, r);
+        return adt_size(sheet, r);
     }
     pick_size(sheet, r)
 }

@@ -238,8 +238,7 @@ line-back (w ∷ ws) (b ∷ l) h =
 module _ {s : Bytes} {i : ℕ} (l : NeedLine s i) where
   text-begins : begins (keywords_at (form_at s i)) (text_at s i) ≡ true
   text-begins =
-      let e = l.checked.whole.lined.row i l.within in
-      rw e (begins-chosen forms (text_at s i) (omega (arith, e, row-count, form-low s l.checked.whole i l.within)))
+      begins-chosen forms (text_at s i) (omega (arith, row-count, form-low s l.checked.whole i l.within))
 
   text-is : text_at s i ≡ keywords_at (form_at s i) ++ each_behind 44 (read_at s i).fields
   text-is = line-back (keywords_at (form_at s i)) (text_at s i) text-begins ∙ rw (fields-are s l.checked.whole i l.within, add-one)
@@ -247,7 +246,7 @@ module _ {s : Bytes} {i : ℕ} (l : NeedLine s i) where
 module _ {s : Bytes} {i j : ℕ} (a : NeedLine s i) (b : NeedLine s j) where
   key-same : text_at s i ≡ text_at s j → need_at s i ≡ need_at s j
   key-same e =
-      let f : form_at s i ≡ form_at s j = a.checked.whole.lined.row i a.within ∙ ap (row_of forms) e ∙ sym (b.checked.whole.lined.row j b.within) in
+      let f : form_at s i ≡ form_at s j = ap (row_of forms) e in
       let r : read_at s i ≡ read_at s j = read_is s a.checked.whole i a.within ∙ ap read_of e ∙ sym (read_is s b.checked.whole j b.within) in
       key-is s i a ∙ rw (f, r) (sym (key-is s j b))
 

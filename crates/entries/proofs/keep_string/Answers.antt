@@ -6,7 +6,7 @@ use native.Mathlib.Omega.{arith}
 use Rattle.entries.proofs.keep_string.Goals as goal
 
 pub copy-requires : goal.copy-requires
-copy-requires c = let h = Laws.text-short c.in-Str.is c.requires.2 in record { source = omega arith; target = omega arith; apart = inr (omega arith) }
+copy-requires c = let h = Laws.text-short c.in-Str.is c.requires.1 in record { source = omega arith; target = omega arith; apart = inr (omega arith) }
 
 pub returns-in-Int : goal.returns-in-Int
 returns-in-Int c = Laws.string-none c.args.work.now c.args.m c.in-Int.is refl refl

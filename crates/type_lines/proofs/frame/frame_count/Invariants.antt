@@ -6,4 +6,4 @@ use Rattle.type_lines.specs.Shapes.{frames_to}
 use Rattle.type_lines.proofs.frame.frame_count.Given as goal
 
 abbrev pub invariant-loop-i : goal.invariant-loop-i
-invariant-loop-i l = (l.i ≤ (lines_in l.sheet)) × (l.frames ≡ length (frames_to l.sheet l.i))
+invariant-loop-i l = (l.i ≤ lines_in l.sheet) × (l.frames ≡ length (frames_to l.sheet l.i))

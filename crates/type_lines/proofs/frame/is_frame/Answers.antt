@@ -1,9 +1,8 @@
-use native.Mathlib.Omega.{arith}
 use Prim.Native.Nat.{ℕ}
 use lib.Dec.{eqb}
 use mathlib.Core.Path.{◌∙◌, sym, ap}
 use Rattle.form.specs.Table.{kind_at}
-use Rattle.lines.proofs.Line.{form-low, kind-is}
+use Rattle.lines.proofs.Line.{kind-is}
 use Rattle.type_lines.proofs.frame.is_frame.Goals as goal
 
 pub returns : goal.returns

@@ -1,4 +1,3 @@
-use Rattle.lines.specs.Lines.{lines_in}
 use Rattle.type_lines.specs.Shapes.{raised}
 use Rattle.semantics.specs.Text.{or_else, int_of}
 use lib.IntN.{pos}
@@ -10,7 +9,7 @@ use Rattle.type_lines.proofs.Shapes.{offset-holds, offset-is, count_low}
 use Rattle.type_lines.proofs.shape.offset_at.Goals as goal
 
 pub overflow_add-j : goal.overflow_add-j
-overflow_add-j c = record { fits = omega (arith, c.requires.1, count_low c.args.sheet.now c.args.work.now (lines_in c.args.sheet.now) c.args.i c.requires.0) }
+overflow_add-j c = record { fits = omega (arith, c.requires.1, count_low c.args.sheet.now c.args.i c.requires.0) }
 
 pub read_offset-requires : goal.read_offset-requires
 read_offset-requires c = rw c.field_at.ensures.0 (offset-holds c.args.sheet.now c.args.i c.requires.0 c.args.j c.requires.1)
