@@ -19,7 +19,7 @@ use Rattle.semantics.specs.Form.Part.{one}
 use Rattle.semantics.specs.Fold.{bind}
 use Rattle.semantics.specs.Array.{elem_kind, allocated, const_array}
 use Rattle.decimal.specs.Number as Number
-use Rattle.lines.specs.Lines.{lines_in, reads_in, read_at}
+use Rattle.lines.specs.Lines.{reads_in, read_at}
 use Rattle.sizes.specs.Sizes.{type_at, TypeLine}
 use Rattle.refs.proofs.Fields.{head-drop, tail-drop}
 use Rattle.sizes.proofs.Types.{Good, ref-head}
@@ -73,11 +73,11 @@ module _ {s t : Bytes} {declared : Option ℕ} {r : ℕ} (k : AllocLine s declar
     length-line : (q ≡ number_of (get_or (read_at s (r - 1)).fields 0 [])) × KindLine 69 s q
     length-line = good-line l 69 (get_or (read_at s (r - 1)).fields 0 []) q hq alloc-refs.0
 
-    pub length-foldable : ConstsLogged s t (lines_in s) → Foldable s t (lines_in s) q 49152
+    pub length-foldable : {m : ℕ} → ConstsLogged s t m → Foldable s t m q 49152
     length-foldable g = foldable {e = 0} (record { line = length-line.1; log = g; few = omega arith })
 
-    pub alloc-answers : {kind : ElemKind} → kind ≡ elem_kind (alloc_type s declared r) → {u : Bytes} {x : Outcome ConstVal} → Folds s t (lines_in s) 0 q 49152 u x
-        → {y : P.Result Arrayed NoItem} → ArrayResult u (bind (result_in u x) (allocated kind)) y → ArrayAnswers t (const_array (names_in s t (lines_in s)) (declared_type s declared) (ex_at s r)) y u
+    pub alloc-answers : {m : ℕ} {kind : ElemKind} → kind ≡ elem_kind (alloc_type s declared r) → {u : Bytes} {x : Outcome ConstVal} → Folds s t m 0 q 49152 u x
+        → {y : P.Result Arrayed NoItem} → ArrayResult u (bind (result_in u x) (allocated kind)) y → ArrayAnswers t (const_array (names_in s t m) (declared_type s declared) (ex_at s r)) y u
     alloc-answers e g h = record {
       array = record { result = rw (folds-to g, e) at h.result ∙ sym (rw (alloc-is, ← length-line.0)); stands = h.stands };
       keeps = keeps-less (omega arith) (omega arith) (keeps-kept {a = 0} (omega arith) g.kept);

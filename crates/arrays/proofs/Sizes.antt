@@ -11,7 +11,7 @@ use Rattle.semantics.specs.Fold.{bind, Names}
 use Rattle.semantics.specs.Fold.Result.{ok}
 use Rattle.semantics.specs.Array.{Filled, as_size, literal_size}
 use Rattle.decimal.specs.Number as Number
-use Rattle.lines.specs.Lines.{lines_in, read_at, nodes_in}
+use Rattle.lines.specs.Lines.{read_at, nodes_in}
 use Rattle.values.specs.declared.ConstVal.{ConstVal}
 use Rattle.values.specs.Values.{result_in, answered, Outcome}
 use Rattle.names.specs.Table.{ConstsLogged, names_in}
@@ -26,7 +26,7 @@ module _ {s t : Bytes} {r : ℕ} (k : LiteralLine s r) {q : ℕ} (hq : q ≡ Num
   size-line : (q ≡ number_of (get_or (read_at s (r - 1)).fields 0 [])) × ((q ≡ 0 → ⊥) → KindLine 69 s q)
   size-line = may-line k.line 69 (get_or (read_at s (r - 1)).fields 0 []) q hq (literal-refs k).0
 
-  pub size-foldable : ConstsLogged s t (lines_in s) → (q ≡ 0 → ⊥) → Foldable s t (lines_in s) q (above 16)
+  pub size-foldable : {m : ℕ} → ConstsLogged s t m → (q ≡ 0 → ⊥) → Foldable s t m q (above 16)
   size-foldable g z = foldable {e = 16} (record { line = size-line.1 z; log = g; few = omega arith })
 
   pub size_none : (ns : Names) {reach : ℕ} → q ≡ 0 → (f : Filled) → reach ≡ f.reach → ok reach ≡ literal_size ns (lit_size s r) f

@@ -23,7 +23,6 @@ use Rattle.arrays.specs.declared.Arrayed.{Arrayed}
 use Rattle.arrays.specs.declared.Arrayed.TheVariants.{Alloc, Literal}
 use Rattle.arrays.specs.Arrays.{array_in, ValuesStand, ArrayStands}
 use Rattle.data_rows.specs.Data.{PrintKept}
-use Rattle.lines.specs.Lines.{lines_in}
 
 -- ---- tables
 
@@ -46,17 +45,17 @@ module _ {t u : Bytes} (k : PrintKept t u) where
   pub var-still : {s : Bytes} {r : ℕ} → VarLine s r → VarLine s r
   var-still l = l
 
-  pub tabled-still : {s : Bytes} → Tabled s t (lines_in s) → Tabled s u (lines_in s)
+  pub tabled-still : {s : Bytes} {g : ℕ} → Tabled s t g → Tabled s u g
   tabled-still d = tabled-kept (kept_less (omega arith) k.below) d
 
-  pub places-still : (s : Bytes) → Tabled s t (lines_in s) → places_in s u (lines_in s) ≡ places_in s t (lines_in s)
+  pub places-still : (s : Bytes) {g : ℕ} → Tabled s t g → places_in s u g ≡ places_in s t g
   places-still s {n} {g} d = places-kept (kept_less (omega arith) k.below) s g d.few
 
-  module _ {s : Bytes} (l : ConstsLogged s t (lines_in s)) where
-    pub logged-still : ConstsLogged s u (lines_in s)
+  module _ {s : Bytes} {m : ℕ} (l : ConstsLogged s t m) where
+    pub logged-still : ConstsLogged s u m
     logged-still = logged-same (kept_less (omega arith) k.below) l
 
-    pub log-still : log_in s u (lines_in s) ≡ log_in s t (lines_in s)
+    pub log-still : log_in s u m ≡ log_in s t m
     log-still =
         log-stays (kept_less (omega arith) k.below) l
         (λ a b h e. part_same t u k.below.long b a (λ j y z. k.strings j (omega arith) (omega arith)))

@@ -39,7 +39,6 @@ use Rattle.data_rows.proofs.Kept.{keeping_all, keeping-then, keeping-first, keep
 use Rattle.data_rows.proofs.Keys.{kinds-few}
 use Rattle.data_rows.proofs.Printed.{printed-as, printed-none, printed-then}
 use Rattle.data_rows.proofs.Names.{held-printed, held_first}
-use Rattle.lines.specs.Lines.{lines_in}
 
 -- ---- the items of a `var` line
 
@@ -119,12 +118,12 @@ module _ {s t : Bytes} {c : Counts} {m : ℕ} (r : DataTables s t c m) where
     printed = printed-none;
   }
 
-  module _ {v : Writer} {u : Bytes} {n : ℕ} {w : Writer} {i : ℕ} (p : Walking s t c m v u n w (lines_in s) i) where
+  module _ {v : Writer} {u : Bytes} {n : ℕ} {w : Writer} {k : Option ℕ} {i : ℕ} (p : Walking s t c m v u n w k i) where
     module _ (l : Option ℕ) (y : laid_on s l ≡ laid_at s i) {z : Bytes} {o : ℕ} {x : Writer} (a : ItemsPrinted s (line_items (names_in s u c.consts) (places_in s u c.globals) (laid_on s l)) n o u z w x × PrintKept u z) where
-      pub walk-open : Open s i (lines_in s)
+      pub walk-open : Open s i k
       walk-open = record { checked = checked-still a.1 p.here.checked; within = p.here.within; low = p.here.low; here = p.here.here }
 
-      pub walk-next : Open s (i + 1) (lines_in s) → Walking s t c m v z o x (lines_in s) (i + 1)
+      pub walk-next : {k' : Option ℕ} → Open s (i + 1) k' → Walking s t c m v z o x k' (i + 1)
       unfolding laid_vars_to
       walk-next q =
           let ns = names_in s t c.consts in

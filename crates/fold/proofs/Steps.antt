@@ -281,33 +281,33 @@ module _ {s t : Bytes} {m r top : ℕ} (a : Foldable s t m r top) where
           right-before = omega (arith, right_is, (right-line operator-line e).before)
 
           -- the fold of the right operand gave y
-          module _ {y : Result ConstVal NoValue} (b : Folds s u m iota g (top + p) (lines_in s) y) where
-            pub right_kept : Kept top t (lines_in s)
+          module _ {w : Bytes} {y : Result ConstVal NoValue} (b : Folds s u m iota g (top + p) w y) where
+            pub right_kept : Kept top t w
             right_kept = kept_then f.kept (kept_less (omega arith) b.kept)
 
-            right-result : fold (names_in s t m) (pos iota) (ex_at s (number_of (get_or (read_at s (r - 1)).fields 2 []))) ≡ result_in (lines_in s) y
+            right-result : fold (names_in s t m) (pos iota) (ex_at s (number_of (get_or (read_at s (r - 1)).fields 2 []))) ≡ result_in w y
             unfolding fold_at
             right-result = rw (← right_is, ← log-kept (kept_less a.low f.kept) a.log) (sym b.answer.value)
 
-            both-results : fold_at s t m iota r ≡ bind (result_in (lines_in s) y) (fold_binary (binary_at (number_of (get_or (read_at s (r - 1)).fields 0 []))) (value_in u v))
+            both-results : fold_at s t m iota r ≡ bind (result_in w y) (fold_binary (binary_at (number_of (get_or (read_at s (r - 1)).fields 0 []))) (value_in u v))
             unfolding result_in
             both-results = goes-on _ (fold-two operator-line (names_in s t m) (pos iota) e) ∙ rw (hv, right-result)
 
-            pub right-stops : {g : NoValue} → y ≡ Err g → Folds s t m iota r top (lines_in s) (Err g)
-            right-stops {g} h = record { answer = record { value = sym (both-results ∙ ap (λ z. bind (result_in (lines_in s) z) (fold_binary (binary_at (number_of (get_or (read_at s (r - 1)).fields 0 []))) (value_in u v))) h ∙ stopped (lines_in s) g _); at = tt }; kept = right_kept }
+            pub right-stops : {g : NoValue} → y ≡ Err g → Folds s t m iota r top w (Err g)
+            right-stops {g} h = record { answer = record { value = sym (both-results ∙ ap (λ z. bind (result_in w z) (fold_binary (binary_at (number_of (get_or (read_at s (r - 1)).fields 0 []))) (value_in u v))) h ∙ stopped w g _); at = tt }; kept = right_kept }
 
             pub binary-folds : {z : ConstVal} → y ≡ Ok z → {o : ℕ} (op : Binary) → o ≡ Number.number_up_to 65536 (get_or (read_at s (r - 1)).fields 0 []) → binary_op op ≡ binary_at o → {q : Result ConstVal NoValue}
                 → ((t : Bytes) (top : ℕ) → At top v → At (top + string_size v) z → top + 512 ≤ length t → Answers t top q (fold_binary (binary_op op) (value_in t v) (value_in t z)))
-                → Folds s t m iota r top (lines_in s) q
+                → Folds s t m iota r top w q
             unfolding result_in
             binary-folds {z} hz {o} op ho hop {q} c =
                 let i : binary_op op ≡ binary_at (number_of (get_or (read_at s (r - 1)).fields 0 [])) = hop ∙ ap binary_at (binary-number operator-line e ho) in
-                let k : Kept (top + string_size v) u (lines_in s) = rw (← hp) b.kept in
+                let k : Kept (top + string_size v) u w = rw (← hp) b.kept in
                 let x : At (top + string_size v) z = rw (← hp) (subst (ResultAt (top + p)) hz b.answer.at) in
                 let d = (right-line operator-line e).lower in
-                let room : top + 512 ≤ length (lines_in s) = omega (arith, a.room, d, right_kept.long, rw right_is at (depth-some right-foldable.line)) in
+                let room : top + 512 ≤ length w = omega (arith, a.room, d, right_kept.long, rw right_is at (depth-some right-foldable.line)) in
                 record {
-                  answer = answers-as (sym (both-results ∙ rw (hz, ← i, ← value-kept top u (lines_in s) v value-at k))) (c (lines_in s) top value-at x room);
+                  answer = answers-as (sym (both-results ∙ rw (hz, ← i, ← value-kept top u w v value-at k))) (c w top value-at x room);
                   kept = right_kept;
                 }
 

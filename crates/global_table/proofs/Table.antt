@@ -23,7 +23,6 @@ use Rattle.chains.proofs.Laws.{PlacesApart, SameBytes, newest-yes, newest-no, ne
 use Rattle.checks.specs.Checks.{Checked, Kept, Outside}
 use Rattle.checks.proofs.Kept.{kept_less, kept_at, outside-then, outside-less, over-outside}
 use Rattle.global_table.specs.Table.{VarLine, global_line_of, global_position_of, offset_of, global_chains, global_stored, global_entered, global_at, entries_from, places_in, GlobalEntry, Tabled, number_from, entry_number}
-use Rattle.lines.specs.Lines.{lines_in}
 
 -- ---- an entry
 
@@ -317,7 +316,7 @@ module _ {t u : Bytes} (a : Kept 9216 t u) where
     head = λ k h. kept_at a (7173 + 8 * k + 1 + 1) (omega arith);
   }
 
-  pub tabled-kept : {s : Bytes} → Tabled s t (lines_in s) → Tabled s u (lines_in s)
+  pub tabled-kept : {s : Bytes} {g : ℕ} → Tabled s t g → Tabled s u g
   tabled-kept {s} d = record {
     checked = d.checked;
     few = d.few;

@@ -89,7 +89,7 @@ pub record LinesLaid (s t u : Bytes) (g : Globals) (k : Option ℕ) (i : ℕ) : 
   pub here : Open s i k
 
 module _ (s t : Bytes) (c : Checked s) where
-  pub lines-laid-start : lines_in s.count ≡ 0 → lines_in s.end ≡ 0 → LinesLaid s t t (lines_in s) None 0
+  pub lines-laid-start : {g : Globals} → g.count ≡ 0 → g.end ≡ 0 → LinesLaid s t t g None 0
   unfolding laid_to located_to lay_vars entries_from open_at module_at
   lines-laid-start {g} e f =
       record {
@@ -97,24 +97,24 @@ module _ (s t : Bytes) (c : Checked s) where
         here = record { checked = c; within = omega arith; low = omega arith; here = refl };
       }
 
-  module _ (u : Bytes) (i : ℕ) (m : LinesLaid s t u (lines_in s) (lines_in s) i) where
-    pub lines-laid-here : i < lines_in s → (PlacesEntered s u (lines_in s)) × (Open s i (lines_in s)) × (i < lines_in s) × (lines_in s.count + names_at s i ≤ 256)
+  module _ (u : Bytes) (g : Globals) (k : Option ℕ) (i : ℕ) (m : LinesLaid s t u g k i) where
+    pub lines-laid-here : i < lines_in s → (PlacesEntered s u g) × (Open s i k) × (i < lines_in s) × (g.count + names_at s i ≤ 256)
     lines-laid-here h = (m.laid.standing, m.here, h, omega (arith, m.laid.most, names-few s c i h))
 
-    pub lines-laid-next : {v : Bytes} → i < lines_in s → PlacesLaid s u v (lay_line s i (allocation_in s u (lines_in s))) (lines_in s) (lines_in s.count + names_at s i) → Open s (i + 1) (lines_in s) → LinesLaid s t v (lines_in s) (lines_in s) (i + 1)
+    pub lines-laid-next : {v : Bytes} {x : Globals} {q : Option ℕ} → i < lines_in s → PlacesLaid s u v (lay_line s i (allocation_in s u g)) x (g.count + names_at s i) → Open s (i + 1) q → LinesLaid s t v x q (i + 1)
     lines-laid-next h a o =
         let b = laid_then (lay_line s i) (names_at s i) m.laid a in
         record { laid = record { standing = b.standing; outside = b.outside; allocation = b.allocation ∙ sym (laid_next s c i h); most = omega (arith, b.most, names_more s i, ap (names_to s) (add-one i)) }; here = o }
 
-    pub lines-laid-end : lines_in s ≤ i → (GlobalsCollected s u (lines_in s)) × (Outside 7168 9216 t u)
+    pub lines-laid-end : lines_in s ≤ i → (GlobalsCollected s u g) × (Outside 7168 9216 t u)
     lines-laid-end h =
         let z : i ≡ lines_in s = omega (arith, m.here.within) in
-        let e : (ns : Names) → allocation_in s u (lines_in s) ≡ allocation_of (globals ns (sheet_source s)) = λ ns. m.laid.allocation ∙ ap (laid_to s) z ∙ sym (laid-all s c ns) in (
+        let e : (ns : Names) → allocation_in s u g ≡ allocation_of (globals ns (sheet_source s)) = λ ns. m.laid.allocation ∙ ap (laid_to s) z ∙ sym (laid-all s c ns) in (
           record {
             tabled = m.laid.standing.tabled;
             places = λ ns. ap (λ (l : Allocation). l.places) (e ns);
             end = λ ns. ap (λ (l : Allocation). l.end) (e ns);
-            count = λ ns. sym (places_count s u 0 (lines_in s).count) ∙ ap (λ (l : Allocation). length l.places) (e ns);
+            count = λ ns. sym (places_count s u 0 g.count) ∙ ap (λ (l : Allocation). length l.places) (e ns);
             low = m.laid.standing.low;
           },
           m.laid.outside,

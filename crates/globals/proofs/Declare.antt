@@ -20,7 +20,7 @@ use Rattle.semantics.specs.Global.{Global, global_size, place_of, new_offset}
 use Rattle.laws.proofs.Alignments.{global-size}
 use Rattle.words.specs.Words.{digest}
 use Rattle.chains.specs.Chains.{Chained}
-use Rattle.lines.specs.Lines.{lines_in, read_at, nodes_in}
+use Rattle.lines.specs.Lines.{read_at, nodes_in}
 use Rattle.checks.specs.Checks.{Outside}
 use Rattle.checks.proofs.Kept.{outside-all, outside-then}
 use Rattle.sizes.specs.Sizes.{type_at}
@@ -93,9 +93,9 @@ module _ (s t : Bytes) (r j : ℕ) (g : Globals) (st : PlacesEntered s t g) (l :
         off-is,
       )
 
-  entries-new : lines_in s < g.count + 1 → GlobalEntry s with_entry (lines_in s)
+  entries-new : (i : ℕ) → i < g.count + 1 → GlobalEntry s with_entry i
   unfolding with_entry
-  entries-new h = let w : lines_in s ≤ g.count = omega arith in ⊎_elim (λ (e : lines_in s ≡ g.count). subst (GlobalEntry s with_entry) (sym e) last) (λ (q : lines_in s < g.count). old q) (eq-or-lt_of_le w)
+  entries-new i h = let w : i ≤ g.count = omega arith in ⊎_elim (λ (e : i ≡ g.count). subst (GlobalEntry s with_entry) (sym e) last) (λ (q : i < g.count). old q) (eq-or-lt_of_le w)
     where
       last : GlobalEntry s with_entry g.count
       last = record {
@@ -104,15 +104,15 @@ module _ (s t : Bytes) (r j : ℕ) (g : Globals) (st : PlacesEntered s t g) (l :
         digest = digest-new t g.count r j off d full l.checked.whole.room ∙ hd ∙ ap (λ (e : Global). digest e.name) (sym entry_new);
       }
 
-      old : lines_in s < g.count → GlobalEntry s with_entry (lines_in s)
+      old : i < g.count → GlobalEntry s with_entry i
       old q =
-          let x = st.tabled.entries (lines_in s) q in
+          let x = st.tabled.entries i q in
           record {
             low = x.low;
-            line = rw (line-old t g.count r j off d (lines_in s) q) (var-outside outside-new x.line);
+            line = rw (line-old t g.count r j off d i q) (var-outside outside-new x.line);
             digest = rw (
-              digest-old t g.count r j off d (lines_in s) q,
-              entry_old t g.count r j off d (lines_in s) q s,
+              digest-old t g.count r j off d i q,
+              entry_old t g.count r j off d i q s,
             ) x.digest;
           }
 

@@ -52,13 +52,13 @@ module _ {s t : List ℕ} {i needs keys : ℕ} (x : NeedNext s t i needs keys) w
       let g = ap length (needs-next s x.line.checked i x.line.within x.line.kind) ∙ length-append (needs_to s i) (need_at s i ∷ []) in
       (omega (arith, e, g, x.collecting.count), omega (arith, e, g, position-within (need_at s i) (distinct [] (needs_to s i)), distinct-few [] (needs_to s i)), omega (arith, e, g, x.collecting.kinds.count, distinct-few [] (needs_to s i)))
 
-  pub known-entry : lines_in s < needs → NeedEntry s t (lines_in s)
-  known-entry h =
-      let z : lines_in s < length (needs_to s i) = omega (arith, x.collecting.count) in
+  pub known-entry : (q : ℕ) → q < needs → NeedEntry s t q
+  known-entry q h =
+      let z : q < length (needs_to s i) = omega (arith, x.collecting.count) in
       record {
         low = omega (arith, needs-room.0);
-        line = record { checked = x.collecting.checked; within = x.collecting.table.within (lines_in s) z; kind = x.collecting.table.kind (lines_in s) z };
-        digest = x.collecting.digests (lines_in s) h;
+        line = record { checked = x.collecting.checked; within = x.collecting.table.within q z; kind = x.collecting.table.kind q z };
+        digest = x.collecting.digests q h;
       }
 
   module _ (q : ℕ) (h : q < needs) where
@@ -76,7 +76,7 @@ module _ {s t : List ℕ} {i needs keys : ℕ} (x : NeedNext s t i needs keys) w
     pub found-chain : {d : ℕ} → d ≡ digest (text_at s i) → has_need_key s t i q ≡ true → in_chain t need_chains (chain_of d) q ≡ true
     unfolding chain_at
     found-chain {d} e g =
-        let z : text_at s i ≡ text_at s (need_line_of t q) = same-eq (text_at s i) (text_at s (need_line_of t q)) (texts-are x.line (known-entry h).line ∙ g) in
+        let z : text_at s i ≡ text_at s (need_line_of t q) = same-eq (text_at s i) (text_at s (need_line_of t q)) (texts-are x.line (known-entry q h).line ∙ g) in
         let y : digest_at t need_chains q ≡ d = x.collecting.digests q h ∙ sym (e ∙ ap (λ (l : List ℕ). digest l) z) in
         eq-eqb (chain_at t need_chains q) (chain_of d) (ap chain_of y)
 

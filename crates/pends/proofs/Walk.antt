@@ -106,7 +106,7 @@ module _ {s t : Bytes} {m : ℕ} (r : ConstTable s t m) where
   unfolding laid_vars_to open_at module_at
   walk_start w h = record { here = record { checked = r.checked; within = omega arith; low = omega arith; here = refl }; keeps = keeps-all; rows = (refl, writes_none w h) }
 
-  module _ {v : Writer} {u : Bytes} {i : ℕ} {w : Writer} (l : LinesPended s t m v u (lines_in s) i w) where
+  module _ {v : Writer} {u : Bytes} {k : Option ℕ} {i : ℕ} {w : Writer} (l : LinesPended s t m v u k i w) where
     pub walk-log : ConstsLogged s u m
     walk-log = logged-kept l.keeps r.logged
 
@@ -116,14 +116,14 @@ module _ {s t : Bytes} {m : ℕ} (r : ConstTable s t m) where
         (all-pended (names_in s t m) s r.checked (subst (λ (j : ℕ). Pended (names_in s t m) (laid_vars_to s j) v (Ok tt) w) z l.rows), l.keeps)
 
     -- the next line is worked on
-    pub walk-open : {x : Bytes} → Keeps 16384 49152 u x → Open s i (lines_in s)
+    pub walk-open : {x : Bytes} → Keeps 16384 49152 u x → Open s i k
     walk-open b = record { checked = l.here.checked; within = l.here.within; low = l.here.low; here = l.here.here }
 
     module _ (q : Option ℕ) (g : laid_on s q ≡ laid_at s i) where
       line-pended : (y : Std.Result Unit Refused) (z : Writer) → Pended (names_in s u m) (laid_on s q) w y z → Pended (names_in s t m) (laid_at s i) w y z
       line-pended y z b = subst (λ (xs : List (Located VarDecl)). Pended (names_in s t m) xs w y z) g (rw (log-kept l.keeps r.logged) at b)
 
-      pub walk-next : {x : Bytes} {z : Writer} → Pended (names_in s u m) (laid_on s q) w (Ok tt) z × Keeps 16384 49152 u x → Open s (i + 1) (lines_in s) → LinesPended s t m v x (lines_in s) (i + 1) z
+      pub walk-next : {x : Bytes} {z : Writer} {k' : Option ℕ} → Pended (names_in s u m) (laid_on s q) w (Ok tt) z × Keeps 16384 49152 u x → Open s (i + 1) k' → LinesPended s t m v x k' (i + 1) z
       unfolding laid_vars_to
       walk-next b o = record {
         here = o;

@@ -16,7 +16,6 @@ use Rattle.chains.proofs.Laws.{SameBytes, chained-kept, linked-outside, linked-o
 use Rattle.records.specs.Log.{byte_of, entry_at, record_of, recorded_at, record_chains, Digested}
 use Rattle.records.proofs.Newest.{record-room}
 use Rattle.record_log.specs.Entries.{CollectedTo}
-use Rattle.lines.specs.Lines.{lines_in}
 
 module _ (t : Bytes) (i d : ℕ) (hi : i < 128) (room : 62464 ≤ length t) where
   -- with the digest, and then linked
@@ -81,11 +80,11 @@ module _ (t : Bytes) (i d : ℕ) (hi : i < 128) (room : 62464 ≤ length t) wher
       chained-next (record-room with_digest (omega (arith, long))) apart (omega arith) (omega arith) hi
       (chained-kept entered-kept (omega arith) g)
 
-  module _ (s : Bytes) (g : Digested s t (lines_in s) i) (hm : i < lines_in s) (e : d ≡ digest (recorded_at s t i).key) where
+  module _ (s : Bytes) (m : ℕ) (g : Digested s t m i) (hm : i < m) (e : d ≡ digest (recorded_at s t i).key) where
     digests-new : (j : ℕ) → j < i + 1 → digest_at with_link record_chains j ≡ digest (recorded_at s with_link j).key
     digests-new j h = let w : j ≤ i = omega arith in rw (recorded-old s j) (⊎_elim (λ (q : j ≡ i). subst (λ (k : ℕ). digest_at with_link record_chains k ≡ digest (recorded_at s t k).key) (sym q) (digest-new ∙ e)) (λ (q : j < i). digest-old j q ∙ g.digests j q) (eq-or-lt_of_le w))
 
-    digested-new : Digested s with_link (lines_in s) (i + 1)
+    digested-new : Digested s with_link m (i + 1)
     digested-new =
         let c = g.checked in
         record {
@@ -109,7 +108,7 @@ digests-next {s} {t} {u} {n = n} {m} {i} {d} g h e q =
     let room = g.log.checked.whole.room in
     let low : i < 128 = omega (arith, g.log.few) in
     rw q (record {
-      log = digested-new u i d low room s g.log h e;
+      log = digested-new u i d low room s m g.log h e;
       outside = outside-then g.outside (outside-new u i d low room);
     })
 

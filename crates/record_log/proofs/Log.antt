@@ -63,28 +63,28 @@ module _ (s : Bytes) (r : ℕ) (d : Bytes) (a : ℕ) where
   pub casing-start : a ≤ length d + 1 → Casing s r d a d a 0 0
   casing-start h = record { within = omega arith; small = omega arith; done = []; wrote = wrote_none d a h; rest = refl }
 
-  module _ (e : Bytes) (b k : ℕ) (g : Casing s r d a e b k (lines_in s)) where
-    pub casing-end : length (cases_in (decl_at s r)) ≤ lines_in s → Wrote d a (log_bytes (case_entries r 0 0 (cases_in (decl_at s r)))) e b
+  module _ (e : Bytes) (b k c : ℕ) (g : Casing s r d a e b k c) where
+    pub casing-end : length (cases_in (decl_at s r)) ≤ c → Wrote d a (log_bytes (case_entries r 0 0 (cases_in (decl_at s r)))) e b
     unfolding log_bytes
-    casing-end h = wrote_as (sym (append-nil g.done) ∙ rw (drop_of_length-le (cases_in (decl_at s r)) {i = lines_in s} h) at g.rest) g.wrote
+    casing-end h = wrote_as (sym (append-nil g.done) ∙ rw (drop_of_length-le (cases_in (decl_at s r)) {i = c} h) at g.rest) g.wrote
 
-    module _ (h : lines_in s < length (cases_in (decl_at s r))) (v : ℕ) (x : CaseOf s r (lines_in s) v) (m : ℕ) (hm : m ≡ length (case_at s v).tags) (few : m ≤ 16) where
-      tags-are : m ≡ length (case_in (decl_at s r) (lines_in s)).tags
+    module _ (h : c < length (cases_in (decl_at s r))) (v : ℕ) (x : CaseOf s r c v) (m : ℕ) (hm : m ≡ length (case_at s v).tags) (few : m ≤ 16) where
+      tags-are : m ≡ length (case_in (decl_at s r) c).tags
       tags-are = hm ∙ ap (λ (y : Case). length y.tags) (case-is x)
 
-      pub casing-next : (f : Bytes) (q : ℕ) → Wrote e b (log_bytes (tag_entries r (lines_in s + 1) 0 k m)) f q → Casing s r d a f q (k + m) (lines_in s + 1)
+      pub casing-next : (f : Bytes) (q : ℕ) → Wrote e b (log_bytes (tag_entries r (c + 1) 0 k m)) f q → Casing s r d a f q (k + m) (c + 1)
       casing-next f q w =
           let ks = cases_in (decl_at s r) in
-          let z : lines_in s + 1 ≡ suc (lines_in s) = omega arith in
-          let p : g.done ++ log_bytes (tag_entries r (suc (lines_in s)) 0 k (length (case_in (decl_at s r) (lines_in s)).tags) ++ case_entries r (suc (lines_in s)) (k + length (case_in (decl_at s r) (lines_in s)).tags) (drop (suc (lines_in s)) ks)) ≡ log_bytes (case_entries r 0 0 ks) = rw (drop-cons ks (lines_in s) no_case h) at g.rest in
+          let z : c + 1 ≡ suc c = omega arith in
+          let p : g.done ++ log_bytes (tag_entries r (suc c) 0 k (length (case_in (decl_at s r) c).tags) ++ case_entries r (suc c) (k + length (case_in (decl_at s r) c).tags) (drop (suc c) ks)) ≡ log_bytes (case_entries r 0 0 ks) = rw (drop-cons ks c no_case h) at g.rest in
           record {
             within = omega arith;
             small = omega (arith, g.small);
-            done = g.done ++ log_bytes (tag_entries r (lines_in s + 1) 0 k m);
+            done = g.done ++ log_bytes (tag_entries r (c + 1) 0 k m);
             wrote = then g.wrote w;
             rest =
-                append_assoc g.done (log_bytes (tag_entries r (lines_in s + 1) 0 k m)) (log_bytes (case_entries r (lines_in s + 1) (k + m) (drop (lines_in s + 1) ks)))
-                ∙ rw (z, ← log-append (tag_entries r (suc (lines_in s)) 0 k m) (case_entries r (suc (lines_in s)) (k + m) (drop (suc (lines_in s)) ks)), tags-are) p;
+                append_assoc g.done (log_bytes (tag_entries r (c + 1) 0 k m)) (log_bytes (case_entries r (c + 1) (k + m) (drop (c + 1) ks)))
+                ∙ rw (z, ← log-append (tag_entries r (suc c) 0 k m) (case_entries r (suc c) (k + m) (drop (suc c) ks)), tags-are) p;
           }
 
 -- ---- the entries of a line
@@ -213,9 +213,9 @@ module _ (s d : Bytes) (c : Checked s) (e : Bytes) (b : ℕ) (w : Wrote d 9216 (
   place_is : b ≡ 9216 + 8 * length (log_of s)
   place_is = omega (arith, w.place, log-bytes (entries_to (nodes_in s) (lines_in s)), length-es.0, length-es.1, c.whole.room)
 
-  all-logged : lines_in s ≡ (b - 9216) / 8 → CollectedTo s d e (lines_in s) 0
-  all-logged h =
-      let q : lines_in s ≡ length (log_of s) = omega (arith, place_is) in
+  all-logged : (m : ℕ) → m ≡ (b - 9216) / 8 → CollectedTo s d e m 0
+  all-logged m h =
+      let q : m ≡ length (log_of s) = omega (arith, place_is) in
       record {
         log = record {
           checked = checked-now;
@@ -230,4 +230,4 @@ module _ (s d : Bytes) (c : Checked s) (e : Bytes) (b : ℕ) (w : Wrote d 9216 (
       }
 
 pub entries-end : (s d : Bytes) → Checked s → (r : ℕ) → r ≤ lines_in s → lines_in s ≤ r → (e : Bytes) (b : ℕ) → Wrote d 9216 (log_bytes (entries_to (nodes_in s) r)) e b → (m : ℕ) → m ≡ (b - 9216) / 8 → CollectedTo s d e m 0
-entries-end s d c r h k e b w m q = let z : r ≡ lines_in s = omega arith in all-logged s d c e b (rw z at w) q
+entries-end s d c r h k e b w m q = let z : r ≡ lines_in s = omega arith in all-logged s d c e b (rw z at w) m q

@@ -8,7 +8,6 @@ use Rattle.checks.proofs.Kept.{kept_at, kept_less}
 use Rattle.chains.specs.Chains.{digest_place}
 use Rattle.chains.proofs.Laws.{SameBytes, chained-kept}
 use Rattle.records.specs.Log.{byte_of, entry_at, record_of, recorded_at, record_chains, RecordsLogged}
-use Rattle.lines.specs.Lines.{lines_in}
 
 module _ {t u : List ℕ} (k : Kept 10240 t u) where
   byte-kept : (i : ℕ) → i < 128 → (j : ℕ) → j < 8 → byte_of u i j ≡ byte_of t i j
@@ -30,7 +29,7 @@ module _ {t u : List ℕ} (k : Kept 10240 t u) where
     head = λ i h. kept_at k (9221 + 8 * i + 1 + 1) (omega arith);
   }
 
-  pub logged-kept : {s : List ℕ} → RecordsLogged s t (lines_in s) → RecordsLogged s u (lines_in s)
+  pub logged-kept : {s : List ℕ} {m : ℕ} → RecordsLogged s t m → RecordsLogged s u m
   logged-kept {s} g =
       let c = g.checked in
       record {

@@ -12,7 +12,7 @@ use Rattle.semantics.specs.Tree.{Shape}
 use Rattle.codes.specs.declared.element.Element.{Element}
 use Rattle.codes.specs.Kinds.{element_kind}
 use Rattle.semantics.specs.Types.{opaque_shape, elem_shape, key_shape, unknown}
-use Rattle.lines.specs.Lines.{lines_in, read_at, form_at}
+use Rattle.lines.specs.Lines.{read_at, form_at}
 use Rattle.source.specs.Walk.{field_at}
 use Rattle.records.specs.Log.{recorded_at, log_of, no_record, RecordsLogged, Newest}
 use Rattle.records.proofs.Keys.{default-same}
@@ -66,8 +66,8 @@ module _ (s t : List ℕ) (i : ℕ) (l : NeedLine s i) (e : form_at s i ≡ 34) 
   unfolding word_offsets
   unknown-words z = sym (ap (λ (q : Shape). q.pointers) (unknown-shape z))
 
-  module _ (g : RecordsLogged s t (lines_in s)) {q : ℕ} (z : j ≡ Some q) where
-    pub known-low : q < lines_in s
+  module _ (m : ℕ) (g : RecordsLogged s t m) {q : ℕ} (z : j ≡ Some q) where
+    pub known-low : q < m
     known-low = let y = ap count_to z in omega (arith, x.low, g.count, y)
 
     pub known-shape : (recorded_at s t q).shape ≡ key_shape (log_of s) (need_at s i)

@@ -12,7 +12,7 @@ use Rattle.semantics.specs.Form.{forms, number_of, node_at, perhaps_at, ex_of}
 use Rattle.semantics.specs.Form.Kind.{k_ty}
 use Rattle.decimal.specs.Number as Number
 use Rattle.form.specs.Table.{row_node}
-use Rattle.lines.specs.Lines.{lines_in, reads_in, read_at, nodes_in, form_at}
+use Rattle.lines.specs.Lines.{reads_in, read_at, nodes_in, form_at}
 use Rattle.names.specs.Table.{ConstsLogged}
 use Rattle.sizes.specs.Sizes.{type_at, TypeLine}
 use Rattle.sizes.proofs.Types.{ref-head}
@@ -78,7 +78,7 @@ module _ {s t : Bytes} {r : ℕ} (l : VarLine s r) where
       pub value_line : KindLine 69 s q
       value_line = value-ref.1 z
 
-      pub value-foldable : ConstsLogged s t (lines_in s) → Foldable s t (lines_in s) q 49152
+      pub value-foldable : {m : ℕ} → ConstsLogged s t m → Foldable s t m q 49152
       value-foldable g = foldable {e = 0} (record { line = value_line; log = g; few = omega arith })
 
       pub init-some : (var_on s r).init ≡ Some (ex_at s q)

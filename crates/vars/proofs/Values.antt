@@ -80,15 +80,15 @@ module _ {s t : Bytes} {r : ℕ} (l : VarLine s r) {q : ℕ} (hq : q ≡ Number.
   pub plain-none : (ns : Names) → q ≡ 0 → Inits t (or_pending (plain_init ns (var_on s r).init)) (Ok None) t
   plain-none ns z = record { result = sym (rw (init-none l hq z)); stands = tt; keeps = keeps-all }
 
-  module _ (z : q ≡ 0 → ⊥) (o : ConstsLogged s t (lines_in s)) {u : Bytes} {x : Outcome ConstVal} (g : Folds s t (lines_in s) 0 q 49152 u x) where
+  module _ (z : q ≡ 0 → ⊥) {m : ℕ} (o : ConstsLogged s t m) {u : Bytes} {x : Outcome ConstVal} (g : Folds s t m 0 q 49152 u x) where
     keeps-fold : Keeps 16384 49152 t u
     keeps-fold = keeps-less (omega arith) (omega arith) (keeps-kept {a = 0} (omega arith) g.kept)
 
-    folded : fold_at0 (names_in s t (lines_in s)) (ex_at s q) ≡ result_in u x
+    folded : fold_at0 (names_in s t m) (ex_at s q) ≡ result_in u x
     folded = sym (folds-to g)
 
     -- the first value is f of what the fold gives
-    module _ (f : Option Ex → Result Init) (h : Result Tree.ConstVal → Result Init) (i : f (Some (ex_at s q)) ≡ h (fold_at0 (names_in s t (lines_in s)) (ex_at s q))) where
+    module _ (f : Option Ex → Result Init) (h : Result Tree.ConstVal → Result Init) (i : f (Some (ex_at s q)) ≡ h (fold_at0 (names_in s t m) (ex_at s q))) where
       by-fold : f (var_on s r).init ≡ h (result_in u x)
       by-fold = ap f (init-some l hq z) ∙ i ∙ ap h folded
 
@@ -100,25 +100,25 @@ module _ {s t : Bytes} {r : ℕ} (l : VarLine s r) {q : ℕ} (hq : q ≡ Number.
       unfolding result_in
       fold-long d p = record { result = sym (by-fold ∙ rw d p); stands = tt; keeps = keeps-fold }
 
-    pub first-folded : {v : ConstVal} → x ≡ Ok v → Inits t (init_of (names_in s t (lines_in s)) (var_on s r).ty (var_on s r).init) (Ok (Some (Value v))) u
-    first-folded d = fold-value (init_of (names_in s t (lines_in s)) (var_on s r).ty) (λ (a : Result Tree.ConstVal). first_value a (const_array (names_in s t (lines_in s)) (elem_of (var_on s r).ty) (ex_at s q))) refl d (λ w. refl)
+    pub first-folded : {v : ConstVal} → x ≡ Ok v → Inits t (init_of (names_in s t m) (var_on s r).ty (var_on s r).init) (Ok (Some (Value v))) u
+    first-folded d = fold-value (init_of (names_in s t m) (var_on s r).ty) (λ (a : Result Tree.ConstVal). first_value a (const_array (names_in s t m) (elem_of (var_on s r).ty) (ex_at s q))) refl d (λ w. refl)
 
-    pub first-long : x ≡ Err N.LongString → Inits t (init_of (names_in s t (lines_in s)) (var_on s r).ty (var_on s r).init) (Err LongString) u
-    first-long d = fold-long (init_of (names_in s t (lines_in s)) (var_on s r).ty) (λ (a : Result Tree.ConstVal). first_value a (const_array (names_in s t (lines_in s)) (elem_of (var_on s r).ty) (ex_at s q))) refl d refl
+    pub first-long : x ≡ Err N.LongString → Inits t (init_of (names_in s t m) (var_on s r).ty (var_on s r).init) (Err LongString) u
+    first-long d = fold-long (init_of (names_in s t m) (var_on s r).ty) (λ (a : Result Tree.ConstVal). first_value a (const_array (names_in s t m) (elem_of (var_on s r).ty) (ex_at s q))) refl d refl
 
-    pub plain-folded : {v : ConstVal} → x ≡ Ok v → Inits t (or_pending (plain_init (names_in s t (lines_in s)) (var_on s r).init)) (Ok (Some (Value v))) u
-    plain-folded d = fold-value (λ (o : Option Ex). or_pending (plain_init (names_in s t (lines_in s)) o)) (λ (a : Result Tree.ConstVal). or_pending (bind a (λ (w : Tree.ConstVal). ok (Init.const_init w)))) refl d (λ w. refl)
+    pub plain-folded : {v : ConstVal} → x ≡ Ok v → Inits t (or_pending (plain_init (names_in s t m) (var_on s r).init)) (Ok (Some (Value v))) u
+    plain-folded d = fold-value (λ (o : Option Ex). or_pending (plain_init (names_in s t m) o)) (λ (a : Result Tree.ConstVal). or_pending (bind a (λ (w : Tree.ConstVal). ok (Init.const_init w)))) refl d (λ w. refl)
 
-    pub plain-stopped : (e : NoValue) → x ≡ Err e → Inits t (or_pending (plain_init (names_in s t (lines_in s)) (var_on s r).init)) (Err (item_of e)) u
+    pub plain-stopped : (e : NoValue) → x ≡ Err e → Inits t (or_pending (plain_init (names_in s t m) (var_on s r).init)) (Err (item_of e)) u
     unfolding result_in
     plain-stopped N.Failed d = record { result = sym (rw (init-some l hq z, folded, d)); stands = tt; keeps = keeps-fold }
-    plain-stopped N.LongString d = fold-long (λ (o : Option Ex). or_pending (plain_init (names_in s t (lines_in s)) o)) (λ (a : Result Tree.ConstVal). or_pending (bind a (λ (w : Tree.ConstVal). ok (Init.const_init w)))) refl d refl
+    plain-stopped N.LongString d = fold-long (λ (o : Option Ex). or_pending (plain_init (names_in s t m) o)) (λ (a : Result Tree.ConstVal). or_pending (bind a (λ (w : Tree.ConstVal). ok (Init.const_init w)))) refl d refl
 
     module _ (d : x ≡ Err N.Failed) where
-      pub array-task : (Valued s r q) × (ConstsLogged s u (lines_in s))
+      pub array-task : (Valued s r q) × (ConstsLogged s u m)
       array-task = (record { line = line_kept keeps-fold l; value = line_kept keeps-fold (value_line l hq z) }, logged-kept keeps-fold o)
 
-      pub first-array : {y : P.Result (Option First) NoItem} {w : Bytes} → Inits u (array_value (const_array (names_in s u (lines_in s)) (elem_of (var_on s r).ty) (ex_at s q))) y w → Inits t (init_of (names_in s t (lines_in s)) (var_on s r).ty (var_on s r).init) y w
+      pub first-array : {y : P.Result (Option First) NoItem} {w : Bytes} → Inits u (array_value (const_array (names_in s u m) (elem_of (var_on s r).ty) (ex_at s q))) y w → Inits t (init_of (names_in s t m) (var_on s r).ty (var_on s r).init) y w
       unfolding result_in
       first-array a = record {
         result = rw (log-kept keeps-fold o) at a.result ∙ sym (rw (init-some l hq z, folded, d));
