@@ -122,7 +122,7 @@ module _ (s t : Bytes) (c : Checked s) where
 
 -- they stay collected where all that stands up to the table's end is kept
 pub collected-kept : {s t u : Bytes} {g : Globals} → Kept 9216 t u → GlobalsCollected s t g → GlobalsCollected s u g
-collected-kept {s} {t} {u} {n} {g} a c = record {
+collected-kept {s} {t} {u} {g} a c = record {
   tabled = tabled-kept a c.tabled;
   places = λ ns. places-kept a s g.count c.tabled.few ∙ c.places ns;
   end = c.end;

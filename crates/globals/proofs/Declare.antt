@@ -59,7 +59,7 @@ none_of {p} h = elim p as (λ (o : Option ℕ). is_some o ≡ false → o ≡ No
 
 -- ---- a new place
 
-module _ (s t : Bytes) (r j : ℕ) (g : Globals) (st : PlacesEntered s t g) (l : VarLine s r) (hj : j < 16) (full : g.count < 256)
+module _ (s t : Bytes) (r j : ℕ) (g : Globals) (st : PlacesEntered s t g) (l : VarLine s r) (hj : j < 16) (full : g.count < 256) (room : 62464 ≤ length t)
     (v : ℕ) (hv : type_at s v ≡ type_on s r) (size : ℕ) (hs : size ≡ global_size (type_at s v)) (off : ℕ) (ho : off ≡ align_up size g.end) (d : ℕ) (hd : d ≡ digest (name_on s r j)) (small : d < 256) where
   size_is : size ≡ global_size (type_on s r)
   size_is = hs ∙ ap global_size hv
@@ -87,9 +87,9 @@ module _ (s t : Bytes) (r j : ℕ) (g : Globals) (st : PlacesEntered s t g) (l :
   unfolding with_entry global_at
   entry_new =
       rw (
-        line-new t g.count r j off d full l.checked.whole.room line_low,
-        position-new t g.count r j off d full l.checked.whole.room,
-        offset-new t g.count r j off d full l.checked.whole.room (omega (arith, off-low)),
+        line-new t g.count r j off d full room line_low,
+        position-new t g.count r j off d full room,
+        offset-new t g.count r j off d full room (omega (arith, off-low)),
         off-is,
       )
 
@@ -100,8 +100,8 @@ module _ (s t : Bytes) (r j : ℕ) (g : Globals) (st : PlacesEntered s t g) (l :
       last : GlobalEntry s with_entry g.count
       last = record {
         low = full;
-        line = rw (line-new t g.count r j off d full l.checked.whole.room line_low) (var-outside outside-new l);
-        digest = digest-new t g.count r j off d full l.checked.whole.room ∙ hd ∙ ap (λ (e : Global). digest e.name) (sym entry_new);
+        line = rw (line-new t g.count r j off d full room line_low) (var-outside outside-new l);
+        digest = digest-new t g.count r j off d full room ∙ hd ∙ ap (λ (e : Global). digest e.name) (sym entry_new);
       }
 
       old : i < g.count → GlobalEntry s with_entry i
@@ -142,7 +142,7 @@ module _ (s t : Bytes) (r j : ℕ) (g : Globals) (st : PlacesEntered s t g) (l :
 
     chained-new : Chained with_entry global_chains h.count
     unfolding with_entry
-    chained-new = rw (hc, add-one) (chained-entered t g.count r j off d full l.checked.whole.room st.tabled.chained)
+    chained-new = rw (hc, add-one) (chained-entered t g.count r j off d full room st.tabled.chained)
 
     laid-new : PlacesLaid s t with_entry (lay_name (type_on s r) (name_on s r j) (allocation_in s t g)) h (g.count + 1)
     laid-new = record {

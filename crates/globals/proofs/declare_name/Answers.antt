@@ -1,3 +1,4 @@
+use Rattle.std.proofs.Common.{rules}
 -- `globals::declare_name` meets its contract.
 use Rattle.globals.specs.Collect.{allocation_in}
 use Rattle.global_table.specs.Table.{offset_of, name_on, type_on}
@@ -25,5 +26,5 @@ returns c =
     let a = c.args in
     let p = c.requires in
     let e = nil-test c.name_at-name.ensures c.is_nil.ensures in
-    laid-entered a.sheet.now a.work.now a.r a.j a.g p.0 p.1 p.2 p.3 _ c.type_of-ty.ensures.1 _ c.global_size-size.ensures.0 _ c.align_up-offset.ensures.0 _ (c.digest.ensures.0 ∙ rw c.name_at-name.ensures) c.digest.ensures.1
+    laid-entered a.sheet.now a.work.now a.r a.j a.g p.0 p.1 p.2 p.3 (search rules) _ c.type_of-ty.ensures.1 _ c.global_size-size.ensures.0 _ c.align_up-offset.ensures.0 _ (c.digest.ensures.0 ∙ rw c.name_at-name.ensures) c.digest.ensures.1
     _ (e ∙ c.if-is_nil.false) (rw (← c.name_at-name.ensures) c.entry_number.ensures.0) (rw (← c.name_at-name.ensures) c.entry_number.ensures.2) (none_of (sym c.is_some.ensures ∙ c.if-is_some.false)) _ refl refl c.enter.ensures
