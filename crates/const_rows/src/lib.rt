@@ -9,9 +9,9 @@ ghost use Rattle.const_rows.specs.Rows.{new_part, rows_to, entry_rows};
 
 use codes::area::Space;
 use codes::value::{self, Value};
+use lines::Sheet;
 use names::Key;
 use write::Writer;
-use lines::Sheet;
 
 // The fields of the value that a look-up found, to the row's end.
 fn put_value(work: &Space, w: &mut Writer, r: Option<usize>)

@@ -21,9 +21,9 @@ use Rattle.semantics.specs.Fold.{Names, bind, fold, fold_unary, fold_binary, fol
 use Rattle.semantics.specs.Fold.Result.{ok}
 use Rattle.decimal.specs.Number as Number
 use Rattle.form.specs.Table.{row_node}
-use Rattle.lines.specs.Lines.{lines_in, read_at, nodes_in, form_at, Whole}
-use Rattle.checks.specs.Checks.{Checked, Kept}
-use Rattle.checks.proofs.Kept.{kept-all, kept_then, kept_less, kept_at}
+use Rattle.lines.specs.Lines.{read_at, nodes_in, form_at}
+use Rattle.checks.specs.Checks.{Kept}
+use Rattle.checks.proofs.Kept.{kept-all, kept_then, kept_less}
 use Rattle.values.specs.declared.ConstVal.{ConstVal}
 use Rattle.values.specs.declared.ConstVal.TheVariants.{Int, Real, Str}
 use Rattle.values.specs.declared.NoValue.{NoValue}
@@ -72,7 +72,7 @@ module _ (names : Names) (iota : ℤ) where
 
 -- ---- operands
 
-module _ {s t : Bytes} {r : ℕ} (l : OperatorLine s r) where
+module _ {s : Bytes} {r : ℕ} (l : OperatorLine s r) where
   abbrev fields : List Bytes
   fields = (read_at s (r - 1)).fields
 
@@ -80,22 +80,22 @@ module _ {s t : Bytes} {r : ℕ} (l : OperatorLine s r) where
   form_here = form_at s (r - 1)
 
   -- the only or left operand is an earlier expression
-  operand-line : RefTo s (lines_in s) r 69 (get_or fields (cond (eqb form_here 16) 0 1) []) (operand_of s t r)
+  operand-line : RefTo s r 69 (get_or fields (cond (eqb form_here 16) 0 1) []) (operand_of s r)
   unfolding forms operand_of
   operand-line =
-      by-form (λ f. form_here ≡ f → RefTo s (lines_in s) r 69 (get_or fields (cond (eqb f 16) 0 1) []) (number_of (get_or fields (cond (eqb f 16) 0 1) [])))
+      by-form (λ f. form_here ≡ f → RefTo s r 69 (get_or fields (cond (eqb f 16) 0 1) []) (number_of (get_or fields (cond (eqb f 16) 0 1) [])))
       (λ e. ref-good l.line 13 1 e k_ex refl) (λ e. ref-good l.line 14 1 e k_ex refl) (λ e. ref-good l.line 15 1 e k_ex refl) (λ e. ref-good l.line 16 0 e k_ex refl)
       form_here l.low l.high refl
 
   fold-two : (names : Names) (iota : ℤ) → form_here ≡ 14
-      → fold names iota (ex_at s r) ≡ bind (fold names iota (ex_at s (operand_of s t r))) (λ v. bind (fold names iota (ex_at s (number_of (get_or fields 2 [])))) (fold_binary (binary_at (number_of (get_or fields 0 []))) v))
+      → fold names iota (ex_at s r) ≡ bind (fold names iota (ex_at s (operand_of s r))) (λ v. bind (fold names iota (ex_at s (number_of (get_or fields 2 [])))) (fold_binary (binary_at (number_of (get_or fields 0 []))) v))
   unfolding operand_of
   fold-two names iota e =
       let q : ex_at s r ≡ binary (ex_at s (number_of (get_or fields 1 []))) (binary_at (number_of (get_or fields 0 []))) (ex_at s (number_of (get_or fields 2 []))) =
       ex-is l.line ∙ ap (λ (f : ℕ). (row_node (nodes_in s) f fields).ex) e ∙ made-binary (nodes_in s) fields in
       rw (q, e) (binary-steps names iota (ex_at s (number_of (get_or fields 1 []))) (binary_at (number_of (get_or fields 0 []))) (ex_at s (number_of (get_or fields 2 []))))
 
-  right-line : form_here ≡ 14 → RefTo s (lines_in s) r 69 (get_or fields 2 []) (number_of (get_or fields 2 []))
+  right-line : form_here ≡ 14 → RefTo s r 69 (get_or fields 2 []) (number_of (get_or fields 2 []))
   unfolding forms
   right-line e = ref-good l.line 14 2 e k_ex refl
 
@@ -103,14 +103,14 @@ module _ {s t : Bytes} {r : ℕ} (l : OperatorLine s r) where
   unfolding forms
   binary-number e h = h ∙ small-number 18 (get_or fields 0 []) (omega arith) (field-good l.line 14 0 e Atom.binary_op refl)
 
-  pub operand-first : {v : ℕ} → form_here ≡ 16 → v ≡ Number.number_up_to 65536 (get_or fields 0 []) → v ≡ operand_of s t r
+  pub operand-first : {v : ℕ} → form_here ≡ 16 → v ≡ Number.number_up_to 65536 (get_or fields 0 []) → v ≡ operand_of s r
   operand-first e h = h ∙ (rw e at operand-line.exact)
 
-  pub operand-second : {v : ℕ} → (form_here ≡ 16 → ⊥) → v ≡ Number.number_up_to 65536 (get_or fields 1 []) → v ≡ operand_of s t r
+  pub operand-second : {v : ℕ} → (form_here ≡ 16 → ⊥) → v ≡ Number.number_up_to 65536 (get_or fields 1 []) → v ≡ operand_of s r
   operand-second e h = h ∙ (rw (ne_eqb form_here 16 e) at operand-line.exact)
 
   -- a fold of a line with one operand goes on from the operand's value
-  fold-one : (names : Names) (iota : ℤ) → (form_here ≡ 14 → ⊥) → fold names iota (ex_at s r) ≡ bind (fold names iota (ex_at s (operand_of s t r))) (on_one (ex_at s r))
+  fold-one : (names : Names) (iota : ℤ) → (form_here ≡ 14 → ⊥) → fold names iota (ex_at s r) ≡ bind (fold names iota (ex_at s (operand_of s r))) (on_one (ex_at s r))
   unfolding operand_of
   fold-one names iota z =
       by-form (λ f. form_here ≡ f → fold names iota (ex_at s r) ≡ bind (fold names iota (ex_at s (number_of (get_or fields (cond (eqb f 16) 0 1) [])))) (on_one (ex_at s r)))
@@ -150,7 +150,7 @@ module _ {s t : Bytes} {r : ℕ} {v : ConstVal} {top : ℕ} (a : Applies s t r v
       (answers-as (sym (ap (λ (x : Ex). on_one x (value_in t v)) d)) (b t top), kept-all)
 
   -- the line of the type
-  pub cast-line : form_at s (r - 1) ≡ 15 → RefTo s (lines_in s) r 75 (get_or (read_at s (r - 1)).fields 0 []) (number_of (get_or (read_at s (r - 1)).fields 0 []))
+  pub cast-line : form_at s (r - 1) ≡ 15 → RefTo s r 75 (get_or (read_at s (r - 1)).fields 0 []) (number_of (get_or (read_at s (r - 1)).fields 0 []))
   unfolding forms
   cast-line e = ref-good a.line.line 15 0 e k_ty refl
 
@@ -205,41 +205,30 @@ module _ {s t : Bytes} {m r top : ℕ} (a : Foldable s t m r top) where
     pub operator-line : OperatorLine s r
     operator-line = record { line = a.line; low = low; high = high }
 
-    -- the sheet stays checked
-    checked-behind : {u : Bytes} → Kept top t u → Checked s
-    checked-behind w = a.line.checked
-
-    pub readable-behind : {u : Bytes} → Kept top t u → Whole s × (r - 1 < lines_in s)
-    readable-behind w = ((checked-behind w).whole, in-sheet a.line)
-
     -- a line that it refers to can be folded behind a string
-    below : {u : Bytes} → Kept top t u → {x : Bytes} {k : ℕ} → RefTo s (lines_in s) r 69 x k → (p : ℕ) → top ≤ p → p ≤ top + 256 → Foldable s u m k p
+    below : {u : Bytes} → Kept top t u → {x : Bytes} {k : ℕ} → RefTo s r 69 x k → (p : ℕ) → top ≤ p → p ≤ top + 256 → Foldable s u m k p
     below w {k = k} b p h l = record {
-      line = record { checked = checked-behind w; first = b.first; last = b.last; kind = b.kind };
+      line = record { checked = a.line.checked; first = b.first; last = b.last; kind = b.kind };
       log = logged-kept (kept_less a.low w) a.log;
       low = omega (arith, a.low);
       room = omega (arith, a.room, b.lower, w.long);
     }
 
-    pub operand-foldable : {k : ℕ} → k ≡ operand_of s t r → Foldable s t m k top
+    pub operand-foldable : {k : ℕ} → k ≡ operand_of s r → Foldable s t m k top
     operand-foldable e = rw e (below kept-all (operand-line operator-line) top (omega arith) (omega arith))
 
-    pub operand-before : {k : ℕ} → k ≡ operand_of s t r → k < r
+    pub operand-before : {k : ℕ} → k ≡ operand_of s r → k < r
     operand-before e = omega (arith, e, (operand-line operator-line).before)
 
     -- the fold of the operand gave x
-    module _ {iota k : ℕ} (hk : k ≡ operand_of s t r) {u : Bytes} {x : Result ConstVal NoValue} (f : Folds s t m iota k top u x) where
-      operand-result : fold (names_in s t m) (pos iota) (ex_at s (operand_of s t r)) ≡ result_in u x
+    module _ {iota k : ℕ} (hk : k ≡ operand_of s r) {u : Bytes} {x : Result ConstVal NoValue} (f : Folds s t m iota k top u x) where
+      operand-result : fold (names_in s t m) (pos iota) (ex_at s (operand_of s r)) ≡ result_in u x
       unfolding fold_at
       operand-result = rw (← hk) (sym f.answer.value)
 
-      goes-on : (K : Tree.ConstVal → Fold.Result Tree.ConstVal) → fold (names_in s t m) (pos iota) (ex_at s r) ≡ bind (fold (names_in s t m) (pos iota) (ex_at s (operand_of s t r))) K → fold_at s t m iota r ≡ bind (result_in u x) K
+      goes-on : (K : Tree.ConstVal → Fold.Result Tree.ConstVal) → fold (names_in s t m) (pos iota) (ex_at s r) ≡ bind (fold (names_in s t m) (pos iota) (ex_at s (operand_of s r))) K → fold_at s t m iota r ≡ bind (result_in u x) K
       unfolding fold_at
       goes-on K e = e ∙ ap (λ z. bind z K) operand-result
-
-      same-form : form_at u (r - 1) ≡ form_at s (r - 1)
-      unfolding form_at
-      same-form = kept_at f.kept (2048 + (r - 1)) (omega (arith, a.low, a.line.last, a.line.checked.whole.few, a.line.first))
 
       pub left-stops : {e : NoValue} → x ≡ Err e → Folds s t m iota r top u (Err e)
       left-stops {e} h = go (eqb (form_at s (r - 1)) 14) refl
@@ -256,12 +245,7 @@ module _ {s t : Bytes} {m r top : ℕ} (a : Foldable s t m r top) where
         value-at = subst (ResultAt top) hv f.answer.at
 
         pub applies : (form_at s (r - 1) ≡ 14 → ⊥) → Applies s u r v top
-        applies z = let e = same-form in record {
-          line = record { line = record { checked = checked-behind f.kept; first = a.line.first; last = a.line.last; kind = a.line.kind }; low = omega arith; high = omega arith };
-          one = λ q. z (sym e ∙ q);
-          at = value-at;
-          room = omega (arith, a.room, depth-some a.line, f.kept.long);
-        }
+        applies z = record { line = operator-line; one = z; at = value-at; room = omega (arith, a.room, depth-some a.line, f.kept.long) }
 
         pub applied : (form_at s (r - 1) ≡ 14 → ⊥) → {w : Bytes} {y : Result ConstVal NoValue} → Answers w top y (on_one (ex_at s r) (value_in u v)) × Kept top u w → Folds s t m iota r top w y
         unfolding result_in
@@ -314,5 +298,5 @@ module _ {s t : Bytes} {m r top : ℕ} (a : Foldable s t m r top) where
 -- ---- where the fold of a checked sheet's line begins
 
 -- between the constants' strings and 32 strings below the end there is always room
-pub foldable : {s t : Bytes} {m r top : ℕ} → ExLine s r → ConstsLogged s t m → 49152 ≤ top → top ≤ 57344 → Foldable s t m r top
-foldable {r = r} l g h k = record { line = l; log = g; low = h; room = omega (arith, l.checked.low (r - 1) (in-sheet l), l.checked.whole.room) }
+pub foldable : {s t : Bytes} {m r top : ℕ} → ExLine s r → ConstsLogged s t m → 49152 ≤ top → top ≤ 54272 → 62464 ≤ length t → Foldable s t m r top
+foldable {r = r} l g h k long = record { line = l; log = g; low = h; room = omega (arith, l.checked.low (r - 1) (in-sheet l)) }

@@ -19,8 +19,8 @@ pub record OperatorLine (s : Bytes) (r : ℕ) : Type 0 where
   pub high : form_at s (r - 1) ≤ 16
 
 -- the line of the only or left operand: `len` has it first, others behind an operator or a type
-unfoldable pub operand_of : Bytes → Bytes → ℕ → ℕ
-operand_of s t r = number_of (get_or (read_at s (r - 1)).fields (cond (eqb (form_at s (r - 1)) 16) 0 1) [])
+unfoldable pub operand_of : Bytes → ℕ → ℕ
+operand_of s r = number_of (get_or (read_at s (r - 1)).fields (cond (eqb (form_at s (r - 1)) 16) 0 1) [])
 
 -- what an expression makes of the value of its only operand
 abbrev pub on_one : Ex → Tree.ConstVal → Result Tree.ConstVal

@@ -9,13 +9,13 @@ ghost use Rattle.fold.specs.Operators.{on_one, operand_of, OperatorLine, Applies
 
 use codes::area::Space;
 use codes::{binary, ex, unary};
-use values::{ConstVal, Folded, NoValue};
 use lines::Sheet;
+use values::{ConstVal, Folded, NoValue};
 
 // The line of the only or left operand of line r.
-fn operand(sheet: &Sheet, work: &Space, r: usize) -> usize
+fn operand(sheet: &Sheet, r: usize) -> usize
     requires { OperatorLine sheet.now r }
-    ensures { result ≡ operand_of sheet.now work.now r }
+    ensures { result ≡ operand_of sheet.now r }
 {
     if sheet.form_at(r - 1) == ex::LEN {
         sheet.number_at(r - 1, 0)
@@ -43,7 +43,14 @@ fn apply(sheet: &Sheet, work: &mut Space, r: usize, v: ConstVal, top: usize) -> 
 }
 
 // The value of line r, by the constants that are known: a string stands at `top`. Each line under r is visited once.
-pub fn fold_const(sheet: &Sheet, work: &mut Space, consts: usize, iota: u32, r: usize, top: usize) -> Folded
+pub fn fold_const(
+    sheet: &Sheet,
+    work: &mut Space,
+    consts: usize,
+    iota: u32,
+    r: usize,
+    top: usize,
+) -> Folded
     requires { Foldable sheet.now work.old consts r top }
     ensures { Folds sheet.now work.old consts iota r top work.new result }
 {
@@ -54,7 +61,7 @@ pub fn fold_const(sheet: &Sheet, work: &mut Space, consts: usize, iota: u32, r: 
     if ex::LEN < f {
         return Err(NoValue::Failed);
     }
-    let v = fold_const(sheet, work, consts, iota, operand(sheet, work, r), top)?;
+    let v = fold_const(sheet, work, consts, iota, operand(sheet, r), top)?;
     if f != ex::BIN {
         return apply(sheet, work, r, v, top);
     }

@@ -34,7 +34,7 @@ use Rattle.write.proofs.Writes.{writes_as, writes_next}
 use Rattle.write.proofs.Wrote.{wrote_as}
 use Rattle.form.specs.Table.{row_at, row_node}
 use Rattle.semantics.proofs.Common.{never, both}
-use Rattle.lines.specs.Lines.{lines_in, text_at, read_at, nodes_in, form_at}
+use Rattle.lines.specs.Lines.{text_at, read_at, nodes_in, form_at}
 use Rattle.lines.proofs.Line.{fields-are, line-short}
 use Rattle.checks.specs.Checks.{Kept}
 use Rattle.checks.proofs.Kept.{kept-all, wrote_kept}
@@ -144,7 +144,7 @@ module _ {s : Bytes} {r : ℕ} (l : ExLine s r) where
 
 -- ---- numbers and strings
 
-module _ {s t : Bytes} {r : ℕ} (l : ExLine s r) where
+module _ {s : Bytes} {r : ℕ} (l : ExLine s r) where
   module _ {x : Bytes} (hx : x ≡ get_or (read_at s (r - 1)).fields 0 []) where
     pub int-field : form_at s (r - 1) ≡ 8 → holds Atom.i64 x ≡ true
     unfolding forms
@@ -158,9 +158,9 @@ module _ {s t : Bytes} {r : ℕ} (l : ExLine s r) where
     unfolding forms
     text-field e = rw hx (field-good l 10 0 e Atom.text refl, field-within l 0)
 
-  scalar-fold : (m iota : ℕ) → form_at s (r - 1) < 11 → fold_at s t m iota r ≡ ok (scalar_of (form_at s (r - 1)) (get_or (read_at s (r - 1)).fields 0 []))
+  scalar-fold : (t : Bytes) (m iota : ℕ) → form_at s (r - 1) < 11 → fold_at s t m iota r ≡ ok (scalar_of (form_at s (r - 1)) (get_or (read_at s (r - 1)).fields 0 []))
   unfolding fold_at fold
-  scalar-fold m iota h = rw (ex-is l, made-scalar (nodes_in s) (form_at s (r - 1)) (read_at s (r - 1)).fields (form-span l).0 h)
+  scalar-fold t m iota h = rw (ex-is l, made-scalar (nodes_in s) (form_at s (r - 1)) (read_at s (r - 1)).fields (form-span l).0 h)
 
 module _ (x : Bytes) where
   pub scalar-int : {f : ℕ} → f ≡ 8 → v_int (or_else (pos 0) (int_of x)) ≡ scalar_of f x
@@ -205,14 +205,14 @@ module _ {t : Bytes} {k : Option ℕ} {top : ℕ} (w : AnsweredAt t k top) where
     pub found-apart : kind ≡ 3 → RunsApart (length t) (b % 65536) top (b / 65536)
     found-apart e =
         let x = found-text e in
-        record { source = omega (arith, x.high, w.answered.long); target = omega (arith, x.short, w.room); apart = inl (omega (arith, x.high, w.low)) }
+        record { source = omega (arith, x.high, w.room, w.low); target = omega (arith, x.short, w.room); apart = inl (omega (arith, x.high, w.low)) }
 
     pub found-string : kind ≡ 3 → {u : Bytes} → u ≡ over t top (take (b / 65536) (drop (b % 65536) t)) → Answers u top (Ok (Str top (b / 65536))) (from_option (found t k)) × Kept top t u
     unfolding result_in value_in
     found-string e {u} q =
         let x = found-text e in
         let y = take (b / 65536) (drop (b % 65536) t) in
-        let l : length y ≡ b / 65536 = length-take-le (b / 65536) (drop (b % 65536) t) (omega (arith, length-drop (b % 65536) t, x.high, w.answered.long)) in
+        let l : length y ≡ b / 65536 = length-take-le (b / 65536) (drop (b % 65536) t) (omega (arith, length-drop (b % 65536) t, x.high, w.room, w.low)) in
         let v : Wrote t top y u (min (top + length y) (length t + 1)) = record { bytes = q; place = refl } in
         let z : string_in u top (b / 65536) ≡ y = ap (string_in u top) (sym l) ∙ wrote-there v (omega (arith, l, x.short, w.room)) in
         (record { value = rw (by-slot, value-text t kind b e) (ap (λ (a : Bytes). ok (v_str a)) z); at = (refl, x.short) }, wrote_kept v)
@@ -229,7 +229,7 @@ module _ {s t : Bytes} {m r top : ℕ} (a : Foldable s t m r top) where
 
   pub answered-at : {k : Option ℕ} → count_to k ≤ m → AnsweredAt t k top
   answered-at {k} h = record {
-    answered = answered a.log a.line.checked h;
+    answered = answered a.log h;
     low = a.low;
     room = room-here;
   }
@@ -249,7 +249,7 @@ module _ {s t : Bytes} {m r top : ℕ} (a : Foldable s t m r top) where
 
   -- the line of the module
   module _ (e : form_at s (r - 1) ≡ 12) {k : ℕ} (hk : k ≡ Number.number_up_to 65536 (get_or (read_at s (r - 1)).fields 0 [])) where
-    module-ref : RefTo s (lines_in s) r 69 (get_or (read_at s (r - 1)).fields 0 []) (number_of (get_or (read_at s (r - 1)).fields 0 []))
+    module-ref : RefTo s r 69 (get_or (read_at s (r - 1)).fields 0 []) (number_of (get_or (read_at s (r - 1)).fields 0 []))
     unfolding forms
     module-ref = ref-good a.line 12 0 e k_ex refl
 
@@ -283,7 +283,7 @@ module _ {s t : Bytes} {m r top : ℕ} (a : Foldable s t m r top) where
 
   pub scalar-folds : {iota : ℕ} → form_at s (r - 1) < 11 → {u : Bytes} {v : ConstVal} → Casts t top (scalar_of (form_at s (r - 1)) (get_or (read_at s (r - 1)).fields 0 [])) u v → Folds s t m iota r top u (Ok v)
   unfolding result_in
-  scalar-folds {iota} h b = record { answer = record { value = ap ok b.value ∙ sym (scalar-fold a.line m iota h); at = b.at }; kept = b.kept }
+  scalar-folds {iota} h b = record { answer = record { value = ap ok b.value ∙ sym (scalar-fold a.line t m iota h); at = b.at }; kept = b.kept }
 
 -- what is neither a name nor a module's name
 pub scalar-form : {s t : Bytes} {m r top : ℕ} → Leaf s t m r top → {f : ℕ} → f ≡ form_at s (r - 1) → (f ≡ 11 → ⊥) → (f ≡ 12 → ⊥) → form_at s (r - 1) < 11

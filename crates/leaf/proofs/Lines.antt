@@ -116,10 +116,10 @@ small-number m f l h = let w = up_to m f h in number-exact f w.0 (omega (arith, 
 -- ---- a line
 
 -- a field x of line r refers to line v, which is of kind k
-pub record RefTo (s : Bytes) (n r k : ℕ) (x : Bytes) (v : ℕ) : Type 0 where
+pub record RefTo (s : Bytes) (r k : ℕ) (x : Bytes) (v : ℕ) : Type 0 where
   pub first : 0 < v
   pub before : v < r
-  pub last : v ≤ n
+  pub last : v ≤ lines_in s
   pub kind : letter (read_at s (v - 1)).form.kind ≡ k
   pub lower : depth_of (reads_in s) (v - 1) < depth_of (reads_in s) (r - 1)
   pub exact : Number.number_up_to 65536 x ≡ v
@@ -146,7 +146,7 @@ module _ {s : Bytes} {r : ℕ} (l : ExLine s r) where
         let q : (read_at s (r - 1)).form ≡ row_at f = form-is s l.checked.whole (r - 1) in-sheet ∙ ap row_at e in
         field-ref P (row_at f).parts (read_at s (r - 1)).fields j k p (rw e at (read_fits s l.checked.whole (r - 1) in-sheet)) (rw q at h)
 
-    pub ref-good : (k : Kind) → HoldsAtom (row_at f).parts j (ref k) → RefTo s (lines_in s) r (letter k) (get_or (read_at s (r - 1)).fields j []) (number_of (get_or (read_at s (r - 1)).fields j []))
+    pub ref-good : (k : Kind) → HoldsAtom (row_at f).parts j (ref k) → RefTo s r (letter k) (get_or (read_at s (r - 1)).fields j []) (number_of (get_or (read_at s (r - 1)).fields j []))
     unfolding fine_refs lower_refs
     ref-good k p =
         let x = get_or (read_at s (r - 1)).fields j [] in

@@ -17,10 +17,10 @@ ghost use Rattle.leaf.specs.Folds.{scalar_of, Folds, Leaf, ScalarLine, Ident, Qu
 use codes::area::Space;
 use codes::ex;
 use codes::value::{self, Value};
+use lines::Sheet;
 use names::Key;
 use values::{ConstVal, Folded, NoValue};
 use write::Writer;
-use lines::Sheet;
 
 fn integer(x: &[u8]) -> ConstVal
     requires { Form.holds Form.Atom.i64 x.now ≡ true }
@@ -51,7 +51,7 @@ fn string(x: &[u8], work: &mut Space, top: usize) -> ConstVal
 
 fn scalar(sheet: &Sheet, work: &mut Space, r: usize, top: usize) -> ConstVal
     requires { ScalarLine sheet.now work.old r top }
-    ensures { Casts work.old top (scalar_of (form_at work.old (r - 1)) (get_or (read_at sheet.now (r - 1)).fields 0 [])) work.new result }
+    ensures { Casts work.old top (scalar_of (form_at sheet.now (r - 1)) (get_or (read_at sheet.now (r - 1)).fields 0 [])) work.new result }
 {
     let x = sheet.field_at(r - 1, 0);
     match sheet.form_at(r - 1) {
@@ -115,7 +115,14 @@ fn qualified(sheet: &Sheet, work: &mut Space, consts: usize, r: usize, top: usiz
 }
 
 // The value of line r, by the constants that are known: a string stands at `top`.
-pub fn leaf(sheet: &Sheet, work: &mut Space, consts: usize, iota: u32, r: usize, top: usize) -> Folded
+pub fn leaf(
+    sheet: &Sheet,
+    work: &mut Space,
+    consts: usize,
+    iota: u32,
+    r: usize,
+    top: usize,
+) -> Folded
     requires { Leaf sheet.now work.old consts r top }
     ensures { Folds sheet.now work.old consts iota r top work.new result }
 {

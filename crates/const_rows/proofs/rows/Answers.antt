@@ -13,5 +13,5 @@ loop-i-preserved c = (omega (arith, c.loop-i-test.true), rows_next c.args.sheet.
 pub returns : goal.returns
 returns c =
     let a = c.args in
-    let z : c.loop-i.i ≡ a.c.consts = omega (arith, c.loop-i.invariant.0, c.loop-i-test.false) in
-    writes_as (ap (rows_to a.plain a.sheet.now a.work.now a.c.consts) z) c.loop-i.invariant.1
+    let z : c.loop-i.i ≡ a.consts = omega (arith, c.loop-i.invariant.0, c.loop-i-test.false) in
+    writes_as (ap (rows_to a.plain a.sheet.now a.work.now a.consts) z) c.loop-i.invariant.1

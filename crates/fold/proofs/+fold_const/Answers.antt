@@ -2,7 +2,7 @@
 use native.Mathlib.Omega.{arith}
 use mathlib.Core.Path.{sym, ◌∙◌}
 use Rattle.std.proofs.lemmas.Result.{err_from_is_err_and}
-use Rattle.fold.proofs.Steps.{fails-behind, readable-behind, operand-foldable, operand-before, left-stops, applies, applied, right-foldable, right-before, right_kept, right-stops, binary-folds}
+use Rattle.fold.proofs.Steps.{fails-behind, operand-foldable, operand-before, left-stops, applies, applied, right-foldable, right-before, right-stops, binary-folds}
 use Rattle.fold.proofs.+fold_const.Goals as goal
 
 pub returns-then-f-gt-LEN : goal.returns-then-f-gt-LEN

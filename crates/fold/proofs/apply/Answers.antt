@@ -9,6 +9,9 @@ returns-in-13 c = applies-unary c.requires (sym c.form_at.ensures.0 ∙ c.in-13.
 pub overflow_sub-number_at : goal.overflow_sub-number_at
 overflow_sub-number_at c = let w = cast-line c.requires (sym c.form_at.ensures.0 ∙ c.in-15.is) in omega (arith, c.number_at-in-15.ensures.0, w.exact, w.first)
 
+pub form_at-code-requires : goal.form_at-code-requires
+form_at-code-requires c = let w = cast-line c.requires (sym c.form_at.ensures.0 ∙ c.in-15.is) in omega (arith, c.number_at-in-15.ensures.0, w.exact, w.first, w.last)
+
 pub returns-in-15 : goal.returns-in-15
 returns-in-15 c = applies-cast c.requires (sym c.form_at.ensures.0 ∙ c.in-15.is) c.number_at-in-15.ensures.0 c.form_at-code.ensures.0 c.fold_cast.ensures
 
