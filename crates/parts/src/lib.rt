@@ -7,7 +7,6 @@ ghost use Rattle.parts.specs.Parts.{Listable, declared_text, types_text};
 
 use data_rows::Counts;
 use names::Known;
-use records::key::Log;
 use tables::Tables;
 use type_rows::KeyCounts;
 use write::Writer;
@@ -26,7 +25,7 @@ pub fn put_declared(sheet: &[u8], work: &mut [u8], n: usize, x: Tables, w: &mut 
         lines: n,
         consts: x.consts,
     };
-    const_rows::const_rows(sheet, work, c, w);
+    const_rows::const_rows(sheet, work, entries, w);
     global_rows::global_rows(sheet, work, n, x.globals, w);
 }
 
@@ -42,7 +41,7 @@ pub fn put_types(sheet: &[u8], work: &mut [u8], n: usize, x: Tables, w: &mut Wri
         globals: x.globals,
         frames,
     };
-    let keys = data_rows::data_rows(sheet, work, c, w, x.keys);
+    let keys = data_rows::data_rows(sheet, work, entries, w, x.keys);
     let log = Log {
         lines: n,
         entries: x.records,

@@ -11,7 +11,7 @@ ghost use Rattle.record_rows.specs.Rows.{TagWrote, rec_text, shape_text, key_row
 
 use codes::{area::{self, Space}, decl};
 use layout::map::map_bytes;
-use records::key::{Log, case_of, is_first, line_of, name_of, newest_of, number_of, tag_of};
+use records::key::{case_of, is_first, line_of, name_of, newest_of, number_of, tag_of};
 use shapes::TAG_BYTES;
 use write::Writer;
 use lines::Sheet;
@@ -122,22 +122,22 @@ fn put_record(sheet: &Sheet, work: &mut Space, i: usize, w: &mut Writer)
 }
 
 // The rows of entry i's key, where entry i is the first of that key: those of its newest entry.
-fn put_newest(sheet: &Sheet, work: &mut Space, c: Log, i: usize, w: &mut Writer)
-    requires { (RecordsLogged sheet.now work.old c.entries) × (i < c.entries) }
+fn put_newest(sheet: &Sheet, work: &mut Space, entries: usize, i: usize, w: &mut Writer)
+    requires { (RecordsLogged sheet.now work.old entries) × (i < entries) }
     ensures { Printed (key_rows sheet.now i) w.old w.new work.old work.new }
 {
     if is_first(sheet, work, i) {
-        let j = newest_of(sheet, work, c, i);
+        let j = newest_of(sheet, work, entries, i);
         put_record(sheet, work, j, w);
     }
 }
 
 // The rows of all records: each key once, where it was first recorded.
-pub fn record_rows(sheet: &Sheet, work: &mut Space, c: Log, w: &mut Writer)
-    requires { RecordsLogged sheet.now work.old c.entries }
+pub fn record_rows(sheet: &Sheet, work: &mut Space, entries: usize, w: &mut Writer)
+    requires { RecordsLogged sheet.now work.old entries }
     ensures { Printed (all_rows sheet.now) w.old w.new work.old work.new }
 {
-    for i in 0..c.entries {
-        put_newest(sheet, work, c, i, w);
+    for i in 0..entries {
+        put_newest(sheet, work, entries, i, w);
     }
 }

@@ -18,13 +18,6 @@ pub const CHAINS: ChainPlaces = ChainPlaces {
     step: 8,
 };
 
-// How many lines the sheet has, and how many entries its log.
-#[derive(Clone, Copy)]
-pub struct Log {
-    pub lines: usize,
-    pub entries: usize,
-}
-
 // Byte k of entry i.
 fn byte_at(work: &Space, i: usize, k: usize) -> usize
     requires { (i < 128) × (k < 8) }
@@ -149,12 +142,12 @@ fn same_key(sheet: &Sheet, work: &Space, i: usize, j: usize) -> bool
 }
 
 // The last entry with this key.
-pub fn newest(sheet: &Sheet, work: &Space, c: Log, key: &[u8]) -> Option<usize>
-    requires { RecordsLogged sheet.now work.now c.entries }
+pub fn newest(sheet: &Sheet, work: &Space, entries: usize, key: &[u8]) -> Option<usize>
+    requires { RecordsLogged sheet.now work.now entries }
     ensures { Newest sheet.now key.now result }
 {
     let d = words::digest(key);
-    let mut next = chains::newest(work, CHAINS, c.entries, d);
+    let mut next = chains::newest(work, CHAINS, entries, d);
     while let Some(i) = next {
         if key_is(sheet, work, i, key, d) {
             return Some(i);
@@ -165,11 +158,11 @@ pub fn newest(sheet: &Sheet, work: &Space, c: Log, key: &[u8]) -> Option<usize>
 }
 
 // The last entry with the key of entry i, which is one itself.
-pub fn newest_of(sheet: &Sheet, work: &Space, c: Log, i: usize) -> usize
-    requires { (RecordsLogged sheet.now work.now c.entries) × (i < c.entries) }
-    ensures { NewestOfEntry sheet.now work.now c.entries i result }
+pub fn newest_of(sheet: &Sheet, work: &Space, entries: usize, i: usize) -> usize
+    requires { (RecordsLogged sheet.now work.now entries) × (i < entries) }
+    ensures { NewestOfEntry sheet.now work.now entries i result }
 {
-    let mut next = chains::newest(work, CHAINS, c.entries, chains::digest_at(work, CHAINS, i));
+    let mut next = chains::newest(work, CHAINS, entries, chains::digest_at(work, CHAINS, i));
     while let Some(j) = next {
         if same_key(sheet, work, i, j) {
             return j;

@@ -22,7 +22,6 @@ use Rattle.records.proofs.Kept.{logged-kept}
 use Rattle.type_lines.specs.Needs.{need_at, NeedLine}
 use Rattle.type_keys.specs.Table.{need_line_of, need_position_of}
 use Rattle.type_keys.proofs.Distinct.{new_key, position-none, position-low, position-more, distinct_more, key-member, known_more}
-use Rattle.records.specs.declared.key.Log.{Log}
 use Rattle.type_row.specs.Row.{TypesWrote}
 use Rattle.type_rows.specs.Rows.{keys_to, shapes_of, TypeTables}
 use Rattle.type_row.proofs.Rows.{rows_then}
@@ -41,7 +40,7 @@ types-then xs ys {a} {b} x y = record {
 -- ---- needs
 
 -- a store behind the tables leaves them
-pub ready-kept : {s t u : List ℕ} {c : Log} → Kept 49152 t u → TypeTables s t c → TypeTables s u c
+pub ready-kept : {s t u : List ℕ} {entries : ℕ} → Kept 49152 t u → TypeTables s t entries → TypeTables s u entries
 unfolding need_line_of need_position_of
 ready-kept {s} {t} {u} k x =
     let at : (j : ℕ) → j < 49152 → get_or u j 0 ≡ get_or t j 0 = λ j h. kept_at k j h in
@@ -58,7 +57,7 @@ ready-kept {s} {t} {u} k x =
       };
     }
 
-module _ (s t : List ℕ) (c : Log) (x : TypeTables s t c) (q : ℕ) (low : q < length (sheet_source s).needs) where
+module _ (s t : List ℕ) (entries : ℕ) (x : TypeTables s t entries) (q : ℕ) (low : q < length (sheet_source s).needs) where
   k : TypeKey
   k = get_or (sheet_source s).needs q opaque_key
 

@@ -6,7 +6,6 @@ use Rattle.semantics.specs.Sheet.{sheet_source}
 use Rattle.semantics.specs.Types.{distinct, key_shape}
 use Rattle.records.specs.Log.{log_of, RecordsLogged}
 use Rattle.type_keys.specs.Table.{Needs}
-use Rattle.records.specs.declared.key.Log.{Log}
 
 -- the keys of the first q needs, each once
 abbrev pub keys_to : Bytes → ℕ → List TypeKey
@@ -17,6 +16,6 @@ abbrev pub shapes_of : Bytes → List TypeKey → List Shape
 shapes_of s ks = map (key_shape (log_of s)) ks
 
 -- the tables of a checked sheet that rows are made from: the records, and the needs
-pub record TypeTables (s t : Bytes) (c : Log) : Type 0 where
-  pub log : RecordsLogged s t c.entries
+pub record TypeTables (s t : Bytes) (entries : ℕ) : Type 0 where
+  pub log : RecordsLogged s t entries
   pub table : Needs s t (sheet_source s).needs

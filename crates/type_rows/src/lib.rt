@@ -23,7 +23,6 @@ ghost use Rattle.type_rows.specs.Rows.{keys_to, shapes_of, TypeTables};
 
 use codes::area::Space;
 use codes::need;
-use records::key::Log;
 use write::Writer;
 use lines::Sheet;
 
@@ -70,8 +69,8 @@ fn frame_rows(sheet: &Sheet, work: &mut Space, w: &mut Writer, id: usize) -> usi
 // ---- needs
 
 // The row of what the `need` line i asks for.
-fn put_need(sheet: &Sheet, work: &mut Space, c: Log, i: usize, w: &mut Writer, id: usize) -> usize
-    requires { (RecordsLogged sheet.now work.old c.entries) × (NeedLine sheet.now i) × (id < 2048) }
+fn put_need(sheet: &Sheet, work: &mut Space, entries: usize, i: usize, w: &mut Writer, id: usize) -> usize
+    requires { (RecordsLogged sheet.now work.old entries) × (NeedLine sheet.now i) × (id < 2048) }
     ensures { TypesWrote ((key_shape (log_of sheet.now) (need_at sheet.now i)) ∷ []) id result w.old w.new work.old work.new }
 {
     let f = sheet.form_at(i);
@@ -79,14 +78,14 @@ fn put_need(sheet: &Sheet, work: &mut Space, c: Log, i: usize, w: &mut Writer, i
         return type_row::put_elem(work, kind, w, id);
     }
     match f {
-        need::ADT => record::put_record(sheet, work, c, i, w, id),
+        need::ADT => record::put_record(sheet, work, entries, i, w, id),
         need::BLOCK => type_row::put_line(sheet, work, i, w, id),
         _ => type_row::put_opaque(work, w, id),
     }
 }
 
 // The row of need q, where its key is new; `base` is the ID of the first key.
-fn next_need(sheet: &Sheet, work: &mut Space, c: Log, q: usize, base: usize, w: &mut Writer, id: usize) -> usize
+fn next_need(sheet: &Sheet, work: &mut Space, entries: usize, q: usize, base: usize, w: &mut Writer, id: usize) -> usize
     requires { (TypeTables sheet.now work.old c) × (q < length (sheet_source sheet.now).needs) × (base < 1024) × (id ≡ base + length (keys_to sheet.now q)) }
     ensures { ((a : ℕ) (v : Writer) (t : Bytes) → TypesWrote (shapes_of sheet.now (keys_to sheet.now q)) a id v w.old t work.old → TypesWrote (shapes_of sheet.now (keys_to sheet.now (q + 1))) a result v w.new t work.new) × (result ≡ base + length (keys_to sheet.now (q + 1))) }
 {
@@ -94,17 +93,17 @@ fn next_need(sheet: &Sheet, work: &mut Space, c: Log, q: usize, base: usize, w: 
         return id;
     }
     let i = type_keys::need_line(work, q);
-    put_need(sheet, work, c, i, w, id)
+    put_need(sheet, work, entries, i, w, id)
 }
 
 // Each key of a need once, where it first comes.
-fn need_rows(sheet: &Sheet, work: &mut Space, c: Log, needs: usize, w: &mut Writer, base: usize) -> usize
+fn need_rows(sheet: &Sheet, work: &mut Space, entries: usize, needs: usize, w: &mut Writer, base: usize) -> usize
     requires { (TypeTables sheet.now work.old c) × (needs ≡ length (sheet_source sheet.now).needs) × (base < 1024) }
     ensures { TypesWrote (shapes_of sheet.now (distinct [] (sheet_source sheet.now).needs)) base result w.old w.new work.old work.new }
 {
     let mut id = base;
     for q in 0..needs {
-        id = next_need(sheet, work, c, q, base, w, id);
+        id = next_need(sheet, work, entries, q, base, w, id);
     }
     id
 }
@@ -112,12 +111,12 @@ fn need_rows(sheet: &Sheet, work: &mut Space, c: Log, needs: usize, w: &mut Writ
 // ---- all types
 
 // Two opaque records, the frames, and the keys, those of array elements, which are entered before, last: the Rust's `build_types`.
-pub fn type_rows(sheet: &Sheet, work: &mut Space, c: Log, k: KeyCounts, w: &mut Writer)
+pub fn type_rows(sheet: &Sheet, work: &mut Space, entries: usize, k: KeyCounts, w: &mut Writer)
     requires { (TypeTables sheet.now work.old c) × (k.needs ≡ length (sheet_source sheet.now).needs) × (k.keys < 1024) }
     ensures { ((is : List Item) → Kinds work.old ((sheet_source sheet.now).needs ++ concat_map array_key is) k.keys → Writes w.old (type_rows 0 (descriptors (sheet_source sheet.now) is)) w.new) × (Kept 49152 work.old work.new) }
 {
     let frames = opaque_rows(work, w);
     let base = frame_rows(sheet, work, w, frames);
-    let id = need_rows(sheet, work, c, k.needs, w, base);
+    let id = need_rows(sheet, work, entries, k.needs, w, base);
     kinds::kind_rows(work, base, k.keys, w, id);
 }

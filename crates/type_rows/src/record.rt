@@ -7,7 +7,6 @@ ghost use Rattle.type_lines.specs.Needs.{need_at, NeedLine};
 ghost use Rattle.type_row.specs.Row.{TypesWrote};
 
 use codes::area::Space;
-use records::key::Log;
 use type_row::{put_type, put_words};
 use write::Writer;
 use lines::Sheet;
@@ -23,12 +22,12 @@ fn put_entry(sheet: &Sheet, work: &mut Space, e: usize, w: &mut Writer, id: usiz
 }
 
 // The last record of the key on the `need,adt` line i. An unknown one takes 4 bytes, without pointers.
-pub fn put_record(sheet: &Sheet, work: &mut Space, c: Log, i: usize, w: &mut Writer, id: usize) -> usize
-    requires { (RecordsLogged sheet.now work.old c.entries) × (NeedLine sheet.now i) × (form_at work.old i ≡ 34) × (id < 2048) }
+pub fn put_record(sheet: &Sheet, work: &mut Space, entries: usize, i: usize, w: &mut Writer, id: usize) -> usize
+    requires { (RecordsLogged sheet.now work.old entries) × (NeedLine sheet.now i) × (form_at sheet.now i ≡ 34) × (id < 2048) }
     ensures { TypesWrote ((key_shape (log_of sheet.now) (need_at sheet.now i)) ∷ []) id result w.old w.new work.old work.new }
 {
     let key = sheet.field_at(i, 0);
-    match records::key::newest(sheet, work, c, key) {
+    match records::key::newest(sheet, work, entries, key) {
         Some(e) => put_entry(sheet, work, e, w, id),
         None => put_words(work, 4, 0, w, id),
     }

@@ -14,7 +14,7 @@ pub loop-next-init : goal.loop-next-init
 loop-next-init c =
     let a = c.args in
     let g = c.requires in
-    along-first g.chained (omega arith) (key-chain a.sheet.now a.work.now a.c.entries g a.key.now (ap chain_of c.digest-d.ensures.0)) c.newest-next.ensures
+    along-first g.chained (omega arith) (key-chain a.sheet.now a.work.now a.entries g a.key.now (ap chain_of c.digest-d.ensures.0)) c.newest-next.ensures
 
 pub key_is-requires : goal.key_is-requires
 key_is-requires c =
@@ -25,7 +25,7 @@ key_is-requires c =
 pub returns-then-key_is : goal.returns-then-key_is
 returns-then-key_is c =
     let a = c.args in
-    newest-is a.sheet.now a.work.now a.c.entries c.requires a.key.now (along-found c.loop-next.invariant c.in-Some.is c.key_is.ensures c.if-key_is.true)
+    newest-is a.sheet.now a.work.now a.entries c.requires a.key.now (along-found c.loop-next.invariant c.in-Some.is c.key_is.ensures c.if-key_is.true)
 
 pub earlier-next-requires : goal.earlier-next-requires
 earlier-next-requires c = let g = c.requires in (record-room _ (search rules), omega (arith, along-low c.loop-next.invariant c.in-Some.is, g.few))
@@ -39,4 +39,4 @@ loop-next-preserved c = along-next c.loop-next.invariant c.in-Some.is c.key_is.e
 pub returns : goal.returns
 returns c =
     let a = c.args in
-    newest-is a.sheet.now a.work.now a.c.entries c.requires a.key.now (along-end c.in_default.is c.loop-next.invariant)
+    newest-is a.sheet.now a.work.now a.entries c.requires a.key.now (along-end c.in_default.is c.loop-next.invariant)

@@ -19,8 +19,8 @@ loop-next-init c =
     let s = a.sheet.now in
     let w = a.work.now in
     let p = c.requires in
-    let e = own-chain s w a.c.entries p.0 a.i p.1 in
-    along-first p.0.chained (chain-small w record_chains a.i) (key-chain s w a.c.entries p.0 (recorded_at s w a.i).key e) (rw c.digest_at.ensures.0 at c.newest-next.ensures)
+    let e = own-chain s w a.entries p.0 a.i p.1 in
+    along-first p.0.chained (chain-small w record_chains a.i) (key-chain s w a.entries p.0 (recorded_at s w a.i).key e) (rw c.digest_at.ensures.0 at c.newest-next.ensures)
 
 pub same_key-requires : goal.same_key-requires
 same_key-requires c =
@@ -32,7 +32,7 @@ pub returns-then-same_key : goal.returns-then-same_key
 returns-then-same_key c =
     let a = c.args in
     let p = c.requires in
-    newest-own a.sheet.now a.work.now a.c.entries p.0 a.i p.1 (along-found c.loop-next.invariant c.in-Some.is c.same_key.ensures c.if-same_key.true)
+    newest-own a.sheet.now a.work.now a.entries p.0 a.i p.1 (along-found c.loop-next.invariant c.in-Some.is c.same_key.ensures c.if-same_key.true)
 
 pub earlier-next-requires : goal.earlier-next-requires
 earlier-next-requires c = let g = c.requires.0 in (record-room _ (search rules), omega (arith, along-low c.loop-next.invariant c.in-Some.is, g.few))
@@ -47,4 +47,4 @@ pub returns : goal.returns
 returns c =
     let a = c.args in
     let p = c.requires in
-    absurd (newest-there a.sheet.now a.work.now a.c.entries p.0 a.i p.1 (along-end c.in_default.is c.loop-next.invariant))
+    absurd (newest-there a.sheet.now a.work.now a.entries p.0 a.i p.1 (along-end c.in_default.is c.loop-next.invariant))
