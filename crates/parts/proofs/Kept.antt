@@ -7,7 +7,7 @@ use lib.ListN.{length, drop_of_length-le}
 use Rattle.semantics.specs.Text.{Bytes}
 use Rattle.semantics.specs.Tree.{TypeKey}
 use Rattle.checks.specs.Checks.{Kept}
-use Rattle.checks.proofs.Kept.{kept_at, kept_less, checked-kept}
+use Rattle.checks.proofs.Kept.{kept_at, kept_less}
 use Rattle.names.specs.Table as Names
 use Rattle.globals.proofs.Collect.{collected-kept}
 use Rattle.records.proofs.Kept as Records
@@ -21,15 +21,15 @@ use Rattle.tables.specs.Tables.{TablesHeld}
 use Rattle.parts.specs.Parts.{Listable}
 
 -- lines and positions of needs end at 10624; their digests serve only while needs are collected
-pub needs_stay : {s t u : Bytes} {n : ℕ} {ks : List TypeKey} → Kept 10624 t u → Needs s t n ks → Needs s u n ks
+pub needs_stay : {s t u : Bytes} {ks : List TypeKey} → Kept 10624 t u → Needs s t ks → Needs s u ks
 needs_stay {s} {t} {u} {n} {ks} k x =
-    needs-kept s t n ks x u {b = length t} (record { kept = k; above = drop_of_length-le u {i = length t} (omega (arith, k.long)) ∙ sym (drop_of_length-le t {i = length t} (omega arith)) })
+    needs-kept s t ks x u {b = length t} (record { kept = k; above = drop_of_length-le u {i = length t} (omega (arith, k.long)) ∙ sym (drop_of_length-le t {i = length t} (omega arith)) })
 
-module _ {s t u : Bytes} {n : ℕ} {x : Tables} where
+module _ {s t u : Bytes} {x : Tables} where
   -- but for the constants' strings
-  held_kept : Kept 11264 t u → Names.ConstsLogged s u n x.consts → TablesHeld s t n x → TablesHeld s u n x
+  held_kept : Kept 11264 t u → Names.ConstsLogged s u x.consts → TablesHeld s t x → TablesHeld s u x
   held_kept k l h = record {
-    checked = checked-kept (kept_less (omega arith) k) h.checked;
+    checked = h.checked;
     consts = l;
     globals = collected-kept (kept_less (omega arith) k) h.globals;
     records = Records.logged-kept (kept_less (omega arith) k) h.records;
@@ -39,7 +39,7 @@ module _ {s t u : Bytes} {n : ℕ} {x : Tables} where
   }
 
   -- where values are folded
-  pub listable-keeps : Keeps 16384 49152 t u → Listable s t n x → Listable s u n x
+  pub listable-keeps : Keeps 16384 49152 t u → Listable s t x → Listable s u x
   listable-keeps k h = record {
     held = held_kept (kept_low k 11264 (omega arith)) (logged-kept k h.held.consts) h.held;
     folded = h.folded;
@@ -47,5 +47,5 @@ module _ {s t u : Bytes} {n : ℕ} {x : Tables} where
   }
 
   -- where maps are made
-  pub listable-kept : Kept 49152 t u → Listable s t n x → Listable s u n x
+  pub listable-kept : Kept 49152 t u → Listable s t x → Listable s u x
   listable-kept k h = listable-keeps (record { long = k.long; below = λ j l. kept_at k j (omega arith); above = λ j a l. kept_at k j l }) h

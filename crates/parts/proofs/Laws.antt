@@ -16,8 +16,8 @@ use Rattle.record_rows.specs.Rows.{all_rows}
 use Rattle.tables.specs.declared.Tables.{Tables}
 use Rattle.parts.specs.Parts.{declared_text, Listable}
 
-module _ {s t : Bytes} {n : ℕ} {x : Tables} (k : Listable s t n x) where
-  pub constants-table : ConstTable s t n x.consts
+module _ {s t : Bytes} {x : Tables} (k : Listable s t x) where
+  pub constants-table : ConstTable s t x.consts
   constants-table = record { checked = k.held.checked; logged = k.held.consts }
 
   pub declared-rows : {v0 v1 v2 v3 : Writer} → Writes v0 (all_rows s) v1 → Writes v1 (const_rows (log_in s t x.consts)) v2 → Writes v2 (concat_map global_row (places_in s t x.globals)) v3 → Writes v0 (declared_text s) v3

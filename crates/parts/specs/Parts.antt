@@ -27,7 +27,7 @@ types_text s =
     ++ concat_map (use_row (id_of (sheet_source s) g.items)) (sheet_source s).needs
 
 -- the tables stand, and no constant is refused
-pub record Listable (s t : Bytes) (n : ℕ) (x : Tables) : Type 0 where
-  pub held : TablesHeld s t n x
+pub record Listable (s t : Bytes) (x : Tables) : Type 0 where
+  pub held : TablesHeld s t x
   pub folded : (constants (sheet_source s)).refused ≡ None
   pub log : (constants (sheet_source s)).log ≡ log_in s t x.consts
