@@ -87,14 +87,14 @@ module _ {s t : List ℕ} {i needs keys : ℕ} (x : NeedNext s t i needs keys) w
 
 -- ---- the kind that a need asks for
 
-module _ (t : List ℕ) (room : 62464 ≤ length t) where
+module _ (t : List ℕ) where
   need-outside : (o : Option Element) (p : ℕ) → Outside 10624 10629 t (kind_by_need t o p)
   need-outside None p = outside-all
-  need-outside (Some k) p = kind-outside t room (element_kind k) p
+  need-outside (Some k) p = kind-outside t (element_kind k) p
 
-  need-entered : (o : Option Element) (p : ℕ) (e : ElemKind) → kind_position (kind_by_need t o p) e ≡ cond (is_kind e o) (suc p) (kind_position t e)
-  need-entered None p e = refl
-  need-entered (Some k) p e = kind-entered t room (element_kind k) p e
+  need-entered : 62464 ≤ length t → (o : Option Element) (p : ℕ) (e : ElemKind) → kind_position (kind_by_need t o p) e ≡ cond (is_kind e o) (suc p) (kind_position t e)
+  need-entered room None p e = refl
+  need-entered room (Some k) p e = kind-entered t room (element_kind k) p e
 
 -- ---- one key more
 
@@ -105,16 +105,13 @@ each [] k P a b (suc q) h = absurd (omega arith)
 each (x ∷ l) k P a b zero h = a 0 (omega arith)
 each (x ∷ l) k P a b (suc q) h = each l k (λ q. P (suc q)) (λ q h. a (suc q) (omega arith)) b q (omega arith)
 
-module _ {s t : List ℕ} {i needs keys : ℕ} (x : NeedNext s t i needs keys) {f p d : ℕ} (hf : f ≡ form_at s i) (hp : p ≡ position (need_at s i) (distinct [] (needs_to s i))) (hd : d ≡ digest (text_at s i))
+module _ {s t : List ℕ} (room : 62464 ≤ length t) {i needs keys : ℕ} (x : NeedNext s t i needs keys) {f p d : ℕ} (hf : f ≡ form_at s i) (hp : p ≡ position (need_at s i) (distinct [] (needs_to s i))) (hd : d ≡ digest (text_at s i))
     {u v w : List ℕ} (hu : u ≡ need_entered t needs i p) (hv : v ≡ kind_by_need u (kind_by f) p) (hw : w ≡ digest_entered v needs d) where
-  room : 62464 ≤ length t
-  room = x.collecting.checked.whole.room
-
   first : Outside 10240 10624 t u
   first = rw hu (entered-outside t room needs i p (needs-room x).0)
 
   second : Outside 10624 10629 u v
-  second = rw hv (need-outside u (omega (arith, room, first.kept.long)) (kind_by f) p)
+  second = rw hv (need-outside u (kind_by f) p)
 
   long : 62464 ≤ length v
   long = omega (arith, room, first.kept.long, second.kept.long)

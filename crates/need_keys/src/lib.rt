@@ -15,8 +15,8 @@ ghost use Rattle.need_keys.specs.Pass.{NeedEntry, Collecting, NeedNext, kind_by_
 use codes::area::Space;
 use codes::element::Element;
 use codes::kind;
-use type_keys::CHAINS;
 use lines::Sheet;
+use type_keys::CHAINS;
 
 // How many needs there are, and how many of their keys are distinct.
 #[derive(Clone, Copy)]

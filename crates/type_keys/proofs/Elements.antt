@@ -38,7 +38,7 @@ used-more t u k_big z p o = rw (ne_eqb (kind_position u k_big) 0 p, z, o k_byte 
 used-more t u k_real z p o = rw (ne_eqb (kind_position u k_real) 0 p, z, o k_byte (λ e. omega arith), o k_word (λ e. omega arith), o k_big (λ e. omega arith), o k_ptr (λ e. omega arith)) (omega arith)
 used-more t u k_ptr z p o = rw (ne_eqb (kind_position u k_ptr) 0 p, z, o k_byte (λ e. omega arith), o k_word (λ e. omega arith), o k_big (λ e. omega arith), o k_real (λ e. omega arith)) (omega arith)
 
-module _ (t : List ℕ) (room : 62464 ≤ length t) (k : ElemKind) (l : List TypeKey) (keys : ℕ) (x : Kinds t l keys) where
+module _ (t : List ℕ) (k : ElemKind) (l : List TypeKey) (keys : ℕ) (x : Kinds t l keys) where
   pub kind-known : (kind_position t k ≡ 0 → ⊥) → Kinds t (l ++ (elem_key k ∷ [])) keys
   kind-known h =
       let a = from-one-some (elem_key k) (distinct [] l) (λ z. h (x.position k ∙ z)) in
@@ -47,7 +47,7 @@ module _ (t : List ℕ) (room : 62464 ≤ length t) (k : ElemKind) (l : List Typ
       (x.count ∙ rw (distinct_more (elem_key k) l) (sym (known-length (elem_key k) (distinct [] l) a)))
       x.few
 
-  module _ (z : kind_position t k ≡ 0) (u : List ℕ) (hu : u ≡ kind_entered t k keys) where
+  module _ (room : 62464 ≤ length t) (z : kind_position t k ≡ 0) (u : List ℕ) (hu : u ≡ kind_entered t k keys) where
     own-position : keys ≡ position (elem_key k) (distinct [] l)
     own-position = x.count ∙ sym (position-none (elem_key k) (distinct [] l) (from-one-none (elem_key k) (distinct [] l) (sym (x.position k) ∙ z)))
 

@@ -119,11 +119,11 @@ module _ (t : List ℕ) (room : 62464 ≤ length t) (q i p : ℕ) (hq : q < 128)
 
 -- ---- a kind of element
 
-module _ (t : List ℕ) (room : 62464 ≤ length t) (k : ElemKind) (p : ℕ) where
-  pub kind-outside : Outside 10624 10629 t (kind_entered t k p)
-  unfolding kind_entered
-  kind-outside = outside_set 10624 10629 t (10624 + kind_number k) (p + 1) (omega arith) (omega (arith, kind-low k))
+pub kind-outside : (t : List ℕ) (k : ElemKind) (p : ℕ) → Outside 10624 10629 t (kind_entered t k p)
+unfolding kind_entered
+kind-outside t k p = outside_set 10624 10629 t (10624 + kind_number k) (p + 1) (omega arith) (omega (arith, kind-low k))
 
+module _ (t : List ℕ) (room : 62464 ≤ length t) (k : ElemKind) (p : ℕ) where
   pub kind-entered : (j : ElemKind) → kind_position (kind_entered t k p) j ≡ cond (same_type_key (elem_key j) (elem_key k)) (suc p) (kind_position t j)
   unfolding kind_entered kind_position
   kind-entered j = rw (elems-are j k) (go (eqb (kind_number j) (kind_number k)) refl)

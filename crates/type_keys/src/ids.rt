@@ -9,8 +9,8 @@ ghost use Rattle.semantics.specs.Global.{Item};
 ghost use Rattle.semantics.specs.Types.{position, distinct, keys, id_of};
 ghost use Rattle.type_keys.specs.Table.{kind_position, Needs, Kinds};
 
-use codes::area::Space;
 use crate::{kind_position, need_position};
+use codes::area::Space;
 use codes::element::Element;
 
 // How many opaque records there are before all other types.
@@ -27,7 +27,7 @@ fn id_of(frames: usize, p: usize) -> usize
 // The ID of the key of need q. Keys of array elements, which come later, leave it as it is.
 pub fn need_id(work: &Space, frames: usize, q: usize) -> usize
     requires { (frames ≤ 128) × (q < 128) }
-    ensures { ((s : Bytes) (n : ℕ) (is : List Item) → Needs s work.now (sheet_source s).needs → q < length (sheet_source s).needs → frames ≡ length (sheet_source s).frames → result ≡ id_of (sheet_source s) is (get_or (sheet_source s).needs q opaque_key)) × (result < 512) }
+    ensures { ((s : Bytes) (is : List Item) → Needs s work.now (sheet_source s).needs → q < length (sheet_source s).needs → frames ≡ length (sheet_source s).frames → result ≡ id_of (sheet_source s) is (get_or (sheet_source s).needs q opaque_key)) × (result < 512) }
 {
     id_of(frames, need_position(work, q))
 }

@@ -13,8 +13,9 @@ ghost use Rattle.checks.specs.Checks.{Outside};
 ghost use Rattle.type_keys.specs.Table.{need_line_of, need_position_of, kind_position, need_entered, digest_entered, kind_entered, Kinds};
 
 use chains::ChainPlaces;
+use codes::area::{self, Space};
+use codes::element;
 use codes::element::Element;
-use codes::{area::{self, Space}, element};
 
 // Where the chains of needs stand.
 pub const CHAINS: ChainPlaces = ChainPlaces {

@@ -13,9 +13,9 @@ ghost use Rattle.type_row.specs.Row.{word_offsets, TypesWrote};
 
 use codes::area::{self, Space};
 use codes::element::Element;
+use lines::Sheet;
 use type_lines::shape::RAISE;
 use write::Writer;
-use lines::Sheet;
 
 // The row of a block of this size whose map stands in the working space. As all that write `typ` rows it takes the ID of the first and
 // returns the ID behind the last.
@@ -116,11 +116,7 @@ fn map_line(sheet: &Sheet, work: &mut Space, i: usize, size: u32)
     maps::clear_map(work, size);
     let count = type_lines::shape::offset_count(sheet, i);
     for j in 0..count {
-        mark_raised(
-            work,
-            size,
-            type_lines::shape::offset_at(sheet, i, j),
-        );
+        mark_raised(work, size, type_lines::shape::offset_at(sheet, i, j));
     }
 }
 

@@ -6,7 +6,6 @@ use Rattle.type_keys.specs.Table.{Needs}
 
 -- what the IDs of needs follow from: their table, and how many frames there are
 pub record NeedIds (s t : Bytes) (needs frames : ℕ) : Type 0 where
-  pub n : ℕ
   pub table : Needs s t (sheet_source s).needs
   pub count : needs ≡ length (sheet_source s).needs
   pub framed : frames ≡ length (sheet_source s).frames

@@ -1,7 +1,6 @@
-use native.Mathlib.Omega.{arith}
 use mathlib.Core.Path.{◌∙◌, sym, ap}
 use Rattle.form.specs.Table.{kind_at}
-use Rattle.lines.proofs.Line.{form-low, kind-is}
+use Rattle.lines.proofs.Line.{kind-is}
 use Rattle.checks.proofs.Kept.{outside-all}
 use Rattle.need_keys.proofs.Pass.{collecting-stay, collecting-need}
 use Rattle.need_keys.proofs.collect_line.Goals as goal

@@ -1,5 +1,5 @@
 use native.Mathlib.Omega.{arith}
-use Rattle.checks.proofs.Kept.{kept_less, outside-all, outside-then, outside-less}
+use Rattle.checks.proofs.Kept.{outside-all, outside-then, outside-less}
 use Rattle.need_keys.proofs.Pass.{collecting-start, collecting-end}
 use Rattle.need_keys.proofs.collect_needs.Goals as goal
 
@@ -10,4 +10,4 @@ pub loop-i-preserved : goal.loop-i-preserved
 loop-i-preserved c = (c.collect_line-counts.ensures.0, outside-then c.loop-i.invariant.1 c.collect_line-counts.ensures.1)
 
 pub returns : goal.returns
-returns c = let w = collecting-end c.args.sheet.now c.loop-i.work c.loop-i.i c.loop-i.counts.needs c.loop-i.counts.keys c.loop-i.invariant.0 c.loop-i-test.false in (w.0, w.1, w.2, outside-then (outside-less 10240 11264 (omega arith) (omega arith) c.clear_kinds.ensures.0) c.loop-i.invariant.1)
+returns c = let w = collecting-end c.args.sheet.now c.loop-i.work c.loop-i.i c.loop-i.counts.needs c.loop-i.counts.keys c.loop-i.invariant.0 (omega (arith, c.count-i-end.ensures.0, c.loop-i-test.false)) in (w.0, w.1, w.2, outside-then (outside-less 10240 11264 (omega arith) (omega arith) c.clear_kinds.ensures.0) c.loop-i.invariant.1)
