@@ -4,6 +4,7 @@ use mathlib.Core.List.{◌++◌, append_assoc}
 use Rattle.std.specs.Prelude.{None, Some, Result, Ok, Err}
 use Prim.Native.Nat.{ℕ, ◌≤◌, ◌<◌}
 use native.Mathlib.Omega.{arith}
+use lib.Seq.{take-append_seam}
 use lib.ListN.{length}
 use borrow.Author.Tests.{lt-ltb, le-ltb}
 use Rattle.semantics.specs.Text.{Bytes}
@@ -27,14 +28,15 @@ use Rattle.pends.specs.Pends.{AllPended}
 use Rattle.tables.specs.declared.Tables.{Tables}
 use Rattle.tables.specs.Tables.{MakesTables}
 use Rattle.compile.specs.declared.Listed.{Listed}
-use Rattle.compile.specs.Compile.{ListingStands, Tries}
+use Rattle.lines.specs.Lines.{Indexed}
+use Rattle.compile.specs.Compile.{ListingStands, Tries, TableStands}
 use Rattle.parts.proofs.Laws.{names-are}
 use Rattle.parts.specs.Parts.{declared_text, types_text, Listable}
 
 three-last : (a b c d : Bytes) → a ++ ((b ++ c) ++ d) ≡ ((a ++ b) ++ c) ++ d
 three-last a b c d = sym (append_assoc a (b ++ c) d) ∙ ap (λ (l : Bytes). l ++ d) (sym (append_assoc a b c))
 
-module _ {s t : Bytes} {n : ℕ} {x : Tables} (k : Listable s t n x) where
+module _ {s t : Bytes} {x : Tables} (k : Listable s t x) where
   -- the pending names' rows, where no line is refused
   pub pends-written : (v w : Writer) → AllPended (names_in s t x.consts) s v (Ok tt) w
       → (vars_refused (names_of (sheet_source s)) (laid_vars (sheet_source s)) ≡ None) × Writes v (concat_map pend_row (source_globals (sheet_source s)).pends) w
@@ -60,8 +62,8 @@ module _ {s t : Bytes} {n : ℕ} {x : Tables} (k : Listable s t n x) where
       whole : Wrote (zeros L) 0 (source_listing (sheet_source s)) g r
       whole = subst (λ (y : Bytes). Wrote y 0 (source_listing (sheet_source s)) g r) (z ∙ ap zeros l) (rw (← same) at wrote)
 
-      pub lays : {u : Bytes} {W end : ℕ} → r ≤ L → end ≡ x.end → 65536 ≤ W → Checked s u n → ListingStands s (worked L (sheet_source s)) L W r end g u
-      lays h e w y =
+      pub lays : {end : ℕ} → r ≤ L → end ≡ x.end → Checked s → ListingStands s (worked L (sheet_source s)) L r end g
+      lays h e y =
           let o = (on-zeros whole).0 h in
           record {
             outcome = rw (k.folded, v, le-ltb L (length (source_listing (sheet_source s))) (omega (arith, o.0)));
@@ -69,8 +71,6 @@ module _ {s t : Bytes} {n : ℕ} {x : Tables} (k : Listable s t n x) where
             room = h;
             bytes = o.1;
             ends = e ∙ k.held.globals.end (names_of (sheet_source s));
-            work = w;
-            lines = n;
             checked = y;
           }
 
@@ -82,12 +82,17 @@ module _ {s t : Bytes} {n : ℕ} {x : Tables} (k : Listable s t n x) where
 
 -- ---- tables, or a constant that is refused
 
-pub tables-listable : (s t : Bytes) (n : ℕ) (x : Tables) → MakesTables s t n (Ok x) → Listable s t n x
-tables-listable s t n x w = record { held = w.0; folded = w.1; log = w.2 }
+pub tables-listable : (s t : Bytes) (x : Tables) → MakesTables s t (Ok x) → Listable s t x
+tables-listable s t x w = record { held = w.0; folded = w.1; log = w.2 }
 
 pub constant-refused : (s : Bytes) (L : ℕ) (r : Refusal) → (constants (sheet_source s)).refused ≡ Some (refusal_of r) → worked L (sheet_source s) ≡ refused (refusal_number r) (refusal_line r)
 constant-refused s L r e = rw e
 
--- the same outcome, and where the working space is as long
-pub tries-as : (s : Bytes) {o p : Outcome} (L : ℕ) {W X : ℕ} (r : Result Listed Refusal) (d u : Bytes) → o ≡ p → X ≡ W → Tries s o L X r d u → Tries s p L W r d u
-tries-as s {o} {p} L {W} {X} r d u e k h = subst (λ (q : Outcome). Tries s q L W r d u) e (subst (λ (w : ℕ). Tries s o L w r d u) k h)
+-- the same outcome
+pub tries-as : (s : Bytes) {o p : Outcome} (L : ℕ) (r : Result Listed Refusal) (d : Bytes) → o ≡ p → Tries s o L r d → Tries s p L r d
+tries-as s L r d e h = subst (λ q. Tries s q L r d) e h
+
+-- the table that a check made, in front of the rest of the working space
+pub table-stands : (s : Bytes) (W : ℕ) (t v : Bytes) {n : ℕ} (r : Result Listed Refusal) → Indexed s t n → 65536 ≤ W → TableStands s W (t ++ v) r
+table-stands s W t v {n} (Ok x) i h = record { work = h; lines = n; table = rw (← i.long) (rw (take-append_seam t v) i) }
+table-stands s W t v (Err r) i h = tt

@@ -4,11 +4,12 @@
 ghost use Rattle.std.specs.Prelude.{◌≡◌, length};
 ghost use Rattle.semantics.specs.Sheet.{sheet_source};
 ghost use Rattle.semantics.specs.Refusal.{zeros, worked, compiled};
-ghost use Rattle.compile.specs.Compile.{Lists, Tries, RowsPut, Compiles};
+ghost use Rattle.compile.specs.Compile.{Lists, Tries, TableStands, RowsPut, Compiles};
 ghost use Rattle.parts.specs.Parts.{Listable};
 
 use answers::Refusal;
-use names::Known;
+use codes::area::{SPACE, Space};
+use lines::{Sheet, TABLE};
 use tables::Tables;
 use write::Writer;
 
@@ -21,43 +22,32 @@ pub struct Listed {
 
 // All rows, where the constants are not refused. 8 to 12 come before 13: first values are looked at also where the listing is already
 // full.
-fn put_rows(
-    sheet: &[u8],
-    work: &mut [u8],
-    n: usize,
-    x: Tables,
-    w: &mut Writer,
-) -> Result<(), Refusal>
-    requires { Listable sheet.now work.old n x }
-    ensures { RowsPut sheet.now n w.old w.new result work.new }
+fn put_rows(sheet: &Sheet, work: &mut Space, x: Tables, w: &mut Writer) -> Result<(), Refusal>
+    requires { Listable sheet.now work.old x }
+    ensures { RowsPut sheet.now w.old w.new result }
 {
-    parts::put_declared(sheet, work, n, x, w);
-    let c = Known {
-        lines: n,
-        consts: x.consts,
-    };
-    pends::pend_rows(sheet, work, c, w)?;
-    parts::put_types(sheet, work, n, x, w);
+    parts::put_declared(sheet, work, x, w);
+    pends::pend_rows(sheet, work, x.consts, w)?;
+    parts::put_types(sheet, work, x, w);
     Ok(())
 }
 
 // The listing, where the constants are not refused.
 fn list_rows(
-    sheet: &[u8],
+    sheet: &Sheet,
     listing: &mut [u8],
-    work: &mut [u8],
-    n: usize,
+    work: &mut Space,
     x: Tables,
 ) -> Result<Listed, Refusal>
-    requires { (Listable sheet.now work.old n x) × (listing.old ≡ zeros (length listing.old)) }
-    ensures { Tries sheet.now (worked (length listing.old) (sheet_source sheet.now)) (length listing.old) (length work.old) result listing.new work.new }
+    requires { (Listable sheet.now work.old x) × (listing.old ≡ zeros (length listing.old)) }
+    ensures { Tries sheet.now (worked (length listing.old) (sheet_source sheet.now)) (length listing.old) result listing.new }
 {
     let room = listing.len();
     let mut w = Writer {
         out: listing,
         at: 0,
     };
-    put_rows(sheet, work, n, x, &mut w)?;
+    put_rows(sheet, work, x, &mut w)?;
     let length = w.at;
     if room < length {
         return Err(Refusal::Outgrown);
@@ -66,13 +56,16 @@ fn list_rows(
 }
 
 // The listing, where it was zeros; the rows written before a refusal still stand.
-fn list_sheet(sheet: &[u8], listing: &mut [u8], work: &mut [u8]) -> Result<Listed, Refusal>
+fn list_sheet(text: &[u8], listing: &mut [u8], work: &mut [u8]) -> Result<Listed, Refusal>
     requires { listing.old ≡ zeros (length listing.old) }
-    ensures { Tries sheet.now (compiled (length listing.old) (length work.old) sheet.now) (length listing.old) (length work.old) result listing.new work.new }
+    ensures { (Tries text.now (compiled (length listing.old) (length work.old) text.now) (length listing.old) result listing.new) × (TableStands text.now (length work.old) work.new result) }
 {
-    let n = checks::check(sheet, work)?;
-    let x = tables::make_tables(sheet, work, n)?;
-    list_rows(sheet, listing, work, n, x)
+    let n = checks::check(text, work)?;
+    let (table, rest) = work.split_first_chunk_mut::<TABLE>().unwrap();
+    let space = rest.first_chunk_mut::<SPACE>().unwrap();
+    let sheet = Sheet::of(text, table, n);
+    let x = tables::make_tables(&sheet, space)?;
+    list_rows(&sheet, listing, space, x)
 }
 
 // The listing of any sheet, while the working space still has the tables; zeros in both where the sheet is refused.

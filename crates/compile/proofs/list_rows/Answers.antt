@@ -17,4 +17,4 @@ returns-then-room-length c =
 pub returns : goal.returns
 returns c =
     let e = c.in_ok-put_rows.ensures in
-    lays c.requires.0 (length c.args.listing.now) c.requires.1 refl (search (rules, e.1.same_buffer)) e.0 e.1.wrote c.if-room-length.false refl c.requires.0.held.checked.whole.room e.2
+    lays c.requires.0 (length c.args.listing.now) c.requires.1 refl (search (rules, e.1.same_buffer)) e.0 e.1.wrote c.if-room-length.false refl e.2
