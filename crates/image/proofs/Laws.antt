@@ -91,16 +91,16 @@ module _ (s : Bytes) (b : Buffers) where
   unfolding imaged
   replays c = ap (after_listing b items) c
 
-  abbrev Listing : ℕ → ℕ → Bytes → Bytes → Type 0
-  Listing l end listing u = ListingStands s (compiled b.listing b.work s) b.listing b.work l end listing u
+  abbrev Listing : ℕ → ℕ → Bytes → Type 0
+  Listing l end listing = ListingStands s (compiled b.listing b.work s) b.listing b.work l end listing
 
   -- the items of the sheet's listing are replayed, so that the definition's image and area stand there
-  met : {l end : ℕ} {listing u t t' image image' area area' : Bytes} {r : Option (ℕ × ℕ)} → Listing l end listing u → length image ≡ b.image → length area ≡ b.area
+  met : {l end : ℕ} {listing t t' image image' area area' : Bytes} {r : Option (ℕ × ℕ)} → Listing l end listing → length image ≡ b.image → length area ≡ b.area
       → Replays (take l listing) end t t' image image' area area' r → Meets (imaged b s) b.image b.area r image' area'
-  met {l} {end} {listing} {u} {t} {t'} {image} {image'} {area} {area'} {r} h image-long area-long e =
+  met {l} {end} {listing} {t} {t'} {image} {image'} {area} {area'} {r} h image-long area-long e =
       let out = front b.listing (source_listing (sheet_source s)) h.bytes h.long in
       let at : Replays (source_listing (sheet_source s)) items.end t t' image image' area area' r = subst (λ (n : ℕ). Replays (source_listing (sheet_source s)) n t t' image image' area area' r) h.ends (subst (λ (x : Bytes). Replays x end t t' image image' area area' r) out e) in
-      subst (λ (q : Imaged). Meets q b.image b.area r image' area') (sym (replays h.outcome)) (sheet-replayed s u h.lines h.checked b image-long area-long at)
+      subst (λ (q : Imaged). Meets q b.image b.area r image' area') (sym (replays h.outcome)) (sheet-replayed s h.checked b image-long area-long at)
 
   -- replay refuses by 13 alone
   outgrown : (t u : Bool) (x y : Bytes) → None ≡ lengths_of (cond t (not_laid 13 0) (cond u (not_laid 13 0) (laid x y))) → cond t (not_laid 13 0) (cond u (not_laid 13 0) (laid x y)) ≡ not_laid 13 0
@@ -111,7 +111,7 @@ module _ (s : Bytes) (b : Buffers) where
   never-fits : None ≡ lengths_of (replayed b items) → replayed b items ≡ not_laid 13 0
   never-fits h = let m = memory_of items in outgrown (ltb b.area (area_after 0 items.items)) (ltb b.image (length m.image)) m.image m.area h
 
-  by-image : {l i a end : ℕ} {listing u image area : Bytes} {r : Option (ℕ × ℕ)} (q : Imaged) → imaged b s ≡ q → Listing l end listing u
+  by-image : {l i a end : ℕ} {listing image area : Bytes} {r : Option (ℕ × ℕ)} (q : Imaged) → imaged b s ≡ q → Listing l end listing
       → length image ≡ b.image → length area ≡ b.area → r ≡ Some (i, a) → Meets q b.image b.area r image area
       → Pictures s b (Ok (record { listing = l; image = i; area = a })) listing image area
   by-image {l} {i} {a} (laid x y) q h image-long area-long e m =
@@ -122,7 +122,7 @@ module _ (s : Bytes) (b : Buffers) where
       let f : Some (i, a) ≡ None = sym e ∙ m.answer in
       never cc
 
-  module _ {l end : ℕ} {listing u t t' image image' area area' : Bytes} {r : Option (ℕ × ℕ)} (h : Listing l end listing u)
+  module _ {l end : ℕ} {listing t t' image image' area area' : Bytes} {r : Option (ℕ × ℕ)} (h : Listing l end listing)
       (image-long : length image ≡ b.image) (area-long : length area ≡ b.area) (e : Replays (take l listing) end t t' image image' area area' r) where
     pub replay-laid : {i a : ℕ} → length image' ≡ length image → length area' ≡ length area → r ≡ Some (i, a) → Pictures s b (Ok (record { listing = l; image = i; area = a })) listing image' area'
     replay-laid image-kept area-kept given = by-image (imaged b s) refl h (image-kept ∙ image-long) (area-kept ∙ area-long) given (met h image-long area-long e)

@@ -32,7 +32,8 @@ pub fn image(
             Err(r)
         }
         Ok(l) => {
-            let laid = replay::replay(&listing[..l.length], work, image, area, l.end as usize);
+            let space = work.first_chunk_mut::<SPACE>().unwrap();
+            let laid = replay::replay(&listing[..l.length], space, image, area, l.end as usize);
             write::zero(work);
             match laid {
                 Some((i, a)) => Ok(Laid {

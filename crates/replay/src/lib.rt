@@ -3,19 +3,19 @@
 
 mod rows;
 
-ghost use Rattle.std.specs.Prelude.{◌≤◌, length};
 ghost use Rattle.replay.specs.Whole.{Replays};
+
+use codes::area::Space;
 
 // The items of a listing, over zeros; allocation ends at `end`. The lengths of image and area; none, and zeros, where one of them does
 // not fit its buffer.
 pub fn replay(
     listing: &[u8],
-    work: &mut [u8],
+    work: &mut Space,
     image: &mut [u8],
     area: &mut [u8],
     end: usize,
 ) -> Option<(usize, usize)>
-    requires { 65536 ≤ length work.old }
     ensures { Replays listing.now end work.old work.new image.old image.new area.old area.new result }
 {
     write::zero(image);

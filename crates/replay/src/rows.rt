@@ -6,7 +6,7 @@ ghost use Rattle.replay.specs.Rows.{element_size_at, width, laid_item, laid_row,
 ghost use Rattle.replay.specs.Firsts.{FirstState};
 ghost use Rattle.codes.specs.Kinds.{item_number};
 
-use codes::area;
+use codes::area::{self, Space};
 use codes::item::Item;
 use laying::State;
 
@@ -17,17 +17,13 @@ const TYPES: u64 = 1024;
 const LARGEST_SIZE: u64 = 255;
 
 // The size of a descriptor, 0 where it is not known.
-fn size_of(work: &[u8], id: u64) -> usize
+fn size_of(work: &Space, id: u64) -> usize
     ensures { result ≡ element_size_at work.now id }
 {
     if TYPES <= id {
         return 0;
     }
-    let i = area::SIZES + id as usize;
-    if work.len() <= i {
-        return 0;
-    }
-    work[i] as usize
+    usize::from(work[area::SIZES + id as usize])
 }
 
 #[tactic(auto, unfolding(crate::specs::Rows::width))]
@@ -42,7 +38,7 @@ fn width_of(k: Item) -> usize
 }
 
 // The item of a row by its keyword.
-fn lay_item(s: State, k: Item, row: &[u8], work: &[u8], image: &mut [u8], area: &mut [u8]) -> State
+fn lay_item(s: State, k: Item, row: &[u8], work: &Space, image: &mut [u8], area: &mut [u8]) -> State
     requires { MoreFits s (length area.old) }
     ensures { Lays (laid_item (element_size_at work.now) (item_number k) row.now (laying_of s image.old area.old)) s result image.new area.new }
 {
@@ -65,7 +61,7 @@ fn lay_item(s: State, k: Item, row: &[u8], work: &[u8], image: &mut [u8], area: 
 }
 
 // A row: its item where it is a `dat` row.
-fn step(s: State, row: &[u8], work: &[u8], image: &mut [u8], area: &mut [u8]) -> State
+fn step(s: State, row: &[u8], work: &Space, image: &mut [u8], area: &mut [u8]) -> State
     requires { MoreFits s (length area.old) }
     ensures { Lays (laid_row (element_size_at work.now) row.now (laying_of s image.old area.old)) s result image.new area.new }
 {
@@ -93,7 +89,7 @@ fn first(n: usize, end: usize) -> State
 }
 
 // All rows, until something does not fit.
-pub fn lay_rows(listing: &[u8], work: &[u8], image: &mut [u8], area: &mut [u8], end: usize) -> State
+pub fn lay_rows(listing: &[u8], work: &Space, image: &mut [u8], area: &mut [u8], end: usize) -> State
     ensures { seen_laying result image.new area.new ≡ laid_text (element_size_at work.now) listing.now (begun end image.old area.old) }
 {
     let mut s = first(image.len(), end);
@@ -120,8 +116,7 @@ fn small(n: u64) -> u8
 }
 
 // What a row says of sizes.
-fn note_size(row: &[u8], work: &mut [u8])
-    requires { 65536 ≤ length work.old }
+fn note_size(row: &[u8], work: &mut Space)
     ensures { Noted row.now work.old work.new }
 {
     if words::same(row_fields::field(row, 0), b"typ") {
@@ -134,8 +129,7 @@ fn note_size(row: &[u8], work: &mut [u8])
 }
 
 // The sizes of descriptors, which stand behind the items.
-pub fn read_sizes(listing: &[u8], work: &mut [u8])
-    requires { 65536 ≤ length work.old }
+pub fn read_sizes(listing: &[u8], work: &mut Space)
     ensures { Sizes listing.now work.old work.new }
 {
     write::zero(&mut work[area::SIZES..area::SIZES_END]);
