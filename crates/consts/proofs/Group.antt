@@ -21,14 +21,14 @@ record OpenBy (s : Bytes) (i : ℕ) (P : ℕ → Type 0) : Type 0 where
   within : open_at (nodes_in s) i ≡ module_at s line
   holds : P line
 
-module _ (s t : Bytes) (c : Checked s) where
+module _ (s : Bytes) (c : Checked s) where
   -- what is open behind line i: that line's module, none, or what was open before
   open_next : (P : ℕ → Type 0) (i : ℕ) → i < lines_in s → P (suc i) → P 0 → OpenBy s i P → OpenBy s (suc i) P
   open_next P i h own none o = go (eqb (letter (read_at s i).form.kind) 77) refl (eqb (letter (read_at s i).form.kind) 79) refl
     where
       go : (a : Bool) → eqb (letter (read_at s i).form.kind) 77 ≡ a → (b : Bool) → eqb (letter (read_at s i).form.kind) 79 ≡ b → OpenBy s (suc i) P
-      go true p b q = record { line = suc i; within = open-mod s t (lines_in s) c i h (eqb-true (letter (read_at s i).form.kind) 77 p); holds = own }
-      go false p true q = record { line = 0; within = open-end s t (lines_in s) c i h (eqb-true (letter (read_at s i).form.kind) 79 q); holds = none }
+      go true p b q = record { line = suc i; within = open-mod s c i h (eqb-true (letter (read_at s i).form.kind) 77 p); holds = own }
+      go false p true q = record { line = 0; within = open-end s c i h (eqb-true (letter (read_at s i).form.kind) 79 q); holds = none }
       go false p false q = record {
         line = o.line;
         within = open-other s c i h (eqb-false (letter (read_at s i).form.kind) 77 p) (eqb-false (letter (read_at s i).form.kind) 79 q) ∙ o.within;

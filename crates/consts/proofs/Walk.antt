@@ -23,7 +23,6 @@ use Rattle.lines.specs.Lines.{lines_in, read_at, nodes_in, form_at}
 use Rattle.lines.proofs.Line.{kind-is, form-low}
 use Rattle.implement.specs.Modules.{module_at, line_number, Open}
 use Rattle.checks.specs.Checks.{Checked, Kept}
-use Rattle.checks.proofs.Kept.{kept_less}
 use Rattle.checks.proofs.Laws.{few-consts}
 use Rattle.source.specs.Walk.{open_at}
 use Rattle.chains.proofs.Laws.{chained-none}
@@ -182,7 +181,7 @@ pass_start k m = record { line = line_number k; within = k; count = m; iota = re
 
 module _ (s t : Bytes) (m : ℕ) (k : Option ℕ) (g : Group s t m (line_number k)) where
   start_is : group_from s (line_number k) (line_number k) ≡ group_from s (line_number k) 0
-  start_is = group-start s t g.checked (line_number k) g.group
+  start_is = group-start s g.checked (line_number k) g.group
 
   pub begins : PassAt s t (line_number k) (pass_start k m)
   begins = record {
@@ -215,7 +214,7 @@ module _ (s t : Bytes) (m : ℕ) (k : Option ℕ) (g : Group s t m (line_number 
     unfolding left
     at_left e q l =
         let w = both (not (eqb (line_number k) 0)) (not (eqb (line_number p.within) (line_number k))) (sym e ∙ q) in
-        group-left s u st.checked (line_number k) p.line (line_number p.within) st.inside l (eqb-false (line_number k) 0 (not-true (eqb (line_number k) 0) w.0)) st.opened (eqb-false (line_number p.within) (line_number k) (not-true (eqb (line_number p.within) (line_number k)) w.1))
+        group-left s st.checked (line_number k) p.line (line_number p.within) st.inside l (eqb-false (line_number k) 0 (not-true (eqb (line_number k) 0) w.0)) st.opened (eqb-false (line_number p.within) (line_number k) (not-true (eqb (line_number p.within) (line_number k)) w.1))
 
     pub pass-done : group_from s (line_number k) p.line ≡ [] → p.count + length (group_from s (line_number k) p.line) ≡ m + length (group_from s (line_number k) 0)
         → Logs s u p.count (pass (sheet_source s).implement (group_from s (line_number k) 0) new_counter (log_in s t m)) × (p.count ≡ m + length (group_from s (line_number k) 0))
@@ -237,7 +236,7 @@ module _ (s t : Bytes) (m i : ℕ) (b : PassesBefore s t m i) where
   pub past-other : i < lines_in s → (letter (read_at s i).form.kind ≡ 77 → ⊥) → PassesBefore s t m (i + 1) × (passes_left s t m (i + 1) ≡ passes_left s t m i)
   unfolding passes_left
   past-other h z =
-      (record { checked = b.checked; logged = b.logged; few = rw add-one (omega (arith, b.few, count-mod s t (lines_in s) b.checked i)) }, rw (add-one, passes-other s t (lines_in s) b.checked i h z))
+      (record { checked = b.checked; logged = b.logged; few = rw add-one (omega (arith, b.few, count-mod s b.checked i)) }, rw (add-one, passes-other s b.checked i h z))
 
   pub module-group : i < lines_in s → letter (read_at s i).form.kind ≡ 77 → Group s t m (suc i)
   module-group h e = record {

@@ -2,16 +2,17 @@
 #![tactic(auto)]
 
 ghost use Rattle.std.specs.Prelude.{◌≡◌, ◌+◌, ◌<◌};
+ghost use Rattle.lines.specs.Lines.{lines_in};
 ghost use Rattle.checks.specs.Checks.{Checked, Kept};
 ghost use Rattle.implement.specs.Modules.{line_number};
 ghost use Rattle.consts.specs.Passes.{ConstLine, ConstantEntered, AtConstant, PassAt, Visits, Group, PassDone, PassesBefore, ModulePassed, Collects, left};
-ghost use Rattle.lines.specs.Lines.{lines_in};
 
 use answers::Refusal;
-use codes::{area::{self, Space}, kind};
+use codes::area::{self, Space};
+use codes::kind;
 use iota::IotaCounter;
-use values::NoValue;
 use lines::Sheet;
+use values::NoValue;
 
 // A pass before line `line`, where the module of line `within` is open; both from 0.
 #[derive(Clone, Copy)]
@@ -24,7 +25,14 @@ pub struct Pass {
 
 // The constant of line i in the module of line k, both from 0: folded, and entered behind those that are known. Refused
 // where its string grows too long.
-fn take_constant(sheet: &Sheet, work: &mut Space, consts: usize, k: Option<usize>, i: usize, iota: u32) -> Result<(), Refusal>
+fn take_constant(
+    sheet: &Sheet,
+    work: &mut Space,
+    consts: usize,
+    k: Option<usize>,
+    i: usize,
+    iota: u32,
+) -> Result<(), Refusal>
     requires { ConstLine sheet.now work.old consts (line_number k) i }
     ensures { (Kept 5120 work.old work.new) × (ConstantEntered sheet.now work.old work.new consts (line_number k) i iota result) }
 {
@@ -46,7 +54,12 @@ fn take_constant(sheet: &Sheet, work: &mut Space, consts: usize, k: Option<usize
 }
 
 // The constant of the line at which a pass stands.
-fn visit_constant(sheet: &Sheet, work: &mut Space, k: Option<usize>, p: Pass) -> Result<Pass, Refusal>
+fn visit_constant(
+    sheet: &Sheet,
+    work: &mut Space,
+    k: Option<usize>,
+    p: Pass,
+) -> Result<Pass, Refusal>
     requires { (PassAt sheet.now work.old (line_number k) p) × (AtConstant sheet.now (line_number k) p) }
     ensures { (Kept 5120 work.old work.new) × (Visits sheet.now work.old work.new (line_number k) p result) }
 {
@@ -100,7 +113,12 @@ fn is_left(k: Option<usize>, within: Option<usize>) -> bool
 }
 
 // A pass, with entries from m on: from the line behind the one that opens the group to where the group is left.
-fn pass_consts(sheet: &Sheet, work: &mut Space, m: usize, k: Option<usize>) -> Result<usize, Refusal>
+fn pass_consts(
+    sheet: &Sheet,
+    work: &mut Space,
+    m: usize,
+    k: Option<usize>,
+) -> Result<usize, Refusal>
     requires { Group sheet.now work.old m (line_number k) }
     ensures { (Kept 5120 work.old work.new) × (PassDone sheet.now work.old work.new m (line_number k) result) }
 {

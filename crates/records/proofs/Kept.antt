@@ -4,7 +4,7 @@ use mathlib.Core.List.{List}
 use Prim.Native.Nat.{ℕ, ◌+◌, ◌*◌, ◌<◌}
 use native.Mathlib.Omega.{arith}
 use Rattle.checks.specs.Checks.{Kept}
-use Rattle.checks.proofs.Kept.{kept_at, kept_less}
+use Rattle.checks.proofs.Kept.{kept_at}
 use Rattle.chains.specs.Chains.{digest_place}
 use Rattle.chains.proofs.Laws.{SameBytes, chained-kept}
 use Rattle.records.specs.Log.{byte_of, entry_at, record_of, recorded_at, record_chains, RecordsLogged}

@@ -136,12 +136,12 @@ same_cases s r = refl
 pub cases-count : (s : List ℕ) (r : ℕ) {k : ℕ} → k ≡ length (cases_at s r) → k ≡ length (cases_in (decl_at s r))
 cases-count s r e = e ∙ ap length (same_cases s r)
 
-pub variant-line : {s t : List ℕ} {r c : ℕ} → PickLine s r → c < length (cases_in (decl_at s r)) → VariantLine s r c
-variant-line {s} {t} {n} {r} l h = record { line = l; case = rw (same_cases s r) h }
+pub variant-line : {s : List ℕ} {r c : ℕ} → PickLine s r → c < length (cases_in (decl_at s r)) → VariantLine s r c
+variant-line {s} {r} l h = record { line = l; case = rw (same_cases s r) h }
 
-pub case-is : {s t : List ℕ} {r c v : ℕ} → CaseOf s r c v → case_at s v ≡ case_in (decl_at s r) c
+pub case-is : {s : List ℕ} {r c v : ℕ} → CaseOf s r c v → case_at s v ≡ case_in (decl_at s r) c
 unfolding case_at
-case-is {s} {t} {n} {r} {c} x = x.case ∙ ap (λ (ks : List Case). get_or ks c no_case) (same_cases s r)
+case-is {s} {r} {c} x = x.case ∙ ap (λ (ks : List Case). get_or ks c no_case) (same_cases s r)
 
 -- ---- the tags of a case
 
