@@ -6,6 +6,7 @@ ghost use Rattle.semantics.specs.Refusal.{zeros};
 ghost use Rattle.image.specs.Image.{lent_of, Pictures};
 
 use answers::Refusal;
+use codes::area::SPACE;
 
 // The lengths of listing, image and area.
 #[derive(Clone, Copy)]

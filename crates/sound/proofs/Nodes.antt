@@ -131,7 +131,7 @@ module _ (s : Bytes) (w : Whole s) where
     row_keeps = rw (form-is s w i h) (each_at RowKeeps forms all_keep (form_at s i) (omega (arith, row-count, form-low s w i h)))
 
     line-fields : Every (Short 255) (read_at s i).fields
-    line-fields = rw (fields-are s w i h) (fields-short 255 (length (keywords_at (form_at s i)) + 1) (text_at s i) (line-short (i + 1) (text_at s i) (w.lined.good i h)))
+    line-fields = rw (fields-are s w i h) (fields-short 255 (length (keywords_at (form_at s i)) + 1) (text_at s i) (line-short (i + 1) (text_at s i) (w.good i h)))
 
     line-keeps : LineKeeps (read_at s i)
     unfolding node_of
