@@ -6,9 +6,9 @@ ghost use Rattle.write.specs.Writes.{Writes};
 ghost use Rattle.sizes.specs.Places.{fd_at, fds_of_refs, common_fields, case_fields, FieldLine, FieldRefs, RecordLine, CaseLine, case_end, common_end, group_bytes, line_bytes};
 ghost use Rattle.field_rows.specs.Rows.{field_text, LineWrote, AllWrote};
 
+use lines::Sheet;
 use sizes::place::Refs;
 use write::Writer;
-use lines::Sheet;
 
 fn put_row(w: &mut Writer, name: &[u8], offset: u32, size: u32)
     ensures { Writes w.old (field_text name.now offset size) w.new }

@@ -10,7 +10,7 @@ use lib.Seq.{get_or-set_same, get_or-set_other}
 use Rattle.semantics.specs.Text.{Bytes}
 use Rattle.words.specs.Words.{digest}
 use Rattle.checks.specs.Checks.{Outside}
-use Rattle.checks.proofs.Kept.{kept_less, outside-all, outside-then, outside_set}
+use Rattle.checks.proofs.Kept.{outside-all, outside-then, outside_set}
 use Rattle.chains.specs.Chains.{digest_place, digest_at, Chained, linked}
 use Rattle.chains.proofs.Laws.{SameBytes, chained-kept, linked-outside, linked-other, PlacesApart, digest-stays, chained-next}
 use Rattle.records.specs.Log.{byte_of, entry_at, record_of, recorded_at, record_chains, Digested}
@@ -103,9 +103,8 @@ entered-length t i d h room q = rw q (outside-new t i d h room).kept.long
 pub digests-start : {s t : Bytes} {m : ℕ} → Digested s t m 0 → CollectedTo s t t m 0
 digests-start g = record { log = g; outside = outside-all }
 
-pub digests-next : {s t u v : Bytes} {m i d : ℕ} → CollectedTo s t u m i → i < m → d ≡ digest (recorded_at s u i).key → v ≡ linked (set u (9221 + 8 * i) d) record_chains i → CollectedTo s t v m (i + 1)
-digests-next {s} {t} {u} {n = n} {m} {i} {d} g h e q =
-    let room = g.log.checked.whole.room in
+pub digests-next : {s t u v : Bytes} {m i d : ℕ} → 62464 ≤ length u → CollectedTo s t u m i → i < m → d ≡ digest (recorded_at s u i).key → v ≡ linked (set u (9221 + 8 * i) d) record_chains i → CollectedTo s t v m (i + 1)
+digests-next {s} {u = u} {m = m} {i} {d} room g h e q =
     let low : i < 128 = omega (arith, g.log.few) in
     rw q (record {
       log = digested-new u i d low room s m g.log h e;

@@ -23,7 +23,7 @@ use Rattle.lines.specs.Lines.{lines_in, read_at, nodes_in, form_at}
 use Rattle.lines.proofs.Line.{kind-is}
 use Rattle.refs.proofs.Nodes.{node-count}
 use Rattle.checks.specs.Checks.{Checked}
-use Rattle.checks.proofs.Kept.{kept_less, outside-less, wrote_kept, wrote-outside}
+use Rattle.checks.proofs.Kept.{outside-less, wrote-outside}
 use Rattle.source.specs.Walk.{declares_at, declared_to}
 use Rattle.source.proofs.Walk.{located-all, located-its, declared-all, source-of}
 use Rattle.shapes.specs.Shapes.{cases_in}
@@ -42,12 +42,6 @@ use Rattle.records.proofs.Picks.{adt-decl, pick-decl, no-decl, case-is}
 
 pub place-on : {d : Bytes} {a : ℕ} {t e : Bytes} {b : ℕ} → Wrote d a t e b → (k : ℕ) → k ≤ a → a ≤ length d + 1 → k ≤ b
 place-on w k h l = omega (arith, w.place)
-
-pub checked_wrote : {s d : Bytes} {a : ℕ} {t e : Bytes} {b : ℕ} → Wrote d a t e b → 9216 ≤ a → Checked s → Checked s
-checked_wrote w h c = c
-
-pub pick-wrote : {s d : Bytes} {r a : ℕ} {t e : Bytes} {b : ℕ} → Wrote d a t e b → 9216 ≤ a → PickLine s r → PickLine s r
-pick-wrote w h l = l
 
 -- ---- the cases of a `pick` line, one by one
 
@@ -93,7 +87,7 @@ one_entry : (e : Entry) → log_bytes (e ∷ []) ≡ entry_bytes e.line e.case e
 unfolding log_bytes
 one_entry e = append-nil _
 
-module _ (s t : Bytes) (c : Checked s) (r : ℕ) (first : 0 < r) (last : r ≤ lines_in s) where
+module _ (s : Bytes) (c : Checked s) (r : ℕ) (first : 0 < r) (last : r ≤ lines_in s) where
   line-in : r - 1 < lines_in s
   line-in = omega arith
 
@@ -118,13 +112,13 @@ module _ (s t : Bytes) (c : Checked s) (r : ℕ) (first : 0 < r) (last : r ≤ l
 
   pub line-pick : {f : ℕ} → f ≡ form_at s (r - 1) → f ≡ 27 → PickLine s r
   unfolding forms
-  line-pick e h = record { checked = c; first = first; last = last; kind = kind-is s t (lines_in s) c.whole (r - 1) line-in ∙ ap kind_at (sym e ∙ h) }
+  line-pick e h = record { checked = c; first = first; last = last; kind = kind-is s c.whole (r - 1) line-in ∙ ap kind_at (sym e ∙ h) }
 
 -- ---- all lines
 
-pub entries-start : (s t : Bytes) → Checked s → Wrote t 9216 (log_bytes (entries_to (nodes_in s) 0)) t 9216
+pub entries-start : (s t : Bytes) → 62464 ≤ length t → Wrote t 9216 (log_bytes (entries_to (nodes_in s) 0)) t 9216
 unfolding entries_to log_bytes
-entries-start s t c = wrote_none t 9216 (omega (arith, c.whole.room))
+entries-start s t room = wrote_none t 9216 (omega arith)
 
 pub entries_next : (s d : Bytes) (r : ℕ) (e : Bytes) (b : ℕ) (f : Bytes) (q : ℕ) → Wrote d 9216 (log_bytes (entries_to (nodes_in s) r)) e b → Wrote e b (log_bytes (entries_of s (r + 1))) f q
     → Wrote d 9216 (log_bytes (entries_to (nodes_in s) (r + 1))) f q
@@ -193,15 +187,12 @@ module _ (s : Bytes) (c : Checked s) where
 no_entry : Entry
 no_entry = record { line = 0; case = 0; position = 0; number = 0 }
 
-module _ (s d : Bytes) (c : Checked s) (e : Bytes) (b : ℕ) (w : Wrote d 9216 (log_bytes (entries_to (nodes_in s) (lines_in s))) e b) where
+module _ (s d : Bytes) (room : 62464 ≤ length d) (c : Checked s) (e : Bytes) (b : ℕ) (w : Wrote d 9216 (log_bytes (entries_to (nodes_in s) (lines_in s))) e b) where
   length-es : (length (entries_to (nodes_in s) (lines_in s)) ≡ length (log_of s)) × (length (log_of s) ≤ 128)
   length-es = (entries-count s c, log-few s c)
 
-  checked-now : Checked s
-  checked-now = checked_wrote w (omega arith) c
-
   back : (i : ℕ) → i < length (log_of s) → entry_at e i ≡ get_or (entries_to (nodes_in s) (lines_in s)) i no_entry
-  back i h = entry-back (entries_to (nodes_in s) (lines_in s)) w c.whole.room (omega (arith, length-es.0, length-es.1)) no_entry i (omega (arith, length-es.0))
+  back i h = entry-back (entries_to (nodes_in s) (lines_in s)) w room (omega (arith, length-es.0, length-es.1)) no_entry i (omega (arith, length-es.0))
 
   record-back : (i : ℕ) → i < length (log_of s) → recorded_at s e i ≡ get_or (log_of s) i no_record
   unfolding recorded_at
@@ -211,23 +202,23 @@ module _ (s d : Bytes) (c : Checked s) (e : Bytes) (b : ℕ) (w : Wrote d 9216 (
       ∙ default-same (log_of s) i (record_of s no_entry) no_record h)
 
   place_is : b ≡ 9216 + 8 * length (log_of s)
-  place_is = omega (arith, w.place, log-bytes (entries_to (nodes_in s) (lines_in s)), length-es.0, length-es.1, c.whole.room)
+  place_is = omega (arith, w.place, log-bytes (entries_to (nodes_in s) (lines_in s)), length-es.0, length-es.1)
 
   all-logged : (m : ℕ) → m ≡ (b - 9216) / 8 → CollectedTo s d e m 0
   all-logged m h =
       let q : m ≡ length (log_of s) = omega (arith, place_is) in
       record {
         log = record {
-          checked = checked-now;
+          checked = c;
           count = q;
           few = omega (arith, length-es.1);
           each = λ i l. record-back i (omega arith);
           digests = λ i l. absurd (omega arith);
           chained = chained-none e record_chains;
-          entries = λ i l. record { checked = checked-now; low = omega (arith, length-es.1); sound = rw (back i (omega arith)) (every-at (EntryInSheet s) (entries_to (nodes_in s) (lines_in s)) (lines-sound s c (lines_in s) (omega arith)) no_entry i (omega (arith, length-es.0))) };
+          entries = λ i l. record { checked = c; low = omega (arith, length-es.1); sound = rw (back i (omega arith)) (every-at (EntryInSheet s) (entries_to (nodes_in s) (lines_in s)) (lines-sound s c (lines_in s) (omega arith)) no_entry i (omega (arith, length-es.0))) };
         };
         outside = outside-less 9216 10240 (omega arith) (omega (arith, log-bytes (entries_to (nodes_in s) (lines_in s)), length-es.0, length-es.1)) (wrote-outside w);
       }
 
-pub entries-end : (s d : Bytes) → Checked s → (r : ℕ) → r ≤ lines_in s → lines_in s ≤ r → (e : Bytes) (b : ℕ) → Wrote d 9216 (log_bytes (entries_to (nodes_in s) r)) e b → (m : ℕ) → m ≡ (b - 9216) / 8 → CollectedTo s d e m 0
-entries-end s d c r h k e b w m q = let z : r ≡ lines_in s = omega arith in all-logged s d c e b (rw z at w) m q
+pub entries-end : (s d : Bytes) → 62464 ≤ length d → Checked s → (r : ℕ) → r ≤ lines_in s → lines_in s ≤ r → (e : Bytes) (b : ℕ) → Wrote d 9216 (log_bytes (entries_to (nodes_in s) r)) e b → (m : ℕ) → m ≡ (b - 9216) / 8 → CollectedTo s d e m 0
+entries-end s d room c r h k e b w m q = let z : r ≡ lines_in s = omega arith in all-logged s d room c e b (rw z at w) m q

@@ -11,13 +11,21 @@ ghost use Rattle.records.specs.Log.{record_chains, Digested};
 ghost use Rattle.record_log.specs.Entries.{entry_bytes, tag_entries, case_entries, entries_of, log_bytes, CollectedTo, RecordsCollected};
 ghost use Rattle.lines.specs.Lines.{lines_in};
 
-use codes::{area::{self, Space}, decl};
+use codes::area::{self, Space};
+use codes::decl;
+use lines::Sheet;
 use records::key::CHAINS;
 use write::Writer;
-use lines::Sheet;
 
 // One entry: a line, 0 or a case from 1, the position of a tag in it, and the tag's number.
-fn put_entry(work: &mut Space, at: usize, r: usize, case: usize, position: usize, number: usize) -> usize
+fn put_entry(
+    work: &mut Space,
+    at: usize,
+    r: usize,
+    case: usize,
+    position: usize,
+    number: usize,
+) -> usize
     requires { (r ≤ 1024) × (case ≤ 255) × (position ≤ 255) × (number ≤ 255) }
     ensures { Wrote work.old at (entry_bytes r case position number) work.new result }
 {
@@ -37,7 +45,14 @@ fn put_entry(work: &mut Space, at: usize, r: usize, case: usize, position: usize
 }
 
 // The entries of `count` tags of a case, numbered from `number` on.
-fn put_tags(work: &mut Space, at: usize, r: usize, case: usize, count: usize, number: usize) -> usize
+fn put_tags(
+    work: &mut Space,
+    at: usize,
+    r: usize,
+    case: usize,
+    count: usize,
+    number: usize,
+) -> usize
     requires { (r ≤ 1024) × (case ≤ 16) × (count ≤ 16) × (number ≤ 240) × (at ≤ length work.old + 1) }
     ensures { Wrote work.old at (log_bytes (tag_entries r case 0 number count)) work.new result }
 {
@@ -50,7 +65,7 @@ fn put_tags(work: &mut Space, at: usize, r: usize, case: usize, count: usize, nu
 
 // The entries of the tags of line r's cases. Tags are numbered over all cases.
 fn put_cases(sheet: &Sheet, work: &mut Space, r: usize, at: usize) -> usize
-    requires { (PickLine sheet.now r) × (9216 ≤ at) × (at ≤ length work.old + 1) }
+    requires { (PickLine sheet.now r) × (at ≤ length work.old + 1) }
     ensures { Wrote work.old at (log_bytes (case_entries r 0 0 (cases_in (decl_at sheet.now r)))) work.new result }
 {
     let count = shapes::case_count(sheet, r);
@@ -67,7 +82,7 @@ fn put_cases(sheet: &Sheet, work: &mut Space, r: usize, at: usize) -> usize
 
 // The entries of line r's records, where it declares any: T itself, then its variants.
 fn record_adt(sheet: &Sheet, work: &mut Space, r: usize, at: usize) -> usize
-    requires { (Checked sheet.now) × (0 < r) × (r ≤ lines_in sheet.now) × (9216 ≤ at) × (at ≤ length work.old + 1) }
+    requires { (Checked sheet.now) × (0 < r) × (r ≤ lines_in sheet.now) × (at ≤ length work.old + 1) }
     ensures { Wrote work.old at (log_bytes (entries_of sheet.now r)) work.new result }
 {
     let f = sheet.form_at(r - 1);

@@ -10,10 +10,10 @@ pub digest_for-d-requires : goal.digest_for-d-requires
 digest_for-d-requires c = c.loop-i.invariant.1.log.entries _ c.loop-i-test.true
 
 pub enter_digest-requires : goal.enter_digest-requires
-enter_digest-requires c = (omega (arith, c.loop-i.invariant.1.log.few, c.loop-i-test.true), c.digest_for-d.ensures.1, (search rules))
+enter_digest-requires c = (omega (arith, c.loop-i.invariant.1.log.few, c.loop-i-test.true), c.digest_for-d.ensures.1)
 
 pub loop-i-preserved : goal.loop-i-preserved
-loop-i-preserved c = (omega (arith, c.loop-i-test.true), digests-next c.loop-i.invariant.1 c.loop-i-test.true c.digest_for-d.ensures.0 c.enter_digest.ensures)
+loop-i-preserved c = (omega (arith, c.loop-i-test.true), digests-next (search rules) c.loop-i.invariant.1 c.loop-i-test.true c.digest_for-d.ensures.0 c.enter_digest.ensures)
 
 pub returns : goal.returns
 returns c = digests-end c.loop-i.invariant.1 c.loop-i.invariant.0 c.loop-i-test.false

@@ -1,21 +1,21 @@
-use Rattle.std.proofs.Common.{rules}
-use Rattle.record_log.proofs.Log.{entries-start, entries_next, entries-end, checked_wrote, place-on}
-use Rattle.write.proofs.Wrote.{wrote-length, place-low}
+use Rattle.std.proofs.Common.{rules, ◌≤◌, length}
+use Rattle.record_log.proofs.Log.{entries-start, entries_next, entries-end, place-on}
+use Rattle.write.proofs.Wrote.{place-low}
 use native.Mathlib.Omega.{arith}
 use mathlib.Core.Path.{refl}
 use Rattle.record_log.proofs.log_adts.Goals as goal
 
 pub loop-i-init : goal.loop-i-init
-loop-i-init c = (omega arith, entries-start c.args.sheet.now c.args.work.now c.requires)
+loop-i-init c = (omega arith, entries-start c.args.sheet.now c.args.work.now (search rules))
 
 pub record_adt-at-requires : goal.record_adt-at-requires
-record_adt-at-requires c = (checked_wrote c.loop-i.invariant.1 (omega arith) c.requires, omega arith, omega (arith, c.loop-i-test.true), place-on c.loop-i.invariant.1 9216 (omega arith) (omega (arith, (search rules))), place-low c.loop-i.invariant.1)
+record_adt-at-requires c = (c.requires, omega arith, omega (arith, c.count-i-end.ensures.0, c.loop-i-test.true), place-low c.loop-i.invariant.1)
 
 pub loop-i-preserved : goal.loop-i-preserved
-loop-i-preserved c = (omega (arith, c.loop-i-test.true), entries_next c.args.sheet.now c.args.work.now _ _ _ _ _ c.loop-i.invariant.1 c.record_adt-at.ensures)
+loop-i-preserved c = (omega (arith, c.count-i-end.ensures.0, c.loop-i-test.true), entries_next c.args.sheet.now c.args.work.now _ _ _ _ _ c.loop-i.invariant.1 c.record_adt-at.ensures)
 
 pub overflow_sub-result : goal.overflow_sub-result
-overflow_sub-result c = place-on c.loop-i.invariant.1 9216 (omega arith) (omega (arith, (search rules)))
+overflow_sub-result c = let room : 62464 ≤ length c.args.work.now = search rules in place-on c.loop-i.invariant.1 9216 (omega arith) (omega arith)
 
 pub returns : goal.returns
-returns c = entries-end c.args.sheet.now c.args.work.now c.requires _ c.loop-i.invariant.0 c.loop-i-test.false _ _ c.loop-i.invariant.1 _ refl
+returns c = entries-end c.args.sheet.now c.args.work.now (search rules) c.requires _ c.loop-i.invariant.0 (omega (arith, c.count-i-end.ensures.0, c.loop-i-test.false)) _ _ c.loop-i.invariant.1 _ refl

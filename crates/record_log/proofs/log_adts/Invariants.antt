@@ -5,4 +5,4 @@ use Prim.Native.Nat.{◌≤◌}
 use Rattle.record_log.proofs.log_adts.Given as goal
 
 abbrev pub invariant-loop-i : goal.invariant-loop-i
-invariant-loop-i l = (l.i ≤ (lines_in l.sheet)) × (Wrote l.initial.work 9216 (log_bytes (entries_to (nodes_in l.sheet) l.i)) l.work l.at)
+invariant-loop-i l = (l.i ≤ lines_in l.sheet) × (Wrote l.initial.work 9216 (log_bytes (entries_to (nodes_in l.sheet) l.i)) l.work l.at)

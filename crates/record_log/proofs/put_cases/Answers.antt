@@ -1,6 +1,6 @@
 use Rattle.records.proofs.Picks.{cases-count, variant-line}
-use Rattle.record_log.proofs.Log.{casing-start, casing-next, casing-end, pick-wrote}
-use Rattle.write.proofs.Wrote.{wrote-length, place-low}
+use Rattle.record_log.proofs.Log.{casing-start, casing-next, casing-end}
+use Rattle.write.proofs.Wrote.{place-low}
 use native.Mathlib.Omega.{arith}
 use Rattle.record_log.proofs.put_cases.Goals as goal
 
@@ -8,10 +8,10 @@ pub case_count-count-requires : goal.case_count-count-requires
 case_count-count-requires c = c.requires.0
 
 pub loop-c-init : goal.loop-c-init
-loop-c-init c = casing-start c.args.sheet.now c.args.r c.args.work.now c.args.at c.requires.2
+loop-c-init c = casing-start c.args.sheet.now c.args.r c.args.work.now c.args.at c.requires.1
 
 pub case_line-v-requires : goal.case_line-v-requires
-case_line-v-requires c = variant-line (pick-wrote c.loop-c.invariant.wrote c.requires.1 c.requires.0) (omega (arith, cases-count c.args.sheet.now c.args.r c.case_count-count.ensures.0, c.loop-c-test.true))
+case_line-v-requires c = variant-line c.requires.0 (omega (arith, cases-count c.args.sheet.now c.args.r c.case_count-count.ensures.0, c.loop-c-test.true))
 
 pub tag_count-tags-requires : goal.tag_count-tags-requires
 tag_count-tags-requires c = c.case_line-v.ensures.line
@@ -23,7 +23,7 @@ pub overflow_add-number : goal.overflow_add-number
 overflow_add-number c = record { fits = omega (arith, c.loop-c.invariant.small, c.case_count-count.ensures.1, c.loop-c-test.true, c.tag_count-tags.ensures.1) }
 
 pub loop-c-preserved : goal.loop-c-preserved
-loop-c-preserved c = casing-next c.args.sheet.now c.args.r c.args.work.now c.args.at _ _ _ c.loop-c.invariant (omega (arith, cases-count c.args.sheet.now c.args.r c.case_count-count.ensures.0, c.loop-c-test.true)) _ c.case_line-v.ensures _ c.tag_count-tags.ensures.0 c.tag_count-tags.ensures.1 _ _ c.put_tags-p.ensures
+loop-c-preserved c = casing-next c.args.sheet.now c.args.r c.args.work.now c.args.at _ _ _ _ c.loop-c.invariant (omega (arith, cases-count c.args.sheet.now c.args.r c.case_count-count.ensures.0, c.loop-c-test.true)) _ c.case_line-v.ensures _ c.tag_count-tags.ensures.0 c.tag_count-tags.ensures.1 _ _ c.put_tags-p.ensures
 
 pub returns : goal.returns
-returns c = casing-end c.args.sheet.now c.args.r c.args.work.now c.args.at _ _ _ c.loop-c.invariant (omega (arith, cases-count c.args.sheet.now c.args.r c.case_count-count.ensures.0, c.loop-c-test.false))
+returns c = casing-end c.args.sheet.now c.args.r c.args.work.now c.args.at _ _ _ _ c.loop-c.invariant (omega (arith, cases-count c.args.sheet.now c.args.r c.case_count-count.ensures.0, c.loop-c-test.false))

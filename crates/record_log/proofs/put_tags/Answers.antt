@@ -1,5 +1,4 @@
 use Rattle.record_log.proofs.Table.{tagging-start, tagging-next, tagging-end}
-use Rattle.write.proofs.Wrote.{wrote-length}
 use native.Mathlib.Omega.{arith}
 use Rattle.record_log.proofs.put_tags.Goals as goal
 
