@@ -4,12 +4,15 @@
 #![tactic(auto)]
 
 ghost use Rattle.std.specs.Prelude.{◌≤◌, ◌<◌};
-ghost use Rattle.checks.specs.Checks.{Checked, Kept};
+ghost use Rattle.lines.specs.Lines.{lines_in};
+ghost use Rattle.checks.specs.Checks.{Checked};
 ghost use Rattle.sizes.specs.Places.{RecordLine};
 ghost use Rattle.shapes.specs.Shapes.{PickLine, VariantLine};
 ghost use Rattle.maps.specs.Maps.{MapRoom};
 
-use codes::{area, decl};
+use codes::area::{self, SPACE, Space};
+use codes::decl;
+use lines::{Sheet, TABLE};
 use std::io;
 use std::io::{Read, Write};
 
@@ -19,7 +22,7 @@ const BYTES: usize = 65536;
 const LARGEST: u32 = 131080;
 
 // A number, a size, and the map that stands in the working space.
-fn print_row(out: &mut impl Write, work: &[u8], number: usize, size: u32) -> io::Result<()>
+fn print_row(out: &mut impl Write, work: &Space, number: usize, size: u32) -> io::Result<()>
     requires { MapRoom work.now size }
 {
     let ones = maps::map_ones(work, size);
@@ -33,91 +36,76 @@ fn print_row(out: &mut impl Write, work: &[u8], number: usize, size: u32) -> io:
 
 fn print_record(
     out: &mut impl Write,
-    sheet: &[u8],
-    work: &mut [u8],
-    n: usize,
+    sheet: &Sheet,
+    work: &mut Space,
     r: usize,
 ) -> io::Result<()>
-    requires { RecordLine sheet.now work.old n r }
-    ensures { Kept 49152 work.old work.new }
+    requires { RecordLine sheet.now r }
 {
-    let size = shapes::record_size(sheet, work, n, r);
+    let size = shapes::record_size(sheet, r);
     if LARGEST < size {
         return Ok(());
     }
-    shapes::map_record(sheet, work, n, r, size);
+    shapes::map_record(sheet, work, r, size);
     print_row(out, work, r, size)
 }
 
 fn print_variant(
     out: &mut impl Write,
-    sheet: &[u8],
-    work: &mut [u8],
-    n: usize,
+    sheet: &Sheet,
+    work: &mut Space,
     r: usize,
     c: usize,
 ) -> io::Result<()>
-    requires { VariantLine sheet.now work.old n r c }
-    ensures { Kept 49152 work.old work.new }
+    requires { VariantLine sheet.now r c }
 {
-    let size = shapes::variant_size(sheet, work, n, r, c);
+    let size = shapes::variant_size(sheet, r, c);
     if LARGEST < size {
         return Ok(());
     }
-    shapes::map_variant(sheet, work, n, r, c, size);
+    shapes::map_variant(sheet, work, r, c, size);
     print_row(out, work, c, size)
 }
 
 fn print_variants(
     out: &mut impl Write,
-    sheet: &[u8],
-    work: &mut [u8],
-    n: usize,
+    sheet: &Sheet,
+    work: &mut Space,
     r: usize,
 ) -> io::Result<()>
-    requires { PickLine sheet.now work.old n r }
-    ensures { Kept 49152 work.old work.new }
+    requires { PickLine sheet.now r }
 {
-    let count = shapes::case_count(sheet, work, n, r);
-    for c in 0..count {
-        print_variant(out, sheet, work, n, r, c)?;
+    for c in 0..shapes::case_count(sheet, r) {
+        print_variant(out, sheet, work, r, c)?;
     }
     Ok(())
 }
 
-fn print_line(
-    out: &mut impl Write,
-    sheet: &[u8],
-    work: &mut [u8],
-    n: usize,
-    r: usize,
-) -> io::Result<()>
-    requires { (Checked sheet.now work.old n) × (0 < r) × (r ≤ n) }
-    ensures { Kept 49152 work.old work.new }
+fn print_line(out: &mut impl Write, sheet: &Sheet, work: &mut Space, r: usize) -> io::Result<()>
+    requires { (Checked sheet.now) × (0 < r) × (r ≤ lines_in sheet.now) }
 {
-    let f = lines::form_at(work, r - 1);
-    if f == decl::ADT {
-        return print_record(out, sheet, work, n, r);
+    match sheet.form_at(r - 1) {
+        decl::ADT => print_record(out, sheet, work, r),
+        decl::PICK => {
+            print_record(out, sheet, work, r)?;
+            print_variants(out, sheet, work, r)
+        }
+        _ => Ok(()),
     }
-    if f == decl::PICK {
-        print_record(out, sheet, work, n, r)?;
-        return print_variants(out, sheet, work, n, r);
-    }
-    Ok(())
 }
 
-fn print_lines(out: &mut impl Write, sheet: &[u8], work: &mut [u8], n: usize) -> io::Result<()>
-    requires { Checked sheet.now work.old n }
+fn print_lines(out: &mut impl Write, sheet: &Sheet, work: &mut Space) -> io::Result<()>
+    requires { Checked sheet.now }
 {
-    for i in 0..n {
-        print_line(out, sheet, work, n, i + 1)?;
+    for i in 0..sheet.count() {
+        print_line(out, sheet, work, i + 1)?;
     }
     Ok(())
 }
 
 fn print_block(
     out: &mut impl Write,
-    work: &mut [u8],
+    work: &mut Space,
     number: usize,
     size: u32,
     off: i32,
@@ -130,7 +118,7 @@ fn print_block(
     print_row(out, work, number, size)
 }
 
-fn print_blocks(out: &mut impl Write, work: &mut [u8]) -> io::Result<()>
+fn print_blocks(out: &mut impl Write, work: &mut Space) -> io::Result<()>
     requires { MapRoom work.old 36 }
 {
     print_block(out, work, 1, 36, 32)?;
@@ -139,18 +127,20 @@ fn print_blocks(out: &mut impl Write, work: &mut [u8]) -> io::Result<()>
     print_block(out, work, 4, 36, -4)
 }
 
-fn print_sheet(out: &mut impl Write, sheet: &[u8], work: &mut [u8]) -> io::Result<()> {
-    match checks::check(sheet, work) {
-        Err(_) => writeln!(out, "no"),
-        Ok(n) => print_lines(out, sheet, work, n),
-    }
+fn print_sheet(out: &mut impl Write, text: &[u8], work: &mut [u8]) -> io::Result<()> {
+    let Ok(n) = checks::check(text, work) else {
+        return writeln!(out, "no");
+    };
+    let (table, rest) = work.split_first_chunk_mut::<TABLE>().unwrap();
+    let space = rest.first_chunk_mut::<SPACE>().unwrap();
+    print_lines(out, &Sheet::of(text, table, n), space)
 }
 
 fn main(rt: HostRuntime) -> io::Result<()> {
     let mut out = rt.stdout();
     let mut work = vec![in rt.alloc(); 0u8; BYTES]?;
-    print_blocks(&mut out, &mut work)?;
-    let mut sheet = Vec::new(rt.alloc());
-    rt.stdin().take(BYTES as u64).read_to_end(&mut sheet)?;
-    print_sheet(&mut out, &sheet, &mut work)
+    print_blocks(&mut out, work.first_chunk_mut::<SPACE>().unwrap())?;
+    let mut text = Vec::new(rt.alloc());
+    rt.stdin().take(BYTES as u64).read_to_end(&mut text)?;
+    print_sheet(&mut out, &text, &mut work)
 }

@@ -1,4 +1,6 @@
 use Rattle.shape_rows.proofs.print_sheet.Goals as goal
 
-pub print_lines-requires : goal.print_lines-requires
-print_lines-requires g c = c.in-Ok.ensures.1
+pub of-requires : goal.of-requires
+of-requires g c =
+    let k = rw c.unwrap.ensures at c.split_first_chunk_mut.ensures.cases in
+    rw k.0 c.in-Ok.ensures.1.0.0
