@@ -3,9 +3,9 @@ use mathlib.Core.Path.{◌≡◌, refl, sym, ap, ◌∙◌, subst}
 use mathlib.Core.List.{[], ◌∷◌}
 use Rattle.std.specs.Prelude as P
 use Rattle.std.specs.Prelude.{Option, None, Some, IfSome}
-use Prim.Native.Nat.{ℕ, zero, suc, ◌-◌}
+use Prim.Native.Nat.{ℕ, zero, suc, ◌-◌, ◌≤◌}
 use native.Mathlib.Omega.{arith}
-use lib.ListN.{get_or, drop}
+use lib.ListN.{length, get_or, drop}
 use lib.Seq.{get_or-drop}
 use Rattle.checks.specs.Checks.{KindLine}
 use Rattle.semantics.specs.Text.{Bytes}
@@ -38,10 +38,10 @@ pub type-given : (s : Bytes) (r : ℕ) → (r ≡ 0 → ⊥) → type_of s r ≡
 type-given s zero h = absurd (h refl)
 type-given s (suc r) h = refl
 
-pub declared-line : {s t : Bytes} {declared : Option ℕ} {d : ℕ} → DeclaredElement s declared → declared ≡ Some d → TypeLine s d
-declared-line {s} {t} {n} h e = subst (λ (o : Option ℕ). IfSome o (TypeLine s)) e h
+pub declared-line : {s : Bytes} {declared : Option ℕ} {d : ℕ} → DeclaredElement s declared → declared ≡ Some d → TypeLine s d
+declared-line {s} h e = subst (λ (o : Option ℕ). IfSome o (TypeLine s)) e h
 
-module _ {s t : Bytes} {declared : Option ℕ} {r : ℕ} (k : AllocLine s declared r) where
+module _ {s : Bytes} {declared : Option ℕ} {r : ℕ} (k : AllocLine s declared r) where
   l : KindLine 69 s r
   l = k.array.line
 
@@ -73,10 +73,10 @@ module _ {s t : Bytes} {declared : Option ℕ} {r : ℕ} (k : AllocLine s declar
     length-line : (q ≡ number_of (get_or (read_at s (r - 1)).fields 0 [])) × KindLine 69 s q
     length-line = good-line l 69 (get_or (read_at s (r - 1)).fields 0 []) q hq alloc-refs.0
 
-    pub length-foldable : {m : ℕ} → ConstsLogged s t m → Foldable s t m q 49152
+    pub length-foldable : {t : Bytes} {m : ℕ} → ConstsLogged s t m → 62464 ≤ length t → Foldable s t m q 49152
     length-foldable g = foldable {e = 0} (record { line = length-line.1; log = g; few = omega arith })
 
-    pub alloc-answers : {m : ℕ} {kind : ElemKind} → kind ≡ elem_kind (alloc_type s declared r) → {u : Bytes} {x : Outcome ConstVal} → Folds s t m 0 q 49152 u x
+    pub alloc-answers : {t : Bytes} {m : ℕ} {kind : ElemKind} → kind ≡ elem_kind (alloc_type s declared r) → {u : Bytes} {x : Outcome ConstVal} → Folds s t m 0 q 49152 u x
         → {y : P.Result Arrayed NoItem} → ArrayResult u (bind (result_in u x) (allocated kind)) y → ArrayAnswers t (const_array (names_in s t m) (declared_type s declared) (ex_at s r)) y u
     alloc-answers e g h = record {
       array = record { result = rw (folds-to g, e) at h.result ∙ sym (rw (alloc-is, ← length-line.0)); stands = h.stands };

@@ -5,7 +5,7 @@ use mathlib.Core.List.{List, []}
 use mathlib.Core.Logic.{◌⊎◌, inl, inr}
 use Rattle.std.specs.Prelude as P
 use Rattle.std.specs.Prelude.{Option, None, Some, IfSome}
-use Prim.Native.Nat.{ℕ, ◌+◌, ◌-◌, ◌≤◌, ◌<◌}
+use Prim.Native.Nat.{ℕ, ◌-◌, ◌≤◌, ◌<◌}
 use native.Mathlib.Omega.{arith}
 use lib.Dec.{ltb}
 use lib.ListN.{get_or}
@@ -36,9 +36,9 @@ use Rattle.placements.proofs.Fillings.{filling-kept}
 use Rattle.placements.proofs.Values.{values-are, value-stands}
 use Rattle.leaf.specs.Folds.{ex_at}
 use Rattle.literals.specs.Literals.{els_at, above, AllFilled}
-use Rattle.literals.proofs.Names.{log-kept, logged-kept, line_kept}
+use Rattle.literals.proofs.Names.{log-kept}
 use Rattle.literals.proofs.Placing.{goes_on}
-use Rattle.literals.proofs.Lines.{line-in, line-form, makes, may-line}
+use Rattle.literals.proofs.Lines.{line-form, makes, may-line}
 use Rattle.literals.proofs.Turns.{literal-refs, literal-is}
 use Rattle.arrays.specs.declared.Arrayed.{Arrayed}
 use Rattle.arrays.specs.declared.Arrayed.TheVariants.{Literal}
@@ -96,23 +96,6 @@ module _ (s t : Bytes) (declared : Option ℕ) (r size k next reach : ℕ) (f : 
     stands = (g, λ i x. value-stands p i (omega arith));
   }
 
--- ---- what is kept of the lines
-
-module _ {s t u : Bytes} {declared : Option ℕ} {r : ℕ} (k : Keeps 16384 49152 t u) (l : DeclaredLiteral s declared r) where
-  form-same : form_at u (r - 1) ≡ form_at s (r - 1)
-  unfolding form_at
-  form-same = k.below (2048 + (r - 1)) (omega (arith, line-in l.literal.line, l.literal.line.checked.whole.few))
-
-  pub lit-kept : DeclaredLiteral s declared r
-  lit-kept = record {
-    literal = record { line = line_kept k l.literal.line; form = form-same ∙ l.literal.form };
-    declares = go declared l.declares;
-  }
-    where
-      go : (o : Option ℕ) → IfSome o (TypeLine s) → IfSome o (TypeLine s)
-      go None h = tt
-      go (Some d) h = line_kept k h
-
 -- ---- the size
 
 pub size-keeps : {t u : Bytes} → Kept (above 16) t u → Keeps 16384 49152 t u
@@ -163,9 +146,6 @@ module _ {s t u : Bytes} {m : ℕ} {declared : Option ℕ} {r : ℕ} (l : Declar
   literal-by : const_array (names_in s t m) (declared_type s declared) (ex_at s r) ≡ bind (fill (names_in s t m) (els_at s r) none_filled) (after_filling s t m declared r)
   literal-by = rw (literal-is l.literal)
 
-  pub literal-kept : (DeclaredLiteral s declared r) × (ConstsLogged s u m)
-  literal-kept = (lit-kept a.keeps l, logged-kept a.keeps o)
-
   -- one that has ended
   pub literal-ended : (z : Outcome (Option Extent)) → y ≡ z → goes_on z ≡ false → ArrayAnswers t (const_array (names_in s t m) (declared_type s declared) (ex_at s r)) (ended_as z) u
   literal-ended z d h = record { array = record { result = sym (literal-by ∙ go z h (subst (λ (b : Outcome (Option Extent)). Step u (above 16) a.count b (fill (names_in s t m) (els_at s r) none_filled)) d a.step)); stands = ended-stands z }; keeps = a.keeps }
@@ -200,7 +180,7 @@ module _ (ns : List Node) (fs : List Bytes) (names : Names) (o : Option Ty) wher
       (refl also refl also refl also refl also refl also refl also refl also refl also refl also refl also refl also refl also refl also refl also refl also refl also refl also refl also refl also refl also refl also refl also refl also done)
 
 pub other-line : {s t : Bytes} {declared : Option ℕ} {r : ℕ} → ArrayLine s declared r → (m : ℕ) {f : ℕ} → f ≡ form_at s (r - 1) → (f ≡ 17 → ⊥) → (f ≡ 18 → ⊥) → ArrayAnswers t (const_array (names_in s t m) (declared_type s declared) (ex_at s r)) (Err Pending) t
-other-line {s} {t} {n} {declared} {r} k m {f} e a b = record {
+other-line {s} {t} {declared} {r} k m {f} e a b = record {
   array = record { result = sym (ap (λ (x : Node). const_array (names_in s t m) (declared_type s declared) x.ex) (makes k.line refl) ∙ no-array (nodes_in s) (read_at s (r - 1)).fields (names_in s t m) (declared_type s declared) (form_at s (r - 1)) (line-form k.line).0 (go (ltb (form_at s (r - 1)) 17) refl)); stands = tt };
   keeps = keeps-all;
 }

@@ -17,10 +17,11 @@ ghost use Rattle.leaf.specs.Folds.{ex_at, ExLine};
 ghost use Rattle.literals.specs.Literals.{els_at, LiteralLine, above};
 ghost use Rattle.arrays.specs.Arrays.{item_of, ArrayResult, ArrayAnswers, declared_type, lit_size, own_type, alloc_type, ArrayLine, AllocLine, DeclaredLiteral, Counted, Sized};
 
+use codes::area::{self, Space};
 use codes::element::Element;
-use codes::{area::{self, Space}, ex, ty};
-use values::{Folded, NoValue};
+use codes::{ex, ty};
 use lines::Sheet;
+use values::{Folded, NoValue};
 
 // Above the strings of 16 elements.
 const ABOVE: usize = area::STACK + 256 * 16;
@@ -109,13 +110,22 @@ fn alloc_kind(sheet: &Sheet, declared: Option<usize>, r: usize) -> Element
     }
 }
 
-fn alloc(sheet: &Sheet, work: &mut Space, consts: usize, declared: Option<usize>, r: usize) -> Result<Arrayed, NoItem>
+fn alloc(
+    sheet: &Sheet,
+    work: &mut Space,
+    consts: usize,
+    declared: Option<usize>,
+    r: usize,
+) -> Result<Arrayed, NoItem>
     requires { (AllocLine sheet.now declared r) × (ConstsLogged sheet.now work.old consts) }
     ensures { ArrayAnswers work.old (const_array (names_in sheet.now work.old consts) (declared_type sheet.now declared) (ex_at sheet.now r)) result work.new }
 {
     let kind = alloc_kind(sheet, declared, r);
     let q = sheet.number_at(r - 1, 0);
-    allocated(kind, fold::fold_const(sheet, work, consts, 0, q, area::STACK))
+    allocated(
+        kind,
+        fold::fold_const(sheet, work, consts, 0, q, area::STACK),
+    )
 }
 
 // ---- literals
@@ -131,7 +141,13 @@ fn as_size(x: Folded) -> Result<u64, NoValue>
 }
 
 // The size of a literal: its own, or as many as its indices reach.
-fn literal_size(sheet: &Sheet, work: &mut Space, consts: usize, r: usize, reach: u64) -> Result<u64, NoValue>
+fn literal_size(
+    sheet: &Sheet,
+    work: &mut Space,
+    consts: usize,
+    r: usize,
+    reach: u64,
+) -> Result<u64, NoValue>
     requires { (LiteralLine sheet.now r) × (ConstsLogged sheet.now work.old consts) }
     ensures { ((f : Filled) → reach ≡ f.reach → answered result ≡ Array.literal_size (names_in sheet.now work.old consts) (lit_size sheet.now r) f) × (Kept (above 16) work.old work.new) }
 {
@@ -169,7 +185,13 @@ fn is_byte_literal(sheet: &Sheet, r: usize) -> bool
 }
 
 // By the type that is declared, or else the literal's own, or else by its values.
-fn literal_kind(sheet: &Sheet, work: &Space, declared: Option<usize>, r: usize, count: usize) -> Element
+fn literal_kind(
+    sheet: &Sheet,
+    work: &Space,
+    declared: Option<usize>,
+    r: usize,
+    count: usize,
+) -> Element
     requires { Counted sheet.now declared r count }
     ensures { element_kind result ≡ literal_kind (declared_type sheet.now declared) (own_type sheet.now r) (els_at sheet.now r) (values_in work.now 0 count) }
 {
@@ -187,7 +209,13 @@ fn literal_kind(sheet: &Sheet, work: &Space, declared: Option<usize>, r: usize, 
 }
 
 // A literal of a size, which its indices do not pass.
-fn measured(sheet: &Sheet, work: &Space, declared: Option<usize>, r: usize, size: u64) -> Result<Arrayed, NoItem>
+fn measured(
+    sheet: &Sheet,
+    work: &Space,
+    declared: Option<usize>,
+    r: usize,
+    size: u64,
+) -> Result<Arrayed, NoItem>
     requires { DeclaredLiteral sheet.now declared r }
     ensures { (k next reach : ℕ) (f : Filled) → reach ≤ size → Filling work.now (above 16) k next reach f → ArrayResult work.now (Array.measured (declared_type sheet.now declared) (own_type sheet.now r) (els_at sheet.now r) f size) result }
 {
@@ -199,7 +227,14 @@ fn measured(sheet: &Sheet, work: &Space, declared: Option<usize>, r: usize, size
 }
 
 // A literal whose elements are placed, with indices that end at `reach`.
-fn sized(sheet: &Sheet, work: &mut Space, consts: usize, declared: Option<usize>, r: usize, reach: u64) -> Result<Arrayed, NoItem>
+fn sized(
+    sheet: &Sheet,
+    work: &mut Space,
+    consts: usize,
+    declared: Option<usize>,
+    r: usize,
+    reach: u64,
+) -> Result<Arrayed, NoItem>
     requires { (DeclaredLiteral sheet.now declared r) × (ConstsLogged sheet.now work.old consts) }
     ensures { Sized sheet.now work.old consts declared r reach result work.new }
 {
@@ -210,7 +245,13 @@ fn sized(sheet: &Sheet, work: &mut Space, consts: usize, declared: Option<usize>
     measured(sheet, work, declared, r, size)
 }
 
-fn literal(sheet: &Sheet, work: &mut Space, consts: usize, declared: Option<usize>, r: usize) -> Result<Arrayed, NoItem>
+fn literal(
+    sheet: &Sheet,
+    work: &mut Space,
+    consts: usize,
+    declared: Option<usize>,
+    r: usize,
+) -> Result<Arrayed, NoItem>
     requires { (DeclaredLiteral sheet.now declared r) × (ConstsLogged sheet.now work.old consts) }
     ensures { ArrayAnswers work.old (const_array (names_in sheet.now work.old consts) (declared_type sheet.now declared) (ex_at sheet.now r)) result work.new }
 {
@@ -221,7 +262,13 @@ fn literal(sheet: &Sheet, work: &mut Space, consts: usize, declared: Option<usiz
 }
 
 // The constant array that line r is, where `declared` is the line of the type that the global's type declares for elements.
-pub fn const_array(sheet: &Sheet, work: &mut Space, consts: usize, declared: Option<usize>, r: usize) -> Result<Arrayed, NoItem>
+pub fn const_array(
+    sheet: &Sheet,
+    work: &mut Space,
+    consts: usize,
+    declared: Option<usize>,
+    r: usize,
+) -> Result<Arrayed, NoItem>
     requires { (ArrayLine sheet.now declared r) × (ConstsLogged sheet.now work.old consts) }
     ensures { ArrayAnswers work.old (const_array (names_in sheet.now work.old consts) (declared_type sheet.now declared) (ex_at sheet.now r)) result work.new }
 {

@@ -4,7 +4,7 @@ use mathlib.Core.List.{[]}
 use mathlib.Core.Logic.{inl, inr}
 use Prim.Native.Nat.{ℕ, ◌+◌, ◌-◌, ◌*◌, ◌≤◌}
 use native.Mathlib.Omega.{arith}
-use lib.ListN.{get_or}
+use lib.ListN.{length, get_or}
 use Rattle.checks.specs.Checks.{KindLine}
 use Rattle.semantics.specs.Text.{Bytes}
 use Rattle.semantics.specs.Tree as Tree
@@ -14,7 +14,7 @@ use Rattle.semantics.specs.Form.{number_of}
 use Rattle.semantics.specs.Fold.{Result, bind, Names, fold_at0}
 use Rattle.semantics.specs.Array.{Filled, place_next, set_wildcard, fill_element, el_value}
 use Rattle.decimal.specs.Number as Number
-use Rattle.lines.specs.Lines.{lines_in, read_at, form_at}
+use Rattle.lines.specs.Lines.{read_at, form_at}
 use Rattle.values.specs.declared.ConstVal.{ConstVal}
 use Rattle.values.specs.declared.ConstVal.TheVariants.{Int, Real, Str}
 use Rattle.std.specs.Prelude.{Option, Some, Ok, Err}
@@ -31,7 +31,7 @@ use Rattle.placements.proofs.Fillings.{filling-kept, filling-value, filling-star
 use Rattle.leaf.specs.Folds.{ex_at, Foldable, Folds}
 use Rattle.names.specs.Table.{names_in}
 use Rattle.literals.specs.Literals.{el_at, ses_at, AtTask, ValuedTask, ElementTask, above, Fills, placed, ElementFilled}
-use Rattle.literals.proofs.Names.{log-kept, logged-kept, line_kept}
+use Rattle.literals.proofs.Names.{log-kept, logged-kept}
 use Rattle.literals.proofs.Lines.{good-line, last-form, el-next, el-star, el-at, el-value, value-ref}
 use Rattle.literals.proofs.Selectors.{foldable, folds-to}
 
@@ -63,9 +63,9 @@ module _ {s t : Bytes} {m r e : ℕ} {v : ConstVal} (k : ValuedTask s t m r e v)
       step = λ g one few q. rw (el-next l (sym hf ∙ d)) (p.step (above e) e g one (omega arith) few q);
     }
 
-    pub element-star : f ≡ 21 → {u : Bytes} → (u ≡ over t (12288 + 16 * 0) (slot_bytes v)) × InRange v → Fills t e far (placed (names_in s t m) (el_at s r)) (Ok (Some far)) u
-    element-star d {u} w =
-        let p = stored t (12288 + 16 * 0) v (omega (arith, l.checked.whole.room)) element-small w in
+    pub element-star : 62464 ≤ length t → f ≡ 21 → {u : Bytes} → (u ≡ over t (12288 + 16 * 0) (slot_bytes v)) × InRange v → Fills t e far (placed (names_in s t m) (el_at s r)) (Ok (Some far)) u
+    element-star long d {u} w =
+        let p = stored t (12288 + 16 * 0) v (omega arith) element-small w in
         record {
           keeps = stored-keeps 0 (omega arith) p;
           step = λ g one few q. rw (el-star l (sym hf ∙ d)) (record { literal = set_wildcard (value_in t v) g; result = rw element-is; filling = filling-star q u (above e) (omega arith) 0 v k.stands p (omega arith) refl });
@@ -94,7 +94,7 @@ module _ {s t : Bytes} {m r k : ℕ} (c : ElementTask s t m r k) (far : Extent) 
   value_line : (q ≡ number_of (get_or (read_at s (r - 1)).fields 0 [])) × KindLine 69 s q
   value_line = good-line c.line 69 (get_or (read_at s (r - 1)).fields 0 []) q hq (value-ref c.line)
 
-  pub value-foldable : Foldable s t m q (49152 + 256 * k)
+  pub value-foldable : 62464 ≤ length t → Foldable s t m q (49152 + 256 * k)
   value-foldable = foldable (record { line = value_line.1; log = c.log; few = omega (arith, c.few) })
 
   value-is : el_value (el_at s r) ≡ ex_at s q
@@ -107,11 +107,11 @@ module _ {s t : Bytes} {m r k : ℕ} (c : ElementTask s t m r k) (far : Extent) 
     keeps-fold : Keeps 16384 49152 t u
     keeps-fold = keeps-less (omega arith) (omega arith) (keeps-kept {a = 0} (omega arith) g.kept)
 
-    pub turn-none : (lines_in s : NoValue) → x ≡ Err (lines_in s) → ElementFilled t k far (fill_element (names_in s t m) (el_at s r)) (Err (lines_in s)) u
+    pub turn-none : (n : NoValue) → x ≡ Err n → ElementFilled t k far (fill_element (names_in s t m) (el_at s r)) (Err n) u
     unfolding result_in
-    turn-none (lines_in s) d = record { keeps = keeps-fold; step = λ f p. fills-to f ∙ go (lines_in s) d (placed (names_in s t m) (el_at s r)) f }
+    turn-none n d = record { keeps = keeps-fold; step = λ f p. fills-to f ∙ go n d (placed (names_in s t m) (el_at s r)) f }
       where
-        go : (lines_in s : NoValue) → x ≡ Err (lines_in s) → (g : Tree.ConstVal → Filled → Result Filled) (f : Filled) → bind (result_in u x) (λ (v : Tree.ConstVal). g v f) ≡ answered (Err (lines_in s))
+        go : (n : NoValue) → x ≡ Err n → (g : Tree.ConstVal → Filled → Result Filled) (f : Filled) → bind (result_in u x) (λ (v : Tree.ConstVal). g v f) ≡ answered (Err n)
         go N.Failed d g f = rw d
         go N.LongString d g f = rw d
 
@@ -122,16 +122,16 @@ module _ {s t : Bytes} {m r k : ℕ} (c : ElementTask s t m r k) (far : Extent) 
       pub value-small : Small v
       value-small = standing-small (49152 + 256 * (k + 1)) v (omega (arith, c.few)) value-stands
 
-      module _ {w : Bytes} (e : (w ≡ over u (12288 + 16 * (k + 1)) (slot_bytes v)) × InRange v) where
+      module _ (long : 62464 ≤ length t) {w : Bytes} (e : (w ≡ over u (12288 + 16 * (k + 1)) (slot_bytes v)) × InRange v) where
         p : SlotStored u (12288 + 16 * (k + 1)) v w
-        p = stored u (12288 + 16 * (k + 1)) v (omega (arith, c.few, c.line.checked.whole.room, g.kept.long)) value-small e
+        p = stored u (12288 + 16 * (k + 1)) v (omega (arith, c.few, long, g.kept.long)) value-small e
 
         keeps-value : Keeps 16384 49152 t w
         keeps-value = keeps_then keeps-fold (stored-keeps (k + 1) (omega (arith, c.few)) p)
 
         pub value-stored : ValuedTask s w m r (k + 1) v
         unfolding slot_at
-        value-stored = record { task = record { line = line_kept keeps-value c.line; log = logged-kept keeps-value c.log; few = omega (arith, c.few) }; stands = value-stands; value = p.value }
+        value-stored = record { task = record { line = c.line; log = logged-kept keeps-value c.log; few = omega (arith, c.few) }; stands = value-stands; value = p.value }
 
         pub turn-placed : {y : Outcome (Option Extent)} {z : Bytes} → Fills w (k + 1) far (placed (names_in s w m) (el_at s r)) y z → ElementFilled t k far (fill_element (names_in s t m) (el_at s r)) y z
         unfolding result_in

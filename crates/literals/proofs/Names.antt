@@ -1,11 +1,11 @@
--- The tables of lines and of constants stay what they are where their bytes are kept.
+-- The table of constants stays what it is where its bytes are kept.
 use mathlib.Core.Path.{◌≡◌, refl, sym, ◌∙◌}
 use Prim.Native.Nat.{ℕ, ◌≤◌, ◌<◌}
 use native.Mathlib.Omega.{arith}
 use lib.ListN.{take, length-take}
 use lib.Seq.{get_or-take, ext_get_or}
 use Rattle.semantics.specs.Text.{Bytes}
-use Rattle.checks.specs.Checks.{Kept, KindLine}
+use Rattle.checks.specs.Checks.{Kept}
 use Rattle.names.specs.Table.{log_in, ConstsLogged}
 use Rattle.names.proofs.Laws.{logged-same, log-stays}
 use Rattle.placements.specs.Placements.{Keeps}
@@ -26,6 +26,3 @@ module _ {t u : Bytes} (k : Keeps 16384 49152 t u) where
 
     pub logged-kept : ConstsLogged s u m
     logged-kept = logged-same table_kept l
-
-  pub line_kept : {q : ℕ} {s : Bytes} {r : ℕ} → KindLine q s r → KindLine q s r
-  line_kept l = l

@@ -1,9 +1,9 @@
 -- Indices and spans, as they are folded.
 use mathlib.Core.Path.{◌≡◌, refl, sym, ap, ◌∙◌}
-use Prim.Native.Nat.{ℕ, ◌+◌, ◌-◌, ◌*◌}
+use Prim.Native.Nat.{ℕ, ◌+◌, ◌-◌, ◌*◌, ◌≤◌}
 use native.Mathlib.Omega.{arith}
 use lib.IntN.{ℤ, pos}
-use lib.ListN.{get_or}
+use lib.ListN.{length, get_or}
 use mathlib.Core.List.{[]}
 use mir.Syntax.{w64}
 use mir.Val.{SFits}
@@ -29,7 +29,7 @@ use Rattle.leaf.specs.Folds.{ex_at, fold_at, Foldable, Folds}
 use Rattle.fold.proofs.Steps as Steps
 use Rattle.names.specs.Table.{names_in}
 use Rattle.literals.specs.Literals.{se_at, Task, above}
-use Rattle.literals.proofs.Names.{log-kept, logged-kept, line_kept}
+use Rattle.literals.proofs.Names.{log-kept, logged-kept}
 use Rattle.literals.proofs.Lines.{good-line, may-line, se-refs, se-is, maybe-given, maybe-absent}
 
 -- ---- integers
@@ -56,7 +56,7 @@ module _ (t : Bytes) {x : Outcome ConstVal} where
 
 -- ---- folds
 
-pub foldable : {s t : Bytes} {m r e : ℕ} → Task 69 s t m r e → Foldable s t m r (49152 + 256 * e)
+pub foldable : {s t : Bytes} {m r e : ℕ} → Task 69 s t m r e → 62464 ≤ length t → Foldable s t m r (49152 + 256 * e)
 foldable k = Steps.foldable k.line k.log (omega arith) (omega (arith, k.few))
 
 -- what a fold gives, where iota is 0
@@ -103,7 +103,7 @@ module _ {s t : Bytes} {m r e : ℕ} (k : Task 74 s t m r e) where
       keeps_low = keeps-less (omega arith) (omega arith) (keeps-kept {a = 0} (omega arith) c)
 
       pub again : Task 74 s u m r e
-      again = record { line = line_kept keeps_low k.line; log = logged-kept keeps_low k.log; few = k.few }
+      again = record { line = k.line; log = logged-kept keeps_low k.log; few = k.few }
 
       module _ (y : Outcome ℤ) (hy : answered y ≡ high_of (names_in s u m) (held w64 a) (se_at s r).high) where
         low_ok : index_of (names_in s t m) (se_at s r).low ≡ ok a

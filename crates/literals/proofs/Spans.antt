@@ -17,7 +17,7 @@ use Rattle.semantics.specs.Fold.{Result, bind, Names}
 use Rattle.semantics.specs.Fold.Result.{ok, failed, refuse}
 use Rattle.semantics.specs.Array.{Filled, place_indices, place_spans, span_of, spans_of}
 use Rattle.decimal.specs.Number as Number
-use Rattle.lines.specs.Lines.{lines_in, read_at, nodes_in}
+use Rattle.lines.specs.Lines.{read_at, nodes_in}
 use Rattle.refs.proofs.Fields.{head-drop, tail-drop}
 use Rattle.placements.specs.declared.Extent.{Extent}
 use Rattle.placements.specs.Placements.{element_in, Keeps, Filling, Goes, Step}
@@ -28,7 +28,7 @@ use Rattle.values.specs.Values.{Outcome, answered}
 use Rattle.placements.proofs.Same.{keeps-all, keeps_then, keeps-less, element-same}
 use Rattle.names.specs.Table.{names_in}
 use Rattle.literals.specs.Literals.{se_at, ses_at, Task, AtTask, above, SpanPlaced, SelectorResult, Selects, Fills}
-use Rattle.literals.proofs.Names.{log-kept, logged-kept, line_kept}
+use Rattle.literals.proofs.Names.{log-kept, logged-kept}
 use Rattle.literals.proofs.Lines.{good-line, count-is, selectors}
 
 -- ---- folding and placing in turn gives what folding all and then placing gives
@@ -115,9 +115,6 @@ module _ {s t : Bytes} {m r e : ℕ} (k : AtTask s t m r e) (a : Extent) {count 
     keeps-names : Keeps 16384 49152 t u
     keeps-names = keeps-less (omega arith) (omega arith) c.keeps
 
-    pub selecting-line : KindLine 76 s r
-    selecting-line = line_kept keeps-names l
-
     pub selecting-end : count ≤ j → Fills t e a place_selected (Ok x) u
     unfolding place_all
     selecting-end h =
@@ -126,7 +123,7 @@ module _ {s t : Bytes} {m r e : ℕ} (k : AtTask s t m r e) (a : Extent) {count 
 
     module _ (h : j < count) {q : ℕ} (hq : q ≡ Number.number_up_to 65536 (get_or (read_at s (r - 1)).fields (2 + j) [])) where
       selector-line : (q ≡ number_of (get_or (read_at s (r - 1)).fields (2 + j) [])) × KindLine 74 s q
-      selector-line = good-line selecting-line 74 (get_or (read_at s (r - 1)).fields (2 + j) []) q hq ((selectors l k.form).each j (omega (arith, count-exact)))
+      selector-line = good-line l 74 (get_or (read_at s (r - 1)).fields (2 + j) []) q hq ((selectors l k.form).each j (omega (arith, count-exact)))
 
       pub selector-task : Task 74 s u m q e
       selector-task = record { line = selector-line.1; log = logged-kept keeps-names k.task.log; few = k.task.few }
@@ -148,16 +145,16 @@ module _ {s t : Bytes} {m r e : ℕ} (k : AtTask s t m r e) (a : Extent) {count 
         keeps-next : Keeps 12288 (above e) t w
         keeps-next = keeps_then c.keeps d.keeps
 
-        stops : (lines_in s : NoValue) (v : Tree.ConstVal) (r' : Result Filled) → span_of (names_in s t m) (se_at s q).low (se_at s q).high ≡ answered (Err (lines_in s)) → place_all (names_in s t m) v (ses_from s r count j) r' ≡ answered (Err (lines_in s))
+        stops : (n : NoValue) (v : Tree.ConstVal) (r' : Result Filled) → span_of (names_in s t m) (se_at s q).low (se_at s q).high ≡ answered (Err n) → place_all (names_in s t m) v (ses_from s r count j) r' ≡ answered (Err n)
         unfolding place_all
         stops N.Failed v r' z = rw (selectors-split, z)
         stops N.LongString v r' z = rw (selectors-split, z)
 
-        pub selecting-stop : (lines_in s : NoValue) → y ≡ Err (lines_in s) → Fills t e a place_selected (Err (lines_in s)) w
-        selecting-stop (lines_in s) z =
-            filled (Err (lines_in s)) w keeps-next (λ f one few p.
+        pub selecting-stop : (n : NoValue) → y ≡ Err n → Fills t e a place_selected (Err n) w
+        selecting-stop n z =
+            filled (Err n) w keeps-next (λ f one few p.
             let o = c.on f one few p in
-            sym o.left ∙ stops (lines_in s) (element_in t e) o.result (subst (λ (b : Outcome (Option Extent)). SelectorResult w e (span_of (names_in s t m) (se_at s q).low (se_at s q).high) (element_in t e) o.result b) z (chosen f one few p)))
+            sym o.left ∙ stops n (element_in t e) o.result (subst (λ (b : Outcome (Option Extent)). SelectorResult w e (span_of (names_in s t m) (se_at s q).low (se_at s q).high) (element_in t e) o.result b) z (chosen f one few p)))
 
         goes : (z : Option Extent) (v : Tree.ConstVal) (f : Filled) (o : On u e x (names_in s t m) v (ses_from s r count j) (ses_from s r count 0) f)
             → SpanPlaced w e (span_of (names_in s t m) (se_at s q).low (se_at s q).high) v o.result z → On w e z (names_in s t m) v (ses_from s r count (j + 1)) (ses_from s r count 0) f

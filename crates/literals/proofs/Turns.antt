@@ -31,7 +31,7 @@ use Rattle.placements.proofs.Fillings.{filling-wider}
 use Rattle.leaf.specs.Folds.{ex_at}
 use Rattle.literals.specs.Literals.{el_at, els_at, ElementTask, LiteralLine, above, ElementFilled, AllFilled}
 use Rattle.names.specs.Table.{ConstsLogged, names_in}
-use Rattle.literals.proofs.Names.{log-kept, logged-kept, line_kept}
+use Rattle.literals.proofs.Names.{log-kept, logged-kept}
 use Rattle.literals.proofs.Placing.{goes_on, step-ends}
 use Rattle.literals.proofs.Lines.{parts_at, makes, good-line, count-is}
 
@@ -91,9 +91,6 @@ pub record Turning (s t : Bytes) (m r count : ℕ) (u : Bytes) (x : Extent) (j :
   pub left : fill (names_in s t m) (els_from s r count j) literal ≡ fill (names_in s t m) (els_from s r count 0) none_filled
 
 module _ {s t₀ : Bytes} {m r : ℕ} (k : LiteralLine s r) (g : ConstsLogged s t₀ m) {t : Bytes} (a : (Filling t 49152 0 0 0 none_filled) × ((b : ℕ) → Keeps 16384 b t₀ t)) where
-  pub begun : KindLine 69 s r
-  begun = line_kept (a.1 49152) k.line
-
   module _ {count : ℕ} (hc : count ≡ Number.number_up_to 65536 (get_or (read_at s (r - 1)).fields 2 [])) where
     few : count ≤ 16
     few = few-elements k hc
@@ -103,9 +100,6 @@ module _ {s t₀ : Bytes} {m r : ℕ} (k : LiteralLine s r) (g : ConstsLogged s 
     whole_is = rw (all-elements k hc, log-kept (a.1 49152) g)
 
     module _ {u : Bytes} {x : Extent} {j : ℕ} (c : Turning s t m r count u x j) where
-      pub turning-line : KindLine 69 s r
-      turning-line = line_kept c.keeps begun
-
       pub turning-end : count ≤ j → AllFilled t₀ (fill (names_in s t₀ m) (els_at s r) none_filled) (Ok (Some x)) u
       turning-end h =
           let z : count - j ≡ 0 = omega arith in
@@ -121,7 +115,7 @@ module _ {s t₀ : Bytes} {m r : ℕ} (k : LiteralLine s r) (g : ConstsLogged s 
         keeps-both = keeps_then (a.1 49152) c.keeps
 
         pub turn-line : ElementTask s u m q j
-        turn-line = record { line = line_kept keeps-both (element-line k hc h hq); log = logged-kept keeps-both g; few = omega (arith, few) }
+        turn-line = record { line = element-line k hc h hq; log = logged-kept keeps-both g; few = omega (arith, few) }
 
         module _ (y : Outcome (Option Extent)) {w : Bytes} (d : ElementFilled u j x (fill_element (names_in s u m) (el_at s q)) y w) where
           keeps-next : Keeps 16384 49152 t w

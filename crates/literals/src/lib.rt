@@ -12,10 +12,11 @@ ghost use Rattle.values.specs.Values.{answered, result_in};
 ghost use Rattle.leaf.specs.Folds.{ex_at};
 ghost use Rattle.literals.specs.Literals.{se_at, Task, above, ses_at, AtTask, el_at, els_at, ValuedTask, ElementTask, LiteralLine, placed, Moves, Selects, Fills, ElementFilled, AllFilled};
 
-use codes::{area::{self, Space}, el};
+use codes::area::{self, Space};
+use codes::el;
+use lines::Sheet;
 use placements::Extent;
 use values::{ConstVal, Folded, NoValue};
-use lines::Sheet;
 
 // The integer that a fold gives.
 pub fn as_int(x: Folded) -> Result<i64, NoValue>
@@ -27,7 +28,13 @@ pub fn as_int(x: Folded) -> Result<i64, NoValue>
     }
 }
 
-fn index_of(sheet: &Sheet, work: &mut Space, consts: usize, r: usize, e: usize) -> Result<i64, NoValue>
+fn index_of(
+    sheet: &Sheet,
+    work: &mut Space,
+    consts: usize,
+    r: usize,
+    e: usize,
+) -> Result<i64, NoValue>
     requires { Task 69 sheet.now work.old consts r e }
     ensures { (answered result ≡ index_of (names_in sheet.now work.old consts) (ex_at sheet.now r)) × (Kept (above e) work.old work.new) }
 {
@@ -35,7 +42,14 @@ fn index_of(sheet: &Sheet, work: &mut Space, consts: usize, r: usize, e: usize) 
 }
 
 // The high end of a selector's line r, where its low end is known.
-fn high_of(sheet: &Sheet, work: &mut Space, consts: usize, r: usize, e: usize, low: i64) -> Result<i64, NoValue>
+fn high_of(
+    sheet: &Sheet,
+    work: &mut Space,
+    consts: usize,
+    r: usize,
+    e: usize,
+    low: i64,
+) -> Result<i64, NoValue>
     requires { Task 74 sheet.now work.old consts r e }
     ensures { (answered result ≡ high_of (names_in sheet.now work.old consts) low (se_at sheet.now r).high) × (Kept (above e) work.old work.new) }
 {
@@ -47,7 +61,13 @@ fn high_of(sheet: &Sheet, work: &mut Space, consts: usize, r: usize, e: usize, l
 }
 
 // The low and high end of a selector; a low end that is no integer ends it before the high end is folded.
-fn span_of(sheet: &Sheet, work: &mut Space, consts: usize, r: usize, e: usize) -> Result<(i64, i64), NoValue>
+fn span_of(
+    sheet: &Sheet,
+    work: &mut Space,
+    consts: usize,
+    r: usize,
+    e: usize,
+) -> Result<(i64, i64), NoValue>
     requires { Task 74 sheet.now work.old consts r e }
     ensures { (answered result ≡ span_of (names_in sheet.now work.old consts) (se_at sheet.now r).low (se_at sheet.now r).high) × (Kept (above e) work.old work.new) }
 {
@@ -66,7 +86,14 @@ fn place_on(work: &mut Space, e: usize, low: i64, high: i64, x: Option<Extent>) 
 }
 
 // The selector of line r.
-fn place_selector(sheet: &Sheet, work: &mut Space, consts: usize, r: usize, e: usize, x: Option<Extent>) -> Result<Option<Extent>, NoValue>
+fn place_selector(
+    sheet: &Sheet,
+    work: &mut Space,
+    consts: usize,
+    r: usize,
+    e: usize,
+    x: Option<Extent>,
+) -> Result<Option<Extent>, NoValue>
     requires { Task 74 sheet.now work.old consts r e }
     ensures { Selects work.old e x (span_of (names_in sheet.now work.old consts) (se_at sheet.now r).low (se_at sheet.now r).high) result work.new }
 {
@@ -75,7 +102,14 @@ fn place_selector(sheet: &Sheet, work: &mut Space, consts: usize, r: usize, e: u
 }
 
 // The selectors of line r.
-fn place_selectors(sheet: &Sheet, work: &mut Space, consts: usize, r: usize, e: usize, x: Extent) -> Result<Option<Extent>, NoValue>
+fn place_selectors(
+    sheet: &Sheet,
+    work: &mut Space,
+    consts: usize,
+    r: usize,
+    e: usize,
+    x: Extent,
+) -> Result<Option<Extent>, NoValue>
     requires { AtTask sheet.now work.old consts r e }
     ensures { Fills work.old e x (λ (v : Tree.ConstVal) (f : Filled). bind (spans_of (names_in sheet.now work.old consts) (ses_at sheet.now r)) (λ (l : List (ℤ × ℤ)). place_spans v l f)) result work.new }
 {
@@ -89,7 +123,15 @@ fn place_selectors(sheet: &Sheet, work: &mut Space, consts: usize, r: usize, e: 
 }
 
 // Element e of line r, whose value v stands in its slot.
-fn place_element(sheet: &Sheet, work: &mut Space, consts: usize, r: usize, e: usize, v: ConstVal, x: Extent) -> Result<Option<Extent>, NoValue>
+fn place_element(
+    sheet: &Sheet,
+    work: &mut Space,
+    consts: usize,
+    r: usize,
+    e: usize,
+    v: ConstVal,
+    x: Extent,
+) -> Result<Option<Extent>, NoValue>
     requires { ValuedTask sheet.now work.old consts r e v }
     ensures { Fills work.old e x (placed (names_in sheet.now work.old consts) (el_at sheet.now r)) result work.new }
 {
@@ -104,7 +146,14 @@ fn place_element(sheet: &Sheet, work: &mut Space, consts: usize, r: usize, e: us
 }
 
 // The element of line r, which k others come before.
-fn fill_element(sheet: &Sheet, work: &mut Space, consts: usize, r: usize, k: usize, x: Extent) -> Result<Option<Extent>, NoValue>
+fn fill_element(
+    sheet: &Sheet,
+    work: &mut Space,
+    consts: usize,
+    r: usize,
+    k: usize,
+    x: Extent,
+) -> Result<Option<Extent>, NoValue>
     requires { ElementTask sheet.now work.old consts r k }
     ensures { ElementFilled work.old k x (fill_element (names_in sheet.now work.old consts) (el_at sheet.now r)) result work.new }
 {
@@ -115,7 +164,12 @@ fn fill_element(sheet: &Sheet, work: &mut Space, consts: usize, r: usize, k: usi
 }
 
 // The elements of a literal of line r, in order; the first that ends it ends the work. None where an index is negative.
-pub fn fill(sheet: &Sheet, work: &mut Space, consts: usize, r: usize) -> Result<Option<Extent>, NoValue>
+pub fn fill(
+    sheet: &Sheet,
+    work: &mut Space,
+    consts: usize,
+    r: usize,
+) -> Result<Option<Extent>, NoValue>
     requires { (LiteralLine sheet.now r) × (ConstsLogged sheet.now work.old consts) }
     ensures { AllFilled work.old (fill (names_in sheet.now work.old consts) (els_at sheet.now r) none_filled) result work.new }
 {

@@ -19,9 +19,9 @@ use Rattle.layout.proofs.Bounds.{SizeAtMost}
 use Rattle.lines.specs.Lines.{lines_in, form_at}
 use Rattle.sizes.specs.Places.{common_fields, case_fields, RecordLine, first_decl, decl_at}
 use Rattle.sizes.proofs.Records.{checked-records-bound}
-use Rattle.maps.specs.Maps.{map_in, Mapped, MapRoom}
+use Rattle.maps.specs.Maps.{map_in, Mapped}
 use Rattle.shapes.specs.Shapes.{first_shape, shape_at, cases_in, cases_at, variant_at, VariantLine, CaseOf}
-use Rattle.records.specs.Log.{first_record, own_record, case_in, variant_record, record_in, entry_at, recorded_at, name_of, tag_of, log_of, no_record, EntryIn, RecordsLogged, LogEntry}
+use Rattle.records.specs.Log.{first_record, own_record, case_in, variant_record, record_in, entry_at, recorded_at, name_of, tag_of, log_of, no_record, EntryIn, LogEntry}
 use Rattle.records.specs.Lines.{case_at}
 use Rattle.records.proofs.Picks.{adt-decl, pick-decl, record-form, case-is}
 use Rattle.records.proofs.Keys.{plain-key, variant-key, entry-line, entry-variant}
@@ -113,9 +113,6 @@ entry-small s t i l =
 
 pub sized : (s t : Bytes) (i : ℕ) → LogEntry s t i → {x : ℕ} → x ≡ (recorded_at s t i).shape.size → (x ≡ (recorded_at s t i).shape.size) × (x ≤ 131080)
 sized s t i l e = (e, omega (arith, e, entry-small s t i l))
-
-pub map-room : {s t : Bytes} {m size : ℕ} → RecordsLogged s t m → size ≤ 131080 → MapRoom t size
-map-room g h = record { room = g.checked.whole.room; small = h }
 
 -- ---- fields
 

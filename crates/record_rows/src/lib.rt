@@ -9,12 +9,13 @@ ghost use Rattle.records.specs.Log.{recorded_at, EntryIn, RecordsLogged, LogEntr
 ghost use Rattle.field_rows.specs.Rows.{placed_rows};
 ghost use Rattle.record_rows.specs.Rows.{TagWrote, rec_text, shape_text, key_rows, all_rows, Printed};
 
-use codes::{area::{self, Space}, decl};
+use codes::area::{self, Space};
+use codes::decl;
 use layout::map::map_bytes;
+use lines::Sheet;
 use records::key::{case_of, is_first, line_of, name_of, newest_of, number_of, tag_of};
 use shapes::TAG_BYTES;
 use write::Writer;
-use lines::Sheet;
 
 // KEY, with its comma: T, or T.tag.
 fn put_key(sheet: &Sheet, work: &Space, i: usize, w: &mut Writer)
@@ -60,7 +61,7 @@ pub fn entry_size(sheet: &Sheet, work: &Space, i: usize) -> u32
     let r = line_of(work, i);
     let case = case_of(work, i);
     if case == 0 {
-        return shapes::record_size(sheet, work, r);
+        return shapes::record_size(sheet, r);
     }
     shapes::variant_size(sheet, r, case - 1)
 }

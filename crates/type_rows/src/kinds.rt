@@ -13,8 +13,7 @@ ghost use Rattle.write.specs.Writes.{Writes};
 ghost use Rattle.type_rows.specs.Rows.{shapes_of};
 
 use codes::area::Space;
-use codes::element;
-use codes::element::Element;
+use codes::element::{self, Element};
 use type_keys::kind_position;
 use type_row::put_elem;
 use write::Writer;

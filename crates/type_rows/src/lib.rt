@@ -23,8 +23,8 @@ ghost use Rattle.type_rows.specs.Rows.{keys_to, shapes_of, TypeTables};
 
 use codes::area::Space;
 use codes::need;
-use write::Writer;
 use lines::Sheet;
+use write::Writer;
 
 // How many needs there are, and how many keys: those of needs, then those of array elements.
 #[derive(Clone, Copy)]
@@ -69,7 +69,14 @@ fn frame_rows(sheet: &Sheet, work: &mut Space, w: &mut Writer, id: usize) -> usi
 // ---- needs
 
 // The row of what the `need` line i asks for.
-fn put_need(sheet: &Sheet, work: &mut Space, entries: usize, i: usize, w: &mut Writer, id: usize) -> usize
+fn put_need(
+    sheet: &Sheet,
+    work: &mut Space,
+    entries: usize,
+    i: usize,
+    w: &mut Writer,
+    id: usize,
+) -> usize
     requires { (RecordsLogged sheet.now work.old entries) × (NeedLine sheet.now i) × (id < 2048) }
     ensures { TypesWrote ((key_shape (log_of sheet.now) (need_at sheet.now i)) ∷ []) id result w.old w.new work.old work.new }
 {
@@ -85,8 +92,16 @@ fn put_need(sheet: &Sheet, work: &mut Space, entries: usize, i: usize, w: &mut W
 }
 
 // The row of need q, where its key is new; `base` is the ID of the first key.
-fn next_need(sheet: &Sheet, work: &mut Space, entries: usize, q: usize, base: usize, w: &mut Writer, id: usize) -> usize
-    requires { (TypeTables sheet.now work.old c) × (q < length (sheet_source sheet.now).needs) × (base < 1024) × (id ≡ base + length (keys_to sheet.now q)) }
+fn next_need(
+    sheet: &Sheet,
+    work: &mut Space,
+    entries: usize,
+    q: usize,
+    base: usize,
+    w: &mut Writer,
+    id: usize,
+) -> usize
+    requires { (TypeTables sheet.now work.old entries) × (q < length (sheet_source sheet.now).needs) × (base < 1024) × (id ≡ base + length (keys_to sheet.now q)) }
     ensures { ((a : ℕ) (v : Writer) (t : Bytes) → TypesWrote (shapes_of sheet.now (keys_to sheet.now q)) a id v w.old t work.old → TypesWrote (shapes_of sheet.now (keys_to sheet.now (q + 1))) a result v w.new t work.new) × (result ≡ base + length (keys_to sheet.now (q + 1))) }
 {
     if base + type_keys::need_position(work, q) != id {
@@ -97,8 +112,15 @@ fn next_need(sheet: &Sheet, work: &mut Space, entries: usize, q: usize, base: us
 }
 
 // Each key of a need once, where it first comes.
-fn need_rows(sheet: &Sheet, work: &mut Space, entries: usize, needs: usize, w: &mut Writer, base: usize) -> usize
-    requires { (TypeTables sheet.now work.old c) × (needs ≡ length (sheet_source sheet.now).needs) × (base < 1024) }
+fn need_rows(
+    sheet: &Sheet,
+    work: &mut Space,
+    entries: usize,
+    needs: usize,
+    w: &mut Writer,
+    base: usize,
+) -> usize
+    requires { (TypeTables sheet.now work.old entries) × (needs ≡ length (sheet_source sheet.now).needs) × (base < 1024) }
     ensures { TypesWrote (shapes_of sheet.now (distinct [] (sheet_source sheet.now).needs)) base result w.old w.new work.old work.new }
 {
     let mut id = base;
@@ -112,7 +134,7 @@ fn need_rows(sheet: &Sheet, work: &mut Space, entries: usize, needs: usize, w: &
 
 // Two opaque records, the frames, and the keys, those of array elements, which are entered before, last: the Rust's `build_types`.
 pub fn type_rows(sheet: &Sheet, work: &mut Space, entries: usize, k: KeyCounts, w: &mut Writer)
-    requires { (TypeTables sheet.now work.old c) × (k.needs ≡ length (sheet_source sheet.now).needs) × (k.keys < 1024) }
+    requires { (TypeTables sheet.now work.old entries) × (k.needs ≡ length (sheet_source sheet.now).needs) × (k.keys < 1024) }
     ensures { ((is : List Item) → Kinds work.old ((sheet_source sheet.now).needs ++ concat_map array_key is) k.keys → Writes w.old (type_rows 0 (descriptors (sheet_source sheet.now) is)) w.new) × (Kept 49152 work.old work.new) }
 {
     let frames = opaque_rows(work, w);

@@ -7,9 +7,9 @@ ghost use Rattle.type_lines.specs.Needs.{need_at, NeedLine};
 ghost use Rattle.type_row.specs.Row.{TypesWrote};
 
 use codes::area::Space;
+use lines::Sheet;
 use type_row::{put_type, put_words};
 use write::Writer;
-use lines::Sheet;
 
 // The record of entry e of the log.
 fn put_entry(sheet: &Sheet, work: &mut Space, e: usize, w: &mut Writer, id: usize) -> usize
@@ -22,7 +22,14 @@ fn put_entry(sheet: &Sheet, work: &mut Space, e: usize, w: &mut Writer, id: usiz
 }
 
 // The last record of the key on the `need,adt` line i. An unknown one takes 4 bytes, without pointers.
-pub fn put_record(sheet: &Sheet, work: &mut Space, entries: usize, i: usize, w: &mut Writer, id: usize) -> usize
+pub fn put_record(
+    sheet: &Sheet,
+    work: &mut Space,
+    entries: usize,
+    i: usize,
+    w: &mut Writer,
+    id: usize,
+) -> usize
     requires { (RecordsLogged sheet.now work.old entries) × (NeedLine sheet.now i) × (form_at sheet.now i ≡ 34) × (id < 2048) }
     ensures { TypesWrote ((key_shape (log_of sheet.now) (need_at sheet.now i)) ∷ []) id result w.old w.new work.old work.new }
 {

@@ -1,6 +1,5 @@
 -- `arrays::alloc_kind` meets its contract.
 use Rattle.arrays.proofs.Allocs.{declared-line, declared-kind, own_line, own-kind}
-use Rattle.literals.proofs.Lines.{line-in}
 use Rattle.arrays.proofs.alloc_kind.Goals as goal
 
 pub elem_kind-requires : goal.elem_kind-requires

@@ -1,5 +1,4 @@
 use Rattle.arrays.proofs.Elements.{cast-not, cast-line, cast_is}
-use Rattle.literals.proofs.Lines.{line-in}
 use Rattle.std.proofs.Common.{◌∙◌}
 use Rattle.arrays.proofs.is_byte_cast.Goals as goal
 

@@ -20,6 +20,9 @@ overflow_add-j c = record { fits = omega (arith, few-elements c.requires c.numbe
 pub overflow_sub-q : goal.overflow_sub-q
 overflow_sub-q c = (element-at c.requires c.number_at-count.ensures.0 c.loop-j.invariant c.loop-j-test.true c.number_at-q.ensures.0).first
 
+pub number_at-requires : goal.number_at-requires
+number_at-requires c = line-in (element-at c.requires c.number_at-count.ensures.0 c.loop-j.invariant c.loop-j-test.true c.number_at-q.ensures.0)
+
 pub is_byte_cast-requires : goal.is_byte_cast-requires
 is_byte_cast-requires c = value_line c.requires c.number_at-count.ensures.0 c.loop-j.invariant c.loop-j-test.true c.number_at-q.ensures.0 c.number_at.ensures.0
 

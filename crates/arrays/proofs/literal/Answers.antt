@@ -1,7 +1,8 @@
 -- `arrays::literal` meets its contract.
 use Rattle.std.proofs.Common.{refl, Ok, Err, None}
 use Rattle.std.proofs.lemmas.Result.{err_from_is_err_and}
-use Rattle.arrays.proofs.Wholes.{literal-kept, literal-ended, literal-well}
+use Rattle.arrays.proofs.Wholes.{literal-ended, literal-well}
+use Rattle.literals.proofs.Names.{logged-kept}
 use Rattle.arrays.proofs.literal.Goals as goal
 
 pub fill-requires : goal.fill-requires
@@ -13,7 +14,7 @@ returns-in_err-x c =
     rw (p.1, p.2) (literal-ended c.requires.0 c.requires.1 c.fill.result c.fill.ensures (Err c.in_err-x.field-0.0) c.in_err-x.was refl)
 
 pub sized-requires : goal.sized-requires
-sized-requires c = literal-kept c.requires.0 c.requires.1 c.fill.result c.fill.ensures
+sized-requires c = (c.requires.0, logged-kept c.fill.ensures.keeps c.requires.1)
 
 pub returns-in-Some : goal.returns-in-Some
 returns-in-Some c = literal-well c.requires.0 c.requires.1 c.fill.result c.fill.ensures (rw c.in-Some.is at c.in_ok-x.was) c.sized.ensures

@@ -1,7 +1,5 @@
-use Rattle.std.proofs.Common.{rules}
 use Rattle.arrays.proofs.Wholes.{kind-declared, own-type-line, kind-own, kind-bytes, kind-values}
 use Rattle.arrays.proofs.Allocs.{declared-line}
-use Rattle.literals.proofs.Lines.{line-in}
 use Rattle.placements.specs.Placements.{values_in}
 use mathlib.Core.Path.{sym, ◌∙◌}
 use Rattle.arrays.proofs.literal_kind.Goals as goal
@@ -28,7 +26,7 @@ pub returns-then-is_byte_literal : goal.returns-then-is_byte_literal
 returns-then-is_byte_literal c = kind-bytes c.requires (values_in c.args.work.now 0 c.args.count) c.in_default.is c.number_at-own.ensures.0 c.if-own-ne0.false (sym c.if-is_byte_literal.true ∙ c.is_byte_literal.ensures)
 
 pub kind_of_values-requires : goal.kind_of_values-requires
-kind_of_values-requires c = (c.requires.few, (search rules))
+kind_of_values-requires c = c.requires.few
 
 pub returns : goal.returns
 returns c = kind-values c.requires (values_in c.args.work.now 0 c.args.count) c.in_default.is c.number_at-own.ensures.0 c.if-own-ne0.false (sym c.if-is_byte_literal.false ∙ c.is_byte_literal.ensures) c.kind_of_values.ensures

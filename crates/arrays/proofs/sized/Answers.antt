@@ -1,6 +1,6 @@
 -- `arrays::sized` meets its contract.
 use Rattle.std.proofs.lemmas.Result.{err_from_is_err_and}
-use Rattle.arrays.proofs.Wholes.{lit-kept, size-keeps, sized-outside, sized-none, sized-well}
+use Rattle.arrays.proofs.Wholes.{sized-outside, sized-none, sized-well}
 use Rattle.arrays.proofs.sized.Goals as goal
 
 pub literal_size-requires : goal.literal_size-requires
@@ -15,7 +15,7 @@ pub returns-then-size-reach : goal.returns-then-size-reach
 returns-then-size-reach c = sized-outside c.requires.0 c.requires.1 c.literal_size.ensures.1 c.literal_size.result c.literal_size.ensures.0 c.in_ok-size.was c.if-size-reach.true
 
 pub measured-requires : goal.measured-requires
-measured-requires c = lit-kept (size-keeps c.literal_size.ensures.1) c.requires.0
+measured-requires c = c.requires.0
 
 pub returns : goal.returns
 returns c = sized-well c.requires.0 c.requires.1 c.literal_size.ensures.1 c.literal_size.result c.literal_size.ensures.0 c.in_ok-size.was c.if-size-reach.false c.measured.result c.measured.ensures

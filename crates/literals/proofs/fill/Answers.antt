@@ -1,4 +1,4 @@
-use Rattle.literals.proofs.Turns.{begun, turning-line, turning-end, turn-line, turning-stop, turning-next}
+use Rattle.literals.proofs.Turns.{turning-end, turn-line, turning-stop, turning-next}
 use Rattle.literals.proofs.Lines.{line-in}
 use mathlib.Core.Path.{refl}
 use Rattle.std.specs.Prelude.{None, Ok, Err}
@@ -6,10 +6,10 @@ use Rattle.std.proofs.lemmas.Result.{err_from_is_err_and}
 use Rattle.literals.proofs.fill.Goals as goal
 
 pub number_at-count-requires : goal.number_at-count-requires
-number_at-count-requires c = let l = begun c.requires.0 c.requires.1 c.empty.ensures in line-in l
+number_at-count-requires c = line-in c.requires.0.line
 
 pub number_at-q-requires : goal.number_at-q-requires
-number_at-q-requires c = let l = turning-line c.requires.0 c.requires.1 c.empty.ensures c.number_at-count.ensures.0 c.loop-j.invariant in line-in l
+number_at-q-requires c = line-in c.requires.0.line
 
 pub fill_element-requires : goal.fill_element-requires
 fill_element-requires c = turn-line c.requires.0 c.requires.1 c.empty.ensures c.number_at-count.ensures.0 c.loop-j.invariant c.loop-j-test.true c.number_at-q.ensures.0

@@ -1,4 +1,4 @@
-use Rattle.literals.proofs.Spans.{selecting_start, selecting-line, selecting-end, selector-task, selecting-stop, selecting-next}
+use Rattle.literals.proofs.Spans.{selecting_start, selecting-end, selector-task, selecting-stop, selecting-next}
 use Rattle.literals.proofs.Lines.{line-in}
 use Rattle.std.proofs.lemmas.Result.{err_from_is_err_and}
 use Rattle.literals.proofs.place_selectors.Goals as goal
@@ -7,7 +7,7 @@ pub loop-j-init : goal.loop-j-init
 loop-j-init c = selecting_start c.requires c.args.x c.number_at-count.ensures.0
 
 pub number_at-q-requires : goal.number_at-q-requires
-number_at-q-requires c = let l = selecting-line c.requires c.args.x c.number_at-count.ensures.0 c.loop-j.invariant in line-in l
+number_at-q-requires c = line-in c.requires.task.line
 
 pub place_selector-requires : goal.place_selector-requires
 place_selector-requires c = selector-task c.requires c.args.x c.number_at-count.ensures.0 c.loop-j.invariant c.loop-j-test.true c.number_at-q.ensures.0

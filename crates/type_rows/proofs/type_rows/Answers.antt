@@ -1,21 +1,20 @@
-use Rattle.std.proofs.Common.{rules, ℕ, [], ◌+◌, ◌∙◌, refl, ap, arith}
+use Rattle.std.proofs.Common.{ℕ, [], ◌+◌, ◌∙◌, refl, ap, arith}
 use Rattle.checks.proofs.Kept.{kept_then, kept_less}
 use Rattle.type_keys.proofs.Table.{kinds_kept}
 use Rattle.semantics.specs.Types.{distinct}
 use Rattle.semantics.specs.Sheet.{sheet_source}
 use Rattle.type_rows.proofs.All.{all-rows, frames-low}
-use Rattle.type_row.proofs.Kept.{map-checked}
 use Rattle.type_rows.proofs.Wrotes.{ready-kept, shapes-length}
 use Rattle.type_rows.proofs.type_rows.Goals as goal
 
 pub frame_rows-base-requires : goal.frame_rows-base-requires
-frame_rows-base-requires c = (map-checked c.opaque_rows-frames.ensures.kept c.requires.0.log.checked, omega (arith, c.opaque_rows-frames.ensures.id))
+frame_rows-base-requires c = (c.requires.0.log.checked, omega (arith, c.opaque_rows-frames.ensures.id))
 
 pub need_rows-id-requires : goal.need_rows-id-requires
 need_rows-id-requires c = (ready-kept c.frame_rows-base.ensures.kept (ready-kept c.opaque_rows-frames.ensures.kept c.requires.0), c.requires.1, omega (arith, c.frame_rows-base.ensures.id, c.opaque_rows-frames.ensures.id, frames-low c.args.sheet.now c.requires.0.log.checked))
 
 pub kind_rows-requires : goal.kind_rows-requires
-kind_rows-requires c = (omega (arith, (search rules), c.opaque_rows-frames.ensures.kept.long, c.frame_rows-base.ensures.kept.long, c.need_rows-id.ensures.kept.long), omega (arith, c.need_rows-id.ensures.id), omega (arith, c.frame_rows-base.ensures.id, c.opaque_rows-frames.ensures.id, frames-low c.args.sheet.now c.requires.0.log.checked), c.requires.2)
+kind_rows-requires c = (omega (arith, c.need_rows-id.ensures.id), omega (arith, c.frame_rows-base.ensures.id, c.opaque_rows-frames.ensures.id, frames-low c.args.sheet.now c.requires.0.log.checked), c.requires.2)
 
 pub returns : goal.returns
 returns c =

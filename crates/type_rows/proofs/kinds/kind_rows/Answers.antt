@@ -16,9 +16,9 @@ loop-i-preserved c =
           rw (w.work-is, w.w-is) (
             omega (arith, i.0),
             kept_then i.1 w.put_elem.ensures.kept,
-            kinds-next c.args.base c.args.keys _ c.loop-i.i i.0 c.loop-i-test.true c.requires.1 i.2 i.1 (element_kind w.in-Some.kind) w.in-Some.ensures.found w.put_elem.ensures,
+            kinds-next c.args.base c.args.keys _ c.loop-i.i i.0 c.loop-i-test.true c.requires.0 i.2 i.1 (element_kind w.in-Some.kind) w.in-Some.ensures.found w.put_elem.ensures,
           )
-      | in_default w ↦ rw (w.work-is, w.w-is) (omega (arith, i.0), i.1, kinds-none c.args.base c.args.keys _ c.loop-i.i i.0 c.loop-i-test.true c.requires.1 i.2 i.1 (c.kind_at.ensures.none w.in_default.is))
+      | in_default w ↦ rw (w.work-is, w.w-is) (omega (arith, i.0), i.1, kinds-none c.args.base c.args.keys _ c.loop-i.i i.0 c.loop-i-test.true c.requires.0 i.2 i.1 (c.kind_at.ensures.none w.in_default.is))
     ]
 
 pub returns : goal.returns
