@@ -25,7 +25,7 @@ use Rattle.names.specs.Table.{ConstsLogged, names_in}
 use Rattle.placements.specs.Placements.{Keeps}
 use Rattle.placements.proofs.Same.{keeps-all, keeps_then, keeps-less, keeps-kept}
 use Rattle.leaf.specs.Folds.{ex_at, Folds}
-use Rattle.literals.proofs.Names.{log-kept, logged-kept, line_kept}
+use Rattle.literals.proofs.Names.{log-kept, logged-kept}
 use Rattle.literals.proofs.Selectors.{folds-to}
 use Rattle.arrays.specs.declared.Arrayed.{Arrayed}
 use Rattle.arrays.specs.declared.Arrayed.TheVariants.{Alloc, Literal}
@@ -45,21 +45,21 @@ abbrev pub as_first : P.Result Arrayed NoItem → P.Result (Option First) NoItem
 as_first (Ok x) = Ok (Some (Array x))
 as_first (Err e) = Err e
 
-module _ {s t : Bytes} {r q : ℕ} (k : Valued s r q) (d : Option ℕ) (e : declared_type s d ≡ elem_of (var_on s r).ty) (h : DeclaredElement s d) where
+module _ {s : Bytes} {r q : ℕ} (k : Valued s r q) (d : Option ℕ) (e : declared_type s d ≡ elem_of (var_on s r).ty) (h : DeclaredElement s d) where
   pub array-line : ArrayLine s d q
   array-line = record { line = k.value; declares = h }
 
-  pub array-is : (m : ℕ) (x : P.Result Arrayed NoItem) {u : Bytes} → ArrayAnswers t (const_array (names_in s t m) (declared_type s d) (ex_at s q)) x u
+  pub array-is : {t : Bytes} (m : ℕ) (x : P.Result Arrayed NoItem) {u : Bytes} → ArrayAnswers t (const_array (names_in s t m) (declared_type s d) (ex_at s q)) x u
       → {y : P.Result Arrayed NoItem} → x ≡ y → Inits t (array_value (const_array (names_in s t m) (elem_of (var_on s r).ty) (ex_at s q))) (as_first y) u
-  array-is m x {u} a {y} i = record {
+  array-is {t} m x {u} a {y} i = record {
     result = go y ∙ ap (λ (z : P.Result Arrayed NoItem). array_value (arrayed_in u z)) (sym i) ∙ ap array_value a.array.result ∙ rw e;
     stands = stand y (subst (ResultStands u) i a.array.stands);
     keeps = a.keeps;
   }
     where
       go : (z : P.Result Arrayed NoItem) → init_in u (as_first z) ≡ array_value (arrayed_in u z)
-      go (Ok (Alloc k (lines_in s))) = refl
-      go (Ok (Literal k (lines_in s))) = refl
+      go (Ok (Alloc k n)) = refl
+      go (Ok (Literal k n)) = refl
       go (Err Pending) = refl
       go (Err LongString) = refl
       go (Err LongAlloc) = refl
@@ -116,7 +116,7 @@ module _ {s t : Bytes} {r : ℕ} (l : VarLine s r) {q : ℕ} (hq : q ≡ Number.
 
     module _ (d : x ≡ Err N.Failed) where
       pub array-task : (Valued s r q) × (ConstsLogged s u m)
-      array-task = (record { line = line_kept keeps-fold l; value = line_kept keeps-fold (value_line l hq z) }, logged-kept keeps-fold o)
+      array-task = (record { line = l; value = value_line l hq z }, logged-kept keeps-fold o)
 
       pub first-array : {y : P.Result (Option First) NoItem} {w : Bytes} → Inits u (array_value (const_array (names_in s u m) (elem_of (var_on s r).ty) (ex_at s q))) y w → Inits t (init_of (names_in s t m) (var_on s r).ty (var_on s r).init) y w
       unfolding result_in
