@@ -17,6 +17,7 @@ use Rattle.semantics.specs.Listing.{item_row}
 use Rattle.laws.proofs.Lists.{concat-append}
 use Rattle.write.specs.declared.Writer.{Writer}
 use Rattle.write.specs.Writes.{Writes}
+use Rattle.lines.specs.Lines.{lines_in}
 use Rattle.checks.specs.Checks.{Kept, Outside}
 use Rattle.source.specs.Walk.{open_at}
 use Rattle.implement.specs.Modules.{module_at, Open}
@@ -35,7 +36,7 @@ use Rattle.vars.specs.First.{first_in, init_in, Inits}
 use Rattle.vars.proofs.Items.{items-all}
 use Rattle.data_rows.specs.declared.Counts.{Counts}
 use Rattle.data_rows.specs.Data.{items_in, keys_of, rows_of, DataTables, PrintKept, ItemsPrinted, PrintTables, NameTask, name_items}
-use Rattle.data_rows.proofs.Kept.{keeping_all, keeping-then, keeping-first, keeping-outside, checked-still, places-still, log-still}
+use Rattle.data_rows.proofs.Kept.{keeping_all, keeping-then, keeping-first, keeping-outside, places-still, log-still}
 use Rattle.data_rows.proofs.Keys.{kinds-few}
 use Rattle.data_rows.proofs.Printed.{printed-as, printed-none, printed-then}
 use Rattle.data_rows.proofs.Names.{held-printed, held_first}
@@ -120,9 +121,6 @@ module _ {s t : Bytes} {c : Counts} {m : ℕ} (r : DataTables s t c m) where
 
   module _ {v : Writer} {u : Bytes} {n : ℕ} {w : Writer} {k : Option ℕ} {i : ℕ} (p : Walking s t c m v u n w k i) where
     module _ (l : Option ℕ) (y : laid_on s l ≡ laid_at s i) {z : Bytes} {o : ℕ} {x : Writer} (a : ItemsPrinted s (line_items (names_in s u c.consts) (places_in s u c.globals) (laid_on s l)) n o u z w x × PrintKept u z) where
-      pub walk-open : Open s i k
-      walk-open = record { checked = checked-still a.1 p.here.checked; within = p.here.within; low = p.here.low; here = p.here.here }
-
       pub walk-next : {k' : Option ℕ} → Open s (i + 1) k' → Walking s t c m v z o x k' (i + 1)
       unfolding laid_vars_to
       walk-next q =
@@ -139,14 +137,14 @@ module _ {s t : Bytes} {c : Counts} {m : ℕ} (r : DataTables s t c m) where
             printed = printed-as f (printed-then (line_items ns ps (laid_vars_to s i)) (line_items ns ps (laid_at s i)) p.printed (printed-as e a.0));
           }
 
-    pub walk_end : c.lines ≤ i → Writes v (rows_of s (items_in s t c.consts)) w × Kinds u (keys_of s (items_in s t c.consts)) n × (n < 1024) × Kept 10624 t u
+    pub walk_end : lines_in s ≤ i → Writes v (rows_of s (items_in s t c.consts)) w × Kinds u (keys_of s (items_in s t c.consts)) n × (n < 1024) × Kept 10624 t u
     unfolding item_rows
     walk_end h =
         let ns = names_in s t c.consts in
         let is = items_in s t c.consts in
-        let z : i ≡ c.lines = omega (arith, p.here.within) in
+        let z : i ≡ lines_in s = omega (arith, p.here.within) in
         let y : line_items ns (places_in s t c.globals) (laid_vars_to s i) ≡ is =
-        ap (λ (j : ℕ). line_items ns (places_in s t c.globals) (laid_vars_to s j)) z ∙ ap (λ (ps : List Global). line_items ns ps (laid_vars_to s c.lines)) (r.laid ns) ∙ items-all ns s r.table.checked in
+        ap (λ (j : ℕ). line_items ns (places_in s t c.globals) (laid_vars_to s j)) z ∙ ap (λ (ps : List Global). line_items ns ps (laid_vars_to s (lines_in s))) (r.laid ns) ∙ items-all ns s r.table.checked in
         let a : ItemsPrinted s is m n t u v w = printed-as y p.printed in
         let x = a.kinds [] needs-kinds in
         (subst (λ (js : List Item). Writes v (concat_map (item_row (id_of (sheet_source s) js)) is) w) (append-nil is) (a.rows [] [] needs-kinds), x, omega (arith, kinds-few x), p.keeping.below)

@@ -17,8 +17,8 @@ use Rattle.globals.proofs.Vars.{items-by, laid-lines}
 use Rattle.lines.specs.Lines.{lines_in}
 
 -- the items of all lines are the sheet's
-pub items-all : (ns : Names) (s : Bytes) {t : Bytes} → Checked s → line_items ns (globals ns (sheet_source s)).places (laid_vars_to s (lines_in s)) ≡ (globals ns (sheet_source s)).items
-items-all ns s {t} {n} c = sym (items-by ns (sheet_source s) ∙ ap (line_items ns (globals ns (sheet_source s)).places) (laid-lines s c))
+pub items-all : (ns : Names) (s : Bytes) → Checked s → line_items ns (globals ns (sheet_source s)).places (laid_vars_to s (lines_in s)) ≡ (globals ns (sheet_source s)).items
+items-all ns s c = sym (items-by ns (sheet_source s) ∙ ap (line_items ns (globals ns (sheet_source s)).places) (laid-lines s c))
 
 -- ---- the first line that is refused
 

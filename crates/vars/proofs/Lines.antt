@@ -2,9 +2,9 @@
 use mathlib.Core.Path.{◌≡◌, refl, sym, ap, ◌∙◌}
 use mathlib.Core.List.{List, []}
 use Rattle.std.specs.Prelude.{None, Some}
-use Prim.Native.Nat.{ℕ, zero, suc, ◌-◌, ◌<◌}
+use Prim.Native.Nat.{ℕ, zero, suc, ◌-◌, ◌≤◌, ◌<◌}
 use native.Mathlib.Omega.{arith}
-use lib.ListN.{get_or}
+use lib.ListN.{length, get_or}
 use Rattle.checks.specs.Checks.{KindLine}
 use Rattle.semantics.specs.Text.{Bytes}
 use Rattle.semantics.specs.Tree.{Node, Ty, elem_of}
@@ -66,7 +66,7 @@ module _ {s : Bytes} {ty : ℕ} (l : TypeLine s ty) {x : Ty} (ht : type_at s ty 
 
 -- ---- the value
 
-module _ {s t : Bytes} {r : ℕ} (l : VarLine s r) where
+module _ {s : Bytes} {r : ℕ} (l : VarLine s r) where
   module _ {q : ℕ} (hq : q ≡ Number.number_up_to 65536 (get_or (read_at s (r - 1)).fields 1 [])) where
     value-ref : (q ≡ number_of (get_or (read_at s (r - 1)).fields 1 [])) × ((q ≡ 0 → ⊥) → KindLine 69 s q)
     value-ref = may-line l 69 (get_or (read_at s (r - 1)).fields 1 []) q hq (parts-good s r l).1
@@ -78,8 +78,8 @@ module _ {s t : Bytes} {r : ℕ} (l : VarLine s r) where
       pub value_line : KindLine 69 s q
       value_line = value-ref.1 z
 
-      pub value-foldable : {m : ℕ} → ConstsLogged s t m → Foldable s t m q 49152
-      value-foldable g = foldable {e = 0} (record { line = value_line; log = g; few = omega arith })
+      pub value-foldable : {t : Bytes} {m : ℕ} → ConstsLogged s t m → 62464 ≤ length t → Foldable s t m q 49152
+      value-foldable g room = foldable {e = 0} (record { line = value_line; log = g; few = omega arith }) room
 
       pub init-some : (var_on s r).init ≡ Some (ex_at s q)
       init-some = rw (← value-ref.0) (value-given (nodes_in s) q z)

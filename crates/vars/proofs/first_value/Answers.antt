@@ -1,3 +1,4 @@
+use Rattle.std.proofs.Common.{rules}
 -- `vars::first_value` meets its contract.
 use Rattle.vars.proofs.Values.{first-none, first-folded, first-long, first-array, array-task}
 use Rattle.vars.proofs.Lines.{value-foldable}
@@ -7,7 +8,7 @@ pub returns-then-q-eq0 : goal.returns-then-q-eq0
 returns-then-q-eq0 c = first-none c.requires.0 c.number_at-q.ensures.0 _ c.if-q-eq0.true
 
 pub fold_const-requires : goal.fold_const-requires
-fold_const-requires c = value-foldable c.requires.0 c.number_at-q.ensures.0 c.if-q-eq0.false c.requires.1
+fold_const-requires c = value-foldable c.requires.0 c.number_at-q.ensures.0 c.if-q-eq0.false c.requires.1 (search rules)
 
 pub array_value-requires : goal.array_value-requires
 array_value-requires c = array-task c.requires.0 c.number_at-q.ensures.0 c.if-q-eq0.false c.requires.1 c.fold_const.ensures (rw c.in-Err-Failed.field-0-is at c.in-Err-Failed.is)

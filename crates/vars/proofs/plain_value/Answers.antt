@@ -1,3 +1,4 @@
+use Rattle.std.proofs.Common.{rules}
 -- `vars::plain_value` meets its contract.
 use Rattle.std.proofs.lemmas.Result.{err_from_is_err_and}
 use Rattle.vars.proofs.Values.{plain-none, plain-folded, plain-stopped}
@@ -8,7 +9,7 @@ pub returns-then-q-eq0 : goal.returns-then-q-eq0
 returns-then-q-eq0 c = plain-none c.requires.0 c.number_at-q.ensures.0 _ c.if-q-eq0.true
 
 pub fold_const-requires : goal.fold_const-requires
-fold_const-requires c = value-foldable c.requires.0 c.number_at-q.ensures.0 c.if-q-eq0.false c.requires.1
+fold_const-requires c = value-foldable c.requires.0 c.number_at-q.ensures.0 c.if-q-eq0.false c.requires.1 (search rules)
 
 pub returns-in_err-v : goal.returns-in_err-v
 returns-in_err-v c =
