@@ -3,7 +3,7 @@ use mathlib.Core.Path.{◌≡◌, refl, ◌∙◌}
 use Prim.Native.Nat.{ℕ, zero, suc, ◌+◌, ◌<◌}
 use native.Mathlib.Omega.{arith}
 use Rattle.semantics.specs.Text.{Bytes}
-use Rattle.checks.specs.Checks.{Checked, Outside}
+use Rattle.checks.specs.Checks.{Outside}
 use Rattle.checks.proofs.Kept.{kept-all, kept_then, kept_less, outside_above}
 use Rattle.names.specs.Table.{log_in, ConstsLogged}
 use Rattle.names.proofs.Laws.{logged-same, log-stays}
@@ -14,7 +14,7 @@ use Rattle.placements.specs.Placements.{placement_at, slot_at, element_in, value
 use Rattle.placements.proofs.Same.{part_same, value_same, slot_kept, element-same}
 use Rattle.literals.specs.Literals.{above}
 use Rattle.literals.proofs.Names.{kept_low}
-use Rattle.global_table.specs.Table.{VarLine, places_in, Tabled}
+use Rattle.global_table.specs.Table.{places_in, Tabled}
 use Rattle.global_table.proofs.Table.{places-kept, tabled-kept}
 use Rattle.vars.specs.declared.First.{First}
 use Rattle.vars.specs.declared.First.TheVariants.{Value, Array}
@@ -39,17 +39,11 @@ pub keeping-outside : {t u : Bytes} → Outside 10624 10629 t u → PrintKept t 
 keeping-outside o = record { below = o.kept; strings = λ j h k. outside_above o j (omega arith) }
 
 module _ {t u : Bytes} (k : PrintKept t u) where
-  pub checked-still : {s : Bytes} → Checked s → Checked s
-  checked-still c = c
-
-  pub var-still : {s : Bytes} {r : ℕ} → VarLine s r → VarLine s r
-  var-still l = l
-
   pub tabled-still : {s : Bytes} {g : ℕ} → Tabled s t g → Tabled s u g
   tabled-still d = tabled-kept (kept_less (omega arith) k.below) d
 
   pub places-still : (s : Bytes) {g : ℕ} → Tabled s t g → places_in s u g ≡ places_in s t g
-  places-still s {n} {g} d = places-kept (kept_less (omega arith) k.below) s g d.few
+  places-still s {g} d = places-kept (kept_less (omega arith) k.below) s g d.few
 
   module _ {s : Bytes} {m : ℕ} (l : ConstsLogged s t m) where
     pub logged-still : ConstsLogged s u m

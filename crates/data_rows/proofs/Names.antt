@@ -23,7 +23,7 @@ use Rattle.vars.specs.First.{first_in}
 use Rattle.vars.proofs.Names.{names_from, names-step, names-over, names-all}
 use Rattle.data_rows.specs.declared.Counts.{Counts}
 use Rattle.data_rows.specs.Data.{PrintKept, ItemsPrinted, PrintTables, NameTask, name_items}
-use Rattle.data_rows.proofs.Kept.{keeping-first, keeping-outside, var-still, tabled-still, places-still, logged-still, first-still}
+use Rattle.data_rows.proofs.Kept.{keeping-first, keeping-outside, tabled-still, places-still, logged-still, first-still}
 use Rattle.data_rows.proofs.Printed.{printed-as, printed-none, printed-then}
 
 -- ---- tables stay
@@ -114,7 +114,7 @@ module _ {s t : Bytes} {c : Counts} {r : ℕ} {x : First} {count m : ℕ} {v : W
       let is : name_items (type_on s r) (places_in s u c.globals) (first_in u x) (b ∷ []) ≡ f (name_on s r j ∷ []) = rw (p.places, p.value, i) in
       record {
         task = task-next p.task a.1 a.0;
-        line = var-still (keeping-outside a.1) p.line;
+        line = p.line;
         outside = outside-then p.outside a.1;
         places = places-still (keeping-outside a.1) s p.task.held.places ∙ p.places;
         value = (first-still a.1 x p.task.stands).0 ∙ p.value;

@@ -116,9 +116,6 @@ module _ {s t : Bytes} {m : ℕ} (r : ConstTable s t m) where
         (all-pended (names_in s t m) s r.checked (subst (λ (j : ℕ). Pended (names_in s t m) (laid_vars_to s j) v (Ok tt) w) z l.rows), l.keeps)
 
     -- the next line is worked on
-    pub walk-open : {x : Bytes} → Keeps 16384 49152 u x → Open s i k
-    walk-open b = record { checked = l.here.checked; within = l.here.within; low = l.here.low; here = l.here.here }
-
     module _ (q : Option ℕ) (g : laid_on s q ≡ laid_at s i) where
       line-pended : (y : Std.Result Unit Refused) (z : Writer) → Pended (names_in s u m) (laid_on s q) w y z → Pended (names_in s t m) (laid_at s i) w y z
       line-pended y z b = subst (λ (xs : List (Located VarDecl)). Pended (names_in s t m) xs w y z) g (rw (log-kept l.keeps r.logged) at b)

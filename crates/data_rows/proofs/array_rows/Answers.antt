@@ -7,13 +7,13 @@ use Rattle.data_rows.proofs.Firsts.{array-rows}
 use Rattle.data_rows.proofs.array_rows.Goals as goal
 
 pub collect_kind-keys-requires : goal.collect_kind-keys-requires
-collect_kind-keys-requires c = (omega (arith, kinds-few c.requires.0.kinds), c.requires.0.long)
+collect_kind-keys-requires c = omega (arith, kinds-few c.requires.0.kinds)
 
 pub kind_id-id-requires : goal.kind_id-id-requires
-kind_id-id-requires c = (c.requires.0.few, kind-used c.requires.0.known (element_kind c.kind_of-kind.result) (c.collect_kind-keys.ensures.0 c.requires.0.known c.requires.0.kinds), omega (arith, c.collect_kind-keys.ensures.1.kept.long, c.requires.0.long))
+kind_id-id-requires c = (c.requires.0.few, kind-used c.requires.0.known (element_kind c.kind_of-kind.result) (c.collect_kind-keys.ensures.0 c.requires.0.known c.requires.0.kinds))
 
 pub put_array-requires : goal.put_array-requires
-put_array-requires c = (omega (arith, c.collect_kind-keys.ensures.1.kept.long, c.requires.0.long), (array-still c.collect_kind-keys.ensures.1 c.args.x c.requires.1).1)
+put_array-requires c = (array-still c.collect_kind-keys.ensures.1 c.args.x c.requires.1).1
 
 pub returns : goal.returns
 returns c =
