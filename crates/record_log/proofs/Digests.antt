@@ -97,9 +97,6 @@ module _ (t : Bytes) (i d : ℕ) (hi : i < 128) (room : 62464 ≤ length t) wher
           entries = λ j h. record { checked = c; low = (g.entries j h).low; sound = rw (entry_old j) (g.entries j h).sound };
         }
 
-pub entered-length : (t : Bytes) (i d : ℕ) → i < 128 → 62464 ≤ length t → {v : Bytes} → v ≡ linked (set t (9221 + 8 * i) d) record_chains i → length v ≡ length t
-entered-length t i d h room q = rw q (outside-new t i d h room).kept.long
-
 pub digests-start : {s t : Bytes} {m : ℕ} → Digested s t m 0 → CollectedTo s t t m 0
 digests-start g = record { log = g; outside = outside-all }
 

@@ -18,7 +18,7 @@ use Rattle.codes.specs.declared.element.Element.{Element}
 use Rattle.codes.specs.declared.element.Element.TheVariants as E
 use Rattle.codes.specs.Kinds.{element_kind}
 use Rattle.chains.specs.Chains.{digest_place, digest_at, ChainRoom, Chained}
-use Rattle.chains.proofs.Laws.{PlacesApart, SameBytes, linked-outside, linked_long, digest-stays, chained-kept, chained-next}
+use Rattle.chains.proofs.Laws.{PlacesApart, SameBytes, linked-outside, digest-stays, chained-kept, chained-next}
 use Rattle.checks.specs.Checks.{Kept, Outside}
 use Rattle.checks.proofs.Kept.{kept_at, outside-then, outside_set, outside_above}
 use Rattle.type_keys.specs.Table.{need_line_of, need_position_of, kind_position, need_chains, kinds_used, need_entered, digest_entered, kind_entered, Kinds}
@@ -144,10 +144,6 @@ need-room room = record { low = λ i h. omega arith; long = room }
 need-apart : PlacesApart need_chains 128
 unfolding digest_place
 need-apart = record { own = λ i j e. omega arith; link = λ i j h l e. omega arith; head = λ i k h l e. omega arith }
-
-pub digest-long : (t : List ℕ) (q d : ℕ) → length (digest_entered t q d) ≡ length t
-unfolding digest_entered
-digest-long t q d = linked_long (set t (10752 + q) d) need_chains q ∙ length-set t (10752 + q) d
 
 module _ (t : List ℕ) (room : 62464 ≤ length t) (q d : ℕ) (hq : q < 128) where
   pub digest-outside : Outside 10752 11264 t (digest_entered t q d)

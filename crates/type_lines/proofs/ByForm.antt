@@ -15,7 +15,7 @@ use Rattle.codes.specs.Kinds.{element_kind}
 use Rattle.lines.specs.Lines.{read_at, nodes_in, form_at}
 use Rattle.source.specs.Walk.{field_at}
 use Rattle.type_lines.specs.Needs.{need_at, NeedLine, kind_by}
-use Rattle.type_lines.specs.Shapes.{written_shape, ShapeLine}
+use Rattle.type_lines.specs.Shapes.{written_shape}
 use Rattle.type_lines.proofs.Forms.{key_by, key-is, form-from}
 
 module _ (s : List ℕ) (i : ℕ) (l : NeedLine s i) where
@@ -28,9 +28,6 @@ module _ (s : List ℕ) (i : ℕ) (l : NeedLine s i) where
 
   pub opaque-key : form_at s i ≡ 41 → need_at s i ≡ opaque_key
   opaque-key e = key-is s i l ∙ rw e
-
-  pub block-line : form_at s i ≡ 40 → ShapeLine s i
-  block-line e = record { checked = l.checked; within = l.within; form = rw e }
 
 -- ---- which kind of element a `need` line asks for
 

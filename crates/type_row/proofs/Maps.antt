@@ -2,13 +2,12 @@
 use mathlib.Core.Path.{◌≡◌, refl}
 use mathlib.Core.Bool.{true}
 use mathlib.Core.List.{List, [], ◌∷◌}
-use Prim.Native.Nat.{ℕ, ◌+◌, ◌-◌, ◌*◌, ◌≤◌, ◌<◌}
+use Prim.Native.Nat.{ℕ, ◌+◌, ◌*◌, ◌≤◌, ◌<◌}
 use native.Mathlib.Omega.{arith}
 use native.Mathlib.Numerals.{add-one}
 use lib.IntN.{ℤ, pos, negsuc}
 use lib.ListN.{length, take, get_or}
 use lib.Seq.{take-suc, take_all}
-use borrow.Author.Tests.{ltb-true}
 use Rattle.semantics.specs.Tree.{Shape}
 use Rattle.semantics.specs.Form.{between}
 use Rattle.semantics.specs.Types.{opaque_shape}
@@ -46,11 +45,6 @@ offsets-all l j h a = rw (take_all j l h) at a
 pub below-zero : {size : ℕ} {t : List ℕ} (z : ℕ) (y : ℤ) → between 4096 4096 y ≡ true → z ≡ raised y → z < 4096 → Marks size (y ∷ []) t t
 below-zero z (pos a) h e l = absurd (omega arith)
 below-zero z (negsuc a) h e l = marks-skip (negsuc a) (λ x. refl)
-
--- and one that is not
-pub from_zero : {size : ℕ} {t u : List ℕ} (z : ℕ) (y : ℤ) → between 4096 4096 y ≡ true → z ≡ raised y → 4096 ≤ z → Marks size (pos (z - 4096) ∷ []) t u → Marks size (y ∷ []) t u
-from_zero z (pos a) h e l m = let g : z - 4096 ≡ a = omega arith in rw g at m
-from_zero z (negsuc a) h e l m = absurd (omega (arith, ltb-true a 4096 h))
 
 -- ---- a row of a shape that is said otherwise
 

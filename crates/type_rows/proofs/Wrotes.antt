@@ -2,11 +2,11 @@
 use mathlib.Core.Path.{◌≡◌, refl, ap, ◌∙◌}
 use mathlib.Core.Bool.{Bool, true, false, cond}
 use mathlib.Core.List.{List, [], ◌∷◌, ◌++◌, append-nil, map-append}
-use Prim.Native.Nat.{ℕ, suc, ◌+◌, ◌≤◌, ◌<◌}
+use Prim.Native.Nat.{ℕ, suc, ◌+◌, ◌<◌}
 use native.Mathlib.Omega.{arith}
 use native.Mathlib.Numerals.{add-one}
 use lib.ListN.{length, take, drop, get_or, length-append, take-append-drop}
-use lib.Seq.{take-suc, take_all, get_or-take, length-take-le}
+use lib.Seq.{take-suc, get_or-take, length-take-le}
 use Rattle.semantics.specs.Text.{any}
 use Rattle.semantics.specs.Tree.{Shape, TypeKey}
 use Rattle.semantics.specs.Tree.TypeKey.{opaque_key}
@@ -19,7 +19,7 @@ use Rattle.checks.specs.Checks.{Kept}
 use Rattle.checks.proofs.Kept.{kept-all, kept_then, kept_less, kept_at}
 use Rattle.records.specs.Log.{log_of}
 use Rattle.records.proofs.Kept.{logged-kept}
-use Rattle.type_lines.specs.Needs.{need_at, NeedLine}
+use Rattle.type_lines.specs.Needs.{need_at}
 use Rattle.type_keys.specs.Table.{need_line_of, need_position_of}
 use Rattle.type_keys.proofs.Distinct.{new_key, position-none, position-low, position-more, distinct_more, key-member, known_more}
 use Rattle.type_row.specs.Row.{TypesWrote}
@@ -58,15 +58,6 @@ ready-kept {s} {t} {u} k x =
     }
 
 module _ (s t : List ℕ) (entries : ℕ) (x : TypeTables s t entries) (q : ℕ) (low : q < length (sheet_source s).needs) where
-  k : TypeKey
-  k = get_or (sheet_source s).needs q opaque_key
-
-  pub need-at : NeedLine s (need_line_of t q)
-  need-at = record { checked = x.log.checked; within = x.table.within q low; kind = x.table.kind q low }
-
-  pub need-low : q < 128
-  need-low = omega (arith, low, x.table.few)
-
   one_more : take (q + 1) (sheet_source s).needs ≡ take q (sheet_source s).needs ++ (get_or (sheet_source s).needs q opaque_key ∷ [])
   one_more = rw (add-one q) (take-suc (sheet_source s).needs q opaque_key low)
 
@@ -106,6 +97,3 @@ keys-then s l y p q = rw (map-append (key_shape (log_of s)) l (y ∷ [])) (types
 pub shapes-length : (s : List ℕ) (l : List TypeKey) → length (shapes_of s l) ≡ length l
 shapes-length s [] = refl
 shapes-length s (y ∷ l) = ap suc (shapes-length s l)
-
-pub keys-all : (s : List ℕ) (q : ℕ) → length (sheet_source s).needs ≤ q → keys_to s q ≡ distinct [] (sheet_source s).needs
-keys-all s q h = ap (distinct []) (take_all q (sheet_source s).needs h)
