@@ -22,7 +22,7 @@ use Rattle.parts.specs.Parts.{Listable}
 
 -- lines and positions of needs end at 10624; their digests serve only while needs are collected
 pub needs_stay : {s t u : Bytes} {ks : List TypeKey} → Kept 10624 t u → Needs s t ks → Needs s u ks
-needs_stay {s} {t} {u} {n} {ks} k x =
+needs_stay {s} {t} {u} {ks} k x =
     needs-kept s t ks x u {b = length t} (record { kept = k; above = drop_of_length-le u {i = length t} (omega (arith, k.long)) ∙ sym (drop_of_length-le t {i = length t} (omega arith)) })
 
 module _ {s t u : Bytes} {x : Tables} where
