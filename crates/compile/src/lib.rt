@@ -1,9 +1,10 @@
 // Compiling: a sheet to its listing, or a refusal.
 #![tactic(auto)]
 
-ghost use Rattle.std.specs.Prelude.{◌≡◌, length};
+ghost use Rattle.std.specs.Prelude.{◌≡◌, length, Ok};
 ghost use Rattle.semantics.specs.Sheet.{sheet_source};
 ghost use Rattle.semantics.specs.Refusal.{zeros, worked, compiled};
+ghost use Rattle.checks.specs.Checks.{Passes};
 ghost use Rattle.compile.specs.Compile.{Lists, Tries, TableStands, RowsPut, Compiles};
 ghost use Rattle.parts.specs.Parts.{Listable};
 
@@ -55,6 +56,22 @@ fn list_rows(
     Ok(Listed { length, end: x.end })
 }
 
+// The listing of a checked sheet of n lines, of which this is the table.
+fn list_checked(
+    text: &[u8],
+    listing: &mut [u8],
+    table: &[u8; TABLE],
+    n: usize,
+    work: &mut Space,
+) -> Result<Listed, Refusal>
+    requires { (listing.old ≡ zeros (length listing.old)) × (Passes text.now table.now (Ok n)) }
+    ensures { Tries text.now (worked (length listing.old) (sheet_source text.now)) (length listing.old) result listing.new }
+{
+    let sheet = Sheet::of(text, table, n);
+    let x = tables::make_tables(&sheet, work)?;
+    list_rows(&sheet, listing, work, x)
+}
+
 // The listing, where it was zeros; the rows written before a refusal still stand.
 fn list_sheet(text: &[u8], listing: &mut [u8], work: &mut [u8]) -> Result<Listed, Refusal>
     requires { listing.old ≡ zeros (length listing.old) }
@@ -63,9 +80,7 @@ fn list_sheet(text: &[u8], listing: &mut [u8], work: &mut [u8]) -> Result<Listed
     let n = checks::check(text, work)?;
     let (table, rest) = work.split_first_chunk_mut::<TABLE>().unwrap();
     let space = rest.first_chunk_mut::<SPACE>().unwrap();
-    let sheet = Sheet::of(text, table, n);
-    let x = tables::make_tables(&sheet, space)?;
-    list_rows(&sheet, listing, space, x)
+    list_checked(text, listing, table, n, space)
 }
 
 // The listing of any sheet, while the working space still has the tables; zeros in both where the sheet is refused.
