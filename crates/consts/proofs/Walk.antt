@@ -20,7 +20,7 @@ use Rattle.semantics.specs.Const.{Refusal, Folding, iota_at, iota_next, new_coun
 use Rattle.decimal.specs.Number as Number
 use Rattle.form.specs.Table.{kind_at}
 use Rattle.lines.specs.Lines.{lines_in, read_at, nodes_in, form_at}
-use Rattle.lines.proofs.Line.{kind-is, form-low}
+use Rattle.lines.proofs.Line.{kind-is}
 use Rattle.implement.specs.Modules.{module_at, line_number, Open}
 use Rattle.checks.specs.Checks.{Checked, Kept}
 use Rattle.checks.proofs.Laws.{few-consts}
@@ -41,9 +41,6 @@ use Rattle.consts.proofs.Lines.{line-number, col-number}
 
 -- the letter that is read of line i
 module _ {s : Bytes} (c : Checked s) {i : ℕ} (h : i < lines_in s) where
-  pub form_small : {f : ℕ} → f ≡ form_at s i → f < 42
-  form_small e = omega (arith, form-low s c.whole i h)
-
   pub kind-read : {f x : ℕ} → f ≡ form_at s i → x ≡ kind_at f → letter (read_at s i).form.kind ≡ x
   kind-read e d = kind-is s c.whole i h ∙ ap kind_at (sym e) ∙ sym d
 

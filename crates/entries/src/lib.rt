@@ -1,7 +1,7 @@
 // Entries of the table of constants.
 #![tactic(auto)]
 
-ghost use Rattle.std.specs.Prelude.{◌≡◌, ◌+◌, ◌*◌, ◌≤◌, ◌<◌, length};
+ghost use Rattle.std.specs.Prelude.{◌≡◌, ◌+◌, ◌*◌, ◌<◌};
 ghost use Rattle.write.specs.Wrote.{over};
 ghost use Rattle.chains.specs.Chains.{linked};
 ghost use Rattle.names.specs.Table.{const_chains};

@@ -1,7 +1,7 @@
 // The elements of a literal: each value is folded and stored, then its selectors, and then it is placed.
 #![tactic(auto)]
 
-ghost use Rattle.std.specs.Prelude.{◌≡◌, ◌+◌, ◌≤◌, ◌<◌, List, ℤ, length};
+ghost use Rattle.std.specs.Prelude.{◌≡◌, ◌+◌, ◌≤◌, ◌<◌, List, ℤ};
 ghost use Rattle.semantics.specs.Text.{Bytes};
 ghost use Rattle.semantics.specs.Tree as Tree;
 ghost use Rattle.semantics.specs.Fold.{Result, bind};

@@ -1,7 +1,7 @@
 // The table of constants: look-ups by name and by module and name, the newest entry first.
 #![tactic(auto)]
 
-ghost use Rattle.std.specs.Prelude.{◌≡◌, true, ◌&&◌, ℕ, ◌+◌, ◌≤◌, ◌<◌, eqb, length};
+ghost use Rattle.std.specs.Prelude.{◌≡◌, true, ◌&&◌, ℕ, ◌+◌, ◌≤◌, ◌<◌, eqb};
 ghost use Rattle.semantics.specs.Text as Text;
 ghost use Rattle.lines.specs.Lines.{lines_in};
 ghost use Rattle.chains.specs.Chains.{newest_of, count_to, chain_of, digest_at, in_chain};

@@ -3,9 +3,6 @@ use Rattle.std.proofs.Common.{rules}
 use Rattle.arrays.proofs.Allocs.{length-foldable, alloc-answers}
 use Rattle.arrays.proofs.alloc.Goals as goal
 
-pub overflow_sub-r : goal.overflow_sub-r
-overflow_sub-r c = c.requires.0.array.line.first
-
 pub fold_const-requires : goal.fold_const-requires
 fold_const-requires c = length-foldable c.requires.0 c.number_at-q.ensures.0 c.requires.1 (search rules)
 

@@ -5,9 +5,6 @@ use Rattle.arrays.proofs.is_byte_cast.Goals as goal
 pub returns-then-form_at-ne-CAST : goal.returns-then-form_at-ne-CAST
 returns-then-form_at-ne-CAST c = cast-not c.requires c.form_at.ensures.0 c.if-form_at-ne-CAST.true
 
-pub overflow_sub-r-2 : goal.overflow_sub-r-2
-overflow_sub-r-2 c = c.requires.first
-
 pub elem_kind-requires : goal.elem_kind-requires
 elem_kind-requires c = cast-line c.requires c.form_at.ensures.0 c.if-form_at-ne-CAST.false c.number_at.ensures.0
 

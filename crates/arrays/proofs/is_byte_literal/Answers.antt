@@ -1,21 +1,7 @@
-use Rattle.arrays.proofs.Elements.{casting-start, casting-end, element-at, value_line, casting-stop, casting-next}
-use Rattle.literals.proofs.Turns.{few-elements}
+use Rattle.arrays.proofs.Elements.{casting-end, element-at, value_line, casting-stop, casting-next}
 use Rattle.literals.proofs.Lines.{line-in}
 use mathlib.Core.Path.{sym, ◌∙◌}
-use native.Mathlib.Omega.{arith}
 use Rattle.arrays.proofs.is_byte_literal.Goals as goal
-
-pub overflow_sub-r : goal.overflow_sub-r
-overflow_sub-r c = c.requires.line.first
-
-pub loop-j-init : goal.loop-j-init
-loop-j-init c = casting-start c.args.sheet.now c.args.r c.number_at-count.result
-
-pub overflow_sub-r-in-loop-j : goal.overflow_sub-r-in-loop-j
-overflow_sub-r-in-loop-j c = c.requires.line.first
-
-pub overflow_add-j : goal.overflow_add-j
-overflow_add-j c = record { fits = omega (arith, few-elements c.requires c.number_at-count.ensures.0, c.loop-j-test.true) }
 
 pub overflow_sub-q : goal.overflow_sub-q
 overflow_sub-q c = (element-at c.requires c.number_at-count.ensures.0 c.loop-j.invariant c.loop-j-test.true c.number_at-q.ensures.0).first

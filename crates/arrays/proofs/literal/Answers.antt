@@ -5,9 +5,6 @@ use Rattle.arrays.proofs.Wholes.{literal-ended, literal-well}
 use Rattle.literals.proofs.Names.{logged-kept}
 use Rattle.arrays.proofs.literal.Goals as goal
 
-pub fill-requires : goal.fill-requires
-fill-requires c = (c.requires.0.literal, c.requires.1)
-
 pub returns-in_err-x : goal.returns-in_err-x
 returns-in_err-x c =
     let p = err_from_is_err_and c.from_residual.result c.from_residual.ensures.1 in

@@ -4,9 +4,6 @@ use Rattle.names.specs.Table.{names_in}
 use Rattle.checks.proofs.Kept.{kept-all}
 use Rattle.arrays.proofs.literal_size.Goals as goal
 
-pub overflow_sub-r : goal.overflow_sub-r
-overflow_sub-r c = c.requires.0.line.first
-
 pub returns-then-q-eq0 : goal.returns-then-q-eq0
 returns-then-q-eq0 c = (size_none c.requires.0 c.number_at-q.ensures.0 (names_in c.args.sheet.now c.args.work.now c.args.consts) c.if-q-eq0.true, kept-all)
 

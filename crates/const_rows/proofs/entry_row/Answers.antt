@@ -5,12 +5,6 @@ use Rattle.write.proofs.Writes.{writes_as, writes_none}
 use Rattle.const_rows.proofs.Laws as Laws
 use Rattle.const_rows.proofs.entry_row.Goals as goal
 
-pub overflow_sub-line_of : goal.overflow_sub-line_of
-overflow_sub-line_of c = let h = Laws.line-in c.requires.0 c.requires.1 c.line_of.ensures in omega arith
-
-pub is_own-requires : goal.is_own-requires
-is_own-requires c = (c.requires.0.checked, Laws.module-in c.requires.0 c.requires.1 c.module_line_of-module.ensures)
-
 pub new_row-requires : goal.new_row-requires
 new_row-requires c =
     let a = c.args in

@@ -1,5 +1,5 @@
 -- `const_rows::put_value` meets its contract.
-use Rattle.std.proofs.Common.{◌≤◌, length, sym, arith, rules}
+use Rattle.std.proofs.Common.{sym, rules}
 use Rattle.codes.specs.declared.value.Value.TheVariants as V
 use Rattle.codes.proofs.Values.{value-number, no-value}
 use Rattle.write.proofs.Writes.{writes_as}
@@ -18,13 +18,6 @@ pub returns-in-Some-Real : goal.returns-in-Some-Real
 returns-in-Some-Real c =
     let n = value-number c.slot_kind.result V.Real (rw c.in-Some-Real.field-0-is at c.in-Some-Real.ensures) in
     Laws.shows-real c.args.work.now c.args.r c.requires c.in-Some.is c.slot_kind.result c.slot_bits-b.result c.slot_kind.ensures c.slot_bits-b.ensures n c.of_bits-in-Some-Real.ensures c.bits.ensures c.put_part-in-Some-Real.ensures c.put_hex_bits.ensures c.put-in-Some-Real.ensures
-
-pub slice_bounds-put_hex-end : goal.slice_bounds-put_hex-end
-slice_bounds-put_hex-end c =
-    let n = value-number c.slot_kind.result V.Str (rw c.in-Some-Str.field-0-is at c.in-Some-Str.ensures) in
-    let h = Laws.text-inside c.args.work.now c.args.r c.requires c.in-Some.is c.slot_kind.result c.slot_bits-b.result c.slot_kind.ensures c.slot_bits-b.ensures n in
-    let l : 62464 ≤ length c.args.work.now = search rules in
-    omega arith
 
 pub returns-in-Some-Str : goal.returns-in-Some-Str
 returns-in-Some-Str c =

@@ -1,7 +1,6 @@
-use Rattle.std.proofs.Common.{◌≡◌, ap, arith}
-use Rattle.const_rows.specs.Rows.{rows_to}
+use Rattle.std.proofs.Common.{arith}
 use Rattle.const_rows.proofs.Laws.{rows_start, rows_next}
-use Rattle.write.proofs.Writes.{writes_none, writes_as}
+use Rattle.write.proofs.Writes.{writes_none}
 use Rattle.const_rows.proofs.rows.Goals as goal
 
 pub loop-i-init : goal.loop-i-init
@@ -9,9 +8,3 @@ loop-i-init c = (omega arith, rows_start c.args.sheet.now c.args.work.now c.args
 
 pub loop-i-preserved : goal.loop-i-preserved
 loop-i-preserved c = (omega (arith, c.loop-i-test.true), rows_next c.args.sheet.now c.args.work.now c.args.consts c.args.plain c.loop-i.i c.loop-i.invariant.1 c.entry_row.ensures)
-
-pub returns : goal.returns
-returns c =
-    let a = c.args in
-    let z : c.loop-i.i ≡ a.consts = omega (arith, c.loop-i.invariant.0, c.loop-i-test.false) in
-    writes_as (ap (rows_to a.plain a.sheet.now a.work.now a.consts) z) c.loop-i.invariant.1

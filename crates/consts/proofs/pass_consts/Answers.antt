@@ -1,4 +1,4 @@
-use mathlib.Core.Path.{◌∙◌, refl}
+use mathlib.Core.Path.{refl}
 use Rattle.std.proofs.lemmas.Result.{err_from_is_err_and}
 use native.Mathlib.Omega.{arith}
 use Rattle.checks.proofs.Kept.{kept-all, kept_then}
@@ -11,23 +11,11 @@ loop-p-init c = rw c.line_number.ensures (Walk.begins c.args.sheet.now c.args.wo
 pub returns-then-is_left : goal.returns-then-is_left
 returns-then-is_left c = (c.loop-p.invariant.1, Walk.pass-done c.args.sheet.now c.args.work.now c.args.m c.args.k c.requires _ c.loop-p.p c.loop-p.invariant.0 c.loop-p.invariant.2 (Walk.at_left c.args.sheet.now c.args.work.now c.args.m c.args.k c.requires _ c.loop-p.p c.loop-p.invariant.0 c.loop-p.invariant.2 c.is_left.ensures c.if-is_left.true c.loop-p.invariant.4) c.loop-p.invariant.3)
 
-pub visit-requires : goal.visit-requires
-visit-requires c = (c.loop-p.invariant.0, omega (arith, c.count.ensures.0, c.loop-p-test.true))
-
 pub returns-in_err-p : goal.returns-in_err-p
 returns-in_err-p c =
     let e = c.in_err-p.ensures in
     let p = err_from_is_err_and c.from_residual.result c.from_residual.ensures.1 in
     rw (p.1, p.2) (kept_then c.loop-p.invariant.1 e.0, Walk.pass-refused c.args.sheet.now c.args.work.now c.args.m c.args.k c.requires _ c.loop-p.p c.loop-p.invariant.0 c.loop-p.invariant.2 e.1)
-
-pub loop-p-smaller : goal.loop-p-smaller
-loop-p-smaller c = omega (arith, c.in_ok-p.ensures.1.next, c.count.ensures.0, c.loop-p-test.true)
-
-pub loop-p-preserved : goal.loop-p-preserved
-loop-p-preserved c =
-    let e = c.in_ok-p.ensures in
-    let w = e.1 in
-    (w.stands, kept_then c.loop-p.invariant.1 e.0, w.same ∙ c.loop-p.invariant.2, w.count ∙ c.loop-p.invariant.3, omega (arith, w.next, c.loop-p.invariant.4))
 
 pub returns : goal.returns
 returns c = (c.loop-p.invariant.1, Walk.pass-done c.args.sheet.now c.args.work.now c.args.m c.args.k c.requires _ c.loop-p.p c.loop-p.invariant.0 c.loop-p.invariant.2 (Walk.at-end c.args.sheet.now c.args.work.now c.args.m c.args.k c.requires _ c.loop-p.p c.loop-p.invariant.0 c.loop-p.invariant.2 (omega (arith, c.count.ensures.0, c.loop-p-test.false))) c.loop-p.invariant.3)

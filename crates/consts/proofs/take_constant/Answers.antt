@@ -9,19 +9,6 @@ fold_const-requires c =
     let a = c.args in
     Steps.value-foldable a.sheet.now a.work.now a.consts (line_number a.k) a.i c.requires c.number_at-r.result c.number_at-r.ensures.0 (search rules)
 
-pub enter-requires : goal.enter-requires
-enter-requires c =
-    let a = c.args in (
-      rw c.line_number-within.ensures (Steps.free c.requires),
-      Steps.at_value a.sheet.now a.work.now a.consts (line_number a.k) a.i c.requires c.number_at-r.result c.number_at-r.ensures.0 a.iota _ _ c.fold_const.ensures c.in-Ok.is,
-      c.const_digest-d.ensures.1,
-    )
-
-pub enter_failed-requires : goal.enter_failed-requires
-enter_failed-requires c =
-    let a = c.args in
-    (rw c.line_number-within.ensures (Steps.free c.requires), c.const_digest-d.ensures.1)
-
 pub returns-in-Ok : goal.returns-in-Ok
 returns-in-Ok c =
     let a = c.args in

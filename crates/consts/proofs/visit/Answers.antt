@@ -4,9 +4,6 @@ use Rattle.consts.proofs.Walk as Walk
 use Rattle.checks.proofs.Kept.{kept-all}
 use Rattle.consts.proofs.visit.Goals as goal
 
-pub open_after-requires : goal.open_after-requires
-open_after-requires c = (Walk.open-here _ _ _ _ c.requires.0 c.requires.1, c.requires.1)
-
 pub returns-then-kind-ne-CON : goal.returns-then-kind-ne-CON
 returns-then-kind-ne-CON c = (kept-all, Walk.moves-other c.args.sheet.now c.args.work.now (line_number c.args.k) c.args.p c.requires.0 c.requires.1 (Walk.kind-read c.requires.0.checked c.requires.1 c.form_at.ensures.0 c.kind.ensures) c.if-kind-ne-CON.true c.open_after.ensures)
 

@@ -8,4 +8,4 @@ pub returns : goal.returns
 unfolding entry_of
 returns c =
     let w = writes_then c.put.ensures (writes_then c.put-2.ensures (writes_then c.put-3.ensures (writes_then c.put-4.ensures (writes_then c.put-5.ensures (writes_then c.put_bits.ensures c.put-6.ensures))))) in
-    (writes_from c.from-w.ensures.bytes c.from-w.ensures.place w (search (rules, w.same_buffer))).bytes
+    (writes_from c.from-w.ensures.bytes c.from-w.ensures.place w (search rules)).bytes

@@ -1,6 +1,6 @@
 -- `fold::apply` meets its contract.
 use Rattle.std.proofs.Common.{sym, ◌∙◌, arith}
-use Rattle.fold.proofs.Steps.{within_of, applies-unary, cast-line, applies-cast, applies-len}
+use Rattle.fold.proofs.Steps.{applies-unary, cast-line, applies-cast, applies-len}
 use Rattle.fold.proofs.apply.Goals as goal
 
 pub returns-in-13 : goal.returns-in-13
@@ -14,9 +14,6 @@ form_at-code-requires c = let w = cast-line c.requires (sym c.form_at.ensures.0 
 
 pub returns-in-15 : goal.returns-in-15
 returns-in-15 c = applies-cast c.requires (sym c.form_at.ensures.0 ∙ c.in-15.is) c.number_at-in-15.ensures.0 c.form_at-code.ensures.0 c.fold_cast.ensures
-
-pub fold_len-requires : goal.fold_len-requires
-fold_len-requires c = within_of c.args.work.now c.args.top c.args.v c.requires.at c.requires.room
 
 pub returns-in_default : goal.returns-in_default
 returns-in_default c = applies-len c.requires (omega arith) (omega arith) c.fold_len.ensures

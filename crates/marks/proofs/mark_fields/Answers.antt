@@ -7,12 +7,6 @@ use Rattle.marks.proofs.mark_fields.Goals as goal
 pub loop-j-init : goal.loop-j-init
 loop-j-init c = lines-marked-start c.args.sheet.now c.args.work.now c.args.f c.requires.0 c.args.size c.args.off
 
-pub overflow_sub-f : goal.overflow_sub-f
-overflow_sub-f c = c.requires.0.first
-
-pub overflow_add-f : goal.overflow_add-f
-overflow_add-f c = record { fits = omega (arith, c.requires.0.near, c.requires.0.few, c.loop-j-test.true) }
-
 pub mark_field-q-requires : goal.mark_field-q-requires
 mark_field-q-requires c = (refs-line c.args.sheet.now c.args.f c.requires.0 c.loop-j.j c.loop-j-test.true c.number_at-r.result c.number_at-r.ensures.0, room-kept c.loop-j.invariant.marks.kept c.requires.1, omega (arith, c.loop-j.invariant.small, c.requires.2, c.requires.0.few, c.loop-j-test.true))
 

@@ -1,8 +1,5 @@
-use Rattle.marks.proofs.Lists.{list-start, list-next, list-end}
+use Rattle.marks.proofs.Lists.{list-next, list-end}
 use Rattle.marks.proofs.mark_list.Goals as goal
-
-pub loop-f-init : goal.loop-f-init
-loop-f-init c = list-start _ _ _ c.requires
 
 pub loop-f-preserved : goal.loop-f-preserved
 loop-f-preserved c = list-next _ _ _ c.loop-f.invariant c.loop-f-test.true c.mark_if.ensures

@@ -5,12 +5,6 @@ use Rattle.sizes.proofs.Places.{names-small}
 use Rattle.marks.proofs.Marking.{names_marked}
 use Rattle.marks.proofs.mark_names.Goals as goal
 
-pub line_fields-a-requires : goal.line_fields-a-requires
-line_fields-a-requires c = (c.requires.2, omega (arith, names-small c.requires.2 c.requires.1, c.requires.3))
-
-pub overflow_mul-result : goal.overflow_mul-result
-overflow_mul-result c = record { fits = omega (arith, names-small c.requires.2 c.requires.1) }
-
 pub overflow_add-result : goal.overflow_add-result
 overflow_add-result c = record { fits = omega (arith, names-small c.requires.2 c.requires.1, c.requires.3) }
 

@@ -9,11 +9,6 @@ loop-next-init c =
     let p = c.requires in
     Laws.asking-first p.0.logged.chained p.1 (Laws.key-member p.0 (key_of c.args.key) p.2)
 
-pub answers-requires : goal.answers-requires
-answers-requires c =
-    let p = c.requires in
-    (Laws.table-entry p.0 (Laws.asking-low c.loop-next.invariant c.in-Some.is), p.2)
-
 pub returns-then-answers : goal.returns-then-answers
 returns-then-answers c = Laws.asking-found c.loop-next.invariant c.in-Some.is c.answers.ensures c.if-answers.true
 

@@ -1,5 +1,5 @@
-use Rattle.std.proofs.Common.{rules, ◌≤◌, length}
-use Rattle.record_log.proofs.Log.{entries-start, entries_next, entries-end, place-on}
+use Rattle.std.proofs.Common.{rules}
+use Rattle.record_log.proofs.Log.{entries-start, entries_next, entries-end}
 use Rattle.write.proofs.Wrote.{place-low}
 use native.Mathlib.Omega.{arith}
 use mathlib.Core.Path.{refl}
@@ -13,9 +13,6 @@ record_adt-at-requires c = (c.requires, omega arith, omega (arith, c.count-i-end
 
 pub loop-i-preserved : goal.loop-i-preserved
 loop-i-preserved c = (omega (arith, c.count-i-end.ensures.0, c.loop-i-test.true), entries_next c.args.sheet.now c.args.work.now _ _ _ _ _ c.loop-i.invariant.1 c.record_adt-at.ensures)
-
-pub overflow_sub-result : goal.overflow_sub-result
-overflow_sub-result c = let room : 62464 ≤ length c.args.work.now = search rules in place-on c.loop-i.invariant.1 9216 (omega arith) (omega arith)
 
 pub returns : goal.returns
 returns c = entries-end c.args.sheet.now c.args.work.now (search rules) c.requires _ c.loop-i.invariant.0 (omega (arith, c.count-i-end.ensures.0, c.loop-i-test.false)) _ _ c.loop-i.invariant.1 _ refl

@@ -1,26 +1,14 @@
-use Rattle.records.proofs.Picks.{cases-count, variant-line}
+use Rattle.records.proofs.Picks.{cases-count}
 use Rattle.record_log.proofs.Log.{casing-start, casing-next, casing-end}
 use Rattle.write.proofs.Wrote.{place-low}
 use native.Mathlib.Omega.{arith}
 use Rattle.record_log.proofs.put_cases.Goals as goal
 
-pub case_count-count-requires : goal.case_count-count-requires
-case_count-count-requires c = c.requires.0
-
 pub loop-c-init : goal.loop-c-init
 loop-c-init c = casing-start c.args.sheet.now c.args.r c.args.work.now c.args.at c.requires.1
 
-pub case_line-v-requires : goal.case_line-v-requires
-case_line-v-requires c = variant-line c.requires.0 (omega (arith, cases-count c.args.sheet.now c.args.r c.case_count-count.ensures.0, c.loop-c-test.true))
-
-pub tag_count-tags-requires : goal.tag_count-tags-requires
-tag_count-tags-requires c = c.case_line-v.ensures.line
-
 pub put_tags-p-requires : goal.put_tags-p-requires
 put_tags-p-requires c = (omega (arith, c.requires.0.last, c.requires.0.checked.whole.few), omega (arith, c.case_count-count.ensures.1, c.loop-c-test.true), c.tag_count-tags.ensures.1, omega (arith, c.loop-c.invariant.small, c.case_count-count.ensures.1, c.loop-c-test.true), place-low c.loop-c.invariant.wrote)
-
-pub overflow_add-number : goal.overflow_add-number
-overflow_add-number c = record { fits = omega (arith, c.loop-c.invariant.small, c.case_count-count.ensures.1, c.loop-c-test.true, c.tag_count-tags.ensures.1) }
 
 pub loop-c-preserved : goal.loop-c-preserved
 loop-c-preserved c = casing-next c.args.sheet.now c.args.r c.args.work.now c.args.at _ _ _ _ c.loop-c.invariant (omega (arith, cases-count c.args.sheet.now c.args.r c.case_count-count.ensures.0, c.loop-c-test.true)) _ c.case_line-v.ensures _ c.tag_count-tags.ensures.0 c.tag_count-tags.ensures.1 _ _ c.put_tags-p.ensures

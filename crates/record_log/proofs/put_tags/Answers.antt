@@ -1,15 +1,8 @@
 use Rattle.record_log.proofs.Table.{tagging-start, tagging-next, tagging-end}
-use native.Mathlib.Omega.{arith}
 use Rattle.record_log.proofs.put_tags.Goals as goal
 
 pub loop-j-init : goal.loop-j-init
 loop-j-init c = tagging-start c.args.r c.args.case c.args.count c.args.number c.args.work.now c.args.at c.requires.4
-
-pub overflow_add-number : goal.overflow_add-number
-overflow_add-number c = record { fits = omega (arith, c.requires.3, c.requires.2, c.loop-j-test.true) }
-
-pub put_entry-p-requires : goal.put_entry-p-requires
-put_entry-p-requires c = (c.requires.0, omega (arith, c.requires.1), omega (arith, c.requires.2, c.loop-j-test.true), omega (arith, c.requires.3, c.requires.2, c.loop-j-test.true))
 
 pub loop-j-preserved : goal.loop-j-preserved
 loop-j-preserved c = tagging-next c.args.r c.args.case c.args.count c.args.number c.args.work.now c.args.at _ _ _ c.loop-j.invariant c.loop-j-test.true _ _ c.put_entry-p.ensures

@@ -1,9 +1,6 @@
-use Rattle.record_rows.proofs.Entries.{line-is, shape-plain, shape-variant, variant-line, sized}
+use Rattle.record_rows.proofs.Entries.{shape-plain, shape-variant, variant-line, sized}
 use mathlib.Core.Path.{◌∙◌}
 use Rattle.record_rows.proofs.entry_size.Goals as goal
-
-pub record_size-requires : goal.record_size-requires
-record_size-requires c = line-is c.args.sheet.now c.args.work.now c.args.i (c.requires.log.entries _ c.requires.low) c.line_of-r.ensures c.case_of-case.ensures.0
 
 pub returns-then-case-eq0 : goal.returns-then-case-eq0
 returns-then-case-eq0 c = sized c.args.sheet.now c.args.work.now c.args.i c.requires (c.record_size.ensures ∙ rw (shape-plain c.args.sheet.now c.args.work.now c.args.i (c.requires.log.entries _ c.requires.low) c.line_of-r.ensures c.case_of-case.ensures.0 c.if-case-eq0.true))

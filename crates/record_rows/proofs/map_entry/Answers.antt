@@ -1,8 +1,5 @@
-use Rattle.record_rows.proofs.Entries.{line-is, shape-plain, shape-variant, variant-line}
+use Rattle.record_rows.proofs.Entries.{shape-plain, shape-variant, variant-line}
 use Rattle.record_rows.proofs.map_entry.Goals as goal
-
-pub map_record-requires : goal.map_record-requires
-map_record-requires c = (line-is c.args.sheet.now c.args.work.now c.args.i c.requires.0 c.line_of-r.ensures c.case_of-c.ensures.0, c.requires.1)
 
 pub returns-then-c-eq0 : goal.returns-then-c-eq0
 returns-then-c-eq0 c = rw (shape-plain c.args.sheet.now c.args.work.now c.args.i c.requires.0 c.line_of-r.ensures c.case_of-c.ensures.0 c.if-c-eq0.true) c.map_record.ensures

@@ -1,17 +1,10 @@
-use native.Mathlib.Omega.{arith}
-use Rattle.record_rows.proofs.Entries.{line-is, variant-line, fields-adt, fields-plain, fields-variant}
+use Rattle.record_rows.proofs.Entries.{variant-line, fields-adt, fields-plain, fields-variant}
 use Rattle.write.proofs.Writes.{writes_as, writes_then}
-use mathlib.Core.Path.{refl, sym, ◌∙◌}
+use mathlib.Core.Path.{sym, ◌∙◌}
 use Rattle.record_rows.proofs.put_fields.Goals as goal
-
-pub put_common-requires : goal.put_common-requires
-put_common-requires c = (line-is c.args.sheet.now c.args.work.now c.args.i c.requires c.line_of-r.ensures refl, omega arith)
 
 pub returns-then-form_at-eq-ADT : goal.returns-then-form_at-eq-ADT
 returns-then-form_at-eq-ADT c = writes_as (fields-adt c.args.sheet.now c.args.work.now c.args.i c.requires c.line_of-r.ensures (sym c.form_at.ensures.0 ∙ c.if-form_at-eq-ADT.true)) c.put_common.ensures.0.wrote
-
-pub put_common-end-requires : goal.put_common-end-requires
-put_common-end-requires c = (line-is c.args.sheet.now c.args.work.now c.args.i c.requires c.line_of-r.ensures refl, omega arith)
 
 pub returns-then-c-eq0 : goal.returns-then-c-eq0
 returns-then-c-eq0 c = writes_as (fields-plain c.args.sheet.now c.args.work.now c.args.i c.requires c.line_of-r.ensures (λ e. c.if-form_at-eq-ADT.false (c.form_at.ensures.0 ∙ e)) c.case_of-c.ensures.0 c.if-c-eq0.true) c.put_common-end.ensures.0.wrote

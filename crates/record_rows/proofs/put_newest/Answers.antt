@@ -3,12 +3,6 @@ use Rattle.checks.proofs.Kept.{kept-all}
 use Rattle.write.proofs.Writes.{writes_none, writes_as}
 use Rattle.record_rows.proofs.put_newest.Goals as goal
 
-pub is_first-requires : goal.is_first-requires
-is_first-requires c = record { m = _; log = c.requires.0; low = c.requires.1 }
-
-pub put_record-requires : goal.put_record-requires
-put_record-requires c = record { m = _; log = c.requires.0; low = c.newest_of-j.ensures.low }
-
 pub returns-then-is_first : goal.returns-then-is_first
 returns-then-is_first c = record { wrote = writes_as (rows-first c.args.sheet.now c.args.work.now c.args.i (record { m = _; log = c.requires.0; low = c.requires.1 }) c.is_first.ensures c.if-is_first.true c.newest_of-j.result c.newest_of-j.ensures) c.put_record.ensures.wrote; kept = c.put_record.ensures.kept }
 

@@ -6,9 +6,6 @@ use Rattle.checks.proofs.Kept.{kept_less}
 use Rattle.write.proofs.Writes.{writes_as, writes_then}
 use Rattle.record_rows.proofs.put_record.Goals as goal
 
-pub put_head-requires : goal.put_head-requires
-put_head-requires c = c.requires.log.entries _ c.requires.low
-
 pub put_fields-requires : goal.put_fields-requires
 put_fields-requires c = (logged-kept (kept_less (omega arith) c.put_shape.ensures.kept) c.requires.log).entries _ c.requires.low
 

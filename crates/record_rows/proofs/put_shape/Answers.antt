@@ -7,9 +7,6 @@ use Rattle.write.proofs.Writes.{writes_as, writes_then}
 use mathlib.Core.Path.{refl}
 use Rattle.record_rows.proofs.put_shape.Goals as goal
 
-pub map_entry-requires : goal.map_entry-requires
-map_entry-requires c = (c.requires.log.entries _ c.requires.low, record { room = search rules; small = c.entry_size-size.ensures.1 })
-
 pub slice_bounds-comma_hex-end : goal.slice_bounds-comma_hex-end
 slice_bounds-comma_hex-end c = let room : 62464 ≤ length c.args.work.now = search rules in omega (arith, map-fits (record { room = room; small = c.entry_size-size.ensures.1 }), c.map_entry.ensures.kept.long)
 

@@ -2,23 +2,8 @@ use Rattle.shapes.proofs.Sizes.{largest-start, largest-next, largest-end, varian
 use native.Mathlib.Omega.{arith}
 use Rattle.shapes.proofs.pick_size.Goals as goal
 
-pub behind_common-p-requires : goal.behind_common-p-requires
-behind_common-p-requires c = c.requires
-
-pub case_count-count-requires : goal.case_count-count-requires
-case_count-count-requires c = c.requires
-
-pub rounded_size-size-requires : goal.rounded_size-size-requires
-rounded_size-size-requires c = omega (arith, c.behind_common-p.ensures.within, c.behind_common-p.ensures.small)
-
 pub loop-c-init : goal.loop-c-init
 loop-c-init c = largest-start c.args.sheet.now c.args.r c.requires c.rounded_size-size.result c.behind_common-p.result c.behind_common-p.ensures c.rounded_size-size.ensures
-
-pub case_line-line-requires : goal.case_line-line-requires
-case_line-line-requires c = record { line = c.requires; case = omega (arith, c.loop-c-test.true, c.case_count-count.ensures.0) }
-
-pub case_size-requires : goal.case_size-requires
-case_size-requires c = (c.case_line-line.ensures.line, c.behind_common-p.ensures.within, c.behind_common-p.ensures.small)
 
 pub loop-c-preserved : goal.loop-c-preserved
 loop-c-preserved c = largest-next c.args.sheet.now c.args.r c.requires c.loop-c.size c.case_size.result c.max-size.result c.loop-c.c c.loop-c.invariant (omega (arith, c.loop-c-test.true, c.case_count-count.ensures.0)) (variant-size c.args.sheet.now c.args.r c.loop-c.c c.case_line-line.result c.case_size.result c.behind_common-p.result c.behind_common-p.ensures c.case_line-line.ensures c.case_size.ensures) c.max-size.ensures

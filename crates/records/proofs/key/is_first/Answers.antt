@@ -2,7 +2,6 @@ use Rattle.std.proofs.Common.{rules}
 use Rattle.records.proofs.Newest.{record-room, key-chain, own-chain, first-not, first-is}
 use Rattle.records.specs.Log.{recorded_at, record_chains}
 use Rattle.chains.proofs.Laws.{along-from, along-low, along-found, along-next, along-end, earlier-less}
-use Prim.Native.Nat.{◌<◌}
 use mathlib.Core.Path.{◌∙◌}
 use native.Mathlib.Omega.{arith}
 use Rattle.records.proofs.key.is_first.Goals as goal
@@ -18,12 +17,6 @@ loop-next-init c =
     let g = c.requires in
     let e = own-chain s w g.m g.log a.i g.low in
     along-from (λ j h. g.log.chained.links j (omega (arith, h, g.low))) (λ j h. key-chain s w g.m g.log (recorded_at s w a.i).key e j (omega (arith, h, g.low))) (c.earlier-next.ensures ∙ g.log.chained.links a.i g.low)
-
-pub same_key-requires : goal.same_key-requires
-same_key-requires c =
-    let g = c.requires in
-    let h : c.in-Some.j < g.m = omega (arith, along-low c.loop-next.invariant c.in-Some.is, g.low) in
-    (g.log.entries _ g.low, g.log.entries _ h, g.log.digests _ g.low, g.log.digests _ h)
 
 pub returns-then-same_key : goal.returns-then-same_key
 returns-then-same_key c =

@@ -16,12 +16,6 @@ loop-next-init c =
     let g = c.requires in
     along-first g.chained (omega arith) (key-chain a.sheet.now a.work.now a.entries g a.key.now (ap chain_of c.digest-d.ensures.0)) c.newest-next.ensures
 
-pub key_is-requires : goal.key_is-requires
-key_is-requires c =
-    let g = c.requires in
-    let h = along-low c.loop-next.invariant c.in-Some.is in
-    (g.entries _ h, g.digests _ h, c.digest-d.ensures.0)
-
 pub returns-then-key_is : goal.returns-then-key_is
 returns-then-key_is c =
     let a = c.args in

@@ -22,12 +22,6 @@ loop-next-init c =
     let e = own-chain s w a.entries p.0 a.i p.1 in
     along-first p.0.chained (chain-small w record_chains a.i) (key-chain s w a.entries p.0 (recorded_at s w a.i).key e) (rw c.digest_at.ensures.0 at c.newest-next.ensures)
 
-pub same_key-requires : goal.same_key-requires
-same_key-requires c =
-    let p = c.requires in
-    let h = along-low c.loop-next.invariant c.in-Some.is in
-    (p.0.entries _ p.1, p.0.entries _ h, p.0.digests _ p.1, p.0.digests _ h)
-
 pub returns-then-same_key : goal.returns-then-same_key
 returns-then-same_key c =
     let a = c.args in
