@@ -92,7 +92,7 @@ module _ (s : Bytes) (b : Buffers) where
   replays c = ap (after_listing b items) c
 
   abbrev Listing : ℕ → ℕ → Bytes → Type 0
-  Listing l end listing = ListingStands s (compiled b.listing b.work s) b.listing b.work l end listing
+  Listing l end listing = ListingStands s (compiled b.listing b.work s) b.listing l end listing
 
   -- the items of the sheet's listing are replayed, so that the definition's image and area stand there
   met : {l end : ℕ} {listing t t' image image' area area' : Bytes} {r : Option (ℕ × ℕ)} → Listing l end listing → length image ≡ b.image → length area ≡ b.area

@@ -1,4 +1,5 @@
 -- `image::image` meets its contract.
+use Rattle.std.proofs.Common.{rules}
 use native.Mathlib.Omega.{arith}
 use mathlib.Core.Path.{refl, ap, ◌∙◌}
 use Rattle.semantics.specs.Refusal.{zeros}
@@ -22,7 +23,7 @@ returns-in-Some c =
     let a = c.args in
     let p = c.replay-laid in (
       replay-laid a.sheet.now (lent_of a.listing.now a.image.now a.area.now a.work.now) c.in-Ok.ensures.0 refl refl p.ensures p.auto.image p.auto.area c.in-Some.is,
-      c.zero-in-Ok.ensures ∙ ap zeros (p.auto.work ∙ c.list.auto.work),
+      c.zero-in-Ok.ensures ∙ ap zeros (search (rules, c.list.auto.work)),
     )
 
 pub returns-in-None : goal.returns-in-None
@@ -30,5 +31,5 @@ returns-in-None c =
     let a = c.args in
     let p = c.replay-laid in (
       replay-outgrown a.sheet.now (lent_of a.listing.now a.image.now a.area.now a.work.now) c.in-Ok.ensures.0 refl refl p.ensures c.in-None.is c.list.auto.listing c.zero-in-None.ensures,
-      c.zero-in-Ok.ensures ∙ ap zeros (p.auto.work ∙ c.list.auto.work),
+      c.zero-in-Ok.ensures ∙ ap zeros (search (rules, c.list.auto.work)),
     )
