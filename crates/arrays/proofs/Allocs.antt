@@ -1,5 +1,5 @@
 -- `alloc` lines.
-use mathlib.Core.Path.{◌≡◌, refl, sym, ap, ◌∙◌, subst}
+use mathlib.Core.Path.{◌≡◌, refl, sym, ap, ◌∙◌}
 use mathlib.Core.List.{[], ◌∷◌}
 use Rattle.std.specs.Prelude as P
 use Rattle.std.specs.Prelude.{Option, None, Some, IfSome}
@@ -32,14 +32,11 @@ use Rattle.literals.proofs.Lines.{parts_at, makes, good-line}
 use Rattle.literals.proofs.Selectors.{foldable, folds-to}
 use Rattle.arrays.specs.declared.Arrayed.{Arrayed}
 use Rattle.arrays.specs.declared.NoItem.{NoItem}
-use Rattle.arrays.specs.Arrays.{ArrayResult, ArrayAnswers, type_of, declared_type, alloc_type, DeclaredElement, AllocLine}
+use Rattle.arrays.specs.Arrays.{ArrayResult, ArrayAnswers, type_of, declared_type, alloc_type, AllocLine}
 
 pub type-given : (s : Bytes) (r : ℕ) → (r ≡ 0 → ⊥) → type_of s r ≡ Some (type_at s r)
 type-given s zero h = absurd (h refl)
 type-given s (suc r) h = refl
-
-pub declared-line : {s : Bytes} {declared : Option ℕ} {d : ℕ} → DeclaredElement s declared → declared ≡ Some d → TypeLine s d
-declared-line {s} h e = subst (λ (o : Option ℕ). IfSome o (TypeLine s)) e h
 
 module _ {s : Bytes} {declared : Option ℕ} {r : ℕ} (k : AllocLine s declared r) where
   l : KindLine 69 s r
@@ -58,9 +55,6 @@ module _ {s : Bytes} {declared : Option ℕ} {r : ℕ} (k : AllocLine s declared
   alloc-is =
       let fs = (read_at s (r - 1)).fields in
       ap (λ (x : Node). x.ex) (makes l k.form) ∙ rw (tail-drop 0 fs, head-drop 0 fs, head-drop 1 fs)
-
-  pub declared-kind : {x : ElemKind} {d : ℕ} → declared ≡ Some d → x ≡ elem_kind (type_at s d) → x ≡ elem_kind (alloc_type s declared r)
-  declared-kind e h = rw e h
 
   module _ {v : ℕ} (hv : v ≡ Number.number_up_to 65536 (get_or (read_at s (r - 1)).fields 1 [])) where
     pub own_line : TypeLine s v

@@ -129,9 +129,6 @@ pub record Casting (s : Bytes) (r count j : ℕ) : Type 0 where
   pub within : j ≤ count
   pub rest : all_byte_casts (els_from s r count j) ≡ all_byte_casts (els_from s r count 0)
 
-pub casting-start : (s : Bytes) (r count : ℕ) → Casting s r count 0
-casting-start s r count = record { within = omega arith; rest = refl }
-
 some-elements : (s : Bytes) (r count : ℕ) → 0 < count → is_byte_literal (els_from s r count 0) ≡ all_byte_casts (els_from s r count 0)
 some-elements s r zero h = absurd (omega arith)
 some-elements s r (suc c) h = let z : suc c - 0 ≡ suc c = omega arith in rw z

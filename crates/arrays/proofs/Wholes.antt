@@ -9,7 +9,7 @@ use Prim.Native.Nat.{ℕ, ◌-◌, ◌≤◌, ◌<◌}
 use native.Mathlib.Omega.{arith}
 use lib.Dec.{ltb}
 use lib.ListN.{get_or}
-use borrow.Author.Tests.{ltb-true, ltb-false, lt-ltb, le-ltb, le-leb, lt-leb}
+use borrow.Author.Tests.{ltb-true, ltb-false, lt-ltb, le-ltb, le-leb}
 use Rattle.semantics.specs.Text.{Bytes}
 use Rattle.semantics.specs.Tree as Tree
 use Rattle.semantics.specs.Tree.{Node, Ty, ElemKind}
@@ -43,7 +43,7 @@ use Rattle.literals.proofs.Turns.{literal-refs, literal-is}
 use Rattle.arrays.specs.declared.Arrayed.{Arrayed}
 use Rattle.arrays.specs.declared.Arrayed.TheVariants.{Literal}
 use Rattle.arrays.specs.declared.NoItem.{NoItem}
-use Rattle.arrays.specs.declared.NoItem.TheVariants.{Pending, OutsideLiteral, LongLiteral}
+use Rattle.arrays.specs.declared.NoItem.TheVariants.{Pending, OutsideLiteral}
 use Rattle.values.specs.declared.NoValue.{NoValue}
 use Rattle.std.specs.Prelude.{Ok, Err}
 use Rattle.values.specs.declared.NoValue.TheVariants as N
@@ -57,9 +57,6 @@ use Rattle.arrays.proofs.Elements.{outside-forms}
 module _ {s : Bytes} {declared : Option ℕ} {r count : ℕ} (c : Counted s declared r count) (vs : List Tree.ConstVal) where
   abbrev kind_of_literal : ElemKind
   kind_of_literal = literal_kind (declared_type s declared) (own_type s r) (els_at s r) vs
-
-  pub kind-declared : {x : ElemKind} {d : ℕ} → declared ≡ Some d → x ≡ elem_kind (type_at s d) → x ≡ kind_of_literal
-  kind-declared h e = rw h e
 
   module _ (z : declared ≡ None) {v : ℕ} (hv : v ≡ Number.number_up_to 65536 (get_or (read_at s (r - 1)).fields 1 [])) where
     own-may : (v ≡ number_of (get_or (read_at s (r - 1)).fields 1 [])) × ((v ≡ 0 → ⊥) → KindLine 75 s v)
@@ -87,9 +84,6 @@ abbrev array_of_size : Bytes → Option ℕ → ℕ → ℕ → Filled → Resul
 array_of_size s declared r size f = Array.measured (declared_type s declared) (own_type s r) (els_at s r) f size
 
 module _ (s t : Bytes) (declared : Option ℕ) (r size k next reach : ℕ) (f : Filled) (h : reach ≤ size) (p : Filling t (above 16) k next reach f) where
-  pub measured-long : 1024 < size → ArrayResult t (array_of_size s declared r size f) (Err LongLiteral)
-  measured-long g = record { result = sym (rw (p.ends size, le-ltb size reach h, lt-leb size 1024 g)); stands = tt }
-
   pub measured-well : size ≤ 1024 → {kind : Element} → element_kind kind ≡ literal_kind (declared_type s declared) (own_type s r) (els_at s r) (values_in t 0 size) → ArrayResult t (array_of_size s declared r size f) (Ok (Literal kind size))
   measured-well g {kind} e = record {
     result = sym (rw (p.ends size, le-ltb size reach h, le-leb size 1024 g, values-are p size 0 (omega arith), e));

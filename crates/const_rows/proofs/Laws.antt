@@ -82,10 +82,6 @@ module _ (t : Bytes) (r : Option ℕ) (a : Answered t r) {i : ℕ} (is : r ≡ S
   pub shows-failed : (k ≡ 1 → ⊥) → (k ≡ 2 → ⊥) → (k ≡ 3 → ⊥) → row (value_fields (found t r)) ≡ 120 ∷ (10 ∷ [])
   shows-failed p q o = ap (λ (v : Option ConstVal). row (value_fields v)) (by-slot ∙ value-failed t k b p q o) ∙ row-none
 
-  pub text-inside : k ≡ 3 → b % 65536 + b / 65536 ≤ 49152
-  text-inside e =
-      rw hb (a.text i is (sym hk ∙ e)).high
-
 -- ---- rows
 
 row-key : (k : Bytes) (v : Option ConstVal) → row (bytes "con" ∷ (k ∷ value_fields v)) ≡ bytes "con," ++ (k ++ (44 ∷ row (value_fields v)))
@@ -147,17 +143,11 @@ module _ (s t : Bytes) (m i : ℕ) {l : ℕ} (hl : l ≡ const_line_of t i) {nam
 pub old-key : (s t : Bytes) (m i : ℕ) (k : Key) (r : Option ℕ) → has_key k (log_in s t i) ≡ is_some r → is_some r ≡ true → [] ≡ new_part s t m i k
 old-key s t m i k r h p = rw (h, p)
 
-pub new-key : (s t : Bytes) (m i : ℕ) (k : Key) (r : Option ℕ) → has_key k (log_in s t i) ≡ is_some r → is_some r ≡ false → const_row (log_in s t m) k ≡ new_part s t m i k
-new-key s t m i k r h p = rw (h, p)
-
 -- ---- the table
 
 module _ {s t : Bytes} {m : ℕ} (b : ConstTable s t m) where
   pub line-in : {i l : ℕ} → i < m → l ≡ const_line_of t i → (0 < l) × (l ≤ lines_in s)
   line-in {i} h e = let x = b.logged.each i h in (omega (arith, x.first), omega (arith, x.last))
-
-  pub module-in : {i k : ℕ} → i < m → k ≡ module_line_of t i → k ≤ lines_in s
-  module-in {i} h e = omega (arith, (b.logged.each i h).within)
 
 -- ---- all rows
 

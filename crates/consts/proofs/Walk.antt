@@ -45,9 +45,6 @@ module _ {s : Bytes} (c : Checked s) {i : ℕ} (h : i < lines_in s) where
   kind-read e d = kind-is s c.whole i h ∙ ap kind_at (sym e) ∙ sym d
 
 module _ (s t : Bytes) (k : ℕ) (p : Pass) (st : PassAt s t k p) (h : p.line < lines_in s) where
-  pub open-here : Open s p.line p.within
-  open-here = record { checked = st.checked; within = st.inside; low = st.low; here = sym st.opened }
-
   -- where the group goes on behind the line
   moves-past : (w : Option ℕ) → line_number w ≤ lines_in s → open_at (nodes_in s) (suc p.line) ≡ module_at s (line_number w) → group_from s k p.line ≡ group_from s k (suc p.line)
       → PassMoves s t t k p (record { line = p.line + 1; within = w; count = p.count; iota = p.iota })
@@ -282,6 +279,3 @@ start-before s t c = record { checked = c; logged = record { few = omega arith; 
 pub start-same : (s t : Bytes) → Checked s → passes_left s t 0 0 ≡ constants (sheet_source s)
 unfolding passes_left log_in
 start-same s t c = sym (passes-start s c)
-
-pub refused-at : (s t : Bytes) (m i : ℕ) {x : Refusal} → (passes_left s t m i).refused ≡ Some x → passes_left s t m i ≡ constants (sheet_source s) → (constants (sheet_source s)).refused ≡ Some x
-refused-at s t m i e same = ap (λ (f : Folding). f.refused) (sym same) ∙ e

@@ -34,7 +34,7 @@ use Rattle.names.specs.Table.{const_line_of, module_line_of, value_by, kind_of, 
 use Rattle.names.proofs.Laws.{slot_is, value-failed, value-int, value-real, value-text, part_low, part-kept, SameText, each_same, digests-same, log-same, entries_below, const-room, const-apart, const-outside, linked-entries}
 use Rattle.values.specs.declared.ConstVal.{ConstVal}
 use Rattle.values.specs.declared.ConstVal.TheVariants.{Int, Real, Str}
-use Rattle.values.specs.Values.{string_in, value_in, kind_for, bits_for, Small, InRange, At}
+use Rattle.values.specs.Values.{string_in, value_in, kind_for, bits_for, InRange, At}
 use Rattle.values.proofs.Values.{word, real-back}
 use Rattle.values.proofs.Written.{string-length}
 use Rattle.entries.specs.Entering.{entry_of, moved_to, string_of, EntryRoom}
@@ -48,9 +48,6 @@ pub record Entered (s t : Bytes) (m line within : ℕ) (v : Option Tree.ConstVal
 
 -- ---- a value's string
 
-pub text-short : {v : ConstVal} {q l : ℕ} → v ≡ Str q l → At 49152 v → (q ≡ 49152) × (l ≤ 256)
-text-short e a = rw e at a
-
 over_none : (t : Bytes) (a : ℕ) → t ≡ over t a []
 unfolding over
 over_none t a = refl
@@ -62,32 +59,6 @@ module _ {v : ConstVal} (t : Bytes) (m : ℕ) where
   pub string-some : {q l : ℕ} {u : Bytes} → v ≡ Str q l → u ≡ over t (16384 + 256 * m) (take l (drop q t)) → (u ≡ over t (16384 + 256 * m) (string_of t v)) × (Str (16384 + 256 * m) l ≡ moved_to (16384 + 256 * m) v)
   unfolding string_in
   string-some e d = rw e (d, refl)
-
--- a value whose string is moved
-module _ (p : ℕ) where
-  moved-kind : (v : ConstVal) → kind_for (moved_to p v) ≡ kind_for v
-  moved-kind (Int z) = refl
-  moved-kind (Real x) = refl
-  moved-kind (Str q l) = refl
-
-  moved-range : (v : ConstVal) → InRange (moved_to p v) → InRange v
-  moved-range (Int z) h = h
-  moved-range (Real x) h = h
-  moved-range (Str q l) h = h
-
-  moved-small : (v : ConstVal) → p < 65536 → At 49152 v → Small (moved_to p v)
-  moved-small (Int z) h a = tt
-  moved-small (Real x) h a = tt
-  moved-small (Str q l) h a = (h, omega (arith, a.1))
-
-module _ (v : ConstVal) {w : ConstVal} (m : ℕ) (e : w ≡ moved_to (16384 + 256 * m) v) where
-  pub kept_small : m < 128 → At 49152 v → Small w
-  kept_small h a = rw e (moved-small (16384 + 256 * m) v (omega arith) a)
-
-  pub value-entered : (line within d : ℕ) (t : Bytes) {u x : Bytes} {k b : ℕ}
-      → x ≡ over t (16384 + 256 * m) (string_of t v) → k ≡ kind_for w → (b ≡ bits_for w) × InRange w → u ≡ linked (over x (5120 + 16 * m) (entry_of line within k b d)) const_chains m
-      → (u ≡ linked (over (over t (16384 + 256 * m) (string_of t v)) (5120 + 16 * m) (entry_of line within (kind_for v) (bits_for (moved_to (16384 + 256 * m) v)) d)) const_chains m) × InRange v
-  value-entered line within d t f g (h, r) i = (i ∙ rw (f, g, h, e, moved-kind (16384 + 256 * m) v), moved-range (16384 + 256 * m) v (rw e at r))
 
 -- ---- an entry's bytes
 

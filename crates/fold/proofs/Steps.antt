@@ -28,7 +28,7 @@ use Rattle.values.specs.declared.ConstVal.{ConstVal}
 use Rattle.values.specs.declared.ConstVal.TheVariants.{Int, Real, Str}
 use Rattle.values.specs.declared.NoValue.{NoValue}
 use Rattle.values.specs.declared.NoValue.TheVariants.{Failed, LongString}
-use Rattle.values.specs.Values.{string_in, value_in, result_in, basic_at, string_size, At, ResultAt, Within, Answers, Casts}
+use Rattle.values.specs.Values.{string_in, value_in, result_in, basic_at, string_size, At, ResultAt, Answers, Casts}
 use Rattle.values.proofs.Values.{answers-as, answers-failed}
 use Rattle.codes.specs.declared.unary.Unary.{Unary}
 use Rattle.codes.specs.declared.binary.Binary.{Binary}
@@ -130,11 +130,6 @@ module _ {s : Bytes} {r : ℕ} (l : OperatorLine s r) where
       len-step q = rw q (len-steps names iota _)
 
 -- ---- a line with one operand
-
-pub within_of : (t : Bytes) (top : ℕ) (v : ConstVal) → At top v → top + 256 ≤ length t → Within (length t) v
-within_of t top (Int z) h k = tt
-within_of t top (Real x) h k = tt
-within_of t top (Str p l) h k = (omega (arith, h.0, h.1), h.1)
 
 module _ {s t : Bytes} {r : ℕ} {v : ConstVal} {top : ℕ} (a : Applies s t r v top) where
   made : {f : ℕ} → form_at s (r - 1) ≡ f → ex_at s r ≡ (row_node (nodes_in s) f (read_at s (r - 1)).fields).ex

@@ -175,9 +175,6 @@ module _ (s t : Bytes) where
   pub looked : (k : Key) {m : ℕ} {r : Option ℕ} → r ≡ newest_key s t m k → Looked s t k m r
   looked k e = let f = found-newest (answers-within k.within k.name) e in record { value = f.0; low = f.1; has = f.2; newest-is = e }
 
-pub table-entry : {s t : Bytes} {m i : ℕ} → ConstTable s t m → i < m → ConstEntry s t i
-table-entry {i = i} c h = record { checked = c.checked; low = omega (arith, c.logged.few); entry = c.logged.each i h; digested = c.logged.digests i h }
-
 pub const-room : {t : Bytes} → 62464 ≤ length t → ChainRoom t const_chains
 unfolding digest_place
 const-room h = record { low = λ i h. omega arith; long = h }

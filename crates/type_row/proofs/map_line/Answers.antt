@@ -6,14 +6,8 @@ use native.Mathlib.Omega.{arith}
 use Rattle.type_row.proofs.Maps.{offsets-next}
 use Rattle.type_row.proofs.map_line.Goals as goal
 
-pub offset_count-count-requires : goal.offset_count-count-requires
-offset_count-count-requires c = c.requires.0
-
 pub loop-j-init : goal.loop-j-init
 loop-j-init c = (omega arith, c.offset_count-count.ensures.0, marks-none)
-
-pub offset_at-requires : goal.offset_at-requires
-offset_at-requires c = (c.requires.0, omega (arith, c.loop-j-test.true, c.loop-j.invariant.1))
 
 pub loop-j-preserved : goal.loop-j-preserved
 loop-j-preserved c = (omega (arith, c.loop-j-test.true), c.loop-j.invariant.1, offsets-next (written_shape c.args.sheet.now c.args.i).pointers c.loop-j.j (omega (arith, c.loop-j-test.true, c.loop-j.invariant.1)) c.loop-j.invariant.2 (c.mark_raised.ensures _ (offset_near c.args.sheet.now c.args.i c.requires.0 c.loop-j.j (omega (arith, c.loop-j-test.true, c.loop-j.invariant.1))) c.offset_at.ensures.0))
