@@ -40,16 +40,19 @@ fn put_answer(
     requires { 64 + 2 * (length image.old + length area.old) ≤ length out.old }
     ensures { (result ≤ length out.new) × (take result out.new ≡ printed_image (imaged (lent_of listing.old image.old area.old work.old) sheet.now)) }
 {
-    let answer = image::image(sheet, listing, image, area, work);
-    let mut w = Writer::from(out, 0);
-    match answer {
+    match image::image(sheet, listing, image, area, work) {
         Ok(laid) => {
+            let mut w = Writer::from(out, 0);
             put_row(&mut w, b"image", &image[..laid.image]);
             put_row(&mut w, b"area", &area[..laid.area]);
+            w.at
         }
-        Err(r) => answers::put_refusal(&mut w, r),
+        Err(r) => {
+            let mut w = Writer::from(out, 0);
+            answers::put_refusal(&mut w, r);
+            w.at
+        }
     }
-    w.at
 }
 
 fn main(rt: HostRuntime) -> io::Result<()> {

@@ -45,7 +45,7 @@ struct Lent {
     rows: Vec<u8>,
 }
 
-fn lent(alloc: Global) -> io::Result<Lent> {
+fn lend(alloc: Global) -> io::Result<Lent> {
     Ok(Lent {
         listing: vec![in alloc; 0u8; BYTES]?,
         image: vec![in alloc; 0u8; BYTES]?,
@@ -129,7 +129,7 @@ fn imaged(case: &Case, lent: &mut Lent, is_listed: bool) -> Outcome {
     }
 }
 
-fn outcome(case: &Case, lent: &mut Lent) -> Outcome {
+fn run_case(case: &Case, lent: &mut Lent) -> Outcome {
     match compiled(case, lent) {
         Outcome::Listed if !case.picture.is_empty() => imaged(case, lent, true),
         Outcome::Refused(_) => imaged(case, lent, false),
@@ -165,13 +165,13 @@ fn run_cases(
     input: &mut impl BufRead,
     out: &mut impl Write,
 ) -> io::Result<Vec<Outcome>> {
-    let mut lent = lent(alloc)?;
+    let mut lent = lend(alloc)?;
     let mut outcomes = Vec::new(alloc);
     for number in 1..CASES {
         let Some(case) = read_case(alloc, input)? else {
             return Ok(outcomes);
         };
-        let o = outcome(&case, &mut lent);
+        let o = run_case(&case, &mut lent);
         if o == Outcome::Differs {
             writeln!(out, "differs,{number}")?;
         }
