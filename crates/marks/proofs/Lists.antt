@@ -1,5 +1,5 @@
 -- The pointers of a list of fields, marked one behind the other.
-use mathlib.Core.Path.{◌≡◌, refl}
+use mathlib.Core.Path.{◌≡◌}
 use mathlib.Core.Bool.{cond}
 use mathlib.Core.List.{List, [], ◌∷◌}
 use Prim.Native.Nat.{ℕ, ◌+◌, ◌≤◌, ◌<◌}
@@ -26,9 +26,6 @@ pub record ListMarked (size : ℕ) (ys : List Field) (t u : Bytes) (i : ℕ) : T
   pub rest : (v : Bytes) → Marks size (pointers_in (drop i ys)) u v → Marks size (pointers_in ys) t v
 
 module _ (size : ℕ) (ys : List Field) (t : Bytes) where
-  pub list-start : MapRoom t size → ListMarked size ys t t 0
-  list-start m = record { within = omega arith; long = refl; room = m; rest = λ v x. x }
-
   pub list-next : {u w : Bytes} {i : ℕ} → ListMarked size ys t u i → i < length ys → FieldMarked size (get_or ys i no_field) u w → ListMarked size ys t w (i + 1)
   list-next {u} {w} {i} m h p = record {
     within = omega (arith, h);

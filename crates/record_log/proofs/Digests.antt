@@ -10,7 +10,7 @@ use lib.Seq.{get_or-set_same, get_or-set_other}
 use Rattle.semantics.specs.Text.{Bytes}
 use Rattle.words.specs.Words.{digest}
 use Rattle.checks.specs.Checks.{Outside}
-use Rattle.checks.proofs.Kept.{outside-all, outside-then, outside_set}
+use Rattle.checks.proofs.Kept.{outside-then, outside_set}
 use Rattle.chains.specs.Chains.{digest_place, digest_at, Chained, linked}
 use Rattle.chains.proofs.Laws.{SameBytes, chained-kept, linked-outside, linked-other, PlacesApart, digest-stays, chained-next}
 use Rattle.records.specs.Log.{byte_of, entry_at, record_of, recorded_at, record_chains, Digested}
@@ -97,9 +97,6 @@ module _ (t : Bytes) (i d : ℕ) (hi : i < 128) (room : 62464 ≤ length t) wher
           entries = λ j h. record { checked = c; low = (g.entries j h).low; sound = rw (entry_old j) (g.entries j h).sound };
         }
 
-pub digests-start : {s t : Bytes} {m : ℕ} → Digested s t m 0 → CollectedTo s t t m 0
-digests-start g = record { log = g; outside = outside-all }
-
 pub digests-next : {s t u v : Bytes} {m i d : ℕ} → 62464 ≤ length u → CollectedTo s t u m i → i < m → d ≡ digest (recorded_at s u i).key → v ≡ linked (set u (9221 + 8 * i) d) record_chains i → CollectedTo s t v m (i + 1)
 digests-next {s} {u = u} {m = m} {i} {d} room g h e q =
     let low : i < 128 = omega (arith, g.log.few) in
@@ -107,9 +104,3 @@ digests-next {s} {u = u} {m = m} {i} {d} room g h e q =
       log = digested-new u i d low room s m g.log h e;
       outside = outside-then g.outside (outside-new u i d low room);
     })
-
-pub digests-end : {s t u : Bytes} {m i : ℕ} → CollectedTo s t u m i → i ≤ m → m ≤ i → CollectedTo s t u m m
-digests-end {m = m} {i} g h k = let e : i ≡ m = omega arith in rw e at g
-
-pub collected-then : {s t u v : Bytes} {m a b : ℕ} → CollectedTo s t u m a → CollectedTo s u v m b → CollectedTo s t v m b
-collected-then x y = record { log = y.log; outside = outside-then x.outside y.outside }

@@ -38,11 +38,6 @@ use Rattle.record_log.proofs.Lists.{line-log, log-length, line-sound}
 use Rattle.record_log.proofs.Table.{log-append, log-bytes, entry-back}
 use Rattle.records.proofs.Picks.{adt-decl, pick-decl, no-decl, case-is}
 
--- ---- a place stays within one past the end
-
-pub place-on : {d : Bytes} {a : ℕ} {t e : Bytes} {b : ℕ} → Wrote d a t e b → (k : ℕ) → k ≤ a → a ≤ length d + 1 → k ≤ b
-place-on w k h l = omega (arith, w.place)
-
 -- ---- the cases of a `pick` line, one by one
 
 -- the entries of the first c cases are written, and k tags are numbered

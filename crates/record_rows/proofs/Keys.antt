@@ -1,11 +1,11 @@
 -- Each key once, where it was first recorded, with its last record.
 use mathlib.Core.Path.{◌≡◌, refl, sym, ap, ◌∙◌}
 use mathlib.Core.Bool.{Bool, true, false, not, cond, ◌||◌}
-use mathlib.Core.List.{List, [], ◌∷◌, ◌++◌, append_assoc, append-nil}
+use mathlib.Core.List.{List, [], ◌∷◌, ◌++◌, append_assoc}
 use Prim.Native.Nat.{ℕ, suc, ◌+◌, ◌≤◌, ◌<◌}
 use native.Mathlib.Numerals.{add-one}
 use native.Mathlib.Omega.{arith}
-use lib.ListN.{length, drop, take, get_or, drop_of_length-le}
+use lib.ListN.{length, drop, take, get_or}
 use lib.Seq.{drop-cons, take-suc, split_at}
 use borrow.Author.Tests.{not-true, not-false}
 use Rattle.semantics.specs.Text.{Bytes, same}
@@ -16,7 +16,7 @@ use Rattle.laws.proofs.Tests.{same_refl}
 use Rattle.laws.proofs.Lists.{any_append, last-append}
 use Rattle.write.specs.declared.Writer.{Writer}
 use Rattle.write.specs.Writes.{Writes}
-use Rattle.write.proofs.Writes.{writes_none, writes_as, writes_then}
+use Rattle.write.proofs.Writes.{writes_none, writes_then}
 use Rattle.checks.specs.Checks.{Kept}
 use Rattle.checks.proofs.Kept.{kept-all, kept_then, kept_less}
 use Rattle.records.specs.Log.{recorded_at, log_of, no_record, RecordsLogged, LogEntry, NewestOfEntry}
@@ -80,12 +80,6 @@ module _ (s t : Bytes) (m : ℕ) (g : RecordsLogged s t m) (v : Writer) where
   module _ (x : Writer) (u : Bytes) (i : ℕ) (w : Keying s m v x t u i) where
     pub log-now : RecordsLogged s u m
     log-now = logged-kept (kept_less (omega arith) w.kept) g
-
-    pub keying-end : m ≤ i → Printed (all_rows s) v x t u
-    keying-end h = record {
-      wrote = writes_as (sym (append-nil w.done) ∙ rw (drop_of_length-le (log_of s) {i = i} (omega (arith, g.count))) at w.rest) w.wrote;
-      kept = w.kept;
-    }
 
     pub keying-next : i < m → (y : Writer) (z : Bytes) → Printed (key_rows s i) x y u z → Keying s m v y t z (i + 1)
     unfolding key_rows
