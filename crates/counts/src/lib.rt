@@ -10,8 +10,8 @@ ghost use Rattle.answers.specs.declared.Refusal.TheVariants.{TooMany};
 ghost use Rattle.counts.specs.Counts.{counts_of, field_number, one_of, tags_in, records_on, var_names, added};
 
 use answers::Refusal;
-use lines::Sheet;
 use codes::kind;
+use lines::Sheet;
 
 const MOST_OF_A_KIND: usize = 128;
 

@@ -21,13 +21,13 @@ ghost use Rattle.type_keys.specs.Table.{Kinds};
 ghost use Rattle.vars.specs.First.{first_in, FirstStands};
 ghost use Rattle.data_rows.specs.Data.{items_in, keys_of, rows_of, DataTables, PrintKept, ItemsPrinted, Keyed, PrintTables, NameTask, name_items};
 
-use codes::area::Space;
 use arrays::Arrayed;
+use codes::area::Space;
 use codes::element::Element;
 use global_table::line;
+use lines::Sheet;
 use vars::First;
 use write::Writer;
-use lines::Sheet;
 
 // How many constants, globals and frames there are.
 #[derive(Clone, Copy)]
@@ -70,7 +70,14 @@ fn put_array(work: &Space, w: &mut Writer, off: usize, id: usize, x: Arrayed)
 // ---- as all that follow these functions take how many keys have an ID, and return how many have one then
 
 // The rows of an array at an offset. The key of its elements gets an ID where it has none.
-fn array_rows(work: &mut Space, frames: usize, off: usize, x: Arrayed, w: &mut Writer, keys: usize) -> usize
+fn array_rows(
+    work: &mut Space,
+    frames: usize,
+    off: usize,
+    x: Arrayed,
+    w: &mut Writer,
+    keys: usize,
+) -> usize
     requires { (Keyed work.old frames keys) × (ArrayStands work.old x) }
     ensures { ((s : Bytes) → frames ≡ length (sheet_source s).frames → ItemsPrinted s (array_items off (array_in work.old x)) keys result work.old work.new w.old w.new) × (Outside 10624 10629 work.old work.new) }
 {
@@ -82,7 +89,15 @@ fn array_rows(work: &mut Space, frames: usize, off: usize, x: Arrayed, w: &mut W
 }
 
 // The rows of a first value at an offset.
-fn first_rows(work: &mut Space, frames: usize, off: usize, big: bool, x: First, w: &mut Writer, keys: usize) -> usize
+fn first_rows(
+    work: &mut Space,
+    frames: usize,
+    off: usize,
+    big: bool,
+    x: First,
+    w: &mut Writer,
+    keys: usize,
+) -> usize
     requires { (Keyed work.old frames keys) × (FirstStands work.old x) }
     ensures { ((s : Bytes) (ty : Ty) → frames ≡ length (sheet_source s).frames → is_of_kind k_big ty ≡ big → ItemsPrinted s (init_items off ty (first_in work.old x)) keys result work.old work.new w.old w.new) × (Outside 10624 10629 work.old work.new) }
 {
@@ -96,7 +111,16 @@ fn first_rows(work: &mut Space, frames: usize, off: usize, big: bool, x: First, 
 }
 
 // The rows of a name; `nil` has none.
-fn name_rows(sheet: &Sheet, work: &mut Space, c: Counts, name: &[u8], big: bool, x: First, w: &mut Writer, keys: usize) -> usize
+fn name_rows(
+    sheet: &Sheet,
+    work: &mut Space,
+    c: Counts,
+    name: &[u8],
+    big: bool,
+    x: First,
+    w: &mut Writer,
+    keys: usize,
+) -> usize
     requires { NameTask sheet.now work.old c x keys }
     ensures { ((ty : Ty) → is_of_kind k_big ty ≡ big → ItemsPrinted sheet.now (name_items ty (places_in sheet.now work.old c.globals) (first_in work.old x) (name.now ∷ [])) keys result work.old work.new w.old w.new) × (Outside 10624 10629 work.old work.new) }
 {
@@ -108,7 +132,15 @@ fn name_rows(sheet: &Sheet, work: &mut Space, c: Counts, name: &[u8], big: bool,
 }
 
 // The rows of all names of line r.
-fn names_rows(sheet: &Sheet, work: &mut Space, c: Counts, r: usize, x: First, w: &mut Writer, keys: usize) -> usize
+fn names_rows(
+    sheet: &Sheet,
+    work: &mut Space,
+    c: Counts,
+    r: usize,
+    x: First,
+    w: &mut Writer,
+    keys: usize,
+) -> usize
     requires { (NameTask sheet.now work.old c x keys) × (VarLine sheet.now r) }
     ensures { (ItemsPrinted sheet.now (name_items (type_on sheet.now r) (places_in sheet.now work.old c.globals) (first_in work.old x) (names_on sheet.now r)) keys result work.old work.new w.old w.new) × (Outside 10624 10629 work.old work.new) }
 {
@@ -123,7 +155,14 @@ fn names_rows(sheet: &Sheet, work: &mut Space, c: Counts, r: usize, x: First, w:
 }
 
 // The rows of the `var` line r. Its first value stands in the working space while they are printed.
-fn line_rows(sheet: &Sheet, work: &mut Space, c: Counts, r: Option<usize>, w: &mut Writer, keys: usize) -> usize
+fn line_rows(
+    sheet: &Sheet,
+    work: &mut Space,
+    c: Counts,
+    r: Option<usize>,
+    w: &mut Writer,
+    keys: usize,
+) -> usize
     requires { (PrintTables sheet.now work.old c keys) × (IfSome r (VarLine sheet.now)) }
     ensures { (ItemsPrinted sheet.now (line_items (names_in sheet.now work.old c.consts) (places_in sheet.now work.old c.globals) (laid_on sheet.now r)) keys result work.old work.new w.old w.new) × (PrintKept work.old work.new) }
 {

@@ -8,8 +8,8 @@ ghost use Rattle.global_table.specs.Table.{global_at, places_in, GlobalEntry, Ta
 
 use codes::area::Space;
 use global_table::{global_size, line, line_of, name_of, offset_of};
-use write::Writer;
 use lines::Sheet;
+use write::Writer;
 
 // The row of entry i.
 fn global_row(sheet: &Sheet, work: &Space, i: usize, w: &mut Writer)

@@ -20,8 +20,7 @@ pub fn is_implemented(sheet: &Sheet, name: &[u8]) -> bool
     if n == 0 {
         return false;
     }
-    form::kind(sheet.form_at(0)) == kind::IMPL
-        && words::same(sheet.field_at(0, 0), name)
+    form::kind(sheet.form_at(0)) == kind::IMPL && words::same(sheet.field_at(0, 0), name)
 }
 
 // Whether names of the module of line k, from 0, are the sheet's own: those outside modules, and those of the implemented one.

@@ -75,7 +75,7 @@ module _ (s : List ℕ) (w : Whole s) where
 
     pub fields-are : (read_at s i).fields ≡ fields_behind (form_at s i) (text_at s i)
     unfolding Form.read_of
-    fields-are = ap (λ (r : Form.Read). r.fields) read_is 
+    fields-are = ap (λ (r : Form.Read). r.fields) read_is
 
     pub read_fits : Form.fits (row_at (form_at s i)).parts (read_at s i).fields ≡ true
     read_fits = rw (← form-is, read_is) (fields_fit (i + 1) (text_at s i) (w.good i h))

@@ -7,9 +7,8 @@ ghost use Rattle.decimal.specs.Number.{number_up_to};
 ghost use Rattle.form.specs.Table.{row_count};
 ghost use Rattle.lines.specs.Lines.{text_at, read_at, form_at, lines_in, start, form_kept, line_entered, Whole, Indexed, Passed};
 
-use std::marker::Model;
-
 use answers::Refusal;
+use std::marker::Model;
 
 const MOST_LINES: usize = 1024;
 

@@ -9,8 +9,8 @@ ghost use Rattle.answers.specs.declared.Refusal.TheVariants.{BadModule};
 ghost use Rattle.modules.specs.Modules.{wrong, opens};
 
 use answers::Refusal;
-use lines::Sheet;
 use codes::kind;
+use lines::Sheet;
 
 #[tactic(auto, unfolding(crate::specs::Modules::wrong))]
 // Whether a line of kind k may not stand here.

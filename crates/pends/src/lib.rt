@@ -13,13 +13,13 @@ ghost use Rattle.global_table.specs.Table.{VarLine, names_on};
 ghost use Rattle.globals.specs.Vars.{laid_on};
 ghost use Rattle.pends.specs.Pends.{refused_as, Pended, AllPended};
 
-use codes::area::Space;
 use answers::Refusal;
 use arrays::NoItem;
+use codes::area::Space;
 use global_table::line;
+use lines::Sheet;
 use vars::var_value;
 use write::Writer;
-use lines::Sheet;
 
 // The refusal at a line, none where the value is left pending.
 fn refusal(e: NoItem, line: usize) -> Option<Refusal>
@@ -57,7 +57,13 @@ fn pend_names(sheet: &Sheet, r: usize, w: &mut Writer)
 }
 
 // The rows of the `var` line r, one for each name where its value is pending.
-fn pend_line(sheet: &Sheet, work: &mut Space, consts: usize, r: Option<usize>, w: &mut Writer) -> Result<(), Refusal>
+fn pend_line(
+    sheet: &Sheet,
+    work: &mut Space,
+    consts: usize,
+    r: Option<usize>,
+    w: &mut Writer,
+) -> Result<(), Refusal>
     requires { (IfSome r (VarLine sheet.now)) × (ConstsLogged sheet.now work.old consts) }
     ensures { (Pended (names_in sheet.now work.old consts) (laid_on sheet.now r) w.old result w.new) × (Keeps 16384 49152 work.old work.new) }
 {
@@ -75,7 +81,12 @@ fn pend_line(sheet: &Sheet, work: &mut Space, consts: usize, r: Option<usize>, w
 }
 
 // The rows of all lines, up to the first that is refused. Work goes on where the listing is full.
-pub fn pend_rows(sheet: &Sheet, work: &mut Space, consts: usize, w: &mut Writer) -> Result<(), Refusal>
+pub fn pend_rows(
+    sheet: &Sheet,
+    work: &mut Space,
+    consts: usize,
+    w: &mut Writer,
+) -> Result<(), Refusal>
     requires { ConstTable sheet.now work.old consts }
     ensures { (AllPended (names_in sheet.now work.old consts) sheet.now w.old result w.new) × (Keeps 16384 49152 work.old work.new) }
 {

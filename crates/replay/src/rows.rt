@@ -89,7 +89,13 @@ fn first(n: usize, end: usize) -> State
 }
 
 // All rows, until something does not fit.
-pub fn lay_rows(listing: &[u8], work: &Space, image: &mut [u8], area: &mut [u8], end: usize) -> State
+pub fn lay_rows(
+    listing: &[u8],
+    work: &Space,
+    image: &mut [u8],
+    area: &mut [u8],
+    end: usize,
+) -> State
     ensures { seen_laying result image.new area.new ≡ laid_text (element_size_at work.now) listing.now (begun end image.old area.old) }
 {
     let mut s = first(image.len(), end);

@@ -34,12 +34,7 @@ fn print_row(out: &mut impl Write, work: &Space, number: usize, size: u32) -> io
     writeln!(out)
 }
 
-fn print_record(
-    out: &mut impl Write,
-    sheet: &Sheet,
-    work: &mut Space,
-    r: usize,
-) -> io::Result<()>
+fn print_record(out: &mut impl Write, sheet: &Sheet, work: &mut Space, r: usize) -> io::Result<()>
     requires { RecordLine sheet.now r }
 {
     let size = shapes::record_size(sheet, r);
@@ -67,12 +62,7 @@ fn print_variant(
     print_row(out, work, c, size)
 }
 
-fn print_variants(
-    out: &mut impl Write,
-    sheet: &Sheet,
-    work: &mut Space,
-    r: usize,
-) -> io::Result<()>
+fn print_variants(out: &mut impl Write, sheet: &Sheet, work: &mut Space, r: usize) -> io::Result<()>
     requires { PickLine sheet.now r }
 {
     for c in 0..shapes::case_count(sheet, r) {

@@ -6,8 +6,8 @@ ghost use Rattle.checks.specs.Checks.{Checked, Kept};
 ghost use Rattle.names.specs.Table.{log_in, ConstsLogged};
 ghost use Rattle.tables.specs.Tables.{TablesHeld, MakesTables};
 
-use codes::area::Space;
 use answers::Refusal;
+use codes::area::Space;
 use lines::Sheet;
 
 // How many entries each table has, where allocation ends, and how many keys the needs have.

@@ -12,10 +12,11 @@ ghost use Rattle.global_table.specs.Table.{VarLine, var_on, names_on};
 ghost use Rattle.vars.specs.First.{Inits, Valued, or_pending};
 
 use arrays::{Arrayed, NoItem};
-use codes::{area::{self, Space}, ty};
+use codes::area::{self, Space};
+use codes::ty;
 use global_table::line;
-use values::{ConstVal, NoValue};
 use lines::Sheet;
+use values::{ConstVal, NoValue};
 
 // The first value of a global: a folded one, or an array. Strings and the values of a literal stand in the working space.
 #[derive(Clone, Copy)]
@@ -37,7 +38,13 @@ fn element_type(sheet: &Sheet, r: usize) -> Option<usize>
 }
 
 // The value of line q as an array.
-fn array_value(sheet: &Sheet, work: &mut Space, consts: usize, r: usize, q: usize) -> Result<Option<First>, NoItem>
+fn array_value(
+    sheet: &Sheet,
+    work: &mut Space,
+    consts: usize,
+    r: usize,
+    q: usize,
+) -> Result<Option<First>, NoItem>
     requires { (Valued sheet.now r q) × (ConstsLogged sheet.now work.old consts) }
     ensures { Inits work.old (array_value (const_array (names_in sheet.now work.old consts) (elem_of (var_on sheet.now r).ty) (ex_at sheet.now q))) result work.new }
 {
@@ -47,7 +54,12 @@ fn array_value(sheet: &Sheet, work: &mut Space, consts: usize, r: usize, q: usiz
 }
 
 // The first value of the `var` line r, where it has one: only one that does not fold is looked at as an array.
-pub fn first_value(sheet: &Sheet, work: &mut Space, consts: usize, r: usize) -> Result<Option<First>, NoItem>
+pub fn first_value(
+    sheet: &Sheet,
+    work: &mut Space,
+    consts: usize,
+    r: usize,
+) -> Result<Option<First>, NoItem>
     requires { (VarLine sheet.now r) × (ConstsLogged sheet.now work.old consts) }
     ensures { Inits work.old (init_of (names_in sheet.now work.old consts) (var_on sheet.now r).ty (var_on sheet.now r).init) result work.new }
 {
@@ -77,7 +89,12 @@ fn has_names(sheet: &Sheet, r: usize) -> bool
 }
 
 // The value of line r without regard to arrays: one that fails is pending, one that is too long refuses the sheet.
-fn plain_value(sheet: &Sheet, work: &mut Space, consts: usize, r: usize) -> Result<Option<First>, NoItem>
+fn plain_value(
+    sheet: &Sheet,
+    work: &mut Space,
+    consts: usize,
+    r: usize,
+) -> Result<Option<First>, NoItem>
     requires { (VarLine sheet.now r) × (ConstsLogged sheet.now work.old consts) }
     ensures { Inits work.old (or_pending (plain_init (names_in sheet.now work.old consts) (var_on sheet.now r).init)) result work.new }
 {
@@ -90,7 +107,12 @@ fn plain_value(sheet: &Sheet, work: &mut Space, consts: usize, r: usize) -> Resu
 }
 
 // What the work on line r meets: a value is folded once for the line, and arrays are looked at only for a name.
-pub fn var_value(sheet: &Sheet, work: &mut Space, consts: usize, r: usize) -> Result<Option<First>, NoItem>
+pub fn var_value(
+    sheet: &Sheet,
+    work: &mut Space,
+    consts: usize,
+    r: usize,
+) -> Result<Option<First>, NoItem>
     requires { (VarLine sheet.now r) × (ConstsLogged sheet.now work.old consts) }
     ensures { Inits work.old (or_pending (var_value (names_in sheet.now work.old consts) (var_on sheet.now r))) result work.new }
 {

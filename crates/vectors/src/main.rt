@@ -116,10 +116,7 @@ fn imaged(case: &Case, lent: &mut Lent, is_listed: bool) -> Outcome {
     match answer {
         Ok(laid)
             if begins_with(&lent.listing, laid.listing, &case.answer)
-                && is_picture(lent, laid, &case.picture) =>
-        {
-            Outcome::Imaged
-        }
+                && is_picture(lent, laid, &case.picture) => { Outcome::Imaged }
         Ok(_) => Outcome::Differs,
         Err(r) if is_listed => match refused(r, &case.picture) {
             Outcome::Refused(_) => Outcome::Imaged,
@@ -139,7 +136,9 @@ fn run_case(case: &Case, lent: &mut Lent) -> Outcome {
 
 // The next bytes of the list, as many as a field of a header says.
 fn read_part(alloc: Global, input: &mut impl Read, size: Option<&str>) -> io::Result<Vec<u8>> {
-    let n = size.and_then(|field| field.parse::<u64>().ok()).unwrap_or(0);
+    let n = size
+        .and_then(|field| field.parse::<u64>().ok())
+        .unwrap_or(0);
     let mut part = Vec::new(alloc);
     input.take(n).read_to_end(&mut part)?;
     Ok(part)

@@ -8,9 +8,10 @@ use Rattle.checks.proofs.tests.Goals as goal
 pub rules-requires : goal.rules-requires
 rules-requires c =
     let k = rw c.unwrap.ensures at c.split_first_chunk_mut.ensures.cases in
-    let j = rw c.unwrap-space.ensures at c.first_chunk_mut.ensures.cases in
-    (omega arith,
-    j.same ∙ ap (take 62464) (k.1 ∙ ap (drop 3072) c.requires ∙ drop-replicate {X = ℕ} 3072 (length c.args.work.now) 0) ∙ take-replicate {X = ℕ} 62464 (length c.args.work.now - 3072) 0 (omega (arith, c.if-work-lt-LEAST_WORK.false)))
+    let j = rw c.unwrap-space.ensures at c.first_chunk_mut.ensures.cases in (
+      omega arith,
+      j.same ∙ ap (take 62464) (k.1 ∙ ap (drop 3072) c.requires ∙ drop-replicate {X = ℕ} 3072 (length c.args.work.now) 0) ∙ take-replicate {X = ℕ} 62464 (length c.args.work.now - 3072) 0 (omega (arith, c.if-work-lt-LEAST_WORK.false)),
+    )
 
 pub returns : goal.returns
 returns c =

@@ -20,8 +20,7 @@ returns-in_err-n c =
 pub returns : goal.returns
 returns c =
     let e = compiled_by c.args.text.now (length c.args.work.now) (Ok c.in_ok-n.n) c.in_ok-n.ensures.0 (length c.args.listing.now) in
-    let k = rw c.unwrap.ensures at c.split_first_chunk_mut.ensures.cases in
-    (
+    let k = rw c.unwrap.ensures at c.split_first_chunk_mut.ensures.cases in (
       tries-as c.args.text.now (length c.args.listing.now) c.list_checked.result _ (sym e) c.list_checked.ensures,
       table-stands c.args.text.now (length c.args.work.now) c.unwrap.result.0.now _ {n = c.in_ok-n.n} c.list_checked.result (rw k.0 c.in_ok-n.ensures.1.0.0) c.in_ok-n.ensures.1.1,
     )

@@ -12,4 +12,3 @@ pub returns : goal.returns
 returns c =
     let a = c.args in
     entered_by a.work.now a.i a.line a.position a.offset a.digest c.link.ensures
-
