@@ -1,9 +1,9 @@
-// Where the tables of the working space begin. Used lines and depths are free after the checks.
+// The lent working space has a table of lines first, of 3,072 bytes, and then the bytes of a `Space`.
 pub const SPACE: usize = 62464;
 
-// The working space but for the table of lines.
 pub type Space = [u8; SPACE];
 
+// Where its tables begin. Used lines and depths are free after the checks.
 pub const USED: usize = 3072;
 
 pub const DEPTHS: usize = 4096;
@@ -43,7 +43,7 @@ pub const STACK: usize = 49152;
 
 pub const MAP: usize = 49152;
 
-// While a listing is replayed: the sizes of descriptors, a byte for each, where the constants stood.
+// While a listing is replayed, from the first lent byte on: the sizes of descriptors, a byte for each.
 pub const SIZES: usize = 5120;
 
 pub const SIZES_END: usize = 6144;
