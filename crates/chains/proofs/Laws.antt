@@ -240,8 +240,7 @@ module _ {t : Bytes} {c : ChainPlaces} {n : ℕ} (p : ChainRoom t c) (a : Places
   link-new : link_at (linked t c m) c m ≡ head_at t c own_chain
   unfolding link_at linked
   link-new =
-      let q = p.low m (omega arith) in
-      let l = p.long in
+      let q = p.within m (omega arith) in
       let s = small in
       get_or-set_other (set t (digest_place c m + c.gap) (head_at t c own_chain)) (digest_place c own_chain + c.gap + c.gap) (digest_place c m + c.gap) m 0 (λ e. a.link m own_chain low (omega arith) (omega (arith, e)))
       ∙ get_or-set_same t (digest_place c m + c.gap) (head_at t c own_chain) 0 (omega arith)
@@ -256,8 +255,7 @@ module _ {t : Bytes} {c : ChainPlaces} {n : ℕ} (p : ChainRoom t c) (a : Places
   unfolding head_at linked
   head-new =
       let s = small in
-      let q = p.low own_chain (omega arith) in
-      let l = p.long in
+      let q = p.within own_chain (omega arith) in
       let e = length-set t (digest_place c m + c.gap) (head_at t c own_chain) in
       get_or-set_same (set t (digest_place c m + c.gap) (head_at t c own_chain)) (digest_place c own_chain + c.gap + c.gap) m 0 (omega (arith, e))
 

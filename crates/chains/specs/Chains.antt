@@ -40,10 +40,10 @@ chain_at t c i = chain_of (digest_at t c i)
 abbrev pub in_chain : Bytes → ChainPlaces → ℕ → ℕ → Bool
 in_chain t c k i = eqb (chain_at t c i) k
 
--- the places that 256 entries would have lie in the working space
+-- the places that 256 entries would have lie in the working space, below 65536
 pub record ChainRoom (t : Bytes) (c : ChainPlaces) : Type 0 where
-  pub low : (i : ℕ) → i < 256 → digest_place c i + c.gap + c.gap < 62464
-  pub long : 62464 ≤ length t
+  pub low : (i : ℕ) → i < 256 → digest_place c i + c.gap + c.gap < 65536
+  pub within : (i : ℕ) → i < 256 → digest_place c i + c.gap + c.gap < length t
 
 -- ---- chains
 

@@ -6,8 +6,6 @@
 ghost use Rattle.std.specs.Prelude.{◌≡◌, ◌+◌, ◌<◌};
 ghost use Rattle.chains.specs.Chains.{chain_of, digest_place, digest_at, link_at, head_at, chain_at, entry_below, newest_in, earlier_than, linked, ChainRoom};
 
-use codes::area::Space;
-
 // Where a table keeps its chains: the digest of entry i at byte `at + step * i`, its link `gap` bytes behind that, and the head of
 // chain i `gap` bytes behind the link.
 #[derive(Clone, Copy)]
@@ -20,8 +18,8 @@ pub struct ChainPlaces {
 // Where the digest of entry i stands.
 #[tactic(auto, unfolding(crate::specs::Chains::digest_place))]
 fn place(c: ChainPlaces, i: usize) -> usize
-    requires { digest_place c i + c.gap + c.gap < 62464 }
-    ensures { (result ≡ digest_place c i) × (result + c.gap + c.gap < 62464) }
+    requires { digest_place c i + c.gap + c.gap < 65536 }
+    ensures { (result ≡ digest_place c i) × (result + c.gap + c.gap < 65536) }
 {
     c.at + c.step * i
 }
@@ -34,7 +32,7 @@ fn chain_of(d: usize) -> usize
 }
 
 // The digest of entry i.
-pub fn digest_at(work: &Space, c: ChainPlaces, i: usize) -> usize
+pub fn digest_at(work: &[u8], c: ChainPlaces, i: usize) -> usize
     requires { (ChainRoom work.now c) × (i < 256) }
     ensures { (result ≡ digest_at work.now c i) × (result < 256) }
 {
@@ -43,7 +41,7 @@ pub fn digest_at(work: &Space, c: ChainPlaces, i: usize) -> usize
 
 // The chain of entry i.
 #[tactic(auto, unfolding(crate::specs::Chains::chain_at))]
-fn chain_at(work: &Space, c: ChainPlaces, i: usize) -> usize
+fn chain_at(work: &[u8], c: ChainPlaces, i: usize) -> usize
     requires { (ChainRoom work.now c) × (i < 256) }
     ensures { (result ≡ chain_at work.now c i) × (result < 128) }
 {
@@ -51,7 +49,7 @@ fn chain_at(work: &Space, c: ChainPlaces, i: usize) -> usize
 }
 
 #[tactic(auto, unfolding(crate::specs::Chains::link_at))]
-fn link_at(work: &Space, c: ChainPlaces, i: usize) -> usize
+fn link_at(work: &[u8], c: ChainPlaces, i: usize) -> usize
     requires { (ChainRoom work.now c) × (i < 256) }
     ensures { (result ≡ link_at work.now c i) × (result < 256) }
 {
@@ -59,7 +57,7 @@ fn link_at(work: &Space, c: ChainPlaces, i: usize) -> usize
 }
 
 #[tactic(auto, unfolding(crate::specs::Chains::head_at))]
-fn head_at(work: &Space, c: ChainPlaces, k: usize) -> usize
+fn head_at(work: &[u8], c: ChainPlaces, k: usize) -> usize
     requires { (ChainRoom work.now c) × (k < 128) }
     ensures { (result ≡ head_at work.now c k) × (result < 256) }
 {
@@ -68,7 +66,7 @@ fn head_at(work: &Space, c: ChainPlaces, k: usize) -> usize
 
 // j, where it is one of the first m entries and of chain k.
 #[tactic(auto, unfolding(crate::specs::Chains::entry_below))]
-fn entry_below(work: &Space, c: ChainPlaces, m: usize, k: usize, j: usize) -> Option<usize>
+fn entry_below(work: &[u8], c: ChainPlaces, m: usize, k: usize, j: usize) -> Option<usize>
     requires { (ChainRoom work.now c) × (j < 256) }
     ensures { result ≡ entry_below work.now c m k j }
 {
@@ -80,7 +78,7 @@ fn entry_below(work: &Space, c: ChainPlaces, m: usize, k: usize, j: usize) -> Op
 }
 
 // The entry, of m, that the head of the chain of the digest d leads to. Where the table is chained, it is the newest of that chain.
-pub fn newest(work: &Space, c: ChainPlaces, m: usize, d: usize) -> Option<usize>
+pub fn newest(work: &[u8], c: ChainPlaces, m: usize, d: usize) -> Option<usize>
     requires { ChainRoom work.now c }
     ensures { result ≡ newest_in work.now c m (chain_of d) }
 {
@@ -89,7 +87,7 @@ pub fn newest(work: &Space, c: ChainPlaces, m: usize, d: usize) -> Option<usize>
 }
 
 // The entry that the link of entry i leads to. Where the table is chained, it is the newest of the chain before i.
-pub fn earlier(work: &Space, c: ChainPlaces, i: usize) -> Option<usize>
+pub fn earlier(work: &[u8], c: ChainPlaces, i: usize) -> Option<usize>
     requires { (ChainRoom work.now c) × (i < 256) }
     ensures { result ≡ earlier_than work.now c i }
 {
@@ -98,7 +96,7 @@ pub fn earlier(work: &Space, c: ChainPlaces, i: usize) -> Option<usize>
 
 // Entry m, which has its digest, becomes the head of its chain.
 #[tactic(auto, unfolding(crate::specs::Chains::linked))]
-pub fn link(work: &mut Space, c: ChainPlaces, m: usize)
+pub fn link(work: &mut [u8], c: ChainPlaces, m: usize)
     requires { (ChainRoom work.old c) × (m < 256) }
     ensures { work.new ≡ linked work.old c m }
 {

@@ -53,7 +53,7 @@ entered-long t i line position offset d =
 -- digests, links and heads lie in the working space, and apart
 pub global-room : {t : Bytes} → 62464 ≤ length t → ChainRoom t global_chains
 unfolding digest_place
-global-room room = record { low = λ i h. omega arith; long = room }
+global-room room = record { low = λ i h. omega arith; within = λ i h. omega arith }
 
 global-apart : PlacesApart global_chains 256
 unfolding digest_place

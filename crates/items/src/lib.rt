@@ -23,7 +23,7 @@ use values::ConstVal;
 use write::Writer;
 
 // The row of the string of l bytes at p.
-fn str_row(work: &Space, w: &mut Writer, off: usize, p: usize, l: usize)
+fn str_row(work: &[u8], w: &mut Writer, off: usize, p: usize, l: usize)
     requires { p + l ≤ length work.now }
     ensures { (id : TypeKey → ℕ) → Writes w.old (item_row id (str_item off (string_in work.now p l))) w.new }
 {
@@ -40,7 +40,7 @@ fn int_kind(big: bool) -> Element
 }
 
 // The row of a single value; the type decides only between big and word.
-pub fn value_item(work: &Space, w: &mut Writer, off: usize, big: bool, v: ConstVal)
+pub fn value_item(work: &[u8], w: &mut Writer, off: usize, big: bool, v: ConstVal)
     requires { Within (length work.now) v }
     ensures { (id : TypeKey → ℕ) (ty : Ty) → is_of_kind k_big ty ≡ big → Writes w.old (item_row id (value_item off ty (value_in work.now v))) w.new }
 {

@@ -56,8 +56,8 @@ fn start_of(table: &[u8; TABLE], i: usize) -> usize
 }
 
 #[tactic(auto, unfolding(crate::specs::Lines::form_kept))]
-// The form of line i.
-fn form_of(table: &[u8; TABLE], i: usize) -> usize
+// The form of line i, as the table keeps it.
+pub fn form_of(table: &[u8; TABLE], i: usize) -> usize
     requires { i < 1024 }
     ensures { result ≡ form_kept table.now i }
 {

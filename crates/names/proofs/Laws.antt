@@ -177,7 +177,7 @@ module _ (s t : Bytes) where
 
 pub const-room : {t : Bytes} → 62464 ≤ length t → ChainRoom t const_chains
 unfolding digest_place
-const-room h = record { low = λ i h. omega arith; long = h }
+const-room room = record { low = λ i h. omega arith; within = λ i h. omega arith }
 
 -- `chains` may be asked about an entry of the table
 pub entry-asked : {s t : Bytes} {m : ℕ} → ConstTable s t m → 62464 ≤ length t → {i : ℕ} → i < m → (ChainRoom t const_chains) × (i < 256)

@@ -53,7 +53,7 @@ pub fn empty(work: &mut Space)
 }
 
 // The value of element j, from 1, or of the filler, 0.
-pub fn put_value(work: &mut Space, j: usize, v: ConstVal)
+pub fn put_value(work: &mut [u8], j: usize, v: ConstVal)
     requires { (j ≤ 16) × (Small v) }
     ensures { (work.new ≡ over work.old (12288 + 16 * j) (slot_bytes v)) × (InRange v) }
 {

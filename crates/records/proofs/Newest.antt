@@ -26,7 +26,7 @@ key_is s t k i = same k (recorded_at s t i).key
 
 pub record-room : (t : Bytes) → 62464 ≤ length t → ChainRoom t record_chains
 unfolding digest_place
-record-room t h = record { low = λ i l. omega arith; long = h }
+record-room t h = record { low = λ i l. omega arith; within = λ i l. omega arith }
 
 module _ (s t : Bytes) (m : ℕ) (g : RecordsLogged s t m) (k : Bytes) where
   -- all entries of a key are of one chain

@@ -6,8 +6,8 @@ use mathlib.Core.List.{List, [], ◌∷◌}
 use Rattle.std.specs.Prelude.{Option, None, Some}
 use native.Mathlib.Nat.{zero-mul, suc-mul, le_refl}
 use native.Mathlib.Omega.{arith}
-use lib.Dec.{leb, eqb}
-use lib.ListN.{length, drop, get_or}
+use lib.Dec.{leb, ltb, eqb}
+use lib.ListN.{length, drop, get_or, get_or-eq_default}
 use borrow.Author.Tests.{lt-ltb, le-ltb, eq-eqb, ne_eqb, leb-true, leb-false}
 use Rattle.semantics.specs.Text.{Bytes, bytes, same, fields_of}
 use Rattle.semantics.specs.Form.{fields_from}
@@ -88,6 +88,14 @@ module _ (m : Laying) (image : length m.image < most) where
 pub no_size : (work : Bytes) (i : ℕ) → most_types ≤ i → 0 ≡ element_size_at work i
 unfolding element_size_at
 no_size work i h = rw (le-ltb i most_types h)
+
+pub short-table : (work : Bytes) (i : ℕ) → length work ≤ table_at + i → 0 ≡ element_size_at work i
+unfolding element_size_at
+short-table work i h = rw (get_or-eq_default work 0 h) (go (ltb i most_types))
+  where
+    go : (b : Bool) → ◌≡◌ {A = ℕ} 0 (cond b 0 0)
+    go true = refl
+    go false = refl
 
 pub a-size : (work : Bytes) (i : ℕ) → i < most_types → get_or work (table_at + i) 0 ≡ element_size_at work i
 unfolding element_size_at

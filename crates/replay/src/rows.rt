@@ -17,13 +17,17 @@ const TYPES: u64 = 1024;
 const LARGEST_SIZE: u64 = 255;
 
 // The size of a descriptor, 0 where it is not known.
-fn size_of(work: &Space, id: u64) -> usize
+fn size_of(work: &[u8], id: u64) -> usize
     ensures { result ≡ element_size_at work.now id }
 {
     if TYPES <= id {
         return 0;
     }
-    usize::from(work[area::SIZES + id as usize])
+    let i = area::SIZES + id as usize;
+    if work.len() <= i {
+        return 0;
+    }
+    usize::from(work[i])
 }
 
 #[tactic(auto, unfolding(crate::specs::Rows::width))]
@@ -38,7 +42,7 @@ fn width_of(k: Item) -> usize
 }
 
 // The item of a row by its keyword.
-fn lay_item(s: State, k: Item, row: &[u8], work: &Space, image: &mut [u8], area: &mut [u8]) -> State
+fn lay_item(s: State, k: Item, row: &[u8], work: &[u8], image: &mut [u8], area: &mut [u8]) -> State
     requires { MoreFits s (length area.old) }
     ensures { Lays (laid_item (element_size_at work.now) (item_number k) row.now (laying_of s image.old area.old)) s result image.new area.new }
 {
@@ -61,7 +65,7 @@ fn lay_item(s: State, k: Item, row: &[u8], work: &Space, image: &mut [u8], area:
 }
 
 // A row: its item where it is a `dat` row.
-fn step(s: State, row: &[u8], work: &Space, image: &mut [u8], area: &mut [u8]) -> State
+fn step(s: State, row: &[u8], work: &[u8], image: &mut [u8], area: &mut [u8]) -> State
     requires { MoreFits s (length area.old) }
     ensures { Lays (laid_row (element_size_at work.now) row.now (laying_of s image.old area.old)) s result image.new area.new }
 {
@@ -89,13 +93,7 @@ fn first(n: usize, end: usize) -> State
 }
 
 // All rows, until something does not fit.
-pub fn lay_rows(
-    listing: &[u8],
-    work: &Space,
-    image: &mut [u8],
-    area: &mut [u8],
-    end: usize,
-) -> State
+pub fn lay_rows(listing: &[u8], work: &[u8], image: &mut [u8], area: &mut [u8], end: usize) -> State
     ensures { seen_laying result image.new area.new ≡ laid_text (element_size_at work.now) listing.now (begun end image.old area.old) }
 {
     let mut s = first(image.len(), end);

@@ -6,13 +6,12 @@ ghost use Rattle.write.specs.Wrote.{over};
 ghost use Rattle.values.specs.Values.{Small, InRange};
 ghost use Rattle.slots.specs.Slots.{slot_of, slot_bytes};
 
-use codes::area::Space;
 use codes::value::{self, Value};
 use values::ConstVal;
 use write::Writer;
 
 // Stores a value in the slot at a.
-pub fn put_value(work: &mut Space, a: usize, v: ConstVal)
+pub fn put_value(work: &mut [u8], a: usize, v: ConstVal)
     requires { Small v }
     ensures { (work.new ≡ over work.old a (slot_bytes v)) × (InRange v) }
 {
@@ -23,7 +22,7 @@ pub fn put_value(work: &mut Space, a: usize, v: ConstVal)
 
 // The value in the slot at a.
 #[tactic(auto, unfolding(crate::specs::Slots::slot_of, crate::specs::Slots::slot_by))]
-pub fn value_at(work: &Space, a: usize) -> ConstVal
+pub fn value_at(work: &[u8], a: usize) -> ConstVal
     requires { a + 9 ≤ length work.now }
     ensures { result ≡ slot_of work.now a }
 {

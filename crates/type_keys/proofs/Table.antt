@@ -139,7 +139,7 @@ module _ (t : List ℕ) (room : 62464 ≤ length t) (k : ElemKind) (p : ℕ) whe
 -- the chains of needs lie in the working space, and their bytes apart
 pub need-room : {t : List ℕ} → 62464 ≤ length t → ChainRoom t need_chains
 unfolding digest_place
-need-room room = record { low = λ i h. omega arith; long = room }
+need-room room = record { low = λ i h. omega arith; within = λ i h. omega arith }
 
 need-apart : PlacesApart need_chains 128
 unfolding digest_place

@@ -10,7 +10,6 @@ ghost use Rattle.codes.specs.Kinds.{value_number};
 ghost use Rattle.write.specs.Wrote.{over};
 ghost use Rattle.values.specs.Values.{value_in, string_in, basic_at, string_size, kind_for, bits_for, Small, InRange, At, Within, Answers, Casts, RunsApart};
 
-use codes::area::Space;
 use codes::binary::Binary;
 use codes::ty;
 use codes::unary::Unary;
@@ -39,7 +38,7 @@ pub enum NoValue {
 pub type Folded = Result<ConstVal, NoValue>;
 
 // Bytes copied inside the working space.
-pub fn copy(work: &mut Space, from: usize, to: usize, len: usize)
+pub fn copy(work: &mut [u8], from: usize, to: usize, len: usize)
     requires { RunsApart (length work.old) from to len }
     ensures { work.new ≡ over work.old to (take len (drop from work.old)) }
 {
@@ -186,7 +185,7 @@ pub fn fold_binary(op: Binary, x: ConstVal, y: ConstVal) -> Folded
 }
 
 #[tactic(auto, unfolding(crate::specs::Values::result_in, crate::specs::Values::value_in))]
-fn cast_int(work: &mut Space, code: usize, x: i64, top: usize) -> ConstVal
+fn cast_int(work: &mut [u8], code: usize, x: i64, top: usize) -> ConstVal
     requires { top + 256 ≤ length work.old }
     ensures { Casts work.old top (fold_cast (basic_at code) (v_int x)) work.new result }
 {
@@ -214,7 +213,7 @@ fn cast_real(code: usize, x: f64) -> ConstVal
 
 // A string stands at `top`, and so does the decimal of an integer. `code` is the form of the type.
 #[tactic(auto, unfolding(crate::specs::Values::result_in, crate::specs::Values::value_in))]
-pub fn fold_cast(work: &mut Space, code: usize, v: ConstVal, top: usize) -> ConstVal
+pub fn fold_cast(work: &mut [u8], code: usize, v: ConstVal, top: usize) -> ConstVal
     requires { (At top v) × (top + 256 ≤ length work.old) }
     ensures { Casts work.old top (fold_cast (basic_at code) (value_in work.old v)) work.new result }
 {
@@ -227,7 +226,7 @@ pub fn fold_cast(work: &mut Space, code: usize, v: ConstVal, top: usize) -> Cons
 
 // Characters, not bytes.
 #[tactic(auto, unfolding(crate::specs::Values::result_in, crate::specs::Values::value_in))]
-pub fn fold_len(work: &Space, v: ConstVal) -> Folded
+pub fn fold_len(work: &[u8], v: ConstVal) -> Folded
     requires { Within (length work.now) v }
     ensures { (top : ℕ) → Answers work.now top result (fold_len (value_in work.now v)) }
 {
