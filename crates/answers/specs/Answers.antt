@@ -1,5 +1,5 @@
 -- 01's number and line for each refusal.
-use Rattle.std.specs.Prelude.{ℕ, Result, Ok, Err, cond, eqb}
+use Rattle.std.specs.Prelude.{ℕ, ◌<◌, ◌≡◌, Result, Ok, Err, cond, eqb}
 use Rattle.semantics.specs.Const as Const
 use Rattle.answers.specs.declared.Refusal.{Refusal}
 use Rattle.answers.specs.declared.Refusal.TheVariants.{LongSheet, SmallSpace, NoForm, BadReference, DeepNesting, BadModule, TooMany, LongString, LongAlloc, NegativeAlloc, OutsideLiteral, LongLiteral, Outgrown}
@@ -33,6 +33,14 @@ refusal_line (NegativeAlloc k) = k
 refusal_line (OutsideLiteral k) = k
 refusal_line (LongLiteral k) = k
 refusal_line Outgrown = 0
+
+-- q is the number of a refusal, and k its line: 1, 2 and 13 have none
+pub record RefusalAt (q k : ℕ) : Type 0 where
+  pub first : 0 < q
+  pub last : q < 14
+  pub sheet : q ≡ 1 → k ≡ 0
+  pub space : q ≡ 2 → k ≡ 0
+  pub outgrown : q ≡ 13 → k ≡ 0
 
 -- as the definitions have it
 abbrev pub refusal_of : Refusal → Const.Refusal

@@ -4,7 +4,7 @@
 ghost use Rattle.std.specs.Prelude.{◌≡◌, ◌≤◌, length};
 ghost use Rattle.semantics.specs.Refusal.{refused, printed};
 ghost use Rattle.write.specs.Writes.{Writes};
-ghost use Rattle.answers.specs.Answers.{refusal_number, refusal_line};
+ghost use Rattle.answers.specs.Answers.{refusal_number, refusal_line, RefusalAt};
 
 use write::Writer;
 
@@ -65,6 +65,28 @@ impl Refusal {
             | Refusal::OutsideLiteral(k)
             | Refusal::LongLiteral(k) => k,
         }
+    }
+}
+
+// The refusal of this number at this line.
+pub fn refuse(number: u8, line: usize) -> Refusal
+    requires { RefusalAt number line }
+    ensures { (refusal_number result ≡ number) × (refusal_line result ≡ line) }
+{
+    match number {
+        1 => Refusal::LongSheet,
+        2 => Refusal::SmallSpace,
+        3 => Refusal::NoForm(line),
+        4 => Refusal::BadReference(line),
+        5 => Refusal::DeepNesting(line),
+        6 => Refusal::BadModule(line),
+        7 => Refusal::TooMany(line),
+        8 => Refusal::LongString(line),
+        9 => Refusal::LongAlloc(line),
+        10 => Refusal::NegativeAlloc(line),
+        11 => Refusal::OutsideLiteral(line),
+        12 => Refusal::LongLiteral(line),
+        _ => Refusal::Outgrown,
     }
 }
 

@@ -9,7 +9,7 @@ use borrow.Author.Tests.{le-ltb}
 use lib.Seq.{take-append_seam}
 use lib.ListN.{length, get_or, length-append, length-map}
 use Rattle.semantics.specs.Text.{line_parts}
-use Rattle.semantics.specs.Refusal.{Outcome, zeros, no_counts, bad_form, bad_ref_from, too_deep_from, bad_module_from, too_many_from, checked, tested, worked, compiled}
+use Rattle.semantics.specs.Refusal.{Outcome, zeros, no_counts, bad_form, bad_ref_from, too_deep_from, bad_module_from, too_many_from, ruled, checked, tested, worked, compiled}
 use Rattle.semantics.specs.Tree.{Declares, Node}
 use Rattle.semantics.specs.Sheet.{Module, Located, open_after, located_from, declared, sheet_source}
 use Rattle.semantics.proofs.Common.{zeros-at}
@@ -29,12 +29,15 @@ pub unused : (n : ℕ) (t : List ℕ) → t ≡ zeros n → Used t []
 unfolding used_at
 unused n t z i h = ap (λ (l : List ℕ). get_or l (3072 + i) 0) z ∙ zeros-at n (3072 + i)
 
--- ---- refusals 3 to 7, where there is none
+-- ---- refusals 4 to 7, where there is none, and 3 before them
 
-module _ (s : List ℕ) (formed : bad_form 1 (line_parts s) ≡ 0) (refs : bad_ref_from (reads_in s) 1 [] (reads_in s) ≡ 0) (nests : too_deep_from 1 [] (reads_in s) ≡ 0)
+module _ (s : List ℕ) (refs : bad_ref_from (reads_in s) 1 [] (reads_in s) ≡ 0) (nests : too_deep_from 1 [] (reads_in s) ≡ 0)
     (modules : bad_module_from 1 false (reads_in s) ≡ 0) (counts : too_many_from 1 no_counts (nodes_in s) ≡ 0) where
-  pub ruled-well : (o : Outcome) → checked (line_parts s) o ≡ o
-  ruled-well o = rw (formed, refs, nests, modules, counts)
+  pub ruled-well : (o : Outcome) → ruled (reads_in s) o ≡ o
+  ruled-well o = rw (refs, nests, modules, counts)
+
+  pub checked-well : bad_form 1 (line_parts s) ≡ 0 → (o : Outcome) → checked (line_parts s) o ≡ o
+  checked-well formed o = rw formed (ruled-well o)
 
   pub all-checked : Whole s → Checked s
   all-checked w = record {

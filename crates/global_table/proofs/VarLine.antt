@@ -1,5 +1,5 @@
 -- A `var` line: its type, and how many names it has.
-use mathlib.Core.Path.{◌≡◌, sym, ap, ◌∙◌}
+use mathlib.Core.Path.{◌≡◌, refl, sym, ap, ◌∙◌}
 use mathlib.Core.Bool.{true, false}
 use mathlib.Core.List.{[], ◌∷◌}
 use Prim.Native.Nat.{ℕ, ◌+◌, ◌-◌, ◌≤◌, ◌<◌}
@@ -9,6 +9,11 @@ use lib.ListN.{length, drop, get_or}
 use lib.Seq.{get_or-drop}
 use borrow.Author.Tests.{ne_eqb}
 use Rattle.semantics.specs.Text.{Bytes}
+use Rattle.semantics.specs.Tree.{Ty}
+use Rattle.semantics.specs.Tree.Basic.{int, byte, big, real, string}
+use Rattle.semantics.specs.Tree.Ty.{basic, ptr, array, tuple}
+use Rattle.semantics.specs.Layout.{size_of, is_ptr}
+use Rattle.semantics.specs.Global.{global_size}
 use Rattle.semantics.specs.Form.{Row, letter, forms, number_of, fits, is_count}
 use Rattle.semantics.specs.Form.Kind.{k_ty, k_ex}
 use Rattle.semantics.specs.Form.Atom.{name, ref, maybe}
@@ -23,6 +28,29 @@ use Rattle.sizes.specs.Sizes.{type_at, TypeLine}
 use Rattle.refs.proofs.Fields.{number-exact, count-exact, third-count, values_length}
 use Rattle.sizes.proofs.Types.{Good, May, ref-head, maybe-head}
 use Rattle.global_table.specs.Table.{VarLine, type_on, names_on}
+use Rattle.semantics.proofs.Common.{never}
+
+-- all pointers take a word
+pub size_word : (t : Ty) → is_ptr t ≡ true → 4 ≡ global_size t
+size_word (basic int) h = never h
+size_word (basic byte) h = never h
+size_word (basic big) h = never h
+size_word (basic real) h = never h
+size_word (basic string) h = refl
+size_word ptr h = refl
+size_word (array t) h = refl
+size_word (tuple ts) h = refl
+
+-- and all else its size, at most 8
+pub size-plain : (t : Ty) → is_ptr t ≡ false → (size_of t ≡ global_size t) × (global_size t ≤ 8)
+size-plain (basic int) h = (refl, omega arith)
+size-plain (basic byte) h = (refl, omega arith)
+size-plain (basic big) h = (refl, omega arith)
+size-plain (basic real) h = (refl, omega arith)
+size-plain (basic string) h = never (sym h)
+size-plain ptr h = never (sym h)
+size-plain (array t) h = never (sym h)
+size-plain (tuple ts) h = never (sym h)
 
 -- ---- line i, from 0, by its form: row 29 is that of `var` lines
 

@@ -1,1 +1,3 @@
 pub mod Operators
+pub mod Leading
+pub mod Whole

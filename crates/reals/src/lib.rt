@@ -1,9 +1,10 @@
 // f64: each contract is an equation with crate semantics' rules for reals, which are those of IEEE 754.
 #![tactic(auto)]
 
-ghost use Rattle.std.specs.Prelude.{◌≡◌, from_bits, to_bits};
+ghost use Rattle.std.specs.Prelude.{◌≡◌, ◌%◌, pos, from_bits, to_bits};
 ghost use Rattle.std.specs.Float.Ieee as Ieee;
 ghost use Rattle.std.specs.Float.{binary64};
+ghost use Rattle.std.specs.Float.Ieee.Nearest.{closest};
 ghost use Rattle.semantics.specs.Fold.{real_arith, to_real, to_whole};
 ghost use Rattle.semantics.specs.Tree.{Arith};
 
@@ -55,15 +56,55 @@ pub fn of_bits(b: u64) -> f64
     std::num::f64_from_bits_with_nan(b)
 }
 
-// The nearest real, ties to even.
-#[tactic(auto, unfolding(semantics::specs::Fold::to_real))]
+// 1 where n is odd.
+fn last_digit(n: u64) -> u64
+    ensures { result ≡ n % 2 }
+{
+    n & 1
+}
+
+// m / 2^11 to the nearest integer, ties to even: the 53 leading digits of a 64-digit m.
+fn rounded(m: u64) -> u64
+    ensures { result ≡ closest m 2048 }
+{
+    let top = m >> 11;
+    let rest = m & 2047;
+    if rest > 1024 {
+        return top + 1;
+    }
+    if rest == 1024 {
+        return top + last_digit(top);
+    }
+    top
+}
+
+// The magnitude of an integer as a real. Its leading one is moved to place 63, and how far it was moved decides the exponent.
+// A `rounded` of 2^53 carries into the exponent's field, which makes it right again. 1085 is the bias 1023 plus 62: the leading one of
+// q, at place 52, adds 1 to the exponent.
+fn from_u64(n: u64) -> f64
+    ensures { result ≡ to_real (pos n) }
+{
+    if n == 0 {
+        return 0.0;
+    }
+    let z = u64::leading_zeros(n) as u64;
+    let q = rounded(n << z);
+    f64::from_bits((1085 - z) * 0x10_0000_0000_0000 + q)
+}
+
+// The nearest real, ties to even: by leading zeros, as 01 names it, and not by the library's conversion.
 pub fn from_i64(n: i64) -> f64
     ensures { result ≡ to_real n }
 {
-    std::num::nearest_i64_to_f64(n)
+    if n >= 0 {
+        from_u64(n as u64)
+    } else {
+        -from_u64(((!n) as u64) + 1)
+    }
 }
 
-// How a real becomes a whole number: toward zero, saturating, and 0 for a NaN.
+// How a real becomes a whole number: no other function decides it.
+// Toward zero, saturating, and 0 for a NaN.
 #[tactic(auto, unfolding(semantics::specs::Fold::to_whole))]
 pub fn to_i64(x: f64) -> i64
     ensures { result ≡ to_whole 63 x }
@@ -72,9 +113,15 @@ pub fn to_i64(x: f64) -> i64
 }
 
 // The same whole number, saturating at 32 bits.
-#[tactic(auto, unfolding(semantics::specs::Fold::to_whole))]
 pub fn to_i32(x: f64) -> i32
     ensures { result ≡ to_whole 31 x }
 {
-    std::num::saturating_f64_to_i32(x)
+    let n = to_i64(x);
+    if n > 2147483647 {
+        return 2147483647;
+    }
+    if n < -2147483648 {
+        return -2147483648;
+    }
+    n as i32
 }

@@ -1,7 +1,7 @@
 -- `checks::rules` meets its contract.
 use Rattle.answers.specs.declared.Refusal.TheVariants.{BadReference, DeepNesting, BadModule, TooMany}
 use Rattle.answers.proofs.First.{none-bad}
-use Rattle.checks.proofs.Laws.{unused, ruled-well, all-checked}
+use Rattle.checks.proofs.Laws.{unused, checked-well, all-checked}
 use Rattle.checks.proofs.rules.Goals as goal
 
 pub bad_ref-requires : goal.bad_ref-requires
@@ -18,4 +18,4 @@ returns c =
     let nests = rw q at (none-bad DeepNesting _ c.in_ok-too_deep.ensures) in
     let modules = rw q at (none-bad BadModule _ c.in_ok-bad_module.ensures) in
     let counts = rw q at (none-bad TooMany _ c.in_ok-too_many.ensures) in
-    (ruled-well c.args.text.now formed refs nests modules counts, (c.in_ok-n.ensures.0, all-checked c.args.text.now formed refs nests modules counts c.in_ok-n.ensures.0.whole))
+    (checked-well c.args.text.now refs nests modules counts formed, (c.in_ok-n.ensures.0, all-checked c.args.text.now refs nests modules counts c.in_ok-n.ensures.0.whole))
