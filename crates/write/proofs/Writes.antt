@@ -54,6 +54,11 @@ writes_next s k h a b = rw (add-one, take-suc s k 0 h) (writes_then a b)
 pub writes_hex_next : (s : Bytes) (k : ℕ) → k < length s → {u v w : Writer} → Writes u (hex_of (take k s)) v → Writes v (hex_of (get_or s k 0 ∷ [])) w → Writes u (hex_of (take (k + 1) s)) w
 writes_hex_next s k h a b = rw (add-one, take-suc {A = ℕ} s k 0 h, hex-append) (writes_then a b)
 
+-- the same of a buffer and a place
+pub wrote_hex_next : (s : Bytes) (k : ℕ) → k < length s → {d : Bytes} {a : ℕ} {e : Bytes} {b : ℕ} {f : Bytes} {c : ℕ}
+    → Wrote d a (hex_of (take k s)) e b → Wrote e b (hex_of (get_or s k 0 ∷ [])) f c → Wrote d a (hex_of (take (k + 1) s)) f c
+wrote_hex_next s k h v w = rw (add-one, take-suc {A = ℕ} s k 0 h, hex-append) (then v w)
+
 -- ---- the digits of a byte, and a number's bytes
 
 pub hex-of-byte : (b : ℕ) → hex_digit (b / 16) ∷ (hex_digit (b % 16) ∷ []) ≡ hex_of (b ∷ [])

@@ -6,8 +6,9 @@ use mathlib.Core.List.{[], ◌∷◌, ◌++◌}
 use native.Mathlib.Omega.{arith}
 use native.Mathlib.Nat.{add-zero, zero-add}
 use lib.Dec.{ltb}
-use lib.ListN.{length, drop, set, replicate, length-set, length-append, length-replicate}
-use lib.Seq.{set_out, sets-eq, length-sets}
+use lib.ListN.{length, take, drop, get_or, set, replicate, length-set, length-append, length-replicate}
+use native.Mathlib.Numerals.{add-one}
+use lib.Seq.{set_out, sets-eq, length-sets, take-suc}
 use borrow.Author.Tests.{ltb-true, ltb-false}
 use Rattle.semantics.specs.Text.{Bytes}
 use Rattle.write.specs.Wrote.{over, Wrote}
@@ -67,6 +68,11 @@ then {d} {a} {t} {e} {b} {u} {f} {c} v w = record {
     same true q =
         let h : length d < a + length t = ltb-true _ _ q in
         over-out e b u (omega (arith, v.place, wrote-length v)) ∙ v.bytes ∙ sym (over-out (over d a t) (a + length t) u (omega (arith, length_over d a t)))
+
+-- one more byte of a list
+pub wrote-next : (s : Bytes) (k : ℕ) → k < length s → {d : Bytes} {a : ℕ} {e : Bytes} {b : ℕ} {f : Bytes} {c : ℕ}
+    → Wrote d a (take k s) e b → Wrote e b (get_or s k 0 ∷ []) f c → Wrote d a (take (k + 1) s) f c
+wrote-next s k h v w = rw (add-one, take-suc s k 0 h) (then v w)
 
 -- ---- zeros
 

@@ -4,12 +4,52 @@
 
 ghost use Rattle.std.specs.Prelude.{◌≡◌, ◌+◌, ◌≤◌, ◌<◌, ◌/◌, ◌%◌, ◌^◌, ◌∷◌, [], length, replicate};
 ghost use Rattle.semantics.specs.Text.{decimal, decimalℤ, hex_digit, hex_of, big_endian};
+ghost use Rattle.write.specs.Wrote.{Wrote};
 
 // Zeros in a whole buffer.
 pub fn zero(out: &mut [u8])
     ensures { out.new ≡ replicate (length out.old) 0 }
 {
     out.fill(0);
+}
+
+// One byte, from a place on: the next place.
+fn put_byte(out: &mut [u8], at: usize, b: u8) -> usize
+    ensures { Wrote out.old at (b ∷ []) out.new result }
+{
+    if at < out.len() {
+        out[at] = b;
+        at + 1
+    } else {
+        out.len() + 1
+    }
+}
+
+// The loops below hold the place apart from the writer, so that it is not read and stored anew with each byte.
+
+// The bytes of a part.
+fn put_bytes(out: &mut [u8], at: usize, part: &[u8]) -> usize
+    requires { at ≤ length out.old + 1 }
+    ensures { Wrote out.old at part.now out.new result }
+{
+    let mut p = at;
+    for b in part {
+        p = put_byte(out, p, *b);
+    }
+    p
+}
+
+// Bytes as two hexadecimal digits each.
+fn put_digits(out: &mut [u8], at: usize, part: &[u8]) -> usize
+    requires { at ≤ length out.old + 1 }
+    ensures { Wrote out.old at (hex_of part.now) out.new result }
+{
+    let mut p = at;
+    for b in part {
+        p = put_byte(out, p, hex_digit(b / 16));
+        p = put_byte(out, p, hex_digit(b % 16));
+    }
+    p
 }
 
 // A buffer and the next place in it.
@@ -39,21 +79,14 @@ impl<'a> Writer<'a> {
     pub fn put(&mut self, b: u8)
         ensures { Writes self.old (b ∷ []) self.new }
     {
-        if self.at < self.out.len() {
-            self.out[self.at] = b;
-            self.at += 1;
-        } else {
-            self.at = self.out.len() + 1;
-        }
+        self.at = put_byte(self.out, self.at, b);
     }
 
     // The bytes of a part.
     pub fn put_part(&mut self, part: &[u8])
         ensures { Writes self.old part.now self.new }
     {
-        for b in part {
-            self.put(*b);
-        }
+        self.at = put_bytes(self.out, self.at, part);
     }
 
     // A number in decimal: the digits but the last, then the last.
@@ -80,10 +113,7 @@ impl<'a> Writer<'a> {
     pub fn put_hex(&mut self, part: &[u8])
         ensures { Writes self.old (hex_of part.now) self.new }
     {
-        for b in part {
-            self.put(hex_digit(b / 16));
-            self.put(hex_digit(b % 16));
-        }
+        self.at = put_digits(self.out, self.at, part);
     }
 
     // The w lowest bytes of n, the highest first.

@@ -1,0 +1,6 @@
+use Rattle.std.proofs.Common.{take}
+use Rattle.write.specs.Wrote.{Wrote}
+use Rattle.write.proofs.put_bytes.Given as goal
+
+abbrev pub invariant-loop-b : goal.invariant-loop-b
+invariant-loop-b l = Wrote l.initial.out l.at (take l.b-index l.part) l.out l.p
