@@ -8,10 +8,10 @@ ghost use Rattle.utf8.specs.Utf8.{lead_of, starts_one, is_text};
 
 // Within a text: how many bytes of a character are to come, and the bounds of the first of them.
 #[derive(Clone, Copy)]
-struct Lead {
-    more: u8,
-    low: u8,
-    high: u8,
+pub struct Lead {
+    pub more: u8,
+    pub low: u8,
+    pub high: u8,
 }
 
 fn to_come(more: u8, low: u8, high: u8) -> Lead
