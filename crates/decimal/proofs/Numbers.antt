@@ -14,7 +14,7 @@ use Rattle.semantics.proofs.Common.{never}
 use native.Mathlib.Numerals.{add-one}
 use native.Mathlib.Omega.{arith}
 use lib.IntN.{ℤ, negsuc}
-use lib.ListN.{length, drop, get_or}
+use lib.ListN.{length, drop, get_or, drop_of_length-le}
 use lib.Seq.{drop-cons}
 use borrow.Author.Tests.{eq-eqb, ne_eqb, le-leb, lt-leb, leb-true, leb-false, lt-ltb, le-ltb, eqb-true}
 use Rattle.semantics.specs.Text.{Bytes, is_digit, digits_value, nat_of, negative, int_of, map_option}
@@ -66,6 +66,11 @@ nat-digits [] h k = never (sym h)
 nat-digits (b ∷ []) h k = refl
 nat-digits (b ∷ (c ∷ bs)) h (inl k) = absurd (omega arith)
 nat-digits (b ∷ (c ∷ bs)) h (inr n) = simp (ne_eqb b 48 n)
+
+-- nothing is left behind the end
+pub nat-past : (s : Bytes) (i : ℕ) → length s ≤ i → nat_of (drop i s) ≡ None
+unfolding nat_of
+nat-past s i h = rw (drop_of_length-le s {i = i} h)
 
 -- ---- integers: `-` stands only before a number other than 0
 

@@ -1,7 +1,7 @@
 // Decimal numbers and integers without leading zeros, of any number of digits.
 #![tactic(auto)]
 
-ghost use Rattle.std.specs.Prelude.{◌≡◌, ◌+◌, ◌*◌, min};
+ghost use Rattle.std.specs.Prelude.{◌≡◌, ◌+◌, ◌*◌, min, drop};
 ghost use Rattle.semantics.specs.Text.{digits_value, nat_of};
 ghost use Rattle.decimal.specs.Number.{most, up_to, signed_of, integer_of, is_between};
 
@@ -47,6 +47,13 @@ pub fn natural(s: &[u8]) -> Option<u64>
         return None;
     }
     digits(s)
+}
+
+// The number that the bytes from `from` on write: none where nothing is left, or nothing was there.
+pub fn natural_from(s: &[u8], from: usize) -> Option<u64>
+    ensures { result ≡ up_to most (nat_of (drop from s.now)) }
+{
+    natural(s.get(from..)?)
 }
 
 // A number, cap where it is larger.
