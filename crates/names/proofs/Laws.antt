@@ -175,12 +175,12 @@ module _ (s t : Bytes) where
   pub looked : (k : Key) {m : ℕ} {r : Option ℕ} → r ≡ newest_key s t m k → Looked s t k m r
   looked k e = let f = found-newest (answers-within k.within k.name) e in record { value = f.0; low = f.1; has = f.2; newest-is = e }
 
-pub const-room : {t : Bytes} → 62464 ≤ length t → ChainRoom t const_chains
+pub const-room : {t : Bytes} → 49152 ≤ length t → ChainRoom t const_chains
 unfolding digest_place
 const-room room = record { low = λ i h. omega arith; within = λ i h. omega arith }
 
 -- `chains` may be asked about an entry of the table
-pub entry-asked : {s t : Bytes} {m : ℕ} → ConstTable s t m → 62464 ≤ length t → {i : ℕ} → i < m → (ChainRoom t const_chains) × (i < 256)
+pub entry-asked : {s t : Bytes} {m : ℕ} → ConstTable s t m → 49152 ≤ length t → {i : ℕ} → i < m → (ChainRoom t const_chains) × (i < 256)
 entry-asked c l h = (const-room l, omega (arith, c.logged.few))
 
 -- a number up to the table's end is an answer
@@ -279,6 +279,28 @@ module _ (s t : Bytes) (i d : ℕ) (k : Key) {b : Bool} (name : b ≡ eqb (diges
   pub key-within : b ≡ true → {j : ℕ} → j ≡ module_line_of t i → {r : Bool} → r ≡ is_within s j k.within → r ≡ answers_key s t i k
   unfolding answers_key
   key-within f within e = rw (told (digest_at t const_chains i) d (same k.name (first_field s (const_line_of t i))) true name f, ← within) e
+
+-- the same of a name alone, and of one within a module of a name
+module _ (s t : Bytes) (i d : ℕ) (x : Bytes) {b : Bool} (name : b ≡ eqb (digest_at t const_chains i) d && same x (first_field s (const_line_of t i))) where
+  module _ (c : ConstEntry s t i) (f : b ≡ false) where
+    pub plain_other : d ≡ digest x → false ≡ answers_key s t i (plain x)
+    plain_other = key-other s t i d (plain x) name c f
+
+    pub qualified-other : (q : Bytes) → d ≡ qualified_digest s q x → false ≡ answers_key s t i (qualified q x)
+    qualified-other q = key-other s t i d (qualified q x) name c f
+
+  module _ (f : b ≡ true) {j : ℕ} (within : j ≡ module_line_of t i) where
+    pub plain-own : {r : Bool} → r ≡ is_own s j → r ≡ answers_key s t i (plain x)
+    unfolding is_within
+    plain-own e = key-within s t i d (plain x) name f within e
+
+    pub qualified-top : (q : Bytes) → j ≡ 0 → false ≡ answers_key s t i (qualified q x)
+    unfolding is_within
+    qualified-top q z = key-within s t i d (qualified q x) name f within (rw z)
+
+    pub qualified-in : (q : Bytes) → (j ≡ 0 → ⊥) → {r : Bool} → r ≡ same q (first_field s j) → r ≡ answers_key s t i (qualified q x)
+    unfolding is_within
+    qualified-in q z e = key-within s t i d (qualified q x) name f within (rw (ne_eqb j 0 z) e)
 
 -- ---- what is kept
 

@@ -1,7 +1,8 @@
 // The table of constants: look-ups by name and by module and name, the newest entry first.
+// All that it holds, its strings too, lies below the stack of folds: a working space needs these 49,152 bytes, and may have any more.
 #![tactic(auto)]
 
-ghost use Rattle.std.specs.Prelude.{◌≡◌, true, ◌&&◌, ℕ, ◌+◌, ◌≤◌, ◌<◌, eqb};
+ghost use Rattle.std.specs.Prelude.{◌≡◌, true, ◌&&◌, ℕ, ◌+◌, ◌≤◌, ◌<◌, eqb, length};
 ghost use Rattle.semantics.specs.Text as Text;
 ghost use Rattle.lines.specs.Lines.{lines_in};
 ghost use Rattle.chains.specs.Chains.{newest_of, count_to, chain_of, digest_at, in_chain};
@@ -10,7 +11,7 @@ ghost use Rattle.checks.specs.Checks.{Checked};
 ghost use Rattle.names.specs.Table.{const_line_of, module_line_of, bits_of, kind_of, const_chains, qualified_digest, const_digest, key_of, key_digest, answers_key, newest_key, Looked, ConstTable, ConstEntry};
 
 use chains::ChainPlaces;
-use codes::area::{self, Space};
+use codes::area;
 use lines::Sheet;
 
 // What a constant is looked up by: its name, alone or within a module of a name.
@@ -28,32 +29,32 @@ pub const CHAINS: ChainPlaces = ChainPlaces {
 };
 
 // The `con` line of entry i.
-pub fn line_of(work: &Space, i: usize) -> usize
-    requires { i < 128 }
+pub fn line_of(work: &[u8], i: usize) -> usize
+    requires { (i < 128) × (49152 ≤ length work.now) }
     ensures { result ≡ const_line_of work.now i }
 {
     words::u16_at(work, area::CONSTANTS + area::CONSTANT * i)
 }
 
 // The line of its module, from 0.
-pub fn module_line_of(work: &Space, i: usize) -> Option<usize>
-    requires { i < 128 }
+pub fn module_line_of(work: &[u8], i: usize) -> Option<usize>
+    requires { (i < 128) × (49152 ≤ length work.now) }
     ensures { line_number result ≡ module_line_of work.now i }
 {
     words::u16_at(work, area::CONSTANTS + 2 + area::CONSTANT * i).checked_sub(1)
 }
 
 // The kind of its value, 0 where it failed.
-pub fn slot_kind(work: &Space, i: usize) -> u8
-    requires { i < 128 }
+pub fn slot_kind(work: &[u8], i: usize) -> u8
+    requires { (i < 128) × (49152 ≤ length work.now) }
     ensures { result ≡ kind_of work.now i }
 {
     work[area::CONSTANTS + 4 + area::CONSTANT * i]
 }
 
 // The bits of its value.
-pub fn slot_bits(work: &Space, i: usize) -> u64
-    requires { i < 128 }
+pub fn slot_bits(work: &[u8], i: usize) -> u64
+    requires { (i < 128) × (49152 ≤ length work.now) }
     ensures { result ≡ bits_of work.now i }
 {
     words::bits_at(work, area::CONSTANTS + 5 + area::CONSTANT * i)
@@ -95,8 +96,8 @@ fn key_digest(sheet: &Sheet, key: Key) -> usize
 }
 
 // Whether entry i has this digest and its constant this name.
-fn has_name(sheet: &Sheet, work: &Space, i: usize, name: &[u8], d: usize) -> bool
-    requires { ConstEntry sheet.now work.now i }
+fn has_name(sheet: &Sheet, work: &[u8], i: usize, name: &[u8], d: usize) -> bool
+    requires { (ConstEntry sheet.now work.now i) × (49152 ≤ length work.now) }
     ensures { result ≡ eqb (digest_at work.now const_chains i) d && Text.same name.now (first_field sheet.now (const_line_of work.now i)) }
 {
     // the line is looked at last
@@ -104,8 +105,8 @@ fn has_name(sheet: &Sheet, work: &Space, i: usize, name: &[u8], d: usize) -> boo
 }
 
 // Whether entry i enters a constant by a key, which has the digest d.
-fn answers(sheet: &Sheet, work: &Space, i: usize, key: Key, d: usize) -> bool
-    requires { (ConstEntry sheet.now work.now i) × (d ≡ key_digest sheet.now (key_of key)) }
+fn answers(sheet: &Sheet, work: &[u8], i: usize, key: Key, d: usize) -> bool
+    requires { (ConstEntry sheet.now work.now i) × (d ≡ key_digest sheet.now (key_of key)) × (49152 ≤ length work.now) }
     ensures { result ≡ answers_key sheet.now work.now i (key_of key.entry) }
 {
     if !has_name(sheet, work, i, key.name, d) {
@@ -122,13 +123,13 @@ fn answers(sheet: &Sheet, work: &Space, i: usize, key: Key, d: usize) -> bool
 // that enters a constant by the key.
 fn along(
     sheet: &Sheet,
-    work: &Space,
+    work: &[u8],
     consts: usize,
     newest: Option<usize>,
     key: Key,
     d: usize,
 ) -> Option<usize>
-    requires { (ConstTable sheet.now work.now consts) × (count_to newest ≤ consts) × (d ≡ key_digest sheet.now (key_of key)) }
+    requires { (ConstTable sheet.now work.now consts) × (count_to newest ≤ consts) × (d ≡ key_digest sheet.now (key_of key)) × (49152 ≤ length work.now) }
     ensures { (m : ℕ) → m ≤ consts → newest ≡ newest_of (in_chain work.now const_chains (chain_of d)) m → result ≡ newest_key sheet.now work.now m (key_of key.entry) }
 {
     let mut next = newest;
@@ -142,8 +143,8 @@ fn along(
 }
 
 // The entry of the newest constant of a key.
-pub fn look_up(sheet: &Sheet, work: &Space, consts: usize, key: Key) -> Option<usize>
-    requires { ConstTable sheet.now work.now consts }
+pub fn look_up(sheet: &Sheet, work: &[u8], consts: usize, key: Key) -> Option<usize>
+    requires { (ConstTable sheet.now work.now consts) × (49152 ≤ length work.now) }
     ensures { Looked sheet.now work.now (key_of key.entry) consts result }
 {
     let d = key_digest(sheet, key);
@@ -154,12 +155,12 @@ pub fn look_up(sheet: &Sheet, work: &Space, consts: usize, key: Key) -> Option<u
 // That of the newest constant before entry i of a key by which entry i enters one.
 pub fn look_up_before(
     sheet: &Sheet,
-    work: &Space,
+    work: &[u8],
     consts: usize,
     i: usize,
     key: Key,
 ) -> Option<usize>
-    requires { (ConstTable sheet.now work.now consts) × (i < consts) × (answers_key sheet.now work.now i (key_of key) ≡ true) }
+    requires { (ConstTable sheet.now work.now consts) × (i < consts) × (answers_key sheet.now work.now i (key_of key) ≡ true) × (49152 ≤ length work.now) }
     ensures { Looked sheet.now work.now (key_of key.entry) i result }
 {
     let older = chains::earlier(work, CHAINS, i);

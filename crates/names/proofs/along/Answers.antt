@@ -1,4 +1,3 @@
-use Rattle.std.proofs.Common.{rules}
 use Rattle.names.proofs.Laws as Laws
 use Rattle.names.specs.Table.{const_chains, key_of}
 use Rattle.chains.proofs.Laws.{earlier-less}
@@ -13,7 +12,7 @@ pub returns-then-answers : goal.returns-then-answers
 returns-then-answers c = Laws.asking-found c.loop-next.invariant c.in-Some.is c.answers.ensures c.if-answers.true
 
 pub earlier-next-requires : goal.earlier-next-requires
-earlier-next-requires c = Laws.entry-asked c.requires.0 (search rules) (Laws.asking-low c.loop-next.invariant c.in-Some.is)
+earlier-next-requires c = Laws.entry-asked c.requires.0 c.requires.3 (Laws.asking-low c.loop-next.invariant c.in-Some.is)
 
 pub loop-next-smaller : goal.loop-next-smaller
 loop-next-smaller c = earlier-less c.args.work.now const_chains c.in-Some.is c.earlier-next.ensures
