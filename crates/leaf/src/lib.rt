@@ -14,7 +14,6 @@ ghost use Rattle.values.specs.Values.{value_in, At, Answers, Casts};
 ghost use Rattle.names.specs.Table.{found};
 ghost use Rattle.leaf.specs.Folds.{scalar_of, Folds, Leaf, ScalarLine, Ident, Qualified, AnsweredAt};
 
-use codes::area::Space;
 use codes::ex;
 use codes::value::{self, Value};
 use lines::Sheet;
@@ -37,7 +36,7 @@ fn real(x: &[u8]) -> ConstVal
 }
 
 // The bytes that pairs of digits write, put at `top`.
-fn string(x: &[u8], work: &mut Space, top: usize) -> ConstVal
+fn string(x: &[u8], work: &mut [u8], top: usize) -> ConstVal
     requires { (Form.holds Form.Atom.text x.now ≡ true) × (length x.now ≤ 255) × (top + 256 ≤ length work.old) }
     ensures { Casts work.old top (v_str (or_else [] (unhex x.now))) work.new result }
 {
@@ -49,7 +48,7 @@ fn string(x: &[u8], work: &mut Space, top: usize) -> ConstVal
     ConstVal::Str(top, l)
 }
 
-fn scalar(sheet: &Sheet, work: &mut Space, r: usize, top: usize) -> ConstVal
+fn scalar(sheet: &Sheet, work: &mut [u8], r: usize, top: usize) -> ConstVal
     requires { ScalarLine sheet.now work.old r top }
     ensures { Casts work.old top (scalar_of (form_at sheet.now (r - 1)) (get_or (read_at sheet.now (r - 1)).fields 0 [])) work.new result }
 {
@@ -62,7 +61,7 @@ fn scalar(sheet: &Sheet, work: &mut Space, r: usize, top: usize) -> ConstVal
 }
 
 // The value of the constant that a look-up found: a string is put at `top`.
-fn constant(work: &mut Space, k: Option<usize>, top: usize) -> Folded
+fn constant(work: &mut [u8], k: Option<usize>, top: usize) -> Folded
     requires { AnsweredAt work.old k top }
     ensures { (Answers work.new top result (from_option (found work.old k))) × (Kept top work.old work.new) }
 {
@@ -83,7 +82,7 @@ fn constant(work: &mut Space, k: Option<usize>, top: usize) -> Folded
 }
 
 // `iota` outranks a constant of that name.
-fn ident(sheet: &Sheet, work: &mut Space, consts: usize, iota: u32, r: usize, top: usize) -> Folded
+fn ident(sheet: &Sheet, work: &mut [u8], consts: usize, iota: u32, r: usize, top: usize) -> Folded
     requires { Ident sheet.now work.old consts r top }
     ensures { Folds sheet.now work.old consts iota r top work.new result }
 {
@@ -96,7 +95,7 @@ fn ident(sheet: &Sheet, work: &mut Space, consts: usize, iota: u32, r: usize, to
 }
 
 // The module must be named; its line is not folded.
-fn qualified(sheet: &Sheet, work: &mut Space, consts: usize, r: usize, top: usize) -> Folded
+fn qualified(sheet: &Sheet, work: &mut [u8], consts: usize, r: usize, top: usize) -> Folded
     requires { Qualified sheet.now work.old consts r top }
     ensures { (iota : ℕ) → Folds sheet.now work.old consts iota r top work.new result }
 {
@@ -117,7 +116,7 @@ fn qualified(sheet: &Sheet, work: &mut Space, consts: usize, r: usize, top: usiz
 // The value of line r, by the constants that are known: a string stands at `top`.
 pub fn leaf(
     sheet: &Sheet,
-    work: &mut Space,
+    work: &mut [u8],
     consts: usize,
     iota: u32,
     r: usize,
