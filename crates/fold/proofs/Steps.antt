@@ -292,6 +292,10 @@ module _ {s t : Bytes} {m r top : ℕ} (a : Foldable s t m r top) where
 
 -- ---- where the fold of a checked sheet's line begins
 
--- between the constants' strings and 32 strings below the end there is always room
-pub foldable : {s t : Bytes} {m r top : ℕ} → ExLine s r → ConstsLogged s t m → 49152 ≤ top → top ≤ 54272 → 62464 ≤ length t → Foldable s t m r top
-foldable {r = r} l g h k long = record { line = l; log = g; low = h; room = omega (arith, l.checked.low (r - 1) (in-sheet l)) }
+-- between the constants' strings and 32 strings below the end, wherever the working space ends, there is always room
+pub foldable : {s t : Bytes} {m r top : ℕ} → ExLine s r → ConstsLogged s t m → 49152 ≤ top → top + 8192 ≤ length t → Foldable s t m r top
+foldable {r = r} l g h k = record { line = l; log = g; low = h; room = omega (arith, l.checked.low (r - 1) (in-sheet l)) }
+
+-- so in 65,536 bytes a fold may begin up to 57,344
+pub foldable-below : {s t : Bytes} {m r top : ℕ} → ExLine s r → ConstsLogged s t m → 49152 ≤ top → top ≤ 57344 → 65536 ≤ length t → Foldable s t m r top
+foldable-below l g h k long = foldable l g h (omega arith)

@@ -7,7 +7,6 @@ ghost use Rattle.checks.specs.Checks.{Kept};
 ghost use Rattle.leaf.specs.Folds.{ex_at, Foldable, Folds};
 ghost use Rattle.fold.specs.Operators.{on_one, operand_of, OperatorLine, Applies};
 
-use codes::area::Space;
 use codes::{binary, ex, unary};
 use lines::Sheet;
 use values::{ConstVal, Folded, NoValue};
@@ -25,7 +24,7 @@ fn operand(sheet: &Sheet, r: usize) -> usize
 }
 
 // What line r makes of the value of its only operand, which stands at `top` where it is a string.
-fn apply(sheet: &Sheet, work: &mut Space, r: usize, v: ConstVal, top: usize) -> Folded
+fn apply(sheet: &Sheet, work: &mut [u8], r: usize, v: ConstVal, top: usize) -> Folded
     requires { Applies sheet.now work.old r v top }
     ensures { (Answers work.new top result (on_one (ex_at sheet.now r) (value_in work.old v))) × (Kept top work.old work.new) }
 {
@@ -45,7 +44,7 @@ fn apply(sheet: &Sheet, work: &mut Space, r: usize, v: ConstVal, top: usize) -> 
 // The value of line r, by the constants that are known: a string stands at `top`. Each line under r is visited once.
 pub fn fold_const(
     sheet: &Sheet,
-    work: &mut Space,
+    work: &mut [u8],
     consts: usize,
     iota: u32,
     r: usize,
