@@ -1,7 +1,7 @@
 // Decimal numbers and integers without leading zeros, of any number of digits.
 #![tactic(auto)]
 
-ghost use Rattle.std.specs.Prelude.{◌≡◌, ◌+◌, ◌*◌, min, drop};
+ghost use Rattle.std.specs.Prelude.{◌≡◌, ◌+◌, ◌*◌, ◌≤◌, min, drop};
 ghost use Rattle.semantics.specs.Text.{digits_value, nat_of};
 ghost use Rattle.decimal.specs.Number.{most, up_to, signed_of, integer_of, is_between};
 
@@ -17,9 +17,11 @@ pub enum Signed {
 
 // One digit more, no further than MOST, so that no number of digits wraps.
 fn more(n: u64, digit: u64) -> u64
+    requires { digit ≤ 9 }
     ensures { result ≡ min (n * 10 + digit) most }
 {
-    n.saturating_mul(10).saturating_add(digit).min(MOST)
+    // one comparison, as all digits of a sheet pass here several times
+    if n <= MOST / 10 { n * 10 + digit } else { MOST }
 }
 
 // The number that digits write.
