@@ -46,7 +46,7 @@ free l = record { few = l.few; first = omega arith; last = omega (arith, l.line,
 
 module _ (s t : Bytes) (m k i : ℕ) (l : ConstLine s t m k i) (r : ℕ) (is : r ≡ Number.number_up_to 65536 (get_or (read_at s i).fields 3 [])) where
   pub value-foldable : 62464 ≤ length t → Foldable s t m r 49152
-  value-foldable = foldable (ex-line s i l.checked l.line l.kind r is) l.logged (omega arith) (omega arith)
+  value-foldable long = foldable (ex-line s i l.checked l.line l.kind r is) l.logged (omega arith) (omega arith)
 
   module _ (iota : ℕ) (u : Bytes) (x : Outcome ConstVal) (f : Folds s t m iota r 49152 u x) where
     -- the fold, by what the code has

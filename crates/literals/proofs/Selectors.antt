@@ -57,7 +57,7 @@ module _ (t : Bytes) {x : Outcome ConstVal} where
 -- ---- folds
 
 pub foldable : {s t : Bytes} {m r e : ℕ} → Task 69 s t m r e → 62464 ≤ length t → Foldable s t m r (49152 + 256 * e)
-foldable k = Steps.foldable k.line k.log (omega arith) (omega (arith, k.few))
+foldable k long = Steps.foldable k.line k.log (omega arith) (omega (arith, k.few))
 
 -- what a fold gives, where iota is 0
 pub folds-to : {s t : Bytes} {m r top : ℕ} {u : Bytes} {x : Outcome ConstVal} → Folds s t m 0 r top u x → result_in u x ≡ fold (names_in s t m) (pos 0) (ex_at s r)
