@@ -1,7 +1,7 @@
 // Runs the vectors of `stdin` through ints, reals and conversions: edges of floating point (exact sums, ties, subnormals, overflow
 // to infinity, infinities and zeros of both signs, NaNs of several patterns), published values (RFC 8785, appendix B; RFC 8949,
 // appendix A; the quotient 4195835 / 3145727, which a faulty divider once got wrong), and document 01's numeric rows. A vector
-// is a line: an operation's number as below, in 2 hexadecimal digits, and two operands' bits, in 16 each. A line is
+// is a line of 37 bytes: an operation's number as below, in 2 hexadecimal digits, and two operands' bits, in 16 each. A line is
 // written for each: the operation, its operands and what it gives, reals by their bits and integers in decimal.
 // `stdout` is what expected.py works out from `stdin` with Python's own integers and the machine's floats.
 #![tactic(auto)]
@@ -53,13 +53,13 @@ impl From<Option<i64>> for Value {
     }
 }
 
-// A real by its bits, an integer in decimal.
+// Behind a blank, a real by its bits, an integer in decimal.
 impl Display for Value {
     fn fmt<W: fmt::Write>(&self, f: &mut Formatter<W>) -> fmt::Result {
         match self {
-            Value::Real(x) => write!(f, "{:016x}", reals::bits(again(*x))),
-            Value::Int(n) => write!(f, "{n}"),
-            Value::Failed => f.write_str("failed"),
+            Value::Real(x) => write!(f, " {:016x}", reals::bits(again(*x))),
+            Value::Int(n) => write!(f, " {n}"),
+            Value::Failed => f.write_str(" failed"),
         }
     }
 }
@@ -165,38 +165,38 @@ enum Op {
     OfInts(IntOp),
 }
 
-// The operations by their numbers, with their names.
+// The operations by their numbers, with their names in 8 bytes.
 const OPS: [(&str, Op); 30] = [
     ("real add", Op::OfReals(RealOp::Add)),
     ("real sub", Op::OfReals(RealOp::Sub)),
     ("real mul", Op::OfReals(RealOp::Mul)),
     ("real div", Op::OfReals(RealOp::Div)),
     ("real neg", Op::OfReals(RealOp::Neg)),
-    ("to big", Op::OfReals(RealOp::Big)),
-    ("to word", Op::OfReals(RealOp::Word)),
-    ("to byte", Op::OfReals(RealOp::Byte)),
-    ("add", Op::OfInts(IntOp::Add)),
-    ("sub", Op::OfInts(IntOp::Sub)),
-    ("mul", Op::OfInts(IntOp::Mul)),
-    ("div", Op::OfInts(IntOp::Div)),
-    ("mod", Op::OfInts(IntOp::Mod)),
-    ("shl", Op::OfInts(IntOp::Shl)),
-    ("shr", Op::OfInts(IntOp::Shr)),
-    ("and", Op::OfInts(IntOp::And)),
-    ("or", Op::OfInts(IntOp::Or)),
-    ("xor", Op::OfInts(IntOp::Xor)),
-    ("eq", Op::OfInts(IntOp::Eq)),
-    ("neq", Op::OfInts(IntOp::Neq)),
-    ("lt", Op::OfInts(IntOp::Lt)),
-    ("gt", Op::OfInts(IntOp::Gt)),
-    ("leq", Op::OfInts(IntOp::Leq)),
-    ("geq", Op::OfInts(IntOp::Geq)),
-    ("neg", Op::OfInts(IntOp::Neg)),
-    ("not", Op::OfInts(IntOp::Not)),
-    ("bitnot", Op::OfInts(IntOp::BitNot)),
-    ("word of", Op::OfInts(IntOp::Word)),
-    ("byte of", Op::OfInts(IntOp::Byte)),
-    ("real of", Op::OfInts(IntOp::Real)),
+    ("to big  ", Op::OfReals(RealOp::Big)),
+    ("to word ", Op::OfReals(RealOp::Word)),
+    ("to byte ", Op::OfReals(RealOp::Byte)),
+    ("add     ", Op::OfInts(IntOp::Add)),
+    ("sub     ", Op::OfInts(IntOp::Sub)),
+    ("mul     ", Op::OfInts(IntOp::Mul)),
+    ("div     ", Op::OfInts(IntOp::Div)),
+    ("mod     ", Op::OfInts(IntOp::Mod)),
+    ("shl     ", Op::OfInts(IntOp::Shl)),
+    ("shr     ", Op::OfInts(IntOp::Shr)),
+    ("and     ", Op::OfInts(IntOp::And)),
+    ("or      ", Op::OfInts(IntOp::Or)),
+    ("xor     ", Op::OfInts(IntOp::Xor)),
+    ("eq      ", Op::OfInts(IntOp::Eq)),
+    ("neq     ", Op::OfInts(IntOp::Neq)),
+    ("lt      ", Op::OfInts(IntOp::Lt)),
+    ("gt      ", Op::OfInts(IntOp::Gt)),
+    ("leq     ", Op::OfInts(IntOp::Leq)),
+    ("geq     ", Op::OfInts(IntOp::Geq)),
+    ("neg     ", Op::OfInts(IntOp::Neg)),
+    ("not     ", Op::OfInts(IntOp::Not)),
+    ("bitnot  ", Op::OfInts(IntOp::BitNot)),
+    ("word of ", Op::OfInts(IntOp::Word)),
+    ("byte of ", Op::OfInts(IntOp::Byte)),
+    ("real of ", Op::OfInts(IntOp::Real)),
 ];
 
 // The operands of an operation and what it gives; the second operand where it takes two.
@@ -215,18 +215,6 @@ fn worked(op: Op, a: u64, b: u64) -> (Value, Option<Value>, Value) {
     }
 }
 
-fn row<W: Write>(out: &mut W, v: Vector) -> io::Result<()> {
-    let Some((name, op)) = OPS.get(v.op) else {
-        return Ok(());
-    };
-    let (first, second, result) = worked(*op, v.a, v.b);
-    write!(out, "{name:<8} {first}")?;
-    if let Some(second) = second {
-        write!(out, " {second}")?;
-    }
-    writeln!(out, " gives {result}")
-}
-
 // A line's operation, by its number, and the bits of its operands.
 #[derive(Clone, Copy)]
 struct Vector {
@@ -235,29 +223,53 @@ struct Vector {
     b: u64,
 }
 
-// The number that upper-case hexadecimal digits write.
-fn number(digits: &str) -> Option<u64> {
-    u64::from_str_radix(digits, 16).ok()
+// A number past the last is the last operation without its name.
+fn row<W: Write>(out: &mut W, v: Vector) -> io::Result<()> {
+    let (name, op) = match OPS.get(v.op) {
+        Some(named) => *named,
+        None => ("", Op::OfInts(IntOp::Real)),
+    };
+    let (first, second, result) = worked(op, v.a, v.b);
+    write!(out, "{name}{first}")?;
+    if let Some(second) = second {
+        write!(out, "{second}")?;
+    }
+    writeln!(out, " gives{result}")
 }
 
-fn read_vector(line: &str) -> Option<Vector> {
-    let mut fields = line.split(' ');
-    Some(Vector {
-        op: number(fields.next()?)? as usize,
-        a: number(fields.next()?)?,
-        b: number(fields.next()?)?,
-    })
+// The value of an upper-case hexadecimal digit.
+fn digit(c: u8) -> u8 {
+    match c {
+        b'A'..=b'\xff' => c - b'A' + 10,
+        b'0'..=b'@' => c - b'0',
+        _ => 0,
+    }
 }
 
+// The number that digits write.
+fn number(digits: &[u8]) -> u64 {
+    digits
+        .iter()
+        .fold(0, |n, c| (n << 4) | u64::from(digit(*c)))
+}
+
+fn read_vector(line: &[u8; 37]) -> Vector {
+    Vector {
+        op: number(&line[..2]) as usize,
+        a: number(&line[3..19]),
+        b: number(&line[20..36]),
+    }
+}
+
+// What is left behind the last whole line is no vector.
 fn main(rt: HostRuntime) -> io::Result<()> {
     let alloc = rt.alloc();
-    let mut lines = String::new(alloc);
-    rt.stdin().take(65536).read_to_string(&mut lines)?;
+    let mut lines = Vec::new(alloc);
+    rt.stdin().take(65536).read_to_end(&mut lines)?;
     let mut out = BufWriter::new(alloc, io::writer(&rt))?;
-    for line in lines.lines() {
-        if let Some(v) = read_vector(line) {
-            row(&mut out, v)?;
-        }
+    let (vectors, _) = lines.as_chunks::<37>();
+    for line in vectors {
+        row(&mut out, read_vector(line))?;
     }
     out.flush()
 }
