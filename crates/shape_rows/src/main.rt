@@ -5,7 +5,7 @@
 
 ghost use Rattle.std.specs.Prelude.{◌≤◌, ◌<◌};
 ghost use Rattle.lines.specs.Lines.{lines_in};
-ghost use Rattle.checks.specs.Checks.{Checked};
+ghost use Rattle.checks.specs.Checks.{Checked, Kept};
 ghost use Rattle.sizes.specs.Places.{RecordLine};
 ghost use Rattle.shapes.specs.Shapes.{PickLine, VariantLine};
 ghost use Rattle.maps.specs.Maps.{MapRoom};
@@ -15,27 +15,37 @@ use codes::decl;
 use lines::{Sheet, TABLE};
 use std::io;
 use std::io::{Read, Write};
+use write::Writer;
 
 // The bytes that are read at most, and those of the working space.
 const BYTES: usize = 65536;
 
 const LARGEST: u32 = 131080;
 
-// A number, a size, and the map that stands in the working space.
+// A number, a size, and the map that stands in the working space, in one write.
 fn print_row(out: &mut impl Write, work: &Space, number: usize, size: u32) -> io::Result<()>
     requires { MapRoom work.now size }
 {
-    let ones = maps::map_ones(work, size);
-    write!(out, "{number},{size},{ones},")?;
-    let end = area::MAP + layout::map::map_bytes(size);
-    for b in &work[area::MAP..end] {
-        write!(out, "{b:02X}")?;
+    let mut row = [0u8; 8300];
+    let mut w = Writer::from(&mut row, 0);
+    w.put_nat(number as u64);
+    w.put(b',');
+    w.put_nat(u64::from(size));
+    w.put(b',');
+    w.put_nat(maps::map_ones(work, size) as u64);
+    w.put(b',');
+    w.put_hex(&work[area::MAP..area::MAP + layout::map::map_bytes(size)]);
+    w.put(b'\n');
+    let end = w.at;
+    match row.get(..end) {
+        Some(written) => out.write_all(written),
+        None => Ok(()),
     }
-    writeln!(out)
 }
 
 fn print_record(out: &mut impl Write, sheet: &Sheet, work: &mut Space, r: usize) -> io::Result<()>
     requires { RecordLine sheet.now r }
+    ensures { Kept 49152 work.old work.new }
 {
     let size = shapes::record_size(sheet, r);
     if LARGEST < size {
@@ -53,6 +63,7 @@ fn print_variant(
     c: usize,
 ) -> io::Result<()>
     requires { VariantLine sheet.now r c }
+    ensures { Kept 49152 work.old work.new }
 {
     let size = shapes::variant_size(sheet, r, c);
     if LARGEST < size {
@@ -64,6 +75,7 @@ fn print_variant(
 
 fn print_variants(out: &mut impl Write, sheet: &Sheet, work: &mut Space, r: usize) -> io::Result<()>
     requires { PickLine sheet.now r }
+    ensures { Kept 49152 work.old work.new }
 {
     for c in 0..shapes::case_count(sheet, r) {
         print_variant(out, sheet, work, r, c)?;
@@ -73,6 +85,7 @@ fn print_variants(out: &mut impl Write, sheet: &Sheet, work: &mut Space, r: usiz
 
 fn print_line(out: &mut impl Write, sheet: &Sheet, work: &mut Space, r: usize) -> io::Result<()>
     requires { (Checked sheet.now) × (0 < r) × (r ≤ lines_in sheet.now) }
+    ensures { Kept 49152 work.old work.new }
 {
     match sheet.form_at(r - 1) {
         decl::ADT => print_record(out, sheet, work, r),

@@ -2,5 +2,5 @@ use Rattle.maps.proofs.Maps.{map-fits}
 use native.Mathlib.Omega.{arith}
 use Rattle.shape_rows.proofs.print_row.Goals as goal
 
-pub slice_bounds-b-items-end : goal.slice_bounds-b-items-end
-slice_bounds-b-items-end g c = omega (arith, map-fits c.requires)
+pub slice_bounds-put_hex-end : goal.slice_bounds-put_hex-end
+slice_bounds-put_hex-end g c = omega (arith, map-fits c.requires)
