@@ -28,27 +28,28 @@ fn rules(text: &[u8], table: &mut [u8; TABLE], work: &mut Space) -> Result<usize
     Ok(n)
 }
 
-// The same with 1 and 2.
+// The same, where 1 and 2 do not refuse, with the table in front of the working space.
 fn tests(text: &[u8], work: &mut [u8]) -> Result<usize, Refusal>
-    requires { work.old ≡ zeros (length work.old) }
+    requires { (length text.now ≤ 65535) × (65536 ≤ length work.old) × (work.old ≡ zeros (length work.old)) }
     ensures { ((o : Outcome) → tested (length work.old) text.now o ≡ settled result o) × (PassesChecks text.now (length work.old) work.new result) }
 {
+    let (table, rest) = work.split_first_chunk_mut::<TABLE>().unwrap();
+    let space = rest.first_chunk_mut::<SPACE>().unwrap();
+    rules(text, table, space)
+}
+
+// The number of lines of a sheet that passes, with the table of them in the working space; or its refusal, and zeros there. Where
+// 1 or 2 refuses, nothing was written over them.
+pub fn check(text: &[u8], work: &mut [u8]) -> Result<usize, Refusal>
+    ensures { ((o : Outcome) → tested (length work.old) text.now o ≡ settled result o) × (CheckedTable text.now (length work.old) work.new result) }
+{
+    write::zero(work);
     if LONGEST_SHEET < text.len() {
         return Err(Refusal::LongSheet);
     }
     if work.len() < LEAST_WORK {
         return Err(Refusal::SmallSpace);
     }
-    let (table, rest) = work.split_first_chunk_mut::<TABLE>().unwrap();
-    let space = rest.first_chunk_mut::<SPACE>().unwrap();
-    rules(text, table, space)
-}
-
-// The number of lines of a sheet that passes, with the table of them in the working space; or its refusal, and zeros there.
-pub fn check(text: &[u8], work: &mut [u8]) -> Result<usize, Refusal>
-    ensures { ((o : Outcome) → tested (length work.old) text.now o ≡ settled result o) × (CheckedTable text.now (length work.old) work.new result) }
-{
-    write::zero(work);
     let result = tests(text, work);
     if result.is_err() {
         write::zero(work);

@@ -3,8 +3,8 @@
 
 ghost use Rattle.std.specs.Prelude.{◌≡◌, length, Ok};
 ghost use Rattle.semantics.specs.Sheet.{sheet_source};
-ghost use Rattle.semantics.specs.Refusal.{zeros, worked, compiled};
-ghost use Rattle.checks.specs.Checks.{Passes};
+ghost use Rattle.semantics.specs.Refusal.{Outcome, zeros, worked, tested, compiled};
+ghost use Rattle.checks.specs.Checks.{Passes, PassesChecks};
 ghost use Rattle.compile.specs.Compile.{Lists, Tries, TableStands, RowsPut, Compiles};
 ghost use Rattle.parts.specs.Parts.{Listable};
 
@@ -72,23 +72,24 @@ fn list_checked(
     list_rows(&sheet, listing, work, x)
 }
 
-// The listing, where it was zeros; the rows written before a refusal still stand.
-fn list_sheet(text: &[u8], listing: &mut [u8], work: &mut [u8]) -> Result<Listed, Refusal>
-    requires { listing.old ≡ zeros (length listing.old) }
+// The listing of a sheet of n lines that passes the checks, where it was zeros; the rows written before a refusal still stand.
+fn list_sheet(text: &[u8], listing: &mut [u8], work: &mut [u8], n: usize) -> Result<Listed, Refusal>
+    requires { (listing.old ≡ zeros (length listing.old)) × ((o : Outcome) → tested (length work.old) text.now o ≡ o) × (PassesChecks text.now (length work.old) work.old (Ok n)) }
     ensures { (Tries text.now (compiled (length listing.old) (length work.old) text.now) (length listing.old) result listing.new) × (TableStands text.now (length work.old) work.new result) }
 {
-    let n = checks::check(text, work)?;
     let (table, rest) = work.split_first_chunk_mut::<TABLE>().unwrap();
     let space = rest.first_chunk_mut::<SPACE>().unwrap();
     list_checked(text, listing, table, n, space)
 }
 
-// The listing of any sheet, while the working space still has the tables; zeros in both where the sheet is refused.
+// The listing of any sheet, while the working space still has the tables; zeros in both where the sheet is refused. Where the
+// checks refuse, both are zeros already.
 pub fn list(sheet: &[u8], listing: &mut [u8], work: &mut [u8]) -> Result<Listed, Refusal>
     ensures { Lists sheet.now (length listing.old) (length work.old) result listing.new work.new }
 {
     write::zero(listing);
-    let result = list_sheet(sheet, listing, work);
+    let n = checks::check(sheet, work)?;
+    let result = list_sheet(sheet, listing, work, n);
     if result.is_err() {
         write::zero(listing);
         write::zero(work);
