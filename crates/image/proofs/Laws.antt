@@ -133,3 +133,8 @@ module _ (s : Bytes) (b : Buffers) where
         let is = replays h.outcome in
         let q = is ∙ never-fits (sym given ∙ m.answer ∙ ap lengths_of is) in
         refused-pictures Outgrown q (blank b.listing (listing-is ∙ ap zeros listing-long)) (m.image_is ∙ (λ j. padded b.image (image_bytes (q j)))) (m.area_is ∙ (λ j. padded b.area (area_bytes (q j))))
+
+-- ---- for callers: the parts of the buffers that the answer counts
+
+pub laid-within : {s : Bytes} {b : Buffers} {x : Laid} {listing image area : Bytes} → Pictures s b (Ok x) listing image area → (x.listing ≤ b.listing) × (x.image ≤ b.image) × (x.area ≤ b.area)
+laid-within h = (h.lengths.1, h.lengths.2, h.lengths.3)
