@@ -88,6 +88,10 @@ tables-listable s t x w = record { held = w.0; folded = w.1; log = w.2 }
 pub constant-refused : (s : Bytes) (L : ℕ) (r : Refusal) → (constants (sheet_source s)).refused ≡ Some (refusal_of r) → worked L (sheet_source s) ≡ refused (refusal_number r) (refusal_line r)
 constant-refused s L r e = rw e
 
+-- such a refusal is 8, at its line
+pub constant-long : (s t : Bytes) (L : ℕ) (r : Refusal) → MakesTables s t (Err r) → worked L (sheet_source s) ≡ refused 8 (refusal_line r)
+constant-long s t L r h = constant-refused s L r h.0 ∙ ap (λ (q : ℕ). refused q (refusal_line r)) h.1
+
 -- the same outcome
 pub tries-as : (s : Bytes) {o p : Outcome} (L : ℕ) (r : Result Listed Refusal) (d : Bytes) → o ≡ p → Tries s o L r d → Tries s p L r d
 tries-as s L r d e h = subst (λ q. Tries s q L r d) e h

@@ -31,7 +31,7 @@ use Rattle.entries.proofs.Laws.{Entered, entered-value, entered-failed}
 use Rattle.leaf.specs.Folds.{fold_at, Foldable, Folds}
 use Rattle.fold.proofs.Steps.{foldable}
 use Rattle.answers.specs.declared.Refusal.TheVariants as Refused
-use Rattle.consts.specs.Passes.{const_at, ConstLine, ConstantEntered}
+use Rattle.consts.specs.Passes.{const_at, ConstLine, too_long, ConstantEntered}
 use Rattle.consts.proofs.Lines.{ex-number, ex-line}
 
 name-is : (s : Bytes) (i : ℕ) → first_field s (i + 1) ≡ get_or (read_at s i).fields 0 []
@@ -84,4 +84,4 @@ module _ (s t : Bytes) (m k i : ℕ) (l : ConstLine s t m k i) (r : ℕ) (is : r
 
     pub took-none : x ≡ Err LongString → Kept 5120 t u × ConstantEntered s t u m k i iota (Err (Refused.LongString (i + 1)))
     unfolding result_in
-    took-none q = (kept_less (omega arith) f.kept, λ go. rw (fold_is q, add-one i))
+    took-none q = (kept_less (omega arith) f.kept, (λ go. rw (fold_is q, add-one i), ap too_long (add-one i)))

@@ -33,8 +33,8 @@ use Rattle.iota.proofs.Counter.{moved-counter, moved_value}
 use Rattle.consts.specs.declared.Pass.{Pass}
 use Rattle.std.specs.Prelude.{Result, Ok, Err}
 use Rattle.answers.specs.declared.Refusal as Answers
-use Rattle.answers.specs.Answers.{refusal_of}
-use Rattle.consts.specs.Passes.{group_from, passes_after, const_at, ConstLine, step, ConstantEntered, AtConstant, PassAt, pass_from, PassMoves, Group, Logs, PassDone, PassesBefore, passes_left, ModulePassed, Collects, left}
+use Rattle.answers.specs.Answers.{refusal_number, refusal_line, refusal_of}
+use Rattle.consts.specs.Passes.{group_from, passes_after, const_at, ConstLine, step, too_long, ConstantEntered, AtConstant, PassAt, pass_from, PassMoves, Group, Logs, PassDone, PassesBefore, passes_left, ModulePassed, Collects, left}
 use Rattle.consts.proofs.Passes.{open-mod, open-other, group-other, group-in, group-out, group-end, passes-start, passes-mod, passes-other, passes-end, count-mod, count-top}
 use Rattle.consts.proofs.Group.{group-start, group-left}
 use Rattle.consts.proofs.Lines.{line-number, col-number}
@@ -147,8 +147,8 @@ module _ (s t : Bytes) (k : ℕ) (p : Pass) (st : PassAt s t k p) (a : AtConstan
     pass-from-is = rw (group-is, value-is, line-is, col-is)
 
     module _ (u : Bytes) (kept : Kept 5120 t u) where
-      pub visit-refused : (r : Answers.Refusal) → ConstantEntered s t u p.count k p.line x.value (Err r) → (pass_from s t k p).refused ≡ Some (refusal_of r)
-      visit-refused r f = ap (λ (g : Folding). g.refused) (pass-from-is ∙ f (pass (sheet_source s).implement (group_from s k (suc p.line)) (iota_next line col (counter_of p.iota))))
+      pub visit-refused : (r : Answers.Refusal) → ConstantEntered s t u p.count k p.line x.value (Err r) → ((pass_from s t k p).refused ≡ Some (refusal_of r)) × (refusal_number r ≡ 8)
+      visit-refused r f = (ap (λ (g : Folding). g.refused) (pass-from-is ∙ f.0 (pass (sheet_source s).implement (group_from s k (suc p.line)) (iota_next line col (counter_of p.iota)))), ap (λ (x : Refusal). x.number) f.1)
 
       pub visit-on : ConstantEntered s t u p.count k p.line x.value (Ok (tt {0})) → PassMoves s t u k p (record { line = p.line + 1; within = p.within; count = p.count + 1; iota = x.next })
       unfolding pass_from
@@ -251,8 +251,8 @@ module _ (s t : Bytes) (m i : ℕ) (b : PassesBefore s t m i) where
     },
     sym (rw (passes-mod s b.checked i h e) (then-on (group_from s (suc i) 0) (passes_after s (suc i)) (sheet_source s).implement (log_in s t m) (log_in s u c) l.same ∙ rw add-one)),
   )
-  past-module h e u kept (Err x) q =
-      rw (passes-mod s b.checked i h e) (then-stop (group_from s (suc i) 0) (passes_after s (suc i)) (sheet_source s).implement (log_in s t m) q)
+  past-module h e u kept (Err x) (q, f) =
+      (rw (passes-mod s b.checked i h e) (then-stop (group_from s (suc i) 0) (passes_after s (suc i)) (sheet_source s).implement (log_in s t m) q), f)
 
   pub top-group : Group s t m 0
   unfolding open_at module_at
@@ -270,8 +270,8 @@ module _ (s t : Bytes) (m i : ℕ) (b : PassesBefore s t m i) where
       let e : constants (sheet_source s) ≡ record { log = log_in s u c; refused = None } =
       sym same ∙ rw (passes-end s b.checked i h) (then-on (group_from s 0 0) [] (sheet_source s).implement (log_in s t m) (log_in s u c) l.same) in
       (ap (λ (f : Folding). f.refused) e, ap (λ (f : Folding). f.log) e, l.logged)
-  past_all h same u (Err x) q =
-      ap (λ (f : Folding). f.refused) (sym same) ∙ rw (passes-end s b.checked i h) (then-stop (group_from s 0 0) [] (sheet_source s).implement (log_in s t m) q)
+  past_all h same u (Err x) (q, f) =
+      (ap (λ (f : Folding). f.refused) (sym same) ∙ rw (passes-end s b.checked i h) (then-stop (group_from s 0 0) [] (sheet_source s).implement (log_in s t m) q), f)
 
 pub start-before : (s t : Bytes) → Checked s → PassesBefore s t 0 0
 start-before s t c = record { checked = c; logged = record { few = omega arith; each = λ i h. absurd (omega arith); digests = λ i h. absurd (omega arith); chained = chained-none t const_chains }; few = omega arith }
@@ -279,3 +279,11 @@ start-before s t c = record { checked = c; logged = record { few = omega arith; 
 pub start-same : (s t : Bytes) → Checked s → passes_left s t 0 0 ≡ constants (sheet_source s)
 unfolding passes_left log_in
 start-same s t c = sym (passes-start s c)
+
+-- ---- for callers: what is refused is refused by 8, at a line
+
+pub refused-long : {o : Option Refusal} (r : Answers.Refusal) → (o ≡ Some (refusal_of r)) × (refusal_number r ≡ 8) → o ≡ Some (too_long (refusal_line r))
+refused-long r (e, f) = e ∙ ap (λ (q : ℕ). Some (record { number = q; line = refusal_line r })) f
+
+pub collects-long : (s u : Bytes) (r : Answers.Refusal) → Collects s u (Err r) → (constants (sheet_source s)).refused ≡ Some (too_long (refusal_line r))
+collects-long s u r h = refused-long r h

@@ -5,7 +5,7 @@ use Rattle.semantics.specs.Tree.{ConstDecl, Declares, Node}
 use Rattle.semantics.specs.Form.{letter}
 use Rattle.semantics.specs.Sheet.{Module, Located, located_from, module_of, sheet_source}
 use Rattle.semantics.specs.Fold.{Const, fold}
-use Rattle.semantics.specs.Const.{Folding, new_counter, entered, pass, passes_from, stands_in, top_level, constants}
+use Rattle.semantics.specs.Const.{Refusal, Folding, new_counter, entered, pass, passes_from, stands_in, top_level, constants}
 use Rattle.lines.specs.Lines.{lines_in, read_at, nodes_in}
 use Rattle.implement.specs.Modules.{module_at, line_number}
 use Rattle.checks.specs.Checks.{Checked}
@@ -13,7 +13,7 @@ use Rattle.source.specs.Walk.{open_at, con_of}
 use Rattle.names.specs.Table.{log_in, names_in, ConstsLogged}
 use Rattle.iota.specs.Iota.{counter_of}
 use Rattle.answers.specs.declared.Refusal as Answers
-use Rattle.answers.specs.Answers.{refusal_of}
+use Rattle.answers.specs.Answers.{refusal_number, refusal_of}
 use Rattle.consts.specs.declared.Pass.{Pass}
 
 -- what the lines from line i on declare
@@ -68,10 +68,14 @@ step s t m k i iota go =
     let c = const_at s k i in
     entered (sheet_source s).implement c (fold (names_in s t m) (pos iota) c.it.value) go (log_in s t m)
 
+-- refusal 8 at line j, from 1
+abbrev pub too_long : ℕ → Refusal
+too_long j = record { number = 8; line = j }
+
 -- it is entered, or its string is too long
 abbrev pub ConstantEntered : Bytes → Bytes → Bytes → ℕ → ℕ → ℕ → ℕ → Result Unit Answers.Refusal → Type 0
 ConstantEntered s t u m k i iota (Ok x) = ConstsLogged s u (m + 1) × ((go : List Const → Folding) → step s t m k i iota go ≡ go (log_in s u (m + 1)))
-ConstantEntered s t u m k i iota (Err r) = (go : List Const → Folding) → step s t m k i iota go ≡ record { log = log_in s t m; refused = Some (refusal_of r) }
+ConstantEntered s t u m k i iota (Err r) = ((go : List Const → Folding) → step s t m k i iota go ≡ record { log = log_in s t m; refused = Some (refusal_of r) }) × (refusal_of r ≡ too_long (suc i))
 
 -- ---- a pass
 
@@ -103,10 +107,10 @@ pub record PassMoves (s t u : Bytes) (k : ℕ) (p q : Pass) : Type 0 where
   pub same : pass_from s u k q ≡ pass_from s t k p
   pub count : q.count + length (group_from s k q.line) ≡ p.count + length (group_from s k p.line)
 
--- a line is visited: the pass moves on, or the sheet is refused
+-- a line is visited: the pass moves on, or a line is refused by 8
 abbrev pub Visits : Bytes → Bytes → Bytes → ℕ → Pass → Result Pass Answers.Refusal → Type 0
 Visits s t u k p (Ok q) = PassMoves s t u k p q
-Visits s t u k p (Err r) = (pass_from s t k p).refused ≡ Some (refusal_of r)
+Visits s t u k p (Err r) = ((pass_from s t k p).refused ≡ Some (refusal_of r)) × (refusal_number r ≡ 8)
 
 -- a group whose constants are to be entered from entry m on
 pub record Group (s t : Bytes) (m k : ℕ) : Type 0 where
@@ -121,11 +125,11 @@ pub record Logs (s u : Bytes) (m : ℕ) (f : Folding) : Type 0 where
   pub logged : ConstsLogged s u m
   pub same : f ≡ record { log = log_in s u m; refused = None }
 
--- a pass over the group of line k is done: c entries stand then, or the sheet is refused
+-- a pass over the group of line k is done: c entries stand then, or a line is refused by 8
 abbrev pub PassDone : Bytes → Bytes → Bytes → ℕ → ℕ → Result ℕ Answers.Refusal → Type 0
 PassDone s t u m k (Ok c) =
     Logs s u c (pass (sheet_source s).implement (group_from s k 0) new_counter (log_in s t m)) × (c ≡ m + length (group_from s k 0))
-PassDone s t u m k (Err r) = (pass (sheet_source s).implement (group_from s k 0) new_counter (log_in s t m)).refused ≡ Some (refusal_of r)
+PassDone s t u m k (Err r) = ((pass (sheet_source s).implement (group_from s k 0) new_counter (log_in s t m)).refused ≡ Some (refusal_of r)) × (refusal_number r ≡ 8)
 
 -- ---- all passes
 
@@ -139,12 +143,12 @@ pub record PassesBefore (s t : Bytes) (m i : ℕ) : Type 0 where
 unfoldable pub passes_left : Bytes → Bytes → ℕ → ℕ → Folding
 passes_left s t m i = passes_from (sheet_source s).implement (passes_after s i) (log_in s t m)
 
--- line i is done: the passes behind it give what was left, or the sheet is refused
+-- line i is done: the passes behind it give what was left, or a line is refused by 8
 abbrev pub ModulePassed : Bytes → Bytes → Bytes → ℕ → ℕ → Result ℕ Answers.Refusal → Type 0
 ModulePassed s t u m i (Ok c) = PassesBefore s u c (i + 1) × (passes_left s u c (i + 1) ≡ passes_left s t m i)
-ModulePassed s t u m i (Err r) = (passes_left s t m i).refused ≡ Some (refusal_of r)
+ModulePassed s t u m i (Err r) = ((passes_left s t m i).refused ≡ Some (refusal_of r)) × (refusal_number r ≡ 8)
 
--- the constants are the first m of the table, or the sheet is refused
+-- the constants are the first m of the table, or a line is refused by 8
 abbrev pub Collects : Bytes → Bytes → Result ℕ Answers.Refusal → Type 0
 Collects s u (Ok m) = ((constants (sheet_source s)).refused ≡ None) × ((constants (sheet_source s)).log ≡ log_in s u m) × ConstsLogged s u m
-Collects s u (Err r) = (constants (sheet_source s)).refused ≡ Some (refusal_of r)
+Collects s u (Err r) = ((constants (sheet_source s)).refused ≡ Some (refusal_of r)) × (refusal_number r ≡ 8)

@@ -5,7 +5,7 @@ use Rattle.semantics.specs.Sheet.{sheet_source}
 use Rattle.semantics.specs.Const.{constants}
 use Rattle.checks.specs.Checks.{Checked}
 use Rattle.answers.specs.declared.Refusal.{Refusal}
-use Rattle.answers.specs.Answers.{refusal_of}
+use Rattle.answers.specs.Answers.{refusal_number, refusal_of}
 use Rattle.names.specs.Table as Names
 use Rattle.names.specs.Table.{log_in}
 use Rattle.globals.specs.Collect as Globals
@@ -23,7 +23,7 @@ pub record TablesHeld (s t : Bytes) (x : Tables) : Type 0 where
   pub needs : Needs s t (sheet_source s).needs
   pub kinds : Kinds t (sheet_source s).needs x.keys
 
--- the constants are those of the sheet, or a line of them is refused
+-- the constants are those of the sheet, or a line of them is refused by 8
 abbrev pub MakesTables : Bytes → Bytes → Result Tables Refusal → Type 0
 MakesTables s t (Ok x) = TablesHeld s t x × ((constants (sheet_source s)).refused ≡ None) × ((constants (sheet_source s)).log ≡ log_in s t x.consts)
-MakesTables s t (Err r) = (constants (sheet_source s)).refused ≡ Some (refusal_of r)
+MakesTables s t (Err r) = ((constants (sheet_source s)).refused ≡ Some (refusal_of r)) × (refusal_number r ≡ 8)

@@ -13,7 +13,7 @@ list_rows-requires c = (tables-listable _ _ c.in_ok-x.x c.in_ok-x.ensures.0, c.r
 pub returns-in_err-x : goal.returns-in_err-x
 returns-in_err-x c =
     let p = err_from_is_err_and c.from_residual.result c.from_residual.ensures.1 in
-    rw (p.1, p.2) (constant-refused c.args.text.now (length c.args.listing.now) c.in_err-x.field-0.0 (rw c.of-sheet.ensures.0 at c.in_err-x.ensures.0))
+    rw (p.1, p.2) (constant-refused c.args.text.now (length c.args.listing.now) c.in_err-x.field-0.0 (rw c.of-sheet.ensures.0 at c.in_err-x.ensures.0.0))
 
 pub returns : goal.returns
 returns c = rw c.of-sheet.ensures.0 at c.list_rows.ensures

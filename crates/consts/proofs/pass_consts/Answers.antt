@@ -15,7 +15,7 @@ pub returns-in_err-p : goal.returns-in_err-p
 returns-in_err-p c =
     let e = c.in_err-p.ensures in
     let p = err_from_is_err_and c.from_residual.result c.from_residual.ensures.1 in
-    rw (p.1, p.2) (kept_then c.loop-p.invariant.1 e.0, Walk.pass-refused c.args.sheet.now c.args.work.now c.args.m c.args.k c.requires _ c.loop-p.p c.loop-p.invariant.0 c.loop-p.invariant.2 e.1)
+    rw (p.1, p.2) (kept_then c.loop-p.invariant.1 e.0, (Walk.pass-refused c.args.sheet.now c.args.work.now c.args.m c.args.k c.requires _ c.loop-p.p c.loop-p.invariant.0 c.loop-p.invariant.2 e.1.0, e.1.1))
 
 pub returns : goal.returns
 returns c = (c.loop-p.invariant.1, Walk.pass-done c.args.sheet.now c.args.work.now c.args.m c.args.k c.requires _ c.loop-p.p c.loop-p.invariant.0 c.loop-p.invariant.2 (Walk.at-end c.args.sheet.now c.args.work.now c.args.m c.args.k c.requires _ c.loop-p.p c.loop-p.invariant.0 c.loop-p.invariant.2 (omega (arith, c.count.ensures.0, c.loop-p-test.false))) c.loop-p.invariant.3)
