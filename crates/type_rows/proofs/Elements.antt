@@ -25,8 +25,6 @@ use Rattle.type_keys.proofs.Distinct.{new_key, position-none, position-new, posi
 use Rattle.type_keys.proofs.Table.{kind-kept}
 use Rattle.type_lines.proofs.Codes.{elems-are}
 use Rattle.write.specs.declared.Writer.{Writer}
-use Rattle.write.specs.Writes.{Writes}
-use Rattle.semantics.specs.Listing.{type_rows}
 use Rattle.type_row.specs.Row.{TypesWrote}
 use Rattle.type_rows.specs.Rows.{shapes_of}
 use Rattle.type_rows.proofs.Wrotes.{types-none, keys-then}
@@ -207,9 +205,9 @@ module _ (base keys a b : ℕ) {v w : Writer} {t u : List ℕ} (lo : a ≤ b) (h
 
 pub kinds-end : (base keys a b : ℕ) {v w : Writer} {t u : List ℕ} → a ≤ b → base + keys ≤ b → KindRows base a b v w t u keys
     → (s : List ℕ) (ls : List TypeKey) (is : List Item) → a ≡ base + length (distinct [] ls) → Kinds t (ls ++ concat_map array_key is) keys
-    → Writes v (type_rows a (shapes_of s (drop (length (distinct [] ls)) (distinct [] (ls ++ concat_map array_key is))))) w
-kinds-end base keys a b {v} {w} lo hi rows s ls is g x =
+    → TypesWrote (shapes_of s (drop (length (distinct [] ls)) (distinct [] (ls ++ concat_map array_key is)))) a b v w t u
+kinds-end base keys a b lo hi rows s ls is g x =
     let l = length (distinct [] ls) in
     let K = distinct [] (ls ++ concat_map array_key is) in
     let e : take (b - a) (drop l K) ≡ drop l K = take_all (b - a) (drop l K) (omega (arith, length-drop l K, x.count, lo, g, hi)) in
-    (rw e at (rows s ls is g x)).wrote
+    rw e at (rows s ls is g x)

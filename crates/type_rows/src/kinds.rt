@@ -8,8 +8,7 @@ ghost use Rattle.semantics.specs.Types.{distinct, array_key};
 ghost use Rattle.codes.specs.Kinds.{element_kind};
 ghost use Rattle.checks.specs.Checks.{Kept};
 ghost use Rattle.type_keys.specs.Table.{kind_position, Kinds};
-ghost use Rattle.semantics.specs.Listing.{type_rows};
-ghost use Rattle.write.specs.Writes.{Writes};
+ghost use Rattle.type_row.specs.Row.{TypesWrote};
 ghost use Rattle.type_rows.specs.Rows.{shapes_of};
 
 use codes::area::Space;
@@ -32,13 +31,15 @@ fn kind_at(work: &Space, p: usize) -> Option<Element>
 }
 
 // The rows of the keys behind those of needs, from the ID `id` up to that of the last of `keys`; `base` is the ID of the first key.
-pub fn kind_rows(work: &mut Space, base: usize, keys: usize, w: &mut Writer, id: usize)
+// The ID behind them.
+pub fn kind_rows(work: &mut Space, base: usize, keys: usize, w: &mut Writer, id: usize) -> usize
     requires { (base ≤ id) × (base < 1024) × (keys < 1024) }
-    ensures { ((s : Bytes) (ls : List TypeKey) (is : List Item) → id ≡ base + length (distinct [] ls) → Kinds work.old (ls ++ concat_map array_key is) keys → Writes w.old (type_rows id (shapes_of s (drop (length (distinct [] ls)) (distinct [] (ls ++ concat_map array_key is))))) w.new) × (Kept 49152 work.old work.new) }
+    ensures { ((s : Bytes) (ls : List TypeKey) (is : List Item) → id ≡ base + length (distinct [] ls) → Kinds work.old (ls ++ concat_map array_key is) keys → TypesWrote (shapes_of s (drop (length (distinct [] ls)) (distinct [] (ls ++ concat_map array_key is)))) id result w.old w.new work.old work.new) × (Kept 49152 work.old work.new) }
 {
     for i in id..base + keys {
         if let Some(kind) = kind_at(work, i - base) {
             put_elem(work, kind, w, i);
         }
     }
+    id.max(base + keys)
 }

@@ -20,10 +20,7 @@ pub returns : goal.returns
 returns c =
     let k = kept_then c.opaque_rows-frames.ensures.kept (kept_then c.frame_rows-base.ensures.kept c.need_rows-id.ensures.kept) in
     let needs = (sheet_source c.args.sheet.now).needs in (
-      λ is x. all-rows c.args.sheet.now is c.opaque_rows-frames.ensures c.frame_rows-base.ensures c.need_rows-id.ensures (record {
-        wrote = c.kind_rows.ensures.0 c.args.sheet.now needs is (c.need_rows-id.ensures.id ∙ ap (λ (y : ℕ). c.frame_rows-base.result + y) (shapes-length c.args.sheet.now (distinct [] needs))) (kinds_kept (kept_less (omega arith) k) x);
-        id = refl;
-        kept = c.kind_rows.ensures.1;
-      }),
+      λ is x. all-rows c.args.sheet.now is c.opaque_rows-frames.ensures c.frame_rows-base.ensures c.need_rows-id.ensures
+          (c.kind_rows.ensures.0 c.args.sheet.now needs is (c.need_rows-id.ensures.id ∙ ap (λ (y : ℕ). c.frame_rows-base.result + y) (shapes-length c.args.sheet.now (distinct [] needs))) (kinds_kept (kept_less (omega arith) k) x)),
       kept_then k c.kind_rows.ensures.1,
     )
