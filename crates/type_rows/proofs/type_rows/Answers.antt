@@ -1,4 +1,4 @@
-use Rattle.std.proofs.Common.{ℕ, [], ◌+◌, ◌∙◌, refl, ap, arith}
+use Rattle.std.proofs.Common.{ℕ, [], ◌+◌, ◌∙◌, ap, arith}
 use Rattle.checks.proofs.Kept.{kept_then, kept_less}
 use Rattle.type_keys.proofs.Table.{kinds_kept}
 use Rattle.semantics.specs.Types.{distinct}
