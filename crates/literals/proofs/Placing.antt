@@ -1,5 +1,5 @@
 -- Selectors, one after the other.
-use mathlib.Core.Path.{◌≡◌, sym, ap, ◌∙◌, subst}
+use mathlib.Core.Path.{◌≡◌, refl, sym, ap, ◌∙◌, subst}
 use mathlib.Core.Bool.{Bool, true, false}
 use Prim.Native.Nat.{ℕ, ◌≤◌, ◌<◌}
 use native.Mathlib.Omega.{arith}
@@ -30,6 +30,11 @@ abbrev pub goes_on : Outcome (Option Extent) → Bool
 goes_on (Ok (Some a)) = true
 goes_on (Ok None) = false
 goes_on (Err n) = false
+
+pub into-not : (y : Outcome (Option Extent)) → ((a : Extent) → y ≡ Ok (Some a) → ⊥) → goes_on y ≡ false
+into-not (Ok (Some a)) h = absurd (h a refl)
+into-not (Ok None) h = refl
+into-not (Err n) h = refl
 
 -- it stays as it has ended
 pub step-ends : (y : Outcome (Option Extent)) → goes_on y ≡ false → (t : Bytes) (a b k : ℕ) (r : Result Filled) (g : Filled → Result Filled) → Step t a k y r → Step t b k y (bind r g)

@@ -95,6 +95,13 @@ none-laid ns s z w = rw z (refl, w)
 
 -- ---- all lines
 
+abbrev is_written : {A E : Type 0} → Std.Result A E → Bool
+is_written (Ok x) = true
+is_written (Err r) = false
+
+pub not_written : {A E : Type 0} {y : Std.Result A E} {r : E} → y ≡ Err r → is_written y ≡ false
+not_written e = ap is_written e
+
 -- the rows of the first i lines are written, and none is refused
 pub record LinesPended (s t : Bytes) (m : ℕ) (v : Writer) (u : Bytes) (k : Option ℕ) (i : ℕ) (w : Writer) : Type 0 where
   pub here : Open s i k
