@@ -147,8 +147,12 @@ module _ (s t : Bytes) (k : ℕ) (p : Pass) (st : PassAt s t k p) (a : AtConstan
     pass-from-is = rw (group-is, value-is, line-is, col-is)
 
     module _ (u : Bytes) (kept : Kept 5120 t u) where
+      -- whatever refuses the line
+      pub visit-refused-by : {y : Refusal} → ((go : List Const → Folding) → step s t p.count k p.line x.value go ≡ record { log = log_in s t p.count; refused = Some y }) → (pass_from s t k p).refused ≡ Some y
+      visit-refused-by f = ap (λ (g : Folding). g.refused) (pass-from-is ∙ f (pass (sheet_source s).implement (group_from s k (suc p.line)) (iota_next line col (counter_of p.iota))))
+
       pub visit-refused : (r : Answers.Refusal) → ConstantEntered s t u p.count k p.line x.value (Err r) → ((pass_from s t k p).refused ≡ Some (refusal_of r)) × (refusal_number r ≡ 8)
-      visit-refused r f = (ap (λ (g : Folding). g.refused) (pass-from-is ∙ f.0 (pass (sheet_source s).implement (group_from s k (suc p.line)) (iota_next line col (counter_of p.iota)))), ap (λ (x : Refusal). x.number) f.1)
+      visit-refused r f = (visit-refused-by f.0, ap (λ (y : Refusal). y.number) f.1)
 
       pub visit-on : ConstantEntered s t u p.count k p.line x.value (Ok (tt {0})) → PassMoves s t u k p (record { line = p.line + 1; within = p.within; count = p.count + 1; iota = x.next })
       unfolding pass_from
@@ -241,6 +245,12 @@ module _ (s t : Bytes) (m i : ℕ) (b : PassesBefore s t m i) where
     room = omega (arith, b.few, count-mod s b.checked i, count-top s b.checked (suc i), few-consts b.checked);
   }
 
+  -- whatever refuses a line of the module
+  pub past-module-refused : i < lines_in s → letter (read_at s i).form.kind ≡ 77 → {y : Refusal}
+      → (pass (sheet_source s).implement (group_from s (suc i) 0) new_counter (log_in s t m)).refused ≡ Some y → (passes_left s t m i).refused ≡ Some y
+  unfolding passes_left
+  past-module-refused h e q = rw (passes-mod s b.checked i h e) (then-stop (group_from s (suc i) 0) (passes_after s (suc i)) (sheet_source s).implement (log_in s t m) q)
+
   pub past-module : i < lines_in s → letter (read_at s i).form.kind ≡ 77 → (u : Bytes) → Kept 5120 t u → (r : Result ℕ Answers.Refusal) → PassDone s t u m (suc i) r → ModulePassed s t u m i r
   unfolding passes_left
   past-module h e u kept (Ok c) (l, q) = (
@@ -251,8 +261,7 @@ module _ (s t : Bytes) (m i : ℕ) (b : PassesBefore s t m i) where
     },
     sym (rw (passes-mod s b.checked i h e) (then-on (group_from s (suc i) 0) (passes_after s (suc i)) (sheet_source s).implement (log_in s t m) (log_in s u c) l.same ∙ rw add-one)),
   )
-  past-module h e u kept (Err x) (q, f) =
-      (rw (passes-mod s b.checked i h e) (then-stop (group_from s (suc i) 0) (passes_after s (suc i)) (sheet_source s).implement (log_in s t m) q), f)
+  past-module h e u kept (Err x) (q, f) = (past-module-refused h e q, f)
 
   pub top-group : Group s t m 0
   unfolding open_at module_at
@@ -264,14 +273,20 @@ module _ (s t : Bytes) (m i : ℕ) (b : PassesBefore s t m i) where
     room = omega (arith, b.few, count-top s b.checked i, few-consts b.checked);
   }
 
+  -- whatever refuses a line outside modules
+  pub past_all_refused : lines_in s ≤ i → passes_left s t m i ≡ constants (sheet_source s) → {y : Refusal}
+      → (pass (sheet_source s).implement (group_from s 0 0) new_counter (log_in s t m)).refused ≡ Some y → (constants (sheet_source s)).refused ≡ Some y
+  unfolding passes_left
+  past_all_refused h same q =
+      ap (λ (f : Folding). f.refused) (sym same) ∙ rw (passes-end s b.checked i h) (then-stop (group_from s 0 0) [] (sheet_source s).implement (log_in s t m) q)
+
   pub past_all : lines_in s ≤ i → passes_left s t m i ≡ constants (sheet_source s) → (u : Bytes) → (r : Result ℕ Answers.Refusal) → PassDone s t u m 0 r → Collects s u r
   unfolding passes_left
   past_all h same u (Ok c) (l, q) =
       let e : constants (sheet_source s) ≡ record { log = log_in s u c; refused = None } =
       sym same ∙ rw (passes-end s b.checked i h) (then-on (group_from s 0 0) [] (sheet_source s).implement (log_in s t m) (log_in s u c) l.same) in
       (ap (λ (f : Folding). f.refused) e, ap (λ (f : Folding). f.log) e, l.logged)
-  past_all h same u (Err x) (q, f) =
-      (ap (λ (f : Folding). f.refused) (sym same) ∙ rw (passes-end s b.checked i h) (then-stop (group_from s 0 0) [] (sheet_source s).implement (log_in s t m) q), f)
+  past_all h same u (Err x) (q, f) = (past_all_refused h same q, f)
 
 pub start-before : (s t : Bytes) → Checked s → PassesBefore s t 0 0
 start-before s t c = record { checked = c; logged = record { few = omega arith; each = λ i h. absurd (omega arith); digests = λ i h. absurd (omega arith); chained = chained-none t const_chains }; few = omega arith }
