@@ -146,11 +146,11 @@ module _ (s t : Bytes) (k : ℕ) (p : Pass) (st : PassAt s t k p) (a : AtConstan
     unfolding pass_from
     pass-from-is = rw (group-is, value-is, line-is, col-is)
 
-    module _ (u : Bytes) (kept : Kept 5120 t u) where
-      -- whatever refuses the line
-      pub visit-refused-by : {y : Refusal} → ((go : List Const → Folding) → step s t p.count k p.line x.value go ≡ record { log = log_in s t p.count; refused = Some y }) → (pass_from s t k p).refused ≡ Some y
-      visit-refused-by f = ap (λ (g : Folding). g.refused) (pass-from-is ∙ f (pass (sheet_source s).implement (group_from s k (suc p.line)) (iota_next line col (counter_of p.iota))))
+    -- whatever refuses the line
+    pub visit-refused-by : {y : Refusal} → ((go : List Const → Folding) → step s t p.count k p.line x.value go ≡ record { log = log_in s t p.count; refused = Some y }) → (pass_from s t k p).refused ≡ Some y
+    visit-refused-by f = ap (λ (g : Folding). g.refused) (pass-from-is ∙ f (pass (sheet_source s).implement (group_from s k (suc p.line)) (iota_next line col (counter_of p.iota))))
 
+    module _ (u : Bytes) (kept : Kept 5120 t u) where
       pub visit-refused : (r : Answers.Refusal) → ConstantEntered s t u p.count k p.line x.value (Err r) → ((pass_from s t k p).refused ≡ Some (refusal_of r)) × (refusal_number r ≡ 8)
       visit-refused r f = (visit-refused-by f.0, ap (λ (y : Refusal). y.number) f.1)
 
